@@ -1,0 +1,9 @@
+/// The language of a file. No two of them have a token in common.
+#[derive(Clone, Copy, Debug, PartialEq, Eq)]
+pub enum Lang {
+    /// Plain text: runs of identifier characters, and single other characters.
+    Any,
+    Go,
+    C,
+    Java,
+}

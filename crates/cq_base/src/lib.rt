@@ -1,0 +1,33 @@
+//! Plain values that every layer shares: texts and their lines, tokens as they are read and as they are compared,
+//! places, groups, settings, and the counter of steps. A contract above sees each as a list, a number or a record.
+//! Nothing here costs more than one walk over the bytes or items that it is given.
+#![tactic(auto)]
+
+mod change;
+mod entry;
+mod group;
+mod keys;
+mod lang;
+mod lines;
+mod memory;
+mod norm;
+mod settings;
+mod steps;
+mod text;
+mod token;
+
+pub use change::{Change, Compare, Condition, Conditions, Metric};
+pub use entry::Entry;
+pub use group::{Group, Place, Places};
+pub use keys::Keys;
+pub use lang::Lang;
+pub use lines::{line_count, line_of};
+pub use memory::Memory;
+pub use norm::Norm;
+pub use settings::{Field, Settings};
+pub use steps::Steps;
+pub use text::Text;
+pub use token::{Class, Spelled, Token};
+
+#[cfg(test)]
+mod tests;

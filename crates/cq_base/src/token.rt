@@ -1,0 +1,32 @@
+use crate::Text;
+
+/// What kind of token it is.
+#[derive(Clone, Copy, Debug, PartialEq, Eq)]
+pub enum Class {
+    /// A name.
+    Ident,
+    /// A reserved word, or another spelling that no setting ignores.
+    Word,
+    /// A number, a character or a text.
+    Literal,
+    /// Punctuation.
+    Punct,
+}
+
+/// Where a token stands: `start` and `len` in bytes from the start of its text, lines from 1. Its last line is
+/// that of its last byte.
+#[derive(Clone, Copy, Debug, PartialEq, Eq)]
+pub struct Token {
+    pub class: Class,
+    pub start: u32,
+    pub len: u32,
+    pub first_line: u32,
+    pub last_line: u32,
+}
+
+/// A token with its spelling after translation.
+#[derive(Debug, Drop)]
+pub struct Spelled {
+    pub token: Token,
+    pub text: Text,
+}

@@ -1,0 +1,4 @@
+pub mod Matching
+pub mod StandingPlaces
+pub mod FoundGroups
+pub mod Ordered

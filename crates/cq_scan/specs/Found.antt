@@ -1,0 +1,32 @@
+-- The groups that a listing has found so far, by the pairs of places that it has compared.
+use Rattle.std.specs.Prelude.{◌≡◌, ◌⊎◌, ℕ, List, AllPairs, Contains}
+use Rattle.cq_base.specs.declared.group.Place.{Place}
+use Rattle.cq_base.specs.declared.group.Group.{Group}
+use Rattle.cq_clones.specs.Lists.{AreAllInOrder}
+use Rattle.cq_clones.specs.Groups.{first_place, IsMaximalAt, IsGroup, ComesBefore}
+use Rattle.cq_order.specs.Order.{AreOrdered}
+
+-- a group whose word is maximal at these two places
+pub record IsGroupOf {T : Type 0} (corpus : List (List T)) (least : ℕ) (p q : Place) (group : Group) : Type 0 where
+  pub is : IsGroup corpus least group
+  pub pair : IsMaximalAt corpus is.word p q
+
+-- a group whose word is maximal at some two places of a kind
+pub record IsFoundBy {T : Type 0} (corpus : List (List T)) (least : ℕ) (Pairs : Place → Place → Type 0) (group : Group) : Type 0 where
+  pub p : Place
+  pub q : Place
+  pub pair : Pairs p q
+  pub group_of : IsGroupOf corpus least p q group
+
+-- groups of the corpus, no two of which tie in their order
+pub record AreFound {T : Type 0} (corpus : List (List T)) (least : ℕ) (groups : List Group) : Type 0 where
+  pub ordered : AllPairs (AreOrdered ComesBefore) groups
+  pub each : (g : Group) → Contains groups g → IsGroup corpus least g
+
+-- the new list has what the old one has and the groups with the property, each once
+abbrev pub Adds : (Group → Type 0) → List Group → List Group → Type 0
+Adds Is old new = AreAllInOrder (AreOrdered ComesBefore) (λ g. Contains old g ⊎ Is g) new
+
+-- both begin at the same place and are equally long
+abbrev pub AreTied : Group → Group → Type 0
+AreTied g h = (first_place g ≡ first_place h) × (g.tokens ≡ h.tokens)

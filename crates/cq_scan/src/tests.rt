@@ -1,0 +1,112 @@
+ghost use Rattle.std.specs.Prelude.{◌≡◌, ◌^◌, ◌<◌, ◌≤◌, length, IfOk, vec_len};
+
+use crate::scan;
+use cq_base::{Class, Group, Keys, Lang, Memory, Norm, Place, Steps, Text};
+use cq_tokens::{FileTokens, Tokens};
+use std::alloc::Global;
+use std::marker::Brand;
+use std::sync::Arc;
+use std::sync::ledger::{Blank, Ledger};
+
+// A file whose tokens are the bytes of a text.
+fn file_of<L: Ledger>(alloc: Global, text: &[u8]) -> Result<FileTokens<L>, Memory> {
+    let mut norms = Vec::new(alloc);
+    for b in text {
+        if norms.len() < 1000 {
+            let text = Text::from_bytes(alloc, &[*b])?;
+            norms.push(Norm {
+                lang: Lang::Any,
+                class: Class::Ident,
+                text,
+            })?;
+        }
+    }
+    Ok(FileTokens {
+        change: 1,
+        tokens: Arc::new(alloc, Tokens::new(norms))?,
+        keys: Arc::new(alloc, Keys::from_vec(Vec::new(alloc)))?,
+    })
+}
+
+fn listed<L: Ledger>(
+    alloc: Global,
+    texts: &[&[u8]],
+    min: u32,
+    blank: Blank,
+) -> Result<Vec<Group>, Memory>
+    requires few { length texts.now < 2 ^ 32 }
+    requires some { 1 ≤ min }
+    requires name { blank.name ≡ L.name }
+    requires parts { blank.parts ≡ L.parts }
+    requires one { L.parts ≡ 1 }
+{
+    let mut files: Vec<FileTokens<L>> = Vec::new(alloc);
+    for text in texts {
+        if files.len() < 100 {
+            files.push(file_of(alloc, text)?)?;
+        }
+    }
+    let mut steps = Steps::new(blank);
+    scan(alloc, &files, min, &mut steps)
+}
+
+fn groups_of(alloc: Global, texts: &[&[u8]], min: u32) -> Result<Vec<Group>, Memory>
+    requires few { length texts.now < 2 ^ 32 }
+    requires some { 1 ≤ min }
+{
+    listed::<Brand>(alloc, texts, min, Blank::new(1))
+}
+
+fn is_listed(groups: &[Group], want: &[(u32, &[(u32, u32)])]) -> bool {
+    groups.len() == want.len()
+        && groups.iter().zip(want.iter()).all(|(group, (tokens, places))| {
+            let here = group.places.as_slice();
+            group.tokens == *tokens
+                && here.len() == places.len()
+                && here.iter().zip(places.iter()).all(|(p, (file, at))| {
+                    *p == Place {
+                        file: *file,
+                        at: *at,
+                    }
+                })
+        })
+}
+
+// The worked rows on groups.
+#[test]
+fn lists_the_worked_rows(rt: HostRuntime) -> Result<(), Memory> {
+    let alloc = rt.alloc();
+    let row = groups_of(alloc, &[b"abcxabcy"], 3)?;
+    assert!(&rt;
+        is_listed(&row, &[(3, &[(0, 0), (0, 4)])]),
+        "two places of one word"
+    );
+    let row = groups_of(alloc, &[b"aaaaaa"], 2)?;
+    assert!(&rt;
+        is_listed(
+            &row,
+            &[(3, &[(0, 0), (0, 3)]), (2, &[(0, 0), (0, 2), (0, 4)])]
+        ),
+        "places of one file don't overlap"
+    );
+    let row = groups_of(alloc, &[b"ababab"], 4)?;
+    assert!(&rt; is_listed(&row, &[]), "one kept place is no group");
+    let row = groups_of(alloc, &[b"amnx", b"amny", b"bmnx"], 2)?;
+    assert!(&rt;
+        is_listed(
+            &row,
+            &[
+                (3, &[(0, 0), (1, 0)]),
+                (3, &[(0, 1), (2, 1)]),
+                (2, &[(0, 1), (1, 1), (2, 1)]),
+            ]
+        ),
+        "a word is maximal at some two places"
+    );
+    let row = groups_of(alloc, &[b"pqr", b"pqr"], 2)?;
+    assert!(&rt;
+        is_listed(&row, &[(3, &[(0, 0), (1, 0)])]),
+        "two equal files"
+    );
+    Ok(())
+}
