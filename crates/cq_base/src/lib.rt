@@ -21,7 +21,7 @@ pub use entry::Entry;
 pub use group::{Group, Place, Places};
 pub use keys::Keys;
 pub use lang::Lang;
-pub use lines::{line_count, line_of};
+pub use lines::{line_count, line_further, line_of};
 pub use memory::Memory;
 pub use norm::Norm;
 pub use settings::{Field, Settings};

@@ -1,0 +1,117 @@
+-- One element more.
+use Rattle.std.proofs.Common.{◌≡◌, ℕ, ◌+◌, ◌<◌, ◌≤◌, Some, List, [], ◌∷◌, ◌++◌, length, take, drop, refl, sym, ap, subst, ◌∙◌, append_assoc, zero-le, ◌-◌, arith, length-drop, length-take-le}
+use Rattle.std.proofs.lemmas.List.{append-nil, length-map, drop-drop}
+use Rattle.cq_base.specs.Lines.{line_at}
+use Rattle.cq_base.specs.declared.token.Class.{Class}
+use Rattle.cq_base.specs.declared.token.Spelled.{Spelled}
+use Rattle.cq_munch.specs.declared.unit.Unit.{Unit}
+use Rattle.cq_munch.specs.declared.element.Found.{Found}
+use Rattle.cq_munch.specs.declared.element.Spell.{Spell}
+use Rattle.cq_munch.specs.declared.element.Spell.TheVariants.{Blank, Comment, Token as TokenOf}
+use Rattle.cq_munch.specs.Language.{Language, Takes}
+use Rattle.cq_munch.specs.Characters.{characters}
+use Rattle.cq_munch.specs.Lexed.{Follow, InOrder, TokensFollow, spelled_of, token_of, tokens_of, unit_at, end_of}
+use Rattle.cq_munch.proofs.Orders.{InOrder-drop, InOrder-behind, InOrder-ends, InOrder-end, InOrder-take, InOrder-from}
+
+Follow-push : (lang : Language) (text : List ℕ) (a m : ℕ) (fs : List Found) (at mode : ℕ) (f : Found) → Follow lang text a m fs at mode → Takes lang at mode (drop at text) (Some f)
+    → Follow lang text a m (fs ++ f ∷ []) (at + f.units) f.mode
+Follow-push lang text a m [] at mode f follow takes =
+    (subst (λ v. Takes lang v m (drop v text) (Some f)) (sym follow.0) (subst (λ v. Takes lang at v (drop at text) (Some f)) (sym follow.1) takes), (ap (λ v. v + f.units) follow.0, refl))
+Follow-push lang text a m (g ∷ fs) at mode f follow takes =
+    (follow.0, Follow-push lang text (a + g.units) g.mode fs at mode f follow.1 takes)
+
+tokens-push : (lang : Language) (text bytes : List ℕ) (units : List Unit) (a m : ℕ) (fs : List Found) (at mode : ℕ) (f : Found) → Follow lang text a m fs at mode
+    → tokens_of bytes units a (fs ++ f ∷ []) ≡ tokens_of bytes units a fs ++ token_of bytes f.spell (take f.units (drop at units))
+tokens-push lang text bytes units a m [] at mode f follow =
+    append-nil (token_of bytes f.spell (take f.units (drop a units))) ∙ ap (λ v. token_of bytes f.spell (take f.units (drop v units))) follow.0
+tokens-push lang text bytes units a m (g ∷ fs) at mode f follow =
+    ap (λ v. token_of bytes g.spell (take g.units (drop a units)) ++ v) (tokens-push lang text bytes units (a + g.units) g.mode fs at mode f follow.1)
+    ∙ sym (append_assoc (token_of bytes g.spell (take g.units (drop a units))) (tokens_of bytes units (a + g.units) fs) (token_of bytes f.spell (take f.units (drop at units))))
+
+TokensFollow-push : (from : ℕ) (ts : List Spelled) (mid to : ℕ) (t : Spelled) → TokensFollow from ts mid → mid ≤ t.token.start → 0 < t.token.len → t.token.start + t.token.len ≡ to → TokensFollow from (ts ++ t ∷ []) to
+TokensFollow-push from [] mid to t follow le some ends = (omega arith, some, omega arith)
+TokensFollow-push from (s ∷ ts) mid to t follow le some ends = (follow.0, follow.1, TokensFollow-push (s.token.start + s.token.len) ts mid to t follow.2 le some ends)
+
+pub TokensFollow-to : (from : ℕ) (ts : List Spelled) (to more : ℕ) → to ≤ more → TokensFollow from ts to → TokensFollow from ts more
+TokensFollow-to from [] to more le follow = omega arith
+TokensFollow-to from (s ∷ ts) to more le follow = (follow.0, follow.1, TokensFollow-to (s.token.start + s.token.len) ts to more le follow.2)
+
+-- The elements so far, and their tokens, of which the last ends at a byte; the byte before that one stands on a line.
+pub record SoFar (lang : Language) (bytes : List ℕ) (units : List Unit) (tokens : List Spelled) (at mode end line : ℕ) : Type 0 where
+  pub elements : List Found
+  pub follow : Follow lang (characters units) 0 0 elements at mode
+  pub tokens_are : tokens ≡ tokens_of bytes units 0 elements
+  pub inside : at ≤ length units
+  pub known : mode ≤ 3
+  pub behind : InOrder end (drop at units) (length bytes)
+  pub line_is : line ≡ line_at bytes (end - 1)
+  pub ordered : TokensFollow 0 tokens end
+
+pub none_so_far : (lang : Language) (bytes : List ℕ) (units : List Unit) → InOrder 0 units (length bytes) → SoFar lang bytes units [] 0 0 0 1
+none_so_far lang bytes units order = record { elements = []; follow = (refl, refl); tokens_are = refl; inside = zero-le; known = zero-le; behind = order; line_is = refl; ordered = zero-le }
+
+-- an element that is no token
+pub one_blank : {lang : Language} {bytes : List ℕ} {units : List Unit} {tokens : List Spelled} {at mode end line : ℕ} → SoFar lang bytes units tokens at mode end line → (f : Found) → Takes lang at mode (drop at (characters units)) (Some f)
+    → at + f.units ≤ length units → f.mode ≤ 3 → tokens ≡ tokens ++ token_of bytes f.spell (take f.units (drop at units)) → SoFar lang bytes units tokens (at + f.units) f.mode end line
+one_blank {lang} {bytes} {units} {tokens} {at} {mode} {end} {line} so_far f takes inside known none = record {
+  elements = so_far.elements ++ f ∷ [];
+  follow = Follow-push lang (characters units) 0 0 so_far.elements at mode f so_far.follow takes;
+  tokens_are = none ∙ ap (λ v. v ++ token_of bytes f.spell (take f.units (drop at units))) so_far.tokens_are ∙ sym (tokens-push lang (characters units) bytes units 0 0 so_far.elements at mode f so_far.follow);
+  inside = inside;
+  known = known;
+  behind = subst (λ us. InOrder end us (length bytes)) (further at f.units units) (InOrder-drop f.units end (drop at units) (length bytes) so_far.behind);
+  line_is = so_far.line_is;
+  ordered = so_far.ordered;
+}
+  where
+    further : (at n : ℕ) (units : List Unit) → drop n (drop at units) ≡ drop (at + n) units
+    further at n units = drop-drop n at units ∙ ap (λ k. drop k units) (omega arith)
+
+-- an element that is a token
+pub one_token : {lang : Language} {bytes : List ℕ} {units : List Unit} {tokens : List Spelled} {at mode end line : ℕ} → SoFar lang bytes units tokens at mode end line → (f : Found) → Takes lang at mode (drop at (characters units)) (Some f)
+    → at + f.units ≤ length units → f.mode ≤ 3 → (class : Class) (s : Spelled) (more : List Spelled) → f.spell ≡ TokenOf class → s ≡ spelled_of bytes class (take (at + f.units - at) (drop at units)) → more ≡ tokens ++ s ∷ []
+    → SoFar lang bytes units more (at + f.units) f.mode (s.token.start + s.token.len) s.token.last_line
+one_token {lang} {bytes} {units} {tokens} {at} {mode} {end} {line} so_far f takes inside known class s more spell s_is more_is =
+    let n : at + f.units - at ≡ f.units = omega arith in
+    let here : List Unit = take f.units (drop at units) in
+    let is : s ≡ spelled_of bytes class here = s_is ∙ ap (λ k. spelled_of bytes class (take k (drop at units))) n in
+    let some : 0 < f.units = takes.0.some in
+    let left : f.units ≤ length (drop at units) = omega (arith, length-drop at units) in
+    let many : 0 < length here = taken_some f.units (drop at units) some left in
+    let order : InOrder end here (length bytes) = InOrder-take f.units end (drop at units) (length bytes) so_far.behind in
+    let ends = InOrder-ends end here (length bytes) order many in
+    let start_is : s.token.start ≡ (unit_at here 0).start = ap (λ (v : Spelled). v.token.start) is in
+    let len_is : s.token.len ≡ end_of here - (unit_at here 0).start = ap (λ (v : Spelled). v.token.len) is in
+    let last_is : s.token.last_line ≡ line_at bytes ((unit_at here 0).start + (end_of here - (unit_at here 0).start) - 1) = ap (λ (v : Spelled). v.token.last_line) is in
+    let reaches : s.token.start + s.token.len ≡ end_of here = omega (arith, start_is, len_is, ends.1) in
+    record {
+      elements = so_far.elements ++ f ∷ [];
+      follow = Follow-push lang (characters units) 0 0 so_far.elements at mode f so_far.follow takes;
+      tokens_are = more_is ∙ ap (λ v. tokens ++ v ∷ []) is ∙ ap (λ v. tokens ++ token_of bytes v here) (sym spell)
+          ∙ ap (λ v. v ++ token_of bytes f.spell here) so_far.tokens_are ∙ sym (tokens-push lang (characters units) bytes units 0 0 so_far.elements at mode f so_far.follow);
+      inside = inside;
+      known = known;
+      behind = subst (λ us. InOrder (s.token.start + s.token.len) us (length bytes)) (further at f.units units)
+          (subst (λ e. InOrder e (drop f.units (drop at units)) (length bytes)) (sym reaches) (InOrder-behind f.units end (drop at units) (length bytes) some left so_far.behind));
+      line_is = last_is ∙ ap (λ k. line_at bytes (k - 1)) (omega (arith, reaches, ends.1));
+      ordered = subst (λ ts. TokensFollow 0 ts (s.token.start + s.token.len)) (sym more_is) (TokensFollow-push 0 tokens end (s.token.start + s.token.len) s so_far.ordered (omega (arith, start_is, ends.0)) (omega (arith, len_is, ends.1)) refl);
+    }
+  where
+    further : (at n : ℕ) (units : List Unit) → drop n (drop at units) ≡ drop (at + n) units
+    further at n units = drop-drop n at units ∙ ap (λ k. drop k units) (omega arith)
+
+    taken_some : (n : ℕ) (xs : List Unit) → 0 < n → n ≤ length xs → 0 < length (take n xs)
+    taken_some n xs some within = omega (arith, length-take-le n xs within)
+
+-- an element stays inside the units
+pub stays_inside : (units : List Unit) (at n : ℕ) → at < length units → n ≤ length (drop at (characters units)) → at + n ≤ length units
+stays_inside units at n inside within =
+    let as_many = length-map units (λ (u : Unit). u.ch) in
+    let left = length-drop at (characters units) in
+    omega arith
+
+-- no token
+pub not_pushed : (bytes : List ℕ) (old : List Spelled) (spell : Spell) (units : List Unit) → ((class : Class) → spell ≡ TokenOf class → ⊥) → old ≡ old ++ token_of bytes spell units
+not_pushed bytes old Blank units none = sym (append-nil old)
+not_pushed bytes old Comment units none = sym (append-nil old)
+not_pushed bytes old (TokenOf class) units none = absurd (none class refl)

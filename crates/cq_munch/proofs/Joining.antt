@@ -1,0 +1,158 @@
+-- The element of a table, from the longest spellings of its rows.
+use Rattle.std.proofs.Common.{subst, ap, ◌≡◌, ℕ, ◌<◌, ◌≤◌, Option, Some, None, Bool, true, false, cond, ltb, List, [], ◌∷◌, ◌++◌, ◌⊎◌, inl, inr, ⊎_elim, length, take, refl, sym, ◌∙◌, arith}
+use Rattle.std.specs.Prelude.{MatchBool}
+use Rattle.std.proofs.lemmas.Bool.{ltb-true, ltb-false}
+use Rattle.cq_munch.specs.Longest.{IsLongest, LongestAt}
+use Rattle.cq_munch.specs.declared.element.Found.{Found}
+use Rattle.cq_munch.specs.declared.element.Spell.{Spell}
+use Rattle.cq_munch.specs.Language.{Language, Takes}
+use Rattle.cq_munch.specs.Table.{Row, InTable, table, first, better, found_of}
+
+module _ (at mode : ℕ) (text : List ℕ) where
+  pub no_rows : Takes (table []) at mode text None
+  no_rows = λ m some within h. h.1
+
+  module _ (row : Row) (rows : List Row) where
+    found_by : Option ℕ → Option Found
+    found_by len = found_of row.spell mode len
+
+    -- the row's own
+    from_row : (n : ℕ) → IsLongest row.set text n → ((m : ℕ) → n < m → m ≤ length text → (spell : Spell) → InTable rows spell (take m text) → ⊥)
+        → Takes (table (row ∷ rows)) at mode text (Some (record { spell = row.spell; units = n; mode = mode }))
+    from_row n h none = (
+      record {
+        some = h.some;
+        within = h.within;
+        spelled = (row.spell, inl (refl, h.spelled));
+        longest = λ m more within k. ⊎_elim (λ own. h.longest m more within own.1) (λ other. none m more within k.0 other) k.1;
+      },
+      inl (refl, h.spelled),
+      refl,
+    )
+
+    -- another row's
+    from_rows : (f : Found) → Takes (table rows) at mode text (Some f) → ((m : ℕ) → f.units < m → m ≤ length text → row.set (take m text) → ⊥)
+        → Takes (table (row ∷ rows)) at mode text (Some f)
+    from_rows f h none = (
+      record {
+        some = h.0.some;
+        within = h.0.within;
+        spelled = (f.spell, inr h.1);
+        longest = λ m more within k. ⊎_elim (λ own. none m more within own.1) (λ other. h.0.longest m more within (k.0, other)) k.1;
+      },
+      inr h.1,
+      h.2,
+    )
+
+    by_length : (n : ℕ) (f : Found) (b : Bool) → ltb n f.units ≡ b → IsLongest row.set text n → Takes (table rows) at mode text (Some f)
+        → Takes (table (row ∷ rows)) at mode text (cond b (Some f) (Some (record { spell = row.spell; units = n; mode = mode })))
+    by_length n f true is h k =
+        let less = ltb-true n f.units is in from_rows f k (λ m more within own. h.longest m (omega arith) within own)
+    by_length n f false is h k =
+        let more_or_same = ltb-false n f.units is in
+        from_row n h (λ m more within spell other. k.0.longest m (omega arith) within (spell, other))
+
+    -- one row more
+    pub one_row : (len : Option ℕ) (r : Option Found) → LongestAt row.set text len → Takes (table rows) at mode text r → Takes (table (row ∷ rows)) at mode text (better (found_of row.spell mode len) r)
+    one_row None None h k = λ m some within x. ⊎_elim (λ own. h m some within own.1) (λ other. k m some within (x.0, other)) x.1
+    one_row None (Some f) h k = from_rows f k (λ m more within own. h m (let some = k.0.some in omega arith) within own)
+    one_row (Some n) None h k = from_row n h (λ m more within spell other. k m (let some = h.some in omega arith) within (spell, other))
+    one_row (Some n) (Some f) h k = by_length n f (ltb n f.units) refl h k
+
+-- where the test passes, the first rows alone
+module _ (test : ℕ → ℕ → List ℕ → Bool) (rows : List Row) (lang : Language) (at mode : ℕ) (text : List ℕ) where
+  chosen : (b : Bool) (P Q : Type 0) → b ≡ true → MatchBool b P Q → P
+  chosen true P Q h k = k
+  chosen false P Q h k = absurd (cc)
+
+  passed : (b : Bool) (P Q : Type 0) → b ≡ false → MatchBool b P Q → Q
+  passed true P Q h k = absurd (cc)
+  passed false P Q h k = k
+
+  choose : (b : Bool) (P Q : Type 0) → b ≡ true → P → MatchBool b P Q
+  choose true P Q h k = k
+  choose false P Q h k = absurd (cc)
+
+  pass : (b : Bool) (P Q : Type 0) → b ≡ false → Q → MatchBool b P Q
+  pass true P Q h k = absurd (cc)
+  pass false P Q h k = k
+
+  pub takes_first : test at mode text ≡ true → (r : Option Found) → Takes (table rows) at mode text r → ((spell : Spell) (s : List ℕ) → lang.mode_behind mode spell s ≡ mode) → Takes (first test rows lang) at mode text r
+  takes_first h None taken same = λ m some within x. taken m some within (x.0, chosen (test at mode text) _ (lang.tried at mode text x.0 (take m text)) h x.1)
+  takes_first h (Some f) taken same = (
+    record {
+      some = taken.0.some;
+      within = taken.0.within;
+      spelled = (f.spell, choose (test at mode text) (InTable rows f.spell (take f.units text)) (lang.tried at mode text f.spell (take f.units text)) h taken.1);
+      longest = λ m more within x. taken.0.longest m more within (x.0, chosen (test at mode text) _ (lang.tried at mode text x.0 (take m text)) h x.1);
+    },
+    choose (test at mode text) (InTable rows f.spell (take f.units text)) (lang.tried at mode text f.spell (take f.units text)) h taken.1,
+    taken.2 ∙ sym (same f.spell (take f.units text)),
+  )
+
+  pub takes_rest : test at mode text ≡ false → (r : Option Found) → Takes lang at mode text r → Takes (first test rows lang) at mode text r
+  takes_rest h None taken = λ m some within x. taken m some within (x.0, passed (test at mode text) (InTable rows x.0 (take m text)) _ h x.1)
+  takes_rest h (Some f) taken = (
+    record {
+      some = taken.0.some;
+      within = taken.0.within;
+      spelled = (f.spell, pass (test at mode text) (InTable rows f.spell (take f.units text)) (lang.tried at mode text f.spell (take f.units text)) h taken.1);
+      longest = λ m more within x. taken.0.longest m more within (x.0, passed (test at mode text) (InTable rows x.0 (take m text)) _ h x.1);
+    },
+    pass (test at mode text) (InTable rows f.spell (take f.units text)) (lang.tried at mode text f.spell (take f.units text)) h taken.1,
+    taken.2,
+  )
+
+-- two tables, one behind the other
+in_append : (xs ys : List Row) (spell : Spell) (s : List ℕ) → InTable xs spell s ⊎ InTable ys spell s → InTable (xs ++ ys) spell s
+in_append [] ys spell s h = ⊎_elim (λ a. absurd a) (λ b. b) h
+in_append (x ∷ xs) ys spell s h =
+    ⊎_elim (λ a. ⊎_elim (λ own. inl own) (λ other. inr (in_append xs ys spell s (inl other))) a) (λ b. inr (in_append xs ys spell s (inr b))) h
+
+append_in : (xs ys : List Row) (spell : Spell) (s : List ℕ) → InTable (xs ++ ys) spell s → InTable xs spell s ⊎ InTable ys spell s
+append_in [] ys spell s h = inr h
+append_in (x ∷ xs) ys spell s h =
+    ⊎_elim (λ own. inl (inl own)) (λ other. ⊎_elim (λ a. inl (inr a)) (λ b. inr b) (append_in xs ys spell s other)) h
+
+module _ (at mode : ℕ) (text : List ℕ) (xs ys : List Row) where
+  left : (f : Found) → Takes (table xs) at mode text (Some f) → ((m : ℕ) → f.units < m → m ≤ length text → (spell : Spell) → InTable ys spell (take m text) → ⊥) → Takes (table (xs ++ ys)) at mode text (Some f)
+  left f h none = (
+    record {
+      some = h.0.some;
+      within = h.0.within;
+      spelled = (f.spell, in_append xs ys f.spell _ (inl h.1));
+      longest = λ m more within k. ⊎_elim (λ a. h.0.longest m more within (k.0, a)) (λ b. none m more within k.0 b) (append_in xs ys k.0 _ k.1);
+    },
+    in_append xs ys f.spell _ (inl h.1),
+    h.2,
+  )
+
+  right : (f : Found) → Takes (table ys) at mode text (Some f) → ((m : ℕ) → f.units < m → m ≤ length text → (spell : Spell) → InTable xs spell (take m text) → ⊥) → Takes (table (xs ++ ys)) at mode text (Some f)
+  right f h none = (
+    record {
+      some = h.0.some;
+      within = h.0.within;
+      spelled = (f.spell, in_append xs ys f.spell _ (inr h.1));
+      longest = λ m more within k. ⊎_elim (λ a. none m more within k.0 a) (λ b. h.0.longest m more within (k.0, b)) (append_in xs ys k.0 _ k.1);
+    },
+    in_append xs ys f.spell _ (inr h.1),
+    h.2,
+  )
+
+  by_units : (f g : Found) (b : Bool) → ltb f.units g.units ≡ b → Takes (table xs) at mode text (Some f) → Takes (table ys) at mode text (Some g) → Takes (table (xs ++ ys)) at mode text (cond b (Some g) (Some f))
+  by_units f g true is h k =
+      let less = ltb-true f.units g.units is in right g k (λ m more within spell a. h.0.longest m (omega arith) within (spell, a))
+  by_units f g false is h k =
+      let more_or_same = ltb-false f.units g.units is in left f h (λ m more within spell b. k.0.longest m (omega arith) within (spell, b))
+
+  pub two_tables : (a b : Option Found) → Takes (table xs) at mode text a → Takes (table ys) at mode text b → Takes (table (xs ++ ys)) at mode text (better a b)
+  two_tables None None h k = λ m some within x. ⊎_elim (λ a. h m some within (x.0, a)) (λ b. k m some within (x.0, b)) (append_in xs ys x.0 _ x.1)
+  two_tables None (Some g) h k = right g k (λ m more within spell a. h m (let some = k.0.some in omega arith) within (spell, a))
+  two_tables (Some f) None h k = left f h (λ m more within spell b. k m (let some = h.0.some in omega arith) within (spell, b))
+  two_tables (Some f) (Some g) h k = by_units f g (ltb f.units g.units) refl h k
+
+-- one row more, by what `found_of` and `better` answered
+pub row_more : (at mode : ℕ) (text : List ℕ) (row : Row) (rows : List Row) (len : Option ℕ) (own r all : Option Found) → own ≡ found_of row.spell mode len → all ≡ better own r → LongestAt row.set text len
+    → Takes (table rows) at mode text r → Takes (table (row ∷ rows)) at mode text all
+row_more at mode text row rows len own r all own_is all_is h k =
+    subst (Takes (table (row ∷ rows)) at mode text) (sym (all_is ∙ ap (λ v. better v r) own_is)) (one_row at mode text row rows len r h k)

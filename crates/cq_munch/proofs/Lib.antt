@@ -1,0 +1,11 @@
+pub mod Front
+pub mod Steps
+pub mod Tables
+pub mod Unions
+pub mod Orders
+pub mod Texts
+pub mod Decoding
+pub mod Elements
+pub mod OneAnswer
+pub mod Joining
+pub mod Marks

@@ -1,0 +1,146 @@
+-- A scan by a table: its entries are tested at one character of each class, by computing.
+use Rattle.std.proofs.Common.{◌≡◌, ℕ, zero, suc, ◌<◌, ◌≤◌, Option, Some, None, Bool, true, false, cond, ◌||◌, List, [], ◌∷◌, ◌++◌, ◌↔◌, ⊎_elim, refl, sym, ap, subst, ◌∙◌, arith, length, get_or}
+use Rattle.std.specs.List.{list_all}
+use Rattle.std.specs.Option.{option_map, IfNone, IfSome}
+use Rattle.std.proofs.lemmas.Bool.{ltb-true}
+use Rattle.std.proofs.lemmas.Grind.{common_steps}
+use Rattle.std.proofs.str.Laws.{order}
+use Rattle.cq_munch.specs.Pattern.{Range, in_range, in_ranges, Pattern, never, empty, among, except, ◌▸◌, ◌∣◌, many}
+use Rattle.cq_munch.specs.Behind.{takes_empty, SpellsAny, joined, joined_each, behind, behind_each, has, distinct, after, agree, agree_each, entry_ok, class_in, ascii_ranges, ascii_rows, ascii, each_below}
+use Rattle.cq_munch.proofs.Steps.{and_cases, and_both, beq-same, covers-spells, behind_each-if, behind_each-then, agree-behind_each}
+
+pub below_each : (n : ℕ) (test : ℕ → Bool) → each_below n test ≡ true → (c : ℕ) → c < n → test c ≡ true
+below_each zero test h c l = absurd (omega arith)
+below_each (suc n) test h c l =
+    let both = and_cases _ _ h in
+    ⊎_elim (λ less. below_each n test both.1 c less) (λ last. let is : c ≡ n = omega arith in ap test is ∙ both.0) (order c n)
+
+-- what agrees goes on agreeing
+module _ (c d : ℕ) where
+  agree-joined : (p q : Pattern) → agree c d p ≡ true → agree c d q ≡ true → agree c d (joined p q) ≡ true
+  agree-joined never q h k = and_both _ _ h k
+  agree-joined empty q h k = k
+  agree-joined (among rs) q h k = and_both _ _ h k
+  agree-joined (except rs) q h k = and_both _ _ h k
+  agree-joined (a ▸ b) q h k = and_both _ _ h k
+  agree-joined (a ∣ b) q h k = and_both _ _ h k
+  agree-joined (many a) q h k = and_both _ _ h k
+
+  agree-joined_each : (ps : List Pattern) (q : Pattern) → agree_each c d ps ≡ true → agree c d q ≡ true → agree_each c d (joined_each ps q) ≡ true
+  agree-joined_each [] q h k = refl
+  agree-joined_each (p ∷ ps) q h k =
+      let both = and_cases _ _ h in and_both _ _ (agree-joined p q both.0 k) (agree-joined_each ps q both.1 k)
+
+  agree-append : (ps qs : List Pattern) → agree_each c d ps ≡ true → agree_each c d qs ≡ true → agree_each c d (ps ++ qs) ≡ true
+  agree-append [] qs h k = k
+  agree-append (p ∷ ps) qs h k = let both = and_cases _ _ h in and_both _ _ both.0 (agree-append ps qs both.1 k)
+
+  agree-not_chosen : (v : Bool) (ps : List Pattern) → agree_each c d ps ≡ true → agree_each c d (cond v [] ps) ≡ true
+  agree-not_chosen true ps h = refl
+  agree-not_chosen false ps h = h
+
+  agree-chosen : (v : Bool) (ps : List Pattern) → agree_each c d ps ≡ true → agree_each c d (cond v ps []) ≡ true
+  agree-chosen true ps h = h
+  agree-chosen false ps h = refl
+
+  agree-rest : (x : ℕ) (p : Pattern) → agree c d p ≡ true → agree_each c d (behind x p) ≡ true
+  agree-rest x never h = refl
+  agree-rest x empty h = refl
+  agree-rest x (among rs) h = agree-chosen (in_ranges rs x) (empty ∷ []) refl
+  agree-rest x (except rs) h = agree-not_chosen (in_ranges rs x) (empty ∷ []) refl
+  agree-rest x (p ▸ q) h =
+      let both = and_cases _ _ h in
+      agree-append (joined_each (behind x p) q) _ (agree-joined_each (behind x p) q (agree-rest x p both.0) both.1) (agree-chosen (takes_empty p) (behind x q) (agree-rest x q both.1))
+  agree-rest x (p ∣ q) h =
+      let both = and_cases _ _ h in agree-append (behind x p) _ (agree-rest x p both.0) (agree-rest x q both.1)
+  agree-rest x (many p) h = agree-joined_each (behind x p) (many p) (agree-rest x p h) h
+
+  agree-rest_each : (x : ℕ) (ps : List Pattern) → agree_each c d ps ≡ true → agree_each c d (behind_each x ps) ≡ true
+  agree-rest_each x [] h = refl
+  agree-rest_each x (p ∷ ps) h =
+      let both = and_cases _ _ h in agree-append (behind x p) _ (agree-rest x p both.0) (agree-rest_each x ps both.1)
+
+  agree-pick : (v : Bool) (p : Pattern) (ps : List Pattern) → agree c d p ≡ true → agree_each c d ps ≡ true → agree_each c d (cond v ps (p ∷ ps)) ≡ true
+  agree-pick true p ps h k = k
+  agree-pick false p ps h k = and_both _ _ h k
+
+  agree-distinct : (ps : List Pattern) → agree_each c d ps ≡ true → agree_each c d (distinct ps) ≡ true
+  agree-distinct [] h = refl
+  agree-distinct (p ∷ ps) h =
+      let both = and_cases _ _ h in agree-pick (has (distinct ps) p) p (distinct ps) both.0 (agree-distinct ps both.1)
+
+  pub agree-after : (w : List ℕ) (ps : List Pattern) → agree_each c d ps ≡ true → agree_each c d (after w ps) ≡ true
+  agree-after [] ps h = h
+  agree-after (x ∷ w) ps h = agree-after w (distinct (behind_each x ps)) (agree-distinct (behind_each x ps) (agree-rest_each x ps h))
+
+-- a character that the entry was tested for, or one that agrees with it
+pub entry_none : (ps : List Pattern) (c d : ℕ) → agree_each c d ps ≡ true → entry_ok ps d None ≡ true → (s : List ℕ) → SpellsAny ps (c ∷ s) → ⊥
+entry_none ps c d same ok s h =
+    covers-spells (behind_each d ps) [] ok s (subst (λ v. SpellsAny v s) (agree-behind_each c d ps same) (behind_each-if ps c s h))
+
+pub entry_some : (ps qs : List Pattern) (c d : ℕ) → agree_each c d ps ≡ true → entry_ok ps d (Some qs) ≡ true → (s : List ℕ) → SpellsAny ps (c ∷ s) ↔ SpellsAny qs s
+entry_some ps qs c d same ok s =
+    let both = and_cases _ _ ok in
+    let is = agree-behind_each c d ps same in (
+      λ h. covers-spells (behind_each d ps) qs both.0 s (subst (λ v. SpellsAny v s) is (behind_each-if ps c s h)),
+      λ h. behind_each-then ps c s (subst (λ v. SpellsAny v s) (sym is) (covers-spells qs (behind_each d ps) both.1 s h)),
+    )
+
+-- characters past ASCII are in no class of an ASCII pattern
+range_past : (r : Range) (c : ℕ) → r.1 < 128 → 128 ≤ c → in_range r c ≡ false
+range_past r c h k = grind (arith, common_steps)
+
+in_ranges_past : (rs : List Range) (c : ℕ) → ascii_ranges rs ≡ true → 128 ≤ c → in_ranges rs c ≡ false
+in_ranges_past [] c h k = refl
+in_ranges_past (r ∷ rs) c h k =
+    let both = and_cases _ _ h in
+    ap (λ v. v || in_ranges rs c) (range_past r c (ltb-true r.1 128 both.0) k) ∙ in_ranges_past rs c both.1 k
+
+pub class_past : {K : Type 0} (rows : List (List Range × K)) (other : K) (c : ℕ) → ascii_rows rows ≡ true → 128 ≤ c → class_in rows other c ≡ other
+class_past [] other c h k = refl
+class_past (row ∷ rows) other c h k =
+    let both = and_cases _ _ h in
+    ap (λ v. cond v row.1 (class_in rows other c)) (in_ranges_past row.0 c both.0 k) ∙ class_past rows other c both.1 k
+
+pub agree_past : (p : Pattern) (c d : ℕ) → ascii p ≡ true → 128 ≤ c → 128 ≤ d → agree c d p ≡ true
+agree_past never c d h k l = refl
+agree_past empty c d h k l = refl
+agree_past (among rs) c d h k l = beq-same _ _ (in_ranges_past rs c h k ∙ sym (in_ranges_past rs d h l))
+agree_past (except rs) c d h k l = beq-same _ _ (in_ranges_past rs c h k ∙ sym (in_ranges_past rs d h l))
+agree_past (p ▸ q) c d h k l =
+    let both = and_cases _ _ h in and_both _ _ (agree_past p c d both.0 k l) (agree_past q c d both.1 k l)
+agree_past (p ∣ q) c d h k l =
+    let both = and_cases _ _ h in and_both _ _ (agree_past p c d both.0 k l) (agree_past q c d both.1 k l)
+agree_past (many p) c d h k l = agree_past p c d h k l
+
+-- a test of all holds at each place
+pub all_at : {K : Type 0} (test : K → Bool) (ks : List K) → list_all test ks ≡ true → (i : ℕ) (d : K) → i < length ks → test (get_or ks i d) ≡ true
+all_at test [] h i d l = absurd (omega arith)
+all_at test (k ∷ ks) h zero d l = (and_cases _ _ h).0
+all_at test (k ∷ ks) h (suc i) d l = all_at test ks (and_cases _ _ h).1 i d (omega arith)
+
+-- A scan whose steps were tested at one character of each kind: what its two functions say.
+module _ {S K : Type 0} (rest_of : S → List Pattern) (kind_of : ℕ → K) (sample : K → ℕ) (next : S → K → Option S)
+    (agrees : (s : S) (c : ℕ) → agree_each c (sample (kind_of c)) (rest_of s) ≡ true)
+    (right : (s : S) (k : K) → entry_ok (rest_of s) (sample k) (option_map rest_of (next s k)) ≡ true) where
+  pub step_none : (s : S) (c : ℕ) (r : Option S) → next s (kind_of c) ≡ r → IfNone r ((t : List ℕ) → SpellsAny (rest_of s) (c ∷ t) → ⊥)
+  step_none s c (Some n) is = tt
+  step_none s c None is =
+      entry_none (rest_of s) c (sample (kind_of c)) (agrees s c)
+      (subst (λ v. entry_ok (rest_of s) (sample (kind_of c)) (option_map rest_of v) ≡ true) is (right s (kind_of c)))
+
+  pub step_next : (s : S) (c : ℕ) (r : Option S) → next s (kind_of c) ≡ r → IfSome r (λ n. (t : List ℕ) → SpellsAny (rest_of s) (c ∷ t) ↔ SpellsAny (rest_of n) t)
+  step_next s c None is = tt
+  step_next s c (Some n) is =
+      entry_some (rest_of s) (rest_of n) c (sample (kind_of c)) (agrees s c)
+      (subst (λ v. entry_ok (rest_of s) (sample (kind_of c)) (option_map rest_of v) ≡ true) is (right s (kind_of c)))
+
+-- the test of the classes, below 128 by computing and past it by the ranges' ends
+pub agrees_everywhere : {K : Type 0} (p : Pattern) (rows : List (List Range × K)) (other : K) (sample : K → ℕ)
+    → each_below 128 (λ x. agree x (sample (class_in rows other x)) p) ≡ true → ascii_rows rows ≡ true → ascii p ≡ true → 128 ≤ sample other
+    → (c : ℕ) → agree c (sample (class_in rows other c)) p ≡ true
+agrees_everywhere p rows other sample low rows_low p_low past c =
+    ⊎_elim
+    (λ l. below_each 128 (λ x. agree x (sample (class_in rows other x)) p) low c l)
+    (λ h. subst (λ k. agree c (sample k) p ≡ true) (sym (class_past rows other c rows_low h)) (agree_past p c (sample other) p_low h past))
+    (order c 128)

@@ -1,0 +1,7 @@
+use Rattle.std.proofs.Common.{sym, subst, length}
+use Rattle.cq_munch.specs.Lexed.{InOrder}
+use Rattle.cq_munch.proofs.munching.munch.Goals as goal
+
+pub cut_up-requires-clause-in_order : goal.cut_up-requires-clause-in_order
+cut_up-requires-clause-in_order g c =
+    subst (λ v. InOrder 0 v (length c.args.text.now)) (sym c.deref.ensures.value) (rw c.in-Units.is at c.in_ok-units.ensures.in_order)

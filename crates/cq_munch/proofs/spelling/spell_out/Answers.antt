@@ -1,0 +1,28 @@
+-- the first unit starts before the end of the last, and that is within the text
+use Rattle.std.proofs.Common.{arith}
+use Rattle.cq_munch.proofs.Orders.{InOrder-ends}
+use Rattle.cq_munch.proofs.spelling.spell_out.Goals as goal
+
+pub overflow_add-len : goal.overflow_add-len
+overflow_add-len c = let ends = InOrder-ends c.args.end c.args.units.now _ c.requires.in_order c.requires.some in omega (arith, ends.1, ends.2, c.requires.short)
+
+pub overflow_sub-len : goal.overflow_sub-len
+overflow_sub-len c = let ends = InOrder-ends c.args.end c.args.units.now _ c.requires.in_order c.requires.some in omega (arith, ends.1, ends.2, c.requires.short)
+
+pub line_further-first_line-requires-clause-within : goal.line_further-first_line-requires-clause-within
+line_further-first_line-requires-clause-within c = let ends = InOrder-ends c.args.end c.args.units.now _ c.requires.in_order c.requires.some in omega (arith, ends.1, ends.2, c.requires.short)
+
+pub overflow_add-first : goal.overflow_add-first
+overflow_add-first c = let ends = InOrder-ends c.args.end c.args.units.now _ c.requires.in_order c.requires.some in omega (arith, ends.1, ends.2, c.requires.short)
+
+pub overflow_sub-first : goal.overflow_sub-first
+overflow_sub-first c = let ends = InOrder-ends c.args.end c.args.units.now _ c.requires.in_order c.requires.some in omega (arith, ends.1, ends.2, c.requires.short)
+
+pub line_further-last_line-requires-clause-ordered : goal.line_further-last_line-requires-clause-ordered
+line_further-last_line-requires-clause-ordered c = let ends = InOrder-ends c.args.end c.args.units.now _ c.requires.in_order c.requires.some in omega (arith, ends.1, ends.2, c.requires.short)
+
+pub line_further-last_line-requires-clause-within : goal.line_further-last_line-requires-clause-within
+line_further-last_line-requires-clause-within c = let ends = InOrder-ends c.args.end c.args.units.now _ c.requires.in_order c.requires.some in omega (arith, ends.1, ends.2, c.requires.short)
+
+pub returns-clause-within : goal.returns-clause-within
+returns-clause-within c = let ends = InOrder-ends c.args.end c.args.units.now _ c.requires.in_order c.requires.some in omega (arith, ends.1, ends.2, c.requires.short)

@@ -1,0 +1,10 @@
+-- The characters of units, as bytes.
+use Rattle.std.specs.Prelude.{ℕ, List, map}
+use Rattle.std.specs.Str.{encode_utf8_all}
+use Rattle.cq_munch.specs.declared.unit.Unit.{Unit}
+
+abbrev pub characters : List Unit → List ℕ
+characters units = map (λ u. u.ch) units
+
+abbrev pub utf8_of : List Unit → List ℕ
+utf8_of units = encode_utf8_all (characters units)

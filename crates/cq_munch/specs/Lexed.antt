@@ -1,0 +1,116 @@
+-- What a text is lexed to.
+use Rattle.std.specs.Prelude.{◌≡◌, ℕ, ◌+◌, ◌-◌, ◌<◌, ◌≤◌, Some, None, Result, Ok, Err, List, [], ◌∷◌, ◌++◌, length, take, drop, slice_index_or, MatchResult, IsOkAnd, ⊤}
+use Rattle.std.specs.Char.{len_utf8}
+use Rattle.std.specs.Str.{chars}
+use Rattle.cq_base.specs.Lines.{line_at}
+use Rattle.cq_munch.specs.declared.unit.Unit.{Unit}
+use Rattle.cq_base.specs.declared.token.Class.{Class}
+use Rattle.cq_munch.specs.declared.element.Spell.{Spell}
+use Rattle.cq_munch.specs.declared.element.Spell.TheVariants.{Blank, Comment, Token as TokenOf}
+use Rattle.cq_munch.specs.declared.element.Found.{Found}
+use Rattle.cq_base.specs.declared.token.Spelled.{Spelled}
+use Rattle.cq_munch.specs.declared.cutting.Cut.{Cut}
+use Rattle.cq_munch.specs.declared.cutting.Cut.TheVariants as cuts
+use Rattle.cq_munch.specs.declared.munching.Lexed.{Lexed}
+use Rattle.cq_munch.specs.declared.munching.Lexed.TheVariants as lexed
+use Rattle.cq_munch.specs.declared.lexis.Translated.{Translated}
+use Rattle.cq_munch.specs.declared.lexis.Translated.TheVariants.{Units, Fault}
+use Rattle.cq_munch.specs.Characters.{characters, utf8_of}
+use Rattle.cq_munch.specs.Language.{Language, Takes}
+
+-- the characters with their places, the first at a byte
+abbrev pub placed : ℕ → List ℕ → List Unit
+placed at [] = []
+placed at (c ∷ cs) =
+    let size = len_utf8 c in record { ch = c; start = at; len = size } ∷ placed (at + size) cs
+
+-- the units of a text that isn't translated
+abbrev pub units_of : List ℕ → List Unit
+units_of bytes = placed 0 (chars bytes)
+
+abbrev pub translation : Translated → Result (List Unit) ℕ
+translation (Units v) = Ok v.items
+translation (Fault at) = Err at
+
+-- the units lie one behind the other, each of at least one byte, from the first byte to the last
+abbrev pub InOrder : ℕ → List Unit → ℕ → Type 0
+InOrder from [] to = from ≤ to
+InOrder from (u ∷ us) to = (from ≤ u.start) × (0 < u.len) × InOrder (u.start + u.len) us to
+
+abbrev pub unit_at : List Unit → ℕ → Unit
+unit_at units i = slice_index_or units i (record { ch = 0; start = 0; len = 0 })
+
+-- the byte behind the last unit
+abbrev pub end_of : List Unit → ℕ
+end_of units = (unit_at units (length units - 1)).start + (unit_at units (length units - 1)).len
+
+-- The token of these units. Its last line is that of its last byte.
+abbrev pub spelled_of : List ℕ → Class → List Unit → Spelled
+spelled_of bytes class units =
+    let start = (unit_at units 0).start in
+    let len = end_of units - start in
+    record {
+      token = record { class = class; start = start; len = len; first_line = line_at bytes start; last_line = line_at bytes (start + len - 1) };
+      text = utf8_of units;
+    }
+
+-- no token of a blank or a comment
+abbrev pub token_of : List ℕ → Spell → List Unit → List Spelled
+token_of bytes Blank units = []
+token_of bytes Comment units = []
+token_of bytes (TokenOf class) units = spelled_of bytes class units ∷ []
+
+-- the tokens of elements that stand one behind the other from a unit on
+abbrev pub tokens_of : List ℕ → List Unit → ℕ → List Found → List Spelled
+tokens_of bytes units at [] = []
+tokens_of bytes units at (f ∷ fs) = token_of bytes f.spell (take f.units (drop at units)) ++ tokens_of bytes units (at + f.units) fs
+
+-- tokens stand one behind the other, each of at least one byte, from a byte to another
+abbrev pub TokensFollow : ℕ → List Spelled → ℕ → Type 0
+TokensFollow from [] to = from ≤ to
+TokensFollow from (t ∷ ts) to = (from ≤ t.token.start) × (0 < t.token.len) × TokensFollow (t.token.start + t.token.len) ts to
+
+-- the elements stand one behind the other, from a unit and a mode to a unit and a mode
+abbrev pub Follow : Language → List ℕ → ℕ → ℕ → List Found → ℕ → ℕ → Type 0
+Follow lang text at mode [] end last = (at ≡ end) × (mode ≡ last)
+Follow lang text at mode (f ∷ fs) end last =
+    Takes lang at mode (drop at text) (Some f) × Follow lang text (at + f.units) f.mode fs end last
+
+-- the elements are all of the text
+abbrev pub IsWhole : Language → List Unit → List Found → Type 0
+IsWhole lang units fs = (last : ℕ) × Follow lang (characters units) 0 0 fs (length units) last
+
+-- the elements end where nothing is taken, at the unit of this byte
+pub record EndsAt (lang : Language) (units : List Unit) (byte : ℕ) : Type 0 where
+  pub elements : List Found
+  pub at : ℕ
+  pub mode : ℕ
+  pub before : Follow lang (characters units) 0 0 elements at mode
+  pub inside : at < length units
+  pub nothing : Takes lang at mode (drop at (characters units)) None
+  pub byte_is : byte ≡ (unit_at units at).start
+
+abbrev pub IsCut : Language → List ℕ → List Unit → Cut → Type 0
+IsCut lang bytes units (cuts.Tokens v) = (fs : List Found) × IsWhole lang units fs × (v.items ≡ tokens_of bytes units 0 fs)
+IsCut lang bytes units (cuts.Fault byte) = EndsAt lang units byte
+
+abbrev pub AreCutInOrder : ℕ → Cut → Type 0
+AreCutInOrder to (cuts.Tokens v) = TokensFollow 0 v.items to
+AreCutInOrder to (cuts.Fault byte) = ⊤
+
+-- A fault of the translation is the answer. Otherwise it is the first place where nothing is taken. Otherwise the
+-- text is large where it has more tokens than 262,144, and else these tokens are the answer.
+abbrev pub IsLexed : Language → (List Unit → Result (List Unit) ℕ) → (List ℕ → List Spelled → List Spelled) → List ℕ → Lexed → Type 0
+IsLexed lang translated completed bytes (lexed.Fault byte) =
+    MatchResult (translated (units_of bytes)) (λ units. EndsAt lang units byte) (λ at. byte ≡ at)
+IsLexed lang translated completed bytes lexed.Large =
+    IsOkAnd (translated (units_of bytes)) (λ units. (fs : List Found) × IsWhole lang units fs × (262144 < length (completed bytes (tokens_of bytes units 0 fs))))
+IsLexed lang translated completed bytes (lexed.Tokens v) =
+    IsOkAnd (translated (units_of bytes)) (λ units. (fs : List Found) × IsWhole lang units fs × (v.items ≡ completed bytes (tokens_of bytes units 0 fs)) × (length v.items ≤ 262144))
+
+-- the answers are alike: where tokens lie in memory doesn't matter
+abbrev pub Alike : Lexed → Lexed → Type 0
+Alike (lexed.Tokens v) (lexed.Tokens w) = v.items ≡ w.items
+Alike (lexed.Fault a) (lexed.Fault b) = a ≡ b
+Alike lexed.Large lexed.Large = ⊤
+Alike _ _ = ⊥

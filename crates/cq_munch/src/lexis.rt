@@ -1,0 +1,55 @@
+ghost use Rattle.std.specs.Prelude.{◌≡◌, ℕ, ◌^◌, ◌<◌, ◌≤◌, Result, Ok, List, length, drop, IfOk, IfSome, IsUtf8};
+ghost use Rattle.cq_base.specs.declared.token.Spelled.{Spelled};
+ghost use Rattle.cq_munch.specs.declared.unit.Unit.{Unit};
+ghost use Rattle.cq_munch.specs.Language.{Language, Takes};
+ghost use Rattle.cq_munch.specs.Characters.{characters};
+ghost use Rattle.cq_munch.specs.Lexed.{units_of, translation, InOrder, TokensFollow};
+
+use crate::element::Found;
+use crate::unit::Unit;
+use cq_base::{Memory, Spelled, Text};
+use std::alloc::Global;
+
+/// The units of a text, or the byte of its first fault of translation.
+#[derive(Debug, Drop)]
+pub enum Translated {
+    Units(Vec<Unit>),
+    Fault(u32),
+}
+
+/// A language.
+pub trait Lexis {
+    /// Its tables.
+    ghost language: { Language };
+
+    /// The translation of a text's units, or the byte of its first fault.
+    ghost translated: { List Unit → Result (List Unit) ℕ };
+
+    /// A text's tokens with those that the language inserts.
+    ghost completed: { List ℕ → List Spelled → List Spelled };
+
+    /// The translated units of a text.
+    fn translate(alloc: Global, text: &Text) -> Result<Translated, Memory>
+        requires utf8 { IsUtf8 text.now }
+        requires short { length text.now ≤ 1048576 }
+        ensures translation { IfOk result (λ t. translation t ≡ translated (units_of text.now)) }
+        ensures in_order { IfOk result (λ t. IfOk (translation t) (λ units. InOrder 0 units (length text.now))) }
+        ensures short { IfOk result (λ t. IfOk (translation t) (λ units. length units ≤ length text.now)) };
+
+    /// The element at a unit, in a mode; None exactly where the tables allow none. It takes no memory.
+    fn longest(units: &[Unit], at: u32, mode: u8) -> Option<Found>
+        requires inside { at < length units.now }
+        requires short { length units.now < 2 ^ 32 }
+        requires known { mode ≤ 3 }
+        ensures taken { Takes language at mode (drop at (characters units.now)) result }
+        ensures known { IfSome result (λ found. found.mode ≤ 3) };
+
+    /// The tokens of a text with those that the language inserts.
+    fn complete(alloc: Global, text: &Text, tokens: Vec<Spelled>) -> Result<Vec<Spelled>, Memory>
+        requires short { length text.now ≤ 1048576 }
+        requires in_order { TokensFollow 0 tokens.items (length text.now) }
+        ensures { IfOk result (λ v. v.items ≡ completed text.now tokens.items) };
+
+    /// No spelling is of two kinds.
+    ghost one_kind: { (at mode : ℕ) (text s : List ℕ) (a b : _) → language.tried at mode text a s → language.tried at mode text b s → a ≡ b };
+}

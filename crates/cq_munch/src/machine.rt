@@ -1,0 +1,40 @@
+ghost use Rattle.std.specs.Prelude.{◌≡◌, ℕ, List, [], ◌∷◌, ◌↔◌, IsTrue, IfSome, IfNone, map};
+ghost use Rattle.cq_munch.specs.Longest.{LongestAt};
+
+use crate::unit::Unit;
+
+/// A scanner of one set of spellings, which reads one character after the other.
+pub trait Machine: Copy {
+    /// The spellings that go on from this state.
+    ghost rest: { Self → List ℕ → Type 0 };
+
+    /// The state behind a character, or None where no spelling goes on with it.
+    fn step(self, ch: char) -> Option<Self>
+        ensures none { IfNone result ((s : List ℕ) → rest self (ch ∷ s) → ⊥) }
+        ensures next { IfSome result (λ next. (s : List ℕ) → rest self (ch ∷ s) ↔ rest next s) };
+
+    /// Whether a spelling ends here.
+    fn accepts(self) -> bool
+        ensures { IsTrue result ↔ rest self [] };
+}
+
+/// How many units the longest spelling at the front has; None exactly where none of at least one unit stands there.
+/// It reads up to the first unit with which no spelling goes on, each once.
+pub fn longest_spelling<M: Machine>(start: M, units: &[Unit]) -> Option<usize>
+    ensures { LongestAt (M.rest start) (map (λ u. u.ch) units.now) result }
+{
+    let mut state = start;
+    let mut found = None;
+    for (i, unit) in units.iter().enumerate() {
+        match state.step(unit.ch) {
+            None => return found,
+            Some(next) => {
+                state = next;
+                if state.accepts() {
+                    found = Some(i + 1);
+                }
+            }
+        }
+    }
+    found
+}

@@ -1,0 +1,48 @@
+ghost use Rattle.std.specs.Prelude.{ℕ, ◌≤◌, List, length, IfOk, IsUtf8};
+ghost use Rattle.cq_munch.specs.declared.munching.Lexed.{Lexed};
+ghost use Rattle.cq_munch.specs.Lexed.{IsLexed, Alike};
+
+use crate::cutting::{Cut, cut_up};
+use crate::lexis::{Lexis, Translated};
+use cq_base::{Memory, Spelled, Text};
+use std::alloc::Global;
+
+/// What a text is lexed to.
+#[derive(Debug, Drop)]
+pub enum Lexed {
+    /// Its tokens, at most 262,144.
+    Tokens(Vec<Spelled>),
+    /// The byte of its first fault.
+    Fault(u32),
+    /// It has no fault, and more than 262,144 tokens.
+    Large,
+}
+
+const MOST_TOKENS: usize = 262_144;
+
+/// The tokens of a text, or its first fault, or that there are too many. The text is translated first; then the
+/// longest element is taken, one behind the other.
+pub fn munch<X: Lexis>(alloc: Global, text: &Text) -> Result<Lexed, Memory>
+    requires utf8 { IsUtf8 text.now }
+    requires short { length text.now ≤ 1048576 }
+    ensures { IfOk result (IsLexed X.language X.translated X.completed text.now) }
+{
+    let units = match X::translate(alloc, text)? {
+        Translated::Units(units) => units,
+        Translated::Fault(at) => return Ok(Lexed::Fault(at)),
+    };
+    let tokens = match cut_up::<X>(alloc, text, &units)? {
+        Cut::Tokens(tokens) => tokens,
+        Cut::Fault(at) => return Ok(Lexed::Fault(at)),
+    };
+    let tokens = X::complete(alloc, text, tokens)?;
+    if tokens.len() > MOST_TOKENS {
+        return Ok(Lexed::Large);
+    }
+    Ok(Lexed::Tokens(tokens))
+}
+
+/// No text is lexed to two answers: the definition leaves nothing open.
+pub fn one_answer<X: Lexis>()
+    ensures { (bytes : List ℕ) (a b : Lexed) → IsLexed X.language X.translated X.completed bytes a → IsLexed X.language X.translated X.completed bytes b → Alike a b }
+{}

@@ -1,0 +1,34 @@
+ghost use Rattle.std.specs.Prelude.{◌≡◌, ◌≤◌, length, IfOk, IsUtf8};
+ghost use Rattle.cq_munch.specs.Lexed.{units_of, InOrder};
+
+use cq_base::{Memory, Text};
+use crate::unit::Unit;
+use std::alloc::Global;
+use std::str;
+
+/// The units of a text, each with its own bytes.
+pub fn plain_units(alloc: Global, text: &Text) -> Result<Vec<Unit>, Memory>
+    requires utf8 { IsUtf8 text.now }
+    requires short { length text.now ≤ 1048576 }
+    ensures units { IfOk result (λ v. v.items ≡ units_of text.now) }
+    ensures in_order { IfOk result (λ v. InOrder 0 v.items (length text.now)) }
+    ensures short { IfOk result (λ v. length v.items ≤ length text.now) }
+{
+    of_str(alloc, str::from_utf8(text.as_bytes()).unwrap())
+}
+
+fn of_str(alloc: Global, text: &str) -> Result<Vec<Unit>, Memory>
+    requires { length text.now ≤ 1048576 }
+    ensures units { IfOk result (λ v. v.items ≡ units_of text.now) }
+    ensures in_order { IfOk result (λ v. InOrder 0 v.items (length text.now)) }
+    ensures short { IfOk result (λ v. length v.items ≤ length text.now) }
+{
+    let mut units = Vec::new(alloc);
+    let mut start = 0;
+    for ch in text.chars() {
+        let len = ch.len_utf8() as u32;
+        units.push(Unit { ch, start, len })?;
+        start += len;
+    }
+    Ok(units)
+}
