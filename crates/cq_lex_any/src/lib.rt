@@ -1,0 +1,13 @@
+//! The language `any`, for texts of no language in particular: a token is a longest run of characters that may
+//! continue an identifier (UAX #31, XID_Continue), or any other single character that is no blank. There are no
+//! comments, and no text is a fault. Each unit is looked at once, twice where a run ends.
+#![tactic(auto)]
+
+mod language;
+mod run;
+mod taking;
+
+pub use language::Any;
+
+#[cfg(test)]
+mod tests;
