@@ -1,0 +1,5 @@
+pub mod Sent
+pub mod KeyOrder
+pub mod Placing
+pub mod Searching
+pub mod Keepings

@@ -1,0 +1,42 @@
+-- The groups of a project after a list of uploads, as a reply shows them.
+use Rattle.std.specs.Prelude.{◌≡◌, ℕ, ◌+◌, ◌-◌, List, [], map, slice_index_or}
+use Rattle.cq_base.specs.declared.group.Group.{Group}
+use Rattle.cq_base.specs.declared.group.Place.{Place}
+use Rattle.cq_base.specs.declared.token.Class.TheVariants.{Punct}
+use Rattle.cq_base.specs.declared.token.Token.{Token}
+use Rattle.cq_base.specs.declared.token.Spelled.{Spelled}
+use Rattle.cq_clones.specs.Groups.{AreGroups}
+use Rattle.cq_reply.specs.declared.reply.PlaceRow.{PlaceRow}
+use Rattle.cq_reply.specs.declared.reply.GroupRow.{GroupRow}
+use Rattle.cqd.specs.declared.put.Put.{Put}
+use Rattle.cqd.specs.Files.{File, AreFiles}
+use Rattle.cqd.specs.Lexing.{AreLexed, norm_of}
+
+-- the file at a position, and the place of a token in a list of them
+abbrev pub file_in : List File → ℕ → File
+file_in files i = slice_index_or files i (record { path = []; number = 0 })
+
+abbrev pub span_in : List Token → ℕ → Token
+span_in spans at = slice_index_or spans at (record { class = Punct; start = 0; len = 0; first_line = 0; last_line = 0 })
+
+abbrev pub spans_of : List Spelled → List Token
+spans_of tokens = map (λ s. s.token) tokens
+
+-- a place of a word of `n` tokens: from the first line of its first token to the last line of its last one
+abbrev pub place_row : List File → List (List Spelled) → ℕ → Place → PlaceRow
+place_row files lexed n p =
+    let spans = spans_of (slice_index_or lexed p.file []) in
+    record { path = (file_in files p.file).path; at = p.at; first = (span_in spans p.at).first_line; last = (span_in spans (p.at + n - 1)).last_line }
+
+abbrev pub group_row : List File → List (List Spelled) → Group → GroupRow
+group_row files lexed g = record { tokens = g.tokens; places = map (place_row files lexed g.tokens) g.places }
+
+-- the rows are the groups of the tokens of the project's files, in order
+pub record IsListing (puts : List Put) (project : List ℕ) (min : ℕ) (rows : List GroupRow) : Type 0 where
+  pub files : List File
+  pub are_files : AreFiles puts project files
+  pub lexed : List (List Spelled)
+  pub are_lexed : AreLexed puts files lexed
+  pub groups : List Group
+  pub are_groups : AreGroups (map (λ tokens. map norm_of tokens) lexed) min groups
+  pub rows_are : rows ≡ map (group_row files lexed) groups

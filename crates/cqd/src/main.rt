@@ -1,0 +1,12 @@
+//! cqd, a code quality server.
+#![tactic(auto)]
+
+mod keeping;
+mod kept;
+mod lexing;
+mod put;
+mod sending;
+mod store;
+mod words;
+
+fn main() {}

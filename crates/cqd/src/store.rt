@@ -1,0 +1,55 @@
+ghost use Rattle.std.specs.Prelude.{◌≡◌, ◌+◌, ◌∷◌, ◌++◌, ◌≤◌, [], List, length, IfOk, OnOk, OnErr, IsUtf8};
+ghost use Rattle.cq_reply.specs.Written.{line_of};
+ghost use Rattle.cq_reply.specs.declared.reply.Reply.TheVariants.{Change};
+ghost use Rattle.cqd.specs.declared.put.Put.{Put};
+
+use crate::keeping::{kept_of, place};
+use crate::kept::Kept;
+use crate::put::Put;
+use cq_base::{Memory, Text};
+use cq_reply::{Reply, write_reply};
+use std::alloc::Global;
+use std::sync::ledger::Ledger;
+
+/// The files of all projects after the uploads so far, by project and then path. Only the last upload at a path is
+/// kept, as its tokens. An upload costs the reading of its text, a logarithm of comparisons and the moving of the
+/// entries behind its place.
+#[derive(Drop)]
+pub struct Store<L: Ledger> {
+    pub kept: Vec<Kept<L>>,
+    pub accepted: u64,
+}
+
+impl<L: Ledger> Store<L> {
+    ghost use Rattle.cqd.specs.Stands.{StandsFor};
+
+    /// A store of no uploads.
+    pub fn new(alloc: Global) -> Store<L>
+        ensures { StandsFor [] result }
+    {
+        Store {
+            kept: Vec::new(alloc),
+            accepted: 0,
+        }
+    }
+
+    /// Accepts an upload and gives the line of the reply with its number. Without memory nothing is accepted.
+    pub fn accept(&mut self, alloc: Global, put: Put) -> Result<Text, Memory>
+        requires sound { (puts : List Put) × StandsFor puts self.old }
+        requires path { IsUtf8 put.path }
+        requires utf8 { IsUtf8 put.text }
+        requires short { length put.text ≤ 1048576 }
+        ensures line { IfOk result (λ line. (puts : List Put) → StandsFor puts self.old → line ≡ line_of (Change (length puts + 1))) }
+        ensures accepted { OnOk result ((puts : List Put) → StandsFor puts self.old → StandsFor (puts ++ put ∷ []) self.new) }
+        ensures refused { OnErr result ((puts : List Put) → StandsFor puts self.old → StandsFor puts self.new) }
+    {
+        let Some(number) = self.accepted.checked_add(1) else {
+            return Err(Memory);
+        };
+        let line = write_reply(alloc, &Reply::Change(number))?;
+        let kept = kept_of(alloc, put, number)?;
+        place(&mut self.kept, kept)?;
+        self.accepted = number;
+        Ok(line)
+    }
+}
