@@ -36,6 +36,9 @@ itself Less e = absurd (cc)
 itself Equal e = refl
 itself Greater e = absurd (cc)
 
+pub text_equal : (p : List ℕ) → slice_cmp nat_cmp p p ≡ Equal
+text_equal p = itself (slice_cmp nat_cmp p p) (nat_list_cmp_total.antisymm p p)
+
 pub equal_itself : (a : Key) → key_cmp a a ≡ Equal
 equal_itself a = itself (key_cmp a a) (key_total.antisymm a a)
 

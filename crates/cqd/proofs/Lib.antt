@@ -3,3 +3,6 @@ pub mod KeyOrder
 pub mod Placing
 pub mod Searching
 pub mod Keepings
+pub mod Rows
+pub mod Mapped
+pub mod Listings

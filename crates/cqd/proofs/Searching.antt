@@ -2,16 +2,12 @@
 use Rattle.std.proofs.Common.{◌≡◌, ℕ, ◌<◌, ◌≤◌, List, length, get_or, map, Result, Ok, Err, refl, sym, ap, ◌∙◌, ⊎_elim, arith}
 use Rattle.std.specs.Prelude.{AllPairs, IfOk, IfErr}
 use Rattle.std.specs.List.Sorted.{IsSearchInRange, IsBinarySearchResult}
-use Rattle.std.proofs.lemmas.Option.{slice_get_cases}
 use Rattle.cqd.specs.Places.{place_cmp}
 use Rattle.cqd.specs.declared.kept.Kept.{Kept}
 use Rattle.cqd.specs.Stands.{Key, key_of, key_in, KeyBefore, IsFoundAt, IsGapAt}
 use Rattle.cqd.proofs.KeyOrder.{key_at, behind_from_greater}
+use Rattle.cqd.proofs.Mapped.{element}
 use Rattle.cqd.proofs.Placing.{key_at_place, keys_many, rises, found_at}
-
--- an element at a position within
-element : {X : Type 0} (xs : List X) (i : ℕ) → i < length xs → X
-element xs i inside = ⊎_elim (λ (x, within, here, read). x) (λ (past, none). absurd (omega arith)) (slice_get_cases xs i).1
 
 pub found_of : {L : Type 0} (xs : List (Kept L)) (project path : List ℕ) (r : Result ℕ ℕ) → IsSearchInRange r (length xs) → IsBinarySearchResult (λ k. place_cmp k.project k.path project path) xs r → IfOk r (IsFoundAt (map key_of xs) project path)
 found_of xs project path (Ok i) bound is = found_at xs project path i bound is (element xs i bound)

@@ -3,6 +3,7 @@ pub mod Places
 pub mod Files
 pub mod Lexing
 pub mod Listing
+pub mod Kept
 pub mod Talk
 pub mod Stands
 pub mod Sending

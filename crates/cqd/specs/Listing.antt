@@ -1,5 +1,5 @@
 -- The groups of a project after a list of uploads, as a reply shows them.
-use Rattle.std.specs.Prelude.{◌≡◌, ℕ, ◌+◌, ◌-◌, List, [], map, slice_index_or}
+use Rattle.std.specs.Prelude.{◌≡◌, ℕ, ◌+◌, ◌-◌, ◌<◌, ◌≤◌, List, [], length, map, slice_index_or, Contains}
 use Rattle.cq_base.specs.declared.group.Group.{Group}
 use Rattle.cq_base.specs.declared.group.Place.{Place}
 use Rattle.cq_base.specs.declared.token.Class.TheVariants.{Punct}
@@ -22,14 +22,15 @@ span_in spans at = slice_index_or spans at (record { class = Punct; start = 0; l
 abbrev pub spans_of : List Spelled → List Token
 spans_of tokens = map (λ s. s.token) tokens
 
--- a place of a word of `n` tokens: from the first line of its first token to the last line of its last one
-abbrev pub place_row : List File → List (List Spelled) → ℕ → Place → PlaceRow
-place_row files lexed n p =
-    let spans = spans_of (slice_index_or lexed p.file []) in
-    record { path = (file_in files p.file).path; at = p.at; first = (span_in spans p.at).first_line; last = (span_in spans (p.at + n - 1)).last_line }
+-- A place of a word of `n` tokens: from the first line of its first token to the last line of its last one. `spans`
+-- tells where the tokens of each file stand.
+abbrev pub place_row : List File → List (List Token) → ℕ → Place → PlaceRow
+place_row files spans n p =
+    let here = slice_index_or spans p.file [] in
+    record { path = (file_in files p.file).path; at = p.at; first = (span_in here p.at).first_line; last = (span_in here (p.at + n - 1)).last_line }
 
-abbrev pub group_row : List File → List (List Spelled) → Group → GroupRow
-group_row files lexed g = record { tokens = g.tokens; places = map (place_row files lexed g.tokens) g.places }
+abbrev pub group_row : List File → List (List Token) → Group → GroupRow
+group_row files spans g = record { tokens = g.tokens; places = map (place_row files spans g.tokens) g.places }
 
 -- the rows are the groups of the tokens of the project's files, in order
 pub record IsListing (puts : List Put) (project : List ℕ) (min : ℕ) (rows : List GroupRow) : Type 0 where
@@ -39,4 +40,12 @@ pub record IsListing (puts : List Put) (project : List ℕ) (min : ℕ) (rows : 
   pub are_lexed : AreLexed puts files lexed
   pub groups : List Group
   pub are_groups : AreGroups (map (λ tokens. map norm_of tokens) lexed) min groups
-  pub rows_are : rows ≡ map (group_row files lexed) groups
+  pub rows_are : rows ≡ map (group_row files (map spans_of lexed)) groups
+
+-- ---- what can be shown: each word stands within its file
+
+abbrev pub IsInside : List (List Token) → ℕ → Place → Type 0
+IsInside spans n p = (p.file < length spans) × (p.at + n ≤ length (slice_index_or spans p.file []))
+
+abbrev pub IsGroupInside : List (List Token) → Group → Type 0
+IsGroupInside spans g = (1 ≤ g.tokens) × ((p : Place) → Contains g.places p → IsInside spans g.tokens p)

@@ -4,6 +4,7 @@
 mod keeping;
 mod kept;
 mod lexing;
+mod listing;
 mod put;
 mod sending;
 mod store;

@@ -1,13 +1,16 @@
 ghost use Rattle.std.specs.Prelude.{◌≡◌, ◌+◌, ◌∷◌, ◌++◌, ◌≤◌, [], List, length, IfOk, OnOk, OnErr, IsUtf8};
-ghost use Rattle.cq_reply.specs.Written.{line_of};
+ghost use Rattle.std.specs.List.{AllByRecursion};
+ghost use Rattle.cq_reply.specs.Written.{line_of, IsGroupText};
 ghost use Rattle.cq_reply.specs.declared.reply.Reply.TheVariants.{Change};
 ghost use Rattle.cqd.specs.declared.put.Put.{Put};
 
 use crate::keeping::{kept_of, place};
 use crate::kept::Kept;
+use crate::listing::{group_rows, of_project, tokens_of};
 use crate::put::Put;
-use cq_base::{Memory, Text};
-use cq_reply::{Reply, write_reply};
+use cq_base::{Memory, Steps, Text};
+use cq_reply::{GroupRows, Reply, write_reply};
+use cq_scan::scan;
 use std::alloc::Global;
 use std::sync::ledger::Ledger;
 
@@ -22,6 +25,7 @@ pub struct Store<L: Ledger> {
 
 impl<L: Ledger> Store<L> {
     ghost use Rattle.cqd.specs.Stands.{StandsFor};
+    ghost use Rattle.cqd.specs.Listing.{IsListing};
 
     /// A store of no uploads.
     pub fn new(alloc: Global) -> Store<L>
@@ -51,5 +55,27 @@ impl<L: Ledger> Store<L> {
         place(&mut self.kept, kept)?;
         self.accepted = number;
         Ok(line)
+    }
+
+    /// The groups of at least `min` tokens in the files of a project. Each read of a token is a step.
+    pub fn groups(
+        &self,
+        alloc: Global,
+        project: &Text,
+        min: u32,
+        steps: &mut Steps<L>,
+    ) -> Result<GroupRows, Memory>
+        requires sound { (puts : List Put) × StandsFor puts self.now }
+        requires some { 1 ≤ min }
+        ensures listing { IfOk result (λ rows. (puts : List Put) → StandsFor puts self.now → IsListing puts project.now min rows) }
+        ensures texts { IfOk result (AllByRecursion IsGroupText) }
+    {
+        let files = of_project(alloc, &self.kept, project)?;
+        if files.len() > u32::MAX as usize {
+            return Err(Memory);
+        }
+        let tokens = tokens_of(alloc, &files)?;
+        let groups = scan(alloc, &tokens, min, steps)?;
+        group_rows(alloc, &files, &groups)
     }
 }

@@ -1,0 +1,167 @@
+-- The files of a project among those that are kept, and their groups.
+use Rattle.std.proofs.Common.{◌≡◌, ◌⊎◌, ◌↔◌, ℕ, zero, suc, ◌+◌, ◌-◌, ◌<◌, ◌≤◌, Bool, true, List, [], ◌∷◌, ◌++◌, length, get_or, map, refl, sym, ap, ap₂, ◌∙◌, subst, inl, inr, ⊎_elim, arith}
+use Rattle.std.specs.Prelude.{AllPairs, Contains, filter}
+use Rattle.std.specs.List.{AllByRecursion}
+use Rattle.std.specs.Arc.{arc_value}
+use Rattle.std.specs.Str.{bytes_eq, IsUtf8}
+use Rattle.std.specs.declared.cmp.Ordering.TheVariants.{Less, Equal}
+use Rattle.std.specs.declared.cmp.Ordering.{Ordering}
+use Rattle.std.specs.Ordering.{nat_cmp, ordering_then}
+use Rattle.std.specs.Cmp.Lexicographic.{slice_cmp}
+use Rattle.std.proofs.lemmas.Slice.Eq.{bytes_eq-Decides}
+use Rattle.std.proofs.lemmas.List.Kept.{AllPairs-filter}
+use Rattle.std.proofs.lemmas.List.{get_or-map, length-map, get_or_past}
+use Rattle.std.proofs.lemmas.Bool.{cases_lt}
+use Rattle.cq_base.specs.declared.group.Group.{Group}
+use Rattle.cq_base.specs.declared.group.Place.{Place}
+use Rattle.cq_base.specs.declared.norm.Norm.{Norm}
+use Rattle.cq_base.specs.declared.token.Token.{Token}
+use Rattle.cq_base.specs.declared.token.Spelled.{Spelled}
+use Rattle.cq_clones.specs.Lists.{AreAllInOrder}
+use Rattle.cq_clones.specs.Groups.{file_at, AreGroups, IsGroup, StandsAt, kept_of}
+use Rattle.cq_clones.proofs.InOrder.{Contains-here, Contains-there}
+use Rattle.cq_clones.proofs.GroupLaws.{within_from_standing}
+use Rattle.cq_clones.proofs.KeptPlaces.{kept_among}
+use Rattle.cq_reply.specs.declared.reply.GroupRow.{GroupRow}
+use Rattle.cq_reply.specs.Written.{IsPlaceText, IsGroupText}
+use Rattle.cqd.specs.declared.put.Put.{Put}
+use Rattle.cqd.specs.declared.kept.Kept.{Kept}
+use Rattle.cqd.specs.declared.store.Store.{Store}
+use Rattle.cqd.specs.Files.{File, IsLastPut, PathBefore, AreFiles}
+use Rattle.cqd.specs.Lexing.{norm_of, AreLexed}
+use Rattle.cqd.specs.Kept.{file_of, files_of, spans_in, norms_in}
+use Rattle.cqd.specs.Listing.{file_in, spans_of, IsInside, IsGroupInside, IsListing, place_row, group_row}
+use Rattle.cqd.specs.Places.{place_cmp}
+use Rattle.cqd.specs.Stands.{Key, key_of, KeyBefore, IsLastAt, HasWork, StandsFor}
+use Rattle.cqd.proofs.KeyOrder.{text_equal}
+use Rattle.cqd.proofs.Mapped.{Contains-map, Contains-from_map, Contains-filter, Contains-from_filter, pairs_from_map, pairs_to_map, pairs_weaker, element, same_default}
+
+abbrev pub is_of : {L : Type 0} → List ℕ → Kept L → Bool
+is_of project k = bytes_eq k.project project
+
+abbrev pub chosen : {L : Type 0} → List ℕ → List (Kept L) → List (Kept L)
+chosen project kept = filter (is_of project) kept
+
+chosen_project : {L : Type 0} (project : List ℕ) (k : Kept L) → is_of project k ≡ true → k.project ≡ project
+chosen_project project k holds = (bytes_eq-Decides k.project project).0 holds
+
+-- of two files of one project the path decides
+path_decides : (a b : Key) → a.project ≡ b.project → KeyBefore a b → slice_cmp nat_cmp a.path b.path ≡ Less
+path_decides a b same before =
+    let e : slice_cmp nat_cmp a.project b.project ≡ Equal = ap (λ q. slice_cmp nat_cmp a.project q) (sym same) ∙ text_equal a.project in
+    sym (ap (λ r. ordering_then r (slice_cmp nat_cmp a.path b.path)) e) ∙ before
+
+same_file : (f g : File) → f.path ≡ g.path → f.number ≡ g.number → f ≡ g
+same_file f g p n = λ i. record { path = p i; number = n i }
+
+-- those of a project are its files, in path order
+pub project_files : {L : Type 0} (puts : List Put) (store : Store L) (project : List ℕ) → StandsFor puts store → AreFiles puts project (files_of (chosen project store.kept.items))
+project_files {L} puts store project stands = record {
+  ordered = pairs_to_map PathBefore file_of (chosen project store.kept.items)
+      (pairs_weaker (λ a b. KeyBefore (key_of a) (key_of b)) (λ a b. PathBefore (file_of a) (file_of b)) (chosen project store.kept.items)
+      (λ a b a_in b_in before. path_decides (key_of a) (key_of b) (its_project a a_in ∙ sym (its_project b b_in)) before)
+      (AllPairs-filter (λ a b. KeyBefore (key_of a) (key_of b)) (is_of project) store.kept.items (pairs_from_map KeyBefore key_of store.kept.items stands.files.ordered)));
+  each = λ f. (there f, back f);
+}
+  where
+    its_project : (k : Kept L) → Contains (chosen project store.kept.items) k → k.project ≡ project
+    its_project k c = chosen_project project k (Contains-from_filter (is_of project) store.kept.items k c).1
+
+    there : (f : File) → Contains (files_of (chosen project store.kept.items)) f → IsLastPut puts project f.path f.number
+    there f c =
+        let h = Contains-from_map file_of (chosen project store.kept.items) f c in
+        let k = h.0 in
+        let in_kept = Contains-from_filter (is_of project) store.kept.items k h.1 in
+        let last : IsLastAt puts (key_of k) = (stands.files.each (key_of k)).0 (Contains-map key_of store.kept.items k in_kept.0) in
+        let own : IsLastPut puts project (file_of k).path (file_of k).number = subst (λ q. IsLastPut puts q k.path k.tokens.change) (chosen_project project k in_kept.1) last in
+        subst (λ (g : File). IsLastPut puts project g.path g.number) h.2 own
+
+    back : (f : File) → IsLastPut puts project f.path f.number → Contains (files_of (chosen project store.kept.items)) f
+    back f last =
+        let key : Key = record { project = project; path = f.path; number = f.number } in
+        let h = Contains-from_map key_of store.kept.items key ((stands.files.each key).1 last) in
+        let k = h.0 in
+        let holds : is_of project k ≡ true = (bytes_eq-Decides k.project project).1 (ap (λ (z : Key). z.project) h.2) in
+        let in_chosen = Contains-map file_of (chosen project store.kept.items) k (Contains-filter (is_of project) store.kept.items k h.1 holds) in
+        subst (Contains (files_of (chosen project store.kept.items))) (same_file (file_of k) f (ap (λ (z : Key). z.path) h.2) (ap (λ (z : Key). z.number) h.2)) in_chosen
+
+-- the tokens of files that are kept
+pub record Lexes {L : Type 0} (puts : List Put) (ks : List (Kept L)) : Type 0 where
+  pub lexed : List (List Spelled)
+  pub are : AreLexed puts (files_of ks) lexed
+  pub spans : spans_in ks ≡ map spans_of lexed
+  pub norms : norms_in ks ≡ map (λ tokens. map norm_of tokens) lexed
+
+pub lexes : {L : Type 0} (puts : List Put) (ks : List (Kept L)) → ((k : Kept L) → Contains ks k → HasWork puts k) → Lexes puts ks
+lexes puts [] works = record { lexed = []; are = tt; spans = refl; norms = refl }
+lexes puts (k ∷ ks) works =
+    let work = works k (Contains-here k ks) in
+    let rest = lexes puts ks (λ z c. works z (Contains-there k z ks c)) in
+    record {
+      lexed = work.found ∷ rest.lexed;
+      are = (work.lexes, rest.are);
+      spans = ap₂ (λ (x : List Token) (xs : List (List Token)). x ∷ xs) work.spans rest.spans;
+      norms = ap₂ (λ (x : List Norm) (xs : List (List Norm)). x ∷ xs) work.norms rest.norms;
+    }
+
+-- as many spans as tokens
+as_many : (lexed : List (List Spelled)) (i : ℕ) → length (get_or (map (λ tokens. map norm_of tokens) lexed) i []) ≡ length (get_or (map spans_of lexed) i [])
+as_many [] i = refl
+as_many (tokens ∷ lexed) zero = length-map tokens norm_of ∙ sym (length-map tokens (λ (s : Spelled). s.token))
+as_many (tokens ∷ lexed) (suc i) = as_many lexed i
+
+-- the places of a group of some tokens stand within the files
+pub group_inside : (corpus : List (List Norm)) (spans : List (List Token)) (min : ℕ) (groups : List Group) → 1 ≤ min → ((i : ℕ) → length (file_at corpus i) ≡ length (get_or spans i [])) → AreGroups corpus min groups → (g : Group) → Contains groups g → IsGroupInside spans g
+group_inside corpus spans min groups some same are g c =
+    let is : IsGroup corpus min g = (are.each g).0 c in
+    (omega (arith, is.long), λ p here. inside is p here)
+  where
+    inside : (is : IsGroup corpus min g) (p : Place) → Contains g.places p → IsInside spans g.tokens p
+    inside is p here =
+        let among : Contains is.all p = kept_among g.tokens is.all p (subst (λ ps. Contains ps p) is.places here) in
+        let stands : StandsAt corpus is.word p = (is.occurrences.each p).0 among in
+        let within = within_from_standing corpus is.word p stands (omega (arith, is.tokens, is.long, some)) in
+        let many = same p.file in
+        (⊎_elim (λ h. h) (λ past. let none = ap length (get_or_past spans p.file [] past) in absurd (omega (arith, within, many, none, is.tokens, is.long, some))) (cases_lt p.file (length spans)),
+        omega (arith, within, many, is.tokens))
+
+pub groups_inside : {L : Type 0} (puts : List Put) (ks : List (Kept L)) (min : ℕ) (groups : List Group) → 1 ≤ min → Lexes puts ks → AreGroups (norms_in ks) min groups → (g : Group) → Contains groups g → IsGroupInside (spans_in ks) g
+groups_inside puts ks min groups some found are =
+    group_inside (norms_in ks) (spans_in ks) min groups some
+    (λ i. ap (λ xs. length (get_or xs i [])) found.norms ∙ as_many found.lexed i ∙ ap (λ xs. length (get_or xs i [])) (sym found.spans))
+    are
+
+-- those of a project have their work
+pub chosen_works : {L : Type 0} (puts : List Put) (store : Store L) (project : List ℕ) (ks : List (Kept L)) → ks ≡ chosen project store.kept.items → StandsFor puts store → (k : Kept L) → Contains ks k → HasWork puts k
+chosen_works puts store project ks is stands k c = stands.works k (Contains-from_filter (is_of project) store.kept.items k (subst (λ xs. Contains xs k) is c)).0
+
+pub listed : {L : Type 0} (puts : List Put) (store : Store L) (project : List ℕ) (min : ℕ) (groups : List Group) (rows : List GroupRow) (ks : List (Kept L)) → ks ≡ chosen project store.kept.items → StandsFor puts store → AreGroups (norms_in ks) min groups
+    → rows ≡ map (group_row (files_of ks) (spans_in ks)) groups → IsListing puts project min rows
+listed {L} puts store project min groups rows ks is stands are rows_are =
+    let found = lexes puts ks (chosen_works puts store project ks is stands) in
+    record {
+      files = files_of ks;
+      are_files = subst (λ xs. AreFiles puts project (files_of xs)) (sym is) (project_files puts store project stands);
+      lexed = found.lexed;
+      are_lexed = found.are;
+      groups = groups;
+      are_groups = subst (λ (corpus : List (List Norm)). AreGroups corpus min groups) found.norms are;
+      rows_are = rows_are ∙ ap (λ spans. map (group_row (files_of ks) spans) groups) found.spans;
+    }
+
+-- the paths of what is shown are texts
+pub rows_are_texts : {L : Type 0} (puts : List Put) (ks : List (Kept L)) (spans : List (List Token)) (groups : List Group) → ((k : Kept L) → Contains ks k → HasWork puts k)
+    → ((g : Group) → Contains groups g → (p : Place) → Contains g.places p → p.file < length ks) → AllByRecursion IsGroupText (map (group_row (files_of ks) spans) groups)
+rows_are_texts puts ks spans [] works inside = tt
+rows_are_texts {L} puts ks spans (g ∷ groups) works inside =
+    (places g.tokens g.places (inside g (Contains-here g groups)), rows_are_texts puts ks spans groups works (λ h c. inside h (Contains-there g h groups c)))
+  where
+    path_at : (i : ℕ) → i < length ks → IsUtf8 (file_in (files_of ks) i).path
+    path_at i within =
+        let d = element ks i within in
+        let read = get_or-map file_of ks i d (record { path = []; number = 0 }) within in
+        subst IsUtf8 (ap (λ (f : File). f.path) (sym read)) (works (get_or ks i d) (i, within, same_default ks i d within)).path
+
+    places : (n : ℕ) (ps : List Place) → ((p : Place) → Contains ps p → p.file < length ks) → AllByRecursion IsPlaceText (map (place_row (files_of ks) spans n) ps)
+    places n [] low = tt
+    places n (p ∷ ps) low = (path_at p.file (low p (Contains-here p ps)), places n ps (λ q c. low q (Contains-there p q ps c)))
