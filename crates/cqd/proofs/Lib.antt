@@ -6,3 +6,5 @@ pub mod Keepings
 pub mod Rows
 pub mod Mapped
 pub mod Listings
+pub mod Talking
+pub mod Turns

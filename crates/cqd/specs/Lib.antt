@@ -6,4 +6,7 @@ pub mod Listing
 pub mod Kept
 pub mod Talk
 pub mod Stands
+pub mod Answering
 pub mod Sending
+pub mod Serving
+pub mod Top

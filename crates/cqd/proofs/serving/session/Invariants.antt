@@ -1,0 +1,13 @@
+use Rattle.std.proofs.Common.{◌≡◌, ◌+◌, ◌-◌, length}
+use Rattle.cqd.specs.Serving.{Goes}
+use Rattle.cqd.proofs.serving.session.Given as goal
+
+abbrev pub invariant-lines : goal.invariant-lines
+invariant-lines g l = record {
+  goes : Goes l.settings.chunk l.fn.lines.limit (g.S.Source.rest l.fn.source) (g.S.Source.rest l.source) (g.K.Sink.written l.fn.sink) (g.K.Sink.written l.sink) l.lines l.store;
+  source_faults : g.S.Source.faults l.source ≡ g.S.Source.faults l.fn.source;
+  sink_faults : g.K.Sink.faults l.sink ≡ g.K.Sink.faults l.fn.sink;
+}
+
+abbrev pub decreases-lines : goal.decreases-lines
+decreases-lines g l = (l.lines.limit - l.lines.taken) + length l.lines.pending

@@ -1,0 +1,67 @@
+ghost use Rattle.std.specs.Prelude.{◌≡◌, ◌≢◌, ◌↔◌, ℕ, Some, None};
+ghost use Rattle.cq_io.specs.Causes.{Rose};
+ghost use Rattle.cqd.specs.Top.{Runs};
+ghost use Rattle.cqd.specs.Top as spec;
+ghost use Rattle.cqd.specs.Words.{chunk_of};
+
+use crate::serving::{End, session};
+use crate::words::read_settings;
+use cq_base::{Steps, Text};
+use cq_io::{Doors, Gate, Sink, Source};
+use cq_lines::Lines;
+use std::alloc::Global;
+use std::sync::ledger::Ledger;
+
+fn status_of(end: End) -> u8
+    ensures { result ≡ spec.status_of end }
+{
+    match end {
+        End::Finished => 0,
+        End::ReadFault => 2,
+        End::WriteFault => 3,
+        End::Spent => 6,
+    }
+}
+
+/// The whole program: the words, and the lines of the source answered into the sink. Its answer is the status with
+/// which the process is to end.
+pub fn top<S: Source, K: Sink, D: Doors, G: Gate, L: Ledger>(
+    alloc: Global,
+    words: &[Text],
+    source: &mut S,
+    sink: &mut K,
+    doors: &mut D,
+    gate: &G,
+    steps: &mut Steps<L>,
+) -> u8
+    // 1 exactly where the words are out of form, and nothing is read or written then.
+    ensures words { (result ≡ 1) ↔ (chunk_of words.now ≡ None) }
+    ensures refused { result ≡ 1 → (source.new ≡ source.old) × (sink.new ≡ sink.old) }
+
+    // 4 for want of memory before a line is read.
+    ensures memory { result ≡ 4 → (source.new ≡ source.old) × (sink.new ≡ sink.old) }
+
+    // 2 and 3 only where the count of faults of that end rose; with 0 and 6 none rose.
+    ensures read_fault { result ≡ 2 → Rose (S.faults source.old) (S.faults source.new) }
+    ensures write_fault { result ≡ 3 → Rose (K.faults sink.old) (K.faults sink.new) }
+    ensures finished { result ≡ 0 → (S.faults source.new ≡ S.faults source.old) × (K.faults sink.new ≡ K.faults sink.old) }
+    ensures spent { result ≡ 6 → (S.faults source.new ≡ S.faults source.old) × (K.faults sink.new ≡ K.faults sink.old) }
+
+    // No door is asked for.
+    ensures doors { doors.new ≡ doors.old }
+
+    // Every status but 1 and 4 is that of a session over all lines of the source.
+    ensures runs { (chunk : ℕ) → chunk_of words.now ≡ Some chunk → result ≢ 4 → Runs chunk (S.rest source.old) (S.rest source.new) (K.written sink.old) (K.written sink.new)
+        (S.faults source.old) (S.faults source.new) (K.faults sink.old) (K.faults sink.new) result }
+{
+    let Some(settings) = read_settings(words) else {
+        return 1;
+    };
+    match Lines::new(alloc, settings.byte_limit) {
+        Ok(mut lines) => {
+            let end = session(alloc, &settings, &mut lines, source, sink, steps);
+            status_of(end)
+        }
+        Err(_) => 4,
+    }
+}
