@@ -17,13 +17,57 @@ const IN_RANGE: Settings = Settings {
 fn settings_name_their_first_fault(rt: HostRuntime) {
     assert_eq!(rt; IN_RANGE.check(), None);
     let cases = [
-        (Settings { chunk: 0, shards: 0, ..IN_RANGE }, Field::Chunk),
-        (Settings { chunk: 1_001, ..IN_RANGE }, Field::Chunk),
-        (Settings { shards: 65, key_bits: 65, ..IN_RANGE }, Field::Shards),
-        (Settings { key_bits: 65, ..IN_RANGE }, Field::KeyBits),
-        (Settings { change_limit: 262_145, ..IN_RANGE }, Field::ChangeLimit),
-        (Settings { text_limit: 67_108_865, ..IN_RANGE }, Field::TextLimit),
-        (Settings { byte_limit: 0, ..IN_RANGE }, Field::ByteLimit),
+        (
+            Settings {
+                chunk: 0,
+                shards: 0,
+                ..IN_RANGE
+            },
+            Field::Chunk,
+        ),
+        (
+            Settings {
+                chunk: 1_001,
+                ..IN_RANGE
+            },
+            Field::Chunk,
+        ),
+        (
+            Settings {
+                shards: 65,
+                key_bits: 65,
+                ..IN_RANGE
+            },
+            Field::Shards,
+        ),
+        (
+            Settings {
+                key_bits: 65,
+                ..IN_RANGE
+            },
+            Field::KeyBits,
+        ),
+        (
+            Settings {
+                change_limit: 262_145,
+                ..IN_RANGE
+            },
+            Field::ChangeLimit,
+        ),
+        (
+            Settings {
+                text_limit: 67_108_865,
+                ..IN_RANGE
+            },
+            Field::TextLimit,
+        ),
+        (
+            Settings {
+                byte_limit: 0,
+                ..IN_RANGE
+            },
+            Field::ByteLimit,
+        ),
     ];
     for (settings, field) in cases {
         assert_eq!(rt; settings.check(), Some(field));
@@ -60,6 +104,9 @@ fn texts_are_compared_by_bytes(rt: HostRuntime) -> Result<(), Memory> {
     let alloc = rt.alloc();
     let text = Text::from_bytes(alloc, b"ab")?;
     assert!(rt; text.is_same(&text.copied(alloc)?));
-    assert_eq!(rt; text.compare(&Text::from_bytes(alloc, b"b")?), Ordering::Less);
+    assert_eq!(rt;
+        text.compare(&Text::from_bytes(alloc, b"b")?),
+        Ordering::Less
+    );
     Ok(())
 }

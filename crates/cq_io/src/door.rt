@@ -12,6 +12,7 @@ use std::collections::VecDeque;
 /// Where connections come from, each a source and a sink.
 pub trait Doors {
     type In: Source;
+
     type Out: Sink;
 
     /// How often a call has failed. It never falls.
@@ -70,6 +71,7 @@ impl MemDoors {
 
 impl Doors for MemDoors {
     type In = MemSource;
+
     type Out = MemSink;
 
     ghost use Rattle.cq_io.specs.Doors.{bound_of, left_of, door_faults};

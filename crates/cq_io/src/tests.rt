@@ -1,4 +1,6 @@
-use crate::{Doors, Failed, Gate, MemDoors, MemSink, MemSource, OpenGate, Sink, Source, StdSink, StdSource};
+use crate::{
+    Doors, Failed, Gate, MemDoors, MemSink, MemSource, OpenGate, Sink, Source, StdSink, StdSource,
+};
 use cq_base::Text;
 use std::collections::VecDeque;
 use std::test::Fail;

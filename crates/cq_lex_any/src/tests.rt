@@ -37,7 +37,10 @@ fn tokens_of_any_text(rt: HostRuntime) -> Result<(), Memory> {
         ),
         ("a\u{301}b", &[("a\u{301}b", Class::Ident)]),
         ("\u{FEFF}a", &[("a", Class::Ident)]),
-        ("\"\u{1F600}", &[("\"", Class::Punct), ("\u{1F600}", Class::Punct)]),
+        (
+            "\"\u{1F600}",
+            &[("\"", Class::Punct), ("\u{1F600}", Class::Punct)],
+        ),
     ];
     for (source, want) in cases {
         match lexed(rt.alloc(), source)? {
@@ -54,7 +57,12 @@ fn places_and_lines(rt: HostRuntime) -> Result<(), Memory> {
         Some(tokens) => {
             let places: Vec<(u32, u32, u32, u32)> = tokens
                 .iter()
-                .map(|t| (t.token.start, t.token.len, t.token.first_line, t.token.last_line))
+                .map(|t| (
+                    t.token.start,
+                    t.token.len,
+                    t.token.first_line,
+                    t.token.last_line,
+                ))
                 .collect(rt.alloc())?;
             assert!(rt; places.as_slice() == [(0, 2, 1, 1), (5, 2, 3, 3), (7, 1, 3, 3)].as_slice());
         }

@@ -1,8 +1,8 @@
 ghost use Rattle.std.specs.Prelude.{◌≡◌, ◌≤◌, length, IfOk, IsUtf8};
 ghost use Rattle.cq_munch.specs.Lexed.{units_of, InOrder};
 
-use cq_base::{Memory, Text};
 use crate::unit::Unit;
+use cq_base::{Memory, Text};
 use std::alloc::Global;
 use std::str;
 

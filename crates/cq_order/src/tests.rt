@@ -15,7 +15,13 @@ fn group(alloc: Global, tokens: u32, first: Place) -> Result<Group, Memory> {
 
 #[test]
 fn overlapping_occurrences_are_not_kept(rt: HostRuntime) -> Result<(), Memory> {
-    let all = [place(0, 0), place(0, 1), place(0, 3), place(1, 1), place(1, 3)];
+    let all = [
+        place(0, 0),
+        place(0, 1),
+        place(0, 3),
+        place(1, 1),
+        place(1, 3),
+    ];
     let kept = kept(rt.alloc(), 2, &all)?;
     assert!(rt; kept.as_slice() == [place(0, 0), place(0, 3), place(1, 1), place(1, 3)].as_slice());
     Ok(())

@@ -112,7 +112,11 @@ pub(crate) fn short_text_at<'v>(value: &'v Value, key: &str) -> Option<&'v str>
     ensures { option_map (λ s. s.now) result ≡ form.text_with text.is_short key.now (view value.now) }
 {
     let found = text_at(value, key)?;
-    if found.len() <= 1_048_576 { Some(found) } else { None }
+    if found.len() <= 1_048_576 {
+        Some(found)
+    } else {
+        None
+    }
 }
 
 /// The member, where it is a whole number from `low` to `high`.

@@ -90,11 +90,7 @@ fn read_form(alloc: Global, settings: &Settings, value: &Value) -> Result<Option
 
 /// The request that a value is, or why it is refused: `Json` exactly where it is no object, `Op` exactly where it is
 /// an object of neither form.
-pub fn read_value(
-    alloc: Global,
-    settings: &Settings,
-    value: &Value,
-) -> Result<Request, Refusal>
+pub fn read_value(alloc: Global, settings: &Settings, value: &Value) -> Result<Request, Refusal>
     ensures says { UnlessMemory result (of_value settings.now.chunk (Some (view value.now))) }
     ensures sound { IfOk result (IsSound settings.now.chunk) }
 {
@@ -110,11 +106,7 @@ pub fn read_value(
 
 /// The request that a line spells, or why it is refused: `Json` exactly where `serde_json` gives no value for it, or
 /// one that is no object.
-pub fn read_request(
-    alloc: Global,
-    settings: &Settings,
-    line: &[u8],
-) -> Result<Request, Refusal>
+pub fn read_request(alloc: Global, settings: &Settings, line: &[u8]) -> Result<Request, Refusal>
     ensures says { UnlessMemory result (line_says settings.now.chunk line.now) }
     ensures sound { IfOk result (IsSound settings.now.chunk) }
 {

@@ -121,9 +121,10 @@ group_inside corpus spans min groups some same are g c =
         let among : Contains is.all p = kept_among g.tokens is.all p (subst (λ ps. Contains ps p) is.places here) in
         let stands : StandsAt corpus is.word p = (is.occurrences.each p).0 among in
         let within = within_from_standing corpus is.word p stands (omega (arith, is.tokens, is.long, some)) in
-        let many = same p.file in
-        (⊎_elim (λ h. h) (λ past. let none = ap length (get_or_past spans p.file [] past) in absurd (omega (arith, within, many, none, is.tokens, is.long, some))) (cases_lt p.file (length spans)),
-        omega (arith, within, many, is.tokens))
+        let many = same p.file in (
+          ⊎_elim (λ h. h) (λ past. let none = ap length (get_or_past spans p.file [] past) in absurd (omega (arith, within, many, none, is.tokens, is.long, some))) (cases_lt p.file (length spans)),
+          omega (arith, within, many, is.tokens),
+        )
 
 pub groups_inside : {L : Type 0} (puts : List Put) (ks : List (Kept L)) (min : ℕ) (groups : List Group) → 1 ≤ min → Lexes puts ks → AreGroups (norms_in ks) min groups → (g : Group) → Contains groups g → IsGroupInside (spans_in ks) g
 groups_inside puts ks min groups some found are =

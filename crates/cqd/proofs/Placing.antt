@@ -107,9 +107,9 @@ module _ (keys : List Key) (ordered : AllPairs KeyBefore keys) where
             (λ (c, other).
             let n = c.0 in
             let apart : n ≢ i = λ e.
-                let is : get_or keys i z ≡ z = ap (λ m. get_or keys m z) (sym e) ∙ c.2 in
-                let w = here z in
-                other (ap (λ (v : Key). v.project) (sym is) ∙ w.0 ∙ project_is, ap (λ (v : Key). v.path) (sym is) ∙ w.1 ∙ path_is) in
+            let is : get_or keys i z ≡ z = ap (λ m. get_or keys m z) (sym e) ∙ c.2 in
+            let w = here z in
+            other (ap (λ (v : Key). v.project) (sym is) ∙ w.0 ∙ project_is, ap (λ (v : Key). v.path) (sym is) ∙ w.1 ∙ path_is) in
             (n, omega (arith, many, c.1), get_or-set_other keys i n k z apart ∙ c.2))
             (λ e. (i, omega (arith, many, found.inside), get_or-set_same keys i k z found.inside ∙ e))
             h

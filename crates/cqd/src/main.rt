@@ -26,9 +26,6 @@ use std::marker::Brand;
 use std::process::ExitCode;
 use std::sync::ledger::{Blank, Ledger};
 
-
-
-
 const WORDS_REFUSED: u8 = 1;
 
 const OUT_OF_MEMORY: u8 = 4;
@@ -63,7 +60,15 @@ fn run<L: Ledger>(rt: &HostRuntime, words: &[Text], blank: Blank) -> u8
     let mut sink = StdSink::new(rt.stdout());
     let mut doors = MemDoors::new(VecDeque::new(alloc), Vec::new(alloc));
     let mut steps: Steps<L> = Steps::new(blank);
-    top(alloc, words, &mut source, &mut sink, &mut doors, &OpenGate, &mut steps)
+    top(
+        alloc,
+        words,
+        &mut source,
+        &mut sink,
+        &mut doors,
+        &OpenGate,
+        &mut steps,
+    )
 }
 
 fn status(rt: &HostRuntime) -> u8 {
