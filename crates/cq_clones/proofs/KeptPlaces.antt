@@ -1,9 +1,9 @@
 -- The kept places of a word are among its places, and cover all of them.
-use Rattle.std.proofs.Common.{◌≡◌, ◌⊎◌, ℕ, ◌+◌, ◌-◌, ◌<◌, ◌≤◌, Bool, true, false, cond, not, eqb, leb, ◌||◌, Option, Some, None, List, [], ◌∷◌, ◌++◌, length, refl, sym, ap, ◌∙◌, subst, inl, inr, ⊎_elim, arith}
-use Rattle.std.specs.Prelude.{AllPairs, Contains}
+use Rattle.std.proofs.Common.{◌≡◌, ◌⊎◌, ℕ, Bool, true, false, cond, Option, Some, None, List, [], ◌∷◌, ◌++◌, inr, ⊎_elim, arith}
+use Rattle.std.specs.Prelude.{Contains}
 use Rattle.cq_base.specs.declared.group.Place.{Place}
-use Rattle.cq_clones.specs.Groups.{IsBefore, is_free, kept_after, kept_of}
-use Rattle.cq_clones.proofs.InOrder.{Contains-here, Contains-there, Contains-cases, Contains-nil, AllPairs-head, AllPairs-tail}
+use Rattle.cq_clones.specs.Groups.{is_free, kept_after, kept_of}
+use Rattle.cq_clones.proofs.InOrder.{Contains-there, Contains-cases, Contains-nil}
 
 -- one that is taken, or not, and the rest
 front_cases : (b : Bool) (p z : Place) (rest : List Place) → Contains ((cond b (p ∷ []) []) ++ rest) z → (p ≡ z) ⊎ Contains rest z

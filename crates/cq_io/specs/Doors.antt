@@ -1,5 +1,5 @@
 -- What doors tell of the connections that are still to come.
-use Rattle.std.specs.Prelude.{◌≡◌, ℕ, ◌-◌, ◌<◌, List, Option, Some, None, option_map, MatchOption, IfSome, Result, MatchResult}
+use Rattle.std.specs.Prelude.{◌≡◌, ℕ, ◌-◌, ◌<◌, List, Option, Some, option_map, MatchOption, IfSome, Result, MatchResult}
 use Rattle.std.specs.VecDeque.{deque_len}
 use Rattle.cq_io.specs.declared.door.MemDoors.{MemDoors}
 

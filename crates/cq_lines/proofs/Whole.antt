@@ -1,5 +1,5 @@
 -- A run of the cutter, call by call.
-use Rattle.std.proofs.Common.{◌≡◌, ℕ, ◌+◌, ◌-◌, ◌<◌, ◌≤◌, List, [], ◌∷◌, ◌++◌, length, flat_map, Option, None, Some, true, false, inl, inr, refl, sym, ap, ◌∙◌, append_assoc, length-append, arith, subst, ap₂, Bool, cond, eqb}
+use Rattle.std.proofs.Common.{◌≡◌, ℕ, ◌+◌, ◌-◌, ◌<◌, ◌≤◌, List, [], ◌∷◌, ◌++◌, length, flat_map, Option, Some, true, false, inl, inr, refl, sym, ap, ◌∙◌, append_assoc, length-append, arith, subst, ap₂, Bool, cond, eqb}
 use Rattle.std.specs.List.{AllByRecursion}
 use Rattle.std.proofs.lemmas.Bool.{eqb-true}
 use Rattle.std.proofs.KnownBytes.{Consumes-nil, Consumes-trans}
@@ -7,7 +7,7 @@ use Rattle.std.specs.Io.KnownBytes.{Consumes, IsAtEnd}
 use Rattle.cq_lines.specs.Held.{Held}
 use Rattle.cq_lines.specs.Pieces.{HasNoFeed, ended, split, onto_split, closed_lines, all_lines, last_line}
 use Rattle.cq_lines.specs.Cutting.{IsNext, Cuts}
-use Rattle.cq_lines.specs.Runs.{CutTo, CutSoFar, IsFresh, RunEnds}
+use Rattle.cq_lines.specs.Runs.{CutTo, IsFresh, RunEnds}
 use Rattle.cq_lines.specs.declared.lines.Cut.{Cut}
 use Rattle.cq_lines.specs.declared.lines.Cut.TheVariants as cut
 use Rattle.cq_lines.proofs.Splitting.{split_clean, split_lines}

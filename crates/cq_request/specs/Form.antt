@@ -1,5 +1,5 @@
 -- Which request a JSON value is.
-use Rattle.std.specs.Prelude.{◌&&◌, ◌==◌, ◌≤◌, ℕ, List, length, Bool, true, false, nat_le, if◌then◌else◌, Option, Some, None, option_and_then, option_map, unwrap_or, codes}
+use Rattle.std.specs.Prelude.{◌&&◌, ◌==◌, ◌≤◌, ℕ, List, length, Bool, false, nat_le, if◌then◌else◌, Option, Some, None, option_and_then, option_map, unwrap_or, codes}
 use Rattle.std.specs.Str.{bytes_eq, IsUtf8}
 use Rattle.serde_json.specs.Data.{Data}
 use Rattle.serde_json.specs.Events.{members_len}

@@ -1,5 +1,5 @@
 -- Which texts are names of projects and paths of files.
-use Rattle.std.specs.Prelude.{◌&&◌, ◌||◌, ◌==◌, ℕ, List, [], ◌∷◌, length, Bool, true, false, not, nat_lt, nat_le}
+use Rattle.std.specs.Prelude.{◌&&◌, ◌||◌, ◌==◌, ℕ, List, [], ◌∷◌, length, Bool, true, false, not, nat_le}
 use Rattle.std.specs.List.{list_all, slice_split}
 
 -- A-Z a-z 0-9 . _ -

@@ -1,10 +1,9 @@
 -- Groups that don't tie are in one order or the other, and a group is added once.
-use Rattle.std.proofs.Common.{◌≡◌, ◌⊎◌, ℕ, List, [], ◌∷◌, ◌++◌, refl, subst, sym, ◌∙◌, inl, inr, ⊎_elim}
+use Rattle.std.proofs.Common.{◌≡◌, ◌⊎◌, List, [], ◌∷◌, ◌++◌, refl, subst, sym, ◌∙◌, inl, inr, ⊎_elim}
 use Rattle.std.specs.Prelude.{Contains, AllPairs, Any}
 use Rattle.std.proofs.lemmas.Bool.{cases_order}
-use Rattle.cq_base.specs.declared.group.Place.{Place}
 use Rattle.cq_base.specs.declared.group.Group.{Group}
-use Rattle.cq_clones.specs.Groups.{IsBefore, ComesBefore, first_place}
+use Rattle.cq_clones.specs.Groups.{ComesBefore, first_place}
 use Rattle.cq_clones.proofs.InOrder.{in_order_push}
 use Rattle.cq_order.specs.Order.{AreOrdered}
 use Rattle.cq_scan.specs.Found.{Adds, AreTied}

@@ -1,20 +1,19 @@
 -- A file that is put among the kept ones, and what the store stands for then.
-use Rattle.std.proofs.Common.{◌≡◌, ◌≢◌, ◌⊎◌, ◌↔◌, ℕ, zero, suc, ◌+◌, ◌-◌, ◌<◌, ◌≤◌, List, [], ◌∷◌, ◌++◌, length, get_or, map, set, Option, Some, slice_get, Result, Ok, Err, OnErr, refl, sym, ap, ◌∙◌, subst, inl, inr, ⊎_elim, arith, length-append}
+use Rattle.std.proofs.Common.{◌≡◌, ◌⊎◌, ◌↔◌, ℕ, zero, suc, ◌+◌, ◌-◌, ◌<◌, List, [], ◌∷◌, ◌++◌, length, get_or, map, set, Some, slice_get, Result, Ok, Err, OnErr, refl, sym, ap, ◌∙◌, subst, inl, inr, ⊎_elim, arith, length-append}
 use Rattle.std.specs.Prelude.{AllPairs, Contains, insert}
 use Rattle.std.specs.Str.{IsUtf8}
 use Rattle.std.proofs.lemmas.Bool.{cases_eq, cases_lt}
-use Rattle.std.proofs.lemmas.List.{map-set, length-set, get_or-set_same, get_or-set_other, get_or-append-add}
+use Rattle.std.proofs.lemmas.List.{map-set, length-set, get_or-set_same, get_or-set_other}
 use Rattle.std.proofs.Math.ListN.{get_or-append}
 use Rattle.std.proofs.Math.Seq.{get_or-append_seam}
 use Rattle.std.proofs.lemmas.List.Sorted.{IsPermutation-insert, IsPermutation-sym, Contains-permutation}
 use Rattle.std.proofs.lemmas.Option.{slice_get-get_or, slice_get_within, same_Some}
 use Rattle.cq_clones.specs.Lists.{AreAllInOrder}
-use Rattle.cq_clones.proofs.InOrder.{Contains-cases, in_order_same}
+use Rattle.cq_clones.proofs.InOrder.{Contains-cases}
 use Rattle.cqd.specs.declared.put.Put.{Put}
 use Rattle.cqd.specs.declared.kept.Kept.{Kept}
 use Rattle.cqd.specs.declared.store.Store.{Store}
 use Rattle.cqd.specs.Files.{IsLastPut}
-use Rattle.cqd.specs.Lexing.{FileLexesTo}
 use Rattle.cqd.specs.Stands.{Key, key_of, KeyBefore, IsLastAt, IsFoundAt, IsGapAt, IsKeptOf, PlacesKept, HasWork, StandsFor}
 use Rattle.cqd.proofs.Placing.{replaced_ordered, replaced_each, inserted_ordered, inserted_each}
 

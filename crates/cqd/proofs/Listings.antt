@@ -1,11 +1,9 @@
 -- The files of a project among those that are kept, and their groups.
-use Rattle.std.proofs.Common.{◌≡◌, ◌⊎◌, ◌↔◌, ℕ, zero, suc, ◌+◌, ◌-◌, ◌<◌, ◌≤◌, Bool, true, List, [], ◌∷◌, ◌++◌, length, get_or, map, refl, sym, ap, ap₂, ◌∙◌, subst, inl, inr, ⊎_elim, arith}
-use Rattle.std.specs.Prelude.{AllPairs, Contains, filter}
+use Rattle.std.proofs.Common.{◌≡◌, ℕ, zero, suc, ◌<◌, ◌≤◌, Bool, true, List, [], ◌∷◌, length, get_or, map, refl, sym, ap, ap₂, ◌∙◌, subst, ⊎_elim, arith}
+use Rattle.std.specs.Prelude.{Contains, filter}
 use Rattle.std.specs.List.{AllByRecursion}
-use Rattle.std.specs.Arc.{arc_value}
 use Rattle.std.specs.Str.{bytes_eq, IsUtf8}
 use Rattle.std.specs.declared.cmp.Ordering.TheVariants.{Less, Equal}
-use Rattle.std.specs.declared.cmp.Ordering.{Ordering}
 use Rattle.std.specs.Ordering.{nat_cmp, ordering_then}
 use Rattle.std.specs.Cmp.Lexicographic.{slice_cmp}
 use Rattle.std.proofs.lemmas.Slice.Eq.{bytes_eq-Decides}
@@ -17,8 +15,7 @@ use Rattle.cq_base.specs.declared.group.Place.{Place}
 use Rattle.cq_base.specs.declared.norm.Norm.{Norm}
 use Rattle.cq_base.specs.declared.token.Token.{Token}
 use Rattle.cq_base.specs.declared.token.Spelled.{Spelled}
-use Rattle.cq_clones.specs.Lists.{AreAllInOrder}
-use Rattle.cq_clones.specs.Groups.{file_at, AreGroups, IsGroup, StandsAt, kept_of}
+use Rattle.cq_clones.specs.Groups.{file_at, AreGroups, IsGroup, StandsAt}
 use Rattle.cq_clones.proofs.InOrder.{Contains-here, Contains-there}
 use Rattle.cq_clones.proofs.GroupLaws.{within_from_standing}
 use Rattle.cq_clones.proofs.KeptPlaces.{kept_among}
@@ -31,7 +28,6 @@ use Rattle.cqd.specs.Files.{File, IsLastPut, PathBefore, AreFiles}
 use Rattle.cqd.specs.Lexing.{norm_of, AreLexed}
 use Rattle.cqd.specs.Kept.{file_of, files_of, spans_in, norms_in}
 use Rattle.cqd.specs.Listing.{file_in, spans_of, IsInside, IsGroupInside, IsListing, place_row, group_row}
-use Rattle.cqd.specs.Places.{place_cmp}
 use Rattle.cqd.specs.Stands.{Key, key_of, KeyBefore, IsLastAt, HasWork, StandsFor}
 use Rattle.cqd.proofs.KeyOrder.{text_equal}
 use Rattle.cqd.proofs.Mapped.{Contains-map, Contains-from_map, Contains-filter, Contains-from_filter, pairs_from_map, pairs_to_map, pairs_weaker, element, same_default}

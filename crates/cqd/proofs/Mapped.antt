@@ -1,9 +1,9 @@
 -- Elements and pairs of a list that is mapped or filtered.
-use Rattle.std.proofs.Common.{◌≡◌, ◌⊎◌, ◌↔◌, ℕ, zero, suc, ◌+◌, ◌<◌, ◌≤◌, Bool, true, false, cond, List, [], ◌∷◌, length, get_or, map, refl, sym, ap, ◌∙◌, subst, subst₂, inl, inr, ⊎_elim, arith}
+use Rattle.std.proofs.Common.{◌≡◌, ℕ, zero, suc, ◌<◌, Bool, true, false, cond, List, [], ◌∷◌, length, get_or, map, refl, sym, ap, ◌∙◌, subst₂, ⊎_elim, arith}
 use Rattle.std.specs.Prelude.{AllPairs, Contains, filter}
 use Rattle.std.proofs.lemmas.List.{get_or-map, length-map}
 use Rattle.std.proofs.lemmas.Option.{slice_get_cases}
-use Rattle.cq_clones.proofs.InOrder.{Contains-here, Contains-there, Contains-cases, Contains-nil}
+use Rattle.cq_clones.proofs.InOrder.{Contains-there, Contains-cases, Contains-nil}
 
 -- an element at a position within
 pub element : {X : Type 0} (xs : List X) (i : ℕ) → i < length xs → X

@@ -1,18 +1,16 @@
 -- A file that is put at its place among files in order.
-use Rattle.std.proofs.Common.{◌≡◌, ◌≢◌, ◌⊎◌, ◌↔◌, ℕ, ◌+◌, ◌<◌, ◌≤◌, List, [], ◌∷◌, length, get_or, map, set, refl, sym, ap, ◌∙◌, subst, inl, inr, ⊎_elim, arith}
+use Rattle.std.proofs.Common.{◌≡◌, ◌≢◌, ◌⊎◌, ◌↔◌, ℕ, ◌<◌, ◌≤◌, List, length, get_or, map, set, sym, ap, ◌∙◌, subst, inl, inr, ⊎_elim, arith}
 use Rattle.std.specs.Prelude.{AllPairs, Contains, insert}
-use Rattle.std.specs.declared.cmp.Ordering.TheVariants.{Less, Equal, Greater}
+use Rattle.std.specs.declared.cmp.Ordering.TheVariants.{Equal}
 use Rattle.std.specs.Ordering.{ordering_index}
 use Rattle.std.proofs.lemmas.Bool.{cases_eq, cases_lt, cases_order}
-use Rattle.std.proofs.lemmas.List.{get_or-map, length-map, length-set, get_or-set_same, get_or-set_other, get_or_default, map-set}
-use Rattle.std.proofs.lemmas.List.Elements.{Contains-get_or}
-use Rattle.std.proofs.lemmas.List.Sorted.{IsPermutation-insert, IsPermutation-sym, Contains-permutation}
+use Rattle.std.proofs.lemmas.List.{get_or-map, length-map, length-set, get_or-set_same, get_or-set_other, get_or_default}
 use Rattle.cq_clones.specs.Lists.{AreAllInOrder}
-use Rattle.cq_clones.proofs.InOrder.{in_order_insert, Contains-cases}
+use Rattle.cq_clones.proofs.InOrder.{in_order_insert}
 use Rattle.cqd.specs.Places.{place_cmp}
 use Rattle.cqd.specs.declared.kept.Kept.{Kept}
-use Rattle.cqd.specs.Stands.{Key, key_of, key_in, KeyBefore, IsFoundAt, IsGapAt, PlacesKept}
-use Rattle.cqd.proofs.KeyOrder.{key_cmp, key_at, same_place, equal_itself, not_before_same, rank_rises, behind_from_greater}
+use Rattle.cqd.specs.Stands.{Key, key_of, key_in, KeyBefore, IsFoundAt, IsGapAt}
+use Rattle.cqd.proofs.KeyOrder.{key_at, same_place, not_before_same, rank_rises}
 
 -- an element and its key
 pub key_at_place : {L : Type 0} (xs : List (Kept L)) (i : ℕ) (d : Kept L) → i < length xs → key_in (map key_of xs) i ≡ key_of (get_or xs i d)

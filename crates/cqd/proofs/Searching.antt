@@ -1,10 +1,10 @@
 -- What a search among files in order answers.
-use Rattle.std.proofs.Common.{◌≡◌, ℕ, ◌<◌, ◌≤◌, List, length, get_or, map, Result, Ok, Err, refl, sym, ap, ◌∙◌, ⊎_elim, arith}
+use Rattle.std.proofs.Common.{ℕ, ◌<◌, List, length, get_or, map, Result, Ok, Err, ap, ◌∙◌, arith}
 use Rattle.std.specs.Prelude.{AllPairs, IfOk, IfErr}
 use Rattle.std.specs.List.Sorted.{IsSearchInRange, IsBinarySearchResult}
 use Rattle.cqd.specs.Places.{place_cmp}
 use Rattle.cqd.specs.declared.kept.Kept.{Kept}
-use Rattle.cqd.specs.Stands.{Key, key_of, key_in, KeyBefore, IsFoundAt, IsGapAt}
+use Rattle.cqd.specs.Stands.{Key, key_of, KeyBefore, IsFoundAt, IsGapAt}
 use Rattle.cqd.proofs.KeyOrder.{key_at, behind_from_greater}
 use Rattle.cqd.proofs.Mapped.{element}
 use Rattle.cqd.proofs.Placing.{key_at_place, keys_many, rises, found_at}

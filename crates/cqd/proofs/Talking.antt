@@ -1,5 +1,5 @@
 -- One more line and its reply, and the replies of a server alone.
-use Rattle.std.proofs.Common.{◌≡◌, ◌⊎◌, ℕ, ◌+◌, ◌<◌, ◌≤◌, List, [], ◌∷◌, ◌++◌, length, Bool, true, false, ltb, Result, Ok, Err, IfOk, OnOk, refl, sym, ap, ◌∙◌, subst, inl, inr, arith}
+use Rattle.std.proofs.Common.{◌≡◌, ℕ, ◌<◌, ◌≤◌, List, [], ◌∷◌, ◌++◌, length, Bool, true, false, ltb, Result, Ok, Err, IfOk, OnOk, refl, subst, inl, inr, arith}
 use Rattle.std.specs.Prelude.{MatchBool}
 use Rattle.std.proofs.lemmas.Grind.{common_steps}
 use Rattle.cq_lines.specs.Pieces.{line_limit}
@@ -7,7 +7,7 @@ use Rattle.cq_request.specs.Reading.{line_says}
 use Rattle.cq_reply.specs.declared.reply.Reply.{Reply}
 use Rattle.cq_reply.specs.declared.reply.Reply.TheVariants as reply
 use Rattle.cqd.specs.declared.put.Put.{Put}
-use Rattle.cqd.specs.Talk.{Talk, Answers, IsAnswer, IsReplyTo, IsAloneUpToMemory}
+use Rattle.cqd.specs.Talk.{Talk, Answers, IsAnswer, IsAloneUpToMemory}
 
 pub Talk-more : (chunk : ℕ) (puts mid after : List Put) (lines : List (List ℕ)) (replies : List Reply) (line : List ℕ) (r : Reply) → Talk chunk puts lines replies mid → Answers chunk mid line r after → Talk chunk puts (lines ++ line ∷ []) (replies ++ r ∷ []) after
 Talk-more chunk puts mid after [] [] line r talk answers = (after, subst (λ (p : List Put). Answers chunk p line r after) talk answers, refl)

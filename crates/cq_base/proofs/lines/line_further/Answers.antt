@@ -1,4 +1,4 @@
-use Rattle.std.proofs.Common.{◌≡◌, ℕ, ◌+◌, ◌-◌, take, drop, count_by, ap, sym, ◌∙◌, arith, eqb}
+use Rattle.std.proofs.Common.{◌≡◌, ℕ, ◌+◌, ◌-◌, take, drop, count_by, ap, arith, eqb}
 use Rattle.cq_base.specs.Lines.{line_feed}
 use Rattle.cq_base.proofs.Counts.{count_further}
 use Rattle.cq_base.proofs.lines.line_further.Goals as goal

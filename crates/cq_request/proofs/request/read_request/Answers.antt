@@ -1,4 +1,4 @@
-use Rattle.std.proofs.Common.{◌≡◌, true, false, refl, sym, ap, ◌∙◌, subst, arith, rules}
+use Rattle.std.proofs.Common.{◌≡◌, true, false, sym, ap, subst}
 use Rattle.cq_request.specs.Reading.{UnlessMemory, of_value}
 use Rattle.cq_request.proofs.Spelling.{spelled_ok, spelled_none}
 use Rattle.cq_request.proofs.request.read_request.Goals as goal

@@ -1,7 +1,4 @@
-use Rattle.std.proofs.Common.{◌≡◌, arith, subst, sym}
-use Rattle.std.specs.Prelude.{Any}
 use Rattle.std.proofs.lemmas.Bool.{iff_false}
-use Rattle.cq_scan.specs.Found.{AreTied}
 use Rattle.cq_scan.proofs.Ordered.{adds_there, adds_new}
 use Rattle.cq_scan.proofs.found.add_once.Goals as goal
 

@@ -1,8 +1,8 @@
-use Rattle.std.proofs.Common.{◌≡◌, ℕ, ◌+◌, ◌<◌, ◌≤◌, arith, length, inl, inr, ⊎_elim}
+use Rattle.std.proofs.Common.{◌≡◌, ℕ, ◌+◌, ◌<◌, arith, length, inl, inr, ⊎_elim}
 use Rattle.std.proofs.lemmas.Bool.{cases_lt}
 use Rattle.std.proofs.lemmas.Result.{IfOk-weaker}
 use Rattle.cq_base.specs.declared.group.Place.{Place}
-use Rattle.cq_clones.specs.Groups.{IsBefore, IsGroup, ComesBefore}
+use Rattle.cq_clones.specs.Groups.{IsBefore}
 use Rattle.cq_tokens.specs.Corpus.{corpus_of}
 use Rattle.cq_scan.proofs.StandingPlaces.{file_of_files}
 use Rattle.cq_scan.proofs.FoundGroups.{adds_more, adds_same, found_more, found_none, groups_all, groups_ordered}

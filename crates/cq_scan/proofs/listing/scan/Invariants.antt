@@ -1,4 +1,4 @@
-use Rattle.std.proofs.Common.{◌≡◌, ◌<◌, ◌≤◌}
+use Rattle.std.proofs.Common.{◌<◌}
 use Rattle.cq_clones.specs.Groups.{IsBefore}
 use Rattle.cq_tokens.specs.Corpus.{corpus_of}
 use Rattle.cq_scan.specs.Found.{IsFoundBy, Adds}

@@ -1,5 +1,4 @@
 use Rattle.std.proofs.Common.{◌<◌, arith, length}
-use Rattle.cq_base.specs.declared.group.Place.{Place}
 use Rattle.cq_clones.specs.Groups.{StandsAt, word_at}
 use Rattle.cq_tokens.specs.Corpus.{corpus_of}
 use Rattle.cq_scan.proofs.StandingPlaces.{files_more, files_all, file_of_files, place_from_standing}

@@ -1,7 +1,6 @@
 use Rattle.std.proofs.Common.{◌≡◌, ◌<◌, arith, ap, length}
 use Rattle.std.proofs.lemmas.Bool.{iff_false}
-use Rattle.cq_base.specs.declared.group.Place.{Place}
-use Rattle.cq_clones.specs.Groups.{file_at, IsPlace, StandsAt, word_at}
+use Rattle.cq_clones.specs.Groups.{file_at, StandsAt, word_at}
 use Rattle.cq_tokens.specs.Corpus.{corpus_of}
 use Rattle.cq_scan.proofs.StandingPlaces.{upto_keep, upto_skip, upto_all, place_from_standing}
 use Rattle.cq_scan.proofs.standing.push_standing.Goals as goal

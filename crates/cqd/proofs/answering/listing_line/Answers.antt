@@ -1,4 +1,4 @@
-use Rattle.std.proofs.Common.{◌≡◌, refl, ap}
+use Rattle.std.proofs.Common.{ap}
 use Rattle.std.proofs.lemmas.Result.{IfOk-weaker}
 use Rattle.cq_reply.specs.declared.reply.Reply.TheVariants as reply
 use Rattle.cqd.proofs.answering.listing_line.Goals as goal

@@ -1,8 +1,7 @@
-use Rattle.std.proofs.Common.{◌≡◌, ◌+◌, List, [], ◌∷◌, ◌++◌, length, Ok, refl, sym, subst}
+use Rattle.std.proofs.Common.{◌≡◌, ◌+◌, [], ◌∷◌, ◌++◌, length, Ok, refl, sym, subst}
 use Rattle.cq_reply.specs.declared.reply.Reply.TheVariants as reply
 use Rattle.cq_request.specs.Reading.{line_says}
 use Rattle.cq_request.specs.declared.request.Request.TheVariants as request
-use Rattle.cqd.specs.declared.put.Put.{Put}
 use Rattle.cqd.specs.Talk.{IsAnswer}
 use Rattle.cqd.proofs.Talking.{both_ok}
 use Rattle.cqd.proofs.answering.reply_line.Goals as goal

@@ -1,6 +1,5 @@
 use Rattle.std.proofs.Common.{arith, subst, map}
-use Rattle.std.specs.Prelude.{AllPairs}
-use Rattle.cqd.specs.Stands.{key_of, KeyBefore, IsFoundAt, IsGapAt, PlacesKept}
+use Rattle.cqd.specs.Stands.{key_of, IsFoundAt, IsGapAt}
 use Rattle.cqd.proofs.Placing.{keys_many}
 use Rattle.cqd.proofs.Keepings.{placed_found, placed_gap}
 use Rattle.cqd.proofs.keeping.place.Goals as goal

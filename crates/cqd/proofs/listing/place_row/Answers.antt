@@ -1,4 +1,4 @@
-use Rattle.std.proofs.Common.{◌≡◌, ◌<◌, ◌+◌, ◌-◌, ap, sym, ◌∙◌, length, arith}
+use Rattle.std.proofs.Common.{◌<◌, ◌+◌, ◌-◌, ap, sym, ◌∙◌, length, arith}
 use Rattle.cq_base.specs.declared.token.Token.{Token}
 use Rattle.cqd.specs.Files.{File}
 use Rattle.cqd.proofs.Rows.{spans_at, file_at, spans_many, span_read, row_is}

@@ -1,4 +1,4 @@
-use Rattle.std.proofs.Common.{◌≡◌, ◌∙◌}
+use Rattle.std.proofs.Common.{◌∙◌}
 use Rattle.cqd.proofs.Sent.{sent_more}
 use Rattle.cqd.proofs.sending.send.Goals as goal
 

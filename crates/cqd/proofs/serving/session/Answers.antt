@@ -1,4 +1,4 @@
-use Rattle.std.proofs.Common.{◌≡◌, ◌∙◌, [], refl, sym}
+use Rattle.std.proofs.Common.{◌∙◌, [], refl}
 use Rattle.cq_lines.proofs.Whole.{fewer}
 use Rattle.cqd.proofs.Talking.{answers_long}
 use Rattle.cqd.proofs.Turns.{so_far_none, so_far_more, write_failed, finished, spent, read_failed}

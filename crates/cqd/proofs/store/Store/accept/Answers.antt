@@ -1,4 +1,4 @@
-use Rattle.std.proofs.Common.{◌≡◌, ◌+◌, List, length, sym, subst, refl, arith}
+use Rattle.std.proofs.Common.{◌≡◌, ◌+◌, List, length, subst, refl, arith}
 use Rattle.cqd.specs.declared.put.Put.{Put}
 use Rattle.cqd.specs.declared.store.Store.{Store}
 use Rattle.cqd.specs.Stands.{IsKeptOf, StandsFor}
