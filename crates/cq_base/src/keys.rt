@@ -28,6 +28,7 @@ impl Keys {
         Keys { items }
     }
 
+    /// All of them, in order.
     pub fn as_slice(&self) -> &[u64]
         ensures keys { result.now ≡ self.now }
         ensures few { length result.now < 2 ^ 32 }

@@ -38,6 +38,7 @@ impl Text {
         Text { bytes }
     }
 
+    /// Its bytes, which are lent.
     pub fn as_bytes(&self) -> &[u8]
         ensures { result.now ≡ self.now }
     {

@@ -5,4 +5,4 @@
 
 mod laws;
 
-pub use laws::has_one_list;
+pub use laws::{has_one_list, lists_every_match, shows_its_tokens};
