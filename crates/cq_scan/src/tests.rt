@@ -110,3 +110,50 @@ fn lists_the_worked_rows(rt: HostRuntime) -> Result<(), Memory> {
     );
     Ok(())
 }
+
+// Words that overlap themselves or each other, and files at the edge.
+#[test]
+fn lists_words_that_overlap(rt: HostRuntime) -> Result<(), Memory> {
+    let alloc = rt.alloc();
+    let groups = groups_of(alloc, &[b"abababab"], 2)?;
+    assert!(&rt;
+        is_listed(
+            &groups,
+            &[
+                (4, &[(0, 0), (0, 4)]),
+                (2, &[(0, 0), (0, 2), (0, 4), (0, 6)]),
+            ]
+        ),
+        "a periodic word"
+    );
+    let groups = groups_of(alloc, &[b"xabcy", b"zabcw", b"qbcr"], 2)?;
+    assert!(&rt;
+        is_listed(
+            &groups,
+            &[(3, &[(0, 1), (1, 1)]), (2, &[(0, 2), (1, 2), (2, 1)])]
+        ),
+        "one word inside another"
+    );
+    let groups = groups_of(alloc, &[b"aab", b"aab", b"aab"], 1)?;
+    assert!(&rt;
+        is_listed(
+            &groups,
+            &[
+                (3, &[(0, 0), (1, 0), (2, 0)]),
+                (1, &[(0, 0), (0, 1), (1, 0), (1, 1), (2, 0), (2, 1)]),
+            ]
+        ),
+        "equal files"
+    );
+    let groups = groups_of(alloc, &[b"xyab", b"zab"], 2)?;
+    assert!(&rt;
+        is_listed(&groups, &[(2, &[(0, 2), (1, 1)])]),
+        "a run up to the end of a file"
+    );
+    let groups = groups_of(alloc, &[b"", b"ab", b"", b"ab", b""], 1)?;
+    assert!(&rt;
+        is_listed(&groups, &[(2, &[(1, 0), (3, 0)])]),
+        "files without tokens"
+    );
+    Ok(())
+}
