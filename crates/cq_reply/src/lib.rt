@@ -7,3 +7,6 @@ mod write;
 
 pub use reply::{GroupRow, GroupRows, PlaceRow, PlaceRows, Reply};
 pub use write::write_reply;
+
+#[cfg(test)]
+mod tests;

@@ -7,3 +7,6 @@ mod field;
 mod request;
 
 pub use request::{Refusal, Request, read_request, read_value};
+
+#[cfg(test)]
+mod tests;
