@@ -1,0 +1,69 @@
+-- The table of Go's elements.
+use Rattle.std.specs.Prelude.{ℕ, Bool, List, [], ◌∷◌, IsTrue}
+use Rattle.cq_base.specs.declared.token.Class.TheVariants.{Ident, Word, Literal, Punct}
+use Rattle.cq_munch.specs.declared.element.Spell.TheVariants.{Blank, Comment, Token}
+use Rattle.cq_munch.specs.Language.{Language, marked}
+use Rattle.cq_munch.specs.Longest.{IsAmong}
+use Rattle.cq_munch.specs.Pattern.{Spells}
+use Rattle.cq_munch.specs.Table.{Row, table, first}
+use Rattle.cq_lex_go.specs.Words.{IsName, keywords, punctuation, blank_characters}
+use Rattle.cq_lex_go.specs.Numbers.{number, begins_as_number}
+use Rattle.cq_lex_go.specs.Strings.{string}
+use Rattle.cq_lex_go.specs.Runes.{rune}
+use Rattle.cq_lex_go.specs.Openers.{begins, IsBlockComment, IsLineComment, IsRawString}
+
+abbrev pub names : Row
+names = record { spell = Token Ident; set = λ s. IsName s × (IsAmong keywords s → ⊥) }
+
+abbrev pub reserved : Row
+reserved = record { spell = Token Word; set = IsAmong keywords }
+
+abbrev pub blanks : Row
+blanks = record { spell = Blank; set = IsAmong blank_characters }
+
+abbrev pub numbers : Row
+numbers = record { spell = Token Literal; set = λ s. Spells number s × IsTrue (begins_as_number s) }
+
+abbrev pub strings : Row
+strings = record { spell = Token Literal; set = Spells string }
+
+abbrev pub runes : Row
+runes = record { spell = Token Literal; set = Spells rune }
+
+abbrev pub marks : Row
+marks = record { spell = Token Punct; set = IsAmong punctuation }
+
+abbrev pub rows : List Row
+rows = names ∷ reserved ∷ blanks ∷ numbers ∷ strings ∷ runes ∷ marks ∷ []
+
+abbrev pub blocks : Row
+blocks = record { spell = Comment; set = IsBlockComment }
+
+abbrev pub lines : Row
+lines = record { spell = Comment; set = IsLineComment }
+
+abbrev pub raws : Row
+raws = record { spell = Token Literal; set = IsRawString }
+
+-- an opener stands there
+abbrev pub opens_block : ℕ → ℕ → List ℕ → Bool
+opens_block at mode text = begins (47 ∷ 42 ∷ []) text
+
+abbrev pub opens_line : ℕ → ℕ → List ℕ → Bool
+opens_line at mode text = begins (47 ∷ 47 ∷ []) text
+
+abbrev pub opens_raw : ℕ → ℕ → List ℕ → Bool
+opens_raw at mode text = begins (96 ∷ []) text
+
+-- Where an opener stands, only its own row is tried.
+abbrev pub behind_raw : Language
+behind_raw = first opens_raw (raws ∷ []) (table rows)
+
+abbrev pub behind_line : Language
+behind_line = first opens_line (lines ∷ []) behind_raw
+
+abbrev pub unmarked : Language
+unmarked = first opens_block (blocks ∷ []) behind_line
+
+abbrev pub go : Language
+go = marked unmarked

@@ -1,0 +1,43 @@
+ghost use Rattle.std.specs.Prelude.{Ok};
+ghost use Rattle.cq_lex_go.specs.Go.{go};
+ghost use Rattle.cq_lex_go.specs.OneKind.{one_kind_of_go};
+ghost use Rattle.cq_lex_go.specs.Semicolons.{completed};
+
+use crate::element::taken;
+use crate::semicolon::with_semicolons;
+use cq_base::{Memory, Spelled, Text};
+use cq_munch::{Found, Lexis, Spell, Translated, Unit, is_mark, plain_units};
+use std::alloc::Global;
+
+/// The language Go.
+#[derive(Clone, Copy, Debug, PartialEq, Eq)]
+pub struct Go;
+
+impl Lexis for Go {
+    ghost language = { go };
+
+    ghost translated = { λ units. Ok units };
+
+    ghost completed = { completed };
+
+    fn translate(alloc: Global, text: &Text) -> Result<Translated, Memory> {
+        Ok(Translated::Units(plain_units(alloc, text)?))
+    }
+
+    fn longest(units: &[Unit], at: u32, mode: u8) -> Option<Found> {
+        if is_mark(units, at) {
+            return Some(Found {
+                spell: Spell::Blank,
+                units: 1,
+                mode,
+            });
+        }
+        taken(&units[at as usize..], mode)
+    }
+
+    fn complete(alloc: Global, text: &Text, tokens: Vec<Spelled>) -> Result<Vec<Spelled>, Memory> {
+        with_semicolons(alloc, text, tokens)
+    }
+
+    ghost one_kind = { one_kind_of_go };
+}
