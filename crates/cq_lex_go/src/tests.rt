@@ -180,9 +180,22 @@ fn literals(rt: HostRuntime) -> Result<(), Memory> {
 
 #[test]
 fn semicolons(rt: HostRuntime) -> Result<(), Memory> {
-    let cases: [(&str, &[&str]); 9] = [
+    let cases: [(&str, &[&str]); 12] = [
         ("return /* a\n */ x", &["wreturn", "p;", "ix", "p;"]),
         ("return // a\nx", &["wreturn", "p;", "ix", "p;"]),
+        ("return\nx\n", &["wreturn", "p;", "ix", "p;"]),
+        (
+            "func f() int { return 1 }",
+            &[
+                "wfunc", "if", "p(", "p)", "iint", "p{", "wreturn", "l1", "p}", "p;",
+            ],
+        ),
+        (
+            "func f() int {\n\treturn 1\n}\n",
+            &[
+                "wfunc", "if", "p(", "p)", "iint", "p{", "wreturn", "l1", "p;", "p}", "p;",
+            ],
+        ),
         ("x // y", &["ix", "p;"]),
         ("x +\ny", &["ix", "p+", "iy", "p;"]),
         ("if\nx\n{\n}\n", &["wif", "ix", "p;", "p{", "p}", "p;"]),

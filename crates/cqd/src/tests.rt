@@ -117,6 +117,16 @@ fn runs_of_tokens_are_listed(rt: HostRuntime) -> Result<(), Memory> {
 "#,
         ),
         (
+            r#"{"op":"put","project":"p","path":"t","lang":"any","text":"a b c x a b c y"}
+{"op":"put","project":"p","path":"t","lang":"any","text":"q"}
+{"op":"groups","project":"p","min":3}
+"#,
+            r#"{"change":1,"ok":true}
+{"change":2,"ok":true}
+{"groups":[],"ok":true,"total":0,"version":2}
+"#,
+        ),
+        (
             r#"{"op":"put","project":"p","path":"f2","lang":"any","text":"p q r"}
 {"op":"put","project":"q","path":"f0","lang":"any","text":"p q r"}
 {"op":"put","project":"p","path":"f1","lang":"any","text":"old"}
@@ -190,6 +200,11 @@ fn faults_and_limits_end_it(rt: HostRuntime) -> Result<(), Memory> {
         "{\"code\":2,\"error\":\"op\",\"ok\":false}\n{\"code\":2,\"error\":\"op\",\"ok\":false}\n".as_bytes();
     assert!(rt; ends_with(alloc, &WORDS, b"{}\n{}\n{}\n", 90, (0, 3), two, 3)?);
     assert!(rt; ends_with(alloc, &WORDS, b"{}\n{}\n", 3, (2, 0), op, 2)?);
+    let put = r#"{"op":"put","project":"p","path":"t","lang":"any","text":"a b c x a b c y"}
+"#
+        .as_bytes();
+    let accepted = "{\"change\":1,\"ok\":true}\n".as_bytes();
+    assert!(rt; ends_with(alloc, &WORDS, put, 4_096, (2, 0), accepted, 2)?);
     let mut bytes = b"{}\n".to_vec(alloc)?;
     bytes.resize(65_535, b' ')?;
     let json =
