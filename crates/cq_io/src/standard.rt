@@ -12,15 +12,22 @@ pub struct StdSource<R: Read + Drop> {
 }
 
 impl<R: Read + Drop> StdSource<R> {
-    pub fn new(reader: R) -> Self {
+    ghost use Rattle.cq_io.specs.Standard.{reader_faults};
+
+    /// A source of what the reader gives, with no fault so far.
+    pub fn new(reader: R) -> Self
+        ensures { reader_faults result ≡ 0 }
+    {
         StdSource { reader, faults: 0 }
     }
 }
 
 impl<R: Read + Drop> Source for StdSource<R> {
+    ghost use Rattle.cq_io.specs.Standard.{reader_faults};
+
     ghost rest = { λ _. None };
 
-    ghost faults = { λ s. s.faults };
+    ghost faults = { reader_faults };
 
     fn read(&mut self, out: &mut [u8]) -> Result<usize, Failed> {
         match self.reader.read(out) {
@@ -42,7 +49,12 @@ pub struct StdSink<W: Write + Drop> {
 }
 
 impl<W: Write + Drop> StdSink<W> {
-    pub fn new(writer: W) -> Self {
+    ghost use Rattle.cq_io.specs.Standard.{writer_faults};
+
+    /// A sink into the writer, with no fault so far.
+    pub fn new(writer: W) -> Self
+        ensures { writer_faults result ≡ 0 }
+    {
         StdSink { writer, faults: 0 }
     }
 }
@@ -57,9 +69,11 @@ fn write_through<W: Write>(writer: &mut W, piece: &[u8]) -> Option<usize>
 }
 
 impl<W: Write + Drop> Sink for StdSink<W> {
+    ghost use Rattle.cq_io.specs.Standard.{writer_faults};
+
     ghost written = { λ _. None };
 
-    ghost faults = { λ s. s.faults };
+    ghost faults = { writer_faults };
 
     fn write(&mut self, piece: &[u8]) -> Result<usize, Failed> {
         match write_through(&mut self.writer, piece) {
