@@ -1,5 +1,5 @@
 ghost use Rattle.std.specs.Prelude.{◌≡◌, ◌+◌, ◌-◌, ◌^◌, ◌<◌, ◌≤◌, length, IfOk, OnOk};
-ghost use Rattle.cq_clones.specs.Groups.{IsPlace, IsBefore, AreGroups};
+ghost use Rattle.cq_clones.specs.Groups.{file_at, word_at, IsPlace, IsBefore, IsMaximalAt, AreGroups};
 ghost use Rattle.cq_tokens.specs.Corpus.{corpus_of};
 ghost use Rattle.cq_scan.specs.Found.{IsFoundBy, AreFound, Adds};
 
@@ -11,6 +11,36 @@ use cq_order::{kept, order};
 use cq_tokens::FileTokens;
 use std::alloc::Global;
 use std::sync::ledger::Ledger;
+
+// Adds the group of the word of `tokens` tokens that is maximal at the two places, if two places of it are kept.
+fn add_word<L: Ledger>(
+    alloc: Global,
+    files: &[FileTokens<L>],
+    p: Place,
+    q: Place,
+    tokens: u32,
+    min: u32,
+    groups: &mut Vec<Group>,
+    steps: &mut Steps<L>,
+) -> Result<(), Memory>
+    requires few { length files.now < 2 ^ 32 }
+    requires p_file { p.file < length files.now }
+    requires within { p.at + tokens ≤ length (file_at (corpus_of files.now) p.file) }
+    requires fits { p.at + tokens < 2 ^ 32 }
+    requires some { 1 ≤ min }
+    requires long { min ≤ tokens }
+    requires maximal { IsMaximalAt (corpus_of files.now) (word_at (corpus_of files.now) p tokens) p q }
+    requires found { AreFound (corpus_of files.now) min groups.old.items }
+    ensures { OnOk result (Adds (IsFoundBy (corpus_of files.now) min (λ a b. (a ≡ p) × (b ≡ q))) groups.old.items groups.new.items) }
+{
+    let all = occurrences(alloc, files, p, tokens, steps)?;
+    let places = kept(alloc, tokens, &all)?;
+    if places.len() < 2 {
+        return Ok(());
+    }
+    let places = Places::from_vec(places);
+    add_once(groups, Group { tokens, places })
+}
 
 // Adds the group whose word is maximal at the two places, if there is one.
 fn add_group<L: Ledger>(
@@ -36,13 +66,7 @@ fn add_group<L: Ledger>(
     if tokens < min {
         return Ok(());
     }
-    let all = occurrences(alloc, files, p, tokens, steps)?;
-    let places = kept(alloc, tokens, &all)?;
-    if places.len() < 2 {
-        return Ok(());
-    }
-    let places = Places::from_vec(places);
-    add_once(groups, Group { tokens, places })
+    add_word(alloc, files, p, q, tokens, min, groups, steps)
 }
 
 // Adds the groups whose words are maximal at `p` and a place of a file from a token on.

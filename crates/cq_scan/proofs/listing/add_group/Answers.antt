@@ -1,12 +1,8 @@
-use Rattle.std.proofs.Common.{◌≡◌, ◌≢◌, List, arith, length, refl, sym, ap, ◌∙◌, subst}
+use Rattle.std.proofs.Common.{◌≢◌, arith}
 use Rattle.std.proofs.lemmas.Bool.{iff_false}
-use Rattle.std.proofs.lemmas.Result.{on_ok_weaker}
-use Rattle.cq_base.specs.declared.group.Place.{Place}
-use Rattle.cq_base.specs.declared.group.Group.{Group}
-use Rattle.cq_clones.specs.Groups.{IsMaximalAt, word_at, kept_of, IsGroup}
-use Rattle.cq_clones.proofs.GroupLaws.{groups_of_first_place}
+use Rattle.cq_clones.specs.Groups.{IsMaximalAt, word_at}
 use Rattle.cq_tokens.specs.Corpus.{corpus_of}
-use Rattle.cq_scan.proofs.FoundGroups.{maximal_from_match, made_is, pair_tokens, pair_places, pair_is, IsPair, adds_none, adds_made}
+use Rattle.cq_scan.proofs.FoundGroups.{maximal_from_match, pair_tokens, pair_is, IsPair, adds_none}
 use Rattle.cq_scan.proofs.listing.add_group.Goals as goal
 
 pub returns-then-tokens-min : goal.returns-then-tokens-min
@@ -23,46 +19,10 @@ returns-then-tokens-min g c =
     let e = pair_tokens corpus c.args.min c.args.p c.args.q n z m.first pair h in
     omega (arith, e, h.is.long, c.if-tokens-min.true))
 
-pub returns-then-len-lt2 : goal.returns-then-len-lt2
-returns-then-len-lt2 g c =
-    let corpus = corpus_of c.args.files.now in
-    let n = c.match_len-tokens.result in
-    let m = c.match_len-tokens.ensures.matches in
-    let different : c.args.p ≢ c.args.q = grind arith in
-    let pair : IsMaximalAt corpus (word_at corpus c.args.p n) c.args.p c.args.q =
-    maximal_from_match corpus c.args.p c.args.q n m different (iff_false c.are_same_before.ensures c.if-are_same_before.false) in
-    adds_none corpus c.args.min (IsPair c.args.p c.args.q) c.args.groups.now.items c.requires.found.ordered
-    (λ z f.
-    let h = pair_is corpus c.args.min c.args.p c.args.q z f in
-    let e = pair_places corpus c.args.min c.args.p c.args.q n c.in_ok-all.all.items z m.first pair c.in_ok-all.ensures h in
-    let k : c.in_ok-places.places.items ≡ kept_of n c.in_ok-all.all.items = c.in_ok-places.ensures ∙ ap (kept_of n) c.deref.ensures.value in
-    omega (arith, ap length e, ap length k, h.is.several, c.in_ok-places.places.ok.0))
+pub add_word-requires-clause-within : goal.add_word-requires-clause-within
+add_word-requires-clause-within g c = c.match_len-tokens.ensures.matches.first
 
-pub add_once-requires-clause-ties : goal.add_once-requires-clause-ties
-add_once-requires-clause-ties g c =
-    let corpus = corpus_of c.args.files.now in
-    let n = c.match_len-tokens.result in
-    let m = c.match_len-tokens.ensures.matches in
+pub add_word-requires-clause-maximal : goal.add_word-requires-clause-maximal
+add_word-requires-clause-maximal g c =
     let different : c.args.p ≢ c.args.q = grind arith in
-    let pair : IsMaximalAt corpus (word_at corpus c.args.p n) c.args.p c.args.q =
-    maximal_from_match corpus c.args.p c.args.q n m different (iff_false c.are_same_before.ensures c.if-are_same_before.false) in
-    let k : c.in_ok-places.places.items ≡ kept_of n c.in_ok-all.all.items = c.in_ok-places.ensures ∙ ap (kept_of n) c.deref.ensures.value in
-    let is = made_is corpus c.args.min c.args.p c.args.q n c.in_ok-all.all.items m.first c.if-tokens-min.false pair c.in_ok-all.ensures (omega (arith, ap length k, c.in_ok-places.places.ok.0)) in
-    let places : c.from_vec-places.result ≡ kept_of n c.in_ok-all.all.items = c.from_vec-places.ensures ∙ k in
-    let made : IsGroup corpus c.args.min (record { tokens = n; places = c.from_vec-places.result }) =
-    subst (λ (ps : List Place). IsGroup corpus c.args.min (record { tokens = n; places = ps })) (sym places) is.is in
-    λ z here tied. groups_of_first_place corpus c.args.min z _ (c.requires.found.each z here) made tied.0 tied.1
-
-pub returns : goal.returns
-returns g c =
-    let corpus = corpus_of c.args.files.now in
-    let n = c.match_len-tokens.result in
-    let m = c.match_len-tokens.ensures.matches in
-    let different : c.args.p ≢ c.args.q = grind arith in
-    let pair : IsMaximalAt corpus (word_at corpus c.args.p n) c.args.p c.args.q =
-    maximal_from_match corpus c.args.p c.args.q n m different (iff_false c.are_same_before.ensures c.if-are_same_before.false) in
-    let k : c.in_ok-places.places.items ≡ kept_of n c.in_ok-all.all.items = c.in_ok-places.ensures ∙ ap (kept_of n) c.deref.ensures.value in
-    let made : Group = record { tokens = n; places = c.from_vec-places.result } in
-    on_ok_weaker c.add_once.result
-    (λ is. adds_made corpus c.args.min c.args.p c.args.q n c.in_ok-all.all.items c.args.groups.now.items c.add_once.new.groups.items made m.first c.if-tokens-min.false pair c.in_ok-all.ensures (omega (arith, ap length k, c.in_ok-places.places.ok.0)) refl (c.from_vec-places.ensures ∙ k) is)
-    c.add_once.ensures
+    maximal_from_match (corpus_of c.args.files.now) c.args.p c.args.q c.match_len-tokens.result c.match_len-tokens.ensures.matches different (iff_false c.are_same_before.ensures c.if-are_same_before.false)
