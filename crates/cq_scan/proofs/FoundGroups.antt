@@ -1,18 +1,18 @@
 -- Lists of groups, as they grow by the pairs of places that were compared.
 use Rattle.std.proofs.Common.{◌≡◌, ◌≢◌, ◌⊎◌, ℕ, ◌+◌, ◌<◌, ◌≤◌, List, [], length, Option, IsSome, refl, sym, ap, ap₂, subst, inl, inr, ⊎_elim, arith, ◌∙◌}
-use Rattle.std.specs.Prelude.{Contains, AllPairs}
+use Rattle.std.specs.Prelude.{Contains, AllPairs, Any}
 use Rattle.std.proofs.lemmas.Bool.{cases_order}
 use Rattle.cq_base.specs.declared.group.Place.{Place}
 use Rattle.cq_base.specs.declared.group.Group.{Group}
 use Rattle.cq_clones.specs.Lists.{AreAllInOrder}
-use Rattle.cq_clones.specs.Groups.{file_at, IsPlace, IsBefore, word_at, StandsAt, token_behind, token_before, AreSame, IsMaximalAt, kept_of, IsGroup, ComesBefore, AreGroups}
+use Rattle.cq_clones.specs.Groups.{file_at, IsPlace, IsBefore, word_at, StandsAt, token_behind, token_before, AreSame, IsMaximalAt, kept_of, IsGroup, ComesBefore, AreGroups, first_place}
 use Rattle.cq_clones.proofs.InOrder.{AreAllInOrder-same, in_order_same, Contains-nil}
 use Rattle.cq_clones.proofs.Order.{IsBefore-apart}
 use Rattle.cq_clones.proofs.Words.{length-word}
-use Rattle.cq_clones.proofs.GroupLaws.{maximal_word}
+use Rattle.cq_clones.proofs.GroupLaws.{maximal_word, groups_of_word, word_of_group}
 use Rattle.cq_order.specs.Order.{AreOrdered, IsOrderOf}
 use Rattle.cq_scan.specs.Match.{Matches}
-use Rattle.cq_scan.specs.Found.{IsGroupOf, IsFoundBy, AreFound, Adds}
+use Rattle.cq_scan.specs.Found.{IsGroupOf, IsFoundBy, AreFound, Adds, IsOfWord}
 use Rattle.cq_scan.proofs.StandingPlaces.{place_of_word}
 
 -- the match of two places is a maximal word where the tokens before differ
@@ -99,6 +99,29 @@ adds_made corpus least p q n all old new made within long pair occurrences sever
   where
     same_group : (g h : Group) → g.tokens ≡ h.tokens → g.places ≡ h.places → g ≡ h
     same_group g h e f = ap₂ (λ (k : ℕ) (ps : List Place). let made : Group = record { tokens = k; places = ps } in made) e f
+
+-- a group of the corpus begins at a place of it
+pub first_is_place : {T : Type 0} (corpus : List (List T)) (least : ℕ) (g : Group) → 1 ≤ least → IsGroup corpus least g → IsPlace corpus (first_place g)
+first_is_place corpus least g some is =
+    place_of_word corpus is.word (first_place g) (omega (arith, is.tokens, is.long, some)) (ap (word_at corpus (first_place g)) is.tokens ∙ word_of_group corpus least g is)
+
+-- nothing is added of a pair whose word has its group there
+pub adds_known : {T : Type 0} (corpus : List (List T)) (least : ℕ) (p q : Place) (n : ℕ) (old : List Group) → IsMaximalAt corpus (word_at corpus p n) p q → AreFound corpus least old → Any (IsOfWord corpus p n) old → Adds (IsFoundBy corpus least (IsPair p q)) old old
+adds_known corpus least p q n old pair found (i, k, within, here, of) =
+    let there : Contains old k = (i, within, here) in
+    let is : IsGroup corpus least k = found.each k there in
+    record {
+      ordered = found.ordered;
+      each = λ z. (
+        λ c. inl c,
+        λ h. ⊎_elim
+            (λ c. c)
+            (λ f. let g = pair_is corpus least p q z f in
+            let words : is.word ≡ g.is.word = sym (word_of_group corpus least k is) ∙ ap (word_at corpus (first_place k)) of.0 ∙ of.1 ∙ sym (pair_word corpus least p q n z pair g) in
+            subst (Contains old) (groups_of_word corpus least k z is g.is words) there)
+            h,
+      );
+    }
 
 -- ---- adding what more and more pairs give
 

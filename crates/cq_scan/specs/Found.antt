@@ -3,7 +3,7 @@ use Rattle.std.specs.Prelude.{◌≡◌, ◌⊎◌, ℕ, List, AllPairs, Contain
 use Rattle.cq_base.specs.declared.group.Place.{Place}
 use Rattle.cq_base.specs.declared.group.Group.{Group}
 use Rattle.cq_clones.specs.Lists.{AreAllInOrder}
-use Rattle.cq_clones.specs.Groups.{first_place, IsMaximalAt, IsGroup, ComesBefore}
+use Rattle.cq_clones.specs.Groups.{first_place, word_at, IsMaximalAt, IsGroup, ComesBefore}
 use Rattle.cq_order.specs.Order.{AreOrdered}
 
 -- a group whose word is maximal at these two places
@@ -30,3 +30,7 @@ Adds Is old new = AreAllInOrder (AreOrdered ComesBefore) (λ g. Contains old g �
 -- both begin at the same place and are equally long
 abbrev pub AreTied : Group → Group → Type 0
 AreTied g h = (first_place g ≡ first_place h) × (g.tokens ≡ h.tokens)
+
+-- the group's tokens are as many as these at the place, and the same
+abbrev pub IsOfWord : {T : Type 0} → List (List T) → Place → ℕ → Group → Type 0
+IsOfWord corpus p n g = (g.tokens ≡ n) × (word_at corpus (first_place g) n ≡ word_at corpus p n)

@@ -1,10 +1,14 @@
-ghost use Rattle.std.specs.Prelude.{◌≡◌, ◌↔◌, ◌⊎◌, IsTrue, OnOk, Any, AllPairs, Contains};
+ghost use Rattle.std.specs.Prelude.{◌≡◌, ◌↔◌, ◌⊎◌, ◌+◌, ◌^◌, ◌<◌, ◌≤◌, length, IsTrue, OnOk, Any, AllPairs, Contains};
 ghost use Rattle.cq_base.specs.declared.group.Group.{Group};
-ghost use Rattle.cq_clones.specs.Groups.{ComesBefore, first_place};
+ghost use Rattle.cq_clones.specs.Groups.{ComesBefore, first_place, file_at, IsPlace};
 ghost use Rattle.cq_order.specs.Order.{AreOrdered};
-ghost use Rattle.cq_scan.specs.Found.{Adds, AreTied};
+ghost use Rattle.cq_tokens.specs.Corpus.{corpus_of};
+ghost use Rattle.cq_scan.specs.Found.{Adds, AreTied, IsOfWord};
 
-use cq_base::{Group, Memory, Place};
+use crate::reading::stands_at;
+use cq_base::{Group, Memory, Place, Steps};
+use cq_tokens::FileTokens;
+use std::sync::ledger::Ledger;
 
 // The group's first place; the first of the corpus for a group with none.
 fn first_place(group: &Group) -> Place
@@ -28,6 +32,47 @@ fn is_listed(groups: &[Group], group: &Group) -> bool
     ensures { IsTrue result ↔ Any (λ g. AreTied g group.now) groups.now }
 {
     groups.iter().any(|g| are_tied(g, group))
+}
+
+// Whether a group is of the word of `tokens` tokens at `p`.
+fn is_of_word<L: Ledger>(
+    files: &[FileTokens<L>],
+    p: Place,
+    tokens: u32,
+    group: &Group,
+    steps: &mut Steps<L>,
+) -> bool
+    requires p_file { p.file < length files.now }
+    requires within { p.at + tokens ≤ length (file_at (corpus_of files.now) p.file) }
+    requires fits { p.at + tokens < 2 ^ 32 }
+    requires first_file { (first_place group.now).file < length files.now }
+    requires first { IsPlace (corpus_of files.now) (first_place group.now) }
+    ensures { IsTrue result ↔ IsOfWord (corpus_of files.now) p tokens group.now }
+{
+    group.tokens == tokens && stands_at(files, p, tokens, first_place(group), steps)
+}
+
+/// Whether a group of the word of `tokens` tokens at `p` is there. It reads that word once for each group of its
+/// length, up to the first difference.
+pub(crate) fn is_known<L: Ledger>(
+    files: &[FileTokens<L>],
+    p: Place,
+    tokens: u32,
+    groups: &[Group],
+    steps: &mut Steps<L>,
+) -> bool
+    requires p_file { p.file < length files.now }
+    requires within { p.at + tokens ≤ length (file_at (corpus_of files.now) p.file) }
+    requires fits { p.at + tokens < 2 ^ 32 }
+    requires groups { (g : Group) → Contains groups.now g → IsPlace (corpus_of files.now) (first_place g) }
+    ensures { IsTrue result ↔ Any (IsOfWord (corpus_of files.now) p tokens) groups.now }
+{
+    for group in groups {
+        if is_of_word(files, p, tokens, group, steps) {
+            return true;
+        }
+    }
+    false
 }
 
 /// Adds a group unless it is there. What ties with it has to be it.

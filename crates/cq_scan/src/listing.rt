@@ -3,7 +3,7 @@ ghost use Rattle.cq_clones.specs.Groups.{file_at, word_at, IsPlace, IsBefore, Is
 ghost use Rattle.cq_tokens.specs.Corpus.{corpus_of};
 ghost use Rattle.cq_scan.specs.Found.{IsFoundBy, AreFound, Adds};
 
-use crate::found::add_once;
+use crate::found::{add_once, is_known};
 use crate::reading::{are_same_before, file_len, match_len};
 use crate::standing::occurrences;
 use cq_base::{Group, Memory, Place, Places, Steps};
@@ -33,6 +33,9 @@ fn add_word<L: Ledger>(
     requires found { AreFound (corpus_of files.now) min groups.old.items }
     ensures { OnOk result (Adds (IsFoundBy (corpus_of files.now) min (λ a b. (a ≡ p) × (b ≡ q))) groups.old.items groups.new.items) }
 {
+    if is_known(files, p, tokens, groups, steps) {
+        return Ok(());
+    }
     let all = occurrences(alloc, files, p, tokens, steps)?;
     let places = kept(alloc, tokens, &all)?;
     if places.len() < 2 {
