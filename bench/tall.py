@@ -1,5 +1,5 @@
 #!/usr/bin/env python3
-"""Runs ./cqd on 200 uploads of 20 tokens and 10 listings, and prints its seconds and its peak of memory."""
+"""Runs ./cqd on 200 uploads of 20 tokens and 10 listings, and prints its seconds and its peak of memory (of the program alone, where it is built)."""
 import json
 import resource
 import subprocess
