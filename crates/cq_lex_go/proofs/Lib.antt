@@ -4,3 +4,4 @@ pub mod StringSteps
 pub mod RuneSteps
 pub mod Elements
 pub mod Inserting
+pub mod OperatorSteps

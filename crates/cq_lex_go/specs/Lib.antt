@@ -12,3 +12,4 @@ pub mod Go
 pub mod Ascii
 pub mod Semicolons
 pub mod OneKind
+pub mod OperatorStates

@@ -10,10 +10,11 @@ ghost use Rattle.cq_lex_go.specs.Words.{IsName};
 
 use crate::comment::{longest_block, longest_line};
 use crate::number::longest_number;
+use crate::operator::longest_punctuation;
 use crate::raw::longest_raw;
 use crate::rune::longest_rune;
 use crate::string::longest_string;
-use crate::words::{longest_blank, longest_keyword, longest_name, longest_punctuation};
+use crate::words::{longest_blank, longest_keyword, longest_name};
 use cq_base::Class;
 use cq_munch::{Found, Spell, Unit, better, found_of};
 

@@ -1,7 +1,7 @@
 ghost use Rattle.std.specs.Prelude.{◌≡◌, map};
 ghost use Rattle.cq_munch.specs.Longest.{LongestAt, IsAmong};
 ghost use Rattle.cq_lex_go.specs.NameStates.{name_rest};
-ghost use Rattle.cq_lex_go.specs.Words.{IsName, is_letter, is_letter_or_digit, is_letter_category, is_digit_category, blank_characters, keywords, punctuation};
+ghost use Rattle.cq_lex_go.specs.Words.{IsName, is_letter, is_letter_or_digit, is_letter_category, is_digit_category, blank_characters, keywords};
 
 use cq_munch::{Machine, Unit, longest_spelling, longest_word};
 use unicode::properties::GeneralCategory;
@@ -34,12 +34,6 @@ static KEYWORDS: [&str; 25] = [
     "switch",
     "type",
     "var",
-];
-
-static PUNCTUATION: [&str; 48] = [
-    "+", "&", "+=", "&=", "&&", "==", "!=", "(", ")", "-", "|", "-=", "|=", "||", "<", "<=", "[",
-    "]", "*", "^", "*=", "^=", "<-", ">", ">=", "{", "}", "/", "<<", "/=", "<<=", "++", "=", ":=",
-    ",", ";", "%", ">>", "%=", ">>=", "--", "!", "...", ".", ":", "&^", "&^=", "~",
 ];
 
 fn is_letter_category(category: GeneralCategory) -> bool
@@ -104,13 +98,6 @@ pub(crate) fn longest_keyword(units: &[Unit]) -> Option<usize>
     ensures { LongestAt (IsAmong keywords) (map (λ u. u.ch) units.now) result }
 {
     longest_word(units, &KEYWORDS)
-}
-
-/// The longest operator or punctuation at the front.
-pub(crate) fn longest_punctuation(units: &[Unit]) -> Option<usize>
-    ensures { LongestAt (IsAmong punctuation) (map (λ u. u.ch) units.now) result }
-{
-    longest_word(units, &PUNCTUATION)
 }
 
 /// The blank at the front.
