@@ -104,9 +104,6 @@ fn texts_are_compared_by_bytes(rt: HostRuntime) -> Result<(), Memory> {
     let alloc = rt.alloc();
     let text = Text::from_bytes(alloc, b"ab")?;
     assert!(rt; text.is_same(&text.copied(alloc)?));
-    assert_eq!(rt;
-        text.compare(&Text::from_bytes(alloc, b"b")?),
-        Ordering::Less
-    );
+    assert_eq!(rt; text.cmp(&Text::from_bytes(alloc, b"b")?), Ordering::Less);
     Ok(())
 }

@@ -1,5 +1,8 @@
 ghost use Rattle.std.specs.Prelude.{◌≡◌, IfOk, IsTrue, ◌↔◌};
-ghost use Rattle.std.specs.Ordering.{nat_cmp};
+ghost use Rattle.std.proofs.Common.{rules};
+ghost use Rattle.std.specs.Cmp.{partial_order_from_own_ties};
+ghost use Rattle.std.specs.Cmp.Rules.{comparing};
+ghost use Rattle.std.specs.Ordering.{nat_cmp, as_partial_cmp};
 ghost use Rattle.std.specs.Cmp.Lexicographic.{slice_cmp};
 ghost use Rattle.std.specs.Str.{bytes_eq};
 
@@ -53,17 +56,49 @@ impl Text {
         self.as_bytes() == other.as_bytes()
     }
 
-    /// Which of the two comes first, byte by byte.
-    pub fn compare(&self, other: &Text) -> Ordering
-        ensures { result ≡ slice_cmp nat_cmp self.now other.now }
-    {
-        self.as_bytes().cmp(other.as_bytes())
-    }
-
     /// Another copy of the bytes.
     pub fn copied(&self, alloc: Global) -> Result<Text, Memory>
         ensures { IfOk result (λ t. t ≡ self.now) }
     {
         Text::from_bytes(alloc, self.as_bytes())
+    }
+}
+
+impl PartialEq for Text {
+    ghost eq = { bytes_eq };
+
+    ghost laws = { Prim.search (comparing, rules) };
+
+    fn eq(&self, other: &Text) -> bool {
+        self.is_same(other)
+    }
+}
+
+impl Eq for Text {
+    ghost laws = { Prim.search (comparing, rules) };
+}
+
+impl PartialOrd for Text {
+    ghost partial_cmp = { as_partial_cmp (slice_cmp nat_cmp) };
+
+    ghost laws = { partial_order_from_own_ties (Prim.search (comparing, rules)) (Prim.search (comparing, rules)) };
+
+    fn partial_cmp(&self, other: &Text) -> Option<Ordering> {
+        Some(self.cmp(other))
+    }
+}
+
+/// By their bytes, from the first on; a text that begins another comes before it.
+impl Ord for Text {
+    ghost cmp = { slice_cmp nat_cmp };
+
+    ghost total = { Prim.search (comparing, rules) };
+
+    ghost matches_partial_cmp = { Prim.search (comparing, rules) };
+
+    ghost matches_eq = { Prim.search (comparing, rules) };
+
+    fn cmp(&self, other: &Text) -> Ordering {
+        self.as_bytes().cmp(other.as_bytes())
     }
 }
