@@ -1,50 +1,58 @@
--- A file that is put among the kept ones, and what the store stands for then.
-use Rattle.std.proofs.Common.{◌≡◌, ◌⊎◌, ◌↔◌, ℕ, zero, suc, ◌+◌, ◌-◌, ◌<◌, List, [], ◌∷◌, ◌++◌, length, get_or, map, set, Some, slice_get, Result, Ok, Err, OnErr, refl, sym, ap, ◌∙◌, subst, inl, inr, ⊎_elim, arith, length-append}
-use Rattle.std.specs.Prelude.{AllPairs, Contains, insert}
+-- An upload among the kept files, and what the store stands for then.
+use Rattle.std.proofs.Common.{◌≡◌, ◌⊎◌, ℕ, ◌+◌, ◌-◌, Bool, true, false, cond, List, [], ◌∷◌, ◌++◌, length, map, Some, slice_get, Result, Ok, Err, OnErr, refl, sym, ap, ◌∙◌, subst, inl, inr, ⊎_elim, arith, length-append}
+use Rattle.std.specs.Prelude.{AllPairs, Contains}
 use Rattle.std.specs.Str.{IsUtf8}
-use Rattle.std.proofs.lemmas.Bool.{cases_eq, cases_lt}
-use Rattle.std.proofs.lemmas.List.{map-set, length-set, get_or-set_same, get_or-set_other}
+use Rattle.std.specs.BTreeMap.{BTreeMap, IsOrdered, Updates, get, keys}
+use Rattle.std.specs.Ordering.{is_eq}
+use Rattle.std.specs.Cmp.{Equal-is}
+use Rattle.std.specs.declared.cmp.Ordering.TheVariants.{Less}
+use Rattle.std.proofs.lemmas.Bool.{cases_lt}
+use Rattle.std.proofs.lemmas.Map.Keys.{Less-from_sorted}
+use Rattle.std.proofs.lemmas.Map.Views.{btree_map_get_iff}
 use Rattle.std.proofs.Math.ListN.{get_or-append}
 use Rattle.std.proofs.Math.Seq.{get_or-append_seam}
-use Rattle.std.proofs.lemmas.List.Sorted.{IsPermutation-insert, IsPermutation-sym, Contains-permutation}
 use Rattle.std.proofs.lemmas.Option.{slice_get-get_or, slice_get_within, same_Some}
 use Rattle.cq_clones.specs.Lists.{AreAllInOrder}
-use Rattle.cq_clones.proofs.InOrder.{Contains-cases}
 use Rattle.cqd.specs.declared.put.Put.{Put}
+use Rattle.cqd.specs.declared.kept.FileKey.{FileKey}
 use Rattle.cqd.specs.declared.kept.Kept.{Kept}
 use Rattle.cqd.specs.declared.store.Store.{Store}
+use Rattle.cqd.specs.Kept.{KeptAt}
 use Rattle.cqd.specs.Files.{IsLastPut}
-use Rattle.cqd.specs.Stands.{Key, key_of, KeyBefore, IsLastAt, IsFoundAt, IsGapAt, IsKeptOf, PlacesKept, HasWork, StandsFor}
-use Rattle.cqd.proofs.Placing.{replaced_ordered, replaced_each, inserted_ordered, inserted_each}
+use Rattle.cqd.specs.Stands.{Key, key_of, KeyBefore, IsLastAt, IsKeptOf, HasWork, StandsFor}
+use Rattle.cqd.proofs.KeyOrder.{file_cmp, file_total, file_exact, file_equal}
+use Rattle.cqd.proofs.Mapped.{Contains-map, Contains-from_map, pairs_from_map, pairs_to_map}
 
-insert-map : {X Y : Type 0} (f : X → Y) (xs : List X) (n : ℕ) (y : X) → map f (insert xs n y) ≡ insert (map f xs) n (f y)
-insert-map f xs zero y = refl
-insert-map f [] (suc n) y = refl
-insert-map f (x ∷ xs) (suc n) y = ap (λ ys. f x ∷ ys) (insert-map f xs n y)
+-- the keys of a map are in order
+pub in_order : {L : Type 0} (m : BTreeMap FileKey (Kept L)) → IsOrdered file_cmp m → AllPairs KeyBefore (map key_of m.entries)
+in_order {L} m ordered =
+    pairs_to_map KeyBefore key_of m.entries
+    (pairs_from_map (λ (a : FileKey) (b : FileKey). file_cmp a b ≡ Less) (λ (e : KeptAt L). e.0) m.entries
+    (λ i j d less within. Less-from_sorted file_cmp (keys m) i j d ordered less within))
 
-pub placed_found : {L : Type 0} (xs : List (Kept L)) (k : Kept L) (i : ℕ) → AllPairs KeyBefore (map key_of xs) → i < length xs → IsFoundAt (map key_of xs) k.project k.path i → PlacesKept xs k (set xs i k)
-placed_found {L} xs k i ordered inside found = record {
-  ordered = subst (AllPairs KeyBefore) (sym (map-set key_of xs i k)) (replaced_ordered (map key_of xs) ordered k.project k.path i found (key_of k) refl refl);
-  keys = λ z. subst (λ ks. Contains ks z ↔ ((Contains (map key_of xs) z × ((z.project ≡ k.project) × (z.path ≡ k.path) → ⊥)) ⊎ (key_of k ≡ z))) (sym (map-set key_of xs i k))
-      (replaced_each (map key_of xs) ordered k.project k.path i found (key_of k) refl refl z);
-  each = each;
-}
-  where
-    each : (z : Kept L) → Contains (set xs i k) z → Contains xs z ⊎ (k ≡ z)
-    each z (n, within, at) =
-        let many = length-set xs i k in
-        ⊎_elim
-        (λ e. inr (sym (ap (λ m. get_or (set xs i k) m z) e ∙ get_or-set_same xs i k z inside) ∙ at))
-        (λ apart. inl (n, omega (arith, many, within), sym (get_or-set_other xs i n k z apart) ∙ at))
-        (cases_eq n i)
+-- ---- a file that is put into a map
 
-pub placed_gap : {L : Type 0} (xs : List (Kept L)) (k : Kept L) (i : ℕ) → AllPairs KeyBefore (map key_of xs) → IsGapAt (map key_of xs) k.project k.path i → PlacesKept xs k (insert xs i k)
-placed_gap xs k i ordered gap = record {
-  ordered = subst (AllPairs KeyBefore) (sym (insert-map key_of xs i k)) (inserted_ordered (map key_of xs) ordered k.project k.path i gap (key_of k) refl refl);
-  keys = λ z. subst (λ ks. Contains ks z ↔ ((Contains (map key_of xs) z × ((z.project ≡ k.project) × (z.path ≡ k.path) → ⊥)) ⊎ (key_of k ≡ z))) (sym (insert-map key_of xs i k))
-      (inserted_each (map key_of xs) ordered k.project k.path i gap (key_of k) refl refl z);
-  each = λ z c. ⊎_elim (λ e. inr e) (λ h. inl h) (Contains-cases k z xs (Contains-permutation (insert xs i k) (k ∷ xs) z (IsPermutation-sym _ _ (IsPermutation-insert xs i k)) c));
-}
+module _ {L : Type 0} (old new : BTreeMap FileKey (Kept L)) (was : IsOrdered file_cmp old) (now : IsOrdered file_cmp new) (k : FileKey) (v : Kept L) (updates : Updates file_cmp old new k (Some v)) where
+  -- each entry is the new one, or was there at another place
+  pub entry_cases : (e : KeptAt L) → Contains new.entries e → (Contains old.entries e × (k ≡ e.0 → ⊥)) ⊎ ((k, v) ≡ e)
+  entry_cases e c = by (is_eq (file_cmp k e.0)) refl (sym (updates.0 e.0) ∙ (btree_map_get_iff file_total file_exact new now e.0 e.1).1 c)
+    where
+      by : (b : Bool) → is_eq (file_cmp k e.0) ≡ b → cond b (Some v) (get file_cmp old e.0) ≡ Some e.1 → (Contains old.entries e × (k ≡ e.0 → ⊥)) ⊎ ((k, v) ≡ e)
+      by true at is = inr (λ i. (file_exact k e.0 ((Equal-is (file_cmp k e.0)).0 at) i, same_Some v e.1 is i))
+      by false apart is = inl (
+        (btree_map_get_iff file_total file_exact old was e.0 e.1).0 is,
+        λ same. let at : is_eq (file_cmp k e.0) ≡ true = (Equal-is (file_cmp k e.0)).1 (ap (file_cmp k) (sym same) ∙ file_equal k) in absurd (cc),
+      )
+
+  pub entry_new : Contains new.entries (k, v)
+  entry_new = (btree_map_get_iff file_total file_exact new now k v).0 updates.1
+
+  pub entry_stays : (e : KeptAt L) → Contains old.entries e → (k ≡ e.0 → ⊥) → Contains new.entries e
+  entry_stays e c other = by (is_eq (file_cmp k e.0)) refl (updates.0 e.0)
+    where
+      by : (b : Bool) → is_eq (file_cmp k e.0) ≡ b → get file_cmp new e.0 ≡ cond b (Some v) (get file_cmp old e.0) → Contains new.entries e
+      by true at is = absurd (other (file_exact k e.0 ((Equal-is (file_cmp k e.0)).0 at)))
+      by false apart is = (btree_map_get_iff file_total file_exact new now e.0 e.1).0 (is ∙ (btree_map_get_iff file_total file_exact old was e.0 e.1).1 c)
 
 -- ---- one upload more
 
@@ -120,60 +128,74 @@ last_cases puts put project path number is =
     (there_cases puts put (number - 1) is.put is.there)
 
 -- what was kept of an upload stays so
-work_stays : {L : Type 0} (puts : List Put) (put : Put) (k : Kept L) → HasWork puts k → HasWork (puts ++ put ∷ []) k
-work_stays puts put k work = record {
+work_stays : {L : Type 0} (puts : List Put) (put : Put) (e : KeptAt L) → HasWork puts e → HasWork (puts ++ put ∷ []) e
+work_stays puts put e work = record {
   path = work.path;
   found = work.found;
-  lexes = record { put = work.lexes.put; there = there_more puts put (k.tokens.change - 1) work.lexes.put work.lexes.there; lexes = work.lexes.lexes };
+  lexes = record { put = work.lexes.put; there = there_more puts put (e.1.tokens.change - 1) work.lexes.put work.lexes.there; lexes = work.lexes.lexes };
   spans = work.spans;
   norms = work.norms;
-}
-
-work_new : {L : Type 0} (puts : List Put) (put : Put) (k : Kept L) → IsUtf8 put.path → IsKeptOf put (length puts + 1) k → HasWork (puts ++ put ∷ []) k
-work_new puts put k utf8 is = record {
-  path = subst IsUtf8 (sym is.path_is) utf8;
-  found = is.found;
-  lexes = record { put = put; there = ap (slice_get (puts ++ put ∷ [])) (omega (arith, is.number_is)) ∙ there_last puts put; lexes = is.lexes };
-  spans = is.spans;
-  norms = is.norms;
 }
 
 same_key : (a b : Key) → a.project ≡ b.project → a.path ≡ b.path → a.number ≡ b.number → a ≡ b
 same_key a b p q n = λ i. record { project = p i; path = q i; number = n i }
 
-last_kept : {L : Type 0} (puts : List Put) (put : Put) (k : Kept L) → IsKeptOf put (length puts + 1) k → IsLastAt (puts ++ put ∷ []) (key_of k)
-last_kept puts put k is =
-    let key : Key = record { project = put.project; path = put.path; number = length puts + 1 } in
-    subst (IsLastAt (puts ++ put ∷ [])) (same_key key (key_of k) (sym is.project_is) (sym is.path_is) (sym is.number_is)) (last_new puts put)
+abbrev pub place_of : Put → FileKey
+place_of put = record { project = put.project; path = put.path }
 
--- the store stands for one upload more
-pub accepted : {L : Type 0} (puts : List Put) (put : Put) (k : Kept L) (old new : Store L) → StandsFor puts old → IsUtf8 put.path → IsKeptOf put (length puts + 1) k → PlacesKept old.kept.items k new.kept.items → new.accepted ≡ length puts + 1 → StandsFor (puts ++ put ∷ []) new
-accepted {L} puts put k old new stands utf8 is placed count = record {
-  accepted = omega (arith, count, length-append puts (put ∷ []));
-  files = record { ordered = placed.ordered; each = λ z. (there z, back z) };
-  works = λ z c. ⊎_elim (λ h. work_stays puts put z (stands.works z h)) (λ e. subst (HasWork (puts ++ put ∷ [])) e (work_new puts put k utf8 is)) (placed.each z c);
-}
-  where
-    there : (z : Key) → Contains (map key_of new.kept.items) z → IsLastAt (puts ++ put ∷ []) z
-    there z c =
-        ⊎_elim
-        (λ (h, other). last_stays puts put z.project z.path z.number ((stands.files.each z).0 h) (λ (p, q). other (p ∙ sym is.project_is, q ∙ sym is.path_is)))
-        (λ e. subst (IsLastAt (puts ++ put ∷ [])) e (last_kept puts put k is))
-        ((placed.keys z).0 c)
+module _ {L : Type 0} (puts : List Put) (put : Put) (kept : Kept L) (utf8 : IsUtf8 put.path) (is : IsKeptOf put.text (length puts + 1) kept) where
+  work_new : HasWork (puts ++ put ∷ []) (place_of put, kept)
+  work_new = record {
+    path = utf8;
+    found = is.found;
+    lexes = record { put = put; there = ap (slice_get (puts ++ put ∷ [])) (omega (arith, is.number_is)) ∙ there_last puts put; lexes = is.lexes };
+    spans = is.spans;
+    norms = is.norms;
+  }
 
-    back : (z : Key) → IsLastAt (puts ++ put ∷ []) z → Contains (map key_of new.kept.items) z
-    back z last =
-        (placed.keys z).1 (⊎_elim
-        (λ (h, other). inl ((stands.files.each z).1 h, λ (p, q). other (p ∙ is.project_is, q ∙ is.path_is)))
-        (λ (p, q, n). inr (same_key (key_of k) z (is.project_is ∙ sym p) (is.path_is ∙ sym q) (is.number_is ∙ sym n)))
-        (last_cases puts put z.project z.path z.number last))
+  last_kept : IsLastAt (puts ++ put ∷ []) (key_of (place_of put, kept))
+  last_kept = subst (IsLastPut (puts ++ put ∷ []) put.project put.path) (sym is.number_is) (last_new puts put)
+
+  -- the store stands for one upload more
+  pub accepted : (old new : Store L) → StandsFor puts old → IsOrdered file_cmp old.files → IsOrdered file_cmp new.files → Updates file_cmp old.files new.files (place_of put) (Some kept) → new.accepted ≡ length puts + 1 → StandsFor (puts ++ put ∷ []) new
+  accepted old new stands was now updates count = record {
+    accepted = omega (arith, count, length-append puts (put ∷ []));
+    files = record { ordered = in_order new.files now; each = λ z. (there z, back z) };
+    works = λ e c. ⊎_elim (λ h. work_stays puts put e (stands.works e h.0)) (λ same. subst (HasWork (puts ++ put ∷ [])) same work_new) (cases e c);
+  }
+    where
+      cases : (e : KeptAt L) → Contains new.files.entries e → (Contains old.files.entries e × (place_of put ≡ e.0 → ⊥)) ⊎ ((place_of put, kept) ≡ e)
+      cases = entry_cases old.files new.files was now (place_of put) kept updates
+
+      there : (z : Key) → Contains (map key_of new.files.entries) z → IsLastAt (puts ++ put ∷ []) z
+      there z c =
+          let h = Contains-from_map key_of new.files.entries z c in
+          subst (IsLastAt (puts ++ put ∷ [])) h.2
+          (⊎_elim
+          (λ (old_in, other).
+          let last : IsLastAt puts (key_of h.0) = (stands.files.each (key_of h.0)).0 (Contains-map key_of old.files.entries h.0 old_in) in
+          last_stays puts put h.0.0.project h.0.0.path h.0.1.tokens.change last (λ (p, q). other (λ i. record { project = sym p i; path = sym q i })))
+          (λ same. subst (λ (e : KeptAt L). IsLastAt (puts ++ put ∷ []) (key_of e)) same last_kept)
+          (cases h.0 h.1))
+
+      back : (z : Key) → IsLastAt (puts ++ put ∷ []) z → Contains (map key_of new.files.entries) z
+      back z last =
+          ⊎_elim
+          (λ (was_last, other).
+          let h = Contains-from_map key_of old.files.entries z ((stands.files.each z).1 was_last) in
+          let stays = entry_stays old.files new.files was now (place_of put) kept updates h.0 h.1
+          (λ same. other (ap (λ (k : Key). k.project) (sym h.2) ∙ ap (λ (k : FileKey). k.project) (sym same), ap (λ (k : Key). k.path) (sym h.2) ∙ ap (λ (k : FileKey). k.path) (sym same))) in
+          subst (Contains (map key_of new.files.entries)) h.2 (Contains-map key_of new.files.entries h.0 stays))
+          (λ (p, q, n). subst (Contains (map key_of new.files.entries)) (same_key (key_of (place_of put, kept)) z (sym p) (sym q) (is.number_is ∙ sym n))
+          (Contains-map key_of new.files.entries (place_of put, kept) (entry_new old.files new.files was now (place_of put) kept updates)))
+          (last_cases puts put z.project z.path z.number last)
 
 -- a store that keeps the same stands for the same
-pub stands_same : {L : Type 0} (puts : List Put) (old new : Store L) → new.kept.items ≡ old.kept.items → new.accepted ≡ old.accepted → StandsFor puts old → StandsFor puts new
-stands_same puts old new kept count stands = record {
+pub stands_same : {L : Type 0} (puts : List Put) (old new : Store L) → new.files.entries ≡ old.files.entries → new.accepted ≡ old.accepted → StandsFor puts old → StandsFor puts new
+stands_same {L} puts old new kept count stands = record {
   accepted = count ∙ stands.accepted;
-  files = subst (λ ks. AreAllInOrder KeyBefore (IsLastAt puts) (map key_of ks)) (sym kept) stands.files;
-  works = λ k c. stands.works k (subst (λ ks. Contains ks k) kept c);
+  files = subst (λ (es : List (KeptAt L)). AreAllInOrder KeyBefore (IsLastAt puts) (map key_of es)) (sym kept) stands.files;
+  works = λ e c. stands.works e (subst (λ (es : List (KeptAt L)). Contains es e) kept c);
 }
 
 pub on_err : {T E P : Type 0} (r : Result T E) → P → OnErr r P

@@ -1,10 +1,8 @@
 pub mod Sent
 pub mod KeyOrder
-pub mod Placing
-pub mod Searching
+pub mod Mapped
 pub mod Keepings
 pub mod Rows
-pub mod Mapped
 pub mod Listings
 pub mod Talking
 pub mod Turns

@@ -22,24 +22,23 @@ use Rattle.cq_clones.proofs.KeptPlaces.{kept_among}
 use Rattle.cq_reply.specs.declared.reply.GroupRow.{GroupRow}
 use Rattle.cq_reply.specs.Written.{IsPlaceText, IsGroupText}
 use Rattle.cqd.specs.declared.put.Put.{Put}
-use Rattle.cqd.specs.declared.kept.Kept.{Kept}
 use Rattle.cqd.specs.declared.store.Store.{Store}
 use Rattle.cqd.specs.Files.{File, IsLastPut, PathBefore, AreFiles}
 use Rattle.cqd.specs.Lexing.{norm_of, AreLexed}
-use Rattle.cqd.specs.Kept.{file_of, files_of, spans_in, norms_in}
+use Rattle.cqd.specs.Kept.{KeptAt, file_of, files_of, spans_in, norms_in}
 use Rattle.cqd.specs.Listing.{file_in, spans_of, IsInside, IsGroupInside, IsListing, place_row, group_row}
 use Rattle.cqd.specs.Stands.{Key, key_of, KeyBefore, IsLastAt, HasWork, StandsFor}
 use Rattle.cqd.proofs.KeyOrder.{text_equal}
 use Rattle.cqd.proofs.Mapped.{Contains-map, Contains-from_map, Contains-filter, Contains-from_filter, pairs_from_map, pairs_to_map, pairs_weaker, element, same_default}
 
-abbrev pub is_of : {L : Type 0} → List ℕ → Kept L → Bool
-is_of project k = bytes_eq k.project project
+abbrev pub is_of : {L : Type 0} → List ℕ → KeptAt L → Bool
+is_of project e = bytes_eq e.0.project project
 
-abbrev pub chosen : {L : Type 0} → List ℕ → List (Kept L) → List (Kept L)
+abbrev pub chosen : {L : Type 0} → List ℕ → List (KeptAt L) → List (KeptAt L)
 chosen project kept = filter (is_of project) kept
 
-chosen_project : {L : Type 0} (project : List ℕ) (k : Kept L) → is_of project k ≡ true → k.project ≡ project
-chosen_project project k holds = (bytes_eq-Decides k.project project).0 holds
+chosen_project : {L : Type 0} (project : List ℕ) (k : KeptAt L) → is_of project k ≡ true → k.0.project ≡ project
+chosen_project project k holds = (bytes_eq-Decides k.0.project project).0 holds
 
 -- of two files of one project the path decides
 path_decides : (a b : Key) → a.project ≡ b.project → KeyBefore a b → slice_cmp nat_cmp a.path b.path ≡ Less
@@ -51,44 +50,44 @@ same_file : (f g : File) → f.path ≡ g.path → f.number ≡ g.number → f �
 same_file f g p n = λ i. record { path = p i; number = n i }
 
 -- those of a project are its files, in path order
-pub project_files : {L : Type 0} (puts : List Put) (store : Store L) (project : List ℕ) → StandsFor puts store → AreFiles puts project (files_of (chosen project store.kept.items))
+pub project_files : {L : Type 0} (puts : List Put) (store : Store L) (project : List ℕ) → StandsFor puts store → AreFiles puts project (files_of (chosen project store.files.entries))
 project_files {L} puts store project stands = record {
-  ordered = pairs_to_map PathBefore file_of (chosen project store.kept.items)
-      (pairs_weaker (λ a b. KeyBefore (key_of a) (key_of b)) (λ a b. PathBefore (file_of a) (file_of b)) (chosen project store.kept.items)
+  ordered = pairs_to_map PathBefore file_of (chosen project store.files.entries)
+      (pairs_weaker (λ a b. KeyBefore (key_of a) (key_of b)) (λ a b. PathBefore (file_of a) (file_of b)) (chosen project store.files.entries)
       (λ a b a_in b_in before. path_decides (key_of a) (key_of b) (its_project a a_in ∙ sym (its_project b b_in)) before)
-      (AllPairs-filter (λ a b. KeyBefore (key_of a) (key_of b)) (is_of project) store.kept.items (pairs_from_map KeyBefore key_of store.kept.items stands.files.ordered)));
+      (AllPairs-filter (λ a b. KeyBefore (key_of a) (key_of b)) (is_of project) store.files.entries (pairs_from_map KeyBefore key_of store.files.entries stands.files.ordered)));
   each = λ f. (there f, back f);
 }
   where
-    its_project : (k : Kept L) → Contains (chosen project store.kept.items) k → k.project ≡ project
-    its_project k c = chosen_project project k (Contains-from_filter (is_of project) store.kept.items k c).1
+    its_project : (k : KeptAt L) → Contains (chosen project store.files.entries) k → k.0.project ≡ project
+    its_project k c = chosen_project project k (Contains-from_filter (is_of project) store.files.entries k c).1
 
-    there : (f : File) → Contains (files_of (chosen project store.kept.items)) f → IsLastPut puts project f.path f.number
+    there : (f : File) → Contains (files_of (chosen project store.files.entries)) f → IsLastPut puts project f.path f.number
     there f c =
-        let h = Contains-from_map file_of (chosen project store.kept.items) f c in
+        let h = Contains-from_map file_of (chosen project store.files.entries) f c in
         let k = h.0 in
-        let in_kept = Contains-from_filter (is_of project) store.kept.items k h.1 in
-        let last : IsLastAt puts (key_of k) = (stands.files.each (key_of k)).0 (Contains-map key_of store.kept.items k in_kept.0) in
-        let own : IsLastPut puts project (file_of k).path (file_of k).number = subst (λ q. IsLastPut puts q k.path k.tokens.change) (chosen_project project k in_kept.1) last in
+        let in_kept = Contains-from_filter (is_of project) store.files.entries k h.1 in
+        let last : IsLastAt puts (key_of k) = (stands.files.each (key_of k)).0 (Contains-map key_of store.files.entries k in_kept.0) in
+        let own : IsLastPut puts project (file_of k).path (file_of k).number = subst (λ q. IsLastPut puts q k.0.path k.1.tokens.change) (chosen_project project k in_kept.1) last in
         subst (λ (g : File). IsLastPut puts project g.path g.number) h.2 own
 
-    back : (f : File) → IsLastPut puts project f.path f.number → Contains (files_of (chosen project store.kept.items)) f
+    back : (f : File) → IsLastPut puts project f.path f.number → Contains (files_of (chosen project store.files.entries)) f
     back f last =
         let key : Key = record { project = project; path = f.path; number = f.number } in
-        let h = Contains-from_map key_of store.kept.items key ((stands.files.each key).1 last) in
+        let h = Contains-from_map key_of store.files.entries key ((stands.files.each key).1 last) in
         let k = h.0 in
-        let holds : is_of project k ≡ true = (bytes_eq-Decides k.project project).1 (ap (λ (z : Key). z.project) h.2) in
-        let in_chosen = Contains-map file_of (chosen project store.kept.items) k (Contains-filter (is_of project) store.kept.items k h.1 holds) in
-        subst (Contains (files_of (chosen project store.kept.items))) (same_file (file_of k) f (ap (λ (z : Key). z.path) h.2) (ap (λ (z : Key). z.number) h.2)) in_chosen
+        let holds : is_of project k ≡ true = (bytes_eq-Decides k.0.project project).1 (ap (λ (z : Key). z.project) h.2) in
+        let in_chosen = Contains-map file_of (chosen project store.files.entries) k (Contains-filter (is_of project) store.files.entries k h.1 holds) in
+        subst (Contains (files_of (chosen project store.files.entries))) (same_file (file_of k) f (ap (λ (z : Key). z.path) h.2) (ap (λ (z : Key). z.number) h.2)) in_chosen
 
 -- the tokens of files that are kept
-pub record Lexes {L : Type 0} (puts : List Put) (ks : List (Kept L)) : Type 0 where
+pub record Lexes {L : Type 0} (puts : List Put) (ks : List (KeptAt L)) : Type 0 where
   pub lexed : List (List Spelled)
   pub are : AreLexed puts (files_of ks) lexed
   pub spans : spans_in ks ≡ map spans_of lexed
   pub norms : norms_in ks ≡ map (λ tokens. map norm_of tokens) lexed
 
-pub lexes : {L : Type 0} (puts : List Put) (ks : List (Kept L)) → ((k : Kept L) → Contains ks k → HasWork puts k) → Lexes puts ks
+pub lexes : {L : Type 0} (puts : List Put) (ks : List (KeptAt L)) → ((k : KeptAt L) → Contains ks k → HasWork puts k) → Lexes puts ks
 lexes puts [] works = record { lexed = []; are = tt; spans = refl; norms = refl }
 lexes puts (k ∷ ks) works =
     let work = works k (Contains-here k ks) in
@@ -122,17 +121,17 @@ group_inside corpus spans min groups some same are g c =
           omega (arith, within, many, is.tokens),
         )
 
-pub groups_inside : {L : Type 0} (puts : List Put) (ks : List (Kept L)) (min : ℕ) (groups : List Group) → 1 ≤ min → Lexes puts ks → AreGroups (norms_in ks) min groups → (g : Group) → Contains groups g → IsGroupInside (spans_in ks) g
+pub groups_inside : {L : Type 0} (puts : List Put) (ks : List (KeptAt L)) (min : ℕ) (groups : List Group) → 1 ≤ min → Lexes puts ks → AreGroups (norms_in ks) min groups → (g : Group) → Contains groups g → IsGroupInside (spans_in ks) g
 groups_inside puts ks min groups some found are =
     group_inside (norms_in ks) (spans_in ks) min groups some
     (λ i. ap (λ xs. length (get_or xs i [])) found.norms ∙ as_many found.lexed i ∙ ap (λ xs. length (get_or xs i [])) (sym found.spans))
     are
 
 -- those of a project have their work
-pub chosen_works : {L : Type 0} (puts : List Put) (store : Store L) (project : List ℕ) (ks : List (Kept L)) → ks ≡ chosen project store.kept.items → StandsFor puts store → (k : Kept L) → Contains ks k → HasWork puts k
-chosen_works puts store project ks is stands k c = stands.works k (Contains-from_filter (is_of project) store.kept.items k (subst (λ xs. Contains xs k) is c)).0
+pub chosen_works : {L : Type 0} (puts : List Put) (store : Store L) (project : List ℕ) (ks : List (KeptAt L)) → ks ≡ chosen project store.files.entries → StandsFor puts store → (k : KeptAt L) → Contains ks k → HasWork puts k
+chosen_works puts store project ks is stands k c = stands.works k (Contains-from_filter (is_of project) store.files.entries k (subst (λ xs. Contains xs k) is c)).0
 
-pub listed : {L : Type 0} (puts : List Put) (store : Store L) (project : List ℕ) (min : ℕ) (groups : List Group) (rows : List GroupRow) (ks : List (Kept L)) → ks ≡ chosen project store.kept.items → StandsFor puts store → AreGroups (norms_in ks) min groups
+pub listed : {L : Type 0} (puts : List Put) (store : Store L) (project : List ℕ) (min : ℕ) (groups : List Group) (rows : List GroupRow) (ks : List (KeptAt L)) → ks ≡ chosen project store.files.entries → StandsFor puts store → AreGroups (norms_in ks) min groups
     → rows ≡ map (group_row (files_of ks) (spans_in ks)) groups → IsListing puts project min rows
 listed {L} puts store project min groups rows ks is stands are rows_are =
     let found = lexes puts ks (chosen_works puts store project ks is stands) in
@@ -147,7 +146,7 @@ listed {L} puts store project min groups rows ks is stands are rows_are =
     }
 
 -- the paths of what is shown are texts
-pub rows_are_texts : {L : Type 0} (puts : List Put) (ks : List (Kept L)) (spans : List (List Token)) (groups : List Group) → ((k : Kept L) → Contains ks k → HasWork puts k)
+pub rows_are_texts : {L : Type 0} (puts : List Put) (ks : List (KeptAt L)) (spans : List (List Token)) (groups : List Group) → ((k : KeptAt L) → Contains ks k → HasWork puts k)
     → ((g : Group) → Contains groups g → (p : Place) → Contains g.places p → p.file < length ks) → AllByRecursion IsGroupText (map (group_row (files_of ks) spans) groups)
 rows_are_texts puts ks spans [] works inside = tt
 rows_are_texts {L} puts ks spans (g ∷ groups) works inside =

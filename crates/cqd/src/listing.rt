@@ -7,30 +7,31 @@ ghost use Rattle.cq_base.specs.declared.group.Group.{Group};
 ghost use Rattle.cq_clones.specs.Groups.{AreGroups};
 ghost use Rattle.cq_reply.specs.Written.{IsPlaceText, IsGroupText};
 ghost use Rattle.cq_tokens.specs.Corpus.{corpus_of};
-ghost use Rattle.cqd.specs.declared.kept.Kept.{Kept};
+ghost use Rattle.std.specs.Map.Iter.{deref_pair};
 ghost use Rattle.cqd.specs.Kept.{files_of, spans_in, norms_in};
 ghost use Rattle.cqd.specs.Listing.{place_row, group_row, IsInside, IsGroupInside};
 
-use crate::kept::Kept;
+use crate::kept::{FileKey, Kept};
 use cq_base::{Group, Memory, Place, Text};
 use cq_reply::{GroupRow, GroupRows, PlaceRow, PlaceRows};
 use cq_tokens::FileTokens;
 use std::alloc::Global;
+use std::collections::BTreeMap;
 use std::sync::Arc;
 use std::sync::ledger::Ledger;
 
 /// The files of a project, in path order.
 pub(crate) fn of_project<'a, L: Ledger>(
     alloc: Global,
-    kept: &'a [Kept<L>],
+    files: &'a BTreeMap<FileKey, Kept<L>>,
     project: &Text,
-) -> Result<Vec<&'a Kept<L>>, Memory>
-    ensures { IfOk result (λ v. map (λ k. k.now) v.items ≡ filter (λ k. bytes_eq k.project project.now) kept.now) }
+) -> Result<Vec<(&'a FileKey, &'a Kept<L>)>, Memory>
+    ensures { IfOk result (λ v. map deref_pair v.items ≡ filter (λ e. bytes_eq e.0.project project.now) files.now.entries) }
 {
     let mut found = Vec::new(alloc);
-    for k in kept {
-        if k.project.is_same(project) {
-            found.push(k)?;
+    for (key, kept) in files {
+        if key.project.is_same(project) {
+            found.push((key, kept))?;
         }
     }
     Ok(found)
@@ -50,13 +51,13 @@ fn shared<L: Ledger>(tokens: &FileTokens<L>) -> Result<FileTokens<L>, Memory>
 /// The tokens of the files.
 pub(crate) fn tokens_of<L: Ledger>(
     alloc: Global,
-    files: &[&Kept<L>],
+    files: &[(&FileKey, &Kept<L>)],
 ) -> Result<Vec<FileTokens<L>>, Memory>
-    ensures { IfOk result (λ v. corpus_of v.items ≡ norms_in (map (λ k. k.now) files.now)) }
+    ensures { IfOk result (λ v. corpus_of v.items ≡ norms_in (map deref_pair files.now)) }
 {
     let mut all = Vec::new(alloc);
-    for file in files {
-        all.push(shared(&file.tokens)?)?;
+    for (_, kept) in files {
+        all.push(shared(&kept.tokens)?)?;
     }
     Ok(all)
 }
@@ -64,33 +65,34 @@ pub(crate) fn tokens_of<L: Ledger>(
 // A place of a word of `tokens` tokens.
 fn place_row<L: Ledger>(
     alloc: Global,
-    files: &[&Kept<L>],
+    files: &[(&FileKey, &Kept<L>)],
     tokens: u32,
     place: Place,
 ) -> Result<PlaceRow, Memory>
     requires some { 1 ≤ tokens }
-    requires inside { IsInside (spans_in (map (λ k. k.now) files.now)) tokens place }
-    ensures { IfOk result (λ row. row ≡ place_row (files_of (map (λ k. k.now) files.now)) (spans_in (map (λ k. k.now) files.now)) tokens place) }
+    requires inside { IsInside (spans_in (map deref_pair files.now)) tokens place }
+    ensures { IfOk result (λ row. row ≡ place_row (files_of (map deref_pair files.now)) (spans_in (map deref_pair files.now)) tokens place) }
 {
     let file = files[place.file as usize];
+    let (key, kept) = file;
     let at = place.at as usize;
     Ok(PlaceRow {
-        path: file.path.copied(alloc)?,
+        path: key.path.copied(alloc)?,
         at: place.at,
-        first: file.spans[at].first_line,
-        last: file.spans[at + tokens as usize - 1].last_line,
+        first: kept.spans[at].first_line,
+        last: kept.spans[at + tokens as usize - 1].last_line,
     })
 }
 
 fn place_rows<L: Ledger>(
     alloc: Global,
-    files: &[&Kept<L>],
+    files: &[(&FileKey, &Kept<L>)],
     tokens: u32,
     places: &[Place],
 ) -> Result<PlaceRows, Memory>
     requires some { 1 ≤ tokens }
-    requires inside { (p : Place) → Contains places.now p → IsInside (spans_in (map (λ k. k.now) files.now)) tokens p }
-    ensures { IfOk result (λ rows. rows ≡ map (place_row (files_of (map (λ k. k.now) files.now)) (spans_in (map (λ k. k.now) files.now)) tokens) places.now) }
+    requires inside { (p : Place) → Contains places.now p → IsInside (spans_in (map deref_pair files.now)) tokens p }
+    ensures { IfOk result (λ rows. rows ≡ map (place_row (files_of (map deref_pair files.now)) (spans_in (map deref_pair files.now)) tokens) places.now) }
 {
     let mut rows = Vec::new(alloc);
     for place in places {
@@ -101,11 +103,11 @@ fn place_rows<L: Ledger>(
 
 fn group_row<L: Ledger>(
     alloc: Global,
-    files: &[&Kept<L>],
+    files: &[(&FileKey, &Kept<L>)],
     group: &Group,
 ) -> Result<GroupRow, Memory>
-    requires { IsGroupInside (spans_in (map (λ k. k.now) files.now)) group.now }
-    ensures { IfOk result (λ row. row ≡ group_row (files_of (map (λ k. k.now) files.now)) (spans_in (map (λ k. k.now) files.now)) group.now) }
+    requires { IsGroupInside (spans_in (map deref_pair files.now)) group.now }
+    ensures { IfOk result (λ row. row ≡ group_row (files_of (map deref_pair files.now)) (spans_in (map deref_pair files.now)) group.now) }
 {
     Ok(GroupRow {
         tokens: group.tokens,
@@ -116,11 +118,11 @@ fn group_row<L: Ledger>(
 /// The groups of some files, as a reply shows them.
 pub(crate) fn group_rows<L: Ledger>(
     alloc: Global,
-    files: &[&Kept<L>],
+    files: &[(&FileKey, &Kept<L>)],
     groups: &[Group],
 ) -> Result<GroupRows, Memory>
-    requires { (g : Group) → Contains groups.now g → IsGroupInside (spans_in (map (λ k. k.now) files.now)) g }
-    ensures { IfOk result (λ rows. rows ≡ map (group_row (files_of (map (λ k. k.now) files.now)) (spans_in (map (λ k. k.now) files.now))) groups.now) }
+    requires { (g : Group) → Contains groups.now g → IsGroupInside (spans_in (map deref_pair files.now)) g }
+    ensures { IfOk result (λ rows. rows ≡ map (group_row (files_of (map deref_pair files.now)) (spans_in (map deref_pair files.now))) groups.now) }
 {
     let mut rows = Vec::new(alloc);
     for group in groups {

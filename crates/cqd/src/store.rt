@@ -4,22 +4,22 @@ ghost use Rattle.cq_reply.specs.Written.{line_of, IsGroupText};
 ghost use Rattle.cq_reply.specs.declared.reply.Reply.TheVariants.{Change};
 ghost use Rattle.cqd.specs.declared.put.Put.{Put};
 
-use crate::keeping::{kept_of, place};
-use crate::kept::Kept;
+use crate::keeping::kept_of;
+use crate::kept::{FileKey, Kept};
 use crate::listing::{group_rows, of_project, tokens_of};
 use crate::put::Put;
 use cq_base::{Memory, Steps, Text};
 use cq_reply::{GroupRows, Reply, write_reply};
 use cq_scan::scan;
 use std::alloc::Global;
+use std::collections::BTreeMap;
 use std::sync::ledger::Ledger;
 
 /// The files of all projects after the uploads so far, by project and then path. Only the last upload at a path is
-/// kept, as its tokens. An upload costs the reading of its text, a logarithm of comparisons and the moving of the
-/// entries behind its place.
+/// kept, as its tokens. An upload costs the reading of its text and a logarithm of comparisons.
 #[derive(Drop)]
 pub struct Store<L: Ledger> {
-    pub kept: Vec<Kept<L>>,
+    pub files: BTreeMap<FileKey, Kept<L>>,
     pub accepted: u64,
 }
 
@@ -32,7 +32,7 @@ impl<L: Ledger> Store<L> {
         ensures { StandsFor [] result }
     {
         Store {
-            kept: Vec::new(alloc),
+            files: BTreeMap::new(alloc),
             accepted: 0,
         }
     }
@@ -51,8 +51,13 @@ impl<L: Ledger> Store<L> {
             return Err(Memory);
         };
         let line = write_reply(alloc, &Reply::Change(number))?;
-        let kept = kept_of(alloc, put, number)?;
-        place(&mut self.kept, kept)?;
+        let kept = kept_of(alloc, &put.text, number)?;
+        let Put {
+            project,
+            path,
+            text: _,
+        } = put;
+        self.files.insert(FileKey { project, path }, kept)?;
         self.accepted = number;
         Ok(line)
     }
@@ -70,7 +75,7 @@ impl<L: Ledger> Store<L> {
         ensures listing { IfOk result (λ rows. (puts : List Put) → StandsFor puts self.now → IsListing puts project.now min rows) }
         ensures texts { IfOk result (AllByRecursion IsGroupText) }
     {
-        let files = of_project(alloc, &self.kept, project)?;
+        let files = of_project(alloc, &self.files, project)?;
         if files.len() > u32::MAX as usize {
             return Err(Memory);
         }

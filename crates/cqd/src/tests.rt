@@ -117,6 +117,16 @@ fn runs_of_tokens_are_listed(rt: HostRuntime) -> Result<(), Memory> {
 "#,
         ),
         (
+            r#"{"op":"put","project":"p","path":"f1","lang":"any","text":"p q r"}
+{"op":"put","project":"p","path":"f2","lang":"any","text":"p q r"}
+{"op":"groups","project":"p","min":2}
+"#,
+            r#"{"change":1,"ok":true}
+{"change":2,"ok":true}
+{"groups":[{"places":[{"at":0,"first":1,"last":1,"path":"f1"},{"at":0,"first":1,"last":1,"path":"f2"}],"tokens":3}],"ok":true,"total":1,"version":2}
+"#,
+        ),
+        (
             r#"{"op":"put","project":"p","path":"t","lang":"any","text":"a b c x a b c y"}
 {"op":"put","project":"p","path":"t","lang":"any","text":"q"}
 {"op":"groups","project":"p","min":3}

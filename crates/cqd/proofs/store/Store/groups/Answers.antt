@@ -1,6 +1,7 @@
 use Rattle.std.proofs.Common.{◌≡◌, List, map, subst, sym, ap, ◌∙◌, arith}
 use Rattle.std.specs.Prelude.{Contains}
 use Rattle.std.proofs.lemmas.List.{length-map}
+use Rattle.std.specs.Map.Iter.{deref_pair}
 use Rattle.std.proofs.lemmas.Result.{IfOk-weaker}
 use Rattle.cq_base.specs.declared.norm.Norm.{Norm}
 use Rattle.cq_base.specs.declared.group.Group.{Group}
@@ -9,8 +10,7 @@ use Rattle.cq_tokens.specs.Corpus.{corpus_of}
 use Rattle.std.specs.List.{AllByRecursion}
 use Rattle.cq_reply.specs.declared.reply.GroupRow.{GroupRow}
 use Rattle.cq_reply.specs.Written.{IsGroupText}
-use Rattle.cqd.specs.declared.kept.Kept.{Kept}
-use Rattle.cqd.specs.Kept.{norms_in, spans_in}
+use Rattle.cqd.specs.Kept.{KeptAt, norms_in, spans_in}
 use Rattle.cqd.proofs.Listings.{chosen, lexes, chosen_works, groups_inside, listed, rows_are_texts}
 use Rattle.cqd.proofs.store.Store.groups.Goals as goal
 
@@ -18,38 +18,38 @@ pub group_rows-requires : goal.group_rows-requires
 group_rows-requires g c =
     let puts = c.requires.sound.0 in
     let stands = c.requires.sound.1 in
-    let ks : List (Kept g.row.L.Denot) = map (λ k. k.now) c.deref-4.result.now in
-    let ks_are : ks ≡ chosen c.args.project.now c.args.self.now.kept.items =
-    ap (map (λ k. k.now)) c.deref-4.ensures.value ∙ c.in_ok-files.ensures ∙ ap (chosen c.args.project.now) c.deref.ensures.value in
-    let corpus : corpus_of c.deref-3.result.now ≡ norms_in ks =
-    ap corpus_of c.deref-3.ensures.value ∙ c.in_ok-tokens.ensures ∙ ap (λ xs. norms_in (map (λ k. k.now) xs)) (c.deref-2.ensures.value ∙ sym c.deref-4.ensures.value) in
+    let ks : List (KeptAt g.row.L.Denot) = map deref_pair c.deref-3.result.now in
+    let ks_are : ks ≡ chosen c.args.project.now c.args.self.now.files.entries =
+    ap (map deref_pair) c.deref-3.ensures.value ∙ c.in_ok-files.ensures in
+    let corpus : corpus_of c.deref-2.result.now ≡ norms_in ks =
+    ap corpus_of c.deref-2.ensures.value ∙ c.in_ok-tokens.ensures ∙ ap (λ xs. norms_in (map deref_pair xs)) (c.deref.ensures.value ∙ sym c.deref-3.ensures.value) in
     let are : AreGroups (norms_in ks) c.args.min c.in_ok-groups.groups.items = subst (λ (xs : List (List Norm)). AreGroups xs c.args.min c.in_ok-groups.groups.items) corpus c.in_ok-groups.ensures in
     λ group here. groups_inside puts ks c.args.min c.in_ok-groups.groups.items c.requires.some (lexes puts ks (chosen_works puts c.args.self.now c.args.project.now ks ks_are stands)) are group
-    (subst (λ (xs : List Group). Contains xs group) c.deref-5.ensures.value here)
+    (subst (λ (xs : List Group). Contains xs group) c.deref-4.ensures.value here)
 
 pub returns-clause-listing : goal.returns-clause-listing
 returns-clause-listing g c =
-    let ks : List (Kept g.row.L.Denot) = map (λ k. k.now) c.deref-4.result.now in
-    let ks_are : ks ≡ chosen c.args.project.now c.args.self.now.kept.items =
-    ap (map (λ k. k.now)) c.deref-4.ensures.value ∙ c.in_ok-files.ensures ∙ ap (chosen c.args.project.now) c.deref.ensures.value in
-    let corpus : corpus_of c.deref-3.result.now ≡ norms_in ks =
-    ap corpus_of c.deref-3.ensures.value ∙ c.in_ok-tokens.ensures ∙ ap (λ xs. norms_in (map (λ k. k.now) xs)) (c.deref-2.ensures.value ∙ sym c.deref-4.ensures.value) in
+    let ks : List (KeptAt g.row.L.Denot) = map deref_pair c.deref-3.result.now in
+    let ks_are : ks ≡ chosen c.args.project.now c.args.self.now.files.entries =
+    ap (map deref_pair) c.deref-3.ensures.value ∙ c.in_ok-files.ensures in
+    let corpus : corpus_of c.deref-2.result.now ≡ norms_in ks =
+    ap corpus_of c.deref-2.ensures.value ∙ c.in_ok-tokens.ensures ∙ ap (λ xs. norms_in (map deref_pair xs)) (c.deref.ensures.value ∙ sym c.deref-3.ensures.value) in
     let are : AreGroups (norms_in ks) c.args.min c.in_ok-groups.groups.items = subst (λ (xs : List (List Norm)). AreGroups xs c.args.min c.in_ok-groups.groups.items) corpus c.in_ok-groups.ensures in
-    let are_here : AreGroups (norms_in ks) c.args.min c.deref-5.result.now = subst (λ (xs : List Group). AreGroups (norms_in ks) c.args.min xs) (sym c.deref-5.ensures.value) are in
-    IfOk-weaker c.group_rows.result _ _ (λ rows is puts stands. listed puts c.args.self.now c.args.project.now c.args.min c.deref-5.result.now rows ks ks_are stands are_here is) c.group_rows.ensures
+    let are_here : AreGroups (norms_in ks) c.args.min c.deref-4.result.now = subst (λ (xs : List Group). AreGroups (norms_in ks) c.args.min xs) (sym c.deref-4.ensures.value) are in
+    IfOk-weaker c.group_rows.result _ _ (λ rows is puts stands. listed puts c.args.self.now c.args.project.now c.args.min c.deref-4.result.now rows ks ks_are stands are_here is) c.group_rows.ensures
 
 pub returns-clause-texts : goal.returns-clause-texts
 returns-clause-texts g c =
     let puts = c.requires.sound.0 in
-    let ks : List (Kept g.row.L.Denot) = map (λ k. k.now) c.deref-4.result.now in
-    let ks_are : ks ≡ chosen c.args.project.now c.args.self.now.kept.items =
-    ap (map (λ k. k.now)) c.deref-4.ensures.value ∙ c.in_ok-files.ensures ∙ ap (chosen c.args.project.now) c.deref.ensures.value in
-    let corpus : corpus_of c.deref-3.result.now ≡ norms_in ks =
-    ap corpus_of c.deref-3.ensures.value ∙ c.in_ok-tokens.ensures ∙ ap (λ xs. norms_in (map (λ k. k.now) xs)) (c.deref-2.ensures.value ∙ sym c.deref-4.ensures.value) in
+    let ks : List (KeptAt g.row.L.Denot) = map deref_pair c.deref-3.result.now in
+    let ks_are : ks ≡ chosen c.args.project.now c.args.self.now.files.entries =
+    ap (map deref_pair) c.deref-3.ensures.value ∙ c.in_ok-files.ensures in
+    let corpus : corpus_of c.deref-2.result.now ≡ norms_in ks =
+    ap corpus_of c.deref-2.ensures.value ∙ c.in_ok-tokens.ensures ∙ ap (λ xs. norms_in (map deref_pair xs)) (c.deref.ensures.value ∙ sym c.deref-3.ensures.value) in
     let are : AreGroups (norms_in ks) c.args.min c.in_ok-groups.groups.items = subst (λ (xs : List (List Norm)). AreGroups xs c.args.min c.in_ok-groups.groups.items) corpus c.in_ok-groups.ensures in
-    let are_here : AreGroups (norms_in ks) c.args.min c.deref-5.result.now = subst (λ (xs : List Group). AreGroups (norms_in ks) c.args.min xs) (sym c.deref-5.ensures.value) are in
+    let are_here : AreGroups (norms_in ks) c.args.min c.deref-4.result.now = subst (λ (xs : List Group). AreGroups (norms_in ks) c.args.min xs) (sym c.deref-4.ensures.value) are in
     let works = chosen_works puts c.args.self.now c.args.project.now ks ks_are c.requires.sound.1 in
-    let texts = rows_are_texts puts ks (spans_in ks) c.deref-5.result.now works
-    (λ group here p at. let inside = (groups_inside puts ks c.args.min c.deref-5.result.now c.requires.some (lexes puts ks works) are_here group here).1 p at in
-    omega (arith, inside.0, length-map ks (λ (k : Kept g.row.L.Denot). k.spans.items))) in
+    let texts = rows_are_texts puts ks (spans_in ks) c.deref-4.result.now works
+    (λ group here p at. let inside = (groups_inside puts ks c.args.min c.deref-4.result.now c.requires.some (lexes puts ks works) are_here group here).1 p at in
+    omega (arith, inside.0, length-map ks (λ (k : KeptAt g.row.L.Denot). k.1.spans.items))) in
     IfOk-weaker c.group_rows.result _ _ (λ rows is. subst (λ (xs : List GroupRow). AllByRecursion IsGroupText xs) (sym is) texts) c.group_rows.ensures
