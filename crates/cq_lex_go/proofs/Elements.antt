@@ -1,9 +1,10 @@
 -- The element at the front of a text, row by row.
-use Rattle.std.proofs.Common.{◌≡◌, ℕ, ◌≤◌, Option, Some, None, List, [], ◌∷◌, take, refl, sym, subst, ap, ◌∙◌, inl, inr, ⊎_elim, arith}
+use Rattle.std.proofs.Common.{◌≡◌, ℕ, zero, suc, ◌<◌, ◌≤◌, Option, Some, None, Bool, true, ◌&&◌, nat_lt, nat_le, List, [], ◌∷◌, length, take, All, refl, sym, ◌∙◌, ⊎_elim, arith}
+use Rattle.std.specs.List.{list_all}
+use Rattle.std.proofs.lemmas.Bool.{ltb-true, leb-true}
+use Rattle.cq_munch.proofs.Steps.{and_cases}
 use Rattle.std.specs.Prelude.{IfSome}
-use Rattle.std.proofs.lemmas.Bool.{cases_order}
 use Rattle.cq_base.specs.declared.token.Class.{Class}
-use Rattle.cq_base.specs.declared.token.Class.TheVariants.{Ident, Word}
 use Rattle.cq_munch.specs.declared.element.Found.{Found}
 use Rattle.cq_munch.specs.declared.element.Spell.{Spell}
 use Rattle.cq_munch.specs.declared.element.Spell.TheVariants.{Token}
@@ -12,30 +13,12 @@ use Rattle.cq_munch.specs.Longest.{IsLongest, LongestAt, IsAmong}
 use Rattle.cq_munch.specs.Table.{Row, InTable, table, better, found_of}
 use Rattle.cq_munch.proofs.Joining.{row_more, no_rows}
 use Rattle.cq_lex_go.specs.Words.{IsName, keywords}
-use Rattle.cq_lex_go.specs.Ascii.{keyword_is_name}
+use Rattle.cq_lex_go.specs.Ascii.{among_passes, keyword_is_name}
 use Rattle.cq_lex_go.specs.Go.{names, reserved}
 
 -- both rows are names
 name_of_row : (spell : Spell) (s : List ℕ) → InTable (names ∷ reserved ∷ []) spell s → IsName s
 name_of_row spell s h = ⊎_elim (λ own. own.1.0) (λ other. ⊎_elim (λ word. keyword_is_name s word.1) (λ none. absurd none) other) h
-
-pub word_row : (text : List ℕ) (n len : ℕ) → n ≡ len → IsLongest (IsAmong keywords) text n → InTable (names ∷ reserved ∷ []) (Token Word) (take len text)
-word_row text n len e h = inr (inl (refl, subst (λ m. IsAmong keywords (take m text)) e h.spelled))
-
--- a name that is the longest, and not as long as the longest keyword, is no keyword
-not_keyword : (text : List ℕ) (len : ℕ) (r : Option ℕ) → IsLongest IsName text len → LongestAt (IsAmong keywords) text r → (r ≡ Some len → ⊥) → IsAmong keywords (take len text) → ⊥
-not_keyword text len None name none other among = none len name.some name.within among
-not_keyword text len (Some n) name word other among =
-    ⊎_elim
-    (λ e. other (ap Some e))
-    (λ apart. ⊎_elim
-    (λ less. word.longest len less name.within among)
-    (λ more. name.longest n more word.within (keyword_is_name (take n text) word.spelled))
-    apart)
-    (cases_order n len)
-
-pub ident_row : (text : List ℕ) (len : ℕ) (r : Option ℕ) → IsLongest IsName text len → LongestAt (IsAmong keywords) text r → (r ≡ Some len → ⊥) → InTable (names ∷ reserved ∷ []) (Token Ident) (take len text)
-ident_row text len r name word other = inl (refl, (name.spelled, not_keyword text len r name word other))
 
 pub no_name : (at mode : ℕ) (text : List ℕ) → LongestAt IsName text None → Takes (table (names ∷ reserved ∷ [])) at mode text None
 no_name at mode text none = λ m some within x. none m some within (name_of_row x.0 (take m text) x.1)
@@ -65,3 +48,18 @@ pub mode_kept : (lang : Language) (at mode : ℕ) (text : List ℕ) (r : Option 
 mode_kept lang at mode text None same known taken = tt
 mode_kept lang at mode text (Some f) same known taken =
     let e : f.mode ≡ mode = taken.2 ∙ same f.spell (take f.units text) in omega (arith, e, known)
+
+-- ---- keywords are short, and ASCII
+
+short_word : List ℕ → Bool
+short_word w = nat_le (length w) 11 && list_all (λ c. nat_lt c 128) w
+
+low_at : (w : List ℕ) → list_all (λ c. nat_lt c 128) w ≡ true → All (λ c. c < 128) w
+low_at [] h k d within = absurd (omega arith)
+low_at (c ∷ w) h zero d within = ltb-true c 128 (and_cases _ _ h).0
+low_at (c ∷ w) h (suc k) d within = low_at w (and_cases _ _ h).1 k d (omega arith)
+
+pub keyword_is_short : (s : List ℕ) → IsAmong keywords s → (length s ≤ 11) × All (λ c. c < 128) s
+unfolding short_word
+keyword_is_short s among =
+    let both = and_cases (nat_le (length s) 11) _ (among_passes keywords short_word s refl among) in (leb-true (length s) 11 both.0, low_at s both.1)

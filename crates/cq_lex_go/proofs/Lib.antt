@@ -1,7 +1,6 @@
 pub mod NumberSteps
 pub mod NumberFront
-pub mod StringSteps
-pub mod RuneSteps
 pub mod Elements
+pub mod Dispatch
 pub mod Inserting
 pub mod OperatorSteps

@@ -8,9 +8,11 @@ use Rattle.cq_munch.specs.Pattern.{Spells}
 use Rattle.cq_munch.specs.Table.{Row, table, first}
 use Rattle.cq_lex_go.specs.Words.{IsName, keywords, punctuation, blank_characters}
 use Rattle.cq_lex_go.specs.Numbers.{number, begins_as_number}
-use Rattle.cq_lex_go.specs.Strings.{string}
-use Rattle.cq_lex_go.specs.Runes.{rune}
-use Rattle.cq_lex_go.specs.Openers.{begins, IsBlockComment, IsLineComment, IsRawString}
+use Rattle.cq_munch.specs.Comments.{IsBlockComment, IsLineComment}
+use Rattle.cq_munch.specs.Quotes.{quoted}
+use Rattle.cq_munch.specs.declared.ends.LineEnds.TheVariants.{Feed}
+use Rattle.cq_munch.specs.declared.quoted.Quote.TheVariants.{Double, Single}
+use Rattle.cq_lex_go.specs.Openers.{begins, IsRawString}
 
 abbrev pub names : Row
 names = record { spell = Token Ident; set = λ s. IsName s × (IsAmong keywords s → ⊥) }
@@ -24,11 +26,12 @@ blanks = record { spell = Blank; set = IsAmong blank_characters }
 abbrev pub numbers : Row
 numbers = record { spell = Token Literal; set = λ s. Spells number s × IsTrue (begins_as_number s) }
 
+-- what an escape means is not checked
 abbrev pub strings : Row
-strings = record { spell = Token Literal; set = Spells string }
+strings = record { spell = Token Literal; set = Spells (quoted Double Feed) }
 
 abbrev pub runes : Row
-runes = record { spell = Token Literal; set = Spells rune }
+runes = record { spell = Token Literal; set = Spells (quoted Single Feed) }
 
 abbrev pub marks : Row
 marks = record { spell = Token Punct; set = IsAmong punctuation }
@@ -40,7 +43,7 @@ abbrev pub blocks : Row
 blocks = record { spell = Comment; set = IsBlockComment }
 
 abbrev pub lines : Row
-lines = record { spell = Comment; set = IsLineComment }
+lines = record { spell = Comment; set = IsLineComment Feed }
 
 abbrev pub raws : Row
 raws = record { spell = Token Literal; set = IsRawString }

@@ -2,13 +2,10 @@ pub mod Words
 pub mod NameStates
 pub mod Numbers
 pub mod NumberStates
-pub mod Strings
-pub mod StringStates
-pub mod Runes
-pub mod RuneStates
 pub mod Openers
-pub mod OpenerStates
+pub mod RawStates
 pub mod Go
+pub mod Fronts
 pub mod Ascii
 pub mod Semicolons
 pub mod OneKind

@@ -12,10 +12,9 @@ use Rattle.cq_munch.specs.Table.{Row, InTable}
 use Rattle.cq_lex_go.specs.Words.{is_letter, IsName, punctuation, blank_characters}
 use Rattle.cq_lex_go.specs.Ascii.{is_ascii_letter, letters_below, no_number_letter, among_passes, keyword_is_name}
 use Rattle.cq_lex_go.specs.Numbers.{begins_as_number}
-use Rattle.cq_lex_go.specs.Strings.{string}
-use Rattle.cq_lex_go.specs.Strings as strings_spec
-use Rattle.cq_lex_go.specs.Runes.{rune}
-use Rattle.cq_lex_go.specs.Runes as runes_spec
+use Rattle.cq_munch.specs.Quotes.{quoted, item}
+use Rattle.cq_munch.specs.declared.ends.LineEnds.TheVariants.{Feed}
+use Rattle.cq_munch.specs.declared.quoted.Quote.TheVariants.{Double, Single}
 use Rattle.cq_lex_go.specs.Openers.{begins}
 use Rattle.cq_lex_go.specs.Go.{go, rows, blanks, numbers, strings, runes, marks, blocks, lines, raws}
 
@@ -116,22 +115,22 @@ unfolding kind_ascii of_first is_blank is_quote
 single_kind d r e = subst (λ n. kind (n ∷ r) ≡ Token Literal) (sym (eqb-true d 39 e)) (ascii_kind 39 r (omega arith))
 
 -- a pattern that begins with one character
-first_is : (n : ℕ) (q : Pattern) (s : List ℕ) → Spells (only n ▸ q) s → (r : List ℕ) × (s ≡ n ∷ r)
+pub first_is : (n : ℕ) (q : Pattern) (s : List ℕ) → Spells (only n ▸ q) s → (r : List ℕ) × (s ≡ n ∷ r)
 first_is n q s (a, b, parts, (c, one, within), rest) =
     (b, parts ∙ ap (λ v. v ++ b) one ∙ ap (λ m. m ∷ b) (only_one n c within))
   where
     only_one : (m d : ℕ) → IsTrue (in_ranges ((m, m) ∷ []) d) → d ≡ m
     only_one m d k = grind arith
 
-strings_kind : (s : List ℕ) → Spells string s → kind s ≡ Token Literal
-unfolding string
+strings_kind : (s : List ℕ) → Spells (quoted Double Feed) s → kind s ≡ Token Literal
+unfolding quoted
 strings_kind s h =
-    let (r, e) = first_is 34 (many strings_spec.item ▸ only 34) s h in subst (λ v. kind v ≡ Token Literal) (sym e) (double_kind 34 r refl)
+    let (r, e) = first_is 34 (many (item 34 Feed) ▸ only 34) s h in subst (λ v. kind v ≡ Token Literal) (sym e) (double_kind 34 r refl)
 
-runes_kind : (s : List ℕ) → Spells rune s → kind s ≡ Token Literal
-unfolding rune
+runes_kind : (s : List ℕ) → Spells (quoted Single Feed) s → kind s ≡ Token Literal
+unfolding quoted
 runes_kind s h =
-    let (r, e) = first_is 39 ((runes_spec.item ▸ many runes_spec.item) ▸ only 39) s h in subst (λ v. kind v ≡ Token Literal) (sym e) (single_kind 39 r refl)
+    let (r, e) = first_is 39 ((item 39 Feed ▸ many (item 39 Feed)) ▸ only 39) s h in subst (λ v. kind v ≡ Token Literal) (sym e) (single_kind 39 r refl)
 
 -- ---- the rows but for names and keywords
 

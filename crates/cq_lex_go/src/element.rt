@@ -1,110 +1,150 @@
-ghost use Rattle.std.specs.Prelude.{◌≡◌, ◌<◌, ◌^◌, ℕ, [], ◌∷◌, length, take, map};
-ghost use Rattle.cq_munch.specs.declared.element.Spell.TheVariants.{Token as token};
+ghost use Rattle.std.specs.Prelude.{◌≡◌, ◌<◌, ◌^◌, ℕ, [], ◌∷◌, length, slice_index_or};
 ghost use Rattle.cq_munch.specs.Characters.{characters};
 ghost use Rattle.cq_munch.specs.Language.{Takes};
-ghost use Rattle.cq_munch.specs.Longest.{IsLongest};
 ghost use Rattle.cq_munch.specs.Table.{InTable, table};
-ghost use Rattle.cq_lex_go.specs.Go.{names, reserved, rows, unmarked};
+ghost use Rattle.cq_munch.specs.declared.element.Spell.TheVariants.{Token as token};
+ghost use Rattle.cq_lex_go.specs.Go.{unmarked};
 ghost use Rattle.cq_lex_go.specs.Openers.{begins};
 ghost use Rattle.cq_lex_go.specs.Words.{IsName};
+ghost use Rattle.cq_lex_go.specs.Fronts.{front_of, rows_of};
+ghost use Rattle.cq_lex_go.specs.declared.element.Front.TheVariants.{Letter, Other};
 
-use crate::comment::{longest_block, longest_line};
 use crate::number::longest_number;
 use crate::operator::longest_punctuation;
 use crate::raw::longest_raw;
-use crate::rune::longest_rune;
-use crate::string::longest_string;
-use crate::words::{longest_blank, longest_keyword, longest_name};
+use crate::words::{is_keyword, is_letter, longest_name};
 use cq_base::Class;
-use cq_munch::{Found, Spell, Unit, better, found_of};
+use cq_munch::{
+    Found, LineEnds, Quote, Spell, Unit, better, found_of, longest_block_comment,
+    longest_line_comment, longest_quoted,
+};
 
-// What the longest name at the front is.
-fn class_of(units: &[Unit], len: usize) -> Class
-    requires { IsLongest IsName (characters units.now) len }
-    ensures { InTable (names ∷ reserved ∷ []) (token result) (take len (characters units.now)) }
+/// What a first character tells of the element that begins with it.
+#[derive(Clone, Copy, Debug, PartialEq, Eq)]
+enum Front {
+    Blank,
+    Letter,
+    Digit,
+    /// A number, or an operator.
+    Point,
+    /// A comment, or an operator.
+    Slash,
+    Double,
+    Single,
+    Back,
+    Other,
+}
+
+fn front_of(ch: char) -> Front
+    ensures { result ≡ front_of ch }
 {
-    match longest_keyword(units) {
-        Some(n) => { if n == len { Class::Word } else { Class::Ident } }
-        None => Class::Ident,
+    match ch {
+        ' ' | '\t' | '\r' | '\n' => Front::Blank,
+        '0'..='9' => Front::Digit,
+        '.' => Front::Point,
+        '/' => Front::Slash,
+        '"' => Front::Double,
+        '\'' => Front::Single,
+        '`' => Front::Back,
+        _ => if is_letter(ch) {
+            Front::Letter
+        } else {
+            Front::Other
+        },
     }
 }
 
-// The longest name or keyword at the front.
+fn class_of(name: &[Unit]) -> Class
+    requires { IsName (characters name.now) }
+    ensures { InTable (rows_of Letter) (token result) (characters name.now) }
+{
+    if is_keyword(name) {
+        Class::Word
+    } else {
+        Class::Ident
+    }
+}
+
+// The name or keyword at the front.
 fn name(units: &[Unit], mode: u8) -> Option<Found>
     requires { length units.now < 2 ^ 32 }
-    ensures { (at : ℕ) → Takes (table (names ∷ reserved ∷ [])) at mode (characters units.now) result }
+    ensures { (at : ℕ) → Takes (table (rows_of Letter)) at mode (characters units.now) result }
 {
     match longest_name(units) {
         None => None,
-        Some(len) => Some(Found {
-            spell: Spell::Token(class_of(units, len)),
-            units: len as u32,
-            mode,
-        }),
+        Some(len) => {
+            let class = class_of(&units[..len]);
+            found_of(Spell::Token(class), mode, Some(len))
+        }
     }
 }
 
-// The longest element at the front, where no opener stands.
-fn element(units: &[Unit], mode: u8) -> Option<Found>
+// The operator at the front.
+fn operator(units: &[Unit], mode: u8) -> Option<Found>
     requires { length units.now < 2 ^ 32 }
-    ensures { (at : ℕ) → Takes (table rows) at mode (characters units.now) result }
+    ensures { (at : ℕ) → Takes (table (rows_of Other)) at mode (characters units.now) result }
 {
-    let literal = Spell::Token(Class::Literal);
-    let blank = found_of(Spell::Blank, mode, longest_blank(units));
-    let number = found_of(literal, mode, longest_number(units));
-    let string = found_of(literal, mode, longest_string(units));
-    let rune = found_of(literal, mode, longest_rune(units));
-    let punctuation = found_of(Spell::Token(Class::Punct), mode, longest_punctuation(units));
-    let others = better(
-        blank,
-        better(
-            number,
-            better(string, better(rune, better(punctuation, None))),
-        ),
-    );
-    better(name(units, mode), others)
+    found_of(Spell::Token(Class::Punct), mode, longest_punctuation(units))
 }
 
-fn opens_block(units: &[Unit]) -> bool
-    ensures { result ≡ begins (47 ∷ 42 ∷ []) (characters units.now) }
+// Whether this one stands behind the slash at the front.
+fn second_is(units: &[Unit], ch: char) -> bool
+    requires slash { slice_index_or (characters units.now) 0 0 ≡ 47 }
+    ensures { result ≡ begins (47 ∷ ch ∷ []) (characters units.now) }
 {
     match units {
-        [a, b, ..] => a.ch == '/' && b.ch == '*',
+        [_, second, ..] => second.ch == ch,
         _ => false,
     }
 }
 
-fn opens_line(units: &[Unit]) -> bool
-    ensures { result ≡ begins (47 ∷ 47 ∷ []) (characters units.now) }
-{
-    match units {
-        [a, b, ..] => a.ch == '/' && b.ch == '/',
-        _ => false,
-    }
-}
-
-fn opens_raw(units: &[Unit]) -> bool
-    ensures { result ≡ begins (96 ∷ []) (characters units.now) }
-{
-    match units {
-        [a, ..] => a.ch == '`',
-        _ => false,
-    }
-}
-
-/// The element at the front, where no byte order mark stands.
-pub(crate) fn taken(units: &[Unit], mode: u8) -> Option<Found>
-    requires { length units.now < 2 ^ 32 }
+// The comment or operator at the front, which is a slash.
+fn behind_slash(units: &[Unit], mode: u8) -> Option<Found>
+    requires some { 0 < length units.now }
+    requires short { length units.now < 2 ^ 32 }
+    requires slash { slice_index_or (characters units.now) 0 0 ≡ 47 }
     ensures { (at : ℕ) → Takes unmarked at mode (characters units.now) result }
 {
-    if opens_block(units) {
-        return found_of(Spell::Comment, mode, longest_block(units));
+    if second_is(units, '*') {
+        return found_of(Spell::Comment, mode, longest_block_comment(units));
     }
-    if opens_line(units) {
-        return found_of(Spell::Comment, mode, longest_line(units));
+    if second_is(units, '/') {
+        return found_of(
+            Spell::Comment,
+            mode,
+            longest_line_comment(LineEnds::Feed, units),
+        );
     }
-    if opens_raw(units) {
-        return found_of(Spell::Token(Class::Literal), mode, longest_raw(units));
+    operator(units, mode)
+}
+
+/// The element at the front, where no byte order mark stands. Its first character tells which scanners there are to ask.
+pub(crate) fn taken(units: &[Unit], mode: u8) -> Option<Found>
+    requires some { 0 < length units.now }
+    requires short { length units.now < 2 ^ 32 }
+    ensures { (at : ℕ) → Takes unmarked at mode (characters units.now) result }
+{
+    let literal = Spell::Token(Class::Literal);
+    match front_of(units[0].ch) {
+        Front::Blank => found_of(Spell::Blank, mode, Some(1)),
+        Front::Letter => name(units, mode),
+        Front::Digit => found_of(literal, mode, longest_number(units)),
+        Front::Point => better(
+            found_of(literal, mode, longest_number(units)),
+            operator(units, mode),
+        ),
+        Front::Slash => behind_slash(units, mode),
+        Front::Double => found_of(
+            literal,
+            mode,
+            longest_quoted(Quote::Double, LineEnds::Feed, units),
+        ),
+        Front::Single => found_of(
+            literal,
+            mode,
+            longest_quoted(Quote::Single, LineEnds::Feed, units),
+        ),
+        Front::Back => found_of(literal, mode, longest_raw(units)),
+        Front::Other => operator(units, mode),
     }
-    element(units, mode)
 }

@@ -1,7 +1,7 @@
 ghost use Rattle.std.specs.Prelude.{◌≡◌, map};
 ghost use Rattle.cq_munch.specs.Longest.{LongestAt};
 ghost use Rattle.cq_lex_go.specs.Openers.{IsRawString};
-ghost use Rattle.cq_lex_go.specs.OpenerStates.{raw_rest};
+ghost use Rattle.cq_lex_go.specs.RawStates.{raw_rest};
 
 use cq_munch::{Machine, Unit, longest_spelling};
 

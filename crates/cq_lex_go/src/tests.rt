@@ -132,11 +132,12 @@ fn literals(rt: HostRuntime) -> Result<(), Memory> {
     let cases: [(&str, &[&str]); 18] = [
         ("0 42 1_000", &["l0", "l42", "l1_000", "p;"]),
         (
-            "0b101 0B_1 0o17 0_7 017 0xBad_Face",
+            "0b101 0B_1 0o17 0_1 0_7 017 0xBad_Face",
             &[
                 "l0b101",
                 "l0B_1",
                 "l0o17",
+                "l0_1",
                 "l0_7",
                 "l017",
                 "l0xBad_Face",

@@ -1,40 +1,14 @@
-ghost use Rattle.std.specs.Prelude.{◌≡◌, map};
+ghost use Rattle.std.specs.Prelude.{◌≡◌, ◌↔◌, IsTrue, map};
 ghost use Rattle.cq_munch.specs.Longest.{LongestAt, IsAmong};
+ghost use Rattle.cq_munch.specs.Characters.{characters};
 ghost use Rattle.cq_lex_go.specs.NameStates.{name_rest};
-ghost use Rattle.cq_lex_go.specs.Words.{IsName, is_letter, is_letter_or_digit, is_letter_category, is_digit_category, blank_characters, keywords};
+ghost use Rattle.cq_lex_go.specs.Words.{IsName, is_letter, is_letter_or_digit, is_letter_category, is_digit_category, keywords};
 
-use cq_munch::{Machine, Unit, longest_spelling, longest_word};
+use cq_munch::{Machine, Unit, ascii_bytes, longest_spelling};
 use unicode::properties::GeneralCategory;
 
-static BLANKS: [&str; 4] = [" ", "\t", "\r", "\n"];
-
-static KEYWORDS: [&str; 25] = [
-    "break",
-    "case",
-    "chan",
-    "const",
-    "continue",
-    "default",
-    "defer",
-    "else",
-    "fallthrough",
-    "for",
-    "func",
-    "go",
-    "goto",
-    "if",
-    "import",
-    "interface",
-    "map",
-    "package",
-    "range",
-    "return",
-    "select",
-    "struct",
-    "switch",
-    "type",
-    "var",
-];
+// `fallthrough` has as many letters.
+const LONGEST_KEYWORD: usize = 11;
 
 fn is_letter_category(category: GeneralCategory) -> bool
     ensures { result ≡ is_letter_category category }
@@ -50,7 +24,7 @@ fn is_letter_category(category: GeneralCategory) -> bool
 }
 
 #[tactic(auto, unfolding(crate::specs::Words::is_letter))]
-fn is_letter(ch: char) -> bool
+pub(crate) fn is_letter(ch: char) -> bool
     ensures { result ≡ is_letter ch }
 {
     ch == '_' || is_letter_category(GeneralCategory::for_char(ch))
@@ -93,16 +67,44 @@ pub(crate) fn longest_name(units: &[Unit]) -> Option<usize>
     longest_spelling(Name::Before, units)
 }
 
-/// The longest keyword at the front.
-pub(crate) fn longest_keyword(units: &[Unit]) -> Option<usize>
-    ensures { LongestAt (IsAmong keywords) (map (λ u. u.ch) units.now) result }
+// Whether it is one of the 25 keywords.
+fn is_reserved(word: &[u8]) -> bool
+    ensures { IsTrue result ↔ IsAmong keywords word.now }
 {
-    longest_word(units, &KEYWORDS)
+    matches!(
+        word,
+        b"break"
+            | b"case"
+            | b"chan"
+            | b"const"
+            | b"continue"
+            | b"default"
+            | b"defer"
+            | b"else"
+            | b"fallthrough"
+            | b"for"
+            | b"func"
+            | b"go"
+            | b"goto"
+            | b"if"
+            | b"import"
+            | b"interface"
+            | b"map"
+            | b"package"
+            | b"range"
+            | b"return"
+            | b"select"
+            | b"struct"
+            | b"switch"
+            | b"type"
+            | b"var"
+    )
 }
 
-/// The blank at the front.
-pub(crate) fn longest_blank(units: &[Unit]) -> Option<usize>
-    ensures { LongestAt (IsAmong blank_characters) (map (λ u. u.ch) units.now) result }
+/// Whether the name is a keyword.
+pub(crate) fn is_keyword(name: &[Unit]) -> bool
+    ensures { IsTrue result ↔ IsAmong keywords (characters name.now) }
 {
-    longest_word(units, &BLANKS)
+    let mut word = [0; LONGEST_KEYWORD];
+    ascii_bytes(name, &mut word) && is_reserved(&word[..name.len()])
 }

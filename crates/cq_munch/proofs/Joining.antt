@@ -156,3 +156,18 @@ pub row_more : (at mode : ℕ) (text : List ℕ) (row : Row) (rows : List Row) (
     → Takes (table rows) at mode text r → Takes (table (row ∷ rows)) at mode text all
 row_more at mode text row rows len own r all own_is all_is h k =
     subst (Takes (table (row ∷ rows)) at mode text) (sym (all_is ∙ ap (λ v. better v r) own_is)) (one_row at mode text row rows len r h k)
+
+-- fewer rows, where the others have no spelling at the front
+pub narrowed : (at mode : ℕ) (text : List ℕ) (rows few : List Row) → ((spell : Spell) (m : ℕ) → 0 < m → m ≤ length text → InTable rows spell (take m text) → InTable few spell (take m text))
+    → ((spell : Spell) (s : List ℕ) → InTable few spell s → InTable rows spell s) → (r : Option Found) → Takes (table few) at mode text r → Takes (table rows) at mode text r
+narrowed at mode text rows few down up None h = λ m some within x. h m some within (x.0, down x.0 m some within x.1)
+narrowed at mode text rows few down up (Some f) h = (
+  record {
+    some = h.0.some;
+    within = h.0.within;
+    spelled = (f.spell, up f.spell (take f.units text) h.1);
+    longest = λ m more within x. h.0.longest m more within (x.0, down x.0 m (let some = h.0.some in omega arith) within x.1);
+  },
+  up f.spell (take f.units text) h.1,
+  h.2,
+)

@@ -1,7 +1,8 @@
 pub mod Front
 pub mod Steps
 pub mod Tables
-pub mod Unions
+pub mod WordLists
+pub mod QuoteSteps
 pub mod Orders
 pub mod Texts
 pub mod Decoding

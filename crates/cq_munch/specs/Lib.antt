@@ -1,6 +1,11 @@
 pub mod Longest
 pub mod Pattern
 pub mod Behind
+pub mod LineEnds
+pub mod Comments
+pub mod CommentStates
+pub mod Quotes
+pub mod QuoteStates
 pub mod Characters
 pub mod Language
 pub mod Table

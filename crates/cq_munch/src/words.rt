@@ -1,44 +1,24 @@
-ghost use Rattle.std.specs.Prelude.{◌≡◌, ◌<◌, length, map, take, IsTrue, ◌≤◌, ◌↔◌};
-ghost use Rattle.cq_munch.specs.Longest.{LongestAt, longer, IsAmong, are_words};
+ghost use Rattle.std.specs.Prelude.{◌≡◌, ◌<◌, ◌≤◌, length, take, All, IsTrue};
+ghost use Rattle.cq_munch.specs.Characters.{characters};
 
 use crate::unit::Unit;
 
-/// The longer of two.
-pub fn longer(a: Option<usize>, b: Option<usize>) -> Option<usize>
-    ensures { result ≡ longer a b }
+/// Puts the characters as bytes at the front of a buffer, where all of them are ASCII and there is room; else the
+/// answer is no, and the buffer has something of them. It costs one look at each unit, as far as they go.
+pub fn ascii_bytes(units: &[Unit], room: &mut [u8]) -> bool
+    ensures fits { IsTrue result → length units.now ≤ length room.old }
+    ensures bytes { IsTrue result → take (length units.now) room.new ≡ characters units.now }
+    ensures all { length units.now ≤ length room.old → All (λ c. c < 128) (characters units.now) → IsTrue result }
+    ensures same { length room.new ≡ length room.old }
 {
-    match (a, b) {
-        (Some(a), Some(b)) => Some(a.max(b)),
-        (Some(a), None) => Some(a),
-        (None, b) => b,
-    }
-}
-
-/// Whether the units begin with the word.
-fn begins_with(units: &[Unit], word: &[u8]) -> bool
-    ensures { IsTrue result ↔ ((length word.now ≤ length units.now) × (take (length word.now) (map (λ u. u.ch) units.now) ≡ word.now)) }
-{
-    if word.len() > units.len() {
+    if units.len() > room.len() {
         return false;
     }
-    for (i, b) in word.iter().enumerate() {
-        if units[i].ch != char::from(*b) {
+    for (i, unit) in units.iter().enumerate() {
+        if !unit.ch.is_ascii() {
             return false;
         }
+        room[i] = unit.ch as u8;
     }
     true
-}
-
-/// The longest of the words that stands at the front.
-pub fn longest_word(units: &[Unit], words: &[&str]) -> Option<usize>
-    requires { IsTrue (are_words (map (λ w. w.now) words.now)) }
-    ensures { LongestAt (IsAmong (map (λ w. w.now) words.now)) (map (λ u. u.ch) units.now) result }
-{
-    let mut found = None;
-    for word in words {
-        if begins_with(units, word.as_bytes()) {
-            found = longer(found, Some(word.len()));
-        }
-    }
-    found
 }

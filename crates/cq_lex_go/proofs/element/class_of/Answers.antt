@@ -1,8 +1,5 @@
-use Rattle.std.proofs.Common.{Some}
-use Rattle.std.proofs.lemmas.Option.{same_Some}
-use Rattle.cq_munch.specs.Characters.{characters}
-use Rattle.cq_lex_go.proofs.Elements.{ident_row}
+use Rattle.std.proofs.Common.{inl, inr, refl}
 use Rattle.cq_lex_go.proofs.element.class_of.Goals as goal
 
-pub returns-else-n-len : goal.returns-else-n-len
-returns-else-n-len c = ident_row (characters c.args.units.now) c.args.len (Some c.in-Some.n) c.requires c.in-Some.ensures (λ e. c.if-n-len.false (same_Some _ _ e))
+pub returns-then-is_keyword : goal.returns-then-is_keyword
+returns-then-is_keyword c = inr (inl (refl, c.is_keyword.ensures.0 c.if-is_keyword.true))

@@ -1,14 +1,79 @@
-use Rattle.std.proofs.Common.{[], ◌∷◌, sym, ◌∙◌}
+use Rattle.std.proofs.Common.{◌≡◌, Some, get_or, [], ◌∷◌, ap, refl, sym, ◌∙◌}
 use Rattle.cq_munch.specs.Characters.{characters}
-use Rattle.cq_munch.specs.Table.{table}
-use Rattle.cq_munch.proofs.Joining.{takes_rest}
-use Rattle.cq_lex_go.specs.Go.{opens_block, opens_line, opens_raw, blocks, lines, raws, rows, behind_raw, behind_line}
+use Rattle.cq_munch.proofs.Front.{ch_at, as_many}
+use Rattle.cq_munch.proofs.Joining.{row_more}
+use Rattle.cq_lex_go.specs.Fronts.{front_of}
+use Rattle.cq_lex_go.specs.Go.{blanks, numbers, strings, runes, marks, raws}
+use Rattle.cq_lex_go.specs.declared.element.Front.TheVariants as fronts
+use Rattle.cq_lex_go.proofs.Dispatch.{no_opener, raw_there, one_blank, slash_is}
+use Rattle.cq_lex_go.proofs.Elements.{one_row_taken}
+use Rattle.cq_lex_go.proofs.NumberFront.{numbers_row}
 use Rattle.cq_lex_go.proofs.element.taken.Goals as goal
 
-pub returns : goal.returns
-returns c = λ at.
+pub returns-in-Blank : goal.returns-in-Blank
+returns-in-Blank c = λ at.
     let text = characters c.args.units.now in
-    let mode = c.args.mode in
-    takes_rest opens_block (blocks ∷ []) behind_line at mode text (sym c.opens_block.ensures ∙ c.if-opens_block.false) _
-    (takes_rest opens_line (lines ∷ []) behind_raw at mode text (sym c.opens_line.ensures ∙ c.if-opens_line.false) _
-    (takes_rest opens_raw (raws ∷ []) (table rows) at mode text (sym c.opens_raw.ensures ∙ c.if-opens_raw.false) _ (c.element.ensures at)))
+    let some = as_many c.args.units.now 0 c.requires.some in
+    let is : front_of (get_or text 0 0) ≡ fronts.Blank = ap front_of (ch_at c.args.units.now 0 c.requires.some) ∙ sym c.front_of.ensures ∙ c.in-Blank.is in
+    no_opener at c.args.mode text some _ fronts.Blank is refl refl
+    (one_row_taken at c.args.mode text blanks (Some 1) _ c.found_of.ensures (one_blank text some is))
+
+pub returns-in-Letter : goal.returns-in-Letter
+returns-in-Letter c = λ at.
+    let text = characters c.args.units.now in
+    let some = as_many c.args.units.now 0 c.requires.some in
+    let is : front_of (get_or text 0 0) ≡ fronts.Letter = ap front_of (ch_at c.args.units.now 0 c.requires.some) ∙ sym c.front_of.ensures ∙ c.in-Letter.is in
+    no_opener at c.args.mode text some _ fronts.Letter is refl refl
+    (c.name.ensures at)
+
+pub returns-in-Digit : goal.returns-in-Digit
+returns-in-Digit c = λ at.
+    let text = characters c.args.units.now in
+    let some = as_many c.args.units.now 0 c.requires.some in
+    let is : front_of (get_or text 0 0) ≡ fronts.Digit = ap front_of (ch_at c.args.units.now 0 c.requires.some) ∙ sym c.front_of.ensures ∙ c.in-Digit.is in
+    no_opener at c.args.mode text some _ fronts.Digit is refl refl
+    (one_row_taken at c.args.mode text numbers _ _ c.found_of-in-Digit.ensures (numbers_row text _ c.longest_number.ensures))
+
+pub returns-in-Point : goal.returns-in-Point
+returns-in-Point c = λ at.
+    let text = characters c.args.units.now in
+    let some = as_many c.args.units.now 0 c.requires.some in
+    let is : front_of (get_or text 0 0) ≡ fronts.Point = ap front_of (ch_at c.args.units.now 0 c.requires.some) ∙ sym c.front_of.ensures ∙ c.in-Point.is in
+    no_opener at c.args.mode text some _ fronts.Point is refl refl
+    (row_more at c.args.mode text numbers (marks ∷ []) _ _ _ _ c.found_of-in-Point.ensures c.better.ensures (numbers_row text _ c.longest_number-in-Point.ensures) (c.operator.ensures at))
+
+pub returns-in-Double : goal.returns-in-Double
+returns-in-Double c = λ at.
+    let text = characters c.args.units.now in
+    let some = as_many c.args.units.now 0 c.requires.some in
+    let is : front_of (get_or text 0 0) ≡ fronts.Double = ap front_of (ch_at c.args.units.now 0 c.requires.some) ∙ sym c.front_of.ensures ∙ c.in-Double.is in
+    no_opener at c.args.mode text some _ fronts.Double is refl refl
+    (one_row_taken at c.args.mode text strings _ _ c.found_of-in-Double.ensures c.longest_quoted.ensures)
+
+pub returns-in-Single : goal.returns-in-Single
+returns-in-Single c = λ at.
+    let text = characters c.args.units.now in
+    let some = as_many c.args.units.now 0 c.requires.some in
+    let is : front_of (get_or text 0 0) ≡ fronts.Single = ap front_of (ch_at c.args.units.now 0 c.requires.some) ∙ sym c.front_of.ensures ∙ c.in-Single.is in
+    no_opener at c.args.mode text some _ fronts.Single is refl refl
+    (one_row_taken at c.args.mode text runes _ _ c.found_of-in-Single.ensures c.longest_quoted-in-Single.ensures)
+
+pub returns-in-Back : goal.returns-in-Back
+returns-in-Back c = λ at.
+    let text = characters c.args.units.now in
+    let some = as_many c.args.units.now 0 c.requires.some in
+    let is : front_of (get_or text 0 0) ≡ fronts.Back = ap front_of (ch_at c.args.units.now 0 c.requires.some) ∙ sym c.front_of.ensures ∙ c.in-Back.is in
+    raw_there at c.args.mode text some _ is
+    (one_row_taken at c.args.mode text raws _ _ c.found_of-in-Back.ensures c.longest_raw.ensures)
+
+pub returns-in-Other : goal.returns-in-Other
+returns-in-Other c = λ at.
+    let text = characters c.args.units.now in
+    let some = as_many c.args.units.now 0 c.requires.some in
+    let is : front_of (get_or text 0 0) ≡ fronts.Other = ap front_of (ch_at c.args.units.now 0 c.requires.some) ∙ sym c.front_of.ensures ∙ c.in-Other.is in
+    no_opener at c.args.mode text some _ fronts.Other is refl refl
+    (c.operator-in-Other.ensures at)
+
+pub behind_slash-requires-clause-slash : goal.behind_slash-requires-clause-slash
+behind_slash-requires-clause-slash c =
+    slash_is (get_or (characters c.args.units.now) 0 0) (ap front_of (ch_at c.args.units.now 0 c.requires.some) ∙ sym c.front_of.ensures ∙ c.in-Slash.is)

@@ -1,5 +1,0 @@
-use Rattle.cq_lex_go.proofs.StringSteps.{an_end}
-use Rattle.cq_lex_go.proofs.string.QuotedMachine.accepts.Goals as goal
-
-pub returns : goal.returns
-returns c = an_end c.args.self _ c.is_closed.ensures

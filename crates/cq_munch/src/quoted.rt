@@ -1,0 +1,141 @@
+ghost use Rattle.std.specs.Prelude.{◌≡◌};
+ghost use Rattle.cq_munch.specs.Behind.{SpellsAny};
+ghost use Rattle.cq_munch.specs.Characters.{characters};
+ghost use Rattle.cq_munch.specs.Longest.{LongestAt};
+ghost use Rattle.cq_munch.specs.Pattern.{Spells};
+ghost use Rattle.cq_munch.specs.Quotes.{quoted};
+ghost use Rattle.cq_munch.specs.QuoteStates.{mark_of, role_of, place_behind, next_of, is_closed, rest_of};
+
+use crate::ends::LineEnds;
+use crate::machine::{Machine, longest_spelling};
+use crate::unit::Unit;
+
+/// What stands around a text.
+#[derive(Clone, Copy, Debug, PartialEq, Eq)]
+pub enum Quote {
+    /// Double quotes, which may be empty.
+    Double,
+    /// Single quotes, which may not.
+    Single,
+}
+
+/// The characters that texts in quotes tell apart.
+#[derive(Clone, Copy, Debug, PartialEq, Eq)]
+enum Mark {
+    Double,
+    Single,
+    Backslash,
+    Return,
+    Feed,
+    Other,
+}
+
+/// What a character is to a text in quotes.
+#[derive(Clone, Copy, Debug, PartialEq, Eq)]
+enum Role {
+    Quote,
+    Backslash,
+    LineEnd,
+    Other,
+}
+
+/// How far a text in quotes has come.
+#[derive(Clone, Copy, Debug, PartialEq, Eq)]
+enum Place {
+    Before,
+    Opened,
+    Inside,
+    Escape,
+    Closed,
+}
+
+/// A text in these quotes, on a line that ends so, as far as it has come.
+#[derive(Clone, Copy, Debug, PartialEq, Eq)]
+struct Quoted {
+    quote: Quote,
+    ends: LineEnds,
+    place: Place,
+}
+
+fn mark_of(ch: char) -> Mark
+    ensures { result ≡ mark_of ch }
+{
+    match ch {
+        '"' => Mark::Double,
+        '\'' => Mark::Single,
+        '\\' => Mark::Backslash,
+        '\r' => Mark::Return,
+        '\n' => Mark::Feed,
+        _ => Mark::Other,
+    }
+}
+
+fn role_of(quote: Quote, ends: LineEnds, mark: Mark) -> Role
+    ensures { result ≡ role_of quote ends mark }
+{
+    match (mark, quote, ends) {
+        (Mark::Double, Quote::Double, _) | (Mark::Single, Quote::Single, _) => Role::Quote,
+        (Mark::Backslash, _, _) => Role::Backslash,
+        (Mark::Feed, _, _) | (Mark::Return, _, LineEnds::ReturnOrFeed) => Role::LineEnd,
+        _ => Role::Other,
+    }
+}
+
+fn place_behind(quote: Quote, place: Place, role: Role) -> Option<Place>
+    ensures { result ≡ place_behind quote place role }
+{
+    match (place, role) {
+        (Place::Before, Role::Quote) => Some(Place::Opened),
+        (Place::Opened, Role::Quote) => match quote {
+            Quote::Double => Some(Place::Closed),
+            Quote::Single => None,
+        },
+        (Place::Inside, Role::Quote) => Some(Place::Closed),
+        (Place::Opened | Place::Inside, Role::Backslash) => Some(Place::Escape),
+        (Place::Opened | Place::Inside, Role::Other) => Some(Place::Inside),
+        (Place::Escape, Role::Quote | Role::Backslash | Role::Other) => Some(Place::Inside),
+        _ => None,
+    }
+}
+
+fn next_of(state: Quoted, mark: Mark) -> Option<Quoted>
+    ensures { result ≡ next_of state mark }
+{
+    let Quoted { quote, ends, place } = state;
+    match place_behind(quote, place, role_of(quote, ends, mark)) {
+        Some(place) => Some(Quoted { quote, ends, place }),
+        None => None,
+    }
+}
+
+fn is_closed(state: Quoted) -> bool
+    ensures { result ≡ is_closed state }
+{
+    matches!(state.place, Place::Closed)
+}
+
+impl Machine for Quoted {
+    ghost rest = { λ state. SpellsAny (rest_of state) };
+
+    fn step(self, ch: char) -> Option<Self> {
+        next_of(self, mark_of(ch))
+    }
+
+    fn accepts(self) -> bool {
+        is_closed(self)
+    }
+}
+
+/// The text in these quotes at the front, if it is closed on its line. What an escape means is not checked.
+pub fn longest_quoted(quote: Quote, ends: LineEnds, units: &[Unit]) -> Option<usize>
+    ensures { LongestAt (Spells (quoted quote ends)) (characters units.now) result }
+{
+    longest_spelling(
+        Quoted {
+            quote,
+            ends,
+            place: Place::Before,
+        },
+        units,
+    )
+}
