@@ -1,0 +1,179 @@
+-- The element at the front of a text, row by row.
+use Rattle.std.proofs.Common.{◌≡◌, ℕ, zero, suc, ◌<◌, ◌≤◌, Option, Some, None, Bool, true, false, ◌&&◌, ◌==◌, not, cond, nat_lt, nat_le, List, [], ◌∷◌, ◌++◌, ◌⊎◌, length, get_or, take, All, refl, sym, subst, ap, ◌∙◌, inl, inr, ⊎_elim, arith}
+use Rattle.std.specs.Prelude.{IfSome, IfNone, IsTrue, IsFalse, MatchBool, codes}
+use Rattle.std.specs.List.{list_all}
+use Rattle.std.specs.Str.{bytes_eq}
+use Rattle.std.proofs.lemmas.Bool.{ltb-true, leb-true}
+use Rattle.std.proofs.lemmas.Slice.Eq.{bytes_eq-Decides}
+use Rattle.cq_base.specs.declared.token.Class.{Class}
+use Rattle.cq_munch.specs.declared.element.Found.{Found}
+use Rattle.cq_munch.specs.declared.element.Spell.{Spell}
+use Rattle.cq_munch.specs.declared.element.Spell.TheVariants.{Token}
+use Rattle.cq_munch.specs.Language.{Language, Takes}
+use Rattle.cq_munch.specs.Longest.{IsLongest, LongestAt, IsAmong}
+use Rattle.cq_munch.specs.Table.{Row, InTable, table, better, found_of}
+use Rattle.cq_munch.proofs.Joining.{row_more, no_rows, two_tables}
+use Rattle.cq_lex_c.specs.Ascii.{among_passes, keyword_is_identifier, both_left, both_right}
+use Rattle.cq_lex_c.specs.C.{identifiers, reserved, IsOther, moded, mode_behind}
+use Rattle.cq_lex_c.specs.Headers.{EndsAt, IsHeader, closes, has_header}
+use Rattle.cq_lex_c.specs.Identifiers.{IsIdentifier, keywords}
+
+-- ---- identifiers and keywords
+
+name_of_row : (spell : Spell) (s : List ℕ) → InTable (identifiers ∷ reserved ∷ []) spell s → IsIdentifier s
+name_of_row spell s h = ⊎_elim (λ own. own.1.0) (λ other. ⊎_elim (λ word. keyword_is_identifier s word.1) (λ none. absurd none) other) h
+
+pub no_name : (at mode : ℕ) (text : List ℕ) → LongestAt IsIdentifier text None → Takes (table (identifiers ∷ reserved ∷ [])) at mode text None
+no_name at mode text none = λ m some within x. none m some within (name_of_row x.0 (take m text) x.1)
+
+pub a_name : (at mode : ℕ) (text : List ℕ) (len : ℕ) (class : Class) → IsLongest IsIdentifier text len → InTable (identifiers ∷ reserved ∷ []) (Token class) (take len text) → Takes (table (identifiers ∷ reserved ∷ [])) at mode text (Some (record { spell = Token class; units = len; mode = mode }))
+a_name at mode text len class name row = (
+  record {
+    some = name.some;
+    within = name.within;
+    spelled = (Token class, row);
+    longest = λ m more within x. name.longest m more within (name_of_row x.0 (take m text) x.1);
+  },
+  row,
+  refl,
+)
+
+-- keywords are short, and ASCII
+short_word : List ℕ → Bool
+short_word w = nat_le (length w) 14 && list_all (λ c. nat_lt c 128) w
+
+low_at : (w : List ℕ) → list_all (λ c. nat_lt c 128) w ≡ true → All (λ c. c < 128) w
+low_at [] h k d within = absurd (omega arith)
+low_at (c ∷ w) h zero d within = ltb-true c 128 (both_left _ _ h)
+low_at (c ∷ w) h (suc k) d within = low_at w (both_right (nat_lt c 128) _ h) k d (omega arith)
+
+pub keyword_is_short : (s : List ℕ) → IsAmong keywords s → (length s ≤ 14) × All (λ c. c < 128) s
+unfolding short_word
+keyword_is_short s among =
+    let passes = among_passes keywords short_word s refl among in
+    (leb-true (length s) 14 (both_left _ _ passes), low_at s (both_right (nat_le (length s) 14) _ passes))
+
+pub include_is_short : (s : List ℕ) → bytes_eq s (codes "include") ≡ true → (length s ≤ 7) × All (λ c. c < 128) s
+include_is_short s h =
+    let is : s ≡ codes "include" = (bytes_eq-Decides s (codes "include")).0 h in
+    subst (λ w. (length w ≤ 7) × All (λ c. c < 128) w) (sym is) (omega arith, low_at (codes "include") refl)
+
+-- ---- one row
+
+better_none : (a : Option Found) → better a None ≡ a
+better_none None = refl
+better_none (Some f) = refl
+
+pub one_row_taken : (at mode : ℕ) (text : List ℕ) (row : Row) (len : Option ℕ) (own : Option Found) → own ≡ found_of row.spell mode len → LongestAt row.set text len → Takes (table (row ∷ [])) at mode text own
+one_row_taken at mode text row len own is h = row_more at mode text row [] len own None own is (sym (better_none own)) h (no_rows at mode text)
+
+-- two tables
+pub joined : (at mode : ℕ) (text : List ℕ) (xs ys : List Row) (a b all : Option Found) → all ≡ better a b → Takes (table xs) at mode text a → Takes (table ys) at mode text b → Takes (table (xs ++ ys)) at mode text all
+joined at mode text xs ys a b all is h k = subst (Takes (table (xs ++ ys)) at mode text) (sym is) (two_tables at mode text xs ys a b h k)
+
+-- a character alone
+pub one_other : (text : List ℕ) → 0 < length text → IsOther (get_or text 0 0 ∷ []) → LongestAt IsOther text (Some 1)
+one_other [] some other = absurd (omega arith)
+one_other (c ∷ t) some other = record {
+  some = omega arith;
+  within = omega arith;
+  spelled = other;
+  longest = by t;
+}
+  where
+    by : (u : List ℕ) (m : ℕ) → 1 < m → m ≤ length (c ∷ u) → IsOther (take m (c ∷ u)) → ⊥
+    by u zero more within h = omega arith
+    by u (suc zero) more within h = omega arith
+    by [] (suc (suc m)) more within h = omega arith
+    by (d ∷ u) (suc (suc m)) more within h = h
+
+-- ---- header names
+
+pub matched : (b : Bool) (P Q : Type 0) → MatchBool b P Q → ((b ≡ true) × P) ⊎ ((b ≡ false) × Q)
+matched true P Q h = inl (refl, h)
+matched false P Q h = inr (refl, h)
+
+closing : (close : ℕ) (some : Bool) (s : List ℕ) (m : ℕ) → EndsAt close some (take m s) → closes close some s ≡ true
+closing close some s zero h = absurd h
+closing close some [] (suc m) h = absurd h
+closing close some (c ∷ s) (suc m) h =
+    ⊎_elim
+    (λ end. ap (λ b. cond b some (not (c == 10) && closes close true s)) end.0 ∙ end.1.0)
+    (λ on. ap (λ b. cond b some (not (c == 10) && closes close true s)) on.0 ∙ ap (λ b. not b && closes close true s) on.1.0 ∙ closing close true s m on.1.1)
+    (matched (c == close) _ _ h)
+
+pub header_there : (text : List ℕ) (m : ℕ) → IsHeader (take m text) → has_header text ≡ true
+header_there text zero h = absurd h
+header_there [] (suc m) h = absurd h
+header_there (c ∷ s) (suc m) h =
+    ⊎_elim
+    (λ less. ap (λ b. cond b (closes 62 false s) ((c == 34) && closes 34 false s)) less.0 ∙ closing 62 false s m less.1)
+    (λ on. ap (λ b. cond b (closes 62 false s) ((c == 34) && closes 34 false s)) on.0 ∙ ap (λ b. b && closes 34 false s) on.1.0 ∙ closing 34 false s m on.1.1)
+    (matched (c == 60) _ _ h)
+
+-- where the test passes, a header name stands there
+passing : (b : Bool) (P Q : Type 0) → b ≡ false → Q → MatchBool b P Q
+passing true P Q h q = absurd (cc)
+passing false P Q h q = q
+
+choosing : (b : Bool) (P Q : Type 0) → b ≡ true → P → MatchBool b P Q
+choosing true P Q h p = p
+choosing false P Q h p = absurd (cc)
+
+no_from_not : (b : Bool) → not b ≡ true → b ≡ false
+no_from_not true h = absurd (cc)
+no_from_not false h = refl
+
+record Closed (close : ℕ) (some : Bool) (s : List ℕ) : Type 0 where
+  len : ℕ
+  within : len ≤ length s
+  ends : EndsAt close some (take len s)
+
+closed_more : (close : ℕ) (some : Bool) (c : ℕ) (s : List ℕ) → (closes close true s ≡ true → Closed close true s) → (b : Bool) → (c == close) ≡ b → cond b some (not (c == 10) && closes close true s) ≡ true → Closed close some (c ∷ s)
+closed_more close some c s rest true e k = record { len = 1; within = omega arith; ends = choosing (c == close) (IsTrue some × _) _ e (k, refl) }
+closed_more close some c s rest false e k =
+    let more = rest (both_right (not (c == 10)) _ k) in
+    record { len = suc more.len; within = omega (arith, more.within); ends = passing (c == close) _ _ e (no_from_not (c == 10) (both_left _ _ k), more.ends) }
+
+closed : (close : ℕ) (some : Bool) (s : List ℕ) → closes close some s ≡ true → Closed close some s
+closed close some [] h = absurd (cc)
+closed close some (c ∷ s) h = closed_more close some c s (closed close true s) (c == close) refl h
+
+pub header_not : (text : List ℕ) → LongestAt IsHeader text None → has_header text ≡ true → ⊥
+header_not [] none h = absurd (cc)
+header_not (c ∷ s) none h = by (c == 60) refl h
+  where
+    by : (b : Bool) → (c == 60) ≡ b → cond b (closes 62 false s) ((c == 34) && closes 34 false s) ≡ true → ⊥
+    by true e k = let rest = closed 62 false s k in none (suc rest.len) (omega arith) (omega (arith, rest.within)) (choosing (c == 60) _ _ e rest.ends)
+    by false e k =
+        let rest = closed 34 false s (both_right (c == 34) _ k) in
+        none (suc rest.len) (omega arith) (omega (arith, rest.within)) (passing (c == 60) _ _ e (both_left _ _ k, rest.ends))
+
+pub header_some : (mode : ℕ) (text : List ℕ) (r : Option ℕ) → mode ≡ 2 → LongestAt IsHeader text r → IfSome r (λ n. IsTrue ((mode == 2) && has_header text) × IsLongest IsHeader text n)
+header_some mode text None is h = tt
+header_some mode text (Some n) is h = (ap (λ m. (m == 2) && has_header text) is ∙ header_there text n h.spelled, h)
+
+both_false : (a b : Bool) → b ≡ false → (a && b) ≡ false
+both_false true b e = e
+both_false false b e = refl
+
+not_there : (b : Bool) → (b ≡ true → ⊥) → b ≡ false
+not_there true none = absurd (none refl)
+not_there false none = refl
+
+pub header_none : (mode : ℕ) (text : List ℕ) (r : Option ℕ) → LongestAt IsHeader text r → IfNone r (IsFalse ((mode == 2) && has_header text))
+header_none mode text None h = both_false (mode == 2) (has_header text) (not_there (has_header text) (header_not text h))
+header_none mode text (Some n) h = tt
+
+-- ---- modes
+
+-- the element, with the mode behind it
+pub with_mode : (lang : Language) (at mode : ℕ) (text : List ℕ) (f : Found) (behind : ℕ) → Takes lang at mode text (Some f) → behind ≡ mode_behind mode f.spell (take f.units text) → Takes (moded lang) at mode text (Some (record { spell = f.spell; units = f.units; mode = behind }))
+with_mode lang at mode text f behind h is = (
+  record { some = h.0.some; within = h.0.within; spelled = h.0.spelled; longest = h.0.longest },
+  h.1,
+  is,
+)
+
+pub without : (lang : Language) (at mode : ℕ) (text : List ℕ) → Takes lang at mode text None → Takes (moded lang) at mode text None
+without lang at mode text h = h

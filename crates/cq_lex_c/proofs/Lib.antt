@@ -1,0 +1,6 @@
+pub mod Leaving
+pub mod Splicing
+pub mod Fitting
+pub mod Elements
+pub mod Dispatch
+pub mod PunctuatorSteps

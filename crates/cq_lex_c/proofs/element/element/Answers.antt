@@ -1,0 +1,78 @@
+use Rattle.std.proofs.Common.{◌≡◌, Some, get_or, [], ◌∷◌, ap, refl, sym, ◌∙◌}
+use Rattle.cq_munch.specs.Characters.{characters}
+use Rattle.cq_munch.proofs.Front.{ch_at, as_many}
+use Rattle.cq_munch.proofs.Joining.{row_more}
+use Rattle.cq_lex_c.specs.Fronts.{front_of}
+use Rattle.cq_lex_c.specs.C.{identifiers, reserved, blanks, numbers, texts, prefixed, marks, others}
+use Rattle.cq_lex_c.specs.declared.element.Front.TheVariants as fronts
+use Rattle.cq_lex_c.proofs.Dispatch.{no_comment, one_blank, slash_is, other_char}
+use Rattle.cq_lex_c.proofs.Elements.{one_row_taken, one_other, joined}
+use Rattle.cq_lex_c.proofs.element.element.Goals as goal
+
+pub returns-in-Blank : goal.returns-in-Blank
+returns-in-Blank c = λ at.
+    let text = characters c.args.units.now in
+    let some = as_many c.args.units.now 0 c.requires.some in
+    let is : front_of (get_or text 0 0) ≡ fronts.Blank = ap front_of (ch_at c.args.units.now 0 c.requires.some) ∙ sym c.front_of.ensures ∙ c.in-Blank.is in
+    no_comment at c.args.mode text some _ fronts.Blank is refl
+    (one_row_taken at c.args.mode text blanks (Some 1) _ c.found_of.ensures (one_blank text some is))
+
+pub returns-in-Letter : goal.returns-in-Letter
+returns-in-Letter c = λ at.
+    let text = characters c.args.units.now in
+    let some = as_many c.args.units.now 0 c.requires.some in
+    let is : front_of (get_or text 0 0) ≡ fronts.Letter = ap front_of (ch_at c.args.units.now 0 c.requires.some) ∙ sym c.front_of.ensures ∙ c.in-Letter.is in
+    no_comment at c.args.mode text some _ fronts.Letter is refl
+    (joined at c.args.mode text (identifiers ∷ reserved ∷ []) (prefixed ∷ []) _ _ _ c.better.ensures (c.name.ensures at)
+    (one_row_taken at c.args.mode text prefixed _ _ c.found_of-in-Letter.ensures c.longest_prefixed.ensures))
+
+pub returns-in-Digit : goal.returns-in-Digit
+returns-in-Digit c = λ at.
+    let text = characters c.args.units.now in
+    let some = as_many c.args.units.now 0 c.requires.some in
+    let is : front_of (get_or text 0 0) ≡ fronts.Digit = ap front_of (ch_at c.args.units.now 0 c.requires.some) ∙ sym c.front_of.ensures ∙ c.in-Digit.is in
+    no_comment at c.args.mode text some _ fronts.Digit is refl
+    (one_row_taken at c.args.mode text numbers _ _ c.found_of-in-Digit.ensures c.longest_number.ensures)
+
+pub returns-in-Point : goal.returns-in-Point
+returns-in-Point c = λ at.
+    let text = characters c.args.units.now in
+    let some = as_many c.args.units.now 0 c.requires.some in
+    let is : front_of (get_or text 0 0) ≡ fronts.Point = ap front_of (ch_at c.args.units.now 0 c.requires.some) ∙ sym c.front_of.ensures ∙ c.in-Point.is in
+    no_comment at c.args.mode text some _ fronts.Point is refl
+    (row_more at c.args.mode text numbers (marks ∷ others ∷ []) _ _ _ _ c.found_of-in-Point.ensures c.better-in-Point.ensures c.longest_number-in-Point.ensures (c.punctuator.ensures at))
+
+pub returns-in-Quote : goal.returns-in-Quote
+returns-in-Quote c = λ at.
+    let text = characters c.args.units.now in
+    let some = as_many c.args.units.now 0 c.requires.some in
+    let is : front_of (get_or text 0 0) ≡ fronts.Quote = ap front_of (ch_at c.args.units.now 0 c.requires.some) ∙ sym c.front_of.ensures ∙ c.in-Quote.is in
+    no_comment at c.args.mode text some _ fronts.Quote is refl
+    (row_more at c.args.mode text texts (others ∷ []) _ _ _ _ c.found_of-in-Quote.ensures c.better-in-Quote.ensures c.longest_text.ensures
+    (one_row_taken at c.args.mode text others (Some 1) _ c.found_of-alone.ensures (one_other text some (other_char fronts.Quote (get_or text 0 0) is refl))))
+
+pub returns-in-Backslash : goal.returns-in-Backslash
+returns-in-Backslash c = λ at.
+    let text = characters c.args.units.now in
+    let some = as_many c.args.units.now 0 c.requires.some in
+    let is : front_of (get_or text 0 0) ≡ fronts.Backslash = ap front_of (ch_at c.args.units.now 0 c.requires.some) ∙ sym c.front_of.ensures ∙ c.in-Backslash.is in
+    no_comment at c.args.mode text some _ fronts.Backslash is refl
+    (joined at c.args.mode text (identifiers ∷ reserved ∷ []) (others ∷ []) _ _ _ c.better-in-Backslash.ensures (c.name-in-Backslash.ensures at)
+    (one_row_taken at c.args.mode text others (Some 1) _ c.found_of-alone.ensures (one_other text some (other_char fronts.Backslash (get_or text 0 0) is refl))))
+
+pub returns-in-Other : goal.returns-in-Other
+returns-in-Other c = λ at.
+    let text = characters c.args.units.now in
+    let some = as_many c.args.units.now 0 c.requires.some in
+    let is : front_of (get_or text 0 0) ≡ fronts.Other = ap front_of (ch_at c.args.units.now 0 c.requires.some) ∙ sym c.front_of.ensures ∙ c.in-Other.is in
+    no_comment at c.args.mode text some _ fronts.Other is refl
+    (c.punctuator-in-Other.ensures at)
+
+pub punctuator-requires-clause-other : goal.punctuator-requires-clause-other
+punctuator-requires-clause-other c = other_char fronts.Point (get_or (characters c.args.units.now) 0 0) (ap front_of (ch_at c.args.units.now 0 c.requires.some) ∙ sym c.front_of.ensures ∙ c.in-Point.is) refl
+
+pub punctuator-requires-in-Other-clause-other : goal.punctuator-requires-in-Other-clause-other
+punctuator-requires-in-Other-clause-other c = other_char fronts.Other (get_or (characters c.args.units.now) 0 0) (ap front_of (ch_at c.args.units.now 0 c.requires.some) ∙ sym c.front_of.ensures ∙ c.in-Other.is) refl
+
+pub behind_slash-requires-clause-slash : goal.behind_slash-requires-clause-slash
+behind_slash-requires-clause-slash c = slash_is (get_or (characters c.args.units.now) 0 0) (ap front_of (ch_at c.args.units.now 0 c.requires.some) ∙ sym c.front_of.ensures ∙ c.in-Slash.is)

@@ -1,0 +1,113 @@
+-- The table of C's elements, and its modes. Mode 0 stands at the beginning of a line, mode 1 behind a hash that begins
+-- one, mode 2 behind the word include after that, and mode 3 anywhere else.
+use Rattle.std.specs.Prelude.{ℕ, Bool, true, false, ◌&&◌, ◌||◌, ◌==◌, not, if◌then◌else◌, List, [], ◌∷◌, IsTrue, codes}
+use Rattle.std.specs.Str.{bytes_eq}
+use Rattle.std.specs.Char.{is_ascii_digit}
+use Rattle.cq_base.specs.declared.token.Class.TheVariants.{Ident, Word, Literal, Punct}
+use Rattle.cq_munch.specs.Comments.{IsBlockComment, IsLineComment}
+use Rattle.cq_munch.specs.Language.{Language, marked}
+use Rattle.cq_munch.specs.Longest.{IsAmong}
+use Rattle.cq_munch.specs.Table.{Row, table, first}
+use Rattle.cq_munch.specs.declared.element.Spell.{Spell}
+use Rattle.cq_munch.specs.declared.element.Spell.TheVariants.{Blank, Comment, Token}
+use Rattle.cq_munch.specs.declared.ends.LineEnds.TheVariants.{Feed}
+use Rattle.cq_lex_c.specs.Characters.{begins_identifier}
+use Rattle.cq_lex_c.specs.Headers.{IsHeader, has_header}
+use Rattle.cq_lex_c.specs.Identifiers.{IsIdentifier, keywords}
+use Rattle.cq_lex_c.specs.Numbers.{IsNumber}
+use Rattle.cq_lex_c.specs.Punctuators.{punctuators}
+use Rattle.cq_lex_c.specs.Texts.{IsText, IsPrefixed}
+
+-- the text begins with this one
+abbrev pub begins : List ℕ → List ℕ → Bool
+begins [] text = true
+begins (c ∷ cs) [] = false
+begins (c ∷ cs) (d ∷ ds) = (d == c) && begins cs ds
+
+-- space, tab, vertical tab, form feed, carriage return and line feed
+abbrev pub blank_characters : List (List ℕ)
+blank_characters = (32 ∷ []) ∷ (9 ∷ []) ∷ (11 ∷ []) ∷ (12 ∷ []) ∷ (13 ∷ []) ∷ (10 ∷ []) ∷ []
+
+abbrev pub is_blank : ℕ → Bool
+is_blank c = (c == 32) || ((c == 9) || ((c == 11) || ((c == 12) || ((c == 13) || (c == 10)))))
+
+abbrev pub identifiers : Row
+identifiers = record { spell = Token Ident; set = λ s. IsIdentifier s × (IsAmong keywords s → ⊥) }
+
+abbrev pub reserved : Row
+reserved = record { spell = Token Word; set = IsAmong keywords }
+
+abbrev pub blanks : Row
+blanks = record { spell = Blank; set = IsAmong blank_characters }
+
+abbrev pub numbers : Row
+numbers = record { spell = Token Literal; set = IsNumber }
+
+abbrev pub texts : Row
+texts = record { spell = Token Literal; set = IsText }
+
+abbrev pub prefixed : Row
+prefixed = record { spell = Token Literal; set = IsPrefixed }
+
+abbrev pub marks : Row
+marks = record { spell = Token Punct; set = IsAmong punctuators }
+
+-- any other one character: no blank, and none that begins an identifier or a number
+abbrev pub is_other : ℕ → Bool
+is_other c = not (is_blank c || (begins_identifier c || is_ascii_digit c))
+
+abbrev pub IsOther : List ℕ → Type 0
+IsOther [] = ⊥
+IsOther (c ∷ []) = IsTrue (is_other c)
+IsOther (c ∷ d ∷ s) = ⊥
+
+abbrev pub others : Row
+others = record { spell = Token Punct; set = IsOther }
+
+abbrev pub rows : List Row
+rows = identifiers ∷ reserved ∷ blanks ∷ numbers ∷ texts ∷ prefixed ∷ marks ∷ others ∷ []
+
+abbrev pub blocks : Row
+blocks = record { spell = Comment; set = IsBlockComment }
+
+abbrev pub lines : Row
+lines = record { spell = Comment; set = IsLineComment Feed }
+
+abbrev pub headers : Row
+headers = record { spell = Token Word; set = IsHeader }
+
+-- an opener stands there; a header name does in mode 2 alone
+abbrev pub opens_block : ℕ → ℕ → List ℕ → Bool
+opens_block at mode text = begins (47 ∷ 42 ∷ []) text
+
+abbrev pub opens_line : ℕ → ℕ → List ℕ → Bool
+opens_line at mode text = begins (47 ∷ 47 ∷ []) text
+
+abbrev pub opens_header : ℕ → ℕ → List ℕ → Bool
+opens_header at mode text = (mode == 2) && has_header text
+
+-- Where one of these stands, only its own row is tried.
+abbrev pub behind_line : Language
+behind_line = first opens_line (lines ∷ []) (table rows)
+
+abbrev pub behind_block : Language
+behind_block = first opens_block (blocks ∷ []) behind_line
+
+abbrev pub unmarked : Language
+unmarked = first opens_header (headers ∷ []) behind_block
+
+-- the mode behind an element
+abbrev pub mode_of_token : ℕ → List ℕ → ℕ
+mode_of_token mode s =
+    if (mode == 0) && (bytes_eq s (codes "#") || bytes_eq s (codes "%:")) then 1 else if (mode == 1) && bytes_eq s (codes "include") then 2 else 3
+
+abbrev pub mode_behind : ℕ → Spell → List ℕ → ℕ
+mode_behind mode Blank s = if bytes_eq s (10 ∷ []) then 0 else mode
+mode_behind mode Comment s = mode
+mode_behind mode (Token class) s = mode_of_token mode s
+
+abbrev pub moded : Language → Language
+moded lang = record { tried = lang.tried; mode_behind = mode_behind }
+
+abbrev pub c : Language
+c = marked (moded unmarked)

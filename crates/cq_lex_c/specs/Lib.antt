@@ -1,0 +1,13 @@
+pub mod Characters
+pub mod Splices
+pub mod Identifiers
+pub mod Numbers
+pub mod Texts
+pub mod Quoting
+pub mod Headers
+pub mod Punctuators
+pub mod PunctuatorStates
+pub mod C
+pub mod Fronts
+pub mod Ascii
+pub mod OneKind

@@ -1,0 +1,57 @@
+ghost use Rattle.std.specs.Prelude.{Ok};
+ghost use Rattle.cq_lex_c.specs.C.{c};
+ghost use Rattle.cq_lex_c.specs.OneKind.{one_kind_of_c};
+ghost use Rattle.cq_lex_c.specs.Splices.{spliced};
+
+use crate::element::taken;
+use crate::mode::mode_behind;
+use crate::splice::splice;
+use cq_base::{Memory, Spelled, Text};
+use cq_munch::{Found, Lexis, Spell, Translated, Unit, is_mark, plain_units};
+use std::alloc::Global;
+
+/// The language C.
+#[derive(Clone, Copy, Debug, PartialEq, Eq)]
+pub struct C;
+
+impl Lexis for C {
+    ghost language = { c };
+
+    ghost translated = { λ units. Ok (spliced 0 units) };
+
+    ghost completed = { λ text tokens. tokens };
+
+    fn translate(alloc: Global, text: &Text) -> Result<Translated, Memory> {
+        let units = plain_units(alloc, text)?;
+        Ok(Translated::Units(splice(alloc, &units)?))
+    }
+
+    fn longest(units: &[Unit], at: u32, mode: u8) -> Option<Found> {
+        let rest = &units[at as usize..];
+        if is_mark(units, at) {
+            return Some(Found {
+                spell: Spell::Blank,
+                units: 1,
+                mode,
+            });
+        }
+        match taken(rest, mode) {
+            None => None,
+            Some(found) => Some(Found {
+                spell: found.spell,
+                units: found.units,
+                mode: mode_behind(mode, found.spell, &rest[..found.units as usize]),
+            }),
+        }
+    }
+
+    fn complete(
+        _alloc: Global,
+        _text: &Text,
+        tokens: Vec<Spelled>,
+    ) -> Result<Vec<Spelled>, Memory> {
+        Ok(tokens)
+    }
+
+    ghost one_kind = { one_kind_of_c };
+}

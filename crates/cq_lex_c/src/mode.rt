@@ -1,0 +1,49 @@
+ghost use Rattle.std.specs.Prelude.{◌≡◌, ◌≤◌, ◌||◌, ◌∷◌, [], codes};
+ghost use Rattle.std.specs.Str.{bytes_eq};
+ghost use Rattle.cq_munch.specs.Characters.{characters};
+ghost use Rattle.cq_lex_c.specs.C.{mode_behind};
+
+use cq_munch::{Spell, Unit, ascii_bytes};
+
+fn is_hash(units: &[Unit]) -> bool
+    ensures { result ≡ (bytes_eq (characters units.now) (codes "#") || bytes_eq (characters units.now) (codes "%:")) }
+{
+    match units {
+        [first] => first.ch == '#',
+        [first, second] => first.ch == '%' && second.ch == ':',
+        _ => false,
+    }
+}
+
+fn is_include(units: &[Unit]) -> bool
+    ensures { result ≡ bytes_eq (characters units.now) (codes "include") }
+{
+    let mut word = [0; 7];
+    ascii_bytes(units, &mut word) && word[..units.len()] == b"include"[..]
+}
+
+fn is_feed(units: &[Unit]) -> bool
+    ensures { result ≡ bytes_eq (characters units.now) (10 ∷ []) }
+{
+    match units {
+        [first] => first.ch == '\n',
+        _ => false,
+    }
+}
+
+/// The mode behind an element of these units.
+pub(crate) fn mode_behind(mode: u8, spell: Spell, units: &[Unit]) -> u8
+    requires { mode ≤ 3 }
+    ensures mode { result ≡ mode_behind mode spell (characters units.now) }
+    ensures known { result ≤ 3 }
+{
+    match spell {
+        Spell::Blank => if is_feed(units) { 0 } else { mode },
+        Spell::Comment => mode,
+        Spell::Token(_) => if mode == 0 && is_hash(units) {
+            1
+        } else {
+            if mode == 1 && is_include(units) { 2 } else { 3 }
+        },
+    }
+}
