@@ -1,0 +1,8 @@
+pub mod NumberSteps
+pub mod NumberFront
+pub mod OperatorSteps
+pub mod Opening
+pub mod Spans
+pub mod Translating
+pub mod Elements
+pub mod Dispatch

@@ -1,0 +1,14 @@
+pub mod Words
+pub mod Escapes
+pub mod Translation
+pub mod NameStates
+pub mod Numbers
+pub mod NumberStates
+pub mod Operators
+pub mod OperatorStates
+pub mod Openers
+pub mod Blocks
+pub mod Java
+pub mod Fronts
+pub mod Ascii
+pub mod OneKind
