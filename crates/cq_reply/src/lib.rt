@@ -1,11 +1,17 @@
 //! Replies, written as lines of JSON. The line of a reply is one definition over `serde_json`'s own compact text, its
-//! keys in byte order, and `write_reply` gives exactly that. A reply of n bytes is written once, into one buffer.
+//! keys in byte order, and `write_reply` gives exactly that. A reply of n bytes is written once, into one buffer; the
+//! four short ones that a server must always be able to give take no memory at all.
 #![tactic(auto)]
 
+mod line;
 mod reply;
+mod short;
+mod value;
 mod write;
 
-pub use reply::{GroupRow, GroupRows, PlaceRow, PlaceRows, Reply};
+pub use line::Fixed;
+pub use reply::{FileRow, FileRows, GroupRow, GroupRows, PlaceRow, PlaceRows, Reply, Shown};
+pub use short::{Short, fixed};
 pub use write::write_reply;
 
 #[cfg(test)]

@@ -1,6 +1,6 @@
 ghost use Rattle.std.specs.Prelude.{◌≡◌};
 
-use cq_base::Text;
+use cq_base::{Lang, Text};
 use std::marker::Model;
 
 /// Where a group stands: the path of its file, its first token there from 0, and its first and last line from 1.
@@ -77,19 +77,104 @@ impl GroupRows {
     }
 }
 
+/// What the reading of a file's text gave.
+#[derive(Clone, Copy, Debug, PartialEq, Eq)]
+pub enum Shown {
+    /// Its tokens.
+    Ok,
+    /// No element of the language stands at this byte, from 0.
+    Fault(u32),
+    /// More tokens than a file may have.
+    Large,
+}
+
+/// A file of a project: the change that put it, its language, its lines, and how many tokens it has.
+#[derive(Drop)]
+pub struct FileRow {
+    pub path: Text,
+    pub change: u64,
+    pub lang: Lang,
+    pub lines: u64,
+    pub shown: Shown,
+    pub tokens: u32,
+}
+
+/// Files, which contracts see as a list.
+#[derive(Drop)]
+pub struct FileRows {
+    rows: Vec<FileRow>,
+}
+
+impl Model for FileRows {
+    ghost use Rattle.std.specs.Prelude.{List};
+    ghost use Rattle.cq_reply.specs.declared.reply.FileRow.{FileRow};
+
+    ghost Value = { List FileRow };
+
+    ghost view = { λ f. f.rows.items };
+}
+
+impl FileRows {
+    pub fn from_vec(rows: Vec<FileRow>) -> FileRows
+        ensures { result ≡ rows.items }
+    {
+        FileRows { rows }
+    }
+
+    pub fn as_slice(&self) -> &[FileRow]
+        ensures { result.now ≡ self.now }
+    {
+        self.rows.as_slice()
+    }
+}
+
 /// What a line is answered with.
 #[derive(Drop)]
 pub enum Reply {
     /// A change was accepted, with its number.
     Change(u64),
+    /// The files of a project at a version.
+    Files {
+        files: FileRows,
+        version: u64,
+    },
     /// The groups of a project at a version.
-    Groups { groups: GroupRows, version: u64 },
+    Groups {
+        groups: GroupRows,
+        version: u64,
+    },
+    /// How many changes are accepted, up to which one all are done, and which version is published.
+    State {
+        accepted: u64,
+        done: u64,
+        published: u64,
+    },
     /// The line is no JSON object.
     Json,
-    /// The line is an object, and has the form of no request.
+    /// It names no request that is served.
     Op,
+    /// A member is missing, or not of its form, or does not belong to the request.
+    Field(Text),
+    /// The language is not served.
+    Lang,
+    /// The path is none.
+    Path,
+    /// The text has too many bytes.
+    TooMuchText,
+    /// The least length is out of its range.
+    Min,
+    /// The version that is asked for is above this count of accepted changes.
+    Future(u64),
+    /// There is no file to drop.
+    Absent,
+    /// As many changes are accepted as may be.
+    FullChanges,
+    /// The texts have as many bytes as they may.
+    FullText,
+    /// This change is not done yet.
+    Pending(u64),
     /// The line is too long.
     Long,
-    /// Memory was refused, and nothing is changed.
+    /// Memory was refused.
     Memory,
 }

@@ -1,12 +1,17 @@
-//! Requests, read from lines of JSON. What a line means is one definition over `serde_json`'s own reading of bytes, and
-//! `read_request` answers exactly that, want of memory apart. A line is parsed once; the texts of its request are
-//! copied once.
+//! Requests, read from lines of JSON. What a line means is one table of requests and one order of refusals, over
+//! `serde_json`'s own reading of bytes, and `read_request` answers exactly that, want of memory apart. A line is parsed
+//! once; the text of an upload is moved out of what was parsed, and the short texts beside it are copied.
 #![tactic(auto)]
 
-mod field;
+mod condition;
+mod member;
+mod reading;
 mod request;
+mod row;
+mod text;
 
-pub use request::{Refusal, Request, read_request, read_value};
+pub use reading::{read_request, read_value};
+pub use request::{Kind, Query, Refusal, Request};
 
 #[cfg(test)]
 mod tests;

@@ -1,12 +1,2 @@
 pub mod Words
-pub mod Places
-pub mod Files
-pub mod Lexing
-pub mod Listing
-pub mod Kept
-pub mod Talk
-pub mod Stands
-pub mod Answering
-pub mod Sending
-pub mod Serving
 pub mod Top

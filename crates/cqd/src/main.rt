@@ -4,16 +4,7 @@
 
 ghost use Rattle.std.specs.Prelude.{◌≡◌};
 
-mod answering;
-mod keeping;
-mod kept;
-mod lexing;
-mod listing;
 mod program;
-mod put;
-mod sending;
-mod serving;
-mod store;
 mod words;
 
 use crate::program::top;

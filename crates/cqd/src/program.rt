@@ -1,14 +1,15 @@
-ghost use Rattle.std.specs.Prelude.{◌≡◌, ◌≢◌, ◌↔◌, ℕ, Some, None};
+ghost use Rattle.std.specs.Prelude.{◌≡◌, ◌≢◌, ◌↔◌, Some, None};
 ghost use Rattle.cq_io.specs.Causes.{Rose};
 ghost use Rattle.cqd.specs.Top.{Runs};
 ghost use Rattle.cqd.specs.Top as spec;
-ghost use Rattle.cqd.specs.Words.{chunk_of};
+ghost use Rattle.cq_base.specs.declared.settings.Settings.{Settings};
+ghost use Rattle.cqd.specs.Words.{settings_of};
 
-use crate::serving::{End, session};
 use crate::words::read_settings;
 use cq_base::{Steps, Text};
 use cq_io::{Doors, Gate, Sink, Source};
 use cq_lines::Lines;
+use cq_session::{End, Store, session};
 use std::alloc::Global;
 use std::sync::ledger::Ledger;
 
@@ -35,7 +36,7 @@ pub fn top<S: Source, K: Sink, D: Doors, G: Gate, L: Ledger>(
     steps: &mut Steps<L>,
 ) -> u8
     // 1 exactly where the words are out of form, and nothing is read or written then.
-    ensures words { (result ≡ 1) ↔ (chunk_of words.now ≡ None) }
+    ensures words { (result ≡ 1) ↔ (settings_of words.now ≡ None) }
     ensures refused { result ≡ 1 → (source.new ≡ source.old) × (sink.new ≡ sink.old) }
 
     // 4 for want of memory before a line is read.
@@ -51,7 +52,7 @@ pub fn top<S: Source, K: Sink, D: Doors, G: Gate, L: Ledger>(
     ensures doors { doors.new ≡ doors.old }
 
     // Every status but 1 and 4 is that of a session over all lines of the source.
-    ensures runs { (chunk : ℕ) → chunk_of words.now ≡ Some chunk → result ≢ 4 → Runs chunk (S.rest source.old) (S.rest source.new) (K.written sink.old) (K.written sink.new)
+    ensures runs { (settings : Settings) → settings_of words.now ≡ Some settings → result ≢ 4 → Runs settings (S.rest source.old) (S.rest source.new) (K.written sink.old) (K.written sink.new)
         (S.faults source.old) (S.faults source.new) (K.faults sink.old) (K.faults sink.new) result }
 {
     let Some(settings) = read_settings(words) else {
@@ -59,7 +60,10 @@ pub fn top<S: Source, K: Sink, D: Doors, G: Gate, L: Ledger>(
     };
     match Lines::new(alloc, settings.byte_limit) {
         Ok(mut lines) => {
-            let end = session(alloc, &settings, &mut lines, source, sink, steps);
+            let mut store = Store::new(alloc);
+            let end = session(
+                alloc, &settings, &mut store, &mut lines, source, sink, steps,
+            );
             status_of(end)
         }
         Err(_) => 4,

@@ -1,0 +1,45 @@
+-- A reply nests no deeper than the reader goes.
+use Rattle.std.proofs.Common.{ℕ, ◌≤◌, List, [], ◌∷◌, map, arith}
+use Rattle.serde_json.specs.Data.{Data, depth, items_depth}
+use Rattle.serde_json.specs.Read.{max_depth}
+use Rattle.serde_json.specs.View.{items_of}
+use Rattle.cq_reply.specs.declared.reply.GroupRow.{GroupRow}
+use Rattle.cq_reply.specs.declared.reply.FileRow.{FileRow}
+use Rattle.cq_reply.specs.declared.reply.Shown.{Shown}
+use Rattle.cq_reply.specs.declared.reply.Shown.TheVariants as shown
+use Rattle.cq_reply.specs.declared.reply.Reply.{Reply}
+use Rattle.cq_reply.specs.declared.reply.Reply.TheVariants as reply
+use Rattle.cq_reply.specs.Written.{shown_data, file_data, place_data, group_data, reply_data}
+
+-- a list whose values nest no deeper than n
+rows_depth : {X : Type 0} (n : ℕ) (data_of : X → Data) (rows : List X) → ((x : X) → depth (data_of x) ≤ n) → items_depth (items_of (map data_of rows)) ≤ n
+rows_depth n data_of [] each = omega arith
+rows_depth n data_of (x ∷ rows) each = let first = each x in let later = rows_depth n data_of rows each in omega (arith, first, later)
+
+group_depth : (g : GroupRow) → depth (group_data g) ≤ 3
+group_depth g = let places = rows_depth 1 place_data g.places (λ p. omega arith) in omega (arith, places)
+
+shown_depth : (row : FileRow) (s : Shown) → depth (shown_data row s) ≤ 1
+shown_depth row shown.Ok = omega arith
+shown_depth row (shown.Fault at) = omega arith
+shown_depth row shown.Large = omega arith
+
+pub reply_depth : (r : Reply) → depth (reply_data r) ≤ max_depth
+reply_depth (reply.Change n) = omega arith
+reply_depth (reply.Files files version) = let rows = rows_depth 1 file_data files (λ row. shown_depth row row.shown) in omega (arith, rows)
+reply_depth (reply.Groups groups version) = let rows = rows_depth 3 group_data groups group_depth in omega (arith, rows)
+reply_depth (reply.State accepted done published) = omega arith
+reply_depth reply.Json = omega arith
+reply_depth reply.Op = omega arith
+reply_depth (reply.Field name) = omega arith
+reply_depth reply.Lang = omega arith
+reply_depth reply.Path = omega arith
+reply_depth reply.TooMuchText = omega arith
+reply_depth reply.Min = omega arith
+reply_depth (reply.Future n) = omega arith
+reply_depth reply.Absent = omega arith
+reply_depth reply.FullChanges = omega arith
+reply_depth reply.FullText = omega arith
+reply_depth (reply.Pending n) = omega arith
+reply_depth reply.Long = omega arith
+reply_depth reply.Memory = omega arith

@@ -1,0 +1,40 @@
+ghost use Rattle.std.specs.Prelude.{◌≡◌, ◌+◌, ◌≤◌, ◌++◌, length};
+
+use arrayvec::ArrayString;
+use std::marker::Model;
+
+/// A line of at most 96 bytes, which takes no memory. Contracts see it as the list of its bytes.
+#[derive(Drop)]
+pub struct Fixed {
+    text: ArrayString<96>,
+}
+
+impl Model for Fixed {
+    ghost use Rattle.std.specs.Prelude.{List, ℕ};
+
+    ghost Value = { List ℕ };
+
+    ghost view = { λ f. f.text.bytes };
+}
+
+impl Fixed {
+    /// Three parts, one behind the other.
+    pub(crate) fn of_parts(front: &str, middle: &str, back: &str) -> Fixed
+        requires { length front.now + length middle.now + length back.now ≤ 96 }
+        ensures { result ≡ front.now ++ middle.now ++ back.now }
+    {
+        let mut text = ArrayString::new();
+        text.push_str(front);
+        text.push_str(middle);
+        text.push_str(back);
+        Fixed { text }
+    }
+
+    /// Its bytes, which are lent.
+    pub fn as_bytes(&self) -> &[u8]
+        ensures bytes { result.now ≡ self.now }
+        ensures few { length result.now ≤ 96 }
+    {
+        self.text.as_str().as_bytes()
+    }
+}

@@ -1,0 +1,177 @@
+ghost use Rattle.std.specs.Prelude.{◌≡◌, IfOk, map, codes};
+ghost use Rattle.std.specs.List.{AllByRecursion};
+ghost use Rattle.std.specs.Str.{IsUtf8};
+ghost use Rattle.serde_json.specs.Data.{array};
+ghost use Rattle.serde_json.specs.View.{view};
+ghost use Rattle.cq_reply.specs.Written.{word_of, file_data, files_data, place_data, group_data, groups_data, change_data, state_data, refusal, future_data, field_data, pending_data, reply_data, IsFileText, IsPlaceText, IsGroupText, IsReplyText};
+
+use crate::reply::{FileRow, GroupRow, PlaceRow, Reply, Shown};
+use cq_base::{Lang, Text};
+use serde_json::{Value, json};
+use std::alloc::{AllocError, Global};
+use std::str;
+
+fn place_value(alloc: Global, row: &PlaceRow) -> Result<Value, AllocError>
+    requires { IsPlaceText row.now }
+    ensures { IfOk result (λ v. view v ≡ place_data row.now) }
+{
+    let path = str::from_utf8(row.path.as_bytes()).unwrap();
+    json!(in alloc; {"at": row.at, "first": row.first, "last": row.last, "path": path})
+}
+
+fn refusal_value(alloc: Global, code: u64, word: &str) -> Result<Value, AllocError>
+    ensures { IfOk result (λ v. view v ≡ refusal code word.now) }
+{
+    json!(in alloc; {"code": code, "error": word, "ok": false})
+}
+
+fn place_values(alloc: Global, rows: &[PlaceRow]) -> Result<Vec<Value>, AllocError>
+    requires { AllByRecursion IsPlaceText rows.now }
+    ensures { IfOk result (λ v. map view v.items ≡ map place_data rows.now) }
+{
+    let mut values = Vec::new(alloc);
+    for row in rows {
+        serde_json::push(&mut values, place_value(alloc, row)?)?;
+    }
+    Ok(values)
+}
+
+fn group_value(alloc: Global, row: &GroupRow) -> Result<Value, AllocError>
+    requires { IsGroupText row.now }
+    ensures { IfOk result (λ v. view v ≡ group_data row.now) }
+{
+    let places = Value::Array(place_values(alloc, row.places.as_slice())?);
+    json!(in alloc; {"places": places, "tokens": row.tokens})
+}
+
+fn group_values(alloc: Global, rows: &[GroupRow]) -> Result<Vec<Value>, AllocError>
+    requires { AllByRecursion IsGroupText rows.now }
+    ensures { IfOk result (λ v. map view v.items ≡ map group_data rows.now) }
+{
+    let mut values = Vec::new(alloc);
+    for row in rows {
+        serde_json::push(&mut values, group_value(alloc, row)?)?;
+    }
+    Ok(values)
+}
+
+fn groups_value(alloc: Global, rows: &[GroupRow], version: u64) -> Result<Value, AllocError>
+    requires { AllByRecursion IsGroupText rows.now }
+    ensures { IfOk result (λ v. view v ≡ groups_data rows.now version) }
+{
+    let total = rows.len();
+    let groups = Value::Array(group_values(alloc, rows)?);
+    json!(in alloc; {"groups": groups, "ok": true, "total": total, "version": version})
+}
+
+fn word_of(lang: Lang) -> &'static str
+    ensures { result.now ≡ word_of lang }
+{
+    match lang {
+        Lang::Any => "any",
+        Lang::Go => "go",
+        Lang::C => "c",
+        Lang::Java => "java",
+    }
+}
+
+fn file_value(alloc: Global, row: &FileRow) -> Result<Value, AllocError>
+    requires { IsFileText row.now }
+    ensures { IfOk result (λ v. view v ≡ file_data row.now) }
+{
+    let path = str::from_utf8(row.path.as_bytes()).unwrap();
+    let lang = word_of(row.lang);
+    match row.shown {
+        Shown::Ok => {
+            json!(in alloc; {"change": row.change, "lang": lang, "lines": row.lines, "path": path, "state": "ok", "tokens": row.tokens})
+        }
+        Shown::Fault(at) => {
+            json!(in alloc; {"at": at, "change": row.change, "lang": lang, "lines": row.lines, "path": path, "state": "fault", "tokens": row.tokens})
+        }
+        Shown::Large => {
+            json!(in alloc; {"change": row.change, "lang": lang, "lines": row.lines, "path": path, "state": "large", "tokens": row.tokens})
+        }
+    }
+}
+
+fn file_values(alloc: Global, rows: &[FileRow]) -> Result<Vec<Value>, AllocError>
+    requires { AllByRecursion IsFileText rows.now }
+    ensures { IfOk result (λ v. map view v.items ≡ map file_data rows.now) }
+{
+    let mut values = Vec::new(alloc);
+    for row in rows {
+        serde_json::push(&mut values, file_value(alloc, row)?)?;
+    }
+    Ok(values)
+}
+
+fn files_value(alloc: Global, rows: &[FileRow], version: u64) -> Result<Value, AllocError>
+    requires { AllByRecursion IsFileText rows.now }
+    ensures { IfOk result (λ v. view v ≡ files_data rows.now version) }
+{
+    let files = Value::Array(file_values(alloc, rows)?);
+    json!(in alloc; {"files": files, "ok": true, "version": version})
+}
+
+fn change_value(alloc: Global, change: u64) -> Result<Value, AllocError>
+    ensures { IfOk result (λ v. view v ≡ change_data change) }
+{
+    json!(in alloc; {"change": change, "ok": true})
+}
+
+fn state_value(alloc: Global, accepted: u64, done: u64, published: u64) -> Result<Value, AllocError>
+    ensures { IfOk result (λ v. view v ≡ state_data accepted done published) }
+{
+    json!(in alloc; {"accepted": accepted, "done": done, "ok": true, "published": published})
+}
+
+fn future_value(alloc: Global, count: u64) -> Result<Value, AllocError>
+    ensures { IfOk result (λ v. view v ≡ future_data count) }
+{
+    json!(in alloc; {"code": 8u64, "count": count, "error": "future", "ok": false})
+}
+
+fn field_value(alloc: Global, name: &Text) -> Result<Value, AllocError>
+    requires { IsUtf8 name.now }
+    ensures { IfOk result (λ v. view v ≡ field_data name.now) }
+{
+    let name = str::from_utf8(name.as_bytes()).unwrap();
+    json!(in alloc; {"code": 3u64, "error": "field", "name": name, "ok": false})
+}
+
+fn pending_value(alloc: Global, number: u64) -> Result<Value, AllocError>
+    ensures { IfOk result (λ v. view v ≡ pending_data number) }
+{
+    json!(in alloc; {"code": 12u64, "error": "pending", "number": number, "ok": false})
+}
+
+/// The value of a reply, its keys in byte order.
+pub(crate) fn reply_value(alloc: Global, reply: &Reply) -> Result<Value, AllocError>
+    requires { IsReplyText reply.now }
+    ensures { IfOk result (λ v. view v ≡ reply_data reply.now) }
+{
+    match reply {
+        Reply::Change(change) => change_value(alloc, *change),
+        Reply::Files { files, version } => files_value(alloc, files.as_slice(), *version),
+        Reply::Groups { groups, version } => groups_value(alloc, groups.as_slice(), *version),
+        Reply::State {
+            accepted,
+            done,
+            published,
+        } => state_value(alloc, *accepted, *done, *published),
+        Reply::Json => refusal_value(alloc, 1, "json"),
+        Reply::Op => refusal_value(alloc, 2, "op"),
+        Reply::Field(name) => field_value(alloc, name),
+        Reply::Lang => refusal_value(alloc, 4, "lang"),
+        Reply::Path => refusal_value(alloc, 5, "path"),
+        Reply::TooMuchText => refusal_value(alloc, 6, "text"),
+        Reply::Min => refusal_value(alloc, 7, "min"),
+        Reply::Future(count) => future_value(alloc, *count),
+        Reply::Absent => refusal_value(alloc, 9, "absent"),
+        Reply::FullChanges => refusal_value(alloc, 10, "full-changes"),
+        Reply::FullText => refusal_value(alloc, 11, "full-text"),
+        Reply::Pending(number) => pending_value(alloc, *number),
+        Reply::Long => refusal_value(alloc, 13, "long"),
+        Reply::Memory => refusal_value(alloc, 14, "memory"),
+    }
+}

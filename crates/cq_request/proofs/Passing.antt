@@ -1,0 +1,73 @@
+-- What an object has that is not refused.
+use Rattle.std.proofs.Common.{◌≡◌, ℕ, ◌≤◌, ◌+◌, List, [], ◌∷◌, length, Bool, true, false, cond, Option, Some, None, option_map, refl, arith}
+use Rattle.std.specs.Prelude.{unwrap_or, option_and_then, is_some, codes}
+use Rattle.std.specs.Option.{option_or}
+use Rattle.std.specs.List.{filter_map, cons_option}
+use Rattle.std.proofs.lemmas.Grind.{common_steps}
+use Rattle.serde_json.specs.Data.{Data, Items}
+use Rattle.serde_json.specs.Find.{get, as_array}
+use Rattle.cq_request.specs.declared.row.Op.{Op}
+use Rattle.cq_request.specs.declared.row.Op.TheVariants as op
+use Rattle.cq_request.specs.declared.row.Name.TheVariants as name
+use Rattle.cq_request.specs.declared.request.Refusal.{Refusal}
+use Rattle.cq_request.specs.declared.request.Refusal.TheVariants as refusal
+use Rattle.cq_request.specs.Text.{is_path, is_short}
+use Rattle.cq_request.specs.Members.{items_in}
+use Rattle.cq_request.specs.Conditions.{condition_of, are_conditions}
+use Rattle.cq_request.specs.Rows.{needed, is_good, bad_field, row_of, fault_in}
+use Rattle.cq_request.specs.Reading.{unless, field_or, lang_named, text_passes, min_passes, value_refused, why_refused, conditions_or}
+
+-- the last of four tests behind which nothing is refused has passed
+all_passed : (a b c d : Bool) → unless a refusal.Lang (unless b refusal.Path (unless c refusal.TooMuchText (unless d refusal.Min None))) ≡ None → d ≡ true
+all_passed true true true true none = refl
+all_passed true true true false none = absurd (cc)
+all_passed true true false d none = absurd (cc)
+all_passed true false c d none = absurd (cc)
+all_passed false b c d none = absurd (cc)
+
+none_named : (o : Option (List ℕ)) (later : Option Refusal) → field_or o later ≡ None → (o ≡ None) × (later ≡ None)
+none_named None later none = (refl, none)
+none_named (Some n) later none = absurd (cc)
+
+pub min_passed : (chunk : ℕ) (o : Op) (d : Data) → why_refused chunk o d ≡ None → min_passes chunk d ≡ true
+min_passed chunk o d accepted =
+    all_passed (text_passes (λ name. is_some (lang_named name)) (codes "lang") d) (text_passes is_path (codes "path") d) (text_passes is_short (codes "text") d) (min_passes chunk d) (none_named (fault_in (row_of o) d) (value_refused chunk d) accepted).1
+
+-- ---- the conditions of a gate
+
+first_none : {X : Type 0} (a b : Option X) → option_or a b ≡ None → a ≡ None
+first_none None b none = refl
+first_none (Some x) b none = absurd (cc)
+
+-- of two fields the second is good where none is bad
+second_good : (a b : Bool) (k l : List ℕ) → cond a (cond b None (Some l)) (Some k) ≡ None → b ≡ true
+second_good true true k l none = refl
+second_good true false k l none = absurd (cc)
+second_good false b k l none = absurd (cc)
+
+fewer_one : {Y : Type 0} (o : Option Y) (ys : List Y) (n : ℕ) → length ys ≤ n → length (cons_option o ys) ≤ n + 1
+fewer_one None ys n less = omega (arith, less)
+fewer_one (Some y) ys n less = omega (arith, less)
+
+fewer : {X Y : Type 0} (h : X → Option Y) (xs : List X) → length (filter_map h xs) ≤ length xs
+fewer h [] = omega arith
+fewer h (x ∷ xs) = let one = fewer_one (h x) (filter_map h xs) (length xs) (fewer h xs) in omega (arith, one)
+
+within : (ds : List Data) → are_conditions ds ≡ true → length (filter_map condition_of ds) ≤ 32
+within ds are =
+    let less = fewer condition_of ds in
+    let few : length ds ≤ 32 = grind (arith, common_steps, are) in
+    omega (arith, less, few)
+
+listed : (o : Option Items) → unwrap_or (option_map (λ ds. are_conditions (items_in ds)) o) false ≡ true → length (filter_map condition_of (unwrap_or (option_map items_in o) [])) ≤ 32
+listed None are = omega arith
+listed (Some ds) are = within (items_in ds) are
+
+there : (o : Option Data) → is_good (needed name.Conditions) o ≡ true → length (filter_map condition_of (unwrap_or (option_map items_in (option_and_then as_array o)) [])) ≤ 32
+there None are = omega arith
+there (Some d) are = listed (as_array d) are
+
+pub few_conditions : (chunk : ℕ) (d : Data) → why_refused chunk op.Gate d ≡ None → length (conditions_or d) ≤ 32
+few_conditions chunk d accepted =
+    let none = first_none (bad_field (row_of op.Gate) d) _ (none_named (fault_in (row_of op.Gate) d) (value_refused chunk d) accepted).0 in
+    there (get (codes "conditions") d) (second_good _ _ _ _ none)

@@ -1,0 +1,80 @@
+ghost use Rattle.std.specs.Prelude.{◌≡◌, [], codes, option_map, option_and_then, unwrap_or};
+ghost use Rattle.std.specs.Str.{IsUtf8};
+ghost use Rattle.serde_json.specs.Find.{get, as_array, get_member, as_str};
+ghost use Rattle.serde_json.specs.View.{view, items_view, members_view};
+ghost use Rattle.cq_request.specs.Members as members;
+
+use cq_base::Text;
+use serde_json::{Map, Value};
+use std::alloc::Global;
+
+/// How many members an object has; 0 for a value that is none.
+pub(crate) fn member_count(value: &Value) -> usize
+    ensures { result ≡ members.member_count (view value.now) }
+{
+    match value.as_object() {
+        Some(members) => members.len(),
+        None => 0,
+    }
+}
+
+/// The member of this name, where it is a text.
+pub(crate) fn text_at<'v>(value: &'v Value, key: &str) -> Option<&'v str>
+    ensures { option_map (λ s. s.now) result ≡ members.text_at key.now (view value.now) }
+{
+    value.get(key)?.as_str()
+}
+
+/// The member of this name, where it is a number.
+pub(crate) fn number_at(value: &Value, key: &str) -> Option<u64>
+    ensures { result ≡ members.number_at key.now (view value.now) }
+{
+    value.get(key)?.as_u64()
+}
+
+/// The member of this name, where it is true or false.
+pub(crate) fn flag_at(value: &Value, key: &str) -> Option<bool>
+    ensures { result ≡ members.flag_at key.now (view value.now) }
+{
+    value.get(key)?.as_bool()
+}
+
+/// The member of this name, where it is a list.
+pub(crate) fn list_at<'v>(value: &'v Value, key: &str) -> Option<&'v Vec<Value>>
+    ensures { option_map (λ vs. items_view vs.now.items) result ≡ option_and_then as_array (get key.now (view value.now)) }
+{
+    value.get(key)?.as_array()
+}
+
+// A text, which is moved.
+fn text_of(alloc: Global, value: Value) -> Text
+    ensures text { result ≡ unwrap_or (as_str (view value)) [] }
+    ensures utf8 { IsUtf8 result }
+{
+    match value {
+        Value::String(text) => Text::from_vec(text.into_bytes()),
+        _ => Text::from_vec(Vec::new(alloc)),
+    }
+}
+
+/// The text of an upload among its members, which is moved.
+fn text_in(alloc: Global, members: &mut Map<String, Value>) -> Text
+    ensures text { result ≡ unwrap_or (option_and_then as_str (get_member (codes "text") (members_view members.old.entries))) [] }
+    ensures utf8 { IsUtf8 result }
+{
+    match members.remove("text") {
+        Some(value) => text_of(alloc, value),
+        None => Text::from_vec(Vec::new(alloc)),
+    }
+}
+
+/// The text of an upload, moved out of its value.
+pub(crate) fn taken_text(alloc: Global, mut value: Value) -> Text
+    ensures text { result ≡ unwrap_or (members.text_at (codes "text") (view value)) [] }
+    ensures utf8 { IsUtf8 result }
+{
+    match value.as_object_mut() {
+        Some(members) => text_in(alloc, members),
+        None => Text::from_vec(Vec::new(alloc)),
+    }
+}

@@ -1,0 +1,258 @@
+ghost use Rattle.std.specs.Prelude.{◌≡◌, ◌≤◌, Some, IfOk, IfErr, IfSome, true, codes, length, None, is_some};
+ghost use Rattle.std.specs.Str.{IsUtf8};
+ghost use Rattle.serde_json.specs.View.{view};
+ghost use Rattle.cq_request.specs.Members as members;
+ghost use Rattle.cq_request.specs.Sound.{IsSound, IsSoundChange, IsSoundQuery, IsSoundRefusal};
+ghost use Rattle.cq_request.specs.Reading as spec;
+ghost use Rattle.cq_request.specs.Reading.{UnlessMemory, value_says, line_says};
+ghost use Rattle.cq_request.specs.Text as text;
+
+use crate::condition::conditions_in;
+use crate::member::{flag_at, list_at, number_at, taken_text, text_at};
+use crate::request::{Kind, Query, Refusal, Request};
+use crate::row::{Op, fault_in, op_of, row_of};
+use crate::text::{is_path, is_short};
+use cq_base::{Change, Conditions, Lang, Memory, Settings, Text};
+use serde_json::Value;
+use std::alloc::Global;
+
+fn lang_named(name: &str) -> Option<Lang>
+    ensures { result ≡ spec.lang_named name.now }
+{
+    match name {
+        "any" => Some(Lang::Any),
+        "go" => Some(Lang::Go),
+        "c" => Some(Lang::C),
+        "java" => Some(Lang::Java),
+        _ => None,
+    }
+}
+
+fn lang_passes(value: &Value) -> bool
+    ensures { result ≡ spec.text_passes (λ name. is_some (spec.lang_named name)) (codes "lang") (view value.now) }
+{
+    match text_at(value, "lang") {
+        Some(name) => lang_named(name).is_some(),
+        None => true,
+    }
+}
+
+fn path_passes(value: &Value) -> bool
+    ensures { result ≡ spec.text_passes text.is_path (codes "path") (view value.now) }
+{
+    match text_at(value, "path") {
+        Some(path) => is_path(path),
+        None => true,
+    }
+}
+
+fn text_passes(value: &Value) -> bool
+    ensures { result ≡ spec.text_passes text.is_short (codes "text") (view value.now) }
+{
+    match text_at(value, "text") {
+        Some(text) => is_short(text),
+        None => true,
+    }
+}
+
+fn min_passes(settings: &Settings, value: &Value) -> bool
+    ensures { result ≡ spec.min_passes settings.now.chunk (view value.now) }
+{
+    match number_at(value, "min") {
+        Some(min) => settings.chunk as u64 <= min && min <= 100_000,
+        None => true,
+    }
+}
+
+fn value_refused(settings: &Settings, value: &Value) -> Option<Refusal>
+    ensures refused { result ≡ spec.value_refused settings.now.chunk (view value.now) }
+    ensures named { IfSome result IsSoundRefusal }
+{
+    if !lang_passes(value) {
+        return Some(Refusal::Lang);
+    }
+    if !path_passes(value) {
+        return Some(Refusal::Path);
+    }
+    if !text_passes(value) {
+        return Some(Refusal::TooMuchText);
+    }
+    if !min_passes(settings, value) {
+        return Some(Refusal::Min);
+    }
+    None
+}
+
+fn why_refused(
+    alloc: Global,
+    settings: &Settings,
+    op: Op,
+    value: &Value,
+) -> Result<Option<Refusal>, Memory>
+    ensures refused { IfOk result (λ r. r ≡ spec.why_refused settings.now.chunk op (view value.now)) }
+    ensures named { IfOk result (λ r. IfSome r IsSoundRefusal) }
+{
+    match fault_in(row_of(op), value) {
+        Some(name) => {
+            let name = Text::from_bytes(alloc, name.as_bytes())?;
+            Ok(Some(Refusal::Field(name)))
+        }
+        None => Ok(value_refused(settings, value)),
+    }
+}
+
+fn text_or(alloc: Global, value: &Value, key: &str) -> Result<Text, Memory>
+    ensures text { IfOk result (λ t. t ≡ spec.text_or key.now (view value.now)) }
+    ensures utf8 { IfOk result IsUtf8 }
+{
+    match text_at(value, key) {
+        Some(text) => Text::from_bytes(alloc, text.as_bytes()),
+        None => Ok(Text::from_vec(Vec::new(alloc))),
+    }
+}
+
+fn path_at(alloc: Global, value: &Value) -> Result<Option<Text>, Memory>
+    ensures path { IfOk result (λ p. p ≡ members.text_at (codes "path") (view value.now)) }
+    ensures utf8 { IfOk result (λ p. IfSome p IsUtf8) }
+{
+    match text_at(value, "path") {
+        Some(path) => Ok(Some(Text::from_bytes(alloc, path.as_bytes())?)),
+        None => Ok(None),
+    }
+}
+
+fn lang_or(value: &Value) -> Lang
+    ensures { result ≡ spec.lang_or (view value.now) }
+{
+    match text_at(value, "lang") {
+        Some(name) => lang_named(name).unwrap_or(Lang::Any),
+        None => Lang::Any,
+    }
+}
+
+fn conditions_or(alloc: Global, value: &Value) -> Result<Conditions, Memory>
+    ensures { IfOk result (λ c. c ≡ spec.conditions_or (view value.now)) }
+{
+    match list_at(value, "conditions") {
+        Some(values) => conditions_in(alloc, values),
+        None => Ok(Conditions::from_vec(Vec::new(alloc))),
+    }
+}
+
+fn min_or(settings: &Settings, value: &Value) -> u32
+    requires passes { spec.min_passes settings.now.chunk (view value.now) ≡ true }
+    ensures min { result ≡ spec.min_or settings.now.chunk (view value.now) }
+    ensures window { settings.now.chunk ≤ result }
+{
+    match number_at(value, "min") {
+        Some(min) => min as u32,
+        None => settings.chunk.max(100),
+    }
+}
+
+fn query_of(alloc: Global, settings: &Settings, kind: Kind, value: &Value) -> Result<Query, Memory>
+    requires passes { spec.min_passes settings.now.chunk (view value.now) ≡ true }
+    ensures query { IfOk result (λ q. q ≡ spec.query_of settings.now.chunk kind (view value.now)) }
+    ensures sound { IfOk result (IsSoundQuery settings.now.chunk) }
+{
+    Ok(Query {
+        kind,
+        project: text_or(alloc, value, "project")?,
+        path: path_at(alloc, value)?,
+        min: min_or(settings, value),
+        at: number_at(value, "at").unwrap_or(0),
+        finish: flag_at(value, "finish").unwrap_or(true),
+    })
+}
+
+fn put_of(alloc: Global, value: Value) -> Result<Change, Memory>
+    requires passes { spec.text_passes text.is_short (codes "text") (view value) ≡ true }
+    ensures change { IfOk result (λ c. c ≡ spec.put_of (view value)) }
+    ensures sound { IfOk result IsSoundChange }
+{
+    let project = text_or(alloc, &value, "project")?;
+    let path = text_or(alloc, &value, "path")?;
+    let lang = lang_or(&value);
+    Ok(Change::Put {
+        project,
+        path,
+        lang,
+        text: taken_text(alloc, value),
+    })
+}
+
+fn drop_of(alloc: Global, value: &Value) -> Result<Change, Memory>
+    ensures change { IfOk result (λ c. c ≡ spec.drop_of (view value.now)) }
+    ensures sound { IfOk result IsSoundChange }
+{
+    Ok(Change::Drop {
+        project: text_or(alloc, value, "project")?,
+        path: text_or(alloc, value, "path")?,
+    })
+}
+
+fn gate_of(alloc: Global, value: &Value) -> Result<Change, Memory>
+    requires few { length (spec.conditions_or (view value.now)) ≤ 32 }
+    ensures change { IfOk result (λ c. c ≡ spec.gate_of (view value.now)) }
+    ensures sound { IfOk result IsSoundChange }
+{
+    Ok(Change::Gate {
+        project: text_or(alloc, value, "project")?,
+        conditions: conditions_or(alloc, value)?,
+    })
+}
+
+fn request_of(alloc: Global, settings: &Settings, op: Op, value: Value) -> Result<Request, Memory>
+    requires accepted { spec.why_refused settings.now.chunk op (view value) ≡ None }
+    ensures request { IfOk result (λ r. r ≡ spec.request_of settings.now.chunk op (view value)) }
+    ensures sound { IfOk result (IsSound settings.now.chunk) }
+{
+    let kind = match op {
+        Op::Put => return Ok(Request::Change(put_of(alloc, value)?)),
+        Op::Drop => return Ok(Request::Change(drop_of(alloc, &value)?)),
+        Op::Gate => return Ok(Request::Change(gate_of(alloc, &value)?)),
+        Op::State => return Ok(Request::State),
+        Op::Files => Kind::Files,
+        Op::Groups => Kind::Groups,
+        Op::Measures => Kind::Measures,
+        Op::Verdict => Kind::Verdict,
+    };
+    Ok(Request::Query(query_of(alloc, settings, kind, &value)?))
+}
+
+/// The request that a value is, or why it is refused. `Json` comes exactly where it is no object; the other refusals
+/// stand in the order of the enum. The value's text is moved into the request.
+pub fn read_value(alloc: Global, settings: &Settings, value: Value) -> Result<Request, Refusal>
+    ensures says { UnlessMemory result (value_says settings.now.chunk (view value)) }
+    ensures sound { IfOk result (IsSound settings.now.chunk) }
+    ensures named { IfErr result IsSoundRefusal }
+{
+    if !value.is_object() {
+        return Err(Refusal::Json);
+    }
+    let Some(op) = op_of(&value) else {
+        return Err(Refusal::Op);
+    };
+    match why_refused(alloc, settings, op, &value)? {
+        Some(refusal) => Err(refusal),
+        None => Ok(request_of(alloc, settings, op, value)?),
+    }
+}
+
+/// The request that a line spells, or why it is refused: `Json` exactly where `serde_json` gives no value for it, or
+/// one that is no object.
+pub fn read_request(alloc: Global, settings: &Settings, line: &[u8]) -> Result<Request, Refusal>
+    ensures says { UnlessMemory result (line_says settings.now.chunk line.now) }
+    ensures sound { IfOk result (IsSound settings.now.chunk) }
+    ensures named { IfErr result IsSoundRefusal }
+{
+    match Value::from_slice(alloc, line) {
+        Ok(value) => read_value(alloc, settings, value),
+        Err(error) => {
+            if error.is_memory() {
+                return Err(Refusal::Memory);
+            }
+            Err(Refusal::Json)
+        }
+    }
+}

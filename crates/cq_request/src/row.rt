@@ -1,0 +1,249 @@
+ghost use Rattle.std.specs.Prelude.{◌≡◌, option_map};
+ghost use Rattle.std.specs.List.{list_any};
+ghost use Rattle.std.specs.Str.{bytes_eq};
+ghost use Rattle.serde_json.specs.View.{view};
+ghost use Rattle.serde_json.specs.Find.{get};
+ghost use Rattle.cq_request.specs.declared.row.Name.TheVariants as name;
+ghost use Rattle.cq_request.specs.Rows as rows;
+
+use crate::condition::is_condition_list;
+use crate::member::text_at;
+use crate::text::is_project;
+use serde_json::Value;
+
+/// What can be asked for.
+#[derive(Clone, Copy, Debug, PartialEq, Eq)]
+pub(crate) enum Op {
+    Put,
+    Drop,
+    Gate,
+    Files,
+    Groups,
+    Measures,
+    Verdict,
+    State,
+}
+
+/// The fields that requests have.
+#[derive(Clone, Copy, Debug, PartialEq, Eq)]
+pub(crate) enum Name {
+    Project,
+    Path,
+    Lang,
+    Text,
+    Conditions,
+    Min,
+    At,
+    Finish,
+}
+
+/// A field of a request, and whether it has to be there.
+#[derive(Clone, Copy, Debug, PartialEq, Eq)]
+pub(crate) struct Field {
+    pub name: Name,
+    pub is_needed: bool,
+}
+
+// Those that have to be there, and those that may be left out.
+
+const PROJECT: Field = Field {
+    name: Name::Project,
+    is_needed: true,
+};
+
+const PATH: Field = Field {
+    name: Name::Path,
+    is_needed: true,
+};
+
+const LANG: Field = Field {
+    name: Name::Lang,
+    is_needed: true,
+};
+
+const TEXT: Field = Field {
+    name: Name::Text,
+    is_needed: true,
+};
+
+const CONDITIONS: Field = Field {
+    name: Name::Conditions,
+    is_needed: true,
+};
+
+const MAYBE_MIN: Field = Field {
+    name: Name::Min,
+    is_needed: false,
+};
+
+const MAYBE_PATH: Field = Field {
+    name: Name::Path,
+    is_needed: false,
+};
+
+const MAYBE_AT: Field = Field {
+    name: Name::At,
+    is_needed: false,
+};
+
+const MAYBE_FINISH: Field = Field {
+    name: Name::Finish,
+    is_needed: false,
+};
+
+const PUT: [Field; 4] = [PROJECT, PATH, LANG, TEXT];
+
+const DROP: [Field; 2] = [PROJECT, PATH];
+
+const GATE: [Field; 2] = [PROJECT, CONDITIONS];
+
+const FILES: [Field; 3] = [PROJECT, MAYBE_AT, MAYBE_FINISH];
+
+const GROUPS: [Field; 5] = [PROJECT, MAYBE_MIN, MAYBE_PATH, MAYBE_AT, MAYBE_FINISH];
+
+const VERDICT: [Field; 4] = [PROJECT, MAYBE_MIN, MAYBE_AT, MAYBE_FINISH];
+
+/// The fields of a request, in the order in which they are checked.
+pub(crate) fn row_of(op: Op) -> &'static [Field]
+    ensures { result.now ≡ rows.row_of op }
+{
+    match op {
+        Op::Put => &PUT,
+        Op::Drop => &DROP,
+        Op::Gate => &GATE,
+        Op::Files => &FILES,
+        Op::Groups => &GROUPS,
+        Op::Measures => &GROUPS,
+        Op::Verdict => &VERDICT,
+        Op::State => &[],
+    }
+}
+
+fn op_named(word: &str) -> Option<Op>
+    ensures { result ≡ rows.op_named word.now }
+{
+    match word {
+        "put" => Some(Op::Put),
+        "drop" => Some(Op::Drop),
+        "gate" => Some(Op::Gate),
+        "files" => Some(Op::Files),
+        "groups" => Some(Op::Groups),
+        "measures" => Some(Op::Measures),
+        "verdict" => Some(Op::Verdict),
+        "state" => Some(Op::State),
+        _ => None,
+    }
+}
+
+fn served(op: Op) -> Option<Op>
+    ensures { result ≡ rows.served op }
+{
+    match op {
+        Op::Measures | Op::Verdict => None,
+        _ => Some(op),
+    }
+}
+
+/// What an object asks for, if it names a request that is served.
+pub(crate) fn op_of(value: &Value) -> Option<Op>
+    ensures { result ≡ rows.op_of (view value.now) }
+{
+    served(op_named(text_at(value, "op")?)?)
+}
+
+fn key_of(name: Name) -> &'static str
+    ensures { result.now ≡ rows.key_of name }
+{
+    match name {
+        Name::Project => "project",
+        Name::Path => "path",
+        Name::Lang => "lang",
+        Name::Text => "text",
+        Name::Conditions => "conditions",
+        Name::Min => "min",
+        Name::At => "at",
+        Name::Finish => "finish",
+    }
+}
+
+fn is_project_value(value: &Value) -> bool
+    ensures { result ≡ rows.is_of_form name.Project (view value.now) }
+{
+    match value.as_str() {
+        Some(name) => is_project(name),
+        None => false,
+    }
+}
+
+fn is_of_form(name: Name, value: &Value) -> bool
+    ensures { result ≡ rows.is_of_form name (view value.now) }
+{
+    match name {
+        Name::Project => is_project_value(value),
+        Name::Path | Name::Lang | Name::Text => value.is_string(),
+        Name::Conditions => is_condition_list(value),
+        Name::Min | Name::At => value.is_u64(),
+        Name::Finish => value.is_boolean(),
+    }
+}
+
+fn is_good(field: &Field, value: &Value) -> bool
+    ensures { result ≡ rows.is_good field.now (get (rows.key_of field.now.name) (view value.now)) }
+{
+    match value.get(key_of(field.name)) {
+        Some(member) => is_of_form(field.name, member),
+        None => !field.is_needed,
+    }
+}
+
+fn bad_field(fields: &[Field], value: &Value) -> Option<&'static str>
+    ensures { option_map (λ s. s.now) result ≡ rows.bad_field fields.now (view value.now) }
+{
+    for field in fields {
+        if !is_good(field, value) {
+            return Some(key_of(field.name));
+        }
+    }
+    None
+}
+
+fn has_field(fields: &[Field], key: &str) -> bool
+    ensures { result ≡ list_any (λ f. bytes_eq key.now (rows.key_of f.name)) fields.now }
+{
+    for field in fields {
+        if key == key_of(field.name) {
+            return true;
+        }
+    }
+    false
+}
+
+fn is_of_row(fields: &[Field], key: &str) -> bool
+    ensures { result ≡ rows.is_of_row fields.now key.now }
+{
+    key == "op" || has_field(fields, key)
+}
+
+// The members stand in the order of their keys, so that the first is the least.
+fn other_key<'v>(fields: &[Field], value: &'v Value) -> Option<&'v str>
+    ensures { option_map (λ s. s.now) result ≡ rows.other_key fields.now (view value.now) }
+{
+    let members = value.as_object()?;
+    for name in members.keys() {
+        if !is_of_row(fields, name.as_str()) {
+            return Some(name.as_str());
+        }
+    }
+    None
+}
+
+/// The member that a refusal names: the first field of the row that is missing or not of its form, or else the least
+/// other key by bytes.
+pub(crate) fn fault_in<'v>(fields: &[Field], value: &'v Value) -> Option<&'v str>
+    ensures { option_map (λ s. s.now) result ≡ rows.fault_in fields.now (view value.now) }
+{
+    match bad_field(fields, value) {
+        Some(name) => Some(name),
+        None => other_key(fields, value),
+    }
+}

@@ -1,0 +1,11 @@
+pub mod Sent
+pub mod KeyOrder
+pub mod Mapped
+pub mod Counting
+pub mod Keepings
+pub mod Accepted
+pub mod Replying
+pub mod Rows
+pub mod Listings
+pub mod Talking
+pub mod Turns

@@ -1,0 +1,12 @@
+pub mod Changes
+pub mod Places
+pub mod Files
+pub mod Lexing
+pub mod Listing
+pub mod Kept
+pub mod Talk
+pub mod Stands
+pub mod Accepting
+pub mod Answering
+pub mod Sending
+pub mod Serving
