@@ -4,6 +4,7 @@ use Rattle.std.specs.Option.{option_or}
 use Rattle.std.specs.Str.{IsUtf8}
 use Rattle.std.specs.BTreeMap.{IsOrdered, Updates}
 use Rattle.cq_base.specs.declared.lang.Lang.{Lang}
+use Rattle.cq_base.specs.declared.settings.Settings.{Settings}
 use Rattle.cq_base.specs.declared.change.Condition.{Condition}
 use Rattle.cq_base.specs.declared.change.Change.TheVariants as change
 use Rattle.cq_session.specs.declared.kept.Kept.{Kept}
@@ -14,9 +15,9 @@ use Rattle.cq_session.proofs.KeyOrder.{file_cmp}
 use Rattle.cq_session.proofs.Counting.{texts_more, undone_more, undone_drop, undone_gate}
 use Rattle.cq_session.proofs.Keepings.{put_files, put_works, drop_files, drop_works, gate_files, gate_works, ordered_map}
 
-pub after_put : {L : Type 0} (h : History) (project path : List ℕ) (lang : Lang) (text : List ℕ) (kept : Kept L) (old new : Store L) → IsUtf8 path → IsKeptOf lang text (length h.changes + 1) kept → StandsFor h old → IsOrdered file_cmp new.files → Updates file_cmp old.files new.files (record { project = project; path = path }) (Some kept)
-    → new.accepted ≡ length h.changes + 1 → new.published ≡ old.published → new.undone ≡ option_or old.undone (Some (length h.changes + 1)) → new.texts ≡ old.texts + length text → StandsFor (with_change h (change.Put project path lang text)) new
-after_put h project path lang text kept old new utf8 is stands ordered updates accepted published undone texts =
+pub after_put : {L : Type 0} (settings : Settings) (h : History) (project path : List ℕ) (lang : Lang) (text : List ℕ) (kept : Kept L) (old new : Store L) → IsUtf8 path → IsKeptOf settings lang text (length h.changes + 1) kept → StandsFor settings h old → IsOrdered file_cmp new.files → Updates file_cmp old.files new.files (record { project = project; path = path }) (Some kept)
+    → new.accepted ≡ length h.changes + 1 → new.published ≡ old.published → new.undone ≡ option_or old.undone (Some (length h.changes + 1)) → new.texts ≡ old.texts + length text → StandsFor settings (with_change h (change.Put project path lang text)) new
+after_put settings h project path lang text kept old new utf8 is stands ordered updates accepted published undone texts =
     let more = length-append h.changes (change.Put project path lang text ∷ []) in
     let size = texts_more h.changes (change.Put project path lang text) in
     record {
@@ -25,13 +26,13 @@ after_put h project path lang text kept old new utf8 is stands ordered updates a
       within = omega (arith, stands.within, more);
       undone = undone ∙ (ap (λ o. option_or o (Some (length h.changes + 1))) stands.undone ∙ sym (undone_more h (change.Put project path lang text) stands.within));
       texts = omega (arith, texts, size, stands.texts);
-      files = put_files h.changes project path lang text kept utf8 is old.files new.files stands.files stands.works (ordered_map old.files stands.files.ordered) ordered updates;
-      works = put_works h.changes project path lang text kept utf8 is old.files new.files stands.files stands.works (ordered_map old.files stands.files.ordered) ordered updates;
+      files = put_files settings h.changes project path lang text kept utf8 is old.files new.files stands.files stands.works (ordered_map old.files stands.files.ordered) ordered updates;
+      works = put_works settings h.changes project path lang text kept utf8 is old.files new.files stands.files stands.works (ordered_map old.files stands.files.ordered) ordered updates;
     }
 
-pub after_drop : {L : Type 0} (h : History) (project path : List ℕ) (old new : Store L) → StandsFor h old → IsOrdered file_cmp new.files → Updates file_cmp old.files new.files (record { project = project; path = path }) None
-    → new.accepted ≡ length h.changes + 1 → new.published ≡ old.published → new.undone ≡ old.undone → new.texts ≡ old.texts → StandsFor (with_change h (change.Drop project path)) new
-after_drop h project path old new stands ordered updates accepted published undone texts =
+pub after_drop : {L : Type 0} (settings : Settings) (h : History) (project path : List ℕ) (old new : Store L) → StandsFor settings h old → IsOrdered file_cmp new.files → Updates file_cmp old.files new.files (record { project = project; path = path }) None
+    → new.accepted ≡ length h.changes + 1 → new.published ≡ old.published → new.undone ≡ old.undone → new.texts ≡ old.texts → StandsFor settings (with_change h (change.Drop project path)) new
+after_drop settings h project path old new stands ordered updates accepted published undone texts =
     let more = length-append h.changes (change.Drop project path ∷ []) in
     let size = texts_more h.changes (change.Drop project path) in
     record {
@@ -40,12 +41,12 @@ after_drop h project path old new stands ordered updates accepted published undo
       within = omega (arith, stands.within, more);
       undone = undone ∙ (stands.undone ∙ sym (undone_drop h project path stands.within));
       texts = omega (arith, texts, size, stands.texts);
-      files = drop_files h.changes project path old.files new.files stands.files stands.works (ordered_map old.files stands.files.ordered) ordered updates;
-      works = drop_works h.changes project path old.files new.files stands.files stands.works (ordered_map old.files stands.files.ordered) ordered updates;
+      files = drop_files settings h.changes project path old.files new.files stands.files stands.works (ordered_map old.files stands.files.ordered) ordered updates;
+      works = drop_works settings h.changes project path old.files new.files stands.files stands.works (ordered_map old.files stands.files.ordered) ordered updates;
     }
 
-pub after_gate : {L : Type 0} (h : History) (project : List ℕ) (conditions : List Condition) (old new : Store L) → StandsFor h old → new.files ≡ old.files → new.accepted ≡ length h.changes + 1 → new.published ≡ old.published → new.undone ≡ old.undone → new.texts ≡ old.texts → StandsFor (with_change h (change.Gate project conditions)) new
-after_gate h project conditions old new stands same accepted published undone texts =
+pub after_gate : {L : Type 0} (settings : Settings) (h : History) (project : List ℕ) (conditions : List Condition) (old new : Store L) → StandsFor settings h old → new.files ≡ old.files → new.accepted ≡ length h.changes + 1 → new.published ≡ old.published → new.undone ≡ old.undone → new.texts ≡ old.texts → StandsFor settings (with_change h (change.Gate project conditions)) new
+after_gate settings h project conditions old new stands same accepted published undone texts =
     let more = length-append h.changes (change.Gate project conditions ∷ []) in
     let size = texts_more h.changes (change.Gate project conditions) in
     record {
@@ -54,6 +55,6 @@ after_gate h project conditions old new stands same accepted published undone te
       within = omega (arith, stands.within, more);
       undone = undone ∙ (stands.undone ∙ sym (undone_gate h (change.Gate project conditions) project stands.within refl));
       texts = omega (arith, texts, size, stands.texts);
-      files = rw same (gate_files h.changes (change.Gate project conditions) (λ p q named. named) (λ p q l t is. absurd (cc)) old.files stands.files stands.works);
-      works = rw same (gate_works h.changes (change.Gate project conditions) (λ p q named. named) (λ p q l t is. absurd (cc)) old.files stands.files stands.works);
+      files = rw same (gate_files settings h.changes (change.Gate project conditions) (λ p q named. named) (λ p q l t is. absurd (cc)) old.files stands.files stands.works);
+      works = rw same (gate_works settings h.changes (change.Gate project conditions) (λ p q named. named) (λ p q l t is. absurd (cc)) old.files stands.files stands.works);
     }

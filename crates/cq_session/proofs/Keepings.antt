@@ -13,6 +13,7 @@ use Rattle.std.proofs.Math.ListN.{get_or-append}
 use Rattle.std.proofs.Math.Seq.{get_or-append_seam}
 use Rattle.std.proofs.lemmas.Option.{slice_get-get_or, slice_get_within, same_Some}
 use Rattle.cq_base.specs.declared.lang.Lang.{Lang}
+use Rattle.cq_base.specs.declared.settings.Settings.{Settings}
 use Rattle.cq_base.specs.declared.change.Change.{Change}
 use Rattle.cq_base.specs.declared.change.Change.TheVariants as change
 use Rattle.cq_clones.specs.Lists.{AreAllInOrder}
@@ -147,8 +148,8 @@ last_cases changes c project path number is =
     (there_cases changes c (number - 1) (change.Put project path is.lang is.text) is.there)
 
 -- what was kept of an upload stays so
-work_stays : {L : Type 0} (changes : List Change) (c : Change) (e : KeptAt L) → HasWork changes e → HasWork (changes ++ c ∷ []) e
-work_stays changes c e work = record {
+work_stays : {L : Type 0} (settings : Settings) (changes : List Change) (c : Change) (e : KeptAt L) → HasWork settings changes e → HasWork settings (changes ++ c ∷ []) e
+work_stays settings changes c e work = record {
   path = work.path;
   reading = work.reading;
   reads = record { project = work.reads.project; path = work.reads.path; there = there_more changes c (e.1.tokens.change - 1) _ work.reads.there; lexes = work.reads.lexes };
@@ -179,14 +180,14 @@ path_same same = ap path_in same
 
 -- ---- an upload
 
-module _ {L : Type 0} (changes : List Change) (project path : List ℕ) (lang : Lang) (text : List ℕ) (kept : Kept L) (utf8 : IsUtf8 path) (is : IsKeptOf lang text (length changes + 1) kept) where
+module _ {L : Type 0} (settings : Settings) (changes : List Change) (project path : List ℕ) (lang : Lang) (text : List ℕ) (kept : Kept L) (utf8 : IsUtf8 path) (is : IsKeptOf settings lang text (length changes + 1) kept) where
   abbrev pub place : FileKey
   place = record { project = project; path = path }
 
   abbrev pub put : Change
   put = change.Put project path lang text
 
-  work_new : HasWork (changes ++ put ∷ []) (place, kept)
+  work_new : HasWork settings (changes ++ put ∷ []) (place, kept)
   work_new = record {
     path = utf8;
     reading = record { lang = lang; text = text; answer = is.answer };
@@ -197,7 +198,7 @@ module _ {L : Type 0} (changes : List Change) (project path : List ℕ) (lang : 
   last_kept : IsLastAt (changes ++ put ∷ []) (key_of (place, kept))
   last_kept = subst (IsLastPut (changes ++ put ∷ []) project path) (sym is.number_is) (last_new changes project path lang text)
 
-  module _ (old new : BTreeMap FileKey (Kept L)) (files : AreAllInOrder KeyBefore (IsLastAt changes) (map key_of old.entries)) (works : (e : KeptAt L) → Contains old.entries e → HasWork changes e) (was : IsOrdered file_cmp old) (now : IsOrdered file_cmp new) (updates : Updates file_cmp old new place (Some kept)) where
+  module _ (old new : BTreeMap FileKey (Kept L)) (files : AreAllInOrder KeyBefore (IsLastAt changes) (map key_of old.entries)) (works : (e : KeptAt L) → Contains old.entries e → HasWork settings changes e) (was : IsOrdered file_cmp old) (now : IsOrdered file_cmp new) (updates : Updates file_cmp old new place (Some kept)) where
     cases : (e : KeptAt L) → Contains new.entries e → (Contains old.entries e × (place ≡ e.0 → ⊥)) ⊎ ((place, kept) ≡ e)
     cases = entry_cases old new was now place kept updates
 
@@ -227,12 +228,12 @@ module _ {L : Type 0} (changes : List Change) (project path : List ℕ) (lang : 
     pub put_files : AreAllInOrder KeyBefore (IsLastAt (changes ++ put ∷ [])) (map key_of new.entries)
     put_files = record { ordered = in_order new now; each = λ z. (there z, back z) }
 
-    pub put_works : (e : KeptAt L) → Contains new.entries e → HasWork (changes ++ put ∷ []) e
-    put_works e c = ⊎_elim (λ h. work_stays changes put e (works e h.0)) (λ same. subst (HasWork (changes ++ put ∷ [])) same work_new) (cases e c)
+    pub put_works : (e : KeptAt L) → Contains new.entries e → HasWork settings (changes ++ put ∷ []) e
+    put_works e c = ⊎_elim (λ h. work_stays settings changes put e (works e h.0)) (λ same. subst (HasWork settings (changes ++ put ∷ [])) same work_new) (cases e c)
 
 -- ---- a drop
 
-module _ {L : Type 0} (changes : List Change) (project path : List ℕ) (old new : BTreeMap FileKey (Kept L)) (files : AreAllInOrder KeyBefore (IsLastAt changes) (map key_of old.entries)) (works : (e : KeptAt L) → Contains old.entries e → HasWork changes e) (was : IsOrdered file_cmp old) (now : IsOrdered file_cmp new) (updates : Updates file_cmp old new (record { project = project; path = path }) None) where
+module _ {L : Type 0} (settings : Settings) (changes : List Change) (project path : List ℕ) (old new : BTreeMap FileKey (Kept L)) (files : AreAllInOrder KeyBefore (IsLastAt changes) (map key_of old.entries)) (works : (e : KeptAt L) → Contains old.entries e → HasWork settings changes e) (was : IsOrdered file_cmp old) (now : IsOrdered file_cmp new) (updates : Updates file_cmp old new (record { project = project; path = path }) None) where
   abbrev pub gone : FileKey
   gone = record { project = project; path = path }
 
@@ -263,12 +264,12 @@ module _ {L : Type 0} (changes : List Change) (project path : List ℕ) (old new
   pub drop_files : AreAllInOrder KeyBefore (IsLastAt (changes ++ drop ∷ [])) (map key_of new.entries)
   drop_files = record { ordered = in_order new now; each = λ z. (there_left z, back_left z) }
 
-  pub drop_works : (e : KeptAt L) → Contains new.entries e → HasWork (changes ++ drop ∷ []) e
-  drop_works e c = work_stays changes drop e (works e (remain e c).0)
+  pub drop_works : (e : KeptAt L) → Contains new.entries e → HasWork settings (changes ++ drop ∷ []) e
+  drop_works e c = work_stays settings changes drop e (works e (remain e c).0)
 
 -- ---- a gate
 
-module _ {L : Type 0} (changes : List Change) (c : Change) (unnamed : (project path : List ℕ) → Names project path c → ⊥) (unput : (project path : List ℕ) (lang : Lang) (text : List ℕ) → c ≡ change.Put project path lang text → ⊥) (m : BTreeMap FileKey (Kept L)) (files : AreAllInOrder KeyBefore (IsLastAt changes) (map key_of m.entries)) (works : (e : KeptAt L) → Contains m.entries e → HasWork changes e) where
+module _ {L : Type 0} (settings : Settings) (changes : List Change) (c : Change) (unnamed : (project path : List ℕ) → Names project path c → ⊥) (unput : (project path : List ℕ) (lang : Lang) (text : List ℕ) → c ≡ change.Put project path lang text → ⊥) (m : BTreeMap FileKey (Kept L)) (files : AreAllInOrder KeyBefore (IsLastAt changes) (map key_of m.entries)) (works : (e : KeptAt L) → Contains m.entries e → HasWork settings changes e) where
   pub gate_files : AreAllInOrder KeyBefore (IsLastAt (changes ++ c ∷ [])) (map key_of m.entries)
   gate_files = record {
     ordered = files.ordered;
@@ -278,8 +279,8 @@ module _ {L : Type 0} (changes : List Change) (c : Change) (unnamed : (project p
     );
   }
 
-  pub gate_works : (e : KeptAt L) → Contains m.entries e → HasWork (changes ++ c ∷ []) e
-  gate_works e here = work_stays changes c e (works e here)
+  pub gate_works : (e : KeptAt L) → Contains m.entries e → HasWork settings (changes ++ c ∷ []) e
+  gate_works e here = work_stays settings changes c e (works e here)
 
 -- ---- which files stand
 

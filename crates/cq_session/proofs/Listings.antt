@@ -15,6 +15,7 @@ use Rattle.cq_base.specs.declared.group.Place.{Place}
 use Rattle.cq_base.specs.declared.norm.Norm.{Norm}
 use Rattle.cq_base.specs.declared.token.Token.{Token}
 use Rattle.cq_base.specs.declared.change.Change.{Change}
+use Rattle.cq_base.specs.declared.settings.Settings.{Settings}
 use Rattle.cq_clones.specs.Groups.{file_at, AreGroups, IsGroup, StandsAt}
 use Rattle.cq_clones.proofs.InOrder.{Contains-here, Contains-there}
 use Rattle.cq_clones.proofs.GroupLaws.{within_from_standing}
@@ -24,8 +25,9 @@ use Rattle.cq_reply.specs.declared.reply.FileRow.{FileRow}
 use Rattle.cq_reply.specs.Written.{IsFileText, IsPlaceText, IsGroupText}
 use Rattle.cq_session.specs.declared.store.Store.{Store}
 use Rattle.cq_session.specs.Changes.{History}
+use Rattle.cq_normal.specs.Normal.{norm_of}
 use Rattle.cq_session.specs.Files.{File, IsLastPut, PathBefore, AreFiles}
-use Rattle.cq_session.specs.Lexing.{Reading, AreRead, tokens_in, norm_of, corpus_read, file_row, file_rows}
+use Rattle.cq_session.specs.Lexing.{Reading, AreRead, tokens_in, corpus_read, file_row, file_rows}
 use Rattle.cq_session.specs.Kept.{KeptAt, file_of, files_of, spans_in, norms_in, row_of}
 use Rattle.cq_session.specs.Listing.{file_in, spans_read, IsInside, IsGroupInside, IsFileListing, IsListing, place_row, group_row, is_meant}
 use Rattle.cq_session.specs.Stands.{Key, key_of, KeyBefore, IsLastAt, Shows, HasWork, StandsFor}
@@ -51,8 +53,8 @@ same_file : (f g : File) → f.path ≡ g.path → f.number ≡ g.number → f �
 same_file f g p n = λ i. record { path = p i; number = n i }
 
 -- those of a project are its files, in path order
-pub project_files : {L : Type 0} (h : History) (store : Store L) (project : List ℕ) → StandsFor h store → AreFiles h.changes project (files_of (chosen project store.files.entries))
-project_files {L} h store project stands = record {
+pub project_files : {L : Type 0} (settings : Settings) (h : History) (store : Store L) (project : List ℕ) → StandsFor settings h store → AreFiles h.changes project (files_of (chosen project store.files.entries))
+project_files {L} settings h store project stands = record {
   ordered = pairs_to_map PathBefore file_of (chosen project store.files.entries)
       (pairs_weaker (λ a b. KeyBefore (key_of a) (key_of b)) (λ a b. PathBefore (file_of a) (file_of b)) (chosen project store.files.entries)
       (λ a b a_in b_in before. path_decides (key_of a) (key_of b) (its_project a a_in ∙ sym (its_project b b_in)) before)
@@ -82,34 +84,34 @@ project_files {L} h store project stands = record {
         subst (Contains (files_of (chosen project store.files.entries))) (same_file (file_of k) f (ap (λ (z : Key). z.path) at.2) (ap (λ (z : Key). z.number) at.2)) in_chosen
 
 -- what was read of files that are kept
-pub record Reads {L : Type 0} (changes : List Change) (ks : List (KeptAt L)) : Type 0 where
+pub record Reads {L : Type 0} (settings : Settings) (changes : List Change) (ks : List (KeptAt L)) : Type 0 where
   pub readings : List Reading
   pub are : AreRead changes (files_of ks) readings
   pub rows : map row_of ks ≡ file_rows (files_of ks) readings
   pub spans : spans_in ks ≡ spans_read readings
-  pub norms : norms_in ks ≡ corpus_read readings
+  pub norms : norms_in ks ≡ corpus_read settings readings
 
-row_same : {L : Type 0} (k : KeptAt L) (r : Reading) → Shows k.1 r → row_of k ≡ file_row (file_of k) r
-row_same k r shows = λ i. record { path = k.0.path; change = k.1.tokens.change; lang = shows.lang i; lines = shows.lines i; shown = shows.shown i; tokens = shows.count i }
+row_same : {L : Type 0} (settings : Settings) (k : KeptAt L) (r : Reading) → Shows settings k.1 r → row_of k ≡ file_row (file_of k) r
+row_same settings k r shows = λ i. record { path = k.0.path; change = k.1.tokens.change; lang = shows.lang i; lines = shows.lines i; shown = shows.shown i; tokens = shows.count i }
 
-pub reads : {L : Type 0} (changes : List Change) (ks : List (KeptAt L)) → ((k : KeptAt L) → Contains ks k → HasWork changes k) → Reads changes ks
-reads changes [] works = record { readings = []; are = tt; rows = refl; spans = refl; norms = refl }
-reads changes (k ∷ ks) works =
+pub reads : {L : Type 0} (settings : Settings) (changes : List Change) (ks : List (KeptAt L)) → ((k : KeptAt L) → Contains ks k → HasWork settings changes k) → Reads settings changes ks
+reads settings changes [] works = record { readings = []; are = tt; rows = refl; spans = refl; norms = refl }
+reads settings changes (k ∷ ks) works =
     let work = works k (Contains-here k ks) in
-    let rest = reads changes ks (λ z c. works z (Contains-there k z ks c)) in
+    let rest = reads settings changes ks (λ z c. works z (Contains-there k z ks c)) in
     record {
       readings = work.reading ∷ rest.readings;
       are = (work.reads, rest.are);
-      rows = ap₂ (λ (x : FileRow) (xs : List FileRow). x ∷ xs) (row_same k work.reading work.shows) rest.rows;
+      rows = ap₂ (λ (x : FileRow) (xs : List FileRow). x ∷ xs) (row_same settings k work.reading work.shows) rest.rows;
       spans = ap₂ (λ (x : List Token) (xs : List (List Token)). x ∷ xs) work.shows.spans rest.spans;
       norms = ap₂ (λ (x : List Norm) (xs : List (List Norm)). x ∷ xs) work.shows.norms rest.norms;
     }
 
 -- as many spans as tokens
-as_many : (readings : List Reading) (i : ℕ) → length (get_or (corpus_read readings) i []) ≡ length (get_or (spans_read readings) i [])
-as_many [] i = refl
-as_many (r ∷ readings) zero = length-map (tokens_in r.answer) (norm_of r.lang) ∙ sym (length-map (tokens_in r.answer) (λ s. s.token))
-as_many (r ∷ readings) (suc i) = as_many readings i
+as_many : (settings : Settings) (readings : List Reading) (i : ℕ) → length (get_or (corpus_read settings readings) i []) ≡ length (get_or (spans_read readings) i [])
+as_many settings [] i = refl
+as_many settings (r ∷ readings) zero = length-map (tokens_in r.answer) (norm_of settings r.lang) ∙ sym (length-map (tokens_in r.answer) (λ s. s.token))
+as_many settings (r ∷ readings) (suc i) = as_many settings readings i
 
 -- the places of a group of some tokens stand within the files
 pub group_inside : (corpus : List (List Norm)) (spans : List (List Token)) (min : ℕ) (groups : List Group) → 1 ≤ min → ((i : ℕ) → length (file_at corpus i) ≡ length (get_or spans i [])) → AreGroups corpus min groups → (g : Group) → Contains groups g → IsGroupInside spans g
@@ -127,34 +129,34 @@ group_inside corpus spans min groups some same are g c =
           omega (arith, within, many, is.tokens),
         )
 
-pub groups_inside : {L : Type 0} (changes : List Change) (ks : List (KeptAt L)) (min : ℕ) (groups : List Group) → 1 ≤ min → Reads changes ks → AreGroups (norms_in ks) min groups → (g : Group) → Contains groups g → IsGroupInside (spans_in ks) g
-groups_inside changes ks min groups some found are =
+pub groups_inside : {L : Type 0} (settings : Settings) (changes : List Change) (ks : List (KeptAt L)) (min : ℕ) (groups : List Group) → 1 ≤ min → Reads settings changes ks → AreGroups (norms_in ks) min groups → (g : Group) → Contains groups g → IsGroupInside (spans_in ks) g
+groups_inside settings changes ks min groups some found are =
     group_inside (norms_in ks) (spans_in ks) min groups some
-    (λ i. ap (λ xs. length (get_or xs i [])) found.norms ∙ as_many found.readings i ∙ ap (λ xs. length (get_or xs i [])) (sym found.spans))
+    (λ i. ap (λ xs. length (get_or xs i [])) found.norms ∙ as_many settings found.readings i ∙ ap (λ xs. length (get_or xs i [])) (sym found.spans))
     are
 
 -- those of a project have their work
-pub chosen_works : {L : Type 0} (h : History) (store : Store L) (project : List ℕ) (ks : List (KeptAt L)) → ks ≡ chosen project store.files.entries → StandsFor h store → (k : KeptAt L) → Contains ks k → HasWork h.changes k
-chosen_works h store project ks is stands k c = stands.works k (Contains-from_filter (is_of project) store.files.entries k (subst (λ xs. Contains xs k) is c)).0
+pub chosen_works : {L : Type 0} (settings : Settings) (h : History) (store : Store L) (project : List ℕ) (ks : List (KeptAt L)) → ks ≡ chosen project store.files.entries → StandsFor settings h store → (k : KeptAt L) → Contains ks k → HasWork settings h.changes k
+chosen_works settings h store project ks is stands k c = stands.works k (Contains-from_filter (is_of project) store.files.entries k (subst (λ xs. Contains xs k) is c)).0
 
-pub files_listed : {L : Type 0} (h : History) (store : Store L) (project : List ℕ) (ks : List (KeptAt L)) (rows : List FileRow) → ks ≡ chosen project store.files.entries → StandsFor h store → rows ≡ map row_of ks → IsFileListing h.changes project rows
-files_listed {L} h store project ks rows is stands rows_are =
-    let found = reads h.changes ks (chosen_works h store project ks is stands) in
+pub files_listed : {L : Type 0} (settings : Settings) (h : History) (store : Store L) (project : List ℕ) (ks : List (KeptAt L)) (rows : List FileRow) → ks ≡ chosen project store.files.entries → StandsFor settings h store → rows ≡ map row_of ks → IsFileListing h.changes project rows
+files_listed {L} settings h store project ks rows is stands rows_are =
+    let found = reads settings h.changes ks (chosen_works settings h store project ks is stands) in
     record {
       files = files_of ks;
-      are_files = subst (λ xs. AreFiles h.changes project (files_of xs)) (sym is) (project_files h store project stands);
+      are_files = subst (λ xs. AreFiles h.changes project (files_of xs)) (sym is) (project_files settings h store project stands);
       readings = found.readings;
       are_read = found.are;
       rows_are = rows_are ∙ found.rows;
     }
 
-pub listed : {L : Type 0} (h : History) (store : Store L) (project : List ℕ) (min : ℕ) (path : Option (List ℕ)) (groups : List Group) (rows : List GroupRow) (ks : List (KeptAt L)) → ks ≡ chosen project store.files.entries → StandsFor h store → AreGroups (norms_in ks) min groups
-    → rows ≡ filter (is_meant path) (map (group_row (files_of ks) (spans_in ks)) groups) → IsListing h.changes project min path rows
-listed {L} h store project min path groups rows ks is stands are rows_are =
-    let found = reads h.changes ks (chosen_works h store project ks is stands) in
+pub listed : {L : Type 0} (settings : Settings) (h : History) (store : Store L) (project : List ℕ) (min : ℕ) (path : Option (List ℕ)) (groups : List Group) (rows : List GroupRow) (ks : List (KeptAt L)) → ks ≡ chosen project store.files.entries → StandsFor settings h store → AreGroups (norms_in ks) min groups
+    → rows ≡ filter (is_meant path) (map (group_row (files_of ks) (spans_in ks)) groups) → IsListing settings h.changes project min path rows
+listed {L} settings h store project min path groups rows ks is stands are rows_are =
+    let found = reads settings h.changes ks (chosen_works settings h store project ks is stands) in
     record {
       files = files_of ks;
-      are_files = subst (λ xs. AreFiles h.changes project (files_of xs)) (sym is) (project_files h store project stands);
+      are_files = subst (λ xs. AreFiles h.changes project (files_of xs)) (sym is) (project_files settings h store project stands);
       readings = found.readings;
       are_read = found.are;
       groups = groups;
@@ -164,15 +166,15 @@ listed {L} h store project min path groups rows ks is stands are rows_are =
 
 -- ---- the paths of what is shown are texts
 
-pub file_rows_are_texts : {L : Type 0} (changes : List Change) (ks : List (KeptAt L)) → ((k : KeptAt L) → Contains ks k → HasWork changes k) → AllByRecursion IsFileText (map row_of ks)
-file_rows_are_texts changes [] works = tt
-file_rows_are_texts changes (k ∷ ks) works = ((works k (Contains-here k ks)).path, file_rows_are_texts changes ks (λ z c. works z (Contains-there k z ks c)))
+pub file_rows_are_texts : {L : Type 0} (settings : Settings) (changes : List Change) (ks : List (KeptAt L)) → ((k : KeptAt L) → Contains ks k → HasWork settings changes k) → AllByRecursion IsFileText (map row_of ks)
+file_rows_are_texts settings changes [] works = tt
+file_rows_are_texts settings changes (k ∷ ks) works = ((works k (Contains-here k ks)).path, file_rows_are_texts settings changes ks (λ z c. works z (Contains-there k z ks c)))
 
-rows_are_texts : {L : Type 0} (changes : List Change) (ks : List (KeptAt L)) (spans : List (List Token)) (groups : List Group) → ((k : KeptAt L) → Contains ks k → HasWork changes k)
+rows_are_texts : {L : Type 0} (settings : Settings) (changes : List Change) (ks : List (KeptAt L)) (spans : List (List Token)) (groups : List Group) → ((k : KeptAt L) → Contains ks k → HasWork settings changes k)
     → ((g : Group) → Contains groups g → (p : Place) → Contains g.places p → p.file < length ks) → AllByRecursion IsGroupText (map (group_row (files_of ks) spans) groups)
-rows_are_texts changes ks spans [] works inside = tt
-rows_are_texts {L} changes ks spans (g ∷ groups) works inside =
-    (places g.tokens g.places (inside g (Contains-here g groups)), rows_are_texts changes ks spans groups works (λ h c. inside h (Contains-there g h groups c)))
+rows_are_texts settings changes ks spans [] works inside = tt
+rows_are_texts {L} settings changes ks spans (g ∷ groups) works inside =
+    (places g.tokens g.places (inside g (Contains-here g groups)), rows_are_texts settings changes ks spans groups works (λ h c. inside h (Contains-there g h groups c)))
   where
     path_at : (i : ℕ) → i < length ks → IsUtf8 (file_in (files_of ks) i).path
     path_at i within =
@@ -192,12 +194,12 @@ kept_all : {X : Type 0} (P : X → Type 0) (test : X → Bool) (xs : List X) →
 kept_all P test [] all = tt
 kept_all P test (x ∷ xs) all = kept_one P (test x) x (filter test xs) all.0 (kept_all P test xs all.1)
 
-pub group_rows_are_texts : {L : Type 0} (h : History) (store : Store L) (project : List ℕ) (min : ℕ) (path : Option (List ℕ)) (groups : List Group) (ks : List (KeptAt L)) → 1 ≤ min → ks ≡ chosen project store.files.entries → StandsFor h store → AreGroups (norms_in ks) min groups
+pub group_rows_are_texts : {L : Type 0} (settings : Settings) (h : History) (store : Store L) (project : List ℕ) (min : ℕ) (path : Option (List ℕ)) (groups : List Group) (ks : List (KeptAt L)) → 1 ≤ min → ks ≡ chosen project store.files.entries → StandsFor settings h store → AreGroups (norms_in ks) min groups
     → AllByRecursion IsGroupText (filter (is_meant path) (map (group_row (files_of ks) (spans_in ks)) groups))
-group_rows_are_texts {L} h store project min path groups ks some is stands are =
-    let works = chosen_works h store project ks is stands in
-    let found = reads h.changes ks works in
+group_rows_are_texts {L} settings h store project min path groups ks some is stands are =
+    let works = chosen_works settings h store project ks is stands in
+    let found = reads settings h.changes ks works in
     kept_all IsGroupText (is_meant path) (map (group_row (files_of ks) (spans_in ks)) groups)
-    (rows_are_texts h.changes ks (spans_in ks) groups works
-    (λ group here p at. let inside = (groups_inside h.changes ks min groups some found are group here).1 p at in
+    (rows_are_texts settings h.changes ks (spans_in ks) groups works
+    (λ group here p at. let inside = (groups_inside settings h.changes ks min groups some found are group here).1 p at in
     omega (arith, inside.0, length-map ks (λ (k : KeptAt L). k.1.spans.items))))

@@ -1,6 +1,6 @@
 -- Which reply a line has.
 use Rattle.std.proofs.Common.{◌≡◌, Bool, true, false, refl}
-use Rattle.std.specs.Prelude.{MatchBool}
+use Rattle.std.specs.Prelude.{MatchBool, Result, Ok, Err, OnErr}
 use Rattle.cq_request.specs.declared.request.Kind.{Kind}
 use Rattle.cq_request.specs.declared.request.Kind.TheVariants as kind
 use Rattle.cq_session.specs.Talk.{is_shown}
@@ -18,3 +18,7 @@ groups_left kind.Files shown other = absurd (other refl)
 groups_left kind.Groups shown other = refl
 groups_left kind.Measures shown other = absurd (cc)
 groups_left kind.Verdict shown other = absurd (cc)
+
+pub on_err_weaker : {T E P Q : Type 0} (r : Result T E) → (P → Q) → OnErr r P → OnErr r Q
+on_err_weaker (Ok x) to p = tt
+on_err_weaker (Err e) to p = to p

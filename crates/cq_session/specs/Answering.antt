@@ -28,18 +28,18 @@ pub record Replies {L : Type 0} (settings : Settings) (h : History) (says : Resu
   pub after : History
   pub answer : IsAnswer settings h says reply after
   pub bytes_are : bytes ≡ line_of reply
-  pub stands : StandsFor after store
+  pub stands : StandsFor settings after store
 
 -- the bytes are the line that shows a project's files, and all changes are published then
-pub record ShowsFiles {L : Type 0} (h : History) (q : Query) (bytes : List ℕ) (store : Store L) : Type 0 where
+pub record ShowsFiles {L : Type 0} (settings : Settings) (h : History) (q : Query) (bytes : List ℕ) (store : Store L) : Type 0 where
   pub rows : List FileRow
   pub listing : IsFileListing h.changes q.project rows
   pub bytes_are : bytes ≡ line_of (reply.Files rows (length h.changes))
-  pub stands : StandsFor (all_published h) store
+  pub stands : StandsFor settings (all_published h) store
 
 -- the same of its groups
-pub record ShowsGroups {L : Type 0} (h : History) (q : Query) (bytes : List ℕ) (store : Store L) : Type 0 where
+pub record ShowsGroups {L : Type 0} (settings : Settings) (h : History) (q : Query) (bytes : List ℕ) (store : Store L) : Type 0 where
   pub rows : List GroupRow
-  pub listing : IsListing h.changes q.project q.min q.path rows
+  pub listing : IsListing settings h.changes q.project q.min q.path rows
   pub bytes_are : bytes ≡ line_of (reply.Groups rows (length h.changes))
-  pub stands : StandsFor (all_published h) store
+  pub stands : StandsFor settings (all_published h) store

@@ -1,14 +1,12 @@
 -- The tokens of an uploaded text, by its language.
-use Rattle.std.specs.Prelude.{◌≡◌, ℕ, ◌-◌, Ok, List, [], ◌∷◌, length, map, slice_get, Some, false, if◌then◌else◌, codes}
-use Rattle.std.specs.Str.{bytes_eq}
+use Rattle.std.specs.Prelude.{◌≡◌, ℕ, ◌-◌, Ok, List, [], ◌∷◌, length, map, slice_get, Some, false}
 use Rattle.cq_base.specs.Lines.{lines_of}
+use Rattle.cq_base.specs.declared.settings.Settings.{Settings}
 use Rattle.cq_base.specs.declared.lang.Lang.{Lang}
 use Rattle.cq_base.specs.declared.lang.Lang.TheVariants as lang
 use Rattle.cq_base.specs.declared.change.Change.{Change}
 use Rattle.cq_base.specs.declared.change.Change.TheVariants as change
 use Rattle.cq_base.specs.declared.norm.Norm.{Norm}
-use Rattle.cq_base.specs.declared.token.Class.{Class}
-use Rattle.cq_base.specs.declared.token.Class.TheVariants as class
 use Rattle.cq_base.specs.declared.token.Spelled.{Spelled}
 use Rattle.cq_munch.specs.declared.munching.Lexed.{Lexed}
 use Rattle.cq_munch.specs.declared.munching.Lexed.TheVariants as lexed
@@ -20,6 +18,7 @@ use Rattle.cq_lex_c.specs.C.{c}
 use Rattle.cq_lex_c.specs.Splices.{spliced}
 use Rattle.cq_lex_java.specs.Java.{java}
 use Rattle.cq_lex_java.specs.Translation.{translated}
+use Rattle.cq_normal.specs.Normal.{normal}
 use Rattle.cq_reply.specs.declared.reply.Shown.{Shown}
 use Rattle.cq_reply.specs.declared.reply.Shown.TheVariants as shown
 use Rattle.cq_reply.specs.declared.reply.FileRow.{FileRow}
@@ -44,36 +43,9 @@ shown_of (lexed.Tokens v) = shown.Ok
 shown_of (lexed.Fault at) = shown.Fault at
 shown_of lexed.Large = shown.Large
 
--- ---- tokens as they are compared
-
--- a digraph of C has the spelling that it stands for (C11 6.4.6)
-abbrev pub undigraphed : List ℕ → List ℕ
-undigraphed text =
-    if bytes_eq text (codes "<:") then codes "["
-    else (if bytes_eq text (codes ":>") then codes "]"
-    else (if bytes_eq text (codes "<%") then codes "{"
-    else (if bytes_eq text (codes "%>") then codes "}"
-    else (if bytes_eq text (codes "%:") then codes "#"
-    else (if bytes_eq text (codes "%:%:") then codes "##"
-    else text)))))
-
-abbrev pub punctuation : Lang → List ℕ → List ℕ
-punctuation lang.Any text = text
-punctuation lang.Go text = text
-punctuation lang.C text = undigraphed text
-punctuation lang.Java text = text
-
-abbrev pub normal_text : Lang → Class → List ℕ → List ℕ
-normal_text l class.Ident text = text
-normal_text l class.Word text = text
-normal_text l class.Literal text = text
-normal_text l class.Punct text = punctuation l text
-
-abbrev pub norm_of : Lang → Spelled → Norm
-norm_of l s = record { lang = l; class = s.token.class; text = normal_text l s.token.class s.text }
-
-abbrev pub norms_of : Lang → Lexed → List Norm
-norms_of l answer = map (norm_of l) (tokens_in answer)
+-- the tokens as they are compared
+abbrev pub norms_of : Settings → Lang → Lexed → List Norm
+norms_of settings l answer = normal settings l (tokens_in answer)
 
 -- ---- the files of a project
 
@@ -98,8 +70,8 @@ AreRead changes (f ∷ files) [] = ⊥
 AreRead changes (f ∷ files) (r ∷ readings) = IsReading changes f.number r × AreRead changes files readings
 
 -- the tokens of all
-abbrev pub corpus_read : List Reading → List (List Norm)
-corpus_read readings = map (λ r. norms_of r.lang r.answer) readings
+abbrev pub corpus_read : Settings → List Reading → List (List Norm)
+corpus_read settings readings = map (λ r. norms_of settings r.lang r.answer) readings
 
 -- a file as a reply shows it
 abbrev pub file_row : File → Reading → FileRow

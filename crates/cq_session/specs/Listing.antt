@@ -3,6 +3,7 @@ use Rattle.std.specs.Prelude.{◌≡◌, ℕ, ◌+◌, ◌-◌, ◌<◌, ◌≤�
 use Rattle.std.specs.List.{list_any}
 use Rattle.std.specs.Str.{bytes_eq}
 use Rattle.cq_base.specs.declared.change.Change.{Change}
+use Rattle.cq_base.specs.declared.settings.Settings.{Settings}
 use Rattle.cq_base.specs.declared.group.Group.{Group}
 use Rattle.cq_base.specs.declared.group.Place.{Place}
 use Rattle.cq_base.specs.declared.token.Class.TheVariants.{Punct}
@@ -56,13 +57,13 @@ is_meant None row = true
 is_meant (Some path) row = is_in path row
 
 -- the rows are the groups of the tokens of the project's files, in order
-pub record IsListing (changes : List Change) (project : List ℕ) (min : ℕ) (path : Option (List ℕ)) (rows : List GroupRow) : Type 0 where
+pub record IsListing (settings : Settings) (changes : List Change) (project : List ℕ) (min : ℕ) (path : Option (List ℕ)) (rows : List GroupRow) : Type 0 where
   pub files : List File
   pub are_files : AreFiles changes project files
   pub readings : List Reading
   pub are_read : AreRead changes files readings
   pub groups : List Group
-  pub are_groups : AreGroups (corpus_read readings) min groups
+  pub are_groups : AreGroups (corpus_read settings readings) min groups
   pub rows_are : rows ≡ filter (is_meant path) (map (group_row files (spans_read readings)) groups)
 
 -- ---- what can be shown: each word stands within its file

@@ -54,7 +54,7 @@ pub record Serves (settings : Settings) (h after : History) (limit : ℕ) (rest 
 -- the same, and the history for which the store stands then
 pub record Leaves {L : Type 0} (settings : Settings) (h : History) (store : Store L) (limit : ℕ) (rest rest_now before written_now : Option (List ℕ)) (by : End) : Type 0 where
   pub after : History
-  pub stands : StandsFor after store
+  pub stands : StandsFor settings after store
   pub serves : Serves settings h after limit rest rest_now before written_now by
 
 -- the counts of the source and of the sink
@@ -69,7 +69,7 @@ pub record Turns {L E : Type 0} (settings : Settings) (h : History) (store : Sto
   pub reply : Reply
   pub after : History
   pub answers : Answers settings h line reply after
-  pub stands : StandsFor after store
+  pub stands : StandsFor settings after store
   pub sends : Sends before written_now (line_of reply) result
 
 -- between two lines: these lines were cut, and have their replies
@@ -84,4 +84,4 @@ pub record SoFar (settings : Settings) (h now : History) (limit : ℕ) (rest res
 pub record Goes {L : Type 0} (settings : Settings) (h : History) (store : Store L) (limit : ℕ) (rest rest_now before written_now : Option (List ℕ)) (held : Held) : Type 0 where
   pub now : History
   pub so_far : SoFar settings h now limit rest rest_now before written_now held
-  pub stands : StandsFor now store
+  pub stands : StandsFor settings now store

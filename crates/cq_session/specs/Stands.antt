@@ -4,6 +4,7 @@ use Rattle.std.specs.Arc.{arc_value}
 use Rattle.std.specs.Str.{IsUtf8}
 use Rattle.std.specs.declared.cmp.Ordering.TheVariants.{Less}
 use Rattle.cq_base.specs.Lines.{lines_of}
+use Rattle.cq_base.specs.declared.settings.Settings.{Settings}
 use Rattle.cq_base.specs.declared.change.Change.{Change}
 use Rattle.cq_base.specs.declared.lang.Lang.{Lang}
 use Rattle.cq_clones.specs.Lists.{AreAllInOrder}
@@ -31,38 +32,38 @@ abbrev pub KeyBefore : Key → Key → Type 0
 KeyBefore a b = place_cmp a.project a.path b.project b.path ≡ Less
 
 -- what is kept shows this reading
-pub record Shows {L : Type 0} (k : Kept L) (r : Reading) : Type 0 where
+pub record Shows {L : Type 0} (settings : Settings) (k : Kept L) (r : Reading) : Type 0 where
   pub lang : k.lang ≡ r.lang
   pub lines : k.lines ≡ lines_of r.text
   pub shown : k.shown ≡ shown_of r.answer
   pub count : k.count ≡ length (tokens_in r.answer)
   pub spans : k.spans.items ≡ spans_of (tokens_in r.answer)
-  pub norms : arc_value k.tokens.tokens ≡ norms_of r.lang r.answer
+  pub norms : arc_value k.tokens.tokens ≡ norms_of settings r.lang r.answer
 
 -- what is kept of an uploaded text with the number of its upload
-pub record IsKeptOf {L : Type 0} (lang : Lang) (text : List ℕ) (number : ℕ) (k : Kept L) : Type 0 where
+pub record IsKeptOf {L : Type 0} (settings : Settings) (lang : Lang) (text : List ℕ) (number : ℕ) (k : Kept L) : Type 0 where
   pub number_is : k.tokens.change ≡ number
   pub answer : Lexed
   pub lexes : LexesTo lang text answer
-  pub shows : Shows k (record { lang = lang; text = text; answer = answer })
+  pub shows : Shows settings k (record { lang = lang; text = text; answer = answer })
 
 -- the file is that of the last upload at its path
 abbrev pub IsLastAt : List Change → Key → Type 0
 IsLastAt changes key = IsLastPut changes key.project key.path key.number
 
 -- what is kept of a file is what its upload gives
-pub record HasWork {L : Type 0} (changes : List Change) (e : KeptAt L) : Type 0 where
+pub record HasWork {L : Type 0} (settings : Settings) (changes : List Change) (e : KeptAt L) : Type 0 where
   pub path : IsUtf8 e.0.path
   pub reading : Reading
   pub reads : IsReading changes e.1.tokens.change reading
-  pub shows : Shows e.1 reading
+  pub shows : Shows settings e.1 reading
 
 -- the store keeps exactly the files of these changes, each with its tokens
-pub record StandsFor {L : Type 0} (h : History) (store : Store L) : Type 0 where
+pub record StandsFor {L : Type 0} (settings : Settings) (h : History) (store : Store L) : Type 0 where
   pub accepted : store.accepted ≡ length h.changes
   pub published : store.published ≡ h.published
   pub within : h.published ≤ length h.changes
   pub undone : store.undone ≡ undone h
   pub texts : store.texts ≡ texts_size h.changes
   pub files : AreAllInOrder KeyBefore (IsLastAt h.changes) (map key_of store.files.entries)
-  pub works : (e : KeptAt L) → Contains store.files.entries e → HasWork h.changes e
+  pub works : (e : KeptAt L) → Contains store.files.entries e → HasWork settings h.changes e

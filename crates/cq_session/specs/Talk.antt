@@ -53,14 +53,14 @@ IsReady h q = (q.at ≤ length h.changes) × (q.finish ≡ false → undone h �
 
 -- A query shows the version of all accepted changes, which is then published; unless its version is above it, or it
 -- does not want to wait and a change is not done.
-abbrev pub IsAnswered : History → Query → Reply → History → Type 0
-IsAnswered h q (reply.Future n) after = (length h.changes < q.at) × (n ≡ length h.changes) × (after ≡ h)
-IsAnswered h q (reply.Pending n) after = (q.at ≤ length h.changes) × (q.finish ≡ false) × (undone h ≡ Some n) × (after ≡ h)
-IsAnswered h q (reply.Files rows version) after =
+abbrev pub IsAnswered : Settings → History → Query → Reply → History → Type 0
+IsAnswered settings h q (reply.Future n) after = (length h.changes < q.at) × (n ≡ length h.changes) × (after ≡ h)
+IsAnswered settings h q (reply.Pending n) after = (q.at ≤ length h.changes) × (q.finish ≡ false) × (undone h ≡ Some n) × (after ≡ h)
+IsAnswered settings h q (reply.Files rows version) after =
     IsReady h q × (q.kind ≡ kind.Files) × IsFileListing h.changes q.project rows × (version ≡ length h.changes) × (after ≡ all_published h)
-IsAnswered h q (reply.Groups rows version) after =
-    IsReady h q × (q.kind ≡ kind.Groups) × IsListing h.changes q.project q.min q.path rows × (version ≡ length h.changes) × (after ≡ all_published h)
-IsAnswered h q _ after = ⊥
+IsAnswered settings h q (reply.Groups rows version) after =
+    IsReady h q × (q.kind ≡ kind.Groups) × IsListing settings h.changes q.project q.min q.path rows × (version ≡ length h.changes) × (after ≡ all_published h)
+IsAnswered settings h q _ after = ⊥
 
 -- measures and verdicts are not served yet
 abbrev pub is_shown : Kind → Bool
@@ -84,7 +84,7 @@ refused_as refusal.Memory = reply.Memory
 -- what a line says is answered
 abbrev pub IsAnswer : Settings → History → Result Request Refusal → Reply → History → Type 0
 IsAnswer settings h (Ok (request.Change c)) r after = IsChanged settings h c r after
-IsAnswer settings h (Ok (request.Query q)) r after = MatchBool (is_shown q.kind) (IsAnswered h q r after) ((r ≡ reply.Op) × (after ≡ h))
+IsAnswer settings h (Ok (request.Query q)) r after = MatchBool (is_shown q.kind) (IsAnswered settings h q r after) ((r ≡ reply.Op) × (after ≡ h))
 IsAnswer settings h (Ok request.State) r after = (r ≡ reply.State (length h.changes) (done h) h.published) × (after ≡ h)
 IsAnswer settings h (Err why) r after = (r ≡ refused_as why) × (after ≡ h)
 

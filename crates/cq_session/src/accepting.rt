@@ -57,12 +57,12 @@ impl<L: Ledger> Store<L> {
         lang: Lang,
         text: Text,
     ) -> Result<u64, Refused>
-        requires sound { (h : History) × StandsFor h self.old }
+        requires sound { (h : History) × StandsFor settings.now h self.old }
         requires path { IsUtf8 path }
         requires utf8 { IsUtf8 text }
         requires short { length text ≤ 1048576 }
-        ensures accepted { IfOk result (λ n. (h : History) → StandsFor h self.old → IsFree settings.now h (change.Put project path lang text) × (n ≡ length h.changes + 1) × StandsFor (with_change h (change.Put project path lang text)) self.new) }
-        ensures refused { IfErr result (λ why. (h : History) → StandsFor h self.old → IsRefused settings.now h (change.Put project path lang text) why × StandsFor h self.new) }
+        ensures accepted { IfOk result (λ n. (h : History) → StandsFor settings.now h self.old → IsFree settings.now h (change.Put project path lang text) × (n ≡ length h.changes + 1) × StandsFor settings.now (with_change h (change.Put project path lang text)) self.new) }
+        ensures refused { IfErr result (λ why. (h : History) → StandsFor settings.now h self.old → IsRefused settings.now h (change.Put project path lang text) why × StandsFor settings.now h self.new) }
     {
         if self.accepted >= settings.change_limit {
             return Err(Refused::FullChanges);
@@ -74,7 +74,7 @@ impl<L: Ledger> Store<L> {
             return Err(Refused::FullText);
         }
         let number = self.accepted + 1;
-        let kept = kept_of(alloc, lang, &text, number)?;
+        let kept = kept_of(alloc, settings, lang, &text, number)?;
         self.files.insert(FileKey { project, path }, kept)?;
         self.accepted = number;
         self.texts = texts;
@@ -83,8 +83,8 @@ impl<L: Ledger> Store<L> {
     }
 
     fn remove(&mut self, settings: &Settings, project: Text, path: Text) -> Result<u64, Refused>
-        ensures accepted { IfOk result (λ n. (h : History) → StandsFor h self.old → IsFree settings.now h (change.Drop project path) × (n ≡ length h.changes + 1) × StandsFor (with_change h (change.Drop project path)) self.new) }
-        ensures refused { IfErr result (λ why. (h : History) → StandsFor h self.old → IsRefused settings.now h (change.Drop project path) why × StandsFor h self.new) }
+        ensures accepted { IfOk result (λ n. (h : History) → StandsFor settings.now h self.old → IsFree settings.now h (change.Drop project path) × (n ≡ length h.changes + 1) × StandsFor settings.now (with_change h (change.Drop project path)) self.new) }
+        ensures refused { IfErr result (λ why. (h : History) → StandsFor settings.now h self.old → IsRefused settings.now h (change.Drop project path) why × StandsFor settings.now h self.new) }
     {
         let key = FileKey { project, path };
         if !self.files.contains_key(&key) {
@@ -104,8 +104,8 @@ impl<L: Ledger> Store<L> {
         project: Text,
         conditions: Conditions,
     ) -> Result<u64, Refused>
-        ensures accepted { IfOk result (λ n. (h : History) → StandsFor h self.old → IsFree settings.now h (change.Gate project conditions) × (n ≡ length h.changes + 1) × StandsFor (with_change h (change.Gate project conditions)) self.new) }
-        ensures refused { IfErr result (λ why. (h : History) → StandsFor h self.old → IsRefused settings.now h (change.Gate project conditions) why × StandsFor h self.new) }
+        ensures accepted { IfOk result (λ n. (h : History) → StandsFor settings.now h self.old → IsFree settings.now h (change.Gate project conditions) × (n ≡ length h.changes + 1) × StandsFor settings.now (with_change h (change.Gate project conditions)) self.new) }
+        ensures refused { IfErr result (λ why. (h : History) → StandsFor settings.now h self.old → IsRefused settings.now h (change.Gate project conditions) why × StandsFor settings.now h self.new) }
     {
         if self.accepted >= settings.change_limit {
             return Err(Refused::FullChanges);
@@ -121,10 +121,10 @@ impl<L: Ledger> Store<L> {
         settings: &Settings,
         change: Change,
     ) -> Result<u64, Refused>
-        requires stands { (h : History) × StandsFor h self.old }
+        requires stands { (h : History) × StandsFor settings.now h self.old }
         requires sound { IsSoundChange change }
-        ensures accepted { IfOk result (λ n. (h : History) → StandsFor h self.old → IsFree settings.now h change × (n ≡ length h.changes + 1) × StandsFor (with_change h change) self.new) }
-        ensures refused { IfErr result (λ why. (h : History) → StandsFor h self.old → IsRefused settings.now h change why × StandsFor h self.new) }
+        ensures accepted { IfOk result (λ n. (h : History) → StandsFor settings.now h self.old → IsFree settings.now h change × (n ≡ length h.changes + 1) × StandsFor settings.now (with_change h change) self.new) }
+        ensures refused { IfErr result (λ why. (h : History) → StandsFor settings.now h self.old → IsRefused settings.now h change why × StandsFor settings.now h self.new) }
     {
         match change {
             Change::Put {

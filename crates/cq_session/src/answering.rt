@@ -8,6 +8,7 @@ ghost use Rattle.cq_request.specs.declared.request.Request.TheVariants as reques
 ghost use Rattle.cq_request.specs.declared.request.Refusal.{Refusal};
 ghost use Rattle.cq_reply.specs.Written.{line_of, IsReplyText};
 ghost use Rattle.cq_reply.specs.declared.reply.Reply.TheVariants as reply;
+ghost use Rattle.cq_base.specs.declared.settings.Settings.{Settings};
 ghost use Rattle.cq_session.specs.Changes.{History};
 ghost use Rattle.cq_session.specs.Stands.{StandsFor};
 ghost use Rattle.cq_session.specs.Talk.{refused_as, is_shown, IsReady};
@@ -75,10 +76,10 @@ fn change_line<L: Ledger>(
     store: &mut Store<L>,
     change: Change,
 ) -> Result<Line, Memory>
-    requires stands { (h : History) × StandsFor h store.old }
+    requires stands { (h : History) × StandsFor settings.now h store.old }
     requires sound { IsSoundChange change }
-    ensures replies { IfOk result (λ line. (h : History) → StandsFor h store.old → Replies settings.now h (ok (request.Change change)) (bytes_of line) store.new) }
-    ensures refused { OnErr result ((h : History) → StandsFor h store.old → StandsFor h store.new) }
+    ensures replies { IfOk result (λ line. (h : History) → StandsFor settings.now h store.old → Replies settings.now h (ok (request.Change change)) (bytes_of line) store.new) }
+    ensures refused { OnErr result ((h : History) → StandsFor settings.now h store.old → StandsFor settings.now h store.new) }
 {
     match store.accept(alloc, settings, change) {
         Ok(number) => Ok(Line::Short(fixed(Short::Change(number)))),
@@ -91,9 +92,9 @@ fn change_line<L: Ledger>(
 
 // The files of a project, at the version of all changes, which is published then.
 fn files_line<L: Ledger>(alloc: Global, store: &mut Store<L>, query: &Query) -> Result<Line, Memory>
-    requires stands { (h : History) × StandsFor h store.old }
-    ensures shows { IfOk result (λ line. (h : History) → StandsFor h store.old → ShowsFiles h query.now (bytes_of line) store.new) }
-    ensures refused { OnErr result ((h : History) → StandsFor h store.old → StandsFor h store.new) }
+    requires stands { (settings : Settings) × (h : History) × StandsFor settings h store.old }
+    ensures shows { IfOk result (λ line. (settings : Settings) (h : History) → StandsFor settings h store.old → ShowsFiles settings h query.now (bytes_of line) store.new) }
+    ensures refused { OnErr result ((settings : Settings) (h : History) → StandsFor settings h store.old → StandsFor settings h store.new) }
 {
     let files = store.files_of(alloc, &query.project)?;
     let version = store.accepted;
@@ -109,10 +110,10 @@ fn groups_line<L: Ledger>(
     query: &Query,
     steps: &mut Steps<L>,
 ) -> Result<Line, Memory>
-    requires stands { (h : History) × StandsFor h store.old }
+    requires stands { (settings : Settings) × (h : History) × StandsFor settings h store.old }
     requires some { 1 ≤ query.now.min }
-    ensures shows { IfOk result (λ line. (h : History) → StandsFor h store.old → ShowsGroups h query.now (bytes_of line) store.new) }
-    ensures refused { OnErr result ((h : History) → StandsFor h store.old → StandsFor h store.new) }
+    ensures shows { IfOk result (λ line. (settings : Settings) (h : History) → StandsFor settings h store.old → ShowsGroups settings h query.now (bytes_of line) store.new) }
+    ensures refused { OnErr result ((settings : Settings) (h : History) → StandsFor settings h store.old → StandsFor settings h store.new) }
 {
     let groups = store.groups_of(alloc, &query.project, &query.path, query.min, steps)?;
     let version = store.accepted;
@@ -138,12 +139,12 @@ fn ready_line<L: Ledger>(
     query: &Query,
     steps: &mut Steps<L>,
 ) -> Result<Line, Memory>
-    requires stands { (h : History) × StandsFor h store.old }
-    requires ready { (h : History) → StandsFor h store.old → IsReady h query.now }
+    requires stands { (h : History) × StandsFor settings.now h store.old }
+    requires ready { (h : History) → StandsFor settings.now h store.old → IsReady h query.now }
     requires shown { is_shown query.now.kind ≡ true }
     requires some { 1 ≤ query.now.min }
-    ensures replies { IfOk result (λ line. (h : History) → StandsFor h store.old → Replies settings.now h (ok (request.Query query.now)) (bytes_of line) store.new) }
-    ensures refused { OnErr result ((h : History) → StandsFor h store.old → StandsFor h store.new) }
+    ensures replies { IfOk result (λ line. (h : History) → StandsFor settings.now h store.old → Replies settings.now h (ok (request.Query query.now)) (bytes_of line) store.new) }
+    ensures refused { OnErr result ((h : History) → StandsFor settings.now h store.old → StandsFor settings.now h store.new) }
 {
     match query.kind {
         Kind::Files => files_line(alloc, store, query),
@@ -158,10 +159,10 @@ fn query_line<L: Ledger>(
     query: &Query,
     steps: &mut Steps<L>,
 ) -> Result<Line, Memory>
-    requires stands { (h : History) × StandsFor h store.old }
+    requires stands { (h : History) × StandsFor settings.now h store.old }
     requires some { 1 ≤ query.now.min }
-    ensures replies { IfOk result (λ line. (h : History) → StandsFor h store.old → Replies settings.now h (ok (request.Query query.now)) (bytes_of line) store.new) }
-    ensures refused { OnErr result ((h : History) → StandsFor h store.old → StandsFor h store.new) }
+    ensures replies { IfOk result (λ line. (h : History) → StandsFor settings.now h store.old → Replies settings.now h (ok (request.Query query.now)) (bytes_of line) store.new) }
+    ensures refused { OnErr result ((h : History) → StandsFor settings.now h store.old → StandsFor settings.now h store.new) }
 {
     if !is_shown(query.kind) {
         return made(alloc, &Reply::Op);
@@ -183,7 +184,7 @@ fn state_line<L: Ledger>(
     settings: &Settings,
     store: &Store<L>,
 ) -> Result<Line, Memory>
-    ensures { IfOk result (λ line. (h : History) → StandsFor h store.now → Replies settings.now h (ok request.State) (bytes_of line) store.now) }
+    ensures { IfOk result (λ line. (h : History) → StandsFor settings.now h store.now → Replies settings.now h (ok request.State) (bytes_of line) store.now) }
 {
     let state = Reply::State {
         accepted: store.accepted,
@@ -201,10 +202,10 @@ fn reply_line<L: Ledger>(
     line: &[u8],
     steps: &mut Steps<L>,
 ) -> Result<Line, Memory>
-    requires stands { (h : History) × StandsFor h store.old }
+    requires stands { (h : History) × StandsFor settings.now h store.old }
     requires chunk { 1 ≤ settings.now.chunk }
-    ensures replies { IfOk result (λ made. (h : History) → StandsFor h store.old → Replies settings.now h (line_says settings.now.chunk line.now) (bytes_of made) store.new) }
-    ensures refused { OnErr result ((h : History) → StandsFor h store.old → StandsFor h store.new) }
+    ensures replies { IfOk result (λ made. (h : History) → StandsFor settings.now h store.old → Replies settings.now h (line_says settings.now.chunk line.now) (bytes_of made) store.new) }
+    ensures refused { OnErr result ((h : History) → StandsFor settings.now h store.old → StandsFor settings.now h store.new) }
 {
     match read_request(alloc, settings, line) {
         Ok(Request::Change(change)) => change_line(alloc, settings, store, change),
@@ -223,10 +224,10 @@ pub(crate) fn answer<K: Sink, L: Ledger>(
     line: &[u8],
     steps: &mut Steps<L>,
 ) -> Result<(), Failed>
-    requires stands { (h : History) × StandsFor h store.old }
+    requires stands { (h : History) × StandsFor settings.now h store.old }
     requires chunk { 1 ≤ settings.now.chunk }
     requires short { length line.now ≤ line_limit }
-    ensures turn { (h : History) → StandsFor h store.old → Turns settings.now h store.new line.now (K.written sink.old) (K.written sink.new) result }
+    ensures turn { (h : History) → StandsFor settings.now h store.old → Turns settings.now h store.new line.now (K.written sink.old) (K.written sink.new) result }
     ensures cause { HasCause (K.faults sink.old) (K.faults sink.new) result }
 {
     match reply_line(alloc, settings, store, line, steps) {

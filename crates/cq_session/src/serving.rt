@@ -38,8 +38,8 @@ pub fn session<S: Source, K: Sink, L: Ledger>(
 ) -> End
     requires fresh { IsFresh lines.old }
     requires chunk { 1 ≤ settings.now.chunk }
-    requires stands { (h : History) × StandsFor h store.old }
-    ensures served { (h : History) → StandsFor h store.old → Leaves settings.now h store.new lines.old.limit (S.rest source.old) (S.rest source.new) (K.written sink.old) (K.written sink.new) result }
+    requires stands { (h : History) × StandsFor settings.now h store.old }
+    ensures served { (h : History) → StandsFor settings.now h store.old → Leaves settings.now h store.new lines.old.limit (S.rest source.old) (S.rest source.new) (K.written sink.old) (K.written sink.new) result }
     ensures cause { HasEndCause (S.faults source.old) (S.faults source.new) (K.faults sink.old) (K.faults sink.new) result }
 {
     'lines: loop {

@@ -1,6 +1,7 @@
 ghost use Rattle.std.specs.Prelude.{◌≡◌, ◌≤◌, IfOk};
 ghost use Rattle.std.specs.List.{AllByRecursion};
 ghost use Rattle.cq_reply.specs.Written.{IsFileText, IsGroupText};
+ghost use Rattle.cq_base.specs.declared.settings.Settings.{Settings};
 ghost use Rattle.cq_session.specs.Changes.{History, no_history, all_published, done};
 
 use crate::kept::{FileKey, Kept};
@@ -34,7 +35,7 @@ impl<L: Ledger> Store<L> {
 
     /// A store in which nothing was accepted. It takes no memory.
     pub fn new(alloc: Global) -> Store<L>
-        ensures { StandsFor no_history result }
+        ensures { (settings : Settings) → StandsFor settings no_history result }
     {
         Store {
             files: BTreeMap::new(alloc),
@@ -47,7 +48,7 @@ impl<L: Ledger> Store<L> {
 
     /// All accepted changes are published.
     pub(crate) fn publish(&mut self)
-        ensures { (h : History) → StandsFor h self.old → StandsFor (all_published h) self.new }
+        ensures { (settings : Settings) (h : History) → StandsFor settings h self.old → StandsFor settings (all_published h) self.new }
     {
         self.published = self.accepted;
         self.undone = None;
@@ -55,7 +56,7 @@ impl<L: Ledger> Store<L> {
 
     /// The greatest number up to which all changes are done.
     pub(crate) fn done(&self) -> u64
-        ensures { (h : History) → StandsFor h self.now → result ≡ done h }
+        ensures { (settings : Settings) (h : History) → StandsFor settings h self.now → result ≡ done h }
     {
         match self.undone {
             Some(number) => number.saturating_sub(1),
@@ -65,8 +66,8 @@ impl<L: Ledger> Store<L> {
 
     /// The files of a project.
     pub(crate) fn files_of(&self, alloc: Global, project: &Text) -> Result<FileRows, Memory>
-        requires sound { (h : History) × StandsFor h self.now }
-        ensures listing { IfOk result (λ rows. (h : History) → StandsFor h self.now → IsFileListing h.changes project.now rows) }
+        requires sound { (settings : Settings) × (h : History) × StandsFor settings h self.now }
+        ensures listing { IfOk result (λ rows. (settings : Settings) (h : History) → StandsFor settings h self.now → IsFileListing h.changes project.now rows) }
         ensures texts { IfOk result (AllByRecursion IsFileText) }
     {
         let files = of_project(alloc, &self.files, project)?;
@@ -83,9 +84,9 @@ impl<L: Ledger> Store<L> {
         min: u32,
         steps: &mut Steps<L>,
     ) -> Result<GroupRows, Memory>
-        requires sound { (h : History) × StandsFor h self.now }
+        requires sound { (settings : Settings) × (h : History) × StandsFor settings h self.now }
         requires some { 1 ≤ min }
-        ensures listing { IfOk result (λ rows. (h : History) → StandsFor h self.now → IsListing h.changes project.now min path.now rows) }
+        ensures listing { IfOk result (λ rows. (settings : Settings) (h : History) → StandsFor settings h self.now → IsListing settings h.changes project.now min path.now rows) }
         ensures texts { IfOk result (AllByRecursion IsGroupText) }
     {
         let files = of_project(alloc, &self.files, project)?;

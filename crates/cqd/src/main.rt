@@ -5,7 +5,6 @@
 ghost use Rattle.std.specs.Prelude.{◌≡◌};
 
 mod program;
-mod words;
 
 use crate::program::top;
 use cq_base::{Memory, Steps, Text};

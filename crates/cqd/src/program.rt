@@ -1,15 +1,15 @@
-ghost use Rattle.std.specs.Prelude.{◌≡◌, ◌≢◌, ◌↔◌, Some, None};
+ghost use Rattle.std.specs.Prelude.{◌≡◌, ◌≢◌, ◌≤◌, Some, None};
 ghost use Rattle.cq_io.specs.Causes.{Rose};
 ghost use Rattle.cqd.specs.Top.{Runs};
 ghost use Rattle.cqd.specs.Top as spec;
-ghost use Rattle.cq_base.specs.declared.settings.Settings.{Settings};
-ghost use Rattle.cqd.specs.Words.{settings_of};
+ghost use Rattle.cq_words.specs.Run.{run_of};
+ghost use Rattle.cq_words.specs.declared.run.Run.{Run};
 
-use crate::words::read_settings;
-use cq_base::{Steps, Text};
+use cq_base::{Memory, Settings, Steps, Text};
 use cq_io::{Doors, Gate, Sink, Source};
 use cq_lines::Lines;
 use cq_session::{End, Store, session};
+use cq_words::read_run;
 use std::alloc::Global;
 use std::sync::ledger::Ledger;
 
@@ -24,6 +24,34 @@ fn status_of(end: End) -> u8
     }
 }
 
+// A session over a new store, and its status.
+fn serve<S: Source, K: Sink, L: Ledger>(
+    alloc: Global,
+    settings: &Settings,
+    source: &mut S,
+    sink: &mut K,
+    steps: &mut Steps<L>,
+) -> u8
+    requires chunk { 1 ≤ settings.now.chunk }
+    ensures words { result ≢ 1 }
+    ensures memory { result ≡ 4 → (source.new ≡ source.old) × (sink.new ≡ sink.old) }
+    ensures read_fault { result ≡ 2 → Rose (S.faults source.old) (S.faults source.new) }
+    ensures write_fault { result ≡ 3 → Rose (K.faults sink.old) (K.faults sink.new) }
+    ensures finished { result ≡ 0 → (S.faults source.new ≡ S.faults source.old) × (K.faults sink.new ≡ K.faults sink.old) }
+    ensures spent { result ≡ 6 → (S.faults source.new ≡ S.faults source.old) × (K.faults sink.new ≡ K.faults sink.old) }
+    ensures runs { result ≢ 4 → Runs settings.now (S.rest source.old) (S.rest source.new) (K.written sink.old) (K.written sink.new)
+        (S.faults source.old) (S.faults source.new) (K.faults sink.old) (K.faults sink.new) result }
+{
+    match Lines::new(alloc, settings.byte_limit) {
+        Ok(mut lines) => {
+            let mut store = Store::new(alloc);
+            let end = session(alloc, settings, &mut store, &mut lines, source, sink, steps);
+            status_of(end)
+        }
+        Err(Memory) => 4,
+    }
+}
+
 /// The whole program: the words, and the lines of the source answered into the sink. Its answer is the status with
 /// which the process is to end.
 pub fn top<S: Source, K: Sink, D: Doors, G: Gate, L: Ledger>(
@@ -35,8 +63,9 @@ pub fn top<S: Source, K: Sink, D: Doors, G: Gate, L: Ledger>(
     gate: &G,
     steps: &mut Steps<L>,
 ) -> u8
-    // 1 exactly where the words are out of form, and nothing is read or written then.
-    ensures words { (result ≡ 1) ↔ (settings_of words.now ≡ None) }
+    // 1 exactly where the words are out of form, but for want of memory, and nothing is read or written then.
+    ensures words { result ≡ 1 → run_of words.now ≡ None }
+    ensures others { run_of words.now ≡ None → result ≢ 4 → result ≡ 1 }
     ensures refused { result ≡ 1 → (source.new ≡ source.old) × (sink.new ≡ sink.old) }
 
     // 4 for want of memory before a line is read.
@@ -52,20 +81,12 @@ pub fn top<S: Source, K: Sink, D: Doors, G: Gate, L: Ledger>(
     ensures doors { doors.new ≡ doors.old }
 
     // Every status but 1 and 4 is that of a session over all lines of the source.
-    ensures runs { (settings : Settings) → settings_of words.now ≡ Some settings → result ≢ 4 → Runs settings (S.rest source.old) (S.rest source.new) (K.written sink.old) (K.written sink.new)
+    ensures runs { (run : Run) → run_of words.now ≡ Some run → result ≢ 4 → Runs run.settings (S.rest source.old) (S.rest source.new) (K.written sink.old) (K.written sink.new)
         (S.faults source.old) (S.faults source.new) (K.faults sink.old) (K.faults sink.new) result }
 {
-    let Some(settings) = read_settings(words) else {
-        return 1;
-    };
-    match Lines::new(alloc, settings.byte_limit) {
-        Ok(mut lines) => {
-            let mut store = Store::new(alloc);
-            let end = session(
-                alloc, &settings, &mut store, &mut lines, source, sink, steps,
-            );
-            status_of(end)
-        }
-        Err(_) => 4,
+    match read_run(alloc, words) {
+        Ok(Some(run)) => serve(alloc, &run.settings, source, sink, steps),
+        Ok(None) => 1,
+        Err(Memory) => 4,
     }
 }

@@ -6,7 +6,7 @@ use Rattle.cq_session.proofs.serving.session.Given as goal
 
 abbrev pub invariant-lines : goal.invariant-lines
 invariant-lines g l = record {
-  goes : (h : History) → StandsFor h l.fn.store → Goes l.settings h l.store l.fn.lines.limit (g.S.Source.rest l.fn.source) (g.S.Source.rest l.source) (g.K.Sink.written l.fn.sink) (g.K.Sink.written l.sink) l.lines;
+  goes : (h : History) → StandsFor l.settings h l.fn.store → Goes l.settings h l.store l.fn.lines.limit (g.S.Source.rest l.fn.source) (g.S.Source.rest l.source) (g.K.Sink.written l.fn.sink) (g.K.Sink.written l.sink) l.lines;
   source_faults : g.S.Source.faults l.source ≡ g.S.Source.faults l.fn.source;
   sink_faults : g.K.Sink.faults l.sink ≡ g.K.Sink.faults l.fn.sink;
 }

@@ -1,0 +1,88 @@
+ghost use Rattle.std.specs.Prelude.{◌≡◌, IfOk, map, option_map, unwrap_or};
+ghost use Rattle.cq_normal.specs.Normal as spec;
+
+use cq_base::{Class, Lang, Memory, Norm, Settings, Spelled, Text};
+use std::alloc::Global;
+
+// What a digraph stands for, if the spelling is one.
+fn meaning(spelling: &[u8]) -> Option<&'static str>
+    ensures { unwrap_or (option_map (λ s. s.now) result) spelling.now ≡ spec.undigraphed spelling.now }
+{
+    match spelling {
+        b"<:" => Some("["),
+        b":>" => Some("]"),
+        b"<%" => Some("{"),
+        b"%>" => Some("}"),
+        b"%:" => Some("#"),
+        b"%:%:" => Some("##"),
+        _ => None,
+    }
+}
+
+fn undigraphed(alloc: Global, text: Text) -> Result<Text, Memory>
+    ensures { IfOk result (λ t. t ≡ spec.undigraphed text) }
+{
+    match meaning(text.as_bytes()) {
+        Some(spelling) => Text::from_bytes(alloc, spelling.as_bytes()),
+        None => Ok(text),
+    }
+}
+
+fn punctuation(alloc: Global, lang: Lang, text: Text) -> Result<Text, Memory>
+    ensures { IfOk result (λ t. t ≡ spec.punctuation lang text) }
+{
+    match lang {
+        Lang::C => undigraphed(alloc, text),
+        Lang::Any | Lang::Go | Lang::Java => Ok(text),
+    }
+}
+
+fn unless_ignored(alloc: Global, is_ignored: bool, text: Text) -> Text
+    ensures { result ≡ spec.unless_ignored is_ignored text }
+{
+    if is_ignored {
+        return Text::from_vec(Vec::new(alloc));
+    }
+    text
+}
+
+fn normal_text(
+    alloc: Global,
+    settings: &Settings,
+    lang: Lang,
+    class: Class,
+    text: Text,
+) -> Result<Text, Memory>
+    ensures { IfOk result (λ t. t ≡ spec.normal_text settings.now lang class text) }
+{
+    match class {
+        Class::Ident => Ok(unless_ignored(alloc, settings.ignore_ids, text)),
+        Class::Literal => Ok(unless_ignored(alloc, settings.ignore_lits, text)),
+        Class::Word => Ok(text),
+        Class::Punct => punctuation(alloc, lang, text),
+    }
+}
+
+fn norm_of(alloc: Global, settings: &Settings, lang: Lang, spelled: Spelled) -> Result<Norm, Memory>
+    ensures { IfOk result (λ n. n ≡ spec.norm_of settings.now lang spelled) }
+{
+    let class = spelled.token.class;
+    let text = normal_text(alloc, settings, lang, class, spelled.text)?;
+    Ok(Norm { lang, class, text })
+}
+
+/// The tokens of a text of this language as they are compared, one for one. Their spellings are moved.
+pub fn normalise(
+    alloc: Global,
+    settings: &Settings,
+    lang: Lang,
+    tokens: Vec<Spelled>,
+) -> Result<Vec<Norm>, Memory>
+    ensures { IfOk result (λ v. v.items ≡ spec.normal settings.now lang tokens.items) }
+{
+    let mut norms = Vec::with_capacity(alloc, tokens.len())?;
+    for spelled in tokens {
+        norms.push(norm_of(alloc, settings, lang, spelled)?)?;
+    }
+    Ok(norms)
+}

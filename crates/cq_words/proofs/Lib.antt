@@ -1,0 +1,14 @@
+pub mod Outcomes
+pub mod Looks
+pub mod Rules
+pub mod Walking
+pub mod Lookups
+pub mod Defaults
+pub mod Items
+pub mod Matching
+pub mod Lone
+pub mod Values
+pub mod Exact
+pub mod RunExact
+pub mod Decimal
+pub mod FormLaws

@@ -1,0 +1,5 @@
+pub mod Grammar
+pub mod Numbers
+pub mod Run
+pub mod Asked
+pub mod Form
