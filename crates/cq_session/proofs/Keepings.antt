@@ -152,7 +152,7 @@ work_stays : {L : Type 0} (settings : Settings) (changes : List Change) (c : Cha
 work_stays settings changes c e work = record {
   path = work.path;
   reading = work.reading;
-  reads = record { project = work.reads.project; path = work.reads.path; there = there_more changes c (e.1.tokens.change - 1) _ work.reads.there; lexes = work.reads.lexes };
+  reads = record { project = work.reads.project; path = work.reads.path; there = there_more changes c (e.1.change - 1) _ work.reads.there; lexes = work.reads.lexes };
   shows = work.shows;
 }
 
@@ -209,7 +209,7 @@ module _ {L : Type 0} (settings : Settings) (changes : List Change) (project pat
         (⊎_elim
         (λ (old_in, other).
         let last : IsLastAt changes (key_of h.0) = (files.each (key_of h.0)).0 (Contains-map key_of old.entries h.0 old_in) in
-        last_stays changes put h.0.0.project h.0.0.path h.0.1.tokens.change last (λ (p, q). other (same_place place h.0.0 p q)))
+        last_stays changes put h.0.0.project h.0.0.path h.0.1.change last (λ (p, q). other (same_place place h.0.0 p q)))
         (λ same. subst (λ (e : KeptAt L). IsLastAt (changes ++ put ∷ []) (key_of e)) same last_kept)
         (cases h.0 h.1))
 
@@ -248,7 +248,7 @@ module _ {L : Type 0} (settings : Settings) (changes : List Change) (project pat
       let h = Contains-from_map key_of new.entries z c in
       let was_in = remain h.0 h.1 in
       let last : IsLastAt changes (key_of h.0) = (files.each (key_of h.0)).0 (Contains-map key_of old.entries h.0 was_in.0) in
-      subst (IsLastAt (changes ++ drop ∷ [])) h.2 (last_stays changes drop h.0.0.project h.0.0.path h.0.1.tokens.change last (λ (p, q). was_in.1 (same_place gone h.0.0 p q)))
+      subst (IsLastAt (changes ++ drop ∷ [])) h.2 (last_stays changes drop h.0.0.project h.0.0.path h.0.1.change last (λ (p, q). was_in.1 (same_place gone h.0.0 p q)))
 
   back_left : (z : Key) → IsLastAt (changes ++ drop ∷ []) z → Contains (map key_of new.entries) z
   back_left z last =
@@ -288,7 +288,7 @@ module _ {L : Type 0} (settings : Settings) (changes : List Change) (c : Change)
 pub standing : {L : Type 0} (changes : List Change) (m : BTreeMap FileKey (Kept L)) (ordered : IsOrdered file_cmp m) (files : AreAllInOrder KeyBefore (IsLastAt changes) (map key_of m.entries)) (project path : List ℕ) (kept : Kept L) → get file_cmp m (record { project = project; path = path }) ≡ Some kept → (n : ℕ) × IsLastPut changes project path n
 standing changes m ordered files project path kept found =
     let here = (btree_map_get_iff file_total file_exact m ordered (record { project = project; path = path }) kept).0 found in
-    (kept.tokens.change, (files.each (key_of (record { project = project; path = path }, kept))).0 (Contains-map key_of m.entries (record { project = project; path = path }, kept) here))
+    (kept.change, (files.each (key_of (record { project = project; path = path }, kept))).0 (Contains-map key_of m.entries (record { project = project; path = path }, kept) here))
 
 some_at : {X : Type 0} (o : Option X) (x : X) → o ≡ Some x → is_some o ≡ true
 some_at o x is = ap is_some is

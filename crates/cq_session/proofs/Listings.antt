@@ -27,7 +27,8 @@ use Rattle.cq_session.specs.declared.store.Store.{Store}
 use Rattle.cq_session.specs.Changes.{History}
 use Rattle.cq_normal.specs.Normal.{norm_of}
 use Rattle.cq_session.specs.Files.{File, IsLastPut, PathBefore, AreFiles}
-use Rattle.cq_session.specs.Lexing.{Reading, AreRead, tokens_in, corpus_read, file_row, file_rows}
+use Rattle.cq_work.specs.Lexing.{tokens_in, spans_of}
+use Rattle.cq_session.specs.Lexing.{Reading, AreRead, corpus_read, file_row, file_rows, shown_in}
 use Rattle.cq_session.specs.Kept.{KeptAt, file_of, files_of, spans_in, norms_in, row_of}
 use Rattle.cq_session.specs.Listing.{file_in, spans_read, IsInside, IsGroupInside, IsFileListing, IsListing, place_row, group_row, is_meant}
 use Rattle.cq_session.specs.Stands.{Key, key_of, KeyBefore, IsLastAt, Shows, HasWork, StandsFor}
@@ -71,7 +72,7 @@ project_files {L} settings h store project stands = record {
         let k = at.0 in
         let in_kept = Contains-from_filter (is_of project) store.files.entries k at.1 in
         let last : IsLastAt h.changes (key_of k) = (stands.files.each (key_of k)).0 (Contains-map key_of store.files.entries k in_kept.0) in
-        let own : IsLastPut h.changes project (file_of k).path (file_of k).number = subst (λ q. IsLastPut h.changes q k.0.path k.1.tokens.change) (chosen_project project k in_kept.1) last in
+        let own : IsLastPut h.changes project (file_of k).path (file_of k).number = subst (λ q. IsLastPut h.changes q k.0.path k.1.change) (chosen_project project k in_kept.1) last in
         subst (λ (g : File). IsLastPut h.changes project g.path g.number) at.2 own
 
     back : (f : File) → IsLastPut h.changes project f.path f.number → Contains (files_of (chosen project store.files.entries)) f
@@ -92,7 +93,7 @@ pub record Reads {L : Type 0} (settings : Settings) (changes : List Change) (ks 
   pub norms : norms_in ks ≡ corpus_read settings readings
 
 row_same : {L : Type 0} (settings : Settings) (k : KeptAt L) (r : Reading) → Shows settings k.1 r → row_of k ≡ file_row (file_of k) r
-row_same settings k r shows = λ i. record { path = k.0.path; change = k.1.tokens.change; lang = shows.lang i; lines = shows.lines i; shown = shows.shown i; tokens = shows.count i }
+row_same settings k r shows = λ i. record { path = k.0.path; change = k.1.change; lang = shows.work.lang_is i; lines = shows.lines i; shown = shown_in (shows.work.state_is i); tokens = shows.count i }
 
 pub reads : {L : Type 0} (settings : Settings) (changes : List Change) (ks : List (KeptAt L)) → ((k : KeptAt L) → Contains ks k → HasWork settings changes k) → Reads settings changes ks
 reads settings changes [] works = record { readings = []; are = tt; rows = refl; spans = refl; norms = refl }
@@ -103,8 +104,8 @@ reads settings changes (k ∷ ks) works =
       readings = work.reading ∷ rest.readings;
       are = (work.reads, rest.are);
       rows = ap₂ (λ (x : FileRow) (xs : List FileRow). x ∷ xs) (row_same settings k work.reading work.shows) rest.rows;
-      spans = ap₂ (λ (x : List Token) (xs : List (List Token)). x ∷ xs) work.shows.spans rest.spans;
-      norms = ap₂ (λ (x : List Norm) (xs : List (List Norm)). x ∷ xs) work.shows.norms rest.norms;
+      spans = ap₂ (λ (x : List Token) (xs : List (List Token)). x ∷ xs) work.shows.work.spans_are rest.spans;
+      norms = ap₂ (λ (x : List Norm) (xs : List (List Norm)). x ∷ xs) work.shows.work.tokens_are rest.norms;
     }
 
 -- as many spans as tokens
@@ -202,4 +203,4 @@ group_rows_are_texts {L} settings h store project min path groups ks some is sta
     kept_all IsGroupText (is_meant path) (map (group_row (files_of ks) (spans_in ks)) groups)
     (rows_are_texts settings h.changes ks (spans_in ks) groups works
     (λ group here p at. let inside = (groups_inside settings h.changes ks min groups some found are group here).1 p at in
-    omega (arith, inside.0, length-map ks (λ (k : KeptAt L). k.1.spans.items))))
+    omega (arith, inside.0, length-map ks (λ (k : KeptAt L). k.1.work.spans.items))))

@@ -8,10 +8,10 @@ use Rattle.cq_session.specs.Listing.{span_in}
 use Rattle.cq_reply.specs.declared.reply.PlaceRow.{PlaceRow}
 
 -- the spans and the file of one that was read
-pub spans_at : {L R : Type 0} (now : R → KeptAt L) (files : List R) (i : ℕ) (x : R) → i < length files → x ≡ get_or files i x → get_or (spans_in (map now files)) i [] ≡ (now x).1.spans.items
+pub spans_at : {L R : Type 0} (now : R → KeptAt L) (files : List R) (i : ℕ) (x : R) → i < length files → x ≡ get_or files i x → get_or (spans_in (map now files)) i [] ≡ (now x).1.work.spans.items
 spans_at now files i x inside read =
     let many = length-map files now in
-    get_or-map (λ e. e.1.spans.items) (map now files) i (now x) [] (omega arith) ∙ ap (λ e. e.1.spans.items) (get_or-map now files i x (now x) inside ∙ ap now (sym read))
+    get_or-map (λ e. e.1.work.spans.items) (map now files) i (now x) [] (omega arith) ∙ ap (λ e. e.1.work.spans.items) (get_or-map now files i x (now x) inside ∙ ap now (sym read))
 
 pub file_at : {L R : Type 0} (now : R → KeptAt L) (files : List R) (i : ℕ) (x : R) (d : File) → i < length files → x ≡ get_or files i x → get_or (files_of (map now files)) i d ≡ file_of (now x)
 file_at now files i x d inside read =
@@ -19,7 +19,7 @@ file_at now files i x d inside read =
     get_or-map file_of (map now files) i (now x) d (omega arith) ∙ ap file_of (get_or-map now files i x (now x) inside ∙ ap now (sym read))
 
 pub spans_many : {L R : Type 0} (now : R → KeptAt L) (files : List R) → length (spans_in (map now files)) ≡ length files
-spans_many now files = length-map (map now files) (λ e. e.1.spans.items) ∙ length-map files now
+spans_many now files = length-map (map now files) (λ e. e.1.work.spans.items) ∙ length-map files now
 
 -- a span that was read is the one that the definition names
 pub span_read : (here spans : List Token) (at : ℕ) (x : Token) → here ≡ spans → at < length spans → x ≡ get_or spans at x → x ≡ span_in here at

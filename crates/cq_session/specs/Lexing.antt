@@ -1,47 +1,29 @@
 -- The tokens of an uploaded text, by its language.
-use Rattle.std.specs.Prelude.{◌≡◌, ℕ, ◌-◌, Ok, List, [], ◌∷◌, length, map, slice_get, Some, false}
+use Rattle.std.specs.Prelude.{◌≡◌, ℕ, ◌-◌, List, [], ◌∷◌, length, map, slice_get, Some}
 use Rattle.cq_base.specs.Lines.{lines_of}
 use Rattle.cq_base.specs.declared.settings.Settings.{Settings}
 use Rattle.cq_base.specs.declared.lang.Lang.{Lang}
-use Rattle.cq_base.specs.declared.lang.Lang.TheVariants as lang
 use Rattle.cq_base.specs.declared.change.Change.{Change}
 use Rattle.cq_base.specs.declared.change.Change.TheVariants as change
 use Rattle.cq_base.specs.declared.norm.Norm.{Norm}
-use Rattle.cq_base.specs.declared.token.Spelled.{Spelled}
 use Rattle.cq_munch.specs.declared.munching.Lexed.{Lexed}
-use Rattle.cq_munch.specs.declared.munching.Lexed.TheVariants as lexed
-use Rattle.cq_munch.specs.Lexed.{IsLexed}
-use Rattle.cq_lex_any.specs.Any.{any}
-use Rattle.cq_lex_go.specs.Go.{go}
-use Rattle.cq_lex_go.specs.Semicolons.{completed}
-use Rattle.cq_lex_c.specs.C.{c}
-use Rattle.cq_lex_c.specs.Splices.{spliced}
-use Rattle.cq_lex_java.specs.Java.{java}
-use Rattle.cq_lex_java.specs.Translation.{translated}
 use Rattle.cq_normal.specs.Normal.{normal}
 use Rattle.cq_reply.specs.declared.reply.Shown.{Shown}
 use Rattle.cq_reply.specs.declared.reply.Shown.TheVariants as shown
 use Rattle.cq_reply.specs.declared.reply.FileRow.{FileRow}
+use Rattle.cq_work.specs.declared.work.State.{State}
+use Rattle.cq_work.specs.declared.work.State.TheVariants as state
+use Rattle.cq_work.specs.Lexing.{LexesTo, tokens_in, state_of}
 use Rattle.cq_session.specs.Files.{File}
 
--- What a text is lexed to: Go inserts semicolons, C takes splices out, and Java reads Unicode escapes.
-abbrev pub LexesTo : Lang → List ℕ → Lexed → Type 0
-LexesTo lang.Any text answer = IsLexed any (λ units. Ok units) (λ bytes tokens. tokens) text answer
-LexesTo lang.Go text answer = IsLexed go (λ units. Ok units) completed text answer
-LexesTo lang.C text answer = IsLexed c (λ units. Ok (spliced 0 units)) (λ bytes tokens. tokens) text answer
-LexesTo lang.Java text answer = IsLexed java (translated 0 false) (λ bytes tokens. tokens) text answer
-
--- the tokens of an answer; none of a fault, or of a text with too many
-abbrev pub tokens_in : Lexed → List Spelled
-tokens_in (lexed.Tokens v) = v.items
-tokens_in (lexed.Fault at) = []
-tokens_in lexed.Large = []
+abbrev pub shown_in : State → Shown
+shown_in state.Ok = shown.Ok
+shown_in (state.Fault at) = shown.Fault at
+shown_in state.Large = shown.Large
 
 -- what a reply shows of it
 abbrev pub shown_of : Lexed → Shown
-shown_of (lexed.Tokens v) = shown.Ok
-shown_of (lexed.Fault at) = shown.Fault at
-shown_of lexed.Large = shown.Large
+shown_of answer = shown_in (state_of answer)
 
 -- the tokens as they are compared
 abbrev pub norms_of : Settings → Lang → Lexed → List Norm

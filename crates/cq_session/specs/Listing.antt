@@ -8,13 +8,13 @@ use Rattle.cq_base.specs.declared.group.Group.{Group}
 use Rattle.cq_base.specs.declared.group.Place.{Place}
 use Rattle.cq_base.specs.declared.token.Class.TheVariants.{Punct}
 use Rattle.cq_base.specs.declared.token.Token.{Token}
-use Rattle.cq_base.specs.declared.token.Spelled.{Spelled}
 use Rattle.cq_clones.specs.Groups.{AreGroups}
 use Rattle.cq_reply.specs.declared.reply.PlaceRow.{PlaceRow}
 use Rattle.cq_reply.specs.declared.reply.GroupRow.{GroupRow}
 use Rattle.cq_reply.specs.declared.reply.FileRow.{FileRow}
 use Rattle.cq_session.specs.Files.{File, AreFiles}
-use Rattle.cq_session.specs.Lexing.{Reading, AreRead, tokens_in, corpus_read, file_rows}
+use Rattle.cq_work.specs.Lexing.{tokens_in, spans_of}
+use Rattle.cq_session.specs.Lexing.{Reading, AreRead, corpus_read, file_rows}
 
 -- the rows are the project's files, in path order
 pub record IsFileListing (changes : List Change) (project : List ℕ) (rows : List FileRow) : Type 0 where
@@ -30,9 +30,6 @@ file_in files i = slice_index_or files i (record { path = []; number = 0 })
 
 abbrev pub span_in : List Token → ℕ → Token
 span_in spans at = slice_index_or spans at (record { class = Punct; start = 0; len = 0; first_line = 0; last_line = 0 })
-
-abbrev pub spans_of : List Spelled → List Token
-spans_of tokens = map (λ s. s.token) tokens
 
 abbrev pub spans_read : List Reading → List (List Token)
 spans_read readings = map (λ r. spans_of (tokens_in r.answer)) readings

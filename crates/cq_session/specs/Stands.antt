@@ -1,6 +1,5 @@
 -- What the store keeps of the changes that it stands for.
 use Rattle.std.specs.Prelude.{◌≡◌, ◌≤◌, ℕ, List, length, map, Contains}
-use Rattle.std.specs.Arc.{arc_value}
 use Rattle.std.specs.Str.{IsUtf8}
 use Rattle.std.specs.declared.cmp.Ordering.TheVariants.{Less}
 use Rattle.cq_base.specs.Lines.{lines_of}
@@ -14,8 +13,9 @@ use Rattle.cq_session.specs.declared.store.Store.{Store}
 use Rattle.cq_session.specs.Changes.{History, undone, texts_size}
 use Rattle.cq_session.specs.Places.{place_cmp}
 use Rattle.cq_session.specs.Files.{IsLastPut}
-use Rattle.cq_session.specs.Lexing.{Reading, IsReading, LexesTo, tokens_in, shown_of, norms_of}
-use Rattle.cq_session.specs.Listing.{spans_of}
+use Rattle.cq_work.specs.Lexing.{LexesTo, tokens_in}
+use Rattle.cq_work.specs.Work.{Shows as ShowsWork}
+use Rattle.cq_session.specs.Lexing.{Reading, IsReading}
 use Rattle.cq_session.specs.Kept.{KeptAt}
 
 -- where a file stands, and the number of its upload
@@ -25,7 +25,7 @@ pub record Key : Type 0 where
   pub number : ℕ
 
 abbrev pub key_of : {L : Type 0} → KeptAt L → Key
-key_of (key, kept) = record { project = key.project; path = key.path; number = kept.tokens.change }
+key_of (key, kept) = record { project = key.project; path = key.path; number = kept.change }
 
 -- by project and then path, byte by byte
 abbrev pub KeyBefore : Key → Key → Type 0
@@ -33,16 +33,13 @@ KeyBefore a b = place_cmp a.project a.path b.project b.path ≡ Less
 
 -- what is kept shows this reading
 pub record Shows {L : Type 0} (settings : Settings) (k : Kept L) (r : Reading) : Type 0 where
-  pub lang : k.lang ≡ r.lang
   pub lines : k.lines ≡ lines_of r.text
-  pub shown : k.shown ≡ shown_of r.answer
   pub count : k.count ≡ length (tokens_in r.answer)
-  pub spans : k.spans.items ≡ spans_of (tokens_in r.answer)
-  pub norms : arc_value k.tokens.tokens ≡ norms_of settings r.lang r.answer
+  pub work : ShowsWork settings r.lang r.answer k.work
 
 -- what is kept of an uploaded text with the number of its upload
 pub record IsKeptOf {L : Type 0} (settings : Settings) (lang : Lang) (text : List ℕ) (number : ℕ) (k : Kept L) : Type 0 where
-  pub number_is : k.tokens.change ≡ number
+  pub number_is : k.change ≡ number
   pub answer : Lexed
   pub lexes : LexesTo lang text answer
   pub shows : Shows settings k (record { lang = lang; text = text; answer = answer })
@@ -55,7 +52,7 @@ IsLastAt changes key = IsLastPut changes key.project key.path key.number
 pub record HasWork {L : Type 0} (settings : Settings) (changes : List Change) (e : KeptAt L) : Type 0 where
   pub path : IsUtf8 e.0.path
   pub reading : Reading
-  pub reads : IsReading changes e.1.tokens.change reading
+  pub reads : IsReading changes e.1.change reading
   pub shows : Shows settings e.1 reading
 
 -- the store keeps exactly the files of these changes, each with its tokens

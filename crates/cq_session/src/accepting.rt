@@ -9,6 +9,7 @@ use crate::keeping::kept_of;
 use crate::kept::FileKey;
 use crate::store::Store;
 use cq_base::{Change, Conditions, Lang, Memory, Settings, Text};
+use cq_key::Keyer;
 use std::alloc::{AllocFailed, Global};
 use std::sync::ledger::Ledger;
 
@@ -52,6 +53,7 @@ impl<L: Ledger> Store<L> {
         &mut self,
         alloc: Global,
         settings: &Settings,
+        keyer: &Keyer,
         project: Text,
         path: Text,
         lang: Lang,
@@ -61,6 +63,8 @@ impl<L: Ledger> Store<L> {
         requires path { IsUtf8 path }
         requires utf8 { IsUtf8 text }
         requires short { length text ≤ 1048576 }
+        requires some { 1 ≤ settings.now.chunk }
+        requires settings { keyer.now.settings ≡ settings.now }
         ensures accepted { IfOk result (λ n. (h : History) → StandsFor settings.now h self.old → IsFree settings.now h (change.Put project path lang text) × (n ≡ length h.changes + 1) × StandsFor settings.now (with_change h (change.Put project path lang text)) self.new) }
         ensures refused { IfErr result (λ why. (h : History) → StandsFor settings.now h self.old → IsRefused settings.now h (change.Put project path lang text) why × StandsFor settings.now h self.new) }
     {
@@ -74,7 +78,7 @@ impl<L: Ledger> Store<L> {
             return Err(Refused::FullText);
         }
         let number = self.accepted + 1;
-        let kept = kept_of(alloc, settings, lang, &text, number)?;
+        let kept = kept_of(alloc, settings, keyer, lang, &text, number)?;
         self.files.insert(FileKey { project, path }, kept)?;
         self.accepted = number;
         self.texts = texts;
@@ -119,10 +123,13 @@ impl<L: Ledger> Store<L> {
         &mut self,
         alloc: Global,
         settings: &Settings,
+        keyer: &Keyer,
         change: Change,
     ) -> Result<u64, Refused>
         requires stands { (h : History) × StandsFor settings.now h self.old }
         requires sound { IsSoundChange change }
+        requires some { 1 ≤ settings.now.chunk }
+        requires settings { keyer.now.settings ≡ settings.now }
         ensures accepted { IfOk result (λ n. (h : History) → StandsFor settings.now h self.old → IsFree settings.now h change × (n ≡ length h.changes + 1) × StandsFor settings.now (with_change h change) self.new) }
         ensures refused { IfErr result (λ why. (h : History) → StandsFor settings.now h self.old → IsRefused settings.now h change why × StandsFor settings.now h self.new) }
     {
@@ -132,7 +139,7 @@ impl<L: Ledger> Store<L> {
                 path,
                 lang,
                 text,
-            } => self.put(alloc, settings, project, path, lang, text),
+            } => self.put(alloc, settings, keyer, project, path, lang, text),
             Change::Drop { project, path } => self.remove(settings, project, path),
             Change::Gate {
                 project,

@@ -21,6 +21,7 @@ use crate::sending::send;
 use crate::store::Store;
 use cq_base::{Change, Memory, Settings, Steps, Text};
 use cq_io::{Failed, Sink};
+use cq_key::Keyer;
 use cq_reply::{Fixed, Reply, Short, fixed, write_reply};
 use cq_request::{Kind, Query, Refusal, Request, read_request};
 use std::alloc::Global;
@@ -73,15 +74,18 @@ fn refusal_of(refusal: Refusal) -> Result<Reply, Memory>
 fn change_line<L: Ledger>(
     alloc: Global,
     settings: &Settings,
+    keyer: &Keyer,
     store: &mut Store<L>,
     change: Change,
 ) -> Result<Line, Memory>
     requires stands { (h : History) × StandsFor settings.now h store.old }
     requires sound { IsSoundChange change }
+    requires some { 1 ≤ settings.now.chunk }
+    requires settings { keyer.now.settings ≡ settings.now }
     ensures replies { IfOk result (λ line. (h : History) → StandsFor settings.now h store.old → Replies settings.now h (ok (request.Change change)) (bytes_of line) store.new) }
     ensures refused { OnErr result ((h : History) → StandsFor settings.now h store.old → StandsFor settings.now h store.new) }
 {
-    match store.accept(alloc, settings, change) {
+    match store.accept(alloc, settings, keyer, change) {
         Ok(number) => Ok(Line::Short(fixed(Short::Change(number)))),
         Err(Refused::Absent) => made(alloc, &Reply::Absent),
         Err(Refused::FullChanges) => made(alloc, &Reply::FullChanges),
@@ -198,17 +202,19 @@ fn state_line<L: Ledger>(
 fn reply_line<L: Ledger>(
     alloc: Global,
     settings: &Settings,
+    keyer: &Keyer,
     store: &mut Store<L>,
     line: &[u8],
     steps: &mut Steps<L>,
 ) -> Result<Line, Memory>
     requires stands { (h : History) × StandsFor settings.now h store.old }
     requires chunk { 1 ≤ settings.now.chunk }
+    requires settings { keyer.now.settings ≡ settings.now }
     ensures replies { IfOk result (λ made. (h : History) → StandsFor settings.now h store.old → Replies settings.now h (line_says settings.now.chunk line.now) (bytes_of made) store.new) }
     ensures refused { OnErr result ((h : History) → StandsFor settings.now h store.old → StandsFor settings.now h store.new) }
 {
     match read_request(alloc, settings, line) {
-        Ok(Request::Change(change)) => change_line(alloc, settings, store, change),
+        Ok(Request::Change(change)) => change_line(alloc, settings, keyer, store, change),
         Ok(Request::Query(query)) => query_line(alloc, settings, store, &query, steps),
         Ok(Request::State) => state_line(alloc, settings, store),
         Err(refusal) => made(alloc, &refusal_of(refusal)?),
@@ -219,6 +225,7 @@ fn reply_line<L: Ledger>(
 pub(crate) fn answer<K: Sink, L: Ledger>(
     alloc: Global,
     settings: &Settings,
+    keyer: &Keyer,
     store: &mut Store<L>,
     sink: &mut K,
     line: &[u8],
@@ -226,11 +233,12 @@ pub(crate) fn answer<K: Sink, L: Ledger>(
 ) -> Result<(), Failed>
     requires stands { (h : History) × StandsFor settings.now h store.old }
     requires chunk { 1 ≤ settings.now.chunk }
+    requires settings { keyer.now.settings ≡ settings.now }
     requires short { length line.now ≤ line_limit }
     ensures turn { (h : History) → StandsFor settings.now h store.old → Turns settings.now h store.new line.now (K.written sink.old) (K.written sink.new) result }
     ensures cause { HasCause (K.faults sink.old) (K.faults sink.new) result }
 {
-    match reply_line(alloc, settings, store, line, steps) {
+    match reply_line(alloc, settings, keyer, store, line, steps) {
         Ok(made) => send(sink, made.as_bytes()),
         Err(Memory) => send(sink, fixed(Short::Memory).as_bytes()),
     }

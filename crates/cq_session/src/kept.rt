@@ -1,6 +1,5 @@
-use cq_base::{Lang, Text, Token};
-use cq_reply::Shown;
-use cq_tokens::FileTokens;
+use cq_base::Text;
+use cq_work::Work;
 use std::sync::ledger::Ledger;
 
 /// Where a file stands. They are ordered by project and then path, byte by byte.
@@ -10,14 +9,11 @@ pub struct FileKey {
     pub path: Text,
 }
 
-/// What the store keeps of a file: its language, how many lines it has and what the reading of its text gave, how
-/// many tokens it has, where each stands, and what they are.
+/// What the store keeps of a file: the number of its upload, how many lines and tokens it has, and its work.
 #[derive(Drop)]
 pub struct Kept<L: Ledger> {
-    pub lang: Lang,
+    pub change: u64,
     pub lines: u64,
-    pub shown: Shown,
     pub count: u32,
-    pub spans: Vec<Token>,
-    pub tokens: FileTokens<L>,
+    pub work: Work<L>,
 }

@@ -8,7 +8,6 @@ mod accepting;
 mod answering;
 mod keeping;
 mod kept;
-mod lexing;
 mod listing;
 mod sending;
 mod serving;

@@ -38,13 +38,13 @@ pub(crate) fn of_project<'a, L: Ledger>(
 }
 
 // Another owner of a file's tokens.
-fn shared<L: Ledger>(tokens: &FileTokens<L>) -> Result<FileTokens<L>, Memory>
-    ensures { IfOk result (λ t. arc_value t.tokens ≡ arc_value tokens.now.tokens) }
+fn shared<L: Ledger>(kept: &Kept<L>) -> Result<FileTokens<L>, Memory>
+    ensures { IfOk result (λ t. arc_value t.tokens ≡ arc_value kept.now.work.tokens) }
 {
     Ok(FileTokens {
-        change: tokens.change,
-        tokens: Arc::try_clone(&tokens.tokens)?,
-        keys: Arc::try_clone(&tokens.keys)?,
+        change: kept.change,
+        tokens: Arc::try_clone(&kept.work.tokens)?,
+        keys: Arc::try_clone(&kept.work.keys)?,
     })
 }
 
@@ -57,7 +57,7 @@ pub(crate) fn tokens_of<L: Ledger>(
 {
     let mut all = Vec::new(alloc);
     for (_, kept) in files {
-        all.push(shared(&kept.tokens)?)?;
+        all.push(shared(kept)?)?;
     }
     Ok(all)
 }
@@ -79,8 +79,8 @@ fn place_row<L: Ledger>(
     Ok(PlaceRow {
         path: key.path.copied(alloc)?,
         at: place.at,
-        first: kept.spans[at].first_line,
-        last: kept.spans[at + tokens as usize - 1].last_line,
+        first: kept.work.spans[at].first_line,
+        last: kept.work.spans[at + tokens as usize - 1].last_line,
     })
 }
 

@@ -1,4 +1,4 @@
-ghost use Rattle.std.specs.Prelude.{◌≤◌};
+ghost use Rattle.std.specs.Prelude.{◌≡◌, ◌≤◌};
 ghost use Rattle.cq_lines.specs.Runs.{IsFresh};
 ghost use Rattle.cq_session.specs.Changes.{History};
 ghost use Rattle.cq_session.specs.Stands.{StandsFor};
@@ -8,6 +8,7 @@ use crate::answering::{answer, answer_long};
 use crate::store::Store;
 use cq_base::{Settings, Steps};
 use cq_io::{Failed, Sink, Source};
+use cq_key::Keyer;
 use cq_lines::{Cut, Lines};
 use std::alloc::Global;
 use std::sync::ledger::Ledger;
@@ -25,11 +26,12 @@ pub enum End {
     Spent,
 }
 
-/// Answers the lines of a source one by one, over what the store has. Each whole reply is handed to the sink before the
+/// Answers the lines of a source one by one, over what the store has. Windows have the keys of `keyer`. Each whole reply is handed to the sink before the
 /// next line is cut. Afterwards the store stands for what the replies tell.
 pub fn session<S: Source, K: Sink, L: Ledger>(
     alloc: Global,
     settings: &Settings,
+    keyer: &Keyer,
     store: &mut Store<L>,
     lines: &mut Lines,
     source: &mut S,
@@ -38,13 +40,14 @@ pub fn session<S: Source, K: Sink, L: Ledger>(
 ) -> End
     requires fresh { IsFresh lines.old }
     requires chunk { 1 ≤ settings.now.chunk }
+    requires settings { keyer.now.settings ≡ settings.now }
     requires stands { (h : History) × StandsFor settings.now h store.old }
     ensures served { (h : History) → StandsFor settings.now h store.old → Leaves settings.now h store.new lines.old.limit (S.rest source.old) (S.rest source.new) (K.written sink.old) (K.written sink.new) result }
     ensures cause { HasEndCause (S.faults source.old) (S.faults source.new) (K.faults sink.old) (K.faults sink.new) result }
 {
     'lines: loop {
         match lines.next(source) {
-            Cut::Line(line) => match answer(alloc, settings, store, sink, line, steps) {
+            Cut::Line(line) => match answer(alloc, settings, keyer, store, sink, line, steps) {
                 Ok(()) => {}
                 Err(Failed) => return End::WriteFault,
             },

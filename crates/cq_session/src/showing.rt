@@ -1,22 +1,34 @@
 ghost use Rattle.std.specs.Prelude.{◌≡◌, map, IfOk};
 ghost use Rattle.std.specs.Map.Iter.{deref_pair};
 ghost use Rattle.cq_session.specs.Kept.{row_of};
+ghost use Rattle.cq_session.specs.Lexing.{shown_in};
 
 use crate::kept::{FileKey, Kept};
 use cq_base::Memory;
-use cq_reply::{FileRow, FileRows};
+use cq_reply::{FileRow, FileRows, Shown};
+use cq_work::State;
 use std::alloc::Global;
 use std::sync::ledger::Ledger;
+
+fn shown_in(state: State) -> Shown
+    ensures { result ≡ shown_in state }
+{
+    match state {
+        State::Ok => Shown::Ok,
+        State::Fault(at) => Shown::Fault(at),
+        State::Large => Shown::Large,
+    }
+}
 
 fn file_row<L: Ledger>(alloc: Global, key: &FileKey, kept: &Kept<L>) -> Result<FileRow, Memory>
     ensures { IfOk result (λ row. row ≡ row_of (key.now, kept.now)) }
 {
     Ok(FileRow {
         path: key.path.copied(alloc)?,
-        change: kept.tokens.change,
-        lang: kept.lang,
+        change: kept.change,
+        lang: kept.work.lang,
         lines: kept.lines,
-        shown: kept.shown,
+        shown: shown_in(kept.work.state),
         tokens: kept.count,
     })
 }

@@ -3,6 +3,7 @@ ghost use Rattle.std.specs.Prelude.{◌≡◌, ◌≤◌, ◌<◌};
 use crate::{End, Store, session};
 use cq_base::{Memory, Settings, Steps};
 use cq_io::{MemSink, MemSource};
+use cq_key::{Keyer, plain_key};
 use cq_lines::Lines;
 use std::alloc::Global;
 use std::marker::Brand;
@@ -33,9 +34,12 @@ fn run<L: Ledger>(
 {
     let mut steps: Steps<L> = Steps::new(blank);
     let mut store = Store::new(alloc);
+    let of = *settings;
+    let key = Box::new(alloc, move |codes: &[u64]| plain_key(&of, codes))?;
+    let keyer = Keyer::new(settings, key);
     let mut lines = Lines::new(alloc, settings.byte_limit)?;
     Ok(session(
-        alloc, settings, &mut store, &mut lines, source, sink, &mut steps,
+        alloc, settings, &keyer, &mut store, &mut lines, source, sink, &mut steps,
     ))
 }
 

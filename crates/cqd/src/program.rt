@@ -7,6 +7,7 @@ ghost use Rattle.cq_words.specs.declared.run.Run.{Run};
 
 use cq_base::{Memory, Settings, Steps, Text};
 use cq_io::{Doors, Gate, Sink, Source};
+use cq_key::{Keyer, plain_key};
 use cq_lines::Lines;
 use cq_session::{End, Store, session};
 use cq_words::read_run;
@@ -42,10 +43,17 @@ fn serve<S: Source, K: Sink, L: Ledger>(
     ensures runs { result ≢ 4 → Runs settings.now (S.rest source.old) (S.rest source.new) (K.written sink.old) (K.written sink.new)
         (S.faults source.old) (S.faults source.new) (K.faults sink.old) (K.faults sink.new) result }
 {
+    let of = *settings;
+    let Ok(key) = Box::new(alloc, move |codes: &[u64]| plain_key(&of, codes)) else {
+        return 4;
+    };
+    let keyer = Keyer::new(settings, key);
     match Lines::new(alloc, settings.byte_limit) {
         Ok(mut lines) => {
             let mut store = Store::new(alloc);
-            let end = session(alloc, settings, &mut store, &mut lines, source, sink, steps);
+            let end = session(
+                alloc, settings, &keyer, &mut store, &mut lines, source, sink, steps,
+            );
             status_of(end)
         }
         Err(Memory) => 4,

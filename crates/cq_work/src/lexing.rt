@@ -1,15 +1,14 @@
 ghost use Rattle.std.specs.Prelude.{◌≡◌, ◌≤◌, IfOk, IsUtf8, length};
-ghost use Rattle.cq_session.specs.Lexing as spec;
-ghost use Rattle.cq_session.specs.Lexing.{LexesTo};
-ghost use Rattle.cq_session.specs.Listing.{spans_of};
+ghost use Rattle.cq_work.specs.Lexing as spec;
+ghost use Rattle.cq_work.specs.Lexing.{LexesTo};
 
+use crate::work::State;
 use cq_base::{Lang, Memory, Spelled, Text, Token};
 use cq_lex_any::Any;
 use cq_lex_c::C;
 use cq_lex_go::Go;
 use cq_lex_java::Java;
 use cq_munch::{Lexed, munch};
-use cq_reply::Shown;
 use std::alloc::Global;
 
 /// What a text is lexed to, by its language. It is read once.
@@ -27,14 +26,14 @@ pub(crate) fn lexed(alloc: Global, lang: Lang, text: &Text) -> Result<Lexed, Mem
     }
 }
 
-/// What a reply shows of it.
-pub(crate) fn shown_of(lexed: &Lexed) -> Shown
-    ensures { result ≡ spec.shown_of lexed.now }
+/// What it tells of the text.
+pub(crate) fn state_of(lexed: &Lexed) -> State
+    ensures { result ≡ spec.state_of lexed.now }
 {
     match lexed {
-        Lexed::Tokens(_) => Shown::Ok,
-        Lexed::Fault(at) => Shown::Fault(*at),
-        Lexed::Large => Shown::Large,
+        Lexed::Tokens(_) => State::Ok,
+        Lexed::Fault(at) => State::Fault(*at),
+        Lexed::Large => State::Large,
     }
 }
 
@@ -50,8 +49,8 @@ pub(crate) fn tokens_in(alloc: Global, lexed: Lexed) -> Vec<Spelled>
 }
 
 /// Where the tokens stand.
-pub(crate) fn spans(alloc: Global, tokens: &[Spelled]) -> Result<Vec<Token>, Memory>
-    ensures { IfOk result (λ v. v.items ≡ spans_of tokens.now) }
+pub(crate) fn spans_of(alloc: Global, tokens: &[Spelled]) -> Result<Vec<Token>, Memory>
+    ensures { IfOk result (λ v. v.items ≡ spec.spans_of tokens.now) }
 {
     Ok(tokens.iter().map(|s| s.token).collect(alloc)?)
 }

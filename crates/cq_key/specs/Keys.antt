@@ -1,0 +1,49 @@
+-- The keys of windows: the chunk fingerprints of an index over tokens (Hummel et al., ICSM 2010).
+use Rattle.std.specs.Prelude.{◌≡◌, ℕ, ◌+◌, ◌*◌, ◌^◌, ◌%◌, List, [], ◌∷◌, length, take, map, fold, nat_le, if◌then◌else◌}
+use Rattle.cq_base.specs.declared.settings.Settings.{Settings}
+use Rattle.cq_base.specs.declared.lang.Lang.{Lang}
+use Rattle.cq_base.specs.declared.lang.Lang.TheVariants as lang
+use Rattle.cq_base.specs.declared.norm.Norm.{Norm}
+use Rattle.cq_base.specs.declared.token.Class.{Class}
+use Rattle.cq_base.specs.declared.token.Class.TheVariants as class
+
+-- one code more, in 64 bits
+abbrev pub folded : ℕ → ℕ → ℕ
+folded key code = (key * 6364136223846793005 + code + 1) % 2 ^ 64
+
+abbrev pub lang_code : Lang → ℕ
+lang_code lang.Any = 0
+lang_code lang.Go = 1
+lang_code lang.C = 2
+lang_code lang.Java = 3
+
+abbrev pub class_code : Class → ℕ
+class_code class.Ident = 0
+class_code class.Word = 1
+class_code class.Literal = 2
+class_code class.Punct = 3
+
+-- the code of a token: its language, its class, and each byte of its text
+abbrev pub code_of : Norm → ℕ
+code_of norm = fold folded (folded (folded 0 (lang_code norm.lang)) (class_code norm.class)) norm.text
+
+-- as many bits as are kept
+abbrev pub lowest : ℕ → ℕ → ℕ
+lowest key bits = key % 2 ^ bits
+
+-- the key of some codes
+abbrev pub key_of : Settings → List ℕ → ℕ
+key_of settings codes = lowest (fold folded 0 codes) settings.key_bits
+
+-- the keys of all windows of `chunk` neighbouring codes, in order
+abbrev pub keys_of : Settings → List ℕ → List ℕ
+keys_of settings [] = []
+keys_of settings (c ∷ codes) = if nat_le settings.chunk (length (c ∷ codes)) then key_of settings (take settings.chunk (c ∷ codes)) ∷ keys_of settings codes else []
+
+-- the keys of a file's windows
+abbrev pub window_keys : Settings → List Norm → List ℕ
+window_keys settings norms = keys_of settings (map code_of norms)
+
+-- a function answers the key of each list of `chunk` codes
+abbrev pub Answers : (List ℕ → ℕ → Type 0) → Settings → Type 0
+Answers gives settings = (codes : List ℕ) (key : ℕ) → length codes ≡ settings.chunk → gives codes key → key ≡ key_of settings codes

@@ -1,0 +1,69 @@
+ghost use Rattle.std.specs.Prelude.{◌≡◌, ◌≤◌, ◌<◌, ◌^◌, length, IfOk};
+ghost use Rattle.cq_key.specs.Keys as spec;
+
+use crate::code::codes_of;
+use cq_base::{Keys, Memory, Norm, Settings};
+use std::alloc::Global;
+
+type Key = Box<dyn Fn(&[u64]) -> u64>;
+
+/// Gives the keys of windows by a closure, which it keeps beside the facts that it may always be called and answers
+/// each window's key.
+#[derive(Drop)]
+pub struct Keyer {
+    pub settings: Settings,
+    key: Box<dyn Fn(&[u64]) -> u64>,
+    ghost callable: { Key.IsAlwaysCallable key },
+    ghost exact: { (codes : _) (answer : _) → length codes.now ≡ settings.chunk → Key.post key codes answer → answer ≡ spec.key_of settings codes.now },
+}
+
+impl Keyer {
+    /// A keyer by a closure that may be called on any list, and answers the key of each list of `chunk` codes.
+    pub fn new(settings: &Settings, key: Box<dyn Fn(&[u64]) -> u64>) -> Keyer
+        requires callable { Key.IsAlwaysCallable key }
+        requires exact { (codes : _) (answer : _) → length codes.now ≡ settings.now.chunk → Key.post key codes answer → answer ≡ spec.key_of settings.now codes.now }
+        ensures { result.settings ≡ settings.now }
+    {
+        Keyer {
+            settings: *settings,
+            key,
+        }
+    }
+
+    fn key(&self, codes: &[u64]) -> u64
+        ensures { length codes.now ≡ self.now.settings.chunk → result ≡ spec.key_of self.now.settings codes.now }
+    {
+        (self.key)(codes)
+    }
+
+    fn chunk(&self) -> usize
+        ensures { result ≡ self.now.settings.chunk }
+    {
+        self.settings.chunk as usize
+    }
+
+    // The keys of the windows.
+    fn keys_of(&self, alloc: Global, codes: &[u64]) -> Result<Vec<u64>, Memory>
+        requires some { 1 ≤ self.now.settings.chunk }
+        ensures { IfOk result (λ v. v.items ≡ spec.keys_of self.now.settings codes.now) }
+    {
+        let chunk = self.chunk();
+        let mut keys = Vec::new(alloc);
+        let mut at = 0;
+        'windows: while codes.len() - at >= chunk {
+            keys.push(self.key(&codes[at..at + chunk]))?;
+            at += 1;
+        }
+        Ok(keys)
+    }
+
+    /// The keys of all windows of a file's tokens, in order.
+    pub fn keys(&self, alloc: Global, norms: &[Norm]) -> Result<Keys, Memory>
+        requires few { length norms.now < 2 ^ 32 }
+        requires some { 1 ≤ self.now.settings.chunk }
+        ensures { IfOk result (λ k. k ≡ spec.window_keys self.now.settings norms.now) }
+    {
+        let codes = codes_of(alloc, norms)?;
+        Ok(Keys::from_vec(self.keys_of(alloc, &codes)?))
+    }
+}

@@ -1,0 +1,14 @@
+//! The keys of a file's windows: for every run of `chunk` neighbouring tokens a number of at most 64 bits. Equal windows
+//! have equal keys, and different ones may; nothing above rests on more. A file of n tokens costs n codes, one walk over
+//! each token's text, and a fold over `chunk` codes for each window.
+#![tactic(auto)]
+
+mod code;
+mod keyer;
+mod plain;
+
+pub use keyer::Keyer;
+pub use plain::plain_key;
+
+#[cfg(test)]
+mod tests;

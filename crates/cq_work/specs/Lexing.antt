@@ -1,0 +1,40 @@
+-- What a text is lexed to, by its language.
+use Rattle.std.specs.Prelude.{ℕ, Ok, List, [], map, false}
+use Rattle.cq_base.specs.declared.lang.Lang.{Lang}
+use Rattle.cq_base.specs.declared.lang.Lang.TheVariants as lang
+use Rattle.cq_base.specs.declared.token.Token.{Token}
+use Rattle.cq_base.specs.declared.token.Spelled.{Spelled}
+use Rattle.cq_munch.specs.declared.munching.Lexed.{Lexed}
+use Rattle.cq_munch.specs.declared.munching.Lexed.TheVariants as lexed
+use Rattle.cq_munch.specs.Lexed.{IsLexed}
+use Rattle.cq_lex_any.specs.Any.{any}
+use Rattle.cq_lex_go.specs.Go.{go}
+use Rattle.cq_lex_go.specs.Semicolons.{completed}
+use Rattle.cq_lex_c.specs.C.{c}
+use Rattle.cq_lex_c.specs.Splices.{spliced}
+use Rattle.cq_lex_java.specs.Java.{java}
+use Rattle.cq_lex_java.specs.Translation.{translated}
+use Rattle.cq_work.specs.declared.work.State.{State}
+use Rattle.cq_work.specs.declared.work.State.TheVariants as state
+
+-- Go inserts semicolons, C takes splices out, and Java reads Unicode escapes
+abbrev pub LexesTo : Lang → List ℕ → Lexed → Type 0
+LexesTo lang.Any text answer = IsLexed any (λ units. Ok units) (λ bytes tokens. tokens) text answer
+LexesTo lang.Go text answer = IsLexed go (λ units. Ok units) completed text answer
+LexesTo lang.C text answer = IsLexed c (λ units. Ok (spliced 0 units)) (λ bytes tokens. tokens) text answer
+LexesTo lang.Java text answer = IsLexed java (translated 0 false) (λ bytes tokens. tokens) text answer
+
+-- the tokens of an answer; none of a fault, or of a text with too many
+abbrev pub tokens_in : Lexed → List Spelled
+tokens_in (lexed.Tokens v) = v.items
+tokens_in (lexed.Fault at) = []
+tokens_in lexed.Large = []
+
+abbrev pub state_of : Lexed → State
+state_of (lexed.Tokens v) = state.Ok
+state_of (lexed.Fault at) = state.Fault at
+state_of lexed.Large = state.Large
+
+-- where tokens stand
+abbrev pub spans_of : List Spelled → List Token
+spans_of tokens = map (λ s. s.token) tokens

@@ -1,0 +1,69 @@
+ghost use Rattle.std.specs.Prelude.{◌≡◌, ◌≤◌};
+
+use crate::{State, work_of};
+use cq_base::{Lang, Memory, Settings, Text};
+use cq_key::{Keyer, plain_key};
+use std::alloc::Global;
+use std::marker::Brand;
+
+const SETTINGS: Settings = Settings {
+    chunk: 2,
+    shards: 1,
+    key_bits: 8,
+    ignore_ids: false,
+    ignore_lits: false,
+    change_limit: 262_144,
+    text_limit: 33_554_432,
+    byte_limit: 65_536,
+};
+
+// Whether the work of a text has this state, and so many tokens and keys.
+fn works(
+    alloc: Global,
+    lang: Lang,
+    text: &str,
+    state: State,
+    tokens: usize,
+    keys: usize,
+) -> Result<bool, Memory> {
+    if text.len() > 100 {
+        return Ok(false);
+    }
+    let key = Box::new(alloc, |codes: &[u64]| plain_key(&SETTINGS, codes))?;
+    let keyer = Keyer::new(&SETTINGS, key);
+    let text = Text::from_bytes(alloc, text.as_bytes())?;
+    let work = work_of::<Brand>(alloc, &SETTINGS, &keyer, lang, &text)?;
+    Ok(
+        work.lang == lang
+            && work.state == state
+            && work.spans.len() == tokens
+            && work.tokens.len() as usize == tokens
+            && work.keys.as_slice().len() == keys,
+    )
+}
+
+#[test]
+fn texts_are_worked_by_their_language(rt: HostRuntime) -> Result<(), Memory> {
+    let alloc = rt.alloc();
+    assert!(rt; works(alloc, Lang::Any, "a b", State::Ok, 2, 1)?);
+    assert!(rt; works(alloc, Lang::Any, "a", State::Ok, 1, 0)?);
+    assert!(rt; works(alloc, Lang::Go, "return\nx\n", State::Ok, 4, 3)?);
+    assert!(rt; works(alloc, Lang::Go, "\"a", State::Fault(0), 0, 0)?);
+    assert!(rt; works(alloc, Lang::C, "x <a b.h>", State::Ok, 7, 6)?);
+    assert!(rt; works(alloc, Lang::Java, "a>>=b", State::Ok, 3, 2)?);
+    assert!(rt; works(alloc, Lang::Java, "int a; /* b", State::Fault(7), 0, 0)?);
+    Ok(())
+}
+
+#[test]
+fn a_window_has_the_key_of_its_codes(rt: HostRuntime) -> Result<(), Memory> {
+    let alloc = rt.alloc();
+    let key = Box::new(alloc, |codes: &[u64]| plain_key(&SETTINGS, codes))?;
+    let keyer = Keyer::new(&SETTINGS, key);
+    let text = Text::from_bytes(alloc, b"a b")?;
+    if text.as_bytes().len() <= 100 {
+        let work = work_of::<Brand>(alloc, &SETTINGS, &keyer, Lang::Any, &text)?;
+        assert!(rt; matches!(work.keys.as_slice(), [191]));
+    }
+    Ok(())
+}

@@ -1,0 +1,62 @@
+ghost use Rattle.std.specs.Prelude.{◌≡◌, ◌≤◌, length, IfOk, IsUtf8};
+ghost use Rattle.cq_work.specs.Work.{IsWorkOf};
+
+use crate::lexing::{lexed, spans_of, state_of, tokens_in};
+use cq_base::{Keys, Lang, Memory, Settings, Text, Token};
+use cq_key::Keyer;
+use cq_normal::normalise;
+use cq_tokens::Tokens;
+use std::alloc::Global;
+use std::sync::Arc;
+use std::sync::ledger::Ledger;
+
+/// What the reading of a text gave.
+#[derive(Clone, Copy, Debug, PartialEq, Eq)]
+pub enum State {
+    /// Its tokens.
+    Ok,
+    /// No element of the language stands at this byte, from 0.
+    Fault(u32),
+    /// More tokens than a file may have.
+    Large,
+}
+
+/// The work of a text: where its tokens stand, what they are as they are compared, and the keys of their windows.
+#[derive(Drop)]
+pub struct Work<L: Ledger> {
+    pub lang: Lang,
+    pub state: State,
+    pub spans: Vec<Token>,
+    pub tokens: Arc<Tokens<L>>,
+    pub keys: Arc<Keys>,
+}
+
+/// The work of a text.
+pub fn work_of<L: Ledger>(
+    alloc: Global,
+    settings: &Settings,
+    keyer: &Keyer,
+    lang: Lang,
+    text: &Text,
+) -> Result<Work<L>, Memory>
+    requires utf8 { IsUtf8 text.now }
+    requires short { length text.now ≤ 1048576 }
+    requires some { 1 ≤ settings.now.chunk }
+    requires settings { keyer.now.settings ≡ settings.now }
+    ensures { IfOk result (IsWorkOf settings.now lang text.now) }
+{
+    let answer = lexed(alloc, lang, text)?;
+    let state = state_of(&answer);
+    let found = tokens_in(alloc, answer);
+    let spans = spans_of(alloc, &found)?;
+    let norms = normalise(alloc, settings, lang, found)?;
+    let keys = Arc::new(alloc, keyer.keys(alloc, &norms)?)?;
+    let tokens = Arc::new(alloc, Tokens::new(norms))?;
+    Ok(Work {
+        lang,
+        state,
+        spans,
+        tokens,
+        keys,
+    })
+}
