@@ -1,0 +1,5 @@
+pub mod Counts
+pub mod Decisions
+pub mod Extents
+pub mod Measures
+pub mod Sorted

@@ -1,0 +1,83 @@
+-- The measures of a project, and of one file of it.
+use Rattle.std.specs.Prelude.{ℕ, ◌+◌, ◌-◌, ◌*◌, ◌/◌, ◌^◌, ◌<◌, ◌≤◌, ◌==◌, if◌then◌else◌, List, [], length, map, filter, slice_index_or, All, Contains}
+use Rattle.std.specs.List.{flat_map, sum_by}
+use Rattle.cq_base.specs.declared.group.Place.{Place}
+use Rattle.cq_base.specs.declared.group.Group.{Group}
+use Rattle.cq_base.specs.declared.token.Class.TheVariants.{Punct}
+use Rattle.cq_base.specs.declared.token.Token.{Token}
+use Rattle.cq_base.specs.declared.measures.FileCounts.{FileCounts}
+use Rattle.cq_base.specs.declared.measures.Measures.{Measures}
+use Rattle.cq_measures.specs.declared.extent.Extent.{Extent}
+use Rattle.cq_measures.specs.declared.extent.FileLines.{FileLines}
+use Rattle.cq_measures.specs.Extents.{covered_lines, different_extents, files_touched}
+
+-- where the tokens of each file stand
+abbrev pub spans_of : List FileLines → List (List Token)
+spans_of files = map (λ f. f.spans.now) files
+
+abbrev pub span_at : List Token → ℕ → Token
+span_at spans at = slice_index_or spans at (record { class = Punct; start = 0; len = 0; first_line = 0; last_line = 0 })
+
+-- A place of a word of `n` tokens covers the lines from the first line of its first token to the last line of its last.
+abbrev pub extent_of : List (List Token) → ℕ → Place → Extent
+extent_of spans n p =
+    let here = slice_index_or spans p.file [] in
+    record { file = p.file; first = (span_at here p.at).first_line; last = (span_at here (p.at + n - 1)).last_line }
+
+-- those of all places of all groups
+abbrev pub extents_of : List (List Token) → List Group → List Extent
+extents_of spans groups = flat_map (λ g. map (extent_of spans g.tokens) g.places) groups
+
+-- duplicated lines of all lines, in hundredths of a percent, rounded down; 0 where there is no line
+abbrev pub density : ℕ → ℕ → ℕ
+density duplicated lines = if lines == 0 then 0 else 10000 * duplicated / lines
+
+-- the counts of all files together
+abbrev pub total : List FileLines → FileCounts
+total files = record { lines = sum_by (λ f. f.counts.lines) files; ncloc = sum_by (λ f. f.counts.ncloc) files; complexity = sum_by (λ f. f.counts.complexity) files }
+
+-- The measures of some files with these counts in all, in which the places of groups cover these extents. Each line, each
+-- extent and each file counts once, however many groups touch it.
+abbrev pub measures_of : ℕ → FileCounts → List Extent → Measures
+measures_of files counts extents =
+    record {
+      lines = counts.lines;
+      ncloc = counts.ncloc;
+      files = files;
+      complexity = counts.complexity;
+      dup_lines = covered_lines extents;
+      dup_blocks = different_extents extents;
+      dup_files = files_touched extents;
+      density = density (covered_lines extents) counts.lines;
+    }
+
+abbrev pub project_measures : List FileLines → List Group → Measures
+project_measures files groups = measures_of (length files) (total files) (extents_of (spans_of files) groups)
+
+abbrev pub no_counts : FileCounts
+no_counts = record { lines = 0; ncloc = 0; complexity = 0 }
+
+abbrev pub counts_at : List FileLines → ℕ → FileCounts
+counts_at files file = slice_index_or (map (λ f. f.counts) files) file no_counts
+
+-- those of one file, with the places that groups of all files have in it
+abbrev pub file_measures : List FileLines → ℕ → List Group → Measures
+file_measures files file groups =
+    measures_of 1 (counts_at files file) (filter (λ e. e.file == file) (extents_of (spans_of files) groups))
+
+-- ---- what can be measured: each place lies with all its tokens in its file, and the counts are of texts
+
+abbrev pub IsInside : List (List Token) → ℕ → Place → Type 0
+IsInside spans n p = (p.file < length spans) × (p.at + n ≤ length (slice_index_or spans p.file []))
+
+abbrev pub IsGroupInside : List (List Token) → Group → Type 0
+IsGroupInside spans g = (1 ≤ g.tokens) × ((p : Place) → Contains g.places p → IsInside spans g.tokens p)
+
+-- none is above 2^32
+abbrev pub AreSmall : FileCounts → Type 0
+AreSmall c = (c.lines ≤ 2 ^ 32) × (c.ncloc ≤ 2 ^ 32) × (c.complexity ≤ 2 ^ 32)
+
+pub record IsMeasurable (files : List FileLines) (groups : List Group) : Type 0 where
+  pub few : length files ≤ 262144
+  pub small : All (λ f. AreSmall f.counts) files
+  pub inside : (g : Group) → Contains groups g → IsGroupInside (spans_of files) g

@@ -1,0 +1,86 @@
+ghost use Rattle.std.specs.Prelude.{◌≡◌, ◌≤◌, ◌<◌, ◌^◌, List, length, All, IfOk};
+ghost use Rattle.cq_measures.specs.Measures as spec;
+ghost use Rattle.cq_measures.specs.declared.extent.Extent.{Extent};
+ghost use Rattle.cq_measures.specs.Counts.{IsTallyOf};
+
+use crate::counting::{Tally, count_up};
+use crate::extent::FileLines;
+use crate::placing::{extents_of, keep_file};
+use cq_base::{FileCounts, Group, Measures, Memory};
+use std::alloc::Global;
+
+fn density(duplicated: u64, lines: u64) -> u64
+    requires { duplicated ≤ 2 ^ 50 }
+    ensures { result ≡ spec.density duplicated lines }
+{
+    if lines == 0 {
+        0
+    } else {
+        10_000 * duplicated / lines
+    }
+}
+
+// The counts of all files together.
+fn total(files: &[FileLines]) -> FileCounts
+    requires few { length files.now ≤ 262144 }
+    requires small { All (λ f. spec.AreSmall f.counts) files.now }
+    ensures { result ≡ spec.total files.now }
+{
+    let mut all = FileCounts {
+        lines: 0,
+        ncloc: 0,
+        complexity: 0,
+    };
+    for file in files {
+        all.lines += file.counts.lines;
+        all.ncloc += file.counts.ncloc;
+        all.complexity += file.counts.complexity;
+    }
+    all
+}
+
+// The measures of `files` files with these counts, whose places have these extents.
+fn measures_of(files: u64, counts: FileCounts, tally: Tally) -> Measures
+    requires { tally.lines ≤ 2 ^ 50 }
+    ensures { (extents : List Extent) → IsTallyOf extents tally → result ≡ spec.measures_of files counts extents }
+{
+    Measures {
+        lines: counts.lines,
+        ncloc: counts.ncloc,
+        files,
+        complexity: counts.complexity,
+        dup_lines: tally.lines,
+        dup_blocks: tally.extents,
+        dup_files: tally.files,
+        density: density(tally.lines, counts.lines),
+    }
+}
+
+/// The measures of a project of these files, with the places that groups of their tokens have.
+pub fn project_measures(
+    alloc: Global,
+    files: &[FileLines],
+    groups: &[Group],
+) -> Result<Measures, Memory>
+    requires { spec.IsMeasurable files.now groups.now }
+    ensures { IfOk result (λ m. m ≡ spec.project_measures files.now groups.now) }
+{
+    let tally = count_up(extents_of(alloc, files, groups)?);
+    Ok(measures_of(files.len() as u64, total(files), tally))
+}
+
+/// The measures of one of the files, with the places that groups of all the files' tokens have in it.
+pub fn file_measures(
+    alloc: Global,
+    files: &[FileLines],
+    file: u32,
+    groups: &[Group],
+) -> Result<Measures, Memory>
+    requires measurable { spec.IsMeasurable files.now groups.now }
+    requires inside { file < length files.now }
+    ensures { IfOk result (λ m. m ≡ spec.file_measures files.now file groups.now) }
+{
+    let mut extents = extents_of(alloc, files, groups)?;
+    keep_file(&mut extents, file);
+    Ok(measures_of(1, files[file as usize].counts, count_up(extents)))
+}

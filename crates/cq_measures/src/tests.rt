@@ -1,0 +1,257 @@
+ghost use Rattle.std.specs.Prelude.{◌≡◌, true, Contains, All};
+ghost use Rattle.cq_measures.specs.Measures.{spans_of, IsInside, IsGroupInside, IsMeasurable, AreSmall};
+ghost use Rattle.cq_base.specs.declared.group.Group.{Group};
+
+use crate::{FileLines, complexity, file_measures, ncloc, project_measures};
+use cq_base::{
+    Class, FileCounts, Group, Lang, Measures, Memory, Place, Places, Spelled, Text, Token,
+};
+use std::alloc::Global;
+
+fn token(first_line: u32, last_line: u32) -> Token {
+    Token {
+        class: Class::Ident,
+        start: 0,
+        len: 1,
+        first_line,
+        last_line,
+    }
+}
+
+fn counts(lines: u64) -> FileCounts {
+    FileCounts {
+        lines,
+        ncloc: lines,
+        complexity: 1,
+    }
+}
+
+fn group(alloc: Global, tokens: u32, places: &[(u32, u32)]) -> Result<Group, Memory> {
+    let mut all = Vec::new(alloc);
+    for (file, at) in places {
+        all.push(Place {
+            file: *file,
+            at: *at,
+        })?;
+    }
+    Ok(Group {
+        tokens,
+        places: Places::from_vec(all),
+    })
+}
+
+// As many tokens as lines, each on its own.
+fn line_tokens(alloc: Global, lines: u32) -> Result<Vec<Token>, Memory> {
+    let mut all = Vec::new(alloc);
+    for line in 0..lines {
+        all.push(token(line.saturating_add(1), line.saturating_add(1)))?;
+    }
+    Ok(all)
+}
+
+fn spelled(alloc: Global, texts: &[&str]) -> Result<Vec<Spelled>, Memory> {
+    let mut all = Vec::new(alloc);
+    for text in texts {
+        all.push(Spelled {
+            token: token(1, 1),
+            text: Text::from_bytes(alloc, text.as_bytes())?,
+        })?;
+    }
+    Ok(all)
+}
+
+fn is_inside(files: &[FileLines], tokens: u32, place: Place) -> bool
+    ensures { result ≡ true → IsInside (spans_of files.now) tokens place }
+{
+    match files.get(place.file as usize) {
+        Some(file) => place.at as usize + tokens as usize <= file.spans.len(),
+        None => false,
+    }
+}
+
+fn is_group_inside(files: &[FileLines], group: &Group) -> bool
+    ensures { result ≡ true → IsGroupInside (spans_of files.now) group.now }
+{
+    for place in group.places.as_slice() {
+        if !is_inside(files, group.tokens, *place) {
+            return false;
+        }
+    }
+    group.tokens > 0
+}
+
+fn are_groups_inside(files: &[FileLines], groups: &[Group]) -> bool
+    ensures { result ≡ true → (g : Group) → Contains groups.now g → IsGroupInside (spans_of files.now) g }
+{
+    for group in groups {
+        if !is_group_inside(files, group) {
+            return false;
+        }
+    }
+    true
+}
+
+fn are_small(files: &[FileLines]) -> bool
+    ensures { result ≡ true → All (λ f. AreSmall f.counts) files.now }
+{
+    for file in files {
+        let counts = file.counts;
+        if counts.lines > 1_000_000 || counts.ncloc > 1_000_000 || counts.complexity > 1_000_000 {
+            return false;
+        }
+    }
+    true
+}
+
+fn is_measurable(files: &[FileLines], groups: &[Group]) -> bool
+    ensures { result ≡ true → IsMeasurable files.now groups.now }
+{
+    files.len() <= 262_144 && are_small(files) && are_groups_inside(files, groups)
+}
+
+// The measures of the project; an error where it isn't measurable.
+fn of_project(alloc: Global, files: &[FileLines], groups: &[Group]) -> Result<Measures, Memory> {
+    if !is_measurable(files, groups) {
+        return Err(Memory);
+    }
+    project_measures(alloc, files, groups)
+}
+
+fn of_file(
+    alloc: Global,
+    files: &[FileLines],
+    file: u32,
+    groups: &[Group],
+) -> Result<Measures, Memory> {
+    if !is_measurable(files, groups) || files.len() <= file as usize {
+        return Err(Memory);
+    }
+    file_measures(alloc, files, file, groups)
+}
+
+fn duplication(measures: Measures) -> [u64; 3] {
+    [measures.dup_lines, measures.dup_blocks, measures.dup_files]
+}
+
+#[test]
+fn lines_of_code_have_a_token_on_them(rt: HostRuntime) -> Result<(), Memory> {
+    let alloc = rt.alloc();
+    assert_eq!(rt; ncloc(alloc, &[])?, 0);
+    let mut semicolon = token(9, 9);
+    semicolon.len = 0;
+    // two on one line, a blank line, and one over three lines that the next one touches
+    let tokens = [
+        token(1, 1),
+        token(1, 1),
+        token(3, 5),
+        token(5, 6),
+        semicolon,
+    ];
+    assert_eq!(rt; ncloc(alloc, &tokens)?, 5);
+    Ok(())
+}
+
+#[test]
+fn decisions_are_told_by_language(rt: HostRuntime) -> Result<(), Memory> {
+    let alloc = rt.alloc();
+    let all = spelled(
+        alloc,
+        &["if", "for", "while", "case", "&&", "||", "?", "->", "else"],
+    )?;
+    assert_eq!(rt; complexity(Lang::Java, &all), 9);
+    assert_eq!(rt; complexity(Lang::C, &all), 8);
+    assert_eq!(rt; complexity(Lang::Go, &all), 6);
+    assert_eq!(rt; complexity(Lang::Any, &all), 1);
+    assert_eq!(rt; complexity(Lang::Java, &[]), 1);
+    Ok(())
+}
+
+#[test]
+fn wildcards_of_java_decide_nothing(rt: HostRuntime) -> Result<(), Memory> {
+    let alloc = rt.alloc();
+    let wildcards = spelled(alloc, &["<", "?", ",", "?", ">", "?", "x"])?;
+    assert_eq!(rt; complexity(Lang::Java, &wildcards), 2);
+    assert_eq!(rt; complexity(Lang::C, &wildcards), 4);
+    Ok(())
+}
+
+#[test]
+fn each_line_and_each_block_counts_once(rt: HostRuntime) -> Result<(), Memory> {
+    let alloc = rt.alloc();
+    let spans = line_tokens(alloc, 100)?;
+    let file = FileLines {
+        counts: counts(100),
+        spans: &spans,
+    };
+    let files = [file, file];
+    // lines 1 to 10, and 5 to 14 that overlap; 3 to 6 within; 15 to 16 and 16 to 17 touch; one extent twice
+    let groups = [
+        group(alloc, 10, &[(0, 0), (0, 4)])?,
+        group(alloc, 4, &[(0, 2), (1, 2)])?,
+        group(alloc, 2, &[(0, 14), (0, 15)])?,
+        group(alloc, 4, &[(0, 2), (1, 2)])?,
+    ];
+    let project = of_project(alloc, &files, &groups)?;
+    assert_eq!(rt; duplication(project), [21, 6, 2]);
+    assert_eq!(rt; project.lines, 200);
+    assert_eq!(rt; project.files, 2);
+    assert_eq!(rt; project.density, 1050);
+    let first = of_file(alloc, &files, 0, &groups)?;
+    assert_eq!(rt; duplication(first), [17, 5, 1]);
+    assert_eq!(rt; first.files, 1);
+    assert_eq!(rt; first.density, 1700);
+    let second = of_file(alloc, &files, 1, &groups)?;
+    assert_eq!(rt; duplication(second), [4, 1, 1]);
+    Ok(())
+}
+
+#[test]
+fn a_place_covers_the_lines_of_its_tokens(rt: HostRuntime) -> Result<(), Memory> {
+    let alloc = rt.alloc();
+    let spans = [token(1, 1), token(2, 40), token(50, 50), token(60, 60)];
+    let file = FileLines {
+        counts: counts(60),
+        spans: &spans,
+    };
+    let groups = [group(alloc, 2, &[(0, 0), (0, 2)])?];
+    let measures = of_project(alloc, &[file], &groups)?;
+    assert_eq!(rt; duplication(measures), [51, 2, 1]);
+    Ok(())
+}
+
+#[test]
+fn a_project_without_files_has_zeros(rt: HostRuntime) -> Result<(), Memory> {
+    let measures = of_project(rt.alloc(), &[], &[])?;
+    assert_eq!(rt; duplication(measures), [0, 0, 0]);
+    assert_eq!(rt; measures.files, 0);
+    assert_eq!(rt; measures.density, 0);
+    Ok(())
+}
+
+// The density of two places with as many lines as these, of all lines.
+fn density(alloc: Global, duplicated: u32, lines: u64) -> Result<u64, Memory> {
+    let spans = line_tokens(alloc, duplicated)?;
+    let file = FileLines {
+        counts: counts(lines),
+        spans: &spans,
+    };
+    let groups = [
+        group(alloc, 1, &[(0, 0)])?,
+        group(alloc, duplicated, &[(0, 0)])?,
+    ];
+    Ok(of_project(alloc, &[file], &groups)?.density)
+}
+
+#[test]
+fn density_is_rounded_down(rt: HostRuntime) -> Result<(), Memory> {
+    let alloc = rt.alloc();
+    assert_eq!(rt; density(alloc, 1, 1)?, 10_000);
+    assert_eq!(rt; density(alloc, 10, 15)?, 6_666);
+    // 99.995, 0.995 and 0.0049 percent of more than ten thousand lines
+    assert_eq!(rt; density(alloc, 19_999, 20_000)?, 9_999);
+    assert_eq!(rt; density(alloc, 199, 20_000)?, 99);
+    assert_eq!(rt; density(alloc, 1, 20_001)?, 0);
+    assert_eq!(rt; density(alloc, 6, 200)?, 300);
+    assert_eq!(rt; density(alloc, 10, 332)?, 301);
+    Ok(())
+}
