@@ -1,5 +1,5 @@
 -- The verdict of a gate on some measures.
-use Rattle.std.specs.Prelude.{ℕ, nat_lt, Bool, if◌then◌else◌, List, [], ◌∷◌, length, filter, slice_get, option_map, unwrap_or, false}
+use Rattle.std.specs.Prelude.{ℕ, nat_lt, Bool, List, [], ◌∷◌, length, filter, slice_get, option_map, unwrap_or, false}
 use Rattle.std.specs.List.{range_with_len}
 use Rattle.cq_base.specs.declared.change.Metric.{Metric}
 use Rattle.cq_base.specs.declared.change.Metric.TheVariants as metric

@@ -48,7 +48,8 @@ impl Keyer {
         ensures { IfOk result (λ v. v.items ≡ spec.keys_of self.now.settings codes.now) }
     {
         let chunk = self.chunk();
-        let mut keys = Vec::new(alloc);
+        let windows = (codes.len() + 1).saturating_sub(chunk);
+        let mut keys = Vec::with_capacity(alloc, windows)?;
         let mut at = 0;
         'windows: while codes.len() - at >= chunk {
             keys.push(self.key(&codes[at..at + chunk]))?;

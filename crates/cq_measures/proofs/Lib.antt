@@ -5,3 +5,4 @@ pub mod Counted
 pub mod Same
 pub mod CodeLines
 pub mod Placed
+pub mod Totals

@@ -11,7 +11,10 @@ use Rattle.cq_measures.specs.declared.extent.Extent.{Extent}
 use Rattle.cq_measures.specs.declared.extent.FileLines.{FileLines}
 use Rattle.cq_measures.specs.Extents.{covered_lines, different_extents, files_touched}
 
--- where the tokens of each file stand
+-- what is counted of each file, and where its tokens stand
+abbrev pub counts_of : List FileLines → List FileCounts
+counts_of files = map (λ f. f.counts) files
+
 abbrev pub spans_of : List FileLines → List (List Token)
 spans_of files = map (λ f. f.spans.now) files
 
@@ -33,8 +36,8 @@ abbrev pub density : ℕ → ℕ → ℕ
 density duplicated lines = if lines == 0 then 0 else 10000 * duplicated / lines
 
 -- the counts of all files together
-abbrev pub total : List FileLines → FileCounts
-total files = record { lines = sum_by (λ f. f.counts.lines) files; ncloc = sum_by (λ f. f.counts.ncloc) files; complexity = sum_by (λ f. f.counts.complexity) files }
+abbrev pub total : List FileCounts → FileCounts
+total counts = record { lines = sum_by (λ c. c.lines) counts; ncloc = sum_by (λ c. c.ncloc) counts; complexity = sum_by (λ c. c.complexity) counts }
 
 -- The measures of some files with these counts in all, in which the places of groups cover these extents. Each line, each
 -- extent and each file counts once, however many groups touch it.
@@ -51,19 +54,17 @@ measures_of files counts extents =
       density = density (covered_lines extents) counts.lines;
     }
 
-abbrev pub project_measures : List FileLines → List Group → Measures
-project_measures files groups = measures_of (length files) (total files) (extents_of (spans_of files) groups)
+-- those of a project: of all its files, and all places
+abbrev pub project_measures : List FileCounts → List (List Token) → List Group → Measures
+project_measures counts spans groups = measures_of (length counts) (total counts) (extents_of spans groups)
 
 abbrev pub no_counts : FileCounts
 no_counts = record { lines = 0; ncloc = 0; complexity = 0 }
 
-abbrev pub counts_at : List FileLines → ℕ → FileCounts
-counts_at files file = slice_index_or (map (λ f. f.counts) files) file no_counts
-
 -- those of one file, with the places that groups of all files have in it
-abbrev pub file_measures : List FileLines → ℕ → List Group → Measures
-file_measures files file groups =
-    measures_of 1 (counts_at files file) (filter (λ e. e.file == file) (extents_of (spans_of files) groups))
+abbrev pub file_measures : List FileCounts → List (List Token) → ℕ → List Group → Measures
+file_measures counts spans file groups =
+    measures_of 1 (slice_index_or counts file no_counts) (filter (λ e. e.file == file) (extents_of spans groups))
 
 -- ---- what can be measured: each place lies with all its tokens in its file, and the counts are of texts
 
@@ -77,7 +78,7 @@ IsGroupInside spans g = (1 ≤ g.tokens) × ((p : Place) → Contains g.places p
 abbrev pub AreSmall : FileCounts → Type 0
 AreSmall c = (c.lines ≤ 2 ^ 32) × (c.ncloc ≤ 2 ^ 32) × (c.complexity ≤ 2 ^ 32)
 
-pub record IsMeasurable (files : List FileLines) (groups : List Group) : Type 0 where
-  pub few : length files ≤ 262144
-  pub small : All (λ f. AreSmall f.counts) files
-  pub inside : (g : Group) → Contains groups g → IsGroupInside (spans_of files) g
+pub record IsMeasurable (counts : List FileCounts) (spans : List (List Token)) (groups : List Group) : Type 0 where
+  pub few : length counts ≤ 262144
+  pub small : All AreSmall counts
+  pub inside : (g : Group) → Contains groups g → IsGroupInside spans g

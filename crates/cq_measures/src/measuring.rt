@@ -23,8 +23,8 @@ fn density(duplicated: u64, lines: u64) -> u64
 // The counts of all files together.
 fn total(files: &[FileLines]) -> FileCounts
     requires few { length files.now ≤ 262144 }
-    requires small { All (λ f. spec.AreSmall f.counts) files.now }
-    ensures { result ≡ spec.total files.now }
+    requires small { All spec.AreSmall (spec.counts_of files.now) }
+    ensures { result ≡ spec.total (spec.counts_of files.now) }
 {
     let mut all = FileCounts {
         lines: 0,
@@ -62,8 +62,8 @@ pub fn project_measures(
     files: &[FileLines],
     groups: &[Group],
 ) -> Result<Measures, Memory>
-    requires { spec.IsMeasurable files.now groups.now }
-    ensures { IfOk result (λ m. m ≡ spec.project_measures files.now groups.now) }
+    requires { spec.IsMeasurable (spec.counts_of files.now) (spec.spans_of files.now) groups.now }
+    ensures { IfOk result (λ m. m ≡ spec.project_measures (spec.counts_of files.now) (spec.spans_of files.now) groups.now) }
 {
     let tally = count_up(extents_of(alloc, files, groups)?);
     Ok(measures_of(files.len() as u64, total(files), tally))
@@ -76,9 +76,9 @@ pub fn file_measures(
     file: u32,
     groups: &[Group],
 ) -> Result<Measures, Memory>
-    requires measurable { spec.IsMeasurable files.now groups.now }
+    requires measurable { spec.IsMeasurable (spec.counts_of files.now) (spec.spans_of files.now) groups.now }
     requires inside { file < length files.now }
-    ensures { IfOk result (λ m. m ≡ spec.file_measures files.now file groups.now) }
+    ensures { IfOk result (λ m. m ≡ spec.file_measures (spec.counts_of files.now) (spec.spans_of files.now) file groups.now) }
 {
     let mut extents = extents_of(alloc, files, groups)?;
     keep_file(&mut extents, file);

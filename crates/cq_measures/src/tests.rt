@@ -1,5 +1,5 @@
 ghost use Rattle.std.specs.Prelude.{◌≡◌, true, Contains, All};
-ghost use Rattle.cq_measures.specs.Measures.{spans_of, IsInside, IsGroupInside, IsMeasurable, AreSmall};
+ghost use Rattle.cq_measures.specs.Measures.{counts_of, spans_of, IsInside, IsGroupInside, IsMeasurable, AreSmall};
 ghost use Rattle.cq_base.specs.declared.group.Group.{Group};
 
 use crate::{FileLines, complexity, file_measures, ncloc, project_measures};
@@ -104,7 +104,7 @@ fn are_small(files: &[FileLines]) -> bool
 }
 
 fn is_measurable(files: &[FileLines], groups: &[Group]) -> bool
-    ensures { result ≡ true → IsMeasurable files.now groups.now }
+    ensures { result ≡ true → IsMeasurable (counts_of files.now) (spans_of files.now) groups.now }
 {
     files.len() <= 262_144 && are_small(files) && are_groups_inside(files, groups)
 }

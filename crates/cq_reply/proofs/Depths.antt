@@ -3,13 +3,15 @@ use Rattle.std.proofs.Common.{ℕ, ◌≤◌, List, [], ◌∷◌, map, arith}
 use Rattle.serde_json.specs.Data.{Data, depth, items_depth}
 use Rattle.serde_json.specs.Read.{max_depth}
 use Rattle.serde_json.specs.View.{items_of}
+use Rattle.cq_gate.specs.declared.outcome.Verdict.{Verdict}
+use Rattle.cq_gate.specs.declared.outcome.Verdict.TheVariants as verdict
 use Rattle.cq_reply.specs.declared.reply.GroupRow.{GroupRow}
 use Rattle.cq_reply.specs.declared.reply.FileRow.{FileRow}
 use Rattle.cq_reply.specs.declared.reply.Shown.{Shown}
 use Rattle.cq_reply.specs.declared.reply.Shown.TheVariants as shown
 use Rattle.cq_reply.specs.declared.reply.Reply.{Reply}
 use Rattle.cq_reply.specs.declared.reply.Reply.TheVariants as reply
-use Rattle.cq_reply.specs.Written.{shown_data, file_data, place_data, group_data, reply_data}
+use Rattle.cq_reply.specs.Written.{shown_data, file_data, place_data, group_data, count, verdict_data, reply_data}
 
 -- a list whose values nest no deeper than n
 rows_depth : {X : Type 0} (n : ℕ) (data_of : X → Data) (rows : List X) → ((x : X) → depth (data_of x) ≤ n) → items_depth (items_of (map data_of rows)) ≤ n
@@ -24,10 +26,16 @@ shown_depth row shown.Ok = omega arith
 shown_depth row (shown.Fault at) = omega arith
 shown_depth row shown.Large = omega arith
 
+verdict_depth : (v : Verdict) (version : ℕ) → depth (verdict_data v version) ≤ 3
+verdict_depth verdict.Ok version = omega arith
+verdict_depth (verdict.Error failed) version = let positions = rows_depth 1 count failed (λ n. omega arith) in omega (arith, positions)
+
 pub reply_depth : (r : Reply) → depth (reply_data r) ≤ max_depth
 reply_depth (reply.Change n) = omega arith
 reply_depth (reply.Files files version) = let rows = rows_depth 1 file_data files (λ row. shown_depth row row.shown) in omega (arith, rows)
 reply_depth (reply.Groups groups version) = let rows = rows_depth 3 group_data groups group_depth in omega (arith, rows)
+reply_depth (reply.Measures measures version) = omega arith
+reply_depth (reply.Verdict verdict version) = let depth_of = verdict_depth verdict version in omega (arith, depth_of)
 reply_depth (reply.State accepted done published) = omega arith
 reply_depth reply.Json = omega arith
 reply_depth reply.Op = omega arith

@@ -1,6 +1,7 @@
 ghost use Rattle.std.specs.Prelude.{◌≡◌};
 
-use cq_base::{Lang, Text};
+use cq_base::{Lang, Measures, Text};
+use cq_gate::Verdict;
 use std::marker::Model;
 
 /// Where a group stands: the path of its file, its first token there from 0, and its first and last line from 1.
@@ -143,6 +144,16 @@ pub enum Reply {
         groups: GroupRows,
         version: u64,
     },
+    /// The measures of a project, or of one file of it, at a version.
+    Measures {
+        measures: Measures,
+        version: u64,
+    },
+    /// What the project's gate says of its measures at a version.
+    Verdict {
+        verdict: Verdict,
+        version: u64,
+    },
     /// How many changes are accepted, up to which one all are done, and which version is published.
     State {
         accepted: u64,
@@ -151,11 +162,11 @@ pub enum Reply {
     },
     /// The line is no JSON object.
     Json,
-    /// It names no request that is served.
+    /// It names no request.
     Op,
     /// A member is missing, or not of its form, or does not belong to the request.
     Field(Text),
-    /// The language is not served.
+    /// The language is none that is read.
     Lang,
     /// The path is none.
     Path,

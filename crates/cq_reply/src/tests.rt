@@ -5,7 +5,8 @@ use crate::{
     FileRow, FileRows, GroupRow, GroupRows, PlaceRow, PlaceRows, Reply, Short, Shown, fixed,
     write_reply,
 };
-use cq_base::{Lang, Memory, Text};
+use cq_base::{Lang, Measures, Memory, Text};
+use cq_gate::{Positions, Verdict};
 use std::alloc::Global;
 
 fn is_written(alloc: Global, reply: &Reply, want: &str) -> Result<bool, Memory>
@@ -266,6 +267,57 @@ fn groups_are_written(rt: HostRuntime) -> Result<(), Memory> {
     let want =
         r#"{"groups":[{"places":[{"at":0,"first":1,"last":2,"path":"é"},{"at":4,"first":1,"last":2,"path":"t"}],"tokens":3}],"ok":true,"total":1,"version":9}"#;
     assert!(rt; is_written(alloc, &one, want)?);
+    Ok(())
+}
+
+#[test]
+fn measures_are_written(rt: HostRuntime) -> Result<(), Memory> {
+    let measures = Measures {
+        lines: 1,
+        ncloc: 2,
+        files: 3,
+        complexity: 4,
+        dup_lines: 5,
+        dup_blocks: 6,
+        dup_files: 7,
+        density: u64::MAX,
+    };
+    let reply = Reply::Measures {
+        measures,
+        version: 8,
+    };
+    let want =
+        r#"{"measures":{"complexity":4,"duplicated_blocks":6,"duplicated_files":7,"duplicated_lines":5,"duplicated_lines_density":18446744073709551615,"files":3,"lines":1,"ncloc":2},"ok":true,"version":8}"#;
+    assert!(rt; is_written(rt.alloc(), &reply, want)?);
+    Ok(())
+}
+
+#[test]
+fn verdicts_are_written(rt: HostRuntime) -> Result<(), Memory> {
+    let alloc = rt.alloc();
+    let passed = Reply::Verdict {
+        verdict: Verdict::Ok,
+        version: 0,
+    };
+    assert!(rt;
+        is_written(
+            alloc,
+            &passed,
+            r#"{"failed":[],"ok":true,"verdict":"OK","version":0}"#
+        )?
+    );
+    let positions = Positions::from_vec(vec![in alloc; 0, 31]?);
+    let failed = Reply::Verdict {
+        verdict: Verdict::Error(positions),
+        version: 2,
+    };
+    assert!(rt;
+        is_written(
+            alloc,
+            &failed,
+            r#"{"failed":[0,31],"ok":true,"verdict":"ERROR","version":2}"#
+        )?
+    );
     Ok(())
 }
 

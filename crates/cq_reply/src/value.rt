@@ -3,10 +3,11 @@ ghost use Rattle.std.specs.List.{AllByRecursion};
 ghost use Rattle.std.specs.Str.{IsUtf8};
 ghost use Rattle.serde_json.specs.Data.{array};
 ghost use Rattle.serde_json.specs.View.{view};
-ghost use Rattle.cq_reply.specs.Written.{word_of, file_data, files_data, place_data, group_data, groups_data, change_data, state_data, refusal, future_data, field_data, pending_data, reply_data, IsFileText, IsPlaceText, IsGroupText, IsReplyText};
+ghost use Rattle.cq_reply.specs.Written.{word_of, file_data, files_data, place_data, group_data, groups_data, count, measures_members, measures_data, failed_data, verdict_data, change_data, state_data, refusal, future_data, field_data, pending_data, reply_data, IsFileText, IsPlaceText, IsGroupText, IsReplyText};
 
 use crate::reply::{FileRow, GroupRow, PlaceRow, Reply, Shown};
-use cq_base::{Lang, Text};
+use cq_base::{Lang, Measures, Text};
+use cq_gate::Verdict;
 use serde_json::{Value, json};
 use std::alloc::{AllocError, Global};
 use std::str;
@@ -113,6 +114,60 @@ fn files_value(alloc: Global, rows: &[FileRow], version: u64) -> Result<Value, A
     json!(in alloc; {"files": files, "ok": true, "version": version})
 }
 
+// The eight measures, by SonarQube's metric keys.
+fn measures_members(alloc: Global, measures: &Measures) -> Result<Value, AllocError>
+    ensures { IfOk result (λ v. view v ≡ measures_members measures.now) }
+{
+    json!(in alloc; {
+        "complexity": measures.complexity,
+        "duplicated_blocks": measures.dup_blocks,
+        "duplicated_files": measures.dup_files,
+        "duplicated_lines": measures.dup_lines,
+        "duplicated_lines_density": measures.density,
+        "files": measures.files,
+        "lines": measures.lines,
+        "ncloc": measures.ncloc,
+    })
+}
+
+fn measures_value(alloc: Global, measures: &Measures, version: u64) -> Result<Value, AllocError>
+    ensures { IfOk result (λ v. view v ≡ measures_data measures.now version) }
+{
+    let members = measures_members(alloc, measures)?;
+    json!(in alloc; {"measures": members, "ok": true, "version": version})
+}
+
+fn count_values(alloc: Global, counts: &[u32]) -> Result<Vec<Value>, AllocError>
+    ensures { IfOk result (λ v. map view v.items ≡ map count counts.now) }
+{
+    let mut values = Vec::new(alloc);
+    for count in counts {
+        serde_json::push(&mut values, Value::from(*count))?;
+    }
+    Ok(values)
+}
+
+fn failed_value(
+    alloc: Global,
+    failed: &[u32],
+    word: &str,
+    version: u64,
+) -> Result<Value, AllocError>
+    ensures { IfOk result (λ v. view v ≡ failed_data failed.now word.now version) }
+{
+    let failed = Value::Array(count_values(alloc, failed)?);
+    json!(in alloc; {"failed": failed, "ok": true, "verdict": word, "version": version})
+}
+
+fn verdict_value(alloc: Global, verdict: &Verdict, version: u64) -> Result<Value, AllocError>
+    ensures { IfOk result (λ v. view v ≡ verdict_data verdict.now version) }
+{
+    match verdict {
+        Verdict::Ok => failed_value(alloc, &[], "OK", version),
+        Verdict::Error(failed) => failed_value(alloc, failed.as_slice(), "ERROR", version),
+    }
+}
+
 fn change_value(alloc: Global, change: u64) -> Result<Value, AllocError>
     ensures { IfOk result (λ v. view v ≡ change_data change) }
 {
@@ -154,6 +209,8 @@ pub(crate) fn reply_value(alloc: Global, reply: &Reply) -> Result<Value, AllocEr
         Reply::Change(change) => change_value(alloc, *change),
         Reply::Files { files, version } => files_value(alloc, files.as_slice(), *version),
         Reply::Groups { groups, version } => groups_value(alloc, groups.as_slice(), *version),
+        Reply::Measures { measures, version } => measures_value(alloc, measures, *version),
+        Reply::Verdict { verdict, version } => verdict_value(alloc, verdict, *version),
         Reply::State {
             accepted,
             done,

@@ -53,23 +53,9 @@ op_named word =
     else (if bytes_eq word (codes "state") then Some op.State
     else None)))))))
 
--- what is served today
-abbrev pub is_served : Op → Bool
-is_served op.Put = true
-is_served op.Drop = true
-is_served op.Gate = true
-is_served op.Files = true
-is_served op.Groups = true
-is_served op.Measures = false
-is_served op.Verdict = false
-is_served op.State = true
-
-abbrev pub served : Op → Option Op
-served o = if is_served o then Some o else None
-
--- what an object asks for, if it names a request that is served
+-- what an object asks for, if it names a request
 abbrev pub op_of : Data → Option Op
-op_of d = option_and_then served (option_and_then op_named (text_at (codes "op") d))
+op_of d = option_and_then op_named (text_at (codes "op") d)
 
 abbrev pub key_of : Name → List ℕ
 key_of name.Project = codes "project"

@@ -40,11 +40,11 @@ pub enum Request {
 pub enum Refusal {
     /// It is no JSON object.
     Json,
-    /// It names no request that is served.
+    /// It names no request.
     Op,
     /// This member is missing or not of its form, or does not belong to the request.
     Field(Text),
-    /// The language is none that is served.
+    /// The language is none that is read.
     Lang,
     /// The path is none.
     Path,

@@ -135,20 +135,11 @@ fn op_named(word: &str) -> Option<Op>
     }
 }
 
-fn served(op: Op) -> Option<Op>
-    ensures { result ≡ rows.served op }
-{
-    match op {
-        Op::Measures | Op::Verdict => None,
-        _ => Some(op),
-    }
-}
-
-/// What an object asks for, if it names a request that is served.
+/// What an object asks for, if it names a request.
 pub(crate) fn op_of(value: &Value) -> Option<Op>
     ensures { result ≡ rows.op_of (view value.now) }
 {
-    served(op_named(text_at(value, "op")?)?)
+    op_named(text_at(value, "op")?)
 }
 
 fn key_of(name: Name) -> &'static str

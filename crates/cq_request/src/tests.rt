@@ -219,6 +219,18 @@ fn queries_are_read(rt: HostRuntime) -> Result<(), Refusal> {
     Ok(())
 }
 
+#[test]
+fn queries_of_measures_are_read(rt: HostRuntime) -> Result<(), Refusal> {
+    let alloc = rt.alloc();
+    let line = r#"{"op":"measures","project":"p","path":"t","finish":false}"#;
+    let measures = read_request(alloc, &SETTINGS, line.as_bytes())?;
+    assert!(rt; is_query(&measures, Kind::Measures, "t", (100, 0, false)));
+    let line = r#"{"op":"verdict","project":"p","min":30,"at":7}"#;
+    let verdict = read_request(alloc, &SETTINGS, line.as_bytes())?;
+    assert!(rt; is_query(&verdict, Kind::Verdict, "", (30, 7, true)));
+    Ok(())
+}
+
 fn value_tells(alloc: Global, line: &str, code: u8) -> bool {
     match Value::from_str(alloc, line) {
         Ok(value) => match read_value(alloc, &SETTINGS, value) {
@@ -274,8 +286,7 @@ fn what_names_no_request_is_refused(rt: HostRuntime) {
         (r#"{"op":"Put"}"#, 2, ""),
         (r#"{"op":1}"#, 2, ""),
         (r#"{"op":null}"#, 2, ""),
-        (r#"{"op":"measures","project":"p"}"#, 2, ""),
-        (r#"{"op":"verdict","project":"p"}"#, 2, ""),
+        (r#"{"op":"Measures","project":"p"}"#, 2, ""),
         (r#"{"op":"fly","op":"state"}"#, 0, ""),
         (r#"{"op":"state","op":"fly"}"#, 2, ""),
     ];
@@ -286,6 +297,8 @@ fn what_names_no_request_is_refused(rt: HostRuntime) {
 fn the_first_bad_member_is_named(rt: HostRuntime) {
     let cases = [
         (r#"{"op":"put"}"#, 3, "project"),
+        (r#"{"op":"measures"}"#, 3, "project"),
+        (r#"{"op":"verdict","project":"p","path":"t"}"#, 3, "path"),
         (r#"{"op":"put","project":"p"}"#, 3, "path"),
         (r#"{"op":"put","project":"p","path":"t"}"#, 3, "lang"),
         (

@@ -9,3 +9,4 @@ pub mod Rows
 pub mod Listings
 pub mod Talking
 pub mod Turns
+pub mod Gated

@@ -1,6 +1,9 @@
 -- The files of a project among those that are kept, and their groups.
 use Rattle.std.proofs.Common.{◌≡◌, ℕ, zero, suc, ◌<◌, ◌≤◌, Bool, true, false, cond, Option, List, [], ◌∷◌, length, get_or, map, refl, sym, ap, ap₂, ◌∙◌, subst, ⊎_elim, arith}
-use Rattle.std.specs.Prelude.{Contains, filter}
+use Rattle.std.specs.Prelude.{All, Contains, filter}
+use Rattle.std.proofs.lemmas.List.Elements.{All-map, All-weaker, All-contains_itself}
+use Rattle.cq_base.specs.declared.measures.Measures.{Measures}
+use Rattle.cq_measures.specs.Measures.{AreSmall, IsMeasurable}
 use Rattle.std.specs.List.{AllByRecursion}
 use Rattle.std.specs.Str.{bytes_eq, IsUtf8}
 use Rattle.std.specs.declared.cmp.Ordering.TheVariants.{Less, Equal}
@@ -27,10 +30,16 @@ use Rattle.cq_session.specs.declared.store.Store.{Store}
 use Rattle.cq_session.specs.Changes.{History}
 use Rattle.cq_normal.specs.Normal.{norm_of}
 use Rattle.cq_session.specs.Files.{File, IsLastPut, PathBefore, AreFiles}
-use Rattle.cq_work.specs.Lexing.{tokens_in, spans_of}
+use Rattle.cq_base.specs.Lines.{lines_of}
+use Rattle.cq_base.specs.declared.measures.FileCounts.{FileCounts}
+use Rattle.cq_work.specs.declared.work.State.{State}
+use Rattle.cq_work.specs.declared.work.State.TheVariants as state
+use Rattle.cq_work.specs.Counts.{counts_of}
+use Rattle.cq_work.specs.Lexing.{tokens_in, state_of}
 use Rattle.cq_session.specs.Lexing.{Reading, AreRead, corpus_read, file_row, file_rows, shown_in}
-use Rattle.cq_session.specs.Kept.{KeptAt, file_of, files_of, spans_in, norms_in, row_of}
+use Rattle.cq_session.specs.Kept.{KeptAt, file_of, files_of, spans_in, norms_in, counts_in, row_of}
 use Rattle.cq_session.specs.Listing.{file_in, spans_read, IsInside, IsGroupInside, IsFileListing, IsListing, place_row, group_row, is_meant}
+use Rattle.cq_session.specs.Measuring.{counts_read, measures_in, IsMeasured}
 use Rattle.cq_session.specs.Stands.{Key, key_of, KeyBefore, IsLastAt, Shows, HasWork, StandsFor}
 use Rattle.cq_session.proofs.KeyOrder.{text_equal}
 use Rattle.cq_session.proofs.Mapped.{Contains-map, Contains-from_map, Contains-filter, Contains-from_filter, pairs_from_map, pairs_to_map, pairs_weaker, element, same_default}
@@ -91,12 +100,22 @@ pub record Reads {L : Type 0} (settings : Settings) (changes : List Change) (ks 
   pub rows : map row_of ks ≡ file_rows (files_of ks) readings
   pub spans : spans_in ks ≡ spans_read readings
   pub norms : norms_in ks ≡ corpus_read settings readings
+  pub counts : counts_in ks ≡ counts_read readings
+
+-- the lines that are counted are those of the text
+lines_counted : {L : Type 0} (settings : Settings) (k : KeptAt L) (r : Reading) → Shows settings k.1 r → k.1.work.counts.lines ≡ lines_of r.text
+lines_counted settings k r shows = ap (λ (c : FileCounts). c.lines) shows.work.counts_are ∙ by_state (state_of r.answer)
+  where
+    by_state : (s : State) → (counts_of r.lang r.text s (tokens_in r.answer)).lines ≡ lines_of r.text
+    by_state state.Ok = refl
+    by_state (state.Fault at) = refl
+    by_state state.Large = refl
 
 row_same : {L : Type 0} (settings : Settings) (k : KeptAt L) (r : Reading) → Shows settings k.1 r → row_of k ≡ file_row (file_of k) r
-row_same settings k r shows = λ i. record { path = k.0.path; change = k.1.change; lang = shows.work.lang_is i; lines = shows.lines i; shown = shown_in (shows.work.state_is i); tokens = shows.count i }
+row_same settings k r shows = λ i. record { path = k.0.path; change = k.1.change; lang = shows.work.lang_is i; lines = lines_counted settings k r shows i; shown = shown_in (shows.work.state_is i); tokens = shows.count i }
 
 pub reads : {L : Type 0} (settings : Settings) (changes : List Change) (ks : List (KeptAt L)) → ((k : KeptAt L) → Contains ks k → HasWork settings changes k) → Reads settings changes ks
-reads settings changes [] works = record { readings = []; are = tt; rows = refl; spans = refl; norms = refl }
+reads settings changes [] works = record { readings = []; are = tt; rows = refl; spans = refl; norms = refl; counts = refl }
 reads settings changes (k ∷ ks) works =
     let work = works k (Contains-here k ks) in
     let rest = reads settings changes ks (λ z c. works z (Contains-there k z ks c)) in
@@ -106,6 +125,7 @@ reads settings changes (k ∷ ks) works =
       rows = ap₂ (λ (x : FileRow) (xs : List FileRow). x ∷ xs) (row_same settings k work.reading work.shows) rest.rows;
       spans = ap₂ (λ (x : List Token) (xs : List (List Token)). x ∷ xs) work.shows.work.spans_are rest.spans;
       norms = ap₂ (λ (x : List Norm) (xs : List (List Norm)). x ∷ xs) work.shows.work.tokens_are rest.norms;
+      counts = ap₂ (λ (x : FileCounts) (xs : List FileCounts). x ∷ xs) work.shows.work.counts_are rest.counts;
     }
 
 -- as many spans as tokens
@@ -204,3 +224,34 @@ group_rows_are_texts {L} settings h store project min path groups ks some is sta
     (rows_are_texts settings h.changes ks (spans_in ks) groups works
     (λ group here p at. let inside = (groups_inside settings h.changes ks min groups some found are group here).1 p at in
     omega (arith, inside.0, length-map ks (λ (k : KeptAt L). k.1.work.spans.items))))
+
+-- ---- measures
+
+-- what is counted of files that have their work is small
+pub counts_small : {L : Type 0} (settings : Settings) (changes : List Change) (ks : List (KeptAt L)) → ((k : KeptAt L) → Contains ks k → HasWork settings changes k) → All AreSmall (counts_in ks)
+counts_small {L} settings changes ks works =
+    All-map AreSmall (λ (k : KeptAt L). k.1.work.counts) ks (All-weaker (λ (k : KeptAt L). Contains ks k) (λ (k : KeptAt L). AreSmall k.1.work.counts) (λ k here. (works k here).shows.work.small) ks (All-contains_itself ks))
+
+pub measurable : {L : Type 0} (settings : Settings) (h : History) (store : Store L) (project : List ℕ) (min : ℕ) (groups : List Group) (ks : List (KeptAt L)) → 1 ≤ min → length ks ≤ 262144 → ks ≡ chosen project store.files.entries → StandsFor settings h store → AreGroups (norms_in ks) min groups → IsMeasurable (counts_in ks) (spans_in ks) groups
+measurable {L} settings h store project min groups ks some few is stands are =
+    let works = chosen_works settings h store project ks is stands in
+    let as_many = length-map ks (λ (k : KeptAt L). k.1.work.counts) in
+    record {
+      few = omega (arith, as_many, few);
+      small = counts_small settings h.changes ks works;
+      inside = groups_inside settings h.changes ks min groups some (reads settings h.changes ks works) are;
+    }
+
+pub measured : {L : Type 0} (settings : Settings) (h : History) (store : Store L) (project : List ℕ) (min : ℕ) (path : Option (List ℕ)) (groups : List Group) (m : Measures) (ks : List (KeptAt L)) → ks ≡ chosen project store.files.entries → StandsFor settings h store → AreGroups (norms_in ks) min groups
+    → m ≡ measures_in (files_of ks) (counts_in ks) (spans_in ks) groups path → IsMeasured settings h.changes project min path m
+measured {L} settings h store project min path groups m ks is stands are m_is =
+    let found = reads settings h.changes ks (chosen_works settings h store project ks is stands) in
+    record {
+      files = files_of ks;
+      are_files = subst (λ xs. AreFiles h.changes project (files_of xs)) (sym is) (project_files settings h store project stands);
+      readings = found.readings;
+      are_read = found.are;
+      groups = groups;
+      are_groups = subst (λ (corpus : List (List Norm)). AreGroups corpus min groups) found.norms are;
+      measures_are = m_is ∙ ap₂ (λ (cs : List FileCounts) (ss : List (List Token)). measures_in (files_of ks) cs ss groups path) found.counts found.spans;
+    }

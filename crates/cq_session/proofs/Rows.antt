@@ -1,10 +1,12 @@
 -- Rows of the files that are kept.
-use Rattle.std.proofs.Common.{◌≡◌, ℕ, ◌<◌, List, [], length, get_or, map, sym, ap, ◌∙◌, arith}
-use Rattle.std.proofs.lemmas.List.{get_or-map, length-map, get_or_default}
+use Rattle.std.proofs.Common.{◌≡◌, ℕ, ◌+◌, ◌<◌, true, false, cond, Some, List, [], length, get_or, map, drop, sym, ap, ◌∙◌, arith}
+use Rattle.std.proofs.lemmas.List.{get_or-map, length-map, get_or_default, drop_more}
 use Rattle.cq_base.specs.declared.token.Token.{Token}
 use Rattle.cq_session.specs.Files.{File}
 use Rattle.cq_session.specs.Kept.{KeptAt, file_of, files_of, spans_in}
 use Rattle.cq_session.specs.Listing.{span_in}
+use Rattle.cq_session.specs.Measuring.{position_from}
+use Rattle.std.specs.Str.{bytes_eq}
 use Rattle.cq_reply.specs.declared.reply.PlaceRow.{PlaceRow}
 
 -- the spans and the file of one that was read
@@ -29,3 +31,19 @@ span_read here spans at x same inside read =
 pub row_is : (path other : List ℕ) (at first last other_first other_last : ℕ) → path ≡ other → first ≡ other_first → last ≡ other_last
     → let a : PlaceRow = record { path = path; at = at; first = first; last = last } in let b : PlaceRow = record { path = other; at = at; first = other_first; last = other_last } in a ≡ b
 row_is path other at first last other_first other_last p q r = λ i. record { path = p i; at = at; first = q i; last = r i }
+
+-- where a file has the path, or hasn't
+pub position_found : (path : List ℕ) (files : List File) (at : ℕ) (f d : File) → at < length files → get_or files at d ≡ f → bytes_eq f.path path ≡ true → position_from path at (drop at files) ≡ Some at
+position_found path files at f d inside is holds =
+    ap (position_from path at) (drop_more files at d inside)
+    ∙ ap (λ (x : File). cond (bytes_eq x.path path) (Some at) (position_from path (at + 1) (drop (at + 1) files))) is
+    ∙ ap (λ b. cond b (Some at) (position_from path (at + 1) (drop (at + 1) files))) holds
+
+pub position_later : (path : List ℕ) (files : List File) (at : ℕ) (f d : File) → at < length files → get_or files at d ≡ f → bytes_eq f.path path ≡ false → position_from path at (drop at files) ≡ position_from path (at + 1) (drop (at + 1) files)
+position_later path files at f d inside is fails =
+    ap (position_from path at) (drop_more files at d inside)
+    ∙ ap (λ (x : File). cond (bytes_eq x.path path) (Some at) (position_from path (at + 1) (drop (at + 1) files))) is
+    ∙ ap (λ b. cond b (Some at) (position_from path (at + 1) (drop (at + 1) files))) fails
+
+pub files_many : {L R : Type 0} (now : R → KeptAt L) (files : List R) → length (files_of (map now files)) ≡ length files
+files_many now files = length-map (map now files) file_of ∙ length-map files now

@@ -1,6 +1,8 @@
 -- The lines that are written as replies.
 use Rattle.std.specs.Prelude.{◌≡◌, ℕ, List, length, Result}
 use Rattle.cq_base.specs.declared.settings.Settings.{Settings}
+use Rattle.cq_base.specs.declared.measures.Measures.{Measures}
+use Rattle.cq_gate.specs.declared.outcome.Verdict.{Verdict}
 use Rattle.cq_request.specs.declared.request.Query.{Query}
 use Rattle.cq_request.specs.declared.request.Request.{Request}
 use Rattle.cq_request.specs.declared.request.Refusal.{Refusal}
@@ -14,6 +16,7 @@ use Rattle.cq_session.specs.declared.answering.Line.TheVariants as line
 use Rattle.cq_session.specs.declared.store.Store.{Store}
 use Rattle.cq_session.specs.Changes.{History, all_published}
 use Rattle.cq_session.specs.Listing.{IsFileListing, IsListing}
+use Rattle.cq_session.specs.Measuring.{IsMeasured, IsJudged}
 use Rattle.cq_session.specs.Talk.{IsAnswer}
 use Rattle.cq_session.specs.Stands.{StandsFor}
 
@@ -42,4 +45,18 @@ pub record ShowsGroups {L : Type 0} (settings : Settings) (h : History) (q : Que
   pub rows : List GroupRow
   pub listing : IsListing settings h.changes q.project q.min q.path rows
   pub bytes_are : bytes ≡ line_of (reply.Groups rows (length h.changes))
+  pub stands : StandsFor settings (all_published h) store
+
+-- the same of its measures
+pub record ShowsMeasures {L : Type 0} (settings : Settings) (h : History) (q : Query) (bytes : List ℕ) (store : Store L) : Type 0 where
+  pub measures : Measures
+  pub measured : IsMeasured settings h.changes q.project q.min q.path measures
+  pub bytes_are : bytes ≡ line_of (reply.Measures measures (length h.changes))
+  pub stands : StandsFor settings (all_published h) store
+
+-- the same of its verdict
+pub record ShowsVerdict {L : Type 0} (settings : Settings) (h : History) (q : Query) (bytes : List ℕ) (store : Store L) : Type 0 where
+  pub verdict : Verdict
+  pub judged : IsJudged settings h.changes q.project q.min verdict
+  pub bytes_are : bytes ≡ line_of (reply.Verdict verdict (length h.changes))
   pub stands : StandsFor settings (all_published h) store

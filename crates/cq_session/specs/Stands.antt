@@ -2,7 +2,6 @@
 use Rattle.std.specs.Prelude.{◌≡◌, ◌≤◌, ℕ, List, length, map, Contains}
 use Rattle.std.specs.Str.{IsUtf8}
 use Rattle.std.specs.declared.cmp.Ordering.TheVariants.{Less}
-use Rattle.cq_base.specs.Lines.{lines_of}
 use Rattle.cq_base.specs.declared.settings.Settings.{Settings}
 use Rattle.cq_base.specs.declared.change.Change.{Change}
 use Rattle.cq_base.specs.declared.lang.Lang.{Lang}
@@ -11,6 +10,7 @@ use Rattle.cq_munch.specs.declared.munching.Lexed.{Lexed}
 use Rattle.cq_session.specs.declared.kept.Kept.{Kept}
 use Rattle.cq_session.specs.declared.store.Store.{Store}
 use Rattle.cq_session.specs.Changes.{History, undone, texts_size}
+use Rattle.cq_session.specs.Gates.{conditions_of, conditions_at}
 use Rattle.cq_session.specs.Places.{place_cmp}
 use Rattle.cq_session.specs.Files.{IsLastPut}
 use Rattle.cq_work.specs.Lexing.{LexesTo, tokens_in}
@@ -33,9 +33,8 @@ KeyBefore a b = place_cmp a.project a.path b.project b.path ≡ Less
 
 -- what is kept shows this reading
 pub record Shows {L : Type 0} (settings : Settings) (k : Kept L) (r : Reading) : Type 0 where
-  pub lines : k.lines ≡ lines_of r.text
   pub count : k.count ≡ length (tokens_in r.answer)
-  pub work : ShowsWork settings r.lang r.answer k.work
+  pub work : ShowsWork settings r.lang r.text r.answer k.work
 
 -- what is kept of an uploaded text with the number of its upload
 pub record IsKeptOf {L : Type 0} (settings : Settings) (lang : Lang) (text : List ℕ) (number : ℕ) (k : Kept L) : Type 0 where
@@ -55,7 +54,7 @@ pub record HasWork {L : Type 0} (settings : Settings) (changes : List Change) (e
   pub reads : IsReading changes e.1.change reading
   pub shows : Shows settings e.1 reading
 
--- the store keeps exactly the files of these changes, each with its tokens
+-- the store keeps exactly the files of these changes, each with its tokens, and each project's conditions
 pub record StandsFor {L : Type 0} (settings : Settings) (h : History) (store : Store L) : Type 0 where
   pub accepted : store.accepted ≡ length h.changes
   pub published : store.published ≡ h.published
@@ -64,3 +63,5 @@ pub record StandsFor {L : Type 0} (settings : Settings) (h : History) (store : S
   pub texts : store.texts ≡ texts_size h.changes
   pub files : AreAllInOrder KeyBefore (IsLastAt h.changes) (map key_of store.files.entries)
   pub works : (e : KeptAt L) → Contains store.files.entries e → HasWork settings h.changes e
+  pub gates : (project : List ℕ) → conditions_at store.gates project ≡ conditions_of h.changes project
+  pub few : (project : List ℕ) → length (conditions_of h.changes project) ≤ 32

@@ -1,10 +1,9 @@
 -- The replies to lines.
-use Rattle.std.specs.Prelude.{◌≡◌, ◌⊎◌, ℕ, ◌+◌, ◌<◌, ◌≤◌, List, [], ◌∷◌, length, nat_lt, Bool, MatchBool, true, false, Some, None, Result, Ok, Err}
+use Rattle.std.specs.Prelude.{◌≡◌, ◌⊎◌, ℕ, ◌+◌, ◌<◌, ◌≤◌, List, [], ◌∷◌, length, nat_lt, MatchBool, false, Some, None, Result, Ok, Err}
 use Rattle.cq_base.specs.declared.settings.Settings.{Settings}
 use Rattle.cq_base.specs.declared.change.Change.{Change}
 use Rattle.cq_base.specs.declared.change.Change.TheVariants as change
 use Rattle.cq_lines.specs.Pieces.{line_limit}
-use Rattle.cq_request.specs.declared.request.Kind.{Kind}
 use Rattle.cq_request.specs.declared.request.Kind.TheVariants as kind
 use Rattle.cq_request.specs.declared.request.Query.{Query}
 use Rattle.cq_request.specs.declared.request.Request.{Request}
@@ -17,6 +16,7 @@ use Rattle.cq_reply.specs.declared.reply.Reply.TheVariants as reply
 use Rattle.cq_session.specs.Changes.{History, with_change, all_published, undone, done, texts_size}
 use Rattle.cq_session.specs.Files.{IsLastPut}
 use Rattle.cq_session.specs.Listing.{IsFileListing, IsListing}
+use Rattle.cq_session.specs.Measuring.{IsMeasured, IsJudged}
 
 -- ---- changes
 
@@ -60,14 +60,11 @@ IsAnswered settings h q (reply.Files rows version) after =
     IsReady h q × (q.kind ≡ kind.Files) × IsFileListing h.changes q.project rows × (version ≡ length h.changes) × (after ≡ all_published h)
 IsAnswered settings h q (reply.Groups rows version) after =
     IsReady h q × (q.kind ≡ kind.Groups) × IsListing settings h.changes q.project q.min q.path rows × (version ≡ length h.changes) × (after ≡ all_published h)
+IsAnswered settings h q (reply.Measures measures version) after =
+    IsReady h q × (q.kind ≡ kind.Measures) × IsMeasured settings h.changes q.project q.min q.path measures × (version ≡ length h.changes) × (after ≡ all_published h)
+IsAnswered settings h q (reply.Verdict verdict version) after =
+    IsReady h q × (q.kind ≡ kind.Verdict) × IsJudged settings h.changes q.project q.min verdict × (version ≡ length h.changes) × (after ≡ all_published h)
 IsAnswered settings h q _ after = ⊥
-
--- measures and verdicts are not served yet
-abbrev pub is_shown : Kind → Bool
-is_shown kind.Files = true
-is_shown kind.Groups = true
-is_shown kind.Measures = false
-is_shown kind.Verdict = false
 
 -- ---- lines
 
@@ -84,7 +81,7 @@ refused_as refusal.Memory = reply.Memory
 -- what a line says is answered
 abbrev pub IsAnswer : Settings → History → Result Request Refusal → Reply → History → Type 0
 IsAnswer settings h (Ok (request.Change c)) r after = IsChanged settings h c r after
-IsAnswer settings h (Ok (request.Query q)) r after = MatchBool (is_shown q.kind) (IsAnswered settings h q r after) ((r ≡ reply.Op) × (after ≡ h))
+IsAnswer settings h (Ok (request.Query q)) r after = IsAnswered settings h q r after
 IsAnswer settings h (Ok request.State) r after = (r ≡ reply.State (length h.changes) (done h) h.published) × (after ≡ h)
 IsAnswer settings h (Err why) r after = (r ≡ refused_as why) × (after ≡ h)
 

@@ -108,12 +108,14 @@ impl<L: Ledger> Store<L> {
         project: Text,
         conditions: Conditions,
     ) -> Result<u64, Refused>
+        requires { length conditions ≤ 32 }
         ensures accepted { IfOk result (λ n. (h : History) → StandsFor settings.now h self.old → IsFree settings.now h (change.Gate project conditions) × (n ≡ length h.changes + 1) × StandsFor settings.now (with_change h (change.Gate project conditions)) self.new) }
         ensures refused { IfErr result (λ why. (h : History) → StandsFor settings.now h self.old → IsRefused settings.now h (change.Gate project conditions) why × StandsFor settings.now h self.new) }
     {
         if self.accepted >= settings.change_limit {
             return Err(Refused::FullChanges);
         }
+        self.gates.insert(project, conditions)?;
         self.accepted += 1;
         Ok(self.accepted)
     }

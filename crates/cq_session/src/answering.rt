@@ -1,4 +1,4 @@
-ghost use Rattle.std.specs.Prelude.{◌≡◌, ◌≤◌, length, IfOk, OnErr, true, Result, Ok as ok, Err as err, OnOk};
+ghost use Rattle.std.specs.Prelude.{◌≡◌, ◌≤◌, length, IfOk, OnErr, Result, Ok as ok, Err as err, OnOk};
 ghost use Rattle.cq_io.specs.Causes.{HasCause};
 ghost use Rattle.cq_lines.specs.Pieces.{line_limit};
 ghost use Rattle.cq_request.specs.Reading.{UnlessMemory, line_says};
@@ -11,8 +11,8 @@ ghost use Rattle.cq_reply.specs.declared.reply.Reply.TheVariants as reply;
 ghost use Rattle.cq_base.specs.declared.settings.Settings.{Settings};
 ghost use Rattle.cq_session.specs.Changes.{History};
 ghost use Rattle.cq_session.specs.Stands.{StandsFor};
-ghost use Rattle.cq_session.specs.Talk.{refused_as, is_shown, IsReady};
-ghost use Rattle.cq_session.specs.Answering.{Replies, ShowsFiles, ShowsGroups, bytes_of};
+ghost use Rattle.cq_session.specs.Talk.{refused_as, IsReady};
+ghost use Rattle.cq_session.specs.Answering.{Replies, ShowsFiles, ShowsGroups, ShowsMeasures, ShowsVerdict, bytes_of};
 ghost use Rattle.cq_session.specs.Sending.{Sends};
 ghost use Rattle.cq_session.specs.Serving.{Turns};
 
@@ -126,13 +126,42 @@ fn groups_line<L: Ledger>(
     Ok(line)
 }
 
-fn is_shown(kind: Kind) -> bool
-    ensures { result ≡ is_shown kind }
+// The measures of a project, at the version of all changes, which is published then.
+fn measures_line<L: Ledger>(
+    alloc: Global,
+    store: &mut Store<L>,
+    query: &Query,
+    steps: &mut Steps<L>,
+) -> Result<Line, Memory>
+    requires stands { (settings : Settings) × (h : History) × StandsFor settings h store.old }
+    requires some { 1 ≤ query.now.min }
+    ensures shows { IfOk result (λ line. (settings : Settings) (h : History) → StandsFor settings h store.old → ShowsMeasures settings h query.now (bytes_of line) store.new) }
+    ensures refused { OnErr result ((settings : Settings) (h : History) → StandsFor settings h store.old → StandsFor settings h store.new) }
 {
-    match kind {
-        Kind::Files | Kind::Groups => true,
-        Kind::Measures | Kind::Verdict => false,
-    }
+    let measures = store.measures_of(alloc, &query.project, &query.path, query.min, steps)?;
+    let version = store.accepted;
+    let line = made(alloc, &Reply::Measures { measures, version })?;
+    store.publish();
+    Ok(line)
+}
+
+// What the gate of a project says, at the version of all changes, which is published then.
+fn verdict_line<L: Ledger>(
+    alloc: Global,
+    store: &mut Store<L>,
+    query: &Query,
+    steps: &mut Steps<L>,
+) -> Result<Line, Memory>
+    requires stands { (settings : Settings) × (h : History) × StandsFor settings h store.old }
+    requires some { 1 ≤ query.now.min }
+    ensures shows { IfOk result (λ line. (settings : Settings) (h : History) → StandsFor settings h store.old → ShowsVerdict settings h query.now (bytes_of line) store.new) }
+    ensures refused { OnErr result ((settings : Settings) (h : History) → StandsFor settings h store.old → StandsFor settings h store.new) }
+{
+    let verdict = store.verdict_of(alloc, &query.project, query.min, steps)?;
+    let version = store.accepted;
+    let line = made(alloc, &Reply::Verdict { verdict, version })?;
+    store.publish();
+    Ok(line)
 }
 
 // The answer to a query for which nothing has to be waited.
@@ -145,14 +174,15 @@ fn ready_line<L: Ledger>(
 ) -> Result<Line, Memory>
     requires stands { (h : History) × StandsFor settings.now h store.old }
     requires ready { (h : History) → StandsFor settings.now h store.old → IsReady h query.now }
-    requires shown { is_shown query.now.kind ≡ true }
     requires some { 1 ≤ query.now.min }
     ensures replies { IfOk result (λ line. (h : History) → StandsFor settings.now h store.old → Replies settings.now h (ok (request.Query query.now)) (bytes_of line) store.new) }
     ensures refused { OnErr result ((h : History) → StandsFor settings.now h store.old → StandsFor settings.now h store.new) }
 {
     match query.kind {
         Kind::Files => files_line(alloc, store, query),
-        _ => groups_line(alloc, store, query, steps),
+        Kind::Groups => groups_line(alloc, store, query, steps),
+        Kind::Measures => measures_line(alloc, store, query, steps),
+        Kind::Verdict => verdict_line(alloc, store, query, steps),
     }
 }
 
@@ -168,9 +198,6 @@ fn query_line<L: Ledger>(
     ensures replies { IfOk result (λ line. (h : History) → StandsFor settings.now h store.old → Replies settings.now h (ok (request.Query query.now)) (bytes_of line) store.new) }
     ensures refused { OnErr result ((h : History) → StandsFor settings.now h store.old → StandsFor settings.now h store.new) }
 {
-    if !is_shown(query.kind) {
-        return made(alloc, &Reply::Op);
-    }
     if query.at > store.accepted {
         return made(alloc, &Reply::Future(store.accepted));
     }

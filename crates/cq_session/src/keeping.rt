@@ -2,7 +2,7 @@ ghost use Rattle.std.specs.Prelude.{◌≡◌, ◌≤◌, length, IfOk, IsUtf8};
 ghost use Rattle.cq_session.specs.Stands.{IsKeptOf};
 
 use crate::kept::Kept;
-use cq_base::{Lang, Memory, Settings, Text, line_count};
+use cq_base::{Lang, Memory, Settings, Text};
 use cq_key::Keyer;
 use cq_work::work_of;
 use std::alloc::Global;
@@ -26,7 +26,6 @@ pub(crate) fn kept_of<L: Ledger>(
     let work = work_of(alloc, settings, keyer, lang, text)?;
     Ok(Kept {
         change: number,
-        lines: line_count(text) as u64,
         count: work.spans.len() as u32,
         work,
     })

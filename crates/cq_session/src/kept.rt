@@ -9,11 +9,10 @@ pub struct FileKey {
     pub path: Text,
 }
 
-/// What the store keeps of a file: the number of its upload, how many lines and tokens it has, and its work.
+/// What the store keeps of a file: the number of its upload, how many tokens it has, and its work.
 #[derive(Drop)]
 pub struct Kept<L: Ledger> {
     pub change: u64,
-    pub lines: u64,
     pub count: u32,
     pub work: Work<L>,
 }

@@ -9,6 +9,7 @@ mod answering;
 mod keeping;
 mod kept;
 mod listing;
+mod measuring;
 mod sending;
 mod serving;
 mod showing;

@@ -12,8 +12,9 @@ ghost use Rattle.cq_session.specs.Kept.{files_of, spans_in, norms_in};
 ghost use Rattle.cq_session.specs.Listing.{place_row, group_row, is_in, is_meant, IsInside, IsGroupInside};
 
 use crate::kept::{FileKey, Kept};
-use cq_base::{Group, Memory, Place, Text};
+use cq_base::{Group, Memory, Place, Steps, Text};
 use cq_reply::{GroupRow, GroupRows, PlaceRow, PlaceRows};
+use cq_scan::scan;
 use cq_tokens::FileTokens;
 use std::alloc::Global;
 use std::collections::BTreeMap;
@@ -48,8 +49,8 @@ fn shared<L: Ledger>(kept: &Kept<L>) -> Result<FileTokens<L>, Memory>
     })
 }
 
-/// The tokens of the files.
-pub(crate) fn tokens_of<L: Ledger>(
+// The tokens of the files.
+fn tokens_of<L: Ledger>(
     alloc: Global,
     files: &[(&FileKey, &Kept<L>)],
 ) -> Result<Vec<FileTokens<L>>, Memory>
@@ -60,6 +61,21 @@ pub(crate) fn tokens_of<L: Ledger>(
         all.push(shared(kept)?)?;
     }
     Ok(all)
+}
+
+/// The groups of at least `min` tokens in the files.
+pub(crate) fn groups_in<L: Ledger>(
+    alloc: Global,
+    files: &[(&FileKey, &Kept<L>)],
+    min: u32,
+    steps: &mut Steps<L>,
+) -> Result<Vec<Group>, Memory>
+    requires few { length files.now < 2 ^ 32 }
+    requires some { 1 ≤ min }
+    ensures { IfOk result (λ groups. AreGroups (norms_in (map deref_pair files.now)) min groups.items) }
+{
+    let tokens = tokens_of(alloc, files)?;
+    scan(alloc, &tokens, min, steps)
 }
 
 // A place of a word of `tokens` tokens.

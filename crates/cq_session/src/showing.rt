@@ -27,7 +27,7 @@ fn file_row<L: Ledger>(alloc: Global, key: &FileKey, kept: &Kept<L>) -> Result<F
         path: key.path.copied(alloc)?,
         change: kept.change,
         lang: kept.work.lang,
-        lines: kept.lines,
+        lines: kept.work.counts.lines,
         shown: shown_in(kept.work.state),
         tokens: kept.count,
     })

@@ -5,20 +5,25 @@ ghost use Rattle.cq_base.specs.declared.settings.Settings.{Settings};
 ghost use Rattle.cq_session.specs.Changes.{History, no_history, all_published, done};
 
 use crate::kept::{FileKey, Kept};
-use crate::listing::{group_rows, of_project, tokens_of};
+use crate::listing::{group_rows, groups_in, of_project};
+use crate::measuring::measures_in;
 use crate::showing::file_rows;
-use cq_base::{Memory, Steps, Text};
+use cq_base::{Condition, Conditions, Measures, Memory, Steps, Text};
+use cq_gate::{Verdict, verdict};
 use cq_reply::{FileRows, GroupRows};
-use cq_scan::scan;
 use std::alloc::Global;
 use std::collections::BTreeMap;
 use std::sync::ledger::Ledger;
 
-/// The files of all projects after the changes so far, by project and then path, and how far the server has come. Of a
-/// file only the last upload is kept, as its tokens.
+// As many files as changes may be accepted.
+const MOST_FILES: usize = 262_144;
+
+/// The files of all projects after the changes so far, by project and then path, the conditions of each project, and how
+/// far the server has come. Of a file only the last upload is kept, as its tokens.
 #[derive(Drop)]
 pub struct Store<L: Ledger> {
     pub(crate) files: BTreeMap<FileKey, Kept<L>>,
+    pub(crate) gates: BTreeMap<Text, Conditions>,
     /// How many changes were accepted.
     pub(crate) accepted: u64,
     /// The version that was last published.
@@ -31,7 +36,9 @@ pub struct Store<L: Ledger> {
 
 impl<L: Ledger> Store<L> {
     ghost use Rattle.cq_session.specs.Stands.{StandsFor};
+    ghost use Rattle.cq_session.specs.Gates.{conditions_at};
     ghost use Rattle.cq_session.specs.Listing.{IsFileListing, IsListing};
+    ghost use Rattle.cq_session.specs.Measuring.{IsMeasured, IsJudged};
 
     /// A store in which nothing was accepted. It takes no memory.
     pub fn new(alloc: Global) -> Store<L>
@@ -39,6 +46,7 @@ impl<L: Ledger> Store<L> {
     {
         Store {
             files: BTreeMap::new(alloc),
+            gates: BTreeMap::new(alloc),
             accepted: 0,
             published: 0,
             undone: None,
@@ -90,11 +98,58 @@ impl<L: Ledger> Store<L> {
         ensures texts { IfOk result (AllByRecursion IsGroupText) }
     {
         let files = of_project(alloc, &self.files, project)?;
-        if files.len() > u32::MAX as usize {
+        if files.len() > MOST_FILES {
             return Err(Memory);
         }
-        let tokens = tokens_of(alloc, &files)?;
-        let groups = scan(alloc, &tokens, min, steps)?;
+        let groups = groups_in(alloc, &files, min, steps)?;
         group_rows(alloc, &files, path, &groups)
+    }
+
+    /// The measures of a project, by the groups of at least `min` tokens; with a path, those of that file. Each read of a
+    /// token is a step.
+    pub(crate) fn measures_of(
+        &self,
+        alloc: Global,
+        project: &Text,
+        path: &Option<Text>,
+        min: u32,
+        steps: &mut Steps<L>,
+    ) -> Result<Measures, Memory>
+        requires sound { (settings : Settings) × (h : History) × StandsFor settings h self.now }
+        requires some { 1 ≤ min }
+        ensures { IfOk result (λ m. (settings : Settings) (h : History) → StandsFor settings h self.now → IsMeasured settings h.changes project.now min path.now m) }
+    {
+        let files = of_project(alloc, &self.files, project)?;
+        if files.len() > MOST_FILES {
+            return Err(Memory);
+        }
+        let groups = groups_in(alloc, &files, min, steps)?;
+        measures_in(alloc, &files, path, &groups)
+    }
+
+    // The conditions of a project.
+    fn conditions_of(&self, project: &Text) -> &[Condition]
+        ensures { result.now ≡ conditions_at self.now.gates project.now }
+    {
+        match self.gates.get(project) {
+            Some(conditions) => conditions.as_slice(),
+            None => &[],
+        }
+    }
+
+    /// What the project's gate says of its measures.
+    pub(crate) fn verdict_of(
+        &self,
+        alloc: Global,
+        project: &Text,
+        min: u32,
+        steps: &mut Steps<L>,
+    ) -> Result<Verdict, Memory>
+        requires sound { (settings : Settings) × (h : History) × StandsFor settings h self.now }
+        requires some { 1 ≤ min }
+        ensures { IfOk result (λ v. (settings : Settings) (h : History) → StandsFor settings h self.now → IsJudged settings h.changes project.now min v) }
+    {
+        let measures = self.measures_of(alloc, project, &None, min, steps)?;
+        verdict(alloc, self.conditions_of(project), &measures)
     }
 }

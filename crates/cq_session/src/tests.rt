@@ -249,11 +249,63 @@ fn languages_have_their_tokens(rt: HostRuntime) -> Result<(), Memory> {
 }
 
 #[test]
+fn measures_are_those_of_the_project_or_of_a_file(rt: HostRuntime) -> Result<(), Memory> {
+    let input = r#"{"op":"put","project":"p","path":"t","lang":"any","text":"a b c x a b c y"}
+{"op":"measures","project":"p","min":3,"finish":false}
+{"op":"measures","project":"p","min":3,"path":"t"}
+{"op":"measures","project":"p","min":3,"path":"u"}
+{"op":"put","project":"p","path":"u","lang":"java","text":"if (a < b)\n\n  a = b ? c : \"d;"}
+{"op":"put","project":"p","path":"v","lang":"java","text":"a b c x if (\n\n a ) ; // e"}
+{"op":"measures","project":"p","min":3}
+{"op":"measures","project":"p","min":3,"path":"v"}
+{"op":"measures","project":"q"}
+"#;
+    let output = r#"{"change":1,"ok":true}
+{"code":12,"error":"pending","number":1,"ok":false}
+{"measures":{"complexity":1,"duplicated_blocks":1,"duplicated_files":1,"duplicated_lines":1,"duplicated_lines_density":10000,"files":1,"lines":1,"ncloc":1},"ok":true,"version":1}
+{"measures":{"complexity":0,"duplicated_blocks":0,"duplicated_files":0,"duplicated_lines":0,"duplicated_lines_density":0,"files":0,"lines":0,"ncloc":0},"ok":true,"version":1}
+{"change":2,"ok":true}
+{"change":3,"ok":true}
+{"measures":{"complexity":3,"duplicated_blocks":1,"duplicated_files":1,"duplicated_lines":1,"duplicated_lines_density":1428,"files":3,"lines":7,"ncloc":3},"ok":true,"version":3}
+{"measures":{"complexity":2,"duplicated_blocks":0,"duplicated_files":0,"duplicated_lines":0,"duplicated_lines_density":0,"files":1,"lines":3,"ncloc":2},"ok":true,"version":3}
+{"measures":{"complexity":0,"duplicated_blocks":0,"duplicated_files":0,"duplicated_lines":0,"duplicated_lines_density":0,"files":0,"lines":0,"ncloc":0},"ok":true,"version":3}
+"#;
+    assert!(rt; answers(rt.alloc(), &SETTINGS, input, output)?);
+    Ok(())
+}
+
+#[test]
+fn the_last_gate_of_a_project_judges_it(rt: HostRuntime) -> Result<(), Memory> {
+    let input = r#"{"op":"put","project":"p","path":"t","lang":"any","text":"a b c x a b c y"}
+{"op":"verdict","project":"p","min":3}
+{"op":"gate","project":"p","conditions":[{"metric":"duplicated_lines_density","op":"GT","error":9999},{"metric":"files","op":"LT","error":1},{"metric":"ncloc","op":"LT","error":2}]}
+{"op":"gate","project":"q","conditions":[{"metric":"files","op":"LT","error":1}]}
+{"op":"verdict","project":"p","min":3}
+{"op":"verdict","project":"p","min":4}
+{"op":"verdict","project":"q"}
+{"op":"gate","project":"p","conditions":[]}
+{"op":"verdict","project":"p","min":3}
+"#;
+    let output = r#"{"change":1,"ok":true}
+{"failed":[],"ok":true,"verdict":"OK","version":1}
+{"change":2,"ok":true}
+{"change":3,"ok":true}
+{"failed":[0,2],"ok":true,"verdict":"ERROR","version":3}
+{"failed":[2],"ok":true,"verdict":"ERROR","version":3}
+{"failed":[0],"ok":true,"verdict":"ERROR","version":3}
+{"change":4,"ok":true}
+{"failed":[],"ok":true,"verdict":"OK","version":4}
+"#;
+    assert!(rt; answers(rt.alloc(), &SETTINGS, input, output)?);
+    Ok(())
+}
+
+#[test]
 fn refused_lines_change_nothing(rt: HostRuntime) -> Result<(), Memory> {
     let input = r#"[1]
 {}
 {"op":"fly"}
-{"op":"verdict","project":"p"}
+{"op":"verdict","project":"p","path":"t"}
 {"op":"put","project":"p"}
 {"op":"state","x":1}
 {"op":"put","project":"p","path":"t","lang":"rust","text":"a"}
@@ -264,7 +316,7 @@ fn refused_lines_change_nothing(rt: HostRuntime) -> Result<(), Memory> {
     let output = r#"{"code":1,"error":"json","ok":false}
 {"code":2,"error":"op","ok":false}
 {"code":2,"error":"op","ok":false}
-{"code":2,"error":"op","ok":false}
+{"code":3,"error":"field","name":"path","ok":false}
 {"code":3,"error":"field","name":"path","ok":false}
 {"code":3,"error":"field","name":"x","ok":false}
 {"code":4,"error":"lang","ok":false}

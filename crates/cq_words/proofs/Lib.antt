@@ -12,3 +12,4 @@ pub mod Exact
 pub mod RunExact
 pub mod Decimal
 pub mod FormLaws
+pub mod Fronts

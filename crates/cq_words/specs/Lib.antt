@@ -3,3 +3,4 @@ pub mod Numbers
 pub mod Run
 pub mod Asked
 pub mod Form
+pub mod Front

@@ -1,14 +1,17 @@
 //! The words of the command line. Which words are in form is a grammar of our own over a command's row of options and
 //! flags; `clap` decides, and is proved to decide just so. It costs a walk over the words for each word, and memory for
-//! what `clap` keeps of them.
+//! what `clap` keeps of them. Whether words are in form is also told without memory, so that words out of form are
+//! refused as such whatever memory there is.
 #![tactic(auto)]
 
 mod asked;
+mod form;
 mod laws;
 mod numbers;
 mod reading;
 mod run;
 
+pub use form::is_run;
 pub use laws::words_in_form;
 pub use reading::read_run;
 pub use run::Run;

@@ -3,6 +3,7 @@
 //! over `chunk` codes for each window.
 #![tactic(auto)]
 
+mod counting;
 mod lexing;
 mod work;
 

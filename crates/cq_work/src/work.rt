@@ -1,8 +1,9 @@
 ghost use Rattle.std.specs.Prelude.{◌≡◌, ◌≤◌, length, IfOk, IsUtf8};
 ghost use Rattle.cq_work.specs.Work.{IsWorkOf};
 
+use crate::counting::counts_of;
 use crate::lexing::{lexed, spans_of, state_of, tokens_in};
-use cq_base::{Keys, Lang, Memory, Settings, Text, Token};
+use cq_base::{FileCounts, Keys, Lang, Memory, Settings, Text, Token};
 use cq_key::Keyer;
 use cq_normal::normalise;
 use cq_tokens::Tokens;
@@ -21,7 +22,8 @@ pub enum State {
     Large,
 }
 
-/// The work of a text: where its tokens stand, what they are as they are compared, and the keys of their windows.
+/// The work of a text: where its tokens stand, what they are as they are compared, the keys of their windows, and what is
+/// counted of it.
 #[derive(Drop)]
 pub struct Work<L: Ledger> {
     pub lang: Lang,
@@ -29,6 +31,7 @@ pub struct Work<L: Ledger> {
     pub spans: Vec<Token>,
     pub tokens: Arc<Tokens<L>>,
     pub keys: Arc<Keys>,
+    pub counts: FileCounts,
 }
 
 /// The work of a text.
@@ -49,6 +52,7 @@ pub fn work_of<L: Ledger>(
     let state = state_of(&answer);
     let found = tokens_in(alloc, answer);
     let spans = spans_of(alloc, &found)?;
+    let counts = counts_of(alloc, lang, text, state, &found, &spans)?;
     let norms = normalise(alloc, settings, lang, found)?;
     let keys = Arc::new(alloc, keyer.keys(alloc, &norms)?)?;
     let tokens = Arc::new(alloc, Tokens::new(norms))?;
@@ -58,5 +62,6 @@ pub fn work_of<L: Ledger>(
         spans,
         tokens,
         keys,
+        counts,
     })
 }

@@ -1,4 +1,4 @@
-ghost use Rattle.std.specs.Prelude.{◌≡◌, ◌≢◌, ◌≤◌, Some, None};
+ghost use Rattle.std.specs.Prelude.{◌≡◌, ◌≢◌, ◌↔◌, ◌≤◌, Some, None};
 ghost use Rattle.cq_io.specs.Causes.{Rose};
 ghost use Rattle.cqd.specs.Top.{Runs};
 ghost use Rattle.cqd.specs.Top as spec;
@@ -10,7 +10,7 @@ use cq_io::{Doors, Gate, Sink, Source};
 use cq_key::{Keyer, plain_key};
 use cq_lines::Lines;
 use cq_session::{End, Store, session};
-use cq_words::read_run;
+use cq_words::{is_run, read_run};
 use std::alloc::Global;
 use std::sync::ledger::Ledger;
 
@@ -71,9 +71,8 @@ pub fn top<S: Source, K: Sink, D: Doors, G: Gate, L: Ledger>(
     gate: &G,
     steps: &mut Steps<L>,
 ) -> u8
-    // 1 exactly where the words are out of form, but for want of memory, and nothing is read or written then.
-    ensures words { result ≡ 1 → run_of words.now ≡ None }
-    ensures others { run_of words.now ≡ None → result ≢ 4 → result ≡ 1 }
+    // 1 exactly where the words are out of form, and nothing is read or written then.
+    ensures words { (result ≡ 1) ↔ (run_of words.now ≡ None) }
     ensures refused { result ≡ 1 → (source.new ≡ source.old) × (sink.new ≡ sink.old) }
 
     // 4 for want of memory before a line is read.
@@ -92,8 +91,12 @@ pub fn top<S: Source, K: Sink, D: Doors, G: Gate, L: Ledger>(
     ensures runs { (run : Run) → run_of words.now ≡ Some run → result ≢ 4 → Runs run.settings (S.rest source.old) (S.rest source.new) (K.written sink.old) (K.written sink.new)
         (S.faults source.old) (S.faults source.new) (K.faults sink.old) (K.faults sink.new) result }
 {
+    if !is_run(words) {
+        return 1;
+    }
     match read_run(alloc, words) {
         Ok(Some(run)) => serve(alloc, &run.settings, source, sink, steps),
+        // The words are in form, so this does not come.
         Ok(None) => 1,
         Err(Memory) => 4,
     }

@@ -1,4 +1,4 @@
-use Rattle.std.proofs.Common.{◌≡◌, ℕ, ◌-◌, length, filter, ◌++◌}
+use Rattle.std.proofs.Common.{◌≡◌, ◌-◌, length, filter, ◌++◌}
 use Rattle.std.specs.List.{range_with_len}
 use Rattle.cq_gate.specs.Verdict.{is_met_at, failed}
 use Rattle.cq_gate.proofs.judging.failed.Given as goal

@@ -1,4 +1,6 @@
-use Rattle.std.proofs.Common.{rules, ◌≤◌, All, length}
+use Rattle.std.proofs.lemmas.List.{length-map}
+use Rattle.std.proofs.lemmas.List.Elements.{All-map}
+use Rattle.std.proofs.Common.{arith, rules, ◌≤◌, All, length}
 use Rattle.cq_measures.specs.Measures.{AreSmall}
 use Rattle.cq_measures.proofs.tests.is_measurable.Goals.{then-files-le262144, else-files-le262144}
 use Rattle.cq_measures.proofs.tests.is_measurable.Goals as goal
@@ -10,4 +12,5 @@ returns-then-are_small c inside =
       | then-files-le262144 w ↦ (search rules, w.are_small.ensures (search rules))
       | else-files-le262144 w ↦ search rules
     ] in
-    record { few = known.0; small = known.1; inside = c.are_groups_inside.ensures inside }
+    let as_many = length-map c.args.files.now (λ f. f.counts) in
+    record { few = omega (arith, as_many, known.0); small = All-map AreSmall (λ f. f.counts) c.args.files.now known.1; inside = c.are_groups_inside.ensures inside }

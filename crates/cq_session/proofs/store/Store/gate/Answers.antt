@@ -5,4 +5,4 @@ use Rattle.cq_session.proofs.store.Store.gate.Goals as goal
 pub returns-clause-accepted : goal.returns-clause-accepted
 returns-clause-accepted g c = λ h stands.
     let number : c.args.self.now.accepted + 1 ≡ length h.changes + 1 = omega (arith, stands.accepted) in
-    ((λ none. none, λ full. omega (arith, full, stands.accepted, c.if-self-settings.false), λ none. none), number, after_gate c.args.settings.now h c.args.project c.args.conditions c.args.self.now _ stands refl number refl refl refl)
+    ((λ none. none, λ full. omega (arith, full, stands.accepted, c.if-self-settings.false), λ none. none), number, after_gate c.args.settings.now h c.args.project c.args.conditions c.args.self.now _ stands c.requires refl c.in_ok-insert.ensures.updates number refl refl refl)

@@ -12,5 +12,5 @@ returns-clause-accepted g c = λ h stands.
     let texts : c.in-Some.texts ≡ c.args.self.now.texts + length c.args.text = omega (arith, c.in-Some.ensures.1, size) in (
       (λ none. none, λ full. omega (arith, full, stands.accepted, c.if-self-settings.false), λ much. omega (arith, much, texts, stands.texts, c.if-texts-settings.false)),
       number,
-      after_put c.args.settings.now h c.args.project c.args.path c.args.lang c.args.text c.in_ok-kept.kept c.args.self.now _ c.requires.path kept stands c.in_ok-insert.ensures.ordered c.in_ok-insert.ensures.updates number refl (c.or-self.ensures ∙ ap (λ n. option_or c.args.self.now.undone (Some n)) number) texts,
+      after_put c.args.settings.now h c.args.project c.args.path c.args.lang c.args.text c.in_ok-kept.kept c.args.self.now _ c.requires.path kept stands c.in_ok-insert.ensures.ordered c.in_ok-insert.ensures.updates number refl (c.or-self.ensures ∙ ap (λ n. option_or c.args.self.now.undone (Some n)) number) texts refl,
     )

@@ -22,5 +22,5 @@ returns-clause-accepted g c = λ h stands.
     let number : c.args.self.now.accepted + 1 ≡ length h.changes + 1 = omega (arith, stands.accepted) in (
       (present h.changes c.args.self.now.files (ordered_map c.args.self.now.files stands.files.ordered) stands.files c.args.project c.args.path some, λ full. omega (arith, full, stands.accepted, c.if-self-settings.false), λ none. none),
       number,
-      after_drop c.args.settings.now h c.args.project c.args.path c.args.self.now _ stands c.remove.ensures.ordered c.remove.ensures.updates number refl refl refl,
+      after_drop c.args.settings.now h c.args.project c.args.path c.args.self.now _ stands c.remove.ensures.ordered c.remove.ensures.updates number refl refl refl refl,
     )

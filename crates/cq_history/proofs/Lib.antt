@@ -1,0 +1,10 @@
+pub mod States
+pub mod Bounds
+pub mod Prefixes
+pub mod Cores
+pub mod Presence
+pub mod ShardLaws
+pub mod Falling
+pub mod Holders
+pub mod PathOrder
+pub mod Standing

@@ -1,0 +1,48 @@
+-- Which events a state allows, and which histories are lawful.
+use Rattle.std.specs.Prelude.{◌≡◌, ℕ, ◌+◌, ◌<◌, ◌≤◌, nat_lt, nat_le, Bool, false, not, List, [], ◌∷◌, length, All, Option, None, IsSome, IfSome}
+use Rattle.cq_base.specs.declared.settings.Settings.{Settings}
+use Rattle.cq_base.specs.declared.change.Change.{Change}
+use Rattle.cq_base.specs.declared.change.Change.TheVariants.{Put, Drop, Gate}
+use Rattle.cq_history.specs.declared.event.Event.{Event}
+use Rattle.cq_history.specs.declared.event.Event.TheVariants.{Accept, Ask, Took, Back, Done, Publish, Open, Shut, Floor}
+use Rattle.cq_history.specs.Files.{files_of, has_file}
+use Rattle.cq_history.specs.State.{State, start, after, changes_in, text_bytes, IsAccepted, IsUndone, IsTakenBy, ready, first_free, view_of}
+
+-- a drop of a path whose last put or drop is no put
+abbrev pub is_absent : State → Change → Bool
+is_absent s (Put project path lang text) = false
+is_absent s (Drop project path) = not (has_file path (files_of project (changes_in s)))
+is_absent s (Gate project conditions) = false
+
+-- no further change is accepted
+abbrev pub is_full : Settings → State → Bool
+is_full set s = nat_le set.change_limit (length s.slots)
+
+-- a put whose text and all accepted texts have too many bytes
+abbrev pub is_long : Settings → State → Change → Bool
+is_long set s (Put project path lang text) = nat_lt set.text_limit (text_bytes s + length text)
+is_long set s (Drop project path) = false
+is_long set s (Gate project conditions) = false
+
+-- the floor is at most what the caller has open
+abbrev pub IsBelow : ℕ → Option ℕ → Type 0
+IsBelow f view = IfSome view (λ p. f ≤ p)
+
+abbrev pub Allowed : Settings → State → Event → Type 0
+Allowed set s (Accept by change) = (is_absent s change ≡ false) × (is_full set s ≡ false) × (is_long set s change ≡ false)
+Allowed set s (Ask by) = Unit {0}
+Allowed set s (Took by r) = (r ≡ first_free s) × IsAccepted s r
+Allowed set s (Back by r) = IsTakenBy s r by
+Allowed set s (Done by r) = IsUndone s r
+Allowed set s (Publish p) = (s.published < p) × (p ≤ ready s)
+Allowed set s (Open by p) = (p ≡ s.published) × (view_of s by ≡ None)
+Allowed set s (Shut by) = IsSome (view_of s by)
+Allowed set s (Floor f) = (s.floor < f) × (f ≤ s.published) × All (IsBelow f) s.views
+
+-- each event is allowed in the state just before it
+abbrev pub LawfulFrom : Settings → State → List Event → Type 0
+LawfulFrom set s [] = Unit {0}
+LawfulFrom set s (e ∷ es) = Allowed set s e × LawfulFrom set (after s e) es
+
+abbrev pub Lawful : Settings → ℕ → List Event → Type 0
+Lawful set callers history = LawfulFrom set (start callers) history

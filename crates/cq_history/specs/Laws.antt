@@ -1,0 +1,93 @@
+-- What a reader may rely on along each lawful history.
+use Rattle.std.specs.Prelude.{◌≡◌, ◌⊎◌, ◌↔◌, ℕ, ◌+◌, ◌%◌, ◌<◌, ◌≤◌, List, [], ◌∷◌, ◌++◌, length, slice_get, Some}
+use Rattle.cq_base.specs.declared.settings.Settings.{Settings}
+use Rattle.cq_base.specs.declared.lang.Lang.{Lang}
+use Rattle.cq_base.specs.declared.change.Change.{Change}
+use Rattle.cq_base.specs.declared.change.Change.TheVariants.{Put}
+use Rattle.cq_history.specs.Changes.{IsNumber, change_at}
+use Rattle.cq_history.specs.declared.event.Event.{Event}
+use Rattle.cq_history.specs.State.{State, state, after, changes_in, accepted, own, ready, view_of, slot_of, holder_in}
+use Rattle.cq_history.specs.Lawful.{Lawful}
+use Rattle.cq_history.specs.Files.{Source, files_at, files_of, files_after, has_file, is_path_put, conditions_at}
+use Rattle.cq_history.specs.Standing.{AreStanding}
+use Rattle.cq_history.specs.Shards.{Row, ShardHolds, IsLastOfFile}
+use Rattle.cq_history.specs.Core.{Core, Step, IsReached, IsAppliedFor, IsSound, MayStep, stepped, first_core}
+
+-- any beginning of a lawful history is lawful
+abbrev pub BeginningsAreLawful : Type 0
+BeginningsAreLawful = (settings : Settings) (callers : ℕ) (h later : List Event) → Lawful settings callers (h ++ later) → Lawful settings callers h
+
+-- no open version is below the floor, or above the last one that was published
+abbrev pub OpenVersionsAreKept : Type 0
+OpenVersionsAreKept = (settings : Settings) (callers : ℕ) (h : List Event) → Lawful settings callers h → (by version : ℕ) → view_of (state callers h) by ≡ Some version → ((state callers h).floor ≤ version) × (version ≤ (state callers h).published)
+
+-- what is ready, published and given up stand in order
+abbrev pub StandInOrder : Type 0
+StandInOrder = (settings : Settings) (callers : ℕ) (h : List Event) → Lawful settings callers h → ((state callers h).floor ≤ (state callers h).published) × ((state callers h).published ≤ ready (state callers h))
+
+-- none of the three ever falls
+abbrev pub NothingFalls : Type 0
+NothingFalls = (settings : Settings) (callers : ℕ) (h later : List Event) → Lawful settings callers (h ++ later) →
+    (ready (state callers h) ≤ ready (state callers (h ++ later))) × ((state callers h).published ≤ (state callers (h ++ later)).published) × ((state callers h).floor ≤ (state callers (h ++ later)).floor)
+
+-- the changes that a state has are those of the history's acceptances, in order
+abbrev pub ChangesAreAccepted : Type 0
+ChangesAreAccepted = (callers : ℕ) (h : List Event) → changes_in (state callers h) ≡ accepted h
+
+-- the files and the conditions of a version depend on nothing behind its acceptance
+abbrev pub VersionsStay : Type 0
+VersionsStay = (h later : List Event) (version : ℕ) (project : List ℕ) → version ≤ length (accepted h) →
+    (files_at (accepted (h ++ later)) version project ≡ files_at (accepted h) version project) × (conditions_at (accepted (h ++ later)) version project ≡ conditions_at (accepted h) version project)
+
+-- what is accepted later changes nothing of what a shard holds
+abbrev pub ShardsStay : Type 0
+ShardsStay = (keys_of : Lang → List ℕ → List ℕ) (shards : ℕ) (h later : List Event) (shard applied floor : ℕ) (row : Row) → applied ≤ length (accepted h) → floor ≤ length (accepted h) →
+    ShardHolds keys_of shards (accepted (h ++ later)) shard applied floor row ↔ ShardHolds keys_of shards (accepted h) shard applied floor row
+
+-- an event leaves a shard that has applied what it asks for between what is published and what is ready
+abbrev pub ShardsStayReached : Type 0
+ShardsStayReached = (s : State) (e : Event) (applied : ℕ) → IsAppliedFor (applied ∷ []) e → IsReached s applied → IsReached (after s e) applied
+
+-- the first list has elements of the second, in its order
+abbrev pub IsPartOf : {X : Type 0} → List X → List X → Type 0
+IsPartOf [] ys = Unit {0}
+IsPartOf (x ∷ xs) [] = ⊥
+IsPartOf (x ∷ xs) (y ∷ ys) = ((x ≡ y) × IsPartOf xs ys) ⊎ IsPartOf (x ∷ xs) ys
+
+-- the events of a caller are a part of the history, in its order, and later ones come behind
+abbrev pub OwnEventsAreAPart : Type 0
+OwnEventsAreAPart = (by : ℕ) (h later : List Event) → IsPartOf (own by h) h × (own by (h ++ later) ≡ own by h ++ own by later)
+
+-- a core is sound at first, and each step that it may take keeps it so
+abbrev pub CoresStaySound : Type 0
+CoresStaySound = (settings : Settings) (callers shards : ℕ) → IsSound settings callers (first_core shards) × ((k : Core) (step : Step) → IsSound settings callers k → MayStep settings callers k step → IsSound settings callers (stepped k step))
+
+-- who has a change is who took it last, unless it was given back since
+abbrev pub HoldersTookLast : Type 0
+HoldersTookLast = (settings : Settings) (callers : ℕ) (h : List Event) (r : ℕ) → Lawful settings callers h → 0 < r → (slot_of (state callers h) r).holder ≡ holder_in r h
+
+-- the files of a project are exactly those of the last put at each path, where no later change drops it, in path order
+abbrev pub FilesAreTheLastPuts : Type 0
+FilesAreTheLastPuts = (changes : List Change) (project : List ℕ) → AreStanding changes project (files_of project changes)
+
+-- whether a file is there behind a change, by whether it was there before
+abbrev pub PresenceGoesByChanges : Type 0
+PresenceGoesByChanges = (project path : List ℕ) (number : ℕ) (files : List Source) (c : Change) → has_file path (files_after project number files c) ≡ is_path_put project path (has_file path files) c
+
+-- Applying the next change keeps what a shard holds, and adds rows of that change alone: those of the windows of its text
+-- that are the shard's.
+pub record Applies (keys_of : Lang → List ℕ → List ℕ) (shards : ℕ) (changes : List Change) (shard applied floor : ℕ) : Type 0 where
+  pub keeps : (row : Row) → ShardHolds keys_of shards changes shard applied floor row → ShardHolds keys_of shards changes shard (applied + 1) floor row
+  pub alone : (row : Row) → ShardHolds keys_of shards changes shard (applied + 1) floor row → ShardHolds keys_of shards changes shard applied floor row ⊎ (row.number ≡ applied + 1)
+  pub adds : (row : Row) (project path : List ℕ) (lang : Lang) (text : List ℕ) → row.number ≡ applied + 1 → IsNumber changes row.number → change_at changes row.number ≡ Some (Put project path lang text) → slice_get (keys_of lang text) row.place ≡ Some row.key → row.key % shards ≡ shard → ShardHolds keys_of shards changes shard (applied + 1) floor row
+
+abbrev pub ApplyingAddsItsRows : Type 0
+ApplyingAddsItsRows = (keys_of : Lang → List ℕ → List ℕ) (shards : ℕ) (changes : List Change) (shard applied floor : ℕ) → floor ≤ applied → Applies keys_of shards changes shard applied floor
+
+-- Raising the floor adds nothing, and leaves each row whose file no change up to the new floor puts or drops again.
+pub record Sweeps (keys_of : Lang → List ℕ → List ℕ) (shards : ℕ) (changes : List Change) (shard applied floor later : ℕ) : Type 0 where
+  pub alone : (row : Row) → ShardHolds keys_of shards changes shard applied later row → ShardHolds keys_of shards changes shard applied floor row
+  pub leaves : (row : Row) (held : ShardHolds keys_of shards changes shard applied floor row) → IsLastOfFile changes held.project held.path row.number later → ShardHolds keys_of shards changes shard applied later row
+
+abbrev pub SweepingTakesOutAlone : Type 0
+SweepingTakesOutAlone = (keys_of : Lang → List ℕ → List ℕ) (shards : ℕ) (changes : List Change) (shard applied floor later : ℕ) → floor ≤ later → Sweeps keys_of shards changes shard applied floor later

@@ -1,0 +1,9 @@
+pub mod Changes
+pub mod Files
+pub mod State
+pub mod Lawful
+pub mod Shards
+pub mod Core
+pub mod Laws
+pub mod Standing
+pub mod Script

@@ -1,0 +1,25 @@
+use Rattle.std.proofs.Common.{rules, ◌≡◌, ◌∙◌, ◌-◌, true, false, None, Some, [], length, take, drop, ap, sym}
+use Rattle.cq_words.specs.Front.{is_plain}
+use Rattle.cq_words.specs.Grammar.{look_of, with_item, items_from}
+use Rattle.cq_words.specs.Run.{run_row}
+use Rattle.cq_words.proofs.Fronts.{value_missing, value_next, value_plain, value_other}
+use Rattle.cq_words.proofs.form.spaced_front.Goals as goal
+
+pub returns-in_default : goal.returns-in_default
+returns-in_default c = value_missing run_row c.args.words.now [] c.args.name.now c.in_default.len_below
+
+pub returns-then-not-is_plain : goal.returns-then-not-is_plain
+returns-then-not-is_plain c =
+    let other : is_plain (look_of c.value-item.result) ≡ false = search rules in
+    value_next run_row c.args.words.now [] c.args.name.now c.value-item.result c.in-len1-up.len_at_least c.value-item.is
+    ∙ value_other (items_from run_row (take (length c.args.words.now - 1) (drop 1 c.args.words.now))) [] c.args.name.now c.value-item.result (look_of c.value-item.result) other
+
+pub returns : goal.returns
+returns c =
+    let plain : is_plain (look_of c.value-item.result) ≡ true = search rules in
+    let rest = take (length c.args.words.now - 1) (drop 1 c.args.words.now) in (
+      value_next run_row c.args.words.now [] c.args.name.now c.value-item.result c.in-len1-up.len_at_least c.value-item.is
+          ∙ value_plain (items_from run_row rest) [] c.args.name.now c.value-item.result (look_of c.value-item.result) plain
+          ∙ ap (λ word. with_item (c.args.name.now, Some word) (items_from run_row rest [] None)) (sym c.as_bytes.ensures),
+      search rules,
+    )
