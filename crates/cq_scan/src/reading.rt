@@ -1,10 +1,11 @@
-ghost use Rattle.std.specs.Prelude.{◌≡◌, ◌↔◌, ◌+◌, ◌^◌, ◌<◌, ◌≤◌, length, IsTrue, option_copied};
+ghost use Rattle.std.specs.Prelude.{◌≡◌, ◌↔◌, ◌+◌, ◌^◌, ◌<◌, ◌≤◌, length, IsTrue, option_map};
 ghost use Rattle.cq_clones.specs.Groups.{file_at, IsPlace, word_at, StandsAt, token_behind, token_before, AreSame};
 ghost use Rattle.cq_tokens.specs.Corpus.{corpus_of};
+ghost use Rattle.cq_tokens.specs.Packed.{norm_in};
 ghost use Rattle.cq_scan.specs.Match.{Matches};
 
-use cq_base::{Norm, Place, Steps};
-use cq_tokens::FileTokens;
+use cq_base::{Place, Steps};
+use cq_tokens::{FileTokens, Seen};
 use std::sync::ledger::Ledger;
 
 /// How many tokens the file has.
@@ -21,10 +22,10 @@ fn token_behind<'a, L: Ledger>(
     p: Place,
     n: u32,
     steps: &mut Steps<L>,
-) -> Option<&'a Norm>
+) -> Option<Seen<'a>>
     requires file { p.file < length files.now }
     requires fits { p.at + n < 2 ^ 32 }
-    ensures { option_copied result ≡ token_behind (corpus_of files.now) p n }
+    ensures { option_map norm_in result ≡ token_behind (corpus_of files.now) p n }
 {
     files[p.file as usize].tokens.at(p.at + n, steps)
 }
@@ -46,7 +47,7 @@ fn are_same<L: Ledger>(
     let a = token_behind(files, p, n, steps);
     let b = token_behind(files, q, n, steps);
     match (a, b) {
-        (Some(a), Some(b)) => a.is_same(b),
+        (Some(a), Some(b)) => a.is_same(&b),
         _ => false,
     }
 }

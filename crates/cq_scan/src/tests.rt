@@ -23,7 +23,7 @@ fn file_of<L: Ledger>(alloc: Global, text: &[u8]) -> Result<FileTokens<L>, Memor
     }
     Ok(FileTokens {
         change: 1,
-        tokens: Arc::new(alloc, Tokens::new(norms))?,
+        tokens: Arc::new(alloc, Tokens::new(alloc, &norms)?)?,
         keys: Arc::new(alloc, Keys::from_vec(Vec::new(alloc)))?,
     })
 }

@@ -18,10 +18,10 @@ fn read_two<L: Ledger>(alloc: Global, blank: Blank) -> Result<(bool, bool), Memo
         class: Class::Ident,
         text: Text::from_bytes(alloc, b"a")?,
     })?;
-    let tokens: Tokens<L> = Tokens::new(norms);
+    let tokens: Tokens<L> = Tokens::new(alloc, &norms)?;
     let mut steps = Steps::new(blank);
     let first = match tokens.at(0, &mut steps) {
-        Some(norm) => norm.text.as_bytes() == b"a".as_slice(),
+        Some(seen) => seen.text == b"a".as_slice(),
         None => false,
     };
     let second = tokens.at(1, &mut steps).is_none();

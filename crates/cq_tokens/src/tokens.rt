@@ -1,55 +1,60 @@
-ghost use Rattle.std.specs.Prelude.{◌≡◌, ◌≤◌, ◌↔◌, ◌+◌, ◌^◌, ◌<◌, length, vec_len, slice_get, IsNone};
-ghost use Rattle.std.specs.Option.{option_copied};
+ghost use Rattle.std.specs.Prelude.{◌≡◌, ◌≤◌, ◌↔◌, ◌+◌, ◌^◌, ◌<◌, length, slice_get, option_map, IsNone, IfOk};
+ghost use Rattle.cq_tokens.specs.Packed.{norm_in};
 
-use cq_base::{Norm, Steps};
+use crate::packed::{Packed, pack, seen_at};
+use crate::seen::Seen;
+use cq_base::{Memory, Norm, Steps};
 use std::alloc::Global;
 use std::marker::{Model, PhantomData};
 use std::sync::ledger::Ledger;
 
-/// The tokens of a file, fewer than 2^32. Their reads are steps of the ledger `L`.
+/// The tokens of a file, fewer than 2^32. Their texts lie one behind the other, and take 8 bytes a token beside them.
+/// Their reads are steps of the ledger `L`.
 #[derive(Drop)]
 pub struct Tokens<L: Ledger> {
-    norms: Vec<Norm>,
+    packed: Packed,
     marker: PhantomData<L>,
 }
 
 impl<L: Ledger> Model for Tokens<L> {
-    ghost use Rattle.std.specs.Prelude.{List, ◌<◌, ◌^◌, vec_len};
+    ghost use Rattle.std.specs.Prelude.{List, ◌<◌, ◌^◌, vec_len, length};
     ghost use Rattle.cq_base.specs.declared.norm.Norm.{Norm};
+    ghost use Rattle.cq_tokens.specs.Packed.{norms_from, AreEnds};
 
     ghost Value = { List Norm };
 
-    ghost view = { λ t. t.norms.items };
+    ghost view = { λ t. norms_from 0 t.packed.marks.items t.packed.bytes.items };
 
-    ghost invariant = { λ t. vec_len t.norms < 2 ^ 32 };
+    ghost invariant = { λ t. (vec_len t.packed.marks < 2 ^ 32) × AreEnds 0 t.packed.marks.items (length t.packed.bytes.items) };
 }
 
 impl<L: Ledger> Tokens<L> {
-    /// The tokens of this list, which is not copied.
-    pub fn new(norms: Vec<Norm>) -> Tokens<L>
-        requires { vec_len norms < 2 ^ 32 }
-        ensures { result ≡ norms.items }
+    /// These tokens, whose texts are copied. Where the texts have 2^32 bytes or more, memory is refused.
+    pub fn new(alloc: Global, norms: &[Norm]) -> Result<Tokens<L>, Memory>
+        requires { length norms.now < 2 ^ 32 }
+        ensures { IfOk result (λ t. t ≡ norms.now) }
     {
-        Tokens {
-            norms,
+        let packed = pack(alloc, norms)?;
+        Ok(Tokens {
+            packed,
             marker: PhantomData,
-        }
+        })
     }
 
     /// How many tokens there are.
     pub fn len(&self) -> u32
         ensures { result ≡ length self.now }
     {
-        self.norms.len() as u32
+        self.packed.marks.len() as u32
     }
 
     /// The token at `i`, from 0, and None exactly where there is none. It is one step.
-    pub fn at(&self, i: u32, steps: &mut Steps<L>) -> Option<&Norm>
-        ensures token { option_copied result ≡ slice_get self.now i }
+    pub fn at(&self, i: u32, steps: &mut Steps<L>) -> Option<Seen<'_>>
+        ensures token { option_map norm_in result ≡ slice_get self.now i }
         ensures none { IsNone result ↔ (length self.now ≤ i) }
         ensures step { steps.new ≡ steps.old + 1 }
     {
         steps.tick();
-        self.norms.get(i as usize)
+        seen_at(&self.packed.marks, &self.packed.bytes, i as usize)
     }
 }

@@ -55,7 +55,7 @@ pub fn work_of<L: Ledger>(
     let counts = counts_of(alloc, lang, text, state, &found, &spans)?;
     let norms = normalise(alloc, settings, lang, found)?;
     let keys = Arc::new(alloc, keyer.keys(alloc, &norms)?)?;
-    let tokens = Arc::new(alloc, Tokens::new(norms))?;
+    let tokens = Arc::new(alloc, Tokens::new(alloc, &norms)?)?;
     Ok(Work {
         lang,
         state,
