@@ -1,0 +1,151 @@
+-- For which changes a shard stands behind one that it applies.
+use Rattle.std.proofs.Common.{◌≡◌, ℕ, zero, suc, Bool, false, ◌∷◌, ◌+◌, ◌-◌, ◌<◌, ◌≤◌, Option, Some, None, List, [], ◌++◌, length, refl, sym, ◌∙◌, ap, subst, inl, ⊎_elim, arith}
+use Rattle.std.specs.Prelude.{All, Contains, slice_get}
+use Rattle.std.proofs.lemmas.Bool.{false≢true}
+use Rattle.std.proofs.lemmas.Option.{none-some}
+use Rattle.std.proofs.lemmas.List.{append-nil}
+use Rattle.std.proofs.lemmas.List.Elements.{Contains-append_left, Contains-append_right, Contains-append_cases, All-append, All-weaker}
+use Rattle.cq_base.specs.declared.lang.Lang.{Lang}
+use Rattle.cq_base.specs.declared.entry.Entry.{Entry}
+use Rattle.cq_base.specs.declared.change.Change.{Change}
+use Rattle.cq_base.specs.declared.change.Change.TheVariants.{Put, Drop, Gate}
+use Rattle.cq_clones.specs.Lists.{AreAllInOrder}
+use Rattle.cq_clones.proofs.InOrder.{in_order_same}
+use Rattle.cq_clones.specs.Windows.{EntryBefore}
+use Rattle.cq_history.specs.Changes.{IsNumber, change_at, is_put}
+use Rattle.cq_history.specs.Shards.{ShardHolds}
+use Rattle.cq_history.specs.Laws.{Applies}
+use Rattle.cq_shard.specs.Shard.{Contents, IsShard, StandsFor, row_of, entries_of, brought, IsWorkFor}
+use Rattle.cq_shard.proofs.Entries.{from_entries, to_entries, entries_ordered, pairs_append, all_from}
+
+-- with one change more applied, and these entries
+abbrev pub with_applied : Contents → List Entry → Contents
+with_applied c added = record { shard = c.shard; shards = c.shards; applied = c.applied + 1; floor = c.floor; entries = c.entries ++ added }
+
+of_all : {X : Type 0} (P : X → Type 0) (xs : List X) (x : X) → All P xs → Contains xs x → P x
+of_all P xs x all (k, within, is) = subst P is (all k x within)
+
+-- whether it is a put
+abbrev put_in : Option Change → Bool
+put_in None = false
+put_in (Some d) = is_put d
+
+-- ---- it stays a shard
+
+put_is_shard : (c : Contents) (keys : List ℕ) → IsShard c → IsShard (with_applied c (entries_of (c.applied + 1) c.shard c.shards 0 keys))
+put_is_shard c keys is =
+    let passed = is.passed in
+    let added = entries_of (c.applied + 1) c.shard c.shards 0 keys in
+    record {
+      mine = is.mine;
+      passed = omega (arith, passed);
+      known = All-append (λ (e : Entry). e.change ≤ c.applied + 1) c.entries added
+          (All-weaker (λ (e : Entry). e.change ≤ c.applied) (λ (e : Entry). e.change ≤ c.applied + 1) (λ e h. omega (arith, h)) c.entries is.known)
+          (all_from (λ (e : Entry). e.change ≤ c.applied + 1) added (λ e h. let same = (from_entries (c.applied + 1) c.shard c.shards 0 keys e h).change in omega (arith, same)));
+      ordered = pairs_append EntryBefore c.entries added is.ordered (entries_ordered (c.applied + 1) c.shard c.shards 0 keys)
+          (λ a b here later. let same = (from_entries (c.applied + 1) c.shard c.shards 0 keys b later).change in
+          let known = of_all (λ (e : Entry). e.change ≤ c.applied) c.entries a is.known here in
+          inl (omega (arith, same, known)));
+    }
+
+-- ---- it stands for the same changes
+
+inside : {X : Type 0} (xs : List X) (i : ℕ) (x : X) → slice_get xs i ≡ Some x → i < length xs
+inside [] i x is = absurd (none-some x is)
+inside (y ∷ ys) zero x is = omega arith
+inside (y ∷ ys) (suc i) x is = let h = inside ys i x is in omega (arith, h)
+
+is_number : (changes : List Change) (r : ℕ) (d : Change) → 0 < r → change_at changes r ≡ Some d → IsNumber changes r
+is_number changes r d some is = let h = inside changes (r - 1) d is in (some, omega (arith, some, h))
+
+-- the keys that a put's text has, and none for any other change
+put_keys : (Lang → List ℕ → List ℕ) → Option Change → List ℕ
+put_keys keys_of None = []
+put_keys keys_of (Some (Put project path lang text)) = keys_of lang text
+put_keys keys_of (Some (Drop project path)) = []
+put_keys keys_of (Some (Gate project conditions)) = []
+
+new_holds : (keys_of : Lang → List ℕ → List ℕ) (changes : List Change) (c : Contents) (project path : List ℕ) (lang : Lang) (text : List ℕ) (e : Entry) →
+    Applies keys_of c.shards changes c.shard c.applied c.floor → change_at changes (c.applied + 1) ≡ Some (Put project path lang text) →
+    Contains (entries_of (c.applied + 1) c.shard c.shards 0 (keys_of lang text)) e → ShardHolds keys_of c.shards changes c.shard (c.applied + 1) c.floor (row_of e)
+new_holds keys_of changes c project path lang text e applies is new =
+    let b = from_entries (c.applied + 1) c.shard c.shards 0 (keys_of lang text) e new in
+    let at : e.at ≡ e.at - 0 = omega arith in
+    applies.adds (row_of e) project path lang text b.change
+    (subst (IsNumber changes) (sym b.change) (is_number changes (c.applied + 1) (Put project path lang text) (omega arith) is))
+    (ap (change_at changes) b.change ∙ is)
+    (ap (slice_get (keys_of lang text)) at ∙ b.window)
+    b.mine
+
+held_is_new : (keys_of : Lang → List ℕ → List ℕ) (changes : List Change) (c : Contents) (project path : List ℕ) (lang : Lang) (text : List ℕ) (e : Entry) →
+    change_at changes (c.applied + 1) ≡ Some (Put project path lang text) → ShardHolds keys_of c.shards changes c.shard (c.applied + 1) c.floor (row_of e) → e.change ≡ c.applied + 1 →
+    Contains (entries_of (c.applied + 1) c.shard c.shards 0 (keys_of lang text)) e
+unfolding put_keys
+held_is_new keys_of changes c project path lang text e is held same =
+    let keys : keys_of held.lang held.text ≡ keys_of lang text = ap (put_keys keys_of) (sym held.put ∙ ap (change_at changes) same ∙ is) in
+    to_entries (c.applied + 1) c.shard c.shards (keys_of lang text) e same (ap (λ ks. slice_get ks e.at) (sym keys) ∙ held.window) held.mine
+
+put_stands : (keys_of : Lang → List ℕ → List ℕ) (changes : List Change) (c : Contents) (project path : List ℕ) (lang : Lang) (text : List ℕ) →
+    Applies keys_of c.shards changes c.shard c.applied c.floor → StandsFor keys_of changes c → change_at changes (c.applied + 1) ≡ Some (Put project path lang text) →
+    StandsFor keys_of changes (with_applied c (entries_of (c.applied + 1) c.shard c.shards 0 (keys_of lang text)))
+put_stands keys_of changes c project path lang text applies stands is =
+    let added = entries_of (c.applied + 1) c.shard c.shards 0 (keys_of lang text) in
+    record {
+      applied = (is_number changes (c.applied + 1) (Put project path lang text) (omega arith) is).1;
+      entries = λ e. (
+        λ h. ⊎_elim (λ old. applies.keeps (row_of e) ((stands.entries e).0 old)) (λ new. new_holds keys_of changes c project path lang text e applies is new) (Contains-append_cases c.entries added e h),
+        λ h. ⊎_elim
+            (λ old. Contains-append_left c.entries added e ((stands.entries e).1 old))
+            (λ new. Contains-append_right c.entries added e (held_is_new keys_of changes c project path lang text e is h new))
+            (applies.alone (row_of e) h),
+      );
+    }
+
+-- no entry, where the change is no put
+other_stands : (keys_of : Lang → List ℕ → List ℕ) (changes : List Change) (c : Contents) (d : Change) →
+    Applies keys_of c.shards changes c.shard c.applied c.floor → StandsFor keys_of changes c → change_at changes (c.applied + 1) ≡ Some d → is_put d ≡ false →
+    StandsFor keys_of changes (with_applied c [])
+other_stands keys_of changes c d applies stands is other = record {
+  applied = (is_number changes (c.applied + 1) d (omega arith) is).1;
+  entries = λ e. (
+    λ h. applies.keeps (row_of e) ((stands.entries e).0 (subst (λ es. Contains es e) (append-nil c.entries) h)),
+    λ h. ⊎_elim
+        (λ old. subst (λ es. Contains es e) (sym (append-nil c.entries)) ((stands.entries e).1 old))
+        (λ new. absurd (false≢true (sym other ∙ sym (ap put_in is) ∙ ap put_in (ap (change_at changes) (sym new) ∙ h.put))))
+        (applies.alone (row_of e) h),
+  );
+}
+
+-- ---- whatever change it is
+
+pub brought_is_shard : {W : Type 0} (keys_in : W → List ℕ) (c : Contents) (work : Option W) → IsShard c → IsShard (with_applied c (brought keys_in (c.applied + 1) c.shard c.shards work))
+brought_is_shard keys_in c None is = put_is_shard c [] is
+brought_is_shard keys_in c (Some w) is = put_is_shard c (keys_in w) is
+
+pub brought_stands : {W : Type 0} (keys_of : Lang → List ℕ → List ℕ) (keys_in : W → List ℕ) (IsWork : Lang → List ℕ → W → Type 0) (changes : List Change) (c : Contents) (o : Option Change) (work : Option W) →
+    ((lang : Lang) (text : List ℕ) (w : W) → IsWork lang text w → keys_in w ≡ keys_of lang text) →
+    Applies keys_of c.shards changes c.shard c.applied c.floor → StandsFor keys_of changes c → change_at changes (c.applied + 1) ≡ o → IsWorkFor IsWork o work →
+    StandsFor keys_of changes (with_applied c (brought keys_in (c.applied + 1) c.shard c.shards work))
+brought_stands keys_of keys_in IsWork changes c None work determined applies stands is of = absurd of
+brought_stands keys_of keys_in IsWork changes c (Some (Put project path lang text)) None determined applies stands is of = absurd of
+brought_stands keys_of keys_in IsWork changes c (Some (Put project path lang text)) (Some w) determined applies stands is of =
+    subst (λ ks. StandsFor keys_of changes (with_applied c (entries_of (c.applied + 1) c.shard c.shards 0 ks))) (sym (determined lang text w of))
+    (put_stands keys_of changes c project path lang text applies stands is)
+brought_stands keys_of keys_in IsWork changes c (Some (Drop project path)) None determined applies stands is of = other_stands keys_of changes c (Drop project path) applies stands is refl
+brought_stands keys_of keys_in IsWork changes c (Some (Drop project path)) (Some w) determined applies stands is of = absurd of
+brought_stands keys_of keys_in IsWork changes c (Some (Gate project conditions)) None determined applies stands is of = other_stands keys_of changes c (Gate project conditions) applies stands is refl
+brought_stands keys_of keys_in IsWork changes c (Some (Gate project conditions)) (Some w) determined applies stands is of = absurd of
+
+-- ---- what is asked of it
+
+pub bucket_holds : (keys_of : Lang → List ℕ → List ℕ) (changes : List Change) (c : Contents) (key : ℕ) (live : List ℕ) (bucket : List Entry) → StandsFor keys_of changes c →
+    AreAllInOrder EntryBefore (λ e. (e.key ≡ key) × Contains live e.change × Contains c.entries e) bucket →
+    AreAllInOrder EntryBefore (λ e. (e.key ≡ key) × Contains live e.change × ShardHolds keys_of c.shards changes c.shard c.applied c.floor (row_of e)) bucket
+bucket_holds keys_of changes c key live bucket stands is =
+    in_order_same EntryBefore
+    (λ e. (e.key ≡ key) × Contains live e.change × Contains c.entries e)
+    (λ e. (e.key ≡ key) × Contains live e.change × ShardHolds keys_of c.shards changes c.shard c.applied c.floor (row_of e))
+    bucket
+    (λ e h. (h.0, h.1, (stands.entries e).0 h.2))
+    (λ e h. (h.0, h.1, (stands.entries e).1 h.2))
+    is

@@ -1,0 +1,60 @@
+-- What a shard is, and for which changes it stands.
+use Rattle.std.specs.Prelude.{◌↔◌, ℕ, ◌+◌, ◌<◌, ◌≤◌, ◌%◌, ◌==◌, nat_eq, ◌&&◌, if◌then◌else◌, Bool, List, [], ◌∷◌, ◌++◌, length, Contains, All, AllPairs, Option, Some, None}
+use Rattle.std.specs.List.{list_any}
+use Rattle.cq_base.specs.declared.lang.Lang.{Lang}
+use Rattle.cq_base.specs.declared.entry.Entry.{Entry}
+use Rattle.cq_base.specs.declared.change.Change.{Change}
+use Rattle.cq_base.specs.declared.change.Change.TheVariants.{Put, Drop, Gate}
+use Rattle.cq_clones.specs.Windows.{EntryBefore}
+use Rattle.cq_history.specs.Shards.{Row, ShardHolds}
+
+-- its number, how many shards there are, how many changes it has applied, its floor, and its entries
+pub record Contents : Type 0 where
+  pub shard : ℕ
+  pub shards : ℕ
+  pub applied : ℕ
+  pub floor : ℕ
+  pub entries : List Entry
+
+-- it is one of the shards, and its entries are those of applied changes, by change and place
+pub record IsShard (c : Contents) : Type 0 where
+  pub mine : c.shard < c.shards
+  pub passed : c.floor ≤ c.applied
+  pub known : All (λ e. e.change ≤ c.applied) c.entries
+  pub ordered : AllPairs EntryBefore c.entries
+
+abbrev pub row_of : Entry → Row
+row_of e = record { key = e.key; number = e.change; place = e.at }
+
+-- what the definition of a shard's contents says of an entry
+abbrev pub Holds : (Lang → List ℕ → List ℕ) → List Change → Contents → Entry → Type 0
+Holds keys_of changes c e = ShardHolds keys_of c.shards changes c.shard c.applied c.floor (row_of e)
+
+-- it has applied no more than there is, and its entries are what it holds of these changes
+pub record StandsFor (keys_of : Lang → List ℕ → List ℕ) (changes : List Change) (c : Contents) : Type 0 where
+  pub applied : c.applied ≤ length changes
+  pub entries : (e : Entry) → Contains c.entries e ↔ Holds keys_of changes c e
+
+-- the work is that of a put's text, and no other change has one
+abbrev pub IsWorkFor : {W : Type 0} → (Lang → List ℕ → W → Type 0) → Option Change → Option W → Type 0
+IsWorkFor IsWork (Some (Put project path lang text)) (Some work) = IsWork lang text work
+IsWorkFor IsWork (Some (Put project path lang text)) None = ⊥
+IsWorkFor IsWork (Some (Drop project path)) (Some work) = ⊥
+IsWorkFor IsWork (Some (Drop project path)) None = Unit {0}
+IsWorkFor IsWork (Some (Gate project conditions)) (Some work) = ⊥
+IsWorkFor IsWork (Some (Gate project conditions)) None = Unit {0}
+IsWorkFor IsWork None work = ⊥
+
+-- the entries of a change for those windows from `at` on whose keys are the shard's, by place
+abbrev pub entries_of : ℕ → ℕ → ℕ → ℕ → List ℕ → List Entry
+entries_of change shard shards at [] = []
+entries_of change shard shards at (key ∷ keys) = (if key % shards == shard then record { key = key; change = change; at = at } ∷ [] else []) ++ entries_of change shard shards (at + 1) keys
+
+-- the entries that a change brings to a shard
+abbrev pub brought : {W : Type 0} → (W → List ℕ) → ℕ → ℕ → ℕ → Option W → List Entry
+brought keys_in change shard shards None = []
+brought keys_in change shard shards (Some work) = entries_of change shard shards 0 (keys_in work)
+
+-- the entry has this key, and its change is one of `live`
+abbrev pub is_asked : ℕ → List ℕ → Entry → Bool
+is_asked key live e = (e.key == key) && list_any (nat_eq e.change) live

@@ -1,0 +1,106 @@
+ghost use Rattle.std.specs.Prelude.{◌≡◌, ◌+◌, ◌<◌, ◌≤◌, List, ℕ, [], length, Contains, option_copied, IfOk, OnOk, OnErr};
+ghost use Rattle.std.specs.List.Sorted.{IsStrictlyIncreasing};
+ghost use Rattle.cq_base.specs.declared.lang.Lang.{Lang};
+ghost use Rattle.cq_base.specs.declared.settings.Settings.{Settings};
+ghost use Rattle.cq_base.specs.declared.change.Change.{Change};
+ghost use Rattle.cq_clones.specs.Lists.{AreAllInOrder};
+ghost use Rattle.cq_clones.specs.Windows.{EntryBefore};
+ghost use Rattle.cq_history.specs.Changes.{change_at};
+ghost use Rattle.cq_shard.specs.Shard as spec;
+
+use crate::applying::{Part, add_work};
+use crate::indexed::Indexed;
+use crate::rows::Rows;
+use cq_base::{Entry, Memory, Steps};
+use cq_history::applying_adds_its_rows;
+use std::alloc::Global;
+use std::marker::Model;
+use std::sync::ledger::Ledger;
+
+/// One of the shards of an index.
+#[derive(Drop)]
+pub struct Shard {
+    shard: u32,
+    shards: u32,
+    applied: u64,
+    floor: u64,
+    rows: Rows,
+}
+
+impl Model for Shard {
+    ghost use Rattle.cq_shard.specs.Shard.{Contents, IsShard};
+
+    ghost Value = { Contents };
+
+    ghost view = { λ s. record { shard = s.shard; shards = s.shards; applied = s.applied; floor = s.floor; entries = s.rows } };
+
+    ghost invariant = { λ s. IsShard (record { shard = s.shard; shards = s.shards; applied = s.applied; floor = s.floor; entries = s.rows }) };
+}
+
+impl Shard {
+    /// The shard of this number, from 0, which has applied nothing. It takes no memory.
+    pub fn new(alloc: Global, shard: u32, shards: u32) -> Shard
+        requires { shard < shards }
+        ensures is { result ≡ record { shard = shard; shards = shards; applied = 0; floor = 0; entries = [] } }
+        ensures stands { (keys_of : Lang → List ℕ → List ℕ) (changes : List Change) → spec.StandsFor keys_of changes result }
+    {
+        Shard {
+            shard,
+            shards,
+            applied: 0,
+            floor: 0,
+            rows: Rows::new(alloc),
+        }
+    }
+
+    /// Up to which change it has applied all.
+    pub fn applied(&self) -> u64
+        ensures { result ≡ self.now.applied }
+    {
+        self.applied
+    }
+
+    /// What a change up to this one supersedes is no longer held.
+    pub fn floor(&self) -> u64
+        ensures { result ≡ self.now.floor }
+    {
+        self.floor
+    }
+
+    /// Applies the next change, whose work is given exactly where it is a put. Where memory is refused, nothing has
+    /// changed. It looks at each key of the work; each that is the shard's costs a step and an entry.
+    pub fn apply<W: Indexed, L: Ledger>(
+        &mut self,
+        change: u64,
+        work: Option<&W>,
+        steps: &mut Steps<L>,
+    ) -> Result<(), Memory>
+        requires next { change ≡ self.old.applied + 1 }
+        ensures stands { (settings : Settings) (changes : List Change) → spec.StandsFor (W.keys_of settings) changes self.old → spec.IsWorkFor (W.IsWorkOf settings) (change_at changes change) (option_copied work.entry) → OnOk result (spec.StandsFor (W.keys_of settings) changes self.new) }
+        ensures applied { OnOk result (self.new.applied ≡ change) }
+        ensures kept { OnOk result ((self.new.shard ≡ self.old.shard) × (self.new.shards ≡ self.old.shards) × (self.new.floor ≡ self.old.floor)) }
+        ensures same { OnErr result (self.new ≡ self.old) }
+        ensures steps { OnOk result (steps.new ≡ steps.old + length (spec.brought W.keys_in change self.old.shard self.old.shards (option_copied work.entry))) }
+        ensures most { steps.new ≤ steps.old + length (spec.brought W.keys_in change self.old.shard self.old.shards (option_copied work.entry)) }
+    {
+        applying_adds_its_rows();
+        let part = Part {
+            shard: self.shard,
+            shards: self.shards,
+            change,
+        };
+        add_work(&mut self.rows, part, work, steps)?;
+        self.applied = change;
+        Ok(())
+    }
+
+    /// The entries with the key whose change is one of `live`, by change and place. It looks at each entry of the shard,
+    /// and searches `live` for each with the key.
+    pub fn bucket(&self, alloc: Global, key: u64, live: &[u64]) -> Result<Vec<Entry>, Memory>
+        requires rising { IsStrictlyIncreasing live.now }
+        ensures holds { (keys_of : Lang → List ℕ → List ℕ) (changes : List Change) → spec.StandsFor keys_of changes self.now → IfOk result (λ bucket. AreAllInOrder EntryBefore (λ e. (e.key ≡ key) × Contains live.now e.change × spec.Holds keys_of changes self.now e) bucket.items) }
+        ensures entries { IfOk result (λ bucket. AreAllInOrder EntryBefore (λ e. (e.key ≡ key) × Contains live.now e.change × Contains self.now.entries e) bucket.items) }
+    {
+        self.rows.bucket(alloc, key, live)
+    }
+}
