@@ -1,0 +1,32 @@
+ghost use Rattle.std.specs.Prelude.{◌≡◌, ℕ, List, ◌+◌, ◌-◌, ◌^◌, min, IfOk};
+ghost use Rattle.cq_clones.specs.Windows.{IsBucket};
+ghost use Rattle.cq_groups.specs.Listing.{Rises};
+
+use cq_base::{Entry, Memory};
+use std::alloc::Global;
+
+/// What answers, for a list of files, the entries with a key.
+pub trait Buckets {
+    // the changes of the files that it is for, and the keys of each
+    ghost file_changes: { Self → List ℕ };
+
+    ghost file_keys: { Self → List (List ℕ) };
+
+    // how often it was asked
+    ghost asked: { Self → ℕ };
+
+    // it may have moved from one state to another
+    ghost moved: { Self → Self → Type 0 };
+
+    /// All entries of the files with the key, by change and then place.
+    fn bucket(&mut self, alloc: Global, key: u64) -> Result<Vec<Entry>, Memory>
+        ensures bucket { IfOk result (λ bucket. IsBucket (file_changes self.old) (file_keys self.old) key bucket.items) }
+        ensures same_changes { file_changes self.new ≡ file_changes self.old }
+        ensures same_keys { file_keys self.new ≡ file_keys self.old }
+        ensures asked { Rises (asked self.old) (asked self.new) 1 }
+        ensures moved { moved self.old self.new };
+
+    ghost unmoved: { (b : Self) → moved b b };
+
+    ghost moved_on: { (b c d : Self) → moved b c → moved c d → moved b d };
+}

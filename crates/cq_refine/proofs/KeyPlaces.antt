@@ -1,0 +1,175 @@
+-- Places of one key, and the entries that stand for them.
+use Rattle.std.proofs.Common.{◌≡◌, ◌≢◌, ◌↔◌, ℕ, ◌+◌, ◌<◌, ◌≤◌, List, [], ◌∷◌, ◌++◌, length, get_or, take, slice_get, Option, Some, None, false, is_some, true≢false, refl, sym, ap, ap₂, ◌∙◌, subst, inl, inr, ⊎_elim, arith}
+use Rattle.std.specs.Prelude.{AllPairs, Contains, Any}
+use Rattle.std.specs.Arc.{arc_value}
+use Rattle.std.specs.Ordering.{is_eq, nat_cmp}
+use Rattle.std.proofs.lemmas.Bool.{cases_lt, cases_order, cases_eq}
+use Rattle.std.proofs.lemmas.List.{length-map, get_or_past, get_or-map}
+use Rattle.std.proofs.lemmas.List.Elements.{Contains-get_or}
+use Rattle.std.proofs.lemmas.Option.{slice_get-get_or, get_or_from_slice_get, slice_get_within, slice_get_cases, same_Some}
+use Rattle.cq_base.specs.declared.entry.Entry.{Entry}
+use Rattle.cq_base.specs.declared.group.Place.{Place}
+use Rattle.cq_base.specs.declared.group.Group.{Group}
+use Rattle.cq_clones.specs.Lists.{AreAllInOrder}
+use Rattle.cq_clones.specs.Groups.{file_at, IsBefore, word_at, first_place}
+use Rattle.cq_clones.proofs.InOrder.{in_order_same, in_order_push, in_order_none, take_more_cases, take_more_left, take_more_here, before_at}
+use Rattle.cq_clones.proofs.Words.{length-word}
+use Rattle.cq_clones.proofs.GroupLaws.{within_from_standing}
+use Rattle.cq_tokens.specs.declared.FileTokens.{FileTokens}
+use Rattle.cq_tokens.specs.Corpus.{changes_of, keys_of}
+use Rattle.cq_clones.specs.Windows.{HasKey, AreKeyed, EntryBefore, IsBucket}
+use Rattle.cq_refine.specs.Sets.{AreEntries, IsGroupFrom, AreAllOnce}
+use Rattle.cq_refine.specs.Places.{IsIndexOf, IsPlaceOf, IsGroupOfKey}
+use Rattle.cq_refine.proofs.Words.{stands_front}
+
+-- two positions of one value among different ones
+pub one_position : (xs : List ℕ) (i j x : ℕ) → AllPairs (λ a b. a ≢ b) xs → slice_get xs i ≡ Some x → slice_get xs j ≡ Some x → i ≡ j
+one_position xs i j x apart a b =
+    let at : (k : ℕ) → slice_get xs k ≡ Some x → get_or xs k x ≡ x = λ k e. get_or_from_slice_get xs k x x e in
+    ⊎_elim (λ h. h)
+    (λ other. ⊎_elim
+    (λ lt. absurd (apart i j x lt (slice_get_within xs j x b) (at i a ∙ sym (at j b))))
+    (λ gt. absurd (apart j i x gt (slice_get_within xs i x a) (at j b ∙ sym (at i a))))
+    other)
+    (cases_order i j)
+
+-- a window begins at a place, and all of it is there
+pub window_within : {T : Type 0} (chunk : ℕ) (corpus : List (List T)) (keys : List (List ℕ)) (key : ℕ) (p : Place) → AreKeyed chunk corpus keys → HasKey keys key p → p.at + chunk ≤ length (file_at corpus p.file)
+window_within chunk corpus keys key p keyed has =
+    let h = slice_get_within (file_at keys p.file) p.at key has in omega (arith, h, keyed.windows p.file)
+
+-- and the other way round
+pub key_of_window : {T : Type 0} (chunk : ℕ) (corpus : List (List T)) (keys : List (List ℕ)) (p : Place) → AreKeyed chunk corpus keys → p.at + chunk ≤ length (file_at corpus p.file) → (key : ℕ) × HasKey keys key p
+key_of_window chunk corpus keys p keyed within =
+    ⊎_elim
+    (λ (key, lt, here, read). (key, here))
+    (λ (past, none). absurd (omega (arith, past, within, keyed.windows p.file)))
+    (slice_get_cases (file_at keys p.file) p.at).1
+
+-- all places of one key are entries in the sense of the walk
+pub key_entries : {T : Type 0} (chunk least key : ℕ) (corpus : List (List T)) (keys : List (List ℕ)) (places : List Place) → 1 ≤ chunk → chunk ≤ least → AreKeyed chunk corpus keys → AreAllInOrder IsBefore (HasKey keys key) places → AreEntries corpus least places
+key_entries chunk least key corpus keys places some long keyed are = record {
+  ordered = are.ordered;
+  inside = λ k d lt.
+      let has = (are.each (get_or places k d)).0 (Contains-get_or places k d lt) in
+      let h = window_within chunk corpus keys key (get_or places k d) keyed has in omega (arith, h, some);
+  closed = λ p q c within stands.
+      let has = (are.each p).0 c in
+      let w = word_at corpus p least in
+      let size : length w ≡ least = length-word (file_at corpus p.file) p.at least within in
+      let q_within = within_from_standing corpus w q stands (omega (arith, size, some, long)) in
+      let p_front : word_at corpus p chunk ≡ take chunk w = stands_front corpus w chunk p (omega (arith, size, long)) (ap (word_at corpus p) size) in
+      let q_front : word_at corpus q chunk ≡ take chunk w = stands_front corpus w chunk q (omega (arith, size, long)) stands in
+      let same = keyed.equal q p (omega (arith, q_within, size, long)) (omega (arith, within, long)) (q_front ∙ sym p_front) in
+      (are.each q).1 (same ∙ has);
+}
+
+-- its groups are those of the key
+pub groups_of_key : {T : Type 0} (least key : ℕ) (corpus : List (List T)) (keys : List (List ℕ)) (places : List Place) (groups : List Group) → AreAllInOrder IsBefore (HasKey keys key) places → AreAllOnce (IsGroupFrom corpus least places) groups → AreAllOnce (IsGroupOfKey corpus keys least key) groups
+groups_of_key least key corpus keys places groups are once =
+    in_order_same (λ g h. g ≢ h) (IsGroupFrom corpus least places) (IsGroupOfKey corpus keys least key) groups
+    (λ g is. (is.0, (are.each (first_place g)).0 is.1))
+    (λ g is. (is.0, (are.each (first_place g)).1 is.1))
+    once
+
+-- entries and their places
+
+abbrev pub ArePlacesOf : List ℕ → List Entry → List Place → Type 0
+ArePlacesOf changes bucket places = AreAllInOrder (λ p q. p ≢ q) (λ p. Any (λ e. IsPlaceOf changes e p) bucket) places
+
+any_entry : (P : Entry → Type 0) (es : List Entry) (e : Entry) → Contains es e → P e → Any P es
+any_entry P es e (k, within, at) h = (k, e, within, at, h)
+
+-- one entry more
+pub places_more : (changes : List ℕ) (bucket : List Entry) (places : List Place) (i : ℕ) (e : Entry) (p : Place) → i < length bucket → e ≡ get_or bucket i e → AllPairs EntryBefore bucket → AllPairs (λ a b. a ≢ b) changes → IsPlaceOf changes e p → ArePlacesOf changes (take i bucket) places → ArePlacesOf changes (take (i + 1) bucket) (places ++ p ∷ [])
+places_more changes bucket places i e p lt read ordered apart here are =
+    in_order_push (λ p q. p ≢ q) (λ z. Any (λ w. IsPlaceOf changes w z) (take i bucket)) (λ z. Any (λ w. IsPlaceOf changes w z) (take (i + 1) bucket)) places p are
+    (λ z (k, w, within, at, is) same. differs w z is same (before_at EntryBefore bucket i e w lt read ordered (k, within, at)))
+    (λ z (k, w, within, at, is). any_entry (λ v. IsPlaceOf changes v z) (take (i + 1) bucket) w (take_more_left bucket i e w lt read (k, within, at)) is)
+    (any_entry (λ v. IsPlaceOf changes v p) (take (i + 1) bucket) e (take_more_here bucket i e lt read) here)
+    (λ z (k, w, within, at, is). ⊎_elim
+    (λ c. inl (any_entry (λ v. IsPlaceOf changes v z) (take i bucket) w c is))
+    (λ same. inr (same_spot z (subst (λ v. IsPlaceOf changes v z) (sym same) is)))
+    (take_more_cases bucket i e w lt read (k, within, at)))
+  where
+    differs : (w : Entry) (z : Place) → IsPlaceOf changes w z → z ≡ p → EntryBefore w e → ⊥
+    differs w z is same before =
+        let file : z.file ≡ p.file = ap (λ v. v.file) same in
+        let at : z.at ≡ p.at = ap (λ v. v.at) same in
+        let change : w.change ≡ e.change = same_Some _ _ (sym is.file ∙ ap (slice_get changes) file ∙ here.file) in
+        ⊎_elim (λ less. omega (arith, less, change)) (λ both. omega (arith, both.1, is.at, at, here.at)) before
+
+    same_spot : (z : Place) → IsPlaceOf changes e z → p ≡ z
+    same_spot z is =
+        let file : p.file ≡ z.file = one_position changes p.file z.file e.change apart here.file is.file in
+        let at : p.at ≡ z.at = here.at ∙ sym is.at in
+        ap₂ (λ (x y : ℕ). let made : Place = record { file = x; at = y } in made) file at
+
+pub places_none : (changes : List ℕ) (bucket : List Entry) (places : List Place) → places ≡ [] → ArePlacesOf changes (take 0 bucket) places
+places_none changes bucket places none = subst (ArePlacesOf changes (take 0 bucket)) (sym none) (in_order_none (λ p q. p ≢ q) (λ p. Any (λ e. IsPlaceOf changes e p) (take 0 bucket)) (λ z (k, w, within, at, is). omega arith))
+
+-- at the end they are all places of the key
+pub places_all : (changes : List ℕ) (keys : List (List ℕ)) (key : ℕ) (bucket : List Entry) (places : List Place) → length keys ≡ length changes → AllPairs (λ a b. a ≢ b) changes → IsBucket changes keys key bucket → ArePlacesOf changes bucket places → AreAllInOrder (λ p q. p ≢ q) (HasKey keys key) places
+places_all changes keys key bucket places size apart is are =
+    in_order_same (λ p q. p ≢ q) (λ p. Any (λ e. IsPlaceOf changes e p) bucket) (HasKey keys key) places
+    (λ p (k, e, within, at, here).
+    let (key_is, entry) = (is.each e).0 (k, within, at) in
+    let file : entry.file ≡ p.file = one_position changes entry.file p.file e.change apart entry.put here.file in
+    ap₂ (λ f n. slice_get (file_at keys f) n) (sym file) here.at ∙ entry.window ∙ ap Some key_is)
+    (λ p has. found p has (change_of p has))
+    are
+  where
+    change_of : (p : Place) → HasKey keys key p → (c : ℕ) × (slice_get changes p.file ≡ Some c)
+    change_of p has =
+        ⊎_elim
+        (λ (c, lt, here, read). (c, here))
+        (λ (past, none).
+        let h = slice_get_within (file_at keys p.file) p.at key has in
+        let e = ap length (get_or_past keys p.file [] (omega (arith, past, size))) in
+        absurd (omega (arith, h, e)))
+        (slice_get_cases changes p.file).1
+
+    found : (p : Place) → HasKey keys key p → (c : ℕ) × (slice_get changes p.file ≡ Some c) → Any (λ e. IsPlaceOf changes e p) bucket
+    found p has (c, put) =
+        let e : Entry = record { key = key; change = c; at = p.at } in
+        any_entry (λ v. IsPlaceOf changes v p) bucket e ((is.each e).1 (refl, record { file = p.file; put = put; window = has })) (record { file = put; at = refl })
+
+pub sizes_of : {L : Type 0} (files : List (FileTokens L)) → length (keys_of files) ≡ length (changes_of files)
+sizes_of files = length-map files (λ file. arc_value file.keys) ∙ sym (length-map files (λ file. file.change))
+
+-- the index of the first changes
+abbrev pub IsIndexUpto : List ℕ → ℕ → (ℕ → Option ℕ) → Type 0
+IsIndexUpto changes n index = (change file : ℕ) → (index change ≡ Some file) ↔ ((file < n) × (slice_get changes file ≡ Some change))
+
+pub index_more : (changes : List ℕ) (n c : ℕ) (old new : ℕ → Option ℕ) → AllPairs (λ a b. a ≢ b) changes → slice_get changes n ≡ Some c → new c ≡ Some n → ((q : ℕ) → q ≢ c → new q ≡ old q) → IsIndexUpto changes n old → IsIndexUpto changes (n + 1) new
+index_more changes n c old new apart here same other before q file =
+    ⊎_elim
+    (λ e. (
+      λ h. let f : n ≡ file = same_Some _ _ (sym same ∙ ap new (sym e) ∙ h) in (omega (arith, f), ap (slice_get changes) (sym f) ∙ here ∙ ap Some (sym e)),
+      λ (lt, put). let f : n ≡ file = one_position changes n file c apart here (put ∙ ap Some e) in ap new e ∙ same ∙ ap Some f,
+    ))
+    (λ nay. let o = other q nay in (
+      λ h. let r = (before q file).0 (sym o ∙ h) in (omega (arith, r.0), r.1),
+      λ (lt, put). o ∙ (before q file).1 (below lt put nay, put),
+    ))
+    (cases_eq q c)
+  where
+    below : file < n + 1 → slice_get changes file ≡ Some q → (q ≡ c → ⊥) → file < n
+    below lt put nay =
+        ⊎_elim (λ h. h)
+        (λ ge. let e : n ≡ file = omega (arith, ge, lt) in absurd (nay (same_Some _ _ (sym put ∙ ap (slice_get changes) (sym e) ∙ here))))
+        (cases_lt file n)
+
+pub index_none : (changes : List ℕ) (index : ℕ → Option ℕ) → ((q : ℕ) → index q ≡ None) → IsIndexUpto changes 0 index
+index_none changes index none q file = (λ h. absurd (true≢false (sym (ap is_some (sym (none q) ∙ h)))), λ (lt, put). absurd (omega (arith, lt)))
+
+pub index_all : (changes : List ℕ) (n : ℕ) (index : ℕ → Option ℕ) → length changes ≤ n → IsIndexUpto changes n index → IsIndexOf changes index
+index_all changes n index all is q file = (λ h. ((is q file).0 h).1, λ put. (is q file).1 (let w = slice_get_within changes file q put in omega (arith, w, all), put))
+
+pub change_at : {L : Type 0} (files : List (FileTokens L)) (i : ℕ) (f : FileTokens L) → i < length files → f ≡ get_or files i f → slice_get (changes_of files) i ≡ Some f.change
+change_at files i f lt read =
+    let n = length-map files (λ file. file.change) in
+    slice_get-get_or (changes_of files) i f.change (omega (arith, n, lt)) ∙ ap Some (get_or-map (λ file. file.change) files i f f.change lt ∙ ap (λ file. file.change) (sym read))
+
+pub other_key : (c q : ℕ) → q ≢ c → is_eq (nat_cmp c q) ≡ false
+other_key c q other = grind arith

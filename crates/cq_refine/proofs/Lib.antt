@@ -1,0 +1,13 @@
+pub mod Pairs
+pub mod Words
+pub mod Marking
+pub mod SetLaws
+pub mod SetGroups
+pub mod Parts
+pub mod WordSets
+pub mod OneSided
+pub mod Walk
+pub mod Highest
+pub mod Weights
+pub mod KeyPlaces
+pub mod Places

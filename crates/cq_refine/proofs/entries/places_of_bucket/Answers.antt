@@ -1,0 +1,49 @@
+use Rattle.std.proofs.Common.{refl, arith, ap, length, sym, ◌∙◌, subst, get_or}
+use Rattle.std.proofs.lemmas.List.{get_or_default, take_all, length_push}
+use Rattle.std.proofs.lemmas.List.Elements.{Contains-get_or}
+use Rattle.std.proofs.lemmas.List.Sorted.{length_permutation}
+use Rattle.cq_base.specs.declared.entry.Entry.{Entry}
+use Rattle.cq_base.specs.declared.group.Place.{Place}
+use Rattle.cq_tokens.specs.Corpus.{changes_of, keys_of}
+use Rattle.cq_clones.specs.Windows.{HasKey}
+use Rattle.cq_refine.proofs.Places.{places_sorted}
+use Rattle.cq_refine.proofs.KeyPlaces.{ArePlacesOf, places_more, places_none, places_all, sizes_of}
+use Rattle.cq_refine.proofs.entries.places_of_bucket.Goals as goal
+use Rattle.cq_refine.proofs.entries.places_of_bucket.Goals.{in-Some+in_ok-push, in_default}
+
+pub loop-entry-init : goal.loop-entry-init
+loop-entry-init g c = (places_none (changes_of c.args.files.now) c.args.bucket.now _ c.new-places.ensures.items, omega (arith, ap length c.new-places.ensures.items))
+
+pub loop-entry-preserved : goal.loop-entry-preserved
+loop-entry-preserved g c =
+    let origin : Entry = record { key = 0; change = 0; at = 0 } in
+    let changes = changes_of c.args.files.now in
+    let bucket = c.args.bucket.now in
+    let i = c.loop-entry.entry-index in
+    let e : Entry = get_or bucket i origin in
+    let (key, is) = c.requires.bucket in
+    elim c.match-file.branch [
+      | in-Some+in_ok-push w ↦
+          let p : Place = record { file = w.in-Some.file; at = e.at } in
+          rw (w.places-is, w.in_ok-push.ensures.items) (
+            places_more changes bucket c.loop-entry.places.items i e p c.loop-entry-test.true (get_or_default bucket i origin e c.loop-entry-test.true) is.ordered c.requires.apart
+                (record { file = (c.requires.index e.change w.in-Some.file).0 (sym c.file.ensures ∙ w.in-Some.is); at = refl }) c.loop-entry.invariant.0,
+            omega (arith, length_push c.loop-entry.places.items p, c.loop-entry.invariant.1),
+          )
+      | in_default w ↦
+          let entry = ((is.each e).0 (Contains-get_or bucket i origin c.loop-entry-test.true)).1 in
+          let found = (c.requires.index e.change entry.file).1 entry.put in
+          absurd (w.in_default.not-Some entry.file (c.file.ensures ∙ found))
+    ]
+
+pub returns : goal.returns
+returns g c =
+    let changes = changes_of c.args.files.now in
+    let bucket = c.args.bucket.now in
+    let old = c.loop-entry.places.items in
+    let all : ArePlacesOf changes bucket old = subst (λ es. ArePlacesOf changes es old) (take_all c.loop-entry.entry-index bucket c.loop-entry-test.false) c.loop-entry.invariant.0 in
+    record {
+      places = λ key is. places_sorted (HasKey (keys_of c.args.files.now) key) old c.sort_places.new.places.items
+          (places_all changes (keys_of c.args.files.now) key bucket old (sizes_of c.args.files.now) c.requires.apart is all) c.sort_places.ensures;
+      size = omega (arith, length_permutation old c.sort_places.new.places.items c.sort_places.ensures.permutation, c.loop-entry.invariant.1, c.loop-entry.auto.entry-index-end);
+    }

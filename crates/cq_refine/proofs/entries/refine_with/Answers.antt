@@ -1,0 +1,38 @@
+use Rattle.std.proofs.Common.{◌≡◌, ◌+◌, ◌*◌, arith, ap, length, sym, ◌∙◌, subst, List}
+use Rattle.std.proofs.Math.Nat.{mul-le-mul_right}
+use Rattle.std.proofs.lemmas.Result.{IfOk-weaker}
+use Rattle.cq_base.specs.declared.group.Place.{Place}
+use Rattle.cq_clones.specs.Lists.{AreAllInOrder}
+use Rattle.cq_clones.specs.Groups.{IsBefore}
+use Rattle.cq_clones.proofs.InOrder.{AreAllInOrder-same}
+use Rattle.cq_clones.proofs.Order.{IsBefore-apart}
+use Rattle.cq_tokens.specs.Corpus.{corpus_of}
+use Rattle.cq_tokens.specs.Corpus.{keys_of}
+use Rattle.cq_clones.specs.Windows.{HasKey}
+use Rattle.cq_refine.proofs.KeyPlaces.{key_entries, groups_of_key}
+use Rattle.cq_refine.proofs.entries.refine_with.Goals as goal
+
+pub refine_places-requires-clause-entries : goal.refine_places-requires-clause-entries
+refine_places-requires-clause-entries g c =
+    let (key, is) = c.requires.bucket in
+    let are = subst (λ (ps : List Place). AreAllInOrder IsBefore (HasKey (keys_of c.args.files.now) key) ps) (sym c.deref.ensures.value) (c.in_ok-places.ensures.places key is) in
+    key_entries c.args.chunk c.args.min key (corpus_of c.args.files.now) (keys_of c.args.files.now) c.deref.result.now c.requires.some c.requires.long c.requires.keyed are
+
+pub returns : goal.returns
+returns g c = record {
+  groups = λ key is. IfOk-weaker c.refine_places.result _ _
+      (λ groups once. groups_of_key c.args.min key (corpus_of c.args.files.now) (keys_of c.args.files.now) c.deref.result.now groups.items
+      (subst (λ (ps : List Place). AreAllInOrder IsBefore (HasKey (keys_of c.args.files.now) key) ps) (sym c.deref.ensures.value) (c.in_ok-places.ensures.places key is)) once)
+      c.refine_places.ensures.groups;
+  bound = λ longest is.
+      let h = c.refine_places.ensures.bound longest is in
+      let size = ap length c.deref.ensures.value in
+      let le = mul-le-mul_right (longest + 2) c.in_ok-places.ensures.size in
+      let e = ap (λ n. n * (longest + 2)) size in
+      omega (arith, h, le, e);
+  places_bound = λ key longest places is are is_longest.
+      let h = c.refine_places.ensures.bound longest is_longest in
+      let same : c.in_ok-places.places.items ≡ places = AreAllInOrder-same IsBefore IsBefore-apart (HasKey (keys_of c.args.files.now) key) c.in_ok-places.places.items places (c.in_ok-places.ensures.places key is) are in
+      let e = ap (λ n. n * (longest + 2)) (ap length (c.deref.ensures.value ∙ same)) in
+      omega (arith, h, e);
+}

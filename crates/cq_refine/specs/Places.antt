@@ -1,0 +1,29 @@
+-- The places of the entries with one key.
+use Rattle.std.specs.Prelude.{◌≡◌, ◌↔◌, ℕ, List, slice_get, Option, Some}
+use Rattle.cq_base.specs.declared.entry.Entry.{Entry}
+use Rattle.cq_base.specs.declared.group.Place.{Place}
+use Rattle.cq_base.specs.declared.group.Group.{Group}
+use Rattle.cq_clones.specs.Groups.{IsGroup, first_place}
+use Rattle.cq_clones.specs.Windows.{HasKey}
+use Rattle.std.specs.BTreeMap.{get}
+use Rattle.std.specs.Ordering.{nat_cmp}
+use Rattle.cq_refine.specs.declared.changes.Changes.{Changes}
+
+-- the position of each change
+abbrev pub IsIndexOf : List ℕ → (ℕ → Option ℕ) → Type 0
+IsIndexOf changes index = (change file : ℕ) → (index change ≡ Some file) ↔ (slice_get changes file ≡ Some change)
+
+abbrev pub index_of : Changes → ℕ → Option ℕ
+index_of c change = get nat_cmp c.files change
+
+abbrev pub IsIndex : List ℕ → Changes → Type 0
+IsIndex changes c = IsIndexOf changes (index_of c)
+
+-- the place of an entry
+pub record IsPlaceOf (changes : List ℕ) (e : Entry) (p : Place) : Type 0 where
+  pub file : slice_get changes p.file ≡ Some e.change
+  pub at : p.at ≡ e.at
+
+-- a group whose word begins with a window of the key
+abbrev pub IsGroupOfKey : {T : Type 0} → List (List T) → List (List ℕ) → ℕ → ℕ → Group → Type 0
+IsGroupOfKey corpus keys least key group = IsGroup corpus least group × HasKey keys key (first_place group)

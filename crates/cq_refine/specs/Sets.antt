@@ -1,0 +1,130 @@
+-- Sets of places that share their first tokens.
+use Rattle.std.specs.Prelude.{◌≡◌, ◌≢◌, ◌⊎◌, ℕ, ◌+◌, ◌<◌, ◌≤◌, List, ◌∷◌, [], ◌++◌, length, Option, All, AllPairs, Contains, Any, sum_by, map, filter, ◌==◌, nat_le}
+use Rattle.cq_base.specs.declared.group.Place.{Place}
+use Rattle.cq_base.specs.declared.group.Group.{Group}
+use Rattle.cq_clones.specs.Lists.{AreAllInOrder}
+use Rattle.cq_clones.specs.Groups.{IsPlace, IsBefore, StandsAt, word_at, token_ahead, token_before, token_behind, file_at, IsGroup, first_place, kept_of}
+use Rattle.cq_refine.specs.declared.spots.Spot.{Spot}
+use Rattle.cq_refine.specs.declared.spots.Marked.{Marked}
+use Rattle.cq_refine.specs.declared.spots.Set.{Set}
+
+-- the mark of a token among different ones: its position there from 1 on, and 0 for no token
+pub record IsMark {T : Type 0} (seen : List T) (token : Option T) (mark : ℕ) : Type 0 where
+  pub within : mark ≤ length seen
+  pub names : token_ahead seen mark ≡ token
+
+-- the new list is the old one with more elements behind it
+pub record Grows {T : Type 0} (old new : List T) : Type 0 where
+  pub more : List T
+  pub is : new ≡ old ++ more
+
+abbrev pub IsSpotBefore : Spot → Spot → Type 0
+IsSpotBefore s t = IsBefore s.place t.place
+
+-- the marks of the spots are those of the tokens before them
+pub record AreSpots {T : Type 0} (corpus : List (List T)) (spots : List Spot) : Type 0 where
+  pub seen : List T
+  pub apart : AllPairs (λ a b. a ≢ b) seen
+  pub marks : (s : Spot) → Contains spots s → IsMark seen (token_before corpus s.place) s.left
+  pub places : (s : Spot) → Contains spots s → IsPlace corpus s.place
+
+-- the set has exactly the spots at which one word stands
+pub record IsWordSet {T : Type 0} (corpus : List (List T)) (all : List Spot) (depth : ℕ) (spots : List Spot) : Type 0 where
+  pub word : List T
+  pub long : length word ≡ depth
+  pub several : 2 ≤ length spots
+  pub exact : AreAllInOrder IsSpotBefore (λ s. Contains all s × StandsAt corpus word s.place) spots
+
+-- no word of more than `longest` tokens stands at two different places
+abbrev pub IsLongest : {T : Type 0} → List (List T) → ℕ → Type 0
+IsLongest {T} corpus longest = (p q : Place) (n : ℕ) → p ≢ q → p.at + n ≤ length (file_at corpus p.file) → q.at + n ≤ length (file_at corpus q.file) → word_at corpus p n ≡ word_at corpus q n → n ≤ longest
+
+-- the marks are those of the tokens `n` behind the spots
+pub record AreMarked {T : Type 0} (corpus : List (List T)) (n : ℕ) (marked : List Marked) : Type 0 where
+  pub seen : List T
+  pub apart : AllPairs (λ a b. a ≢ b) seen
+  pub marks : (x : Marked) → Contains marked x → IsMark seen (token_behind corpus x.spot.place n) x.mark
+
+-- places of a corpus in order, with each place at which the first `least` tokens of one of them stand
+pub record AreEntries {T : Type 0} (corpus : List (List T)) (least : ℕ) (places : List Place) : Type 0 where
+  pub ordered : AllPairs IsBefore places
+  pub inside : All (IsPlace corpus) places
+  pub closed : (p q : Place) → Contains places p → p.at + least ≤ length (file_at corpus p.file) → StandsAt corpus (word_at corpus p least) q → Contains places q
+
+-- the groups of the corpus whose word stands at one of the places
+abbrev pub IsGroupFrom : {T : Type 0} → List (List T) → ℕ → List Place → Group → Type 0
+IsGroupFrom corpus least places group = IsGroup corpus least group × Contains places (first_place group)
+
+-- the spots with one mark
+abbrev pub part_of : ℕ → List Marked → List Spot
+part_of mark marked = map (λ x. x.spot) (filter (λ x. x.mark == mark) marked)
+
+-- the spots of one mark, two or more
+pub record IsPart (depth : ℕ) (marked : List Marked) (highest : ℕ) (s : Set) : Type 0 where
+  pub mark : ℕ
+  pub some : 0 < mark
+  pub low : mark ≤ highest
+  pub deeper : s.depth ≡ depth
+  pub several : 2 ≤ length s.spots.items
+  pub is : s.spots.items ≡ part_of mark marked
+
+-- the spots of two different marks
+pub record ArePartsOf (marked : List Marked) (s t : Set) : Type 0 where
+  pub mark : ℕ
+  pub other : ℕ
+  pub some : 0 < mark
+  pub differ : mark < other
+  pub is : s.spots.items ≡ part_of mark marked
+  pub other_is : t.spots.items ≡ part_of other marked
+
+-- the sets are followed by the parts of two or more spots
+pub record AreParts (depth : ℕ) (marked : List Marked) (highest : ℕ) (parts : List Set) : Type 0 where
+  pub each : (s : Set) → Contains parts s → IsPart depth marked highest s
+  pub apart : AllPairs (ArePartsOf marked) parts
+  pub all : (x : Marked) → Contains marked x → 0 < x.mark → x.mark ≤ highest → 2 ≤ length (part_of x.mark marked) → Any (λ s. (s.depth ≡ depth) × (s.spots.items ≡ part_of x.mark marked)) parts
+
+pub record AddsParts (depth : ℕ) (marked : List Marked) (highest : ℕ) (old new : List Set) : Type 0 where
+  pub parts : List Set
+  pub is : new ≡ old ++ parts
+  pub are : AreParts depth marked highest parts
+  pub size : sum_by (λ s. length s.spots.items) parts ≤ length (filter (λ x. nat_le x.mark highest) marked)
+
+-- the group of a set's places
+abbrev pub group_of : ℕ → List Spot → Group
+group_of depth spots = record { tokens = depth; places = kept_of depth (map (λ s. s.place) spots) }
+
+-- the tokens before the spots are there and equal, or those behind them
+abbrev pub HaveOneLeft : List Spot → Type 0
+HaveOneLeft spots = (n : ℕ) × (0 < n) × All (λ s. s.left ≡ n) spots
+
+abbrev pub HaveOneMark : List Marked → Type 0
+HaveOneMark marked = (n : ℕ) × (0 < n) × All (λ x. x.mark ≡ n) marked
+
+-- the set gives a group
+pub record IsChosen (least depth : ℕ) (spots : List Spot) (marked : List Marked) : Type 0 where
+  pub long : least ≤ depth
+  pub left : ¬ HaveOneLeft spots
+  pub right : ¬ HaveOneMark marked
+  pub several : 2 ≤ length (group_of depth spots).places
+
+-- the group is added, if the set gives one
+abbrev pub AddsGroup : (Chosen : Type 0) → Group → List Group → List Group → Type 0
+AddsGroup Chosen group old new = (Chosen × (new ≡ old ++ group ∷ [])) ⊎ ((Chosen → ⊥) × (new ≡ old))
+
+-- a set gave its group and its parts
+pub record IsSplit {T : Type 0} (corpus : List (List T)) (least : ℕ) (set : Set) (rest sets : List Set) (old new : List Group) : Type 0 where
+  pub marked : List Marked
+  pub spots : map (λ x. x.spot) marked ≡ set.spots.items
+  pub marks : AreMarked corpus set.depth marked
+  pub highest : ℕ
+  pub all : All (λ x. x.mark ≤ highest) marked
+  pub parts : AddsParts (set.depth + 1) marked highest rest sets
+  pub group : AddsGroup (IsChosen least set.depth set.spots.items marked) (group_of set.depth set.spots.items) old new
+
+-- the one set of all spots, if they are two or more
+abbrev pub AreFirst : List Spot → List Set → Type 0
+AreFirst spots sets = ((2 ≤ length spots) × ((s : Set) × (s.depth ≡ 0) × (s.spots.items ≡ spots) × (sets ≡ s ∷ []))) ⊎ ((length spots < 2) × (sets ≡ []))
+
+-- exactly the groups with a property, each once
+abbrev pub AreAllOnce : (Group → Type 0) → List Group → Type 0
+AreAllOnce Is groups = AreAllInOrder (λ g h. g ≢ h) Is groups

@@ -1,0 +1,116 @@
+ghost use Rattle.std.specs.Prelude.{◌≡◌, ◌<◌, ◌≤◌, ◌↔◌, ◌⊎◌, IsTrue, IfOk, OnOk, length, map, All, Any};
+ghost use Rattle.cq_refine.specs.Sets.{part_of, AddsParts, group_of, HaveOneLeft, HaveOneMark, IsChosen, AddsGroup};
+
+use crate::spots::{Marked, Set, Spot};
+use cq_base::{Group, Memory, Place, Places};
+use cq_order::kept;
+use std::alloc::Global;
+
+/// Whether the mark is one of a token, and that of the token before each spot.
+fn have_left(spots: &[Spot], left: usize) -> bool
+    ensures { IsTrue result ↔ ((0 < left) × All (λ s. s.left ≡ left) spots.now) }
+{
+    left > 0 && spots.iter().all(|s| s.left == left)
+}
+
+/// Whether the mark is one of a token, and that of the token behind each spot.
+fn have_mark(marked: &[Marked], mark: usize) -> bool
+    ensures { IsTrue result ↔ ((0 < mark) × All (λ x. x.mark ≡ mark) marked.now) }
+{
+    mark > 0 && marked.iter().all(|x| x.mark == mark)
+}
+
+/// Whether the tokens before the spots are there and equal.
+fn have_one_left(spots: &[Spot]) -> bool
+    requires { 0 < length spots.now }
+    ensures { IsTrue result ↔ HaveOneLeft spots.now }
+{
+    have_left(spots, spots[0].left)
+}
+
+/// Whether the tokens behind the spots are there and equal.
+fn have_one_mark(marked: &[Marked]) -> bool
+    requires { 0 < length marked.now }
+    ensures { IsTrue result ↔ HaveOneMark marked.now }
+{
+    have_mark(marked, marked[0].mark)
+}
+
+/// The places of the spots.
+fn places_of(alloc: Global, spots: &[Spot]) -> Result<Vec<Place>, Memory>
+    ensures { IfOk result (λ places. places.items ≡ map (λ s. s.place) spots.now) }
+{
+    let places = spots.iter().map(|s| s.place).collect(alloc)?;
+    Ok(places)
+}
+
+/// Adds the group of the set, if it gives one.
+pub(crate) fn add_group(
+    alloc: Global,
+    set: &Set,
+    marked: &[Marked],
+    min: u32,
+    groups: &mut Vec<Group>,
+) -> Result<(), Memory>
+    requires spots { 0 < length set.now.spots.items }
+    requires marked { 0 < length marked.now }
+    ensures { OnOk result (AddsGroup (IsChosen min set.now.depth set.now.spots.items marked.now) (group_of set.now.depth set.now.spots.items) groups.old.items groups.new.items) }
+{
+    if set.depth < min || have_one_left(&set.spots) || have_one_mark(marked) {
+        return Ok(());
+    }
+    let places = places_of(alloc, &set.spots)?;
+    let places = kept(alloc, set.depth, &places)?;
+    if places.len() < 2 {
+        return Ok(());
+    }
+    let places = Places::from_vec(places);
+    groups.push(Group {
+        tokens: set.depth,
+        places,
+    })?;
+    Ok(())
+}
+
+/// The spots with one mark.
+pub(crate) fn part(alloc: Global, marked: &[Marked], mark: usize) -> Result<Vec<Spot>, Memory>
+    ensures { IfOk result (λ spots. spots.items ≡ part_of mark marked.now) }
+{
+    let spots = marked
+        .iter()
+        .filter(|x| x.mark == mark)
+        .map(|x| x.spot)
+        .collect(alloc)?;
+    Ok(spots)
+}
+
+/// The highest of the marks, or 0.
+pub(crate) fn highest(marked: &[Marked]) -> usize
+    ensures all { All (λ x. x.mark ≤ result) marked.now }
+    ensures one { 0 < result → Any (λ x. x.mark ≡ result) marked.now }
+{
+    let mut most = 0;
+    for x in marked {
+        most = most.max(x.mark);
+    }
+    most
+}
+
+/// Adds the parts with marks up to the highest that have two or more spots.
+pub(crate) fn push_parts(
+    alloc: Global,
+    marked: &[Marked],
+    highest: usize,
+    depth: u32,
+    sets: &mut Vec<Set>,
+) -> Result<(), Memory>
+    ensures { OnOk result (AddsParts depth marked.now highest sets.old.items sets.new.items) }
+{
+    for below in 0..highest {
+        let spots = part(alloc, marked, below + 1)?;
+        if spots.len() > 1 {
+            sets.push(Set { depth, spots })?;
+        }
+    }
+    Ok(())
+}
