@@ -1,5 +1,5 @@
 -- What a board's fields keep, and what its calls answer.
-use Rattle.std.specs.Prelude.{◌≡◌, ℕ, ◌+◌, ◌≤◌, nat_lt, true, if◌then◌else◌, List, length, map, take, All, Option, Some, None, IfSome}
+use Rattle.std.specs.Prelude.{◌≡◌, ℕ, ◌+◌, ◌≤◌, nat_lt, true, if◌then◌else◌, List, length, map, take, fold, min, All, Option, Some, None, IfSome}
 use Rattle.std.specs.Arc.{arc_value}
 use Rattle.cq_base.specs.declared.settings.Settings.{Settings}
 use Rattle.cq_base.specs.declared.lang.Lang.{Lang}
@@ -24,6 +24,14 @@ refusal_of set s change =
 
 abbrev pub asked_of : State → Asked
 asked_of s = record { accepted = length s.slots; done = ready s; undone = if nat_lt (ready s) (length s.slots) then Some (ready s + 1) else None; published = s.published }
+
+abbrev pub lower : ℕ → Option ℕ → ℕ
+lower version None = version
+lower version (Some seen) = min version seen
+
+-- the least of the last published version and each open view's
+abbrev pub greatest_floor : State → ℕ
+greatest_floor s = fold lower s.published s.views
 
 -- the job is to make the work of this change
 abbrev pub IsJobOf : Change → Job → Type 0

@@ -1,10 +1,10 @@
-ghost use Rattle.std.specs.Prelude.{◌≡◌, ◌+◌, ◌<◌, ◌≤◌, ℕ, [], length, OnOk, IfOk, OnErr, IfSome, MatchOption, MatchResult, ◌⊎◌, None, IsSome, IsTrue, IsNone, false, ◌↔◌, All, take, replicate};
+ghost use Rattle.std.specs.Prelude.{◌≡◌, ◌+◌, ◌<◌, ◌≤◌, ℕ, [], length, OnOk, IfOk, OnErr, IfSome, MatchOption, MatchResult, ◌⊎◌, None, IsSome, IsTrue, IsNone, false, ◌↔◌, All, take, fold, replicate};
 ghost use Rattle.cq_history.specs.declared.event.Event.TheVariants as event;
 ghost use Rattle.std.specs.Arc.{arc_value};
 ghost use Rattle.std.specs.Bool.{OnTrue, OnFalse};
 ghost use Rattle.cq_history.specs.State.{first_free, ready, view_of, slot_of, changes_in, IsAccepted, IsDone, IsTakenBy};
 ghost use Rattle.cq_core.specs.Stands.{BoardState, StandsFor, Adds, IsCaller};
-ghost use Rattle.cq_core.specs.Boards.{asked_of, refusal_of, IsJob, IsWorkFor, IsDonePut};
+ghost use Rattle.cq_core.specs.Boards.{asked_of, greatest_floor, lower, refusal_of, IsJob, IsWorkFor, IsDonePut};
 ghost use Rattle.cq_core.specs.Listings.{IsListing};
 
 use crate::accepting::{refusal, stored, text_len};
@@ -109,6 +109,14 @@ impl<W: Indexed> Board<W> {
         ensures { result ≡ self.now.state.floor }
     {
         self.floor
+    }
+
+    /// The greatest floor that there may be: the least of the last published version and each open view's. It looks at
+    /// each caller's view.
+    pub fn greatest_floor(&self) -> u64
+        ensures { result ≡ greatest_floor self.now.state }
+    {
+        least(self.published, &self.views)
     }
 
     /// Gives a taken change back, and answers whether this caller had it, undone.
@@ -257,6 +265,19 @@ impl<W: Indexed> Board<W> {
         self.ready = done_from(&self.slots, self.ready);
         Finished::Done
     }
+}
+
+// The least of a version and each open view's.
+fn least(version: u64, views: &[Option<u64>]) -> u64
+    ensures { result ≡ fold lower version views.now }
+{
+    let mut least = version;
+    for view in views {
+        if let Some(seen) = view {
+            least = least.min(*seen);
+        }
+    }
+    least
 }
 
 fn no_views(alloc: Global, callers: u32) -> Result<Vec<Option<u64>>, Memory>
