@@ -1,7 +1,7 @@
 use crate::Text;
 
 /// What kind of token it is.
-#[derive(Clone, Copy, Debug, PartialEq, Eq)]
+#[derive(Clone, Copy, Debug, PartialEq, Eq, PartialOrd, Ord)]
 pub enum Class {
     /// A name.
     Ident,

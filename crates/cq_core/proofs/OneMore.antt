@@ -2,7 +2,7 @@
 use Rattle.std.proofs.Common.{◌≡◌, ℕ, ◌+◌, ◌<◌, ◌≤◌, Bool, true, false, cond, List, [], ◌∷◌, ◌++◌, length, map, take, get_or, sum_by, Option, Some, None, refl, sym, ap, ◌∙◌, subst, arith}
 use Rattle.std.specs.List.{prefix_len}
 use Rattle.std.specs.Arc.{arc_value}
-use Rattle.std.proofs.lemmas.List.{map_more, map-append, length-map, length_push, take-append-le}
+use Rattle.std.proofs.lemmas.List.{get_or_append_left, map-append, length-map, length_push, take-append-le}
 use Rattle.std.proofs.lemmas.List.Sums.{sum_by_push, prefix_len-le-length}
 use Rattle.std.proofs.lemmas.List.Elements.{All-push}
 use Rattle.cq_base.specs.declared.settings.Settings.{Settings}
@@ -13,18 +13,18 @@ use Rattle.std.specs.Prelude.{IfSome, nat_lt, is_some}
 use Rattle.std.proofs.lemmas.Bool.Decides.{nat_tests}
 use Rattle.cq_history.specs.declared.event.Event.TheVariants.{Accept}
 use Rattle.cq_history.specs.Changes.{text_len}
-use Rattle.cq_history.specs.Files.{has_file, files_of, is_path_put}
-use Rattle.cq_history.specs.State.{State, Slot, new_slot, after, is_done, text_bytes, changes_in}
+use Rattle.cq_history.specs.State.{State, Slot, new_slot, after, is_done, is_free, text_bytes}
 use Rattle.cq_history.specs.Lawful.{Allowed, is_absent, is_full, is_long}
 use Rattle.cq_history.proofs.Bounds.{prefix_len-append-le}
-use Rattle.cq_history.proofs.Presence.{has_file_after}
-use Rattle.cq_history.proofs.Prefixes.{files_of_push}
 use Rattle.cq_core.specs.declared.answers.Refused.TheVariants.{Absent, FullChanges, FullText}
-use Rattle.cq_core.specs.declared.held.Project.{Project}
-use Rattle.cq_core.specs.Listings.{IsListing}
+use Rattle.cq_core.specs.Listings.{Listed, IsListing}
+use Rattle.std.specs.BTreeSet.{BTreeSet}
+use Rattle.cq_core.specs.declared.kept.FileKey.{FileKey}
+use Rattle.cq_core.specs.Presence.{IsPresence}
+use Rattle.cq_core.specs.Answers.{refusal_of}
 use Rattle.cq_core.specs.declared.kept.Kept.{Kept}
-use Rattle.cq_core.specs.Slots.{slot_from, change_of}
-use Rattle.cq_core.specs.Boards.{state_from, refusal_of, IsWorked, IsWorkFor, BoardOk}
+use Rattle.cq_core.specs.Slots.{slot_from, change_of, state_from, IsWorked, IsWorkFor, IsNoneFree}
+use Rattle.cq_core.specs.Boards.{changes_from, SlotsOk, BoardOk}
 
 -- what is not refused is allowed
 no_cause : (a b c : Bool) → cond a (Some Absent) (cond b (Some FullChanges) (cond c (Some FullText) None)) ≡ None → (a ≡ false) × (b ≡ false) × (c ≡ false)
@@ -48,21 +48,8 @@ long_fits settings s (Drop project path) e fits = omega arith
 long_fits settings s (Gate project conditions) e fits = omega arith
 
 module _ {W : Type 0} where
-  changes_more : (slots : List (Kept W)) (i : ℕ) (k : Kept W) → i < length slots → k ≡ get_or slots i k → changes_in (state_from (take (i + 1) slots) 0 0 []) ≡ changes_in (state_from (take i slots) 0 0 []) ++ change_of k.change ∷ []
-  changes_more slots i k within read =
-      ap (map (λ (s : Slot). s.change)) (map_more slot_from slots i k within) ∙ map-append (λ (s : Slot). s.change) (map slot_from (take i slots)) _
-      ∙ ap (λ (x : Kept W). map (λ (s : Slot). s.change) (map slot_from (take i slots)) ++ change_of x.change ∷ []) (sym read)
-
-  pub there_more : (slots : List (Kept W)) (i : ℕ) (k : Kept W) (q p : List ℕ) (was : Bool) → i < length slots → k ≡ get_or slots i k → was ≡ has_file p (files_of q (changes_in (state_from (take i slots) 0 0 []))) →
-      is_path_put q p was (change_of k.change) ≡ has_file p (files_of q (changes_in (state_from (take (i + 1) slots) 0 0 [])))
-  there_more slots i k q p was within read so_far =
-      ap (λ b. is_path_put q p b (change_of k.change)) so_far
-      ∙ sym (has_file_after q p (length (changes_in (state_from (take i slots) 0 0 [])) + 1) (files_of q (changes_in (state_from (take i slots) 0 0 []))) (change_of k.change))
-      ∙ sym (files_push_has (changes_in (state_from (take i slots) 0 0 [])) (change_of k.change))
-      ∙ ap (λ cs. has_file p (files_of q cs)) (sym (changes_more slots i k within read))
-    where
-      files_push_has : (cs : List Change) (c : Change) → has_file p (files_of q (cs ++ c ∷ [])) ≡ has_file p (Rattle.cq_history.specs.Files.files_after q (length cs + 1) (files_of q cs) c)
-      files_push_has cs c = ap (has_file p) (files_of_push q cs c)
+  pub changes_push : (slots : List (Kept W)) (k : Kept W) → changes_from (slots ++ k ∷ []) ≡ changes_from slots ++ change_of k.change ∷ []
+  changes_push slots k = ap (map (λ (s : Slot). s.change)) (map-append slot_from slots (k ∷ [])) ∙ map-append (λ (s : Slot). s.change) (map slot_from slots) (slot_from k ∷ [])
 
   pub accepted_state : (slots : List (Kept W)) (p f : ℕ) (views : List (Option ℕ)) (k : Kept W) (by : ℕ) (change : Change) → change_of k.change ≡ change → k.work ≡ None → k.holder ≡ None →
       state_from (slots ++ k ∷ []) p f views ≡ after (state_from slots p f views) (Accept by change)
@@ -71,30 +58,65 @@ module _ {W : Type 0} where
       ap (λ (xs : List Slot). let s : State = record { slots = xs; published = p; floor = f; views = views } in s)
       (map-append slot_from slots (k ∷ []) ∙ ap (λ (x : Slot). map (slot_from {W = W}) slots ++ x ∷ []) same)
 
-  pub accepted_ok : (IsWork : Lang → List ℕ → W → Type 0) (settings : Settings) (slots : List (Kept W)) (bytes done now p f len : ℕ) (projects : List (Project W)) (views : List (Option ℕ)) (k : Kept W) (change : Change) → change_of k.change ≡ change → k.work ≡ None →
-      BoardOk IsWork settings slots bytes done projects (state_from slots p f views) → refusal_of settings (state_from slots p f views) change ≡ None → len ≡ text_len change →
+  pub accepted_ok : (IsWork : Lang → List ℕ → W → Type 0) (settings : Settings) (slots : List (Kept W)) (bytes done now free len : ℕ) (k : Kept W) → k.work ≡ None →
+      SlotsOk IsWork settings slots bytes done free → refusal_of settings (state_from slots 0 0 []) (change_of k.change) ≡ None → len ≡ text_len (change_of k.change) →
       now ≡ prefix_len is_done (map slot_from (slots ++ k ∷ [])) →
-      BoardOk IsWork settings (slots ++ k ∷ []) (bytes + len) now projects (state_from (slots ++ k ∷ []) p f views)
-  accepted_ok IsWork settings slots bytes done now p f len projects views k change is no_work ok allowed length_is done_is =
-      let s : State = state_from slots p f views in
-      let causes = no_cause (is_absent s change) (is_full settings s) (is_long settings s change) allowed in
+      SlotsOk IsWork settings (slots ++ k ∷ []) (bytes + len) now free
+  accepted_ok IsWork settings slots bytes done now free len k no_work ok allowed length_is done_is =
+      let s : State = state_from slots 0 0 [] in
+      let causes = no_cause (is_absent s (change_of k.change)) (is_full settings s) (is_long settings s (change_of k.change)) allowed in
       let mapped : map slot_from (slots ++ k ∷ []) ≡ map slot_from slots ++ slot_from k ∷ [] = map-append slot_from slots (k ∷ []) in
       let same : length (map slot_from slots) ≡ length slots = length-map slots (slot_from {W = W}) in
       let len_of : Slot → ℕ = λ slot. text_len slot.change in
       let sums : sum_by len_of (map slot_from (slots ++ k ∷ [])) ≡ text_bytes s + text_len (change_of k.change) = ap (sum_by len_of) mapped ∙ sum_by_push len_of (map slot_from slots) (slot_from k) in
-      let more : prefix_len is_done (map slot_from slots) ≤ prefix_len is_done (map slot_from (slots ++ k ∷ [])) =
-      subst (λ xs. prefix_len is_done (map slot_from slots) ≤ prefix_len is_done xs) (sym mapped) (prefix_len-append-le (map slot_from slots) (slot_from k ∷ [])) in
       record {
         works = All-push (IsWorked IsWork) slots k ok.works (subst (λ w. IfSome w (λ work. IsWorkFor IsWork (change_of k.change) (arc_value work))) (sym no_work) tt);
-        text_bytes = (let e : bytes + len ≡ sum_by len_of (map slot_from (slots ++ k ∷ [])) = omega (arith, sums, ok.text_bytes, length_is, ap text_len is) in e);
-        few_bytes = omega (arith, long_fits settings s change causes.2 (omega (arith, ok.text_bytes, ok.few_bytes)), ok.text_bytes, length_is);
+        text_bytes = (let e : bytes + len ≡ sum_by len_of (map slot_from (slots ++ k ∷ [])) = omega (arith, sums, ok.text_bytes, length_is) in e);
+        few_bytes = omega (arith, long_fits settings s (change_of k.change) causes.2 (omega (arith, ok.text_bytes, ok.few_bytes)), ok.text_bytes, length_is);
         few_slots = omega (arith, length_push slots k, full_fits settings s causes.1, same);
         ready = done_is;
-        published = omega (arith, ok.published, ok.ready, done_is, more);
-        listing = subst (λ cs. IsListing IsWork cs projects)
-            (sym (ap (λ xs. take p (map (λ (x : Slot). x.change) xs)) mapped ∙ ap (take p) (map-append (λ (x : Slot). x.change) (map slot_from slots) (slot_from k ∷ []))
-            ∙ take-append-le p (changes_in s) _ (omega (arith, length-map (map slot_from slots) (λ (x : Slot). x.change), prefix_len-le-length is_done (map slot_from slots), ok.published, ok.ready)))) ok.listing;
+        none_free = record {
+          within = omega (arith, ok.none_free.within, length_push slots k);
+          none = λ n d lt. ap (λ xs. is_free (get_or xs n d)) mapped ∙ ap is_free (get_or_append_left (map slot_from slots) (slot_from k ∷ []) d n (omega (arith, lt, ok.none_free.within, same))) ∙ ok.none_free.none n d lt;
+        };
       }
+
+  -- the board with one change more
+  pub board_accepted : (IsWork : Lang → List ℕ → W → Type 0) (settings : Settings) (slots : List (Kept W)) (old there : BTreeSet FileKey) (bytes done now free len published : ℕ) (l : Listed W) (k : Kept W) → k.work ≡ None →
+      BoardOk IsWork settings slots old bytes done free published l → refusal_of settings (state_from slots 0 0 []) (change_of k.change) ≡ None → len ≡ text_len (change_of k.change) →
+      now ≡ prefix_len is_done (map slot_from (slots ++ k ∷ [])) → IsPresence (changes_from slots ++ change_of k.change ∷ []) there →
+      BoardOk IsWork settings (slots ++ k ∷ []) there (bytes + len) now free published l
+  board_accepted IsWork settings slots old there bytes done now free len published l k no_work ok allowed length_is done_is noted =
+      let same : length (map slot_from slots) ≡ length slots = length-map slots (slot_from {W = W}) in
+      let more : prefix_len is_done (map slot_from slots) ≤ prefix_len is_done (map slot_from (slots ++ k ∷ [])) =
+      subst (λ xs. prefix_len is_done (map slot_from slots) ≤ prefix_len is_done xs) (sym (map-append slot_from slots (k ∷ []))) (prefix_len-append-le (map slot_from slots) (slot_from k ∷ [])) in
+      record {
+        kept = accepted_ok IsWork settings slots bytes done now free len k no_work ok.kept allowed length_is done_is;
+        presence = subst (λ cs. IsPresence cs there) (sym (changes_push slots k)) noted;
+        in_order = omega (arith, ok.in_order, ok.kept.ready, done_is, more);
+        listing = subst (λ cs. IsListing IsWork cs l)
+            (sym (ap (take published) (changes_push slots k)
+            ∙ take-append-le published (changes_from slots) _ (omega (arith, length-map (map slot_from slots) (λ (x : Slot). x.change), prefix_len-le-length is_done (map slot_from slots), ok.in_order, ok.kept.ready)))) ok.listing;
+      }
+
+  -- the board that looks for a free change from another index on
+  pub board_free : (IsWork : Lang → List ℕ → W → Type 0) (settings : Settings) (slots : List (Kept W)) (there : BTreeSet FileKey) (bytes done free now published : ℕ) (l : Listed W) → BoardOk IsWork settings slots there bytes done free published l → IsNoneFree slots now → BoardOk IsWork settings slots there bytes done now published l
+  board_free IsWork settings slots there bytes done free now published l ok none = record {
+    kept = record { works = ok.kept.works; text_bytes = ok.kept.text_bytes; few_bytes = ok.kept.few_bytes; few_slots = ok.kept.few_slots; ready = ok.kept.ready; none_free = none };
+    presence = ok.presence;
+    in_order = ok.in_order;
+    listing = ok.listing;
+  }
+
+  -- the board with other slots of the same changes
+  pub board_with : (IsWork : Lang → List ℕ → W → Type 0) (settings : Settings) (slots more : List (Kept W)) (there : BTreeSet FileKey) (bytes done now free later published : ℕ) (l : Listed W) →
+      BoardOk IsWork settings slots there bytes done free published l → SlotsOk IsWork settings more bytes now later → changes_from more ≡ changes_from slots → done ≤ now → BoardOk IsWork settings more there bytes now later published l
+  board_with IsWork settings slots more there bytes done now free later published l ok kept same grows = record {
+    kept = kept;
+    presence = subst (λ cs. IsPresence cs there) (sym same) ok.presence;
+    in_order = omega (arith, ok.in_order, grows);
+    listing = subst (λ cs. IsListing IsWork (take published cs) l) (sym same) ok.listing;
+  }
 
   pub still_done : (slots ys zs : List (Kept W)) (k : Kept W) (done : ℕ) → zs ≡ ys → ys ≡ slots ++ k ∷ [] → done ≡ prefix_len is_done (map slot_from slots) → done ≤ prefix_len is_done (map slot_from zs)
   still_done slots ys zs k done read pushed is =

@@ -1,5 +1,5 @@
 use cq_base::{Lang, Memory, Text};
-use std::alloc::{AllocFailed, Global};
+use std::alloc::{AllocError, AllocFailed, Global};
 use std::sync::Arc;
 
 /// What a caller is told of the changes: how many are accepted, up to which all are done, the first that is not done, and
@@ -39,6 +39,17 @@ impl From<Memory> for Refused {
     ghost from_gives = { λ _ r. r ≡ Refused.Memory };
 
     fn from(_e: Memory) -> Refused {
+        Refused::Memory
+    }
+}
+
+impl From<AllocError> for Refused {
+    ghost use Rattle.std.specs.Prelude.{◌≡◌};
+    ghost use Rattle.cq_core.specs.declared.answers.Refused.{Refused};
+
+    ghost from_gives = { λ _ r. r ≡ Refused.Memory };
+
+    fn from(_e: AllocError) -> Refused {
         Refused::Memory
     }
 }

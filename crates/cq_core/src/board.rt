@@ -2,19 +2,22 @@ ghost use Rattle.std.specs.Prelude.{◌≡◌, ◌+◌, ◌<◌, ◌≤◌, ℕ,
 ghost use Rattle.cq_history.specs.declared.event.Event.TheVariants as event;
 ghost use Rattle.std.specs.Arc.{arc_value};
 ghost use Rattle.std.specs.Bool.{OnTrue, OnFalse};
-ghost use Rattle.cq_history.specs.State.{first_free, ready, view_of, slot_of, changes_in, IsAccepted, IsDone, IsTakenBy};
+ghost use Rattle.cq_history.specs.State.{first_free, ready, view_of, slot_of, changes_in, IsAccepted, IsDone, IsUndone, IsTakenBy};
 ghost use Rattle.cq_core.specs.Stands.{BoardState, StandsFor, Adds, IsCaller};
-ghost use Rattle.cq_core.specs.Boards.{asked_of, greatest_floor, lower, refusal_of, IsJob, IsWorkFor, IsDonePut};
+ghost use Rattle.cq_core.specs.Answers.{asked_of, greatest_floor, lower, refusal_of, IsJob, IsDonePut};
+ghost use Rattle.cq_core.specs.Slots.{IsWorkFor};
 ghost use Rattle.cq_core.specs.Listings.{IsListing};
 
 use crate::accepting::{refusal, stored, text_len};
-use crate::kept::Kept;
-use crate::listing::{Listing, View, projects_at};
+use crate::kept::{FileKey, Kept};
+use crate::listing::{Listing, View, listing_at};
+use crate::presence::note;
 use crate::slot_tests::{done_from, first_free, is_done, job_of};
 use crate::{Asked, Finished, Job, Refused};
 use cq_base::{Change, Memory, Settings};
 use cq_shard::Indexed;
 use std::alloc::Global;
+use std::collections::BTreeSet;
 use std::marker::Model;
 use std::sync::Arc;
 
@@ -23,12 +26,15 @@ use std::sync::Arc;
 pub struct Board<W: Indexed> {
     settings: Settings,
     slots: Vec<Kept<W>>,
+    there: BTreeSet<FileKey>,
     text_bytes: u64,
     ready: usize,
+    free: usize,
     published: u64,
     floor: u64,
     views: Vec<Option<u64>>,
     listing: Arc<Listing<W>, Global>,
+    events: u64,
 }
 
 impl<W: Indexed> Model for Board<W> {
@@ -37,11 +43,12 @@ impl<W: Indexed> Model for Board<W> {
     ghost Value = { BoardState };
 
     ghost use Rattle.std.specs.Arc.{arc_value};
-    ghost use Rattle.cq_core.specs.Boards.{state_from, BoardOk};
+    ghost use Rattle.cq_core.specs.Boards.{BoardOk};
+    ghost use Rattle.cq_core.specs.Slots.{state_from};
 
-    ghost view = { λ b. record { settings = b.settings; state = state_from b.slots.items b.published b.floor b.views.items } };
+    ghost view = { λ b. record { settings = b.settings; state = state_from b.slots.items b.published b.floor b.views.items; events = b.events } };
 
-    ghost invariant = { λ b. BoardOk (W.IsWorkOf b.settings) b.settings b.slots.items b.text_bytes b.ready (arc_value b.listing).projects.items (state_from b.slots.items b.published b.floor b.views.items) };
+    ghost invariant = { λ b. BoardOk (W.IsWorkOf b.settings) b.settings b.slots.items b.there b.text_bytes b.ready b.free b.published (arc_value b.listing) };
 }
 
 impl<W: Indexed> Board<W> {
@@ -52,21 +59,19 @@ impl<W: Indexed> Board<W> {
         ensures callers { IfOk result (λ b. length b.state.views ≡ callers) }
     {
         let views = no_views(alloc, callers)?;
-        let listing = Arc::new(
-            alloc,
-            Listing {
-                projects: Vec::new(alloc),
-            },
-        )?;
+        let listing = Arc::new(alloc, Listing::new(alloc))?;
         Ok(Board {
             settings: *settings,
             slots: Vec::new(alloc),
+            there: BTreeSet::new(alloc),
             text_bytes: 0,
             ready: 0,
+            free: 0,
             published: 0,
             floor: 0,
             views,
             listing,
+            events: 0,
         })
     }
 
@@ -83,6 +88,16 @@ impl<W: Indexed> Board<W> {
         Ok(Some(job_of(change, &kept.change)?))
     }
 
+    /// Whether a change is accepted and not done.
+    pub fn is_undone(&self, change: u64) -> bool
+        ensures { IsTrue result ↔ IsUndone self.now.state change }
+    {
+        if change == 0 || change > self.slots.len() as u64 {
+            return false;
+        }
+        !is_done(&self.slots[change as usize - 1])
+    }
+
     /// The work of a done put, and None for any other number.
     pub fn finished_work(&self, change: u64) -> Result<Option<Arc<W, Global>>, Memory>
         ensures some { IfOk result (λ work. IsSome work ↔ IsDonePut self.now.state change) }
@@ -95,6 +110,20 @@ impl<W: Indexed> Board<W> {
             Some(work) => Ok(Some(Arc::try_clone(work)?)),
             None => Ok(None),
         }
+    }
+
+    /// Up to which change all are done.
+    pub fn ready(&self) -> u64
+        ensures { result ≡ ready self.now.state }
+    {
+        self.ready as u64
+    }
+
+    /// How many events there were, modulo 2^64.
+    pub fn events(&self) -> u64
+        ensures { result ≡ self.now.events }
+    {
+        self.events
     }
 
     /// The last published version.
@@ -134,6 +163,8 @@ impl<W: Indexed> Board<W> {
         }
         let kept = &mut self.slots[i];
         kept.holder = None;
+        self.free = self.free.min(i);
+        self.events = self.events.wrapping_add(1);
         true
     }
 
@@ -145,11 +176,19 @@ impl<W: Indexed> Board<W> {
         ensures cause { MatchResult result (λ _. refusal_of self.old.settings self.old.state change ≡ None) (λ e. (e ≡ Refused.Memory) ⊎ (refusal_of self.old.settings self.old.state change ≡ Some e)) }
         ensures err { OnErr result (self.new ≡ self.old) }
     {
-        if let Some(cause) = refusal(&self.settings, &self.slots, self.text_bytes, &change) {
+        let change = stored(alloc, change)?;
+        if let Some(cause) = refusal(
+            &self.settings,
+            &self.slots,
+            &self.there,
+            self.text_bytes,
+            &change,
+        ) {
             return Err(cause);
         }
         let len = text_len(&change);
-        let change = stored(alloc, change)?;
+        self.slots.reserve(1)?;
+        note(&mut self.there, &change)?;
         self.slots.push(Kept {
             change,
             work: None,
@@ -157,6 +196,7 @@ impl<W: Indexed> Board<W> {
         })?;
         self.text_bytes += len;
         self.ready = done_from(&self.slots, self.ready);
+        self.events = self.events.wrapping_add(1);
         Ok(self.slots.len() as u64)
     }
 
@@ -164,9 +204,10 @@ impl<W: Indexed> Board<W> {
     pub fn ask(&mut self, by: u32) -> Asked
         requires { IsCaller self.old by }
         ensures adds { Adds (event.Ask by) self.old self.new }
-        ensures same { self.new ≡ self.old }
+        ensures same { self.new.state ≡ self.old.state }
         ensures answer { result ≡ asked_of self.old.state }
     {
+        self.events = self.events.wrapping_add(1);
         let accepted = self.slots.len();
         let done = self.ready;
         let undone = if done < accepted {
@@ -191,13 +232,16 @@ impl<W: Indexed> Board<W> {
         ensures unchanged { IfOk result (λ job. MatchOption job (self.new ≡ self.old) (λ _. IsAccepted self.old.state (first_free self.old.state))) }
         ensures err { OnErr result (self.new ≡ self.old) }
     {
-        let i = first_free(&self.slots);
+        let i = first_free(&self.slots, self.free);
+        self.free = i;
         if i == self.slots.len() {
             return Ok(None);
         }
         let kept = &mut self.slots[i];
         let job = job_of(i as u64 + 1, &kept.change)?;
         kept.holder = Some(by);
+        self.free = i + 1;
+        self.events = self.events.wrapping_add(1);
         Ok(Some(job))
     }
 
@@ -208,16 +252,17 @@ impl<W: Indexed> Board<W> {
         ensures adds { OnOk result (Adds (event.Publish version) self.old self.new) }
         ensures err { OnErr result (self.new ≡ self.old) }
     {
-        let projects = projects_at(
+        let listing = listing_at(
             alloc,
             &self.settings,
             &self.slots,
-            &self.listing.projects,
+            &self.listing,
             self.published,
             version,
         )?;
-        self.listing = Arc::new(alloc, Listing { projects })?;
+        self.listing = Arc::new(alloc, listing)?;
         self.published = version;
+        self.events = self.events.wrapping_add(1);
         Ok(())
     }
 
@@ -227,11 +272,12 @@ impl<W: Indexed> Board<W> {
         requires closed { view_of self.old.state by ≡ None }
         ensures adds { IfOk result (λ view. Adds (event.Open by view.version) self.old self.new) }
         ensures version { IfOk result (λ view. view.version ≡ self.old.state.published) }
-        ensures listing { IfOk result (λ view. IsListing (W.IsWorkOf self.old.settings) (take view.version (changes_in self.old.state)) (arc_value view.listing).projects.items) }
+        ensures listing { IfOk result (λ view. IsListing (W.IsWorkOf self.old.settings) (take view.version (changes_in self.old.state)) (arc_value view.listing)) }
         ensures err { OnErr result (self.new ≡ self.old) }
     {
         let listing = Arc::try_clone(&self.listing)?;
         self.views[by as usize] = Some(self.published);
+        self.events = self.events.wrapping_add(1);
         Ok(View {
             version: self.published,
             listing,
@@ -245,6 +291,7 @@ impl<W: Indexed> Board<W> {
         ensures { Adds (event.Shut by) self.old self.new }
     {
         self.views[by as usize] = None;
+        self.events = self.events.wrapping_add(1);
     }
 
     /// Takes the work of a change, the first time. It takes no memory.
@@ -263,6 +310,7 @@ impl<W: Indexed> Board<W> {
         let kept = &mut self.slots[i];
         kept.work = Some(work);
         self.ready = done_from(&self.slots, self.ready);
+        self.events = self.events.wrapping_add(1);
         Finished::Done
     }
 }

@@ -2,10 +2,11 @@
 //! to every history for which the board stands, exactly where the event is lawful, or changes nothing. Callers are
 //! numbered from 0.
 //!
-//! Accepting a put or a gate costs a slot; a drop looks at every accepted change for its path, and taking a change looks
-//! at each from the first on. Publishing copies the listing, which is a path and an owner of a work for each file, and
-//! then walks the new changes, each of which looks at the names of the projects and the paths of one. No text and no work
-//! is copied: a text is held once, behind an owner that jobs share.
+//! Accepting a change costs a slot and a search among the places at which files stand. Taking one looks at the changes
+//! from the first on that may have been free. Publishing costs an owner for each project and a number for each file; a
+//! project that changed costs a copy of its list, which is two owners and two numbers a file, once, and then each of its
+//! changes a search and a move in that list. No text, no path and no work is copied: each is held once, behind an owner
+//! that slots, listings and jobs share.
 #![tactic(auto)]
 
 mod accepting;
@@ -15,12 +16,14 @@ mod files;
 mod held;
 mod kept;
 mod listing;
-mod projects;
+mod live;
+mod parts;
+mod presence;
 mod slot_tests;
 
 pub use answers::{Asked, Finished, Job, Refused};
 pub use board::Board;
-pub use held::{Held, Project};
+pub use held::Held;
 pub use listing::{Listing, View};
 
 #[cfg(test)]

@@ -1,50 +1,102 @@
-ghost use Rattle.std.specs.Prelude.{◌≡◌, ◌+◌, ◌<◌, ◌≤◌, ℕ, [], List, IfOk, OnOk, true, slice_get, Some, length, take, map, All, ◌++◌, ◌∷◌};
-ghost use Rattle.std.specs.List.{prefix_len};
+ghost use Rattle.std.specs.Prelude.{◌≡◌, ◌+◌, ◌<◌, ◌≤◌, ℕ, [], ◌∷◌, ◌++◌, List, IfOk, IfErr, OnOk, true, length, take, map, All};
 ghost use Rattle.std.specs.Arc.{arc_value};
-ghost use Rattle.cq_base.specs.declared.lang.Lang.{Lang};
+ghost use Rattle.std.specs.List.{prefix_len};
+ghost use Rattle.std.specs.Ordering.{nat_cmp};
+ghost use Rattle.std.specs.Cmp.Lexicographic.{slice_cmp};
 ghost use Rattle.cq_base.specs.declared.change.Change.{Change};
 ghost use Rattle.cq_history.specs.State.{changes_in, is_done};
-ghost use Rattle.cq_core.specs.Slots.{slot_from, change_of};
-ghost use Rattle.cq_core.specs.Boards.{IsWorkFor, IsWorked, state_from};
-ghost use Rattle.cq_core.specs.Listings.{IsListing, file_from, files_in, conditions_in};
+ghost use Rattle.cq_core.specs.Slots.{slot_from, change_of, state_from, IsWorked};
+ghost use Rattle.cq_core.specs.Ordered.{AreRising, IsAt, IsGap};
+ghost use Rattle.cq_core.specs.Listings.{IsListing, owner_name, file_from, files_in, conditions_in};
+ghost use Rattle.cq_core.specs.Parts.{project_in, projects_in, listed};
 
 use crate::held::{Held, Project};
 use crate::kept::{Kept, Stored};
-use crate::projects::{copied_projects, drop_in, find_project, gate_in, put_in};
+use crate::live::{add, take_out};
+use crate::parts::{Part, drop_in, gate_in, put_in};
 use cq_base::{Condition, Memory, Settings, Text};
 use cq_shard::Indexed;
 use std::alloc::Global;
+use std::cmp::Ordering;
+use std::marker::Model;
 use std::sync::Arc;
 
-/// The files and conditions of all projects at one version.
+/// The files and conditions of all projects at one version. Projects that did not change are shared with the version
+/// before.
 #[derive(Drop)]
 pub struct Listing<W> {
-    pub projects: Vec<Project<W>>,
+    projects: Vec<Arc<Project<W>, Global>>,
+    live: Vec<u64>,
+}
+
+impl<W> Model for Listing<W> {
+    ghost use Rattle.std.specs.Prelude.{map};
+    ghost use Rattle.std.specs.Arc.{arc_value};
+    ghost use Rattle.cq_core.specs.Ordered.{AreRising};
+    ghost use Rattle.cq_core.specs.Listings.{Listed, owner_name};
+
+    ghost Value = { Listed W };
+
+    ghost view = { λ l. record { projects = map arc_value l.projects.items; live = l.live.items } };
+
+    ghost invariant = { λ l. AreRising owner_name l.projects.items };
+}
+
+// How the project's name compares, byte by byte.
+fn compare<W>(project: &Arc<Project<W>, Global>, name: &Text) -> Ordering
+    ensures { result ≡ slice_cmp nat_cmp (owner_name project.now) name.now }
+{
+    project.name.as_bytes().cmp(name.as_bytes())
+}
+
+// Where the project is among others in the order of their names, or where it belongs.
+fn find<W>(projects: &[Arc<Project<W>, Global>], name: &Text) -> Result<usize, usize>
+    requires { AreRising owner_name projects.now }
+    ensures found { IfOk result (IsAt owner_name name.now projects.now) }
+    ensures gap { IfErr result (IsGap owner_name name.now projects.now) }
+{
+    projects.binary_search_by(|project| compare(project, name))
 }
 
 impl<W> Listing<W> {
-    /// The files of a project in path order, none where it has none. It looks at the names of the projects.
-    pub fn files(&self, project: &Text) -> &[Held<W>]
-        ensures { map file_from result.now ≡ files_in self.now.projects.items project.now }
+    /// A listing of no project.
+    pub(crate) fn new(alloc: Global) -> Listing<W>
+        ensures { result ≡ record { projects = []; live = [] } }
     {
-        let i = find_project(&self.projects, project);
-        if i < self.projects.len() {
-            &self.projects[i].files
-        } else {
-            &[]
+        Listing {
+            projects: Vec::new(alloc),
+            live: Vec::new(alloc),
         }
     }
 
-    /// The conditions of its last gate, none before its first. It looks at the names of the projects.
-    pub fn conditions(&self, project: &Text) -> &[Condition]
-        ensures { result.now ≡ conditions_in self.now.projects.items project.now }
+    /// The files of a project in path order, none where it has none. It costs a search among the projects.
+    pub fn files(&self, project: &Text) -> &[Held<W>]
+        ensures { map file_from result.now ≡ files_in self.now.projects project.now }
     {
-        let i = find_project(&self.projects, project);
-        if i < self.projects.len() {
-            self.projects[i].conditions.as_slice()
-        } else {
-            &[]
+        match find(&self.projects, project) {
+            Ok(i) => &self.projects[i].files,
+            Err(_) => &[],
         }
+    }
+
+    /// The conditions of a project's last gate, none before its first. It costs a search among the projects.
+    pub fn conditions(&self, project: &Text) -> &[Condition]
+        ensures { result.now ≡ conditions_in self.now.projects project.now }
+    {
+        match find(&self.projects, project) {
+            Ok(i) => match &self.projects[i].conditions {
+                Some(conditions) => conditions.as_slice(),
+                None => &[],
+            },
+            Err(_) => &[],
+        }
+    }
+
+    /// The numbers of the changes that put the files of all projects, in order.
+    pub fn live(&self) -> &[u64]
+        ensures { result.now ≡ self.now.live }
+    {
+        &self.live
     }
 }
 
@@ -55,75 +107,119 @@ pub struct View<W> {
     pub listing: Arc<Listing<W>, Global>,
 }
 
-/// The listing of the next version: the change with the next number is done.
-pub fn advance<W: Indexed>(
+// The listing with one change more, which is the one with the next number and done.
+fn advance<W: Indexed>(
     alloc: Global,
     settings: &Settings,
-    projects: &mut Vec<Project<W>>,
+    parts: &mut Vec<Part<W>>,
+    live: &mut Vec<u64>,
     number: u64,
     kept: &Kept<W>,
 ) -> Result<(), Memory>
     requires done { is_done (slot_from kept.now) ≡ true }
     requires work { IsWorked (W.IsWorkOf settings.now) kept.now }
-    ensures { OnOk result ((changes : List Change) → length changes + 1 ≡ number → IsListing (W.IsWorkOf settings.now) changes projects.old.items → IsListing (W.IsWorkOf settings.now) (changes ++ change_of kept.now.change ∷ []) projects.new.items) }
+    requires listing { (changes : List Change) × (length changes + 1 ≡ number) × IsListing (W.IsWorkOf settings.now) changes (listed parts.old.items live.old.items) }
+    ensures { OnOk result ((changes : List Change) → length changes + 1 ≡ number → IsListing (W.IsWorkOf settings.now) changes (listed parts.old.items live.old.items) → IsListing (W.IsWorkOf settings.now) (changes ++ change_of kept.now.change ∷ []) (listed parts.new.items live.new.items)) }
 {
     match &kept.change {
-        Stored::Put {
-            project,
-            path,
-            lang,
-            ..
-        } => match &kept.work {
+        Stored::Put { file, lang, .. } => match &kept.work {
             Some(work) => {
+                let path = Arc::try_clone(&file.path)?;
+                let work = Arc::try_clone(work)?;
                 let held = Held {
-                    path: path.copied(alloc)?,
+                    path,
                     change: number,
                     lang: *lang,
-                    work: Arc::try_clone(work)?,
+                    work,
                 };
-                put_in(alloc, projects, project, held)?;
+                let replaced = put_in(alloc, parts, &file.project, held)?;
+                take_out(live, replaced);
+                add(live, number)?;
                 Ok(())
             }
             None => unreachable!(),
         },
-        Stored::Drop { project, path } => {
-            drop_in(projects, project, path);
+        Stored::Drop { file } => {
+            let dropped = drop_in(alloc, parts, &file.project, &file.path)?;
+            take_out(live, dropped);
             Ok(())
         }
         Stored::Gate {
             project,
             conditions,
         } => {
-            gate_in(alloc, projects, project, conditions)?;
+            gate_in(alloc, parts, project, conditions)?;
             Ok(())
         }
     }
 }
 
-/// The listing of a later version, from that of an earlier one.
-pub fn projects_at<W: Indexed>(
+// The projects, shared.
+fn shared<W: Drop>(
+    alloc: Global,
+    projects: &[Arc<Project<W>, Global>],
+) -> Result<Vec<Part<W>>, Memory>
+    ensures { IfOk result (λ parts. projects_in parts.items ≡ map arc_value projects.now) }
+{
+    let mut parts = Vec::with_capacity(alloc, projects.len())?;
+    for project in projects {
+        let project = Arc::try_clone(project)?;
+        parts.push(Part::Shared(project))?;
+    }
+    Ok(parts)
+}
+
+fn owner<W: Drop>(alloc: Global, part: Part<W>) -> Result<Arc<Project<W>, Global>, Memory>
+    ensures { IfOk result (λ project. arc_value project ≡ project_in part) }
+{
+    match part {
+        Part::Shared(project) => Ok(project),
+        Part::Own(project) => Ok(Arc::new(alloc, project)?),
+    }
+}
+
+// An owner for each project.
+fn owners<W: Drop>(
+    alloc: Global,
+    parts: Vec<Part<W>>,
+) -> Result<Vec<Arc<Project<W>, Global>>, Memory>
+    ensures { IfOk result (λ projects. map arc_value projects.items ≡ projects_in parts.items) }
+{
+    let mut projects = Vec::with_capacity(alloc, parts.len())?;
+    for part in parts {
+        projects.push(owner(alloc, part)?)?;
+    }
+    Ok(projects)
+}
+
+/// The listing of a later version, from that of an earlier one. It costs an owner for each project, a number for each
+/// file, and for each project that changed a copy of its list of files, which shares their paths and works.
+pub fn listing_at<W: Indexed>(
     alloc: Global,
     settings: &Settings,
     slots: &[Kept<W>],
-    old: &[Project<W>],
+    old: &Listing<W>,
     before: u64,
     version: u64,
-) -> Result<Vec<Project<W>>, Memory>
+) -> Result<Listing<W>, Memory>
     requires order { before ≤ version }
     requires done { version ≤ prefix_len is_done (map slot_from slots.now) }
     requires works { All (IsWorked (W.IsWorkOf settings.now)) slots.now }
     requires listing { IsListing (W.IsWorkOf settings.now) (take before (changes_in (state_from slots.now 0 0 []))) old.now }
-    ensures { IfOk result (λ projects. IsListing (W.IsWorkOf settings.now) (take version (changes_in (state_from slots.now 0 0 []))) projects.items) }
+    ensures { IfOk result (λ listing. IsListing (W.IsWorkOf settings.now) (take version (changes_in (state_from slots.now 0 0 []))) listing) }
 {
-    let mut projects = copied_projects(alloc, old)?;
+    let mut parts = shared(alloc, &old.projects)?;
+    let mut live = Vec::from_slice(alloc, &old.live)?;
     for number in before..version {
         advance(
             alloc,
             settings,
-            &mut projects,
+            &mut parts,
+            &mut live,
             number + 1,
             &slots[number as usize],
         )?;
     }
-    Ok(projects)
+    let projects = owners(alloc, parts)?;
+    Ok(Listing { projects, live })
 }

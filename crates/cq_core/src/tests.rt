@@ -50,8 +50,8 @@ fn taken(alloc: Global) -> Result<(u64, Option<u64>), Refused> {
     Ok((number, job.map(|job| job.change)))
 }
 
-// Up to which change all is done behind a gate, and how many conditions its project has in the view of that version.
-fn seen(alloc: Global) -> Result<(u64, usize), Refused> {
+// Up to which change all is done behind a gate, and how many conditions and files its view has.
+fn seen(alloc: Global) -> Result<(u64, usize, usize), Refused> {
     let mut board: Board<Bare> = Board::new(alloc, &SETTINGS, 1)?;
     let project = Text::from_bytes(alloc, b"p")?;
     let gate = Change::Gate {
@@ -61,11 +61,13 @@ fn seen(alloc: Global) -> Result<(u64, usize), Refused> {
     board.accept(alloc, 0, gate)?;
     let asked = board.ask(0);
     if asked.published >= asked.done {
-        return Ok((0, 0));
+        return Ok((0, 0, 0));
     }
     board.publish(alloc, asked.done)?;
     let view = board.open(0)?;
-    Ok((view.version, view.listing.conditions(&project).len()))
+    let listing = &view.listing;
+    let files = listing.files(&project).len() + listing.live().len();
+    Ok((view.version, listing.conditions(&project).len(), files))
 }
 
 #[test]
@@ -76,6 +78,6 @@ fn a_put_is_taken(rt: HostRuntime) -> Result<(), Refused> {
 
 #[test]
 fn a_gate_is_published(rt: HostRuntime) -> Result<(), Refused> {
-    assert_eq!(rt; seen(rt.alloc())?, (1, 0));
+    assert_eq!(rt; seen(rt.alloc())?, (1, 0, 0));
     Ok(())
 }

@@ -2,8 +2,7 @@ ghost use Rattle.std.specs.Prelude.{◌≡◌, ◌≢◌, ℕ, ◌+◌, ◌*◌,
 ghost use Rattle.cq_base.specs.declared.group.Place.{Place};
 ghost use Rattle.cq_clones.specs.Lists.{AreAllInOrder};
 ghost use Rattle.cq_clones.specs.Groups.{IsBefore, AreGroups, AreGroupsIn};
-ghost use Rattle.cq_tokens.specs.Corpus.{corpus_of};
-ghost use Rattle.cq_tokens.specs.Corpus.{changes_of, keys_of};
+ghost use Rattle.cq_tokens.specs.Corpus.{changes_of, corpus_of, keys_of};
 ghost use Rattle.cq_clones.specs.Windows.{AreKeyed};
 ghost use Rattle.cq_refine.specs.Sets.{IsLongest, AreAllOnce};
 ghost use Rattle.cq_refine.specs.Places.{IsIndex};
@@ -11,7 +10,7 @@ ghost use Rattle.cq_groups.specs.Listing.{HasOneOf, IsGroupOfKeys, IsKey, IsKeyI
 
 use crate::buckets::Buckets;
 use crate::keys::{all_keys, file_keys};
-use cq_base::{Group, Memory, Steps};
+use cq_base::{Group, Memory, Settings, Steps};
 use cq_order::order;
 use cq_refine::{Changes, refine_with};
 use cq_tokens::FileTokens;
@@ -21,7 +20,7 @@ use std::sync::ledger::Ledger;
 /// The groups of different keys, each once. It asks once for each key.
 fn list_keys<B: Buckets, L: Ledger>(
     alloc: Global,
-    chunk: u32,
+    settings: &Settings,
     index: &Changes,
     keys: &[u64],
     files: &[FileTokens<L>],
@@ -31,9 +30,9 @@ fn list_keys<B: Buckets, L: Ledger>(
 ) -> Result<Vec<Group>, Memory>
     requires index { IsIndex (changes_of files.now) index.now }
     requires apart { AllPairs (λ a b. a ≢ b) (changes_of files.now) }
-    requires keyed { AreKeyed chunk (corpus_of files.now) (keys_of files.now) }
-    requires some { 1 ≤ chunk }
-    requires long { chunk ≤ min }
+    requires keyed { AreKeyed settings.now.chunk (corpus_of files.now) (keys_of files.now) }
+    requires some { 1 ≤ settings.now.chunk }
+    requires long { settings.now.chunk ≤ min }
     requires for_changes { B.file_changes buckets.old ≡ changes_of files.now }
     requires for_keys { B.file_keys buckets.old ≡ keys_of files.now }
     requires rising { AllPairs (λ a b. a < b) keys.now }
@@ -46,7 +45,7 @@ fn list_keys<B: Buckets, L: Ledger>(
     let mut groups = Vec::new(alloc);
     for key in keys {
         let bucket = buckets.bucket(alloc, *key)?;
-        let mut found = refine_with(alloc, chunk, index, &bucket, files, min, steps)?;
+        let mut found = refine_with(alloc, settings, index, &bucket, files, min, steps)?;
         groups.append(&mut found)?;
     }
     Ok(groups)
@@ -55,7 +54,7 @@ fn list_keys<B: Buckets, L: Ledger>(
 /// All groups of the files, in order. It asks once for each different key of a window.
 pub fn list_all<B: Buckets, L: Ledger>(
     alloc: Global,
-    chunk: u32,
+    settings: &Settings,
     files: &[FileTokens<L>],
     min: u32,
     buckets: &mut B,
@@ -63,9 +62,9 @@ pub fn list_all<B: Buckets, L: Ledger>(
 ) -> Result<Vec<Group>, Memory>
     requires few { length files.now < 2 ^ 32 }
     requires apart { AllPairs (λ a b. a ≢ b) (changes_of files.now) }
-    requires keyed { AreKeyed chunk (corpus_of files.now) (keys_of files.now) }
-    requires some { 1 ≤ chunk }
-    requires long { chunk ≤ min }
+    requires keyed { AreKeyed settings.now.chunk (corpus_of files.now) (keys_of files.now) }
+    requires some { 1 ≤ settings.now.chunk }
+    requires long { settings.now.chunk ≤ min }
     requires for_changes { B.file_changes buckets.old ≡ changes_of files.now }
     requires for_keys { B.file_keys buckets.old ≡ keys_of files.now }
     ensures groups { IfOk result (λ groups. AreGroups (corpus_of files.now) min groups.items) }
@@ -76,7 +75,7 @@ pub fn list_all<B: Buckets, L: Ledger>(
 {
     let index = Changes::new(alloc, files)?;
     let keys = all_keys(alloc, files)?;
-    let groups = list_keys(alloc, chunk, &index, &keys, files, min, buckets, steps)?;
+    let groups = list_keys(alloc, settings, &index, &keys, files, min, buckets, steps)?;
     order(groups)
 }
 
@@ -108,7 +107,7 @@ fn in_file(alloc: Global, groups: Vec<Group>, file: u32) -> Result<Vec<Group>, M
 /// The groups with a place in the file, in order. It asks once for each different key of the file's windows.
 pub fn list_file<B: Buckets, L: Ledger>(
     alloc: Global,
-    chunk: u32,
+    settings: &Settings,
     files: &[FileTokens<L>],
     file: u32,
     min: u32,
@@ -118,9 +117,9 @@ pub fn list_file<B: Buckets, L: Ledger>(
     requires few { length files.now < 2 ^ 32 }
     requires within { file < length files.now }
     requires apart { AllPairs (λ a b. a ≢ b) (changes_of files.now) }
-    requires keyed { AreKeyed chunk (corpus_of files.now) (keys_of files.now) }
-    requires some { 1 ≤ chunk }
-    requires long { chunk ≤ min }
+    requires keyed { AreKeyed settings.now.chunk (corpus_of files.now) (keys_of files.now) }
+    requires some { 1 ≤ settings.now.chunk }
+    requires long { settings.now.chunk ≤ min }
     requires for_changes { B.file_changes buckets.old ≡ changes_of files.now }
     requires for_keys { B.file_keys buckets.old ≡ keys_of files.now }
     ensures groups { IfOk result (λ groups. AreGroupsIn (corpus_of files.now) min file groups.items) }
@@ -131,7 +130,7 @@ pub fn list_file<B: Buckets, L: Ledger>(
 {
     let index = Changes::new(alloc, files)?;
     let keys = file_keys(alloc, files, file)?;
-    let groups = list_keys(alloc, chunk, &index, &keys, files, min, buckets, steps)?;
+    let groups = list_keys(alloc, settings, &index, &keys, files, min, buckets, steps)?;
     let groups = in_file(alloc, groups, file)?;
     order(groups)
 }

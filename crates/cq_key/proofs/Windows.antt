@@ -21,7 +21,7 @@ keys_short s (c ∷ codes) short =
     let test : nat_le s.chunk (length (c ∷ codes)) ≡ false = grind (arith, common_steps) in
     by_fail (nat_le s.chunk (length (c ∷ codes))) _ _ test
 
-keys_first : (s : Settings) (codes : List ℕ) → 1 ≤ s.chunk → s.chunk ≤ length codes → keys_of s codes ≡ key_of s (take s.chunk codes) ∷ keys_of s (drop 1 codes)
+pub keys_first : (s : Settings) (codes : List ℕ) → 1 ≤ s.chunk → s.chunk ≤ length codes → keys_of s codes ≡ key_of s (take s.chunk codes) ∷ keys_of s (drop 1 codes)
 keys_first s [] some long = absurd (omega (arith, some, long))
 keys_first s (c ∷ codes) some long =
     let test : nat_le s.chunk (length (c ∷ codes)) ≡ true = grind (arith, common_steps) in

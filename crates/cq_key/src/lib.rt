@@ -5,9 +5,11 @@
 
 mod code;
 mod keyer;
+mod laws;
 mod plain;
 
 pub use keyer::Keyer;
+pub use laws::files_are_keyed_by_their_windows;
 pub use plain::plain_key;
 
 #[cfg(test)]

@@ -1,19 +1,31 @@
 -- Marks of tokens, as more tokens are seen.
-use Rattle.std.proofs.Common.{◌≡◌, ◌≢◌, ℕ, zero, suc, ◌+◌, ◌<◌, List, [], ◌∷◌, ◌++◌, length, get_or, map, slice_get, Option, Some, IsSome, is_some, refl, sym, ap, ◌∙◌, subst, ⊎_elim, arith, length-append, true≢false}
+use Rattle.std.proofs.Common.{◌≡◌, ◌≢◌, ◌↔◌, ◌-◌, Bool, true, false, cond, None, append-nil, ℕ, zero, suc, ◌+◌, ◌<◌, List, [], ◌∷◌, ◌++◌, length, map, slice_get, Option, Some, IsSome, is_some, refl, sym, ap, ◌∙◌, subst, ⊎_elim, arith, length-append, true≢false}
 use Rattle.std.specs.Prelude.{AllPairs, Contains}
 use Rattle.std.proofs.lemmas.List.{length_push, map_push, get_or-map, length-map}
 use Rattle.std.proofs.lemmas.List.Elements.{Contains-push_cases}
 use Rattle.std.proofs.lemmas.List.Quantifiers.{all_pairs_push}
-use Rattle.std.proofs.lemmas.Option.{get_or_from_slice_get, slice_get_within}
+use Rattle.std.proofs.lemmas.Option.{get_or_from_slice_get, slice_get-get_or, slice_get_within, same_Some}
 use Rattle.std.proofs.lemmas.Bool.{cases_order, cases_lt}
+use Rattle.cq_clones.proofs.InOrder.{Contains-nil}
 use Rattle.cq_clones.specs.Groups.{token_ahead, AreSame}
-use Rattle.cq_refine.specs.Sets.{IsMark, Grows}
+use Rattle.cq_refine.specs.Sets.{AreMarksOf, IsMark, Grows}
 
 -- a loop has given these keys, each with the mark of its token
 pub record Marking {T K X : Type 0} (token : X → Option T) (key : X → K) (mark : X → ℕ) (seen : List T) (ks : List K) (xs : List X) : Type 0 where
   pub apart : AllPairs (λ a b. a ≢ b) seen
   pub keys : map key xs ≡ ks
   pub marks : (x : X) → Contains xs x → IsMark seen (token x) (mark x)
+
+-- none has a mark at first
+pub marks_none : {T Q : Type 0} (token : Q → T) (marks : Q → Option ℕ) → ((q : Q) → marks q ≡ None) → AreMarksOf token marks []
+marks_none token marks none q mark = (λ h. absurd (true≢false (sym (ap is_some (sym (none q) ∙ h)))), λ (some, here). absurd (true≢false (sym (ap is_some here))))
+
+pub marking_none : {T K X : Type 0} (token : X → Option T) (key : X → K) (mark : X → ℕ) → Marking token key mark [] [] []
+marking_none token key mark = record {
+  apart = λ i j d less within. absurd (omega (arith, within));
+  keys = refl;
+  marks = λ x c. absurd (Contains-nil x c);
+}
 
 slice_get-append_left : {T : Type 0} (xs ys : List T) (i : ℕ) → i < length xs → slice_get (xs ++ ys) i ≡ slice_get xs i
 slice_get-append_left [] ys i lt = absurd (omega arith)
@@ -71,39 +83,87 @@ marks_of_token seen t (suc i) (suc j) apart p q = (
   omega arith,
 )
 
--- a search that has not found the token yet
-pub not_so_far : {A B : Type 0} (f : A → B) (xs : List A) (i : ℕ) (x : A) (t : B) → i < length xs → x ≡ get_or xs i x → (f x ≡ t → ⊥) → ((k : ℕ) (d : B) → k < i → get_or (map f xs) k d ≢ t) → (k : ℕ) (d : B) → k < i + 1 → get_or (map f xs) k d ≢ t
-not_so_far f xs i x t lt read not_here before k d below =
-    ⊎_elim
-    (λ h. before k d h)
-    (λ ge.
-    let e : k ≡ i = omega arith in
-    λ is. not_here (ap f read ∙ sym (get_or-map f xs i x d lt) ∙ ap (λ n. get_or (map f xs) n d) (sym e) ∙ is))
-    (cases_lt k i)
+-- a token is at one place among different ones
+pub same_place : {T : Type 0} (seen : List T) (i j : ℕ) (t : T) → AllPairs (λ a b. a ≢ b) seen → slice_get seen i ≡ Some t → slice_get seen j ≡ Some t → i ≡ j
+same_place seen i j t apart a b =
+    ⊎_elim (λ h. h)
+    (λ other. ⊎_elim
+    (λ h. absurd (one_place seen i j t apart a b h))
+    (λ h. absurd (one_place seen j i t apart b a h)) other)
+    (cases_order i j)
+
+slice_get_end : {T : Type 0} (xs : List T) (x : T) → slice_get (xs ++ x ∷ []) (length xs) ≡ Some x
+slice_get_end [] x = refl
+slice_get_end (y ∷ xs) x = slice_get_end xs x
+
+-- a token that has a mark
+pub mark_found : {T : Type 0} (seen : List T) (t : T) (token : Option T) (mark : ℕ) → (0 < mark) × (slice_get seen (mark - 1) ≡ Some t) → token ≡ Some t → IsMark seen token mark
+mark_found seen t token zero (some, here) is = absurd (omega (arith, some))
+mark_found seen t token (suc i) (some, here) is =
+    let e : suc i - 1 ≡ i = omega arith in
+    let at : slice_get seen i ≡ Some t = subst (λ n. slice_get seen n ≡ Some t) e here in
+    record { within = slice_get_within seen i t at; names = at ∙ sym is }
+
+-- none has one
+pub no_mark : {T : Type 0} (seen : List T) (token : Option T) → token ≡ None → IsMark seen token 0
+no_mark seen token is = record { within = omega arith; names = sym is }
+
+pub grows_not : {T : Type 0} (seen : List T) → Grows seen seen
+grows_not seen = record { more = []; is = sym (append-nil seen) }
 
 -- a token that was not there is taken in
-pub apart_push : {A B : Type 0} (f : A → B) (xs ys : List A) (x : A) → ys ≡ xs ++ x ∷ [] → AllPairs (λ a b. a ≢ b) (map f xs) → ((k : ℕ) (d : B) → k < length xs → get_or (map f xs) k d ≢ f x) → AllPairs (λ a b. a ≢ b) (map f ys)
-apart_push {A} {B} f xs ys x is apart other =
-    let e : map f ys ≡ map f xs ++ f x ∷ [] = ap (map f) is ∙ map_push f xs x in
-    subst (AllPairs (λ (a b : B). a ≢ b)) (sym e)
-    (all_pairs_push (λ a b. a ≢ b) (map f xs) (f x) apart (λ k d lt. other k d (omega (arith, length-map xs f, lt))))
+module _ {T Q : Type 0} (token : Q → T) (old new : Q → Option ℕ) (seen : List T) (key : Q) (tie : Q → Bool) (ties : (q : Q) → (tie q ≡ true) ↔ (token key ≡ token q)) where
+  absent : AreMarksOf token old seen → old key ≡ None → (k : ℕ) → slice_get seen k ≡ Some (token key) → ⊥
+  absent are none k here =
+      let e : suc k - 1 ≡ k = omega arith in
+      let found : old key ≡ Some (suc k) = (are key (suc k)).1 (omega arith, subst (λ n. slice_get seen n ≡ Some (token key)) (sym e) here) in
+      true≢false (sym (ap is_some (sym none ∙ found)))
 
-pub mark_push : {A B : Type 0} (f : A → B) (xs ys : List A) (x : A) (token : Option B) (n : ℕ) → ys ≡ xs ++ x ∷ [] → token ≡ Some (f x) → n ≡ length ys → IsMark (map f ys) token n
-mark_push {A} {B} f xs ys x token n is token_is n_is =
-    let e : map f ys ≡ map f xs ++ f x ∷ [] = ap (map f) is ∙ map_push f xs x in
-    let size : n ≡ suc (length (map f xs)) = omega (arith, length-map xs f, length_push xs x, ap length is) in
-    subst (λ zs. IsMark zs token n) (sym e)
-    (subst (λ m. IsMark (map f xs ++ f x ∷ []) token m) (sym size) (record {
-      within = omega (arith, length_push (map f xs) (f x));
-      names = at_end (map f xs) (f x) ∙ sym token_is;
-    }))
-  where
-    at_end : {B : Type 0} (zs : List B) (z : B) → slice_get (zs ++ z ∷ []) (length zs) ≡ Some z
-    at_end [] z = refl
-    at_end (y ∷ zs) z = at_end zs z
+  pub apart_more : AllPairs (λ a b. a ≢ b) seen → AreMarksOf token old seen → old key ≡ None → AllPairs (λ a b. a ≢ b) (seen ++ token key ∷ [])
+  apart_more apart are none =
+      all_pairs_push (λ a b. a ≢ b) seen (token key) apart
+      (λ k d lt is. absent are none k (slice_get-get_or seen k d lt ∙ ap Some is))
 
-pub mark_there : {T : Type 0} (seen : List T) (t : T) (token : Option T) (i : ℕ) → slice_get seen i ≡ Some t → token ≡ Some t → IsMark seen token (suc i)
-mark_there seen t token i here is = record { within = slice_get_within seen i t here; names = here ∙ sym is }
+  pub marks_more : (mark : ℕ) → mark ≡ length seen + 1 → AllPairs (λ a b. a ≢ b) seen → AreMarksOf token old seen → old key ≡ None → ((q : Q) → new q ≡ cond (tie q) (Some mark) (old q)) → AreMarksOf token new (seen ++ token key ∷ [])
+  marks_more mark is apart are none updates q n = by (tie q) refl
+    where
+      longer : List T
+      longer = seen ++ token key ∷ []
+
+      last : slice_get longer (mark - 1) ≡ Some (token key)
+      last = ap (slice_get longer) (omega (arith, is)) ∙ slice_get_end seen (token key)
+
+      size : length longer ≡ length seen + 1
+      size = length_push seen (token key)
+
+      by : (b : Bool) → tie q ≡ b → (new q ≡ Some n) ↔ ((0 < n) × (slice_get longer (n - 1) ≡ Some (token q)))
+      by true at =
+          let same : token key ≡ token q = (ties q).0 at in
+          let now : new q ≡ Some mark = updates q ∙ ap (λ b. cond b (Some mark) (old q)) at in (
+            λ h. let e : mark ≡ n = same_Some mark n (sym now ∙ h) in (omega (arith, e, is), ap (λ k. slice_get longer (k - 1)) (sym e) ∙ last ∙ ap Some same),
+            λ (some, here).
+                let e : mark - 1 ≡ n - 1 = same_place longer (mark - 1) (n - 1) (token q) (apart_more apart are none) (last ∙ ap Some same) here in
+                now ∙ ap Some (omega (arith, e, some, is)),
+          )
+      by false at =
+          let now : new q ≡ old q = updates q ∙ ap (λ b. cond b (Some mark) (old q)) at in (
+            λ h. let p = (are q n).0 (sym now ∙ h) in (p.0, slice_get-append_left seen (token key ∷ []) (n - 1) (slice_get_within seen (n - 1) (token q) p.1) ∙ p.1),
+            λ (some, here). now ∙ (are q n).1 (
+              some,
+              ⊎_elim
+                  (λ lt. sym (slice_get-append_left seen (token key ∷ []) (n - 1) lt) ∙ here)
+                  (λ ge.
+                  let within : n - 1 < length longer = slice_get_within longer (n - 1) (token q) here in
+                  let e : n - 1 ≡ length seen = omega (arith, ge, within, size) in
+                  let same : token key ≡ token q = same_Some _ _ (sym (ap (slice_get longer) e ∙ slice_get_end seen (token key)) ∙ here) in
+                  absurd (true≢false (sym ((ties q).1 same) ∙ at)))
+                  (cases_lt (n - 1) (length seen)),
+            ),
+          )
+
+pub mark_new : {T : Type 0} (seen : List T) (t : T) (token : Option T) (mark : ℕ) → mark ≡ length seen + 1 → token ≡ Some t → IsMark (seen ++ t ∷ []) token mark
+mark_new seen t token mark is token_is =
+    mark_found (seen ++ t ∷ []) t token mark (omega (arith, is), ap (slice_get (seen ++ t ∷ [])) (omega (arith, is)) ∙ slice_get_end seen t) token_is
 
 pub Contains-map : {A B : Type 0} (f : A → B) (xs : List A) (x : A) → Contains xs x → Contains (map f xs) (f x)
 Contains-map f xs x (k, within, is) = (k, omega (arith, length-map xs f, within), get_or-map f xs k x (f x) within ∙ ap f is)

@@ -1,6 +1,11 @@
 -- The parts of a set, as they are added.
-use Rattle.std.proofs.Common.{◌≡◌, ℕ, ◌+◌, ◌<◌, ◌≤◌, List, [], ◌∷◌, ◌++◌, length, sym, ap, ◌∙◌, subst, ⊎_elim, arith, append_assoc, append-nil, true, false, eqb}
+use Rattle.std.proofs.Common.{Global, Vec, ◌≡◌, ℕ, suc, ◌+◌, ◌-◌, ◌<◌, ◌≤◌, Bool, cond, List, [], ◌∷◌, ◌++◌, length, map, take, get_or, set, refl, sym, ap, ◌∙◌, subst, ⊎_elim, arith, append_assoc, append-nil, length-set, true, false, eqb}
 use Rattle.std.specs.Prelude.{Contains, Any, filter, nat_le}
+use Rattle.std.proofs.lemmas.List.{length_push, take_more, map-append, get_or-map, get_or_append_left, get_or-set_same, get_or-set_other}
+use Rattle.std.proofs.lemmas.List.Elements.{filter-append}
+use Rattle.std.proofs.lemmas.Bool.{cases_eq}
+use Rattle.std.proofs.Math.Seq.{get_or-append_seam}
+use Rattle.cq_refine.specs.declared.spots.Spot.{Spot}
 use Rattle.std.proofs.lemmas.List.Quantifiers.{all_pairs_push}
 use Rattle.std.proofs.lemmas.List.Elements.{Contains-get_or}
 use Rattle.std.proofs.lemmas.Bool.{cases_lt, cases_order, le-leb, lt-leb, eq-eqb, ne_eqb}
@@ -9,7 +14,7 @@ use Rattle.std.proofs.lemmas.List.Sums.{sum_by_push}
 use Rattle.cq_clones.proofs.InOrder.{Contains-nil}
 use Rattle.cq_refine.specs.declared.spots.Marked.{Marked}
 use Rattle.cq_refine.specs.declared.spots.Set.{Set}
-use Rattle.cq_refine.specs.Sets.{part_of, IsPart, ArePartsOf, AddsParts}
+use Rattle.cq_refine.specs.Sets.{part_of, AreByMark, IsPart, ArePartsOf, AddsParts}
 
 -- the marks up to m, and those that are m + 1
 count_more : (m : ℕ) (marked : List Marked) → length (filter (λ x. nat_le x.mark m) marked) + length (part_of (m + 1) marked) ≤ length (filter (λ x. nat_le x.mark (m + 1)) marked)
@@ -35,6 +40,91 @@ count_more m (x ∷ xs) =
     rw (a, b, c) (omega arith))
     other)
     (cases_order x.mark (m + 1))
+
+-- ---- the spots of each mark
+
+take_more_is : (xs : List Marked) (i : ℕ) (x : Marked) → i < length xs → x ≡ get_or xs i x → take (i + 1) xs ≡ take i xs ++ x ∷ []
+take_more_is xs i x lt read = take_more xs i x lt ∙ ap (λ (y : Marked). take i xs ++ y ∷ []) (sym read)
+
+part_push : (m : ℕ) (xs : List Marked) (x : Marked) → part_of m (xs ++ x ∷ []) ≡ cond (eqb x.mark m) (part_of m xs ++ x.spot ∷ []) (part_of m xs)
+part_push m xs x =
+    ap (map (λ (z : Marked). z.spot)) (filter-append (λ (z : Marked). eqb z.mark m) xs (x ∷ []))
+    ∙ map-append (λ (z : Marked). z.spot) (filter (λ (z : Marked). eqb z.mark m) xs) (filter (λ (z : Marked). eqb z.mark m) (x ∷ []))
+    ∙ by (eqb x.mark m)
+  where
+    by : (b : Bool) → part_of m xs ++ map (λ (z : Marked). z.spot) (cond b (x ∷ []) []) ≡ cond b (part_of m xs ++ x.spot ∷ []) (part_of m xs)
+    by true = refl
+    by false = append-nil (part_of m xs)
+
+pub part_read : (parts : List (Vec Spot Global)) (i : ℕ) (part : Vec Spot Global) → i < length parts → part ≡ get_or parts i part → part.items ≡ get_or (map (λ p. p.items) parts) i []
+part_read parts i part within read = ap (λ p. p.items) read ∙ sym (get_or-map (λ p. p.items) parts i part [] within)
+
+-- one more mark, of no spot
+pub by_mark_none : (n : ℕ) (parts more : List (List Spot)) → more ≡ parts ++ [] ∷ [] → AreByMark n [] parts → AreByMark (n + 1) [] more
+by_mark_none n parts more is are = record {
+  number = ap length is ∙ length_push parts [] ∙ ap (λ k. k + 1) are.number;
+  each = λ m d lt. ap (λ ps. get_or ps m d) is ∙ ⊎_elim
+      (λ below. get_or_append_left parts ([] ∷ []) d m (omega (arith, below, are.number)) ∙ are.each m d below)
+      (λ above. let e : m ≡ length parts = omega (arith, above, lt, are.number) in ap (λ k. get_or (parts ++ [] ∷ []) k d) e ∙ get_or-append_seam parts [] [] d)
+      (cases_lt m n);
+}
+
+-- a spot comes to the part of its mark
+pub by_mark_more : (n i : ℕ) (marked : List Marked) (x : Marked) (parts more : List (List Spot)) → i < length marked → x ≡ get_or marked i x → 0 < x.mark → x.mark ≤ n → more ≡ set parts (x.mark - 1) (get_or parts (x.mark - 1) [] ++ x.spot ∷ []) → AreByMark n (take i marked) parts → AreByMark n (take (i + 1) marked) more
+by_mark_more n i marked x parts more lt read some low is are = record {
+  number = ap length is ∙ length-set parts (x.mark - 1) _ ∙ are.number;
+  each = λ m d within. ap (λ ps. get_or ps m d) is ∙ ⊎_elim
+      (λ same.
+      let e : x.mark ≡ m + 1 = omega (arith, same, some) in
+      let here : m < length parts = omega (arith, within, are.number) in
+      ap (λ k. get_or (set parts k (get_or parts k [] ++ x.spot ∷ [])) m d) (sym same)
+      ∙ get_or-set_same parts m _ d here
+      ∙ ap (λ ss. ss ++ x.spot ∷ []) (are.each m [] within)
+      ∙ ap (λ b. cond b (part_of (m + 1) (take i marked) ++ x.spot ∷ []) (part_of (m + 1) (take i marked))) (sym (eq-eqb x.mark (m + 1) e))
+      ∙ sym (part_push (m + 1) (take i marked) x)
+      ∙ ap (part_of (m + 1)) (sym (take_more_is marked i x lt read)))
+      (λ other.
+      let apart : eqb x.mark (m + 1) ≡ false = ne_eqb x.mark (m + 1) (λ e. other (omega (arith, e))) in
+      get_or-set_other parts (x.mark - 1) m _ d other
+      ∙ are.each m d within
+      ∙ ap (λ b. cond b (part_of (m + 1) (take i marked) ++ x.spot ∷ []) (part_of (m + 1) (take i marked))) (sym apart)
+      ∙ sym (part_push (m + 1) (take i marked) x)
+      ∙ ap (part_of (m + 1)) (sym (take_more_is marked i x lt read)))
+      (cases_eq m (x.mark - 1));
+}
+
+-- a spot of no mark comes to none
+pub by_mark_same : (n i : ℕ) (marked : List Marked) (x : Marked) (parts : List (List Spot)) → i < length marked → x ≡ get_or marked i x → x.mark ≡ 0 → AreByMark n (take i marked) parts → AreByMark n (take (i + 1) marked) parts
+by_mark_same n i marked x parts lt read none are = record {
+  number = are.number;
+  each = λ m d within.
+      let apart : eqb x.mark (m + 1) ≡ false = ne_eqb x.mark (m + 1) (λ e. omega (arith, e, none)) in
+      are.each m d within
+      ∙ ap (λ b. cond b (part_of (m + 1) (take i marked) ++ x.spot ∷ []) (part_of (m + 1) (take i marked))) (sym apart)
+      ∙ sym (part_push (m + 1) (take i marked) x)
+      ∙ ap (part_of (m + 1)) (sym (take_more_is marked i x lt read));
+}
+
+-- the parts of the marks above m are left
+pub record AreLeft (m highest : ℕ) (marked : List Marked) (rest : List (List Spot)) : Type 0 where
+  pub number : m + length rest ≡ highest
+  pub each : (k : ℕ) (d : List Spot) → k < length rest → get_or rest k d ≡ part_of (m + k + 1) marked
+
+pub left_first : (highest : ℕ) (marked : List Marked) (parts : List (List Spot)) → AreByMark highest marked parts → AreLeft 0 highest marked parts
+left_first highest marked parts are = record { number = omega (arith, are.number); each = λ k d lt. are.each k d (omega (arith, lt, are.number)) ∙ ap (λ n. part_of n marked) (omega arith) }
+
+pub left_next : (m highest : ℕ) (marked : List Marked) (part : List Spot) (rest : List (List Spot)) → AreLeft m highest marked (part ∷ rest) → (part ≡ part_of (m + 1) marked) × AreLeft (m + 1) highest marked rest
+left_next m highest marked part rest left = (
+  left.each 0 part (omega arith) ∙ ap (λ k. part_of k marked) (omega arith),
+  record {
+    number = omega (arith, left.number);
+    each = λ k d lt. left.each (suc k) d (omega (arith, lt)) ∙ ap (λ n. part_of n marked) (omega arith);
+  },
+)
+
+-- at the end none are
+pub left_none : (m highest : ℕ) (marked : List Marked) → AreLeft m highest marked [] → m ≡ highest
+left_none m highest marked left = omega (arith, left.number)
 
 pub no_parts : (depth : ℕ) (marked : List Marked) (old : List Set) → AddsParts depth marked 0 old old
 no_parts depth marked old = record {

@@ -1,5 +1,9 @@
 -- Sets of places that share their first tokens.
-use Rattle.std.specs.Prelude.{◌≡◌, ◌≢◌, ◌⊎◌, ℕ, ◌+◌, ◌<◌, ◌≤◌, List, ◌∷◌, [], ◌++◌, length, Option, All, AllPairs, Contains, Any, sum_by, map, filter, ◌==◌, nat_le}
+use Rattle.std.specs.Prelude.{◌≡◌, ◌≢◌, ◌⊎◌, ◌↔◌, ℕ, ◌+◌, ◌-◌, ◌<◌, ◌≤◌, List, slice_get, slice_index_or, Some, ◌∷◌, [], ◌++◌, length, Option, All, AllPairs, Contains, Any, sum_by, map, filter, ◌==◌, nat_le}
+use Rattle.std.specs.BTreeMap.{BTreeMap, get, btree_map_len}
+use Rattle.cq_base.specs.declared.norm.Norm.{Norm}
+use Rattle.cq_tokens.specs.declared.seen.Seen.{Seen}
+use Rattle.cq_tokens.specs.Packed.{norm_in, seen_cmp}
 use Rattle.cq_base.specs.declared.group.Place.{Place}
 use Rattle.cq_base.specs.declared.group.Group.{Group}
 use Rattle.cq_clones.specs.Lists.{AreAllInOrder}
@@ -13,10 +17,26 @@ pub record IsMark {T : Type 0} (seen : List T) (token : Option T) (mark : ℕ) :
   pub within : mark ≤ length seen
   pub names : token_ahead seen mark ≡ token
 
+abbrev pub AreMarksOf : {T Q : Type 0} → (Q → T) → (Q → Option ℕ) → List T → Type 0
+AreMarksOf token marks seen = (q : _) (mark : ℕ) → (marks q ≡ Some mark) ↔ ((0 < mark) × (slice_get seen (mark - 1) ≡ Some (token q)))
+
+-- each token of the list has its position there, from 1 on, as its mark, and no other token has a mark
+pub record AreMarks (marks : BTreeMap Seen ℕ) (seen : List Norm) : Type 0 where
+  pub size : btree_map_len marks ≡ length seen
+  pub apart : AllPairs (λ a b. a ≢ b) seen
+  pub each : AreMarksOf norm_in (get seen_cmp marks) seen
+
 -- the new list is the old one with more elements behind it
 pub record Grows {T : Type 0} (old new : List T) : Type 0 where
   pub more : List T
   pub is : new ≡ old ++ more
+
+-- the mark is that of the token, which is among those seen before or is behind them now
+pub record IsMarked (seen : List Norm) (marks : BTreeMap Seen ℕ) (token : Option Norm) (mark : ℕ) : Type 0 where
+  pub tokens : List Norm
+  pub grows : Grows seen tokens
+  pub are : AreMarks marks tokens
+  pub is : IsMark tokens token mark
 
 abbrev pub IsSpotBefore : Spot → Spot → Type 0
 IsSpotBefore s t = IsBefore s.place t.place
@@ -58,6 +78,11 @@ IsGroupFrom corpus least places group = IsGroup corpus least group × Contains p
 -- the spots with one mark
 abbrev pub part_of : ℕ → List Marked → List Spot
 part_of mark marked = map (λ x. x.spot) (filter (λ x. x.mark == mark) marked)
+
+-- the spots of each mark from 1 to the highest
+pub record AreByMark (highest : ℕ) (marked : List Marked) (parts : List (List Spot)) : Type 0 where
+  pub number : length parts ≡ highest
+  pub each : (m : ℕ) (d : List Spot) → m < highest → slice_index_or parts m d ≡ part_of (m + 1) marked
 
 -- the spots of one mark, two or more
 pub record IsPart (depth : ℕ) (marked : List Marked) (highest : ℕ) (s : Set) : Type 0 where

@@ -4,44 +4,32 @@ ghost use Rattle.cq_refine.specs.declared.spots.Marked.{Marked};
 ghost use Rattle.cq_clones.specs.Groups.{IsPlace, token_before, token_behind};
 ghost use Rattle.cq_tokens.specs.Corpus.{corpus_of};
 ghost use Rattle.cq_tokens.specs.Packed.{norm_in};
-ghost use Rattle.cq_refine.specs.Sets.{IsMark, Grows, AreSpots, AreMarked};
+ghost use Rattle.cq_refine.specs.Sets.{AreMarks, IsMarked, AreSpots, AreMarked};
 
 use crate::spots::{Marked, Spot};
 use cq_base::{Memory, Place, Steps};
-use cq_tokens::{FileTokens, Seen};
+use cq_tokens::{FileTokens, Seen, equal_tokens_tie};
 use std::alloc::Global;
+use std::collections::BTreeMap;
 use std::sync::ledger::Ledger;
 
-/// The position of a token among others, if it is there.
-fn position_of(seen: &[Seen], token: &Seen) -> Option<usize>
-    ensures found { IfSome result (λ i. slice_get (map norm_in seen.now) i ≡ Some (norm_in token.now)) }
-    ensures none { IfNone result ((k : ℕ) (d : Norm) → k < length seen.now → slice_index_or (map norm_in seen.now) k d ≢ norm_in token.now) }
+/// The mark of a token, which is a new one where the token is new. It costs two searches among the different tokens.
+fn mark_of<'a>(
+    marks: &mut BTreeMap<Seen<'a>, usize>,
+    token: Option<Seen<'a>>,
+) -> Result<usize, Memory>
+    ensures { (seen : List Norm) → AreMarks marks.old seen → IfOk result (IsMarked seen marks.new (option_map norm_in token.entry)) }
 {
-    for (i, t) in seen.iter().enumerate() {
-        if t.is_same(token) {
-            return Some(i);
-        }
-    }
-    None
-}
-
-/// The mark of a token among different ones, which takes in a new one at the end.
-fn mark_of<'a>(seen: &mut Vec<Seen<'a>>, token: Option<Seen<'a>>) -> Result<usize, Memory>
-    requires apart { AllPairs (λ a b. a ≢ b) (map norm_in seen.old.items) }
-    ensures apart { AllPairs (λ a b. a ≢ b) (map norm_in seen.new.items) }
-    ensures grows { Grows (map norm_in seen.old.items) (map norm_in seen.new.items) }
-    ensures mark { IfOk result (λ mark. IsMark (map norm_in seen.new.items) (option_map norm_in token.entry) mark) }
-{
-    let Some(norm) = token else {
+    equal_tokens_tie();
+    let Some(seen) = token else {
         return Ok(0);
     };
-    match position_of(seen, &norm) {
-        Some(i) => Ok(i + 1),
-        None => {
-            seen.push(norm)?;
-            Ok(seen.len())
-        }
+    if let Some(mark) = marks.get(&seen) {
+        return Ok(*mark);
     }
+    let mark = marks.len() + 1;
+    marks.insert(seen, mark)?;
+    Ok(mark)
 }
 
 /// The token `n` behind a place, if there is one.
@@ -93,11 +81,11 @@ pub(crate) fn spots_of<L: Ledger>(
     ensures marks { IfOk result (λ spots. AreSpots (corpus_of files.now) spots.items) }
     ensures steps { steps.new ≤ steps.old + length places.now }
 {
-    let mut seen = Vec::new(alloc);
+    let mut marks = BTreeMap::new(alloc);
     let mut spots = Vec::new(alloc);
     for p in places {
         let token = token_before(files, *p, steps);
-        let left = mark_of(&mut seen, token)?;
+        let left = mark_of(&mut marks, token)?;
         spots.push(Spot { place: *p, left })?;
     }
     Ok(spots)
@@ -117,11 +105,11 @@ pub(crate) fn marked_of<L: Ledger>(
     ensures fits { IfOk result (λ marked. (x : Marked) → Contains marked.items x → 0 < x.mark → n + 1 < 2 ^ 32) }
     ensures steps { steps.new ≤ steps.old + length spots.now }
 {
-    let mut seen = Vec::new(alloc);
+    let mut marks = BTreeMap::new(alloc);
     let mut marked = Vec::new(alloc);
     for s in spots {
         let token = token_behind(files, s.place, n, steps);
-        let mark = mark_of(&mut seen, token)?;
+        let mark = mark_of(&mut marks, token)?;
         marked.push(Marked { spot: *s, mark })?;
     }
     Ok(marked)

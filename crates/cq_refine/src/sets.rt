@@ -1,5 +1,5 @@
 ghost use Rattle.std.specs.Prelude.{◌≡◌, ◌<◌, ◌≤◌, ◌↔◌, ◌⊎◌, IsTrue, IfOk, OnOk, length, map, All, Any};
-ghost use Rattle.cq_refine.specs.Sets.{part_of, AddsParts, group_of, HaveOneLeft, HaveOneMark, IsChosen, AddsGroup};
+ghost use Rattle.cq_refine.specs.Sets.{AreByMark, AddsParts, group_of, HaveOneLeft, HaveOneMark, IsChosen, AddsGroup};
 
 use crate::spots::{Marked, Set, Spot};
 use cq_base::{Group, Memory, Place, Places};
@@ -34,6 +34,13 @@ fn have_one_mark(marked: &[Marked]) -> bool
     ensures { IsTrue result ↔ HaveOneMark marked.now }
 {
     have_mark(marked, marked[0].mark)
+}
+
+/// Whether they are two or more.
+pub(crate) fn are_several(spots: &[Spot]) -> bool
+    ensures { IsTrue result ↔ (2 ≤ length spots.now) }
+{
+    spots.len() > 1
 }
 
 /// The places of the spots.
@@ -72,18 +79,6 @@ pub(crate) fn add_group(
     Ok(())
 }
 
-/// The spots with one mark.
-pub(crate) fn part(alloc: Global, marked: &[Marked], mark: usize) -> Result<Vec<Spot>, Memory>
-    ensures { IfOk result (λ spots. spots.items ≡ part_of mark marked.now) }
-{
-    let spots = marked
-        .iter()
-        .filter(|x| x.mark == mark)
-        .map(|x| x.spot)
-        .collect(alloc)?;
-    Ok(spots)
-}
-
 /// The highest of the marks, or 0.
 pub(crate) fn highest(marked: &[Marked]) -> usize
     ensures all { All (λ x. x.mark ≤ result) marked.now }
@@ -96,6 +91,23 @@ pub(crate) fn highest(marked: &[Marked]) -> usize
     most
 }
 
+/// The spots of each mark, from 1 to the highest. It looks at each spot once.
+fn parts_of(alloc: Global, marked: &[Marked], highest: usize) -> Result<Vec<Vec<Spot>>, Memory>
+    requires { All (λ x. x.mark ≤ highest) marked.now }
+    ensures { IfOk result (λ parts. AreByMark highest marked.now (map (λ part. part.items) parts.items)) }
+{
+    let mut parts = Vec::with_capacity(alloc, highest)?;
+    for _mark in 0..highest {
+        parts.push(Vec::new(alloc))?;
+    }
+    for x in marked {
+        if x.mark > 0 {
+            parts[x.mark - 1].push(x.spot)?;
+        }
+    }
+    Ok(parts)
+}
+
 /// Adds the parts with marks up to the highest that have two or more spots.
 pub(crate) fn push_parts(
     alloc: Global,
@@ -104,11 +116,12 @@ pub(crate) fn push_parts(
     depth: u32,
     sets: &mut Vec<Set>,
 ) -> Result<(), Memory>
+    requires { All (λ x. x.mark ≤ highest) marked.now }
     ensures { OnOk result (AddsParts depth marked.now highest sets.old.items sets.new.items) }
 {
-    for below in 0..highest {
-        let spots = part(alloc, marked, below + 1)?;
-        if spots.len() > 1 {
+    let parts = parts_of(alloc, marked, highest)?;
+    for spots in parts {
+        if are_several(&spots) {
             sets.push(Set { depth, spots })?;
         }
     }

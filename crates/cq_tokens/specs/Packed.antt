@@ -3,10 +3,16 @@ use Rattle.std.specs.Prelude.{ℕ, zero, suc, ◌-◌, ◌≤◌, List, [], ◌�
 use Rattle.cq_base.specs.declared.norm.Norm.{Norm}
 use Rattle.cq_tokens.specs.declared.seen.Seen.{Seen}
 use Rattle.cq_tokens.specs.declared.packed.Mark.{Mark}
+use Rattle.std.specs.declared.cmp.Ordering.{Ordering}
+use Rattle.cq_tokens.specs.contracts.seen.SeenOrd.TheImpl as seen_order
 
 -- the token that is seen
 abbrev pub norm_in : Seen → Norm
 norm_in s = record { lang = s.lang; class = s.class; text = s.text.now }
+
+-- the order of tokens, as it is derived: by language, class and text
+abbrev pub seen_cmp : Seen → Seen → Ordering
+seen_cmp = seen_order.ghosts.cmp
 
 -- the bytes from one place to another
 abbrev pub bytes_between : ℕ → ℕ → List ℕ → List ℕ

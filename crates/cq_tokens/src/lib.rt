@@ -4,11 +4,13 @@
 #![tactic(auto)]
 
 mod files;
+mod laws;
 mod packed;
 mod seen;
 mod tokens;
 
 pub use files::FileTokens;
+pub use laws::equal_tokens_tie;
 pub use seen::Seen;
 pub use tokens::Tokens;
 

@@ -4,7 +4,7 @@ ghost use Rattle.cq_tokens.specs.Packed.{norm_in};
 use cq_base::{Class, Lang};
 
 /// A token as it lies among the others of its file. Its text is lent.
-#[derive(Clone, Copy)]
+#[derive(Clone, Copy, PartialEq, Eq, PartialOrd, Ord)]
 pub struct Seen<'a> {
     pub lang: Lang,
     pub class: Class,

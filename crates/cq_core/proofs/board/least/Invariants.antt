@@ -1,5 +1,5 @@
 use Rattle.std.proofs.Common.{◌≡◌, drop, fold}
-use Rattle.cq_core.specs.Boards.{lower}
+use Rattle.cq_core.specs.Answers.{lower}
 use Rattle.cq_core.proofs.board.least.Given as goal
 
 -- the views that are left lower it to the end

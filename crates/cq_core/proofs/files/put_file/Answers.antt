@@ -1,13 +1,24 @@
-use Rattle.std.proofs.Common.{List, map, ap, ◌∙◌}
-use Rattle.std.specs.List.{insert}
-use Rattle.cq_history.specs.Files.{File, place_of}
-use Rattle.cq_core.specs.Listings.{file_from}
-use Rattle.cq_core.proofs.FileLists.{insert-map}
+use Rattle.std.proofs.Common.{List, map, ap, refl, subst₂, ◌∙◌}
+use Rattle.std.specs.Arc.{arc_value}
+use Rattle.cq_core.specs.declared.held.Held.{Held}
+use Rattle.cq_core.specs.Listings.{file_from, path_in}
+use Rattle.cq_core.specs.Ordered.{IsAt, IsGap}
+use Rattle.cq_core.proofs.Putting.{replaced_at, number_at_index, inserted_at, no_number_at}
 use Rattle.cq_core.proofs.files.put_file.Goals as goal
 
-pub returns : goal.returns
-returns g c =
-    let at = c.place-at.ensures.place ∙ ap (λ hs. place_of c.args.held.path (map (file_from {W = g.row.W.Denot}) hs)) c.deref.ensures.value in
-    ap (map file_from) c.in_ok-insert.ensures.items ∙ insert-map file_from c.remove_file.new.files.items c.place-at.result c.args.held
-    ∙ ap (λ n. insert (map file_from c.remove_file.new.files.items) n (file_from c.args.held)) at
-    ∙ ap (λ (fs : List (File g.row.W.Denot)). insert fs (place_of c.args.held.path fs) (file_from c.args.held)) c.remove_file.ensures
+pub returns-in-Ok-clause-files : goal.returns-in-Ok-clause-files
+returns-in-Ok-clause-files g c =
+    replaced_at c.args.files.now.items (arc_value c.args.held.path) c.in-Ok.i (subst₂ (λ p (hs : List (Held g.row.W.Denot)). IsAt path_in p hs c.in-Ok.i) c.deref-2.ensures c.deref.ensures.value c.in-Ok.ensures.found) c.args.held refl
+
+pub returns-in-Ok-clause-number : goal.returns-in-Ok-clause-number
+returns-in-Ok-clause-number g c =
+    number_at_index c.args.files.now.items (arc_value c.args.held.path) c.in-Ok.i (subst₂ (λ p (hs : List (Held g.row.W.Denot)). IsAt path_in p hs c.in-Ok.i) c.deref-2.ensures c.deref.ensures.value c.in-Ok.ensures.found) c.index.result.now c.index.ensures
+
+pub returns-in_ok-insert-in-Err-clause-files : goal.returns-in_ok-insert-in-Err-clause-files
+returns-in_ok-insert-in-Err-clause-files g c =
+    ap (map (file_from {W = g.row.W.Denot})) c.in_ok-insert-in-Err.ensures.items
+    ∙ inserted_at c.args.files.now.items (arc_value c.args.held.path) c.in-Err.i (subst₂ (λ p (hs : List (Held g.row.W.Denot)). IsGap path_in p hs c.in-Err.i) c.deref-2.ensures c.deref.ensures.value c.in-Err.ensures.gap) c.args.held refl
+
+pub returns-in_ok-insert-in-Err-clause-number : goal.returns-in_ok-insert-in-Err-clause-number
+returns-in_ok-insert-in-Err-clause-number g c =
+    no_number_at c.args.files.now.items (arc_value c.args.held.path) c.in-Err.i (subst₂ (λ p (hs : List (Held g.row.W.Denot)). IsGap path_in p hs c.in-Err.i) c.deref-2.ensures c.deref.ensures.value c.in-Err.ensures.gap)

@@ -25,3 +25,6 @@ returns-clause-first g c =
     let end : length c.args.slots.now ≤ c.loop-i.i = omega (arith, c.loop-i-test.false) in
     sym (position_or_len_is is_free slots (length c.args.slots.now) no_slot (omega (arith, same))
     (λ k lt. c.loop-i.invariant k (omega (arith, lt, end))) (λ past. absurd (omega (arith, same, past))))
+
+pub loop-i-init : goal.loop-i-init
+loop-i-init g c k lt = c.requires.none k no_slot lt

@@ -19,7 +19,7 @@ returns-in_err-groups-clause-bound g c = λ longest windows is are.
 pub returns-clause-groups : goal.returns-clause-groups
 returns-clause-groups g c =
     IfOk-weaker c.order.result _ _
-    (λ sorted order. all_groups c.args.chunk c.args.min (corpus_of c.args.files.now) (keys_of c.args.files.now) c.deref.result.now c.in_ok-groups.groups.items sorted.items c.requires.some c.requires.long c.requires.keyed
+    (λ sorted order. all_groups c.args.settings.now.chunk c.args.min (corpus_of c.args.files.now) (keys_of c.args.files.now) c.deref.result.now c.in_ok-groups.groups.items sorted.items c.requires.some c.requires.long c.requires.keyed
     (subst (λ (zs : List ℕ). AreAllRising (IsKey (keys_of c.args.files.now)) zs) (sym c.deref.ensures.value) c.in_ok-keys.ensures)
     c.in_ok-groups.ensures.groups order)
     c.order.ensures

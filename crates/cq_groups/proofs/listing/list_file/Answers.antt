@@ -29,7 +29,7 @@ returns-clause-groups g c =
     let filtered : kept ≡ filter test found = c.in_ok-groups-2.ensures in
     let once = once_filtered (IsGroupOfKeys corpus keys c.args.min c.deref.result.now) (λ z. Any (λ p. p.file ≡ c.args.file) z.places) test found (λ z. has_file-says c.args.file z.places) c.in_ok-groups.ensures.groups in
     IfOk-weaker c.order.result _ _
-    (λ sorted order. file_groups c.args.chunk c.args.min c.args.file corpus keys c.deref.result.now found kept sorted.items c.requires.some c.requires.long c.requires.keyed
+    (λ sorted order. file_groups c.args.settings.now.chunk c.args.min c.args.file corpus keys c.deref.result.now found kept sorted.items c.requires.some c.requires.long c.requires.keyed
     (subst (λ (zs : List ℕ). AreAllRising (IsKeyIn keys c.args.file) zs) (sym c.deref.ensures.value) c.in_ok-keys.ensures)
     c.in_ok-groups.ensures.groups
     (subst (λ (gs : List Group). AreAllOnce (λ z. IsGroupOfKeys corpus keys c.args.min c.deref.result.now z × Any (λ p. p.file ≡ c.args.file) z.places) gs) (sym filtered) once) order)

@@ -43,7 +43,7 @@ returns g c =
     let old = c.loop-entry.places.items in
     let all : ArePlacesOf changes bucket old = subst (λ es. ArePlacesOf changes es old) (take_all c.loop-entry.entry-index bucket c.loop-entry-test.false) c.loop-entry.invariant.0 in
     record {
-      places = λ key is. places_sorted (HasKey (keys_of c.args.files.now) key) old c.sort_places.new.places.items
-          (places_all changes (keys_of c.args.files.now) key bucket old (sizes_of c.args.files.now) c.requires.apart is all) c.sort_places.ensures;
-      size = omega (arith, length_permutation old c.sort_places.new.places.items c.sort_places.ensures.permutation, c.loop-entry.invariant.1, c.loop-entry.auto.entry-index-end);
+      places = λ key is. places_sorted (HasKey (keys_of c.args.files.now) key) old c.in_order.result.items
+          (places_all changes (keys_of c.args.files.now) key bucket old (sizes_of c.args.files.now) c.requires.apart is all) c.in_order.ensures;
+      size = omega (arith, length_permutation old c.in_order.result.items c.in_order.ensures.permutation, c.loop-entry.invariant.1, c.loop-entry.auto.entry-index-end);
     }

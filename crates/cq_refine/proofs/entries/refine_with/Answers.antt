@@ -16,7 +16,7 @@ pub refine_places-requires-clause-entries : goal.refine_places-requires-clause-e
 refine_places-requires-clause-entries g c =
     let (key, is) = c.requires.bucket in
     let are = subst (λ (ps : List Place). AreAllInOrder IsBefore (HasKey (keys_of c.args.files.now) key) ps) (sym c.deref.ensures.value) (c.in_ok-places.ensures.places key is) in
-    key_entries c.args.chunk c.args.min key (corpus_of c.args.files.now) (keys_of c.args.files.now) c.deref.result.now c.requires.some c.requires.long c.requires.keyed are
+    key_entries c.args.settings.now.chunk c.args.min key (corpus_of c.args.files.now) (keys_of c.args.files.now) c.deref.result.now c.requires.some c.requires.long c.requires.keyed are
 
 pub returns : goal.returns
 returns g c = record {

@@ -1,16 +1,27 @@
-use Rattle.std.proofs.Common.{◌<◌, ◌≤◌, ◌∙◌, length, sym, ap, arith}
-use Rattle.cq_core.specs.Listings.{position_of}
-use Rattle.cq_core.proofs.ProjectLists.{files_at-position, no_conditions}
+use Rattle.std.proofs.Common.{List, [], Global, ap, sym, subst, ◌∙◌}
+use Rattle.std.specs.Prelude.{option_map, unwrap_or}
+use Rattle.std.specs.Arc.{arc_value}
+use Rattle.std.specs.declared.sync.Arc.{Arc}
+use Rattle.cq_core.specs.declared.held.Project.{Project}
+use Rattle.cq_core.specs.Listings.{Listed, owner_name, gate_of, conditions_in}
+use Rattle.cq_core.specs.Ordered.{IsAt, IsGap}
+use Rattle.cq_core.proofs.Reading.{gate_found, gate_absent}
 use Rattle.cq_core.proofs.listing.Listing.conditions.Goals as goal
 
-pub returns-then-i-len : goal.returns-then-i-len
-returns-then-i-len g c =
-    let first = c.find_project-i.ensures.first ∙ ap (position_of c.args.project.now) c.deref.ensures.value in
-    let within : c.find_project-i.result < length c.args.self.now.projects.items = omega (arith, c.if-i-len.true, c.len.ensures, c.args.self.now.projects.ok.0) in
-    c.as_slice.ensures ∙ sym (files_at-position c.args.project.now c.args.self.now.projects.items c.find_project-i.result c.index.result.now first within c.index.ensures).2
+pub returns-in-Some : goal.returns-in-Some
+returns-in-Some g c =
+    c.as_slice.ensures ∙ c.deref-in-Some.ensures
+    ∙ ap (λ o. unwrap_or (option_map arc_value o) []) (sym c.in-Some.is) ∙ ap gate_of c.deref-in-Ok.ensures
+    ∙ gate_found c.args.project.now c.self.inside.projects.items c.in-Ok.i (subst (λ (ps : List (Arc (Project g.row.W.Denot) Global)). IsAt owner_name c.args.project.now ps c.in-Ok.i) c.deref.ensures.value c.in-Ok.ensures.found) c.index.result.now c.index.ensures
+    ∙ ap (λ (l : Listed g.row.W.Denot). conditions_in l.projects c.args.project.now) c.self.view_is
 
-pub returns-else-i-len : goal.returns-else-i-len
-returns-else-i-len g c =
-    let first = c.find_project-i.ensures.first ∙ ap (position_of c.args.project.now) c.deref.ensures.value in
-    let past : length c.args.self.now.projects.items ≤ position_of c.args.project.now c.args.self.now.projects.items = omega (arith, first, c.if-i-len.false, c.len.ensures, c.args.self.now.projects.ok.0) in
-    sym (no_conditions c.args.project.now c.args.self.now.projects.items past)
+pub returns-in-None : goal.returns-in-None
+returns-in-None g c =
+    ap (λ o. unwrap_or (option_map arc_value o) []) (sym c.in-None.is) ∙ ap gate_of c.deref-in-Ok.ensures
+    ∙ gate_found c.args.project.now c.self.inside.projects.items c.in-Ok.i (subst (λ (ps : List (Arc (Project g.row.W.Denot) Global)). IsAt owner_name c.args.project.now ps c.in-Ok.i) c.deref.ensures.value c.in-Ok.ensures.found) c.index.result.now c.index.ensures
+    ∙ ap (λ (l : Listed g.row.W.Denot). conditions_in l.projects c.args.project.now) c.self.view_is
+
+pub returns-in-Err : goal.returns-in-Err
+returns-in-Err g c =
+    gate_absent c.args.project.now c.self.inside.projects.items c.in-Err.field-0 (subst (λ (ps : List (Arc (Project g.row.W.Denot) Global)). IsGap owner_name c.args.project.now ps c.in-Err.field-0) c.deref.ensures.value c.in-Err.ensures.gap)
+    ∙ ap (λ (l : Listed g.row.W.Denot). conditions_in l.projects c.args.project.now) c.self.view_is

@@ -1,16 +1,18 @@
-use Rattle.std.proofs.Common.{◌<◌, ◌≤◌, ◌∙◌, length, map, sym, ap, arith}
-use Rattle.cq_core.specs.Listings.{file_from, position_of}
-use Rattle.cq_core.proofs.ProjectLists.{files_at-position, no_project}
+use Rattle.std.proofs.Common.{List, Global, map, ap, subst, ◌∙◌}
+use Rattle.std.specs.declared.sync.Arc.{Arc}
+use Rattle.cq_core.specs.declared.held.Project.{Project}
+use Rattle.cq_core.specs.Listings.{Listed, owner_name, file_from, files_in}
+use Rattle.cq_core.specs.Ordered.{IsAt, IsGap}
+use Rattle.cq_core.proofs.Reading.{files_found, files_absent}
 use Rattle.cq_core.proofs.listing.Listing.files.Goals as goal
 
-pub returns-then-i-len : goal.returns-then-i-len
-returns-then-i-len g c =
-    let first = c.find_project-i.ensures.first ∙ ap (position_of c.args.project.now) c.deref.ensures.value in
-    let within : c.find_project-i.result < length c.args.self.now.projects.items = omega (arith, c.if-i-len.true, c.len.ensures, c.args.self.now.projects.ok.0) in
-    ap (map file_from) c.deref-then-i-len.ensures.value ∙ sym (files_at-position c.args.project.now c.args.self.now.projects.items c.find_project-i.result c.index.result.now first within c.index.ensures).1
+pub returns-in-Ok : goal.returns-in-Ok
+returns-in-Ok g c =
+    ap (map (file_from {W = g.row.W.Denot})) (c.deref-in-Ok-2.ensures.value ∙ ap (λ (p : Project g.row.W.Denot). p.files.items) c.deref-in-Ok.ensures)
+    ∙ files_found c.args.project.now c.self.inside.projects.items c.in-Ok.i (subst (λ (ps : List (Arc (Project g.row.W.Denot) Global)). IsAt owner_name c.args.project.now ps c.in-Ok.i) c.deref.ensures.value c.in-Ok.ensures.found) c.index.result.now c.index.ensures
+    ∙ ap (λ (l : Listed g.row.W.Denot). files_in l.projects c.args.project.now) c.self.view_is
 
-pub returns-else-i-len : goal.returns-else-i-len
-returns-else-i-len g c =
-    let first = c.find_project-i.ensures.first ∙ ap (position_of c.args.project.now) c.deref.ensures.value in
-    let past : length c.args.self.now.projects.items ≤ position_of c.args.project.now c.args.self.now.projects.items = omega (arith, first, c.if-i-len.false, c.len.ensures, c.args.self.now.projects.ok.0) in
-    sym (no_project c.args.project.now c.args.self.now.projects.items past)
+pub returns-in-Err : goal.returns-in-Err
+returns-in-Err g c =
+    files_absent c.args.project.now c.self.inside.projects.items c.in-Err.field-0 (subst (λ (ps : List (Arc (Project g.row.W.Denot) Global)). IsGap owner_name c.args.project.now ps c.in-Err.field-0) c.deref.ensures.value c.in-Err.ensures.gap)
+    ∙ ap (λ (l : Listed g.row.W.Denot). files_in l.projects c.args.project.now) c.self.view_is

@@ -1,0 +1,9 @@
+//! Trials over several crates: the listing by an index against the plain one, on projects drawn at random.
+#![tactic(auto)]
+
+#[cfg(test)]
+mod draws;
+#[cfg(test)]
+mod projects;
+#[cfg(test)]
+mod tests;
