@@ -11,16 +11,17 @@ use Rattle.cq_base.specs.declared.entry.Entry.{Entry}
 use Rattle.cq_base.specs.declared.group.Place.{Place}
 use Rattle.cq_base.specs.declared.group.Group.{Group}
 use Rattle.cq_clones.specs.Lists.{AreAllInOrder}
-use Rattle.cq_clones.specs.Groups.{file_at, IsBefore, word_at, first_place}
+use Rattle.cq_clones.specs.Groups.{file_at, IsBefore, StandsAt, word_at, first_place}
 use Rattle.cq_clones.proofs.InOrder.{in_order_same, in_order_push, in_order_none, take_more_cases, take_more_left, take_more_here, before_at}
 use Rattle.cq_clones.proofs.Words.{length-word}
-use Rattle.cq_clones.proofs.GroupLaws.{within_from_standing}
+use Rattle.cq_clones.proofs.GroupLaws.{within_from_standing, word_of_group}
 use Rattle.cq_tokens.specs.declared.FileTokens.{FileTokens}
 use Rattle.cq_tokens.specs.Corpus.{changes_of, keys_of}
 use Rattle.cq_clones.specs.Windows.{HasKey, AreKeyed, EntryBefore, IsBucket}
 use Rattle.cq_refine.specs.Sets.{AreEntries, IsGroupFrom, AreAllOnce}
 use Rattle.cq_refine.specs.Places.{IsIndexOf, IsPlaceOf, IsGroupOfKey}
 use Rattle.cq_refine.proofs.Words.{stands_front}
+use Rattle.cq_refine.proofs.Walk.{two_in}
 
 -- two positions of one value among different ones
 pub one_position : (xs : List ℕ) (i j x : ℕ) → AllPairs (λ a b. a ≢ b) xs → slice_get xs i ≡ Some x → slice_get xs j ≡ Some x → i ≡ j
@@ -108,31 +109,64 @@ places_more changes bucket places i e p lt read ordered apart here are =
 pub places_none : (changes : List ℕ) (bucket : List Entry) (places : List Place) → places ≡ [] → ArePlacesOf changes (take 0 bucket) places
 places_none changes bucket places none = subst (ArePlacesOf changes (take 0 bucket)) (sym none) (in_order_none (λ p q. p ≢ q) (λ p. Any (λ e. IsPlaceOf changes e p) (take 0 bucket)) (λ z (k, w, within, at, is). omega arith))
 
--- at the end they are all places of the key
-pub places_all : (changes : List ℕ) (keys : List (List ℕ)) (key : ℕ) (bucket : List Entry) (places : List Place) → length keys ≡ length changes → AllPairs (λ a b. a ≢ b) changes → IsBucket changes keys key bucket → ArePlacesOf changes bucket places → AreAllInOrder (λ p q. p ≢ q) (HasKey keys key) places
-places_all changes keys key bucket places size apart is are =
-    in_order_same (λ p q. p ≢ q) (λ p. Any (λ e. IsPlaceOf changes e p) bucket) (HasKey keys key) places
-    (λ p (k, e, within, at, here).
-    let (key_is, entry) = (is.each e).0 (k, within, at) in
-    let file : entry.file ≡ p.file = one_position changes entry.file p.file e.change apart entry.put here.file in
-    ap₂ (λ f n. slice_get (file_at keys f) n) (sym file) here.at ∙ entry.window ∙ ap Some key_is)
-    (λ p has. found p has (change_of p has))
-    are
-  where
-    change_of : (p : Place) → HasKey keys key p → (c : ℕ) × (slice_get changes p.file ≡ Some c)
-    change_of p has =
-        ⊎_elim
-        (λ (c, lt, here, read). (c, here))
-        (λ (past, none).
-        let h = slice_get_within (file_at keys p.file) p.at key has in
-        let e = ap length (get_or_past keys p.file [] (omega (arith, past, size))) in
-        absurd (omega (arith, h, e)))
-        (slice_get_cases changes p.file).1
+-- each place of the key has an entry
+module _ (changes : List ℕ) (keys : List (List ℕ)) (key : ℕ) (bucket : List Entry) (size : length keys ≡ length changes) (apart : AllPairs (λ a b. a ≢ b) changes) (is : IsBucket changes keys key bucket) where
+  change_of : (p : Place) → HasKey keys key p → (c : ℕ) × (slice_get changes p.file ≡ Some c)
+  change_of p has =
+      ⊎_elim
+      (λ (c, lt, here, read). (c, here))
+      (λ (past, none).
+      let h = slice_get_within (file_at keys p.file) p.at key has in
+      let e = ap length (get_or_past keys p.file [] (omega (arith, past, size))) in
+      absurd (omega (arith, h, e)))
+      (slice_get_cases changes p.file).1
 
-    found : (p : Place) → HasKey keys key p → (c : ℕ) × (slice_get changes p.file ≡ Some c) → Any (λ e. IsPlaceOf changes e p) bucket
-    found p has (c, put) =
-        let e : Entry = record { key = key; change = c; at = p.at } in
-        any_entry (λ v. IsPlaceOf changes v p) bucket e ((is.each e).1 (refl, record { file = p.file; put = put; window = has })) (record { file = put; at = refl })
+  entry_of : (p : Place) → HasKey keys key p → (e : Entry) × Contains bucket e × IsPlaceOf changes e p
+  entry_of p has =
+      let (c, put) = change_of p has in
+      (record { key = key; change = c; at = p.at }, (is.each _).1 (refl, record { file = p.file; put = put; window = has }), record { file = put; at = refl })
+
+  -- two places of the key have two of them
+  pub two_entries : (p q : Place) → HasKey keys key p → HasKey keys key q → p ≢ q → 2 ≤ length bucket
+  two_entries p q has also differ =
+      let (a, a_there, a_is) = entry_of p has in
+      let (b, b_there, b_is) = entry_of q also in
+      two_in bucket a b a_there b_there
+      (λ same.
+      let file : p.file ≡ q.file = one_position changes p.file q.file a.change apart a_is.file (b_is.file ∙ ap (λ (e : Entry). Some e.change) (sym same)) in
+      let at : p.at ≡ q.at = a_is.at ∙ ap (λ (e : Entry). e.at) same ∙ sym b_is.at in
+      differ (ap₂ (λ (x y : ℕ). let made : Place = record { file = x; at = y } in made) file at))
+
+  -- at the end they are all places of the key
+  pub places_all : (places : List Place) → ArePlacesOf changes bucket places → AreAllInOrder (λ p q. p ≢ q) (HasKey keys key) places
+  places_all places are =
+      in_order_same (λ p q. p ≢ q) (λ p. Any (λ e. IsPlaceOf changes e p) bucket) (HasKey keys key) places
+      (λ p (k, e, within, at, here).
+      let (key_is, entry) = (is.each e).0 (k, within, at) in
+      let file : entry.file ≡ p.file = one_position changes entry.file p.file e.change apart entry.put here.file in
+      ap₂ (λ f n. slice_get (file_at keys f) n) (sym file) here.at ∙ entry.window ∙ ap Some key_is)
+      (λ p has. let (e, there, here) = entry_of p has in any_entry (λ v. IsPlaceOf changes v p) bucket e there here)
+      are
+
+  -- and a group of the key has two of them
+  pub group_entries : {T : Type 0} (chunk least : ℕ) (corpus : List (List T)) (g : Group) → 1 ≤ chunk → chunk ≤ least → AreKeyed chunk corpus keys → IsGroupOfKey corpus keys least key g → 2 ≤ length bucket
+  group_entries chunk least corpus g some long keyed (group, first) =
+      let (p, q, pair) = group.repeated in
+      two_entries p q (key_of p pair.first) (key_of q pair.second) pair.different
+    where
+      word_long : chunk ≤ length group.word
+      word_long = omega (arith, group.tokens, group.long, long)
+
+      front : (z : Place) → StandsAt corpus group.word z → (z.at + chunk ≤ length (file_at corpus z.file)) × (word_at corpus z chunk ≡ take chunk group.word)
+      front z stands =
+          let within = within_from_standing corpus group.word z stands (omega (arith, word_long, some)) in
+          (omega (arith, within, word_long), stands_front corpus group.word chunk z word_long stands)
+
+      key_of : (z : Place) → StandsAt corpus group.word z → HasKey keys key z
+      key_of z stands =
+          let a = front z stands in
+          let b = front (first_place g) (ap (word_at corpus (first_place g)) group.tokens ∙ word_of_group corpus least g group) in
+          keyed.equal z (first_place g) a.0 b.0 (a.1 ∙ sym b.1) ∙ first
 
 pub sizes_of : {L : Type 0} (files : List (FileTokens L)) → length (keys_of files) ≡ length (changes_of files)
 sizes_of files = length-map files (λ file. arc_value file.keys) ∙ sym (length-map files (λ file. file.change))

@@ -8,7 +8,14 @@ use Rattle.std.proofs.lemmas.Option.{get_or_from_slice_get, slice_get-get_or, sl
 use Rattle.std.proofs.lemmas.Bool.{cases_order, cases_lt}
 use Rattle.cq_clones.proofs.InOrder.{Contains-nil}
 use Rattle.cq_clones.specs.Groups.{token_ahead, AreSame}
-use Rattle.cq_refine.specs.Sets.{AreMarksOf, IsMark, Grows}
+use Rattle.std.specs.BTreeMap.{BTreeMap, Updates, get, btree_map_len}
+use Rattle.std.specs.Option.{unwrap_or}
+use Rattle.std.specs.Ordering.{is_eq}
+use Rattle.cq_base.specs.declared.norm.Norm.{Norm}
+use Rattle.cq_tokens.specs.Laws.{EqualTokensTie}
+use Rattle.cq_tokens.specs.Packed.{norm_in, seen_cmp}
+use Rattle.cq_tokens.specs.declared.seen.Seen.{Seen}
+use Rattle.cq_refine.specs.Sets.{AreMarks, AreMarksOf, IsMark, IsMarked, Grows}
 
 -- a loop has given these keys, each with the mark of its token
 pub record Marking {T K X : Type 0} (token : X → Option T) (key : X → K) (mark : X → ℕ) (seen : List T) (ks : List K) (xs : List X) : Type 0 where
@@ -161,6 +168,16 @@ module _ {T Q : Type 0} (token : Q → T) (old new : Q → Option ℕ) (seen : L
             ),
           )
 
+  -- a token that was there has its mark still
+  pub marks_same : (mark : ℕ) → old key ≡ Some mark → AreMarksOf token old seen → ((q : Q) → new q ≡ cond (tie q) (Some mark) (old q)) → AreMarksOf token new seen
+  marks_same mark here are updates q n = subst (λ o. (o ≡ Some n) ↔ ((0 < n) × (slice_get seen (n - 1) ≡ Some (token q)))) (sym (by (tie q) refl)) (are q n)
+    where
+      by : (b : Bool) → tie q ≡ b → new q ≡ old q
+      by true at =
+          let mine = (are key mark).0 here in
+          updates q ∙ ap (λ b. cond b (Some mark) (old q)) at ∙ sym ((are q mark).1 (mine.0, mine.1 ∙ ap Some ((ties q).0 at)))
+      by false at = updates q ∙ ap (λ b. cond b (Some mark) (old q)) at
+
 pub mark_new : {T : Type 0} (seen : List T) (t : T) (token : Option T) (mark : ℕ) → mark ≡ length seen + 1 → token ≡ Some t → IsMark (seen ++ t ∷ []) token mark
 mark_new seen t token mark is token_is =
     mark_found (seen ++ t ∷ []) t token mark (omega (arith, is), ap (slice_get (seen ++ t ∷ [])) (omega (arith, is)) ∙ slice_get_end seen t) token_is
@@ -171,3 +188,45 @@ Contains-map f xs x (k, within, is) = (k, omega (arith, length-map xs f, within)
 -- a mark but 0 is that of a token
 pub some_of_mark : {T : Type 0} (seen : List T) (token : Option T) (mark : ℕ) → IsMark seen token mark → 0 < mark → IsSome token
 some_of_mark seen token mark is some = (same_from_marks seen token token mark mark is is refl some).0
+
+-- the map behind one search, which took the token in where it was new
+module _ (ties : EqualTokensTie) (marks new : BTreeMap Seen ℕ) (s : Seen) (mark : ℕ) (value : Option ℕ) (was : value ≡ get seen_cmp marks s) (mark_is : mark ≡ unwrap_or value (btree_map_len marks + 1)) (updates : Updates seen_cmp marks new s (Some mark)) (size : btree_map_len new ≡ btree_map_len marks + cond (is_some value) 0 1)
+    (token : Option Norm) (is : token ≡ Some (norm_in s)) (seen : List Norm) (are : AreMarks marks seen) where
+  marked_new : value ≡ None → IsMarked seen new token mark
+  marked_new none =
+      let absent : get seen_cmp marks s ≡ None = sym was ∙ none in
+      let one : cond (is_some value) 0 1 ≡ 1 = ap {B = ℕ} (λ o. cond (is_some o) 0 1) none in
+      let last : mark ≡ length seen + 1 = mark_is ∙ ap (λ o. unwrap_or o (btree_map_len marks + 1)) none ∙ ap (λ n. n + 1) are.size in
+      record {
+        tokens = seen ++ norm_in s ∷ [];
+        grows = record { more = norm_in s ∷ []; is = refl };
+        are = record {
+          size = omega (arith, are.size, length_push seen (norm_in s), size, one);
+          apart = apart_more norm_in (get seen_cmp marks) (get seen_cmp new) seen s (λ q. is_eq (seen_cmp s q)) (ties s) are.apart are.each absent;
+          each = marks_more norm_in (get seen_cmp marks) (get seen_cmp new) seen s (λ q. is_eq (seen_cmp s q)) (ties s) mark last are.apart are.each absent updates.0;
+        };
+        is = mark_new seen (norm_in s) token mark last is;
+      }
+
+  marked_again : (m : ℕ) → value ≡ Some m → IsMarked seen new token mark
+  marked_again m some =
+      let here : mark ≡ m = mark_is ∙ ap (λ o. unwrap_or o (btree_map_len marks + 1)) some in
+      let found : get seen_cmp marks s ≡ Some mark = sym was ∙ some ∙ ap Some (sym here) in
+      let none : cond (is_some value) 0 1 ≡ 0 = ap {B = ℕ} (λ o. cond (is_some o) 0 1) some in
+      record {
+        tokens = seen;
+        grows = grows_not seen;
+        are = record {
+          size = omega (arith, are.size, size, none);
+          apart = are.apart;
+          each = marks_same norm_in (get seen_cmp marks) (get seen_cmp new) seen s (λ q. is_eq (seen_cmp s q)) (ties s) mark found are.each updates.0;
+        };
+        is = mark_found seen (norm_in s) token mark ((are.each s mark).0 found) is;
+      }
+
+  pub marked_by_entry : IsMarked seen new token mark
+  marked_by_entry = by value refl
+    where
+      by : (o : Option ℕ) → value ≡ o → IsMarked seen new token mark
+      by None none = marked_new none
+      by (Some m) some = marked_again m some

@@ -67,6 +67,9 @@ pub fn refine_with<L: Ledger>(
     ensures bound { (longest : ℕ) → IsLongest (corpus_of files.now) longest → steps.new ≤ steps.old + length bucket.now * (longest + 2) }
     ensures places_bound { (key longest : ℕ) (places : List Place) → IsBucket (changes_of files.now) (keys_of files.now) key bucket.now → AreAllInOrder IsBefore (HasKey (keys_of files.now) key) places → IsLongest (corpus_of files.now) longest → steps.new ≤ steps.old + length places * (longest + 2) }
 {
+    if bucket.len() < 2 {
+        return Ok(Vec::new(alloc));
+    }
     let places = places_of_bucket(alloc, index, bucket, files)?;
     refine_places(alloc, files, &places, min, steps)
 }

@@ -13,7 +13,7 @@ use std::alloc::Global;
 use std::collections::BTreeMap;
 use std::sync::ledger::Ledger;
 
-/// The mark of a token, which is a new one where the token is new. It costs two searches among the different tokens.
+/// The mark of a token, which is a new one where the token is new. It costs one search among the different tokens.
 fn mark_of<'a>(
     marks: &mut BTreeMap<Seen<'a>, usize>,
     token: Option<Seen<'a>>,
@@ -24,12 +24,9 @@ fn mark_of<'a>(
     let Some(seen) = token else {
         return Ok(0);
     };
-    if let Some(mark) = marks.get(&seen) {
-        return Ok(*mark);
-    }
-    let mark = marks.len() + 1;
-    marks.insert(seen, mark)?;
-    Ok(mark)
+    let next = marks.len() + 1;
+    let mark = marks.entry(seen)?.or_insert(next);
+    Ok(*mark)
 }
 
 /// The token `n` behind a place, if there is one.

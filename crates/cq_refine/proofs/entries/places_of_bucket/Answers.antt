@@ -44,6 +44,6 @@ returns g c =
     let all : ArePlacesOf changes bucket old = subst (λ es. ArePlacesOf changes es old) (take_all c.loop-entry.entry-index bucket c.loop-entry-test.false) c.loop-entry.invariant.0 in
     record {
       places = λ key is. places_sorted (HasKey (keys_of c.args.files.now) key) old c.in_order.result.items
-          (places_all changes (keys_of c.args.files.now) key bucket old (sizes_of c.args.files.now) c.requires.apart is all) c.in_order.ensures;
+          (places_all changes (keys_of c.args.files.now) key bucket (sizes_of c.args.files.now) c.requires.apart is old all) c.in_order.ensures;
       size = omega (arith, length_permutation old c.in_order.result.items c.in_order.ensures.permutation, c.loop-entry.invariant.1, c.loop-entry.auto.entry-index-end);
     }

@@ -1,4 +1,4 @@
-use Rattle.std.proofs.Common.{List, ◌≤◌, ◌<◌, ⊎_elim, ◌≡◌, ◌+◌, ◌∙◌, arith, ap, map, length, refl, sym, subst}
+use Rattle.std.proofs.Common.{List, ◌≤◌, ◌<◌, ⊎_elim, ◌≡◌, ◌+◌, ◌∙◌, ap, map, length, refl, sym, subst}
 use Rattle.std.proofs.lemmas.Bool.{iff_false, cases_lt}
 use Rattle.std.specs.Vec.Iter.{into_iter_items}
 use Rattle.cq_refine.specs.declared.spots.Spot.{Spot}

@@ -1,0 +1,4 @@
+pub mod Applying
+pub mod Fresh
+pub mod ReadEntries
+pub mod Stepping

@@ -1,0 +1,13 @@
+//! The board with its shards, one step at a time: what a server of any number of callers may do, in the order in which it
+//! happens. A step is done exactly where it is allowed, and else changes nothing. A step costs what the call of the board
+//! or of the shard costs, and publishing a look at each shard.
+#![tactic(auto)]
+
+mod machine;
+mod step;
+
+pub use machine::Core;
+pub use step::{Outcome, Step};
+
+#[cfg(test)]
+mod tests;
