@@ -1,7 +1,11 @@
 //! The groups of all files or of one, from an index of windows by their keys (Hummel et al., ICSM 2010): one question
 //! for each different key of a window that concerns the list, and the groups of each answer, sorted once. What stands
-//! behind the questions is the caller's; `PlainBuckets` reads all keys of all files at each. A list keeps the different
-//! keys and its groups, and reads at most as many tokens as it has windows, times two more than the longest repeat.
+//! behind the questions is the caller's; `PlainBuckets` reads all keys of all files at each.
+//!
+//! A list of n windows copies their keys and sorts them, n log n comparisons, and maps each file's change to the file. It
+//! reads at most as many tokens as the answers have windows, times two more than the longest repeat; an answer of n
+//! entries is sorted, and split as `cq_refine` says; g groups are sorted, g log g comparisons. It keeps the keys, that map
+//! and its groups, and an answer until the next question.
 #![tactic(auto)]
 
 mod buckets;

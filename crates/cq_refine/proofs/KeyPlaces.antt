@@ -168,6 +168,12 @@ module _ (changes : List ℕ) (keys : List (List ℕ)) (key : ℕ) (bucket : Lis
           let b = front (first_place g) (ap (word_at corpus (first_place g)) group.tokens ∙ word_of_group corpus least g group) in
           keyed.equal z (first_place g) a.0 b.0 (a.1 ∙ sym b.1) ∙ first
 
+  -- so that fewer have none
+  pub none_of_key : {T : Type 0} (chunk least : ℕ) (corpus : List (List T)) → 1 ≤ chunk → chunk ≤ least → AreKeyed chunk corpus keys → length bucket < 2 → AreAllOnce (IsGroupOfKey corpus keys least key) []
+  none_of_key chunk least corpus some long keyed few =
+      in_order_none (λ g h. g ≢ h) (IsGroupOfKey corpus keys least key)
+      (λ group of_key. let many = group_entries chunk least corpus group some long keyed of_key in omega (arith, many, few))
+
 pub sizes_of : {L : Type 0} (files : List (FileTokens L)) → length (keys_of files) ≡ length (changes_of files)
 sizes_of files = length-map files (λ file. arc_value file.keys) ∙ sym (length-map files (λ file. file.change))
 

@@ -92,6 +92,9 @@ pub fn refine<L: Ledger>(
     ensures groups { (key : ℕ) → IsBucket (changes_of files.now) (keys_of files.now) key bucket.now → IfOk result (λ groups. AreAllOnce (IsGroupOfKey (corpus_of files.now) (keys_of files.now) min key) groups.items) }
     ensures bound { (longest : ℕ) → IsLongest (corpus_of files.now) longest → steps.new ≤ steps.old + length bucket.now * (longest + 2) }
 {
+    if bucket.len() < 2 {
+        return Ok(Vec::new(alloc));
+    }
     let index = Changes::new(alloc, files)?;
     refine_with(alloc, settings, &index, bucket, files, min, steps)
 }

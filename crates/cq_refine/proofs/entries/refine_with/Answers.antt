@@ -1,17 +1,17 @@
-use Rattle.std.proofs.Common.{◌≡◌, ◌≢◌, ◌+◌, ◌*◌, arith, ap, length, sym, ◌∙◌, subst, List}
+use Rattle.std.proofs.Common.{◌≡◌, ◌+◌, ◌*◌, arith, ap, length, sym, ◌∙◌, subst, List}
 use Rattle.std.proofs.Math.Nat.{mul-le-mul_right}
 use Rattle.std.proofs.lemmas.Result.{IfOk-weaker}
 use Rattle.cq_base.specs.declared.group.Place.{Place}
 use Rattle.cq_clones.specs.Lists.{AreAllInOrder}
 use Rattle.cq_clones.specs.Groups.{IsBefore}
-use Rattle.cq_clones.proofs.InOrder.{AreAllInOrder-same, in_order_none}
+use Rattle.cq_clones.proofs.InOrder.{AreAllInOrder-same}
 use Rattle.cq_clones.proofs.Order.{IsBefore-apart}
 use Rattle.cq_tokens.specs.Corpus.{corpus_of}
 use Rattle.cq_tokens.specs.Corpus.{changes_of, keys_of}
 use Rattle.cq_refine.specs.Sets.{AreAllOnce}
 use Rattle.cq_refine.specs.Places.{IsGroupOfKey}
 use Rattle.cq_clones.specs.Windows.{HasKey}
-use Rattle.cq_refine.proofs.KeyPlaces.{key_entries, groups_of_key, group_entries, sizes_of}
+use Rattle.cq_refine.proofs.KeyPlaces.{key_entries, groups_of_key, none_of_key, sizes_of}
 use Rattle.cq_refine.proofs.entries.refine_with.Goals as goal
 
 pub refine_places-requires-clause-entries : goal.refine_places-requires-clause-entries
@@ -43,7 +43,4 @@ pub returns-then-bucket-lt2-clause-groups : goal.returns-then-bucket-lt2-clause-
 returns-then-bucket-lt2-clause-groups g c = λ key is.
     let files = c.args.files.now in
     subst (AreAllOnce (IsGroupOfKey (corpus_of files) (keys_of files) c.args.min key)) (sym c.new.ensures.items)
-    (in_order_none (λ g h. g ≢ h) (IsGroupOfKey (corpus_of files) (keys_of files) c.args.min key)
-    (λ group of_key.
-    let many = group_entries (changes_of files) (keys_of files) key c.args.bucket.now (sizes_of files) c.requires.apart is c.args.settings.now.chunk c.args.min (corpus_of files) group c.requires.some c.requires.long c.requires.keyed of_key in
-    omega (arith, many, c.if-bucket-lt2.true)))
+    (none_of_key (changes_of files) (keys_of files) key c.args.bucket.now (sizes_of files) c.requires.apart is c.args.settings.now.chunk c.args.min (corpus_of files) c.requires.some c.requires.long c.requires.keyed c.if-bucket-lt2.true)
