@@ -21,7 +21,7 @@ use Rattle.cq_core.specs.declared.parts.Part.{Part}
 use Rattle.cq_core.specs.Listings.{path_of, number_at, files_in, conditions_in, IsListing}
 use Rattle.cq_core.specs.Ordered.{AreRising}
 use Rattle.cq_core.specs.Parts.{part_name, projects_in, listed}
-use Rattle.cq_core.proofs.Living.{live_within, live_put, live_drop, live_gate}
+use Rattle.cq_core.proofs.Living.{live_put, live_drop, live_gate}
 use Rattle.cq_core.proofs.PartLists.{rising_same, rising_projects, rising_parts}
 use Rattle.cq_core.proofs.Related.{same_with, same_without}
 
@@ -53,13 +53,7 @@ module _ {W : Type 0} (IsWork : Lang → List ℕ → W → Type 0) (changes : L
   pub paths_rise : (q : List ℕ) → AreRising path_of (files_in (projects_in old) q)
   paths_rise q = rising_same path_of path_of (files_of q changes) (files_in (projects_in old) q) (same_paths IsWork (files_of q changes) (files_in (projects_in old) q) (is.files q)) (in_order_rising (files_of q changes) (files_stand changes q).ordered)
 
-  pub numbers_rise : IsStrictlyIncreasing live
-  numbers_rise = is.numbers.rising
-
-  pub numbers_below : (r : ℕ) → Contains live r → r < number
-  numbers_below r here = let h = live_within changes r ((is.numbers.each r).0 here) in omega (arith, h, n)
-
-  number_here : (project path : List ℕ) → number_at path (files_in (projects_in old) project) ≡ number_at path (files_of project changes)
+  pub number_here : (project path : List ℕ) → number_at path (files_in (projects_in old) project) ≡ number_at path (files_of project changes)
   number_here project path = sym (same_number IsWork path (files_of project changes) (files_in (projects_in old) project) (is.files project))
 
   module _ (new : List (Part W)) (now : List ℕ) (names : AreRising part_name new) (rising : IsStrictlyIncreasing now) where

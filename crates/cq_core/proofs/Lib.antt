@@ -13,3 +13,4 @@ pub mod Reading
 pub mod Related
 pub mod Searching
 pub mod SlotLists
+pub mod Turning

@@ -86,6 +86,10 @@ module _ (changes : List Change) where
       let place = one_place changes q project f g is (last_of project g has) (number ∙ sym same) in
       and_both (bytes_eq q project) (bytes_eq f.path path) ((bytes_eq-Decides q project).1 place.0) ((bytes_eq-Decides f.path path).1 (place.1 ∙ here))
 
+  -- the number at a path is that of a file
+  pub numbered_live : (project path : List ℕ) (r : ℕ) → number_at path (files_of project changes) ≡ Some r → IsLive changes r
+  numbered_live project path r at = let (f, has, here, same) = number_found path (files_of project changes) r at in (project, f, has, same)
+
   -- no number is above the last
   pub live_within : (r : ℕ) → IsLive changes r → r < length changes + 1
   live_within r (q, f, has, is) = let a = (last_of q f has).accepted in omega (arith, a.1, is)

@@ -7,3 +7,4 @@ pub mod Presence
 pub mod Related
 pub mod Slots
 pub mod Stands
+pub mod Turnover

@@ -10,7 +10,7 @@ ghost use Rattle.cq_core.specs.Listings.{IsListing};
 
 use crate::accepting::{refusal, stored, text_len};
 use crate::kept::{FileKey, Kept};
-use crate::listing::{Listing, View, listing_at};
+use crate::listing::{Listing, View, next_listing, turn_to};
 use crate::presence::note;
 use crate::slot_tests::{done_from, first_free, is_done, job_of};
 use crate::{Asked, Finished, Job, Refused};
@@ -245,14 +245,15 @@ impl<W: Indexed> Board<W> {
         Ok(Some(job))
     }
 
-    /// Publishes a version up to which all is done. Where memory is refused, nothing has changed.
+    /// Publishes a version up to which all is done. Where memory is refused, nothing has changed. What it costs is said at
+    /// the head of the crate.
     pub fn publish(&mut self, alloc: Global, version: u64) -> Result<(), Memory>
         requires above { self.old.state.published < version }
         requires done { version ≤ ready self.old.state }
         ensures adds { OnOk result (Adds (event.Publish version) self.old self.new) }
         ensures err { OnErr result (self.new ≡ self.old) }
     {
-        let listing = listing_at(
+        let next = next_listing(
             alloc,
             &self.settings,
             &self.slots,
@@ -260,7 +261,7 @@ impl<W: Indexed> Board<W> {
             self.published,
             version,
         )?;
-        self.listing = Arc::new(alloc, listing)?;
+        turn_to(alloc, &mut self.listing, next)?;
         self.published = version;
         self.events = self.events.wrapping_add(1);
         Ok(())

@@ -1,4 +1,6 @@
-ghost use Rattle.std.specs.Prelude.{◌≡◌, ◌+◌, ◌<◌, ◌≤◌, ℕ, [], ◌∷◌, ◌++◌, List, IfOk, IfErr, OnOk, true, length, take, map, All};
+ghost use Rattle.std.specs.Prelude.{◌≡◌, ◌+◌, ◌<◌, ◌≤◌, ◌↔◌, ℕ, [], ◌∷◌, ◌++◌, List, IfOk, IfErr, OnOk, OnErr, true, length, take, map, All, Contains};
+ghost use Rattle.std.specs.List.Sorted.{IsStrictlyIncreasing};
+ghost use Rattle.cq_core.specs.Turnover.{IsNext};
 ghost use Rattle.std.specs.Arc.{arc_value};
 ghost use Rattle.std.specs.List.{prefix_len};
 ghost use Rattle.std.specs.Ordering.{nat_cmp};
@@ -8,11 +10,11 @@ ghost use Rattle.cq_history.specs.State.{changes_in, is_done};
 ghost use Rattle.cq_core.specs.Slots.{slot_from, change_of, state_from, IsWorked};
 ghost use Rattle.cq_core.specs.Ordered.{AreRising, IsAt, IsGap};
 ghost use Rattle.cq_core.specs.Listings.{IsListing, owner_name, file_from, files_in, conditions_in};
-ghost use Rattle.cq_core.specs.Parts.{project_in, projects_in, listed};
+ghost use Rattle.cq_core.specs.Parts.{project_in, projects_in};
 
 use crate::held::{Held, Project};
 use crate::kept::{Kept, Stored};
-use crate::live::{add, take_out};
+use crate::live::{Turnover, note, turn};
 use crate::parts::{Part, drop_in, gate_in, put_in};
 use cq_base::{Condition, Memory, Settings, Text};
 use cq_shard::Indexed;
@@ -107,19 +109,19 @@ pub struct View<W> {
     pub listing: Arc<Listing<W>, Global>,
 }
 
-// The listing with one change more, which is the one with the next number and done.
+// What comes next, with one change more, which is the one with the next number and done.
 fn advance<W: Indexed>(
     alloc: Global,
     settings: &Settings,
     parts: &mut Vec<Part<W>>,
-    live: &mut Vec<u64>,
+    turnover: &mut Turnover,
     number: u64,
     kept: &Kept<W>,
 ) -> Result<(), Memory>
     requires done { is_done (slot_from kept.now) ≡ true }
     requires work { IsWorked (W.IsWorkOf settings.now) kept.now }
-    requires listing { (changes : List Change) × (length changes + 1 ≡ number) × IsListing (W.IsWorkOf settings.now) changes (listed parts.old.items live.old.items) }
-    ensures { OnOk result ((changes : List Change) → length changes + 1 ≡ number → IsListing (W.IsWorkOf settings.now) changes (listed parts.old.items live.old.items) → IsListing (W.IsWorkOf settings.now) (changes ++ change_of kept.now.change ∷ []) (listed parts.new.items live.new.items)) }
+    requires next { (changes : List Change) × (base : List ℕ) × (length changes + 1 ≡ number) × IsNext (W.IsWorkOf settings.now) changes base (projects_in parts.old.items) turnover.old.put.items turnover.old.gone.items }
+    ensures { OnOk result ((changes : List Change) (base : List ℕ) → length changes + 1 ≡ number → IsNext (W.IsWorkOf settings.now) changes base (projects_in parts.old.items) turnover.old.put.items turnover.old.gone.items → IsNext (W.IsWorkOf settings.now) (changes ++ change_of kept.now.change ∷ []) base (projects_in parts.new.items) turnover.new.put.items turnover.new.gone.items) }
 {
     match &kept.change {
         Stored::Put { file, lang, .. } => match &kept.work {
@@ -133,16 +135,14 @@ fn advance<W: Indexed>(
                     work,
                 };
                 let replaced = put_in(alloc, parts, &file.project, held)?;
-                take_out(live, replaced);
-                add(live, number)?;
-                Ok(())
+                turnover.put.push(number)?;
+                note(&mut turnover.gone, replaced)
             }
             None => unreachable!(),
         },
         Stored::Drop { file } => {
             let dropped = drop_in(alloc, parts, &file.project, &file.path)?;
-            take_out(live, dropped);
-            Ok(())
+            note(&mut turnover.gone, dropped)
         }
         Stored::Gate {
             project,
@@ -192,34 +192,76 @@ fn owners<W: Drop>(
     Ok(projects)
 }
 
-/// The listing of a later version, from that of an earlier one. It costs an owner for each project, a number for each
-/// file, and for each project that changed a copy of its list of files, which shares their paths and works.
-pub fn listing_at<W: Indexed>(
+/// What the listing of a later version has of its own: its projects, and the numbers that come and go.
+#[derive(Drop)]
+pub struct Next<W> {
+    projects: Vec<Arc<Project<W>, Global>>,
+    turnover: Turnover,
+}
+
+/// What comes next to an earlier listing. It costs an owner for each project, and for each project that changed a copy of
+/// its list of files, which shares their paths and works.
+pub fn next_listing<W: Indexed>(
     alloc: Global,
     settings: &Settings,
     slots: &[Kept<W>],
     old: &Listing<W>,
     before: u64,
     version: u64,
-) -> Result<Listing<W>, Memory>
+) -> Result<Next<W>, Memory>
     requires order { before ≤ version }
     requires done { version ≤ prefix_len is_done (map slot_from slots.now) }
     requires works { All (IsWorked (W.IsWorkOf settings.now)) slots.now }
     requires listing { IsListing (W.IsWorkOf settings.now) (take before (changes_in (state_from slots.now 0 0 []))) old.now }
-    ensures { IfOk result (λ listing. IsListing (W.IsWorkOf settings.now) (take version (changes_in (state_from slots.now 0 0 []))) listing) }
+    ensures { IfOk result (λ next. IsNext (W.IsWorkOf settings.now) (take version (changes_in (state_from slots.now 0 0 []))) old.now.live (map arc_value next.projects.items) next.turnover.put.items next.turnover.gone.items) }
 {
     let mut parts = shared(alloc, &old.projects)?;
-    let mut live = Vec::from_slice(alloc, &old.live)?;
+    let mut turnover = Turnover::new(alloc);
     for number in before..version {
         advance(
             alloc,
             settings,
             &mut parts,
-            &mut live,
+            &mut turnover,
             number + 1,
             &slots[number as usize],
         )?;
     }
     let projects = owners(alloc, parts)?;
-    Ok(Listing { projects, live })
+    Ok(Next { projects, turnover })
+}
+
+/// Makes the listing the next one. Where nobody else has it, its numbers are changed in place; else they are copied, 8
+/// bytes a file. Where memory is refused, it shows what it did.
+pub fn turn_to<W: Drop>(
+    alloc: Global,
+    listing: &mut Arc<Listing<W>, Global>,
+    next: Next<W>,
+) -> Result<(), Memory>
+    requires names { AreRising owner_name next.projects.items }
+    requires rising { IsStrictlyIncreasing ((arc_value listing.old).live ++ next.turnover.put.items) }
+    ensures projects { OnOk result ((arc_value listing.new).projects ≡ map arc_value next.projects.items) }
+    ensures rising { OnOk result (IsStrictlyIncreasing (arc_value listing.new).live) }
+    ensures live { OnOk result ((r : ℕ) → Contains (arc_value listing.new).live r ↔ (Contains ((arc_value listing.old).live ++ next.turnover.put.items) r × (Contains next.turnover.gone.items r → ⊥))) }
+    ensures same { OnErr result (arc_value listing.new ≡ arc_value listing.old) }
+{
+    match Arc::get_mut(listing) {
+        Some(own) => {
+            turn(&mut own.live, next.turnover)?;
+            own.projects = next.projects;
+            Ok(())
+        }
+        None => {
+            let mut live = Vec::from_slice(alloc, &listing.live)?;
+            turn(&mut live, next.turnover)?;
+            *listing = Arc::new(
+                alloc,
+                Listing {
+                    projects: next.projects,
+                    live,
+                },
+            )?;
+            Ok(())
+        }
+    }
 }

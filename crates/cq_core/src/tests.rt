@@ -11,8 +11,7 @@ struct Bare {}
 
 impl Indexed for Bare {
     ghost use Rattle.std.specs.Prelude.{◌≡◌, [], refl};
-
-    ghost keys_of = { λ settings lang text. [] };
+    ghost use Rattle.std.proofs.Common.{rules};
 
     ghost keys_in = { λ work. [] };
 
@@ -22,7 +21,9 @@ impl Indexed for Bare {
         &[]
     }
 
-    ghost determined = { λ settings lang text work is. refl };
+    ghost determined = { λ settings lang text work other is also. refl };
+
+    ghost few = { Prim.search rules };
 }
 
 const SETTINGS: Settings = Settings {

@@ -4,8 +4,9 @@
 //!
 //! A list of n windows copies their keys and sorts them, n log n comparisons, and maps each file's change to the file. It
 //! reads at most as many tokens as the answers have windows, times two more than the longest repeat; an answer of n
-//! entries is sorted, and split as `cq_refine` says; g groups are sorted, g log g comparisons. It keeps the keys, that map
-//! and its groups, and an answer until the next question.
+//! entries is sorted, and split as `cq_refine` says; g groups are sorted, g log g comparisons, and the list of one file first
+//! looks through the places of its groups for that file. It keeps the keys, that map and its groups, and an answer until
+//! the next question.
 #![tactic(auto)]
 
 mod buckets;

@@ -1,21 +1,16 @@
 -- What only rises, and what later events leave as it is.
-use Rattle.std.proofs.Common.{◌↔◌, ℕ, ◌≤◌, Bool, true, false, cond, List, [], ◌∷◌, ◌++◌, length, fold, All, refl, sym, subst, inl, inr, arith}
+use Rattle.std.proofs.Common.{ℕ, ◌≤◌, Bool, true, false, cond, List, [], ◌∷◌, ◌++◌, fold, All, refl, sym, subst, inl, inr, arith}
 use Rattle.std.proofs.lemmas.List.Elements.{All-cons, All-nil, All-head}
 use Rattle.cq_base.specs.declared.settings.Settings.{Settings}
-use Rattle.cq_base.specs.declared.lang.Lang.{Lang}
-use Rattle.cq_base.specs.declared.change.Change.{Change}
 use Rattle.cq_history.specs.declared.event.Event.{Event}
 use Rattle.cq_history.specs.declared.event.Event.TheVariants.{Accept, Ask, Took, Back, Done, Publish, Open, Shut, Floor}
-use Rattle.cq_history.specs.State.{State, state, start, after, accepted, own, maker, is_by, ready}
+use Rattle.cq_history.specs.State.{State, state, start, after, own, maker, is_by, ready}
 use Rattle.cq_history.specs.Lawful.{Allowed, Lawful, LawfulFrom}
-use Rattle.cq_history.specs.Shards.{Row, ShardHolds}
 use Rattle.cq_history.specs.Core.{IsReached, IsAppliedFor}
 use Rattle.cq_history.specs.Laws.{IsPartOf}
 use Rattle.cq_history.proofs.States.{state-append, LawfulFrom-rest}
 use Rattle.cq_history.proofs.Bounds.{ready-append}
-use Rattle.cq_history.proofs.Prefixes.{accepted-append}
 use Rattle.cq_history.proofs.Cores.{floor_after, reached_after}
-use Rattle.cq_history.proofs.ShardLaws.{ShardHolds-append, ShardHolds-prefix}
 
 published_after : (set : Settings) (s : State) (e : Event) → Allowed set s e → s.published ≤ (after s e).published
 published_after set s (Accept by change) ok = omega arith
@@ -38,13 +33,6 @@ pub never_falls : (set : Settings) (callers : ℕ) (h later : List Event) → La
 never_falls set callers h later law =
     let rest = rises set (state callers h) later (LawfulFrom-rest set (start callers) h later law) in
     subst (λ (t : State). (ready (state callers h) ≤ ready t) × ((state callers h).published ≤ t.published) × ((state callers h).floor ≤ t.floor)) (sym (state-append callers h later)) (ready-append (state callers h) later, rest.0, rest.1)
-
-pub shard_stays : (keys_of : Lang → List ℕ → List ℕ) (shards : ℕ) (h later : List Event) (shard applied floor : ℕ) (row : Row) → applied ≤ length (accepted h) → floor ≤ length (accepted h) → ShardHolds keys_of shards (accepted (h ++ later)) shard applied floor row ↔ ShardHolds keys_of shards (accepted h) shard applied floor row
-shard_stays keys_of shards h later shard applied floor row low_a low_f =
-    let grown = accepted-append h later in (
-      λ holds. ShardHolds-prefix keys_of shards (accepted h) (accepted later) shard applied floor row low_a low_f (subst (λ (cs : List Change). ShardHolds keys_of shards cs shard applied floor row) grown holds),
-      λ holds. subst (λ (cs : List Change). ShardHolds keys_of shards cs shard applied floor row) (sym grown) (ShardHolds-append keys_of shards (accepted h) (accepted later) shard applied floor row low_a low_f holds),
-    )
 
 pub stays_reached : (s : State) (e : Event) (applied : ℕ) → IsAppliedFor (applied ∷ []) e → IsReached s applied → IsReached (after s e) applied
 stays_reached s e applied asks reached =

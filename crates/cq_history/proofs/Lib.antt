@@ -3,7 +3,7 @@ pub mod Bounds
 pub mod Prefixes
 pub mod Cores
 pub mod Presence
-pub mod ShardLaws
+pub mod Numbers
 pub mod Falling
 pub mod Holders
 pub mod PathOrder

@@ -14,7 +14,7 @@ use Rattle.cq_history.specs.Standing.{IsLastPut, AreStanding}
 use Rattle.cq_history.proofs.PathOrder.{has_filter, filter_has, order_filter, has_insert, insert_has, order_insert, elsewhere}
 use Rattle.cq_history.proofs.Prefixes.{files_of_push}
 use Rattle.cq_history.proofs.Presence.{bytes_eq-sym}
-use Rattle.cq_history.proofs.ShardLaws.{change_at-append}
+use Rattle.cq_history.proofs.Numbers.{change_at-append}
 
 -- ---- one change more
 

@@ -1,16 +1,12 @@
 -- What a reader may rely on along each lawful history.
-use Rattle.std.specs.Prelude.{◌≡◌, ◌⊎◌, ◌↔◌, ℕ, ◌+◌, ◌%◌, ◌<◌, ◌≤◌, List, [], ◌∷◌, ◌++◌, length, slice_get, Some}
+use Rattle.std.specs.Prelude.{◌≡◌, ◌⊎◌, ℕ, ◌<◌, ◌≤◌, List, [], ◌∷◌, ◌++◌, length, Some}
 use Rattle.cq_base.specs.declared.settings.Settings.{Settings}
-use Rattle.cq_base.specs.declared.lang.Lang.{Lang}
 use Rattle.cq_base.specs.declared.change.Change.{Change}
-use Rattle.cq_base.specs.declared.change.Change.TheVariants.{Put}
-use Rattle.cq_history.specs.Changes.{IsNumber, change_at}
 use Rattle.cq_history.specs.declared.event.Event.{Event}
 use Rattle.cq_history.specs.State.{State, state, after, changes_in, accepted, own, ready, view_of, slot_of, holder_in}
 use Rattle.cq_history.specs.Lawful.{Lawful}
 use Rattle.cq_history.specs.Files.{Source, files_at, files_of, files_after, has_file, is_path_put, conditions_at}
 use Rattle.cq_history.specs.Standing.{AreStanding}
-use Rattle.cq_history.specs.Shards.{Row, ShardHolds, IsLastOfFile}
 use Rattle.cq_history.specs.Core.{Core, Step, IsReached, IsAppliedFor, IsSound, MayStep, stepped, first_core}
 
 -- any beginning of a lawful history is lawful
@@ -38,11 +34,6 @@ ChangesAreAccepted = (callers : ℕ) (h : List Event) → changes_in (state call
 abbrev pub VersionsStay : Type 0
 VersionsStay = (h later : List Event) (version : ℕ) (project : List ℕ) → version ≤ length (accepted h) →
     (files_at (accepted (h ++ later)) version project ≡ files_at (accepted h) version project) × (conditions_at (accepted (h ++ later)) version project ≡ conditions_at (accepted h) version project)
-
--- what is accepted later changes nothing of what a shard holds
-abbrev pub ShardsStay : Type 0
-ShardsStay = (keys_of : Lang → List ℕ → List ℕ) (shards : ℕ) (h later : List Event) (shard applied floor : ℕ) (row : Row) → applied ≤ length (accepted h) → floor ≤ length (accepted h) →
-    ShardHolds keys_of shards (accepted (h ++ later)) shard applied floor row ↔ ShardHolds keys_of shards (accepted h) shard applied floor row
 
 -- an event leaves a shard that has applied what it asks for between what is published and what is ready
 abbrev pub ShardsStayReached : Type 0
@@ -73,21 +64,3 @@ FilesAreTheLastPuts = (changes : List Change) (project : List ℕ) → AreStandi
 -- whether a file is there behind a change, by whether it was there before
 abbrev pub PresenceGoesByChanges : Type 0
 PresenceGoesByChanges = (project path : List ℕ) (number : ℕ) (files : List Source) (c : Change) → has_file path (files_after project number files c) ≡ is_path_put project path (has_file path files) c
-
--- Applying the next change keeps what a shard holds, and adds rows of that change alone: those of the windows of its text
--- that are the shard's.
-pub record Applies (keys_of : Lang → List ℕ → List ℕ) (shards : ℕ) (changes : List Change) (shard applied floor : ℕ) : Type 0 where
-  pub keeps : (row : Row) → ShardHolds keys_of shards changes shard applied floor row → ShardHolds keys_of shards changes shard (applied + 1) floor row
-  pub alone : (row : Row) → ShardHolds keys_of shards changes shard (applied + 1) floor row → ShardHolds keys_of shards changes shard applied floor row ⊎ (row.number ≡ applied + 1)
-  pub adds : (row : Row) (project path : List ℕ) (lang : Lang) (text : List ℕ) → row.number ≡ applied + 1 → IsNumber changes row.number → change_at changes row.number ≡ Some (Put project path lang text) → slice_get (keys_of lang text) row.place ≡ Some row.key → row.key % shards ≡ shard → ShardHolds keys_of shards changes shard (applied + 1) floor row
-
-abbrev pub ApplyingAddsItsRows : Type 0
-ApplyingAddsItsRows = (keys_of : Lang → List ℕ → List ℕ) (shards : ℕ) (changes : List Change) (shard applied floor : ℕ) → floor ≤ applied → Applies keys_of shards changes shard applied floor
-
--- Raising the floor adds nothing, and leaves each row whose file no change up to the new floor puts or drops again.
-pub record Sweeps (keys_of : Lang → List ℕ → List ℕ) (shards : ℕ) (changes : List Change) (shard applied floor later : ℕ) : Type 0 where
-  pub alone : (row : Row) → ShardHolds keys_of shards changes shard applied later row → ShardHolds keys_of shards changes shard applied floor row
-  pub leaves : (row : Row) (held : ShardHolds keys_of shards changes shard applied floor row) → IsLastOfFile changes held.project held.path row.number later → ShardHolds keys_of shards changes shard applied later row
-
-abbrev pub SweepingTakesOutAlone : Type 0
-SweepingTakesOutAlone = (keys_of : Lang → List ℕ → List ℕ) (shards : ℕ) (changes : List Change) (shard applied floor later : ℕ) → floor ≤ later → Sweeps keys_of shards changes shard applied floor later

@@ -1,5 +1,5 @@
 -- What a shard holds of the changes: the windows of the puts that it has applied, but for those that its floor has passed.
-use Rattle.std.specs.Prelude.{◌≡◌, ℕ, ◌<◌, ◌≤◌, ◌%◌, true, List, slice_get, Some}
+use Rattle.std.specs.Prelude.{◌≡◌, ℕ, ◌<◌, ◌≤◌, ◌%◌, true, List, Some}
 use Rattle.cq_base.specs.declared.lang.Lang.{Lang}
 use Rattle.cq_base.specs.declared.change.Change.{Change}
 use Rattle.cq_base.specs.declared.change.Change.TheVariants.{Put}
@@ -15,7 +15,8 @@ pub record Row : Type 0 where
 abbrev pub IsLastOfFile : List Change → List ℕ → List ℕ → ℕ → ℕ → Type 0
 IsLastOfFile changes q p r f = (k : ℕ) (c : Change) → r < k → k ≤ f → change_at changes k ≡ Some c → is_of_file q p c ≡ true → ⊥
 
-module _ (keys_of : Lang → List ℕ → List ℕ) (shards : ℕ) (changes : List Change) where
+-- over a relation which says of a text that it has at a place a window with a key
+module _ (IsWindow : Lang → List ℕ → ℕ → ℕ → Type 0) (shards : ℕ) (changes : List Change) where
   pub record ShardHolds (shard applied floor : ℕ) (row : Row) : Type 0 where
     pub project : List ℕ
     pub path : List ℕ
@@ -24,6 +25,6 @@ module _ (keys_of : Lang → List ℕ → List ℕ) (shards : ℕ) (changes : Li
     pub accepted : IsNumber changes row.number
     pub put : change_at changes row.number ≡ Some (Put project path lang text)
     pub applies : row.number ≤ applied
-    pub window : slice_get (keys_of lang text) row.place ≡ Some row.key
+    pub window : IsWindow lang text row.place row.key
     pub mine : row.key % shards ≡ shard
     pub lives : IsLastOfFile changes project path row.number floor

@@ -32,11 +32,6 @@ pub fn versions_stay()
     ensures { law.VersionsStay }
 {}
 
-/// What a shard holds for what it has applied depends on no later event.
-pub fn shards_stay()
-    ensures { law.ShardsStay }
-{}
-
 /// Every event but the publication of a version that a shard has not applied leaves it between what is published and
 /// what is ready.
 pub fn shards_stay_reached()
@@ -66,16 +61,6 @@ pub fn files_are_the_last_puts()
 /// Whether a file is there behind a change depends on the change, and on whether it was there before.
 pub fn presence_goes_by_changes()
     ensures { law.PresenceGoesByChanges }
-{}
-
-/// Applying the next change keeps what a shard holds, and adds the rows of that change alone.
-pub fn applying_adds_its_rows()
-    ensures { law.ApplyingAddsItsRows }
-{}
-
-/// Raising the floor adds nothing to what a shard holds, and takes out what a change up to it supersedes.
-pub fn sweeping_takes_out_alone()
-    ensures { law.SweepingTakesOutAlone }
 {}
 
 /// A history that was worked out by hand is lawful and leaves what it should.

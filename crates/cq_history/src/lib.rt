@@ -8,8 +8,8 @@ mod laws;
 
 pub use event::Event;
 pub use laws::{
-    applying_adds_its_rows, beginnings_are_lawful, changes_are_accepted, cores_stay_sound,
-    files_are_the_last_puts, holders_took_last, nothing_falls, open_versions_are_kept,
-    own_events_are_a_part, presence_goes_by_changes, shards_stay, shards_stay_reached,
-    sweeping_takes_out_alone, the_script_is_as_worked_out, they_stand_in_order, versions_stay,
+    beginnings_are_lawful, changes_are_accepted, cores_stay_sound, files_are_the_last_puts,
+    holders_took_last, nothing_falls, open_versions_are_kept, own_events_are_a_part,
+    presence_goes_by_changes, shards_stay_reached, the_script_is_as_worked_out,
+    they_stand_in_order, versions_stay,
 };

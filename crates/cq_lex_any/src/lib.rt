@@ -8,6 +8,3 @@ mod run;
 mod taking;
 
 pub use language::Any;
-
-#[cfg(test)]
-mod tests;

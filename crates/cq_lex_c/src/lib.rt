@@ -17,6 +17,3 @@ mod splice;
 mod text;
 
 pub use language::C;
-
-#[cfg(test)]
-mod tests;

@@ -14,6 +14,3 @@ mod semicolon;
 mod words;
 
 pub use language::Go;
-
-#[cfg(test)]
-mod tests;

@@ -15,6 +15,3 @@ mod translation;
 mod words;
 
 pub use language::Java;
-
-#[cfg(test)]
-mod tests;

@@ -56,7 +56,7 @@ module _ {W : Type 0} (IsWork : Lang → List ℕ → W → Type 0) where
 -- ---- the shard
 
 -- one of the shards has applied the next change
-pub record HasApplied (keys_of : Lang → List ℕ → List ℕ) (b : board.BoardState) (shards : List Contents) (i : ℕ) (old new : Contents) : Type 0 where
+pub record HasApplied (IsWindow : Lang → List ℕ → ℕ → ℕ → Type 0) (b : board.BoardState) (shards : List Contents) (i : ℕ) (old new : Contents) : Type 0 where
   pub within : i < length shards
   pub read : old ≡ get_or shards i old
   pub next : old.applied + 1 ≤ ready b.state
@@ -64,29 +64,29 @@ pub record HasApplied (keys_of : Lang → List ℕ → List ℕ) (b : board.Boar
   pub number : new.shard ≡ old.shard
   pub numbers : new.shards ≡ old.shards
   pub floor : new.floor ≡ old.floor
-  pub stands : shard.StandsFor keys_of (changes_in b.state) old → shard.StandsFor keys_of (changes_in b.state) new
+  pub stands : shard.StandsFor IsWindow (changes_in b.state) old → shard.StandsFor IsWindow (changes_in b.state) new
 
-module _ (keys_of : Lang → List ℕ → List ℕ) (b : board.BoardState) (shards : List Contents) (i : ℕ) (old new : Contents) (has : HasApplied keys_of b shards i old new) where
+module _ (IsWindow : Lang → List ℕ → ℕ → ℕ → Type 0) (b : board.BoardState) (shards : List Contents) (i : ℕ) (old new : Contents) (has : HasApplied IsWindow b shards i old new) where
   applied_set : map applied_of (set shards i new) ≡ set (map applied_of shards) i (slice_index (map applied_of shards) i + 1)
   applied_set = map-set applied_of shards i new ∙ ap (set (map applied_of shards) i) (has.applied ∙ ap (λ n. n + 1) (ap applied_of has.read ∙ sym (get_or-map applied_of shards i old 0 has.within)))
 
   floors_set : map floor_of (set shards i new) ≡ map floor_of shards
   floors_set = map-set floor_of shards i new ∙ ap (set (map floor_of shards) i) (has.floor ∙ ap floor_of has.read ∙ sym (get_or-map floor_of shards i old 0 has.within)) ∙ set-get_or (map floor_of shards) i 0
 
-  module _ (k : Core) (is : StandsFor keys_of k (core b shards)) where
+  module _ (k : Core) (is : StandsFor IsWindow k (core b shards)) where
     may : (i < length k.applied) × (slice_index k.applied i + 1 ≤ ready (state_of (length b.state.views) k.history))
     may =
         let here : slice_index k.applied i ≡ old.applied = ap (λ xs. slice_index xs i) (sym is.applied) ∙ get_or-map applied_of shards i old 0 has.within ∙ ap applied_of (sym has.read) in
         let reach : ready b.state ≡ ready (state_of (length b.state.views) k.history) = ap ready is.past.is in
         (omega (arith, has.within, ap length is.applied, length-map shards applied_of), omega (arith, has.next, here, reach))
 
-    pub stands_applied : StandsFor keys_of (stepped k (Applies i)) (core b (set shards i new))
+    pub stands_applied : StandsFor IsWindow (stepped k (Applies i)) (core b (set shards i new))
     stands_applied = record {
       past = is.past;
       applied = applied_set ∙ ap (λ xs. set xs i (slice_index xs i + 1)) is.applied;
       floors = floors_set ∙ is.floors;
       sound = step_is_sound b.settings (length b.state.views) k (Applies i) is.sound may;
-      shards = All-set (shard.StandsFor keys_of (changes_in b.state)) shards i new (has.stands (subst (shard.StandsFor keys_of (changes_in b.state)) (sym has.read) (is.shards i old has.within))) is.shards;
+      shards = All-set (shard.StandsFor IsWindow (changes_in b.state)) shards i new (has.stands (subst (shard.StandsFor IsWindow (changes_in b.state)) (sym has.read) (is.shards i old has.within))) is.shards;
       numbered = record {
         number_is = length-set shards i new ∙ is.numbered.number_is;
         each = λ n d lt.
@@ -106,7 +106,7 @@ module _ (keys_of : Lang → List ℕ → List ℕ) (b : board.BoardState) (shar
       };
     }
 
-  pub takes_applied : Takes keys_of (Applies i) (core b shards) (core b (set shards i new))
+  pub takes_applied : Takes IsWindow (Applies i) (core b shards) (core b (set shards i new))
   takes_applied = record {
     may = λ k is. may k is;
     core = λ k is. stands_applied k is;

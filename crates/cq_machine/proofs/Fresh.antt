@@ -1,15 +1,13 @@
 -- A core before any step.
-use Rattle.std.proofs.Common.{◌≡◌, ℕ, zero, suc, ◌<◌, List, [], ◌∷◌, length, map, get_or, replicate, Option, None, refl, sym, ap, ◌∙◌, subst, arith, true≢false}
+use Rattle.std.proofs.Common.{◌≡◌, ℕ, zero, suc, ◌<◌, List, [], ◌∷◌, length, map, get_or, replicate, Option, None, refl, sym, ap, ◌∙◌, arith, true≢false}
 use Rattle.std.specs.Prelude.{is_some, option_map}
 use Rattle.std.proofs.lemmas.List.{length-map, get_or-map, get_or-replicate, length-replicate, same_lists}
 use Rattle.cq_base.specs.declared.lang.Lang.{Lang}
-use Rattle.cq_base.specs.declared.change.Change.{Change}
-use Rattle.cq_clones.proofs.InOrder.{Contains-nil}
 use Rattle.cq_history.specs.State.{State, changes_in}
 use Rattle.cq_history.specs.Core.{first_core}
 use Rattle.cq_history.proofs.Cores.{first_is_sound}
-use Rattle.cq_shard.specs.Shard as shard
 use Rattle.cq_shard.specs.Shard.{Contents}
+use Rattle.cq_shard.specs.Laws.{StandsAtFirst}
 use Rattle.cq_core.specs.Stands as board
 use Rattle.cq_core.specs.declared.listing.View.{View}
 use Rattle.cq_machine.specs.Machine.{StandsFor, AreFresh, applied_of, floor_of}
@@ -18,14 +16,6 @@ use Rattle.cq_machine.proofs.Stepping.{core}
 
 fresh : ℕ → ℕ → Contents
 fresh i n = record { shard = i; shards = n; applied = 0; floor = 0; entries = [] }
-
-fresh_stands : (keys_of : Lang → List ℕ → List ℕ) (changes : List Change) (c : Contents) (i n : ℕ) → c ≡ fresh i n → shard.StandsFor keys_of changes c
-unfolding fresh
-fresh_stands keys_of changes c i n is =
-    subst (shard.StandsFor keys_of changes) (sym is) (record {
-      applied = omega arith;
-      entries = λ e. (λ here. absurd (Contains-nil e here), λ holds. absurd (let a = holds.accepted.0 in let b = holds.applies in omega (arith, a, b)));
-    })
 
 module _ (n : ℕ) (shards : List Contents) (are : AreFresh n shards) where
   zeros : (f : Contents → ℕ) → ((i : ℕ) → f (fresh i n) ≡ 0) → map f shards ≡ replicate n 0
@@ -37,14 +27,14 @@ module _ (n : ℕ) (shards : List Contents) (are : AreFresh n shards) where
       let many : k < n = omega (arith, within, are.number_is) in
       get_or-map f shards k (fresh k n) d within ∙ ap f (are.each k (fresh k n) within) ∙ none k ∙ sym (get_or-replicate n k 0 d many))
 
-  pub fresh_core : (keys_of : Lang → List ℕ → List ℕ) (b : board.BoardState) → b.settings.shards ≡ n → board.StandsFor [] b → StandsFor keys_of (first_core n) (core b shards)
+  pub fresh_core : (IsWindow : Lang → List ℕ → ℕ → ℕ → Type 0) → StandsAtFirst IsWindow → (b : board.BoardState) → b.settings.shards ≡ n → board.StandsFor [] b → StandsFor IsWindow (first_core n) (core b shards)
   unfolding fresh
-  fresh_core keys_of b number stands = record {
+  fresh_core IsWindow law b number stands = record {
     past = stands;
     applied = zeros applied_of (λ i. refl);
     floors = zeros floor_of (λ i. refl);
     sound = first_is_sound b.settings (length b.state.views) n;
-    shards = λ i d lt. fresh_stands keys_of (changes_in b.state) (get_or shards i d) i n (are.each i d lt);
+    shards = λ i d lt. law (changes_in b.state) (get_or shards i d) (ap applied_of (are.each i d lt)) (ap (λ (c : Contents). c.entries) (are.each i d lt));
     numbered = record {
       number_is = are.number_is ∙ sym number;
       each = λ i d lt. (ap (λ (c : Contents). c.shard) (are.each i d lt), ap (λ (c : Contents). c.shards) (are.each i d lt) ∙ sym number);

@@ -1,5 +1,5 @@
 -- The entries that a shard has for a version are those of its files' windows.
-use Rattle.std.proofs.Common.{◌≡◌, ℕ, ◌<◌, ◌≤◌, ◌%◌, List, length, map, take, get_or, slice_get, Some, sym, ap, ap₂, ◌∙◌, subst, arith}
+use Rattle.std.proofs.Common.{◌≡◌, ℕ, ◌<◌, ◌≤◌, ◌%◌, List, length, map, take, get_or, Some, sym, ap, ap₂, ◌∙◌, subst, subst₂, arith}
 use Rattle.std.specs.Prelude.{Contains, All}
 use Rattle.std.specs.Arc.{arc_value}
 use Rattle.std.proofs.lemmas.List.{length-map, length-take-le, take-append-drop, get_or-map}
@@ -12,7 +12,7 @@ use Rattle.cq_history.specs.State.{State, changes_in, view_of}
 use Rattle.cq_history.specs.Core.{Core, IsReached}
 use Rattle.cq_history.proofs.Bounds.{InOrder, in_order}
 use Rattle.cq_history.proofs.Standing.{files_stand}
-use Rattle.cq_history.proofs.ShardLaws.{change_at-append}
+use Rattle.cq_history.proofs.Numbers.{change_at-append}
 use Rattle.cq_shard.specs.Shard as Shards
 use Rattle.cq_shard.specs.Shard.{Contents, Holds}
 use Rattle.cq_core.specs.Stands as board
@@ -35,8 +35,8 @@ front changes v r some low within =
 same_put : (q r p s : List ℕ) (a b : Lang) (x y : List ℕ) → Some (Put q p a x) ≡ Some (Put r s b y) → (q ≡ r) × (p ≡ s) × (a ≡ b) × (x ≡ y)
 same_put q r p s a b x y e = (cc e, cc e, cc e, cc e)
 
-module _ (keys_of : Lang → List ℕ → List ℕ) (changes : List Change) (c : Contents) (version key shard number : ℕ) (live : List ℕ) (lives : AreLive (take version changes) live) (within : version ≤ length changes) (applied : version ≤ c.applied) (floor : c.floor ≤ version) (is_shard : c.shard ≡ shard) (is_number : c.shards ≡ number) where
-  pub read_from : (e : Entry) → (e.key ≡ key) × Contains live e.change × Holds keys_of changes c e → IsRead keys_of number shard changes version key e
+module _ (IsWindow : Lang → List ℕ → ℕ → ℕ → Type 0) (changes : List Change) (c : Contents) (version key shard number : ℕ) (live : List ℕ) (lives : AreLive (take version changes) live) (within : version ≤ length changes) (applied : version ≤ c.applied) (floor : c.floor ≤ version) (is_shard : c.shard ≡ shard) (is_number : c.shards ≡ number) where
+  pub read_from : (e : Entry) → (e.key ≡ key) × Contains live e.change × Holds IsWindow changes c e → IsRead IsWindow number shard changes version key e
   read_from e (same, there, holds) =
       let (q, f, has, is) = (lives.each e.change).0 there in
       let last = ((files_stand (take version changes) q).each f).0 has in
@@ -48,12 +48,12 @@ module _ (keys_of : Lang → List ℕ → List ℕ) (changes : List Change) (c :
         file = f;
         there = has;
         number = is;
-        window = ap₂ (λ l t. slice_get (keys_of l t) e.at) (sym texts.2) (sym texts.3) ∙ holds.window ∙ ap Some same;
+        window = subst₂ (λ l t. IsWindow l t e.at key) texts.2 texts.3 (subst (IsWindow holds.lang holds.text e.at) same holds.window);
         same_key = same;
         mine = ap₂ (λ k n. k % n) (sym same) (sym is_number) ∙ holds.mine ∙ is_shard;
       }
 
-  pub read_to : (e : Entry) → IsRead keys_of number shard changes version key e → (e.key ≡ key) × Contains live e.change × Holds keys_of changes c e
+  pub read_to : (e : Entry) → IsRead IsWindow number shard changes version key e → (e.key ≡ key) × Contains live e.change × Holds IsWindow changes c e
   read_to e r =
       let f = r.file in
       let q = r.project in
@@ -70,7 +70,7 @@ module _ (keys_of : Lang → List ℕ → List ℕ) (changes : List Change) (c :
           accepted = (omega (arith, last.accepted.0, r.number), omega (arith, low, within, r.number));
           put = ap (change_at changes) (sym r.number) ∙ put;
           applies = omega (arith, low, applied, r.number);
-          window = r.window ∙ ap Some (sym r.same_key);
+          window = subst (IsWindow f.lang f.body e.at) (sym r.same_key) r.window;
           mine = ap₂ (λ k n. k % n) r.same_key is_number ∙ r.mine ∙ sym is_shard;
           lives = λ k d behind upto at names.
               last.last k d (omega (arith, behind, r.number)) (sym (front changes version k (omega (arith, behind)) (omega (arith, upto, floor)) within) ∙ at) names;
@@ -78,9 +78,9 @@ module _ (keys_of : Lang → List ℕ → List ℕ) (changes : List Change) (c :
       )
 
 -- what a shard answers for an open view
-module _ {W : Type 0} (IsWork : Lang → List ℕ → W → Type 0) (keys_of : Lang → List ℕ → List ℕ) (b : board.BoardState) (shards : List Contents) (k : Core) (is : StandsFor keys_of k (core b shards)) (by shard key : ℕ) (c : Contents) (there : shard < b.settings.shards) (read : c ≡ get_or shards shard c)
+module _ {W : Type 0} (IsWork : Lang → List ℕ → W → Type 0) (IsWindow : Lang → List ℕ → ℕ → ℕ → Type 0) (b : board.BoardState) (shards : List Contents) (k : Core) (is : StandsFor IsWindow k (core b shards)) (by shard key : ℕ) (c : Contents) (there : shard < b.settings.shards) (read : c ≡ get_or shards shard c)
     (v : View W) (view : IsView IsWork b.state v × (view_of b.state by ≡ Some v.version)) (live : List ℕ) (lent : live ≡ (arc_value v.listing).live) (bucket : List Entry)
-    (answered : Shards.StandsFor keys_of (changes_in b.state) c → AreAllInOrder EntryBefore (λ e. (e.key ≡ key) × Contains live e.change × Holds keys_of (changes_in b.state) c e) bucket) where
+    (answered : Shards.StandsFor IsWindow (changes_in b.state) c → AreAllInOrder EntryBefore (λ e. (e.key ≡ key) × Contains live e.change × Holds IsWindow (changes_in b.state) c e) bucket) where
   within : shard < length shards
   within = omega (arith, there, is.numbered.number_is)
 
@@ -114,19 +114,19 @@ module _ {W : Type 0} (IsWork : Lang → List ℕ → W → Type 0) (keys_of : L
       let each = is.numbered.each shard c within in
       (ap (λ (x : Contents). x.shard) read ∙ each.0, ap (λ (x : Contents). x.shards) read ∙ each.1)
 
-  stands : Shards.StandsFor keys_of (changes_in b.state) c
-  stands = subst (Shards.StandsFor keys_of (changes_in b.state)) (sym read) (is.shards shard c within)
+  stands : Shards.StandsFor IsWindow (changes_in b.state) c
+  stands = subst (Shards.StandsFor IsWindow (changes_in b.state)) (sym read) (is.shards shard c within)
 
-  entries_read_here : AreAllInOrder EntryBefore (IsRead keys_of b.settings.shards shard (changes_in b.state) v.version key) bucket
+  entries_read_here : AreAllInOrder EntryBefore (IsRead IsWindow b.settings.shards shard (changes_in b.state) v.version key) bucket
   entries_read_here =
-      in_order_same EntryBefore (λ e. (e.key ≡ key) × Contains live e.change × Holds keys_of (changes_in b.state) c e) (IsRead keys_of b.settings.shards shard (changes_in b.state) v.version key) bucket
-      (read_from keys_of (changes_in b.state) c v.version key shard b.settings.shards live lives accepted applied floor numbered.0 numbered.1)
-      (read_to keys_of (changes_in b.state) c v.version key shard b.settings.shards live lives accepted applied floor numbered.0 numbered.1)
+      in_order_same EntryBefore (λ e. (e.key ≡ key) × Contains live e.change × Holds IsWindow (changes_in b.state) c e) (IsRead IsWindow b.settings.shards shard (changes_in b.state) v.version key) bucket
+      (read_from IsWindow (changes_in b.state) c v.version key shard b.settings.shards live lives accepted applied floor numbered.0 numbered.1)
+      (read_to IsWindow (changes_in b.state) c v.version key shard b.settings.shards live lives accepted applied floor numbered.0 numbered.1)
       (answered stands)
 
-  pub entries_read : (version : ℕ) → view_of b.state by ≡ Some version → AreAllInOrder EntryBefore (IsRead keys_of b.settings.shards shard (changes_in b.state) version key) bucket
+  pub entries_read : (version : ℕ) → view_of b.state by ≡ Some version → AreAllInOrder EntryBefore (IsRead IsWindow b.settings.shards shard (changes_in b.state) version key) bucket
   entries_read version opened =
-      subst (λ n. AreAllInOrder EntryBefore (IsRead keys_of b.settings.shards shard (changes_in b.state) n key) bucket) (same_version v.version version (sym view.1 ∙ opened)) entries_read_here
+      subst (λ n. AreAllInOrder EntryBefore (IsRead IsWindow b.settings.shards shard (changes_in b.state) n key) bucket) (same_version v.version version (sym view.1 ∙ opened)) entries_read_here
     where
       same_version : (m n : ℕ) → Some m ≡ Some n → m ≡ n
       same_version m n e = cc e

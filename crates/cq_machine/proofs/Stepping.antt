@@ -30,8 +30,8 @@ use Rattle.cq_machine.specs.Views.{AreViews, IsView, version_in}
 abbrev pub core : board.BoardState → List Contents → CoreState
 core b shards = record { board = b; shards = shards }
 
-module _ (law : StandsOn) (keys_of : Lang → List ℕ → List ℕ) (old new : board.BoardState) (shards : List Contents) (e : Event) (adds : board.Adds e old new) where
-  module _ (k : Core) (is : StandsFor keys_of k (core old shards)) where
+module _ (IsWindow : Lang → List ℕ → ℕ → ℕ → Type 0) (law : StandsOn IsWindow) (old new : board.BoardState) (shards : List Contents) (e : Event) (adds : board.Adds e old new) where
+  module _ (k : Core) (is : StandsFor IsWindow k (core old shards)) where
     past : board.StandsFor (k.history ++ e ∷ []) new
     past = adds.history k.history is.past
 
@@ -58,7 +58,7 @@ module _ (law : StandsOn) (keys_of : Lang → List ℕ → List ℕ) (old new : 
     pub changes_now : changes_in new.state ≡ changes_in old.state ++ accepted (e ∷ [])
     changes_now = ap changes_in state_after ∙ changes_after old.state e
 
-    pub stands_then : IsAppliedFor k.applied e → StandsFor keys_of (stepped k (Adds e)) (core new shards)
+    pub stands_then : IsAppliedFor k.applied e → StandsFor IsWindow (stepped k (Adds e)) (core new shards)
     stands_then reaches = record {
       past = past;
       applied = is.applied;
@@ -66,12 +66,12 @@ module _ (law : StandsOn) (keys_of : Lang → List ℕ → List ℕ) (old new : 
       sound = subst₂ (λ set n. IsSound set n (stepped k (Adds e))) (sym adds.settings) (sym adds.callers)
           (step_is_sound old.settings (length old.state.views) k (Adds e) is.sound (allowed_then, reaches));
       shards = λ i d lt.
-          subst (λ cs. shard.StandsFor keys_of cs (get_or shards i d)) (sym changes_now)
-          (law keys_of (changes_in old.state) (accepted (e ∷ [])) (get_or shards i d) (is.numbered.passed i d lt) (is.shards i d lt));
+          subst (λ cs. shard.StandsFor IsWindow cs (get_or shards i d)) (sym changes_now)
+          (law (changes_in old.state) (accepted (e ∷ [])) (get_or shards i d) (is.numbered.passed i d lt) (is.shards i d lt));
       numbered = subst (λ set. AreNumbered set.shards shards) (sym adds.settings) is.numbered;
     }
 
-  pub takes : ((k : Core) → StandsFor keys_of k (core old shards) → IsAppliedFor k.applied e) → Takes keys_of (Adds e) (core old shards) (core new shards)
+  pub takes : ((k : Core) → StandsFor IsWindow k (core old shards) → IsAppliedFor k.applied e) → Takes IsWindow (Adds e) (core old shards) (core new shards)
   takes reaches = record {
     may = λ k is. (allowed_then k is, reaches k is);
     core = λ k is. stands_then k is (reaches k is);
@@ -95,13 +95,13 @@ module _ {W : Type 0} (IsWork : Lang → List ℕ → W → Type 0) where
       let view = order.views by p opened in
       omega (arith, view.1, order.published, prefix_len-le-length is_done s.slots, length-map s.slots (λ (slot : Slot). slot.change))
 
-  module _ (law : StandsOn) (keys_of : Lang → List ℕ → List ℕ) (old new : board.BoardState) (shards : List Contents) (e : Event) (adds : board.Adds e old new) (k : Core) (is : StandsFor keys_of k (core old shards)) (views : List (Option (View W))) (are : AreViews IsWork old.state views) where
+  module _ (IsWindow : Lang → List ℕ → ℕ → ℕ → Type 0) (law : StandsOn IsWindow) (old new : board.BoardState) (shards : List Contents) (e : Event) (adds : board.Adds e old new) (k : Core) (is : StandsFor IsWindow k (core old shards)) (views : List (Option (View W))) (are : AreViews IsWork old.state views) where
     -- the views as they were
     pub views_stay : (after old.state e).views ≡ old.state.views → AreViews IsWork new.state views
     views_stay same = record {
-      versions = are.versions ∙ sym same ∙ ap (λ (s : State). s.views) (sym (state_after law keys_of old new shards e adds k is));
+      versions = are.versions ∙ sym same ∙ ap (λ (s : State). s.views) (sym (state_after IsWindow law old new shards e adds k is));
       each = λ i v lt here.
-          view_stays old.state new.state (accepted (e ∷ [])) v (changes_now law keys_of old new shards e adds k is)
+          view_stays old.state new.state (accepted (e ∷ [])) v (changes_now IsWindow law old new shards e adds k is)
           (accepted_version old.settings (length old.state.views) k.history old.state i v.version is.past.is is.past.lawful (version_at old.state views i v are lt here))
           (are.each i v lt here);
     }
@@ -109,70 +109,70 @@ module _ {W : Type 0} (IsWork : Lang → List ℕ → W → Type 0) where
     -- one caller's view is another one now, or none
     pub view_set : (by : ℕ) (view : Option (View W)) → (after old.state e).views ≡ set old.state.views by (option_map version_in view) → ((v : View W) → view ≡ Some v → IsView IsWork new.state v) → AreViews IsWork new.state (set views by view)
     view_set by view changed is_view = record {
-      versions = map-set (option_map version_in) views by view ∙ ap (λ vs. set vs by (option_map version_in view)) are.versions ∙ sym changed ∙ ap (λ (s : State). s.views) (sym (state_after law keys_of old new shards e adds k is));
+      versions = map-set (option_map version_in) views by view ∙ ap (λ vs. set vs by (option_map version_in view)) are.versions ∙ sym changed ∙ ap (λ (s : State). s.views) (sym (state_after IsWindow law old new shards e adds k is));
       each = λ i v lt here.
           let within : i < length views = omega (arith, lt, length-set views by view) in
           ⊎_elim
           (λ (same : i ≡ by). is_view v (sym (ap (λ n. get_or (set views n view) i None) (sym same) ∙ get_or-set_same views i view None within) ∙ here None))
           (λ other.
           let there : (d : Option (View W)) → get_or views i d ≡ Some v = λ d. sym (get_or-set_other views by i view d other) ∙ here d in
-          view_stays old.state new.state (accepted (e ∷ [])) v (changes_now law keys_of old new shards e adds k is)
+          view_stays old.state new.state (accepted (e ∷ [])) v (changes_now IsWindow law old new shards e adds k is)
           (accepted_version old.settings (length old.state.views) k.history old.state i v.version is.past.is is.past.lawful (version_at old.state views i v are within there))
           (are.each i v within there))
           (cases_eq i by);
     }
 
 -- what a core keeps
-abbrev pub Keeps : {W : Type 0} → (Settings → Lang → List ℕ → List ℕ) → (Settings → Lang → List ℕ → W → Type 0) → board.BoardState → List Contents → List (Option (View W)) → Type 0
-Keeps keys_at work_at b shards views = ((k : Core) × StandsFor (keys_at b.settings) k (core b shards)) × AreViews (work_at b.settings) b.state views
+abbrev pub Keeps : {W : Type 0} → (Settings → Lang → List ℕ → ℕ → ℕ → Type 0) → (Settings → Lang → List ℕ → W → Type 0) → board.BoardState → List Contents → List (Option (View W)) → Type 0
+Keeps window_at work_at b shards views = ((k : Core) × StandsFor (window_at b.settings) k (core b shards)) × AreViews (work_at b.settings) b.state views
 
-module _ {W : Type 0} (law : StandsOn) (keys_at : Settings → Lang → List ℕ → List ℕ) (work_at : Settings → Lang → List ℕ → W → Type 0) (old new : board.BoardState) (shards : List Contents) (views : List (Option (View W))) (keeps : Keeps keys_at work_at old shards views) (e : Event) (adds : board.Adds e old new) where
-  pub keeps_on : ((k : Core) → StandsFor (keys_at old.settings) k (core old shards) → IsAppliedFor k.applied e) → (after old.state e).views ≡ old.state.views → Keeps keys_at work_at new shards views
+module _ {W : Type 0} (window_at : Settings → Lang → List ℕ → ℕ → ℕ → Type 0) (law : (set : Settings) → StandsOn (window_at set)) (work_at : Settings → Lang → List ℕ → W → Type 0) (old new : board.BoardState) (shards : List Contents) (views : List (Option (View W))) (keeps : Keeps window_at work_at old shards views) (e : Event) (adds : board.Adds e old new) where
+  pub keeps_on : ((k : Core) → StandsFor (window_at old.settings) k (core old shards) → IsAppliedFor k.applied e) → (after old.state e).views ≡ old.state.views → Keeps window_at work_at new shards views
   keeps_on reaches same =
       let k = keeps.0.0 in
       let is = keeps.0.1 in
-      subst (λ set. ((j : Core) × StandsFor (keys_at set) j (core new shards)) × AreViews (work_at set) new.state views) (sym adds.settings) (
-        (stepped k (Adds e), stands_then law (keys_at old.settings) old new shards e adds k is (reaches k is)),
-        views_stay (work_at old.settings) law (keys_at old.settings) old new shards e adds k is views keeps.1 same,
+      subst (λ set. ((j : Core) × StandsFor (window_at set) j (core new shards)) × AreViews (work_at set) new.state views) (sym adds.settings) (
+        (stepped k (Adds e), stands_then (window_at old.settings) (law old.settings) old new shards e adds k is (reaches k is)),
+        views_stay (work_at old.settings) (window_at old.settings) (law old.settings) old new shards e adds k is views keeps.1 same,
       )
 
   -- with one caller's view set
-  pub keeps_view : ((k : Core) → StandsFor (keys_at old.settings) k (core old shards) → IsAppliedFor k.applied e) → (by : ℕ) (view : Option (View W)) → (after old.state e).views ≡ set old.state.views by (option_map version_in view) → accepted (e ∷ []) ≡ [] →
-      ((v : View W) → view ≡ Some v → IsView (work_at old.settings) old.state v) → Keeps keys_at work_at new shards (set views by view)
+  pub keeps_view : ((k : Core) → StandsFor (window_at old.settings) k (core old shards) → IsAppliedFor k.applied e) → (by : ℕ) (view : Option (View W)) → (after old.state e).views ≡ set old.state.views by (option_map version_in view) → accepted (e ∷ []) ≡ [] →
+      ((v : View W) → view ≡ Some v → IsView (work_at old.settings) old.state v) → Keeps window_at work_at new shards (set views by view)
   keeps_view reaches by view changed none is_view =
       let k = keeps.0.0 in
       let is = keeps.0.1 in
-      let same : changes_in new.state ≡ changes_in old.state = changes_now law (keys_at old.settings) old new shards e adds k is ∙ ap (λ cs. changes_in old.state ++ cs) none ∙ append-nil (changes_in old.state) in
-      subst (λ set₁. ((j : Core) × StandsFor (keys_at set₁) j (core new shards)) × AreViews (work_at set₁) new.state (set views by view)) (sym adds.settings) (
-        (stepped k (Adds e), stands_then law (keys_at old.settings) old new shards e adds k is (reaches k is)),
-        view_set (work_at old.settings) law (keys_at old.settings) old new shards e adds k is views keeps.1 by view changed
+      let same : changes_in new.state ≡ changes_in old.state = changes_now (window_at old.settings) (law old.settings) old new shards e adds k is ∙ ap (λ cs. changes_in old.state ++ cs) none ∙ append-nil (changes_in old.state) in
+      subst (λ set₁. ((j : Core) × StandsFor (window_at set₁) j (core new shards)) × AreViews (work_at set₁) new.state (set views by view)) (sym adds.settings) (
+        (stepped k (Adds e), stands_then (window_at old.settings) (law old.settings) old new shards e adds k is (reaches k is)),
+        view_set (work_at old.settings) (window_at old.settings) (law old.settings) old new shards e adds k is views keeps.1 by view changed
             (λ v at. subst (λ cs. IsListing (work_at old.settings) (take v.version cs) (arc_value v.listing)) (sym same) (is_view v at)),
       )
 
   -- what is allowed of it
   pub allowed_of : Allowed old.settings old.state e
-  allowed_of = allowed_now law (keys_at old.settings) old new shards e adds keeps.0.0 keeps.0.1
+  allowed_of = allowed_now (window_at old.settings) (law old.settings) old new shards e adds keeps.0.0 keeps.0.1
 
   -- the step is done
-  pub steps_on : ((k : Core) → StandsFor (keys_at old.settings) k (core old shards) → IsAppliedFor k.applied e) → (o : Outcome) → IsDone o → IsStepped (keys_at old.settings) (Adds e) (core old shards) (core new shards) o
+  pub steps_on : ((k : Core) → StandsFor (window_at old.settings) k (core old shards) → IsAppliedFor k.applied e) → (o : Outcome) → IsDone o → IsStepped (window_at old.settings) (Adds e) (core old shards) (core new shards) o
   steps_on reaches o done = record {
     settings = adds.settings;
     callers = adds.callers;
-    done = λ _. takes law (keys_at old.settings) old new shards e adds reaches;
+    done = λ _. takes (window_at old.settings) (law old.settings) old new shards e adds reaches;
     not_done = λ not. absurd (not done);
   }
 
 -- it is not
-pub stays : (keys_of : Lang → List ℕ → List ℕ) (st : Step) (old new : board.BoardState) (shards : List Contents) (o : Outcome) → (IsDone o → ⊥) → new ≡ old → IsStepped keys_of st (core old shards) (core new shards) o
-stays keys_of st old new shards o not same = record {
+pub stays : (IsWindow : Lang → List ℕ → ℕ → ℕ → Type 0) (st : Step) (old new : board.BoardState) (shards : List Contents) (o : Outcome) → (IsDone o → ⊥) → new ≡ old → IsStepped IsWindow st (core old shards) (core new shards) o
+stays IsWindow st old new shards o not same = record {
   settings = ap (λ (b : board.BoardState). b.settings) same;
   callers = ap (λ (b : board.BoardState). length b.state.views) same;
   done = λ done. absurd (not done);
   not_done = λ _. ap (λ b. core b shards) same;
 }
 
-pub keeps_same : {W : Type 0} (keys_at : Settings → Lang → List ℕ → List ℕ) (work_at : Settings → Lang → List ℕ → W → Type 0) (old new : board.BoardState) (shards : List Contents) (views : List (Option (View W))) → new ≡ old → Keeps keys_at work_at old shards views → Keeps keys_at work_at new shards views
-keeps_same keys_at work_at old new shards views same keeps = subst (λ b. Keeps keys_at work_at b shards views) (sym same) keeps
+pub keeps_same : {W : Type 0} (window_at : Settings → Lang → List ℕ → ℕ → ℕ → Type 0) (work_at : Settings → Lang → List ℕ → W → Type 0) (old new : board.BoardState) (shards : List Contents) (views : List (Option (View W))) → new ≡ old → Keeps window_at work_at old shards views → Keeps window_at work_at new shards views
+keeps_same window_at work_at old new shards views same keeps = subst (λ b. Keeps window_at work_at b shards views) (sym same) keeps
 
 -- each shard has applied so much
 pub all_applied : (v : ℕ) (shards : List Contents) → All (λ s. v ≤ s.applied) shards → All (λ a. v ≤ a) (map applied_of shards)

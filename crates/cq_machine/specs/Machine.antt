@@ -38,18 +38,18 @@ pub record AreFresh (number : ℕ) (shards : List shard.Contents) : Type 0 where
   pub each : (i : ℕ) (d : shard.Contents) → i < length shards → slice_index_or shards i d ≡ record { shard = i; shards = number; applied = 0; floor = 0; entries = [] }
 
 -- the core is this sound one of the history, and each shard stands for the changes
-pub record StandsFor (keys_of : Lang → List ℕ → List ℕ) (k : history.Core) (c : CoreState) : Type 0 where
+pub record StandsFor (IsWindow : Lang → List ℕ → ℕ → ℕ → Type 0) (k : history.Core) (c : CoreState) : Type 0 where
   pub past : board.StandsFor k.history c.board
   pub applied : map applied_of c.shards ≡ k.applied
   pub floors : map floor_of c.shards ≡ k.floors
   pub sound : history.IsSound c.board.settings (length c.board.state.views) k
-  pub shards : All (shard.StandsFor keys_of (changes_in c.board.state)) c.shards
+  pub shards : All (shard.StandsFor IsWindow (changes_in c.board.state)) c.shards
   pub numbered : AreNumbered c.board.settings.shards c.shards
 
 -- for whichever core it stood, it stands for that one behind the step, which it might take
-pub record Takes (keys_of : Lang → List ℕ → List ℕ) (step : history.Step) (old new : CoreState) : Type 0 where
-  pub may : (k : history.Core) → StandsFor keys_of k old → history.MayStep old.board.settings (length old.board.state.views) k step
-  pub core : (k : history.Core) → StandsFor keys_of k old → StandsFor keys_of (history.stepped k step) new
+pub record Takes (IsWindow : Lang → List ℕ → ℕ → ℕ → Type 0) (step : history.Step) (old new : CoreState) : Type 0 where
+  pub may : (k : history.Core) → StandsFor IsWindow k old → history.MayStep old.board.settings (length old.board.state.views) k step
+  pub core : (k : history.Core) → StandsFor IsWindow k old → StandsFor IsWindow (history.stepped k step) new
 
 abbrev pub IsCaller : CoreState → ℕ → Type 0
 IsCaller c by = by < length c.board.state.views
@@ -127,8 +127,8 @@ IsDone (outcome.Refused cause) = ⊥
 IsDone outcome.No = ⊥
 
 -- the core has taken the step, or is as it was; its settings and how many callers it has stay
-pub record IsStepped (keys_of : Lang → List ℕ → List ℕ) (step : history.Step) (old new : CoreState) (o : Outcome) : Type 0 where
+pub record IsStepped (IsWindow : Lang → List ℕ → ℕ → ℕ → Type 0) (step : history.Step) (old new : CoreState) (o : Outcome) : Type 0 where
   pub settings : new.board.settings ≡ old.board.settings
   pub callers : length new.board.state.views ≡ length old.board.state.views
-  pub done : IsDone o → Takes keys_of step old new
+  pub done : IsDone o → Takes IsWindow step old new
   pub not_done : (IsDone o → ⊥) → new ≡ old

@@ -8,7 +8,7 @@ ghost use Rattle.std.specs.Arc.{arc_value};
 ghost use Rattle.cq_base.specs.declared.settings.Settings.{Settings};
 ghost use Rattle.cq_base.specs.declared.change.Change.{Change};
 ghost use Rattle.cq_history.specs.Changes.{change_at};
-ghost use Rattle.cq_shard.specs.Shard as shards;
+ghost use Rattle.cq_shard.specs.Shard.{HasWindow};
 ghost use Rattle.cq_history.specs.Core as history;
 ghost use Rattle.cq_history.specs.declared.event.Event.TheVariants as event;
 ghost use Rattle.cq_history.specs.State.{changes_in, view_of, first_free, ready, IsUndone};
@@ -21,7 +21,7 @@ ghost use Rattle.cq_machine.specs.declared.step.Step.TheVariants as step;
 use crate::step::{Outcome, Step};
 use cq_base::{Change, Entry, Memory, Settings, Steps};
 use cq_core::{Board, Finished, Job, Refused, View};
-use cq_shard::{Indexed, Shard, it_stands_on};
+use cq_shard::{Indexed, Shard, it_answers_what_it_holds, it_stands_at_first, it_stands_on};
 use std::alloc::Global;
 use std::marker::Model;
 use std::sync::Arc;
@@ -39,22 +39,24 @@ impl<W: Indexed> Model for Core<W> {
     ghost use Rattle.cq_machine.specs.Machine.{CoreState, StandsFor};
     ghost use Rattle.cq_machine.specs.Views.{AreViews};
     ghost use Rattle.cq_history.specs.Core as history;
+    ghost use Rattle.cq_shard.specs.Shard.{HasWindow};
 
     ghost Value = { CoreState };
 
     ghost view = { λ c. record { board = c.board; shards = c.shards.items } };
 
-    ghost invariant = { λ c. ((k : history.Core) × StandsFor (W.keys_of c.board.settings) k (record { board = c.board; shards = c.shards.items })) × AreViews (W.IsWorkOf c.board.settings) c.board.state c.views.items };
+    ghost invariant = { λ c. ((k : history.Core) × StandsFor (HasWindow W.keys_in W.IsWorkOf c.board.settings) k (record { board = c.board; shards = c.shards.items })) × AreViews (W.IsWorkOf c.board.settings) c.board.state c.views.items };
 }
 
 impl<W: Indexed> Core<W> {
     /// A core for so many callers, before any step.
     pub fn new(alloc: Global, settings: &Settings, callers: u32) -> Result<Core<W>, Memory>
         requires { 1 ≤ settings.now.shards }
-        ensures stands { IfOk result (StandsFor (W.keys_of settings.now) (history.first_core settings.now.shards)) }
+        ensures stands { IfOk result (StandsFor (HasWindow W.keys_in W.IsWorkOf settings.now) (history.first_core settings.now.shards)) }
         ensures settings { IfOk result (λ c. c.board.settings ≡ settings.now) }
         ensures callers { IfOk result (λ c. length c.board.state.views ≡ callers) }
     {
+        it_stands_at_first::<W>();
         let board = Board::new(alloc, settings, callers)?;
         let shards = shards_of(alloc, settings.shards)?;
         let views = no_views(alloc, callers)?;
@@ -99,8 +101,9 @@ impl<W: Indexed> Core<W> {
         requires caller { IsCaller self.now by }
         requires shard { IsShard self.now shard }
         ensures none { IfOk result (λ entries. IsNone entries ↔ IsNone (view_of self.now.board.state by)) }
-        ensures entries { IfOk result (λ entries. IfSome entries (λ es. (version : ℕ) → view_of self.now.board.state by ≡ Some version → AreAllInOrder EntryBefore (IsRead (W.keys_of self.now.board.settings) self.now.board.settings.shards shard (changes_in self.now.board.state) version key) es.items)) }
+        ensures entries { IfOk result (λ entries. IfSome entries (λ es. (version : ℕ) → view_of self.now.board.state by ≡ Some version → AreAllInOrder EntryBefore (IsRead (HasWindow W.keys_in W.IsWorkOf self.now.board.settings) self.now.board.settings.shards shard (changes_in self.now.board.state) version key) es.items)) }
     {
+        it_answers_what_it_holds::<W>();
         match &self.views[by as usize] {
             Some(view) => {
                 let bucket = self.shards[shard as usize].bucket(alloc, key, view.listing.live())?;
@@ -120,7 +123,7 @@ impl<W: Indexed> Core<W> {
         requires named { IsNamed self.old step }
         requires work { HasWork (W.IsWorkOf self.old.board.settings) self.old step }
         ensures outcome { IfOk result (IsOutcome self.old self.new step) }
-        ensures steps { IfOk result (IsStepped (W.keys_of self.old.board.settings) (step_of self.old step) self.old self.new) }
+        ensures steps { IfOk result (IsStepped (HasWindow W.keys_in W.IsWorkOf self.old.board.settings) (step_of self.old step) self.old self.new) }
         ensures err { OnErr result (self.new ≡ self.old) }
     {
         match step {
@@ -139,10 +142,10 @@ impl<W: Indexed> Core<W> {
     fn accept(&mut self, alloc: Global, by: u32, change: Change) -> Result<Outcome, Memory>
         requires caller { IsCaller self.old by }
         ensures outcome { IfOk result (IsOutcome {W = W} self.old self.new (step.Accept by change)) }
-        ensures steps { IfOk result (IsStepped (W.keys_of self.old.board.settings) (step_of {W = W} self.old (step.Accept by change)) self.old self.new) }
+        ensures steps { IfOk result (IsStepped (HasWindow W.keys_in W.IsWorkOf self.old.board.settings) (step_of {W = W} self.old (step.Accept by change)) self.old self.new) }
         ensures err { OnErr result (self.new ≡ self.old) }
     {
-        it_stands_on();
+        it_stands_on::<W>();
         match self.board.accept(alloc, by, change) {
             Ok(number) => Ok(Outcome::Value(number)),
             Err(Refused::Memory) => Err(Memory),
@@ -153,9 +156,9 @@ impl<W: Indexed> Core<W> {
     fn ask(&mut self, by: u32) -> Outcome
         requires caller { IsCaller self.old by }
         ensures outcome { IsOutcome {W = W} self.old self.new (step.Ask by) result }
-        ensures steps { IsStepped (W.keys_of self.old.board.settings) (step_of {W = W} self.old (step.Ask by)) self.old self.new result }
+        ensures steps { IsStepped (HasWindow W.keys_in W.IsWorkOf self.old.board.settings) (step_of {W = W} self.old (step.Ask by)) self.old self.new result }
     {
-        it_stands_on();
+        it_stands_on::<W>();
         let asked = self.board.ask(by);
         Outcome::Value(asked.accepted)
     }
@@ -163,10 +166,10 @@ impl<W: Indexed> Core<W> {
     fn take(&mut self, by: u32) -> Result<Outcome, Memory>
         requires caller { IsCaller self.old by }
         ensures outcome { IfOk result (IsOutcome {W = W} self.old self.new (step.Took by)) }
-        ensures steps { IfOk result (IsStepped (W.keys_of self.old.board.settings) (step_of {W = W} self.old (step.Took by)) self.old self.new) }
+        ensures steps { IfOk result (IsStepped (HasWindow W.keys_in W.IsWorkOf self.old.board.settings) (step_of {W = W} self.old (step.Took by)) self.old self.new) }
         ensures err { OnErr result (self.new ≡ self.old) }
     {
-        it_stands_on();
+        it_stands_on::<W>();
         match self.board.take(by)? {
             Some(job) => Ok(Outcome::Value(job.change)),
             None => Ok(Outcome::NoJob),
@@ -175,9 +178,9 @@ impl<W: Indexed> Core<W> {
 
     fn back(&mut self, by: u32, change: u64) -> Outcome
         ensures outcome { IsOutcome {W = W} self.old self.new (step.Back by change) result }
-        ensures steps { IsStepped (W.keys_of self.old.board.settings) (step_of {W = W} self.old (step.Back by change)) self.old self.new result }
+        ensures steps { IsStepped (HasWindow W.keys_in W.IsWorkOf self.old.board.settings) (step_of {W = W} self.old (step.Back by change)) self.old self.new result }
     {
-        it_stands_on();
+        it_stands_on::<W>();
         if self.board.back(by, change) {
             Outcome::Ok
         } else {
@@ -189,9 +192,9 @@ impl<W: Indexed> Core<W> {
         requires caller { IsCaller self.old by }
         requires work { HasWork (W.IsWorkOf self.old.board.settings) self.old (step.Done by change work) }
         ensures outcome { IsOutcome {W = W} self.old self.new (step.Done by change work) result }
-        ensures steps { IsStepped (W.keys_of self.old.board.settings) (step_of {W = W} self.old (step.Done by change work)) self.old self.new result }
+        ensures steps { IsStepped (HasWindow W.keys_in W.IsWorkOf self.old.board.settings) (step_of {W = W} self.old (step.Done by change work)) self.old self.new result }
     {
-        it_stands_on();
+        it_stands_on::<W>();
         if !self.board.is_undone(change) {
             return Outcome::No;
         }
@@ -204,7 +207,7 @@ impl<W: Indexed> Core<W> {
     fn apply<L: Ledger>(&mut self, shard: u32, steps: &mut Steps<L>) -> Result<Outcome, Memory>
         requires { IsShard self.old shard }
         ensures outcome { IfOk result (IsOutcome {W = W} self.old self.new (step.Apply shard)) }
-        ensures steps { IfOk result (IsStepped (W.keys_of self.old.board.settings) (step_of {W = W} self.old (step.Apply shard)) self.old self.new) }
+        ensures steps { IfOk result (IsStepped (HasWindow W.keys_in W.IsWorkOf self.old.board.settings) (step_of {W = W} self.old (step.Apply shard)) self.old self.new) }
         ensures err { OnErr result (self.new ≡ self.old) }
     {
         let i = shard as usize;
@@ -221,10 +224,10 @@ impl<W: Indexed> Core<W> {
 
     fn publish(&mut self, alloc: Global, version: u64) -> Result<Outcome, Memory>
         ensures outcome { IfOk result (IsOutcome {W = W} self.old self.new (step.Publish version)) }
-        ensures steps { IfOk result (IsStepped (W.keys_of self.old.board.settings) (step_of {W = W} self.old (step.Publish version)) self.old self.new) }
+        ensures steps { IfOk result (IsStepped (HasWindow W.keys_in W.IsWorkOf self.old.board.settings) (step_of {W = W} self.old (step.Publish version)) self.old self.new) }
         ensures err { OnErr result (self.new ≡ self.old) }
     {
-        it_stands_on();
+        it_stands_on::<W>();
         if version <= self.board.published()
             || version > self.board.ready()
             || !have_applied(&self.shards, version)
@@ -238,10 +241,10 @@ impl<W: Indexed> Core<W> {
     fn open(&mut self, by: u32) -> Result<Outcome, Memory>
         requires caller { IsCaller self.old by }
         ensures outcome { IfOk result (IsOutcome {W = W} self.old self.new (step.Open by)) }
-        ensures steps { IfOk result (IsStepped (W.keys_of self.old.board.settings) (step_of {W = W} self.old (step.Open by)) self.old self.new) }
+        ensures steps { IfOk result (IsStepped (HasWindow W.keys_in W.IsWorkOf self.old.board.settings) (step_of {W = W} self.old (step.Open by)) self.old self.new) }
         ensures err { OnErr result (self.new ≡ self.old) }
     {
-        it_stands_on();
+        it_stands_on::<W>();
         if self.views[by as usize].is_some() {
             return Ok(Outcome::No);
         }
@@ -254,9 +257,9 @@ impl<W: Indexed> Core<W> {
     fn shut(&mut self, by: u32) -> Outcome
         requires caller { IsCaller self.old by }
         ensures outcome { IsOutcome {W = W} self.old self.new (step.Shut by) result }
-        ensures steps { IsStepped (W.keys_of self.old.board.settings) (step_of {W = W} self.old (step.Shut by)) self.old self.new result }
+        ensures steps { IsStepped (HasWindow W.keys_in W.IsWorkOf self.old.board.settings) (step_of {W = W} self.old (step.Shut by)) self.old self.new result }
     {
-        it_stands_on();
+        it_stands_on::<W>();
         if self.views[by as usize].is_none() {
             return Outcome::No;
         }

@@ -14,8 +14,7 @@ struct Same {}
 
 impl Indexed for Same {
     ghost use Rattle.std.specs.Prelude.{◌≡◌, ◌∷◌, [], refl};
-
-    ghost keys_of = { λ settings lang text. 3 ∷ 4 ∷ [] };
+    ghost use Rattle.std.proofs.Common.{rules};
 
     ghost keys_in = { λ work. 3 ∷ 4 ∷ [] };
 
@@ -25,7 +24,9 @@ impl Indexed for Same {
         &[3, 4]
     }
 
-    ghost determined = { λ settings lang text work is. refl };
+    ghost determined = { λ settings lang text work other is also. refl };
+
+    ghost few = { Prim.search rules };
 }
 
 const SETTINGS: Settings = Settings {

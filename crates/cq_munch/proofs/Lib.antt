@@ -7,6 +7,5 @@ pub mod Orders
 pub mod Texts
 pub mod Decoding
 pub mod Elements
-pub mod OneAnswer
 pub mod Joining
 pub mod Marks

@@ -10,3 +10,4 @@ pub mod Characters
 pub mod Language
 pub mod Table
 pub mod Lexed
+pub mod OneAnswer

@@ -1,6 +1,6 @@
 -- Places of one key, and the entries that stand for them.
-use Rattle.std.proofs.Common.{◌≡◌, ◌≢◌, ◌↔◌, ℕ, ◌+◌, ◌<◌, ◌≤◌, List, [], ◌∷◌, ◌++◌, length, get_or, take, slice_get, Option, Some, None, false, is_some, true≢false, refl, sym, ap, ap₂, ◌∙◌, subst, inl, inr, ⊎_elim, arith}
-use Rattle.std.specs.Prelude.{AllPairs, Contains, Any}
+use Rattle.std.proofs.Common.{◌≡◌, ◌≢◌, ◌↔◌, ℕ, ◌+◌, ◌<◌, ◌≤◌, List, [], ◌∷◌, ◌++◌, length, get_or, take, slice_get, Bool, Option, Some, None, false, is_some, true≢false, refl, sym, ap, ap₂, ◌∙◌, subst, inl, inr, ⊎_elim, arith}
+use Rattle.std.specs.Prelude.{AllPairs, Contains, Any, IsTrue}
 use Rattle.std.specs.Arc.{arc_value}
 use Rattle.std.specs.Ordering.{is_eq, nat_cmp}
 use Rattle.std.proofs.lemmas.Bool.{cases_lt, cases_order, cases_eq}
@@ -19,7 +19,7 @@ use Rattle.cq_tokens.specs.declared.FileTokens.{FileTokens}
 use Rattle.cq_tokens.specs.Corpus.{changes_of, keys_of}
 use Rattle.cq_clones.specs.Windows.{HasKey, AreKeyed, EntryBefore, IsBucket}
 use Rattle.cq_refine.specs.Sets.{AreEntries, IsGroupFrom, AreAllOnce}
-use Rattle.cq_refine.specs.Places.{IsIndexOf, IsPlaceOf, IsGroupOfKey}
+use Rattle.cq_refine.specs.Places.{IsPlaceOf, IsGroupOfKey}
 use Rattle.cq_refine.proofs.Words.{stands_front}
 use Rattle.cq_refine.proofs.Walk.{two_in}
 
@@ -78,7 +78,7 @@ groups_of_key least key corpus keys places groups are once =
 abbrev pub ArePlacesOf : List ℕ → List Entry → List Place → Type 0
 ArePlacesOf changes bucket places = AreAllInOrder (λ p q. p ≢ q) (λ p. Any (λ e. IsPlaceOf changes e p) bucket) places
 
-any_entry : (P : Entry → Type 0) (es : List Entry) (e : Entry) → Contains es e → P e → Any P es
+pub any_entry : (P : Entry → Type 0) (es : List Entry) (e : Entry) → Contains es e → P e → Any P es
 any_entry P es e (k, within, at) h = (k, e, within, at, h)
 
 -- one entry more
@@ -177,20 +177,23 @@ module _ (changes : List ℕ) (keys : List (List ℕ)) (key : ℕ) (bucket : Lis
 pub sizes_of : {L : Type 0} (files : List (FileTokens L)) → length (keys_of files) ≡ length (changes_of files)
 sizes_of files = length-map files (λ file. arc_value file.keys) ∙ sym (length-map files (λ file. file.change))
 
--- the index of the first changes
-abbrev pub IsIndexUpto : List ℕ → ℕ → (ℕ → Option ℕ) → Type 0
-IsIndexUpto changes n index = (change file : ℕ) → (index change ≡ Some file) ↔ ((file < n) × (slice_get changes file ≡ Some change))
+-- the index of the first changes, for those asked
+abbrev pub IsIndexUpto : (ℕ → Type 0) → List ℕ → ℕ → (ℕ → Option ℕ) → Type 0
+IsIndexUpto Asked changes n index = (change file : ℕ) → Asked change → (index change ≡ Some file) ↔ ((file < n) × (slice_get changes file ≡ Some change))
 
-pub index_more : (changes : List ℕ) (n c : ℕ) (old new : ℕ → Option ℕ) → AllPairs (λ a b. a ≢ b) changes → slice_get changes n ≡ Some c → new c ≡ Some n → ((q : ℕ) → q ≢ c → new q ≡ old q) → IsIndexUpto changes n old → IsIndexUpto changes (n + 1) new
-index_more changes n c old new apart here same other before q file =
+abbrev pub Every : ℕ → Type 0
+Every change = Unit {0}
+
+pub index_more : (Asked : ℕ → Type 0) (changes : List ℕ) (n c : ℕ) (old new : ℕ → Option ℕ) → AllPairs (λ a b. a ≢ b) changes → slice_get changes n ≡ Some c → (Asked c → new c ≡ Some n) → ((q : ℕ) → q ≢ c → new q ≡ old q) → IsIndexUpto Asked changes n old → IsIndexUpto Asked changes (n + 1) new
+index_more Asked changes n c old new apart here same other before q file asked =
     ⊎_elim
-    (λ e. (
-      λ h. let f : n ≡ file = same_Some _ _ (sym same ∙ ap new (sym e) ∙ h) in (omega (arith, f), ap (slice_get changes) (sym f) ∙ here ∙ ap Some (sym e)),
-      λ (lt, put). let f : n ≡ file = one_position changes n file c apart here (put ∙ ap Some e) in ap new e ∙ same ∙ ap Some f,
+    (λ e. let at = same (subst Asked e asked) in (
+      λ h. let f : n ≡ file = same_Some _ _ (sym at ∙ ap new (sym e) ∙ h) in (omega (arith, f), ap (slice_get changes) (sym f) ∙ here ∙ ap Some (sym e)),
+      λ (lt, put). let f : n ≡ file = one_position changes n file c apart here (put ∙ ap Some e) in ap new e ∙ at ∙ ap Some f,
     ))
     (λ nay. let o = other q nay in (
-      λ h. let r = (before q file).0 (sym o ∙ h) in (omega (arith, r.0), r.1),
-      λ (lt, put). o ∙ (before q file).1 (below lt put nay, put),
+      λ h. let r = (before q file asked).0 (sym o ∙ h) in (omega (arith, r.0), r.1),
+      λ (lt, put). o ∙ (before q file asked).1 (below lt put nay, put),
     ))
     (cases_eq q c)
   where
@@ -200,11 +203,16 @@ index_more changes n c old new apart here same other before q file =
         (λ ge. let e : n ≡ file = omega (arith, ge, lt) in absurd (nay (same_Some _ _ (sym put ∙ ap (slice_get changes) (sym e) ∙ here))))
         (cases_lt file n)
 
-pub index_none : (changes : List ℕ) (index : ℕ → Option ℕ) → ((q : ℕ) → index q ≡ None) → IsIndexUpto changes 0 index
-index_none changes index none q file = (λ h. absurd (true≢false (sym (ap is_some (sym (none q) ∙ h)))), λ (lt, put). absurd (omega (arith, lt)))
+-- a change that isn't asked
+pub index_skip : (Asked : ℕ → Type 0) (changes : List ℕ) (n c : ℕ) (index : ℕ → Option ℕ) → AllPairs (λ a b. a ≢ b) changes → slice_get changes n ≡ Some c → (Asked c → ⊥) → IsIndexUpto Asked changes n index → IsIndexUpto Asked changes (n + 1) index
+index_skip Asked changes n c index apart here unasked before =
+    index_more Asked changes n c index index apart here (λ asked. absurd (unasked asked)) (λ q other. refl) before
 
-pub index_all : (changes : List ℕ) (n : ℕ) (index : ℕ → Option ℕ) → length changes ≤ n → IsIndexUpto changes n index → IsIndexOf changes index
-index_all changes n index all is q file = (λ h. ((is q file).0 h).1, λ put. (is q file).1 (let w = slice_get_within changes file q put in omega (arith, w, all), put))
+pub index_none : (Asked : ℕ → Type 0) (changes : List ℕ) (index : ℕ → Option ℕ) → ((q : ℕ) → index q ≡ None) → IsIndexUpto Asked changes 0 index
+index_none Asked changes index none q file asked = (λ h. absurd (true≢false (sym (ap is_some (sym (none q) ∙ h)))), λ (lt, put). absurd (omega (arith, lt)))
+
+pub index_all : (Asked : ℕ → Type 0) (changes : List ℕ) (n : ℕ) (index : ℕ → Option ℕ) → length changes ≤ n → IsIndexUpto Asked changes n index → (change file : ℕ) → Asked change → (index change ≡ Some file) ↔ (slice_get changes file ≡ Some change)
+index_all Asked changes n index all is q file asked = (λ h. ((is q file asked).0 h).1, λ put. (is q file asked).1 (let w = slice_get_within changes file q put in omega (arith, w, all), put))
 
 pub change_at : {L : Type 0} (files : List (FileTokens L)) (i : ℕ) (f : FileTokens L) → i < length files → f ≡ get_or files i f → slice_get (changes_of files) i ≡ Some f.change
 change_at files i f lt read =
@@ -213,3 +221,25 @@ change_at files i f lt read =
 
 pub other_key : (c q : ℕ) → q ≢ c → is_eq (nat_cmp c q) ≡ false
 other_key c q other = grind arith
+
+-- the changes of the first entries
+abbrev pub AreAskedUpto : List Entry → (ℕ → Bool) → Type 0
+AreAskedUpto bucket asked = (change : ℕ) → IsTrue (asked change) ↔ Any (λ e. e.change ≡ change) bucket
+
+pub asked_more : (bucket : List Entry) (i : ℕ) (e : Entry) (old new : ℕ → Bool) → i < length bucket → e ≡ get_or bucket i e → IsTrue (new e.change) → ((q : ℕ) → q ≢ e.change → new q ≡ old q) → AreAskedUpto (take i bucket) old → AreAskedUpto (take (i + 1) bucket) new
+asked_more bucket i e old new lt read same unchanged before change =
+    ⊎_elim
+    (λ is. (
+      λ h. any_entry (λ d. d.change ≡ change) (take (i + 1) bucket) e (take_more_here bucket i e lt read) (sym is),
+      λ any. subst (λ q. IsTrue (new q)) (sym is) same,
+    ))
+    (λ other. (
+      λ h. let (k, w, within, at, of) = (before change).0 (subst IsTrue (unchanged change other) h) in
+          any_entry (λ d. d.change ≡ change) (take (i + 1) bucket) w (take_more_left bucket i e w lt read (k, within, at)) of,
+      λ (k, w, within, at, of). subst IsTrue (sym (unchanged change other))
+          (⊎_elim
+          (λ c. (before change).1 (any_entry (λ d. d.change ≡ change) (take i bucket) w c of))
+          (λ last. absurd (other (sym of ∙ ap (λ (d : Entry). d.change) (sym last))))
+          (take_more_cases bucket i e w lt read (k, within, at))),
+    ))
+    (cases_eq change e.change)

@@ -1,11 +1,12 @@
 -- The places of the entries with one key.
-use Rattle.std.specs.Prelude.{◌≡◌, ◌↔◌, ℕ, List, slice_get, Option, Some}
+use Rattle.std.specs.Prelude.{◌≡◌, ◌↔◌, ℕ, List, slice_get, Option, Some, Any, IsTrue}
 use Rattle.cq_base.specs.declared.entry.Entry.{Entry}
 use Rattle.cq_base.specs.declared.group.Place.{Place}
 use Rattle.cq_base.specs.declared.group.Group.{Group}
 use Rattle.cq_clones.specs.Groups.{IsGroup, first_place}
 use Rattle.cq_clones.specs.Windows.{HasKey}
 use Rattle.std.specs.BTreeMap.{get}
+use Rattle.std.specs.BTreeSet.{BTreeSet, contains}
 use Rattle.std.specs.Ordering.{nat_cmp}
 use Rattle.cq_refine.specs.declared.changes.Changes.{Changes}
 
@@ -18,6 +19,13 @@ index_of c change = get nat_cmp c.files change
 
 abbrev pub IsIndex : List ℕ → Changes → Type 0
 IsIndex changes c = IsIndexOf changes (index_of c)
+
+-- the position of each change that an entry has
+abbrev pub IsIndexFor : List Entry → List ℕ → Changes → Type 0
+IsIndexFor bucket changes c = (change file : ℕ) → Any (λ e. e.change ≡ change) bucket → (index_of c change ≡ Some file) ↔ (slice_get changes file ≡ Some change)
+
+abbrev pub AreAsked : List Entry → BTreeSet ℕ → Type 0
+AreAsked bucket asked = (change : ℕ) → IsTrue (contains nat_cmp asked change) ↔ Any (λ e. e.change ≡ change) bucket
 
 -- the place of an entry
 pub record IsPlaceOf (changes : List ℕ) (e : Entry) (p : Place) : Type 0 where

@@ -2,7 +2,10 @@
 //! needs no recursion, reads each token once for each set that a place is in, and the token before a place once; a place
 //! that is alone in its set costs nothing more, and a bucket of one entry nothing at all. A set of n places with k
 //! different next tokens costs n reads, n searches among k tokens in a map, and then one look at each place; its marks and
-//! parts are lists of numbers and places. No token is copied: memory is linear in the entries.
+//! parts are lists of numbers and places. No token is copied: memory is linear in the entries of the bucket.
+//!
+//! `refine_with` is given the files of all changes, which serves many buckets; `refine` searches each file's change among
+//! those of its bucket, n log m comparisons for n files and m entries.
 #![tactic(auto)]
 
 mod changes;

@@ -1,21 +1,23 @@
 -- For which changes a shard stands behind one that it applies.
-use Rattle.std.proofs.Common.{◌≡◌, ℕ, zero, suc, Bool, false, ◌∷◌, ◌+◌, ◌-◌, ◌<◌, ◌≤◌, Option, Some, None, List, [], ◌++◌, length, refl, sym, ◌∙◌, ap, subst, inl, ⊎_elim, arith}
+use Rattle.std.proofs.Common.{◌≡◌, ◌↔◌, ℕ, zero, suc, Bool, false, ◌∷◌, ◌+◌, ◌-◌, ◌<◌, ◌≤◌, Option, Some, None, List, [], ◌++◌, length, refl, sym, ◌∙◌, ap, subst, subst₂, inl, ⊎_elim, arith}
 use Rattle.std.specs.Prelude.{All, Contains, slice_get}
 use Rattle.std.proofs.lemmas.Bool.{false≢true}
 use Rattle.std.proofs.lemmas.Option.{none-some}
-use Rattle.std.proofs.lemmas.List.{append-nil}
+use Rattle.std.proofs.lemmas.List.{append-nil, length-append}
 use Rattle.std.proofs.lemmas.List.Elements.{Contains-append_left, Contains-append_right, Contains-append_cases, All-append, All-weaker}
 use Rattle.cq_base.specs.declared.lang.Lang.{Lang}
+use Rattle.cq_base.specs.declared.settings.Settings.{Settings}
 use Rattle.cq_base.specs.declared.entry.Entry.{Entry}
 use Rattle.cq_base.specs.declared.change.Change.{Change}
 use Rattle.cq_base.specs.declared.change.Change.TheVariants.{Put, Drop, Gate}
 use Rattle.cq_clones.specs.Lists.{AreAllInOrder}
-use Rattle.cq_clones.proofs.InOrder.{in_order_same}
+use Rattle.cq_clones.proofs.InOrder.{in_order_same, Contains-nil}
 use Rattle.cq_clones.specs.Windows.{EntryBefore}
 use Rattle.cq_history.specs.Changes.{IsNumber, change_at, is_put}
 use Rattle.cq_history.specs.Shards.{ShardHolds}
-use Rattle.cq_history.specs.Laws.{Applies}
-use Rattle.cq_shard.specs.Shard.{Contents, IsShard, StandsFor, row_of, entries_of, brought, IsWorkFor}
+use Rattle.cq_shard.specs.Laws.{Applies}
+use Rattle.cq_shard.specs.Shard.{Contents, IsShard, StandsFor, row_of, entries_of, brought, IsWorkFor, HasWindow}
+use Rattle.cq_shard.proofs.ShardLaws.{ShardHolds-append, ShardHolds-prefix}
 use Rattle.cq_shard.proofs.Entries.{from_entries, to_entries, entries_ordered, pairs_append, all_from}
 
 -- with one change more applied, and these entries
@@ -58,54 +60,49 @@ inside (y ∷ ys) (suc i) x is = let h = inside ys i x is in omega (arith, h)
 is_number : (changes : List Change) (r : ℕ) (d : Change) → 0 < r → change_at changes r ≡ Some d → IsNumber changes r
 is_number changes r d some is = let h = inside changes (r - 1) d is in (some, omega (arith, some, h))
 
--- the keys that a put's text has, and none for any other change
-put_keys : (Lang → List ℕ → List ℕ) → Option Change → List ℕ
-put_keys keys_of None = []
-put_keys keys_of (Some (Put project path lang text)) = keys_of lang text
-put_keys keys_of (Some (Drop project path)) = []
-put_keys keys_of (Some (Gate project conditions)) = []
+-- the windows of a text have these keys, by place
+abbrev pub AreWindows : (Lang → List ℕ → ℕ → ℕ → Type 0) → Lang → List ℕ → List ℕ → Type 0
+AreWindows IsWindow lang text keys = (place key : ℕ) → IsWindow lang text place key ↔ (slice_get keys place ≡ Some key)
 
-new_holds : (keys_of : Lang → List ℕ → List ℕ) (changes : List Change) (c : Contents) (project path : List ℕ) (lang : Lang) (text : List ℕ) (e : Entry) →
-    Applies keys_of c.shards changes c.shard c.applied c.floor → change_at changes (c.applied + 1) ≡ Some (Put project path lang text) →
-    Contains (entries_of (c.applied + 1) c.shard c.shards 0 (keys_of lang text)) e → ShardHolds keys_of c.shards changes c.shard (c.applied + 1) c.floor (row_of e)
-new_holds keys_of changes c project path lang text e applies is new =
-    let b = from_entries (c.applied + 1) c.shard c.shards 0 (keys_of lang text) e new in
-    let at : e.at ≡ e.at - 0 = omega arith in
-    applies.adds (row_of e) project path lang text b.change
-    (subst (IsNumber changes) (sym b.change) (is_number changes (c.applied + 1) (Put project path lang text) (omega arith) is))
-    (ap (change_at changes) b.change ∙ is)
-    (ap (slice_get (keys_of lang text)) at ∙ b.window)
-    b.mine
+same_text : (q r p s : List ℕ) (a b : Lang) (x y : List ℕ) → Some (Put q p a x) ≡ Some (Put r s b y) → (a ≡ b) × (x ≡ y)
+same_text q r p s a b x y e = (cc e, cc e)
 
-held_is_new : (keys_of : Lang → List ℕ → List ℕ) (changes : List Change) (c : Contents) (project path : List ℕ) (lang : Lang) (text : List ℕ) (e : Entry) →
-    change_at changes (c.applied + 1) ≡ Some (Put project path lang text) → ShardHolds keys_of c.shards changes c.shard (c.applied + 1) c.floor (row_of e) → e.change ≡ c.applied + 1 →
-    Contains (entries_of (c.applied + 1) c.shard c.shards 0 (keys_of lang text)) e
-unfolding put_keys
-held_is_new keys_of changes c project path lang text e is held same =
-    let keys : keys_of held.lang held.text ≡ keys_of lang text = ap (put_keys keys_of) (sym held.put ∙ ap (change_at changes) same ∙ is) in
-    to_entries (c.applied + 1) c.shard c.shards (keys_of lang text) e same (ap (λ ks. slice_get ks e.at) (sym keys) ∙ held.window) held.mine
+module _ (IsWindow : Lang → List ℕ → ℕ → ℕ → Type 0) (changes : List Change) (c : Contents) (project path : List ℕ) (lang : Lang) (text keys : List ℕ) (windows : AreWindows IsWindow lang text keys)
+    (applies : Applies IsWindow c.shards changes c.shard c.applied c.floor) (is : change_at changes (c.applied + 1) ≡ Some (Put project path lang text)) where
+  new_holds : (e : Entry) → Contains (entries_of (c.applied + 1) c.shard c.shards 0 keys) e → ShardHolds IsWindow c.shards changes c.shard (c.applied + 1) c.floor (row_of e)
+  new_holds e new =
+      let b = from_entries (c.applied + 1) c.shard c.shards 0 keys e new in
+      let at : e.at ≡ e.at - 0 = omega arith in
+      applies.adds (row_of e) project path lang text b.change
+      (subst (IsNumber changes) (sym b.change) (is_number changes (c.applied + 1) (Put project path lang text) (omega arith) is))
+      (ap (change_at changes) b.change ∙ is)
+      ((windows e.at e.key).1 (ap (slice_get keys) at ∙ b.window))
+      b.mine
 
-put_stands : (keys_of : Lang → List ℕ → List ℕ) (changes : List Change) (c : Contents) (project path : List ℕ) (lang : Lang) (text : List ℕ) →
-    Applies keys_of c.shards changes c.shard c.applied c.floor → StandsFor keys_of changes c → change_at changes (c.applied + 1) ≡ Some (Put project path lang text) →
-    StandsFor keys_of changes (with_applied c (entries_of (c.applied + 1) c.shard c.shards 0 (keys_of lang text)))
-put_stands keys_of changes c project path lang text applies stands is =
-    let added = entries_of (c.applied + 1) c.shard c.shards 0 (keys_of lang text) in
-    record {
-      applied = (is_number changes (c.applied + 1) (Put project path lang text) (omega arith) is).1;
-      entries = λ e. (
-        λ h. ⊎_elim (λ old. applies.keeps (row_of e) ((stands.entries e).0 old)) (λ new. new_holds keys_of changes c project path lang text e applies is new) (Contains-append_cases c.entries added e h),
-        λ h. ⊎_elim
-            (λ old. Contains-append_left c.entries added e ((stands.entries e).1 old))
-            (λ new. Contains-append_right c.entries added e (held_is_new keys_of changes c project path lang text e is h new))
-            (applies.alone (row_of e) h),
-      );
-    }
+  held_is_new : (e : Entry) → ShardHolds IsWindow c.shards changes c.shard (c.applied + 1) c.floor (row_of e) → e.change ≡ c.applied + 1 → Contains (entries_of (c.applied + 1) c.shard c.shards 0 keys) e
+  held_is_new e held same =
+      let texts = same_text held.project project held.path path held.lang lang held.text text (sym held.put ∙ ap (change_at changes) same ∙ is) in
+      to_entries (c.applied + 1) c.shard c.shards keys e same ((windows e.at e.key).0 (subst₂ (λ l t. IsWindow l t e.at e.key) texts.0 texts.1 held.window)) held.mine
+
+  put_stands : StandsFor IsWindow changes c → StandsFor IsWindow changes (with_applied c (entries_of (c.applied + 1) c.shard c.shards 0 keys))
+  put_stands stands =
+      let added = entries_of (c.applied + 1) c.shard c.shards 0 keys in
+      record {
+        applied = (is_number changes (c.applied + 1) (Put project path lang text) (omega arith) is).1;
+        entries = λ e. (
+          λ h. ⊎_elim (λ old. applies.keeps (row_of e) ((stands.entries e).0 old)) (λ new. new_holds e new) (Contains-append_cases c.entries added e h),
+          λ h. ⊎_elim
+              (λ old. Contains-append_left c.entries added e ((stands.entries e).1 old))
+              (λ new. Contains-append_right c.entries added e (held_is_new e h new))
+              (applies.alone (row_of e) h),
+        );
+      }
 
 -- no entry, where the change is no put
-other_stands : (keys_of : Lang → List ℕ → List ℕ) (changes : List Change) (c : Contents) (d : Change) →
-    Applies keys_of c.shards changes c.shard c.applied c.floor → StandsFor keys_of changes c → change_at changes (c.applied + 1) ≡ Some d → is_put d ≡ false →
-    StandsFor keys_of changes (with_applied c [])
-other_stands keys_of changes c d applies stands is other = record {
+other_stands : (IsWindow : Lang → List ℕ → ℕ → ℕ → Type 0) (changes : List Change) (c : Contents) (d : Change) →
+    Applies IsWindow c.shards changes c.shard c.applied c.floor → StandsFor IsWindow changes c → change_at changes (c.applied + 1) ≡ Some d → is_put d ≡ false →
+    StandsFor IsWindow changes (with_applied c [])
+other_stands IsWindow changes c d applies stands is other = record {
   applied = (is_number changes (c.applied + 1) d (omega arith) is).1;
   entries = λ e. (
     λ h. applies.keeps (row_of e) ((stands.entries e).0 (subst (λ es. Contains es e) (append-nil c.entries) h)),
@@ -116,35 +113,65 @@ other_stands keys_of changes c d applies stands is other = record {
   );
 }
 
+-- no changes, and later ones
+
+pub first_stands : (IsWindow : Lang → List ℕ → ℕ → ℕ → Type 0) (changes : List Change) (c : Contents) → c.applied ≡ 0 → c.entries ≡ [] → StandsFor IsWindow changes c
+first_stands IsWindow changes c none empty = record {
+  applied = omega (arith, none);
+  entries = λ e. (
+    λ here. absurd (Contains-nil e (subst (λ es. Contains es e) empty here)),
+    λ holds. absurd (let a = holds.accepted.0 in let b = holds.applies in omega (arith, a, b, none)),
+  );
+}
+
+pub later_stands : (IsWindow : Lang → List ℕ → ℕ → ℕ → Type 0) (changes later : List Change) (c : Contents) → c.floor ≤ c.applied → StandsFor IsWindow changes c → StandsFor IsWindow (changes ++ later) c
+later_stands IsWindow changes later c passed stands =
+    let applied = stands.applied in
+    let long = length-append changes later in
+    record {
+      applied = omega (arith, applied, long);
+      entries = λ e. (
+        λ h. ShardHolds-append IsWindow c.shards changes later c.shard c.applied c.floor (row_of e) applied (omega (arith, applied, passed)) ((stands.entries e).0 h),
+        λ h. (stands.entries e).1 (ShardHolds-prefix IsWindow c.shards changes later c.shard c.applied c.floor (row_of e) applied (omega (arith, applied, passed)) h),
+      );
+    }
+
 -- ---- whatever change it is
 
 pub brought_is_shard : {W : Type 0} (keys_in : W → List ℕ) (c : Contents) (work : Option W) → IsShard c → IsShard (with_applied c (brought keys_in (c.applied + 1) c.shard c.shards work))
 brought_is_shard keys_in c None is = put_is_shard c [] is
 brought_is_shard keys_in c (Some w) is = put_is_shard c (keys_in w) is
 
-pub brought_stands : {W : Type 0} (keys_of : Lang → List ℕ → List ℕ) (keys_in : W → List ℕ) (IsWork : Lang → List ℕ → W → Type 0) (changes : List Change) (c : Contents) (o : Option Change) (work : Option W) →
-    ((lang : Lang) (text : List ℕ) (w : W) → IsWork lang text w → keys_in w ≡ keys_of lang text) →
-    Applies keys_of c.shards changes c.shard c.applied c.floor → StandsFor keys_of changes c → change_at changes (c.applied + 1) ≡ o → IsWorkFor IsWork o work →
-    StandsFor keys_of changes (with_applied c (brought keys_in (c.applied + 1) c.shard c.shards work))
-brought_stands keys_of keys_in IsWork changes c None work determined applies stands is of = absurd of
-brought_stands keys_of keys_in IsWork changes c (Some (Put project path lang text)) None determined applies stands is of = absurd of
-brought_stands keys_of keys_in IsWork changes c (Some (Put project path lang text)) (Some w) determined applies stands is of =
-    subst (λ ks. StandsFor keys_of changes (with_applied c (entries_of (c.applied + 1) c.shard c.shards 0 ks))) (sym (determined lang text w of))
-    (put_stands keys_of changes c project path lang text applies stands is)
-brought_stands keys_of keys_in IsWork changes c (Some (Drop project path)) None determined applies stands is of = other_stands keys_of changes c (Drop project path) applies stands is refl
-brought_stands keys_of keys_in IsWork changes c (Some (Drop project path)) (Some w) determined applies stands is of = absurd of
-brought_stands keys_of keys_in IsWork changes c (Some (Gate project conditions)) None determined applies stands is of = other_stands keys_of changes c (Gate project conditions) applies stands is refl
-brought_stands keys_of keys_in IsWork changes c (Some (Gate project conditions)) (Some w) determined applies stands is of = absurd of
+pub brought_stands : {W : Type 0} (IsWindow : Lang → List ℕ → ℕ → ℕ → Type 0) (keys_in : W → List ℕ) (IsWork : Lang → List ℕ → W → Type 0) (changes : List Change) (c : Contents) (o : Option Change) (work : Option W) →
+    ((lang : Lang) (text : List ℕ) (w : W) → IsWork lang text w → AreWindows IsWindow lang text (keys_in w)) →
+    Applies IsWindow c.shards changes c.shard c.applied c.floor → StandsFor IsWindow changes c → change_at changes (c.applied + 1) ≡ o → IsWorkFor IsWork o work →
+    StandsFor IsWindow changes (with_applied c (brought keys_in (c.applied + 1) c.shard c.shards work))
+brought_stands IsWindow keys_in IsWork changes c None work windows applies stands is of = absurd of
+brought_stands IsWindow keys_in IsWork changes c (Some (Put project path lang text)) None windows applies stands is of = absurd of
+brought_stands IsWindow keys_in IsWork changes c (Some (Put project path lang text)) (Some w) windows applies stands is of =
+    put_stands IsWindow changes c project path lang text (keys_in w) (windows lang text w of) applies is stands
+brought_stands IsWindow keys_in IsWork changes c (Some (Drop project path)) None windows applies stands is of = other_stands IsWindow changes c (Drop project path) applies stands is refl
+brought_stands IsWindow keys_in IsWork changes c (Some (Drop project path)) (Some w) windows applies stands is of = absurd of
+brought_stands IsWindow keys_in IsWork changes c (Some (Gate project conditions)) None windows applies stands is of = other_stands IsWindow changes c (Gate project conditions) applies stands is refl
+brought_stands IsWindow keys_in IsWork changes c (Some (Gate project conditions)) (Some w) windows applies stands is of = absurd of
+
+-- a work of the text has the keys of all others
+pub work_windows : {W : Type 0} (keys_in : W → List ℕ) (IsWorkOf : Settings → Lang → List ℕ → W → Type 0) (settings : Settings) (lang : Lang) (text : List ℕ) (work : W) →
+    ((other : W) → IsWorkOf settings lang text other → keys_in other ≡ keys_in work) → IsWorkOf settings lang text work → AreWindows (HasWindow keys_in IsWorkOf settings) lang text (keys_in work)
+work_windows keys_in IsWorkOf settings lang text work determined of place key = (
+  λ (other, also, read). ap (λ ks. slice_get ks place) (sym (determined other also)) ∙ read,
+  λ read. (work, of, read),
+)
 
 -- ---- what is asked of it
 
-pub bucket_holds : (keys_of : Lang → List ℕ → List ℕ) (changes : List Change) (c : Contents) (key : ℕ) (live : List ℕ) (bucket : List Entry) → StandsFor keys_of changes c →
+pub bucket_holds : (IsWindow : Lang → List ℕ → ℕ → ℕ → Type 0) (changes : List Change) (c : Contents) (key : ℕ) (live : List ℕ) (bucket : List Entry) → StandsFor IsWindow changes c →
     AreAllInOrder EntryBefore (λ e. (e.key ≡ key) × Contains live e.change × Contains c.entries e) bucket →
-    AreAllInOrder EntryBefore (λ e. (e.key ≡ key) × Contains live e.change × ShardHolds keys_of c.shards changes c.shard c.applied c.floor (row_of e)) bucket
-bucket_holds keys_of changes c key live bucket stands is =
+    AreAllInOrder EntryBefore (λ e. (e.key ≡ key) × Contains live e.change × ShardHolds IsWindow c.shards changes c.shard c.applied c.floor (row_of e)) bucket
+bucket_holds IsWindow changes c key live bucket stands is =
     in_order_same EntryBefore
     (λ e. (e.key ≡ key) × Contains live e.change × Contains c.entries e)
-    (λ e. (e.key ≡ key) × Contains live e.change × ShardHolds keys_of c.shards changes c.shard c.applied c.floor (row_of e))
+    (λ e. (e.key ≡ key) × Contains live e.change × ShardHolds IsWindow c.shards changes c.shard c.applied c.floor (row_of e))
     bucket
     (λ e h. (h.0, h.1, (stands.entries e).0 h.2))
     (λ e h. (h.0, h.1, (stands.entries e).1 h.2))

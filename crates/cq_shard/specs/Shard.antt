@@ -1,7 +1,8 @@
 -- What a shard is, and for which changes it stands.
-use Rattle.std.specs.Prelude.{◌↔◌, ℕ, ◌+◌, ◌<◌, ◌≤◌, ◌%◌, ◌==◌, nat_eq, ◌&&◌, if◌then◌else◌, Bool, List, [], ◌∷◌, ◌++◌, length, Contains, All, AllPairs, Option, Some, None}
+use Rattle.std.specs.Prelude.{◌≡◌, ◌↔◌, slice_get, ℕ, ◌+◌, ◌<◌, ◌≤◌, ◌%◌, ◌==◌, nat_eq, ◌&&◌, if◌then◌else◌, Bool, List, [], ◌∷◌, ◌++◌, length, Contains, All, AllPairs, Option, Some, None}
 use Rattle.std.specs.List.{list_any}
 use Rattle.cq_base.specs.declared.lang.Lang.{Lang}
+use Rattle.cq_base.specs.declared.settings.Settings.{Settings}
 use Rattle.cq_base.specs.declared.entry.Entry.{Entry}
 use Rattle.cq_base.specs.declared.change.Change.{Change}
 use Rattle.cq_base.specs.declared.change.Change.TheVariants.{Put, Drop, Gate}
@@ -27,13 +28,13 @@ abbrev pub row_of : Entry → Row
 row_of e = record { key = e.key; number = e.change; place = e.at }
 
 -- what the definition of a shard's contents says of an entry
-abbrev pub Holds : (Lang → List ℕ → List ℕ) → List Change → Contents → Entry → Type 0
-Holds keys_of changes c e = ShardHolds keys_of c.shards changes c.shard c.applied c.floor (row_of e)
+abbrev pub Holds : (Lang → List ℕ → ℕ → ℕ → Type 0) → List Change → Contents → Entry → Type 0
+Holds IsWindow changes c e = ShardHolds IsWindow c.shards changes c.shard c.applied c.floor (row_of e)
 
 -- it has applied no more than there is, and its entries are what it holds of these changes
-pub record StandsFor (keys_of : Lang → List ℕ → List ℕ) (changes : List Change) (c : Contents) : Type 0 where
+pub record StandsFor (IsWindow : Lang → List ℕ → ℕ → ℕ → Type 0) (changes : List Change) (c : Contents) : Type 0 where
   pub applied : c.applied ≤ length changes
-  pub entries : (e : Entry) → Contains c.entries e ↔ Holds keys_of changes c e
+  pub entries : (e : Entry) → Contains c.entries e ↔ Holds IsWindow changes c e
 
 -- the work is that of a put's text, and no other change has one
 abbrev pub IsWorkFor : {W : Type 0} → (Lang → List ℕ → W → Type 0) → Option Change → Option W → Type 0
@@ -44,6 +45,10 @@ IsWorkFor IsWork (Some (Drop project path)) None = Unit {0}
 IsWorkFor IsWork (Some (Gate project conditions)) (Some work) = ⊥
 IsWorkFor IsWork (Some (Gate project conditions)) None = Unit {0}
 IsWorkFor IsWork None work = ⊥
+
+-- a work of the text has at this place a window with this key
+abbrev pub HasWindow : {W : Type 0} → (W → List ℕ) → (Settings → Lang → List ℕ → W → Type 0) → Settings → Lang → List ℕ → ℕ → ℕ → Type 0
+HasWindow {W} keys_in IsWorkOf settings lang text place key = (work : W) × IsWorkOf settings lang text work × (slice_get (keys_in work) place ≡ Some key)
 
 -- the entries of a change for those windows from `at` on whose keys are the shard's, by place
 abbrev pub entries_of : ℕ → ℕ → ℕ → ℕ → List ℕ → List Entry

@@ -1,4 +1,4 @@
-ghost use Rattle.std.specs.Prelude.{◌≡◌, ◌++◌, ◌+◌, ◌<◌, ◌≤◌, ◌^◌, length, take, option_copied, OnOk, OnErr};
+ghost use Rattle.std.specs.Prelude.{◌≡◌, ◌++◌, ◌+◌, ◌<◌, ◌≤◌, ◌^◌, length, take, option_copied, OnOk, OnErr, IfSome};
 ghost use Rattle.cq_shard.specs.Shard.{entries_of, brought};
 
 use crate::indexed::Indexed;
@@ -70,6 +70,7 @@ pub(crate) fn add_work<W: Indexed, L: Ledger>(
     work: Option<&W>,
     steps: &mut Steps<L>,
 ) -> Result<(), Memory>
+    requires few { IfSome work (λ w. length (W.keys_in w.now) < 2 ^ 32) }
     requires some { 0 < part.shards }
     ensures added { OnOk result (rows.new ≡ rows.old ++ brought W.keys_in part.change part.shard part.shards (option_copied work.entry)) }
     ensures same { OnErr result (rows.new ≡ rows.old) }

@@ -11,7 +11,10 @@ mod rows;
 mod shard;
 
 pub use indexed::Indexed;
-pub use laws::it_stands_on;
+pub use laws::{
+    applying_adds_its_rows, it_answers_what_it_holds, it_stands_at_first, it_stands_on,
+    shards_stay, sweeping_takes_out_alone,
+};
 pub use shard::Shard;
 
 #[cfg(test)]

@@ -1,6 +1,5 @@
-ghost use Rattle.std.specs.Prelude.{◌≡◌, ◌+◌, ◌<◌, ◌≤◌, List, ℕ, [], length, Contains, option_copied, IfOk, OnOk, OnErr};
+ghost use Rattle.std.specs.Prelude.{◌≡◌, ◌+◌, ◌<◌, ◌≤◌, ◌^◌, List, ℕ, [], length, Contains, option_copied, IfOk, OnOk, OnErr, IfSome};
 ghost use Rattle.std.specs.List.Sorted.{IsStrictlyIncreasing};
-ghost use Rattle.cq_base.specs.declared.lang.Lang.{Lang};
 ghost use Rattle.cq_base.specs.declared.settings.Settings.{Settings};
 ghost use Rattle.cq_base.specs.declared.change.Change.{Change};
 ghost use Rattle.cq_clones.specs.Lists.{AreAllInOrder};
@@ -10,9 +9,9 @@ ghost use Rattle.cq_shard.specs.Shard as spec;
 
 use crate::applying::{Part, add_work};
 use crate::indexed::Indexed;
+use crate::laws::applying_adds_its_rows;
 use crate::rows::Rows;
 use cq_base::{Entry, Memory, Steps};
-use cq_history::applying_adds_its_rows;
 use std::alloc::Global;
 use std::marker::Model;
 use std::sync::ledger::Ledger;
@@ -41,8 +40,7 @@ impl Shard {
     /// The shard of this number, from 0, which has applied nothing. It takes no memory.
     pub fn new(alloc: Global, shard: u32, shards: u32) -> Shard
         requires { shard < shards }
-        ensures is { result ≡ record { shard = shard; shards = shards; applied = 0; floor = 0; entries = [] } }
-        ensures stands { (keys_of : Lang → List ℕ → List ℕ) (changes : List Change) → spec.StandsFor keys_of changes result }
+        ensures { result ≡ record { shard = shard; shards = shards; applied = 0; floor = 0; entries = [] } }
     {
         Shard {
             shard,
@@ -76,14 +74,15 @@ impl Shard {
         steps: &mut Steps<L>,
     ) -> Result<(), Memory>
         requires next { change ≡ self.old.applied + 1 }
-        ensures stands { (settings : Settings) (changes : List Change) → spec.StandsFor (W.keys_of settings) changes self.old → spec.IsWorkFor (W.IsWorkOf settings) (change_at changes change) (option_copied work.entry) → OnOk result (spec.StandsFor (W.keys_of settings) changes self.new) }
+        requires few { IfSome work (λ w. length (W.keys_in w.now) < 2 ^ 32) }
+        ensures stands { (settings : Settings) (changes : List Change) → spec.StandsFor (spec.HasWindow W.keys_in W.IsWorkOf settings) changes self.old → spec.IsWorkFor (W.IsWorkOf settings) (change_at changes change) (option_copied work.entry) → OnOk result (spec.StandsFor (spec.HasWindow W.keys_in W.IsWorkOf settings) changes self.new) }
         ensures applied { OnOk result (self.new.applied ≡ change) }
         ensures kept { OnOk result ((self.new.shard ≡ self.old.shard) × (self.new.shards ≡ self.old.shards) × (self.new.floor ≡ self.old.floor)) }
         ensures same { OnErr result (self.new ≡ self.old) }
         ensures steps { OnOk result (steps.new ≡ steps.old + length (spec.brought W.keys_in change self.old.shard self.old.shards (option_copied work.entry))) }
         ensures most { steps.new ≤ steps.old + length (spec.brought W.keys_in change self.old.shard self.old.shards (option_copied work.entry)) }
     {
-        applying_adds_its_rows();
+        applying_adds_its_rows::<W>();
         let part = Part {
             shard: self.shard,
             shards: self.shards,
@@ -98,8 +97,7 @@ impl Shard {
     /// and searches `live` for each with the key.
     pub fn bucket(&self, alloc: Global, key: u64, live: &[u64]) -> Result<Vec<Entry>, Memory>
         requires rising { IsStrictlyIncreasing live.now }
-        ensures holds { (keys_of : Lang → List ℕ → List ℕ) (changes : List Change) → spec.StandsFor keys_of changes self.now → IfOk result (λ bucket. AreAllInOrder EntryBefore (λ e. (e.key ≡ key) × Contains live.now e.change × spec.Holds keys_of changes self.now e) bucket.items) }
-        ensures entries { IfOk result (λ bucket. AreAllInOrder EntryBefore (λ e. (e.key ≡ key) × Contains live.now e.change × Contains self.now.entries e) bucket.items) }
+        ensures { IfOk result (λ bucket. AreAllInOrder EntryBefore (λ e. (e.key ≡ key) × Contains live.now e.change × Contains self.now.entries e) bucket.items) }
     {
         self.rows.bucket(alloc, key, live)
     }

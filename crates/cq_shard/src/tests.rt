@@ -13,19 +13,20 @@ struct Two {
 }
 
 impl Indexed for Two {
-    ghost use Rattle.std.specs.Prelude.{◌≡◌, refl};
-
-    ghost keys_of = { λ settings lang text. text };
+    ghost use Rattle.std.specs.Prelude.{◌≡◌, length};
+    ghost use Rattle.std.proofs.Common.{◌∙◌, sym, rules};
 
     ghost keys_in = { λ work. work.keys };
 
-    ghost IsWorkOf = { λ settings lang text work. work.keys ≡ text };
+    ghost IsWorkOf = { λ settings lang text work. (work.keys ≡ text) × (length text ≡ 2) };
 
     fn keys(&self) -> &[u64] {
         &self.keys
     }
 
-    ghost determined = { λ settings lang text work is. is };
+    ghost determined = { λ settings lang text work other is also. is.0 ∙ sym also.0 };
+
+    ghost few = { Prim.search rules };
 }
 
 // What the two buckets of key 3 are, of all changes and of the second alone, and how many steps there were.

@@ -1,3 +1,4 @@
 pub mod Counts
 pub mod Lexing
 pub mod Work
+pub mod Shown

@@ -5,6 +5,7 @@
 
 mod counting;
 mod lexing;
+mod shown;
 mod work;
 
 pub use work::{State, Work, work_of};

@@ -1,4 +1,4 @@
-use Rattle.cq_munch.proofs.OneAnswer.{one_answer}
+use Rattle.cq_munch.specs.OneAnswer.{one_answer}
 use Rattle.cq_munch.proofs.munching.one_answer.Goals as goal
 
 pub returns : goal.returns

@@ -1,4 +1,4 @@
-use Rattle.std.proofs.Common.{refl, arith, ap, length, sym, ◌∙◌, subst, get_or}
+use Rattle.std.proofs.Common.{◌≡◌, refl, arith, ap, length, sym, ◌∙◌, subst, get_or}
 use Rattle.std.proofs.lemmas.List.{get_or_default, take_all, length_push}
 use Rattle.std.proofs.lemmas.List.Elements.{Contains-get_or}
 use Rattle.std.proofs.lemmas.List.Sorted.{length_permutation}
@@ -7,7 +7,7 @@ use Rattle.cq_base.specs.declared.group.Place.{Place}
 use Rattle.cq_tokens.specs.Corpus.{changes_of, keys_of}
 use Rattle.cq_clones.specs.Windows.{HasKey}
 use Rattle.cq_refine.proofs.Places.{places_sorted}
-use Rattle.cq_refine.proofs.KeyPlaces.{ArePlacesOf, places_more, places_none, places_all, sizes_of}
+use Rattle.cq_refine.proofs.KeyPlaces.{any_entry, ArePlacesOf, places_more, places_none, places_all, sizes_of}
 use Rattle.cq_refine.proofs.entries.places_of_bucket.Goals as goal
 use Rattle.cq_refine.proofs.entries.places_of_bucket.Goals.{in-Some+in_ok-push, in_default}
 
@@ -22,17 +22,18 @@ loop-entry-preserved g c =
     let i = c.loop-entry.entry-index in
     let e : Entry = get_or bucket i origin in
     let (key, is) = c.requires.bucket in
+    let asked = any_entry (λ d. d.change ≡ e.change) bucket e (Contains-get_or bucket i origin c.loop-entry-test.true) refl in
     elim c.match-file.branch [
       | in-Some+in_ok-push w ↦
           let p : Place = record { file = w.in-Some.file; at = e.at } in
           rw (w.places-is, w.in_ok-push.ensures.items) (
             places_more changes bucket c.loop-entry.places.items i e p c.loop-entry-test.true (get_or_default bucket i origin e c.loop-entry-test.true) is.ordered c.requires.apart
-                (record { file = (c.requires.index e.change w.in-Some.file).0 (sym c.file.ensures ∙ w.in-Some.is); at = refl }) c.loop-entry.invariant.0,
+                (record { file = (c.requires.index e.change w.in-Some.file asked).0 (sym c.file.ensures ∙ w.in-Some.is); at = refl }) c.loop-entry.invariant.0,
             omega (arith, length_push c.loop-entry.places.items p, c.loop-entry.invariant.1),
           )
       | in_default w ↦
           let entry = ((is.each e).0 (Contains-get_or bucket i origin c.loop-entry-test.true)).1 in
-          let found = (c.requires.index e.change entry.file).1 entry.put in
+          let found = (c.requires.index e.change entry.file asked).1 entry.put in
           absurd (w.in_default.not-Some entry.file (c.file.ensures ∙ found))
     ]
 

@@ -3,7 +3,7 @@ use Rattle.cq_history.specs.Changes.{change_at}
 use Rattle.cq_history.specs.Core.{stepped}
 use Rattle.cq_history.specs.Core.Step.{Applies}
 use Rattle.cq_history.specs.State.{ready, changes_in}
-use Rattle.cq_shard.specs.Shard.{Contents, IsWorkFor}
+use Rattle.cq_shard.specs.Shard.{Contents, IsWorkFor, HasWindow}
 use Rattle.cq_machine.specs.declared.step.Outcome.TheVariants as outcome
 use Rattle.cq_machine.specs.Machine.{CoreState, IsStepped}
 use Rattle.cq_machine.proofs.Applying.{HasApplied, work_given, stands_applied, takes_applied}
@@ -16,7 +16,7 @@ shard_read [] i a b lt p q = absurd (omega (arith, lt))
 shard_read (s ∷ shards) zero a b lt p q = p ∙ sym q
 shard_read (s ∷ shards) (suc i) a b lt p q = shard_read shards i a b (omega (arith, lt)) p q
 
-applied_here : (g : Given.Over) (c : goal.Joined-work-2 g) → HasApplied (g.W.Indexed.keys_of c.self.inside.board.settings) c.self.inside.board c.self.inside.shards.items c.args.shard c.index_mut-shard.result.now c.apply.new.self
+applied_here : (g : Given.Over) (c : goal.Joined-work-2 g) → HasApplied (HasWindow g.W.Indexed.keys_in g.W.Indexed.IsWorkOf c.self.inside.board.settings) c.self.inside.board c.self.inside.shards.items c.args.shard c.index_mut-shard.result.now c.apply.new.self
 applied_here g c =
     let b = c.self.inside.board in
     let mine : c.args.shard < b.settings.shards = subst (λ (x : CoreState). c.args.shard < x.board.settings.shards) (sym c.self.view_is) c.requires in
@@ -39,12 +39,12 @@ applied_here g c =
 pub invariant_of-self-2 : goal.invariant_of-self-2
 invariant_of-self-2 g c =
     let b = c.self.inside.board in
-    let stands = stands_applied (g.W.Indexed.keys_of b.settings) b c.self.inside.shards.items c.args.shard c.index_mut-shard.result.now c.apply.new.self (applied_here g c) c.self.invariant.0.0 c.self.invariant.0.1 in
+    let stands = stands_applied (HasWindow g.W.Indexed.keys_in g.W.Indexed.IsWorkOf b.settings) b c.self.inside.shards.items c.args.shard c.index_mut-shard.result.now c.apply.new.self (applied_here g c) c.self.invariant.0.0 c.self.invariant.0.1 in
     ((stepped c.self.invariant.0.0 (Applies c.args.shard), stands), c.self.invariant.1)
 
 pub returns-clause-steps : goal.returns-clause-steps
 returns-clause-steps g c =
     let b = c.self.inside.board in
-    let takes = takes_applied (g.W.Indexed.keys_of b.settings) b c.self.inside.shards.items c.args.shard c.index_mut-shard.result.now c.apply.new.self (applied_here g c) in
-    subst (λ (x : CoreState). IsStepped (g.W.Indexed.keys_of x.board.settings) (Applies c.args.shard) x (core b (set c.self.inside.shards.items c.args.shard c.apply.new.self)) (outcome.Value (c.applied-applied.result + 1))) c.self.view_is
+    let takes = takes_applied (HasWindow g.W.Indexed.keys_in g.W.Indexed.IsWorkOf b.settings) b c.self.inside.shards.items c.args.shard c.index_mut-shard.result.now c.apply.new.self (applied_here g c) in
+    subst (λ (x : CoreState). IsStepped (HasWindow g.W.Indexed.keys_in g.W.Indexed.IsWorkOf x.board.settings) (Applies c.args.shard) x (core b (set c.self.inside.shards.items c.args.shard c.apply.new.self)) (outcome.Value (c.applied-applied.result + 1))) c.self.view_is
     (record { settings = refl; callers = refl; done = λ _. takes; not_done = λ not. absurd (not tt) })

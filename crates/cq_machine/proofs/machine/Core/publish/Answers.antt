@@ -6,7 +6,7 @@ use Rattle.cq_machine.specs.Machine.{CoreState, IsStepped, Done-if, MayPublish}
 use Rattle.std.proofs.lemmas.Bool.{iff_false}
 use Rattle.std.proofs.Common.{◌≤◌, List, true, false, rules}
 use Rattle.std.specs.Prelude.{All}
-use Rattle.cq_shard.specs.Shard.{Contents}
+use Rattle.cq_shard.specs.Shard.{Contents, HasWindow}
 use Rattle.cq_machine.proofs.Stepping.{core, keeps_on, steps_on, all_applied, applied_all}
 use Rattle.cq_machine.proofs.machine.Core.publish.Goals as goal
 use Rattle.cq_machine.proofs.machine.Core.publish.Goals.{then-version-published-via-then-version-published, then-version-published-via-else-version-published+then-version-ready, then-version-published-via-else-version-published+else-version-ready+then-not-have_applied}
@@ -28,7 +28,7 @@ returns-then-version-published-clause-outcome g c =
 pub invariant_of-self-2 : goal.invariant_of-self-2
 invariant_of-self-2 g c =
     let reached : All (λ (s : Contents). c.args.version ≤ s.applied) c.self.inside.shards.items = subst (λ (xs : List Contents). All (λ (s : Contents). c.args.version ≤ s.applied) xs) c.deref.ensures.value (let yes : c.have_applied.result ≡ true = search rules in c.have_applied.ensures.0 yes) in
-    keeps_on c.it_stands_on.ensures g.W.Indexed.keys_of g.W.Indexed.IsWorkOf c.self.inside.board c.publish.new.self c.self.inside.shards.items c.self.inside.views.items c.self.invariant (event.Publish c.args.version) c.in_ok-publish.ensures.adds (λ k is. subst (λ xs. All (λ a. c.args.version ≤ a) xs) is.applied (all_applied c.args.version c.self.inside.shards.items reached)) refl
+    keeps_on (HasWindow g.W.Indexed.keys_in g.W.Indexed.IsWorkOf) c.it_stands_on.ensures g.W.Indexed.IsWorkOf c.self.inside.board c.publish.new.self c.self.inside.shards.items c.self.inside.views.items c.self.invariant (event.Publish c.args.version) c.in_ok-publish.ensures.adds (λ k is. subst (λ xs. All (λ a. c.args.version ≤ a) xs) is.applied (all_applied c.args.version c.self.inside.shards.items reached)) refl
 
 pub returns-clause-outcome : goal.returns-clause-outcome
 returns-clause-outcome g c =
@@ -39,4 +39,4 @@ returns-clause-outcome g c =
 pub returns-clause-steps : goal.returns-clause-steps
 returns-clause-steps g c =
     let reached : All (λ (s : Contents). c.args.version ≤ s.applied) c.self.inside.shards.items = subst (λ (xs : List Contents). All (λ (s : Contents). c.args.version ≤ s.applied) xs) c.deref.ensures.value (let yes : c.have_applied.result ≡ true = search rules in c.have_applied.ensures.0 yes) in
-    subst (λ (x : CoreState). IsStepped (g.W.Indexed.keys_of x.board.settings) (Adds (event.Publish c.args.version)) x (core c.publish.new.self c.self.inside.shards.items) (outcome.Ok)) c.self.view_is (steps_on c.it_stands_on.ensures g.W.Indexed.keys_of g.W.Indexed.IsWorkOf c.self.inside.board c.publish.new.self c.self.inside.shards.items c.self.inside.views.items c.self.invariant (event.Publish c.args.version) c.in_ok-publish.ensures.adds (λ k is. subst (λ xs. All (λ a. c.args.version ≤ a) xs) is.applied (all_applied c.args.version c.self.inside.shards.items reached)) outcome.Ok tt)
+    subst (λ (x : CoreState). IsStepped (HasWindow g.W.Indexed.keys_in g.W.Indexed.IsWorkOf x.board.settings) (Adds (event.Publish c.args.version)) x (core c.publish.new.self c.self.inside.shards.items) (outcome.Ok)) c.self.view_is (steps_on (HasWindow g.W.Indexed.keys_in g.W.Indexed.IsWorkOf) c.it_stands_on.ensures g.W.Indexed.IsWorkOf c.self.inside.board c.publish.new.self c.self.inside.shards.items c.self.inside.views.items c.self.invariant (event.Publish c.args.version) c.in_ok-publish.ensures.adds (λ k is. subst (λ xs. All (λ a. c.args.version ≤ a) xs) is.applied (all_applied c.args.version c.self.inside.shards.items reached)) outcome.Ok tt)

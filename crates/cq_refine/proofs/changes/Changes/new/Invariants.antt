@@ -1,8 +1,8 @@
 use Rattle.std.specs.BTreeMap.{get}
 use Rattle.std.specs.Ordering.{nat_cmp}
 use Rattle.cq_tokens.specs.Corpus.{changes_of}
-use Rattle.cq_refine.proofs.KeyPlaces.{IsIndexUpto}
+use Rattle.cq_refine.proofs.KeyPlaces.{Every, IsIndexUpto}
 use Rattle.cq_refine.proofs.changes.Changes.new.Given as goal
 
 abbrev pub invariant-loop-i : goal.invariant-loop-i
-invariant-loop-i g l = IsIndexUpto (changes_of l.files) l.i (λ change. get nat_cmp l.places change)
+invariant-loop-i g l = IsIndexUpto Every (changes_of l.files) l.i (λ change. get nat_cmp l.places change)

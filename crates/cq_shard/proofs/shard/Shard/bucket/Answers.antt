@@ -5,18 +5,13 @@ use Rattle.cq_clones.specs.Lists.{AreAllInOrder}
 use Rattle.cq_clones.specs.Windows.{EntryBefore}
 use Rattle.cq_shard.specs.Shard.{Contents}
 use Rattle.cq_shard.proofs.Entries.{asked_in_order}
-use Rattle.cq_shard.proofs.Standing.{bucket_holds}
 use Rattle.cq_shard.proofs.shard.Shard.bucket.Goals as goal
 
-pub returns-clause-entries : goal.returns-clause-entries
-returns-clause-entries c =
+pub returns : goal.returns
+returns c =
     let key = c.args.key in
     let live = c.args.live.now in
     IfOk-weaker c.bucket.result _ _
     (λ bucket is. subst (λ (v : Contents). AreAllInOrder EntryBefore (λ e. (e.key ≡ key) × Contains live e.change × Contains v.entries e) bucket.items) c.self.view_is
     (subst (λ (es : List Entry). AreAllInOrder EntryBefore (λ e. (e.key ≡ key) × Contains live e.change × Contains c.self.inside.rows e) es) (sym is) (asked_in_order key live c.self.inside.rows c.self.invariant.ordered)))
     c.bucket.ensures
-
-pub returns-clause-holds : goal.returns-clause-holds
-returns-clause-holds c keys_of changes stands =
-    IfOk-weaker c.bucket.result _ _ (λ bucket is. bucket_holds keys_of changes c.args.self.now c.args.key c.args.live.now bucket.items stands is) (returns-clause-entries c)

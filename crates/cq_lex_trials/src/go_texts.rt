@@ -1,51 +1,6 @@
-use crate::Go;
-use cq_base::{Class, Memory, Spelled, Text};
-use cq_munch::{Lexed, munch};
-use std::alloc::Global;
-
-fn lexed(alloc: Global, source: &str) -> Result<Lexed, Memory> {
-    let text = Text::from_bytes(alloc, source.as_bytes())?;
-    if source.len() > 1_000 {
-        return Ok(Lexed::Large);
-    }
-    munch::<Go>(alloc, &text)
-}
-
-// A class as one letter.
-fn letter_of(class: Class) -> u8 {
-    match class {
-        Class::Ident => b'i',
-        Class::Word => b'w',
-        Class::Literal => b'l',
-        Class::Punct => b'p',
-    }
-}
-
-// Whether these are the tokens, each written as the letter of its class and its spelling.
-fn are_spelled(tokens: &[Spelled], want: &[&str]) -> bool {
-    tokens.len() == want.len()
-        && tokens.iter().zip(want.iter()).all(|(found, word)| {
-            match word.as_bytes() {
-                [class, spelling @ ..] => letter_of(found.token.class) == *class
-                    && found.text.as_bytes() == spelling,
-                [] => false,
-            }
-        })
-}
-
-fn has_tokens(alloc: Global, source: &str, want: &[&str]) -> Result<bool, Memory> {
-    match lexed(alloc, source)? {
-        Lexed::Tokens(tokens) => Ok(are_spelled(&tokens, want)),
-        _ => Ok(false),
-    }
-}
-
-fn has_fault(alloc: Global, source: &str, at: u32) -> Result<bool, Memory> {
-    match lexed(alloc, source)? {
-        Lexed::Fault(found) => Ok(found == at),
-        _ => Ok(false),
-    }
-}
+use crate::spelling::{has_fault, has_tokens, places};
+use cq_base::Memory;
+use cq_lex_go::Go;
 
 #[test]
 fn names_words_and_operators(rt: HostRuntime) -> Result<(), Memory> {
@@ -108,7 +63,7 @@ fn names_words_and_operators(rt: HostRuntime) -> Result<(), Memory> {
         ),
     ];
     for (source, want) in cases {
-        assert!(rt; has_tokens(rt.alloc(), source, want)?, "{source}");
+        assert!(rt; has_tokens::<Go>(rt.alloc(), source, want)?, "{source}");
     }
     Ok(())
 }
@@ -123,7 +78,7 @@ fn every_operator(rt: HostRuntime) -> Result<(), Memory> {
         "p<<", "p/=", "p<<=", "p++", "p=", "p:=", "p,", "p;", "p%", "p>>", "p%=", "p>>=", "p--",
         "p!", "p...", "p.", "p:", "p&^", "p&^=", "p~",
     ];
-    assert!(rt; has_tokens(rt.alloc(), source, want.as_slice())?);
+    assert!(rt; has_tokens::<Go>(rt.alloc(), source, want.as_slice())?);
     Ok(())
 }
 
@@ -174,7 +129,7 @@ fn literals(rt: HostRuntime) -> Result<(), Memory> {
         ("3i.5i", &["l3i", "l.5i", "p;"]),
     ];
     for (source, want) in cases {
-        assert!(rt; has_tokens(rt.alloc(), source, want)?, "{source}");
+        assert!(rt; has_tokens::<Go>(rt.alloc(), source, want)?, "{source}");
     }
     Ok(())
 }
@@ -226,7 +181,7 @@ fn semicolons(rt: HostRuntime) -> Result<(), Memory> {
         ),
     ];
     for (source, want) in cases {
-        assert!(rt; has_tokens(rt.alloc(), source, want)?, "{source}");
+        assert!(rt; has_tokens::<Go>(rt.alloc(), source, want)?, "{source}");
     }
     Ok(())
 }
@@ -246,27 +201,17 @@ fn faults(rt: HostRuntime) -> Result<(), Memory> {
         ("a ? b", 2),
     ];
     for (source, at) in cases {
-        assert!(rt; has_fault(rt.alloc(), source, at)?, "{source}");
+        assert!(rt; has_fault::<Go>(rt.alloc(), source, at)?, "{source}");
     }
     Ok(())
 }
 
 #[test]
 fn a_semicolon_has_no_bytes(rt: HostRuntime) -> Result<(), Memory> {
-    match lexed(rt.alloc(), "ab `\n`\n")? {
-        Lexed::Tokens(tokens) => {
-            let places: Vec<(u32, u32, u32, u32)> = tokens
-                .iter()
-                .map(|t| (
-                    t.token.start,
-                    t.token.len,
-                    t.token.first_line,
-                    t.token.last_line,
-                ))
-                .collect(rt.alloc())?;
-            assert!(rt; places.as_slice() == [(0, 2, 1, 1), (3, 3, 1, 2), (6, 0, 2, 2)].as_slice());
-        }
-        _ => assert!(rt; false),
-    }
+    let places = places::<Go>(rt.alloc(), "ab `\n`\n")?;
+    assert_eq!(rt;
+        places.as_slice(),
+        [(0, 2, 1, 1), (3, 3, 1, 2), (6, 0, 2, 2)].as_slice()
+    );
     Ok(())
 }

@@ -12,7 +12,7 @@ use Rattle.cq_refine.specs.Sets.{AreAllOnce}
 use Rattle.cq_refine.specs.Places.{IsGroupOfKey}
 use Rattle.cq_clones.specs.Windows.{HasKey}
 use Rattle.cq_refine.proofs.KeyPlaces.{key_entries, groups_of_key, none_of_key, sizes_of}
-use Rattle.cq_refine.proofs.entries.refine_with.Goals as goal
+use Rattle.cq_refine.proofs.entries.refine_bucket.Goals as goal
 
 pub refine_places-requires-clause-entries : goal.refine_places-requires-clause-entries
 refine_places-requires-clause-entries g c =

@@ -1,51 +1,6 @@
-use crate::Java;
-use cq_base::{Class, Memory, Spelled, Text};
-use cq_munch::{Lexed, munch};
-use std::alloc::Global;
-
-fn lexed(alloc: Global, source: &str) -> Result<Lexed, Memory> {
-    let text = Text::from_bytes(alloc, source.as_bytes())?;
-    if source.len() > 1_000 {
-        return Ok(Lexed::Large);
-    }
-    munch::<Java>(alloc, &text)
-}
-
-// A class as one letter.
-fn letter_of(class: Class) -> u8 {
-    match class {
-        Class::Ident => b'i',
-        Class::Word => b'w',
-        Class::Literal => b'l',
-        Class::Punct => b'p',
-    }
-}
-
-// Whether these are the tokens, each written as the letter of its class and its spelling.
-fn are_spelled(tokens: &[Spelled], want: &[&str]) -> bool {
-    tokens.len() == want.len()
-        && tokens.iter().zip(want.iter()).all(|(found, word)| {
-            match word.as_bytes() {
-                [class, spelling @ ..] => letter_of(found.token.class) == *class
-                    && found.text.as_bytes() == spelling,
-                [] => false,
-            }
-        })
-}
-
-fn has_tokens(alloc: Global, source: &str, want: &[&str]) -> Result<bool, Memory> {
-    match lexed(alloc, source)? {
-        Lexed::Tokens(tokens) => Ok(are_spelled(&tokens, want)),
-        _ => Ok(false),
-    }
-}
-
-fn has_fault(alloc: Global, source: &str, at: u32) -> Result<bool, Memory> {
-    match lexed(alloc, source)? {
-        Lexed::Fault(found) => Ok(found == at),
-        _ => Ok(false),
-    }
-}
+use crate::spelling::{first_place, has_fault, has_tokens};
+use cq_base::Memory;
+use cq_lex_java::Java;
 
 #[test]
 fn names_operators_and_comments(rt: HostRuntime) -> Result<(), Memory> {
@@ -88,7 +43,7 @@ fn names_operators_and_comments(rt: HostRuntime) -> Result<(), Memory> {
         ("\u{1A}", &[]),
     ];
     for (source, want) in cases {
-        assert!(rt; has_tokens(rt.alloc(), source, want)?, "{source}");
+        assert!(rt; has_tokens::<Java>(rt.alloc(), source, want)?, "{source}");
     }
     Ok(())
 }
@@ -118,7 +73,7 @@ fn numbers(rt: HostRuntime) -> Result<(), Memory> {
         ("1..2 1l.x", &["l1.", "l.2", "l1l", "p.", "ix"]),
     ];
     for (source, want) in cases {
-        assert!(rt; has_tokens(rt.alloc(), source, want)?, "{source}");
+        assert!(rt; has_tokens::<Java>(rt.alloc(), source, want)?, "{source}");
     }
     Ok(())
 }
@@ -142,7 +97,7 @@ fn characters_strings_and_text_blocks(rt: HostRuntime) -> Result<(), Memory> {
         ("\"\"\"x\"", &["l\"\"", "l\"x\""]),
     ];
     for (source, want) in cases {
-        assert!(rt; has_tokens(rt.alloc(), source, want)?, "{source}");
+        assert!(rt; has_tokens::<Java>(rt.alloc(), source, want)?, "{source}");
     }
     Ok(())
 }
@@ -166,7 +121,7 @@ fn unicode_escapes(rt: HostRuntime) -> Result<(), Memory> {
         ("\"\\\\\\u0041\"", &["l\"\\\\A\""]),
     ];
     for (source, want) in cases {
-        assert!(rt; has_tokens(rt.alloc(), source, want)?, "{source}");
+        assert!(rt; has_tokens::<Java>(rt.alloc(), source, want)?, "{source}");
     }
     Ok(())
 }
@@ -231,7 +186,7 @@ fn every_keyword_and_literal_word(rt: HostRuntime) -> Result<(), Memory> {
         "wfalse",
         "wnull",
     ];
-    assert!(rt; has_tokens(rt.alloc(), source, &want)?);
+    assert!(rt; has_tokens::<Java>(rt.alloc(), source, &want)?);
     Ok(())
 }
 
@@ -245,7 +200,7 @@ fn every_separator_and_operator(rt: HostRuntime) -> Result<(), Memory> {
         "p--", "p+", "p-", "p*", "p/", "p&", "p|", "p^", "p%", "p<<", "p+=", "p-=", "p*=", "p/=",
         "p&=", "p|=", "p^=", "p%=", "p<<=", "p>>=", "p>>>=",
     ];
-    assert!(rt; has_tokens(rt.alloc(), source, &want)?);
+    assert!(rt; has_tokens::<Java>(rt.alloc(), source, &want)?);
     Ok(())
 }
 
@@ -271,37 +226,28 @@ fn faults(rt: HostRuntime) -> Result<(), Memory> {
         ("é'", 2),
         ("\"\\\\\\u\"", 3),
     ] {
-        assert!(rt; has_fault(rt.alloc(), source, at)?, "{source}");
+        assert!(rt; has_fault::<Java>(rt.alloc(), source, at)?, "{source}");
     }
     Ok(())
-}
-
-// The place, length and lines of the first token.
-fn first_token(alloc: Global, source: &str) -> Result<Option<(u32, u32, u32, u32)>, Memory> {
-    match lexed(alloc, source)? {
-        Lexed::Tokens(tokens) => Ok(
-            tokens.first().map(|t| (
-                t.token.start,
-                t.token.len,
-                t.token.first_line,
-                t.token.last_line,
-            )),
-        ),
-        _ => Ok(None),
-    }
 }
 
 #[test]
 fn an_escape_counts_with_all_its_bytes(rt: HostRuntime) -> Result<(), Memory> {
     let alloc = rt.alloc();
-    assert_eq!(rt; first_token(alloc, "a\\u0062c d")?, Some((0, 8, 1, 1)));
-    assert_eq!(rt; first_token(alloc, " \\uuu0041")?, Some((1, 8, 1, 1)));
     assert_eq!(rt;
-        first_token(alloc, "\n\"\\ud83d\\ude00\"")?,
+        first_place::<Java>(alloc, "a\\u0062c d")?,
+        Some((0, 8, 1, 1))
+    );
+    assert_eq!(rt;
+        first_place::<Java>(alloc, " \\uuu0041")?,
+        Some((1, 8, 1, 1))
+    );
+    assert_eq!(rt;
+        first_place::<Java>(alloc, "\n\"\\ud83d\\ude00\"")?,
         Some((1, 14, 2, 2))
     );
     assert_eq!(rt;
-        first_token(alloc, "\"\"\"\n\n\"\"\" x")?,
+        first_place::<Java>(alloc, "\"\"\"\n\n\"\"\" x")?,
         Some((0, 8, 1, 3))
     );
     Ok(())

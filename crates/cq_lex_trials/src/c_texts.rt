@@ -1,51 +1,6 @@
-use crate::C;
-use cq_base::{Class, Memory, Spelled, Text};
-use cq_munch::{Lexed, munch};
-use std::alloc::Global;
-
-fn lexed(alloc: Global, source: &str) -> Result<Lexed, Memory> {
-    let text = Text::from_bytes(alloc, source.as_bytes())?;
-    if source.len() > 1_000 {
-        return Ok(Lexed::Large);
-    }
-    munch::<C>(alloc, &text)
-}
-
-// A class as one letter.
-fn letter_of(class: Class) -> u8 {
-    match class {
-        Class::Ident => b'i',
-        Class::Word => b'w',
-        Class::Literal => b'l',
-        Class::Punct => b'p',
-    }
-}
-
-// Whether these are the tokens, each written as the letter of its class and its spelling.
-fn are_spelled(tokens: &[Spelled], want: &[&str]) -> bool {
-    tokens.len() == want.len()
-        && tokens.iter().zip(want.iter()).all(|(found, word)| {
-            match word.as_bytes() {
-                [class, spelling @ ..] => letter_of(found.token.class) == *class
-                    && found.text.as_bytes() == spelling,
-                [] => false,
-            }
-        })
-}
-
-fn has_tokens(alloc: Global, source: &str, want: &[&str]) -> Result<bool, Memory> {
-    match lexed(alloc, source)? {
-        Lexed::Tokens(tokens) => Ok(are_spelled(&tokens, want)),
-        _ => Ok(false),
-    }
-}
-
-fn has_fault(alloc: Global, source: &str, at: u32) -> Result<bool, Memory> {
-    match lexed(alloc, source)? {
-        Lexed::Fault(found) => Ok(found == at),
-        _ => Ok(false),
-    }
-}
+use crate::spelling::{first_place, has_fault, has_tokens};
+use cq_base::Memory;
+use cq_lex_c::C;
 
 #[test]
 fn names_comments_and_others(rt: HostRuntime) -> Result<(), Memory> {
@@ -65,7 +20,7 @@ fn names_comments_and_others(rt: HostRuntime) -> Result<(), Memory> {
         ("/* * / **/ //\rx\ny", &["iy"]),
     ];
     for (source, want) in cases {
-        assert!(rt; has_tokens(rt.alloc(), source, want)?, "{source}");
+        assert!(rt; has_tokens::<C>(rt.alloc(), source, want)?, "{source}");
     }
     Ok(())
 }
@@ -89,7 +44,7 @@ fn preprocessing_numbers(rt: HostRuntime) -> Result<(), Memory> {
         ("... .. . .x", &["p...", "p.", "p.", "p.", "p.", "ix"]),
     ];
     for (source, want) in cases {
-        assert!(rt; has_tokens(rt.alloc(), source, want)?, "{source}");
+        assert!(rt; has_tokens::<C>(rt.alloc(), source, want)?, "{source}");
     }
     Ok(())
 }
@@ -113,7 +68,7 @@ fn strings_and_characters(rt: HostRuntime) -> Result<(), Memory> {
         ("u u8 L", &["iu", "iu8", "iL"]),
     ];
     for (source, want) in cases {
-        assert!(rt; has_tokens(rt.alloc(), source, want)?, "{source}");
+        assert!(rt; has_tokens::<C>(rt.alloc(), source, want)?, "{source}");
     }
     Ok(())
 }
@@ -149,7 +104,7 @@ fn header_names_by_mode(rt: HostRuntime) -> Result<(), Memory> {
         ("##include <a>", &["p##", "iinclude", "p<", "ia", "p>"]),
     ];
     for (source, want) in cases {
-        assert!(rt; has_tokens(rt.alloc(), source, want)?, "{source}");
+        assert!(rt; has_tokens::<C>(rt.alloc(), source, want)?, "{source}");
     }
     Ok(())
 }
@@ -174,7 +129,7 @@ fn splices_anywhere(rt: HostRuntime) -> Result<(), Memory> {
         ("\\\\\n", &["p\\"]),
     ];
     for (source, want) in cases {
-        assert!(rt; has_tokens(rt.alloc(), source, want)?, "{source}");
+        assert!(rt; has_tokens::<C>(rt.alloc(), source, want)?, "{source}");
     }
     Ok(())
 }
@@ -193,7 +148,7 @@ fn the_longest_punctuator(rt: HostRuntime) -> Result<(), Memory> {
         ),
     ];
     for (source, want) in cases {
-        assert!(rt; has_tokens(rt.alloc(), source, want)?, "{source}");
+        assert!(rt; has_tokens::<C>(rt.alloc(), source, want)?, "{source}");
     }
     Ok(())
 }
@@ -248,7 +203,7 @@ fn every_keyword(rt: HostRuntime) -> Result<(), Memory> {
         "w_Static_assert",
         "w_Thread_local",
     ];
-    assert!(rt; has_tokens(rt.alloc(), source, &want)?);
+    assert!(rt; has_tokens::<C>(rt.alloc(), source, &want)?);
     Ok(())
 }
 
@@ -262,39 +217,27 @@ fn every_punctuator(rt: HostRuntime) -> Result<(), Memory> {
         "p&&", "p||", "p?", "p:", "p;", "p...", "p=", "p*=", "p/=", "p%=", "p+=", "p-=", "p<<=",
         "p>>=", "p&=", "p^=", "p|=", "p,", "p#", "p##", "p<:", "p:>", "p<%", "p%>", "p%:", "p%:%:",
     ];
-    assert!(rt; has_tokens(rt.alloc(), source, &want)?);
+    assert!(rt; has_tokens::<C>(rt.alloc(), source, &want)?);
     Ok(())
 }
 
 #[test]
 fn faults(rt: HostRuntime) -> Result<(), Memory> {
     for (source, at) in [("/*/", 0), ("a /* * /", 2), ("/\\\n*", 0), ("é /*", 3)] {
-        assert!(rt; has_fault(rt.alloc(), source, at)?, "{source}");
+        assert!(rt; has_fault::<C>(rt.alloc(), source, at)?, "{source}");
     }
     Ok(())
-}
-
-// The place, length and lines of the first token.
-fn first_token(alloc: Global, source: &str) -> Result<Option<(u32, u32, u32, u32)>, Memory> {
-    match lexed(alloc, source)? {
-        Lexed::Tokens(tokens) => Ok(
-            tokens.first().map(|t| (
-                t.token.start,
-                t.token.len,
-                t.token.first_line,
-                t.token.last_line,
-            )),
-        ),
-        _ => Ok(None),
-    }
 }
 
 #[test]
 fn a_splice_counts_within_a_token(rt: HostRuntime) -> Result<(), Memory> {
     let alloc = rt.alloc();
-    assert_eq!(rt; first_token(alloc, "in\\\nt x")?, Some((0, 5, 1, 2)));
-    assert_eq!(rt; first_token(alloc, "a\\\n b")?, Some((0, 1, 1, 1)));
-    assert_eq!(rt; first_token(alloc, "\\\na b")?, Some((2, 1, 2, 2)));
-    assert_eq!(rt; first_token(alloc, "\n \"a\\\r\nb\"")?, Some((2, 7, 2, 3)));
+    assert_eq!(rt; first_place::<C>(alloc, "in\\\nt x")?, Some((0, 5, 1, 2)));
+    assert_eq!(rt; first_place::<C>(alloc, "a\\\n b")?, Some((0, 1, 1, 1)));
+    assert_eq!(rt; first_place::<C>(alloc, "\\\na b")?, Some((2, 1, 2, 2)));
+    assert_eq!(rt;
+        first_place::<C>(alloc, "\n \"a\\\r\nb\"")?,
+        Some((2, 7, 2, 3))
+    );
     Ok(())
 }

@@ -1,7 +1,7 @@
 -- A text is lexed in one way.
 use Rattle.std.proofs.Common.{◌≡◌, ℕ, ◌+◌, Some, None, Result, Ok, Err, List, [], ◌∷◌, length, take, drop, refl, sym, ap, subst, ◌∙◌, ⊎_elim, arith, length-drop}
 use Rattle.std.proofs.lemmas.List.{length-map}
-use Rattle.std.proofs.str.Laws.{order}
+use Rattle.std.proofs.lemmas.Bool.{cases_lt}
 use Rattle.cq_munch.specs.declared.unit.Unit.{Unit}
 use Rattle.cq_munch.specs.Longest.{IsLongest}
 use Rattle.cq_munch.specs.declared.element.Found.{Found}
@@ -17,8 +17,8 @@ one_length : (set : List ℕ → Type 0) (text : List ℕ) (m n : ℕ) → IsLon
 one_length set text m n h k =
     ⊎_elim
     (λ less. absurd (h.longest n less k.within k.spelled))
-    (λ more. ⊎_elim (λ less. absurd (k.longest m less h.within h.spelled)) (λ same. omega arith) (order n m))
-    (order m n)
+    (λ more. ⊎_elim (λ less. absurd (k.longest m less h.within h.spelled)) (λ same. omega arith) (cases_lt n m))
+    (cases_lt m n)
 
 module _ (lang : Language) (one_kind : (at mode : ℕ) (text s : List ℕ) (a b : Spell) → lang.tried at mode text a s → lang.tried at mode text b s → a ≡ b) where
   takes_one : (at mode : ℕ) (text : List ℕ) (f g : Found) → Takes lang at mode text (Some f) → Takes lang at mode text (Some g) → f ≡ g

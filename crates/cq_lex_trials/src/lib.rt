@@ -1,0 +1,13 @@
+//! Trials of the languages: what texts are lexed to, worked out by hand.
+#![tactic(auto)]
+
+#[cfg(test)]
+mod any_texts;
+#[cfg(test)]
+mod c_texts;
+#[cfg(test)]
+mod go_texts;
+#[cfg(test)]
+mod java_texts;
+#[cfg(test)]
+mod spelling;

@@ -1,0 +1,69 @@
+-- The settings, the language and the text determine the keys of a work, and they are few.
+use Rattle.std.proofs.Common.{◌≡◌, ℕ, suc, ◌^◌, ◌<◌, ◌≤◌, nat_le, Bool, true, false, cond, Ok, List, [], ◌∷◌, length, map, take, refl, sym, ap, ◌∙◌, arith}
+use Rattle.std.proofs.lemmas.List.{length-map}
+use Rattle.std.specs.Arc.{arc_value}
+use Rattle.cq_base.specs.declared.settings.Settings.{Settings}
+use Rattle.cq_base.specs.declared.lang.Lang.{Lang}
+use Rattle.cq_base.specs.declared.lang.Lang.TheVariants as lang
+use Rattle.cq_munch.specs.declared.munching.Lexed.{Lexed}
+use Rattle.cq_munch.specs.declared.munching.Lexed.TheVariants as lexed
+use Rattle.cq_munch.specs.Lexed.{Alike}
+use Rattle.cq_munch.specs.OneAnswer.{one_answer}
+use Rattle.cq_lex_any.specs.Any.{any}
+use Rattle.cq_lex_any.specs.OneKind.{one_kind_of_any}
+use Rattle.cq_lex_go.specs.Go.{go}
+use Rattle.cq_lex_go.specs.OneKind.{one_kind_of_go}
+use Rattle.cq_lex_go.specs.Semicolons.{completed}
+use Rattle.cq_lex_c.specs.C.{c}
+use Rattle.cq_lex_c.specs.OneKind.{one_kind_of_c}
+use Rattle.cq_lex_c.specs.Splices.{spliced}
+use Rattle.cq_lex_java.specs.Java.{java}
+use Rattle.cq_lex_java.specs.OneKind.{one_kind_of_java}
+use Rattle.cq_lex_java.specs.Translation.{translated}
+use Rattle.cq_key.specs.Keys.{code_of, key_of, keys_of, window_keys}
+use Rattle.cq_normal.specs.Normal.{norm_of, normal}
+use Rattle.cq_work.specs.declared.work.Work.{Work}
+use Rattle.cq_work.specs.Lexing.{LexesTo, tokens_in}
+use Rattle.cq_work.specs.Work.{IsWorkOf}
+
+one_lexing : (l : Lang) (text : List ℕ) (a b : Lexed) → LexesTo l text a → LexesTo l text b → Alike a b
+one_lexing lang.Any text a b h k = one_answer any one_kind_of_any (λ units. Ok units) (λ bytes tokens. tokens) text a b h k
+one_lexing lang.Go text a b h k = one_answer go one_kind_of_go (λ units. Ok units) completed text a b h k
+one_lexing lang.C text a b h k = one_answer c one_kind_of_c (λ units. Ok (spliced 0 units)) (λ bytes tokens. tokens) text a b h k
+one_lexing lang.Java text a b h k = one_answer java one_kind_of_java (translated 0 false) (λ bytes tokens. tokens) text a b h k
+
+same_tokens : (a b : Lexed) → Alike a b → tokens_in a ≡ tokens_in b
+same_tokens (lexed.Tokens v) (lexed.Tokens w) h = h
+same_tokens (lexed.Tokens v) (lexed.Fault at) h = absurd h
+same_tokens (lexed.Tokens v) lexed.Large h = absurd h
+same_tokens (lexed.Fault at) (lexed.Tokens w) h = absurd h
+same_tokens (lexed.Fault at) (lexed.Fault to) h = refl
+same_tokens (lexed.Fault at) lexed.Large h = absurd h
+same_tokens lexed.Large (lexed.Tokens w) h = absurd h
+same_tokens lexed.Large (lexed.Fault at) h = absurd h
+same_tokens lexed.Large lexed.Large h = refl
+
+pub keys_determined : {L : Type 0} (settings : Settings) (l : Lang) (text : List ℕ) (work other : Work L) → IsWorkOf settings l text work → IsWorkOf settings l text other → arc_value work.keys ≡ arc_value other.keys
+keys_determined settings l text work other is also =
+    is.shows.keys_are
+    ∙ ap (λ tokens. window_keys settings (normal settings l tokens)) (same_tokens is.answer also.answer (one_lexing l text is.answer also.answer is.lexes also.lexes))
+    ∙ sym also.shows.keys_are
+
+-- no more windows than tokens
+either : (b : Bool) (key : ℕ) (keys codes : List ℕ) → length keys ≤ length codes → length (cond b (key ∷ keys) []) ≤ suc (length codes)
+either true key keys codes h = omega (arith, h)
+either false key keys codes h = omega arith
+
+keys_most : (settings : Settings) (codes : List ℕ) → length (keys_of settings codes) ≤ length codes
+keys_most settings [] = omega arith
+keys_most settings (first ∷ codes) = either (nat_le settings.chunk (length (first ∷ codes))) (key_of settings (take settings.chunk (first ∷ codes))) (keys_of settings codes) codes (keys_most settings codes)
+
+pub few_keys : {L : Type 0} (settings : Settings) (l : Lang) (text : List ℕ) (work : Work L) → IsWorkOf settings l text work → length (arc_value work.keys) < 2 ^ 32
+few_keys settings l text work is =
+    let norms = normal settings l (tokens_in is.answer) in
+    let most = keys_most settings (map code_of norms) in
+    let codes = length-map norms code_of in
+    let tokens = length-map (tokens_in is.answer) (norm_of settings l) in
+    let keys = ap length is.shows.keys_are in
+    let few = is.shows.few in
+    omega (arith, most, codes, tokens, keys, few)
