@@ -1,5 +1,5 @@
 -- The ranges of the settings.
-use Rattle.std.specs.Prelude.{◌&&◌, ℕ, ◌^◌, Bool, nat_le, if◌then◌else◌, Option, Some, None}
+use Rattle.std.specs.Prelude.{◌&&◌, ℕ, ◌^◌, ◌≤◌, Bool, nat_le, if◌then◌else◌, Option, Some, None}
 use Rattle.cq_base.specs.declared.settings.Settings.{Settings}
 use Rattle.cq_base.specs.declared.settings.Field.{Field}
 use Rattle.cq_base.specs.declared.settings.Field.TheVariants.{Chunk, Shards, KeyBits, ChangeLimit, TextLimit, ByteLimit}
@@ -21,3 +21,17 @@ first_out_of_range s =
     (unless_within (is_within 1 262144 s.change_limit) ChangeLimit
     (unless_within (is_within 1 67108864 s.text_limit) TextLimit
     (unless_within (is_within 1 (2 ^ 60) s.byte_limit) ByteLimit None)))))
+
+-- all fields are in their ranges
+pub record IsInRange (s : Settings) : Type 0 where
+  pub chunk : 1 ≤ s.chunk
+  pub chunk_most : s.chunk ≤ 1000
+  pub shards : 1 ≤ s.shards
+  pub shards_most : s.shards ≤ 64
+  pub key_bits : s.key_bits ≤ 64
+  pub change_limit : 1 ≤ s.change_limit
+  pub change_limit_most : s.change_limit ≤ 262144
+  pub text_limit : 1 ≤ s.text_limit
+  pub text_limit_most : s.text_limit ≤ 67108864
+  pub byte_limit : 1 ≤ s.byte_limit
+  pub byte_limit_most : s.byte_limit ≤ 2 ^ 60

@@ -29,7 +29,7 @@ pub use norm::Norm;
 pub use settings::{Field, Settings};
 pub use steps::Steps;
 pub use text::Text;
-pub use token::{Class, Spelled, Token};
+pub use token::{Class, Mark, Spelled, Token};
 
 #[cfg(test)]
 mod tests;

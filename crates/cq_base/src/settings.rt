@@ -1,5 +1,5 @@
-ghost use Rattle.std.specs.Prelude.{◌≡◌};
-ghost use Rattle.cq_base.specs.Settings.{first_out_of_range};
+ghost use Rattle.std.specs.Prelude.{◌≡◌, ◌↔◌, IsNone};
+ghost use Rattle.cq_base.specs.Settings.{first_out_of_range, IsInRange};
 
 /// What a server is started with.
 #[derive(Clone, Copy, Debug, PartialEq, Eq)]
@@ -38,7 +38,8 @@ pub enum Field {
 impl Settings {
     /// The first field that is out of its range, in the order of the struct; None where all are within.
     pub fn check(&self) -> Option<Field>
-        ensures { result ≡ first_out_of_range self.now }
+        ensures first { result ≡ first_out_of_range self.now }
+        ensures in_range { IsNone result ↔ IsInRange self.now }
     {
         if self.chunk < 1 || self.chunk > 1_000 {
             return Some(Field::Chunk);

@@ -30,3 +30,10 @@ pub struct Spelled {
     pub token: Token,
     pub text: Text,
 }
+
+/// A place of a text from which on tokens are listed, or are not: a comment with CPD-ON or CPD-OFF begins at byte `at`.
+#[derive(Clone, Copy, Debug, PartialEq, Eq)]
+pub struct Mark {
+    pub at: u32,
+    pub on: bool,
+}

@@ -5,8 +5,10 @@ use Rattle.std.proofs.lemmas.Bool.{cases_order}
 use Rattle.cq_base.specs.declared.group.Place.{Place}
 use Rattle.cq_base.specs.declared.group.Group.{Group}
 use Rattle.cq_clones.specs.Lists.{AreAllInOrder}
-use Rattle.cq_clones.specs.Groups.{file_at, IsBefore, word_at, StandsAt, IsMaximalAt, kept_of, IsGroup, first_place}
-use Rattle.cq_clones.proofs.InOrder.{Contains-here, AreAllInOrder-same}
+use Rattle.cq_clones.specs.Groups.{file_at, IsBefore, word_at, StandsAt, IsMaximalAt, kept_of, IsGroup}
+use Rattle.cq_base.specs.Places.{first_place}
+use Rattle.cq_clones.proofs.InOrder.{AreAllInOrder-same}
+use Rattle.cq_base.proofs.Lists.{Contains-here}
 use Rattle.cq_clones.proofs.Order.{IsBefore-apart}
 use Rattle.cq_clones.proofs.Words.{tokens_from_words, within_from_word}
 

@@ -7,27 +7,8 @@ use Rattle.std.proofs.lemmas.List.Edits.{length-insert, get_or-insert_below, get
 use Rattle.std.proofs.lemmas.List.Elements.{Contains-get_or, Contains-append_left, Contains-push, Contains-push_cases}
 use Rattle.std.proofs.lemmas.List.Quantifiers.{all_pairs_push}
 use Rattle.std.proofs.lemmas.List.Sorted.{IsPermutation-sym, IsPermutation-insert, Contains-permutation}
+use Rattle.cq_base.proofs.Lists.{Contains-here, Contains-there, Contains-cases, Contains-nil, AllPairs-head, AllPairs-tail}
 use Rattle.cq_clones.specs.Lists.{AreAllInOrder}
-
-pub Contains-here : {X : Type 0} (x : X) (xs : List X) → Contains (x ∷ xs) x
-Contains-here x xs = (0, omega arith, refl)
-
-pub Contains-there : {X : Type 0} (x z : X) (xs : List X) → Contains xs z → Contains (x ∷ xs) z
-Contains-there x z xs (k, within, is) = (suc k, omega arith, is)
-
-pub Contains-cases : {X : Type 0} (x z : X) (xs : List X) → Contains (x ∷ xs) z → (x ≡ z) ⊎ Contains xs z
-Contains-cases x z xs (zero, within, is) = inl is
-Contains-cases x z xs (suc k, within, is) = inr (k, omega arith, is)
-
-pub Contains-nil : {X : Type 0} (z : X) → Contains [] z → ⊥
-Contains-nil z (k, within, is) = omega arith
-
--- the first element is before each later one
-pub AllPairs-head : {X : Type 0} (Before : X → X → Type 0) (x z : X) (xs : List X) → AllPairs Before (x ∷ xs) → Contains xs z → Before x z
-AllPairs-head Before x z xs ordered (k, within, is) = subst (Before x) is (ordered 0 (suc k) z (omega arith) (omega arith))
-
-pub AllPairs-tail : {X : Type 0} (Before : X → X → Type 0) (x : X) (xs : List X) → AllPairs Before (x ∷ xs) → AllPairs Before xs
-AllPairs-tail Before x xs ordered i j d lt within = ordered (suc i) (suc j) d (omega arith) (omega arith)
 
 -- two lists in order with the same elements are the same list
 pub same_in_order : {X : Type 0} (Before : X → X → Type 0) (apart : (x y : X) → Before x y → Before y x → ⊥) (xs ys : List X) → AllPairs Before xs → AllPairs Before ys → ((z : X) → Contains xs z → Contains ys z) → ((z : X) → Contains ys z → Contains xs z) → xs ≡ ys

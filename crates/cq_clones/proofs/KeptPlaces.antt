@@ -4,7 +4,7 @@ use Rattle.std.specs.Prelude.{⊤, AllPairs, Contains}
 use Rattle.cq_base.specs.declared.group.Place.{Place}
 use Rattle.cq_clones.specs.Groups.{IsBefore, is_free, kept_after, kept_of}
 use Rattle.cq_clones.specs.Readers.{Covers}
-use Rattle.cq_clones.proofs.InOrder.{Contains-here, Contains-there, Contains-cases, Contains-nil, AllPairs-head, AllPairs-tail}
+use Rattle.cq_base.proofs.Lists.{Contains-here, Contains-there, Contains-cases, Contains-nil, AllPairs-head, AllPairs-tail}
 
 -- one that is taken, or not, and the rest
 front_cases : (b : Bool) (p z : Place) (rest : List Place) → Contains ((cond b (p ∷ []) []) ++ rest) z → (p ≡ z) ⊎ Contains rest z

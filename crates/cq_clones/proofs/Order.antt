@@ -2,7 +2,8 @@
 use Rattle.std.proofs.Common.{◌≡◌, ℕ, List, arith}
 use Rattle.cq_base.specs.declared.group.Place.{Place}
 use Rattle.cq_base.specs.declared.group.Group.{Group}
-use Rattle.cq_clones.specs.Groups.{IsBefore, ComesBefore, first_place, AreGroups}
+use Rattle.cq_clones.specs.Groups.{IsBefore, ComesBefore, AreGroups}
+use Rattle.cq_base.specs.Places.{first_place}
 use Rattle.cq_clones.proofs.InOrder.{AreAllInOrder-same}
 
 pub IsBefore-apart : (p q : Place) → IsBefore p q → IsBefore q p → ⊥

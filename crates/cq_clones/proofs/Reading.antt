@@ -7,7 +7,7 @@ use Rattle.cq_clones.specs.Groups.{word_at, StandsAt, kept_of, IsGroup}
 use Rattle.cq_clones.specs.Readers.{Covers, AreApart, ListsEveryMatch, ShowsItsTokens}
 use Rattle.cq_clones.proofs.Decided.{norms_decided}
 use Rattle.cq_clones.proofs.GroupLaws.{within_from_standing, word_of_group}
-use Rattle.cq_clones.proofs.InOrder.{Contains-nil, Contains-cases}
+use Rattle.cq_base.proofs.Lists.{Contains-nil, Contains-cases}
 use Rattle.cq_clones.proofs.KeptPlaces.{kept_among, kept_reach}
 use Rattle.cq_clones.proofs.Occurrences.{occurrences_of}
 

@@ -3,6 +3,7 @@
 use Rattle.std.specs.Prelude.{◌≡◌, ◌≢◌, ◌⊎◌, ℕ, zero, suc, ◌+◌, ◌<◌, ◌≤◌, ◌==◌, nat_le, ◌||◌, not, Bool, true, if◌then◌else◌, List, [], ◌∷◌, ◌++◌, length, take, drop, slice_get, slice_index_or, Option, Some, None, IsSome, Any}
 use Rattle.cq_base.specs.declared.group.Place.{Place}
 use Rattle.cq_base.specs.declared.group.Group.{Group}
+use Rattle.cq_base.specs.Places.{first_place}
 use Rattle.cq_clones.specs.Lists.{AreAllInOrder}
 
 -- the tokens of a file; none where there is no such file
@@ -76,9 +77,6 @@ pub record IsGroup {T : Type 0} (corpus : List (List T)) (least : ℕ) (group : 
   pub several : 2 ≤ length group.places
 
 -- the order of groups: by the first place, and longer first
-abbrev pub first_place : Group → Place
-first_place group = slice_index_or group.places 0 (record { file = 0; at = 0 })
-
 abbrev pub ComesBefore : Group → Group → Type 0
 ComesBefore g h = IsBefore (first_place g) (first_place h) ⊎ ((first_place g ≡ first_place h) × (h.tokens < g.tokens))
 

@@ -3,7 +3,8 @@ use Rattle.std.specs.Prelude.{◌≡◌, ◌⊎◌, ℕ, ◌+◌, ◌<◌, ◌�
 use Rattle.cq_base.specs.declared.norm.Norm.{Norm}
 use Rattle.cq_base.specs.declared.group.Place.{Place}
 use Rattle.cq_base.specs.declared.group.Group.{Group}
-use Rattle.cq_clones.specs.Groups.{file_at, word_at, IsMaximalAt, first_place, AreGroups}
+use Rattle.cq_clones.specs.Groups.{file_at, word_at, IsMaximalAt, AreGroups}
+use Rattle.cq_base.specs.Places.{first_place}
 
 -- two lists of groups of one corpus are the same list
 abbrev pub HasOneList : Type 0

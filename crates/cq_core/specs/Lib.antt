@@ -1,10 +1,3 @@
-pub mod Answers
-pub mod Boards
-pub mod Listings
-pub mod Ordered
-pub mod Parts
-pub mod Presence
-pub mod Related
-pub mod Slots
-pub mod Stands
-pub mod Turnover
+pub mod Machine
+pub mod Reading
+pub mod Views

@@ -1,31 +1,13 @@
-//! The board: the accepted changes, who works on them, the published versions and the open views. A call adds its event
-//! to every history for which the board stands, exactly where the event is lawful, or changes nothing. Callers are
-//! numbered from 0.
-//!
-//! Accepting a change costs a slot and a search among the places at which files stand. Taking one looks at the changes
-//! from the first on that may have been free. Publishing costs an owner for each project; a project that changed costs a
-//! copy of its list, which is two owners and two numbers a file, once, and then each of its changes a search and a move in
-//! that list. The numbers of all files are changed in place, a search and a move for each file that was replaced or
-//! dropped; they are copied first where a view still shows the last version. No text, no path and no work is copied: each
-//! is held once, behind an owner that slots, listings and jobs share.
+//! The board with its shards, one step at a time: what a server of any number of callers may do, in the order in which it
+//! happens. A step is done exactly where it is allowed, and else changes nothing. A step costs what the call of the board
+//! or of the shard costs, and publishing a look at each shard.
 #![tactic(auto)]
 
-mod accepting;
-mod answers;
-mod board;
-mod files;
-mod held;
-mod kept;
-mod listing;
-mod live;
-mod parts;
-mod presence;
-mod slot_tests;
+mod machine;
+mod step;
 
-pub use answers::{Asked, Finished, Job, Refused};
-pub use board::Board;
-pub use held::Held;
-pub use listing::{Listing, View};
+pub use machine::Core;
+pub use step::{Outcome, Step};
 
 #[cfg(test)]
 mod tests;

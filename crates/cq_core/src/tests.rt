@@ -1,24 +1,27 @@
-ghost use Rattle.std.specs.Prelude.{◌≡◌};
+ghost use Rattle.std.specs.Prelude.{◌≡◌, ◌<◌, length, OnOk};
 
-use crate::{Board, Refused};
-use cq_base::{Change, Conditions, Lang, Settings, Text};
+use crate::{Core, Outcome, Step};
+use cq_base::{Change, Lang, Memory, Settings, Steps, Text};
 use cq_shard::Indexed;
 use std::alloc::Global;
+use std::marker::Brand;
+use std::sync::Arc;
+use std::sync::ledger::{Blank, Ledger};
 
-// A work that shows nothing to the index.
+// A work whose two windows have the same keys whatever its text is.
 #[derive(Drop)]
-struct Bare {}
+struct Same {}
 
-impl Indexed for Bare {
-    ghost use Rattle.std.specs.Prelude.{◌≡◌, [], refl};
+impl Indexed for Same {
+    ghost use Rattle.std.specs.Prelude.{◌≡◌, ◌∷◌, [], refl};
     ghost use Rattle.std.proofs.Common.{rules};
 
-    ghost keys_in = { λ work. [] };
+    ghost keys_in = { λ work. 3 ∷ 4 ∷ [] };
 
     ghost IsWorkOf = { λ settings lang text work. Unit {0} };
 
     fn keys(&self) -> &[u64] {
-        &[]
+        &[3, 4]
     }
 
     ghost determined = { λ settings lang text work other is also. refl };
@@ -28,7 +31,7 @@ impl Indexed for Bare {
 
 const SETTINGS: Settings = Settings {
     chunk: 2,
-    shards: 1,
+    shards: 2,
     key_bits: 64,
     ignore_ids: false,
     ignore_lits: false,
@@ -37,48 +40,121 @@ const SETTINGS: Settings = Settings {
     byte_limit: 1_152_921_504_606_846_976,
 };
 
-// The number of a put, and that of the job that its first caller is given then.
-fn taken(alloc: Global) -> Result<(u64, Option<u64>), Refused> {
-    let mut board: Board<Bare> = Board::new(alloc, &SETTINGS, 1)?;
-    let put = Change::Put {
+fn put(alloc: Global) -> Result<Change, Memory> {
+    Ok(Change::Put {
         project: Text::from_bytes(alloc, b"p")?,
         path: Text::from_bytes(alloc, b"a")?,
         lang: Lang::Any,
         text: Text::from_bytes(alloc, b"x")?,
-    };
-    let number = board.accept(alloc, 0, put)?;
-    let job = board.take(0)?;
-    Ok((number, job.map(|job| job.change)))
+    })
 }
 
-// Up to which change all is done behind a gate, and how many conditions and files its view has.
-fn seen(alloc: Global) -> Result<(u64, usize, usize), Refused> {
-    let mut board: Board<Bare> = Board::new(alloc, &SETTINGS, 1)?;
-    let project = Text::from_bytes(alloc, b"p")?;
-    let gate = Change::Gate {
-        project: project.copied(alloc)?,
-        conditions: Conditions::from_vec(Vec::new(alloc)),
-    };
-    board.accept(alloc, 0, gate)?;
-    let asked = board.ask(0);
-    if asked.published >= asked.done {
-        return Ok((0, 0, 0));
+// A put that is done, and applied by the first of two shards.
+fn put_and_applied<L: Ledger>(
+    alloc: Global,
+    core: &mut Core<Same>,
+    number: u64,
+    steps: &mut Steps<L>,
+) -> Result<(), Memory>
+    requires caller { 0 < length core.old.board.state.views }
+    requires shards { core.old.board.settings.shards ≡ 2 }
+    ensures callers { OnOk result (length core.new.board.state.views ≡ length core.old.board.state.views) }
+    ensures settings { OnOk result (core.new.board.settings ≡ core.old.board.settings) }
+{
+    let change = put(alloc)?;
+    core.step(alloc, Step::Accept { by: 0, change }, steps)?;
+    let work = Arc::new(alloc, Same {})?;
+    let change = number;
+    core.step(
+        alloc,
+        Step::Done {
+            by: 0,
+            change,
+            work,
+        },
+        steps,
+    )?;
+    core.step(alloc, Step::Apply { shard: 0 }, steps)?;
+    Ok(())
+}
+
+// The changes of the entries that the caller's view has of a key of the second shard.
+fn changes_read(alloc: Global, core: &Core<Same>) -> Result<Vec<u64>, Memory>
+    requires caller { 0 < length core.now.board.state.views }
+    requires shards { core.now.board.settings.shards ≡ 2 }
+{
+    let mut changes = Vec::new(alloc);
+    if let Some(entries) = core.read(alloc, 0, 1, 3)? {
+        for entry in &entries {
+            changes.push(entry.change)?;
+        }
     }
-    board.publish(alloc, asked.done)?;
-    let view = board.open(0)?;
-    let listing = &view.listing;
-    let files = listing.files(&project).len() + listing.live().len();
-    Ok((view.version, listing.conditions(&project).len(), files))
+    Ok(changes)
+}
+
+// What publishing comes to while the second shard lags and after, and what a view reads before that, behind it, and once
+// it was opened anew.
+fn published<L: Ledger>(
+    alloc: Global,
+    blank: Blank,
+) -> Result<(Outcome, Outcome, [Vec<u64>; 3]), Memory>
+    requires name { blank.name ≡ L.name }
+    requires parts { blank.parts ≡ L.parts }
+    requires one { L.parts ≡ 1 }
+{
+    let mut steps: Steps<L> = Steps::new(blank);
+    let mut core: Core<Same> = Core::new(alloc, &SETTINGS, 1)?;
+    put_and_applied(alloc, &mut core, 1, &mut steps)?;
+    core.step(alloc, Step::Apply { shard: 1 }, &mut steps)?;
+    core.step(alloc, Step::Publish { version: 1 }, &mut steps)?;
+    core.step(alloc, Step::Open { by: 0 }, &mut steps)?;
+    put_and_applied(alloc, &mut core, 2, &mut steps)?;
+    let lagging = core.step(alloc, Step::Publish { version: 2 }, &mut steps)?;
+    let before = changes_read(alloc, &core)?;
+    core.step(alloc, Step::Apply { shard: 1 }, &mut steps)?;
+    let done = core.step(alloc, Step::Publish { version: 2 }, &mut steps)?;
+    let behind = changes_read(alloc, &core)?;
+    core.step(alloc, Step::Shut { by: 0 }, &mut steps)?;
+    core.step(alloc, Step::Open { by: 0 }, &mut steps)?;
+    let anew = changes_read(alloc, &core)?;
+    Ok((lagging, done, [before, behind, anew]))
+}
+
+// What taking a put comes to, and whether its job and a view are there.
+fn taken<L: Ledger>(alloc: Global, blank: Blank) -> Result<(Outcome, bool, bool), Memory>
+    requires name { blank.name ≡ L.name }
+    requires parts { blank.parts ≡ L.parts }
+    requires one { L.parts ≡ 1 }
+{
+    let mut steps: Steps<L> = Steps::new(blank);
+    let mut core: Core<Same> = Core::new(alloc, &SETTINGS, 1)?;
+    let change = put(alloc)?;
+    core.step(alloc, Step::Accept { by: 0, change }, &mut steps)?;
+    let outcome = core.step(alloc, Step::Took { by: 0 }, &mut steps)?;
+    let job = core.job(1)?;
+    Ok((outcome, job.is_some(), core.view(0).is_some()))
+}
+
+fn publishing(alloc: Global) -> Result<(Outcome, Outcome, [Vec<u64>; 3]), Memory> {
+    published::<Brand>(alloc, Blank::new(1))
+}
+
+fn taking(alloc: Global) -> Result<(Outcome, bool, bool), Memory> {
+    taken::<Brand>(alloc, Blank::new(1))
 }
 
 #[test]
-fn a_put_is_taken(rt: HostRuntime) -> Result<(), Refused> {
-    assert_eq!(rt; taken(rt.alloc())?, (1, Some(1)));
+fn a_version_waits_for_the_last_shard(rt: HostRuntime) -> Result<(), Memory> {
+    let (lagging, done, [before, behind, anew]) = publishing(rt.alloc())?;
+    assert_eq!(rt; (lagging, done), (Outcome::No, Outcome::Ok));
+    assert_eq!(rt; before.as_slice(), [1].as_slice());
+    assert_eq!(rt; behind.as_slice(), [1].as_slice());
+    assert_eq!(rt; anew.as_slice(), [2].as_slice());
     Ok(())
 }
 
 #[test]
-fn a_gate_is_published(rt: HostRuntime) -> Result<(), Refused> {
-    assert_eq!(rt; seen(rt.alloc())?, (1, 0, 0));
+fn a_put_is_taken(rt: HostRuntime) -> Result<(), Memory> {
+    assert_eq!(rt; taking(rt.alloc())?, (Outcome::Value(1), true, false));
     Ok(())
 }

@@ -9,7 +9,7 @@ use Rattle.std.proofs.lemmas.Option.{same_Some}
 use Rattle.cq_base.specs.declared.group.Place.{Place}
 use Rattle.cq_clones.specs.Lists.{AreAllInOrder}
 use Rattle.cq_clones.specs.Groups.{IsBefore}
-use Rattle.cq_clones.proofs.InOrder.{Contains-here, Contains-there, AllPairs-head, AllPairs-tail}
+use Rattle.cq_base.proofs.Lists.{Contains-here, Contains-there, AllPairs-head, AllPairs-tail}
 use Rattle.cq_clones.specs.Windows.{key_at, HasKey}
 use Rattle.cq_refine.proofs.WordSets.{Contains-filter, Contains-from_filter}
 use Rattle.cq_groups.specs.Listing.{HasOneOf}

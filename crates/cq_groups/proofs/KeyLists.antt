@@ -10,7 +10,8 @@ use Rattle.std.proofs.lemmas.List.Elements.{Contains-append_left, Contains-appen
 use Rattle.std.proofs.lemmas.Option.{slice_get-get_or, get_or_from_slice_get, slice_get_within}
 use Rattle.cq_base.specs.declared.group.Place.{Place}
 use Rattle.cq_clones.specs.Groups.{file_at}
-use Rattle.cq_clones.proofs.InOrder.{Contains-nil, in_order_same, AreAllInOrder-same}
+use Rattle.cq_clones.proofs.InOrder.{in_order_same, AreAllInOrder-same}
+use Rattle.cq_base.proofs.Lists.{Contains-nil}
 use Rattle.cq_tokens.specs.declared.FileTokens.{FileTokens}
 use Rattle.cq_tokens.specs.Corpus.{keys_of}
 use Rattle.cq_clones.specs.Windows.{HasKey}

@@ -8,8 +8,10 @@ use Rattle.std.proofs.lemmas.Option.{same_Some, get_or_from_slice_get, slice_get
 use Rattle.cq_base.specs.declared.group.Place.{Place}
 use Rattle.cq_base.specs.declared.group.Group.{Group}
 use Rattle.cq_clones.specs.Lists.{AreAllInOrder}
-use Rattle.cq_clones.specs.Groups.{file_at, IsBefore, word_at, StandsAt, kept_after, is_free, IsGroup, first_place, ComesBefore, AreGroups, AreGroupsIn}
-use Rattle.cq_clones.proofs.InOrder.{Contains-nil, Contains-here, Contains-there, Contains-cases, in_order_same, in_order_none, take_more_cases, take_more_left, take_more_here, before_at}
+use Rattle.cq_clones.specs.Groups.{file_at, IsBefore, word_at, StandsAt, kept_after, is_free, IsGroup, ComesBefore, AreGroups, AreGroupsIn}
+use Rattle.cq_base.specs.Places.{first_place}
+use Rattle.cq_clones.proofs.InOrder.{in_order_same, in_order_none, take_more_cases, take_more_left, take_more_here, before_at}
+use Rattle.cq_base.proofs.Lists.{Contains-nil, Contains-here, Contains-there, Contains-cases}
 use Rattle.cq_clones.proofs.GroupLaws.{within_from_standing, word_of_group, groups_of_first_place}
 use Rattle.cq_clones.specs.Windows.{key_at, HasKey, AreKeyed}
 use Rattle.cq_order.specs.Order.{IsOrderOf}

@@ -4,7 +4,8 @@ use Rattle.std.proofs.lemmas.Bool.{cases_Bool, true≢false}
 use Rattle.cq_base.specs.declared.entry.Entry.{Entry}
 use Rattle.cq_base.specs.declared.group.Group.{Group}
 use Rattle.cq_clones.specs.Lists.{AreAllInOrder}
-use Rattle.cq_clones.specs.Groups.{ComesBefore, first_place}
+use Rattle.cq_clones.specs.Groups.{ComesBefore}
+use Rattle.cq_base.specs.Places.{first_place}
 use Rattle.cq_clones.specs.Windows.{EntryBefore}
 use Rattle.cq_clones.proofs.Order.{ComesBefore-ties}
 use Rattle.cq_order.specs.Order.{IsOrderOf, comes_before, is_entry_before}

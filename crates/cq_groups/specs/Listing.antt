@@ -3,7 +3,8 @@ use Rattle.std.specs.Prelude.{◌≡◌, ℕ, ◌+◌, ◌-◌, ◌^◌, ◌<◌
 use Rattle.cq_base.specs.declared.group.Place.{Place}
 use Rattle.cq_base.specs.declared.group.Group.{Group}
 use Rattle.cq_clones.specs.Lists.{AreAllInOrder}
-use Rattle.cq_clones.specs.Groups.{file_at, IsGroup, IsBefore, first_place}
+use Rattle.cq_clones.specs.Groups.{file_at, IsGroup, IsBefore}
+use Rattle.cq_base.specs.Places.{first_place}
 use Rattle.cq_clones.specs.Windows.{HasKey}
 
 -- the place's window has one of the keys

@@ -1,27 +1,18 @@
 ghost use Rattle.std.specs.Prelude.{◌≡◌, IfOk};
 ghost use Rattle.std.specs.Ordering.{is_lt};
-ghost use Rattle.cq_clones.specs.Groups.{ComesBefore, first_place};
+ghost use Rattle.cq_clones.specs.Groups.{ComesBefore};
+ghost use Rattle.cq_base.specs.Places.{first_place};
 ghost use Rattle.cq_order.specs.Order.{IsOrderOf, comes_before};
 
 use crate::places::compare_places;
 use cq_base::{Group, Memory, Place};
 use std::cmp::Ordering;
 
-/// The group's first place; the first of the corpus for a group with none.
-fn first_place(group: &Group) -> Place
-    ensures { result ≡ first_place group.now }
-{
-    match group.places.as_slice().first() {
-        Some(p) => *p,
-        None => Place { file: 0, at: 0 },
-    }
-}
-
 /// By the first place, and longer first.
 fn compare_groups(g: &Group, h: &Group) -> Ordering
     ensures { is_lt result ≡ comes_before g.now h.now }
 {
-    compare_places(first_place(g), first_place(h)).then(h.tokens.cmp(&g.tokens))
+    compare_places(g.first_place(), h.first_place()).then(h.tokens.cmp(&g.tokens))
 }
 
 /// Groups in order: by the first place, and longer first. They are given up on a refusal.

@@ -11,7 +11,8 @@ use Rattle.cq_base.specs.declared.entry.Entry.{Entry}
 use Rattle.cq_base.specs.declared.group.Place.{Place}
 use Rattle.cq_base.specs.declared.group.Group.{Group}
 use Rattle.cq_clones.specs.Lists.{AreAllInOrder}
-use Rattle.cq_clones.specs.Groups.{file_at, IsBefore, StandsAt, word_at, first_place}
+use Rattle.cq_clones.specs.Groups.{file_at, IsBefore, StandsAt, word_at}
+use Rattle.cq_base.specs.Places.{first_place}
 use Rattle.cq_clones.proofs.InOrder.{in_order_same, in_order_push, in_order_none, take_more_cases, take_more_left, take_more_here, before_at}
 use Rattle.cq_clones.proofs.Words.{length-word}
 use Rattle.cq_clones.proofs.GroupLaws.{within_from_standing, word_of_group}

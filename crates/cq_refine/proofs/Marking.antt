@@ -6,7 +6,7 @@ use Rattle.std.proofs.lemmas.List.Elements.{Contains-push_cases}
 use Rattle.std.proofs.lemmas.List.Quantifiers.{all_pairs_push}
 use Rattle.std.proofs.lemmas.Option.{get_or_from_slice_get, slice_get-get_or, slice_get_within, same_Some}
 use Rattle.std.proofs.lemmas.Bool.{cases_order, cases_lt}
-use Rattle.cq_clones.proofs.InOrder.{Contains-nil}
+use Rattle.cq_base.proofs.Lists.{Contains-nil}
 use Rattle.cq_clones.specs.Groups.{token_ahead, AreSame}
 use Rattle.std.specs.BTreeMap.{BTreeMap, Updates, get, btree_map_len}
 use Rattle.std.specs.Option.{unwrap_or}

@@ -11,7 +11,7 @@ use Rattle.std.proofs.lemmas.List.Elements.{Contains-get_or}
 use Rattle.std.proofs.lemmas.Bool.{cases_lt, cases_order, le-leb, lt-leb, eq-eqb, ne_eqb}
 use Rattle.std.proofs.lemmas.List.Elements.{Contains-push, Contains-push_cases, Contains-append_left}
 use Rattle.std.proofs.lemmas.List.Sums.{sum_by_push}
-use Rattle.cq_clones.proofs.InOrder.{Contains-nil}
+use Rattle.cq_base.proofs.Lists.{Contains-nil}
 use Rattle.cq_refine.specs.declared.spots.Marked.{Marked}
 use Rattle.cq_refine.specs.declared.spots.Set.{Set}
 use Rattle.cq_refine.specs.Sets.{part_of, AreByMark, IsPart, ArePartsOf, AddsParts}

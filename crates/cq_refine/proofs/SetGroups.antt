@@ -7,8 +7,10 @@ use Rattle.std.proofs.lemmas.List.Kept.{AllPairs-cons}
 use Rattle.cq_base.specs.declared.group.Place.{Place}
 use Rattle.cq_base.specs.declared.group.Group.{Group}
 use Rattle.cq_clones.specs.Lists.{AreAllInOrder}
-use Rattle.cq_clones.specs.Groups.{IsBefore, word_at, StandsAt, token_behind, token_before, AreSame, IsMaximalAt, kept_of, IsGroup, first_place}
-use Rattle.cq_clones.proofs.InOrder.{Contains-here, Contains-there, Contains-cases, Contains-nil, AllPairs-tail, AreAllInOrder-same}
+use Rattle.cq_clones.specs.Groups.{IsBefore, word_at, StandsAt, token_behind, token_before, AreSame, IsMaximalAt, kept_of, IsGroup}
+use Rattle.cq_base.specs.Places.{first_place}
+use Rattle.cq_clones.proofs.InOrder.{AreAllInOrder-same}
+use Rattle.cq_base.proofs.Lists.{Contains-here, Contains-there, Contains-cases, Contains-nil, AllPairs-tail}
 use Rattle.cq_clones.proofs.Order.{IsBefore-apart}
 use Rattle.cq_clones.proofs.GroupLaws.{within_from_standing, word_of_group}
 use Rattle.cq_refine.specs.declared.spots.Spot.{Spot}

@@ -9,8 +9,9 @@ use Rattle.std.proofs.lemmas.List.Kept.{AllPairs-cons}
 use Rattle.std.proofs.lemmas.Option.{slice_get_cases}
 use Rattle.cq_base.specs.declared.group.Place.{Place}
 use Rattle.cq_base.specs.declared.group.Group.{Group}
-use Rattle.cq_clones.specs.Groups.{IsBefore, word_at, StandsAt, token_behind, token_ahead, kept_of, IsGroup, first_place}
-use Rattle.cq_clones.proofs.InOrder.{Contains-here, Contains-there, Contains-cases, Contains-nil, AllPairs-head, AllPairs-tail}
+use Rattle.cq_clones.specs.Groups.{IsBefore, word_at, StandsAt, token_behind, token_ahead, kept_of, IsGroup}
+use Rattle.cq_base.specs.Places.{first_place}
+use Rattle.cq_base.proofs.Lists.{Contains-here, Contains-there, Contains-cases, Contains-nil, AllPairs-head, AllPairs-tail}
 use Rattle.cq_clones.proofs.GroupLaws.{within_from_standing, word_of_group}
 use Rattle.cq_refine.specs.declared.spots.Spot.{Spot}
 use Rattle.cq_refine.specs.declared.spots.Marked.{Marked}

@@ -7,7 +7,7 @@ use Rattle.std.proofs.lemmas.List.{length-map}
 use Rattle.std.proofs.lemmas.List.Sums.{sum_by-cons, sum_by-append, sum_by_push}
 use Rattle.cq_base.specs.declared.group.Group.{Group}
 use Rattle.cq_clones.specs.Groups.{file_at, IsBefore, word_at}
-use Rattle.cq_clones.proofs.InOrder.{Contains-here, Contains-there}
+use Rattle.cq_base.proofs.Lists.{Contains-here, Contains-there}
 use Rattle.cq_clones.proofs.Order.{IsBefore-apart}
 use Rattle.cq_clones.proofs.GroupLaws.{within_from_standing}
 use Rattle.cq_refine.specs.declared.spots.Spot.{Spot}

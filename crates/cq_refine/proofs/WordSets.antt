@@ -5,7 +5,7 @@ use Rattle.std.proofs.lemmas.Bool.{cases_Bool, eqb-true, eq-eqb}
 use Rattle.std.proofs.lemmas.List.{length_push, get_or-map, length-map}
 use Rattle.std.proofs.lemmas.List.Kept.{AllPairs-filter}
 use Rattle.cq_clones.specs.Groups.{StandsAt, token_behind, token_ahead}
-use Rattle.cq_clones.proofs.InOrder.{Contains-here, Contains-there, Contains-cases, Contains-nil}
+use Rattle.cq_base.proofs.Lists.{Contains-here, Contains-there, Contains-cases, Contains-nil}
 use Rattle.cq_refine.specs.declared.spots.Spot.{Spot}
 use Rattle.cq_refine.specs.declared.spots.Marked.{Marked}
 use Rattle.cq_refine.specs.Sets.{IsMark, IsSpotBefore, AreMarked, IsWordSet, part_of}

@@ -3,7 +3,8 @@ use Rattle.std.specs.Prelude.{◌≡◌, ◌↔◌, ℕ, List, slice_get, Option
 use Rattle.cq_base.specs.declared.entry.Entry.{Entry}
 use Rattle.cq_base.specs.declared.group.Place.{Place}
 use Rattle.cq_base.specs.declared.group.Group.{Group}
-use Rattle.cq_clones.specs.Groups.{IsGroup, first_place}
+use Rattle.cq_clones.specs.Groups.{IsGroup}
+use Rattle.cq_base.specs.Places.{first_place}
 use Rattle.cq_clones.specs.Windows.{HasKey}
 use Rattle.std.specs.BTreeMap.{get}
 use Rattle.std.specs.BTreeSet.{BTreeSet, contains}

@@ -7,7 +7,8 @@ use Rattle.cq_tokens.specs.Packed.{norm_in, seen_cmp}
 use Rattle.cq_base.specs.declared.group.Place.{Place}
 use Rattle.cq_base.specs.declared.group.Group.{Group}
 use Rattle.cq_clones.specs.Lists.{AreAllInOrder}
-use Rattle.cq_clones.specs.Groups.{IsPlace, IsBefore, StandsAt, word_at, token_ahead, token_before, token_behind, file_at, IsGroup, first_place, kept_of}
+use Rattle.cq_clones.specs.Groups.{IsPlace, IsBefore, StandsAt, word_at, token_ahead, token_before, token_behind, file_at, IsGroup, kept_of}
+use Rattle.cq_base.specs.Places.{first_place}
 use Rattle.cq_refine.specs.declared.spots.Spot.{Spot}
 use Rattle.cq_refine.specs.declared.spots.Marked.{Marked}
 use Rattle.cq_refine.specs.declared.spots.Set.{Set}

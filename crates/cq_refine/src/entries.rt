@@ -2,7 +2,8 @@ ghost use Rattle.std.specs.Prelude.{◌≡◌, ◌≢◌, ℕ, ◌+◌, ◌*◌,
 ghost use Rattle.cq_base.specs.declared.group.Place.{Place};
 ghost use Rattle.cq_clones.specs.Lists.{AreAllInOrder};
 ghost use Rattle.cq_order.specs.Order.{IsOrderOf};
-ghost use Rattle.cq_clones.specs.Groups.{IsBefore, IsGroup, first_place};
+ghost use Rattle.cq_clones.specs.Groups.{IsBefore, IsGroup};
+ghost use Rattle.cq_base.specs.Places.{first_place};
 ghost use Rattle.cq_tokens.specs.Corpus.{changes_of, corpus_of, keys_of};
 ghost use Rattle.cq_clones.specs.Windows.{HasKey, AreKeyed, IsBucket};
 ghost use Rattle.cq_refine.specs.Sets.{IsLongest, AreAllOnce};

@@ -5,8 +5,10 @@ use Rattle.std.proofs.lemmas.Bool.{cases_order}
 use Rattle.cq_base.specs.declared.group.Place.{Place}
 use Rattle.cq_base.specs.declared.group.Group.{Group}
 use Rattle.cq_clones.specs.Lists.{AreAllInOrder}
-use Rattle.cq_clones.specs.Groups.{file_at, IsPlace, IsBefore, word_at, StandsAt, token_behind, token_before, AreSame, IsMaximalAt, kept_of, IsGroup, ComesBefore, AreGroups, first_place}
-use Rattle.cq_clones.proofs.InOrder.{AreAllInOrder-same, in_order_same, Contains-nil}
+use Rattle.cq_clones.specs.Groups.{file_at, IsPlace, IsBefore, word_at, StandsAt, token_behind, token_before, AreSame, IsMaximalAt, kept_of, IsGroup, ComesBefore, AreGroups}
+use Rattle.cq_base.specs.Places.{first_place}
+use Rattle.cq_clones.proofs.InOrder.{AreAllInOrder-same, in_order_same}
+use Rattle.cq_base.proofs.Lists.{Contains-nil}
 use Rattle.cq_clones.proofs.Order.{IsBefore-apart}
 use Rattle.cq_clones.proofs.Words.{length-word}
 use Rattle.cq_clones.proofs.GroupLaws.{maximal_word, groups_of_word, word_of_group}

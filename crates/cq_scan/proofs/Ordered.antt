@@ -3,7 +3,8 @@ use Rattle.std.proofs.Common.{◌≡◌, ◌⊎◌, List, [], ◌∷◌, ◌++�
 use Rattle.std.specs.Prelude.{Contains, AllPairs, Any}
 use Rattle.std.proofs.lemmas.Bool.{cases_order}
 use Rattle.cq_base.specs.declared.group.Group.{Group}
-use Rattle.cq_clones.specs.Groups.{ComesBefore, first_place}
+use Rattle.cq_clones.specs.Groups.{ComesBefore}
+use Rattle.cq_base.specs.Places.{first_place}
 use Rattle.cq_clones.proofs.InOrder.{in_order_push}
 use Rattle.cq_order.specs.Order.{AreOrdered}
 use Rattle.cq_scan.specs.Found.{Adds, AreTied}

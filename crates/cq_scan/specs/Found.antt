@@ -3,7 +3,8 @@ use Rattle.std.specs.Prelude.{◌≡◌, ◌⊎◌, ℕ, List, AllPairs, Contain
 use Rattle.cq_base.specs.declared.group.Place.{Place}
 use Rattle.cq_base.specs.declared.group.Group.{Group}
 use Rattle.cq_clones.specs.Lists.{AreAllInOrder}
-use Rattle.cq_clones.specs.Groups.{first_place, word_at, IsMaximalAt, IsGroup, ComesBefore}
+use Rattle.cq_clones.specs.Groups.{word_at, IsMaximalAt, IsGroup, ComesBefore}
+use Rattle.cq_base.specs.Places.{first_place}
 use Rattle.cq_order.specs.Order.{AreOrdered}
 
 -- a group whose word is maximal at these two places

@@ -1,6 +1,7 @@
 ghost use Rattle.std.specs.Prelude.{◌≡◌, ◌↔◌, ◌⊎◌, ◌+◌, ◌^◌, ◌<◌, ◌≤◌, length, IsTrue, OnOk, Any, AllPairs, Contains};
 ghost use Rattle.cq_base.specs.declared.group.Group.{Group};
-ghost use Rattle.cq_clones.specs.Groups.{ComesBefore, first_place, file_at, IsPlace};
+ghost use Rattle.cq_clones.specs.Groups.{ComesBefore, file_at, IsPlace};
+ghost use Rattle.cq_base.specs.Places.{first_place};
 ghost use Rattle.cq_order.specs.Order.{AreOrdered};
 ghost use Rattle.cq_tokens.specs.Corpus.{corpus_of};
 ghost use Rattle.cq_scan.specs.Found.{Adds, AreTied, IsOfWord};
@@ -10,21 +11,11 @@ use cq_base::{Group, Memory, Place, Steps};
 use cq_tokens::FileTokens;
 use std::sync::ledger::Ledger;
 
-// The group's first place; the first of the corpus for a group with none.
-fn first_place(group: &Group) -> Place
-    ensures { result ≡ first_place group.now }
-{
-    match group.places.as_slice().first() {
-        Some(p) => *p,
-        None => Place { file: 0, at: 0 },
-    }
-}
-
 // Whether both begin at the same place and are equally long.
 fn are_tied(g: &Group, h: &Group) -> bool
     ensures { IsTrue result ↔ AreTied g.now h.now }
 {
-    first_place(g) == first_place(h) && g.tokens == h.tokens
+    g.first_place() == h.first_place() && g.tokens == h.tokens
 }
 
 // Whether a group that begins at the same place and is equally long is there.
@@ -49,7 +40,7 @@ fn is_of_word<L: Ledger>(
     requires first { IsPlace (corpus_of files.now) (first_place group.now) }
     ensures { IsTrue result ↔ IsOfWord (corpus_of files.now) p tokens group.now }
 {
-    group.tokens == tokens && stands_at(files, p, tokens, first_place(group), steps)
+    group.tokens == tokens && stands_at(files, p, tokens, group.first_place(), steps)
 }
 
 /// Whether a group of the word of `tokens` tokens at `p` is there. It reads that word once for each group of its

@@ -20,7 +20,7 @@ use Rattle.cq_base.specs.declared.token.Token.{Token}
 use Rattle.cq_base.specs.declared.change.Change.{Change}
 use Rattle.cq_base.specs.declared.settings.Settings.{Settings}
 use Rattle.cq_clones.specs.Groups.{file_at, AreGroups, IsGroup, StandsAt}
-use Rattle.cq_clones.proofs.InOrder.{Contains-here, Contains-there}
+use Rattle.cq_base.proofs.Lists.{Contains-here, Contains-there}
 use Rattle.cq_clones.proofs.GroupLaws.{within_from_standing}
 use Rattle.cq_clones.proofs.KeptPlaces.{kept_among}
 use Rattle.cq_reply.specs.declared.reply.GroupRow.{GroupRow}

@@ -3,7 +3,7 @@ use Rattle.std.proofs.Common.{◌≡◌, ℕ, zero, suc, ◌<◌, Bool, true, fa
 use Rattle.std.specs.Prelude.{AllPairs, Contains, filter}
 use Rattle.std.proofs.lemmas.List.{get_or-map, length-map}
 use Rattle.std.proofs.lemmas.Option.{slice_get_cases}
-use Rattle.cq_clones.proofs.InOrder.{Contains-there, Contains-cases, Contains-nil}
+use Rattle.cq_base.proofs.Lists.{Contains-there, Contains-cases, Contains-nil}
 
 -- an element at a position within
 pub element : {X : Type 0} (xs : List X) (i : ℕ) → i < length xs → X

@@ -11,7 +11,8 @@ use Rattle.cq_base.specs.declared.entry.Entry.{Entry}
 use Rattle.cq_base.specs.declared.change.Change.{Change}
 use Rattle.cq_base.specs.declared.change.Change.TheVariants.{Put, Drop, Gate}
 use Rattle.cq_clones.specs.Lists.{AreAllInOrder}
-use Rattle.cq_clones.proofs.InOrder.{in_order_same, Contains-nil}
+use Rattle.cq_clones.proofs.InOrder.{in_order_same}
+use Rattle.cq_base.proofs.Lists.{Contains-nil}
 use Rattle.cq_clones.specs.Windows.{EntryBefore}
 use Rattle.cq_history.specs.Changes.{IsNumber, change_at, is_put}
 use Rattle.cq_history.specs.Shards.{ShardHolds}

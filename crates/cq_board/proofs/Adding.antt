@@ -1,0 +1,46 @@
+-- A board that steps by an allowed event adds it to each history that it stands for.
+use Rattle.std.proofs.Common.{◌≡◌, ℕ, ◌+◌, ◌%◌, ◌^◌, [], ◌∷◌, ◌++◌, length, refl, sym, ap, ap₂, ◌∙◌, subst, arith}
+use Rattle.std.proofs.Math.Nat.{add-mod-mod}
+use Rattle.std.proofs.lemmas.List.{length-set, length_push}
+use Rattle.cq_base.specs.declared.settings.Settings.{Settings}
+use Rattle.cq_history.specs.declared.event.Event.{Event}
+use Rattle.cq_history.specs.declared.event.Event.TheVariants.{Accept, Ask, Took, Back, Done, Publish, Open, Shut, Floor}
+use Rattle.cq_history.specs.State.{State, after, state as state_of}
+use Rattle.cq_history.specs.Lawful.{Allowed, Lawful}
+use Rattle.cq_board.specs.Stands.{BoardState, Adds}
+use Rattle.cq_history.proofs.States.{state_push, Lawful_push}
+
+pub views_after : (s : State) (e : Event) → length (after s e).views ≡ length s.views
+views_after s (Accept by change) = refl
+views_after s (Ask by) = refl
+views_after s (Took by r) = refl
+views_after s (Back by r) = refl
+views_after s (Done by r) = refl
+views_after s (Publish p) = refl
+views_after s (Open by p) = length-set s.views by _
+views_after s (Shut by) = length-set s.views by _
+views_after s (Floor f) = refl
+
+next_count : (n m : ℕ) → n ≡ m % 2 ^ 64 → (n + 1) % 2 ^ 64 ≡ (m + 1) % 2 ^ 64
+next_count n m is = ap (λ k. k % 2 ^ 64) (let e : n + 1 ≡ 1 + m % 2 ^ 64 = omega (arith, is) in e) ∙ add-mod-mod 1 m (2 ^ 64) ∙ ap (λ k. k % 2 ^ 64) (let e : 1 + m ≡ m + 1 = omega arith in e)
+
+-- the board is as before but for the step
+pub Adds_step : (set : Settings) (s : State) (n : ℕ) (e : Event) → Allowed set s e → Adds e (record { settings = set; state = s; events = n }) (record { settings = set; state = after s e; events = (n + 1) % 2 ^ 64 })
+Adds_step set s n e ok = record {
+  history = λ h is.
+      let same_views : length (after s e).views ≡ length s.views = views_after s e in
+      let law : Lawful set (length s.views) (h ++ e ∷ []) = Lawful_push set (length s.views) h e is.lawful (subst (λ t. Allowed set t e) is.is ok) in
+      let same : after s e ≡ state_of (length s.views) (h ++ e ∷ []) = ap (λ t. after t e) is.is ∙ sym (state_push (length s.views) h e) in
+      record {
+        lawful = subst (λ m. Lawful set m (h ++ e ∷ [])) (sym same_views) law;
+        is = subst (λ m. after s e ≡ state_of m (h ++ e ∷ [])) (sym same_views) same;
+        events = next_count n (length h) is.events ∙ ap (λ k. k % 2 ^ 64) (sym (length_push h e));
+      };
+  settings = refl;
+  callers = views_after s e;
+}
+
+pub Adds_from : (set : Settings) (s t : State) (n m : ℕ) (b c : BoardState) (e : Event) → record { settings = set; state = s; events = n } ≡ b → c ≡ record { settings = set; state = t; events = m } → m ≡ (n + 1) % 2 ^ 64 → t ≡ after s e → Allowed set s e → Adds e b c
+Adds_from set s t n m b c e old new count step ok =
+    subst (λ x. Adds e x c) old
+    (subst (Adds e (record { settings = set; state = s; events = n })) (sym (new ∙ ap₂ (λ (u : State) (k : ℕ). let v : BoardState = record { settings = set; state = u; events = k } in v) step count)) (Adds_step set s n e ok))

@@ -1,0 +1,16 @@
+pub mod Adding
+pub mod Advances
+pub mod FileLists
+pub mod Living
+pub mod Numbers
+pub mod OneMore
+pub mod OwnParts
+pub mod PartLists
+pub mod Places
+pub mod ProjectLists
+pub mod Putting
+pub mod Reading
+pub mod Related
+pub mod Searching
+pub mod SlotLists
+pub mod Turning

@@ -1,0 +1,124 @@
+-- One change more.
+use Rattle.std.proofs.Common.{◌≡◌, ℕ, ◌+◌, ◌<◌, ◌≤◌, Bool, true, false, cond, List, [], ◌∷◌, ◌++◌, length, map, take, get_or, sum_by, Option, Some, None, refl, sym, ap, ◌∙◌, subst, arith}
+use Rattle.std.specs.List.{prefix_len}
+use Rattle.std.specs.Arc.{arc_value}
+use Rattle.std.proofs.lemmas.List.{get_or_append_left, map-append, length-map, length_push, take-append-le}
+use Rattle.std.proofs.lemmas.List.Sums.{sum_by_push, prefix_len-le-length}
+use Rattle.std.proofs.lemmas.List.Elements.{All-push}
+use Rattle.cq_base.specs.declared.settings.Settings.{Settings}
+use Rattle.cq_base.specs.declared.lang.Lang.{Lang}
+use Rattle.cq_base.specs.declared.change.Change.{Change}
+use Rattle.cq_base.specs.declared.change.Change.TheVariants.{Put, Drop, Gate}
+use Rattle.std.specs.Prelude.{IfSome, nat_lt, is_some}
+use Rattle.std.proofs.lemmas.Bool.Decides.{nat_tests}
+use Rattle.cq_history.specs.declared.event.Event.TheVariants.{Accept}
+use Rattle.cq_history.specs.Changes.{text_len}
+use Rattle.cq_history.specs.State.{State, Slot, new_slot, after, is_done, is_free, text_bytes}
+use Rattle.cq_history.specs.Lawful.{Allowed, is_absent, is_full, is_long}
+use Rattle.cq_history.proofs.Bounds.{prefix_len-append-le}
+use Rattle.cq_board.specs.declared.answers.Refused.TheVariants.{Absent, FullChanges, FullText}
+use Rattle.cq_board.specs.Listings.{Listed, IsListing}
+use Rattle.std.specs.BTreeSet.{BTreeSet}
+use Rattle.cq_board.specs.declared.kept.FileKey.{FileKey}
+use Rattle.cq_board.specs.Presence.{IsPresence}
+use Rattle.cq_board.specs.Answers.{refusal_of}
+use Rattle.cq_board.specs.declared.kept.Kept.{Kept}
+use Rattle.cq_board.specs.Slots.{slot_from, change_of, state_from, IsWorked, IsWorkFor, IsNoneFree}
+use Rattle.cq_board.specs.Boards.{changes_from, SlotsOk, BoardOk}
+
+-- what is not refused is allowed
+no_cause : (a b c : Bool) → cond a (Some Absent) (cond b (Some FullChanges) (cond c (Some FullText) None)) ≡ None → (a ≡ false) × (b ≡ false) × (c ≡ false)
+no_cause true b c e = absurd (cc)
+no_cause false true c e = absurd (cc)
+no_cause false false true e = absurd (cc)
+no_cause false false false e = (refl, refl, refl)
+
+pub allowed_accept : (settings : Settings) (s : State) (by : ℕ) (change : Change) → refusal_of settings s change ≡ None → Allowed settings s (Accept by change)
+allowed_accept settings s by change e = no_cause (is_absent s change) (is_full settings s) (is_long settings s change) e
+
+le-from-lt_false : (a b : ℕ) → nat_lt a b ≡ false → b ≤ a
+le-from-lt_false a b e = grind (arith, nat_tests)
+
+full_fits : (settings : Settings) (s : State) → is_full settings s ≡ false → length s.slots < settings.change_limit
+full_fits settings s e = grind (arith, nat_tests)
+
+long_fits : (settings : Settings) (s : State) (change : Change) → is_long settings s change ≡ false → text_bytes s ≤ settings.text_limit → text_bytes s + text_len change ≤ settings.text_limit
+long_fits settings s (Put project path lang text) e fits = le-from-lt_false settings.text_limit (text_bytes s + length text) e
+long_fits settings s (Drop project path) e fits = omega arith
+long_fits settings s (Gate project conditions) e fits = omega arith
+
+module _ {W : Type 0} where
+  pub changes_push : (slots : List (Kept W)) (k : Kept W) → changes_from (slots ++ k ∷ []) ≡ changes_from slots ++ change_of k.change ∷ []
+  changes_push slots k = ap (map (λ (s : Slot). s.change)) (map-append slot_from slots (k ∷ [])) ∙ map-append (λ (s : Slot). s.change) (map slot_from slots) (slot_from k ∷ [])
+
+  pub accepted_state : (slots : List (Kept W)) (p f : ℕ) (views : List (Option ℕ)) (k : Kept W) (by : ℕ) (change : Change) → change_of k.change ≡ change → k.work ≡ None → k.holder ≡ None →
+      state_from (slots ++ k ∷ []) p f views ≡ after (state_from slots p f views) (Accept by change)
+  accepted_state slots p f views k by change is no_work no_holder =
+      let same : slot_from k ≡ new_slot change = λ i. record { change = is i; finished = is_some (no_work i); holder = no_holder i } in
+      ap (λ (xs : List Slot). let s : State = record { slots = xs; published = p; floor = f; views = views } in s)
+      (map-append slot_from slots (k ∷ []) ∙ ap (λ (x : Slot). map (slot_from {W = W}) slots ++ x ∷ []) same)
+
+  pub accepted_ok : (IsWork : Lang → List ℕ → W → Type 0) (settings : Settings) (slots : List (Kept W)) (bytes done now free len : ℕ) (k : Kept W) → k.work ≡ None →
+      SlotsOk IsWork settings slots bytes done free → refusal_of settings (state_from slots 0 0 []) (change_of k.change) ≡ None → len ≡ text_len (change_of k.change) →
+      now ≡ prefix_len is_done (map slot_from (slots ++ k ∷ [])) →
+      SlotsOk IsWork settings (slots ++ k ∷ []) (bytes + len) now free
+  accepted_ok IsWork settings slots bytes done now free len k no_work ok allowed length_is done_is =
+      let s : State = state_from slots 0 0 [] in
+      let causes = no_cause (is_absent s (change_of k.change)) (is_full settings s) (is_long settings s (change_of k.change)) allowed in
+      let mapped : map slot_from (slots ++ k ∷ []) ≡ map slot_from slots ++ slot_from k ∷ [] = map-append slot_from slots (k ∷ []) in
+      let same : length (map slot_from slots) ≡ length slots = length-map slots (slot_from {W = W}) in
+      let len_of : Slot → ℕ = λ slot. text_len slot.change in
+      let sums : sum_by len_of (map slot_from (slots ++ k ∷ [])) ≡ text_bytes s + text_len (change_of k.change) = ap (sum_by len_of) mapped ∙ sum_by_push len_of (map slot_from slots) (slot_from k) in
+      record {
+        works = All-push (IsWorked IsWork) slots k ok.works (subst (λ w. IfSome w (λ work. IsWorkFor IsWork (change_of k.change) (arc_value work))) (sym no_work) tt);
+        text_bytes = (let e : bytes + len ≡ sum_by len_of (map slot_from (slots ++ k ∷ [])) = omega (arith, sums, ok.text_bytes, length_is) in e);
+        few_bytes = omega (arith, long_fits settings s (change_of k.change) causes.2 (omega (arith, ok.text_bytes, ok.few_bytes)), ok.text_bytes, length_is);
+        few_slots = omega (arith, length_push slots k, full_fits settings s causes.1, same);
+        ready = done_is;
+        none_free = record {
+          within = omega (arith, ok.none_free.within, length_push slots k);
+          none = λ n d lt. ap (λ xs. is_free (get_or xs n d)) mapped ∙ ap is_free (get_or_append_left (map slot_from slots) (slot_from k ∷ []) d n (omega (arith, lt, ok.none_free.within, same))) ∙ ok.none_free.none n d lt;
+        };
+      }
+
+  -- the board with one change more
+  pub board_accepted : (IsWork : Lang → List ℕ → W → Type 0) (settings : Settings) (slots : List (Kept W)) (old there : BTreeSet FileKey) (bytes done now free len published : ℕ) (l : Listed W) (k : Kept W) → k.work ≡ None →
+      BoardOk IsWork settings slots old bytes done free published l → refusal_of settings (state_from slots 0 0 []) (change_of k.change) ≡ None → len ≡ text_len (change_of k.change) →
+      now ≡ prefix_len is_done (map slot_from (slots ++ k ∷ [])) → IsPresence (changes_from slots ++ change_of k.change ∷ []) there →
+      BoardOk IsWork settings (slots ++ k ∷ []) there (bytes + len) now free published l
+  board_accepted IsWork settings slots old there bytes done now free len published l k no_work ok allowed length_is done_is noted =
+      let same : length (map slot_from slots) ≡ length slots = length-map slots (slot_from {W = W}) in
+      let more : prefix_len is_done (map slot_from slots) ≤ prefix_len is_done (map slot_from (slots ++ k ∷ [])) =
+      subst (λ xs. prefix_len is_done (map slot_from slots) ≤ prefix_len is_done xs) (sym (map-append slot_from slots (k ∷ []))) (prefix_len-append-le (map slot_from slots) (slot_from k ∷ [])) in
+      record {
+        kept = accepted_ok IsWork settings slots bytes done now free len k no_work ok.kept allowed length_is done_is;
+        presence = subst (λ cs. IsPresence cs there) (sym (changes_push slots k)) noted;
+        in_order = omega (arith, ok.in_order, ok.kept.ready, done_is, more);
+        listing = subst (λ cs. IsListing IsWork cs l)
+            (sym (ap (take published) (changes_push slots k)
+            ∙ take-append-le published (changes_from slots) _ (omega (arith, length-map (map slot_from slots) (λ (x : Slot). x.change), prefix_len-le-length is_done (map slot_from slots), ok.in_order, ok.kept.ready)))) ok.listing;
+      }
+
+  -- the board that looks for a free change from another index on
+  pub board_free : (IsWork : Lang → List ℕ → W → Type 0) (settings : Settings) (slots : List (Kept W)) (there : BTreeSet FileKey) (bytes done free now published : ℕ) (l : Listed W) → BoardOk IsWork settings slots there bytes done free published l → IsNoneFree slots now → BoardOk IsWork settings slots there bytes done now published l
+  board_free IsWork settings slots there bytes done free now published l ok none = record {
+    kept = record { works = ok.kept.works; text_bytes = ok.kept.text_bytes; few_bytes = ok.kept.few_bytes; few_slots = ok.kept.few_slots; ready = ok.kept.ready; none_free = none };
+    presence = ok.presence;
+    in_order = ok.in_order;
+    listing = ok.listing;
+  }
+
+  -- the board with other slots of the same changes
+  pub board_with : (IsWork : Lang → List ℕ → W → Type 0) (settings : Settings) (slots more : List (Kept W)) (there : BTreeSet FileKey) (bytes done now free later published : ℕ) (l : Listed W) →
+      BoardOk IsWork settings slots there bytes done free published l → SlotsOk IsWork settings more bytes now later → changes_from more ≡ changes_from slots → done ≤ now → BoardOk IsWork settings more there bytes now later published l
+  board_with IsWork settings slots more there bytes done now free later published l ok kept same grows = record {
+    kept = kept;
+    presence = subst (λ cs. IsPresence cs there) (sym same) ok.presence;
+    in_order = omega (arith, ok.in_order, grows);
+    listing = subst (λ cs. IsListing IsWork (take published cs) l) (sym same) ok.listing;
+  }
+
+  pub still_done : (slots ys zs : List (Kept W)) (k : Kept W) (done : ℕ) → zs ≡ ys → ys ≡ slots ++ k ∷ [] → done ≡ prefix_len is_done (map slot_from slots) → done ≤ prefix_len is_done (map slot_from zs)
+  still_done slots ys zs k done read pushed is =
+      subst (λ xs. done ≤ prefix_len is_done xs) (sym (ap (map (slot_from {W = W})) (read ∙ pushed) ∙ map-append slot_from slots (k ∷ [])))
+      (omega (arith, is, prefix_len-append-le (map slot_from slots) (slot_from k ∷ [])))

@@ -1,0 +1,205 @@
+-- The projects of a listing.
+use Rattle.std.proofs.Common.{◌≡◌, ℕ, zero, suc, ◌+◌, ◌<◌, ◌≤◌, Bool, true, false, cond, not, List, [], ◌∷◌, ◌++◌, length, map, get_or, set, refl, sym, ap, ◌∙◌, subst, arith, ◌⊎◌, inl, inr, ⊎_elim}
+use Rattle.std.specs.List.{AllByRecursion, position_or_len}
+use Rattle.std.specs.Str.{bytes_eq}
+use Rattle.std.proofs.lemmas.Slice.Eq.{bytes_eq-Decides}
+use Rattle.cq_base.specs.declared.change.Condition.{Condition}
+use Rattle.cq_history.specs.Files.{File}
+use Rattle.cq_board.specs.declared.held.Project.{Project}
+use Rattle.cq_board.specs.Listings.{name_in, gate_of, file_from, files_in, conditions_in, position_of}
+
+either : (b : Bool) → (b ≡ true) ⊎ (b ≡ false)
+either true = inl refl
+either false = inr refl
+
+-- a: q is the first project's; b: q is the name; c: the name is the first project's
+swap_case : {A : Type 0} (a b c : Bool) (x y z : A) → c ≡ false → (a ≡ true → b ≡ true → c ≡ true) → cond a x (cond b y z) ≡ cond b y (cond a x z)
+swap_case true true c x y z e both = let no : true ≡ false = sym (both refl refl) ∙ e in absurd (cc)
+swap_case true false c x y z e both = refl
+swap_case false b c x y z e both = refl
+
+-- both hold of the same text
+same_name : (q r s : List ℕ) → bytes_eq q r ≡ true → bytes_eq q s ≡ true → bytes_eq s r ≡ true
+same_name q r s a b = subst (λ t. bytes_eq t r ≡ true) ((bytes_eq-Decides q s).0 b) a
+
+pub cond_same : {A : Type 0} (b : Bool) (x : A) → cond b x x ≡ x
+cond_same true x = refl
+cond_same false x = refl
+
+-- a change of what is found at a name, said of the old look-up at any text
+pub changed_at_name : {A : Type 0} (q name : List ℕ) (change : A → A) (old : List ℕ → A) → cond (bytes_eq q name) (change (old name)) (old q) ≡ cond (bytes_eq q name) (change (old q)) (old q)
+changed_at_name q name change old =
+    ⊎_elim
+    (λ (same : bytes_eq q name ≡ true). ap (λ r. cond (bytes_eq q name) (change (old r)) (old q)) (sym ((bytes_eq-Decides q name).0 same)))
+    (λ (other : bytes_eq q name ≡ false). ap (λ b. cond b (change (old name)) (old q)) other ∙ ap (λ b. cond b (change (old q)) (old q)) (sym other))
+    (either (bytes_eq q name))
+
+pub position-push : {X : Type 0} (p : X → Bool) (xs : List X) (y : X) → length xs ≡ position_or_len p xs → p y ≡ true → length xs ≡ position_or_len p (xs ++ y ∷ [])
+position-push p [] y none passes = ap (λ b. cond (not b) 1 0) (sym passes)
+position-push p (x ∷ xs) y none passes =
+    ⊎_elim
+    (λ (here : p x ≡ true). let no : length (x ∷ xs) ≡ 0 = none ∙ ap (λ b. cond (not b) (1 + position_or_len p xs) 0) here in absurd (omega (arith, no)))
+    (λ (other : p x ≡ false).
+    let deeper : length (x ∷ xs) ≡ 1 + position_or_len p xs = none ∙ ap (λ b. cond (not b) (1 + position_or_len p xs) 0) other in
+    let rest : length xs ≡ position_or_len p (xs ++ y ∷ []) = position-push p xs y (omega (arith, deeper)) passes in
+    let end : length (x ∷ xs) ≡ 1 + position_or_len p (xs ++ y ∷ []) = omega (arith, rest) in
+    end ∙ ap (λ b. cond (not b) (1 + position_or_len p (xs ++ y ∷ [])) 0) (sym other))
+    (either (p x))
+
+module _ {W V : Type 0} (part : Project W → V) (none : V) where
+  -- what a look-up by name finds of a project
+  look : List (Project W) → List ℕ → V
+  look [] q = none
+  look (p ∷ ps) q = cond (bytes_eq q (name_in p)) (part p) (look ps q)
+
+  look-set : (name : List ℕ) (ps : List (Project W)) (i : ℕ) (n : Project W) → i ≡ position_of name ps → i < length ps → (name_in n) ≡ name → (q : List ℕ) → look (set ps i n) q ≡ cond (bytes_eq q name) (part n) (look ps q)
+  unfolding look
+  look-set name [] i n at within is q = absurd (omega arith)
+  look-set name (p ∷ ps) zero n at within is q =
+      ⊎_elim
+      (λ (here : bytes_eq name (name_in p) ≡ true).
+      let same : name ≡ (name_in p) = (bytes_eq-Decides name (name_in p)).0 here in
+      ap (λ m. cond (bytes_eq q m) (part n) (look ps q)) is
+      ∙ elim (bytes_eq q name) as (λ b. cond b (part n) (look ps q) ≡ cond b (part n) (cond b (part p) (look ps q))) [ true ↦ refl | false ↦ refl ]
+      ∙ ap (λ m. cond (bytes_eq q name) (part n) (cond (bytes_eq q m) (part p) (look ps q))) same)
+      (λ (other : bytes_eq name (name_in p) ≡ false).
+      let no : zero ≡ 1 + position_of name ps = at ∙ ap (λ b. cond (not b) (1 + position_of name ps) 0) other in absurd (omega (arith, no)))
+      (either (bytes_eq name (name_in p)))
+  look-set name (p ∷ ps) (suc i) n at within is q =
+      ⊎_elim
+      (λ (here : bytes_eq name (name_in p) ≡ true).
+      let no : suc i ≡ 0 = at ∙ ap (λ b. cond (not b) (1 + position_of name ps) 0) here in absurd (omega (arith, no)))
+      (λ (other : bytes_eq name (name_in p) ≡ false).
+      let deeper : suc i ≡ 1 + position_of name ps = at ∙ ap (λ b. cond (not b) (1 + position_of name ps) 0) other in
+      ap (cond (bytes_eq q (name_in p)) (part p)) (look-set name ps i n (omega (arith, deeper)) (omega (arith, within)) is q)
+      ∙ swap_case (bytes_eq q (name_in p)) (bytes_eq q name) (bytes_eq name (name_in p)) (part p) (part n) (look ps q) other (λ a b. same_name q (name_in p) name a b))
+      (either (bytes_eq name (name_in p)))
+
+  look-push : (ps : List (Project W)) (n : Project W) → part n ≡ none → (q : List ℕ) → look (ps ++ n ∷ []) q ≡ look ps q
+  unfolding look
+  look-push [] n is q = elim (bytes_eq q (name_in n)) as (λ b. cond b (part n) none ≡ none) [ true ↦ is | false ↦ refl ]
+  look-push (p ∷ ps) n is q = ap (cond (bytes_eq q (name_in p)) (part p)) (look-push ps n is q)
+
+  look-none : (ps : List (Project W)) (name q : List ℕ) → q ≡ name → AllByRecursion (λ p. bytes_eq name (name_in p) ≡ false) ps → look ps q ≡ none
+  unfolding look
+  look-none [] name q same apart = refl
+  look-none (p ∷ ps) name q same apart = ap (λ b. cond b (part p) (look ps q)) (ap (λ t. bytes_eq t (name_in p)) same ∙ apart.0) ∙ look-none ps name q same apart.1
+
+  look-seam : (a b : List (Project W)) (n : Project W) → part n ≡ none → AllByRecursion (λ p. bytes_eq (name_in n) (name_in p) ≡ false) a → AllByRecursion (λ p. bytes_eq (name_in n) (name_in p) ≡ false) b → (q : List ℕ) → look (a ++ n ∷ b) q ≡ look (a ++ b) q
+  unfolding look
+  look-seam [] b n is low high q =
+      ⊎_elim
+      (λ (here : bytes_eq q (name_in n) ≡ true). ap (λ t. cond t (part n) (look b q)) here ∙ is ∙ sym (look-none b (name_in n) q ((bytes_eq-Decides q (name_in n)).0 here) high))
+      (λ (other : bytes_eq q (name_in n) ≡ false). ap (λ t. cond t (part n) (look b q)) other)
+      (either (bytes_eq q (name_in n)))
+  look-seam (p ∷ a) b n is low high q = ap (cond (bytes_eq q (name_in p)) (part p)) (look-seam a b n is low.1 high q)
+
+  look-at : (name : List ℕ) (ps : List (Project W)) (i : ℕ) (p : Project W) → i ≡ position_of name ps → i < length ps → p ≡ get_or ps i p → ((name_in p) ≡ name) × (look ps name ≡ part p)
+  unfolding look
+  look-at name [] i p at within read = absurd (omega arith)
+  look-at name (r ∷ ps) zero p at within read =
+      ⊎_elim
+      (λ (here : bytes_eq name (name_in r) ≡ true).
+      (ap (λ (x : Project W). (name_in x)) read ∙ sym ((bytes_eq-Decides name (name_in r)).0 here), ap (λ b. cond b (part r) (look ps name)) here ∙ ap part (sym read)))
+      (λ (other : bytes_eq name (name_in r) ≡ false).
+      let no : zero ≡ 1 + position_of name ps = at ∙ ap (λ b. cond (not b) (1 + position_of name ps) 0) other in absurd (omega (arith, no)))
+      (either (bytes_eq name (name_in r)))
+  look-at name (r ∷ ps) (suc i) p at within read =
+      ⊎_elim
+      (λ (here : bytes_eq name (name_in r) ≡ true).
+      let no : suc i ≡ 0 = at ∙ ap (λ b. cond (not b) (1 + position_of name ps) 0) here in absurd (omega (arith, no)))
+      (λ (other : bytes_eq name (name_in r) ≡ false).
+      let deeper : suc i ≡ 1 + position_of name ps = at ∙ ap (λ b. cond (not b) (1 + position_of name ps) 0) other in
+      let rest = look-at name ps i p (omega (arith, deeper)) (omega (arith, within)) read in
+      (rest.0, ap (λ b. cond b (part r) (look ps name)) other ∙ rest.1))
+      (either (bytes_eq name (name_in r)))
+
+module _ {W : Type 0} where
+  files_look : (ps : List (Project W)) (q : List ℕ) → files_in ps q ≡ look (λ (p : Project W). map file_from p.files.items) [] ps q
+  unfolding look
+  files_look [] q = refl
+  files_look (p ∷ ps) q = ap (cond (bytes_eq q (name_in p)) (map file_from p.files.items)) (files_look ps q)
+
+  conditions_look : (ps : List (Project W)) (q : List ℕ) → conditions_in ps q ≡ look (λ (p : Project W). (gate_of p)) [] ps q
+  unfolding look
+  conditions_look [] q = refl
+  conditions_look (p ∷ ps) q = ap (cond (bytes_eq q (name_in p)) (gate_of p)) (conditions_look ps q)
+
+  pub files_in-set : (name : List ℕ) (ps : List (Project W)) (i : ℕ) (n : Project W) → i ≡ position_of name ps → i < length ps → (name_in n) ≡ name → (q : List ℕ) → files_in (set ps i n) q ≡ cond (bytes_eq q name) (map file_from n.files.items) (files_in ps q)
+  files_in-set name ps i n at within is q = files_look (set ps i n) q ∙ look-set _ [] name ps i n at within is q ∙ ap (cond (bytes_eq q name) (map file_from n.files.items)) (sym (files_look ps q))
+
+  pub conditions_in-set : (name : List ℕ) (ps : List (Project W)) (i : ℕ) (n : Project W) → i ≡ position_of name ps → i < length ps → (name_in n) ≡ name → (q : List ℕ) → conditions_in (set ps i n) q ≡ cond (bytes_eq q name) (gate_of n) (conditions_in ps q)
+  conditions_in-set name ps i n at within is q = conditions_look (set ps i n) q ∙ look-set _ [] name ps i n at within is q ∙ ap (cond (bytes_eq q name) (gate_of n)) (sym (conditions_look ps q))
+
+  pub files_in-push : (ps : List (Project W)) (n : Project W) → n.files.items ≡ [] → (q : List ℕ) → files_in (ps ++ n ∷ []) q ≡ files_in ps q
+  files_in-push ps n is q = files_look (ps ++ n ∷ []) q ∙ look-push (λ (p : Project W). map file_from p.files.items) [] ps n (ap (map file_from) is) q ∙ sym (files_look ps q)
+
+  pub conditions_in-push : (ps : List (Project W)) (n : Project W) → (gate_of n) ≡ [] → (q : List ℕ) → conditions_in (ps ++ n ∷ []) q ≡ conditions_in ps q
+  conditions_in-push ps n is q = conditions_look (ps ++ n ∷ []) q ∙ look-push (λ (p : Project W). (gate_of p)) [] ps n is q ∙ sym (conditions_look ps q)
+
+  pub files_in-seam : (a b : List (Project W)) (n : Project W) → n.files.items ≡ [] → AllByRecursion (λ p. bytes_eq (name_in n) (name_in p) ≡ false) a → AllByRecursion (λ p. bytes_eq (name_in n) (name_in p) ≡ false) b → (q : List ℕ) → files_in (a ++ n ∷ b) q ≡ files_in (a ++ b) q
+  files_in-seam a b n is low high q = files_look (a ++ n ∷ b) q ∙ look-seam (λ (p : Project W). map file_from p.files.items) [] a b n (ap (map file_from) is) low high q ∙ sym (files_look (a ++ b) q)
+
+  pub conditions_in-seam : (a b : List (Project W)) (n : Project W) → gate_of n ≡ [] → AllByRecursion (λ p. bytes_eq (name_in n) (name_in p) ≡ false) a → AllByRecursion (λ p. bytes_eq (name_in n) (name_in p) ≡ false) b → (q : List ℕ) → conditions_in (a ++ n ∷ b) q ≡ conditions_in (a ++ b) q
+  conditions_in-seam a b n is low high q = conditions_look (a ++ n ∷ b) q ∙ look-seam (λ (p : Project W). gate_of p) [] a b n is low high q ∙ sym (conditions_look (a ++ b) q)
+
+  -- what the look-up finds at the project's own name
+  pub files_at-position : (name : List ℕ) (ps : List (Project W)) (i : ℕ) (p : Project W) → i ≡ position_of name ps → i < length ps → p ≡ get_or ps i p → ((name_in p) ≡ name) × (files_in ps name ≡ map file_from p.files.items) × (conditions_in ps name ≡ (gate_of p))
+  files_at-position name ps i p at within read =
+      let files = look-at (λ (x : Project W). map file_from x.files.items) [] name ps i p at within read in
+      let conditions = look-at (λ (x : Project W). (gate_of x)) [] name ps i p at within read in
+      (files.0, files_look ps name ∙ files.1, conditions_look ps name ∙ conditions.1)
+
+  -- the new project stands at the end
+  pub position_of_push : (name : List ℕ) (ps : List (Project W)) (n : Project W) → length ps ≡ position_of name ps → (name_in n) ≡ name → length ps ≡ position_of name (ps ++ n ∷ [])
+  position_of_push name ps n none is = position-push (λ (p : Project W). bytes_eq name (name_in p)) ps n none ((bytes_eq-Decides name (name_in n)).1 (sym is))
+
+  -- a file is put into the project at its place
+  pub put_at : (name : List ℕ) (ps : List (Project W)) (i : ℕ) (p n : Project W) (change : List (File W) → List (File W)) → i ≡ position_of name ps → i < length ps → p ≡ get_or ps i p → (name_in n) ≡ (name_in p) → map file_from n.files.items ≡ change (map file_from p.files.items) →
+      (q : List ℕ) → files_in (set ps i n) q ≡ cond (bytes_eq q name) (change (files_in ps q)) (files_in ps q)
+  put_at name ps i p n change at within read named done q =
+      let here = files_at-position name ps i p at within read in
+      files_in-set name ps i n at within (named ∙ here.0) q ∙ ap (λ fs. cond (bytes_eq q name) fs (files_in ps q)) (done ∙ ap change (sym here.1)) ∙ changed_at_name q name change (files_in ps)
+
+  pub conditions_stay_at : (name : List ℕ) (ps : List (Project W)) (i : ℕ) (p n : Project W) → i ≡ position_of name ps → i < length ps → p ≡ get_or ps i p → (name_in n) ≡ (name_in p) → (gate_of n) ≡ (gate_of p) →
+      (q : List ℕ) → conditions_in (set ps i n) q ≡ conditions_in ps q
+  conditions_stay_at name ps i p n at within read named same q =
+      let here = files_at-position name ps i p at within read in
+      conditions_in-set name ps i n at within (named ∙ here.0) q ∙ ap (λ cs. cond (bytes_eq q name) cs (conditions_in ps q)) (same ∙ sym here.2)
+      ∙ changed_at_name q name (λ cs. cs) (conditions_in ps) ∙ cond_same (bytes_eq q name) (conditions_in ps q)
+
+  -- a project that is not there has no files
+  pub no_project : (name : List ℕ) (ps : List (Project W)) → length ps ≤ position_of name ps → files_in ps name ≡ []
+  no_project name [] past = refl
+  no_project name (p ∷ ps) past =
+      ⊎_elim
+      (λ (here : bytes_eq name (name_in p) ≡ true).
+      let no : position_of name (p ∷ ps) ≡ 0 = ap (λ b. cond (not b) (1 + position_of name ps) 0) here in absurd (omega (arith, no, past)))
+      (λ (other : bytes_eq name (name_in p) ≡ false).
+      let deeper : position_of name (p ∷ ps) ≡ 1 + position_of name ps = ap (λ b. cond (not b) (1 + position_of name ps) 0) other in
+      ap (λ b. cond b (map file_from p.files.items) (files_in ps name)) other ∙ no_project name ps (omega (arith, deeper, past)))
+      (either (bytes_eq name (name_in p)))
+
+  pub no_conditions : (name : List ℕ) (ps : List (Project W)) → length ps ≤ position_of name ps → conditions_in ps name ≡ []
+  no_conditions name [] past = refl
+  no_conditions name (p ∷ ps) past =
+      ⊎_elim
+      (λ (here : bytes_eq name (name_in p) ≡ true).
+      let no : position_of name (p ∷ ps) ≡ 0 = ap (λ b. cond (not b) (1 + position_of name ps) 0) here in absurd (omega (arith, no, past)))
+      (λ (other : bytes_eq name (name_in p) ≡ false).
+      let deeper : position_of name (p ∷ ps) ≡ 1 + position_of name ps = ap (λ b. cond (not b) (1 + position_of name ps) 0) other in
+      ap (λ b. cond b (gate_of p) (conditions_in ps name)) other ∙ no_conditions name ps (omega (arith, deeper, past)))
+      (either (bytes_eq name (name_in p)))
+
+  pub stays_where_none : (name : List ℕ) (ps : List (Project W)) (change : List (File W) → List (File W)) → change [] ≡ [] → length ps ≤ position_of name ps → (q : List ℕ) → files_in ps q ≡ cond (bytes_eq q name) (change (files_in ps q)) (files_in ps q)
+  stays_where_none name ps change empty past q =
+      ⊎_elim
+      (λ (same : bytes_eq q name ≡ true).
+      let none : files_in ps q ≡ [] = ap (files_in ps) ((bytes_eq-Decides q name).0 same) ∙ no_project name ps past in
+      none ∙ sym empty ∙ ap change (sym none) ∙ ap (λ b. cond b (change (files_in ps q)) (files_in ps q)) (sym same))
+      (λ (other : bytes_eq q name ≡ false). ap (λ b. cond b (change (files_in ps q)) (files_in ps q)) (sym other))
+      (either (bytes_eq q name))
+
+  pub conditions_at : (name : List ℕ) (ps : List (Project W)) (i : ℕ) (p n : Project W) (cs : List Condition) → i ≡ position_of name ps → i < length ps → p ≡ get_or ps i p → (name_in n) ≡ (name_in p) → (gate_of n) ≡ cs → (q : List ℕ) → conditions_in (set ps i n) q ≡ cond (bytes_eq q name) cs (conditions_in ps q)
+  conditions_at name ps i p n cs at within read named is q =
+      conditions_in-set name ps i n at within (named ∙ (files_at-position name ps i p at within read).0) q ∙ ap (λ ds. cond (bytes_eq q name) ds (conditions_in ps q)) is

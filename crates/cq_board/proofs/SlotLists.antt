@@ -1,0 +1,177 @@
+-- The slots that are kept, as the history's slots.
+use Rattle.std.proofs.Common.{◌≡◌, ℕ, ◌+◌, ◌-◌, ◌<◌, ◌≤◌, Bool, true, false, List, length, map, get_or, set, Option, Some, None, refl, sym, ap, ap₂, ◌∙◌, subst, arith, ⊎_elim, zero, suc, cond, [], ◌∷◌, sum_by, not, ◌||◌, ◌&&◌, is_none, length-set, inl, inr, ◌⊎◌, ◌≢◌}
+use Rattle.std.specs.List.{prefix_len, position_or_len}
+use Rattle.std.proofs.lemmas.Bool.{cases_lt, cases_eq}
+use Rattle.std.proofs.lemmas.List.{get_or-map, map-set, length-map, get_or-set_same, get_or-set_other}
+use Rattle.std.proofs.lemmas.List.Sums.{prefix_len_passes, prefix_len_stops, sum_by-set, passes_at_first, fails_before_first}
+use Rattle.std.proofs.lemmas.List.Elements.{All-set, All-get_or}
+use Rattle.std.specs.Arc.{arc_value}
+use Rattle.std.specs.declared.sync.Arc.{Arc}
+use Rattle.std.proofs.Common.{Global}
+use Rattle.cq_board.specs.declared.kept.Stored.{Stored}
+use Rattle.cq_history.proofs.Bounds.{prefix_len-set-le}
+use Rattle.cq_base.specs.declared.lang.Lang.{Lang}
+use Rattle.cq_history.specs.declared.event.Event.TheVariants.{Took, Back, Done}
+use Rattle.cq_history.specs.State.{State, Slot, no_slot, slot_of, after, is_free, is_done}
+use Rattle.cq_history.proofs.Prefixes.{map_change-set}
+use Rattle.cq_board.specs.declared.kept.Kept.{Kept}
+use Rattle.cq_board.specs.Slots.{slot_from, change_of, state_from, IsWorked, IsWorkFor, IsNoneFree}
+use Rattle.cq_board.specs.Boards.{changes_from, SlotsOk}
+use Rattle.cq_base.specs.declared.settings.Settings.{Settings}
+use Rattle.cq_history.specs.Changes.{text_len, is_put}
+
+pub prefix_more : {X : Type 0} (p : X → Bool) (xs : List X) (i : ℕ) (d : X) → i ≤ prefix_len p xs → i < length xs → p (get_or xs i d) ≡ true → i + 1 ≤ prefix_len p xs
+prefix_more p xs i d le within passes =
+    ⊎_elim (λ (lt : i < prefix_len p xs). omega arith)
+    (λ (ge : prefix_len p xs ≤ i).
+    let same : prefix_len p xs ≡ i = omega arith in
+    let stops : p (get_or xs i d) ≡ false = subst (λ n. p (get_or xs n d) ≡ false) same (prefix_len_stops p xs d (omega arith)) in
+    let no : true ≡ false = sym passes ∙ stops in absurd (cc))
+    (cases_lt i (prefix_len p xs))
+
+pub prefix_ends : {X : Type 0} (p : X → Bool) (xs : List X) (i : ℕ) (d : X) → i ≤ prefix_len p xs → p (get_or xs i d) ≡ false → i ≡ prefix_len p xs
+prefix_ends p xs i d le fails =
+    ⊎_elim (λ (lt : i < prefix_len p xs). let no : true ≡ false = sym (prefix_len_passes p xs i d lt) ∙ fails in absurd (cc))
+    (λ (ge : prefix_len p xs ≤ i). omega arith)
+    (cases_lt i (prefix_len p xs))
+
+pub prefix_len-set_same : {X : Type 0} (p : X → Bool) (xs : List X) (i : ℕ) (y d : X) → p y ≡ p (get_or xs i d) → prefix_len p (set xs i y) ≡ prefix_len p xs
+prefix_len-set_same p [] i y d e = refl
+prefix_len-set_same p (x ∷ xs) zero y d e = ap (λ b. cond b (1 + prefix_len p xs) 0) e
+prefix_len-set_same p (x ∷ xs) (suc i) y d e = ap (λ n. cond (p x) (1 + n) 0) (prefix_len-set_same p xs i y d e)
+
+or_yes : (b : Bool) → (b || true) ≡ true
+or_yes true = refl
+or_yes false = refl
+
+free_put : (a b c : Bool) → (not (not a || b) && c) ≡ true → a ≡ true
+free_put true b c h = refl
+free_put false b c h = h
+
+pub held_not_free : (slot : Slot) → is_none slot.holder ≡ false → is_free slot ≡ false
+held_not_free slot e = ap (λ b. not (is_done slot) && b) e ∙ and_no (not (is_done slot))
+  where
+    and_no : (b : Bool) → (b && false) ≡ false
+    and_no true = refl
+    and_no false = refl
+
+pub free_is_put : (slot : Slot) → is_free slot ≡ true → is_put slot.change ≡ true
+free_is_put slot h = free_put (is_put slot.change) slot.finished (is_none slot.holder) h
+
+module _ {W : Type 0} where
+  pub slot_read : (slots : List (Kept W)) (i : ℕ) (k : Kept W) → i < length slots → k ≡ get_or slots i k → get_or (map slot_from slots) i no_slot ≡ slot_from k
+  slot_read slots i k within read = get_or-map slot_from slots i k no_slot within ∙ ap slot_from (sym read)
+
+  -- another slot in place of the one at i
+  pub slots_set : (slots : List (Kept W)) (i : ℕ) (k : Kept W) (slot : Slot) → slot_from k ≡ slot → map slot_from (set slots i k) ≡ set (map slot_from slots) (i + 1 - 1) slot
+  slots_set slots i k slot e = map-set slot_from slots i k ∙ ap₂ (λ n x. set (map slot_from slots) n x) (omega arith) e
+
+  slot_of_read : (slots : List (Kept W)) (p f : ℕ) (views : List (Option ℕ)) (i : ℕ) (k : Kept W) → i < length slots → k ≡ get_or slots i k → slot_of (state_from slots p f views) (i + 1) ≡ slot_from k
+  slot_of_read slots p f views i k within read = ap (λ n. get_or (map slot_from slots) n no_slot) (omega arith) ∙ slot_read slots i k within read
+
+  pub took_state : (slots : List (Kept W)) (p f : ℕ) (views : List (Option ℕ)) (i by r : ℕ) (k : Kept W) → i < length slots → k ≡ get_or slots i k → r ≡ i + 1 →
+      state_from (set slots i (record { change = k.change; work = k.work; holder = Some by })) p f views ≡ after (state_from slots p f views) (Took by r)
+  took_state slots p f views i by r k within read number =
+      ap (λ (xs : List Slot). let s : State = record { slots = xs; published = p; floor = f; views = views } in s)
+      (slots_set slots i _ _ (ap (λ (x : Slot). let y : Slot = record { change = x.change; finished = x.finished; holder = Some by } in y) (sym (slot_of_read slots p f views i k within read))))
+      ∙ ap (λ n. after (state_from slots p f views) (Took by n)) (sym number)
+
+  -- none before the index is free where those before it are as they were
+  pub none_free_set : (slots : List (Kept W)) (i free now : ℕ) (j : Kept W) → IsNoneFree slots free → now ≤ length slots → ((k : ℕ) → k < now → ((k ≡ i) × (is_free (slot_from j) ≡ false)) ⊎ ((k ≢ i) × (k < free))) → IsNoneFree (set slots i j) now
+  none_free_set slots i free now j none few each = record {
+    within = omega (arith, few, length-set slots i j);
+    none = λ k d lt.
+        ap (λ xs. is_free (get_or xs k d)) (map-set slot_from slots i j)
+        ∙ ⊎_elim
+        (λ (same, not_free). ap (λ n. is_free (get_or (set (map slot_from slots) i (slot_from j)) n d)) same ∙ ap is_free (get_or-set_same (map slot_from slots) i (slot_from j) d (omega (arith, same, lt, few, length-map slots (slot_from {W = W})))) ∙ not_free)
+        (λ (other, below). ap is_free (get_or-set_other (map slot_from slots) i k (slot_from j) d other) ∙ none.none k d below)
+        (each k lt);
+  }
+
+  -- none before the first free one is free
+  pub none_before : (slots : List (Kept W)) (i : ℕ) → i ≤ length slots → i ≡ position_or_len is_free (map slot_from slots) → IsNoneFree slots i
+  none_before slots i within first = record {
+    within = within;
+    none = λ k d lt. fails_before_first is_free (map slot_from slots) k d (omega (arith, lt, first));
+  }
+
+  -- the fields of a slot but for its holder stay as they were
+  pub held_ok : (IsWork : Lang → List ℕ → W → Type 0) (settings : Settings) (slots : List (Kept W)) (bytes done free now : ℕ) (i : ℕ) (k : Kept W) (holder : Option ℕ) → i < length slots → k ≡ get_or slots i k →
+      IsNoneFree (set slots i (record { change = k.change; work = k.work; holder = holder })) now →
+      SlotsOk IsWork settings slots bytes done free →
+      SlotsOk IsWork settings (set slots i (record { change = k.change; work = k.work; holder = holder })) bytes done now
+  held_ok IsWork settings slots bytes done free now i k holder within read none ok =
+      let j : Kept W = record { change = k.change; work = k.work; holder = holder } in
+      let here : get_or (map slot_from slots) i no_slot ≡ slot_from k = slot_read slots i k within read in
+      let mapped : map slot_from (set slots i j) ≡ set (map slot_from slots) i (slot_from j) = map-set slot_from slots i j in
+      let f_len : Slot → ℕ = λ slot. text_len slot.change in
+      let in_range : i < length (map slot_from slots) = omega (arith, length-map slots (slot_from {W = W}), within) in
+      let sums = sum_by-set f_len (map slot_from slots) i (slot_from j) no_slot in_range in
+      let same_len : f_len (get_or (map slot_from slots) i no_slot) ≡ f_len (slot_from k) = ap f_len here in
+      record {
+        works = All-set (IsWorked IsWork) slots i j (subst (IsWorked IsWork) (sym read) (All-get_or (IsWorked IsWork) slots i k within ok.works)) ok.works;
+        text_bytes = ok.text_bytes ∙ (let e : sum_by f_len (set (map slot_from slots) i (slot_from j)) ≡ sum_by f_len (map slot_from slots) = omega (arith, sums, same_len) in sym e ∙ ap (sum_by f_len) (sym mapped));
+        few_bytes = ok.few_bytes;
+        few_slots = omega (arith, length-set slots i j, ok.few_slots);
+        ready = ok.ready ∙ sym (prefix_len-set_same is_done (map slot_from slots) i (slot_from j) no_slot (ap is_done (sym here))) ∙ ap (prefix_len is_done) (sym mapped);
+        none_free = none;
+      }
+
+  -- the changes are as they were where a slot's is
+  pub changes_stay : (slots : List (Kept W)) (i : ℕ) (k j : Kept W) → i < length slots → k ≡ get_or slots i k → j.change ≡ k.change → changes_from (set slots i j) ≡ changes_from slots
+  changes_stay slots i k j within read same =
+      ap (map (λ (s : Slot). s.change)) (map-set slot_from slots i j)
+      ∙ map_change-set (map slot_from slots) i (slot_from j) (ap change_of same ∙ ap (λ (s : Slot). s.change) (sym (slot_read slots i k within read)))
+
+  pub first_is_free : (slots : List (Kept W)) (i : ℕ) (k : Kept W) → i ≡ position_or_len is_free (map slot_from slots) → i < length slots → k ≡ get_or slots i k → is_free (slot_from k) ≡ true
+  first_is_free slots i k first within read =
+      let same : length (map slot_from slots) ≡ length slots = length-map slots (slot_from {W = W}) in
+      ap is_free (sym (slot_read slots i k within read)) ∙ ap (λ n. is_free (get_or (map slot_from slots) n no_slot)) first
+      ∙ passes_at_first is_free (map slot_from slots) no_slot (omega (arith, same, within, first))
+
+  pub done_state : (slots : List (Kept W)) (p f : ℕ) (views : List (Option ℕ)) (i by r : ℕ) (k : Kept W) (w : Arc W Global) → i < length slots → k ≡ get_or slots i k → r ≡ i + 1 →
+      state_from (set slots i (record { change = k.change; work = Some w; holder = k.holder })) p f views ≡ after (state_from slots p f views) (Done by r)
+  done_state slots p f views i by r k w within read number =
+      ap (λ (xs : List Slot). let s : State = record { slots = xs; published = p; floor = f; views = views } in s)
+      (slots_set slots i _ _ (ap (λ (x : Slot). let y : Slot = record { change = x.change; finished = true; holder = x.holder } in y) (sym (slot_of_read slots p f views i k within read))))
+      ∙ ap (λ n. after (state_from slots p f views) (Done by n)) (sym number)
+
+  pub done_grows : (slots : List (Kept W)) (i : ℕ) (k j : Kept W) → i < length slots → k ≡ get_or slots i k → is_done (slot_from j) ≡ true → prefix_len is_done (map slot_from slots) ≤ prefix_len is_done (map slot_from (set slots i j))
+  done_grows slots i k j within read yes_done =
+      subst (λ xs. prefix_len is_done (map slot_from slots) ≤ prefix_len is_done xs) (sym (map-set slot_from slots i j)) (prefix_len-set-le (map slot_from slots) i (slot_from j) (λ _. yes_done))
+
+  pub done_ok : (IsWork : Lang → List ℕ → W → Type 0) (settings : Settings) (slots : List (Kept W)) (bytes done now free i : ℕ) (k : Kept W) (w : Arc W Global) → i < length slots → k ≡ get_or slots i k →
+      IsWorkFor IsWork (change_of k.change) (arc_value w) → is_done (slot_from (let j : Kept W = record { change = k.change; work = Some w; holder = k.holder } in j)) ≡ true →
+      now ≡ prefix_len is_done (map slot_from (set slots i (record { change = k.change; work = Some w; holder = k.holder }))) →
+      SlotsOk IsWork settings slots bytes done free →
+      SlotsOk IsWork settings (set slots i (record { change = k.change; work = Some w; holder = k.holder })) bytes now free
+  done_ok IsWork settings slots bytes done now free i k w within read work yes_done now_is ok =
+      let j : Kept W = record { change = k.change; work = Some w; holder = k.holder } in
+      let here : get_or (map slot_from slots) i no_slot ≡ slot_from k = slot_read slots i k within read in
+      let mapped : map slot_from (set slots i j) ≡ set (map slot_from slots) i (slot_from j) = map-set slot_from slots i j in
+      let f_len : Slot → ℕ = λ slot. text_len slot.change in
+      let in_range : i < length (map slot_from slots) = omega (arith, length-map slots (slot_from {W = W}), within) in
+      let sums = sum_by-set f_len (map slot_from slots) i (slot_from j) no_slot in_range in
+      let same_len : f_len (get_or (map slot_from slots) i no_slot) ≡ f_len (slot_from k) = ap f_len here in
+      record {
+        works = All-set (IsWorked IsWork) slots i j work ok.works;
+        text_bytes = ok.text_bytes ∙ (let e : sum_by f_len (set (map slot_from slots) i (slot_from j)) ≡ sum_by f_len (map slot_from slots) = omega (arith, sums, same_len) in sym e ∙ ap (sum_by f_len) (sym mapped));
+        few_bytes = ok.few_bytes;
+        few_slots = omega (arith, length-set slots i j, ok.few_slots);
+        ready = now_is;
+        none_free = none_free_set slots i free free j ok.none_free ok.none_free.within
+            (λ n lt. ⊎_elim (λ e. inl (e, not_free (slot_from j) yes_done)) (λ other. inr (other, lt)) (cases_eq n i));
+      }
+    where
+      not_free : (s : Slot) → is_done s ≡ true → is_free s ≡ false
+      not_free s e = ap (λ b. not b && is_none s.holder) e
+
+  pub finished_is_done : (change : Stored) (w : Arc W Global) (holder : Option ℕ) → is_done (slot_from (let j : Kept W = record { change = change; work = Some w; holder = holder } in j)) ≡ true
+  finished_is_done change w holder = or_yes (not (is_put (change_of change)))
+
+  pub back_state : (slots : List (Kept W)) (p f : ℕ) (views : List (Option ℕ)) (i by r : ℕ) (k : Kept W) → i < length slots → k ≡ get_or slots i k → r ≡ i + 1 →
+      state_from (set slots i (record { change = k.change; work = k.work; holder = None })) p f views ≡ after (state_from slots p f views) (Back by r)
+  back_state slots p f views i by r k within read number =
+      ap (λ (xs : List Slot). let s : State = record { slots = xs; published = p; floor = f; views = views } in s)
+      (slots_set slots i _ _ (ap (λ (x : Slot). let y : Slot = record { change = x.change; finished = x.finished; holder = None } in y) (sym (slot_of_read slots p f views i k within read))))
+      ∙ ap (λ n. after (state_from slots p f views) (Back by n)) (sym number)

@@ -1,0 +1,47 @@
+use Rattle.std.specs.Arc.{arc_value}
+use Rattle.std.proofs.Common.{◌≡◌, ◌+◌, List, [], ◌∷◌, ◌++◌, map, sym, ap, ◌∙◌, None, refl, subst}
+use Rattle.std.specs.List.{prefix_len}
+use Rattle.cq_history.specs.declared.event.Event.TheVariants as event
+use Rattle.cq_history.specs.State.{is_done}
+use Rattle.cq_board.proofs.Adding.{Adds_from}
+use Rattle.cq_board.specs.declared.kept.Kept.{Kept}
+use Rattle.cq_board.specs.Slots.{slot_from, change_of}
+use Rattle.cq_board.specs.Slots.{state_from}
+use Rattle.cq_board.specs.Answers.{refusal_of}
+use Rattle.cq_board.specs.Boards.{changes_from, BoardOk}
+use Rattle.cq_board.proofs.OneMore.{still_done, board_accepted, accepted_state, allowed_accept}
+use Rattle.cq_board.proofs.board.Board.accept.Goals as goal
+
+pub done_from-self-inside-requires : goal.done_from-self-inside-requires
+done_from-self-inside-requires g c =
+    let k : Kept g.row.W.Denot = record { change = c.in_ok-change.change; work = None; holder = None } in
+    let slots = c.self.inside.slots.items in
+    let items : c.push.new.self.items ≡ slots ++ k ∷ [] = c.in_ok-push.ensures.items ∙ ap (λ xs. xs ++ k ∷ []) c.in_ok-reserve.ensures.items in
+    still_done slots c.push.new.self.items c.deref-2.result.now k c.self.inside.ready c.deref-2.ensures.value items c.self.invariant.kept.ready
+
+pub invariant_of-self-2 : goal.invariant_of-self-2
+invariant_of-self-2 g c =
+    let k : Kept g.row.W.Denot = record { change = c.in_ok-change.change; work = None; holder = None } in
+    let slots = c.self.inside.slots.items in
+    let items : c.push.new.self.items ≡ slots ++ k ∷ [] = c.in_ok-push.ensures.items ∙ ap (λ xs. xs ++ k ∷ []) c.in_ok-reserve.ensures.items in
+    let allowed : refusal_of c.self.inside.settings (state_from slots 0 0 []) (change_of k.change) ≡ None =
+    ap (λ xs. refusal_of c.self.inside.settings (state_from xs 0 0 []) (change_of k.change)) (sym c.deref.ensures.value) ∙ sym c.refusal.ensures ∙ c.in_default.is in
+    let done : c.done_from-self-inside.result ≡ prefix_len is_done (map slot_from (slots ++ k ∷ [])) =
+    c.done_from-self-inside.ensures.done ∙ ap (λ xs. prefix_len is_done (map (slot_from {W = g.row.W.Denot}) xs)) (c.deref-2.ensures.value ∙ items) in
+    subst (λ (xs : List (Kept g.row.W.Denot)). BoardOk (g.W.Indexed.IsWorkOf c.self.inside.settings) c.self.inside.settings xs c.note.new.there (c.self.inside.text_bytes + c.text_len-len.result) c.done_from-self-inside.result c.self.inside.free c.self.inside.published (arc_value c.self.inside.listing)) (sym items)
+    (board_accepted (g.W.Indexed.IsWorkOf c.self.inside.settings) c.self.inside.settings slots c.self.inside.there c.note.new.there c.self.inside.text_bytes c.self.inside.ready c.done_from-self-inside.result c.self.inside.free c.text_len-len.result c.self.inside.published (arc_value c.self.inside.listing)
+    k refl c.self.invariant allowed c.text_len-len.ensures done (c.in_ok-note.ensures.more (changes_from slots) c.self.invariant.presence))
+
+pub returns-clause-adds : goal.returns-clause-adds
+returns-clause-adds g c =
+    let k : Kept g.row.W.Denot = record { change = c.in_ok-change.change; work = None; holder = None } in
+    let slots = c.self.inside.slots.items in
+    let items : c.push.new.self.items ≡ slots ++ k ∷ [] = c.in_ok-push.ensures.items ∙ ap (λ xs. xs ++ k ∷ []) c.in_ok-reserve.ensures.items in
+    let allowed : refusal_of c.self.inside.settings (state_from slots 0 0 []) (change_of k.change) ≡ None =
+    ap (λ xs. refusal_of c.self.inside.settings (state_from xs 0 0 []) (change_of k.change)) (sym c.deref.ensures.value) ∙ sym c.refusal.ensures ∙ c.in_default.is in
+    let allowed_change : refusal_of c.self.inside.settings (state_from slots 0 0 []) c.args.change ≡ None = ap (refusal_of c.self.inside.settings (state_from slots 0 0 [])) (sym c.in_ok-change.ensures) ∙ allowed in
+    Adds_from c.self.inside.settings (state_from slots c.self.inside.published c.self.inside.floor c.self.inside.views.items) _ c.self.inside.events _
+    c.args.self.now _ (event.Accept c.args.by c.args.change) c.self.view_is refl refl
+    (ap (λ (xs : List (Kept g.row.W.Denot)). state_from xs c.self.inside.published c.self.inside.floor c.self.inside.views.items) items
+    ∙ accepted_state slots c.self.inside.published c.self.inside.floor c.self.inside.views.items k c.args.by c.args.change c.in_ok-change.ensures refl refl)
+    (allowed_accept c.self.inside.settings (state_from slots c.self.inside.published c.self.inside.floor c.self.inside.views.items) c.args.by c.args.change allowed_change)

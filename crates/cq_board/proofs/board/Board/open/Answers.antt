@@ -1,0 +1,12 @@
+use Rattle.std.proofs.Common.{◌∙◌, refl, ap}
+use Rattle.cq_history.specs.declared.event.Event.TheVariants as event
+use Rattle.cq_history.specs.State.{view_of}
+use Rattle.cq_board.specs.Stands.{BoardState}
+use Rattle.cq_board.proofs.Adding.{Adds_from}
+use Rattle.cq_board.specs.Slots.{state_from}
+use Rattle.cq_board.proofs.board.Board.open.Goals as goal
+
+pub returns-clause-adds : goal.returns-clause-adds
+returns-clause-adds g c =
+    Adds_from c.self.inside.settings (state_from c.self.inside.slots.items c.self.inside.published c.self.inside.floor c.self.inside.views.items) _ c.self.inside.events _ c.args.self.now _ (event.Open c.args.by c.self.inside.published) c.self.view_is refl refl refl
+    (refl, ap (λ (b : BoardState). view_of b.state c.args.by) c.self.view_is ∙ c.requires.closed)

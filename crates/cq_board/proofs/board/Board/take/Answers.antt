@@ -1,0 +1,86 @@
+use Rattle.std.specs.Arc.{arc_value}
+use Rattle.std.proofs.Common.{sym, set, inl, inr, ⊎_elim, ◌≡◌, ◌+◌, ◌<◌, ◌≤◌, ℕ, length, map, List, arith, ap, ◌∙◌, Option, Some, refl, subst}
+use Rattle.std.proofs.lemmas.List.{length-map, set-get_or}
+use Rattle.std.specs.List.{position_or_len}
+use Rattle.cq_history.specs.declared.event.Event.TheVariants as event
+use Rattle.cq_history.specs.State.{first_free, IsAccepted, is_free}
+use Rattle.cq_board.specs.Stands.{BoardState}
+use Rattle.cq_board.proofs.Adding.{Adds_from}
+use Rattle.cq_board.specs.declared.kept.Kept.{Kept}
+use Rattle.cq_board.specs.Boards.{BoardOk}
+use Rattle.cq_board.specs.Slots.{slot_from}
+use Rattle.cq_board.specs.Slots.{state_from}
+use Rattle.cq_board.proofs.SlotLists.{took_state, held_ok, none_free_set, none_before, held_not_free, changes_stay, first_is_free, free_is_put}
+use Rattle.cq_board.proofs.OneMore.{board_with, board_free}
+use Rattle.std.proofs.lemmas.Bool.{cases_eq}
+use Rattle.cq_board.proofs.board.Board.take.Goals as goal
+
+pub index_mut-kept-requires : goal.index_mut-kept-requires
+index_mut-kept-requires g c = omega (arith, c.first_free-i.ensures.within, c.if-i-len.false, c.len.ensures, c.deref.ensures.len)
+
+-- a place that is not past the end and not the end
+below_end : {A : Type 0} (i n m : ℕ) (xs ys : List A) → i ≤ length xs → (i ≡ n → ⊥) → n ≡ m → length xs ≡ m → xs ≡ ys → i < length ys
+below_end i n m xs ys le other len same e = omega (arith, le, other, len, same, ap length e)
+
+pub overflow_add-i : goal.overflow_add-i
+overflow_add-i g c = omega (arith, c.deref.type_inv.1, c.first_free-i.ensures.within)
+
+pub job_of-requires : goal.job_of-requires
+job_of-requires g c =
+    let within = below_end c.first_free-i.result c.len.result _ c.deref.result.now c.self.inside.slots.items c.first_free-i.ensures.within c.if-i-len.false c.len.ensures c.deref.ensures.len c.deref.ensures.value in
+    let first = c.first_free-i.ensures.first ∙ ap (λ xs. position_or_len is_free (map (slot_from {W = g.row.W.Denot}) xs)) c.deref.ensures.value in
+    free_is_put (slot_from c.index_mut-kept.result.now) (first_is_free c.self.inside.slots.items c.first_free-i.result c.index_mut-kept.result.now first within c.index_mut-kept.ensures.value)
+
+pub invariant_of-self-2 : goal.invariant_of-self-2
+invariant_of-self-2 g c =
+    let within = below_end c.first_free-i.result c.len.result _ c.deref.result.now c.self.inside.slots.items c.first_free-i.ensures.within c.if-i-len.false c.len.ensures c.deref.ensures.len c.deref.ensures.value in
+    let first = c.first_free-i.ensures.first ∙ ap (λ xs. position_or_len is_free (map (slot_from {W = g.row.W.Denot}) xs)) c.deref.ensures.value in
+    let i = c.first_free-i.result in
+    let k = c.index_mut-kept.result.now in
+    let j : Kept g.row.W.Denot = record { change = k.change; work = k.work; holder = Some c.args.by } in
+    board_with (g.W.Indexed.IsWorkOf c.self.inside.settings) c.self.inside.settings c.self.inside.slots.items (set c.self.inside.slots.items i j) c.self.inside.there c.self.inside.text_bytes c.self.inside.ready c.self.inside.ready c.self.inside.free (i + 1) c.self.inside.published (arc_value c.self.inside.listing)
+    c.self.invariant
+    (held_ok (g.W.Indexed.IsWorkOf c.self.inside.settings) c.self.inside.settings c.self.inside.slots.items c.self.inside.text_bytes c.self.inside.ready c.self.inside.free (i + 1) i k (Some c.args.by) within c.index_mut-kept.ensures.value
+    (none_free_set c.self.inside.slots.items i i (i + 1) j (none_before c.self.inside.slots.items i (omega (arith, within)) first) (omega (arith, within))
+    (λ n lt. ⊎_elim (λ e. inl (e, held_not_free (slot_from j) refl)) (λ other. inr (other, omega (arith, other, lt))) (cases_eq n i)))
+    c.self.invariant.kept)
+    (changes_stay c.self.inside.slots.items i k j within c.index_mut-kept.ensures.value refl) (omega arith)
+
+-- the number of the free slot
+is_next : {W : Type 0} (slots : List (Kept W)) (p f : ℕ) (views : List (Option ℕ)) (i r : ℕ) → i ≡ position_or_len is_free (map slot_from slots) → i < length slots → r ≡ i + 1 → (r ≡ first_free (state_from slots p f views)) × IsAccepted (state_from slots p f views) r
+is_next {W} slots p f views i r first within number =
+    let same : length (map slot_from slots) ≡ length slots = length-map slots (slot_from {W = W}) in
+    (number ∙ ap (λ n. n + 1) first, (omega (arith, number), omega (arith, number, same, within)))
+
+pub returns-clause-taken : goal.returns-clause-taken
+returns-clause-taken g c =
+    let within = below_end c.first_free-i.result c.len.result _ c.deref.result.now c.self.inside.slots.items c.first_free-i.ensures.within c.if-i-len.false c.len.ensures c.deref.ensures.len c.deref.ensures.value in
+    let first = c.first_free-i.ensures.first ∙ ap (λ xs. position_or_len is_free (map (slot_from {W = g.row.W.Denot}) xs)) c.deref.ensures.value in
+    Adds_from c.self.inside.settings (state_from c.self.inside.slots.items c.self.inside.published c.self.inside.floor c.self.inside.views.items) _ c.self.inside.events _ c.args.self.now _ (event.Took c.args.by c.in_ok-job.job.change) c.self.view_is refl refl
+    (took_state c.self.inside.slots.items c.self.inside.published c.self.inside.floor c.self.inside.views.items c.first_free-i.result c.args.by c.in_ok-job.job.change c.index_mut-kept.result.now within c.index_mut-kept.ensures.value c.in_ok-job.ensures.number)
+    (is_next c.self.inside.slots.items c.self.inside.published c.self.inside.floor c.self.inside.views.items c.first_free-i.result c.in_ok-job.job.change first within c.in_ok-job.ensures.number)
+
+pub returns-clause-unchanged : goal.returns-clause-unchanged
+returns-clause-unchanged g c =
+    let within = below_end c.first_free-i.result c.len.result _ c.deref.result.now c.self.inside.slots.items c.first_free-i.ensures.within c.if-i-len.false c.len.ensures c.deref.ensures.len c.deref.ensures.value in
+    let first = c.first_free-i.ensures.first ∙ ap (λ xs. position_or_len is_free (map (slot_from {W = g.row.W.Denot}) xs)) c.deref.ensures.value in
+    let next = is_next c.self.inside.slots.items c.self.inside.published c.self.inside.floor c.self.inside.views.items c.first_free-i.result (c.first_free-i.result + 1) first within refl in
+    let P : BoardState → Type 0 = λ b. IsAccepted b.state (first_free b.state) in
+    subst P c.self.view_is (subst (IsAccepted (state_from c.self.inside.slots.items c.self.inside.published c.self.inside.floor c.self.inside.views.items)) next.0 next.1)
+
+pub invariant_of-self : goal.invariant_of-self
+invariant_of-self g c =
+    let slots = c.self.inside.slots.items in
+    let first = c.first_free-i.ensures.first ∙ ap (λ xs. position_or_len is_free (map (slot_from {W = g.row.W.Denot}) xs)) c.deref.ensures.value in
+    board_free (g.W.Indexed.IsWorkOf c.self.inside.settings) c.self.inside.settings slots c.self.inside.there c.self.inside.text_bytes c.self.inside.ready c.self.inside.free c.first_free-i.result c.self.inside.published (arc_value c.self.inside.listing) c.self.invariant
+    (none_before slots c.first_free-i.result (omega (arith, c.first_free-i.ensures.within, ap length c.deref.ensures.value)) first)
+
+pub invariant_of-self-in_err-job : goal.invariant_of-self-in_err-job
+invariant_of-self-in_err-job g c =
+    let slots = c.self.inside.slots.items in
+    let k = c.index_mut-kept.result.now in
+    let first = c.first_free-i.ensures.first ∙ ap (λ xs. position_or_len is_free (map (slot_from {W = g.row.W.Denot}) xs)) c.deref.ensures.value in
+    let same : set slots c.first_free-i.result k ≡ slots = ap (set slots c.first_free-i.result) c.index_mut-kept.ensures.value ∙ set-get_or slots c.first_free-i.result k in
+    subst (λ (xs : List (Kept g.row.W.Denot)). BoardOk (g.W.Indexed.IsWorkOf c.self.inside.settings) c.self.inside.settings xs c.self.inside.there c.self.inside.text_bytes c.self.inside.ready c.first_free-i.result c.self.inside.published (arc_value c.self.inside.listing)) (sym same)
+    (board_free (g.W.Indexed.IsWorkOf c.self.inside.settings) c.self.inside.settings slots c.self.inside.there c.self.inside.text_bytes c.self.inside.ready c.self.inside.free c.first_free-i.result c.self.inside.published (arc_value c.self.inside.listing) c.self.invariant
+    (none_before slots c.first_free-i.result (omega (arith, c.first_free-i.ensures.within, ap length c.deref.ensures.value)) first))

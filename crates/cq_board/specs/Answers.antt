@@ -1,0 +1,42 @@
+-- What a board's calls answer.
+use Rattle.std.specs.Prelude.{◌≡◌, ℕ, ◌+◌, nat_lt, true, if◌then◌else◌, length, fold, min, Option, Some, None}
+use Rattle.std.specs.Arc.{arc_value}
+use Rattle.cq_base.specs.declared.settings.Settings.{Settings}
+use Rattle.cq_base.specs.declared.change.Change.{Change}
+use Rattle.cq_base.specs.declared.change.Change.TheVariants.{Put, Drop, Gate}
+use Rattle.cq_history.specs.Changes.{is_put}
+use Rattle.cq_history.specs.State.{State, IsAccepted, slot_of, ready}
+use Rattle.cq_board.specs.declared.answers.Asked.{Asked}
+use Rattle.cq_board.specs.declared.answers.Job.{Job}
+use Rattle.cq_board.specs.declared.answers.Refused.{Refused}
+use Rattle.cq_board.specs.declared.answers.Refused.TheVariants.{Absent, FullChanges, FullText}
+use Rattle.cq_history.specs.Lawful.{is_absent, is_full, is_long}
+
+-- why a change is not accepted, if it is not: the first cause that holds
+abbrev pub refusal_of : Settings → State → Change → Option Refused
+refusal_of set s change =
+    if is_absent s change then Some Absent else (if is_full set s then Some FullChanges else (if is_long set s change then Some FullText else None))
+
+abbrev pub asked_of : State → Asked
+asked_of s = record { accepted = length s.slots; done = ready s; undone = if nat_lt (ready s) (length s.slots) then Some (ready s + 1) else None; published = s.published }
+
+abbrev pub lower : ℕ → Option ℕ → ℕ
+lower version None = version
+lower version (Some seen) = min version seen
+
+-- the least of the last published version and each open view's
+abbrev pub greatest_floor : State → ℕ
+greatest_floor s = fold lower s.published s.views
+
+-- the job is to make the work of this change
+abbrev pub IsJobOf : Change → Job → Type 0
+IsJobOf (Put project path lang text) job = (job.lang ≡ lang) × (arc_value job.text ≡ text)
+IsJobOf (Drop project path) job = ⊥
+IsJobOf (Gate project conditions) job = ⊥
+
+abbrev pub IsJob : State → Job → Type 0
+IsJob s job = IsJobOf (slot_of s job.change).change job
+
+-- it is a put whose work was done
+abbrev pub IsDonePut : State → ℕ → Type 0
+IsDonePut s r = IsAccepted s r × (is_put (slot_of s r).change ≡ true) × ((slot_of s r).finished ≡ true)

@@ -1,0 +1,33 @@
+-- What a board's fields keep.
+use Rattle.std.specs.Prelude.{◌≡◌, ℕ, ◌≤◌, List, [], length, map, take, All}
+use Rattle.std.specs.List.{prefix_len}
+use Rattle.std.specs.BTreeSet.{BTreeSet}
+use Rattle.cq_base.specs.declared.settings.Settings.{Settings}
+use Rattle.cq_base.specs.declared.lang.Lang.{Lang}
+use Rattle.cq_base.specs.declared.change.Change.{Change}
+use Rattle.cq_history.specs.State.{changes_in, text_bytes, is_done}
+use Rattle.cq_board.specs.declared.kept.Kept.{Kept}
+use Rattle.cq_board.specs.declared.kept.FileKey.{FileKey}
+use Rattle.cq_board.specs.Listings.{Listed, IsListing}
+use Rattle.cq_board.specs.Presence.{IsPresence}
+use Rattle.cq_board.specs.Slots.{slot_from, state_from, IsWorked, IsNoneFree}
+
+module _ {W : Type 0} where
+  abbrev pub changes_from : List (Kept W) → List Change
+  changes_from slots = changes_in (state_from slots 0 0 [])
+
+  -- what is kept of the changes: the bytes of their texts, up to which all are done, and before which none may be taken
+  pub record SlotsOk (IsWork : Lang → List ℕ → W → Type 0) (settings : Settings) (slots : List (Kept W)) (bytes done free : ℕ) : Type 0 where
+    pub works : All (IsWorked IsWork) slots
+    pub text_bytes : bytes ≡ text_bytes (state_from slots 0 0 [])
+    pub few_bytes : bytes ≤ settings.text_limit
+    pub few_slots : length slots ≤ settings.change_limit
+    pub ready : done ≡ prefix_len is_done (map slot_from slots)
+    pub none_free : IsNoneFree slots free
+
+  pub record BoardOk (IsWork : Lang → List ℕ → W → Type 0) (settings : Settings) (slots : List (Kept W)) (there : BTreeSet FileKey) (bytes done free published : ℕ) (l : Listed W) : Type 0 where
+    pub kept : SlotsOk IsWork settings slots bytes done free
+    pub presence : IsPresence (changes_from slots) there
+    pub in_order : published ≤ done
+    -- the listing is that of the published version
+    pub listing : IsListing IsWork (take published (changes_from slots)) l

@@ -1,0 +1,10 @@
+pub mod Answers
+pub mod Boards
+pub mod Listings
+pub mod Ordered
+pub mod Parts
+pub mod Presence
+pub mod Related
+pub mod Slots
+pub mod Stands
+pub mod Turnover

@@ -1,0 +1,36 @@
+-- The slot that is kept of a change.
+use Rattle.std.specs.Prelude.{ℕ, List, map, is_some, Option, IfSome, false, ◌<◌, ◌≤◌, ◌≡◌, length, slice_index_or}
+use Rattle.std.specs.Arc.{arc_value}
+use Rattle.cq_base.specs.declared.change.Change.{Change}
+use Rattle.cq_base.specs.declared.change.Change.TheVariants as change
+use Rattle.cq_base.specs.declared.lang.Lang.{Lang}
+use Rattle.cq_history.specs.State.{State, Slot, is_free}
+use Rattle.cq_board.specs.declared.kept.Stored.{Stored}
+use Rattle.cq_board.specs.declared.kept.Stored.TheVariants.{Put, Drop, Gate}
+use Rattle.cq_board.specs.declared.kept.Kept.{Kept}
+
+abbrev pub change_of : Stored → Change
+change_of (Put file lang text) = change.Put (arc_value file.project) (arc_value file.path) lang (arc_value text)
+change_of (Drop file) = change.Drop (arc_value file.project) (arc_value file.path)
+change_of (Gate project conditions) = change.Gate (arc_value project) (arc_value conditions)
+
+module _ {W : Type 0} where
+  abbrev pub slot_from : Kept W → Slot
+  slot_from k = record { change = change_of k.change; finished = is_some k.work; holder = k.holder }
+
+  abbrev pub state_from : List (Kept W) → ℕ → ℕ → List (Option ℕ) → State
+  state_from slots published floor views = record { slots = map slot_from slots; published = published; floor = floor; views = views }
+
+  -- the work is that of the change's text; only a put has work
+  abbrev pub IsWorkFor : (Lang → List ℕ → W → Type 0) → Change → W → Type 0
+  IsWorkFor IsWork (change.Put project path lang text) work = IsWork lang text work
+  IsWorkFor IsWork (change.Drop project path) work = ⊥
+  IsWorkFor IsWork (change.Gate project conditions) work = ⊥
+
+  abbrev pub IsWorked : (Lang → List ℕ → W → Type 0) → Kept W → Type 0
+  IsWorked IsWork k = IfSome k.work (λ work. IsWorkFor IsWork (change_of k.change) (arc_value work))
+
+  -- no change before the index may be taken
+  pub record IsNoneFree (slots : List (Kept W)) (i : ℕ) : Type 0 where
+    pub within : i ≤ length slots
+    pub none : (k : ℕ) (d : Slot) → k < i → is_free (slice_index_or (map slot_from slots) k d) ≡ false

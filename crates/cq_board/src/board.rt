@@ -1,0 +1,340 @@
+ghost use Rattle.std.specs.Prelude.{◌≡◌, ◌+◌, ◌<◌, ◌≤◌, ℕ, [], length, OnOk, IfOk, OnErr, IfSome, MatchOption, MatchResult, ◌⊎◌, None, IsSome, IsTrue, IsNone, false, ◌↔◌, All, take, fold, replicate};
+ghost use Rattle.cq_history.specs.declared.event.Event.TheVariants as event;
+ghost use Rattle.std.specs.Arc.{arc_value};
+ghost use Rattle.std.specs.Bool.{OnTrue, OnFalse};
+ghost use Rattle.cq_history.specs.State.{first_free, ready, view_of, slot_of, changes_in, IsAccepted, IsDone, IsUndone, IsTakenBy};
+ghost use Rattle.cq_board.specs.Stands.{BoardState, StandsFor, Adds, IsCaller};
+ghost use Rattle.cq_board.specs.Answers.{asked_of, greatest_floor, lower, refusal_of, IsJob, IsDonePut};
+ghost use Rattle.cq_board.specs.Slots.{IsWorkFor};
+ghost use Rattle.cq_board.specs.Listings.{IsListing};
+
+use crate::accepting::{refusal, stored, text_len};
+use crate::kept::{FileKey, Kept};
+use crate::listing::{Listing, View, next_listing, turn_to};
+use crate::presence::note;
+use crate::slot_tests::{done_from, first_free, is_done, job_of};
+use crate::{Asked, Finished, Job, Refused};
+use cq_base::{Change, Memory, Settings};
+use cq_shard::Indexed;
+use std::alloc::Global;
+use std::collections::BTreeSet;
+use std::marker::Model;
+use std::sync::Arc;
+
+/// The accepted changes and what became of them.
+#[derive(Drop)]
+pub struct Board<W: Indexed> {
+    settings: Settings,
+    slots: Vec<Kept<W>>,
+    there: BTreeSet<FileKey>,
+    text_bytes: u64,
+    ready: usize,
+    free: usize,
+    published: u64,
+    floor: u64,
+    views: Vec<Option<u64>>,
+    listing: Arc<Listing<W>, Global>,
+    events: u64,
+}
+
+impl<W: Indexed> Model for Board<W> {
+    ghost use Rattle.cq_board.specs.Stands.{BoardState};
+
+    ghost Value = { BoardState };
+
+    ghost use Rattle.std.specs.Arc.{arc_value};
+    ghost use Rattle.cq_board.specs.Boards.{BoardOk};
+    ghost use Rattle.cq_board.specs.Slots.{state_from};
+
+    ghost view = { λ b. record { settings = b.settings; state = state_from b.slots.items b.published b.floor b.views.items; events = b.events } };
+
+    ghost invariant = { λ b. BoardOk (W.IsWorkOf b.settings) b.settings b.slots.items b.there b.text_bytes b.ready b.free b.published (arc_value b.listing) };
+}
+
+impl<W: Indexed> Board<W> {
+    /// A board for so many callers, before any event. It takes memory for their views and for an empty listing.
+    pub fn new(alloc: Global, settings: &Settings, callers: u32) -> Result<Board<W>, Memory>
+        ensures stands { IfOk result (StandsFor []) }
+        ensures settings { IfOk result (λ b. b.settings ≡ settings.now) }
+        ensures callers { IfOk result (λ b. length b.state.views ≡ callers) }
+    {
+        let views = no_views(alloc, callers)?;
+        let listing = Arc::new(alloc, Listing::new(alloc))?;
+        Ok(Board {
+            settings: *settings,
+            slots: Vec::new(alloc),
+            there: BTreeSet::new(alloc),
+            text_bytes: 0,
+            ready: 0,
+            free: 0,
+            published: 0,
+            floor: 0,
+            views,
+            listing,
+            events: 0,
+        })
+    }
+
+    /// The job of a change, for anybody who helps; none where the change is done.
+    pub fn job(&self, change: u64) -> Result<Option<Job>, Memory>
+        requires { IsAccepted self.now.state change }
+        ensures none { IfOk result (λ job. IsNone job ↔ IsDone self.now.state change) }
+        ensures job { IfOk result (λ job. IfSome job (λ j. (j.change ≡ change) × IsJob self.now.state j)) }
+    {
+        let kept = &self.slots[change as usize - 1];
+        if is_done(kept) {
+            return Ok(None);
+        }
+        Ok(Some(job_of(change, &kept.change)?))
+    }
+
+    /// Whether a change is accepted and not done.
+    pub fn is_undone(&self, change: u64) -> bool
+        ensures { IsTrue result ↔ IsUndone self.now.state change }
+    {
+        if change == 0 || change > self.slots.len() as u64 {
+            return false;
+        }
+        !is_done(&self.slots[change as usize - 1])
+    }
+
+    /// The work of a done put, and None for any other number.
+    pub fn finished_work(&self, change: u64) -> Result<Option<Arc<W, Global>>, Memory>
+        ensures some { IfOk result (λ work. IsSome work ↔ IsDonePut self.now.state change) }
+        ensures work { IfOk result (λ work. IfSome work (λ w. IsWorkFor (W.IsWorkOf self.now.settings) (slot_of self.now.state change).change (arc_value w))) }
+    {
+        if change == 0 || change > self.slots.len() as u64 {
+            return Ok(None);
+        }
+        match &self.slots[change as usize - 1].work {
+            Some(work) => Ok(Some(Arc::try_clone(work)?)),
+            None => Ok(None),
+        }
+    }
+
+    /// Up to which change all are done.
+    pub fn ready(&self) -> u64
+        ensures { result ≡ ready self.now.state }
+    {
+        self.ready as u64
+    }
+
+    /// How many events there were, modulo 2^64.
+    pub fn events(&self) -> u64
+        ensures { result ≡ self.now.events }
+    {
+        self.events
+    }
+
+    /// The last published version.
+    pub fn published(&self) -> u64
+        ensures { result ≡ self.now.state.published }
+    {
+        self.published
+    }
+
+    /// The last floor.
+    pub fn floor(&self) -> u64
+        ensures { result ≡ self.now.state.floor }
+    {
+        self.floor
+    }
+
+    /// The greatest floor that there may be: the least of the last published version and each open view's. It looks at
+    /// each caller's view.
+    pub fn greatest_floor(&self) -> u64
+        ensures { result ≡ greatest_floor self.now.state }
+    {
+        least(self.published, &self.views)
+    }
+
+    /// Gives a taken change back, and answers whether this caller had it, undone.
+    pub fn back(&mut self, by: u32, change: u64) -> bool
+        ensures adds { OnTrue result (Adds (event.Back by change) self.old self.new) }
+        ensures taken { IsTrue result ↔ IsTakenBy self.old.state change by }
+        ensures unchanged { OnFalse result (self.new ≡ self.old) }
+    {
+        if change == 0 || change > self.slots.len() as u64 {
+            return false;
+        }
+        let i = change as usize - 1;
+        if is_done(&self.slots[i]) || self.slots[i].holder != Some(by) {
+            return false;
+        }
+        let kept = &mut self.slots[i];
+        kept.holder = None;
+        self.free = self.free.min(i);
+        self.events = self.events.wrapping_add(1);
+        true
+    }
+
+    /// Accepts a change, and answers its number, or the first cause against it. A refusal changes nothing.
+    pub fn accept(&mut self, alloc: Global, by: u32, change: Change) -> Result<u64, Refused>
+        requires { IsCaller self.old by }
+        ensures adds { OnOk result (Adds (event.Accept by change) self.old self.new) }
+        ensures number { IfOk result (λ number. number ≡ length self.new.state.slots) }
+        ensures cause { MatchResult result (λ _. refusal_of self.old.settings self.old.state change ≡ None) (λ e. (e ≡ Refused.Memory) ⊎ (refusal_of self.old.settings self.old.state change ≡ Some e)) }
+        ensures err { OnErr result (self.new ≡ self.old) }
+    {
+        let change = stored(alloc, change)?;
+        if let Some(cause) = refusal(
+            &self.settings,
+            &self.slots,
+            &self.there,
+            self.text_bytes,
+            &change,
+        ) {
+            return Err(cause);
+        }
+        let len = text_len(&change);
+        self.slots.reserve(1)?;
+        note(&mut self.there, &change)?;
+        self.slots.push(Kept {
+            change,
+            work: None,
+            holder: None,
+        })?;
+        self.text_bytes += len;
+        self.ready = done_from(&self.slots, self.ready);
+        self.events = self.events.wrapping_add(1);
+        Ok(self.slots.len() as u64)
+    }
+
+    /// What a caller sees of the changes. It takes no memory.
+    pub fn ask(&mut self, by: u32) -> Asked
+        requires { IsCaller self.old by }
+        ensures adds { Adds (event.Ask by) self.old self.new }
+        ensures same { self.new.state ≡ self.old.state }
+        ensures answer { result ≡ asked_of self.old.state }
+    {
+        self.events = self.events.wrapping_add(1);
+        let accepted = self.slots.len();
+        let done = self.ready;
+        let undone = if done < accepted {
+            Some(done as u64 + 1)
+        } else {
+            None
+        };
+        Asked {
+            accepted: accepted as u64,
+            done: done as u64,
+            undone,
+            published: self.published,
+        }
+    }
+
+    /// Gives the caller the first change that is neither done nor taken, if there is one.
+    pub fn take(&mut self, by: u32) -> Result<Option<Job>, Memory>
+        requires { IsCaller self.old by }
+        ensures taken { IfOk result (λ job. IfSome job (λ j. Adds (event.Took by j.change) self.old self.new)) }
+        ensures job { IfOk result (λ job. IfSome job (IsJob self.old.state)) }
+        ensures none { result ≡ Ok None → length self.old.state.slots < first_free self.old.state }
+        ensures unchanged { IfOk result (λ job. MatchOption job (self.new ≡ self.old) (λ _. IsAccepted self.old.state (first_free self.old.state))) }
+        ensures err { OnErr result (self.new ≡ self.old) }
+    {
+        let i = first_free(&self.slots, self.free);
+        self.free = i;
+        if i == self.slots.len() {
+            return Ok(None);
+        }
+        let kept = &mut self.slots[i];
+        let job = job_of(i as u64 + 1, &kept.change)?;
+        kept.holder = Some(by);
+        self.free = i + 1;
+        self.events = self.events.wrapping_add(1);
+        Ok(Some(job))
+    }
+
+    /// Publishes a version up to which all is done. Where memory is refused, nothing has changed. What it costs is said at
+    /// the head of the crate.
+    pub fn publish(&mut self, alloc: Global, version: u64) -> Result<(), Memory>
+        requires above { self.old.state.published < version }
+        requires done { version ≤ ready self.old.state }
+        ensures adds { OnOk result (Adds (event.Publish version) self.old self.new) }
+        ensures err { OnErr result (self.new ≡ self.old) }
+    {
+        let next = next_listing(
+            alloc,
+            &self.settings,
+            &self.slots,
+            &self.listing,
+            self.published,
+            version,
+        )?;
+        turn_to(alloc, &mut self.listing, next)?;
+        self.published = version;
+        self.events = self.events.wrapping_add(1);
+        Ok(())
+    }
+
+    /// Opens a view of the last published version.
+    pub fn open(&mut self, by: u32) -> Result<View<W>, Memory>
+        requires caller { IsCaller self.old by }
+        requires closed { view_of self.old.state by ≡ None }
+        ensures adds { IfOk result (λ view. Adds (event.Open by view.version) self.old self.new) }
+        ensures version { IfOk result (λ view. view.version ≡ self.old.state.published) }
+        ensures listing { IfOk result (λ view. IsListing (W.IsWorkOf self.old.settings) (take view.version (changes_in self.old.state)) (arc_value view.listing)) }
+        ensures err { OnErr result (self.new ≡ self.old) }
+    {
+        let listing = Arc::try_clone(&self.listing)?;
+        self.views[by as usize] = Some(self.published);
+        self.events = self.events.wrapping_add(1);
+        Ok(View {
+            version: self.published,
+            listing,
+        })
+    }
+
+    /// Shuts the caller's view. It takes no memory.
+    pub fn shut(&mut self, by: u32)
+        requires caller { IsCaller self.old by }
+        requires viewing { IsSome (view_of self.old.state by) }
+        ensures { Adds (event.Shut by) self.old self.new }
+    {
+        self.views[by as usize] = None;
+        self.events = self.events.wrapping_add(1);
+    }
+
+    /// Takes the work of a change, the first time. It takes no memory.
+    pub fn done(&mut self, by: u32, change: u64, work: Arc<W, Global>) -> Finished
+        requires caller { IsCaller self.old by }
+        requires accepted { IsAccepted self.old.state change }
+        requires work { IsWorkFor (W.IsWorkOf self.old.settings) (slot_of self.old.state change).change (arc_value work) }
+        ensures adds { result ≡ Finished.Done → Adds (event.Done by change) self.old self.new }
+        ensures already { (result ≡ Finished.Already) ↔ IsDone self.old.state change }
+        ensures unchanged { result ≡ Finished.Already → self.new ≡ self.old }
+    {
+        let i = change as usize - 1;
+        if is_done(&self.slots[i]) {
+            return Finished::Already;
+        }
+        let kept = &mut self.slots[i];
+        kept.work = Some(work);
+        self.ready = done_from(&self.slots, self.ready);
+        self.events = self.events.wrapping_add(1);
+        Finished::Done
+    }
+}
+
+// The least of a version and each open view's.
+fn least(version: u64, views: &[Option<u64>]) -> u64
+    ensures { result ≡ fold lower version views.now }
+{
+    let mut least = version;
+    for view in views {
+        if let Some(seen) = view {
+            least = least.min(*seen);
+        }
+    }
+    least
+}
+
+fn no_views(alloc: Global, callers: u32) -> Result<Vec<Option<u64>>, Memory>
+    ensures { IfOk result (λ views. views.items ≡ replicate callers None) }
+{
+    let mut views = Vec::with_capacity(alloc, callers as usize)?;
+    for _i in 0..callers {
+        views.push(None)?;
+    }
+    Ok(views)
+}

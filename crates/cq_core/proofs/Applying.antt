@@ -1,0 +1,113 @@
+-- A shard of a core that applies the next change.
+use Rattle.std.proofs.Common.{◌≡◌, ◌↔◌, ℕ, ◌+◌, ◌-◌, ◌<◌, ◌≤◌, Bool, true, false, not, ◌||◌, List, length, map, get_or, set, Option, Some, None, Global, refl, sym, ap, ◌∙◌, subst, ⊎_elim, arith, true≢false}
+use Rattle.std.specs.Prelude.{IfSome, IsSome, option_map, slice_index}
+use Rattle.std.specs.Arc.{arc_value}
+use Rattle.std.specs.declared.sync.Arc.{Arc}
+use Rattle.std.proofs.lemmas.Bool.{cases_eq}
+use Rattle.std.proofs.lemmas.Option.{slice_get-get_or}
+use Rattle.std.proofs.lemmas.List.{length-map, length-set, map-set, set-get_or, get_or-map, get_or-set_same, get_or-set_other}
+use Rattle.std.proofs.lemmas.List.Elements.{All-set}
+use Rattle.std.proofs.lemmas.List.Sums.{prefix_len-le-length, prefix_len_passes}
+use Rattle.cq_base.specs.declared.lang.Lang.{Lang}
+use Rattle.cq_base.specs.declared.change.Change.{Change}
+use Rattle.cq_base.specs.declared.change.Change.TheVariants.{Put, Drop, Gate}
+use Rattle.cq_history.specs.Changes.{change_at, is_put}
+use Rattle.cq_history.specs.State.{State, Slot, no_slot, slot_of, changes_in, ready, is_done, state as state_of}
+use Rattle.cq_history.specs.Core.{Core, stepped}
+use Rattle.cq_history.specs.Core.Step.{Applies}
+use Rattle.cq_history.proofs.Cores.{step_is_sound}
+use Rattle.cq_shard.specs.Shard as shard
+use Rattle.cq_shard.specs.Shard.{Contents}
+use Rattle.cq_board.specs.Answers.{IsDonePut}
+use Rattle.cq_board.specs.Slots as slots
+use Rattle.cq_board.specs.Stands as board
+use Rattle.cq_core.specs.Machine.{StandsFor, Takes, applied_of, floor_of}
+use Rattle.cq_core.proofs.Stepping.{core}
+
+-- ---- the work that is given
+
+or_false : (a b : Bool) → (not a || b) ≡ true → a ≡ true → b ≡ true
+or_false true b h e = h
+or_false false b h e = absurd (cc)
+
+module _ {W : Type 0} (IsWork : Lang → List ℕ → W → Type 0) where
+  given : (c : Change) (finished : Bool) (work : Option (Arc W Global)) → (not (is_put c) || finished) ≡ true → (IsSome work → (is_put c ≡ true) × (finished ≡ true)) → ((is_put c ≡ true) × (finished ≡ true) → IsSome work) →
+      IfSome work (λ w. slots.IsWorkFor IsWork c (arc_value w)) → shard.IsWorkFor IsWork (Some c) (option_map arc_value work)
+  given (Put project path lang text) finished (Some w) done some there is = is
+  given (Put project path lang text) finished None done some there is = absurd (true≢false (sym (there (refl, or_false true finished done refl))))
+  given (Drop project path) finished (Some w) done some there is = absurd (true≢false (sym (some refl).0))
+  given (Drop project path) finished None done some there is = tt
+  given (Gate project conditions) finished (Some w) done some there is = absurd (true≢false (sym (some refl).0))
+  given (Gate project conditions) finished None done some there is = tt
+
+  pub work_given : (s : State) (r : ℕ) (work : Option (Arc W Global)) → 0 < r → r ≤ ready s → IsSome work ↔ IsDonePut s r → IfSome work (λ w. slots.IsWorkFor IsWork (slot_of s r).change (arc_value w)) →
+      shard.IsWorkFor IsWork (change_at (changes_in s) r) (option_map arc_value work)
+  work_given s r work some le given_where is =
+      let few = prefix_len-le-length is_done s.slots in
+      let within : r - 1 < length s.slots = omega (arith, some, le, few) in
+      let same : length (changes_in s) ≡ length s.slots = length-map s.slots (λ (slot : Slot). slot.change) in
+      let here : change_at (changes_in s) r ≡ Some (slot_of s r).change =
+      slice_get-get_or (changes_in s) (r - 1) (slot_of s r).change (omega (arith, within, same)) ∙ ap Some (get_or-map (λ (slot : Slot). slot.change) s.slots (r - 1) no_slot (slot_of s r).change within) in
+      let done : is_done (slot_of s r) ≡ true = prefix_len_passes is_done s.slots (r - 1) no_slot (omega (arith, some, le)) in
+      subst (λ o. shard.IsWorkFor IsWork o (option_map arc_value work)) (sym here)
+      (given (slot_of s r).change (slot_of s r).finished work done
+      (λ h. let p = given_where.0 h in (p.1, p.2)) (λ h. given_where.1 ((some, omega (arith, some, le, few)), h.0, h.1)) is)
+
+-- ---- the shard
+
+-- one of the shards has applied the next change
+pub record HasApplied (IsWindow : Lang → List ℕ → ℕ → ℕ → Type 0) (b : board.BoardState) (shards : List Contents) (i : ℕ) (old new : Contents) : Type 0 where
+  pub within : i < length shards
+  pub read : old ≡ get_or shards i old
+  pub next : old.applied + 1 ≤ ready b.state
+  pub applied : new.applied ≡ old.applied + 1
+  pub number : new.shard ≡ old.shard
+  pub numbers : new.shards ≡ old.shards
+  pub floor : new.floor ≡ old.floor
+  pub stands : shard.StandsFor IsWindow (changes_in b.state) old → shard.StandsFor IsWindow (changes_in b.state) new
+
+module _ (IsWindow : Lang → List ℕ → ℕ → ℕ → Type 0) (b : board.BoardState) (shards : List Contents) (i : ℕ) (old new : Contents) (has : HasApplied IsWindow b shards i old new) where
+  applied_set : map applied_of (set shards i new) ≡ set (map applied_of shards) i (slice_index (map applied_of shards) i + 1)
+  applied_set = map-set applied_of shards i new ∙ ap (set (map applied_of shards) i) (has.applied ∙ ap (λ n. n + 1) (ap applied_of has.read ∙ sym (get_or-map applied_of shards i old 0 has.within)))
+
+  floors_set : map floor_of (set shards i new) ≡ map floor_of shards
+  floors_set = map-set floor_of shards i new ∙ ap (set (map floor_of shards) i) (has.floor ∙ ap floor_of has.read ∙ sym (get_or-map floor_of shards i old 0 has.within)) ∙ set-get_or (map floor_of shards) i 0
+
+  module _ (k : Core) (is : StandsFor IsWindow k (core b shards)) where
+    may : (i < length k.applied) × (slice_index k.applied i + 1 ≤ ready (state_of (length b.state.views) k.history))
+    may =
+        let here : slice_index k.applied i ≡ old.applied = ap (λ xs. slice_index xs i) (sym is.applied) ∙ get_or-map applied_of shards i old 0 has.within ∙ ap applied_of (sym has.read) in
+        let reach : ready b.state ≡ ready (state_of (length b.state.views) k.history) = ap ready is.past.is in
+        (omega (arith, has.within, ap length is.applied, length-map shards applied_of), omega (arith, has.next, here, reach))
+
+    pub stands_applied : StandsFor IsWindow (stepped k (Applies i)) (core b (set shards i new))
+    stands_applied = record {
+      past = is.past;
+      applied = applied_set ∙ ap (λ xs. set xs i (slice_index xs i + 1)) is.applied;
+      floors = floors_set ∙ is.floors;
+      sound = step_is_sound b.settings (length b.state.views) k (Applies i) is.sound may;
+      shards = All-set (shard.StandsFor IsWindow (changes_in b.state)) shards i new (has.stands (subst (shard.StandsFor IsWindow (changes_in b.state)) (sym has.read) (is.shards i old has.within))) is.shards;
+      numbered = record {
+        number_is = length-set shards i new ∙ is.numbered.number_is;
+        each = λ n d lt.
+            let there : n < length shards = omega (arith, lt, length-set shards i new) in
+            ⊎_elim
+            (λ (same : n ≡ i).
+            let here : get_or (set shards i new) n d ≡ new = ap (λ m. get_or (set shards i new) m d) same ∙ get_or-set_same shards i new d has.within in
+            let was = is.numbered.each i old has.within in
+            (ap (λ (c : Contents). c.shard) here ∙ has.number ∙ ap (λ (c : Contents). c.shard) has.read ∙ was.0 ∙ sym same, ap (λ (c : Contents). c.shards) here ∙ has.numbers ∙ ap (λ (c : Contents). c.shards) has.read ∙ was.1))
+            (λ other.
+            let here : get_or (set shards i new) n d ≡ get_or shards n d = get_or-set_other shards i n new d other in
+            let was = is.numbered.each n d there in
+            (ap (λ (c : Contents). c.shard) here ∙ was.0, ap (λ (c : Contents). c.shards) here ∙ was.1))
+            (cases_eq n i);
+        passed = All-set (λ (c : Contents). c.floor ≤ c.applied) shards i new
+            (let low = is.numbered.passed i old has.within in let f = ap floor_of has.read in let a = ap applied_of has.read in omega (arith, low, f, a, has.floor, has.applied)) is.numbered.passed;
+      };
+    }
+
+  pub takes_applied : Takes IsWindow (Applies i) (core b shards) (core b (set shards i new))
+  takes_applied = record {
+    may = λ k is. may k is;
+    core = λ k is. stands_applied k is;
+  }

@@ -1,0 +1,10 @@
+use Rattle.std.proofs.Common.{◌<◌, length, sym, subst}
+use Rattle.cq_core.specs.Machine.{CoreState}
+use Rattle.cq_core.specs.Views.{IsView}
+use Rattle.cq_core.proofs.Stepping.{view_at}
+use Rattle.cq_core.proofs.machine.Core.view.Goals as goal
+
+pub returns-in-Some-clause-listing : goal.returns-in-Some-clause-listing
+returns-in-Some-clause-listing g c =
+    subst (λ (x : CoreState). IsView (g.W.Indexed.IsWorkOf x.board.settings) x.board.state c.in-Some.view) c.self.view_is
+    (view_at (g.W.Indexed.IsWorkOf c.self.inside.board.settings) c.self.inside.board.state c.self.inside.views.items c.self.invariant.1 c.args.by c.index.result.now c.in-Some.view (subst (λ (x : CoreState). c.args.by < length x.board.state.views) (sym c.self.view_is) c.requires) c.index.ensures c.in-Some.is).0

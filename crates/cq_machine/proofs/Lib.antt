@@ -1,4 +1,0 @@
-pub mod Applying
-pub mod Fresh
-pub mod ReadEntries
-pub mod Stepping
