@@ -63,7 +63,7 @@ lists_decided X each (x ∷ xs) (y ∷ ys) =
     (λ other. inr (λ e. other (ap (λ zs. get_or zs 0 x) e)))
     (each x y)
 
-norm_from_fields : (a b : Norm) → a.lang ≡ b.lang → a.class ≡ b.class → a.text ≡ b.text → a ≡ b
+pub norm_from_fields : (a b : Norm) → a.lang ≡ b.lang → a.class ≡ b.class → a.text ≡ b.text → a ≡ b
 norm_from_fields a b lang class text =
     ap₂ (λ l c. let made : Norm = record { lang = l; class = c; text = a.text } in made) lang class
     ∙ ap (λ t. let made : Norm = record { lang = b.lang; class = b.class; text = t } in made) text

@@ -1,11 +1,9 @@
 -- Tokens that tie in their order.
-use Rattle.std.proofs.Common.{◌≡◌, ◌↔◌, true, List, ℕ, refl, ap, ◌∙◌, subst}
-use Rattle.std.specs.Ordering.{is_eq, nat_cmp, ordering_then, ordering_reverse}
-use Rattle.std.specs.declared.cmp.Ordering.{Ordering}
-use Rattle.std.specs.declared.cmp.Ordering.TheVariants.{Less, Equal, Greater}
+use Rattle.std.proofs.Common.{◌≡◌, ◌↔◌, true, refl, ap, ◌∙◌, subst}
+use Rattle.std.specs.Ordering.{is_eq, nat_cmp, ordering_then}
+use Rattle.std.specs.declared.cmp.Ordering.TheVariants.{Equal}
 use Rattle.std.specs.Cmp.{Equal-is}
 use Rattle.std.specs.Cmp.Lexicographic.{slice_cmp}
-use Rattle.std.proofs.lemmas.Cmp.{nat_list_cmp_total}
 use Rattle.std.proofs.lemmas.Map.Lookups.{exact_bytes}
 use Rattle.cq_base.specs.declared.lang.Lang.{Lang}
 use Rattle.cq_base.specs.declared.lang.Lang.TheVariants.{Any, Go, C, Java}
@@ -14,6 +12,8 @@ use Rattle.cq_base.specs.declared.token.Class.TheVariants.{Ident, Word, Literal,
 use Rattle.cq_base.specs.contracts.lang.LangOrd.TheImpl as lang_order
 use Rattle.cq_base.specs.contracts.token.ClassOrd.TheImpl as class_order
 use Rattle.cq_base.specs.declared.norm.Norm.{Norm}
+use Rattle.cq_base.proofs.Orderings.{then-parts, bytes-tie}
+use Rattle.cq_clones.proofs.Decided.{norm_from_fields}
 use Rattle.cq_tokens.specs.declared.seen.Seen.{Seen}
 use Rattle.cq_tokens.specs.Packed.{norm_in, seen_cmp}
 
@@ -65,34 +65,18 @@ class_ties Word = refl
 class_ties Literal = refl
 class_ties Punct = refl
 
-both_equal : (r s : Ordering) → ordering_then r s ≡ Equal → (r ≡ Equal) × (s ≡ Equal)
-both_equal Less s e = absurd (cc)
-both_equal Equal s e = (refl, e)
-both_equal Greater s e = absurd (cc)
-
-itself : (r : Ordering) → r ≡ ordering_reverse r → r ≡ Equal
-itself Less e = absurd (cc)
-itself Equal e = refl
-itself Greater e = absurd (cc)
-
-bytes_tie : (p : List ℕ) → slice_cmp nat_cmp p p ≡ Equal
-bytes_tie p = itself (slice_cmp nat_cmp p p) (nat_list_cmp_total.antisymm p p)
-
-same_norm : (a b : Norm) → a.lang ≡ b.lang → a.class ≡ b.class → a.text ≡ b.text → a ≡ b
-same_norm a b l c t = λ i. record { lang = l i; class = c i; text = t i }
-
 exact : (a b : Seen) → seen_cmp a b ≡ Equal → norm_in a ≡ norm_in b
 exact a b e =
-    let first = both_equal (lang_order.ghosts.cmp a.lang b.lang) (ordering_then (class_order.ghosts.cmp a.class b.class) (slice_cmp nat_cmp a.text.now b.text.now)) e in
-    let rest = both_equal (class_order.ghosts.cmp a.class b.class) (slice_cmp nat_cmp a.text.now b.text.now) first.1 in
-    same_norm (norm_in a) (norm_in b) (lang_exact a.lang b.lang first.0) (class_exact a.class b.class rest.0) (exact_bytes a.text.now b.text.now rest.1)
+    let first = then-parts (lang_order.ghosts.cmp a.lang b.lang) (ordering_then (class_order.ghosts.cmp a.class b.class) (slice_cmp nat_cmp a.text.now b.text.now)) e in
+    let rest = then-parts (class_order.ghosts.cmp a.class b.class) (slice_cmp nat_cmp a.text.now b.text.now) first.1 in
+    norm_from_fields (norm_in a) (norm_in b) (lang_exact a.lang b.lang first.0) (class_exact a.class b.class rest.0) (exact_bytes a.text.now b.text.now rest.1)
 
 ties : (a b : Seen) → norm_in a ≡ norm_in b → seen_cmp a b ≡ Equal
 ties a b e =
     subst (λ (n : Norm). ordering_then (lang_order.ghosts.cmp a.lang n.lang) (ordering_then (class_order.ghosts.cmp a.class n.class) (slice_cmp nat_cmp a.text.now n.text)) ≡ Equal) e
     (ap (λ r. ordering_then r (ordering_then (class_order.ghosts.cmp a.class a.class) (slice_cmp nat_cmp a.text.now a.text.now))) (lang_ties a.lang)
     ∙ ap (λ r. ordering_then r (slice_cmp nat_cmp a.text.now a.text.now)) (class_ties a.class)
-    ∙ bytes_tie a.text.now)
+    ∙ bytes-tie a.text.now)
 
 pub equal_tie : (a b : Seen) → (is_eq (seen_cmp a b) ≡ true) ↔ (norm_in a ≡ norm_in b)
 equal_tie a b = (λ e. exact a b ((Equal-is (seen_cmp a b)).0 e), λ e. (Equal-is (seen_cmp a b)).1 (ties a b e))

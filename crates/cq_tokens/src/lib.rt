@@ -1,14 +1,18 @@
-//! The tokens of a file, and what a listing takes of a file. `Tokens::at` is the only way to read a token, and each
-//! read is one step on a counter of the tokens' own ledger, so a caller's counter bounds what was read. A read costs
-//! a look into two lists and takes no memory. A file's tokens take 8 bytes each, and the bytes of their texts.
+//! The tokens of a file, and the files that are listed together: a `Corpus` is made where what every listing asks of its
+//! files holds, and keeps it. `Tokens::at` is the only way to read a token, and each read is one step on a counter of
+//! the tokens' own ledger, so a caller's counter bounds what was read. A read costs a look into two lists and takes no
+//! memory. A file's tokens take 8 bytes each, and the bytes of their texts.
 #![tactic(auto)]
 
+mod corpus;
 mod files;
 mod laws;
 mod packed;
+mod reading;
 mod seen;
 mod tokens;
 
+pub use corpus::Corpus;
 pub use files::FileTokens;
 pub use laws::equal_tokens_tie;
 pub use seen::Seen;
