@@ -6,7 +6,7 @@ use Rattle.cq_base.specs.declared.settings.Settings.{Settings}
 use Rattle.cq_history.specs.declared.event.Event.{Event}
 use Rattle.cq_history.specs.declared.event.Event.TheVariants.{Accept, Ask, Took, Back, Done, Publish, Open, Shut, Floor}
 use Rattle.cq_history.specs.State.{State, after, state as state_of}
-use Rattle.cq_history.specs.Lawful.{Allowed, Lawful}
+use Rattle.cq_history.specs.Lawful.{Allowed, IsByCaller, Permits, Lawful}
 use Rattle.cq_board.specs.Stands.{BoardState, Adds}
 use Rattle.cq_history.proofs.States.{state_push, Lawful_push}
 
@@ -40,7 +40,9 @@ Adds_step set s n e ok = record {
   callers = views_after s e;
 }
 
-pub Adds_from : (set : Settings) (s t : State) (n m : ℕ) (b c : BoardState) (e : Event) → record { settings = set; state = s; events = n } ≡ b → c ≡ record { settings = set; state = t; events = m } → m ≡ (n + 1) % 2 ^ 64 → t ≡ after s e → Allowed set s e → Adds e b c
-Adds_from set s t n m b c e old new count step ok =
+-- the same of a board as its callers see it, with an event by one of them or by nobody
+pub Adds_from : (set : Settings) (s t : State) (n m : ℕ) (b c : BoardState) (e : Event) → record { settings = set; state = s; events = n } ≡ b → c ≡ record { settings = set; state = t; events = m } → m ≡ (n + 1) % 2 ^ 64 → t ≡ after s e → IsByCaller b.state e → Permits set s e → Adds e b c
+Adds_from set s t n m b c e old new count step by ok =
     subst (λ x. Adds e x c) old
-    (subst (Adds e (record { settings = set; state = s; events = n })) (sym (new ∙ ap₂ (λ (u : State) (k : ℕ). let v : BoardState = record { settings = set; state = u; events = k } in v) step count)) (Adds_step set s n e ok))
+    (subst (Adds e (record { settings = set; state = s; events = n })) (sym (new ∙ ap₂ (λ (u : State) (k : ℕ). let v : BoardState = record { settings = set; state = u; events = k } in v) step count))
+    (Adds_step set s n e (subst (λ (x : BoardState). IsByCaller x.state e) (sym old) by, ok)))

@@ -14,7 +14,7 @@ use Rattle.std.proofs.lemmas.Bool.Decides.{nat_tests}
 use Rattle.cq_history.specs.declared.event.Event.TheVariants.{Accept}
 use Rattle.cq_history.specs.Changes.{text_len}
 use Rattle.cq_history.specs.State.{State, Slot, new_slot, after, is_done, is_free, text_bytes}
-use Rattle.cq_history.specs.Lawful.{Allowed, is_absent, is_full, is_long}
+use Rattle.cq_history.specs.Lawful.{Permits, is_absent, is_full, is_long}
 use Rattle.cq_history.proofs.Bounds.{prefix_len-append-le}
 use Rattle.cq_board.specs.declared.answers.Refused.TheVariants.{Absent, FullChanges, FullText}
 use Rattle.cq_board.specs.Listings.{Listed, IsListing}
@@ -33,7 +33,7 @@ no_cause false true c e = absurd (cc)
 no_cause false false true e = absurd (cc)
 no_cause false false false e = (refl, refl, refl)
 
-pub allowed_accept : (settings : Settings) (s : State) (by : ℕ) (change : Change) → refusal_of settings s change ≡ None → Allowed settings s (Accept by change)
+pub allowed_accept : (settings : Settings) (s : State) (by : ℕ) (change : Change) → refusal_of settings s change ≡ None → Permits settings s (Accept by change)
 allowed_accept settings s by change e = no_cause (is_absent s change) (is_full settings s) (is_long settings s change) e
 
 le-from-lt_false : (a b : ℕ) → nat_lt a b ≡ false → b ≤ a

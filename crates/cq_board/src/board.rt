@@ -148,12 +148,15 @@ impl<W: Indexed> Board<W> {
         least(self.published, &self.views)
     }
 
-    /// Gives a taken change back, and answers whether this caller had it, undone.
+    /// Gives a taken change back, and answers whether there is this caller and had it, undone.
     pub fn back(&mut self, by: u32, change: u64) -> bool
         ensures adds { OnTrue result (Adds (event.Back by change) self.old self.new) }
-        ensures taken { IsTrue result ↔ IsTakenBy self.old.state change by }
+        ensures taken { IsTrue result ↔ (IsCaller self.old by × IsTakenBy self.old.state change by) }
         ensures unchanged { OnFalse result (self.new ≡ self.old) }
     {
+        if by as usize >= self.views.len() {
+            return false;
+        }
         if change == 0 || change > self.slots.len() as u64 {
             return false;
         }

@@ -177,6 +177,7 @@ impl<W: Indexed> Core<W> {
     }
 
     fn back(&mut self, by: u32, change: u64) -> Outcome
+        requires caller { IsCaller self.old by }
         ensures outcome { IsOutcome {W = W} self.old self.new (step.Back by change) result }
         ensures steps { IsStepped (HasWindow W.keys_in W.IsWorkOf self.old.board.settings) (step_of {W = W} self.old (step.Back by change)) self.old self.new result }
     {

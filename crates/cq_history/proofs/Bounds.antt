@@ -72,11 +72,11 @@ in_order_after set s (Ask by) i ok = i
 in_order_after set s (Took by r) i ok = record { floor = i.floor; published = omega (arith, ready_after s (Took by r), i.published); views = i.views }
 in_order_after set s (Back by r) i ok = record { floor = i.floor; published = omega (arith, ready_after s (Back by r), i.published); views = i.views }
 in_order_after set s (Done by r) i ok = record { floor = i.floor; published = omega (arith, ready_after s (Done by r), i.published); views = i.views }
-in_order_after set s (Publish p) i ok = record { floor = omega (arith, i.floor, ok.0); published = ok.1; views = λ c v h. ((i.views c v h).0, omega (arith, (i.views c v h).1, ok.0)) }
+in_order_after set s (Publish p) i ok = record { floor = omega (arith, i.floor, ok.1.0); published = ok.1.1; views = λ c v h. ((i.views c v h).0, omega (arith, (i.views c v h).1, ok.1.0)) }
 in_order_after set s (Open by p) i ok = record {
   floor = i.floor;
   published = i.published;
-  views = λ c v h. ⊎_elim (λ (e : Some p ≡ Some v). let same : v ≡ s.published = cc (ok.0) in (omega (arith, i.floor, same), omega (arith, same))) (λ e. i.views c v e) (view-set_cases s.views by c v (Some p) h);
+  views = λ c v h. ⊎_elim (λ (e : Some p ≡ Some v). let same : v ≡ s.published = cc (ok.1.0) in (omega (arith, i.floor, same), omega (arith, same))) (λ e. i.views c v e) (view-set_cases s.views by c v (Some p) h);
 }
 in_order_after set s (Shut by) i ok = record {
   floor = i.floor;
@@ -84,9 +84,9 @@ in_order_after set s (Shut by) i ok = record {
   views = λ c v h. ⊎_elim (λ (e : None ≡ Some v). absurd (cc)) (λ e. i.views c v e) (view-set_cases s.views by c v None h);
 }
 in_order_after set s (Floor f) i ok = record {
-  floor = ok.1;
+  floor = ok.1.1;
   published = i.published;
-  views = λ c v h. (open_below s.views f c v ok.2 h, (i.views c v h).1);
+  views = λ c v h. (open_below s.views f c v ok.1.2 h, (i.views c v h).1);
 }
 
 no_view : (n c : ℕ) → get_or (replicate n (let none : Option ℕ = None in none)) c None ≡ None

@@ -36,7 +36,7 @@ floor_after set s (Done by r) ok = omega arith
 floor_after set s (Publish p) ok = omega arith
 floor_after set s (Open by p) ok = omega arith
 floor_after set s (Shut by) ok = omega arith
-floor_after set s (Floor f) ok = omega (arith, ok.0)
+floor_after set s (Floor f) ok = omega (arith, ok.1.0)
 
 pub step_is_sound : (set : Settings) (callers : ℕ) (k : Core) (step : Step) → IsSound set callers k → MayStep set callers k step → IsSound set callers (stepped k step)
 step_is_sound set callers k (Adds e) is may =

@@ -43,9 +43,9 @@ kept_holder s t r = go (r == t) refl
 holder_step : (set : Settings) (s : State) (e : Event) (r : ℕ) → Allowed set s e → 0 < r → (slot_of (after s e) r).holder ≡ holder_after r (slot_of s r).holder e
 holder_step set s (Accept by change) r ok some = appended s.slots (r - 1) change
 holder_step set s (Ask by) r ok some = refl
-holder_step set s (Took by t) r ok some = set_holder s.slots t r _ some ok.1.0 ok.1.1
-holder_step set s (Back by t) r ok some = set_holder s.slots t r _ some ok.0.0.0 ok.0.0.1
-holder_step set s (Done by t) r ok some = set_holder s.slots t r _ some ok.0.0 ok.0.1 ∙ kept_holder s t r
+holder_step set s (Took by t) r ok some = set_holder s.slots t r _ some ok.1.1.0 ok.1.1.1
+holder_step set s (Back by t) r ok some = set_holder s.slots t r _ some ok.1.0.0.0 ok.1.0.0.1
+holder_step set s (Done by t) r ok some = set_holder s.slots t r _ some ok.1.0.0 ok.1.0.1 ∙ kept_holder s t r
 holder_step set s (Publish p) r ok some = refl
 holder_step set s (Open by p) r ok some = refl
 holder_step set s (Shut by) r ok some = refl

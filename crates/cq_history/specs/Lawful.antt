@@ -6,7 +6,7 @@ use Rattle.cq_base.specs.declared.change.Change.TheVariants.{Put, Drop, Gate}
 use Rattle.cq_history.specs.declared.event.Event.{Event}
 use Rattle.cq_history.specs.declared.event.Event.TheVariants.{Accept, Ask, Took, Back, Done, Publish, Open, Shut, Floor}
 use Rattle.cq_history.specs.Files.{files_of, has_file}
-use Rattle.cq_history.specs.State.{State, start, after, changes_in, text_bytes, IsAccepted, IsUndone, IsTakenBy, ready, first_free, view_of}
+use Rattle.cq_history.specs.State.{State, maker, start, after, changes_in, text_bytes, IsAccepted, IsUndone, IsTakenBy, ready, first_free, view_of}
 
 -- a drop of a path whose last put or drop is no put
 abbrev pub is_absent : State → Change → Bool
@@ -28,16 +28,24 @@ is_long set s (Gate project conditions) = false
 abbrev pub IsBelow : ℕ → Option ℕ → Type 0
 IsBelow f view = IfSome view (λ p. f ≤ p)
 
+-- the event is that of a caller that there is, or nobody's
+abbrev pub IsByCaller : State → Event → Type 0
+IsByCaller s e = IfSome (maker e) (λ by. by < length s.views)
+
+-- what the state lets happen, whoever does it
+abbrev pub Permits : Settings → State → Event → Type 0
+Permits set s (Accept by change) = (is_absent s change ≡ false) × (is_full set s ≡ false) × (is_long set s change ≡ false)
+Permits set s (Ask by) = Unit {0}
+Permits set s (Took by r) = (r ≡ first_free s) × IsAccepted s r
+Permits set s (Back by r) = IsTakenBy s r by
+Permits set s (Done by r) = IsUndone s r
+Permits set s (Publish p) = (s.published < p) × (p ≤ ready s)
+Permits set s (Open by p) = (p ≡ s.published) × (view_of s by ≡ None)
+Permits set s (Shut by) = IsSome (view_of s by)
+Permits set s (Floor f) = (s.floor < f) × (f ≤ s.published) × All (IsBelow f) s.views
+
 abbrev pub Allowed : Settings → State → Event → Type 0
-Allowed set s (Accept by change) = (is_absent s change ≡ false) × (is_full set s ≡ false) × (is_long set s change ≡ false)
-Allowed set s (Ask by) = Unit {0}
-Allowed set s (Took by r) = (r ≡ first_free s) × IsAccepted s r
-Allowed set s (Back by r) = IsTakenBy s r by
-Allowed set s (Done by r) = IsUndone s r
-Allowed set s (Publish p) = (s.published < p) × (p ≤ ready s)
-Allowed set s (Open by p) = (p ≡ s.published) × (view_of s by ≡ None)
-Allowed set s (Shut by) = IsSome (view_of s by)
-Allowed set s (Floor f) = (s.floor < f) × (f ≤ s.published) × All (IsBelow f) s.views
+Allowed set s e = IsByCaller s e × Permits set s e
 
 -- each event is allowed in the state just before it
 abbrev pub LawfulFrom : Settings → State → List Event → Type 0

@@ -9,14 +9,14 @@ closed = All-cons (IsBelow 2) None (None ∷ []) tt (All-cons (IsBelow 2) None [
 
 pub returns : goal.returns
 returns c = record {
-  lawful = ((refl, refl, refl), (((omega arith, omega arith), refl), ((omega arith, omega arith), ((refl, refl, refl), (((omega arith, omega arith), refl), ((refl, refl), ((omega arith, omega arith), tt)))))));
+  lawful = ((omega arith, (refl, refl, refl)), ((omega arith, ((omega arith, omega arith), refl)), ((tt, (omega arith, omega arith)), ((omega arith, (refl, refl, refl)), ((omega arith, ((omega arith, omega arith), refl)), ((omega arith, (refl, refl)), ((tt, (omega arith, omega arith)), tt)))))));
   ready_is = refl;
   published = refl;
   view = refl;
-  floor_waits = λ allowed. let low : 2 ≤ 1 = allowed.2 1 None (omega arith) in omega (arith, low);
+  floor_waits = λ allowed. let low : 2 ≤ 1 = allowed.1.2 1 None (omega arith) in omega (arith, low);
   first_files = refl;
   second_files = refl;
-  goes_on = ((refl, refl, refl), (((omega arith, omega arith), refl), ((omega arith, omega arith), ((refl, refl, refl), (((omega arith, omega arith), refl), ((refl, refl), ((omega arith, omega arith), (refl, ((omega arith, omega arith, closed), ((refl, refl), tt))))))))));
+  goes_on = ((omega arith, (refl, refl, refl)), ((omega arith, ((omega arith, omega arith), refl)), ((tt, (omega arith, omega arith)), ((omega arith, (refl, refl, refl)), ((omega arith, ((omega arith, omega arith), refl)), ((omega arith, (refl, refl)), ((tt, (omega arith, omega arith)), ((omega arith, refl), ((tt, (omega arith, omega arith, closed)), ((omega arith, (refl, refl)), tt))))))))));
   floor = refl;
   view_then = refl;
 }

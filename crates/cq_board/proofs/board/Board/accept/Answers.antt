@@ -44,4 +44,4 @@ returns-clause-adds g c =
     c.args.self.now _ (event.Accept c.args.by c.args.change) c.self.view_is refl refl
     (ap (λ (xs : List (Kept g.row.W.Denot)). state_from xs c.self.inside.published c.self.inside.floor c.self.inside.views.items) items
     ∙ accepted_state slots c.self.inside.published c.self.inside.floor c.self.inside.views.items k c.args.by c.args.change c.in_ok-change.ensures refl refl)
-    (allowed_accept c.self.inside.settings (state_from slots c.self.inside.published c.self.inside.floor c.self.inside.views.items) c.args.by c.args.change allowed_change)
+    c.requires (allowed_accept c.self.inside.settings (state_from slots c.self.inside.published c.self.inside.floor c.self.inside.views.items) c.args.by c.args.change allowed_change)

@@ -54,4 +54,4 @@ returns-clause-adds g c _ =
     let here : slot_of S c.args.change ≡ slot_from c.index.result.now = slot_read c.self.inside.slots.items (c.args.change - 1) c.index.result.now within c.index.ensures in
     Adds_from c.self.inside.settings S _ c.self.inside.events _ c.args.self.now _ (event.Done c.args.by c.args.change) c.self.view_is refl refl
     (done_state c.self.inside.slots.items c.self.inside.published c.self.inside.floor c.self.inside.views.items (c.args.change - 1) c.args.by c.args.change c.index_mut-kept.result.now c.args.work within c.index_mut-kept.ensures.value (omega (arith, accepted.0)))
-    (accepted, ap is_done here ∙ sym c.is_done.ensures ∙ c.if-is_done.false)
+    c.requires.caller (accepted, ap is_done here ∙ sym c.is_done.ensures ∙ c.if-is_done.false)

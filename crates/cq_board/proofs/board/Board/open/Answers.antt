@@ -8,5 +8,5 @@ use Rattle.cq_board.proofs.board.Board.open.Goals as goal
 
 pub returns-clause-adds : goal.returns-clause-adds
 returns-clause-adds g c =
-    Adds_from c.self.inside.settings (state_from c.self.inside.slots.items c.self.inside.published c.self.inside.floor c.self.inside.views.items) _ c.self.inside.events _ c.args.self.now _ (event.Open c.args.by c.self.inside.published) c.self.view_is refl refl refl
+    Adds_from c.self.inside.settings (state_from c.self.inside.slots.items c.self.inside.published c.self.inside.floor c.self.inside.views.items) _ c.self.inside.events _ c.args.self.now _ (event.Open c.args.by c.self.inside.published) c.self.view_is refl refl refl c.requires.caller
     (refl, ap (λ (b : BoardState). view_of b.state c.args.by) c.self.view_is ∙ c.requires.closed)

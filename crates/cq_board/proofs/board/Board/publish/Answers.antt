@@ -16,7 +16,7 @@ use Rattle.cq_board.proofs.board.Board.publish.Goals as goal
 pub returns-clause-adds : goal.returns-clause-adds
 returns-clause-adds g c =
     let P : BoardState → Type 0 = λ b. (b.state.published < c.args.version) × (c.args.version ≤ ready b.state) in
-    Adds_from c.self.inside.settings (state_from c.self.inside.slots.items c.self.inside.published c.self.inside.floor c.self.inside.views.items) _ c.self.inside.events _ c.args.self.now _ (event.Publish c.args.version) c.self.view_is refl refl refl
+    Adds_from c.self.inside.settings (state_from c.self.inside.slots.items c.self.inside.published c.self.inside.floor c.self.inside.views.items) _ c.self.inside.events _ c.args.self.now _ (event.Publish c.args.version) c.self.view_is refl refl refl tt
     (subst P (sym c.self.view_is) (c.requires.above, c.requires.done))
 
 pub turn_to-requires-clause-names : goal.turn_to-requires-clause-names

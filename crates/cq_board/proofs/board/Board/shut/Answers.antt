@@ -10,5 +10,5 @@ use Rattle.cq_board.proofs.board.Board.shut.Goals as goal
 pub returns : goal.returns
 returns g c =
     let P : BoardState → Type 0 = λ b. IsSome (view_of b.state c.args.by) in
-    Adds_from c.self.inside.settings (state_from c.self.inside.slots.items c.self.inside.published c.self.inside.floor c.self.inside.views.items) _ c.self.inside.events _ c.args.self.now _ (event.Shut c.args.by) c.self.view_is refl refl refl
+    Adds_from c.self.inside.settings (state_from c.self.inside.slots.items c.self.inside.published c.self.inside.floor c.self.inside.views.items) _ c.self.inside.events _ c.args.self.now _ (event.Shut c.args.by) c.self.view_is refl refl refl c.requires.caller
     (subst P (sym c.self.view_is) c.requires.viewing)

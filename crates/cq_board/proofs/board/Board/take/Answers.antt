@@ -58,7 +58,7 @@ returns-clause-taken g c =
     let first = c.first_free-i.ensures.first ∙ ap (λ xs. position_or_len is_free (map (slot_from {W = g.row.W.Denot}) xs)) c.deref.ensures.value in
     Adds_from c.self.inside.settings (state_from c.self.inside.slots.items c.self.inside.published c.self.inside.floor c.self.inside.views.items) _ c.self.inside.events _ c.args.self.now _ (event.Took c.args.by c.in_ok-job.job.change) c.self.view_is refl refl
     (took_state c.self.inside.slots.items c.self.inside.published c.self.inside.floor c.self.inside.views.items c.first_free-i.result c.args.by c.in_ok-job.job.change c.index_mut-kept.result.now within c.index_mut-kept.ensures.value c.in_ok-job.ensures.number)
-    (is_next c.self.inside.slots.items c.self.inside.published c.self.inside.floor c.self.inside.views.items c.first_free-i.result c.in_ok-job.job.change first within c.in_ok-job.ensures.number)
+    c.requires (is_next c.self.inside.slots.items c.self.inside.published c.self.inside.floor c.self.inside.views.items c.first_free-i.result c.in_ok-job.job.change first within c.in_ok-job.ensures.number)
 
 pub returns-clause-unchanged : goal.returns-clause-unchanged
 returns-clause-unchanged g c =

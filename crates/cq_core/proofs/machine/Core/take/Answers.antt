@@ -24,7 +24,7 @@ returns-clause-outcome g c =
     elim c.match-branch-2.branch [
       | in-Some w ↦ rw w.result-is
           (subst (λ (x : CoreState). Done-if (IsAccepted x.board.state (first_free x.board.state)) (outcome.Value (first_free x.board.state)) outcome.NoJob (outcome.Value w.in-Some.job.change)) c.self.view_is
-          (inl ((subst (λ o. MatchOption o (c.take.new.self ≡ c.self.inside.board) (λ _. IsAccepted c.self.inside.board.state (first_free c.self.inside.board.state))) w.in-Some.is c.in_ok-job.ensures.unchanged), ap outcome.Value (allowed_of (HasWindow g.W.Indexed.keys_in g.W.Indexed.IsWorkOf) c.it_stands_on.ensures g.W.Indexed.IsWorkOf c.self.inside.board c.take.new.self c.self.inside.shards.items c.self.inside.views.items c.self.invariant (event.Took c.args.by w.in-Some.job.change) (subst (λ o. IfSome o (λ (j : Job). board.Adds (event.Took c.args.by j.change) c.self.inside.board c.take.new.self)) w.in-Some.is c.in_ok-job.ensures.taken)).0)))
+          (inl ((subst (λ o. MatchOption o (c.take.new.self ≡ c.self.inside.board) (λ _. IsAccepted c.self.inside.board.state (first_free c.self.inside.board.state))) w.in-Some.is c.in_ok-job.ensures.unchanged), ap outcome.Value (allowed_of (HasWindow g.W.Indexed.keys_in g.W.Indexed.IsWorkOf) c.it_stands_on.ensures g.W.Indexed.IsWorkOf c.self.inside.board c.take.new.self c.self.inside.shards.items c.self.inside.views.items c.self.invariant (event.Took c.args.by w.in-Some.job.change) (subst (λ o. IfSome o (λ (j : Job). board.Adds (event.Took c.args.by j.change) c.self.inside.board c.take.new.self)) w.in-Some.is c.in_ok-job.ensures.taken)).1.0)))
       | in-None w ↦ rw w.result-is
           (subst (λ (x : CoreState). Done-if (IsAccepted x.board.state (first_free x.board.state)) (outcome.Value (first_free x.board.state)) outcome.NoJob outcome.NoJob) c.self.view_is
           (inr (λ accepted. let past = c.take.ensures.none (c.in_ok-job.was ∙ ap Ok w.in-None.is) in omega (arith, accepted.1, past), refl)))
@@ -35,7 +35,7 @@ returns-clause-steps g c =
     elim c.match-branch-2.branch [
       | in-Some w ↦ rw w.result-is
           (subst (λ (x : CoreState). IsStepped (HasWindow g.W.Indexed.keys_in g.W.Indexed.IsWorkOf x.board.settings) (Adds (event.Took c.args.by (first_free x.board.state))) x (core c.take.new.self c.self.inside.shards.items) (outcome.Value w.in-Some.job.change)) c.self.view_is
-          (subst (λ r. IsStepped (HasWindow g.W.Indexed.keys_in g.W.Indexed.IsWorkOf c.self.inside.board.settings) (Adds (event.Took c.args.by r)) (core c.self.inside.board c.self.inside.shards.items) (core c.take.new.self c.self.inside.shards.items) (outcome.Value w.in-Some.job.change)) (allowed_of (HasWindow g.W.Indexed.keys_in g.W.Indexed.IsWorkOf) c.it_stands_on.ensures g.W.Indexed.IsWorkOf c.self.inside.board c.take.new.self c.self.inside.shards.items c.self.inside.views.items c.self.invariant (event.Took c.args.by w.in-Some.job.change) (subst (λ o. IfSome o (λ (j : Job). board.Adds (event.Took c.args.by j.change) c.self.inside.board c.take.new.self)) w.in-Some.is c.in_ok-job.ensures.taken)).0
+          (subst (λ r. IsStepped (HasWindow g.W.Indexed.keys_in g.W.Indexed.IsWorkOf c.self.inside.board.settings) (Adds (event.Took c.args.by r)) (core c.self.inside.board c.self.inside.shards.items) (core c.take.new.self c.self.inside.shards.items) (outcome.Value w.in-Some.job.change)) (allowed_of (HasWindow g.W.Indexed.keys_in g.W.Indexed.IsWorkOf) c.it_stands_on.ensures g.W.Indexed.IsWorkOf c.self.inside.board c.take.new.self c.self.inside.shards.items c.self.inside.views.items c.self.invariant (event.Took c.args.by w.in-Some.job.change) (subst (λ o. IfSome o (λ (j : Job). board.Adds (event.Took c.args.by j.change) c.self.inside.board c.take.new.self)) w.in-Some.is c.in_ok-job.ensures.taken)).1.0
           (steps_on (HasWindow g.W.Indexed.keys_in g.W.Indexed.IsWorkOf) c.it_stands_on.ensures g.W.Indexed.IsWorkOf c.self.inside.board c.take.new.self c.self.inside.shards.items c.self.inside.views.items c.self.invariant (event.Took c.args.by w.in-Some.job.change) (subst (λ o. IfSome o (λ (j : Job). board.Adds (event.Took c.args.by j.change) c.self.inside.board c.take.new.self)) w.in-Some.is c.in_ok-job.ensures.taken) (λ k is. tt) (outcome.Value w.in-Some.job.change) tt)))
       | in-None w ↦ rw w.result-is
           (subst (λ (x : CoreState). IsStepped (HasWindow g.W.Indexed.keys_in g.W.Indexed.IsWorkOf x.board.settings) (Adds (event.Took c.args.by (first_free x.board.state))) x (core c.take.new.self c.self.inside.shards.items) outcome.NoJob) c.self.view_is
