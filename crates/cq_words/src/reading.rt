@@ -1,5 +1,6 @@
 ghost use Rattle.std.specs.Prelude.{◌≡◌, ◌≤◌, IfOk, IfSome, codes, option_and_then, option_map};
 ghost use Rattle.clap.specs.Words.{first_of, found_of, rows_of};
+ghost use Rattle.cq_base.specs.Settings.{IsInRange};
 ghost use Rattle.cq_words.specs.Asked as spec;
 ghost use Rattle.std.specs.Str.{bytes_eq};
 ghost use Rattle.cq_words.specs.Grammar.{items_of};
@@ -35,6 +36,7 @@ fn number(text: Option<&str>, low: u32, high: u32, otherwise: u32) -> Option<u32
     requires above { low ≤ otherwise }
     ensures value { result ≡ spec.text_number low high otherwise (option_map (λ s. s.now) text.entry) }
     ensures above { IfSome result (λ n. low ≤ n) }
+    ensures within { IfSome result (λ n. n ≤ high) }
 {
     let number = wide_number(text, low as u64, high as u64, otherwise as u64)?;
     Some(number as u32)
@@ -51,7 +53,7 @@ fn is_true(text: Option<&str>) -> bool
 
 fn run_read(matches: &ArgMatches) -> Option<Run>
     ensures run { result ≡ spec.run_read (rows_of (found_of matches.now)) }
-    ensures window { IfSome result (λ run. 1 ≤ run.settings.chunk) }
+    ensures in_range { IfSome result (λ run. IsInRange run.settings) }
 {
     let chunk = number(text_of(matches, "chunk"), 1, 1_000, 20)?;
     let shards = number(text_of(matches, "shards"), 1, 64, 16)?;
@@ -83,7 +85,7 @@ fn run_read(matches: &ArgMatches) -> Option<Run>
 /// What the words after `run` give.
 fn run_after(alloc: Global, words: &[Text]) -> Result<Option<Run>, Memory>
     ensures run { IfOk result (λ r. r ≡ option_and_then run_from (items_of run_row words.now)) }
-    ensures window { IfOk result (λ r. IfSome r (λ run. 1 ≤ run.settings.chunk)) }
+    ensures in_range { IfOk result (λ r. IfSome r (λ run. IsInRange run.settings)) }
 {
     let Some(texts) = texts_of(alloc, words)? else {
         return Ok(None);
@@ -104,7 +106,7 @@ fn is_run(word: &Text) -> bool
 /// What the words give where they are words of `run` in form, and None exactly where they are not.
 pub fn read_run(alloc: Global, words: &[Text]) -> Result<Option<Run>, Memory>
     ensures run { IfOk result (λ r. r ≡ run_of words.now) }
-    ensures window { IfOk result (λ r. IfSome r (λ run. 1 ≤ run.settings.chunk)) }
+    ensures in_range { IfOk result (λ r. IfSome r (λ run. IsInRange run.settings)) }
 {
     let [command, rest @ ..] = words else {
         return Ok(None);
