@@ -1,61 +1,18 @@
 -- The entries that a change brings, and those that a bucket asks for.
 use Rattle.std.proofs.Common.{◌≡◌, ◌⊎◌, ℕ, zero, suc, ◌+◌, ◌-◌, ◌≤◌, ◌%◌, ◌==◌, ◌&&◌, ◌||◌, nat_eq, Bool, true, false, cond, Option, Some, None, List, [], ◌∷◌, ◌++◌, filter, get_or, refl, sym, ◌∙◌, ap, ap₂, subst, subst₂, inl, inr, ⊎_elim, arith}
-use Rattle.std.specs.Prelude.{AllPairs, All, Contains, slice_get}
-use Rattle.std.proofs.lemmas.List.Elements.{Contains-get_or, Contains-append_left, Contains-append_right, Contains-append_cases, All-append}
-use Rattle.std.proofs.lemmas.List.Kept.{AllPairs-cons, AllPairs-filter}
-use Rattle.std.proofs.lemmas.Bool.{eqb-true, eq-eqb, false≢true}
+use Rattle.std.specs.Prelude.{AllPairs, Contains, slice_get}
+use Rattle.std.proofs.lemmas.List.Elements.{Contains-append_left, Contains-append_right, Contains-append_cases}
+use Rattle.std.proofs.lemmas.List.Kept.{AllPairs-filter}
+use Rattle.std.proofs.lemmas.Bool.{and_parts, eqb-true, eq-eqb, false≢true, or_right}
 use Rattle.std.specs.Cmp.Derive.{both_true}
 use Rattle.std.specs.List.{list_any}
 use Rattle.std.proofs.lemmas.Option.{none-some}
 use Rattle.std.proofs.lemmas.Map.Views.{Contains-from_any}
 use Rattle.cq_base.specs.declared.entry.Entry.{Entry}
-use Rattle.cq_base.proofs.Lists.{Contains-here, Contains-there, Contains-cases, Contains-nil, AllPairs-head, AllPairs-tail}
+use Rattle.cq_base.proofs.Lists.{Contains-here, Contains-cases, Contains-nil, Contains-filter, Contains-from_filter, AllPairs-nil, AllPairs-append, AllPairs-weaker}
 use Rattle.cq_clones.specs.Lists.{AreAllInOrder}
 use Rattle.cq_clones.specs.Windows.{EntryBefore}
 use Rattle.cq_shard.specs.Shard.{entries_of, is_asked}
-
--- ---- lists
-
-pairs_none : {X : Type 0} (R : X → X → Type 0) → AllPairs R []
-pairs_none R i j d lt within = absurd (omega (arith, within))
-
-pub all_from : {X : Type 0} (P : X → Type 0) (xs : List X) → ((x : X) → Contains xs x → P x) → All P xs
-all_from P xs each k d within = each (get_or xs k d) (Contains-get_or xs k d within)
-
-pub pairs_append : {X : Type 0} (R : X → X → Type 0) (xs ys : List X) → AllPairs R xs → AllPairs R ys → ((x y : X) → Contains xs x → Contains ys y → R x y) → AllPairs R (xs ++ ys)
-pairs_append R [] ys first later across = later
-pairs_append R (x ∷ xs) ys first later across =
-    AllPairs-cons R x (xs ++ ys)
-    (All-append (R x) xs ys (all_from (R x) xs (λ z c. AllPairs-head R x z xs first c)) (all_from (R x) ys (λ z c. across x z (Contains-here x xs) c)))
-    (pairs_append R xs ys (AllPairs-tail R x xs first) later (λ a b c d. across a b (Contains-there x a xs c) d))
-
-kept_cases : {X : Type 0} (p : X → Bool) (b : Bool) (x z : X) (xs : List X) → p x ≡ b → Contains (cond b (x ∷ xs) xs) z → ((x ≡ z) × (p z ≡ true)) ⊎ Contains xs z
-kept_cases p true x z xs is c = ⊎_elim (λ e. inl (e, subst (λ y. p y ≡ true) e is)) (λ later. inr later) (Contains-cases x z xs c)
-kept_cases p false x z xs is c = inr c
-
-kept_later : {X : Type 0} (b : Bool) (x z : X) (xs : List X) → Contains xs z → Contains (cond b (x ∷ xs) xs) z
-kept_later true x z xs c = Contains-there x z xs c
-kept_later false x z xs c = c
-
-kept_here : {X : Type 0} (b : Bool) (x : X) (xs : List X) → b ≡ true → Contains (cond b (x ∷ xs) xs) x
-kept_here true x xs is = Contains-here x xs
-kept_here false x xs is = absurd (false≢true is)
-
-pub from_filter : {X : Type 0} (p : X → Bool) (xs : List X) (z : X) → Contains (filter p xs) z → Contains xs z × (p z ≡ true)
-from_filter p [] z c = absurd (Contains-nil z c)
-from_filter p (x ∷ xs) z c =
-    ⊎_elim
-    (λ h. (subst (Contains (x ∷ xs)) h.0 (Contains-here x xs), h.1))
-    (λ later. let found = from_filter p xs z later in (Contains-there x z xs found.0, found.1))
-    (kept_cases p (p x) x z (filter p xs) refl c)
-
-pub to_filter : {X : Type 0} (p : X → Bool) (xs : List X) (z : X) → Contains xs z → p z ≡ true → Contains (filter p xs) z
-to_filter p [] z c is = absurd (Contains-nil z c)
-to_filter p (x ∷ xs) z c is =
-    ⊎_elim
-    (λ h. subst (Contains (cond (p x) (x ∷ filter p xs) (filter p xs))) h (kept_here (p x) x (filter p xs) (ap p h ∙ is)))
-    (λ later. kept_later (p x) x z (filter p xs) (to_filter p xs z later is))
-    (Contains-cases x z xs c)
 
 -- ---- the entries that a change brings
 
@@ -97,6 +54,10 @@ from_entries number shard shards at (key ∷ keys) e c =
     (λ h. later_brought number shard shards at key keys e (from_entries number shard shards (at + 1) keys e h))
     (Contains-append_cases (cond (key % shards == shard) (x ∷ []) []) (entries_of number shard shards (at + 1) keys) e c)
 
+one_there : (b : Bool) (x : Entry) → b ≡ true → Contains (cond b (x ∷ []) []) x
+one_there true x is = Contains-here x []
+one_there false x is = absurd (false≢true is)
+
 abbrev key_in : Option ℕ → ℕ
 key_in None = 0
 key_in (Some key) = key
@@ -110,7 +71,7 @@ entry_at number shard shards at zero key (k ∷ keys) is mine =
     let place : at ≡ at + 0 = omega arith in
     let xy : x ≡ y = ap₂ (λ (j a : ℕ). let z : Entry = record { key = j; change = number; at = a } in z) same place in
     Contains-append_left (cond (k % shards == shard) (x ∷ []) []) (entries_of number shard shards (at + 1) keys) y
-    (subst (Contains (cond (k % shards == shard) (x ∷ []) [])) xy (kept_here (k % shards == shard) x [] (eq-eqb (k % shards) shard (subst (λ j. j % shards ≡ shard) (sym same) mine))))
+    (subst (Contains (cond (k % shards == shard) (x ∷ []) [])) xy (one_there (k % shards == shard) x (eq-eqb (k % shards) shard (subst (λ j. j % shards ≡ shard) (sym same) mine))))
 entry_at number shard shards at (suc n) key (k ∷ keys) is mine =
     let x : Entry = record { key = k; change = number; at = at } in
     let y : Entry = record { key = key; change = number; at = at + suc n } in
@@ -127,10 +88,10 @@ one_alone true x i j d lt within = absurd (omega (arith, lt, within))
 one_alone false x i j d lt within = absurd (omega (arith, lt, within))
 
 pub entries_ordered : (number shard shards at : ℕ) (keys : List ℕ) → AllPairs EntryBefore (entries_of number shard shards at keys)
-entries_ordered number shard shards at [] = pairs_none EntryBefore
+entries_ordered number shard shards at [] = AllPairs-nil EntryBefore
 entries_ordered number shard shards at (key ∷ keys) =
     let x : Entry = record { key = key; change = number; at = at } in
-    pairs_append EntryBefore (cond (key % shards == shard) (x ∷ []) []) (entries_of number shard shards (at + 1) keys)
+    AllPairs-append EntryBefore (cond (key % shards == shard) (x ∷ []) []) (entries_of number shard shards (at + 1) keys)
     (one_alone (key % shards == shard) x)
     (entries_ordered number shard shards (at + 1) keys)
     (λ a b here later.
@@ -141,36 +102,30 @@ entries_ordered number shard shards at (key ∷ keys) =
 
 -- ---- the entries that a bucket asks for
 
-both : (a b : Bool) → (a && b) ≡ true → (a ≡ true) × (b ≡ true)
-both true b is = (refl, is)
-both false b is = absurd (false≢true is)
-
-either : (a b : Bool) → b ≡ true → (a || b) ≡ true
-either true b is = refl
-either false b is = is
-
 pub any_of : (x : ℕ) (xs : List ℕ) → Contains xs x → list_any (nat_eq x) xs ≡ true
 any_of x [] c = absurd (Contains-nil x c)
 any_of x (y ∷ ys) c =
     ⊎_elim
     (λ h. ap (λ b. b || list_any (nat_eq x) ys) (eq-eqb x y (sym h)))
-    (λ later. either (nat_eq x y) (list_any (nat_eq x) ys) (any_of x ys later))
+    (λ later. or_right (nat_eq x y) (list_any (nat_eq x) ys) (any_of x ys later))
     (Contains-cases y x ys c)
 
 pub asked_is : (key : ℕ) (live : List ℕ) (e : Entry) → is_asked key live e ≡ true → (e.key ≡ key) × Contains live e.change
 asked_is key live e is =
-    let h = both (e.key == key) (list_any (nat_eq e.change) live) is in
+    let h = and_parts (e.key == key) (list_any (nat_eq e.change) live) is in
     (eqb-true e.key key h.0, Contains-from_any eqb-true e.change live h.1)
 
 pub is_asked_for : (key : ℕ) (live : List ℕ) (e : Entry) → e.key ≡ key → Contains live e.change → is_asked key live e ≡ true
 is_asked_for key live e same c = both_true (eq-eqb e.key key same) (any_of e.change live c)
 
--- those of a list in order that are asked for, in order
-pub asked_in_order : (key : ℕ) (live : List ℕ) (entries : List Entry) → AllPairs EntryBefore entries → AreAllInOrder EntryBefore (λ e. (e.key ≡ key) × Contains live e.change × Contains entries e) (filter (is_asked key live) entries)
-asked_in_order key live entries ordered = record {
-  ordered = AllPairs-filter EntryBefore (is_asked key live) entries ordered;
-  each = λ e. (
-    λ c. let found = from_filter (is_asked key live) entries e c in let is = asked_is key live e found.1 in (is.0, is.1, found.0),
-    λ h. to_filter (is_asked key live) entries e h.2 (is_asked_for key live e h.0 h.1),
-  );
-}
+-- those of a list that are asked for, in order where the entries of one key are
+pub asked_in_order : (key : ℕ) (live : List ℕ) (entries : List Entry) → AllPairs (λ a b. a.key ≡ b.key → EntryBefore a b) entries → AreAllInOrder EntryBefore (λ e. (e.key ≡ key) × Contains live e.change × Contains entries e) (filter (is_asked key live) entries)
+asked_in_order key live entries by_key =
+    let asked : (e : Entry) → Contains (filter (is_asked key live) entries) e → (e.key ≡ key) × Contains live e.change × Contains entries e =
+    λ e c. let found = Contains-from_filter (is_asked key live) entries e c in let is = asked_is key live e found.1 in (is.0, is.1, found.0) in
+    record {
+      ordered = AllPairs-weaker (λ a b. a.key ≡ b.key → EntryBefore a b) EntryBefore (filter (is_asked key live) entries)
+          (λ a b c d before. before ((asked a c).0 ∙ sym (asked b d).0))
+          (AllPairs-filter (λ a b. a.key ≡ b.key → EntryBefore a b) (is_asked key live) entries by_key);
+      each = λ e. (asked e, λ h. Contains-filter (is_asked key live) entries e h.2 (is_asked_for key live e h.0 h.1));
+    }

@@ -1,10 +1,10 @@
 -- For which changes a shard stands behind one that it applies.
-use Rattle.std.proofs.Common.{◌≡◌, ◌↔◌, ℕ, zero, suc, Bool, false, ◌∷◌, ◌+◌, ◌-◌, ◌<◌, ◌≤◌, Option, Some, None, List, [], ◌++◌, length, refl, sym, ◌∙◌, ap, subst, subst₂, inl, ⊎_elim, arith}
+use Rattle.std.proofs.Common.{◌≡◌, ◌↔◌, ℕ, zero, suc, Bool, false, ◌∷◌, ◌+◌, ◌-◌, ◌<◌, ◌≤◌, Option, Some, None, List, [], ◌++◌, length, refl, sym, ◌∙◌, ap, subst, subst₂, inl, inr, ⊎_elim, arith}
 use Rattle.std.specs.Prelude.{All, Contains, slice_get}
 use Rattle.std.proofs.lemmas.Bool.{false≢true}
 use Rattle.std.proofs.lemmas.Option.{none-some}
-use Rattle.std.proofs.lemmas.List.{append-nil, length-append}
-use Rattle.std.proofs.lemmas.List.Elements.{Contains-append_left, Contains-append_right, Contains-append_cases, All-append, All-weaker}
+use Rattle.std.proofs.lemmas.List.{length-append}
+use Rattle.std.proofs.lemmas.List.Elements.{All-contains}
 use Rattle.cq_base.specs.declared.lang.Lang.{Lang}
 use Rattle.cq_base.specs.declared.settings.Settings.{Settings}
 use Rattle.cq_base.specs.declared.entry.Entry.{Entry}
@@ -12,21 +12,19 @@ use Rattle.cq_base.specs.declared.change.Change.{Change}
 use Rattle.cq_base.specs.declared.change.Change.TheVariants.{Put, Drop, Gate}
 use Rattle.cq_clones.specs.Lists.{AreAllInOrder}
 use Rattle.cq_clones.proofs.InOrder.{in_order_same}
-use Rattle.cq_base.proofs.Lists.{Contains-nil}
+use Rattle.cq_base.proofs.Lists.{Contains-nil, All-from_contains}
 use Rattle.cq_clones.specs.Windows.{EntryBefore}
 use Rattle.cq_history.specs.Changes.{IsNumber, change_at, is_put}
 use Rattle.cq_history.specs.Shards.{ShardHolds}
 use Rattle.cq_shard.specs.Laws.{Applies}
+use Rattle.cq_shard.specs.Runs.{Precedes, AreAdded}
 use Rattle.cq_shard.specs.Shard.{Contents, IsShard, StandsFor, row_of, entries_of, brought, IsWorkFor, HasWindow}
 use Rattle.cq_shard.proofs.ShardLaws.{ShardHolds-append, ShardHolds-prefix}
-use Rattle.cq_shard.proofs.Entries.{from_entries, to_entries, entries_ordered, pairs_append, all_from}
+use Rattle.cq_shard.proofs.Entries.{from_entries, to_entries}
 
 -- with one change more applied, and these entries
 abbrev pub with_applied : Contents → List Entry → Contents
-with_applied c added = record { shard = c.shard; shards = c.shards; applied = c.applied + 1; floor = c.floor; entries = c.entries ++ added }
-
-of_all : {X : Type 0} (P : X → Type 0) (xs : List X) (x : X) → All P xs → Contains xs x → P x
-of_all P xs x all (k, within, is) = subst P is (all k x within)
+with_applied c entries = record { shard = c.shard; shards = c.shards; applied = c.applied + 1; floor = c.floor; entries = entries }
 
 -- whether it is a put
 abbrev put_in : Option Change → Bool
@@ -35,21 +33,25 @@ put_in (Some d) = is_put d
 
 -- ---- it stays a shard
 
-put_is_shard : (c : Contents) (keys : List ℕ) → IsShard c → IsShard (with_applied c (entries_of (c.applied + 1) c.shard c.shards 0 keys))
-put_is_shard c keys is =
+put_is_shard : (c : Contents) (keys : List ℕ) (entries : List Entry) → IsShard c → AreAdded c.entries (entries_of (c.applied + 1) c.shard c.shards 0 keys) entries → IsShard (with_applied c entries)
+put_is_shard c keys entries is are =
     let passed = is.passed in
-    let added = entries_of (c.applied + 1) c.shard c.shards 0 keys in
     record {
       mine = is.mine;
       passed = omega (arith, passed);
-      known = All-append (λ (e : Entry). e.change ≤ c.applied + 1) c.entries added
-          (All-weaker (λ (e : Entry). e.change ≤ c.applied) (λ (e : Entry). e.change ≤ c.applied + 1) (λ e h. omega (arith, h)) c.entries is.known)
-          (all_from (λ (e : Entry). e.change ≤ c.applied + 1) added (λ e h. let same = (from_entries (c.applied + 1) c.shard c.shards 0 keys e h).change in omega (arith, same)));
-      ordered = pairs_append EntryBefore c.entries added is.ordered (entries_ordered (c.applied + 1) c.shard c.shards 0 keys)
-          (λ a b here later. let same = (from_entries (c.applied + 1) c.shard c.shards 0 keys b later).change in
-          let known = of_all (λ (e : Entry). e.change ≤ c.applied) c.entries a is.known here in
-          inl (omega (arith, same, known)));
+      known = All-from_contains (λ (e : Entry). e.change ≤ c.applied + 1) entries (λ e h. ⊎_elim
+          (λ old. let known = All-contains (λ (e : Entry). e.change ≤ c.applied) c.entries e is.known old in omega (arith, known))
+          (λ new. let same = (from_entries (c.applied + 1) c.shard c.shards 0 keys e new).change in omega (arith, same))
+          ((are.each e).0 h));
+      different = are.different is.different;
     }
+
+-- the entries that a change brings are of a later change than those before
+pub entries_follow : (old : List Entry) (change shard shards : ℕ) (keys : List ℕ) → All (λ e. e.change < change) old → Precedes old (entries_of change shard shards 0 keys)
+entries_follow old change shard shards keys before a b here there =
+    let known = All-contains (λ (e : Entry). e.change < change) old a before here in
+    let same = (from_entries change shard shards 0 keys b there).change in
+    omega (arith, known, same)
 
 -- ---- it stands for the same changes
 
@@ -85,30 +87,28 @@ module _ (IsWindow : Lang → List ℕ → ℕ → ℕ → Type 0) (changes : Li
       let texts = same_text held.project project held.path path held.lang lang held.text text (sym held.put ∙ ap (change_at changes) same ∙ is) in
       to_entries (c.applied + 1) c.shard c.shards keys e same ((windows e.at e.key).0 (subst₂ (λ l t. IsWindow l t e.at e.key) texts.0 texts.1 held.window)) held.mine
 
-  put_stands : StandsFor IsWindow changes c → StandsFor IsWindow changes (with_applied c (entries_of (c.applied + 1) c.shard c.shards 0 keys))
-  put_stands stands =
-      let added = entries_of (c.applied + 1) c.shard c.shards 0 keys in
-      record {
-        applied = (is_number changes (c.applied + 1) (Put project path lang text) (omega arith) is).1;
-        entries = λ e. (
-          λ h. ⊎_elim (λ old. applies.keeps (row_of e) ((stands.entries e).0 old)) (λ new. new_holds e new) (Contains-append_cases c.entries added e h),
-          λ h. ⊎_elim
-              (λ old. Contains-append_left c.entries added e ((stands.entries e).1 old))
-              (λ new. Contains-append_right c.entries added e (held_is_new e h new))
-              (applies.alone (row_of e) h),
-        );
-      }
+  put_stands : (entries : List Entry) → AreAdded c.entries (entries_of (c.applied + 1) c.shard c.shards 0 keys) entries → StandsFor IsWindow changes c → StandsFor IsWindow changes (with_applied c entries)
+  put_stands entries are stands = record {
+    applied = (is_number changes (c.applied + 1) (Put project path lang text) (omega arith) is).1;
+    entries = λ e. (
+      λ h. ⊎_elim (λ old. applies.keeps (row_of e) ((stands.entries e).0 old)) (λ new. new_holds e new) ((are.each e).0 h),
+      λ h. (are.each e).1 (⊎_elim
+          (λ old. inl ((stands.entries e).1 old))
+          (λ new. inr (held_is_new e h new))
+          (applies.alone (row_of e) h)),
+    );
+  }
 
 -- no entry, where the change is no put
-other_stands : (IsWindow : Lang → List ℕ → ℕ → ℕ → Type 0) (changes : List Change) (c : Contents) (d : Change) →
+other_stands : (IsWindow : Lang → List ℕ → ℕ → ℕ → Type 0) (changes : List Change) (c : Contents) (d : Change) (entries : List Entry) → AreAdded c.entries [] entries →
     Applies IsWindow c.shards changes c.shard c.applied c.floor → StandsFor IsWindow changes c → change_at changes (c.applied + 1) ≡ Some d → is_put d ≡ false →
-    StandsFor IsWindow changes (with_applied c [])
-other_stands IsWindow changes c d applies stands is other = record {
+    StandsFor IsWindow changes (with_applied c entries)
+other_stands IsWindow changes c d entries are applies stands is other = record {
   applied = (is_number changes (c.applied + 1) d (omega arith) is).1;
   entries = λ e. (
-    λ h. applies.keeps (row_of e) ((stands.entries e).0 (subst (λ es. Contains es e) (append-nil c.entries) h)),
+    λ h. ⊎_elim (λ old. applies.keeps (row_of e) ((stands.entries e).0 old)) (λ none. absurd (Contains-nil e none)) ((are.each e).0 h),
     λ h. ⊎_elim
-        (λ old. subst (λ es. Contains es e) (sym (append-nil c.entries)) ((stands.entries e).1 old))
+        (λ old. (are.each e).1 (inl ((stands.entries e).1 old)))
         (λ new. absurd (false≢true (sym other ∙ sym (ap put_in is) ∙ ap put_in (ap (change_at changes) (sym new) ∙ h.put))))
         (applies.alone (row_of e) h),
   );
@@ -139,22 +139,23 @@ later_stands IsWindow changes later c passed stands =
 
 -- ---- whatever change it is
 
-pub brought_is_shard : {W : Type 0} (keys_in : W → List ℕ) (c : Contents) (work : Option W) → IsShard c → IsShard (with_applied c (brought keys_in (c.applied + 1) c.shard c.shards work))
-brought_is_shard keys_in c None is = put_is_shard c [] is
-brought_is_shard keys_in c (Some w) is = put_is_shard c (keys_in w) is
+pub brought_is_shard : {W : Type 0} (keys_in : W → List ℕ) (c : Contents) (work : Option W) (entries : List Entry) → IsShard c → AreAdded c.entries (brought keys_in (c.applied + 1) c.shard c.shards work) entries → IsShard (with_applied c entries)
+brought_is_shard keys_in c None entries is are = put_is_shard c [] entries is are
+brought_is_shard keys_in c (Some w) entries is are = put_is_shard c (keys_in w) entries is are
 
-pub brought_stands : {W : Type 0} (IsWindow : Lang → List ℕ → ℕ → ℕ → Type 0) (keys_in : W → List ℕ) (IsWork : Lang → List ℕ → W → Type 0) (changes : List Change) (c : Contents) (o : Option Change) (work : Option W) →
+pub brought_stands : {W : Type 0} (IsWindow : Lang → List ℕ → ℕ → ℕ → Type 0) (keys_in : W → List ℕ) (IsWork : Lang → List ℕ → W → Type 0) (changes : List Change) (c : Contents) (o : Option Change) (work : Option W) (entries : List Entry) →
+    AreAdded c.entries (brought keys_in (c.applied + 1) c.shard c.shards work) entries →
     ((lang : Lang) (text : List ℕ) (w : W) → IsWork lang text w → AreWindows IsWindow lang text (keys_in w)) →
     Applies IsWindow c.shards changes c.shard c.applied c.floor → StandsFor IsWindow changes c → change_at changes (c.applied + 1) ≡ o → IsWorkFor IsWork o work →
-    StandsFor IsWindow changes (with_applied c (brought keys_in (c.applied + 1) c.shard c.shards work))
-brought_stands IsWindow keys_in IsWork changes c None work windows applies stands is of = absurd of
-brought_stands IsWindow keys_in IsWork changes c (Some (Put project path lang text)) None windows applies stands is of = absurd of
-brought_stands IsWindow keys_in IsWork changes c (Some (Put project path lang text)) (Some w) windows applies stands is of =
-    put_stands IsWindow changes c project path lang text (keys_in w) (windows lang text w of) applies is stands
-brought_stands IsWindow keys_in IsWork changes c (Some (Drop project path)) None windows applies stands is of = other_stands IsWindow changes c (Drop project path) applies stands is refl
-brought_stands IsWindow keys_in IsWork changes c (Some (Drop project path)) (Some w) windows applies stands is of = absurd of
-brought_stands IsWindow keys_in IsWork changes c (Some (Gate project conditions)) None windows applies stands is of = other_stands IsWindow changes c (Gate project conditions) applies stands is refl
-brought_stands IsWindow keys_in IsWork changes c (Some (Gate project conditions)) (Some w) windows applies stands is of = absurd of
+    StandsFor IsWindow changes (with_applied c entries)
+brought_stands IsWindow keys_in IsWork changes c None work entries are windows applies stands is of = absurd of
+brought_stands IsWindow keys_in IsWork changes c (Some (Put project path lang text)) None entries are windows applies stands is of = absurd of
+brought_stands IsWindow keys_in IsWork changes c (Some (Put project path lang text)) (Some w) entries are windows applies stands is of =
+    put_stands IsWindow changes c project path lang text (keys_in w) (windows lang text w of) applies is entries are stands
+brought_stands IsWindow keys_in IsWork changes c (Some (Drop project path)) None entries are windows applies stands is of = other_stands IsWindow changes c (Drop project path) entries are applies stands is refl
+brought_stands IsWindow keys_in IsWork changes c (Some (Drop project path)) (Some w) entries are windows applies stands is of = absurd of
+brought_stands IsWindow keys_in IsWork changes c (Some (Gate project conditions)) None entries are windows applies stands is of = other_stands IsWindow changes c (Gate project conditions) entries are applies stands is refl
+brought_stands IsWindow keys_in IsWork changes c (Some (Gate project conditions)) (Some w) entries are windows applies stands is of = absurd of
 
 -- a work of the text has the keys of all others
 pub work_windows : {W : Type 0} (keys_in : W → List ℕ) (IsWorkOf : Settings → Lang → List ℕ → W → Type 0) (settings : Settings) (lang : Lang) (text : List ℕ) (work : W) →

@@ -1,13 +1,13 @@
 -- What a shard is, and for which changes it stands.
-use Rattle.std.specs.Prelude.{◌≡◌, ◌↔◌, slice_get, ℕ, ◌+◌, ◌<◌, ◌≤◌, ◌%◌, ◌==◌, nat_eq, ◌&&◌, if◌then◌else◌, Bool, List, [], ◌∷◌, ◌++◌, length, Contains, All, AllPairs, Option, Some, None}
+use Rattle.std.specs.Prelude.{◌≡◌, ◌↔◌, slice_get, ℕ, ◌+◌, ◌<◌, ◌≤◌, ◌%◌, ◌==◌, nat_eq, ◌&&◌, if◌then◌else◌, Bool, List, [], ◌∷◌, ◌++◌, length, Contains, All, Option, Some, None}
 use Rattle.std.specs.List.{list_any}
 use Rattle.cq_base.specs.declared.lang.Lang.{Lang}
 use Rattle.cq_base.specs.declared.settings.Settings.{Settings}
 use Rattle.cq_base.specs.declared.entry.Entry.{Entry}
 use Rattle.cq_base.specs.declared.change.Change.{Change}
 use Rattle.cq_base.specs.declared.change.Change.TheVariants.{Put, Drop, Gate}
-use Rattle.cq_clones.specs.Windows.{EntryBefore}
 use Rattle.cq_history.specs.Shards.{Row, ShardHolds}
+use Rattle.cq_shard.specs.Runs.{AreDifferent}
 
 -- its number, how many shards there are, how many changes it has applied, its floor, and its entries
 pub record Contents : Type 0 where
@@ -17,12 +17,12 @@ pub record Contents : Type 0 where
   pub floor : ℕ
   pub entries : List Entry
 
--- it is one of the shards, and its entries are those of applied changes, by change and place
+-- it is one of the shards, and its entries are those of applied changes, each once
 pub record IsShard (c : Contents) : Type 0 where
   pub mine : c.shard < c.shards
   pub passed : c.floor ≤ c.applied
   pub known : All (λ e. e.change ≤ c.applied) c.entries
-  pub ordered : AllPairs EntryBefore c.entries
+  pub different : AreDifferent c.entries
 
 abbrev pub row_of : Entry → Row
 row_of e = record { key = e.key; number = e.change; place = e.at }

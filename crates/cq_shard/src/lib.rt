@@ -1,13 +1,16 @@
 //! A shard of the index: the windows of the applied puts whose keys, modulo the number of shards, are the shard's.
-//! Applying a change costs a look at each key of its work, and one step and one entry for each that is the shard's. A
-//! bucket costs a look at each entry of the shard, and a search among the live changes for each with its key: the
-//! entries are one list, in order, and nothing finds a key among them faster yet.
+//! Applying a change costs a look at each key of its work, and one step and one entry for each that is the shard's. The
+//! entries stand in runs in order of their keys, a run for some changes that follow each other. A run is merged with the
+//! one before it where that has less than twice its entries, so an entry is moved about as often as the logarithm of how
+//! many there are. A bucket costs a binary search in each run, and one among the live changes for each entry with its
+//! key.
 #![tactic(auto)]
 
 mod applying;
 mod indexed;
 mod laws;
-mod rows;
+mod run;
+mod runs;
 mod shard;
 
 pub use indexed::Indexed;

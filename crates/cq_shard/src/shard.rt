@@ -10,7 +10,7 @@ ghost use Rattle.cq_shard.specs.Shard as spec;
 use crate::applying::{Part, add_work};
 use crate::indexed::Indexed;
 use crate::laws::applying_adds_its_rows;
-use crate::rows::Rows;
+use crate::runs::Runs;
 use cq_base::{Entry, Memory, Steps};
 use std::alloc::Global;
 use std::marker::Model;
@@ -23,7 +23,8 @@ pub struct Shard {
     shards: u32,
     applied: u64,
     floor: u64,
-    rows: Rows,
+    alloc: Global,
+    runs: Runs,
 }
 
 impl Model for Shard {
@@ -31,9 +32,9 @@ impl Model for Shard {
 
     ghost Value = { Contents };
 
-    ghost view = { λ s. record { shard = s.shard; shards = s.shards; applied = s.applied; floor = s.floor; entries = s.rows } };
+    ghost view = { λ s. record { shard = s.shard; shards = s.shards; applied = s.applied; floor = s.floor; entries = s.runs } };
 
-    ghost invariant = { λ s. IsShard (record { shard = s.shard; shards = s.shards; applied = s.applied; floor = s.floor; entries = s.rows }) };
+    ghost invariant = { λ s. IsShard (record { shard = s.shard; shards = s.shards; applied = s.applied; floor = s.floor; entries = s.runs }) };
 }
 
 impl Shard {
@@ -47,7 +48,8 @@ impl Shard {
             shards,
             applied: 0,
             floor: 0,
-            rows: Rows::new(alloc),
+            alloc,
+            runs: Runs::new(alloc),
         }
     }
 
@@ -66,7 +68,8 @@ impl Shard {
     }
 
     /// Applies the next change, whose work is given exactly where it is a put. Where memory is refused, nothing has
-    /// changed. It looks at each key of the work; each that is the shard's costs a step and an entry.
+    /// changed. It looks at each key of the work; each that is the shard's costs a step and an entry. Beside that, runs of
+    /// entries are merged: over all applications each entry is moved about as often as the logarithm of their number.
     pub fn apply<W: Indexed, L: Ledger>(
         &mut self,
         change: u64,
@@ -88,17 +91,17 @@ impl Shard {
             shards: self.shards,
             change,
         };
-        add_work(&mut self.rows, part, work, steps)?;
+        add_work(self.alloc, &mut self.runs, part, work, steps)?;
         self.applied = change;
         Ok(())
     }
 
-    /// The entries with the key whose change is one of `live`, by change and place. It looks at each entry of the shard,
-    /// and searches `live` for each with the key.
+    /// The entries with the key whose change is one of `live`, by change and place. It searches each of the shard's runs,
+    /// of which there are at most the logarithm of its entries, and searches `live` for each entry with the key.
     pub fn bucket(&self, alloc: Global, key: u64, live: &[u64]) -> Result<Vec<Entry>, Memory>
         requires rising { IsStrictlyIncreasing live.now }
         ensures { IfOk result (λ bucket. AreAllInOrder EntryBefore (λ e. (e.key ≡ key) × Contains live.now e.change × Contains self.now.entries e) bucket.items) }
     {
-        self.rows.bucket(alloc, key, live)
+        self.runs.bucket(alloc, key, live)
     }
 }

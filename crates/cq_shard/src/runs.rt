@@ -1,0 +1,118 @@
+ghost use Rattle.std.specs.Prelude.{◌≡◌, ◌++◌, ◌∷◌, ◌+◌, ◌≤◌, [], length, take, AllPairs, IfOk, OnOk, OnErr, Contains};
+ghost use Rattle.std.specs.List.Sorted.{IsStrictlyIncreasing};
+ghost use Rattle.cq_clones.specs.Lists.{AreAllInOrder};
+ghost use Rattle.cq_clones.specs.Windows.{EntryBefore};
+ghost use Rattle.cq_shard.specs.Runs.{AreRuns, AreRunsWith, AreAdded, Precedes};
+
+use crate::run::Run;
+use cq_base::{Entry, Memory, Steps};
+use std::alloc::Global;
+use std::marker::Model;
+use std::sync::ledger::Ledger;
+
+/// The entries of a shard, as runs of changes that follow each other. Each run has at least twice the entries of the one
+/// behind it, so there are at most as many as the logarithm of the entries, and an entry is moved about as often.
+#[derive(Drop)]
+pub(crate) struct Runs {
+    runs: Vec<Run>,
+}
+
+impl Model for Runs {
+    ghost use Rattle.std.specs.Prelude.{List};
+    ghost use Rattle.cq_base.specs.declared.entry.Entry.{Entry};
+    ghost use Rattle.cq_shard.specs.Runs.{entries_in, AreRuns};
+
+    ghost Value = { List Entry };
+
+    ghost view = { λ r. entries_in r.runs.items };
+
+    ghost invariant = { λ r. AreRuns r.runs.items };
+}
+
+impl Runs {
+    /// No entries. It takes no memory.
+    pub fn new(alloc: Global) -> Runs
+        ensures { result ≡ [] }
+    {
+        Runs {
+            runs: Vec::new(alloc),
+        }
+    }
+
+    /// These entries more, of changes later than all before; none of them where memory is refused. Each is one step, and
+    /// what merging moves is none.
+    pub fn add<L: Ledger>(
+        &mut self,
+        alloc: Global,
+        entries: Vec<Entry>,
+        steps: &mut Steps<L>,
+    ) -> Result<(), Memory>
+        requires ordered { AllPairs EntryBefore entries.items }
+        requires later { Precedes self.old entries.items }
+        ensures added { OnOk result (AreAdded self.old entries.items self.new) }
+        ensures same { OnErr result (self.new ≡ self.old) }
+        ensures steps { OnOk result (steps.new ≡ steps.old + length entries.items) }
+        ensures most { steps.new ≤ steps.old + length entries.items }
+    {
+        let added = entries.len();
+        if added > 0 {
+            let (kept, run) = gather(alloc, &self.runs, Run::sorted(entries))?;
+            put(&mut self.runs, kept, run)?;
+            count(added, steps);
+        }
+        Ok(())
+    }
+
+    /// Those with the key whose change is one of `live`, by change and place. It searches each run, and `live` for each
+    /// entry with the key.
+    pub fn bucket(&self, alloc: Global, key: u64, live: &[u64]) -> Result<Vec<Entry>, Memory>
+        requires { IsStrictlyIncreasing live.now }
+        ensures { IfOk result (λ bucket. AreAllInOrder EntryBefore (λ e. (e.key ≡ key) × Contains live.now e.change × Contains self.now e) bucket.items) }
+    {
+        let mut bucket = Vec::new(alloc);
+        for run in &self.runs {
+            run.find(key, live, &mut bucket)?;
+        }
+        Ok(bucket)
+    }
+}
+
+// The run merged with those before it that it has half as many entries as, or more: how many runs stay, and the run
+// that comes behind them.
+fn gather(alloc: Global, runs: &[Run], run: Run) -> Result<(usize, Run), Memory>
+    requires { AreRuns (runs.now ++ run ∷ []) }
+    ensures kept { IfOk result (λ g. g.0 ≤ length runs.now) }
+    ensures runs { IfOk result (λ g. AreRunsWith runs.now run (take g.0 runs.now ++ g.1 ∷ [])) }
+{
+    let mut kept = runs.len();
+    let mut run = run;
+    'merging: while kept > 0 && runs[kept - 1].len() / 2 < run.len() {
+        run = runs[kept - 1].merged(alloc, &run)?;
+        kept -= 1;
+    }
+    Ok((kept, run))
+}
+
+// The run in place of all behind the first `kept`.
+fn put(runs: &mut Vec<Run>, kept: usize, run: Run) -> Result<(), Memory>
+    requires { kept ≤ length runs.old.items }
+    ensures put { OnOk result (runs.new.items ≡ take kept runs.old.items ++ run ∷ []) }
+    ensures same { OnErr result (runs.new.items ≡ runs.old.items) }
+{
+    if kept == runs.len() {
+        runs.push(run)?;
+    } else {
+        runs[kept] = run;
+        runs.truncate(kept + 1);
+    }
+    Ok(())
+}
+
+// So many steps.
+fn count<L: Ledger>(number: usize, steps: &mut Steps<L>)
+    ensures { steps.new ≡ steps.old + number }
+{
+    for _step in 0..number {
+        steps.tick();
+    }
+}
