@@ -12,6 +12,3 @@ mod text;
 
 pub use reading::{read_request, read_value};
 pub use request::{Kind, Query, Refusal, Request};
-
-#[cfg(test)]
-mod tests;
