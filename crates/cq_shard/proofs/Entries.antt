@@ -9,6 +9,7 @@ use Rattle.std.specs.List.{list_any}
 use Rattle.std.proofs.lemmas.Option.{none-some}
 use Rattle.std.proofs.lemmas.Map.Views.{Contains-from_any}
 use Rattle.cq_base.specs.declared.entry.Entry.{Entry}
+pub use Rattle.cq_base.proofs.Lists.{Contains-from_filter as from_filter, Contains-filter as to_filter}
 use Rattle.cq_base.proofs.Lists.{Contains-here, Contains-cases, Contains-nil, Contains-filter, Contains-from_filter, AllPairs-nil, AllPairs-append, AllPairs-weaker}
 use Rattle.cq_clones.specs.Lists.{AreAllInOrder}
 use Rattle.cq_clones.specs.Windows.{EntryBefore}

@@ -154,12 +154,6 @@ added_from runs more run added same are = record {
   different = λ old. runs_different more are.stand;
 }
 
-pub none_added : (entries : List Entry) → AreAdded entries [] entries
-none_added entries = record {
-  each = λ e. (λ h. inl h, λ h. ⊎_elim (λ old. old) (λ none. absurd (Contains-nil e none)) h);
-  different = λ old. old;
-}
-
 -- ---- what is asked of them, run by run
 
 pub asked_next : (key : ℕ) (live : List ℕ) (runs : List (List Entry)) (i : ℕ) (d : List Entry) → i < length runs →
