@@ -13,6 +13,3 @@ pub use line::Fixed;
 pub use reply::{FileRow, FileRows, GroupRow, GroupRows, PlaceRow, PlaceRows, Reply, Shown};
 pub use short::{Short, fixed};
 pub use write::write_reply;
-
-#[cfg(test)]
-mod tests;

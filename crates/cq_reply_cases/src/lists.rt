@@ -1,0 +1,102 @@
+ghost use Rattle.std.specs.Prelude.{IfOk};
+ghost use Rattle.cq_reply.specs.Written.{IsFileText, IsPlaceText};
+
+use crate::writing::is_written;
+use cq_base::{Lang, Memory, Text};
+use cq_reply::{FileRow, FileRows, GroupRow, GroupRows, PlaceRow, PlaceRows, Reply, Shown};
+use std::alloc::Global;
+
+fn file_row(alloc: Global, lang: Lang, shown: Shown) -> Result<FileRow, Memory>
+    ensures { IfOk result IsFileText }
+{
+    Ok(FileRow {
+        path: Text::from_bytes(alloc, "a/é".as_bytes())?,
+        change: 1,
+        lang,
+        lines: 2,
+        shown,
+        tokens: 3,
+    })
+}
+
+const FILES: [(Lang, Shown, &str); 4] = [
+    (
+        Lang::Any,
+        Shown::Ok,
+        r#"{"files":[{"change":1,"lang":"any","lines":2,"path":"a/é","state":"ok","tokens":3}],"ok":true,"version":5}"#,
+    ),
+    (
+        Lang::C,
+        Shown::Fault(9),
+        r#"{"files":[{"at":9,"change":1,"lang":"c","lines":2,"path":"a/é","state":"fault","tokens":3}],"ok":true,"version":5}"#,
+    ),
+    (
+        Lang::Java,
+        Shown::Large,
+        r#"{"files":[{"change":1,"lang":"java","lines":2,"path":"a/é","state":"large","tokens":3}],"ok":true,"version":5}"#,
+    ),
+    (
+        Lang::Go,
+        Shown::Ok,
+        r#"{"files":[{"change":1,"lang":"go","lines":2,"path":"a/é","state":"ok","tokens":3}],"ok":true,"version":5}"#,
+    ),
+];
+
+#[test]
+fn files_are_written(rt: HostRuntime) -> Result<(), Memory> {
+    let alloc = rt.alloc();
+    for (lang, shown, want) in FILES {
+        let files = Reply::Files {
+            files: FileRows::from_vec(vec![in alloc; file_row(alloc, lang, shown)?]?),
+            version: 5,
+        };
+        assert!(rt; is_written(alloc, &files, want)?);
+    }
+    Ok(())
+}
+
+#[test]
+fn empty_lists_are_written(rt: HostRuntime) -> Result<(), Memory> {
+    let alloc = rt.alloc();
+    let files = Reply::Files {
+        files: FileRows::from_vec(Vec::new(alloc)),
+        version: 0,
+    };
+    assert!(rt; is_written(alloc, &files, r#"{"files":[],"ok":true,"version":0}"#)?);
+    let groups = Reply::Groups {
+        groups: GroupRows::from_vec(Vec::new(alloc)),
+        version: 9,
+    };
+    let want = r#"{"groups":[],"ok":true,"total":0,"version":9}"#;
+    assert!(rt; is_written(alloc, &groups, want)?);
+    Ok(())
+}
+
+fn place_row(alloc: Global, path: &str, at: u32) -> Result<PlaceRow, Memory>
+    ensures { IfOk result IsPlaceText }
+{
+    Ok(PlaceRow {
+        path: Text::from_bytes(alloc, path.as_bytes())?,
+        at,
+        first: 1,
+        last: 2,
+    })
+}
+
+#[test]
+fn groups_are_written(rt: HostRuntime) -> Result<(), Memory> {
+    let alloc = rt.alloc();
+    let places = vec![in alloc; place_row(alloc, "é", 0)?, place_row(alloc, "t", 4)?]?;
+    let group = GroupRow {
+        tokens: 3,
+        places: PlaceRows::from_vec(places),
+    };
+    let one = Reply::Groups {
+        groups: GroupRows::from_vec(vec![in alloc; group]?),
+        version: 9,
+    };
+    let want =
+        r#"{"groups":[{"places":[{"at":0,"first":1,"last":2,"path":"é"},{"at":4,"first":1,"last":2,"path":"t"}],"tokens":3}],"ok":true,"total":1,"version":9}"#;
+    assert!(rt; is_written(alloc, &one, want)?);
+    Ok(())
+}
