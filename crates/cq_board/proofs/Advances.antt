@@ -1,28 +1,29 @@
 -- A listing with one change more.
-use Rattle.std.proofs.Common.{◌≡◌, ◌≢◌, ◌⊎◌, ◌↔◌, ℕ, ◌+◌, ◌<◌, true, false, cond, List, [], ◌∷◌, ◌++◌, length, take, map, get_or, Option, Some, refl, sym, ap, ap₂, ◌∙◌, subst, subst₂, inl, inr, ⊎_elim, arith}
+use Rattle.std.proofs.Common.{◌≡◌, ◌≢◌, ◌⊎◌, ◌↔◌, ℕ, ◌+◌, ◌<◌, ◌≤◌, true, false, cond, List, [], ◌∷◌, ◌++◌, length, take, map, get_or, Option, Some, refl, sym, ap, ap₂, ◌∙◌, subst, subst₂, inl, inr, ⊎_elim, arith}
 use Rattle.std.specs.Prelude.{Contains}
 use Rattle.std.specs.List.Sorted.{IsStrictlyIncreasing}
 use Rattle.std.specs.Str.{bytes_eq}
-use Rattle.std.proofs.lemmas.List.{take_more, length-map, get_or-map}
+use Rattle.std.specs.List.{prefix_len}
+use Rattle.std.proofs.lemmas.List.{take_more, length-map, length-take-le, get_or-map}
+use Rattle.std.proofs.lemmas.List.Sums.{prefix_len-le-length}
 use Rattle.cq_base.specs.declared.lang.Lang.{Lang}
 use Rattle.cq_base.specs.declared.change.Condition.{Condition}
 use Rattle.cq_base.specs.declared.change.Change.{Change}
 use Rattle.cq_base.specs.declared.change.Change.TheVariants.{Put, Drop, Gate}
 use Rattle.cq_history.specs.Files.{File, Source, files_of, files_after, with_file, without_file}
 use Rattle.cq_history.specs.Standing.{AreInPathOrder}
-use Rattle.cq_history.specs.State.{Slot}
+use Rattle.cq_history.specs.State.{Slot, is_done}
 use Rattle.cq_history.proofs.Prefixes.{files_of_push, conditions_from_push}
 use Rattle.cq_history.proofs.Standing.{files_stand}
 use Rattle.cq_board.specs.Related.{IsSameFile, AreSameFiles}
 use Rattle.cq_board.specs.declared.kept.Kept.{Kept}
 use Rattle.cq_board.specs.Slots.{slot_from, change_of}
 use Rattle.cq_board.specs.Boards.{changes_from}
-use Rattle.cq_board.specs.declared.parts.Part.{Part}
-use Rattle.cq_board.specs.Listings.{path_of, number_at, files_in, conditions_in, IsListing}
+use Rattle.cq_board.specs.Listings.{name_in, path_of, number_at, files_in, conditions_in, listed, IsListing}
 use Rattle.cq_board.specs.Ordered.{AreRising}
-use Rattle.cq_board.specs.Parts.{part_name, projects_in, listed}
 use Rattle.cq_board.proofs.Living.{live_put, live_drop, live_gate}
-use Rattle.cq_board.proofs.PartLists.{rising_same, rising_projects, rising_parts}
+use Rattle.cq_board.specs.declared.held.Project.{Project}
+use Rattle.cq_board.proofs.OwnerLists.{rising_same}
 use Rattle.cq_board.proofs.Related.{same_with, same_without}
 
 next_files : (changes : List Change) (c : Change) (number : ℕ) (q : List ℕ) → length changes + 1 ≡ number → files_of q (changes ++ c ∷ []) ≡ files_after q number (files_of q changes) c
@@ -46,30 +47,27 @@ module _ {X Y : Type 0} (Body : Lang → X → Y → Type 0) where
   same_number p [] (y ∷ ys) same = absurd same
   same_number p (x ∷ xs) [] same = absurd same
 
-module _ {W : Type 0} (IsWork : Lang → List ℕ → W → Type 0) (changes : List Change) (number : ℕ) (n : length changes + 1 ≡ number) (old : List (Part W)) (live : List ℕ) (is : IsListing IsWork changes (listed old live)) where
-  pub names_rise : AreRising part_name old
-  names_rise = rising_parts old is.names
+module _ {W : Type 0} (IsWork : Lang → List ℕ → W → Type 0) (changes : List Change) (number : ℕ) (n : length changes + 1 ≡ number) (old : List (Project W)) (live : List ℕ) (is : IsListing IsWork changes (listed old live)) where
+  pub paths_rise : (q : List ℕ) → AreRising path_of (files_in old q)
+  paths_rise q = rising_same path_of path_of (files_of q changes) (files_in old q) (same_paths IsWork (files_of q changes) (files_in old q) (is.files q)) (in_order_rising (files_of q changes) (files_stand changes q).ordered)
 
-  pub paths_rise : (q : List ℕ) → AreRising path_of (files_in (projects_in old) q)
-  paths_rise q = rising_same path_of path_of (files_of q changes) (files_in (projects_in old) q) (same_paths IsWork (files_of q changes) (files_in (projects_in old) q) (is.files q)) (in_order_rising (files_of q changes) (files_stand changes q).ordered)
+  pub number_here : (project path : List ℕ) → number_at path (files_in old project) ≡ number_at path (files_of project changes)
+  number_here project path = sym (same_number IsWork path (files_of project changes) (files_in old project) (is.files project))
 
-  pub number_here : (project path : List ℕ) → number_at path (files_in (projects_in old) project) ≡ number_at path (files_of project changes)
-  number_here project path = sym (same_number IsWork path (files_of project changes) (files_in (projects_in old) project) (is.files project))
-
-  module _ (new : List (Part W)) (now : List ℕ) (names : AreRising part_name new) (rising : IsStrictlyIncreasing now) where
+  module _ (new : List (Project W)) (now : List ℕ) (names : AreRising name_in new) (rising : IsStrictlyIncreasing now) where
     pub advance_put : (project path : List ℕ) (lang : Lang) (text : List ℕ) (f : File W) (replaced : Option ℕ) →
-        replaced ≡ number_at path (files_in (projects_in old) project) →
+        replaced ≡ number_at path (files_in old project) →
         ((r : ℕ) → Contains now r ↔ ((r ≡ number) ⊎ (Contains live r × (replaced ≢ Some r)))) →
-        ((q : List ℕ) → files_in (projects_in new) q ≡ cond (bytes_eq q project) (with_file f (files_in (projects_in old) q)) (files_in (projects_in old) q)) → ((q : List ℕ) → conditions_in (projects_in new) q ≡ conditions_in (projects_in old) q) →
+        ((q : List ℕ) → files_in new q ≡ cond (bytes_eq q project) (with_file f (files_in old q)) (files_in old q)) → ((q : List ℕ) → conditions_in new q ≡ conditions_in old q) →
         IsSameFile IsWork (record { path = path; number = number; lang = lang; body = text }) f → IsListing IsWork (changes ++ Put project path lang text ∷ []) (listed new now)
     advance_put project path lang text f replaced which moved files conditions same =
         let source : Source = record { path = path; number = number; lang = lang; body = text } in
         let o = which ∙ number_here project path in
         record {
-          names = rising_projects new names;
+          names = names;
           files = λ q. subst₂ (AreSameFiles IsWork) (sym (next_files changes (Put project path lang text) number q n)) (sym (files q))
-              (elim (bytes_eq q project) as (λ b. AreSameFiles IsWork (cond b (with_file source (files_of q changes)) (files_of q changes)) (cond b (with_file f (files_in (projects_in old) q)) (files_in (projects_in old) q)))
-              [ true ↦ same_with IsWork (files_of q changes) (files_in (projects_in old) q) source f (is.files q) same | false ↦ is.files q ]);
+              (elim (bytes_eq q project) as (λ b. AreSameFiles IsWork (cond b (with_file source (files_of q changes)) (files_of q changes)) (cond b (with_file f (files_in old q)) (files_in old q)))
+              [ true ↦ same_with IsWork (files_of q changes) (files_in old q) source f (is.files q) same | false ↦ is.files q ]);
           conditions = λ q. conditions q ∙ is.conditions q ∙ sym (conditions_from_push q [] changes (Put project path lang text));
           numbers = record {
             rising = rising;
@@ -82,17 +80,17 @@ module _ {W : Type 0} (IsWork : Lang → List ℕ → W → Type 0) (changes : L
         }
 
     pub advance_drop : (project path : List ℕ) (dropped : Option ℕ) →
-        dropped ≡ number_at path (files_in (projects_in old) project) →
+        dropped ≡ number_at path (files_in old project) →
         ((r : ℕ) → Contains now r ↔ (Contains live r × (dropped ≢ Some r))) →
-        ((q : List ℕ) → files_in (projects_in new) q ≡ cond (bytes_eq q project) (without_file path (files_in (projects_in old) q)) (files_in (projects_in old) q)) → ((q : List ℕ) → conditions_in (projects_in new) q ≡ conditions_in (projects_in old) q) →
+        ((q : List ℕ) → files_in new q ≡ cond (bytes_eq q project) (without_file path (files_in old q)) (files_in old q)) → ((q : List ℕ) → conditions_in new q ≡ conditions_in old q) →
         IsListing IsWork (changes ++ Drop project path ∷ []) (listed new now)
     advance_drop project path dropped which moved files conditions =
         let o = which ∙ number_here project path in
         record {
-          names = rising_projects new names;
+          names = names;
           files = λ q. subst₂ (AreSameFiles IsWork) (sym (next_files changes (Drop project path) number q n)) (sym (files q))
-              (elim (bytes_eq q project) as (λ b. AreSameFiles IsWork (cond b (without_file path (files_of q changes)) (files_of q changes)) (cond b (without_file path (files_in (projects_in old) q)) (files_in (projects_in old) q)))
-              [ true ↦ same_without IsWork path (files_of q changes) (files_in (projects_in old) q) (is.files q) | false ↦ is.files q ]);
+              (elim (bytes_eq q project) as (λ b. AreSameFiles IsWork (cond b (without_file path (files_of q changes)) (files_of q changes)) (cond b (without_file path (files_in old q)) (files_in old q)))
+              [ true ↦ same_without IsWork path (files_of q changes) (files_in old q) (is.files q) | false ↦ is.files q ]);
           conditions = λ q. conditions q ∙ is.conditions q ∙ sym (conditions_from_push q [] changes (Drop project path));
           numbers = record {
             rising = rising;
@@ -105,10 +103,10 @@ module _ {W : Type 0} (IsWork : Lang → List ℕ → W → Type 0) (changes : L
         }
 
     pub advance_gate : (project : List ℕ) (cs : List Condition) → now ≡ live →
-        ((q : List ℕ) → files_in (projects_in new) q ≡ files_in (projects_in old) q) → ((q : List ℕ) → conditions_in (projects_in new) q ≡ cond (bytes_eq q project) cs (conditions_in (projects_in old) q)) →
+        ((q : List ℕ) → files_in new q ≡ files_in old q) → ((q : List ℕ) → conditions_in new q ≡ cond (bytes_eq q project) cs (conditions_in old q)) →
         IsListing IsWork (changes ++ Gate project cs ∷ []) (listed new now)
     advance_gate project cs same files conditions = record {
-      names = rising_projects new names;
+      names = names;
       files = λ q. subst₂ (AreSameFiles IsWork) (sym (next_files changes (Gate project cs) number q n)) (sym (files q)) (is.files q);
       conditions = λ q. conditions q ∙ ap (cond (bytes_eq q project) cs) (is.conditions q) ∙ sym (conditions_from_push q [] changes (Gate project cs));
       numbers = record {
@@ -130,3 +128,11 @@ module _ {W : Type 0} where
       ∙ ap (λ (c : Change). take r (changes_from slots) ++ c ∷ [])
       (get_or-map (λ (s : Slot). s.change) (map slot_from slots) r (slot_from k) (change_of k.change) (omega (arith, length-map slots (slot_from {W = W}), within))
       ∙ ap (λ (s : Slot). s.change) (get_or-map slot_from slots r k (slot_from k) within ∙ ap slot_from (sym read)))
+
+  pub done_within : (slots : List (Kept W)) (n v : ℕ) → n < v → v ≤ prefix_len is_done (map slot_from slots) → n < length slots
+  done_within slots n v lt le = omega (arith, lt, le, prefix_len-le-length is_done (map slot_from slots), length-map slots (slot_from {W = W}))
+
+  pub length_before : (slots : List (Kept W)) (n : ℕ) → n < length slots → length (take n (changes_from slots)) + 1 ≡ n + 1
+  length_before slots n lt =
+      let few : length (changes_from slots) ≡ length slots = length-map (map slot_from slots) (λ (s : Slot). s.change) ∙ length-map slots (slot_from {W = W}) in
+      ap (λ k. k + 1) (length-take-le n (changes_from slots) (omega (arith, few, lt)))

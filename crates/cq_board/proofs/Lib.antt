@@ -1,11 +1,11 @@
 pub mod Adding
 pub mod Advances
+pub mod Editing
 pub mod FileLists
 pub mod Living
 pub mod Numbers
 pub mod OneMore
-pub mod OwnParts
-pub mod PartLists
+pub mod OwnerLists
 pub mod Places
 pub mod ProjectLists
 pub mod Putting

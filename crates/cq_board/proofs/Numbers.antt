@@ -1,11 +1,15 @@
 -- Rising numbers, with one taken out or added at the end.
 use Rattle.std.proofs.Common.{◌≡◌, ◌≢◌, ◌↔◌, ℕ, zero, suc, ◌+◌, ◌-◌, ◌<◌, ◌≤◌, List, [], ◌∷◌, ◌++◌, length, get_or, Ok, Err, Result, refl, sym, ap, ◌∙◌, subst, ⊎_elim, arith, nat_cmp}
-use Rattle.std.specs.Prelude.{AllPairs, Contains}
+use Rattle.std.specs.Prelude.{AllPairs, Contains, nat_eq}
+use Rattle.std.specs.Result.{is_ok}
+use Rattle.std.specs.List.{list_any}
 use Rattle.std.specs.List.{SameBelow, ShiftedDown}
-use Rattle.std.specs.List.Sorted.{IsStrictlyIncreasing, IsBinarySearchResult}
-use Rattle.std.proofs.lemmas.Bool.{cases_lt, cases_order}
+use Rattle.std.specs.List.Sorted.{IsStrictlyIncreasing, IsSorted, IsBinarySearchResult}
+use Rattle.std.proofs.lemmas.Bool.{cases_lt, cases_order, eqb-true, false_from_ne_true}
 use Rattle.std.proofs.lemmas.List.Elements.{Contains-get_or}
-use Rattle.std.proofs.lemmas.List.Sorted.{searched}
+use Rattle.std.proofs.lemmas.List.Sorted.{searched, IsNonDecreasingBy-from_sort}
+use Rattle.std.proofs.lemmas.Map.Views.{Contains-from_any}
+use Rattle.cq_shard.proofs.Entries.{any_of}
 use Rattle.std.proofs.lemmas.List.Kept.{AllPairs-from_increasing}
 use Rattle.std.proofs.lemmas.List.Quantifiers.{all_pairs_push}
 
@@ -84,3 +88,18 @@ not_there xs x (Err i) is rising never (k, lt, here) =
 pub found_at : (xs : List ℕ) (x : ℕ) (r : Result ℕ ℕ) (i : ℕ) → IsBinarySearchResult (λ y. nat_cmp y x) xs r → IsStrictlyIncreasing xs → r ≡ Ok i → (i < length xs) × (get_or xs i 0 ≡ x)
 found_at xs x (Ok j) i is rising e = let s = searched xs x (Ok j) is (rises xs rising) in let same : j ≡ i = cc e in subst (λ k. (k < length xs) × (get_or xs k 0 ≡ x)) same s
 found_at xs x (Err j) i is rising e = absurd (cc)
+
+-- whether a search of sorted numbers finds one
+pub among : (xs : List ℕ) (n : ℕ) (r : Result ℕ ℕ) → IsBinarySearchResult (λ y. nat_cmp y n) xs r → IsSorted nat_cmp xs → is_ok r ≡ list_any (nat_eq n) xs
+among xs n (Ok i) is sorted =
+    let s = searched xs n (Ok i) is (λ j k le lt. IsNonDecreasingBy-from_sort (λ x. x) xs sorted j k 0 le lt) in
+    sym (any_of n xs (i, s.0, get_or_defaults xs i n 0 s.0 ∙ s.1))
+among xs n (Err i) is sorted =
+    let s = searched xs n (Err i) is (λ j k le lt. IsNonDecreasingBy-from_sort (λ x. x) xs sorted j k 0 le lt) in
+    sym (false_from_ne_true (list_any (nat_eq n) xs) (λ h.
+    let (k, lt, here) = Contains-from_any eqb-true n xs h in
+    let at : get_or xs k 0 ≡ n = get_or_defaults xs k 0 n lt ∙ here in
+    ⊎_elim
+    (λ (low : k < i). let less = s.1 k low in omega (arith, less, at))
+    (λ (high : i ≤ k). let more = s.2 k high lt in omega (arith, more, at))
+    (cases_lt k i)))

@@ -22,10 +22,6 @@ swap_case false b c x y z e both = refl
 same_name : (q r s : List ℕ) → bytes_eq q r ≡ true → bytes_eq q s ≡ true → bytes_eq s r ≡ true
 same_name q r s a b = subst (λ t. bytes_eq t r ≡ true) ((bytes_eq-Decides q s).0 b) a
 
-pub cond_same : {A : Type 0} (b : Bool) (x : A) → cond b x x ≡ x
-cond_same true x = refl
-cond_same false x = refl
-
 -- a change of what is found at a name, said of the old look-up at any text
 pub changed_at_name : {A : Type 0} (q name : List ℕ) (change : A → A) (old : List ℕ → A) → cond (bytes_eq q name) (change (old name)) (old q) ≡ cond (bytes_eq q name) (change (old q)) (old q)
 changed_at_name q name change old =
@@ -131,12 +127,6 @@ module _ {W : Type 0} where
   pub conditions_in-set : (name : List ℕ) (ps : List (Project W)) (i : ℕ) (n : Project W) → i ≡ position_of name ps → i < length ps → (name_in n) ≡ name → (q : List ℕ) → conditions_in (set ps i n) q ≡ cond (bytes_eq q name) (gate_of n) (conditions_in ps q)
   conditions_in-set name ps i n at within is q = conditions_look (set ps i n) q ∙ look-set _ [] name ps i n at within is q ∙ ap (cond (bytes_eq q name) (gate_of n)) (sym (conditions_look ps q))
 
-  pub files_in-push : (ps : List (Project W)) (n : Project W) → n.files.items ≡ [] → (q : List ℕ) → files_in (ps ++ n ∷ []) q ≡ files_in ps q
-  files_in-push ps n is q = files_look (ps ++ n ∷ []) q ∙ look-push (λ (p : Project W). map file_from p.files.items) [] ps n (ap (map file_from) is) q ∙ sym (files_look ps q)
-
-  pub conditions_in-push : (ps : List (Project W)) (n : Project W) → (gate_of n) ≡ [] → (q : List ℕ) → conditions_in (ps ++ n ∷ []) q ≡ conditions_in ps q
-  conditions_in-push ps n is q = conditions_look (ps ++ n ∷ []) q ∙ look-push (λ (p : Project W). (gate_of p)) [] ps n is q ∙ sym (conditions_look ps q)
-
   pub files_in-seam : (a b : List (Project W)) (n : Project W) → n.files.items ≡ [] → AllByRecursion (λ p. bytes_eq (name_in n) (name_in p) ≡ false) a → AllByRecursion (λ p. bytes_eq (name_in n) (name_in p) ≡ false) b → (q : List ℕ) → files_in (a ++ n ∷ b) q ≡ files_in (a ++ b) q
   files_in-seam a b n is low high q = files_look (a ++ n ∷ b) q ∙ look-seam (λ (p : Project W). map file_from p.files.items) [] a b n (ap (map file_from) is) low high q ∙ sym (files_look (a ++ b) q)
 
@@ -150,10 +140,6 @@ module _ {W : Type 0} where
       let conditions = look-at (λ (x : Project W). (gate_of x)) [] name ps i p at within read in
       (files.0, files_look ps name ∙ files.1, conditions_look ps name ∙ conditions.1)
 
-  -- the new project stands at the end
-  pub position_of_push : (name : List ℕ) (ps : List (Project W)) (n : Project W) → length ps ≡ position_of name ps → (name_in n) ≡ name → length ps ≡ position_of name (ps ++ n ∷ [])
-  position_of_push name ps n none is = position-push (λ (p : Project W). bytes_eq name (name_in p)) ps n none ((bytes_eq-Decides name (name_in n)).1 (sym is))
-
   -- a file is put into the project at its place
   pub put_at : (name : List ℕ) (ps : List (Project W)) (i : ℕ) (p n : Project W) (change : List (File W) → List (File W)) → i ≡ position_of name ps → i < length ps → p ≡ get_or ps i p → (name_in n) ≡ (name_in p) → map file_from n.files.items ≡ change (map file_from p.files.items) →
       (q : List ℕ) → files_in (set ps i n) q ≡ cond (bytes_eq q name) (change (files_in ps q)) (files_in ps q)
@@ -161,45 +147,8 @@ module _ {W : Type 0} where
       let here = files_at-position name ps i p at within read in
       files_in-set name ps i n at within (named ∙ here.0) q ∙ ap (λ fs. cond (bytes_eq q name) fs (files_in ps q)) (done ∙ ap change (sym here.1)) ∙ changed_at_name q name change (files_in ps)
 
-  pub conditions_stay_at : (name : List ℕ) (ps : List (Project W)) (i : ℕ) (p n : Project W) → i ≡ position_of name ps → i < length ps → p ≡ get_or ps i p → (name_in n) ≡ (name_in p) → (gate_of n) ≡ (gate_of p) →
-      (q : List ℕ) → conditions_in (set ps i n) q ≡ conditions_in ps q
-  conditions_stay_at name ps i p n at within read named same q =
+  pub gate_at : (name : List ℕ) (ps : List (Project W)) (i : ℕ) (p n : Project W) (change : List Condition → List Condition) → i ≡ position_of name ps → i < length ps → p ≡ get_or ps i p → (name_in n) ≡ (name_in p) → gate_of n ≡ change (gate_of p) →
+      (q : List ℕ) → conditions_in (set ps i n) q ≡ cond (bytes_eq q name) (change (conditions_in ps q)) (conditions_in ps q)
+  gate_at name ps i p n change at within read named done q =
       let here = files_at-position name ps i p at within read in
-      conditions_in-set name ps i n at within (named ∙ here.0) q ∙ ap (λ cs. cond (bytes_eq q name) cs (conditions_in ps q)) (same ∙ sym here.2)
-      ∙ changed_at_name q name (λ cs. cs) (conditions_in ps) ∙ cond_same (bytes_eq q name) (conditions_in ps q)
-
-  -- a project that is not there has no files
-  pub no_project : (name : List ℕ) (ps : List (Project W)) → length ps ≤ position_of name ps → files_in ps name ≡ []
-  no_project name [] past = refl
-  no_project name (p ∷ ps) past =
-      ⊎_elim
-      (λ (here : bytes_eq name (name_in p) ≡ true).
-      let no : position_of name (p ∷ ps) ≡ 0 = ap (λ b. cond (not b) (1 + position_of name ps) 0) here in absurd (omega (arith, no, past)))
-      (λ (other : bytes_eq name (name_in p) ≡ false).
-      let deeper : position_of name (p ∷ ps) ≡ 1 + position_of name ps = ap (λ b. cond (not b) (1 + position_of name ps) 0) other in
-      ap (λ b. cond b (map file_from p.files.items) (files_in ps name)) other ∙ no_project name ps (omega (arith, deeper, past)))
-      (either (bytes_eq name (name_in p)))
-
-  pub no_conditions : (name : List ℕ) (ps : List (Project W)) → length ps ≤ position_of name ps → conditions_in ps name ≡ []
-  no_conditions name [] past = refl
-  no_conditions name (p ∷ ps) past =
-      ⊎_elim
-      (λ (here : bytes_eq name (name_in p) ≡ true).
-      let no : position_of name (p ∷ ps) ≡ 0 = ap (λ b. cond (not b) (1 + position_of name ps) 0) here in absurd (omega (arith, no, past)))
-      (λ (other : bytes_eq name (name_in p) ≡ false).
-      let deeper : position_of name (p ∷ ps) ≡ 1 + position_of name ps = ap (λ b. cond (not b) (1 + position_of name ps) 0) other in
-      ap (λ b. cond b (gate_of p) (conditions_in ps name)) other ∙ no_conditions name ps (omega (arith, deeper, past)))
-      (either (bytes_eq name (name_in p)))
-
-  pub stays_where_none : (name : List ℕ) (ps : List (Project W)) (change : List (File W) → List (File W)) → change [] ≡ [] → length ps ≤ position_of name ps → (q : List ℕ) → files_in ps q ≡ cond (bytes_eq q name) (change (files_in ps q)) (files_in ps q)
-  stays_where_none name ps change empty past q =
-      ⊎_elim
-      (λ (same : bytes_eq q name ≡ true).
-      let none : files_in ps q ≡ [] = ap (files_in ps) ((bytes_eq-Decides q name).0 same) ∙ no_project name ps past in
-      none ∙ sym empty ∙ ap change (sym none) ∙ ap (λ b. cond b (change (files_in ps q)) (files_in ps q)) (sym same))
-      (λ (other : bytes_eq q name ≡ false). ap (λ b. cond b (change (files_in ps q)) (files_in ps q)) (sym other))
-      (either (bytes_eq q name))
-
-  pub conditions_at : (name : List ℕ) (ps : List (Project W)) (i : ℕ) (p n : Project W) (cs : List Condition) → i ≡ position_of name ps → i < length ps → p ≡ get_or ps i p → (name_in n) ≡ (name_in p) → (gate_of n) ≡ cs → (q : List ℕ) → conditions_in (set ps i n) q ≡ cond (bytes_eq q name) cs (conditions_in ps q)
-  conditions_at name ps i p n cs at within read named is q =
-      conditions_in-set name ps i n at within (named ∙ (files_at-position name ps i p at within read).0) q ∙ ap (λ ds. cond (bytes_eq q name) ds (conditions_in ps q)) is
+      conditions_in-set name ps i n at within (named ∙ here.0) q ∙ ap (λ cs. cond (bytes_eq q name) cs (conditions_in ps q)) (done ∙ ap change (sym here.2)) ∙ changed_at_name q name change (conditions_in ps)

@@ -1,6 +1,8 @@
 -- Files in path order, with one put in or taken out where it belongs.
-use Rattle.std.proofs.Common.{◌≡◌, ℕ, ◌+◌, Bool, true, false, cond, not, List, [], ◌∷◌, ◌++◌, length, map, get_or, set, Some, None, refl, sym, ap, ap₂, ◌∙◌, subst, arith}
+use Rattle.std.proofs.Common.{Global, ◌≡◌, ℕ, ◌+◌, Bool, true, false, cond, not, List, [], ◌∷◌, ◌++◌, length, map, get_or, set, Some, None, refl, sym, ap, ap₂, ◌∙◌, subst, arith}
 use Rattle.std.specs.List.{AllByRecursion, insert, remove}
+use Rattle.std.specs.Arc.{arc_value}
+use Rattle.std.specs.declared.sync.Arc.{Arc}
 use Rattle.std.specs.Str.{bytes_eq}
 use Rattle.std.specs.Ordering.{nat_cmp, is_lt, ordering_reverse}
 use Rattle.std.specs.declared.cmp.Ordering.{Ordering}
@@ -98,22 +100,22 @@ module _ {X : Type 0} where
 -- ---- the files that are held
 
 module _ {W : Type 0} where
-  all_below : (p : List ℕ) (hs : List (Held W)) → AreBelow path_in p hs → AllByRecursion (λ f. is_before f.path p ≡ true) (map file_from hs)
+  all_below : (p : List ℕ) (hs : List (Arc (Held W) Global)) → AreBelow path_in p hs → AllByRecursion (λ f. is_before f.path p ≡ true) (map file_from hs)
   all_below p [] low = tt
   all_below p (h ∷ hs) low = (low.0, all_below p hs low.1)
 
-  all_above : (p : List ℕ) (hs : List (Held W)) → AreAbove path_in p hs → AllByRecursion (λ f. is_before p f.path ≡ true) (map file_from hs)
+  all_above : (p : List ℕ) (hs : List (Arc (Held W) Global)) → AreAbove path_in p hs → AllByRecursion (λ f. is_before p f.path ≡ true) (map file_from hs)
   all_above p [] high = tt
   all_above p (h ∷ hs) high = (high.0, all_above p hs high.1)
 
-  module _ (hs : List (Held W)) (p : List ℕ) (i : ℕ) where
+  module _ (hs : List (Arc (Held W) Global)) (p : List ℕ) (i : ℕ) where
     split_at : (at : IsAt path_in p hs i) → map file_from hs ≡ map file_from at.before ++ file_from at.item ∷ map file_from at.after
     split_at at = ap (map file_from) at.is ∙ map-append file_from at.before (at.item ∷ at.after)
 
     split_gap : (gap : IsGap path_in p hs i) → map file_from hs ≡ map file_from gap.before ++ map file_from gap.after
     split_gap gap = ap (map file_from) gap.is ∙ map-append file_from gap.before gap.after
 
-    pub replaced_at : (at : IsAt path_in p hs i) (h : Held W) → path_in h ≡ p → map file_from (set hs i h) ≡ with_file (file_from h) (map file_from hs)
+    pub replaced_at : (at : IsAt path_in p hs i) (h : Arc (Held W) Global) → path_in h ≡ p → map file_from (set hs i h) ≡ with_file (file_from h) (map file_from hs)
     replaced_at at h same =
         ap₂ (λ ys n. map file_from (set ys n h)) at.is (sym at.index)
         ∙ ap (map file_from) (set-append_seam at.before at.item at.after h)
@@ -131,14 +133,14 @@ module _ {W : Type 0} where
         ∙ sym (without_at p (map file_from at.before) (map file_from at.after) (file_from at.item) at.same (all_below p at.before at.low) (all_above p at.after at.high))
         ∙ ap (without_file p) (sym (split_at at))
 
-    pub number_at_index : (at : IsAt path_in p hs i) (h : Held W) → h ≡ get_or hs i h → Some h.change ≡ number_at p (map file_from hs)
+    pub number_at_index : (at : IsAt path_in p hs i) (h : Arc (Held W) Global) → h ≡ get_or hs i h → Some (arc_value h).change ≡ number_at p (map file_from hs)
     number_at_index at h read =
         let here : h ≡ at.item = read ∙ ap₂ (λ ys n. get_or ys n h) at.is (sym at.index) ∙ get_or-append_seam at.before at.item at.after h in
-        ap (λ x. Some x.change) here
+        ap (λ (x : Arc (Held W) Global). Some (arc_value x).change) here
         ∙ sym (number_is p (map file_from at.before) (map file_from at.after) (file_from at.item) at.same (all_below p at.before at.low))
         ∙ ap (number_at p) (sym (split_at at))
 
-    pub inserted_at : (gap : IsGap path_in p hs i) (h : Held W) → path_in h ≡ p → map file_from (insert hs i h) ≡ with_file (file_from h) (map file_from hs)
+    pub inserted_at : (gap : IsGap path_in p hs i) (h : Arc (Held W) Global) → path_in h ≡ p → map file_from (insert hs i h) ≡ with_file (file_from h) (map file_from hs)
     inserted_at gap h same =
         ap₂ (λ ys n. map file_from (insert ys n h)) gap.is (sym gap.index)
         ∙ ap (map file_from) (insert_seam gap.before gap.after h)

@@ -1,6 +1,6 @@
 -- The numbers that are left of some, and what comes next behind one change more.
-use Rattle.std.proofs.Common.{◌≡◌, ◌≢◌, ◌⊎◌, ◌↔◌, ℕ, zero, suc, ◌+◌, ◌<◌, ◌≤◌, nat_eq, not, true≢false, cond, List, [], ◌∷◌, ◌++◌, length, take, get_or, Option, Some, None, refl, sym, ap, ◌∙◌, subst, inl, inr, ⊎_elim, arith}
-use Rattle.std.specs.Prelude.{Contains}
+use Rattle.std.proofs.Common.{◌≡◌, ◌≢◌, ◌⊎◌, ◌↔◌, ℕ, zero, suc, ◌+◌, ◌<◌, ◌≤◌, nat_eq, not, true≢false, cond, List, [], ◌∷◌, ◌++◌, length, take, get_or, Option, Some, None, Ok, Err, Result, refl, sym, ap, ◌∙◌, subst, subst₂, inl, inr, ⊎_elim, arith}
+use Rattle.std.specs.Prelude.{Contains, IfOk, OnOk, OnErr}
 use Rattle.std.specs.List.{list_any}
 use Rattle.std.specs.List.Sorted.{IsStrictlyIncreasing}
 use Rattle.std.specs.Str.{bytes_eq}
@@ -15,17 +15,23 @@ use Rattle.cq_base.specs.declared.change.Condition.{Condition}
 use Rattle.cq_base.specs.declared.change.Change.{Change}
 use Rattle.cq_base.specs.declared.change.Change.TheVariants.{Put, Drop, Gate}
 use Rattle.cq_history.specs.Files.{File, files_of, with_file, without_file}
+use Rattle.cq_base.proofs.Bools.{cond-same}
 use Rattle.cq_shard.proofs.Entries.{any_of, from_filter, to_filter}
 use Rattle.cq_board.specs.Related.{IsSameFile, AreSameFiles}
 use Rattle.cq_board.specs.declared.held.Project.{Project}
-use Rattle.cq_board.specs.declared.parts.Part.{Part}
-use Rattle.cq_board.specs.Listings.{Listed, name_in, number_at, files_in, conditions_in, IsListing}
+use Rattle.cq_board.specs.declared.projects.ProjectEdit.{ProjectEdit}
+use Rattle.cq_board.specs.declared.projects.ProjectEdit.TheVariants as edit
+use Rattle.cq_board.specs.Edits.{edited_files, edited_conditions, replaced_by, IsEditFor, project_named, put_by}
+use Rattle.cq_board.specs.Listings.{Listed, listed, file_from, path_in, name_in, number_at, files_in, conditions_in, HaveSame, AreLive, IsListing}
 use Rattle.cq_board.specs.Ordered.{AreRising}
-use Rattle.cq_board.specs.Parts.{part_name, projects_in}
-use Rattle.cq_board.specs.Turnover.{IsNext, left, from_option}
+use Rattle.cq_board.specs.Turnover.{IsNext, AddsChange, left, from_option}
 use Rattle.cq_board.proofs.Numbers.{rising-from_pairs, rising_push}
 use Rattle.cq_board.proofs.Living.{live_within, numbered_live}
 use Rattle.cq_board.proofs.Advances.{number_here, advance_put, advance_drop, advance_gate}
+
+pub always_err : {T E : Type 0} {P : Type 0} (r : Result T E) → P → OnErr r P
+always_err (Ok x) h = tt
+always_err (Err e) h = h
 
 -- ---- what is left
 
@@ -36,14 +42,14 @@ left_has xs gone r = (
   λ (here, free). to_filter (λ q. not (list_any (nat_eq q) gone)) xs r here (ap not (false_from_ne_true (list_any (nat_eq r) gone) (λ h. free (Contains-from_any eqb-true r gone h)))),
 )
 
-left_rises : (xs gone : List ℕ) → IsStrictlyIncreasing xs → IsStrictlyIncreasing (left xs gone)
+pub left_rises : (xs gone : List ℕ) → IsStrictlyIncreasing xs → IsStrictlyIncreasing (left xs gone)
 left_rises xs gone rising = rising-from_pairs (left xs gone) (AllPairs-filter (λ a b. a < b) (λ q. not (list_any (nat_eq q) gone)) xs (AllPairs-from_increasing xs rising))
 
 left_all : (xs : List ℕ) → left xs [] ≡ xs
 left_all [] = refl
 left_all (x ∷ xs) = ap (λ ys. x ∷ ys) (left_all xs)
 
-single : (k r : ℕ) → Contains (k ∷ []) r → k ≡ r
+pub single : (k r : ℕ) → Contains (k ∷ []) r → k ≡ r
 single k r (zero, within, at) = at
 single k r (suc i, within, at) = absurd (omega (arith, within))
 
@@ -96,7 +102,7 @@ module _ {W : Type 0} (IsWork : Lang → List ℕ → W → Type 0) where
       let none = append-nil l.live in
       let all : left (l.live ++ []) [] ≡ l.live = ap (λ xs. left xs []) none ∙ left_all l.live in
       record {
-        listing = subst (λ (xs : List ℕ). let made : Listed W = record { projects = l.projects; live = xs } in IsListing IsWork changes made) (sym all) is;
+        listing = subst (λ xs. IsListing IsWork changes (listed l.projects xs)) (sym all) is;
         rising = subst IsStrictlyIncreasing (sym none) is.numbers.rising;
         known = λ r here. let h = live_within changes r ((is.numbers.each r).0 (subst (λ xs. Contains xs r) none here)) in omega (arith, h);
         gone_known = λ r (i, within, at). absurd (omega (arith, within));
@@ -117,23 +123,36 @@ module _ {W : Type 0} (IsWork : Lang → List ℕ → W → Type 0) where
     };
   }
 
-  module _ (changes : List Change) (number : ℕ) (n : length changes + 1 ≡ number) (base : List ℕ) (old : List (Part W)) (put gone : List ℕ) (is : IsNext IsWork changes base (projects_in old) put gone) where
+  pub next_installed : {T E : Type 0} (r : Result T E) (changes : List Change) (base : List ℕ) (ps : List (Project W)) (put gone : List ℕ) (l : Listed W) → IsNext IsWork changes base ps put gone → OnOk r (l.projects ≡ ps) → OnOk r (IsStrictlyIncreasing l.live) → OnOk r ((k : ℕ) → Contains l.live k ↔ (Contains (base ++ put) k × (Contains gone k → ⊥))) → OnOk r (IsListing IsWork changes l)
+  next_installed (Ok x) changes base ps put gone l is same rising which = next_listed changes base ps put gone l is same rising which
+  next_installed (Err e) changes base ps put gone l is same rising which = tt
+
+  -- a listing with the same files and conditions
+  pub listing_same : (changes : List Change) (l m : Listed W) → IsListing IsWork changes l → HaveSame l.projects m.projects → AreRising name_in m.projects → m.live ≡ l.live → IsListing IsWork changes m
+  listing_same changes l m is same names live = record {
+    names = names;
+    files = λ q. subst (AreSameFiles IsWork (files_of q changes)) (sym (same.files q)) (is.files q);
+    conditions = λ q. same.conditions q ∙ is.conditions q;
+    numbers = subst (AreLive changes) (sym live) is.numbers;
+  }
+
+  module _ (changes : List Change) (number : ℕ) (n : length changes + 1 ≡ number) (base : List ℕ) (old : List (Project W)) (put gone : List ℕ) (is : IsNext IsWork changes base old put gone) where
     longer : (c : Change) (r : ℕ) → r ≤ length changes → r ≤ length (changes ++ c ∷ [])
     longer c r le = let e = length-append changes (c ∷ []) in omega (arith, le, e)
 
     -- what is replaced was there
-    replaced_known : (project path : List ℕ) (o : Option ℕ) (r : ℕ) → o ≡ number_at path (files_in (projects_in old) project) → o ≡ Some r → r ≤ length changes
+    replaced_known : (project path : List ℕ) (o : Option ℕ) (r : ℕ) → o ≡ number_at path (files_in old project) → o ≡ Some r → r ≤ length changes
     replaced_known project path o r which is_some =
         let h = live_within changes r (numbered_live changes project path r (sym (number_here IsWork changes number n old (left (base ++ put) gone) is.listing project path) ∙ sym which ∙ is_some)) in omega (arith, h)
 
-    gone_then : (c : Change) (project path : List ℕ) (o : Option ℕ) → o ≡ number_at path (files_in (projects_in old) project) → (r : ℕ) → Contains (gone ++ from_option o) r → r ≤ length (changes ++ c ∷ [])
+    gone_then : (c : Change) (project path : List ℕ) (o : Option ℕ) → o ≡ number_at path (files_in old project) → (r : ℕ) → Contains (gone ++ from_option o) r → r ≤ length (changes ++ c ∷ [])
     gone_then c project path o which r here =
         longer c r (⊎_elim (λ g. is.gone_known r g) (λ k. replaced_known project path o r which (some_from o r k)) (Contains-append_cases gone (from_option o) r here))
 
-    module _ (new : List (Part W)) (names : AreRising part_name new) where
-      pub next_put : (project path : List ℕ) (lang : Lang) (text : List ℕ) (f : File W) (o : Option ℕ) → o ≡ number_at path (files_in (projects_in old) project) →
-          ((q : List ℕ) → files_in (projects_in new) q ≡ cond (bytes_eq q project) (with_file f (files_in (projects_in old) q)) (files_in (projects_in old) q)) → ((q : List ℕ) → conditions_in (projects_in new) q ≡ conditions_in (projects_in old) q) →
-          IsSameFile IsWork (record { path = path; number = number; lang = lang; body = text }) f → IsNext IsWork (changes ++ Put project path lang text ∷ []) base (projects_in new) (put ++ number ∷ []) (gone ++ from_option o)
+    module _ (new : List (Project W)) (names : AreRising name_in new) where
+      pub next_put : (project path : List ℕ) (lang : Lang) (text : List ℕ) (f : File W) (o : Option ℕ) → o ≡ number_at path (files_in old project) →
+          ((q : List ℕ) → files_in new q ≡ cond (bytes_eq q project) (with_file f (files_in old q)) (files_in old q)) → ((q : List ℕ) → conditions_in new q ≡ conditions_in old q) →
+          IsSameFile IsWork (record { path = path; number = number; lang = lang; body = text }) f → IsNext IsWork (changes ++ Put project path lang text ∷ []) base new (put ++ number ∷ []) (gone ++ from_option o)
       next_put project path lang text f o which files conditions same =
           let c : Change = Put project path lang text in
           let xs : List ℕ = (base ++ put) ++ number ∷ [] in
@@ -150,7 +169,7 @@ module _ {W : Type 0} (IsWork : Lang → List ℕ → W → Type 0) where
           ) in
           let listing = advance_put IsWork changes number n old (left (base ++ put) gone) is.listing new (left xs (gone ++ from_option o)) names (left_rises xs (gone ++ from_option o) up) project path lang text f o which moved files conditions same in
           record {
-            listing = subst (λ (ys : List ℕ). let made : Listed W = record { projects = projects_in new; live = left ys (gone ++ from_option o) } in IsListing IsWork (changes ++ c ∷ []) made) e listing;
+            listing = subst (λ ys. IsListing IsWork (changes ++ c ∷ []) (listed new (left ys (gone ++ from_option o)))) e listing;
             rising = subst IsStrictlyIncreasing e up;
             known = λ r here. ⊎_elim
                 (λ k. longer c r (is.known r k))
@@ -159,9 +178,9 @@ module _ {W : Type 0} (IsWork : Lang → List ℕ → W → Type 0) where
             gone_known = gone_then c project path o which;
           }
 
-      pub next_drop : (project path : List ℕ) (o : Option ℕ) → o ≡ number_at path (files_in (projects_in old) project) →
-          ((q : List ℕ) → files_in (projects_in new) q ≡ cond (bytes_eq q project) (without_file path (files_in (projects_in old) q)) (files_in (projects_in old) q)) → ((q : List ℕ) → conditions_in (projects_in new) q ≡ conditions_in (projects_in old) q) →
-          IsNext IsWork (changes ++ Drop project path ∷ []) base (projects_in new) put (gone ++ from_option o)
+      pub next_drop : (project path : List ℕ) (o : Option ℕ) → o ≡ number_at path (files_in old project) →
+          ((q : List ℕ) → files_in new q ≡ cond (bytes_eq q project) (without_file path (files_in old q)) (files_in old q)) → ((q : List ℕ) → conditions_in new q ≡ conditions_in old q) →
+          IsNext IsWork (changes ++ Drop project path ∷ []) base new put (gone ++ from_option o)
       next_drop project path o which files conditions = record {
         listing = advance_drop IsWork changes number n old (left (base ++ put) gone) is.listing new (left (base ++ put) (gone ++ from_option o)) names (left_rises (base ++ put) (gone ++ from_option o) is.rising) project path o which (left_less (base ++ put) gone o) files conditions;
         rising = is.rising;
@@ -170,11 +189,49 @@ module _ {W : Type 0} (IsWork : Lang → List ℕ → W → Type 0) where
       }
 
       pub next_gate : (project : List ℕ) (cs : List Condition) →
-          ((q : List ℕ) → files_in (projects_in new) q ≡ files_in (projects_in old) q) → ((q : List ℕ) → conditions_in (projects_in new) q ≡ cond (bytes_eq q project) cs (conditions_in (projects_in old) q)) →
-          IsNext IsWork (changes ++ Gate project cs ∷ []) base (projects_in new) put gone
+          ((q : List ℕ) → files_in new q ≡ files_in old q) → ((q : List ℕ) → conditions_in new q ≡ cond (bytes_eq q project) cs (conditions_in old q)) →
+          IsNext IsWork (changes ++ Gate project cs ∷ []) base new put gone
       next_gate project cs files conditions = record {
         listing = advance_gate IsWork changes number n old (left (base ++ put) gone) is.listing new (left (base ++ put) gone) names (left_rises (base ++ put) gone is.rising) project cs refl files conditions;
         rising = is.rising;
         known = λ r here. longer (Gate project cs) r (is.known r here);
         gone_known = λ r here. longer (Gate project cs) r (is.gone_known r here);
       }
+
+      -- an edit that the change asks for
+      pub next_edit : (c : Change) (e : ProjectEdit W) → IsEditFor IsWork number c e → (o : Option ℕ) → o ≡ replaced_by e (files_in old (project_named c)) →
+          ((q : List ℕ) → files_in new q ≡ cond (bytes_eq q (project_named c)) (edited_files e (files_in old q)) (files_in old q)) →
+          ((q : List ℕ) → conditions_in new q ≡ cond (bytes_eq q (project_named c)) (edited_conditions e (conditions_in old q)) (conditions_in old q)) →
+          IsNext IsWork (changes ++ c ∷ []) base new (put ++ put_by c number) (gone ++ from_option o)
+      next_edit (Put project path lang text) (edit.Put held) is_edit o which files conditions =
+          next_put project path lang text (file_from held) o (which ∙ ap (λ p. number_at p (files_in old project)) (sym is_edit.path)) files
+          (λ q. conditions q ∙ cond-same (bytes_eq q project) (conditions_in old q)) is_edit
+      next_edit (Drop project path) (edit.Drop p) is_edit o which files conditions =
+          subst (λ ns. IsNext IsWork (changes ++ Drop project path ∷ []) base new ns (gone ++ from_option o)) (sym (append-nil put))
+          (next_drop project path o (which ∙ ap (λ r. number_at r (files_in old project)) is_edit)
+          (λ q. files q ∙ ap (λ r. cond (bytes_eq q project) (without_file r (files_in old q)) (files_in old q)) is_edit)
+          (λ q. conditions q ∙ cond-same (bytes_eq q project) (conditions_in old q)))
+      next_edit (Gate project cs) (edit.Gate set_to) is_edit o which files conditions =
+          subst₂ (λ ns ms. IsNext IsWork (changes ++ Gate project cs ∷ []) base new ns ms) (sym (append-nil put)) (sym (ap (λ k. gone ++ from_option k) which ∙ append-nil gone))
+          (next_gate project cs (λ q. files q ∙ cond-same (bytes_eq q project) (files_in old q))
+          (λ q. conditions q ∙ ap (λ ds. cond (bytes_eq q project) ds (conditions_in old q)) is_edit))
+      next_edit (Put project path lang text) (edit.Drop p) is_edit o which files conditions = absurd is_edit
+      next_edit (Put project path lang text) (edit.Gate set_to) is_edit o which files conditions = absurd is_edit
+      next_edit (Drop project path) (edit.Put held) is_edit o which files conditions = absurd is_edit
+      next_edit (Drop project path) (edit.Gate set_to) is_edit o which files conditions = absurd is_edit
+      next_edit (Gate project cs) (edit.Put held) is_edit o which files conditions = absurd is_edit
+      next_edit (Gate project cs) (edit.Drop p) is_edit o which files conditions = absurd is_edit
+
+module _ {W : Type 0} (IsWork : Lang → List ℕ → W → Type 0) (number : ℕ) (c : Change) (e : ProjectEdit W) (is_edit : IsEditFor IsWork number c e) (old new : List (Project W)) (names : AreRising name_in new) where
+  -- an edit that the change asks for adds it, where it is made
+  pub edit_adds : {E : Type 0} (name : List ℕ) → name ≡ project_named c → (r : Result (Option ℕ) E) →
+      IfOk r (λ o. o ≡ replaced_by e (files_in old name)) →
+      OnOk r ((q : List ℕ) → files_in new q ≡ cond (bytes_eq q name) (edited_files e (files_in old q)) (files_in old q)) →
+      OnOk r ((q : List ℕ) → conditions_in new q ≡ cond (bytes_eq q name) (edited_conditions e (conditions_in old q)) (conditions_in old q)) →
+      IfOk r (AddsChange IsWork number c old new)
+  edit_adds name named (Err err) which files conditions = tt
+  edit_adds name named (Ok o) which files conditions = λ changes base put gone n is.
+      next_edit IsWork changes number n base old put gone is new names c e is_edit o
+      (which ∙ ap (λ p. replaced_by e (files_in old p)) named)
+      (λ q. files q ∙ ap (λ p. cond (bytes_eq q p) (edited_files e (files_in old q)) (files_in old q)) named)
+      (λ q. conditions q ∙ ap (λ p. cond (bytes_eq q p) (edited_conditions e (conditions_in old q)) (conditions_in old q)) named)

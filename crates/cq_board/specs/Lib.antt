@@ -1,8 +1,8 @@
 pub mod Answers
 pub mod Boards
+pub mod Edits
 pub mod Listings
 pub mod Ordered
-pub mod Parts
 pub mod Presence
 pub mod Related
 pub mod Slots

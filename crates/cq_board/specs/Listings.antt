@@ -25,11 +25,12 @@ number_at p [] = None
 number_at p (f ∷ files) = if bytes_eq p f.path then Some f.number else number_at p files
 
 module _ {W : Type 0} where
-  abbrev pub path_in : Held W → List ℕ
-  path_in h = arc_value h.path
+  abbrev pub path_in : Arc (Held W) Global → List ℕ
+  path_in h = arc_value (arc_value h).path
 
-  abbrev pub file_from : Held W → File W
-  file_from h = record { path = arc_value h.path; number = h.change; lang = h.lang; body = arc_value h.work }
+  -- the file that an owner holds
+  abbrev pub file_from : Arc (Held W) Global → File W
+  file_from h = record { path = path_in h; number = (arc_value h).change; lang = (arc_value h).lang; body = arc_value (arc_value h).work }
 
   abbrev pub name_in : Project W → List ℕ
   name_in p = arc_value p.name
@@ -49,6 +50,11 @@ module _ {W : Type 0} where
   -- the index of a project, or how many there are
   abbrev pub position_of : List ℕ → List (Project W) → ℕ
   position_of q ps = position_or_len (λ (p : Project W). bytes_eq q (name_in p)) ps
+
+  -- both have the same files and conditions of each project
+  pub record HaveSame (old new : List (Project W)) : Type 0 where
+    pub files : (q : List ℕ) → files_in new q ≡ files_in old q
+    pub conditions : (q : List ℕ) → conditions_in new q ≡ conditions_in old q
 
   -- what of a project stays the same where its files' paths and works get other owners
   abbrev pub shown : Project W → List ℕ × List (File W) × List Condition
@@ -71,6 +77,12 @@ pub record Listed (W : Type 0) : Type 0 where
 module _ {W : Type 0} where
   abbrev pub owner_name : Arc (Project W) Global → List ℕ
   owner_name p = name_in (arc_value p)
+
+  abbrev pub projects_in : List (Arc (Project W) Global) → List (Project W)
+  projects_in owners = map arc_value owners
+
+  abbrev pub listed : List (Project W) → List ℕ → Listed W
+  listed projects live = record { projects = projects; live = live }
 
   -- the projects are those after the changes, by name, each file with its work
   pub record IsListing (IsWork : Lang → List ℕ → W → Type 0) (changes : List Change) (l : Listed W) : Type 0 where

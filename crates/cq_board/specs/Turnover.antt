@@ -1,11 +1,12 @@
 -- What a later listing has of its own.
-use Rattle.std.specs.Prelude.{ℕ, ◌≤◌, not, nat_eq, List, [], ◌∷◌, ◌++◌, length, filter, Contains, Option, Some, None}
+use Rattle.std.specs.Prelude.{◌≡◌, ℕ, ◌+◌, ◌≤◌, not, nat_eq, List, [], ◌∷◌, ◌++◌, length, filter, Contains, Option, Some, None}
 use Rattle.std.specs.List.{list_any}
 use Rattle.std.specs.List.Sorted.{IsStrictlyIncreasing}
 use Rattle.cq_base.specs.declared.lang.Lang.{Lang}
 use Rattle.cq_base.specs.declared.change.Change.{Change}
 use Rattle.cq_board.specs.declared.held.Project.{Project}
 use Rattle.cq_board.specs.Listings.{IsListing}
+use Rattle.cq_board.specs.Edits.{put_by}
 
 abbrev pub from_option : Option ℕ → List ℕ
 from_option None = []
@@ -22,3 +23,12 @@ pub record IsNext {W : Type 0} (IsWork : Lang → List ℕ → W → Type 0) (ch
   pub rising : IsStrictlyIncreasing (base ++ put)
   pub known : (r : ℕ) → Contains (base ++ put) r → r ≤ length changes
   pub gone_known : (r : ℕ) → Contains gone r → r ≤ length changes
+
+module _ {W : Type 0} (IsWork : Lang → List ℕ → W → Type 0) (number : ℕ) where
+  -- the projects are those of some changes, to which the one of this number is next
+  abbrev pub IsBefore : List (Project W) → Type 0
+  IsBefore projects = (changes : List Change) × (base : List ℕ) × (put : List ℕ) × (gone : List ℕ) × (length changes + 1 ≡ number) × IsNext IsWork changes base projects put gone
+
+  -- whatever changes the projects were those of, they are those with one change more, which replaced or dropped a file
+  abbrev pub AddsChange : Change → List (Project W) → List (Project W) → Option ℕ → Type 0
+  AddsChange c old new replaced = (changes : List Change) (base put gone : List ℕ) → length changes + 1 ≡ number → IsNext IsWork changes base old put gone → IsNext IsWork (changes ++ c ∷ []) base new (put ++ put_by c number) (gone ++ from_option replaced)

@@ -10,7 +10,7 @@ ghost use Rattle.cq_board.specs.Listings.{IsListing};
 
 use crate::accepting::{refusal, stored, text_len};
 use crate::kept::{FileKey, Kept};
-use crate::listing::{Listing, View, next_listing, turn_to};
+use crate::listing::{Listing, View, advance_to};
 use crate::presence::note;
 use crate::slot_tests::{done_from, first_free, is_done, job_of};
 use crate::{Asked, Finished, Job, Refused};
@@ -110,6 +110,13 @@ impl<W: Indexed> Board<W> {
             Some(work) => Ok(Some(Arc::try_clone(work)?)),
             None => Ok(None),
         }
+    }
+
+    /// The settings that it was made with.
+    pub fn settings(&self) -> &Settings
+        ensures { result.now ≡ self.now.settings }
+    {
+        &self.settings
     }
 
     /// Up to which change all are done.
@@ -231,6 +238,7 @@ impl<W: Indexed> Board<W> {
         requires { IsCaller self.old by }
         ensures taken { IfOk result (λ job. IfSome job (λ j. Adds (event.Took by j.change) self.old self.new)) }
         ensures job { IfOk result (λ job. IfSome job (IsJob self.old.state)) }
+        ensures first { IfOk result (λ job. IfSome job (λ j. j.change ≡ first_free self.old.state)) }
         ensures none { result ≡ Ok None → length self.old.state.slots < first_free self.old.state }
         ensures unchanged { IfOk result (λ job. MatchOption job (self.new ≡ self.old) (λ _. IsAccepted self.old.state (first_free self.old.state))) }
         ensures err { OnErr result (self.new ≡ self.old) }
@@ -256,15 +264,14 @@ impl<W: Indexed> Board<W> {
         ensures adds { OnOk result (Adds (event.Publish version) self.old self.new) }
         ensures err { OnErr result (self.new ≡ self.old) }
     {
-        let next = next_listing(
+        advance_to(
             alloc,
             &self.settings,
             &self.slots,
-            &self.listing,
+            &mut self.listing,
             self.published,
             version,
         )?;
-        turn_to(alloc, &mut self.listing, next)?;
         self.published = version;
         self.events = self.events.wrapping_add(1);
         Ok(())

@@ -3,11 +3,12 @@
 //! numbered from 0.
 //!
 //! Accepting a change costs a slot and a search among the places at which files stand. Taking one looks at the changes
-//! from the first on that may have been free. Publishing costs an owner for each project; a project that changed costs a
-//! copy of its list, which is two owners and two numbers a file, once, and then each of its changes a search and a move in
-//! that list. The numbers of all files are changed in place, a search and a move for each file that was replaced or
-//! dropped; they are copied first where a view still shows the last version. No text, no path and no work is copied: each
-//! is held once, behind an owner that slots, listings and jobs share.
+//! from the first on that may have been free. Publishing one change costs a search and a move in the list of its project,
+//! 8 bytes a file, where no view has that list, and else a copy of it, an owner a file. Publishing several at once costs
+//! an owner for each project and one copy of the list of each project that changed, and then each change a search and a
+//! move in that list. The numbers of all files are changed in place, in one walk where many were replaced or dropped;
+//! they are copied first where a view still shows the last version. No text, no path and no work is copied: each is held
+//! once, behind an owner that slots, listings and jobs share.
 #![tactic(auto)]
 
 mod accepting;
@@ -18,8 +19,8 @@ mod held;
 mod kept;
 mod listing;
 mod live;
-mod parts;
 mod presence;
+mod projects;
 mod slot_tests;
 
 pub use answers::{Asked, Finished, Job, Refused};

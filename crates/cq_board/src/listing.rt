@@ -1,25 +1,23 @@
-ghost use Rattle.std.specs.Prelude.{◌≡◌, ◌+◌, ◌<◌, ◌≤◌, ◌↔◌, ℕ, [], ◌∷◌, ◌++◌, List, IfOk, IfErr, OnOk, OnErr, true, length, take, map, All, Contains};
+ghost use Rattle.std.specs.Prelude.{◌≡◌, ◌+◌, ◌<◌, ◌≤◌, ◌↔◌, ℕ, [], ◌∷◌, ◌++◌, List, IfOk, OnOk, OnErr, true, length, take, map, All, Contains};
 ghost use Rattle.std.specs.List.Sorted.{IsStrictlyIncreasing};
-ghost use Rattle.cq_board.specs.Turnover.{IsNext};
 ghost use Rattle.std.specs.Arc.{arc_value};
 ghost use Rattle.std.specs.List.{prefix_len};
-ghost use Rattle.std.specs.Ordering.{nat_cmp};
-ghost use Rattle.std.specs.Cmp.Lexicographic.{slice_cmp};
 ghost use Rattle.cq_base.specs.declared.change.Change.{Change};
-ghost use Rattle.cq_history.specs.State.{changes_in, is_done};
-ghost use Rattle.cq_board.specs.Slots.{slot_from, change_of, state_from, IsWorked};
-ghost use Rattle.cq_board.specs.Ordered.{AreRising, IsAt, IsGap};
-ghost use Rattle.cq_board.specs.Listings.{IsListing, owner_name, file_from, files_in, conditions_in};
-ghost use Rattle.cq_board.specs.Parts.{project_in, projects_in};
+ghost use Rattle.cq_history.specs.State.{is_done};
+ghost use Rattle.cq_board.specs.Slots.{slot_from, change_of, IsWorked};
+ghost use Rattle.cq_board.specs.Boards.{changes_from};
+ghost use Rattle.cq_board.specs.Edits.{IsEditFor, project_named, put_by};
+ghost use Rattle.cq_board.specs.Ordered.{AreRising};
+ghost use Rattle.cq_board.specs.Listings.{IsListing, HaveSame, owner_name, projects_in, file_from, files_in, conditions_in};
+ghost use Rattle.cq_board.specs.Turnover.{IsNext, IsBefore, AddsChange, from_option};
 
 use crate::held::{Held, Project};
 use crate::kept::{Kept, Stored};
-use crate::live::{Turnover, note, turn};
-use crate::parts::{Part, drop_in, gate_in, put_in};
+use crate::live::{Turnover, note, turn, turn_one};
+use crate::projects::{ProjectEdit, edit_in, find};
 use cq_base::{Condition, Memory, Settings, Text};
 use cq_shard::Indexed;
 use std::alloc::Global;
-use std::cmp::Ordering;
 use std::marker::Model;
 use std::sync::Arc;
 
@@ -44,22 +42,6 @@ impl<W> Model for Listing<W> {
     ghost invariant = { λ l. AreRising owner_name l.projects.items };
 }
 
-// How the project's name compares, byte by byte.
-fn compare<W>(project: &Arc<Project<W>, Global>, name: &Text) -> Ordering
-    ensures { result ≡ slice_cmp nat_cmp (owner_name project.now) name.now }
-{
-    project.name.as_bytes().cmp(name.as_bytes())
-}
-
-// Where the project is among others in the order of their names, or where it belongs.
-fn find<W>(projects: &[Arc<Project<W>, Global>], name: &Text) -> Result<usize, usize>
-    requires { AreRising owner_name projects.now }
-    ensures found { IfOk result (IsAt owner_name name.now projects.now) }
-    ensures gap { IfErr result (IsGap owner_name name.now projects.now) }
-{
-    projects.binary_search_by(|project| compare(project, name))
-}
-
 impl<W> Listing<W> {
     /// A listing of no project.
     pub(crate) fn new(alloc: Global) -> Listing<W>
@@ -72,7 +54,7 @@ impl<W> Listing<W> {
     }
 
     /// The files of a project in path order, none where it has none. It costs a search among the projects.
-    pub fn files(&self, project: &Text) -> &[Held<W>]
+    pub fn files(&self, project: &Text) -> &[Arc<Held<W>, Global>]
         ensures { map file_from result.now ≡ files_in self.now.projects project.now }
     {
         match find(&self.projects, project) {
@@ -109,19 +91,38 @@ pub struct View<W> {
     pub listing: Arc<Listing<W>, Global>,
 }
 
-// What comes next, with one change more, which is the one with the next number and done.
-fn advance<W: Indexed>(
+// The project that a change names.
+fn project_of(change: &Stored) -> &Arc<Text, Global>
+    ensures { arc_value result.now ≡ project_named (change_of change.now) }
+{
+    match change {
+        Stored::Put { file, .. } => &file.project,
+        Stored::Drop { file } => &file.project,
+        Stored::Gate { project, .. } => project,
+    }
+}
+
+// The number of a change that puts a file.
+fn put_number(change: &Stored, number: u64) -> Option<u64>
+    ensures { from_option result ≡ put_by (change_of change.now) number }
+{
+    match change {
+        Stored::Put { .. } => Some(number),
+        Stored::Drop { .. } => None,
+        Stored::Gate { .. } => None,
+    }
+}
+
+// The edit that a change asks for, which is done.
+fn edit_of<W: Indexed>(
     alloc: Global,
     settings: &Settings,
-    parts: &mut Vec<Part<W>>,
-    turnover: &mut Turnover,
     number: u64,
     kept: &Kept<W>,
-) -> Result<(), Memory>
+) -> Result<ProjectEdit<W>, Memory>
     requires done { is_done (slot_from kept.now) ≡ true }
     requires work { IsWorked (W.IsWorkOf settings.now) kept.now }
-    requires next { (changes : List Change) × (base : List ℕ) × (length changes + 1 ≡ number) × IsNext (W.IsWorkOf settings.now) changes base (projects_in parts.old.items) turnover.old.put.items turnover.old.gone.items }
-    ensures { OnOk result ((changes : List Change) (base : List ℕ) → length changes + 1 ≡ number → IsNext (W.IsWorkOf settings.now) changes base (projects_in parts.old.items) turnover.old.put.items turnover.old.gone.items → IsNext (W.IsWorkOf settings.now) (changes ++ change_of kept.now.change ∷ []) base (projects_in parts.new.items) turnover.new.put.items turnover.new.gone.items) }
+    ensures { IfOk result (IsEditFor (W.IsWorkOf settings.now) number (change_of kept.now.change)) }
 {
     match &kept.change {
         Stored::Put { file, lang, .. } => match &kept.work {
@@ -134,62 +135,48 @@ fn advance<W: Indexed>(
                     lang: *lang,
                     work,
                 };
-                let replaced = put_in(alloc, parts, &file.project, held)?;
-                turnover.put.push(number)?;
-                note(&mut turnover.gone, replaced)
+                Ok(ProjectEdit::Put(Arc::new(alloc, held)?))
             }
             None => unreachable!(),
         },
-        Stored::Drop { file } => {
-            let dropped = drop_in(alloc, parts, &file.project, &file.path)?;
-            note(&mut turnover.gone, dropped)
-        }
-        Stored::Gate {
-            project,
-            conditions,
-        } => {
-            gate_in(alloc, parts, project, conditions)?;
-            Ok(())
-        }
+        Stored::Drop { file } => Ok(ProjectEdit::Drop(Arc::try_clone(&file.path)?)),
+        Stored::Gate { conditions, .. } => Ok(ProjectEdit::Gate(Arc::try_clone(conditions)?)),
     }
 }
 
-// The projects, shared.
+// Makes one change more, which is the one with the next number and done. It answers the change whose file it replaced or
+// dropped, if there was one.
+fn apply_change<W: Indexed>(
+    alloc: Global,
+    settings: &Settings,
+    projects: &mut Vec<Arc<Project<W>, Global>>,
+    number: u64,
+    kept: &Kept<W>,
+) -> Result<Option<u64>, Memory>
+    requires done { is_done (slot_from kept.now) ≡ true }
+    requires work { IsWorked (W.IsWorkOf settings.now) kept.now }
+    requires before { IsBefore (W.IsWorkOf settings.now) number (projects_in projects.old.items) }
+    ensures names { AreRising owner_name projects.new.items }
+    ensures next { IfOk result (AddsChange (W.IsWorkOf settings.now) number (change_of kept.now.change) (projects_in projects.old.items) (projects_in projects.new.items)) }
+    ensures unchanged { OnErr result (HaveSame (projects_in projects.old.items) (projects_in projects.new.items)) }
+{
+    let edit = edit_of(alloc, settings, number, kept)?;
+    edit_in(alloc, projects, project_of(&kept.change), edit)
+}
+
+// The same projects, an owner more for each.
 fn shared<W: Drop>(
     alloc: Global,
     projects: &[Arc<Project<W>, Global>],
-) -> Result<Vec<Part<W>>, Memory>
-    ensures { IfOk result (λ parts. projects_in parts.items ≡ map arc_value projects.now) }
+) -> Result<Vec<Arc<Project<W>, Global>>, Memory>
+    ensures { IfOk result (λ all. projects_in all.items ≡ projects_in projects.now) }
 {
-    let mut parts = Vec::with_capacity(alloc, projects.len())?;
+    let mut all = Vec::with_capacity(alloc, projects.len())?;
     for project in projects {
         let project = Arc::try_clone(project)?;
-        parts.push(Part::Shared(project))?;
+        all.push(project)?;
     }
-    Ok(parts)
-}
-
-fn owner<W: Drop>(alloc: Global, part: Part<W>) -> Result<Arc<Project<W>, Global>, Memory>
-    ensures { IfOk result (λ project. arc_value project ≡ project_in part) }
-{
-    match part {
-        Part::Shared(project) => Ok(project),
-        Part::Own(project) => Ok(Arc::new(alloc, project)?),
-    }
-}
-
-// An owner for each project.
-fn owners<W: Drop>(
-    alloc: Global,
-    parts: Vec<Part<W>>,
-) -> Result<Vec<Arc<Project<W>, Global>>, Memory>
-    ensures { IfOk result (λ projects. map arc_value projects.items ≡ projects_in parts.items) }
-{
-    let mut projects = Vec::with_capacity(alloc, parts.len())?;
-    for part in parts {
-        projects.push(owner(alloc, part)?)?;
-    }
-    Ok(projects)
+    Ok(all)
 }
 
 /// What the listing of a later version has of its own: its projects, and the numbers that come and go.
@@ -201,7 +188,7 @@ pub struct Next<W> {
 
 /// What comes next to an earlier listing. It costs an owner for each project, and for each project that changed a copy of
 /// its list of files, which shares their paths and works.
-pub fn next_listing<W: Indexed>(
+fn next_listing<W: Indexed>(
     alloc: Global,
     settings: &Settings,
     slots: &[Kept<W>],
@@ -212,28 +199,23 @@ pub fn next_listing<W: Indexed>(
     requires order { before ≤ version }
     requires done { version ≤ prefix_len is_done (map slot_from slots.now) }
     requires works { All (IsWorked (W.IsWorkOf settings.now)) slots.now }
-    requires listing { IsListing (W.IsWorkOf settings.now) (take before (changes_in (state_from slots.now 0 0 []))) old.now }
-    ensures { IfOk result (λ next. IsNext (W.IsWorkOf settings.now) (take version (changes_in (state_from slots.now 0 0 []))) old.now.live (map arc_value next.projects.items) next.turnover.put.items next.turnover.gone.items) }
+    requires listing { IsListing (W.IsWorkOf settings.now) (take before (changes_from slots.now)) old.now }
+    ensures { IfOk result (λ next. IsNext (W.IsWorkOf settings.now) (take version (changes_from slots.now)) old.now.live (map arc_value next.projects.items) next.turnover.put.items next.turnover.gone.items) }
 {
-    let mut parts = shared(alloc, &old.projects)?;
+    let mut projects = shared(alloc, &old.projects)?;
     let mut turnover = Turnover::new(alloc);
     for number in before..version {
-        advance(
-            alloc,
-            settings,
-            &mut parts,
-            &mut turnover,
-            number + 1,
-            &slots[number as usize],
-        )?;
+        let kept = &slots[number as usize];
+        let replaced = apply_change(alloc, settings, &mut projects, number + 1, kept)?;
+        note(&mut turnover.put, put_number(&kept.change, number + 1))?;
+        note(&mut turnover.gone, replaced)?;
     }
-    let projects = owners(alloc, parts)?;
     Ok(Next { projects, turnover })
 }
 
-/// Makes the listing the next one. Where nobody else has it, its numbers are changed in place; else they are copied, 8
+// Makes the listing the next one. Where nobody else has it, its numbers are changed in place; else they are copied, 8
 /// bytes a file. Where memory is refused, it shows what it did.
-pub fn turn_to<W: Drop>(
+fn turn_to<W: Drop>(
     alloc: Global,
     listing: &mut Arc<Listing<W>, Global>,
     next: Next<W>,
@@ -264,4 +246,92 @@ pub fn turn_to<W: Drop>(
             Ok(())
         }
     }
+}
+
+// The listing with one change more, which is the one with the next number and done. Nothing of it is copied that nobody
+// else has. Where memory is refused, it is that of as many changes as before.
+fn advance_own<W: Indexed>(
+    alloc: Global,
+    settings: &Settings,
+    own: &mut Listing<W>,
+    number: u64,
+    kept: &Kept<W>,
+) -> Result<(), Memory>
+    requires done { is_done (slot_from kept.now) ≡ true }
+    requires work { IsWorked (W.IsWorkOf settings.now) kept.now }
+    requires listing { (changes : List Change) × (length changes + 1 ≡ number) × IsListing (W.IsWorkOf settings.now) changes own.old }
+    ensures next { OnOk result ((changes : List Change) → length changes + 1 ≡ number → IsListing (W.IsWorkOf settings.now) changes own.old → IsListing (W.IsWorkOf settings.now) (changes ++ change_of kept.now.change ∷ []) own.new) }
+    ensures unchanged { OnErr result ((changes : List Change) → IsListing (W.IsWorkOf settings.now) changes own.old → IsListing (W.IsWorkOf settings.now) changes own.new) }
+{
+    own.live.reserve(1)?;
+    let replaced = apply_change(alloc, settings, &mut own.projects, number, kept)?;
+    turn_one(&mut own.live, put_number(&kept.change, number), replaced);
+    Ok(())
+}
+
+// The listing of a later version, with an owner for each project, and for each project that changed a copy of its list of
+// files.
+fn advance_copied<W: Indexed>(
+    alloc: Global,
+    settings: &Settings,
+    slots: &[Kept<W>],
+    listing: &mut Arc<Listing<W>, Global>,
+    before: u64,
+    version: u64,
+) -> Result<(), Memory>
+    requires order { before < version }
+    requires done { version ≤ prefix_len is_done (map slot_from slots.now) }
+    requires works { All (IsWorked (W.IsWorkOf settings.now)) slots.now }
+    requires listing { IsListing (W.IsWorkOf settings.now) (take before (changes_from slots.now)) (arc_value listing.old) }
+    ensures next { OnOk result (IsListing (W.IsWorkOf settings.now) (take version (changes_from slots.now)) (arc_value listing.new)) }
+    ensures unchanged { OnErr result (IsListing (W.IsWorkOf settings.now) (take before (changes_from slots.now)) (arc_value listing.new)) }
+{
+    let next = next_listing(alloc, settings, slots, listing, before, version)?;
+    turn_to(alloc, listing, next)
+}
+
+// The listing of the next version, made in place where nobody else has it.
+fn advance_one<W: Indexed>(
+    alloc: Global,
+    settings: &Settings,
+    slots: &[Kept<W>],
+    listing: &mut Arc<Listing<W>, Global>,
+    before: u64,
+    version: u64,
+) -> Result<(), Memory>
+    requires one { before + 1 ≡ version }
+    requires done { version ≤ prefix_len is_done (map slot_from slots.now) }
+    requires works { All (IsWorked (W.IsWorkOf settings.now)) slots.now }
+    requires listing { IsListing (W.IsWorkOf settings.now) (take before (changes_from slots.now)) (arc_value listing.old) }
+    ensures next { OnOk result (IsListing (W.IsWorkOf settings.now) (take version (changes_from slots.now)) (arc_value listing.new)) }
+    ensures unchanged { OnErr result (IsListing (W.IsWorkOf settings.now) (take before (changes_from slots.now)) (arc_value listing.new)) }
+{
+    match Arc::get_mut(listing) {
+        Some(own) => advance_own(alloc, settings, own, version, &slots[before as usize]),
+        None => advance_copied(alloc, settings, slots, listing, before, version),
+    }
+}
+
+/// Makes the listing that of a later version. One change alone is made in place where nobody else has what it changes.
+/// Several cost an owner for each project, and for each project that changed a copy of its list of files. Where memory is
+/// refused, it is that of the version before.
+pub fn advance_to<W: Indexed>(
+    alloc: Global,
+    settings: &Settings,
+    slots: &[Kept<W>],
+    listing: &mut Arc<Listing<W>, Global>,
+    before: u64,
+    version: u64,
+) -> Result<(), Memory>
+    requires order { before < version }
+    requires done { version ≤ prefix_len is_done (map slot_from slots.now) }
+    requires works { All (IsWorked (W.IsWorkOf settings.now)) slots.now }
+    requires listing { IsListing (W.IsWorkOf settings.now) (take before (changes_from slots.now)) (arc_value listing.old) }
+    ensures next { OnOk result (IsListing (W.IsWorkOf settings.now) (take version (changes_from slots.now)) (arc_value listing.new)) }
+    ensures unchanged { OnErr result (IsListing (W.IsWorkOf settings.now) (take before (changes_from slots.now)) (arc_value listing.new)) }
+{
+    if version == before + 1 {
+        return advance_one(alloc, settings, slots, listing, before, version);
+    }
+    advance_copied(alloc, settings, slots, listing, before, version)
 }

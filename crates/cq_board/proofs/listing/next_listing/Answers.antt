@@ -1,17 +1,16 @@
 use Rattle.std.specs.Arc.{arc_value}
 use Rattle.cq_board.specs.declared.held.Project.{Project}
 use Rattle.cq_board.specs.Boards.{changes_from}
-use Rattle.std.proofs.Common.{subst₂, ◌≡◌, ◌<◌, ◌≤◌, ◌+◌, ℕ, List, [], length, map, take, arith, sym, ap, ◌∙◌, subst}
+use Rattle.std.proofs.Common.{◌∷◌, ◌++◌, subst₂, ◌≡◌, ◌<◌, ◌≤◌, ◌+◌, ℕ, List, [], length, map, take, arith, sym, ap, ◌∙◌, subst}
 use Rattle.std.specs.List.{prefix_len}
 use Rattle.std.proofs.lemmas.List.{length-map, length-take-le}
 use Rattle.std.proofs.lemmas.List.Sums.{prefix_len-le-length, prefix_len_passes}
 use Rattle.std.proofs.lemmas.List.Elements.{All-get_or}
 use Rattle.cq_base.specs.declared.change.Change.{Change}
-use Rattle.cq_history.specs.State.{Slot, no_slot, is_done, changes_in}
+use Rattle.cq_history.specs.State.{Slot, no_slot, is_done}
 use Rattle.cq_board.specs.declared.kept.Kept.{Kept}
-use Rattle.cq_board.specs.Slots.{slot_from, state_from, IsWorked}
-use Rattle.cq_board.specs.Listings.{Listed}
-use Rattle.cq_board.specs.Parts.{projects_in}
+use Rattle.cq_board.specs.Slots.{slot_from, change_of, IsWorked}
+use Rattle.cq_board.specs.Listings.{Listed, projects_in}
 use Rattle.cq_board.specs.Turnover.{IsNext}
 use Rattle.cq_board.proofs.Turning.{next_first}
 use Rattle.cq_board.proofs.SlotLists.{slot_read}
@@ -25,7 +24,7 @@ pub loop-number-init : goal.loop-number-init
 loop-number-init g c =
     let IsWork = g.W.Indexed.IsWorkOf c.args.settings.now in
     let changes = take c.args.before (changes_from c.args.slots.now) in
-    let same : projects_in c.in_ok-parts.parts.items ≡ c.args.old.now.projects = c.in_ok-parts.ensures ∙ ap (map arc_value) c.deref.ensures.value ∙ ap (λ (l : Listed g.row.W.Denot). l.projects) c.old.view_is in
+    let same : projects_in c.in_ok-projects.projects.items ≡ c.args.old.now.projects = c.in_ok-projects.ensures ∙ ap (map arc_value) c.deref.ensures.value ∙ ap (λ (l : Listed g.row.W.Denot). l.projects) c.old.view_is in
     subst (λ ps. IsNext IsWork changes c.args.old.now.live ps c.new-turnover.result.put.items c.new-turnover.result.gone.items) (sym same)
     (subst₂ (λ put gone. IsNext IsWork changes c.args.old.now.live c.args.old.now.projects put gone) (sym c.new-turnover.ensures.put) (sym c.new-turnover.ensures.gone)
     (next_first IsWork changes c.args.old.now c.requires.listing))
@@ -36,14 +35,14 @@ bounds-slots-number g c = within c.args.slots.now c.loop-number.number c.args.ve
 pub offset_bounds-slots-number : goal.offset_bounds-slots-number
 offset_bounds-slots-number g c = let lt = within c.args.slots.now c.loop-number.number c.args.version c.loop-number-test.true c.requires.done in omega (arith, lt, c.well_formed)
 
-pub advance-requires-clause-done : goal.advance-requires-clause-done
-advance-requires-clause-done g c =
+pub apply_change-requires-clause-done : goal.apply_change-requires-clause-done
+apply_change-requires-clause-done g c =
     let lt = within c.args.slots.now c.loop-number.number c.args.version c.loop-number-test.true c.requires.done in
     ap is_done (sym (slot_read c.args.slots.now c.loop-number.number c.index-slots-number.result lt c.index-slots-number.is))
     ∙ prefix_len_passes is_done (map slot_from c.args.slots.now) c.loop-number.number no_slot (omega (arith, c.loop-number-test.true, c.requires.done))
 
-pub advance-requires-clause-work : goal.advance-requires-clause-work
-advance-requires-clause-work g c =
+pub apply_change-requires-clause-work : goal.apply_change-requires-clause-work
+apply_change-requires-clause-work g c =
     let lt = within c.args.slots.now c.loop-number.number c.args.version c.loop-number-test.true c.requires.done in
     let P : Kept g.row.W.Denot → Type 0 = IsWorked (g.W.Indexed.IsWorkOf c.args.settings.now) in
     subst P (sym c.index-slots-number.is) (All-get_or P c.args.slots.now c.loop-number.number c.index-slots-number.result lt c.requires.works)
@@ -51,21 +50,23 @@ advance-requires-clause-work g c =
 pub loop-number-preserved : goal.loop-number-preserved
 loop-number-preserved g c =
     let lt = within c.args.slots.now c.loop-number.number c.args.version c.loop-number-test.true c.requires.done in
-    let changes : List Change = changes_in (state_from c.args.slots.now 0 0 []) in
+    let changes : List Change = changes_from c.args.slots.now in
     let few : length changes ≡ length c.args.slots.now = length-map (map slot_from c.args.slots.now) (λ (s : Slot). s.change) ∙ length-map c.args.slots.now (slot_from {W = g.row.W.Denot}) in
-    let P : List Change → Type 0 = λ cs. IsNext (g.W.Indexed.IsWorkOf c.args.settings.now) cs c.args.old.now.live (projects_in c.advance.new.parts.items) c.advance.new.turnover.put.items c.advance.new.turnover.gone.items in
+    let IsWork = g.W.Indexed.IsWorkOf c.args.settings.now in
+    let P : List Change → Type 0 = λ cs. IsNext IsWork cs c.args.old.now.live (projects_in c.apply_change.new.projects.items) c.note.new.gone.items c.note-in-loop-number.new.gone.items in
     subst P (sym (next_changes c.args.slots.now c.loop-number.number c.index-slots-number.result lt c.index-slots-number.is))
-    (c.in_ok-advance.ensures (take c.loop-number.number changes) c.args.old.now.live (ap (λ n. n + 1) (length-take-le c.loop-number.number changes (omega (arith, few, lt)))) c.loop-number.invariant)
+    (subst₂ (λ put gone. IsNext IsWork (take c.loop-number.number changes ++ change_of c.index-slots-number.result.change ∷ []) c.args.old.now.live (projects_in c.apply_change.new.projects.items) put gone)
+    (sym (c.in_ok-note.ensures ∙ ap (λ xs. c.loop-number.turnover.put.items ++ xs) c.put_number.ensures)) (sym c.in_ok-note-2.ensures)
+    (c.in_ok-replaced.ensures.next (take c.loop-number.number changes) c.args.old.now.live c.loop-number.turnover.put.items c.loop-number.turnover.gone.items (ap (λ n. n + 1) (length-take-le c.loop-number.number changes (omega (arith, few, lt)))) c.loop-number.invariant))
 
-pub advance-requires-clause-next : goal.advance-requires-clause-next
-advance-requires-clause-next g c =
+pub apply_change-requires-clause-before : goal.apply_change-requires-clause-before
+apply_change-requires-clause-before g c =
     let lt = within c.args.slots.now c.loop-number.number c.args.version c.loop-number-test.true c.requires.done in
     let changes : List Change = changes_from c.args.slots.now in
     let few : length changes ≡ length c.args.slots.now = length-map (map slot_from c.args.slots.now) (λ (s : Slot). s.change) ∙ length-map c.args.slots.now (slot_from {W = g.row.W.Denot}) in
-    (take c.loop-number.number changes, c.args.old.now.live, ap (λ n. n + 1) (length-take-le c.loop-number.number changes (omega (arith, few, lt))), c.loop-number.invariant)
+    (take c.loop-number.number changes, c.args.old.now.live, c.loop-number.turnover.put.items, c.loop-number.turnover.gone.items, ap (λ n. n + 1) (length-take-le c.loop-number.number changes (omega (arith, few, lt))), c.loop-number.invariant)
 
 pub returns : goal.returns
 returns g c =
     let end : c.loop-number.number ≡ c.args.version = omega (arith, c.loop-number-test.false, c.loop-number.auto.number-end) in
-    subst (λ (ps : List (Project g.row.W.Denot)). IsNext (g.W.Indexed.IsWorkOf c.args.settings.now) (take c.args.version (changes_from c.args.slots.now)) c.args.old.now.live ps c.loop-number.turnover.put.items c.loop-number.turnover.gone.items) (sym c.in_ok-projects.ensures)
-    (subst (λ n. IsNext (g.W.Indexed.IsWorkOf c.args.settings.now) (take n (changes_from c.args.slots.now)) c.args.old.now.live (projects_in c.loop-number.parts.items) c.loop-number.turnover.put.items c.loop-number.turnover.gone.items) end c.loop-number.invariant)
+    subst (λ n. IsNext (g.W.Indexed.IsWorkOf c.args.settings.now) (take n (changes_from c.args.slots.now)) c.args.old.now.live (projects_in c.loop-number.projects.items) c.loop-number.turnover.put.items c.loop-number.turnover.gone.items) end c.loop-number.invariant

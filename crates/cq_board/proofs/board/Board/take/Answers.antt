@@ -60,6 +60,13 @@ returns-clause-taken g c =
     (took_state c.self.inside.slots.items c.self.inside.published c.self.inside.floor c.self.inside.views.items c.first_free-i.result c.args.by c.in_ok-job.job.change c.index_mut-kept.result.now within c.index_mut-kept.ensures.value c.in_ok-job.ensures.number)
     c.requires (is_next c.self.inside.slots.items c.self.inside.published c.self.inside.floor c.self.inside.views.items c.first_free-i.result c.in_ok-job.job.change first within c.in_ok-job.ensures.number)
 
+pub returns-clause-first : goal.returns-clause-first
+returns-clause-first g c =
+    let within = below_end c.first_free-i.result c.len.result _ c.deref.result.now c.self.inside.slots.items c.first_free-i.ensures.within c.if-i-len.false c.len.ensures c.deref.ensures.len c.deref.ensures.value in
+    let first = c.first_free-i.ensures.first ∙ ap (λ xs. position_or_len is_free (map (slot_from {W = g.row.W.Denot}) xs)) c.deref.ensures.value in
+    (is_next c.self.inside.slots.items c.self.inside.published c.self.inside.floor c.self.inside.views.items c.first_free-i.result c.in_ok-job.job.change first within c.in_ok-job.ensures.number).0
+    ∙ ap (λ (b : BoardState). first_free b.state) c.self.view_is
+
 pub returns-clause-unchanged : goal.returns-clause-unchanged
 returns-clause-unchanged g c =
     let within = below_end c.first_free-i.result c.len.result _ c.deref.result.now c.self.inside.slots.items c.first_free-i.ensures.within c.if-i-len.false c.len.ensures c.deref.ensures.len c.deref.ensures.value in

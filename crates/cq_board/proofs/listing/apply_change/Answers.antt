@@ -1,0 +1,26 @@
+use Rattle.std.proofs.Common.{ℕ, List, ◌++◌}
+use Rattle.std.specs.Arc.{arc_value}
+use Rattle.cq_board.specs.Slots.{change_of}
+use Rattle.cq_board.specs.Listings.{projects_in}
+use Rattle.cq_board.specs.Turnover.{left}
+use Rattle.cq_board.proofs.OwnerLists.{rising_owners, rising_projects}
+use Rattle.cq_board.proofs.Advances.{paths_rise}
+use Rattle.cq_board.proofs.Turning.{edit_adds}
+use Rattle.cq_board.proofs.listing.apply_change.Goals as goal
+
+pub edit_in-requires-clause-names : goal.edit_in-requires-clause-names
+edit_in-requires-clause-names g c = let (changes, base, put, gone, n, is) = c.requires.before in rising_owners c.args.projects.now.items is.listing.names
+
+pub edit_in-requires-clause-paths : goal.edit_in-requires-clause-paths
+edit_in-requires-clause-paths g c =
+    let (changes, base, put, gone, n, is) = c.requires.before in
+    paths_rise (g.W.Indexed.IsWorkOf c.args.settings.now) changes c.args.number n (projects_in c.args.projects.now.items) (left (base ++ put) gone) is.listing
+
+pub returns-clause-next : goal.returns-clause-next
+returns-clause-next g c =
+    edit_adds (g.W.Indexed.IsWorkOf c.args.settings.now) c.args.number (change_of c.args.kept.now.change) c.in_ok-edit.edit c.in_ok-edit.ensures (projects_in c.args.projects.now.items) (projects_in c.edit_in.new.projects.items)
+    (rising_projects c.edit_in.new.projects.items c.edit_in.ensures.names) (arc_value c.project_of.result.now) c.project_of.ensures
+    c.edit_in.result c.edit_in.ensures.number c.edit_in.ensures.files c.edit_in.ensures.conditions
+
+pub returns-in_err-edit-clause-names : goal.returns-in_err-edit-clause-names
+returns-in_err-edit-clause-names g c = let (changes, base, put, gone, n, is) = c.requires.before in rising_owners c.args.projects.now.items is.listing.names
