@@ -6,6 +6,7 @@ use Rattle.std.proofs.lemmas.List.Elements.{All-get_or}
 use Rattle.std.specs.Prelude.{◌||◌, not, All}
 use Rattle.std.specs.List.{prefix_len, fold}
 use Rattle.cq_base.specs.declared.settings.Settings.{Settings}
+use Rattle.cq_base.proofs.Bools.{or-true}
 use Rattle.cq_history.specs.declared.event.Event.{Event}
 use Rattle.cq_history.specs.declared.event.Event.TheVariants.{Accept, Ask, Took, Back, Done, Publish, Open, Shut, Floor}
 use Rattle.cq_history.specs.Changes.{is_put}
@@ -25,17 +26,13 @@ prefix_len-set-le (x ∷ xs) zero y up = grind arith
 prefix_len-set-le (x ∷ xs) (suc i) y up =
     elim (is_done x) as (λ b. cond b (1 + prefix_len is_done xs) 0 ≤ cond b (1 + prefix_len is_done (set xs i y)) 0) [ true ↦ omega (arith, prefix_len-set-le xs i y up) | false ↦ omega arith ]
 
-or_true : (b : Bool) → (b || true) ≡ true
-or_true true = refl
-or_true false = refl
-
 -- ready never falls
 pub ready_after : (s : State) (e : Event) → ready s ≤ ready (after s e)
 ready_after s (Accept by change) = prefix_len-append-le s.slots _
 ready_after s (Ask by) = omega arith
 ready_after s (Took by r) = prefix_len-set-le s.slots (r - 1) _ (λ h. h)
 ready_after s (Back by r) = prefix_len-set-le s.slots (r - 1) _ (λ h. h)
-ready_after s (Done by r) = prefix_len-set-le s.slots (r - 1) _ (λ h. or_true (not (is_put (slot_of s r).change)))
+ready_after s (Done by r) = prefix_len-set-le s.slots (r - 1) _ (λ h. or-true (not (is_put (slot_of s r).change)))
 ready_after s (Publish p) = omega arith
 ready_after s (Open by p) = omega arith
 ready_after s (Shut by) = omega arith
@@ -89,7 +86,7 @@ in_order_after set s (Floor f) i ok = record {
   views = λ c v h. (open_below s.views f c v ok.1.2 h, (i.views c v h).1);
 }
 
-no_view : (n c : ℕ) → get_or (replicate n (let none : Option ℕ = None in none)) c None ≡ None
+pub no_view : (n c : ℕ) → get_or (replicate n (let none : Option ℕ = None in none)) c None ≡ None
 no_view zero c = refl
 no_view (suc n) zero = refl
 no_view (suc n) (suc c) = no_view n c

@@ -27,16 +27,16 @@ reached_after s (Open by p) applied ask h = h
 reached_after s (Shut by) applied ask h = h
 reached_after s (Floor f) applied ask h = h
 
-pub floor_after : (set : Settings) (s : State) (e : Event) → Allowed set s e → s.floor ≤ (after s e).floor
-floor_after set s (Accept by change) ok = omega arith
-floor_after set s (Ask by) ok = omega arith
-floor_after set s (Took by r) ok = omega arith
-floor_after set s (Back by r) ok = omega arith
-floor_after set s (Done by r) ok = omega arith
-floor_after set s (Publish p) ok = omega arith
-floor_after set s (Open by p) ok = omega arith
-floor_after set s (Shut by) ok = omega arith
-floor_after set s (Floor f) ok = omega (arith, ok.1.0)
+pub floor-rises : (set : Settings) (s : State) (e : Event) → Allowed set s e → s.floor ≤ (after s e).floor
+floor-rises set s (Accept by change) ok = omega arith
+floor-rises set s (Ask by) ok = omega arith
+floor-rises set s (Took by r) ok = omega arith
+floor-rises set s (Back by r) ok = omega arith
+floor-rises set s (Done by r) ok = omega arith
+floor-rises set s (Publish p) ok = omega arith
+floor-rises set s (Open by p) ok = omega arith
+floor-rises set s (Shut by) ok = omega arith
+floor-rises set s (Floor f) ok = omega (arith, ok.1.0)
 
 pub step_is_sound : (set : Settings) (callers : ℕ) (k : Core) (step : Step) → IsSound set callers k → MayStep set callers k step → IsSound set callers (stepped k step)
 step_is_sound set callers k (Adds e) is may =
@@ -45,7 +45,7 @@ step_is_sound set callers k (Adds e) is may =
       lawful = Lawful_push set callers k.history e is.lawful may.0;
       applied = subst (λ t. All (IsReached t) k.applied) (sym (state_push callers k.history e)) (reached_after s e k.applied may.1 is.applied);
       floors = subst (λ t. All (λ f. f ≤ t.floor) k.floors) (sym (state_push callers k.history e))
-          (All-weaker (λ f. f ≤ s.floor) (λ f. f ≤ (after s e).floor) (λ f le. omega (arith, le, floor_after set s e may.0)) k.floors is.floors);
+          (All-weaker (λ f. f ≤ s.floor) (λ f. f ≤ (after s e).floor) (λ f le. omega (arith, le, floor-rises set s e may.0)) k.floors is.floors);
     }
 step_is_sound set callers k (Applies shard) is may =
     let here : IsReached (state callers k.history) (get_or k.applied shard 0) = All-get_or (IsReached (state callers k.history)) k.applied shard 0 may.0 is.applied in

@@ -10,24 +10,24 @@ use Rattle.cq_history.specs.Core.{IsReached, IsAppliedFor}
 use Rattle.cq_history.specs.Laws.{IsPartOf}
 use Rattle.cq_history.proofs.States.{state-append, LawfulFrom-rest}
 use Rattle.cq_history.proofs.Bounds.{ready-append}
-use Rattle.cq_history.proofs.Cores.{floor_after, reached_after}
+use Rattle.cq_history.proofs.Cores.{floor-rises, reached_after}
 
-published_after : (set : Settings) (s : State) (e : Event) → Allowed set s e → s.published ≤ (after s e).published
-published_after set s (Accept by change) ok = omega arith
-published_after set s (Ask by) ok = omega arith
-published_after set s (Took by r) ok = omega arith
-published_after set s (Back by r) ok = omega arith
-published_after set s (Done by r) ok = omega arith
-published_after set s (Publish p) ok = omega (arith, ok.1.0)
-published_after set s (Open by p) ok = omega arith
-published_after set s (Shut by) ok = omega arith
-published_after set s (Floor f) ok = omega arith
+published-rises : (set : Settings) (s : State) (e : Event) → Allowed set s e → s.published ≤ (after s e).published
+published-rises set s (Accept by change) ok = omega arith
+published-rises set s (Ask by) ok = omega arith
+published-rises set s (Took by r) ok = omega arith
+published-rises set s (Back by r) ok = omega arith
+published-rises set s (Done by r) ok = omega arith
+published-rises set s (Publish p) ok = omega (arith, ok.1.0)
+published-rises set s (Open by p) ok = omega arith
+published-rises set s (Shut by) ok = omega arith
+published-rises set s (Floor f) ok = omega arith
 
 rises : (set : Settings) (s : State) (es : List Event) → LawfulFrom set s es → (s.published ≤ (fold after s es).published) × (s.floor ≤ (fold after s es).floor)
 rises set s [] law = (omega arith, omega arith)
 rises set s (e ∷ es) law =
     let later = rises set (after s e) es law.1 in
-    (omega (arith, published_after set s e law.0, later.0), omega (arith, floor_after set s e law.0, later.1))
+    (omega (arith, published-rises set s e law.0, later.0), omega (arith, floor-rises set s e law.0, later.1))
 
 pub never_falls : (set : Settings) (callers : ℕ) (h later : List Event) → Lawful set callers (h ++ later) → (ready (state callers h) ≤ ready (state callers (h ++ later))) × ((state callers h).published ≤ (state callers (h ++ later)).published) × ((state callers h).floor ≤ (state callers (h ++ later)).floor)
 never_falls set callers h later law =

@@ -6,5 +6,9 @@ pub mod Presence
 pub mod Numbers
 pub mod Falling
 pub mod Holders
+pub mod Openings
+pub mod Doing
+pub mod Lasting
+pub mod Gates
 pub mod PathOrder
 pub mod Standing

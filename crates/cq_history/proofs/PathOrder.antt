@@ -10,16 +10,12 @@ use Rattle.std.specs.Cmp.Lexicographic.{slice_cmp}
 use Rattle.std.proofs.lemmas.Cmp.{nat_list_cmp_total}
 use Rattle.std.proofs.lemmas.Map.Lookups.{exact_bytes}
 use Rattle.std.proofs.lemmas.Slice.Eq.{bytes_eq-Decides}
+use Rattle.cq_base.proofs.Orderings.{Less-from_is_lt}
 use Rattle.cq_history.specs.Files.{Source, is_before, place_of, without_file}
 use Rattle.cq_history.specs.Standing.{Has, AreInPathOrder}
 
-less_of : (r : Ordering) → is_lt r ≡ true → r ≡ Less
-less_of Less h = refl
-less_of Equal h = absurd (cc)
-less_of Greater h = absurd (cc)
-
 before_chain : (p q r : List ℕ) → is_before p q ≡ true → is_before q r ≡ true → is_before p r ≡ true
-before_chain p q r a b = ap is_lt (nat_list_cmp_total.trans p q r (less_of _ a) (less_of _ b))
+before_chain p q r a b = ap is_lt (nat_list_cmp_total.trans p q r (Less-from_is_lt _ a) (Less-from_is_lt _ b))
 
 turned : (r s : Ordering) → s ≡ ordering_reverse r → is_lt r ≡ false → (r ≡ Equal → ⊥) → is_lt s ≡ true
 turned Less s e h n = absurd (cc)

@@ -2,7 +2,7 @@
 use Rattle.std.proofs.Common.{◌≡◌, ◌⊎◌, ℕ, zero, suc, ◌+◌, ◌-◌, ◌<◌, ◌≤◌, Bool, true, false, cond, Some, List, [], ◌∷◌, ◌++◌, length, refl, sym, subst, ap, ◌∙◌, ⊎_elim, inl, inr, length-append, arith}
 use Rattle.std.specs.Prelude.{◌&&◌, not, slice_get}
 use Rattle.std.specs.Str.{bytes_eq}
-use Rattle.std.proofs.lemmas.Bool.{cases_lt}
+use Rattle.std.proofs.lemmas.Bool.{cases_lt, and_from, not-true}
 use Rattle.std.proofs.lemmas.List.{append_assoc, append-nil}
 use Rattle.std.proofs.lemmas.Slice.Eq.{bytes_eq-Decides}
 use Rattle.cq_base.specs.declared.lang.Lang.{Lang}
@@ -98,19 +98,7 @@ left_standing cs c q files apart are = record {
 }
   where
     itself : (q p : List ℕ) → (bytes_eq q q && bytes_eq p p) ≡ true
-    itself q p = both _ _ ((bytes_eq-Decides q q).1 refl) ((bytes_eq-Decides p p).1 refl)
-      where
-        both : (a b : Bool) → a ≡ true → b ≡ true → (a && b) ≡ true
-        both true b x y = y
-        both false b x y = absurd (cc)
-
-unequal : (b : Bool) → not b ≡ true → b ≡ false
-unequal true h = absurd (cc)
-unequal false h = refl
-
-not_of : (b : Bool) → b ≡ false → not b ≡ true
-not_of true h = absurd (cc)
-not_of false h = refl
+    itself q p = and_from _ _ ((bytes_eq-Decides q q).1 refl) ((bytes_eq-Decides p p).1 refl)
 
 -- the project's name is this one
 named_so : (q project path p : List ℕ) → bytes_eq q project ≡ true → (bytes_eq q project && bytes_eq p path) ≡ bytes_eq p path
@@ -123,8 +111,8 @@ dropped cs q project path files own are =
     record {
       ordered = order_filter test files are.ordered;
       each = λ f. (
-        λ has. let was = has_filter test files f has in still_last cs c q f ((are.each f).0 was.0) (named_so q project path f.path own ∙ bytes_eq-sym f.path path ∙ unequal _ was.1),
-        λ is. ⊎_elim (λ was. filter_has test files f ((are.each f).1 was.0) (not_of _ (bytes_eq-sym path f.path ∙ sym (named_so q project path f.path own) ∙ was.1))) (λ put. let e : c ≡ Put q f.path f.lang f.body = put.1 in absurd (cc)) (was_last cs c q f is),
+        λ has. let was = has_filter test files f has in still_last cs c q f ((are.each f).0 was.0) (named_so q project path f.path own ∙ bytes_eq-sym f.path path ∙ not-true _ was.1),
+        λ is. ⊎_elim (λ was. filter_has test files f ((are.each f).1 was.0) (ap not (bytes_eq-sym path f.path ∙ sym (named_so q project path f.path own) ∙ was.1))) (λ put. let e : c ≡ Put q f.path f.lang f.body = put.1 in absurd (cc)) (was_last cs c q f is),
       );
     }
 
@@ -145,12 +133,12 @@ put_file cs q project path lang text files own are =
               put = newest cs c (length cs + 1) refl ∙ ap (λ p. Some (Put p path lang text)) (sym same);
               last = λ k d behind at names. no_later (cs ++ c ∷ []) k d (omega (arith, behind, more)) at;
             }))
-            (λ there. let was = has_filter test files f there in still_last cs c q f ((are.each f).0 was.0) (named_so q project path f.path own ∙ bytes_eq-sym f.path path ∙ unequal _ was.1))
+            (λ there. let was = has_filter test files f there in still_last cs c q f ((are.each f).0 was.0) (named_so q project path f.path own ∙ bytes_eq-sym f.path path ∙ not-true _ was.1))
             (has_insert (without_file path files) (place_of path (without_file path files)) g f has),
         λ is.
             insert_has (without_file path files) (place_of path (without_file path files)) g f
             (⊎_elim
-            (λ was. inr (filter_has test files f ((are.each f).1 was.0) (not_of _ (bytes_eq-sym path f.path ∙ sym (named_so q project path f.path own) ∙ was.1))))
+            (λ was. inr (filter_has test files f ((are.each f).1 was.0) (ap not (bytes_eq-sym path f.path ∙ sym (named_so q project path f.path own) ∙ was.1))))
             (λ put. inl (made f put.0 put.1))
             (was_last cs c q f is)),
       );

@@ -1,12 +1,14 @@
 -- What a reader may rely on along each lawful history.
-use Rattle.std.specs.Prelude.{◌≡◌, ◌⊎◌, ℕ, ◌<◌, ◌≤◌, List, [], ◌∷◌, ◌++◌, length, Some}
+use Rattle.std.specs.Prelude.{◌≡◌, ◌⊎◌, ◌↔◌, ℕ, ◌<◌, ◌≤◌, false, List, [], ◌∷◌, ◌++◌, length, Contains, Some, IfSome}
 use Rattle.cq_base.specs.declared.settings.Settings.{Settings}
 use Rattle.cq_base.specs.declared.change.Change.{Change}
 use Rattle.cq_history.specs.declared.event.Event.{Event}
-use Rattle.cq_history.specs.State.{State, state, after, changes_in, accepted, own, ready, view_of, slot_of, holder_in}
+use Rattle.cq_history.specs.Changes.{is_put}
+use Rattle.cq_history.specs.State.{State, state, after, changes_in, accepted, maker, own, ready, view_of, slot_of, IsAccepted, IsDone, AreDoneUpTo}
+use Rattle.cq_history.specs.Lasts.{holder_in, IsDoneIn, view_in, published_in, floor_in}
 use Rattle.cq_history.specs.Lawful.{Lawful}
-use Rattle.cq_history.specs.Files.{Source, files_at, files_of, files_after, has_file, is_path_put, conditions_at}
-use Rattle.cq_history.specs.Standing.{AreStanding}
+use Rattle.cq_history.specs.Files.{Source, files_at, files_of, files_after, has_file, is_path_put, conditions_at, conditions_of}
+use Rattle.cq_history.specs.Standing.{AreStanding, AreConditions}
 use Rattle.cq_history.specs.Core.{Core, Step, IsReached, IsAppliedFor, IsSound, MayStep, stepped, first_core}
 
 -- any beginning of a lawful history is lawful
@@ -64,3 +66,39 @@ FilesAreTheLastPuts = (changes : List Change) (project : List ℕ) → AreStandi
 -- whether a file is there behind a change, by whether it was there before
 abbrev pub PresenceGoesByChanges : Type 0
 PresenceGoesByChanges = (project path : List ℕ) (number : ℕ) (files : List Source) (c : Change) → has_file path (files_after project number files c) ≡ is_path_put project path (has_file path files) c
+
+-- an event of a lawful history is nobody's, or that of one of its callers
+abbrev pub CallersAreThere : Type 0
+CallersAreThere = (settings : Settings) (callers : ℕ) (h : List Event) (e : Event) → Lawful settings callers h → Contains h e → IfSome (maker e) (λ by. by < callers)
+
+-- the version that a caller has open is that of its last opening, unless it shut its view since; so it goes by the caller's
+-- own events alone
+abbrev pub OpenVersionsGoByOwnEvents : Type 0
+OpenVersionsGoByOwnEvents = (settings : Settings) (callers : ℕ) (h : List Event) (by : ℕ) → Lawful settings callers h → (view_of (state callers h) by ≡ view_in by h) × (view_in by h ≡ view_in by (own by h))
+
+-- an accepted change is done where it is no put, or some event did it
+abbrev pub DoneIsWhatWasDone : Type 0
+DoneIsWhatWasDone = (settings : Settings) (callers : ℕ) (h : List Event) (r : ℕ) → Lawful settings callers h → IsDone (state callers h) r ↔ (IsAccepted (state callers h) r × ((is_put (slot_of (state callers h) r).change ≡ false) ⊎ IsDoneIn r h))
+
+-- the published version and the floor are those of the last such event, or 0
+abbrev pub TheLastIsPublished : Type 0
+TheLastIsPublished = (callers : ℕ) (h : List Event) → ((state callers h).published ≡ published_in h) × ((state callers h).floor ≡ floor_in h)
+
+-- what is ready is the greatest number up to which all changes are done
+abbrev pub ReadyIsTheGreatest : Type 0
+ReadyIsTheGreatest = (s : State) → AreDoneUpTo s (ready s) × ((d : ℕ) → AreDoneUpTo s d → d ≤ ready s)
+
+-- the conditions of a project are those of its last gate, or none
+abbrev pub ConditionsAreTheLastGates : Type 0
+ConditionsAreTheLastGates = (changes : List Change) (project : List ℕ) → AreConditions changes project (conditions_of project changes)
+
+-- a state has the accepted changes, and no more than there may be
+abbrev pub FewAreAccepted : Type 0
+FewAreAccepted = (settings : Settings) (callers : ℕ) (h : List Event) → Lawful settings callers h → (length (state callers h).slots ≡ length (accepted h)) × (length (accepted h) ≤ settings.change_limit)
+
+-- an accepted change stays so and stays what it is, and one that is done stays done
+abbrev pub AcceptedChangesStay : Type 0
+AcceptedChangesStay = (callers : ℕ) (h later : List Event) (r : ℕ) → IsAccepted (state callers h) r → IsAccepted (state callers (h ++ later)) r × ((slot_of (state callers (h ++ later)) r).change ≡ (slot_of (state callers h) r).change)
+
+abbrev pub DoneChangesStay : Type 0
+DoneChangesStay = (settings : Settings) (callers : ℕ) (h later : List Event) (r : ℕ) → Lawful settings callers (h ++ later) → IsDone (state callers h) r → IsDone (state callers (h ++ later)) r

@@ -1,5 +1,5 @@
 -- What a history of events leaves: its state.
-use Rattle.std.specs.Prelude.{◌≡◌, ◌==◌, ℕ, ◌+◌, ◌-◌, Bool, true, false, not, ◌||◌, ◌&&◌, if◌then◌else◌, List, [], ◌∷◌, ◌++◌, map, fold, sum_by, replicate, filter, slice_index_or, slice_set, Option, Some, None, is_none}
+use Rattle.std.specs.Prelude.{◌≡◌, ◌==◌, ℕ, ◌+◌, ◌-◌, ◌<◌, ◌≤◌, Bool, true, false, not, ◌||◌, ◌&&◌, if◌then◌else◌, List, [], ◌∷◌, ◌++◌, map, fold, sum_by, replicate, filter, slice_index_or, slice_set, Option, Some, None, is_none}
 use Rattle.std.specs.List.{prefix_len, position_or_len, filter_map}
 use Rattle.cq_base.specs.declared.change.Change.{Change}
 use Rattle.cq_base.specs.declared.change.Change.TheVariants.{Gate}
@@ -83,6 +83,10 @@ IsTakenBy s r by = IsUndone s r × ((slot_of s r).holder ≡ Some by)
 abbrev pub ready : State → ℕ
 ready s = prefix_len is_done s.slots
 
+-- all changes up to this number are done
+abbrev pub AreDoneUpTo : State → ℕ → Type 0
+AreDoneUpTo s d = (r : ℕ) → 0 < r → r ≤ d → IsDone s r
+
 -- the least number of a change that is neither done nor taken; past the last change where there is none
 abbrev pub first_free : State → ℕ
 first_free s = position_or_len is_free s.slots + 1
@@ -125,18 +129,3 @@ is_by c (Some d) = c == d
 -- the events of one caller, in order
 abbrev pub own : ℕ → List Event → List Event
 own c history = filter (λ (e : Event). is_by c (maker e)) history
-
--- who has the change: the last one that took it, unless it was given back since
-abbrev pub holder_after : ℕ → Option ℕ → Event → Option ℕ
-holder_after r now (Accept by change) = now
-holder_after r now (Ask by) = now
-holder_after r now (Took by taken) = if r == taken then Some by else now
-holder_after r now (Back by given) = if r == given then None else now
-holder_after r now (Done by finished) = now
-holder_after r now (Publish p) = now
-holder_after r now (Open by p) = now
-holder_after r now (Shut by) = now
-holder_after r now (Floor f) = now
-
-abbrev pub holder_in : ℕ → List Event → Option ℕ
-holder_in r history = fold (holder_after r) None history

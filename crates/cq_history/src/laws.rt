@@ -63,6 +63,52 @@ pub fn presence_goes_by_changes()
     ensures { law.PresenceGoesByChanges }
 {}
 
+/// An event of a lawful history is nobody's, or that of one of its callers.
+pub fn callers_are_there()
+    ensures { law.CallersAreThere }
+{}
+
+/// The version that a caller has open is that of its last opening, unless it shut its view since, and goes by the caller's
+/// own events alone.
+pub fn open_versions_go_by_own_events()
+    ensures { law.OpenVersionsGoByOwnEvents }
+{}
+
+/// An accepted change is done where it is no put, or some event did it.
+pub fn done_is_what_was_done()
+    ensures { law.DoneIsWhatWasDone }
+{}
+
+/// The published version and the floor are those of the last such event, or 0.
+pub fn the_last_is_published()
+    ensures { law.TheLastIsPublished }
+{}
+
+/// What is ready is the greatest number up to which all changes are done.
+pub fn ready_is_the_greatest()
+    ensures { law.ReadyIsTheGreatest }
+{}
+
+/// The conditions of a project are those of its last gate, or none.
+pub fn conditions_are_the_last_gates()
+    ensures { law.ConditionsAreTheLastGates }
+{}
+
+/// A state has the accepted changes, and no more than there may be.
+pub fn few_are_accepted()
+    ensures { law.FewAreAccepted }
+{}
+
+/// An accepted change stays so, and stays what it is.
+pub fn accepted_changes_stay()
+    ensures { law.AcceptedChangesStay }
+{}
+
+/// A change that is done stays done.
+pub fn done_changes_stay()
+    ensures { law.DoneChangesStay }
+{}
+
 /// A history that was worked out by hand is lawful and leaves what it should.
 pub fn the_script_is_as_worked_out()
     ensures { IsAsWorkedOut }

@@ -1,0 +1,5 @@
+use Rattle.cq_history.proofs.Doing.{few_accepted}
+use Rattle.cq_history.proofs.laws.few_are_accepted.Goals as goal
+
+pub returns : goal.returns
+returns c = few_accepted
