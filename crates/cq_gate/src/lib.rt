@@ -9,6 +9,3 @@ mod outcome;
 pub use comparing::met;
 pub use judging::verdict;
 pub use outcome::{Positions, Verdict};
-
-#[cfg(test)]
-mod tests;

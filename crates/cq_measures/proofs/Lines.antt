@@ -4,6 +4,7 @@ use Rattle.std.specs.Prelude.{◌==◌, nat_lt, nat_le}
 use Rattle.std.specs.Cmp.{IsEquivalence}
 use Rattle.std.specs.List.{AllByRecursion, IsDistinct, flat_map, range_with_len, list_any}
 use Rattle.std.specs.Set.{is_member}
+use Rattle.std.proofs.lemmas.Bool.{or_parts}
 use Rattle.std.proofs.lemmas.Map.Keys.{IsDistinct-cons}
 use Rattle.std.proofs.lemmas.List.Folds.{list_any-append}
 use Rattle.cq_measures.specs.declared.extent.Extent.{Extent}
@@ -43,13 +44,7 @@ member-lines_on file a (suc n) rest q =
 -- nothing in the list is the same
 pub none_same : (q : Line) (xs : List Line) → is_member same_line xs q ≡ false → AllByRecursion (λ y. same_line q y ≡ false) xs
 none_same q [] h = tt
-none_same q (x ∷ xs) h = (left _ _ h, none_same q xs (right _ _ h))
-  where
-    left : (a b : Bool) → (a || b) ≡ false → a ≡ false
-    left a b h = grind arith
-
-    right : (a b : Bool) → (a || b) ≡ false → b ≡ false
-    right a b h = grind arith
+none_same q (x ∷ xs) h = let parts = or_parts _ _ h in (parts.0, none_same q xs parts.1)
 
 apart : (file a n : ℕ) (b : Bool) → b ≡ false → (is_on file (a + 1) n (record { file = file; number = a }) || b) ≡ false
 apart file a n b h = grind arith

@@ -1,6 +1,6 @@
 -- Lines that are covered, counted along extents in order: of each extent those that none before it covers.
 use Rattle.std.proofs.Common.{◌≡◌, ◌⊎◌, ℕ, ◌+◌, ◌-◌, ◌<◌, ◌≤◌, Bool, true, false, ◌||◌, ◌&&◌, List, [], ◌∷◌, length, refl, sym, ap, ◌∙◌, ⊎_elim, inl, inr, map, arith}
-use Rattle.std.proofs.lemmas.Bool.{false≢true, cases_Bool}
+use Rattle.std.proofs.lemmas.Bool.{false≢true, cases_Bool, or_cases, or_parts}
 use Rattle.std.specs.Prelude.{◌==◌, nat_lt, nat_le, not, if◌then◌else◌}
 use Rattle.std.specs.List.{AllByRecursion, IsDistinct, flat_map, list_any}
 use Rattle.std.specs.Set.{is_member, distinct_count}
@@ -38,11 +38,8 @@ begins_of a b h = grind arith
 -- a line that is covered lies no earlier
 covered_later : (file first : ℕ) (es : List Extent) (q : Line) → AllByRecursion (Begins file first) es → list_any (covers q) es ≡ true → (file < q.file) ⊎ ((file ≡ q.file) × (first ≤ q.number))
 covered_later file first [] q b h = absurd (false≢true h)
-covered_later file first (e ∷ es) q b h = ⊎_elim (λ here. at_head file first e q b.0 here) (λ there. covered_later file first es q b.1 there) (either _ _ h)
+covered_later file first (e ∷ es) q b h = ⊎_elim (λ here. at_head file first e q b.0 here) (λ there. covered_later file first es q b.1 there) (or_cases _ _ h)
   where
-    either : (a b : Bool) → (a || b) ≡ true → (a ≡ true) ⊎ (b ≡ true)
-    either a b h = grind arith
-
     at_head : (file first : ℕ) (e : Extent) (q : Line) → Begins file first e → covers q e ≡ true → (file < q.file) ⊎ ((file ≡ q.file) × (first ≤ q.number))
     at_head file first e q b h = grind arith
 
@@ -157,11 +154,8 @@ file_in q es = list_any (λ f. q == f) (map (λ e. e.file) es)
 
 in_later : (file q : ℕ) (es : List Extent) → AllByRecursion (λ e. file ≤ e.file) es → file_in q es ≡ true → file ≤ q
 in_later file q [] l h = absurd (false≢true h)
-in_later file q (e ∷ es) l h = ⊎_elim (λ here. at_head file q e.file l.0 here) (λ there. in_later file q es l.1 there) (either _ _ h)
+in_later file q (e ∷ es) l h = ⊎_elim (λ here. at_head file q e.file l.0 here) (λ there. in_later file q es l.1 there) (or_cases _ _ h)
   where
-    either : (a b : Bool) → (a || b) ≡ true → (a ≡ true) ⊎ (b ≡ true)
-    either a b h = grind arith
-
     at_head : (file q f : ℕ) → file ≤ f → (q == f) ≡ true → file ≤ q
     at_head file q f l h = grind arith
 
@@ -185,13 +179,7 @@ member-files_from next (e ∷ es) q o =
 
 none_equal : (q : ℕ) (xs : List ℕ) → is_member (λ a b. a == b) xs q ≡ false → AllByRecursion (λ y. (q == y) ≡ false) xs
 none_equal q [] h = tt
-none_equal q (x ∷ xs) h = (left _ _ h, none_equal q xs (right _ _ h))
-  where
-    left : (a b : Bool) → (a || b) ≡ false → a ≡ false
-    left a b h = grind arith
-
-    right : (a b : Bool) → (a || b) ≡ false → b ≡ false
-    right a b h = grind arith
+none_equal q (x ∷ xs) h = let parts = or_parts _ _ h in (parts.0, none_equal q xs parts.1)
 
 distinct-files_from : (next : ℕ) (es : List Extent) → AreInOrder es → IsDistinct (λ a b. a == b) (files_from next es)
 unfolding IsDistinct

@@ -27,9 +27,13 @@ extent_of spans n p =
     let here = slice_index_or spans p.file [] in
     record { file = p.file; first = (span_at here p.at).first_line; last = (span_at here (p.at + n - 1)).last_line }
 
+-- those of the places of a group
+abbrev pub group_extents : List (List Token) → Group → List Extent
+group_extents spans g = map (extent_of spans g.tokens) g.places
+
 -- those of all places of all groups
 abbrev pub extents_of : List (List Token) → List Group → List Extent
-extents_of spans groups = flat_map (λ g. map (extent_of spans g.tokens) g.places) groups
+extents_of spans groups = flat_map (λ g. group_extents spans g) groups
 
 -- duplicated lines of all lines, in hundredths of a percent, rounded down; 0 where there is no line
 abbrev pub density : ℕ → ℕ → ℕ
@@ -74,6 +78,9 @@ IsInside spans n p = (p.file < length spans) × (p.at + n ≤ length (slice_inde
 abbrev pub IsGroupInside : List (List Token) → Group → Type 0
 IsGroupInside spans g = (1 ≤ g.tokens) × ((p : Place) → Contains g.places p → IsInside spans g.tokens p)
 
+abbrev pub AreGroupsInside : List (List Token) → List Group → Type 0
+AreGroupsInside spans groups = (g : Group) → Contains groups g → IsGroupInside spans g
+
 -- none is above 2^32
 abbrev pub AreSmall : FileCounts → Type 0
 AreSmall c = (c.lines ≤ 2 ^ 32) × (c.ncloc ≤ 2 ^ 32) × (c.complexity ≤ 2 ^ 32)
@@ -81,4 +88,4 @@ AreSmall c = (c.lines ≤ 2 ^ 32) × (c.ncloc ≤ 2 ^ 32) × (c.complexity ≤ 2
 pub record IsMeasurable (counts : List FileCounts) (spans : List (List Token)) (groups : List Group) : Type 0 where
   pub few : length counts ≤ 262144
   pub small : All AreSmall counts
-  pub inside : (g : Group) → Contains groups g → IsGroupInside spans g
+  pub inside : AreGroupsInside spans groups

@@ -13,6 +13,3 @@ pub use counting::ncloc;
 pub use decisions::complexity;
 pub use extent::FileLines;
 pub use measuring::{file_measures, project_measures};
-
-#[cfg(test)]
-mod tests;

@@ -1,6 +1,4 @@
-ghost use Rattle.std.specs.Prelude.{◌≡◌, ℕ, ◌==◌, ◌≤◌, length, map, filter, IfOk, OnOk, ◌++◌, Contains};
-ghost use Rattle.cq_base.specs.declared.group.Place.{Place};
-ghost use Rattle.cq_base.specs.declared.group.Group.{Group};
+ghost use Rattle.std.specs.Prelude.{◌≡◌, ℕ, ◌==◌, ◌≤◌, length, filter, IfOk, OnOk, ◌++◌};
 ghost use Rattle.cq_measures.specs.Measures as spec;
 ghost use Rattle.cq_measures.specs.Sorted.{AreBelow};
 
@@ -26,7 +24,7 @@ fn extent_of(files: &[FileLines], tokens: u32, place: Place) -> Extent
 // Adds the extents of a group's places.
 fn add_extents(files: &[FileLines], group: &Group, extents: &mut Vec<Extent>) -> Result<(), Memory>
     requires { spec.IsGroupInside (spec.spans_of files.now) group.now }
-    ensures { OnOk result (extents.new.items ≡ extents.old.items ++ map (spec.extent_of (spec.spans_of files.now) group.now.tokens) group.now.places) }
+    ensures { OnOk result (extents.new.items ≡ extents.old.items ++ spec.group_extents (spec.spans_of files.now) group.now) }
 {
     for place in group.places.as_slice() {
         extents.push(extent_of(files, group.tokens, *place))?;
@@ -40,7 +38,7 @@ pub(crate) fn extents_of(
     files: &[FileLines],
     groups: &[Group],
 ) -> Result<Vec<Extent>, Memory>
-    requires { (g : Group) → Contains groups.now g → spec.IsGroupInside (spec.spans_of files.now) g }
+    requires { spec.AreGroupsInside (spec.spans_of files.now) groups.now }
     ensures extents { IfOk result (λ v. v.items ≡ spec.extents_of (spec.spans_of files.now) groups.now) }
     ensures below { (n : ℕ) → length files.now ≤ n → IfOk result (λ v. AreBelow n v.items) }
 {

@@ -15,6 +15,3 @@ pub use form::is_run;
 pub use laws::words_in_form;
 pub use reading::read_run;
 pub use run::Run;
-
-#[cfg(test)]
-mod tests;

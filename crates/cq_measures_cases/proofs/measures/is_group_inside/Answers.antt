@@ -2,7 +2,7 @@ use Rattle.std.proofs.Common.{rules, ◌≡◌, ◌<◌, true, length, slice_ind
 use Rattle.std.proofs.lemmas.List.{take_all}
 use Rattle.std.proofs.lemmas.List.Elements.{All-more, All-contains}
 use Rattle.cq_measures.specs.Measures.{spans_of, IsInside}
-use Rattle.cq_measures.proofs.tests.is_group_inside.Goals as goal
+use Rattle.cq_measures_cases.proofs.measures.is_group_inside.Goals as goal
 
 pub loop-place-preserved : goal.loop-place-preserved
 loop-place-preserved c =

@@ -2,8 +2,8 @@ use Rattle.std.proofs.lemmas.List.{length-map}
 use Rattle.std.proofs.lemmas.List.Elements.{All-map}
 use Rattle.std.proofs.Common.{arith, rules, ◌≤◌, All, length}
 use Rattle.cq_measures.specs.Measures.{AreSmall}
-use Rattle.cq_measures.proofs.tests.is_measurable.Goals.{then-files-le262144, else-files-le262144}
-use Rattle.cq_measures.proofs.tests.is_measurable.Goals as goal
+use Rattle.cq_measures_cases.proofs.measures.is_measurable.Goals.{then-files-le262144, else-files-le262144}
+use Rattle.cq_measures_cases.proofs.measures.is_measurable.Goals as goal
 
 pub returns-then-are_small : goal.returns-then-are_small
 returns-then-are_small c inside =

@@ -2,7 +2,7 @@ use Rattle.std.proofs.Common.{rules, ◌≡◌, true, slice_index_or}
 use Rattle.std.proofs.lemmas.List.{take_all}
 use Rattle.std.proofs.lemmas.List.Elements.{All-more, All-contains}
 use Rattle.cq_measures.specs.Measures.{spans_of, IsGroupInside}
-use Rattle.cq_measures.proofs.tests.are_groups_inside.Goals as goal
+use Rattle.cq_measures_cases.proofs.measures.are_groups_inside.Goals as goal
 
 pub loop-group-preserved : goal.loop-group-preserved
 loop-group-preserved c =

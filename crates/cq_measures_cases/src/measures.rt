@@ -1,11 +1,10 @@
-ghost use Rattle.std.specs.Prelude.{◌≡◌, true, Contains, All};
-ghost use Rattle.cq_measures.specs.Measures.{counts_of, spans_of, IsInside, IsGroupInside, IsMeasurable, AreSmall};
-ghost use Rattle.cq_base.specs.declared.group.Group.{Group};
+ghost use Rattle.std.specs.Prelude.{◌≡◌, true, All};
+ghost use Rattle.cq_measures.specs.Measures.{counts_of, spans_of, IsInside, IsGroupInside, AreGroupsInside, IsMeasurable, AreSmall};
 
-use crate::{FileLines, complexity, file_measures, ncloc, project_measures};
 use cq_base::{
     Class, FileCounts, Group, Lang, Measures, Memory, Place, Places, Spelled, Text, Token,
 };
+use cq_measures::{FileLines, complexity, file_measures, ncloc, project_measures};
 use std::alloc::Global;
 
 fn token(first_line: u32, last_line: u32) -> Token {
@@ -81,7 +80,7 @@ fn is_group_inside(files: &[FileLines], group: &Group) -> bool
 }
 
 fn are_groups_inside(files: &[FileLines], groups: &[Group]) -> bool
-    ensures { result ≡ true → (g : Group) → Contains groups.now g → IsGroupInside (spans_of files.now) g }
+    ensures { result ≡ true → AreGroupsInside (spans_of files.now) groups.now }
 {
     for group in groups {
         if !is_group_inside(files, group) {

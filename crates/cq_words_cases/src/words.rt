@@ -1,5 +1,5 @@
-use crate::{Run, read_run};
 use cq_base::{Settings, Text};
+use cq_words::{Run, read_run};
 use std::alloc::Global;
 use std::test::Fail;
 
