@@ -1,13 +1,13 @@
 -- The entries with a key in a run: they stand together, behind those with lesser keys.
 use Rattle.std.proofs.Common.{◌≡◌, ◌≢◌, ℕ, ◌+◌, ◌-◌, ◌<◌, ◌≤◌, Bool, true, false, cond, nat_lt, List, [], ◌∷◌, ◌++◌, length, take, drop, filter, get_or, refl, sym, ap, ◌∙◌, subst, subst₂, ⊎_elim, arith}
-use Rattle.std.specs.Prelude.{All, AllPairs, Contains}
+use Rattle.std.specs.Prelude.{All, Contains}
 use Rattle.std.specs.List.{AllWithin}
 use Rattle.std.specs.List.Sorted.{IsPartitionedBy}
 use Rattle.std.proofs.lemmas.Bool.{cases_order, false_from_ne_true}
 use Rattle.std.proofs.lemmas.List.{drop_more, take-append-drop, take_all, get_or-take, get_or-drop, length-take, length-drop}
-use Rattle.std.proofs.lemmas.List.Elements.{All-contains, All-head, All-tail, filter-append}
+use Rattle.std.proofs.lemmas.List.Elements.{All-contains, filter-append}
 use Rattle.cq_base.specs.declared.entry.Entry.{Entry}
-use Rattle.cq_base.proofs.Lists.{Contains-here, Contains-there, Contains-cases, AllPairs-head, AllPairs-tail}
+use Rattle.cq_base.proofs.Lists.{Contains-here, Contains-there, Contains-cases, AllPairs-head}
 use Rattle.cq_shard.specs.Shard.{is_asked}
 use Rattle.cq_shard.specs.Runs.{RowBefore, IsRun}
 use Rattle.cq_shard.proofs.RowOrder.{RowBefore-keys}

@@ -29,7 +29,8 @@ impl Indexed for Two {
     ghost few = { Prim.search rules };
 }
 
-// What the two buckets of key 3 are, of all changes and of the second alone, and how many steps there were.
+// What two buckets of key 3 are, of all changes while their entries stand in two runs, and of the second change alone once
+// they are merged, and how many changes are applied.
 fn applied<L: Ledger>(alloc: Global, blank: Blank) -> Result<(Vec<Entry>, Vec<Entry>, u64), Memory>
     requires name { blank.name ≡ L.name }
     requires parts { blank.parts ≡ L.parts }
@@ -37,10 +38,11 @@ fn applied<L: Ledger>(alloc: Global, blank: Blank) -> Result<(Vec<Entry>, Vec<En
 {
     let mut steps: Steps<L> = Steps::new(blank);
     let mut shard = Shard::new(alloc, 1, 2);
-    shard.apply(1, Some(&Two { keys: [3, 4] }), &mut steps)?;
-    shard.apply(2, Some(&Two { keys: [5, 3] }), &mut steps)?;
-    shard.apply(3, None::<&Two>, &mut steps)?;
+    shard.apply(1, Some(&Two { keys: [3, 5] }), &mut steps)?;
+    shard.apply(2, Some(&Two { keys: [4, 3] }), &mut steps)?;
     let all = shard.bucket(alloc, 3, &[1, 2])?;
+    shard.apply(3, Some(&Two { keys: [7, 9] }), &mut steps)?;
+    shard.apply(4, None::<&Two>, &mut steps)?;
     let later = shard.bucket(alloc, 3, &[2])?;
     Ok((all, later, shard.applied()))
 }
@@ -64,6 +66,6 @@ fn a_bucket_has_the_live_entries_of_its_key(rt: HostRuntime) -> Result<(), Memor
     };
     assert_eq!(rt; all.as_slice(), [first, second].as_slice());
     assert_eq!(rt; later.as_slice(), [second].as_slice());
-    assert_eq!(rt; applied, 3);
+    assert_eq!(rt; applied, 4);
     Ok(())
 }

@@ -1,4 +1,4 @@
-use Rattle.std.proofs.Common.{◌≡◌, ◌+◌, ◌∙◌, ℕ, List, refl, sym, ap, subst, option_copied}
+use Rattle.std.proofs.Common.{◌≡◌, ◌+◌, ◌∙◌, ℕ, refl, sym, ap, subst, option_copied}
 use Rattle.cq_history.specs.Changes.{change_at}
 use Rattle.cq_shard.specs.Runs.{AreAdded}
 use Rattle.cq_shard.specs.Shard.{Contents, IsShard, StandsFor, IsWorkFor, HasWindow, brought}
