@@ -167,7 +167,7 @@ slash_is c is = eqb-true c 47 (only_low fronts.Slash (λ d. d == 47) refl refl c
 one_long : List ℕ → Bool
 one_long w = length w == 1
 
-blank_there : (c : ℕ) → front_of c ≡ fronts.Blank → IsAmong blank_characters (c ∷ [])
+pub blank_there : (c : ℕ) → front_of c ≡ fronts.Blank → IsAmong blank_characters (c ∷ [])
 unfolding has_word same_word
 blank_there c is = has_word-among (c ∷ []) blank_characters (only_low fronts.Blank (λ d. has_word (d ∷ []) blank_characters) refl refl c is)
 
@@ -192,7 +192,7 @@ is_apart fronts.Letter = false
 is_apart fronts.Digit = false
 is_apart _ = true
 
-blank_is : (c : ℕ) → is_blank c ≡ true → front_of c ≡ fronts.Blank
+pub blank_is : (c : ℕ) → is_blank c ≡ true → front_of c ≡ fronts.Blank
 blank_is c h = by (or_cases _ _ h)
   where
     at_char : (n : ℕ) → front_of n ≡ fronts.Blank → (c == n) ≡ true → front_of c ≡ fronts.Blank
