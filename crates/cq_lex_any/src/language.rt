@@ -1,4 +1,5 @@
-ghost use Rattle.std.specs.Prelude.{Ok};
+ghost use Rattle.std.specs.Prelude.{Ok, ⊤, length};
+ghost use Rattle.std.proofs.Math.Nat.{le_refl};
 ghost use Rattle.cq_lex_any.specs.Any.{any};
 ghost use Rattle.cq_lex_any.specs.OneKind.{one_kind_of_any};
 
@@ -22,7 +23,13 @@ impl Lexis for Any {
         Ok(Translated::Units(plain_units(alloc, text)?))
     }
 
-    fn longest(units: &[Unit], at: u32, mode: u8) -> Option<Found> {
+    ghost is_true_of = { λ language text. ⊤ };
+
+    fn new() -> Self {
+        Any
+    }
+
+    fn longest(&mut self, units: &[Unit], at: u32, mode: u8) -> Option<Found> {
         if is_mark(units, at) {
             Some(one(Spell::Blank, mode))
         } else {
@@ -37,6 +44,8 @@ impl Lexis for Any {
     ) -> Result<Vec<Spelled>, Memory> {
         Ok(tokens)
     }
+
+    ghost none_lost = { λ text tokens. le_refl (length tokens) };
 
     ghost one_kind = { one_kind_of_any };
 }

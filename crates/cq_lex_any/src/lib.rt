@@ -3,8 +3,10 @@
 //! comments, and no text is a fault. Each unit is looked at once, twice where a run ends.
 #![tactic(auto)]
 
+mod faults;
 mod language;
 mod run;
 mod taking;
 
+pub use faults::no_text_is_a_fault;
 pub use language::Any;

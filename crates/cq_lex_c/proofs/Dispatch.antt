@@ -1,8 +1,9 @@
 -- The first character tells which rows can stand there.
 use Rattle.std.proofs.Common.{◌≡◌, ◌⊎◌, ℕ, zero, suc, ◌<◌, ◌≤◌, Option, Some, Bool, true, false, ◌&&◌, ◌||◌, ◌==◌, not, nat_lt, if◌then◌else◌, List, [], ◌∷◌, length, get_or, take, refl, sym, subst, ap, ◌∙◌, inl, inr, ⊎_elim, arith, length-take-le}
 use Rattle.std.specs.Char.{is_ascii_digit}
-use Rattle.std.proofs.lemmas.Bool.{ltb-true, eqb-true}
+use Rattle.std.proofs.lemmas.Bool.{ltb-true, eqb-true, or_cases}
 use Rattle.std.proofs.str.Laws.{order}
+use Rattle.cq_base.proofs.Bools.{or-implies}
 use Rattle.cq_munch.specs.Behind.{class_in, each_below}
 use Rattle.cq_munch.specs.Language.{Takes}
 use Rattle.cq_munch.specs.Longest.{IsAmong, LongestAt}
@@ -69,13 +70,9 @@ high_front c high = class_past front_rows (if begins_identifier c then fronts.Le
 abbrev is_front : Front → ℕ → Bool
 is_front f c = code (front_ascii c) == code f
 
-implied : (a b : Bool) → (not a || b) ≡ true → a ≡ true → b ≡ true
-implied true b h k = h
-implied false b h k = absurd (cc)
-
 low_front : (f : Front) (test : ℕ → Bool) → each_below 128 (λ c. not (test c) || is_front f c) ≡ true → (c : ℕ) → c < 128 → test c ≡ true → front_of c ≡ f
 low_front f test all c low passes =
-    ascii_front c low ∙ same_front (front_ascii c) f (implied (test c) (is_front f c) (below_each 128 (λ d. not (test d) || is_front f d) all c low) passes)
+    ascii_front c low ∙ same_front (front_ascii c) f (or-implies (test c) (is_front f c) (below_each 128 (λ d. not (test d) || is_front f d) all c low) passes)
 
 -- ---- the front of each row
 
@@ -129,10 +126,6 @@ blank_front c s h = of_word fronts.Blank c s (among_passes blank_characters (wor
 mark_word : List ℕ → Bool
 mark_word w = word_front fronts.Point w || (word_front fronts.Slash w || word_front fronts.Other w)
 
-or_cases : (a b : Bool) → (a || b) ≡ true → (a ≡ true) ⊎ (b ≡ true)
-or_cases true b h = inl refl
-or_cases false b h = inr h
-
 mark_front : (c : ℕ) (s : List ℕ) → IsAmong punctuators (c ∷ s) → (front_of c ≡ fronts.Point) ⊎ ((front_of c ≡ fronts.Slash) ⊎ (front_of c ≡ fronts.Other))
 unfolding word_front mark_word
 mark_front c s h =
@@ -156,7 +149,7 @@ plain_of false = refl
 only_low : (f : Front) (test : ℕ → Bool) → each_below 128 (λ d. not (is_front f d) || test d) ≡ true → is_plain f ≡ false → (c : ℕ) → front_of c ≡ f → test c ≡ true
 only_low f test all no_plain c is =
     ⊎_elim
-    (λ low. implied (is_front f c) (test c) (below_each 128 (λ d. not (is_front f d) || test d) all c low) (ap (λ g. code g == code f) (sym (ascii_front c low) ∙ is) ∙ same_number (code f) (code f) refl))
+    (λ low. or-implies (is_front f c) (test c) (below_each 128 (λ d. not (is_front f d) || test d) all c low) (ap (λ g. code g == code f) (sym (ascii_front c low) ∙ is) ∙ same_number (code f) (code f) refl))
     (λ high. let bad : true ≡ false = sym (plain_of (begins_identifier c)) ∙ ap is_plain (sym (high_front c high) ∙ is) ∙ no_plain in absurd (cc))
     (order c 128)
 
@@ -167,7 +160,7 @@ slash_is c is = eqb-true c 47 (only_low fronts.Slash (λ d. d == 47) refl refl c
 one_long : List ℕ → Bool
 one_long w = length w == 1
 
-blank_there : (c : ℕ) → front_of c ≡ fronts.Blank → IsAmong blank_characters (c ∷ [])
+pub blank_there : (c : ℕ) → front_of c ≡ fronts.Blank → IsAmong blank_characters (c ∷ [])
 unfolding has_word same_word
 blank_there c is = has_word-among (c ∷ []) blank_characters (only_low fronts.Blank (λ d. has_word (d ∷ []) blank_characters) refl refl c is)
 
@@ -192,7 +185,7 @@ is_apart fronts.Letter = false
 is_apart fronts.Digit = false
 is_apart _ = true
 
-blank_is : (c : ℕ) → is_blank c ≡ true → front_of c ≡ fronts.Blank
+pub blank_is : (c : ℕ) → is_blank c ≡ true → front_of c ≡ fronts.Blank
 blank_is c h = by (or_cases _ _ h)
   where
     at_char : (n : ℕ) → front_of n ≡ fronts.Blank → (c == n) ≡ true → front_of c ≡ fronts.Blank
@@ -227,7 +220,7 @@ letter_of false e = let bad : (7 == 1) ≡ (1 == 1) = ap (λ f. code f == 1) e i
 letter_test : (c : ℕ) → front_of c ≡ fronts.Letter → begins_identifier c ≡ true
 letter_test c is =
     ⊎_elim
-    (λ low. begins_below c low ∙ implied (is_front fronts.Letter c) (begins_ascii c) (below_each 128 (λ d. not (is_front fronts.Letter d) || begins_ascii d) refl c low) (ap (λ g. code g == 1) (sym (ascii_front c low) ∙ is)))
+    (λ low. begins_below c low ∙ or-implies (is_front fronts.Letter c) (begins_ascii c) (below_each 128 (λ d. not (is_front fronts.Letter d) || begins_ascii d) refl c low) (ap (λ g. code g == 1) (sym (ascii_front c low) ∙ is)))
     (λ high. letter_of (begins_identifier c) (sym (high_front c high) ∙ is))
     (order c 128)
 

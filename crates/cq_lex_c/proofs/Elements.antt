@@ -3,8 +3,9 @@ use Rattle.std.proofs.Common.{◌≡◌, ℕ, zero, suc, ◌<◌, ◌≤◌, Opt
 use Rattle.std.specs.Prelude.{IfSome, IfNone, IsTrue, IsFalse, MatchBool, codes}
 use Rattle.std.specs.List.{list_all}
 use Rattle.std.specs.Str.{bytes_eq}
-use Rattle.std.proofs.lemmas.Bool.{ltb-true, leb-true}
+use Rattle.std.proofs.lemmas.Bool.{ltb-true, leb-true, not-true, false_from_ne_true}
 use Rattle.std.proofs.lemmas.Slice.Eq.{bytes_eq-Decides}
+use Rattle.cq_base.proofs.Bools.{MatchBool-from_false, MatchBool-from_true}
 use Rattle.cq_base.specs.declared.token.Class.{Class}
 use Rattle.cq_munch.specs.declared.element.Found.{Found}
 use Rattle.cq_munch.specs.declared.element.Spell.{Spell}
@@ -111,29 +112,16 @@ header_there (c ∷ s) (suc m) h =
     (λ on. ap (λ b. cond b (closes 62 false s) ((c == 34) && closes 34 false s)) on.0 ∙ ap (λ b. b && closes 34 false s) on.1.0 ∙ closing 34 false s m on.1.1)
     (matched (c == 60) _ _ h)
 
--- where the test passes, a header name stands there
-passing : (b : Bool) (P Q : Type 0) → b ≡ false → Q → MatchBool b P Q
-passing true P Q h q = absurd (cc)
-passing false P Q h q = q
-
-choosing : (b : Bool) (P Q : Type 0) → b ≡ true → P → MatchBool b P Q
-choosing true P Q h p = p
-choosing false P Q h p = absurd (cc)
-
-no_from_not : (b : Bool) → not b ≡ true → b ≡ false
-no_from_not true h = absurd (cc)
-no_from_not false h = refl
-
 record Closed (close : ℕ) (some : Bool) (s : List ℕ) : Type 0 where
   len : ℕ
   within : len ≤ length s
   ends : EndsAt close some (take len s)
 
 closed_more : (close : ℕ) (some : Bool) (c : ℕ) (s : List ℕ) → (closes close true s ≡ true → Closed close true s) → (b : Bool) → (c == close) ≡ b → cond b some (not (c == 10) && closes close true s) ≡ true → Closed close some (c ∷ s)
-closed_more close some c s rest true e k = record { len = 1; within = omega arith; ends = choosing (c == close) (IsTrue some × _) _ e (k, refl) }
+closed_more close some c s rest true e k = record { len = 1; within = omega arith; ends = MatchBool-from_true (c == close) (IsTrue some × _) _ e (k, refl) }
 closed_more close some c s rest false e k =
     let more = rest (both_right (not (c == 10)) _ k) in
-    record { len = suc more.len; within = omega (arith, more.within); ends = passing (c == close) _ _ e (no_from_not (c == 10) (both_left _ _ k), more.ends) }
+    record { len = suc more.len; within = omega (arith, more.within); ends = MatchBool-from_false (c == close) _ _ e (not-true (c == 10) (both_left _ _ k), more.ends) }
 
 closed : (close : ℕ) (some : Bool) (s : List ℕ) → closes close some s ≡ true → Closed close some s
 closed close some [] h = absurd (cc)
@@ -144,10 +132,10 @@ header_not [] none h = absurd (cc)
 header_not (c ∷ s) none h = by (c == 60) refl h
   where
     by : (b : Bool) → (c == 60) ≡ b → cond b (closes 62 false s) ((c == 34) && closes 34 false s) ≡ true → ⊥
-    by true e k = let rest = closed 62 false s k in none (suc rest.len) (omega arith) (omega (arith, rest.within)) (choosing (c == 60) _ _ e rest.ends)
+    by true e k = let rest = closed 62 false s k in none (suc rest.len) (omega arith) (omega (arith, rest.within)) (MatchBool-from_true (c == 60) _ _ e rest.ends)
     by false e k =
         let rest = closed 34 false s (both_right (c == 34) _ k) in
-        none (suc rest.len) (omega arith) (omega (arith, rest.within)) (passing (c == 60) _ _ e (both_left _ _ k, rest.ends))
+        none (suc rest.len) (omega arith) (omega (arith, rest.within)) (MatchBool-from_false (c == 60) _ _ e (both_left _ _ k, rest.ends))
 
 pub header_some : (mode : ℕ) (text : List ℕ) (r : Option ℕ) → mode ≡ 2 → LongestAt IsHeader text r → IfSome r (λ n. IsTrue ((mode == 2) && has_header text) × IsLongest IsHeader text n)
 header_some mode text None is h = tt
@@ -157,12 +145,8 @@ both_false : (a b : Bool) → b ≡ false → (a && b) ≡ false
 both_false true b e = e
 both_false false b e = refl
 
-not_there : (b : Bool) → (b ≡ true → ⊥) → b ≡ false
-not_there true none = absurd (none refl)
-not_there false none = refl
-
 pub header_none : (mode : ℕ) (text : List ℕ) (r : Option ℕ) → LongestAt IsHeader text r → IfNone r (IsFalse ((mode == 2) && has_header text))
-header_none mode text None h = both_false (mode == 2) (has_header text) (not_there (has_header text) (header_not text h))
+header_none mode text None h = both_false (mode == 2) (has_header text) (false_from_ne_true (has_header text) (header_not text h))
 header_none mode text (Some n) h = tt
 
 -- ---- modes

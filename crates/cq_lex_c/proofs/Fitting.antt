@@ -1,11 +1,19 @@
 -- The longest text with a prefix, from the longest behind the prefix.
-use Rattle.std.proofs.Common.{◌≡◌, ◌⊎◌, ℕ, zero, suc, ◌<◌, ◌≤◌, Option, Some, None, ◌==◌, List, [], ◌∷◌, ◌↔◌, length, get_or, take, drop, refl, sym, subst, ap, ◌∙◌, inl, inr, ⊎_elim, arith}
+use Rattle.std.proofs.Common.{◌≡◌, ◌⊎◌, ℕ, zero, suc, ◌+◌, ◌-◌, ◌^◌, ◌<◌, ◌≤◌, Option, Some, None, ◌==◌, List, [], ◌∷◌, ◌↔◌, length, get_or, take, drop, refl, sym, subst, ap, ◌∙◌, inl, inr, ⊎_elim, arith, length-drop, zero-le}
 use Rattle.std.specs.Option.{option_map}
 use Rattle.std.proofs.lemmas.Bool.{eqb-true}
+use Rattle.std.specs.Prelude.{IfSome}
+use Rattle.std.proofs.lemmas.List.{drop-drop, drop_more, length-map}
+use Rattle.cq_munch.specs.Characters.{characters}
 use Rattle.cq_munch.specs.Comments.{IsAfter}
+use Rattle.cq_munch.specs.Lexed.{unit_at}
+use Rattle.cq_munch.specs.declared.unit.Unit.{Unit}
+use Rattle.cq_munch.proofs.Front.{ch_at, as_many}
 use Rattle.cq_munch.specs.Longest.{LongestAt}
 use Rattle.cq_munch.specs.Pattern.{Spells}
-use Rattle.cq_munch.specs.Quotes.{quoted}
+use Rattle.cq_munch.specs.Quotes.{quoted, NoneCloses}
+use Rattle.cq_munch.specs.declared.ends.LineEnds.{LineEnds}
+use Rattle.cq_munch.specs.declared.quoted.Quote.{Quote}
 use Rattle.cq_munch.specs.declared.ends.LineEnds.TheVariants.{ReturnOrFeed}
 use Rattle.cq_munch.specs.declared.quoted.Quote.TheVariants.{Single}
 use Rattle.cq_lex_c.specs.Texts.{IsString, IsText, IsSmall, IsPrefixed}
@@ -131,3 +139,34 @@ prefixed_none text small big wide = λ m some within h.
     let first = first_of_front text m some in
     ⊎_elim (λ a. small (sym first ∙ after_first 117 IsSmall (take m text) a))
     (λ h. ⊎_elim (λ b. big (sym first ∙ after_first 85 IsText (take m text) b)) (λ b. wide (sym first ∙ after_first 76 IsText (take m text) b)) h) h
+
+pub text_none : (text : List ℕ) → (get_or text 0 0 ≡ 34 → ⊥) → (get_or text 0 0 ≡ 39 → ⊥) → LongestAt IsText text None
+text_none text double single = λ m some within h.
+    let first = first_of_front text m some in
+    ⊎_elim (λ e. double (sym first ∙ e)) (λ e. single (sym first ∙ e)) (text_first (take m text) h)
+
+-- ---- at a unit
+
+-- the first character there
+pub first_at : (units : List Unit) (at : ℕ) → at < length units → get_or (drop at (characters units)) 0 0 ≡ (unit_at units at).ch
+first_at units at inside = ap (λ t. get_or t 0 0) (drop_more (characters units) at 0 (as_many units at inside)) ∙ ch_at units at inside
+
+-- what stands behind it
+pub behind_at : (text : List ℕ) (at : ℕ) → drop (at + 1) text ≡ drop 1 (drop at text)
+behind_at text at = sym (drop-drop 1 at text ∙ ap (λ k. drop k text) (omega arith))
+
+pub some_at : (units : List Unit) (at : ℕ) → at < length units → 0 < length (drop at (characters units))
+some_at units at inside = let left = length-drop at (characters units) in let many = length-map units (λ (u : Unit). u.ch) in omega arith
+
+-- nothing is closed from a unit on, as far as a scan from there has read
+pub none_behind : (quote : Quote) (ends : LineEnds) (text : List ℕ) (at read : ℕ) → NoneCloses quote ends (drop at text) 0 read → NoneCloses quote ends text at (at + read)
+none_behind quote ends text at read h = λ p from to.
+    subst (λ t. LongestAt (Spells (quoted quote ends)) t None) (drop-drop (p - at) at text ∙ ap (λ k. drop k text) (omega arith)) (h (p - at) zero-le (omega arith))
+
+-- behind the last unit no 8 stands
+pub nothing_at : (units : List Unit) (at : ℕ) → length units ≤ at → get_or (drop at (characters units)) 0 0 ≡ 56 → ⊥
+nothing_at units at end = by (drop at (characters units)) (let left = length-drop at (characters units) in let many = length-map units (λ (u : Unit). u.ch) in omega arith)
+  where
+    by : (t : List ℕ) → length t ≤ 0 → get_or t 0 0 ≡ 56 → ⊥
+    by [] none e = let is : 0 ≡ 56 = e in omega (arith, is)
+    by (c ∷ t) none e = omega arith

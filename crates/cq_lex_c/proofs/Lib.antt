@@ -4,3 +4,4 @@ pub mod Fitting
 pub mod Elements
 pub mod Dispatch
 pub mod PunctuatorSteps
+pub mod OpenComments

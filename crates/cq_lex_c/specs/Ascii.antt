@@ -1,9 +1,10 @@
 -- Which ASCII characters begin and continue an identifier.
 use Rattle.std.proofs.Common.{◌≡◌, ℕ, ◌<◌, Bool, true, false, ◌&&◌, ◌||◌, ◌==◌, not, nat_le, nat_lt, List, [], ◌∷◌, ⊎_elim, refl, ap, ◌∙◌}
-use Rattle.std.proofs.lemmas.Bool.{ltb-true}
+use Rattle.std.proofs.lemmas.Bool.{ltb-true, not-true}
 use Rattle.std.specs.Bool.{beq}
 use Rattle.std.specs.Prelude.{IsTrue, MatchBool}
 use Rattle.std.specs.List.{list_all}
+use Rattle.cq_base.proofs.Bools.{MatchBool-from_false}
 use Rattle.ucd_table.proofs.Computing.{tables}
 use Rattle.ucd_table.proofs.Facts.{Stepped-below, same_from_beq}
 use Rattle.ucd_derived.proofs.BinaryLemmas.{is_xid_start_stepped, is_xid_continue_stepped}
@@ -56,14 +57,6 @@ is_word : List ℕ → Bool
 is_word [] = false
 is_word (c ∷ s) = begins_name c && list_all in_name s
 
-no_from_not : (b : Bool) → not b ≡ true → b ≡ false
-no_from_not true h = absurd (cc)
-no_from_not false h = refl
-
-passing : (b : Bool) (P Q : Type 0) → b ≡ false → Q → MatchBool b P Q
-passing true P Q h q = absurd (cc)
-passing false P Q h q = q
-
 tail_of_word : (s : List ℕ) → list_all in_name s ≡ true → IsTail at.Whole s
 unfolding in_name
 tail_of_word [] h = tt
@@ -71,7 +64,7 @@ tail_of_word (c ∷ s) h =
     let here = both_left (in_name c) (list_all in_name s) h in
     let both = both_right (nat_lt c 128) _ here in
     let low : c < 128 = ltb-true c 128 (both_left (nat_lt c 128) _ here) in
-    passing (c == 92) (IsTail at.Mark s) (IsTrue (continues_identifier c) × IsTail at.Whole s) (no_from_not (c == 92) (both_right (continues_ascii c) _ both))
+    MatchBool-from_false (c == 92) (IsTail at.Mark s) (IsTrue (continues_identifier c) × IsTail at.Whole s) (not-true (c == 92) (both_right (continues_ascii c) _ both))
     (continues_below c low ∙ both_left (continues_ascii c) _ both, tail_of_word s (both_right (in_name c) _ h))
 
 identifier_of_word : (w : List ℕ) → is_word w ≡ true → IsIdentifier w
@@ -81,7 +74,7 @@ identifier_of_word (c ∷ s) h =
     let here = both_left (begins_name c) (list_all in_name s) h in
     let both = both_right (nat_lt c 128) _ here in
     let low : c < 128 = ltb-true c 128 (both_left (nat_lt c 128) _ here) in
-    passing (c == 92) (IsTail at.Mark s) (IsTrue (begins_identifier c) × IsTail at.Whole s) (no_from_not (c == 92) (both_right (begins_ascii c) _ both))
+    MatchBool-from_false (c == 92) (IsTail at.Mark s) (IsTrue (begins_identifier c) × IsTail at.Whole s) (not-true (c == 92) (both_right (begins_ascii c) _ both))
     (begins_below c low ∙ both_left (begins_ascii c) _ both, tail_of_word s (both_right (begins_name c) _ h))
 
 pub keyword_is_identifier : (s : List ℕ) → IsAmong keywords s → IsIdentifier s

@@ -3,6 +3,7 @@ pub mod Splices
 pub mod Identifiers
 pub mod Numbers
 pub mod Texts
+pub mod Unclosed
 pub mod Quoting
 pub mod Headers
 pub mod Punctuators
@@ -11,3 +12,4 @@ pub mod C
 pub mod Fronts
 pub mod Ascii
 pub mod OneKind
+pub mod OpenComments

@@ -1,13 +1,14 @@
 ghost use Rattle.std.specs.Prelude.{◌≡◌, ◌<◌, ◌^◌, ◌&&◌, ◌==◌, ℕ, [], ◌∷◌, length, slice_index_or, IsTrue, IsFalse, IfSome, IfNone};
 ghost use Rattle.cq_munch.specs.Characters.{characters};
 ghost use Rattle.cq_munch.specs.Language.{Takes};
-ghost use Rattle.cq_munch.specs.Longest.{IsLongest};
+ghost use Rattle.cq_munch.specs.Longest.{IsLongest, LongestAt};
 ghost use Rattle.cq_munch.specs.Table.{InTable, table};
 ghost use Rattle.cq_munch.specs.declared.element.Spell.TheVariants.{Token as token};
 ghost use Rattle.cq_lex_c.specs.C.{begins, behind_block, identifiers, reserved, others, unmarked};
 ghost use Rattle.cq_lex_c.specs.Fronts.{front_of, rows_of};
 ghost use Rattle.cq_lex_c.specs.Headers.{IsHeader, has_header};
 ghost use Rattle.cq_lex_c.specs.Identifiers.{IsIdentifier};
+ghost use Rattle.cq_lex_c.specs.Texts.{IsText, IsPrefixed};
 ghost use Rattle.cq_lex_c.specs.declared.element.Front.TheVariants.{Other};
 
 use crate::characters::begins_identifier;
@@ -15,7 +16,6 @@ use crate::header::longest_header;
 use crate::identifier::{is_keyword, longest_identifier};
 use crate::number::longest_number;
 use crate::punctuator::longest_punctuator;
-use crate::text::{longest_prefixed, longest_text};
 use cq_base::Class;
 use cq_munch::{
     Found, LineEnds, Spell, Unit, better, found_of, longest_block_comment, longest_line_comment,
@@ -127,27 +127,27 @@ fn behind_slash(units: &[Unit], mode: u8) -> Option<Found>
     punctuator(units, mode)
 }
 
-// The element at the front, where no header name is looked for. Its first character tells which scanners to ask.
-fn element(units: &[Unit], mode: u8) -> Option<Found>
+// The element at the front, where no header name is looked for. Its first character tells which scanners to ask; the
+// texts there, with a prefix and without, are given.
+fn element(units: &[Unit], mode: u8, text: Option<usize>, prefixed: Option<usize>) -> Option<Found>
     requires some { 0 < length units.now }
     requires short { length units.now < 2 ^ 32 }
+    requires text { LongestAt IsText (characters units.now) text }
+    requires prefixed { LongestAt IsPrefixed (characters units.now) prefixed }
     ensures { (at : ℕ) → Takes behind_block at mode (characters units.now) result }
 {
     let literal = Spell::Token(Class::Literal);
     let alone = found_of(Spell::Token(Class::Punct), mode, Some(1));
     match front_of(units[0].ch) {
         Front::Blank => found_of(Spell::Blank, mode, Some(1)),
-        Front::Letter => better(
-            name(units, mode),
-            found_of(literal, mode, longest_prefixed(units)),
-        ),
+        Front::Letter => better(name(units, mode), found_of(literal, mode, prefixed)),
         Front::Digit => found_of(literal, mode, longest_number(units)),
         Front::Point => better(
             found_of(literal, mode, longest_number(units)),
             punctuator(units, mode),
         ),
         Front::Slash => behind_slash(units, mode),
-        Front::Quote => better(found_of(literal, mode, longest_text(units)), alone),
+        Front::Quote => better(found_of(literal, mode, text), alone),
         Front::Backslash => better(name(units, mode), alone),
         Front::Other => punctuator(units, mode),
     }
@@ -165,14 +165,22 @@ fn header_at(units: &[Unit], mode: u8) -> Option<usize>
     }
 }
 
-/// The element at the front, where no byte order mark stands. In mode 2 a header name comes before anything else.
-pub(crate) fn taken(units: &[Unit], mode: u8) -> Option<Found>
+/// The element at the front, where no byte order mark stands. In mode 2 a header name comes before anything
+/// else. The texts there, with a prefix and without, are given.
+pub(crate) fn taken(
+    units: &[Unit],
+    mode: u8,
+    text: Option<usize>,
+    prefixed: Option<usize>,
+) -> Option<Found>
     requires some { 0 < length units.now }
     requires short { length units.now < 2 ^ 32 }
+    requires text { LongestAt IsText (characters units.now) text }
+    requires prefixed { LongestAt IsPrefixed (characters units.now) prefixed }
     ensures { (at : ℕ) → Takes unmarked at mode (characters units.now) result }
 {
     match header_at(units, mode) {
         Some(n) => found_of(Spell::Token(Class::Word), mode, Some(n)),
-        None => element(units, mode),
+        None => element(units, mode, text, prefixed),
     }
 }

@@ -1,18 +1,23 @@
-ghost use Rattle.std.specs.Prelude.{Ok};
+ghost use Rattle.std.specs.Prelude.{Ok, length};
+ghost use Rattle.std.proofs.Math.Nat.{le_refl};
 ghost use Rattle.cq_lex_c.specs.C.{c};
 ghost use Rattle.cq_lex_c.specs.OneKind.{one_kind_of_c};
 ghost use Rattle.cq_lex_c.specs.Splices.{spliced};
+ghost use Rattle.cq_lex_c.specs.Unclosed.{IsTrueOf};
 
 use crate::element::taken;
 use crate::mode::mode_behind;
 use crate::splice::splice;
+use crate::text::{Unclosed, nothing_known, prefixed_at, text_at};
 use cq_base::{Memory, Spelled, Text};
 use cq_munch::{Found, Lexis, Spell, Translated, Unit, is_mark, plain_units};
 use std::alloc::Global;
 
-/// The language C.
+/// The language C. It remembers where quotes were looked at that nothing closes, so that a line of them is read once.
 #[derive(Clone, Copy, Debug, PartialEq, Eq)]
-pub struct C;
+pub struct C {
+    unclosed: Unclosed,
+}
 
 impl Lexis for C {
     ghost language = { c };
@@ -26,7 +31,15 @@ impl Lexis for C {
         Ok(Translated::Units(splice(alloc, &units)?))
     }
 
-    fn longest(units: &[Unit], at: u32, mode: u8) -> Option<Found> {
+    ghost is_true_of = { λ language text. IsTrueOf language.unclosed text };
+
+    fn new() -> Self {
+        C {
+            unclosed: nothing_known(),
+        }
+    }
+
+    fn longest(&mut self, units: &[Unit], at: u32, mode: u8) -> Option<Found> {
         let rest = &units[at as usize..];
         if is_mark(units, at) {
             return Some(Found {
@@ -35,7 +48,9 @@ impl Lexis for C {
                 mode,
             });
         }
-        match taken(rest, mode) {
+        let text = text_at(units, at as usize, &mut self.unclosed);
+        let prefixed = prefixed_at(units, at as usize, &mut self.unclosed);
+        match taken(rest, mode, text, prefixed) {
             None => None,
             Some(found) => Some(Found {
                 spell: found.spell,
@@ -52,6 +67,8 @@ impl Lexis for C {
     ) -> Result<Vec<Spelled>, Memory> {
         Ok(tokens)
     }
+
+    ghost none_lost = { λ text tokens. le_refl (length tokens) };
 
     ghost one_kind = { one_kind_of_c };
 }

@@ -1,12 +1,14 @@
 //! The language C: its names, keywords, numbers, texts, header names, punctuators, comments and blanks as a preprocessor
 //! reads them (C11 6.4), behind the removal of line splices. The first character of an element tells its scanner,
 //! which looks at each unit once, up to the first that cannot go on; a point, a quote and a prefix are looked at by
-//! two, the letters of a name once more for the keywords, and a header name twice. It takes no memory but for the
-//! units, of which a text of n bytes has at most n, of 12 bytes each, twice while the splices are taken out.
+//! two, the letters of a name once more for the keywords, and a header name twice. A quote that nothing closes on its
+//! line is looked for once, and the others of its kind behind it on the line are known by that. It takes no memory but
+//! for the units, of which a text of n bytes has at most n, of 12 bytes each, twice while the splices are taken out.
 #![tactic(auto)]
 
 mod characters;
 mod element;
+mod faults;
 mod header;
 mod identifier;
 mod language;
@@ -16,4 +18,5 @@ mod punctuator;
 mod splice;
 mod text;
 
+pub use faults::only_open_comments_are_faults;
 pub use language::C;

@@ -51,7 +51,7 @@ fn preprocessing_numbers(rt: HostRuntime) -> Result<(), Memory> {
 
 #[test]
 fn strings_and_characters(rt: HostRuntime) -> Result<(), Memory> {
-    let cases: [(&str, &[&str]); 8] = [
+    let cases: [(&str, &[&str]); 10] = [
         (
             "u8\"a\" u8'a' L'a' U\"b\"",
             &["lu8\"a\"", "iu8", "l'a'", "lL'a'", "lU\"b\""],
@@ -66,6 +66,13 @@ fn strings_and_characters(rt: HostRuntime) -> Result<(), Memory> {
         ("'ab' '\\'' \"\\\\\"", &["l'ab'", "l'\\''", "l\"\\\\\""]),
         ("\"a\rb\"", &["p\"", "ia", "ib", "p\""]),
         ("u u8 L", &["iu", "iu8", "iL"]),
+        (
+            "\"a\\\"b'c\n\"d\" 'e\\'",
+            &[
+                "p\"", "ia", "p\\", "p\"", "ib", "p'", "ic", "l\"d\"", "p'", "ie", "p\\", "p'",
+            ],
+        ),
+        ("L\"\\\"x", &["iL", "p\"", "p\\", "p\"", "ix"]),
     ];
     for (source, want) in cases {
         assert!(rt; has_tokens::<C>(rt.alloc(), source, want)?, "{source}");

@@ -8,5 +8,6 @@ pub mod Go
 pub mod Fronts
 pub mod Ascii
 pub mod Semicolons
+pub mod NoneLost
 pub mod OneKind
 pub mod OperatorStates

@@ -1,6 +1,7 @@
-ghost use Rattle.std.specs.Prelude.{Ok};
+ghost use Rattle.std.specs.Prelude.{Ok, ⊤};
 ghost use Rattle.cq_lex_go.specs.Go.{go};
 ghost use Rattle.cq_lex_go.specs.OneKind.{one_kind_of_go};
+ghost use Rattle.cq_lex_go.specs.NoneLost.{none_lost};
 ghost use Rattle.cq_lex_go.specs.Semicolons.{completed};
 
 use crate::element::taken;
@@ -24,7 +25,13 @@ impl Lexis for Go {
         Ok(Translated::Units(plain_units(alloc, text)?))
     }
 
-    fn longest(units: &[Unit], at: u32, mode: u8) -> Option<Found> {
+    ghost is_true_of = { λ language text. ⊤ };
+
+    fn new() -> Self {
+        Go
+    }
+
+    fn longest(&mut self, units: &[Unit], at: u32, mode: u8) -> Option<Found> {
         if is_mark(units, at) {
             return Some(Found {
                 spell: Spell::Blank,
@@ -38,6 +45,8 @@ impl Lexis for Go {
     fn complete(alloc: Global, text: &Text, tokens: Vec<Spelled>) -> Result<Vec<Spelled>, Memory> {
         with_semicolons(alloc, text, tokens)
     }
+
+    ghost none_lost = { none_lost };
 
     ghost one_kind = { one_kind_of_go };
 }

@@ -68,8 +68,11 @@ fn escape_at(units: &[Unit]) -> Escape
 {
     match units {
         [first, rest @ ..] => {
+            if first.ch != '\\' {
+                return Escape::None;
+            }
             let marks = marks_of(rest);
-            if first.ch != '\\' || marks == 0 {
+            if marks == 0 {
                 return Escape::None;
             }
             match four_digits(&rest[marks..]) {

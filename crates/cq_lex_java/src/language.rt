@@ -1,4 +1,5 @@
-ghost use Rattle.std.specs.Prelude.{false};
+ghost use Rattle.std.specs.Prelude.{false, ⊤, length};
+ghost use Rattle.std.proofs.Math.Nat.{le_refl};
 ghost use Rattle.cq_lex_java.specs.Java.{java};
 ghost use Rattle.cq_lex_java.specs.OneKind.{one_kind_of_java};
 ghost use Rattle.cq_lex_java.specs.Translation.{translated};
@@ -25,7 +26,13 @@ impl Lexis for Java {
         translated(alloc, &units)
     }
 
-    fn longest(units: &[Unit], at: u32, mode: u8) -> Option<Found> {
+    ghost is_true_of = { λ language text. ⊤ };
+
+    fn new() -> Self {
+        Java
+    }
+
+    fn longest(&mut self, units: &[Unit], at: u32, mode: u8) -> Option<Found> {
         if is_mark(units, at) {
             return Some(Found {
                 spell: Spell::Blank,
@@ -43,6 +50,8 @@ impl Lexis for Java {
     ) -> Result<Vec<Spelled>, Memory> {
         Ok(tokens)
     }
+
+    ghost none_lost = { λ text tokens. le_refl (length tokens) };
 
     ghost one_kind = { one_kind_of_java };
 }

@@ -1,16 +1,17 @@
 -- One element more.
-use Rattle.std.proofs.Common.{◌≡◌, ℕ, ◌+◌, ◌<◌, ◌≤◌, Some, List, [], ◌∷◌, ◌++◌, length, take, drop, refl, sym, ap, subst, ◌∙◌, append_assoc, zero-le, ◌-◌, arith, length-drop, length-take-le}
+use Rattle.std.proofs.Common.{◌≡◌, ℕ, ◌+◌, ◌<◌, ◌≤◌, Some, List, [], ◌∷◌, ◌++◌, length, take, drop, refl, sym, ap, subst, ◌∙◌, append_assoc, zero-le, ◌-◌, arith, length-append, length-drop, length-take-le}
 use Rattle.std.proofs.lemmas.List.{append-nil, length-map, drop-drop}
 use Rattle.cq_base.specs.Lines.{line_at}
 use Rattle.cq_base.specs.declared.token.Class.{Class}
 use Rattle.cq_base.specs.declared.token.Spelled.{Spelled}
 use Rattle.cq_munch.specs.declared.unit.Unit.{Unit}
 use Rattle.cq_munch.specs.declared.element.Found.{Found}
+use Rattle.cq_munch.specs.declared.cutting.Cut.TheVariants as cuts
 use Rattle.cq_munch.specs.declared.element.Spell.{Spell}
 use Rattle.cq_munch.specs.declared.element.Spell.TheVariants.{Blank, Comment, Token as TokenOf}
 use Rattle.cq_munch.specs.Language.{Language, Takes}
 use Rattle.cq_munch.specs.Characters.{characters}
-use Rattle.cq_munch.specs.Lexed.{Follow, InOrder, TokensFollow, spelled_of, token_of, tokens_of, unit_at, end_of}
+use Rattle.cq_munch.specs.Lexed.{Follow, IsWhole, EndsAt, StopsFrom, GoesToEnd, IsCut, InOrder, TokensFollow, spelled_of, token_of, tokens_of, unit_at, end_of}
 use Rattle.cq_munch.proofs.Orders.{InOrder-drop, InOrder-behind, InOrder-ends, InOrder-take}
 
 Follow-push : (lang : Language) (text : List ℕ) (a m : ℕ) (fs : List Found) (at mode : ℕ) (f : Found) → Follow lang text a m fs at mode → Takes lang at mode (drop at text) (Some f)
@@ -49,6 +50,65 @@ pub record SoFar (lang : Language) (bytes : List ℕ) (units : List Unit) (token
 
 pub none_so_far : (lang : Language) (bytes : List ℕ) (units : List Unit) → InOrder 0 units (length bytes) → SoFar lang bytes units [] 0 0 0 1
 none_so_far lang bytes units order = record { elements = []; follow = (refl, refl); tokens_are = refl; inside = zero-le; known = zero-le; behind = order; line_is = refl; ordered = zero-le }
+
+-- elements behind elements
+Follow-append : (lang : Language) (text : List ℕ) (a m : ℕ) (fs : List Found) (at mode : ℕ) (gs : List Found) (end last : ℕ) → Follow lang text a m fs at mode → Follow lang text at mode gs end last
+    → Follow lang text a m (fs ++ gs) end last
+Follow-append lang text a m [] at mode gs end last h k = subst (λ v. Follow lang text v m gs end last) (sym h.0) (subst (λ v. Follow lang text at v gs end last) (sym h.1) k)
+Follow-append lang text a m (f ∷ fs) at mode gs end last h k = (h.0, Follow-append lang text (a + f.units) f.mode fs at mode gs end last h.1 k)
+
+tokens-more : (bytes : List ℕ) (units : List Unit) (a : ℕ) (fs gs : List Found) → length (tokens_of bytes units a fs) ≤ length (tokens_of bytes units a (fs ++ gs))
+tokens-more bytes units a [] gs = zero-le
+tokens-more bytes units a (f ∷ fs) gs =
+    let own = token_of bytes f.spell (take f.units (drop a units)) in
+    let few = length-append own (tokens_of bytes units (a + f.units) fs) in
+    let many = length-append own (tokens_of bytes units (a + f.units) (fs ++ gs)) in
+    let rest = tokens-more bytes units (a + f.units) fs gs in
+    omega arith
+
+-- from a unit and a mode on, elements stand up to here
+pub record Gone (lang : Language) (units : List Unit) (from there at mode : ℕ) : Type 0 where
+  pub elements : List Found
+  pub follow : Follow lang (characters units) from there elements at mode
+  pub inside : at ≤ length units
+  pub known : mode ≤ 3
+
+pub none_gone : (lang : Language) (units : List Unit) (at mode : ℕ) → at ≤ length units → mode ≤ 3 → Gone lang units at mode at mode
+none_gone lang units at mode inside known = record { elements = []; follow = (refl, refl); inside = inside; known = known }
+
+pub one_gone : {lang : Language} {units : List Unit} {from there at mode : ℕ} → Gone lang units from there at mode → (f : Found) → Takes lang at mode (drop at (characters units)) (Some f) → at + f.units ≤ length units → f.mode ≤ 3
+    → Gone lang units from there (at + f.units) f.mode
+one_gone {lang} {units} {from} {there} {at} {mode} gone f takes inside known = record {
+  elements = gone.elements ++ f ∷ [];
+  follow = Follow-push lang (characters units) from there gone.elements at mode f gone.follow takes;
+  inside = inside;
+  known = known;
+}
+
+-- all the text
+pub all_gone : {lang : Language} {units : List Unit} {from there at mode : ℕ} → Gone lang units from there at mode → length units ≤ at → GoesToEnd lang units from there
+all_gone {lang} {units} {from} {there} {at} {mode} gone end =
+    let whole : at ≡ length units = omega (arith, gone.inside) in
+    (gone.elements, mode, subst (λ v. Follow lang (characters units) from there gone.elements v mode) whole gone.follow)
+
+-- a text with a fault behind its first tokens, or with too many
+pub faulty : {lang : Language} {bytes : List ℕ} {units : List Unit} {tokens : List Spelled} {at mode end line : ℕ} → SoFar lang bytes units tokens at mode end line → (byte : ℕ) → StopsFrom lang units at mode byte → EndsAt lang units byte
+faulty {lang} {bytes} {units} {tokens} {at} {mode} {end} {line} so_far byte stops = record {
+  elements = so_far.elements ++ stops.elements;
+  at = stops.at;
+  mode = stops.mode;
+  before = Follow-append lang (characters units) 0 0 so_far.elements at mode stops.elements stops.at stops.mode so_far.follow stops.before;
+  inside = stops.inside;
+  nothing = stops.nothing;
+  byte_is = stops.byte_is;
+}
+
+pub too_many : {lang : Language} {bytes : List ℕ} {units : List Unit} {tokens : List Spelled} {at mode end line : ℕ} → SoFar lang bytes units tokens at mode end line → 262144 < length tokens → GoesToEnd lang units at mode → IsCut lang bytes units cuts.Large
+too_many {lang} {bytes} {units} {tokens} {at} {mode} {end} {line} so_far many rest = (
+  so_far.elements ++ rest.0,
+  (rest.1, Follow-append lang (characters units) 0 0 so_far.elements at mode rest.0 (length units) rest.1 so_far.follow rest.2),
+  let is = ap length so_far.tokens_are in let more = tokens-more bytes units 0 so_far.elements rest.0 in omega arith,
+)
 
 -- an element that is no token
 pub one_blank : {lang : Language} {bytes : List ℕ} {units : List Unit} {tokens : List Spelled} {at mode end line : ℕ} → SoFar lang bytes units tokens at mode end line → (f : Found) → Takes lang at mode (drop at (characters units)) (Some f)

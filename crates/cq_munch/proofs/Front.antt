@@ -1,5 +1,5 @@
 -- The longest spelling at the front, as a scan reads one character more.
-use Rattle.std.proofs.Common.{◌≡◌, ℕ, ◌+◌, ◌<◌, ◌≤◌, Option, Some, None, List, [], ◌∷◌, ◌++◌, ◌↔◌, length, take, drop, arith, sym, ap, subst, ◌∙◌, ⊎_elim, length-take-le, map, get_or, append_assoc}
+use Rattle.std.proofs.Common.{◌≡◌, ℕ, ◌+◌, ◌<◌, ◌≤◌, Option, Some, None, List, [], ◌∷◌, ◌++◌, ◌↔◌, length, take, drop, arith, refl, sym, ap, subst, ◌∙◌, ⊎_elim, length-take-le, map, get_or, append_assoc}
 use Rattle.std.proofs.lemmas.List.{take-take, take_all, take_more, drop_more, append-nil, get_or-map, length-map, get_or-take, take-append-drop}
 use Rattle.std.proofs.str.Laws.{order}
 use Rattle.cq_munch.specs.declared.unit.Unit.{Unit}
@@ -109,6 +109,14 @@ scanned_all set rest text i found so_far end = subst (λ t. LongestAt set t foun
 
 pub scanned_none : (set : List ℕ → Type 0) (text : List ℕ) → Scanned set set text 0 None
 scanned_none set text = record { goes = λ s. (λ h. h, λ h. h); best = λ m some within. absurd (omega arith) }
+
+-- nothing goes on from the state
+pub scanned_ended : (set rest : List ℕ → Type 0) (text : List ℕ) (i : ℕ) (found : Option ℕ) → Scanned set rest text i found → ((c : ℕ) (s : List ℕ) → rest (c ∷ s) → ⊥) → LongestAt set text found
+scanned_ended set rest text i found so_far none =
+    ⊎_elim
+    (λ inside. scanned_stopped so_far (get_or text i 0) inside refl (none (get_or text i 0)))
+    (λ end. scanned_all set rest text i found so_far end)
+    (order i (length text))
 
 -- a unit's character
 pub ch_at : (units : List Unit) (i : ℕ) → i < length units → get_or (map (λ (u : Unit). u.ch) units) i 0 ≡ (get_or units i (record { ch = 0; start = 0; len = 0 })).ch

@@ -3,6 +3,7 @@ pub mod Steps
 pub mod Tables
 pub mod WordLists
 pub mod QuoteSteps
+pub mod OpenQuotes
 pub mod Orders
 pub mod Texts
 pub mod Decoding

@@ -20,7 +20,7 @@ use Rattle.cq_munch.proofs.Front.{LongestAt-same}
 use Rattle.cq_munch.proofs.Steps.{and_both, any_takes_empty-if, any_takes_empty-then}
 use Rattle.cq_munch.proofs.Tables.{all_at, agree-after, agrees_everywhere}
 
-abbrev at : Quote → LineEnds → Place → Quoted
+abbrev pub at : Quote → LineEnds → Place → Quoted
 at quote ends place = record { quote = quote; ends = ends; place = place }
 
 step_ok : Quote → LineEnds → Place → Mark → Bool

@@ -90,13 +90,30 @@ pub record EndsAt (lang : Language) (units : List Unit) (byte : ℕ) : Type 0 wh
   pub nothing : Takes lang at mode (drop at (characters units)) None
   pub byte_is : byte ≡ (unit_at units at).start
 
+-- from a unit and a mode on, elements end where nothing is taken, at the unit of this byte
+pub record StopsFrom (lang : Language) (units : List Unit) (from mode_there : ℕ) (byte : ℕ) : Type 0 where
+  pub elements : List Found
+  pub at : ℕ
+  pub mode : ℕ
+  pub before : Follow lang (characters units) from mode_there elements at mode
+  pub inside : at < length units
+  pub nothing : Takes lang at mode (drop at (characters units)) None
+  pub byte_is : byte ≡ (unit_at units at).start
+
+-- from a unit and a mode on, elements are all of the text
+abbrev pub GoesToEnd : Language → List Unit → ℕ → ℕ → Type 0
+GoesToEnd lang units from mode_there =
+    (fs : List Found) × (last : ℕ) × Follow lang (characters units) from mode_there fs (length units) last
+
 abbrev pub IsCut : Language → List ℕ → List Unit → Cut → Type 0
 IsCut lang bytes units (cuts.Tokens v) = (fs : List Found) × IsWhole lang units fs × (v.items ≡ tokens_of bytes units 0 fs)
 IsCut lang bytes units (cuts.Fault byte) = EndsAt lang units byte
+IsCut lang bytes units cuts.Large = (fs : List Found) × IsWhole lang units fs × (262144 < length (tokens_of bytes units 0 fs))
 
 abbrev pub AreCutInOrder : ℕ → Cut → Type 0
 AreCutInOrder to (cuts.Tokens v) = TokensFollow 0 v.items to
 AreCutInOrder to (cuts.Fault byte) = ⊤
+AreCutInOrder to cuts.Large = ⊤
 
 -- A fault of the translation is the answer. Otherwise it is the first place where nothing is taken. Otherwise the
 -- text is large where it has more tokens than 262,144, and else these tokens are the answer.

@@ -1,5 +1,6 @@
-ghost use Rattle.std.specs.Prelude.{◌≡◌, ◌^◌, ◌<◌, ◌≤◌, length, IfOk};
-ghost use Rattle.cq_munch.specs.Lexed.{InOrder, IsCut, AreCutInOrder};
+ghost use Rattle.std.specs.Prelude.{◌≡◌, ◌^◌, ◌<◌, ◌≤◌, length, IfOk, IfSome, IfNone};
+ghost use Rattle.cq_munch.specs.Characters.{characters};
+ghost use Rattle.cq_munch.specs.Lexed.{InOrder, IsCut, AreCutInOrder, StopsFrom, GoesToEnd};
 
 use crate::element::Spell;
 use crate::lexis::Lexis;
@@ -8,11 +9,36 @@ use crate::unit::Unit;
 use cq_base::{Memory, Spelled, Text};
 use std::alloc::Global;
 
-/// The tokens of a translated text, or the byte where nothing is taken.
+pub(crate) const MOST_TOKENS: usize = 262_144;
+
+/// The tokens of a translated text, or the byte where nothing is taken, or that it has more than 262,144 tokens.
 #[derive(Debug, Drop)]
 pub(crate) enum Cut {
     Tokens(Vec<Spelled>),
     Fault(u32),
+    Large,
+}
+
+// The byte where nothing is taken, if there is one from a unit on.
+fn fault_from<X: Lexis>(lexis: X, units: &[Unit], at: usize, mode: u8) -> Option<u32>
+    requires inside { at ≤ length units.now }
+    requires short { length units.now < 2 ^ 32 }
+    requires known { mode ≤ 3 }
+    requires remembered { X.is_true_of lexis (characters units.now) }
+    ensures fault { IfSome result (StopsFrom X.language units.now at mode) }
+    ensures none { IfNone result (GoesToEnd X.language units.now at mode) }
+{
+    let mut lexis = lexis;
+    let mut at = at;
+    let mut mode = mode;
+    while at < units.len() {
+        let Some(found) = lexis.longest(units, at as u32, mode) else {
+            return Some(units[at].start);
+        };
+        at += found.units as usize;
+        mode = found.mode;
+    }
+    None
 }
 
 /// Takes elements one behind the other, from the first unit on.
@@ -23,13 +49,20 @@ pub(crate) fn cut_up<X: Lexis>(alloc: Global, text: &Text, units: &[Unit]) -> Re
     ensures cut { IfOk result (IsCut X.language text.now units.now) }
     ensures in_order { IfOk result (AreCutInOrder (length text.now)) }
 {
+    let mut lexis = X::new();
     let mut tokens = Vec::new(alloc);
     let mut at = 0;
     let mut mode = 0;
     let mut end = 0;
     let mut line = 1;
     while at < units.len() {
-        let Some(found) = X::longest(units, at as u32, mode) else {
+        if tokens.len() > MOST_TOKENS {
+            return match fault_from(lexis, units, at, mode) {
+                Some(byte) => Ok(Cut::Fault(byte)),
+                None => Ok(Cut::Large),
+            };
+        }
+        let Some(found) = lexis.longest(units, at as u32, mode) else {
             return Ok(Cut::Fault(units[at].start));
         };
         let behind = at + found.units as usize;

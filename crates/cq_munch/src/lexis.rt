@@ -17,8 +17,9 @@ pub enum Translated {
     Fault(u32),
 }
 
-/// A language.
-pub trait Lexis {
+/// A language. Its value is what it remembers of a text while elements are taken from it one behind the other, so that
+/// no unit is looked at again and again.
+pub trait Lexis: Copy {
     /// Its tables.
     ghost language: { Language };
 
@@ -36,19 +37,31 @@ pub trait Lexis {
         ensures in_order { IfOk result (λ t. IfOk (translation t) (λ units. InOrder 0 units (length text.now))) }
         ensures short { IfOk result (λ t. IfOk (translation t) (λ units. length units ≤ length text.now)) };
 
+    /// What is remembered is true of these characters.
+    ghost is_true_of: { Self → List ℕ → Type 0 };
+
+    /// The language, with nothing remembered.
+    fn new() -> Self
+        ensures { (text : List ℕ) → is_true_of result text };
+
     /// The element at a unit, in a mode; None exactly where the tables allow none. It takes no memory.
-    fn longest(units: &[Unit], at: u32, mode: u8) -> Option<Found>
+    fn longest(&mut self, units: &[Unit], at: u32, mode: u8) -> Option<Found>
         requires inside { at < length units.now }
         requires short { length units.now < 2 ^ 32 }
         requires known { mode ≤ 3 }
+        requires remembered { is_true_of self.old (characters units.now) }
         ensures taken { Takes language at mode (drop at (characters units.now)) result }
-        ensures known { IfSome result (λ found. found.mode ≤ 3) };
+        ensures known { IfSome result (λ found. found.mode ≤ 3) }
+        ensures remembered { is_true_of self.new (characters units.now) };
 
     /// The tokens of a text with those that the language inserts.
     fn complete(alloc: Global, text: &Text, tokens: Vec<Spelled>) -> Result<Vec<Spelled>, Memory>
         requires short { length text.now ≤ 1048576 }
         requires in_order { TokensFollow 0 tokens.items (length text.now) }
         ensures { IfOk result (λ v. v.items ≡ completed text.now tokens.items) };
+
+    /// No token is taken away.
+    ghost none_lost: { (text : List ℕ) (tokens : List Spelled) → length tokens ≤ length (completed text tokens) };
 
     /// No spelling is of two kinds.
     ghost one_kind: { (at mode : ℕ) (text s : List ℕ) (a b : _) → language.tried at mode text a s → language.tried at mode text b s → a ≡ b };

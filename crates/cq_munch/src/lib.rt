@@ -28,7 +28,7 @@ pub use machine::{Machine, longest_spelling};
 pub use mark::is_mark;
 pub use munching::{Lexed, munch, one_answer};
 pub use plain::plain_units;
-pub use quoted::{Quote, longest_quoted};
+pub use quoted::{Quote, longest_quoted, scan_quoted};
 pub use rows::{better, found_of};
 pub use unit::Unit;
 pub use words::ascii_bytes;

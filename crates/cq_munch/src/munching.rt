@@ -2,7 +2,7 @@ ghost use Rattle.std.specs.Prelude.{ℕ, ◌≤◌, List, length, IfOk, IsUtf8};
 ghost use Rattle.cq_munch.specs.declared.munching.Lexed.{Lexed};
 ghost use Rattle.cq_munch.specs.Lexed.{IsLexed, Alike};
 
-use crate::cutting::{Cut, cut_up};
+use crate::cutting::{Cut, MOST_TOKENS, cut_up};
 use crate::lexis::{Lexis, Translated};
 use cq_base::{Memory, Spelled, Text};
 use std::alloc::Global;
@@ -18,10 +18,9 @@ pub enum Lexed {
     Large,
 }
 
-const MOST_TOKENS: usize = 262_144;
-
 /// The tokens of a text, or its first fault, or that there are too many. The text is translated first; then the
-/// longest element is taken, one behind the other.
+/// longest element is taken, one behind the other. Behind the first 262,145 tokens no more are spelled out: what is left
+/// is read for faults alone.
 pub fn munch<X: Lexis>(alloc: Global, text: &Text) -> Result<Lexed, Memory>
     requires utf8 { IsUtf8 text.now }
     requires short { length text.now ≤ 1048576 }
@@ -34,6 +33,7 @@ pub fn munch<X: Lexis>(alloc: Global, text: &Text) -> Result<Lexed, Memory>
     let tokens = match cut_up::<X>(alloc, text, &units)? {
         Cut::Tokens(tokens) => tokens,
         Cut::Fault(at) => return Ok(Lexed::Fault(at)),
+        Cut::Large => return Ok(Lexed::Large),
     };
     let tokens = X::complete(alloc, text, tokens)?;
     if tokens.len() > MOST_TOKENS {

@@ -1,9 +1,9 @@
-ghost use Rattle.std.specs.Prelude.{◌≡◌};
+ghost use Rattle.std.specs.Prelude.{◌≡◌, ◌≤◌, Some, None, IfOk, IfErr, length};
 ghost use Rattle.cq_munch.specs.Behind.{SpellsAny};
 ghost use Rattle.cq_munch.specs.Characters.{characters};
 ghost use Rattle.cq_munch.specs.Longest.{LongestAt};
 ghost use Rattle.cq_munch.specs.Pattern.{Spells};
-ghost use Rattle.cq_munch.specs.Quotes.{quoted};
+ghost use Rattle.cq_munch.specs.Quotes.{quoted, NoneCloses};
 ghost use Rattle.cq_munch.specs.QuoteStates.{mark_of, role_of, place_behind, next_of, is_closed, rest_of};
 
 use crate::ends::LineEnds;
@@ -138,4 +138,31 @@ pub fn longest_quoted(quote: Quote, ends: LineEnds, units: &[Unit]) -> Option<us
         },
         units,
     )
+}
+
+/// The text in these quotes at the front, or how many units were read in vain: none of them begins a text in these
+/// quotes, since a quote among them stands behind a backslash, and a text from there would go on as this one did.
+pub fn scan_quoted(quote: Quote, ends: LineEnds, units: &[Unit]) -> Result<usize, usize>
+    ensures closed { IfOk result (λ n. LongestAt (Spells (quoted quote ends)) (characters units.now) (Some n)) }
+    ensures none { IfErr result (λ read. LongestAt (Spells (quoted quote ends)) (characters units.now) None) }
+    ensures within { IfErr result (λ read. read ≤ length units.now) }
+    ensures none_on { IfErr result (λ read. NoneCloses quote ends (characters units.now) 0 read) }
+{
+    let mut state = Quoted {
+        quote,
+        ends,
+        place: Place::Before,
+    };
+    for (i, unit) in units.iter().enumerate() {
+        match next_of(state, mark_of(unit.ch)) {
+            None => return Err(i),
+            Some(next) => {
+                if is_closed(next) {
+                    return Ok(i + 1);
+                }
+                state = next;
+            }
+        }
+    }
+    Err(units.len())
 }

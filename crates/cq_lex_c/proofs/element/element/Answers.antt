@@ -24,7 +24,7 @@ returns-in-Letter c = λ at.
     let is : front_of (get_or text 0 0) ≡ fronts.Letter = ap front_of (ch_at c.args.units.now 0 c.requires.some) ∙ sym c.front_of.ensures ∙ c.in-Letter.is in
     no_comment at c.args.mode text some _ fronts.Letter is refl
     (joined at c.args.mode text (identifiers ∷ reserved ∷ []) (prefixed ∷ []) _ _ _ c.better.ensures (c.name.ensures at)
-    (one_row_taken at c.args.mode text prefixed _ _ c.found_of-in-Letter.ensures c.longest_prefixed.ensures))
+    (one_row_taken at c.args.mode text prefixed _ _ c.found_of-in-Letter.ensures c.requires.prefixed))
 
 pub returns-in-Digit : goal.returns-in-Digit
 returns-in-Digit c = λ at.
@@ -48,7 +48,7 @@ returns-in-Quote c = λ at.
     let some = as_many c.args.units.now 0 c.requires.some in
     let is : front_of (get_or text 0 0) ≡ fronts.Quote = ap front_of (ch_at c.args.units.now 0 c.requires.some) ∙ sym c.front_of.ensures ∙ c.in-Quote.is in
     no_comment at c.args.mode text some _ fronts.Quote is refl
-    (row_more at c.args.mode text texts (others ∷ []) _ _ _ _ c.found_of-in-Quote.ensures c.better-in-Quote.ensures c.longest_text.ensures
+    (row_more at c.args.mode text texts (others ∷ []) _ _ _ _ c.found_of-in-Quote.ensures c.better-in-Quote.ensures c.requires.text
     (one_row_taken at c.args.mode text others (Some 1) _ c.found_of-alone.ensures (one_other text some (other_char fronts.Quote (get_or text 0 0) is refl))))
 
 pub returns-in-Backslash : goal.returns-in-Backslash

@@ -1,23 +1,39 @@
-use Rattle.std.proofs.Common.{length}
+use Rattle.std.proofs.Common.{◌<◌, length, sym, subst, arith, IfOk}
+use Rattle.cq_munch.specs.Lexed.{IsCut}
 use Rattle.cq_munch.proofs.Orders.{InOrder-take, InOrder-end}
-use Rattle.cq_munch.proofs.Elements.{one_token, one_blank, stays_inside, not_pushed, TokensFollow-to}
+use Rattle.cq_munch.proofs.Elements.{one_token, one_blank, stays_inside, not_pushed, TokensFollow-to, faulty, too_many}
 use Rattle.cq_munch.proofs.cutting.cut_up.Goals as goal
+use Rattle.cq_munch.proofs.cutting.cut_up.Goals.{in-Some, in-None}
 
 pub loop-at-preserved-in_ok-push : goal.loop-at-preserved-in_ok-push
 loop-at-preserved-in_ok-push g c =
-    let taken = c.in-Some.ensures.taken in
-    one_token c.loop-at.invariant c.in-Some.found taken (stays_inside c.args.units.now c.loop-at.at _ c.loop-at-test.true taken.0.within) c.in-Some.ensures.known c.in-Token.class _ _
-    c.in-Token.is c.in_ok-spelled.ensures.spelled c.in_ok-push.ensures.items
+    let taken = c.in-Some-longest.ensures.taken in
+    record {
+      so_far = one_token c.loop-at.invariant.so_far c.in-Some-longest.found taken (stays_inside c.args.units.now c.loop-at.at _ c.loop-at-test.true taken.0.within) c.in-Some-longest.ensures.known c.in-Token.class _ _
+          c.in-Token.is c.in_ok-spelled.ensures.spelled c.in_ok-push.ensures.items;
+      remembered = c.longest.ensures.remembered;
+    }
 
 pub loop-at-preserved : goal.loop-at-preserved
 loop-at-preserved g c =
-    let taken = c.in-Some.ensures.taken in
-    one_blank c.loop-at.invariant c.in-Some.found taken (stays_inside c.args.units.now c.loop-at.at _ c.loop-at-test.true taken.0.within) c.in-Some.ensures.known
-    (not_pushed c.args.text.now _ _ _ c.in_default-spell.not-Token)
+    let taken = c.in-Some-longest.ensures.taken in
+    record {
+      so_far = one_blank c.loop-at.invariant.so_far c.in-Some-longest.found taken (stays_inside c.args.units.now c.loop-at.at _ c.loop-at-test.true taken.0.within) c.in-Some-longest.ensures.known
+          (not_pushed c.args.text.now _ _ _ c.in_default-spell.not-Token);
+      remembered = c.longest.ensures.remembered;
+    }
 
 pub spell_out-requires-clause-in_order : goal.spell_out-requires-clause-in_order
-spell_out-requires-clause-in_order g c = InOrder-take _ c.loop-at.end _ (length c.args.text.now) c.loop-at.invariant.behind
+spell_out-requires-clause-in_order g c = InOrder-take _ c.loop-at.end _ (length c.args.text.now) c.loop-at.invariant.so_far.behind
 
 pub returns-clause-in_order : goal.returns-clause-in_order
 returns-clause-in_order g c =
-    TokensFollow-to 0 c.loop-at.tokens.items c.loop-at.end (length c.args.text.now) (InOrder-end c.loop-at.end _ (length c.args.text.now) c.loop-at.invariant.behind) c.loop-at.invariant.ordered
+    TokensFollow-to 0 c.loop-at.tokens.items c.loop-at.end (length c.args.text.now) (InOrder-end c.loop-at.end _ (length c.args.text.now) c.loop-at.invariant.so_far.behind) c.loop-at.invariant.so_far.ordered
+
+pub returns-then-len-gt-MOST_TOKENS-clause-cut : goal.returns-then-len-gt-MOST_TOKENS-clause-cut
+returns-then-len-gt-MOST_TOKENS-clause-cut g c =
+    let many : 262144 < length c.loop-at.tokens.items = omega (arith, c.if-len-gt-MOST_TOKENS.true, c.len.ensures) in
+    elim c.match-fault_from.branch [
+      | in-Some w ↦ subst (λ r. IfOk r (IsCut g.X.Lexis.language c.args.text.now c.args.units.now)) (sym w.result-is) (faulty c.loop-at.invariant.so_far w.in-Some.byte w.in-Some.ensures.fault)
+      | in-None w ↦ subst (λ r. IfOk r (IsCut g.X.Lexis.language c.args.text.now c.args.units.now)) (sym w.result-is) (too_many c.loop-at.invariant.so_far many w.in-None.ensures.none)
+    ]

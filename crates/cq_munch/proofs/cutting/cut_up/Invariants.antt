@@ -1,9 +1,13 @@
 use Rattle.std.proofs.Common.{length, ◌-◌}
+use Rattle.cq_munch.specs.Characters.{characters}
 use Rattle.cq_munch.proofs.Elements.{SoFar}
 use Rattle.cq_munch.proofs.cutting.cut_up.Given as goal
 
 abbrev pub invariant-loop-at : goal.invariant-loop-at
-invariant-loop-at g l = SoFar g.X.Lexis.language l.text l.units l.tokens.items l.at l.mode l.end l.line
+invariant-loop-at g l = record {
+  so_far : SoFar g.X.Lexis.language l.text l.units l.tokens.items l.at l.mode l.end l.line;
+  remembered : g.X.Lexis.is_true_of l.lexis (characters l.units);
+}
 
 abbrev pub decreases-loop-at : goal.decreases-loop-at
 decreases-loop-at g l = length l.units - l.at

@@ -1,0 +1,134 @@
+-- The only place of a text where nothing is taken is that of a comment that is not closed.
+use Rattle.std.proofs.Common.{◌≡◌, ◌⊎◌, ℕ, zero, suc, ◌<◌, ◌≤◌, Some, None, Bool, true, false, not, nat_lt, ◌&&◌, ◌||◌, ◌==◌, List, [], ◌∷◌, length, take, drop, refl, sym, subst, ap, ◌∙◌, inl, inr, arith, length-drop}
+use Rattle.std.specs.Prelude.{MatchBool, IsTrue}
+use Rattle.std.specs.Char.{is_ascii_digit}
+use Rattle.std.proofs.lemmas.Bool.{eqb-true}
+use Rattle.std.proofs.lemmas.List.{length-map}
+use Rattle.cq_base.proofs.Bools.{MatchBool-from_true, MatchBool-from_false}
+use Rattle.cq_munch.specs.Characters.{characters}
+use Rattle.cq_munch.specs.Comments.{IsBlockComment}
+use Rattle.cq_munch.specs.Language.{Allows, Takes, has_mark}
+use Rattle.cq_munch.specs.Lexed.{EndsAt}
+use Rattle.cq_munch.specs.Longest.{LongestAt, IsAmong}
+use Rattle.cq_munch.specs.Table.{InTable}
+use Rattle.cq_munch.specs.declared.element.Spell.{Spell}
+use Rattle.cq_munch.specs.declared.element.Spell.TheVariants.{Blank, Comment, Token}
+use Rattle.cq_munch.specs.declared.unit.Unit.{Unit}
+use Rattle.cq_base.specs.declared.token.Class.TheVariants.{Ident, Word, Literal, Punct}
+use Rattle.cq_lex_c.specs.Ascii.{begins_below, among_passes, both_left, both_right}
+use Rattle.cq_lex_c.specs.C.{c, rows, lines, unmarked, behind_block, is_blank, begins, opens_block, opens_line, opens_header}
+use Rattle.cq_lex_c.specs.Characters.{begins_identifier}
+use Rattle.cq_lex_c.specs.Headers.{IsHeader, has_header}
+use Rattle.cq_lex_c.specs.Identifiers.{IsIdentifier, IsTail, keywords}
+use Rattle.cq_lex_c.specs.Numbers.{IsNumber}
+use Rattle.cq_lex_c.specs.OpenComments.{IsOpenComment}
+use Rattle.cq_lex_c.specs.declared.identifier.Identifier.TheVariants as name_at
+use Rattle.cq_lex_c.proofs.Dispatch.{blank_is, blank_there}
+use Rattle.cq_lex_c.proofs.Elements.{header_not}
+
+-- ---- a row has each character
+
+no_keyword : (d : ℕ) → IsAmong keywords (d ∷ []) → ⊥
+no_keyword d among = let short : nat_lt 1 1 ≡ true = among_passes keywords (λ w. nat_lt 1 (length w)) (d ∷ []) refl among in absurd (cc)
+
+name_of : (d : ℕ) → begins_identifier d ≡ true → IsIdentifier (d ∷ [])
+name_of d letter = by (d == 92) refl
+  where
+    by : (b : Bool) → (d == 92) ≡ b → IsIdentifier (d ∷ [])
+    by true e =
+        let is : d ≡ 92 = eqb-true d 92 e in
+        let bad : false ≡ true = sym (begins_below 92 (omega arith)) ∙ sym (ap begins_identifier is) ∙ letter in absurd (cc)
+    by false e = MatchBool-from_false (d == 92) (IsTail name_at.Mark []) _ e (letter, tt)
+
+number_of : (d : ℕ) → is_ascii_digit d ≡ true → IsNumber (d ∷ [])
+number_of d digit = by (d == 46) refl
+  where
+    by : (b : Bool) → (d == 46) ≡ b → IsNumber (d ∷ [])
+    by true e = let is : d ≡ 46 = eqb-true d 46 e in let bad : false ≡ true = sym (ap is_ascii_digit is) ∙ digit in absurd (cc)
+    by false e = MatchBool-from_false (d == 46) ⊥ _ e (digit, tt)
+
+row_of : (d : ℕ) → (spell : Spell) × InTable rows spell (d ∷ [])
+row_of d = by (is_blank d) (begins_identifier d) (is_ascii_digit d) refl refl refl
+  where
+    by : (blank letter digit : Bool) → is_blank d ≡ blank → begins_identifier d ≡ letter → is_ascii_digit d ≡ digit → (spell : Spell) × InTable rows spell (d ∷ [])
+    by true letter digit h k l = (Blank, inr (inr (inl (refl, blank_there d (blank_is d h)))))
+    by false true digit h k l = (Token Ident, inl (refl, (name_of d k, no_keyword d)))
+    by false false true h k l = (Token Literal, inr (inr (inr (inl (refl, number_of d l)))))
+    by false false false h k l =
+        (Token Punct, inr (inr (inr (inr (inr (inr (inr (inl (refl, ap (λ x. not (x || (begins_identifier d || is_ascii_digit d))) h ∙ ap (λ x. not (x || is_ascii_digit d)) k ∙ ap not l)))))))))
+
+first_row : (text : List ℕ) → 0 < length text → (spell : Spell) × InTable rows spell (take 1 text)
+first_row [] some = absurd (omega arith)
+first_row (d ∷ s) some = row_of d
+
+-- ---- what stands at an opener
+
+mark_is : (at : ℕ) (text : List ℕ) → has_mark at text ≡ true → take 1 text ≡ 65279 ∷ []
+mark_is zero [] h = absurd (cc)
+mark_is zero (d ∷ s) h = ap (λ e. e ∷ []) (eqb-true d 65279 h)
+mark_is (suc at) text h = absurd (cc)
+
+line_there : (text : List ℕ) → begins (47 ∷ 47 ∷ []) text ≡ true → (2 ≤ length text) × (take 2 text ≡ 47 ∷ 47 ∷ [])
+line_there [] h = absurd (cc)
+line_there (d ∷ []) h = let bad : false ≡ true = both_right (d == 47) false h in absurd (cc)
+line_there (d ∷ e ∷ s) h =
+    (omega arith, (λ k. eqb-true d 47 (both_left (d == 47) _ h) k ∷ eqb-true e 47 (both_left (e == 47) true (both_right (d == 47) _ h)) k ∷ []))
+
+module _ (at mode : ℕ) (text : List ℕ) (some : 0 < length text) (none : Takes c at mode text None) where
+  -- the test of each opener, and where it fails
+  no_mark : (b : Bool) → has_mark at text ≡ b → b ≡ false
+  no_mark false e = refl
+  no_mark true e = absurd (none 1 (omega arith) (omega arith) (Blank, MatchBool-from_true (has_mark at text) _ _ e (refl, mark_is at text e)))
+
+  in_c : (spell : Spell) (s : List ℕ) → unmarked.tried at mode text spell s → c.tried at mode text spell s
+  in_c spell s h = MatchBool-from_false (has_mark at text) _ _ (no_mark (has_mark at text) refl) h
+
+  no_header : (b : Bool) → opens_header at mode text ≡ b → b ≡ false
+  no_header false e = refl
+  no_header true e =
+      absurd (header_not text (λ m some within x. none m some within (Token Word, in_c (Token Word) (take m text) (MatchBool-from_true (opens_header at mode text) _ _ e (inl (refl, x))))) (both_right (mode == 2) (has_header text) e))
+
+  in_unmarked : (spell : Spell) (s : List ℕ) → behind_block.tried at mode text spell s → unmarked.tried at mode text spell s
+  in_unmarked spell s h = MatchBool-from_false (opens_header at mode text) _ _ (no_header (opens_header at mode text) refl) h
+
+  -- one of the other rows has the first character, or two slashes
+  other_taken : opens_block at mode text ≡ false → (b : Bool) → opens_line at mode text ≡ b → ⊥
+  other_taken apart true e =
+      let line = line_there text e in
+      none 2 (omega arith) line.0 (
+        Comment,
+        in_c Comment (take 2 text) (in_unmarked Comment (take 2 text)
+            (MatchBool-from_false (opens_block at mode text) _ _ apart
+            (MatchBool-from_true (opens_line at mode text) _ _ e (subst (InTable (lines ∷ []) Comment) (sym line.1) (inl (refl, (refl, (refl, tt)))))))),
+      )
+  other_taken apart false e =
+      let row = first_row text some in
+      none 1 (omega arith) some (
+        row.0,
+        in_c row.0 (take 1 text) (in_unmarked row.0 (take 1 text)
+            (MatchBool-from_false (opens_block at mode text) _ _ apart (MatchBool-from_false (opens_line at mode text) _ _ e row.1))),
+      )
+
+  opens : (b : Bool) → opens_block at mode text ≡ b → b ≡ true
+  opens true e = refl
+  opens false e = absurd (other_taken e (opens_line at mode text) refl)
+
+  pub comment_opens : opens_block at mode text ≡ true
+  comment_opens = opens (opens_block at mode text) refl
+
+  pub comment_unclosed : LongestAt IsBlockComment text None
+  comment_unclosed = λ m some within x.
+      none m some within (Comment, in_c Comment (take m text) (in_unmarked Comment (take m text) (MatchBool-from_true (opens_block at mode text) _ _ comment_opens (inl (refl, x)))))
+
+pub open_comment : (units : List Unit) (byte : ℕ) → EndsAt c units byte → IsOpenComment units byte
+open_comment units byte ends =
+    let left = length-drop ends.at (characters units) in
+    let many = length-map units (λ (u : Unit). u.ch) in
+    let some : 0 < length (drop ends.at (characters units)) = omega (arith, ends.inside) in
+    record {
+      at = ends.at;
+      inside = ends.inside;
+      byte_is = ends.byte_is;
+      opens = comment_opens ends.at ends.mode (drop ends.at (characters units)) some ends.nothing;
+      unclosed = comment_unclosed ends.at ends.mode (drop ends.at (characters units)) some ends.nothing;
+    }
