@@ -2,9 +2,10 @@ ghost use Rattle.std.specs.Prelude.{◌≡◌, ◌<◌, ◌≤◌, length, None,
 
 use crate::sink::Sink;
 use crate::source::{Failed, Source};
-use std::io::{Read, Write};
+use std::io::{ErrorKind, Read, Write};
 
-/// Any reader of std, with a count of the calls that failed. It tells nothing of its bytes.
+/// Any reader of std, with a count of the calls that failed. A call that was interrupted is made again. It tells
+/// nothing of its bytes.
 #[derive(Drop)]
 pub struct StdSource<R: Read + Drop> {
     reader: R,
@@ -22,6 +23,23 @@ impl<R: Read + Drop> StdSource<R> {
     }
 }
 
+// Reads once, and again where the call was interrupted.
+fn read_through<R: Read>(reader: &mut R, out: &mut [u8]) -> Option<usize>
+    ensures { IfSome result (λ n. n ≤ length out.old) }
+{
+    for _ in 0..u64::MAX {
+        match reader.read(out) {
+            Ok(count) => return Some(count),
+            Err(error) => {
+                if error.kind() != ErrorKind::Interrupted {
+                    return None;
+                }
+            }
+        }
+    }
+    None
+}
+
 impl<R: Read + Drop> Source for StdSource<R> {
     ghost use Rattle.cq_io.specs.Standard.{reader_faults};
 
@@ -30,9 +48,9 @@ impl<R: Read + Drop> Source for StdSource<R> {
     ghost faults = { reader_faults };
 
     fn read(&mut self, out: &mut [u8]) -> Result<usize, Failed> {
-        match self.reader.read(out) {
-            Ok(count) => Ok(count),
-            Err(_) => {
+        match read_through(&mut self.reader, out) {
+            Some(count) => Ok(count),
+            None => {
                 self.faults = self.faults.saturating_add(1);
                 Err(Failed)
             }
@@ -40,8 +58,8 @@ impl<R: Read + Drop> Source for StdSource<R> {
     }
 }
 
-/// Any writer of std, with a count of the calls that failed. It is flushed after each write, and tells nothing
-/// of its bytes.
+/// Any writer of std, with a count of the calls that failed. A call that was interrupted is made again. It is flushed
+/// after each write, and tells nothing of its bytes.
 #[derive(Drop)]
 pub struct StdSink<W: Write + Drop> {
     writer: W,
@@ -59,13 +77,43 @@ impl<W: Write + Drop> StdSink<W> {
     }
 }
 
+// Flushes, and again where the call was interrupted. It says whether that was done.
+fn flush_through<W: Write>(writer: &mut W) -> bool {
+    for _ in 0..u64::MAX {
+        match writer.flush() {
+            Ok(()) => return true,
+            Err(error) => {
+                if error.kind() != ErrorKind::Interrupted {
+                    return false;
+                }
+            }
+        }
+    }
+    false
+}
+
 // How many bytes the writer took and flushed, where that is at least one.
 fn write_through<W: Write>(writer: &mut W, piece: &[u8]) -> Option<usize>
     ensures { IfSome result (λ n. (0 < n) × (n ≤ length piece.now)) }
 {
-    let count = writer.write(piece).ok()?;
-    writer.flush().ok()?;
-    if count == 0 { None } else { Some(count) }
+    for _ in 0..u64::MAX {
+        match writer.write(piece) {
+            Ok(count) => {
+                let flushed = flush_through(writer);
+                return if count == 0 || !flushed {
+                    None
+                } else {
+                    Some(count)
+                };
+            }
+            Err(error) => {
+                if error.kind() != ErrorKind::Interrupted {
+                    return None;
+                }
+            }
+        }
+    }
+    None
 }
 
 impl<W: Write + Drop> Sink for StdSink<W> {

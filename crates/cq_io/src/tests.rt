@@ -3,7 +3,59 @@ use crate::{
 };
 use cq_base::Text;
 use std::collections::VecDeque;
+use std::io;
+use std::io::{ErrorKind, Read, Write};
 use std::test::Fail;
+
+// A reader that gives one byte a call. Each call that gives one is interrupted first.
+#[derive(Drop)]
+struct SlowReader<'a> {
+    rest: &'a [u8],
+    interrupted: bool,
+}
+
+impl Read for SlowReader<'_> {
+    fn read(&mut self, buf: &mut [u8]) -> io::Result<usize> {
+        self.interrupted = !self.interrupted;
+        if self.interrupted {
+            return Err(io::Error::from(ErrorKind::Interrupted));
+        }
+        let count = self.rest.len().min(buf.len()).min(1);
+        buf[..count].copy_from_slice(&self.rest[..count]);
+        self.rest = &self.rest[count..];
+        Ok(count)
+    }
+}
+
+// A writer that takes one byte a call, in the same way. Its flushes are interrupted too.
+#[derive(Drop)]
+struct SlowWriter<'a> {
+    taken: &'a mut Vec<u8>,
+    interrupted: bool,
+    flush_interrupted: bool,
+}
+
+impl Write for SlowWriter<'_> {
+    fn write(&mut self, buf: &[u8]) -> io::Result<usize> {
+        self.interrupted = !self.interrupted;
+        if self.interrupted {
+            return Err(io::Error::from(ErrorKind::Interrupted));
+        }
+        let count = buf.len().min(1);
+        match self.taken.extend_from_slice(&buf[..count]) {
+            Ok(()) => Ok(count),
+            Err(_) => Err(io::Error::from(ErrorKind::OutOfMemory)),
+        }
+    }
+
+    fn flush(&mut self) -> io::Result<()> {
+        self.flush_interrupted = !self.flush_interrupted;
+        if self.flush_interrupted {
+            return Err(io::Error::from(ErrorKind::Interrupted));
+        }
+        Ok(())
+    }
+}
 
 fn read_once<S: Source>(source: &mut S, out: &mut [u8; 4]) -> Result<usize, Failed> {
     source.read(out)
@@ -33,13 +85,25 @@ fn memory_ends_fail_where_they_are_told(rt: HostRuntime) -> Result<(), Fail> {
 }
 
 #[test]
-fn std_ends_give_and_take(rt: HostRuntime) -> Result<(), Fail> {
-    let mut source = StdSource::new(b"ab".as_slice());
+fn std_ends_give_and_take_every_byte(rt: HostRuntime) -> Result<(), Fail> {
+    let mut taken = Vec::new(rt.alloc());
+    let mut source = StdSource::new(SlowReader {
+        rest: b"abc",
+        interrupted: false,
+    });
+    let mut sink = StdSink::new(SlowWriter {
+        taken: &mut taken,
+        interrupted: false,
+        flush_interrupted: false,
+    });
     let mut out = [0u8; 4];
-    assert_eq!(rt; read_once(&mut source, &mut out), Ok(2));
+    for _ in 0..3 {
+        assert_eq!(rt; read_once(&mut source, &mut out), Ok(1));
+        assert_eq!(rt; write_once(&mut sink, &[out[0], b'x', b'y']), Ok(1));
+    }
     assert_eq!(rt; read_once(&mut source, &mut out), Ok(0));
-    let mut sink = StdSink::new(Vec::new(rt.alloc()));
-    assert_eq!(rt; write_once(&mut sink, b"xyz"), Ok(3));
+    drop(sink);
+    assert_eq!(rt; taken.as_slice(), b"abc".as_slice());
     Ok(())
 }
 

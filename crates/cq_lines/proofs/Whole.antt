@@ -122,7 +122,7 @@ run_ends limit a b c x y lines cut.End so cuts = run_finished limit a b c x y li
 run_ends limit a b c x y lines cut.Spent so cuts = record {
   got = so.got ++ cuts.got;
   bytes = Consumes-trans a b c so.got cuts.got so.bytes cuts.bytes;
-  ends = (omega (arith, length-append so.got cuts.got, so.taken, cuts.taken, cuts.finds.1, cuts.limit, so.limited), closed_now limit a b x lines so cuts.got (λ e. (cuts.stays e).0) cuts.finds.0);
+  ends = (omega (arith, length-append so.got cuts.got, so.taken, cuts.taken, cuts.finds.1.taken, cuts.limit, so.limited), closed_now limit a b x lines so cuts.got (λ e. (cuts.stays e).0) cuts.finds.0);
 }
 run_ends limit a b c x y lines cut.ReadFault so cuts = record {
   got = so.got ++ cuts.got;

@@ -4,7 +4,7 @@ use Rattle.std.specs.Io.KnownBytes.{Consumes, IsAtEnd}
 use Rattle.std.specs.List.{AllByRecursion}
 use Rattle.cq_lines.specs.Held.{Held}
 use Rattle.cq_lines.specs.Pieces.{HasNoFeed, ended, closed_lines, all_lines}
-use Rattle.cq_lines.specs.Cutting.{Cuts, IsNext}
+use Rattle.cq_lines.specs.Cutting.{Cuts, IsNext, IsSpent, IsSpentFound}
 use Rattle.cq_lines.specs.declared.lines.Cut.{Cut}
 use Rattle.cq_lines.specs.declared.lines.Cut.TheVariants as cut
 
@@ -58,6 +58,10 @@ RunsGoOn =
 abbrev pub RunsEnd : Type 0
 RunsEnd =
     (limit : ℕ) (a b c : Option (List ℕ)) (x y : Held) (lines : List (List ℕ)) (found : Cut) → CutTo limit a b x lines → Cuts b c x found y → RunEnds limit a c lines found
+
+-- once as many bytes are taken as may be, each further call finds that again, and takes none
+abbrev pub SpentComesAgain : Type 0
+SpentComesAgain = (a b : Option (List ℕ)) (x y : Held) (found : Cut) → IsSpent x → Cuts a b x found y → IsSpentFound found × IsSpent y × (y.taken ≡ x.taken)
 
 -- two runs to the end over the same bytes give the same lines, however their sources cut them
 abbrev pub RunsAgree : Type 0

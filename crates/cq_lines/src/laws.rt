@@ -1,6 +1,6 @@
 ghost use Rattle.std.specs.Prelude.{◌≡◌, ◌++◌, ℕ, List, flat_map};
 ghost use Rattle.cq_lines.specs.Pieces.{split, ended};
-ghost use Rattle.cq_lines.specs.Runs.{RunsBegin, RunsGoOn, RunsEnd, RunsAgree};
+ghost use Rattle.cq_lines.specs.Runs.{RunsBegin, RunsGoOn, RunsEnd, RunsAgree, SpentComesAgain};
 
 /// A run of the cutter, call by call: a fresh one has given nothing, a call that gives a line adds it, and the call
 /// that gives none ends the run. At the end its lines are all lines of the bytes taken; where the limit or a fault of
@@ -14,6 +14,12 @@ pub fn runs_give_the_lines_of_the_bytes()
 /// Two runs to the end over the same bytes give the same lines, however their sources cut them.
 pub fn runs_agree()
     ensures { RunsAgree }
+{}
+
+/// Once a call has found that as many bytes are taken as may be, each further call finds it again and takes none, until
+/// a restart.
+pub fn spent_comes_again()
+    ensures { SpentComesAgain }
 {}
 
 /// The lines of some bytes, each with its line feed, and what stands behind the last of them, are the bytes.
