@@ -1,14 +1,12 @@
 -- The owners of projects: their order, and one that is added.
-use Rattle.std.proofs.Common.{Global, ◌≡◌, ℕ, zero, suc, ◌+◌, ◌<◌, true, false, cond, not, List, [], ◌∷◌, ◌++◌, length, map, get_or, set, refl, sym, ap, ap₂, ◌∙◌, subst, arith, length-append, length-set}
+use Rattle.std.proofs.Common.{Global, ◌≡◌, ℕ, ◌+◌, ◌<◌, true, false, cond, not, List, [], ◌∷◌, ◌++◌, length, map, get_or, set, refl, sym, ap, ap₂, ◌∙◌, subst, arith, length-append}
 use Rattle.std.specs.List.{AllByRecursion, insert, position_or_len}
 use Rattle.std.specs.Arc.{arc_value}
 use Rattle.std.specs.declared.sync.Arc.{Arc}
 use Rattle.std.specs.Str.{bytes_eq}
-use Rattle.std.proofs.Math.Seq.{get_or-append_seam}
-use Rattle.std.proofs.lemmas.List.{map-append, map-set, set-get_or, get_or-map, get_or-set_same}
+use Rattle.std.proofs.lemmas.List.{map-append, map-set, set-get_or, get_or-map}
 use Rattle.std.proofs.lemmas.Slice.Eq.{bytes_eq-Decides}
-use Rattle.cq_base.specs.declared.change.Condition.{Condition}
-use Rattle.cq_history.specs.Files.{File, is_before}
+use Rattle.cq_history.specs.Files.{is_before}
 use Rattle.cq_board.specs.declared.held.Held.{Held}
 use Rattle.cq_board.specs.declared.held.Project.{Project}
 use Rattle.cq_board.specs.Listings.{owner_name, projects_in, name_in, gate_of, path_in, path_of, file_from, files_in, conditions_in, position_of}

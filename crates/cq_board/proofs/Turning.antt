@@ -22,7 +22,7 @@ use Rattle.cq_board.specs.declared.held.Project.{Project}
 use Rattle.cq_board.specs.declared.projects.ProjectEdit.{ProjectEdit}
 use Rattle.cq_board.specs.declared.projects.ProjectEdit.TheVariants as edit
 use Rattle.cq_board.specs.Edits.{edited_files, edited_conditions, replaced_by, IsEditFor, project_named, put_by}
-use Rattle.cq_board.specs.Listings.{Listed, listed, file_from, path_in, name_in, number_at, files_in, conditions_in, HaveSame, AreLive, IsListing}
+use Rattle.cq_board.specs.Listings.{Listed, listed, file_from, name_in, number_at, files_in, conditions_in, HaveSame, AreLive, IsListing}
 use Rattle.cq_board.specs.Ordered.{AreRising}
 use Rattle.cq_board.specs.Turnover.{IsNext, AddsChange, left, from_option}
 use Rattle.cq_board.proofs.Numbers.{rising-from_pairs, rising_push}

@@ -1,4 +1,4 @@
-use Rattle.std.proofs.Common.{◌≡◌, ◌+◌, ◌<◌, List, length, map, take, sym, ap, ◌∙◌, subst, arith}
+use Rattle.std.proofs.Common.{List, map, take, sym, ap, ◌∙◌, subst, arith}
 use Rattle.std.proofs.lemmas.List.Sums.{prefix_len_passes}
 use Rattle.std.proofs.lemmas.List.Elements.{All-get_or}
 use Rattle.std.proofs.lemmas.Result.{on_ok_weaker, on_err_weaker}

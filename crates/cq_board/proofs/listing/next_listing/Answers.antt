@@ -1,5 +1,4 @@
 use Rattle.std.specs.Arc.{arc_value}
-use Rattle.cq_board.specs.declared.held.Project.{Project}
 use Rattle.cq_board.specs.Boards.{changes_from}
 use Rattle.std.proofs.Common.{◌∷◌, ◌++◌, subst₂, ◌≡◌, ◌<◌, ◌≤◌, ◌+◌, ℕ, List, [], length, map, take, arith, sym, ap, ◌∙◌, subst}
 use Rattle.std.specs.List.{prefix_len}

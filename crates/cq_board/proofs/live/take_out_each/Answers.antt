@@ -1,4 +1,4 @@
-use Rattle.std.proofs.Common.{◌+◌, take, inl, inr, ⊎_elim, ℕ, List, subst, arith}
+use Rattle.std.proofs.Common.{inl, inr, ⊎_elim, ℕ, List, subst, arith}
 use Rattle.std.specs.Prelude.{◌↔◌, Contains}
 use Rattle.std.proofs.lemmas.List.{take_all}
 use Rattle.cq_board.proofs.Turning.{taken_more}

@@ -1,4 +1,4 @@
-use Rattle.std.proofs.Common.{◌∙◌, subst, sym, Option, ℕ, arith}
+use Rattle.std.proofs.Common.{subst, sym, Option, ℕ, arith}
 use Rattle.std.specs.Prelude.{Contains}
 use Rattle.cq_board.specs.Turnover.{from_option}
 use Rattle.cq_board.proofs.Turning.{single}

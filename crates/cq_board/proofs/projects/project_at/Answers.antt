@@ -1,6 +1,6 @@
 use Rattle.std.specs.Arc.{arc_value}
 use Rattle.std.specs.declared.sync.Arc.{Arc}
-use Rattle.std.proofs.Common.{Global, None, length, ◌<◌, ◌≡◌, List, ℕ, refl, sym, subst, subst₂, ap, ◌∙◌}
+use Rattle.std.proofs.Common.{Global, None, length, ◌<◌, ◌≡◌, List, ℕ, sym, subst, subst₂, ap, ◌∙◌}
 use Rattle.cq_board.specs.declared.held.Project.{Project}
 use Rattle.cq_board.specs.Listings.{owner_name, name_in, gate_of, projects_in, files_in, conditions_in, position_of}
 use Rattle.cq_board.specs.Ordered.{AreRising, IsAt, IsGap}
