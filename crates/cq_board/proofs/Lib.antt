@@ -14,3 +14,4 @@ pub mod Related
 pub mod Searching
 pub mod SlotLists
 pub mod Turning
+pub mod VersionEntries

@@ -1,6 +1,7 @@
 pub mod Answers
 pub mod Boards
 pub mod Edits
+pub mod Entries
 pub mod Listings
 pub mod Ordered
 pub mod Presence

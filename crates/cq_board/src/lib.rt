@@ -17,6 +17,7 @@ mod board;
 mod files;
 mod held;
 mod kept;
+mod laws;
 mod listing;
 mod live;
 mod presence;
@@ -26,6 +27,7 @@ mod slot_tests;
 pub use answers::{Asked, Finished, Job, Refused};
 pub use board::Board;
 pub use held::Held;
+pub use laws::shards_have_the_entries;
 pub use listing::{Listing, View};
 
 #[cfg(test)]
