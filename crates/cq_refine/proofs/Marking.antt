@@ -6,7 +6,7 @@ use Rattle.std.proofs.lemmas.List.Elements.{Contains-push_cases}
 use Rattle.std.proofs.lemmas.List.Quantifiers.{all_pairs_push}
 use Rattle.std.proofs.lemmas.Option.{get_or_from_slice_get, slice_get-get_or, slice_get_within, same_Some}
 use Rattle.std.proofs.lemmas.Bool.{cases_order, cases_lt}
-use Rattle.cq_base.proofs.Lists.{Contains-nil}
+use Rattle.cq_base.proofs.Lists.{Contains-nil, slice_get-append_left, slice_get-push}
 use Rattle.cq_clones.specs.Groups.{token_ahead, AreSame}
 use Rattle.std.specs.BTreeMap.{BTreeMap, Updates, get, btree_map_len}
 use Rattle.std.specs.Option.{unwrap_or}
@@ -33,11 +33,6 @@ marking_none token key mark = record {
   keys = refl;
   marks = λ x c. absurd (Contains-nil x c);
 }
-
-slice_get-append_left : {T : Type 0} (xs ys : List T) (i : ℕ) → i < length xs → slice_get (xs ++ ys) i ≡ slice_get xs i
-slice_get-append_left [] ys i lt = absurd (omega arith)
-slice_get-append_left (x ∷ xs) ys zero lt = refl
-slice_get-append_left (x ∷ xs) ys (suc i) lt = slice_get-append_left xs ys i (omega arith)
 
 -- a mark stays when more is seen
 pub mark_stays : {T : Type 0} (old new : List T) (token : Option T) (mark : ℕ) → Grows old new → IsMark old token mark → IsMark new token mark
@@ -99,10 +94,6 @@ same_place seen i j t apart a b =
     (λ h. absurd (one_place seen j i t apart b a h)) other)
     (cases_order i j)
 
-slice_get_end : {T : Type 0} (xs : List T) (x : T) → slice_get (xs ++ x ∷ []) (length xs) ≡ Some x
-slice_get_end [] x = refl
-slice_get_end (y ∷ xs) x = slice_get_end xs x
-
 -- a token that has a mark
 pub mark_found : {T : Type 0} (seen : List T) (t : T) (token : Option T) (mark : ℕ) → (0 < mark) × (slice_get seen (mark - 1) ≡ Some t) → token ≡ Some t → IsMark seen token mark
 mark_found seen t token zero (some, here) is = absurd (omega (arith, some))
@@ -138,7 +129,7 @@ module _ {T Q : Type 0} (token : Q → T) (old new : Q → Option ℕ) (seen : L
       longer = seen ++ token key ∷ []
 
       last : slice_get longer (mark - 1) ≡ Some (token key)
-      last = ap (slice_get longer) (omega (arith, is)) ∙ slice_get_end seen (token key)
+      last = ap (slice_get longer) (omega (arith, is)) ∙ slice_get-push seen (token key)
 
       size : length longer ≡ length seen + 1
       size = length_push seen (token key)
@@ -162,7 +153,7 @@ module _ {T Q : Type 0} (token : Q → T) (old new : Q → Option ℕ) (seen : L
                   (λ ge.
                   let within : n - 1 < length longer = slice_get_within longer (n - 1) (token q) here in
                   let e : n - 1 ≡ length seen = omega (arith, ge, within, size) in
-                  let same : token key ≡ token q = same_Some _ _ (sym (ap (slice_get longer) e ∙ slice_get_end seen (token key)) ∙ here) in
+                  let same : token key ≡ token q = same_Some _ _ (sym (ap (slice_get longer) e ∙ slice_get-push seen (token key)) ∙ here) in
                   absurd (true≢false (sym ((ties q).1 same) ∙ at)))
                   (cases_lt (n - 1) (length seen)),
             ),
@@ -180,10 +171,7 @@ module _ {T Q : Type 0} (token : Q → T) (old new : Q → Option ℕ) (seen : L
 
 pub mark_new : {T : Type 0} (seen : List T) (t : T) (token : Option T) (mark : ℕ) → mark ≡ length seen + 1 → token ≡ Some t → IsMark (seen ++ t ∷ []) token mark
 mark_new seen t token mark is token_is =
-    mark_found (seen ++ t ∷ []) t token mark (omega (arith, is), ap (slice_get (seen ++ t ∷ [])) (omega (arith, is)) ∙ slice_get_end seen t) token_is
-
-pub Contains-map : {A B : Type 0} (f : A → B) (xs : List A) (x : A) → Contains xs x → Contains (map f xs) (f x)
-Contains-map f xs x (k, within, is) = (k, omega (arith, length-map xs f, within), get_or-map f xs k x (f x) within ∙ ap f is)
+    mark_found (seen ++ t ∷ []) t token mark (omega (arith, is), ap (slice_get (seen ++ t ∷ [])) (omega (arith, is)) ∙ slice_get-push seen t) token_is
 
 -- a mark but 0 is that of a token
 pub some_of_mark : {T : Type 0} (seen : List T) (token : Option T) (mark : ℕ) → IsMark seen token mark → 0 < mark → IsSome token

@@ -10,35 +10,20 @@ use Rattle.cq_clones.specs.Lists.{AreAllInOrder}
 use Rattle.cq_clones.specs.Groups.{IsBefore, word_at, StandsAt, token_behind, token_before, AreSame, IsMaximalAt, kept_of, IsGroup}
 use Rattle.cq_base.specs.Places.{first_place}
 use Rattle.cq_clones.proofs.InOrder.{AreAllInOrder-same}
-use Rattle.cq_base.proofs.Lists.{Contains-here, Contains-there, Contains-cases, Contains-nil, AllPairs-tail}
+use Rattle.cq_base.proofs.Lists.{Contains-here, Contains-there, Contains-map, Contains-from_map, AllPairs-map}
 use Rattle.cq_clones.proofs.Order.{IsBefore-apart}
 use Rattle.cq_clones.proofs.GroupLaws.{within_from_standing, word_of_group}
 use Rattle.cq_refine.specs.declared.spots.Spot.{Spot}
 use Rattle.cq_refine.specs.declared.spots.Marked.{Marked}
 use Rattle.cq_refine.specs.Sets.{IsSpotBefore, AreSpots, AreMarked, IsWordSet, AreEntries}
-use Rattle.cq_refine.proofs.Marking.{Contains-map, same_from_marks}
+use Rattle.cq_refine.proofs.Marking.{same_from_marks}
 use Rattle.cq_refine.proofs.SetLaws.{two_places}
 use Rattle.cq_refine.proofs.Words.{stands_front}
-
-pub Contains-from_map : {A B : Type 0} (f : A → B) (xs : List A) (y : B) → Contains (map f xs) y → (x : A) × Contains xs x × (f x ≡ y)
-Contains-from_map f [] y c = absurd (Contains-nil y c)
-Contains-from_map f (x ∷ xs) y c =
-    ⊎_elim
-    (λ e. (x, Contains-here x xs, e))
-    (λ h. let r = Contains-from_map f xs y h in (r.0, Contains-there x r.0 xs r.1, r.2))
-    (Contains-cases (f x) y (map f xs) c)
-
-pub AllPairs-map : {A B : Type 0} (f : A → B) (R : B → B → Type 0) (xs : List A) → AllPairs (λ a b. R (f a) (f b)) xs → AllPairs R (map f xs)
-AllPairs-map f R [] h = λ i j d lt within. absurd (omega arith)
-AllPairs-map {A} f R (x ∷ xs) h =
-    AllPairs-cons R (f x) (map f xs)
-    (All-map (R (f x)) f xs (λ k d lt. h 0 (suc k) d (omega arith) (omega arith)))
-    (AllPairs-map f R xs (AllPairs-tail (λ (a b : A). R (f a) (f b)) x xs h))
 
 -- a word of at least `least` tokens stands at the places of its set and nowhere else
 pub set_occurrences : {T : Type 0} (corpus : List (List T)) (least : ℕ) (places : List Place) (all spots : List Spot) (d : ℕ) → AreEntries corpus least places → map (λ s. s.place) all ≡ places → (set : IsWordSet corpus all d spots) → 1 ≤ least → least ≤ d → AreAllInOrder IsBefore (StandsAt corpus set.word) (map (λ s. s.place) spots)
 set_occurrences {T} corpus least places all spots d entries are set some long = record {
-  ordered = AllPairs-map (λ (s : Spot). s.place) IsBefore spots set.exact.ordered;
+  ordered = AllPairs-map IsBefore (λ (s : Spot). s.place) spots set.exact.ordered;
   each = λ p. (there p, back p);
 }
   where

@@ -11,28 +11,18 @@ use Rattle.cq_base.specs.declared.group.Place.{Place}
 use Rattle.cq_base.specs.declared.group.Group.{Group}
 use Rattle.cq_clones.specs.Groups.{IsBefore, word_at, StandsAt, token_behind, token_ahead, kept_of, IsGroup}
 use Rattle.cq_base.specs.Places.{first_place}
-use Rattle.cq_base.proofs.Lists.{Contains-here, Contains-there, Contains-cases, Contains-nil, AllPairs-head, AllPairs-tail}
+use Rattle.cq_base.proofs.Lists.{Contains-here, Contains-there, Contains-cases, Contains-nil, Contains-map, Contains-from_map, Contains-filter, Contains-from_filter, AllPairs-head, AllPairs-tail, AllPairs-append, AllPairs-from_map}
 use Rattle.cq_clones.proofs.GroupLaws.{within_from_standing, word_of_group}
 use Rattle.cq_refine.specs.declared.spots.Spot.{Spot}
 use Rattle.cq_refine.specs.declared.spots.Marked.{Marked}
 use Rattle.cq_refine.specs.declared.spots.Set.{Set}
 use Rattle.cq_refine.specs.Sets.{IsMark, AreSpots, AreMarked, IsWordSet, AreEntries, IsGroupFrom, part_of, IsPart, ArePartsOf, AreParts, group_of, IsChosen, IsSplit, AreFirst, AreAllOnce}
-use Rattle.cq_refine.proofs.Marking.{Contains-map, marks_of_token}
-use Rattle.cq_refine.proofs.SetGroups.{Contains-from_map, set_occurrences, set_is_maximal, IsGroupAt, places_of_set, none_by_left, none_by_mark}
-use Rattle.cq_refine.proofs.WordSets.{Contains-filter, Contains-from_filter, AllPairs-from_map, part_is_word_set}
+use Rattle.cq_refine.proofs.Marking.{same_from_marks, marks_of_token}
+use Rattle.cq_refine.proofs.SetGroups.{set_occurrences, set_is_maximal, IsGroupAt, places_of_set, none_by_left, none_by_mark}
+use Rattle.cq_refine.proofs.WordSets.{part_is_word_set}
 use Rattle.cq_refine.proofs.Words.{stands_less, stands_front}
 
 -- lists in pairs
-
-pub AllPairs-append : {X : Type 0} (R : X → X → Type 0) (xs ys : List X) → AllPairs R xs → AllPairs R ys → ((x y : X) → Contains xs x → Contains ys y → R x y) → AllPairs R (xs ++ ys)
-AllPairs-append R [] ys a b cross = b
-AllPairs-append R (x ∷ xs) ys a b cross =
-    AllPairs-cons R x (xs ++ ys)
-    (λ k d lt. ⊎_elim
-    (λ c. AllPairs-head R x _ xs a c)
-    (λ c. cross x _ (Contains-here x xs) c)
-    (Contains-append_cases xs ys _ (Contains-get_or (xs ++ ys) k d lt)))
-    (AllPairs-append R xs ys (AllPairs-tail R x xs a) b (λ z y c e. cross z y (Contains-there x z xs c) e))
 
 pub AllPairs-front : {X : Type 0} (R : X → X → Type 0) (xs ys : List X) → AllPairs R (xs ++ ys) → AllPairs R xs
 AllPairs-front R [] ys a = λ i j d lt within. absurd (omega arith)
@@ -93,7 +83,7 @@ token_of_part {T} corpus d m marked are some several =
     let origin : Spot = record { place = record { file = 0; at = 0 }; left = 0 } in
     let c : Contains (part_of m marked) (get_or (part_of m marked) 0 origin) = Contains-get_or (part_of m marked) 0 origin (omega (arith, several)) in
     let r = Contains-from_map (λ (x : Marked). x.spot) (filter (λ x. eqb x.mark m) marked) _ c in
-    let f = Contains-from_filter (λ (x : Marked). eqb x.mark m) r.0 marked r.1 in
+    let f = Contains-from_filter (λ (x : Marked). eqb x.mark m) marked r.0 r.1 in
     let mark_is : r.0.mark ≡ m = eqb-true r.0.mark m f.1 in
     let is = are.marks r.0 f.0 in
     named are.seen m some (omega (arith, is.within, mark_is))
@@ -111,7 +101,7 @@ pub part_within : (m : ℕ) (marked : List Marked) (spots : List Spot) (p : Plac
 part_within m marked spots p are c =
     let r = Contains-from_map (λ (s : Spot). s.place) (part_of m marked) p c in
     let t = Contains-from_map (λ (x : Marked). x.spot) (filter (λ x. eqb x.mark m) marked) r.0 r.1 in
-    let f = Contains-from_filter (λ (x : Marked). eqb x.mark m) t.0 marked t.1 in
+    let f = Contains-from_filter (λ (x : Marked). eqb x.mark m) marked t.0 t.1 in
     let place : t.0.spot.place ≡ p = ap (λ (s : Spot). s.place) t.2 ∙ r.2 in
     let in_spots : Contains spots t.0.spot = subst (λ (ss : List Spot). Contains ss t.0.spot) are (Contains-map (λ (x : Marked). x.spot) marked t.0 f.0) in
     (t.0, f.0, eqb-true t.0.mark m f.1, place, subst (Contains (map (λ (s : Spot). s.place) spots)) place (Contains-map (λ (s : Spot). s.place) spots t.0.spot in_spots))
@@ -140,7 +130,7 @@ in_part {T} corpus all spots d m marked t s set spots_are are is_mark c stands =
     ap (λ (z : Spot). token_behind corpus z.place d) r.2 ∙ ap (token_behind corpus s.place) (sym set.long) ∙ less.1 in
     let mark : r.0.mark ≡ m = (marks_of_token are.seen t r.0.mark m are.apart (subst (λ o. IsMark are.seen o r.0.mark) token (are.marks r.0 r.1)) is_mark).0 in
     subst (Contains (part_of m marked)) r.2
-    (Contains-map (λ (x : Marked). x.spot) (filter (λ x. eqb x.mark m) marked) r.0 (Contains-filter (λ (x : Marked). eqb x.mark m) r.0 marked r.1 (eq-eqb r.0.mark m mark)))
+    (Contains-map (λ (x : Marked). x.spot) (filter (λ x. eqb x.mark m) marked) r.0 (Contains-filter (λ (x : Marked). eqb x.mark m) marked r.0 r.1 (eq-eqb r.0.mark m mark)))
 
 -- the group of a set
 
@@ -428,7 +418,7 @@ walk_begins {T} corpus least places all sets groups given first none = record {
       long = refl;
       several = several;
       exact = record {
-        ordered = AllPairs-from_map (λ (s : Spot). s.place) IsBefore all (subst (AllPairs IsBefore) (sym given.are) given.entries.ordered);
+        ordered = AllPairs-from_map IsBefore (λ (s : Spot). s.place) all (subst (AllPairs IsBefore) (sym given.are) given.entries.ordered);
         each = λ s. (λ c. (c, refl), λ h. h.0);
       };
     }
