@@ -6,7 +6,7 @@ use Rattle.std.proofs.lemmas.List.Elements.{Contains-push_cases}
 use Rattle.std.proofs.lemmas.List.Quantifiers.{all_pairs_push}
 use Rattle.std.proofs.lemmas.Option.{get_or_from_slice_get, slice_get-get_or, slice_get_within, same_Some}
 use Rattle.std.proofs.lemmas.Bool.{cases_order, cases_lt}
-use Rattle.cq_base.proofs.Lists.{Contains-nil}
+use Rattle.cq_base.proofs.Lists.{Contains-nil, slice_get-append_left, slice_get-push}
 use Rattle.cq_clones.specs.Groups.{token_ahead, AreSame}
 use Rattle.std.specs.BTreeMap.{BTreeMap, Updates, get, btree_map_len}
 use Rattle.std.specs.Option.{unwrap_or}
@@ -33,11 +33,6 @@ marking_none token key mark = record {
   keys = refl;
   marks = λ x c. absurd (Contains-nil x c);
 }
-
-slice_get-append_left : {T : Type 0} (xs ys : List T) (i : ℕ) → i < length xs → slice_get (xs ++ ys) i ≡ slice_get xs i
-slice_get-append_left [] ys i lt = absurd (omega arith)
-slice_get-append_left (x ∷ xs) ys zero lt = refl
-slice_get-append_left (x ∷ xs) ys (suc i) lt = slice_get-append_left xs ys i (omega arith)
 
 -- a mark stays when more is seen
 pub mark_stays : {T : Type 0} (old new : List T) (token : Option T) (mark : ℕ) → Grows old new → IsMark old token mark → IsMark new token mark
@@ -99,10 +94,6 @@ same_place seen i j t apart a b =
     (λ h. absurd (one_place seen j i t apart b a h)) other)
     (cases_order i j)
 
-slice_get_end : {T : Type 0} (xs : List T) (x : T) → slice_get (xs ++ x ∷ []) (length xs) ≡ Some x
-slice_get_end [] x = refl
-slice_get_end (y ∷ xs) x = slice_get_end xs x
-
 -- a token that has a mark
 pub mark_found : {T : Type 0} (seen : List T) (t : T) (token : Option T) (mark : ℕ) → (0 < mark) × (slice_get seen (mark - 1) ≡ Some t) → token ≡ Some t → IsMark seen token mark
 mark_found seen t token zero (some, here) is = absurd (omega (arith, some))
@@ -117,6 +108,17 @@ no_mark seen token is = record { within = omega arith; names = sym is }
 
 pub grows_not : {T : Type 0} (seen : List T) → Grows seen seen
 grows_not seen = record { more = []; is = sym (append-nil seen) }
+
+-- no token changes nothing
+pub marked_none : (seen : List Norm) (marks : BTreeMap Seen ℕ) (token : Option Norm) → token ≡ None → AreMarks marks seen → IsMarked seen marks token 0
+marked_none seen marks token none are = record {
+  tokens = seen;
+  grows = grows_not seen;
+  seen_before = λ low. refl;
+  one_more = λ high. absurd (omega (arith, high));
+  are = are;
+  is = no_mark seen token none;
+}
 
 -- a token that was not there is taken in
 module _ {T Q : Type 0} (token : Q → T) (old new : Q → Option ℕ) (seen : List T) (key : Q) (tie : Q → Bool) (ties : (q : Q) → (tie q ≡ true) ↔ (token key ≡ token q)) where
@@ -138,7 +140,7 @@ module _ {T Q : Type 0} (token : Q → T) (old new : Q → Option ℕ) (seen : L
       longer = seen ++ token key ∷ []
 
       last : slice_get longer (mark - 1) ≡ Some (token key)
-      last = ap (slice_get longer) (omega (arith, is)) ∙ slice_get_end seen (token key)
+      last = ap (slice_get longer) (omega (arith, is)) ∙ slice_get-push seen (token key)
 
       size : length longer ≡ length seen + 1
       size = length_push seen (token key)
@@ -162,7 +164,7 @@ module _ {T Q : Type 0} (token : Q → T) (old new : Q → Option ℕ) (seen : L
                   (λ ge.
                   let within : n - 1 < length longer = slice_get_within longer (n - 1) (token q) here in
                   let e : n - 1 ≡ length seen = omega (arith, ge, within, size) in
-                  let same : token key ≡ token q = same_Some _ _ (sym (ap (slice_get longer) e ∙ slice_get_end seen (token key)) ∙ here) in
+                  let same : token key ≡ token q = same_Some _ _ (sym (ap (slice_get longer) e ∙ slice_get-push seen (token key)) ∙ here) in
                   absurd (true≢false (sym ((ties q).1 same) ∙ at)))
                   (cases_lt (n - 1) (length seen)),
             ),
@@ -180,10 +182,7 @@ module _ {T Q : Type 0} (token : Q → T) (old new : Q → Option ℕ) (seen : L
 
 pub mark_new : {T : Type 0} (seen : List T) (t : T) (token : Option T) (mark : ℕ) → mark ≡ length seen + 1 → token ≡ Some t → IsMark (seen ++ t ∷ []) token mark
 mark_new seen t token mark is token_is =
-    mark_found (seen ++ t ∷ []) t token mark (omega (arith, is), ap (slice_get (seen ++ t ∷ [])) (omega (arith, is)) ∙ slice_get_end seen t) token_is
-
-pub Contains-map : {A B : Type 0} (f : A → B) (xs : List A) (x : A) → Contains xs x → Contains (map f xs) (f x)
-Contains-map f xs x (k, within, is) = (k, omega (arith, length-map xs f, within), get_or-map f xs k x (f x) within ∙ ap f is)
+    mark_found (seen ++ t ∷ []) t token mark (omega (arith, is), ap (slice_get (seen ++ t ∷ [])) (omega (arith, is)) ∙ slice_get-push seen t) token_is
 
 -- a mark but 0 is that of a token
 pub some_of_mark : {T : Type 0} (seen : List T) (token : Option T) (mark : ℕ) → IsMark seen token mark → 0 < mark → IsSome token
@@ -200,6 +199,8 @@ module _ (ties : EqualTokensTie) (marks new : BTreeMap Seen ℕ) (s : Seen) (mar
       record {
         tokens = seen ++ norm_in s ∷ [];
         grows = record { more = norm_in s ∷ []; is = refl };
+        seen_before = λ low. absurd (omega (arith, low, last));
+        one_more = λ high. length_push seen (norm_in s);
         are = record {
           size = omega (arith, are.size, length_push seen (norm_in s), size, one);
           apart = apart_more norm_in (get seen_cmp marks) (get seen_cmp new) seen s (λ q. is_eq (seen_cmp s q)) (ties s) are.apart are.each absent;
@@ -213,15 +214,18 @@ module _ (ties : EqualTokensTie) (marks new : BTreeMap Seen ℕ) (s : Seen) (mar
       let here : mark ≡ m = mark_is ∙ ap (λ o. unwrap_or o (btree_map_len marks + 1)) some in
       let found : get seen_cmp marks s ≡ Some mark = sym was ∙ some ∙ ap Some (sym here) in
       let none : cond (is_some value) 0 1 ≡ 0 = ap {B = ℕ} (λ o. cond (is_some o) 0 1) some in
+      let is_mark : IsMark seen token mark = mark_found seen (norm_in s) token mark ((are.each s mark).0 found) is in
       record {
         tokens = seen;
         grows = grows_not seen;
+        seen_before = λ low. refl;
+        one_more = λ high. absurd (omega (arith, high, is_mark.within));
         are = record {
           size = omega (arith, are.size, size, none);
           apart = are.apart;
           each = marks_same norm_in (get seen_cmp marks) (get seen_cmp new) seen s (λ q. is_eq (seen_cmp s q)) (ties s) mark found are.each updates.0;
         };
-        is = mark_found seen (norm_in s) token mark ((are.each s mark).0 found) is;
+        is = is_mark;
       }
 
   pub marked_by_entry : IsMarked seen new token mark

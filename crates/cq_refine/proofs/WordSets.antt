@@ -5,39 +5,11 @@ use Rattle.std.proofs.lemmas.Bool.{cases_Bool, eqb-true, eq-eqb}
 use Rattle.std.proofs.lemmas.List.{length_push, get_or-map, length-map}
 use Rattle.std.proofs.lemmas.List.Kept.{AllPairs-filter}
 use Rattle.cq_clones.specs.Groups.{StandsAt, token_behind, token_ahead}
-use Rattle.cq_base.proofs.Lists.{Contains-here, Contains-there, Contains-cases, Contains-nil}
+use Rattle.cq_base.proofs.Lists.{Contains-map, Contains-from_map, Contains-filter, Contains-from_filter, AllPairs-map, AllPairs-from_map}
 use Rattle.cq_refine.specs.declared.spots.Spot.{Spot}
-use Rattle.cq_refine.specs.declared.spots.Marked.{Marked}
-use Rattle.cq_refine.specs.Sets.{IsMark, IsSpotBefore, AreMarked, IsWordSet, part_of}
-use Rattle.cq_refine.proofs.Marking.{Contains-map, marks_of_token}
-use Rattle.cq_refine.proofs.SetGroups.{Contains-from_map, AllPairs-map}
+use Rattle.cq_refine.specs.Sets.{Marked, IsMark, IsSpotBefore, AreMarked, IsWordSet, part_of}
+use Rattle.cq_refine.proofs.Marking.{marks_of_token}
 use Rattle.cq_refine.proofs.Words.{stands_more, stands_less}
-
-pub Contains-filter : {X : Type 0} (p : X → Bool) (x : X) (xs : List X) → Contains xs x → p x ≡ true → Contains (filter p xs) x
-Contains-filter p x [] c h = absurd (Contains-nil x c)
-Contains-filter {X} p x (y ∷ ys) c h =
-    ⊎_elim
-    (λ e. rw (subst (λ (w : X). p w ≡ true) (sym e) h) (subst (Contains (y ∷ filter p ys)) e (Contains-here y (filter p ys))))
-    (λ rest. ⊎_elim
-    (λ yes. rw yes (Contains-there y x (filter p ys) (Contains-filter p x ys rest h)))
-    (λ not_here. rw not_here (Contains-filter p x ys rest h))
-    (cases_Bool (p y)))
-    (Contains-cases y x ys c)
-
-pub Contains-from_filter : {X : Type 0} (p : X → Bool) (x : X) (xs : List X) → Contains (filter p xs) x → Contains xs x × (p x ≡ true)
-Contains-from_filter p x [] c = absurd (Contains-nil x c)
-Contains-from_filter {X} p x (y ∷ ys) c =
-    ⊎_elim
-    (λ yes. ⊎_elim
-    (λ e. (subst (Contains (y ∷ ys)) e (Contains-here y ys), subst (λ (w : X). p w ≡ true) e yes))
-    (λ rest. let r = Contains-from_filter p x ys rest in (Contains-there y x ys r.0, r.1))
-    (Contains-cases y x (filter p ys) (rw yes at c)))
-    (λ not_here. let r = Contains-from_filter p x ys (rw not_here at c) in (Contains-there y x ys r.0, r.1))
-    (cases_Bool (p y))
-
-pub AllPairs-from_map : {A B : Type 0} (f : A → B) (R : B → B → Type 0) (xs : List A) → AllPairs R (map f xs) → AllPairs (λ a b. R (f a) (f b)) xs
-AllPairs-from_map f R xs h = λ i j d lt within.
-    subst₂ R (get_or-map f xs i d (f d) (omega arith)) (get_or-map f xs j d (f d) within) (h i j (f d) lt (omega (arith, length-map xs f)))
 
 -- the part of a mark, whose token is `t`
 pub part_is_word_set : {T : Type 0} (corpus : List (List T)) (all spots : List Spot) (d m : ℕ) (marked : List Marked) (t : T) → (set : IsWordSet corpus all d spots) → map (λ x. x.spot) marked ≡ spots → (are : AreMarked corpus d marked) → IsMark are.seen (Some t) m → 2 ≤ length (part_of m marked) → IsWordSet corpus all (d + 1) (part_of m marked)
@@ -46,9 +18,9 @@ part_is_word_set {T} corpus all spots d m marked t set spots_are are is_mark sev
   long = length_push set.word t ∙ ap (λ n. n + 1) set.long;
   several = several;
   exact = record {
-    ordered = AllPairs-map (λ (x : Marked). x.spot) IsSpotBefore (filter (λ x. eqb x.mark m) marked)
+    ordered = AllPairs-map IsSpotBefore (λ (x : Marked). x.spot) (filter (λ x. eqb x.mark m) marked)
         (AllPairs-filter (λ (x y : Marked). IsSpotBefore x.spot y.spot) (λ x. eqb x.mark m) marked
-        (AllPairs-from_map (λ (x : Marked). x.spot) IsSpotBefore marked (subst (AllPairs IsSpotBefore) (sym spots_are) set.exact.ordered)));
+        (AllPairs-from_map IsSpotBefore (λ (x : Marked). x.spot) marked (subst (AllPairs IsSpotBefore) (sym spots_are) set.exact.ordered)));
     each = λ s. (to s, from s);
   };
 }
@@ -56,7 +28,7 @@ part_is_word_set {T} corpus all spots d m marked t set spots_are are is_mark sev
     to : (s : Spot) → Contains (part_of m marked) s → Contains all s × StandsAt corpus (set.word ++ t ∷ []) s.place
     to s c =
         let r = Contains-from_map (λ (x : Marked). x.spot) (filter (λ x. eqb x.mark m) marked) s c in
-        let f = Contains-from_filter (λ (x : Marked). eqb x.mark m) r.0 marked r.1 in
+        let f = Contains-from_filter (λ (x : Marked). eqb x.mark m) marked r.0 r.1 in
         let mark_is : r.0.mark ≡ m = eqb-true r.0.mark m f.1 in
         let in_spots : Contains spots r.0.spot = subst (λ (ss : List Spot). Contains ss r.0.spot) spots_are (Contains-map (λ (x : Marked). x.spot) marked r.0 f.0) in
         let h = (set.exact.each r.0.spot).0 in_spots in
@@ -74,4 +46,4 @@ part_is_word_set {T} corpus all spots d m marked t set spots_are are is_mark sev
         ap (λ (z : Spot). token_behind corpus z.place d) r.2 ∙ ap (token_behind corpus s.place) (sym set.long) ∙ less.1 in
         let mark : r.0.mark ≡ m = (marks_of_token are.seen t r.0.mark m are.apart (subst (λ o. IsMark are.seen o r.0.mark) token (are.marks r.0 r.1)) is_mark).0 in
         subst (Contains (part_of m marked)) r.2
-        (Contains-map (λ (x : Marked). x.spot) (filter (λ x. eqb x.mark m) marked) r.0 (Contains-filter (λ (x : Marked). eqb x.mark m) r.0 marked r.1 (eq-eqb r.0.mark m mark)))
+        (Contains-map (λ (x : Marked). x.spot) (filter (λ x. eqb x.mark m) marked) r.0 (Contains-filter (λ (x : Marked). eqb x.mark m) marked r.0 r.1 (eq-eqb r.0.mark m mark)))

@@ -10,7 +10,8 @@ use Rattle.cq_clones.specs.Groups.{IsPlace, token_before}
 use Rattle.cq_tokens.specs.Corpus.{corpus_of}
 use Rattle.cq_refine.specs.declared.spots.Spot.{Spot}
 use Rattle.cq_refine.specs.Sets.{IsMarked}
-use Rattle.cq_refine.proofs.Marking.{marks_none, marking_none, marking_more, Contains-map}
+use Rattle.cq_base.proofs.Lists.{Contains-map}
+use Rattle.cq_refine.proofs.Marking.{marks_none, marking_none, marking_more}
 use Rattle.cq_refine.proofs.marks.spots_of.Goals as goal
 
 pub loop-p-preserved : goal.loop-p-preserved
