@@ -9,9 +9,8 @@ use Rattle.std.proofs.lemmas.Option.{same_Some}
 use Rattle.cq_base.specs.declared.group.Place.{Place}
 use Rattle.cq_clones.specs.Lists.{AreAllInOrder}
 use Rattle.cq_clones.specs.Groups.{IsBefore}
-use Rattle.cq_base.proofs.Lists.{Contains-here, Contains-there, AllPairs-head, AllPairs-tail}
+use Rattle.cq_base.proofs.Lists.{Contains-here, Contains-there, Contains-filter, Contains-from_filter, AllPairs-head, AllPairs-tail}
 use Rattle.cq_clones.specs.Windows.{key_at, HasKey}
-use Rattle.cq_refine.proofs.WordSets.{Contains-filter, Contains-from_filter}
 use Rattle.cq_groups.specs.Listing.{HasOneOf}
 
 abbrev pub is_number : Option ℕ → ℕ → Bool
@@ -37,8 +36,8 @@ pub with_key-is : (keys : List (List ℕ)) (ks : List ℕ) (windows : List Place
 with_key-is keys ks windows k (i, within, at) are = record {
   ordered = AllPairs-filter IsBefore (λ p. is_number (key_at keys p) k) windows are.ordered;
   each = λ p. (
-    λ c. is_number-says (key_at keys p) k (Contains-from_filter (λ q. is_number (key_at keys q) k) p windows c).1,
-    λ has. Contains-filter (λ q. is_number (key_at keys q) k) p windows ((are.each p).1 (i, k, within, at, has)) (is_number-from (key_at keys p) k has),
+    λ c. is_number-says (key_at keys p) k (Contains-from_filter (λ q. is_number (key_at keys q) k) windows p c).1,
+    λ has. Contains-filter (λ q. is_number (key_at keys q) k) windows p ((are.each p).1 (i, k, within, at, has)) (is_number-from (key_at keys p) k has),
   );
 }
 

@@ -78,7 +78,10 @@ pub rises_to : (a b m n : ℕ) → n ≤ m → m ≤ n → Rises a b n → Rises
 rises_to a b m n le ge h = omega (arith, h, le, ge)
 
 pub rises_most : (a b m n : ℕ) → n ≤ m → Rises a b n → RisesAtMost a b m
-rises_most a b m n le h = omega (arith, h, le)
+rises_most a b m n le h = (omega (arith, h), omega (arith, h, le))
+
+pub rises_none : (a n : ℕ) → RisesAtMost a a n
+rises_none a n = (omega arith, omega arith)
 
 pub most_to : (a b m n : ℕ) → n ≡ m → RisesAtMost a b n → RisesAtMost a b m
 most_to a b m n e h = subst (λ k. RisesAtMost a b k) e h

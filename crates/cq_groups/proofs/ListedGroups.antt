@@ -11,7 +11,7 @@ use Rattle.cq_clones.specs.Lists.{AreAllInOrder}
 use Rattle.cq_clones.specs.Groups.{file_at, IsBefore, word_at, StandsAt, kept_after, is_free, IsGroup, ComesBefore, AreGroups, AreGroupsIn}
 use Rattle.cq_base.specs.Places.{first_place}
 use Rattle.cq_clones.proofs.InOrder.{in_order_same, in_order_none, take_more_cases, take_more_left, take_more_here, before_at}
-use Rattle.cq_base.proofs.Lists.{Contains-nil, Contains-here, Contains-there, Contains-cases}
+use Rattle.cq_base.proofs.Lists.{Contains-nil, Contains-here, Contains-there, Contains-cases, Contains-filter, Contains-from_filter, AllPairs-append}
 use Rattle.cq_clones.proofs.GroupLaws.{within_from_standing, word_of_group, groups_of_first_place}
 use Rattle.cq_clones.specs.Windows.{key_at, HasKey, AreKeyed}
 use Rattle.cq_order.specs.Order.{IsOrderOf}
@@ -19,8 +19,6 @@ use Rattle.cq_groups.proofs.Sorted.{groups_sorted}
 use Rattle.cq_refine.specs.Sets.{AreAllOnce}
 use Rattle.cq_refine.specs.Places.{IsGroupOfKey}
 use Rattle.cq_refine.proofs.Words.{stands_front}
-use Rattle.cq_refine.proofs.Walk.{AllPairs-append}
-use Rattle.cq_refine.proofs.WordSets.{Contains-filter, Contains-from_filter}
 use Rattle.cq_refine.proofs.KeyPlaces.{key_of_window}
 use Rattle.cq_groups.specs.Listing.{HasOneOf, IsGroupOfKeys, IsKey, IsKeyIn, AreAllRising, has_file}
 
@@ -119,8 +117,8 @@ pub once_filtered : (Is P : Group → Type 0) (test : Group → Bool) (xs : List
 once_filtered Is P test xs says once = record {
   ordered = AllPairs-filter (λ g h. g ≢ h) test xs once.ordered;
   each = λ g. (
-    λ c. let r = Contains-from_filter test g xs c in ((once.each g).0 r.0, (says g).0 r.1),
-    λ h. Contains-filter test g xs ((once.each g).1 h.0) ((says g).1 h.1),
+    λ c. let r = Contains-from_filter test xs g c in ((once.each g).0 r.0, (says g).0 r.1),
+    λ h. Contains-filter test xs g ((once.each g).1 h.0) ((says g).1 h.1),
   );
 }
 

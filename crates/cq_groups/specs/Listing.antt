@@ -38,8 +38,9 @@ AreReached keys file windows = AreAllInOrder IsBefore (λ p. (k : ℕ) × IsKeyI
 abbrev pub Rises : ℕ → ℕ → ℕ → Type 0
 Rises old new n = min new (2 ^ 64 - 1) ≡ min (old + n) (2 ^ 64 - 1)
 
+-- it didn't fall, and rose by `n` at most
 abbrev pub RisesAtMost : ℕ → ℕ → ℕ → Type 0
-RisesAtMost old new n = min new (2 ^ 64 - 1) ≤ min (old + n) (2 ^ 64 - 1)
+RisesAtMost old new n = (min old (2 ^ 64 - 1) ≤ min new (2 ^ 64 - 1)) × (min new (2 ^ 64 - 1) ≤ min (old + n) (2 ^ 64 - 1))
 
 -- whether one of the places is in the file
 abbrev pub has_file : ℕ → List Place → Bool

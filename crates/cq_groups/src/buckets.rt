@@ -15,15 +15,20 @@ pub trait Buckets {
     // how often it was asked
     ghost asked: { Self → ℕ };
 
+    // it may be asked
+    ghost ready: { Self → Type 0 };
+
     // it may have moved from one state to another
     ghost moved: { Self → Self → Type 0 };
 
     /// All entries of the files with the key, by change and then place.
     fn bucket(&mut self, alloc: Global, key: u64) -> Result<Vec<Entry>, Memory>
+        requires { ready self.old }
         ensures bucket { IfOk result (λ bucket. IsBucket (file_changes self.old) (file_keys self.old) key bucket.items) }
         ensures same_changes { file_changes self.new ≡ file_changes self.old }
         ensures same_keys { file_keys self.new ≡ file_keys self.old }
         ensures asked { Rises (asked self.old) (asked self.new) 1 }
+        ensures ready { ready self.new }
         ensures moved { moved self.old self.new };
 
     ghost unmoved: { (b : Self) → moved b b };

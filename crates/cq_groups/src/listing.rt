@@ -35,10 +35,14 @@ fn list_keys<B: Buckets, L: Ledger>(
     requires long { settings.now.chunk ≤ min }
     requires for_changes { B.file_changes buckets.old ≡ changes_of files.now }
     requires for_keys { B.file_keys buckets.old ≡ keys_of files.now }
+    requires ready { B.ready buckets.old }
     requires rising { AllPairs (λ a b. a < b) keys.now }
     ensures groups { IfOk result (λ groups. AreAllOnce (IsGroupOfKeys (corpus_of files.now) (keys_of files.now) min keys.now) groups.items) }
     ensures asked { OnOk result (Rises (B.asked buckets.old) (B.asked buckets.new) (length keys.now)) }
     ensures asked_most { RisesAtMost (B.asked buckets.old) (B.asked buckets.new) (length keys.now) }
+    ensures same_changes { B.file_changes buckets.new ≡ B.file_changes buckets.old }
+    ensures same_keys { B.file_keys buckets.new ≡ B.file_keys buckets.old }
+    ensures ready { B.ready buckets.new }
     ensures moved { B.moved buckets.old buckets.new }
     ensures bound { (longest : ℕ) (windows : List Place) → IsLongest (corpus_of files.now) longest → AreAllInOrder IsBefore (HasOneOf (keys_of files.now) keys.now) windows → steps.new ≤ steps.old + length windows * (longest + 2) }
 {
@@ -67,9 +71,13 @@ pub fn list_all<B: Buckets, L: Ledger>(
     requires long { settings.now.chunk ≤ min }
     requires for_changes { B.file_changes buckets.old ≡ changes_of files.now }
     requires for_keys { B.file_keys buckets.old ≡ keys_of files.now }
+    requires ready { B.ready buckets.old }
     ensures groups { IfOk result (λ groups. AreGroups (corpus_of files.now) min groups.items) }
     ensures asked { (ks : List ℕ) → AreAllRising (IsKey (keys_of files.now)) ks → OnOk result (Rises (B.asked buckets.old) (B.asked buckets.new) (length ks)) }
     ensures asked_most { (ks : List ℕ) → AreAllRising (IsKey (keys_of files.now)) ks → RisesAtMost (B.asked buckets.old) (B.asked buckets.new) (length ks) }
+    ensures same_changes { B.file_changes buckets.new ≡ B.file_changes buckets.old }
+    ensures same_keys { B.file_keys buckets.new ≡ B.file_keys buckets.old }
+    ensures ready { B.ready buckets.new }
     ensures moved { B.moved buckets.old buckets.new }
     ensures bound { (longest : ℕ) (windows : List Place) → IsLongest (corpus_of files.now) longest → AreWindows (keys_of files.now) windows → steps.new ≤ steps.old + length windows * (longest + 2) }
 {
@@ -122,9 +130,13 @@ pub fn list_file<B: Buckets, L: Ledger>(
     requires long { settings.now.chunk ≤ min }
     requires for_changes { B.file_changes buckets.old ≡ changes_of files.now }
     requires for_keys { B.file_keys buckets.old ≡ keys_of files.now }
+    requires ready { B.ready buckets.old }
     ensures groups { IfOk result (λ groups. AreGroupsIn (corpus_of files.now) min file groups.items) }
     ensures asked { (ks : List ℕ) → AreAllRising (IsKeyIn (keys_of files.now) file) ks → OnOk result (Rises (B.asked buckets.old) (B.asked buckets.new) (length ks)) }
     ensures asked_most { (ks : List ℕ) → AreAllRising (IsKeyIn (keys_of files.now) file) ks → RisesAtMost (B.asked buckets.old) (B.asked buckets.new) (length ks) }
+    ensures same_changes { B.file_changes buckets.new ≡ B.file_changes buckets.old }
+    ensures same_keys { B.file_keys buckets.new ≡ B.file_keys buckets.old }
+    ensures ready { B.ready buckets.new }
     ensures moved { B.moved buckets.old buckets.new }
     ensures bound { (longest : ℕ) (windows : List Place) → IsLongest (corpus_of files.now) longest → AreReached (keys_of files.now) file windows → steps.new ≤ steps.old + length windows * (longest + 2) }
 {

@@ -81,6 +81,8 @@ impl<'a, L: Ledger> Buckets for PlainBuckets<'a, L> {
 
     ghost asked = { λ b. b.asked };
 
+    ghost ready = { λ b. Unit {0} };
+
     ghost moved = { λ b c. b.files.now ≡ c.files.now };
 
     ghost unmoved = { λ b. refl };

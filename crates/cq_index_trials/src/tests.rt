@@ -69,7 +69,6 @@ fn agrees<L: Ledger>(
     let all = list_all(alloc, settings, files, min, &mut buckets, steps)?;
     let mut same = are_same(&plain, &all, None);
     for file in 0..files.len() as u32 {
-        let mut buckets = PlainBuckets::new(files);
         let found = list_file(alloc, settings, files, file, min, &mut buckets, steps)?;
         same = same && are_same(&plain, &found, Some(file));
     }

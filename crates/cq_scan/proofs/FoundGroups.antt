@@ -14,8 +14,8 @@ use Rattle.cq_clones.proofs.Words.{length-word}
 use Rattle.cq_clones.proofs.GroupLaws.{maximal_word, groups_of_word, word_of_group}
 use Rattle.cq_order.specs.Order.{AreOrdered, IsOrderOf}
 use Rattle.cq_scan.specs.Match.{Matches}
-use Rattle.cq_scan.specs.Found.{IsGroupOf, IsFoundBy, AreFound, Adds, IsOfWord}
-use Rattle.cq_scan.proofs.StandingPlaces.{place_of_word}
+use Rattle.cq_scan.specs.Found.{IsPair, IsGroupOf, IsFoundBy, AreFound, Adds, IsOfWord}
+use Rattle.cq_scan.proofs.Places.{place_of_word}
 
 -- the match of two places is a maximal word where the tokens before differ
 pub maximal_from_match : {T : Type 0} (corpus : List (List T)) (p q : Place) (n : ℕ) → Matches corpus p q n → p ≢ q → (AreSame (token_before corpus p) (token_before corpus q) → ⊥) → IsMaximalAt corpus (word_at corpus p n) p q
@@ -68,9 +68,6 @@ adds_none corpus least Pairs old ordered none = record {
   ordered = ordered;
   each = λ z. (λ c. inl c, λ h. ⊎_elim (λ c. c) (λ g. absurd (none z g)) h);
 }
-
-abbrev pub IsPair : Place → Place → Place → Place → Type 0
-IsPair p q a b = (a ≡ p) × (b ≡ q)
 
 pub pair_is : {T : Type 0} (corpus : List (List T)) (least : ℕ) (p q : Place) (g : Group) → IsFoundBy corpus least (IsPair p q) g → IsGroupOf corpus least p q g
 pair_is corpus least p q g found =

@@ -1,4 +1,4 @@
 pub mod Matching
-pub mod StandingPlaces
+pub mod Places
 pub mod FoundGroups
 pub mod Ordered

@@ -3,7 +3,7 @@ use Rattle.std.specs.Prelude.{◌≡◌, ◌⊎◌, ℕ, List, AllPairs, Contain
 use Rattle.cq_base.specs.declared.group.Place.{Place}
 use Rattle.cq_base.specs.declared.group.Group.{Group}
 use Rattle.cq_clones.specs.Lists.{AreAllInOrder}
-use Rattle.cq_clones.specs.Groups.{word_at, IsMaximalAt, IsGroup, ComesBefore}
+use Rattle.cq_clones.specs.Groups.{IsPlace, IsBefore, word_at, IsMaximalAt, IsGroup, ComesBefore}
 use Rattle.cq_base.specs.Places.{first_place}
 use Rattle.cq_order.specs.Order.{AreOrdered}
 
@@ -11,6 +11,14 @@ use Rattle.cq_order.specs.Order.{AreOrdered}
 pub record IsGroupOf {T : Type 0} (corpus : List (List T)) (least : ℕ) (p q : Place) (group : Group) : Type 0 where
   pub is : IsGroup corpus least group
   pub pair : IsMaximalAt corpus is.word p q
+
+-- all places of the corpus, in order
+abbrev pub AreAllPlaces : {T : Type 0} → List (List T) → List Place → Type 0
+AreAllPlaces corpus places = AreAllInOrder IsBefore (IsPlace corpus) places
+
+-- these two places
+abbrev pub IsPair : Place → Place → Place → Place → Type 0
+IsPair p q a b = (a ≡ p) × (b ≡ q)
 
 -- a group whose word is maximal at some two places of a kind
 pub record IsFoundBy {T : Type 0} (corpus : List (List T)) (least : ℕ) (Pairs : Place → Place → Type 0) (group : Group) : Type 0 where

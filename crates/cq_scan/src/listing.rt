@@ -1,143 +1,119 @@
-ghost use Rattle.std.specs.Prelude.{◌≡◌, ◌+◌, ◌-◌, ◌^◌, ◌<◌, ◌≤◌, length, IfOk, OnOk};
+ghost use Rattle.std.specs.Prelude.{◌≡◌, ◌+◌, ◌^◌, ◌<◌, ◌≤◌, length, slice_index_or, IfOk, OnOk};
 ghost use Rattle.cq_clones.specs.Groups.{file_at, word_at, IsPlace, IsBefore, IsMaximalAt, AreGroups};
 ghost use Rattle.cq_tokens.specs.Corpus.{corpus_of};
-ghost use Rattle.cq_scan.specs.Found.{IsFoundBy, AreFound, Adds};
+ghost use Rattle.cq_tokens.specs.Parts.{tokens_in};
+ghost use Rattle.cq_scan.specs.Found.{AreAllPlaces, IsPair, IsFoundBy, AreFound, Adds};
 
-use crate::found::{add_once, is_known};
-use crate::reading::{are_same_before, file_len, match_len};
-use crate::standing::occurrences;
+use crate::corpus::{are_same_before, match_len};
+use crate::known::{add_once, is_known};
+use crate::occurrences::{all_places, occurrences};
 use cq_base::{Group, Memory, Place, Places, Steps};
 use cq_order::{kept, order};
-use cq_tokens::FileTokens;
+use cq_tokens::{FileList, FileTokens};
 use std::alloc::Global;
 use std::sync::ledger::Ledger;
 
-// Adds the group of the word of `tokens` tokens that is maximal at the two places, if two places of it are kept.
-fn add_word<L: Ledger>(
+// What a listing goes over: all places of some files. The groups that are found are lent, and what a call adds is those
+// whose words are maximal at the places that it compares.
+#[derive(Drop)]
+struct PairScan<'a, L: Ledger> {
     alloc: Global,
-    files: &[FileTokens<L>],
-    p: Place,
-    q: Place,
-    tokens: u32,
+    files: &'a FileList<'a, L>,
+    places: &'a [Place],
     min: u32,
-    groups: &mut Vec<Group>,
-    steps: &mut Steps<L>,
-) -> Result<(), Memory>
-    requires few { length files.now < 2 ^ 32 }
-    requires p_file { p.file < length files.now }
-    requires within { p.at + tokens ≤ length (file_at (corpus_of files.now) p.file) }
-    requires fits { p.at + tokens < 2 ^ 32 }
-    requires some { 1 ≤ min }
-    requires long { min ≤ tokens }
-    requires maximal { IsMaximalAt (corpus_of files.now) (word_at (corpus_of files.now) p tokens) p q }
-    requires found { AreFound (corpus_of files.now) min groups.old.items }
-    ensures { OnOk result (Adds (IsFoundBy (corpus_of files.now) min (λ a b. (a ≡ p) × (b ≡ q))) groups.old.items groups.new.items) }
-{
-    if is_known(files, p, tokens, groups, steps) {
-        return Ok(());
-    }
-    let all = occurrences(alloc, files, p, tokens, steps)?;
-    let places = kept(alloc, tokens, &all)?;
-    if places.len() < 2 {
-        return Ok(());
-    }
-    let places = Places::from_vec(places);
-    add_once(groups, Group { tokens, places })
 }
 
-// Adds the group whose word is maximal at the two places, if there is one.
-fn add_group<L: Ledger>(
-    alloc: Global,
-    files: &[FileTokens<L>],
-    p: Place,
-    q: Place,
-    min: u32,
-    groups: &mut Vec<Group>,
-    steps: &mut Steps<L>,
-) -> Result<(), Memory>
-    requires few { length files.now < 2 ^ 32 }
-    requires p_in { IsPlace (corpus_of files.now) p }
-    requires q_in { IsPlace (corpus_of files.now) q }
-    requires some { 1 ≤ min }
-    requires found { AreFound (corpus_of files.now) min groups.old.items }
-    ensures { OnOk result (Adds (IsFoundBy (corpus_of files.now) min (λ a b. (a ≡ p) × (b ≡ q))) groups.old.items groups.new.items) }
-{
-    if p == q || are_same_before(files, p, q, steps) {
-        return Ok(());
+impl<'a, L: Ledger> PairScan<'a, L> {
+    // Adds the group of the word of `tokens` tokens that is maximal at the two places, if two places of it are kept.
+    fn add_word(
+        &self,
+        p: Place,
+        q: Place,
+        tokens: u32,
+        groups: &mut Vec<Group>,
+        steps: &mut Steps<L>,
+    ) -> Result<(), Memory>
+        requires some { 1 ≤ self.now.min }
+        requires places { AreAllPlaces (tokens_in self.now.files.now) self.now.places.now }
+        requires p_in { IsPlace (tokens_in self.now.files.now) p }
+        requires within { p.at + tokens ≤ length (file_at (tokens_in self.now.files.now) p.file) }
+        requires long { self.now.min ≤ tokens }
+        requires maximal { IsMaximalAt (tokens_in self.now.files.now) (word_at (tokens_in self.now.files.now) p tokens) p q }
+        requires found { AreFound (tokens_in self.now.files.now) self.now.min groups.old.items }
+        ensures { OnOk result (Adds (IsFoundBy (tokens_in self.now.files.now) self.now.min (IsPair p q)) groups.old.items groups.new.items) }
+    {
+        if is_known(self.files, p, tokens, groups, steps) {
+            return Ok(());
+        }
+        let all = occurrences(self.alloc, self.files, p, tokens, self.places, steps)?;
+        let places = kept(self.alloc, tokens, &all)?;
+        if places.len() < 2 {
+            return Ok(());
+        }
+        let places = Places::from_vec(places);
+        add_once(groups, Group { tokens, places })
     }
-    let tokens = match_len(files, p, q, steps);
-    if tokens < min {
-        return Ok(());
-    }
-    add_word(alloc, files, p, q, tokens, min, groups, steps)
-}
 
-// Adds the groups whose words are maximal at `p` and a place of a file from a token on.
-fn add_groups_in<L: Ledger>(
-    alloc: Global,
-    files: &[FileTokens<L>],
-    p: Place,
-    file: u32,
-    from: u32,
-    min: u32,
-    groups: &mut Vec<Group>,
-    steps: &mut Steps<L>,
-) -> Result<(), Memory>
-    requires few { length files.now < 2 ^ 32 }
-    requires p_in { IsPlace (corpus_of files.now) p }
-    requires inside { file < length files.now }
-    requires some { 1 ≤ min }
-    requires found { AreFound (corpus_of files.now) min groups.old.items }
-    ensures { OnOk result (Adds (IsFoundBy (corpus_of files.now) min (λ a b. (a ≡ p) × (b.file ≡ file) × (from ≤ b.at))) groups.old.items groups.new.items) }
-{
-    for at in from..file_len(files, file) {
-        add_group(alloc, files, p, Place { file, at }, min, groups, steps)?;
+    // Adds the group whose word is maximal at the two places, if there is one.
+    fn compare(
+        &self,
+        p: Place,
+        q: Place,
+        groups: &mut Vec<Group>,
+        steps: &mut Steps<L>,
+    ) -> Result<(), Memory>
+        requires some { 1 ≤ self.now.min }
+        requires places { AreAllPlaces (tokens_in self.now.files.now) self.now.places.now }
+        requires p_in { IsPlace (tokens_in self.now.files.now) p }
+        requires q_in { IsPlace (tokens_in self.now.files.now) q }
+        requires found { AreFound (tokens_in self.now.files.now) self.now.min groups.old.items }
+        ensures { OnOk result (Adds (IsFoundBy (tokens_in self.now.files.now) self.now.min (IsPair p q)) groups.old.items groups.new.items) }
+    {
+        if p == q || are_same_before(self.files, p, q, steps) {
+            return Ok(());
+        }
+        let tokens = match_len(self.files, p, q, steps);
+        if tokens < self.min {
+            return Ok(());
+        }
+        self.add_word(p, q, tokens, groups, steps)
     }
-    Ok(())
-}
 
-// Adds the groups whose words are maximal at `p` and a later place.
-fn add_groups_at<L: Ledger>(
-    alloc: Global,
-    files: &[FileTokens<L>],
-    p: Place,
-    min: u32,
-    groups: &mut Vec<Group>,
-    steps: &mut Steps<L>,
-) -> Result<(), Memory>
-    requires few { length files.now < 2 ^ 32 }
-    requires p_in { IsPlace (corpus_of files.now) p }
-    requires fits { p.at < 2 ^ 32 - 1 }
-    requires some { 1 ≤ min }
-    requires found { AreFound (corpus_of files.now) min groups.old.items }
-    ensures { OnOk result (Adds (IsFoundBy (corpus_of files.now) min (λ a b. (a ≡ p) × IsBefore p b)) groups.old.items groups.new.items) }
-{
-    add_groups_in(alloc, files, p, p.file, p.at + 1, min, groups, steps)?;
-    for file in p.file + 1..files.len() as u32 {
-        add_groups_in(alloc, files, p, file, 0, min, groups, steps)?;
+    // Compares the place at `i` with each later one.
+    fn compare_later(
+        &self,
+        i: usize,
+        p: Place,
+        groups: &mut Vec<Group>,
+        steps: &mut Steps<L>,
+    ) -> Result<(), Memory>
+        requires some { 1 ≤ self.now.min }
+        requires places { AreAllPlaces (tokens_in self.now.files.now) self.now.places.now }
+        requires within { i < length self.now.places.now }
+        requires place { p ≡ slice_index_or self.now.places.now i p }
+        requires found { AreFound (tokens_in self.now.files.now) self.now.min groups.old.items }
+        ensures { OnOk result (Adds (IsFoundBy (tokens_in self.now.files.now) self.now.min (λ a b. (a ≡ p) × IsBefore p b)) groups.old.items groups.new.items) }
+    {
+        for j in i + 1..self.places.len() {
+            let q = self.places[j];
+            self.compare(p, q, groups, steps)?;
+        }
+        Ok(())
     }
-    Ok(())
-}
 
-// Adds the groups whose words are maximal at a place of the file and a later place.
-fn add_groups_of<L: Ledger>(
-    alloc: Global,
-    files: &[FileTokens<L>],
-    file: u32,
-    min: u32,
-    groups: &mut Vec<Group>,
-    steps: &mut Steps<L>,
-) -> Result<(), Memory>
-    requires few { length files.now < 2 ^ 32 }
-    requires inside { file < length files.now }
-    requires some { 1 ≤ min }
-    requires found { AreFound (corpus_of files.now) min groups.old.items }
-    ensures { OnOk result (Adds (IsFoundBy (corpus_of files.now) min (λ a b. (a.file ≡ file) × IsBefore a b)) groups.old.items groups.new.items) }
-{
-    for at in 0..file_len(files, file) {
-        add_groups_at(alloc, files, Place { file, at }, min, groups, steps)?;
+    // All groups, in order.
+    fn groups(&self, steps: &mut Steps<L>) -> Result<Vec<Group>, Memory>
+        requires some { 1 ≤ self.now.min }
+        requires places { AreAllPlaces (tokens_in self.now.files.now) self.now.places.now }
+        ensures { IfOk result (λ groups. AreGroups (tokens_in self.now.files.now) self.now.min groups.items) }
+    {
+        let mut groups = Vec::new(self.alloc);
+        for i in 0..self.places.len() {
+            let p = self.places[i];
+            self.compare_later(i, p, &mut groups, steps)?;
+        }
+        order(groups)
     }
-    Ok(())
 }
 
 /// All groups of the files, in order: the repeated words of at least `min` tokens with their kept places. `Place::file`
@@ -152,9 +128,13 @@ pub fn scan<L: Ledger>(
     requires some { 1 ≤ min }
     ensures { IfOk result (λ groups. AreGroups (corpus_of files.now) min groups.items) }
 {
-    let mut groups = Vec::new(alloc);
-    for file in 0..files.len() as u32 {
-        add_groups_of(alloc, files, file, min, &mut groups, steps)?;
-    }
-    order(groups)
+    let list = FileList::new(files);
+    let places = all_places(alloc, &list)?;
+    let pairs = PairScan {
+        alloc,
+        files: &list,
+        places: &places,
+        min,
+    };
+    pairs.groups(steps)
 }

@@ -5,16 +5,23 @@ ghost use Rattle.cq_tokens.specs.Corpus.{corpus_of, changes_of, keys_of};
 use crate::FileTokens;
 use std::sync::ledger::Ledger;
 
-/// Files that are listed together, with what is always asked of them: there are fewer than 2^32, each was put by a
-/// change of its own, and each has the keys of its windows of `chunk` tokens, equal keys for equal windows.
+/// Files that are read together, fewer than 2^32. They are lent.
+#[derive(Drop)]
+pub struct FileList<'a, L: Ledger> {
+    pub(crate) items: &'a [FileTokens<L>],
+
+    ghost few: { length items.now < 2 ^ 32 },
+}
+
+/// Files that are listed by their windows, with what is always asked of them: each was put by a change of its own, and
+/// each has the keys of its windows of `chunk` tokens, equal keys for equal windows.
 #[derive(Drop)]
 pub struct Corpus<'a, L: Ledger> {
-    pub(crate) files: &'a [FileTokens<L>],
+    pub files: FileList<'a, L>,
     /// Tokens of a window.
     pub chunk: u32,
 
     ghost some: { 1 ≤ chunk },
-    ghost few: { length files.now < 2 ^ 32 },
-    ghost apart: { AllPairs (λ a b. a ≢ b) (changes_of files.now) },
-    ghost keyed: { AreKeyed chunk (corpus_of files.now) (keys_of files.now) },
+    ghost apart: { AllPairs (λ a b. a ≢ b) (changes_of files.items.now) },
+    ghost keyed: { AreKeyed chunk (corpus_of files.items.now) (keys_of files.items.now) },
 }

@@ -1,5 +1,5 @@
-//! The tokens of a file, and the files that are listed together: a `Corpus` is made where what every listing asks of its
-//! files holds, and keeps it. `Tokens::at` is the only way to read a token, and each read is one step on a counter of
+//! The tokens of a file, and the files that are read or listed together: `FileList` and a `Corpus` are made where what is
+//! always asked of such files holds, and keep it. `Tokens::at` is the only way to read a token, and each read is one step on a counter of
 //! the tokens' own ledger, so a caller's counter bounds what was read. A read costs a look into two lists and takes no
 //! memory. A file's tokens take 8 bytes each, and the bytes of their texts.
 #![tactic(auto)]
@@ -12,7 +12,7 @@ mod reading;
 mod seen;
 mod tokens;
 
-pub use corpus::Corpus;
+pub use corpus::{Corpus, FileList};
 pub use files::FileTokens;
 pub use laws::equal_tokens_tie;
 pub use seen::Seen;

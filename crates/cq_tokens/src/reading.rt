@@ -5,51 +5,26 @@ ghost use Rattle.cq_tokens.specs.Corpus.{corpus_of, changes_of, keys_of};
 ghost use Rattle.cq_tokens.specs.Packed.{norm_in};
 ghost use Rattle.cq_tokens.specs.Parts.{tokens_in, changes_in, keys_in};
 
-use crate::corpus::Corpus;
+use crate::corpus::{Corpus, FileList};
 use crate::files::FileTokens;
 use crate::seen::Seen;
 use cq_base::{Place, Steps};
 use std::sync::ledger::Ledger;
 
-impl<'a, L: Ledger> Corpus<'a, L> {
-    /// The corpus of these files, which are lent.
-    pub fn new(chunk: u32, files: &'a [FileTokens<L>]) -> Corpus<'a, L>
-        requires some { 1 ≤ chunk }
-        requires few { length files.now < 2 ^ 32 }
-        requires apart { AllPairs (λ a b. a ≢ b) (changes_of files.now) }
-        requires keyed { AreKeyed chunk (corpus_of files.now) (keys_of files.now) }
-        ensures tokens { tokens_in result ≡ corpus_of files.now }
-        ensures changes { changes_in result ≡ changes_of files.now }
-        ensures keys { keys_in result ≡ keys_of files.now }
-        ensures chunk { result.chunk ≡ chunk }
+impl<'a, L: Ledger> FileList<'a, L> {
+    /// These files.
+    pub fn new(items: &'a [FileTokens<L>]) -> FileList<'a, L>
+        requires { length items.now < 2 ^ 32 }
+        ensures { tokens_in result ≡ corpus_of items.now }
     {
-        Corpus { files, chunk }
+        FileList { items }
     }
 
-    /// How many files there are.
+    /// How many there are.
     pub fn len(&self) -> u32
-        ensures tokens { result ≡ length (tokens_in self.now) }
-        ensures changes { result ≡ length (changes_in self.now) }
-        ensures keys { result ≡ length (keys_in self.now) }
+        ensures { result ≡ length (tokens_in self.now) }
     {
-        self.files.len() as u32
-    }
-
-    /// The number of the change that put a file.
-    pub fn change(&self, file: u32) -> u64
-        requires { file < length (tokens_in self.now) }
-        ensures { slice_get (changes_in self.now) file ≡ Some result }
-    {
-        self.files[file as usize].change
-    }
-
-    /// The keys of a file's windows, in order.
-    pub fn keys(&self, file: u32) -> &'a [u64]
-        requires { file < length (tokens_in self.now) }
-        ensures keys { result.now ≡ file_at (keys_in self.now) file }
-        ensures few { length result.now < 2 ^ 32 }
-    {
-        self.files[file as usize].keys.as_slice()
+        self.items.len() as u32
     }
 
     /// How many tokens a file has.
@@ -57,7 +32,7 @@ impl<'a, L: Ledger> Corpus<'a, L> {
         requires { file < length (tokens_in self.now) }
         ensures { result ≡ length (file_at (tokens_in self.now) file) }
     {
-        self.files[file as usize].tokens.len()
+        self.items[file as usize].tokens.len()
     }
 
     /// The token `n` behind a place, if there is one. It is a step at most.
@@ -67,7 +42,7 @@ impl<'a, L: Ledger> Corpus<'a, L> {
         ensures fits { IsSome (token_behind (tokens_in self.now) p n) → p.at + n + 1 < 2 ^ 32 }
         ensures step { steps.new ≤ steps.old + 1 }
     {
-        let tokens = &self.files[p.file as usize].tokens;
+        let tokens = &self.items[p.file as usize].tokens;
         let left = tokens.len().saturating_sub(p.at);
         if n >= left {
             return None;
@@ -82,6 +57,51 @@ impl<'a, L: Ledger> Corpus<'a, L> {
         ensures step { steps.new ≤ steps.old + 1 }
     {
         let at = p.at.checked_sub(1)?;
-        self.files[p.file as usize].tokens.at(at, steps)
+        self.items[p.file as usize].tokens.at(at, steps)
+    }
+}
+
+impl<'a, L: Ledger> Corpus<'a, L> {
+    /// The corpus of these files, which are lent.
+    pub fn new(chunk: u32, files: &'a [FileTokens<L>]) -> Corpus<'a, L>
+        requires some { 1 ≤ chunk }
+        requires few { length files.now < 2 ^ 32 }
+        requires apart { AllPairs (λ a b. a ≢ b) (changes_of files.now) }
+        requires keyed { AreKeyed chunk (corpus_of files.now) (keys_of files.now) }
+        ensures tokens { tokens_in result.files ≡ corpus_of files.now }
+        ensures changes { changes_in result ≡ changes_of files.now }
+        ensures keys { keys_in result ≡ keys_of files.now }
+        ensures chunk { result.chunk ≡ chunk }
+    {
+        Corpus {
+            files: FileList { items: files },
+            chunk,
+        }
+    }
+
+    /// How many files there are.
+    pub fn len(&self) -> u32
+        ensures tokens { result ≡ length (tokens_in self.now.files) }
+        ensures changes { result ≡ length (changes_in self.now) }
+        ensures keys { result ≡ length (keys_in self.now) }
+    {
+        self.files.len()
+    }
+
+    /// The number of the change that put a file.
+    pub fn change(&self, file: u32) -> u64
+        requires { file < length (tokens_in self.now.files) }
+        ensures { slice_get (changes_in self.now) file ≡ Some result }
+    {
+        self.files.items[file as usize].change
+    }
+
+    /// The keys of a file's windows, in order.
+    pub fn keys(&self, file: u32) -> &'a [u64]
+        requires { file < length (tokens_in self.now.files) }
+        ensures keys { result.now ≡ file_at (keys_in self.now) file }
+        ensures few { length result.now < 2 ^ 32 }
+    {
+        self.files.items[file as usize].keys.as_slice()
     }
 }

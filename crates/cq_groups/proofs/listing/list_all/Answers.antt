@@ -3,7 +3,7 @@ use Rattle.std.proofs.lemmas.Result.{IfOk-weaker}
 use Rattle.cq_tokens.specs.Corpus.{corpus_of}
 use Rattle.cq_tokens.specs.Corpus.{keys_of}
 use Rattle.cq_groups.specs.Listing.{IsKey, AreAllRising, Rises}
-use Rattle.cq_groups.proofs.KeyLists.{one_list, most_to, on_ok}
+use Rattle.cq_groups.proofs.KeyLists.{one_list, most_to, on_ok, rises_none}
 use Rattle.cq_groups.proofs.ListedGroups.{all_groups, all_windows}
 use Rattle.cq_groups.proofs.listing.list_all.Goals as goal
 
@@ -38,3 +38,9 @@ pub returns-clause-bound : goal.returns-clause-bound
 returns-clause-bound g c = λ longest windows is are.
     c.list_keys.ensures.bound longest windows is
     (all_windows (keys_of c.args.files.now) c.deref.result.now windows (subst (λ (zs : List ℕ). AreAllRising (IsKey (keys_of c.args.files.now)) zs) (sym c.deref.ensures.value) c.in_ok-keys.ensures) are)
+
+pub returns-in_err-index-clause-asked_most : goal.returns-in_err-index-clause-asked_most
+returns-in_err-index-clause-asked_most g c = λ ks is. rises_none _ (length ks)
+
+pub returns-in_err-keys-clause-asked_most : goal.returns-in_err-keys-clause-asked_most
+returns-in_err-keys-clause-asked_most g c = λ ks is. rises_none _ (length ks)

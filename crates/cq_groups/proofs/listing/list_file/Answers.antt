@@ -6,7 +6,7 @@ use Rattle.cq_refine.specs.Sets.{AreAllOnce}
 use Rattle.cq_tokens.specs.Corpus.{corpus_of}
 use Rattle.cq_tokens.specs.Corpus.{keys_of}
 use Rattle.cq_groups.specs.Listing.{IsKeyIn, IsGroupOfKeys, AreAllRising, Rises, has_file}
-use Rattle.cq_groups.proofs.KeyLists.{one_list, most_to, on_ok}
+use Rattle.cq_groups.proofs.KeyLists.{one_list, most_to, on_ok, rises_none}
 use Rattle.cq_groups.proofs.ListedGroups.{file_groups, windows_of_keys, once_filtered, has_file-says}
 use Rattle.cq_groups.proofs.listing.list_file.Goals as goal
 
@@ -58,3 +58,9 @@ pub returns-in_err-groups-2-clause-bound : goal.returns-in_err-groups-2-clause-b
 returns-in_err-groups-2-clause-bound g c = λ longest windows is are.
     c.list_keys.ensures.bound longest windows is
     (windows_of_keys (keys_of c.args.files.now) (IsKeyIn (keys_of c.args.files.now) c.args.file) c.deref.result.now windows (subst (λ (zs : List ℕ). AreAllRising (IsKeyIn (keys_of c.args.files.now) c.args.file) zs) (sym c.deref.ensures.value) c.in_ok-keys.ensures) are)
+
+pub returns-in_err-index-clause-asked_most : goal.returns-in_err-index-clause-asked_most
+returns-in_err-index-clause-asked_most g c = λ ks is. rises_none _ (length ks)
+
+pub returns-in_err-keys-clause-asked_most : goal.returns-in_err-keys-clause-asked_most
+returns-in_err-keys-clause-asked_most g c = λ ks is. rises_none _ (length ks)

@@ -18,6 +18,7 @@ loop-key-init g c = record {
   groups = groups_none (corpus_of c.args.files.now) (keys_of c.args.files.now) c.args.min c.args.keys.now _ c.new-groups.ensures.items;
   for_changes = c.requires.for_changes;
   for_keys = c.requires.for_keys;
+  ready = c.requires.ready;
   asked = omega arith;
   moved = g.met.B.Buckets.unmoved _;
   bound = λ longest windows is are. omega arith;
@@ -44,6 +45,7 @@ loop-key-preserved g c =
           (groups_more corpus keys c.args.min ks i k c.loop-key.groups.items c.in_ok-found.found.items c.loop-key-test.true (get_or_default ks i 0 k c.loop-key-test.true) c.requires.rising c.loop-key.invariant.groups (c.in_ok-found.ensures.groups k is_bucket));
       for_changes = c.bucket.ensures.same_changes ∙ c.loop-key.invariant.for_changes;
       for_keys = c.bucket.ensures.same_keys ∙ c.loop-key.invariant.for_keys;
+      ready = c.bucket.ensures.ready;
       asked = rises_more _ _ _ i c.loop-key.invariant.asked c.bucket.ensures.asked;
       moved = g.met.B.Buckets.moved_on _ _ _ c.loop-key.invariant.moved c.bucket.ensures.moved;
       bound = λ longest windows is are.
@@ -53,11 +55,21 @@ loop-key-preserved g c =
           (c.refine_with.ensures.places_bound k longest (with_key keys windows k) is_bucket (with_key-is keys ks windows k (Contains-get_or ks i 0 c.loop-key-test.true) are) is);
     }
 
+pub returns-in_err-bucket-clause-asked_most : goal.returns-in_err-bucket-clause-asked_most
+returns-in_err-bucket-clause-asked_most g c =
+    let i = c.loop-key.key-index in
+    rises_most _ _ (length c.args.keys.now) (i + 1) (omega (arith, c.loop-key-test.true)) (rises_more _ _ _ i c.loop-key.invariant.asked c.bucket.ensures.asked)
+
 pub returns-in_err-bucket-clause-bound : goal.returns-in_err-bucket-clause-bound
 returns-in_err-bucket-clause-bound g c = λ longest windows is are.
     let keys = keys_of c.args.files.now in
     let ks = c.args.keys.now in
     reads_within c.args.steps.now _ (sum_by (count keys windows) (take c.loop-key.key-index ks)) (length windows) longest (first_counts_within keys ks windows c.loop-key.key-index c.requires.rising) (c.loop-key.invariant.bound longest windows is are)
+
+pub returns-in_err-found-clause-asked_most : goal.returns-in_err-found-clause-asked_most
+returns-in_err-found-clause-asked_most g c =
+    let i = c.loop-key.key-index in
+    rises_most _ _ (length c.args.keys.now) (i + 1) (omega (arith, c.loop-key-test.true)) (rises_more _ _ _ i c.loop-key.invariant.asked c.bucket.ensures.asked)
 
 pub returns-in_err-found-clause-bound : goal.returns-in_err-found-clause-bound
 returns-in_err-found-clause-bound g c = λ longest windows is are.
@@ -72,6 +84,11 @@ returns-in_err-found-clause-bound g c = λ longest windows is are.
     (count_next (count keys windows) ks i k c.loop-key-test.true refl)
     (c.loop-key.invariant.bound longest windows is are)
     (c.refine_with.ensures.places_bound k longest (with_key keys windows k) is_bucket (with_key-is keys ks windows k (Contains-get_or ks i 0 c.loop-key-test.true) are) is))
+
+pub returns-in_err-append-clause-asked_most : goal.returns-in_err-append-clause-asked_most
+returns-in_err-append-clause-asked_most g c =
+    let i = c.loop-key.key-index in
+    rises_most _ _ (length c.args.keys.now) (i + 1) (omega (arith, c.loop-key-test.true)) (rises_more _ _ _ i c.loop-key.invariant.asked c.bucket.ensures.asked)
 
 pub returns-in_err-append-clause-bound : goal.returns-in_err-append-clause-bound
 returns-in_err-append-clause-bound g c = λ longest windows is are.
@@ -97,6 +114,9 @@ returns g c =
       groups = subst (λ zs. AreAllOnce (IsGroupOfKeys corpus keys c.args.min zs) c.loop-key.groups.items) (take_all i ks c.loop-key-test.false) c.loop-key.invariant.groups;
       asked = rises_to _ _ (length ks) i c.loop-key.auto.key-index-end c.loop-key-test.false c.loop-key.invariant.asked;
       asked_most = rises_most _ _ (length ks) i c.loop-key.auto.key-index-end c.loop-key.invariant.asked;
+      same_changes = c.loop-key.invariant.for_changes ∙ sym c.requires.for_changes;
+      same_keys = c.loop-key.invariant.for_keys ∙ sym c.requires.for_keys;
+      ready = c.loop-key.invariant.ready;
       moved = c.loop-key.invariant.moved;
       bound = λ longest windows is are.
           reads_within c.args.steps.now _ (sum_by (count keys windows) (take i ks)) (length windows) longest (first_counts_within keys ks windows i c.requires.rising) (c.loop-key.invariant.bound longest windows is are);

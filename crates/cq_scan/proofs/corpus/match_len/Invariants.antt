@@ -1,0 +1,7 @@
+use Rattle.std.proofs.Common.{ℕ, ◌<◌}
+use Rattle.cq_clones.specs.Groups.{token_behind, AreSame}
+use Rattle.cq_tokens.specs.Parts.{tokens_in}
+use Rattle.cq_scan.proofs.corpus.match_len.Given as goal
+
+abbrev pub invariant-loop-n : goal.invariant-loop-n
+invariant-loop-n g l = (k : ℕ) → k < l.n → AreSame (token_behind (tokens_in l.files) l.p k) (token_behind (tokens_in l.files) l.q k)

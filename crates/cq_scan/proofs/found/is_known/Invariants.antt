@@ -1,9 +1,0 @@
-use Rattle.std.proofs.Common.{take}
-use Rattle.std.specs.Prelude.{Contains}
-use Rattle.cq_base.specs.declared.group.Group.{Group}
-use Rattle.cq_tokens.specs.Corpus.{corpus_of}
-use Rattle.cq_scan.specs.Found.{IsOfWord}
-use Rattle.cq_scan.proofs.found.is_known.Given as goal
-
-abbrev pub invariant-loop-group : goal.invariant-loop-group
-invariant-loop-group g l = (z : Group) → Contains (take l.group-index l.groups) z → IsOfWord (corpus_of l.files) l.p l.tokens z → ⊥

@@ -1,7 +1,0 @@
-use Rattle.std.proofs.Common.{ℕ, ◌<◌}
-use Rattle.cq_clones.specs.Groups.{token_behind, AreSame}
-use Rattle.cq_tokens.specs.Corpus.{corpus_of}
-use Rattle.cq_scan.proofs.reading.stands_at.Given as goal
-
-abbrev pub invariant-loop-k : goal.invariant-loop-k
-invariant-loop-k g l = (k : ℕ) → k < l.k → AreSame (token_behind (corpus_of l.files) l.p k) (token_behind (corpus_of l.files) l.q k)
