@@ -4,12 +4,10 @@ pub mod Marking
 pub mod SetLaws
 pub mod SetGroups
 pub mod Parts
-pub mod Apart
-pub mod Splits
-pub mod Taking
 pub mod WordSets
 pub mod OneSided
 pub mod Walk
+pub mod Highest
 pub mod Weights
 pub mod KeyPlaces
 pub mod Places

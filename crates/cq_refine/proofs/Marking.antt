@@ -109,17 +109,6 @@ no_mark seen token is = record { within = omega arith; names = sym is }
 pub grows_not : {T : Type 0} (seen : List T) → Grows seen seen
 grows_not seen = record { more = []; is = sym (append-nil seen) }
 
--- no token changes nothing
-pub marked_none : (seen : List Norm) (marks : BTreeMap Seen ℕ) (token : Option Norm) → token ≡ None → AreMarks marks seen → IsMarked seen marks token 0
-marked_none seen marks token none are = record {
-  tokens = seen;
-  grows = grows_not seen;
-  seen_before = λ low. refl;
-  one_more = λ high. absurd (omega (arith, high));
-  are = are;
-  is = no_mark seen token none;
-}
-
 -- a token that was not there is taken in
 module _ {T Q : Type 0} (token : Q → T) (old new : Q → Option ℕ) (seen : List T) (key : Q) (tie : Q → Bool) (ties : (q : Q) → (tie q ≡ true) ↔ (token key ≡ token q)) where
   absent : AreMarksOf token old seen → old key ≡ None → (k : ℕ) → slice_get seen k ≡ Some (token key) → ⊥
@@ -199,8 +188,6 @@ module _ (ties : EqualTokensTie) (marks new : BTreeMap Seen ℕ) (s : Seen) (mar
       record {
         tokens = seen ++ norm_in s ∷ [];
         grows = record { more = norm_in s ∷ []; is = refl };
-        seen_before = λ low. absurd (omega (arith, low, last));
-        one_more = λ high. length_push seen (norm_in s);
         are = record {
           size = omega (arith, are.size, length_push seen (norm_in s), size, one);
           apart = apart_more norm_in (get seen_cmp marks) (get seen_cmp new) seen s (λ q. is_eq (seen_cmp s q)) (ties s) are.apart are.each absent;
@@ -214,18 +201,15 @@ module _ (ties : EqualTokensTie) (marks new : BTreeMap Seen ℕ) (s : Seen) (mar
       let here : mark ≡ m = mark_is ∙ ap (λ o. unwrap_or o (btree_map_len marks + 1)) some in
       let found : get seen_cmp marks s ≡ Some mark = sym was ∙ some ∙ ap Some (sym here) in
       let none : cond (is_some value) 0 1 ≡ 0 = ap {B = ℕ} (λ o. cond (is_some o) 0 1) some in
-      let is_mark : IsMark seen token mark = mark_found seen (norm_in s) token mark ((are.each s mark).0 found) is in
       record {
         tokens = seen;
         grows = grows_not seen;
-        seen_before = λ low. refl;
-        one_more = λ high. absurd (omega (arith, high, is_mark.within));
         are = record {
           size = omega (arith, are.size, size, none);
           apart = are.apart;
           each = marks_same norm_in (get seen_cmp marks) (get seen_cmp new) seen s (λ q. is_eq (seen_cmp s q)) (ties s) mark found are.each updates.0;
         };
-        is = is_mark;
+        is = mark_found seen (norm_in s) token mark ((are.each s mark).0 found) is;
       }
 
   pub marked_by_entry : IsMarked seen new token mark

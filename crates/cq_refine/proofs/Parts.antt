@@ -1,7 +1,7 @@
 -- The parts of a set, as they are added.
-use Rattle.std.proofs.Common.{Global, Vec, ◌≡◌, ℕ, suc, ◌+◌, ◌-◌, ◌<◌, ◌≤◌, Bool, cond, List, [], ◌∷◌, ◌++◌, length, map, get_or, set, refl, sym, ap, ◌∙◌, subst, ⊎_elim, arith, append_assoc, append-nil, length-set, true, false, eqb}
+use Rattle.std.proofs.Common.{Global, Vec, ◌≡◌, ℕ, suc, ◌+◌, ◌-◌, ◌<◌, ◌≤◌, Bool, cond, List, [], ◌∷◌, ◌++◌, length, map, take, get_or, set, refl, sym, ap, ◌∙◌, subst, ⊎_elim, arith, append_assoc, append-nil, length-set, true, false, eqb}
 use Rattle.std.specs.Prelude.{Contains, Any, filter, nat_le}
-use Rattle.std.proofs.lemmas.List.{length_push, map-append, get_or-map, get_or_append_left, get_or-set_same, get_or-set_other}
+use Rattle.std.proofs.lemmas.List.{length_push, take_more, map-append, get_or-map, get_or_append_left, get_or-set_same, get_or-set_other}
 use Rattle.std.proofs.lemmas.List.Elements.{filter-append}
 use Rattle.std.proofs.lemmas.Bool.{cases_eq}
 use Rattle.std.proofs.Math.Seq.{get_or-append_seam}
@@ -11,9 +11,10 @@ use Rattle.std.proofs.lemmas.List.Elements.{Contains-get_or}
 use Rattle.std.proofs.lemmas.Bool.{cases_lt, cases_order, le-leb, lt-leb, eq-eqb, ne_eqb}
 use Rattle.std.proofs.lemmas.List.Elements.{Contains-push, Contains-push_cases, Contains-append_left}
 use Rattle.std.proofs.lemmas.List.Sums.{sum_by_push}
-use Rattle.cq_base.proofs.Lists.{Contains-nil, Contains-here, Contains-there}
+use Rattle.cq_base.proofs.Lists.{Contains-nil}
+use Rattle.cq_refine.specs.declared.spots.Marked.{Marked}
 use Rattle.cq_refine.specs.declared.spots.Set.{Set}
-use Rattle.cq_refine.specs.Sets.{Marked, part_of, AreByMark, IsPart, ArePartsOf, MayGive, AddsParts}
+use Rattle.cq_refine.specs.Sets.{part_of, AreByMark, IsPart, ArePartsOf, AddsParts}
 
 -- the marks up to m, and those that are m + 1
 count_more : (m : ℕ) (marked : List Marked) → length (filter (λ x. nat_le x.mark m) marked) + length (part_of (m + 1) marked) ≤ length (filter (λ x. nat_le x.mark (m + 1)) marked)
@@ -42,7 +43,10 @@ count_more m (x ∷ xs) =
 
 -- ---- the spots of each mark
 
-pub part_push : (m : ℕ) (xs : List Marked) (x : Marked) → part_of m (xs ++ x ∷ []) ≡ cond (eqb x.mark m) (part_of m xs ++ x.spot ∷ []) (part_of m xs)
+take_more_is : (xs : List Marked) (i : ℕ) (x : Marked) → i < length xs → x ≡ get_or xs i x → take (i + 1) xs ≡ take i xs ++ x ∷ []
+take_more_is xs i x lt read = take_more xs i x lt ∙ ap (λ (y : Marked). take i xs ++ y ∷ []) (sym read)
+
+part_push : (m : ℕ) (xs : List Marked) (x : Marked) → part_of m (xs ++ x ∷ []) ≡ cond (eqb x.mark m) (part_of m xs ++ x.spot ∷ []) (part_of m xs)
 part_push m xs x =
     ap (map (λ (z : Marked). z.spot)) (filter-append (λ (z : Marked). eqb z.mark m) xs (x ∷ []))
     ∙ map-append (λ (z : Marked). z.spot) (filter (λ (z : Marked). eqb z.mark m) xs) (filter (λ (z : Marked). eqb z.mark m) (x ∷ []))
@@ -55,27 +59,19 @@ part_push m xs x =
 pub part_read : (parts : List (Vec Spot Global)) (i : ℕ) (part : Vec Spot Global) → i < length parts → part ≡ get_or parts i part → part.items ≡ get_or (map (λ p. p.items) parts) i []
 part_read parts i part within read = ap (λ p. p.items) read ∙ sym (get_or-map (λ p. p.items) parts i part [] within)
 
--- a mark that no spot has yet
-part_none : (m : ℕ) (xs : List Marked) → ((x : Marked) → Contains xs x → x.mark < m) → part_of m xs ≡ []
-part_none m [] low = refl
-part_none m (x ∷ xs) low =
-    let apart : eqb x.mark m ≡ false = ne_eqb x.mark m (λ e. let lt = low x (Contains-here x xs) in omega (arith, lt, e)) in
-    rw apart (part_none m xs (λ y c. low y (Contains-there x y xs c)))
-
-pub by_mark_none : (n : ℕ) (marked : List Marked) (parts more : List (List Spot)) → ((x : Marked) → Contains marked x → x.mark ≤ n) → more ≡ parts ++ [] ∷ [] → AreByMark n marked parts → AreByMark (n + 1) marked more
-by_mark_none n marked parts more low is are = record {
+-- one more mark, of no spot
+pub by_mark_none : (n : ℕ) (parts more : List (List Spot)) → more ≡ parts ++ [] ∷ [] → AreByMark n [] parts → AreByMark (n + 1) [] more
+by_mark_none n parts more is are = record {
   number = ap length is ∙ length_push parts [] ∙ ap (λ k. k + 1) are.number;
   each = λ m d lt. ap (λ ps. get_or ps m d) is ∙ ⊎_elim
       (λ below. get_or_append_left parts ([] ∷ []) d m (omega (arith, below, are.number)) ∙ are.each m d below)
-      (λ above.
-      let e : m ≡ length parts = omega (arith, above, lt, are.number) in
-      ap (λ k. get_or (parts ++ [] ∷ []) k d) e ∙ get_or-append_seam parts [] [] d ∙ sym (part_none (m + 1) marked (λ x c. let h = low x c in omega (arith, h, above))))
+      (λ above. let e : m ≡ length parts = omega (arith, above, lt, are.number) in ap (λ k. get_or (parts ++ [] ∷ []) k d) e ∙ get_or-append_seam parts [] [] d)
       (cases_lt m n);
 }
 
 -- a spot comes to the part of its mark
-pub by_mark_more : (n : ℕ) (marked : List Marked) (x : Marked) (parts more : List (List Spot)) → 0 < x.mark → x.mark ≤ n → more ≡ set parts (x.mark - 1) (get_or parts (x.mark - 1) [] ++ x.spot ∷ []) → AreByMark n marked parts → AreByMark n (marked ++ x ∷ []) more
-by_mark_more n marked x parts more some low is are = record {
+pub by_mark_more : (n i : ℕ) (marked : List Marked) (x : Marked) (parts more : List (List Spot)) → i < length marked → x ≡ get_or marked i x → 0 < x.mark → x.mark ≤ n → more ≡ set parts (x.mark - 1) (get_or parts (x.mark - 1) [] ++ x.spot ∷ []) → AreByMark n (take i marked) parts → AreByMark n (take (i + 1) marked) more
+by_mark_more n i marked x parts more lt read some low is are = record {
   number = ap length is ∙ length-set parts (x.mark - 1) _ ∙ are.number;
   each = λ m d within. ap (λ ps. get_or ps m d) is ∙ ⊎_elim
       (λ same.
@@ -84,26 +80,29 @@ by_mark_more n marked x parts more some low is are = record {
       ap (λ k. get_or (set parts k (get_or parts k [] ++ x.spot ∷ [])) m d) (sym same)
       ∙ get_or-set_same parts m _ d here
       ∙ ap (λ ss. ss ++ x.spot ∷ []) (are.each m [] within)
-      ∙ ap (λ b. cond b (part_of (m + 1) marked ++ x.spot ∷ []) (part_of (m + 1) marked)) (sym (eq-eqb x.mark (m + 1) e))
-      ∙ sym (part_push (m + 1) marked x))
+      ∙ ap (λ b. cond b (part_of (m + 1) (take i marked) ++ x.spot ∷ []) (part_of (m + 1) (take i marked))) (sym (eq-eqb x.mark (m + 1) e))
+      ∙ sym (part_push (m + 1) (take i marked) x)
+      ∙ ap (part_of (m + 1)) (sym (take_more_is marked i x lt read)))
       (λ other.
       let apart : eqb x.mark (m + 1) ≡ false = ne_eqb x.mark (m + 1) (λ e. other (omega (arith, e))) in
       get_or-set_other parts (x.mark - 1) m _ d other
       ∙ are.each m d within
-      ∙ ap (λ b. cond b (part_of (m + 1) marked ++ x.spot ∷ []) (part_of (m + 1) marked)) (sym apart)
-      ∙ sym (part_push (m + 1) marked x))
+      ∙ ap (λ b. cond b (part_of (m + 1) (take i marked) ++ x.spot ∷ []) (part_of (m + 1) (take i marked))) (sym apart)
+      ∙ sym (part_push (m + 1) (take i marked) x)
+      ∙ ap (part_of (m + 1)) (sym (take_more_is marked i x lt read)))
       (cases_eq m (x.mark - 1));
 }
 
 -- a spot of no mark comes to none
-pub by_mark_same : (n : ℕ) (marked : List Marked) (x : Marked) (parts : List (List Spot)) → x.mark ≡ 0 → AreByMark n marked parts → AreByMark n (marked ++ x ∷ []) parts
-by_mark_same n marked x parts none are = record {
+pub by_mark_same : (n i : ℕ) (marked : List Marked) (x : Marked) (parts : List (List Spot)) → i < length marked → x ≡ get_or marked i x → x.mark ≡ 0 → AreByMark n (take i marked) parts → AreByMark n (take (i + 1) marked) parts
+by_mark_same n i marked x parts lt read none are = record {
   number = are.number;
   each = λ m d within.
       let apart : eqb x.mark (m + 1) ≡ false = ne_eqb x.mark (m + 1) (λ e. omega (arith, e, none)) in
       are.each m d within
-      ∙ ap (λ b. cond b (part_of (m + 1) marked ++ x.spot ∷ []) (part_of (m + 1) marked)) (sym apart)
-      ∙ sym (part_push (m + 1) marked x);
+      ∙ ap (λ b. cond b (part_of (m + 1) (take i marked) ++ x.spot ∷ []) (part_of (m + 1) (take i marked))) (sym apart)
+      ∙ sym (part_push (m + 1) (take i marked) x)
+      ∙ ap (part_of (m + 1)) (sym (take_more_is marked i x lt read));
 }
 
 -- the parts of the marks above m are left
@@ -139,16 +138,16 @@ no_parts depth marked old = record {
   size = omega arith;
 }
 
-pub any_at : (P : Set → Type 0) (sets : List Set) (s : Set) → Contains sets s → P s → Any P sets
-any_at P sets s (k, within, at) h = (k, s, within, at, h)
+any_of : (P : Set → Type 0) (sets : List Set) (s : Set) → Contains sets s → P s → Any P sets
+any_of P sets s (k, within, at) h = (k, s, within, at, h)
 
 higher : {depth m : ℕ} {marked : List Marked} {s : Set} → IsPart depth marked m s → IsPart depth marked (m + 1) s
-higher p = record { mark = p.mark; some = p.some; low = omega (arith, p.low); deeper = p.deeper; gives = p.gives; is = p.is }
+higher p = record { mark = p.mark; some = p.some; low = omega (arith, p.low); deeper = p.deeper; several = p.several; is = p.is }
 
--- a part that may give groups is added
-pub part_more : (depth : ℕ) (marked : List Marked) (m : ℕ) (old new more : List Set) (s : Set) → s.depth ≡ depth → s.spots.items ≡ part_of (m + 1) marked → MayGive s.spots.items → more ≡ new ++ s ∷ [] → AddsParts depth marked m old new → AddsParts depth marked (m + 1) old more
-part_more depth marked m old new more s s_depth s_is gives more_is before =
-    let here : IsPart depth marked (m + 1) s = record { mark = m + 1; some = omega arith; low = omega arith; deeper = s_depth; gives = gives; is = s_is } in record {
+-- a part of two or more spots is added
+pub part_more : (depth : ℕ) (marked : List Marked) (m : ℕ) (old new more : List Set) (s : Set) → s.depth ≡ depth → s.spots.items ≡ part_of (m + 1) marked → 2 ≤ length s.spots.items → more ≡ new ++ s ∷ [] → AddsParts depth marked m old new → AddsParts depth marked (m + 1) old more
+part_more depth marked m old new more s s_depth s_is several more_is before =
+    let here : IsPart depth marked (m + 1) s = record { mark = m + 1; some = omega arith; low = omega arith; deeper = s_depth; several = several; is = s_is } in record {
       parts = before.parts ++ s ∷ [];
       is = more_is ∙ ap (λ xs. xs ++ s ∷ []) before.is ∙ append_assoc old before.parts (s ∷ []);
       are = record {
@@ -160,16 +159,16 @@ part_more depth marked m old new more s s_depth s_is gives more_is before =
             (λ k d lt. let p = before.are.each _ (Contains-get_or before.parts k d lt) in record { mark = p.mark; other = m + 1; some = p.some; differ = omega (arith, p.low); is = p.is; other_is = s_is });
         all = λ x c some low enough. ⊎_elim
             (λ lt. let (k, t, within, at, h) = before.are.all x c some (omega arith) enough in
-            any_at (λ (z : Set). (z.depth ≡ depth) × (z.spots.items ≡ part_of x.mark marked)) (before.parts ++ s ∷ []) t (Contains-append_left before.parts (s ∷ []) t (k, within, at)) h)
+            any_of (λ z. (z.depth ≡ depth) × (z.spots.items ≡ part_of x.mark marked)) (before.parts ++ s ∷ []) t (Contains-append_left before.parts (s ∷ []) t (k, within, at)) h)
             (λ ge. let e : m + 1 ≡ x.mark = omega arith in
-            any_at (λ (z : Set). (z.depth ≡ depth) × (z.spots.items ≡ part_of x.mark marked)) (before.parts ++ s ∷ []) s (Contains-push before.parts s) (s_depth, s_is ∙ ap (λ k. part_of k marked) e))
+            any_of (λ z. (z.depth ≡ depth) × (z.spots.items ≡ part_of x.mark marked)) (before.parts ++ s ∷ []) s (Contains-push before.parts s) (s_depth, s_is ∙ ap (λ k. part_of k marked) e))
             (cases_lt x.mark (m + 1));
       };
       size = omega (arith, before.size, count_more m marked, sum_by_push (λ (z : Set). length z.spots.items) before.parts s, ap length s_is);
     }
 
--- another is not
-pub part_skipped : (depth : ℕ) (marked : List Marked) (m : ℕ) (old new : List Set) → (MayGive (part_of (m + 1) marked) → ⊥) → AddsParts depth marked m old new → AddsParts depth marked (m + 1) old new
+-- a part of fewer is not
+pub part_skipped : (depth : ℕ) (marked : List Marked) (m : ℕ) (old new : List Set) → length (part_of (m + 1) marked) < 2 → AddsParts depth marked m old new → AddsParts depth marked (m + 1) old new
 part_skipped depth marked m old new few before = record {
   parts = before.parts;
   is = before.is;
@@ -178,7 +177,7 @@ part_skipped depth marked m old new few before = record {
     apart = before.are.apart;
     all = λ x c some low enough. ⊎_elim
         (λ lt. before.are.all x c some (omega arith) enough)
-        (λ ge. let e : x.mark ≡ m + 1 = omega arith in absurd (few (subst (λ (k : ℕ). MayGive (part_of k marked)) e enough)))
+        (λ ge. let e : m + 1 ≡ x.mark = omega arith in let f = ap (λ (k : ℕ). length (part_of k marked)) e in absurd (omega (arith, f)))
         (cases_lt x.mark (m + 1));
   };
   size = omega (arith, before.size, count_more m marked);

@@ -14,7 +14,8 @@ use Rattle.cq_base.proofs.Lists.{Contains-here, Contains-there, Contains-map, Co
 use Rattle.cq_clones.proofs.Order.{IsBefore-apart}
 use Rattle.cq_clones.proofs.GroupLaws.{within_from_standing, word_of_group}
 use Rattle.cq_refine.specs.declared.spots.Spot.{Spot}
-use Rattle.cq_refine.specs.Sets.{Marked, IsSpotBefore, AreSpots, AreMarked, IsWordSet, AreEntries, HaveOneLeft}
+use Rattle.cq_refine.specs.declared.spots.Marked.{Marked}
+use Rattle.cq_refine.specs.Sets.{IsSpotBefore, AreSpots, AreMarked, IsWordSet, AreEntries}
 use Rattle.cq_refine.proofs.Marking.{same_from_marks}
 use Rattle.cq_refine.proofs.SetLaws.{two_places}
 use Rattle.cq_refine.proofs.Words.{stands_front}
@@ -114,14 +115,20 @@ places_of_set corpus least d places all spots g entries are set some long at =
     (set_occurrences corpus least places all spots d entries are set some long) in
     at.is.places ∙ ap₂ kept_of at.tokens same
 
--- spots with different tokens before them don't have one
-pub differ_before : {T : Type 0} (corpus : List (List T)) (all spots : List Spot) (s t : Spot) → AreSpots corpus all → Contains all s → Contains all t → Contains spots s → Contains spots t → (AreSame (token_before corpus s.place) (token_before corpus t.place) → ⊥) → HaveOneLeft spots → ⊥
-differ_before corpus all spots s t are s_all t_all s_in t_in differ (n, positive, one) =
-    let u = All-contains (λ (z : Spot). z.left ≡ n) spots s one s_in in
-    let v = All-contains (λ (z : Spot). z.left ≡ n) spots t one t_in in
-    differ (same_from_marks are.seen _ _ s.left t.left (are.marks s s_all) (are.marks t t_all) (u ∙ sym v) (omega (arith, u, positive)))
+-- it has none, where the tokens before its places are all there and equal, or those behind
+pub none_by_left : {T : Type 0} (corpus : List (List T)) (least d n : ℕ) (places : List Place) (all spots : List Spot) (g : Group) → AreEntries corpus least places → map (λ s. s.place) all ≡ places → AreSpots corpus all → (set : IsWordSet corpus all d spots) → 1 ≤ least → least ≤ d → 0 < n → All (λ s. s.left ≡ n) spots → IsGroupAt corpus least d spots g → ⊥
+none_by_left corpus least d n places all spots g entries are spots_are set some long positive one at =
+    let e = word_of_set corpus least d all spots g set at in
+    let (p, q, pair) = at.is.repeated in
+    let occurs = set_occurrences corpus least places all spots d entries are set some long in
+    let r = Contains-from_map (λ (s : Spot). s.place) spots p ((occurs.each p).1 (subst (λ w. StandsAt corpus w p) e pair.first)) in
+    let t = Contains-from_map (λ (s : Spot). s.place) spots q ((occurs.each q).1 (subst (λ w. StandsAt corpus w q) e pair.second)) in
+    let u = All-contains (λ (s : Spot). s.left ≡ n) spots r.0 one r.1 in
+    let v = All-contains (λ (s : Spot). s.left ≡ n) spots t.0 one t.1 in
+    pair.left (subst (λ a. AreSame a (token_before corpus q)) (ap (token_before corpus) r.2) (subst (AreSame (token_before corpus r.0.place)) (ap (token_before corpus) t.2)
+    (same_from_marks spots_are.seen _ _ r.0.left t.0.left
+    (spots_are.marks r.0 ((set.exact.each r.0).0 r.1).0) (spots_are.marks t.0 ((set.exact.each t.0).0 t.1).0) (u ∙ sym v) (omega (arith, u)))))
 
--- it has none, where the tokens behind its places are all there and equal
 pub none_by_mark : {T : Type 0} (corpus : List (List T)) (least d n : ℕ) (places : List Place) (all spots : List Spot) (ms : List Marked) (g : Group) → AreEntries corpus least places → map (λ s. s.place) all ≡ places → (set : IsWordSet corpus all d spots) → map (λ x. x.spot) ms ≡ spots → (marked : AreMarked corpus d ms) → 1 ≤ least → least ≤ d → 0 < n → All (λ x. x.mark ≡ n) ms → IsGroupAt corpus least d spots g → ⊥
 none_by_mark {T} corpus least d n places all spots ms g entries are set spots_are marked some long positive one at =
     let (p, q, pair) = at.is.repeated in

@@ -11,8 +11,9 @@ use Rattle.cq_base.proofs.Lists.{Contains-here, Contains-there}
 use Rattle.cq_clones.proofs.Order.{IsBefore-apart}
 use Rattle.cq_clones.proofs.GroupLaws.{within_from_standing}
 use Rattle.cq_refine.specs.declared.spots.Spot.{Spot}
+use Rattle.cq_refine.specs.declared.spots.Marked.{Marked}
 use Rattle.cq_refine.specs.declared.spots.Set.{Set}
-use Rattle.cq_refine.specs.Sets.{Marked, AreSpots, IsWordSet, IsLongest, IsSplit, AreFirst}
+use Rattle.cq_refine.specs.Sets.{AreSpots, IsWordSet, IsLongest, IsSplit, AreFirst}
 
 -- the spots of a set, once for each length that its words can still get
 abbrev pub weight : ℕ → Set → ℕ

@@ -1,5 +1,5 @@
 -- Sets of places that share their first tokens.
-use Rattle.std.specs.Prelude.{◌≡◌, ◌≢◌, ◌⊎◌, ◌↔◌, ℕ, ◌+◌, ◌-◌, ◌^◌, ◌<◌, ◌≤◌, List, slice_get, slice_index_or, Some, ◌∷◌, [], ◌++◌, length, take, IsSome, Option, All, AllPairs, Contains, Any, sum_by, map, filter, ◌==◌, nat_le}
+use Rattle.std.specs.Prelude.{◌≡◌, ◌≢◌, ◌⊎◌, ◌↔◌, ℕ, ◌+◌, ◌-◌, ◌<◌, ◌≤◌, List, slice_get, slice_index_or, Some, ◌∷◌, [], ◌++◌, length, Option, All, AllPairs, Contains, Any, sum_by, map, filter, ◌==◌, nat_le}
 use Rattle.std.specs.BTreeMap.{BTreeMap, get, btree_map_len}
 use Rattle.cq_base.specs.declared.norm.Norm.{Norm}
 use Rattle.cq_tokens.specs.declared.seen.Seen.{Seen}
@@ -7,9 +7,10 @@ use Rattle.cq_tokens.specs.Packed.{norm_in, seen_cmp}
 use Rattle.cq_base.specs.declared.group.Place.{Place}
 use Rattle.cq_base.specs.declared.group.Group.{Group}
 use Rattle.cq_clones.specs.Lists.{AreAllInOrder}
-use Rattle.cq_clones.specs.Groups.{IsPlace, IsBefore, StandsAt, word_at, token_ahead, token_before, token_behind, file_at, IsGroup, AreSame, kept_of}
+use Rattle.cq_clones.specs.Groups.{IsPlace, IsBefore, StandsAt, word_at, token_ahead, token_before, token_behind, file_at, IsGroup, kept_of}
 use Rattle.cq_base.specs.Places.{first_place}
 use Rattle.cq_refine.specs.declared.spots.Spot.{Spot}
+use Rattle.cq_refine.specs.declared.spots.Marked.{Marked}
 use Rattle.cq_refine.specs.declared.spots.Set.{Set}
 
 -- the mark of a token among different ones: its position there from 1 on, and 0 for no token
@@ -31,19 +32,12 @@ pub record Grows {T : Type 0} (old new : List T) : Type 0 where
   pub more : List T
   pub is : new ≡ old ++ more
 
--- the mark is that of the token, which is among those seen before or is the one behind them now
+-- the mark is that of the token, which is among those seen before or is behind them now
 pub record IsMarked (seen : List Norm) (marks : BTreeMap Seen ℕ) (token : Option Norm) (mark : ℕ) : Type 0 where
   pub tokens : List Norm
   pub grows : Grows seen tokens
-  pub seen_before : mark ≤ length seen → tokens ≡ seen
-  pub one_more : length seen < mark → length tokens ≡ length seen + 1
   pub are : AreMarks marks tokens
   pub is : IsMark tokens token mark
-
--- a spot with the mark of the token behind its word
-pub record Marked : Type 0 where
-  pub spot : Spot
-  pub mark : ℕ
 
 abbrev pub IsSpotBefore : Spot → Spot → Type 0
 IsSpotBefore s t = IsBefore s.place t.place
@@ -72,28 +66,6 @@ pub record AreMarked {T : Type 0} (corpus : List (List T)) (n : ℕ) (marked : L
   pub apart : AllPairs (λ a b. a ≢ b) seen
   pub marks : (x : Marked) → Contains marked x → IsMark seen (token_behind corpus x.spot.place n) x.mark
 
--- the tokens before the spots are there and equal: no group has a word of theirs
-abbrev pub HaveOneLeft : List Spot → Type 0
-HaveOneLeft spots = (n : ℕ) × (0 < n) × All (λ s. s.left ≡ n) spots
-
--- the spots, two or more, may give groups
-abbrev pub MayGive : List Spot → Type 0
-MayGive spots = (2 ≤ length spots) × (HaveOneLeft spots → ⊥)
-
--- the same token stands `n` behind each spot
-abbrev pub GoOnAlike : {T : Type 0} → List (List T) → ℕ → List Spot → Type 0
-GoOnAlike {T} corpus n spots = (t : T) × All (λ s. token_behind corpus s.place n ≡ Some t) spots
-
--- the spots before `at` have the first token `n` behind them, and the one at `at` has not
-pub record DifferAt {T : Type 0} (corpus : List (List T)) (n : ℕ) (spots : List Spot) (at : ℕ) (first token : Option T) : Type 0 where
-  pub within : at < length spots
-  pub front : All (λ s. token_behind corpus s.place n ≡ first) (take at spots)
-  pub some : 0 < at → IsSome first
-  pub first_fits : IsSome first → n + 1 < 2 ^ 32
-  pub token_fits : IsSome token → n + 1 < 2 ^ 32
-  pub here : (d : Spot) → token_behind corpus (slice_index_or spots at d).place n ≡ token
-  pub differ : (d : Spot) → AreSame (token_behind corpus (slice_index_or spots 0 d).place n) (token_behind corpus (slice_index_or spots at d).place n) → ⊥
-
 -- places of a corpus in order, with each place at which the first `least` tokens of one of them stand
 pub record AreEntries {T : Type 0} (corpus : List (List T)) (least : ℕ) (places : List Place) : Type 0 where
   pub ordered : AllPairs IsBefore places
@@ -113,13 +85,13 @@ pub record AreByMark (highest : ℕ) (marked : List Marked) (parts : List (List 
   pub number : length parts ≡ highest
   pub each : (m : ℕ) (d : List Spot) → m < highest → slice_index_or parts m d ≡ part_of (m + 1) marked
 
--- the spots of one mark, which may give groups
+-- the spots of one mark, two or more
 pub record IsPart (depth : ℕ) (marked : List Marked) (highest : ℕ) (s : Set) : Type 0 where
   pub mark : ℕ
   pub some : 0 < mark
   pub low : mark ≤ highest
   pub deeper : s.depth ≡ depth
-  pub gives : MayGive s.spots.items
+  pub several : 2 ≤ length s.spots.items
   pub is : s.spots.items ≡ part_of mark marked
 
 -- the spots of two different marks
@@ -131,11 +103,11 @@ pub record ArePartsOf (marked : List Marked) (s t : Set) : Type 0 where
   pub is : s.spots.items ≡ part_of mark marked
   pub other_is : t.spots.items ≡ part_of other marked
 
--- the parts that may give groups
+-- the sets are followed by the parts of two or more spots
 pub record AreParts (depth : ℕ) (marked : List Marked) (highest : ℕ) (parts : List Set) : Type 0 where
   pub each : (s : Set) → Contains parts s → IsPart depth marked highest s
   pub apart : AllPairs (ArePartsOf marked) parts
-  pub all : (x : Marked) → Contains marked x → 0 < x.mark → x.mark ≤ highest → MayGive (part_of x.mark marked) → Any (λ s. (s.depth ≡ depth) × (s.spots.items ≡ part_of x.mark marked)) parts
+  pub all : (x : Marked) → Contains marked x → 0 < x.mark → x.mark ≤ highest → 2 ≤ length (part_of x.mark marked) → Any (λ s. (s.depth ≡ depth) × (s.spots.items ≡ part_of x.mark marked)) parts
 
 pub record AddsParts (depth : ℕ) (marked : List Marked) (highest : ℕ) (old new : List Set) : Type 0 where
   pub parts : List Set
@@ -147,19 +119,19 @@ pub record AddsParts (depth : ℕ) (marked : List Marked) (highest : ℕ) (old n
 abbrev pub group_of : ℕ → List Spot → Group
 group_of depth spots = record { tokens = depth; places = kept_of depth (map (λ s. s.place) spots) }
 
--- the tokens behind the spots are there and equal
+-- the tokens before the spots are there and equal, or those behind them
+abbrev pub HaveOneLeft : List Spot → Type 0
+HaveOneLeft spots = (n : ℕ) × (0 < n) × All (λ s. s.left ≡ n) spots
+
 abbrev pub HaveOneMark : List Marked → Type 0
 HaveOneMark marked = (n : ℕ) × (0 < n) × All (λ x. x.mark ≡ n) marked
 
--- the places of a set are enough for a group
-pub record AreEnough (least depth : ℕ) (spots : List Spot) : Type 0 where
-  pub long : least ≤ depth
-  pub several : 2 ≤ length (group_of depth spots).places
-
 -- the set gives a group
 pub record IsChosen (least depth : ℕ) (spots : List Spot) (marked : List Marked) : Type 0 where
-  pub enough : AreEnough least depth spots
+  pub long : least ≤ depth
+  pub left : ¬ HaveOneLeft spots
   pub right : ¬ HaveOneMark marked
+  pub several : 2 ≤ length (group_of depth spots).places
 
 -- the group is added, if the set gives one
 abbrev pub AddsGroup : (Chosen : Type 0) → Group → List Group → List Group → Type 0
@@ -175,18 +147,9 @@ pub record IsSplit {T : Type 0} (corpus : List (List T)) (least : ℕ) (set : Se
   pub parts : AddsParts (set.depth + 1) marked highest rest sets
   pub group : AddsGroup (IsChosen least set.depth set.spots.items marked) (group_of set.depth set.spots.items) old new
 
--- the one set of all spots, if they may give groups
+-- the one set of all spots, if they are two or more
 abbrev pub AreFirst : List Spot → List Set → Type 0
-AreFirst spots sets = (MayGive spots × ((s : Set) × (s.depth ≡ 0) × (s.spots.items ≡ spots) × (sets ≡ s ∷ []))) ⊎ ((MayGive spots → ⊥) × (sets ≡ []))
-
--- the spots by the marks of the tokens `n` behind them
-pub record AreParted {T : Type 0} (corpus : List (List T)) (n : ℕ) (spots : List Spot) (parts : List (List Spot)) : Type 0 where
-  pub marked : List Marked
-  pub spots_are : map (λ x. x.spot) marked ≡ spots
-  pub marks : AreMarked corpus n marked
-  pub highest : ℕ
-  pub all : All (λ x. x.mark ≤ highest) marked
-  pub parts_are : AreByMark highest marked parts
+AreFirst spots sets = ((2 ≤ length spots) × ((s : Set) × (s.depth ≡ 0) × (s.spots.items ≡ spots) × (sets ≡ s ∷ []))) ⊎ ((length spots < 2) × (sets ≡ []))
 
 -- exactly the groups with a property, each once
 abbrev pub AreAllOnce : (Group → Type 0) → List Group → Type 0

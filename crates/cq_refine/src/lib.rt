@@ -9,10 +9,8 @@
 #![tactic(auto)]
 
 mod changes;
-mod differences;
 mod entries;
 mod marks;
-mod partition;
 mod refining;
 mod sets;
 mod spots;

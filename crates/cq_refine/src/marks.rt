@@ -1,11 +1,12 @@
 ghost use Rattle.std.specs.Prelude.{◌≡◌, ◌≢◌, ◌⊎◌, ◌+◌, ◌^◌, ◌<◌, ◌≤◌, ◌++◌, List, length, map, option_map, slice_get, slice_index_or, ℕ, Some, IsSome, IfSome, IfNone, IfOk, OnOk, All, AllPairs, Contains};
 ghost use Rattle.cq_base.specs.declared.norm.Norm.{Norm};
+ghost use Rattle.cq_refine.specs.declared.spots.Marked.{Marked};
 ghost use Rattle.cq_clones.specs.Groups.{IsPlace, token_before, token_behind};
 ghost use Rattle.cq_tokens.specs.Corpus.{corpus_of};
 ghost use Rattle.cq_tokens.specs.Packed.{norm_in};
-ghost use Rattle.cq_refine.specs.Sets.{AreMarks, IsMarked, AreSpots};
+ghost use Rattle.cq_refine.specs.Sets.{AreMarks, IsMarked, AreSpots, AreMarked};
 
-use crate::spots::Spot;
+use crate::spots::{Marked, Spot};
 use cq_base::{Memory, Place, Steps};
 use cq_tokens::{FileTokens, Seen, equal_tokens_tie};
 use std::alloc::Global;
@@ -13,7 +14,7 @@ use std::collections::BTreeMap;
 use std::sync::ledger::Ledger;
 
 /// The mark of a token, which is a new one where the token is new. It costs one search among the different tokens.
-pub(crate) fn mark_of<'a>(
+fn mark_of<'a>(
     marks: &mut BTreeMap<Seen<'a>, usize>,
     token: Option<Seen<'a>>,
 ) -> Result<usize, Memory>
@@ -29,7 +30,7 @@ pub(crate) fn mark_of<'a>(
 }
 
 /// The token `n` behind a place, if there is one.
-pub(crate) fn token_behind<'a, L: Ledger>(
+fn token_behind<'a, L: Ledger>(
     files: &'a [FileTokens<L>],
     p: Place,
     n: u32,
@@ -85,4 +86,28 @@ pub(crate) fn spots_of<L: Ledger>(
         spots.push(Spot { place: *p, left })?;
     }
     Ok(spots)
+}
+
+/// The spots with the marks of the tokens `n` behind them.
+pub(crate) fn marked_of<L: Ledger>(
+    alloc: Global,
+    files: &[FileTokens<L>],
+    spots: &[Spot],
+    n: u32,
+    steps: &mut Steps<L>,
+) -> Result<Vec<Marked>, Memory>
+    requires places { All (λ s. IsPlace (corpus_of files.now) s.place) spots.now }
+    ensures spots { IfOk result (λ marked. map (λ x. x.spot) marked.items ≡ spots.now) }
+    ensures marks { IfOk result (λ marked. AreMarked (corpus_of files.now) n marked.items) }
+    ensures fits { IfOk result (λ marked. (x : Marked) → Contains marked.items x → 0 < x.mark → n + 1 < 2 ^ 32) }
+    ensures steps { steps.new ≤ steps.old + length spots.now }
+{
+    let mut marks = BTreeMap::new(alloc);
+    let mut marked = Vec::new(alloc);
+    for s in spots {
+        let token = token_behind(files, s.place, n, steps);
+        let mark = mark_of(&mut marks, token)?;
+        marked.push(Marked { spot: *s, mark })?;
+    }
+    Ok(marked)
 }

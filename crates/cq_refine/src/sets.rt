@@ -1,7 +1,7 @@
-ghost use Rattle.std.specs.Prelude.{◌≡◌, ◌↔◌, ◌<◌, ◌≤◌, ℕ, List, IsTrue, IfOk, OnOk, length, map, All};
-ghost use Rattle.cq_refine.specs.Sets.{Marked, AreByMark, AddsParts, group_of, HaveOneLeft, MayGive, AreEnough, AddsGroup};
+ghost use Rattle.std.specs.Prelude.{◌≡◌, ◌<◌, ◌≤◌, ◌↔◌, ◌⊎◌, IsTrue, IfOk, OnOk, length, map, All, Any};
+ghost use Rattle.cq_refine.specs.Sets.{AreByMark, AddsParts, group_of, HaveOneLeft, HaveOneMark, IsChosen, AddsGroup};
 
-use crate::spots::{Set, Spot};
+use crate::spots::{Marked, Set, Spot};
 use cq_base::{Group, Memory, Place, Places};
 use cq_order::kept;
 use std::alloc::Global;
@@ -13,6 +13,13 @@ fn have_left(spots: &[Spot], left: usize) -> bool
     left > 0 && spots.iter().all(|s| s.left == left)
 }
 
+/// Whether the mark is one of a token, and that of the token behind each spot.
+fn have_mark(marked: &[Marked], mark: usize) -> bool
+    ensures { IsTrue result ↔ ((0 < mark) × All (λ x. x.mark ≡ mark) marked.now) }
+{
+    mark > 0 && marked.iter().all(|x| x.mark == mark)
+}
+
 /// Whether the tokens before the spots are there and equal.
 fn have_one_left(spots: &[Spot]) -> bool
     requires { 0 < length spots.now }
@@ -21,11 +28,19 @@ fn have_one_left(spots: &[Spot]) -> bool
     have_left(spots, spots[0].left)
 }
 
-/// Whether they are two or more, and not all have the same token before them.
-pub(crate) fn may_give(spots: &[Spot]) -> bool
-    ensures { IsTrue result ↔ MayGive spots.now }
+/// Whether the tokens behind the spots are there and equal.
+fn have_one_mark(marked: &[Marked]) -> bool
+    requires { 0 < length marked.now }
+    ensures { IsTrue result ↔ HaveOneMark marked.now }
 {
-    spots.len() > 1 && !have_one_left(spots)
+    have_mark(marked, marked[0].mark)
+}
+
+/// Whether they are two or more.
+pub(crate) fn are_several(spots: &[Spot]) -> bool
+    ensures { IsTrue result ↔ (2 ≤ length spots.now) }
+{
+    spots.len() > 1
 }
 
 /// The places of the spots.
@@ -36,16 +51,19 @@ fn places_of(alloc: Global, spots: &[Spot]) -> Result<Vec<Place>, Memory>
     Ok(places)
 }
 
-/// Adds the group of a set that does not go on by one token, if its places are enough for one.
+/// Adds the group of the set, if it gives one.
 pub(crate) fn add_group(
     alloc: Global,
     set: &Set,
+    marked: &[Marked],
     min: u32,
     groups: &mut Vec<Group>,
 ) -> Result<(), Memory>
-    ensures { OnOk result (AddsGroup (AreEnough min set.now.depth set.now.spots.items) (group_of set.now.depth set.now.spots.items) groups.old.items groups.new.items) }
+    requires spots { 0 < length set.now.spots.items }
+    requires marked { 0 < length marked.now }
+    ensures { OnOk result (AddsGroup (IsChosen min set.now.depth set.now.spots.items marked.now) (group_of set.now.depth set.now.spots.items) groups.old.items groups.new.items) }
 {
-    if set.depth < min {
+    if set.depth < min || have_one_left(&set.spots) || have_one_mark(marked) {
         return Ok(());
     }
     let places = places_of(alloc, &set.spots)?;
@@ -61,16 +79,49 @@ pub(crate) fn add_group(
     Ok(())
 }
 
-/// Adds the parts that may give groups.
+/// The highest of the marks, or 0.
+pub(crate) fn highest(marked: &[Marked]) -> usize
+    ensures all { All (λ x. x.mark ≤ result) marked.now }
+    ensures one { 0 < result → Any (λ x. x.mark ≡ result) marked.now }
+{
+    let mut most = 0;
+    for x in marked {
+        most = most.max(x.mark);
+    }
+    most
+}
+
+/// The spots of each mark, from 1 to the highest. It looks at each spot once.
+fn parts_of(alloc: Global, marked: &[Marked], highest: usize) -> Result<Vec<Vec<Spot>>, Memory>
+    requires { All (λ x. x.mark ≤ highest) marked.now }
+    ensures { IfOk result (λ parts. AreByMark highest marked.now (map (λ part. part.items) parts.items)) }
+{
+    let mut parts = Vec::with_capacity(alloc, highest)?;
+    for _mark in 0..highest {
+        parts.push(Vec::new(alloc))?;
+    }
+    for x in marked {
+        if x.mark > 0 {
+            parts[x.mark - 1].push(x.spot)?;
+        }
+    }
+    Ok(parts)
+}
+
+/// Adds the parts with marks up to the highest that have two or more spots.
 pub(crate) fn push_parts(
-    parts: Vec<Vec<Spot>>,
+    alloc: Global,
+    marked: &[Marked],
+    highest: usize,
     depth: u32,
     sets: &mut Vec<Set>,
 ) -> Result<(), Memory>
-    ensures { OnOk result ((marked : List Marked) (highest : ℕ) → AreByMark highest marked (map (λ part. part.items) parts.items) → AddsParts depth marked highest sets.old.items sets.new.items) }
+    requires { All (λ x. x.mark ≤ highest) marked.now }
+    ensures { OnOk result (AddsParts depth marked.now highest sets.old.items sets.new.items) }
 {
+    let parts = parts_of(alloc, marked, highest)?;
     for spots in parts {
-        if may_give(&spots) {
+        if are_several(&spots) {
             sets.push(Set { depth, spots })?;
         }
     }

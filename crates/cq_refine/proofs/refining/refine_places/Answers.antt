@@ -1,9 +1,7 @@
-use Rattle.std.proofs.Common.{arith, get_or, length, List, subst, sym}
-use Rattle.std.specs.Prelude.{Contains}
-use Rattle.std.proofs.lemmas.List.Elements.{Contains-get_or, Contains-push}
+use Rattle.std.proofs.Common.{arith, get_or, length}
+use Rattle.std.proofs.lemmas.List.Elements.{Contains-get_or}
 use Rattle.cq_tokens.specs.Corpus.{corpus_of}
 use Rattle.cq_refine.specs.declared.spots.Spot.{Spot}
-use Rattle.cq_refine.specs.declared.spots.Set.{Set}
 use Rattle.cq_refine.proofs.Walk.{Given, popped_words, walk_step, walk_begins, walk_ends}
 use Rattle.cq_refine.proofs.Weights.{size_of_files, split_weighs, set_weighs, first_weighs, depth_within, files_are_longest, places_size}
 use Rattle.cq_refine.proofs.refining.refine_places.Goals as goal
@@ -19,10 +17,11 @@ loop-set-init g c =
           omega (arith, h, c.spots_of.ensures.steps),
     )
 
-pub split-requires-clause-gives : goal.split-requires-clause-gives
-split-requires-clause-gives g c =
+pub split-requires-clause-some : goal.split-requires-clause-some
+split-requires-clause-some g c =
     let (all, are, spots, walk) = c.loop-set.invariant.0 in
-    walk.gives c.in-Some.set (subst (λ (ss : List Set). Contains ss c.in-Some.set) (sym c.in-Some.ensures.items) (Contains-push _ c.in-Some.set))
+    let words = popped_words (corpus_of c.args.files.now) c.args.min c.args.places.now all c.loop-set.sets.items _ c.in-Some.set c.loop-set.groups.items c.in-Some.ensures.items walk in
+    omega (arith, words.several)
 
 pub split-requires-clause-places : goal.split-requires-clause-places
 split-requires-clause-places g c =
