@@ -15,7 +15,7 @@ loop-spots-init c =
       left_first c.args.highest c.args.marked.now _ (subst (λ ps. AreByMark c.args.highest c.args.marked.now (map (λ part. part.items) ps)) (sym given) c.in_ok-parts.ensures),
     )
 
-pub loop-spots-preserved-in-Continue-branch-2 : goal.loop-spots-preserved-in-Continue-1
+pub loop-spots-preserved-in-Continue-branch-2 : goal.loop-spots-preserved-in-Continue-branch-2
 loop-spots-preserved-in-Continue-branch-2 c =
     let (m, before, left) = c.loop-spots.invariant in
     let s : Set = record { depth = c.args.depth; spots = c.in-Some.spots } in
