@@ -14,7 +14,7 @@ use Rattle.std.proofs.lemmas.List.Sums.{sum_by_push}
 use Rattle.cq_base.proofs.Lists.{Contains-nil}
 use Rattle.cq_refine.specs.declared.spots.Marked.{Marked}
 use Rattle.cq_refine.specs.declared.spots.Set.{Set}
-use Rattle.cq_refine.specs.Sets.{part_of, AreByMark, IsPart, ArePartsOf, AddsParts}
+use Rattle.cq_refine.specs.Sets.{part_of, AreByMark, IsPart, ArePartsOf, MayGive, AddsParts}
 
 -- the marks up to m, and those that are m + 1
 count_more : (m : ℕ) (marked : List Marked) → length (filter (λ x. nat_le x.mark m) marked) + length (part_of (m + 1) marked) ≤ length (filter (λ x. nat_le x.mark (m + 1)) marked)
@@ -142,12 +142,12 @@ any_of : (P : Set → Type 0) (sets : List Set) (s : Set) → Contains sets s �
 any_of P sets s (k, within, at) h = (k, s, within, at, h)
 
 higher : {depth m : ℕ} {marked : List Marked} {s : Set} → IsPart depth marked m s → IsPart depth marked (m + 1) s
-higher p = record { mark = p.mark; some = p.some; low = omega (arith, p.low); deeper = p.deeper; several = p.several; is = p.is }
+higher p = record { mark = p.mark; some = p.some; low = omega (arith, p.low); deeper = p.deeper; gives = p.gives; is = p.is }
 
--- a part of two or more spots is added
-pub part_more : (depth : ℕ) (marked : List Marked) (m : ℕ) (old new more : List Set) (s : Set) → s.depth ≡ depth → s.spots.items ≡ part_of (m + 1) marked → 2 ≤ length s.spots.items → more ≡ new ++ s ∷ [] → AddsParts depth marked m old new → AddsParts depth marked (m + 1) old more
-part_more depth marked m old new more s s_depth s_is several more_is before =
-    let here : IsPart depth marked (m + 1) s = record { mark = m + 1; some = omega arith; low = omega arith; deeper = s_depth; several = several; is = s_is } in record {
+-- a part that may give groups is added
+pub part_more : (depth : ℕ) (marked : List Marked) (m : ℕ) (old new more : List Set) (s : Set) → s.depth ≡ depth → s.spots.items ≡ part_of (m + 1) marked → MayGive s.spots.items → more ≡ new ++ s ∷ [] → AddsParts depth marked m old new → AddsParts depth marked (m + 1) old more
+part_more depth marked m old new more s s_depth s_is gives more_is before =
+    let here : IsPart depth marked (m + 1) s = record { mark = m + 1; some = omega arith; low = omega arith; deeper = s_depth; gives = gives; is = s_is } in record {
       parts = before.parts ++ s ∷ [];
       is = more_is ∙ ap (λ xs. xs ++ s ∷ []) before.is ∙ append_assoc old before.parts (s ∷ []);
       are = record {
@@ -167,8 +167,8 @@ part_more depth marked m old new more s s_depth s_is several more_is before =
       size = omega (arith, before.size, count_more m marked, sum_by_push (λ (z : Set). length z.spots.items) before.parts s, ap length s_is);
     }
 
--- a part of fewer is not
-pub part_skipped : (depth : ℕ) (marked : List Marked) (m : ℕ) (old new : List Set) → length (part_of (m + 1) marked) < 2 → AddsParts depth marked m old new → AddsParts depth marked (m + 1) old new
+-- another is not
+pub part_skipped : (depth : ℕ) (marked : List Marked) (m : ℕ) (old new : List Set) → (MayGive (part_of (m + 1) marked) → ⊥) → AddsParts depth marked m old new → AddsParts depth marked (m + 1) old new
 part_skipped depth marked m old new few before = record {
   parts = before.parts;
   is = before.is;
@@ -177,7 +177,7 @@ part_skipped depth marked m old new few before = record {
     apart = before.are.apart;
     all = λ x c some low enough. ⊎_elim
         (λ lt. before.are.all x c some (omega arith) enough)
-        (λ ge. let e : m + 1 ≡ x.mark = omega arith in let f = ap (λ (k : ℕ). length (part_of k marked)) e in absurd (omega (arith, f)))
+        (λ ge. let e : x.mark ≡ m + 1 = omega arith in absurd (few (subst (λ (k : ℕ). MayGive (part_of k marked)) e enough)))
         (cases_lt x.mark (m + 1));
   };
   size = omega (arith, before.size, count_more m marked);

@@ -15,7 +15,7 @@ use Rattle.cq_clones.proofs.Order.{IsBefore-apart}
 use Rattle.cq_clones.proofs.GroupLaws.{within_from_standing, word_of_group}
 use Rattle.cq_refine.specs.declared.spots.Spot.{Spot}
 use Rattle.cq_refine.specs.declared.spots.Marked.{Marked}
-use Rattle.cq_refine.specs.Sets.{IsSpotBefore, AreSpots, AreMarked, IsWordSet, AreEntries}
+use Rattle.cq_refine.specs.Sets.{IsSpotBefore, AreSpots, AreMarked, IsWordSet, AreEntries, HaveOneLeft}
 use Rattle.cq_refine.proofs.Marking.{same_from_marks}
 use Rattle.cq_refine.proofs.SetLaws.{two_places}
 use Rattle.cq_refine.proofs.Words.{stands_front}
@@ -114,6 +114,13 @@ places_of_set corpus least d places all spots g entries are set some long at =
     (subst (λ w. AreAllInOrder IsBefore (StandsAt corpus w) at.is.all) e at.is.occurrences)
     (set_occurrences corpus least places all spots d entries are set some long) in
     at.is.places ∙ ap₂ kept_of at.tokens same
+
+-- spots with different tokens before them don't have one
+pub differ_before : {T : Type 0} (corpus : List (List T)) (all spots : List Spot) (s t : Spot) → AreSpots corpus all → Contains all s → Contains all t → Contains spots s → Contains spots t → (AreSame (token_before corpus s.place) (token_before corpus t.place) → ⊥) → HaveOneLeft spots → ⊥
+differ_before corpus all spots s t are s_all t_all s_in t_in differ (n, positive, one) =
+    let u = All-contains (λ (z : Spot). z.left ≡ n) spots s one s_in in
+    let v = All-contains (λ (z : Spot). z.left ≡ n) spots t one t_in in
+    differ (same_from_marks are.seen _ _ s.left t.left (are.marks s s_all) (are.marks t t_all) (u ∙ sym v) (omega (arith, u, positive)))
 
 -- it has none, where the tokens before its places are all there and equal, or those behind
 pub none_by_left : {T : Type 0} (corpus : List (List T)) (least d n : ℕ) (places : List Place) (all spots : List Spot) (g : Group) → AreEntries corpus least places → map (λ s. s.place) all ≡ places → AreSpots corpus all → (set : IsWordSet corpus all d spots) → 1 ≤ least → least ≤ d → 0 < n → All (λ s. s.left ≡ n) spots → IsGroupAt corpus least d spots g → ⊥

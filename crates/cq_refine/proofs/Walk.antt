@@ -9,16 +9,16 @@ use Rattle.std.proofs.lemmas.List.Kept.{AllPairs-cons}
 use Rattle.std.proofs.lemmas.Option.{slice_get_cases}
 use Rattle.cq_base.specs.declared.group.Place.{Place}
 use Rattle.cq_base.specs.declared.group.Group.{Group}
-use Rattle.cq_clones.specs.Groups.{IsBefore, word_at, StandsAt, token_behind, token_ahead, kept_of, IsGroup}
+use Rattle.cq_clones.specs.Groups.{IsBefore, word_at, StandsAt, token_behind, token_ahead, token_before, AreSame, kept_of, IsGroup}
 use Rattle.cq_base.specs.Places.{first_place}
 use Rattle.cq_base.proofs.Lists.{Contains-here, Contains-there, Contains-cases, Contains-nil, Contains-map, Contains-from_map, Contains-filter, Contains-from_filter, AllPairs-head, AllPairs-tail, AllPairs-append, AllPairs-from_map}
 use Rattle.cq_clones.proofs.GroupLaws.{within_from_standing, word_of_group}
 use Rattle.cq_refine.specs.declared.spots.Spot.{Spot}
 use Rattle.cq_refine.specs.declared.spots.Marked.{Marked}
 use Rattle.cq_refine.specs.declared.spots.Set.{Set}
-use Rattle.cq_refine.specs.Sets.{IsMark, AreSpots, AreMarked, IsWordSet, AreEntries, IsGroupFrom, part_of, IsPart, ArePartsOf, AreParts, group_of, IsChosen, IsSplit, AreFirst, AreAllOnce}
-use Rattle.cq_refine.proofs.Marking.{same_from_marks, marks_of_token}
-use Rattle.cq_refine.proofs.SetGroups.{set_occurrences, set_is_maximal, IsGroupAt, places_of_set, none_by_left, none_by_mark}
+use Rattle.cq_refine.specs.Sets.{IsMark, AreSpots, AreMarked, IsWordSet, AreEntries, IsGroupFrom, part_of, IsPart, ArePartsOf, AreParts, group_of, MayGive, IsChosen, IsSplit, AreFirst, AreAllOnce}
+use Rattle.cq_refine.proofs.Marking.{marks_of_token}
+use Rattle.cq_refine.proofs.SetGroups.{set_occurrences, set_is_maximal, IsGroupAt, places_of_set, differ_before, none_by_left, none_by_mark}
 use Rattle.cq_refine.proofs.WordSets.{part_is_word_set}
 use Rattle.cq_refine.proofs.Words.{stands_less, stands_front}
 
@@ -69,6 +69,7 @@ pub record Covers (s : Set) (g : Group) : Type 0 where
 -- and none of the found ones can.
 pub record Walk {T : Type 0} (corpus : List (List T)) (least : ℕ) (places : List Place) (all : List Spot) (sets : List Set) (groups : List Group) : Type 0 where
   pub words : (s : Set) → Contains sets s → IsWordSet corpus all s.depth s.spots.items
+  pub gives : (s : Set) → Contains sets s → MayGive s.spots.items
   pub apart : AllPairs AreApart sets
   pub sound : (g : Group) → Contains groups g → IsGroupFrom corpus least places g
   pub complete : (g : Group) → IsGroupFrom corpus least places g → Contains groups g ⊎ Any (λ s. Covers s g) sets
@@ -220,17 +221,18 @@ deeper {T} corpus least places all set marked highest parts g given words spots_
         let token : token_behind corpus x.0.spot.place d ≡ Some t =
         ap (λ (z : Spot). token_behind corpus z.place d) x.2 ∙ ap (token_behind corpus s.0.place) (sym words.long) ∙ less.1 in
         let mark : IsMark marks.seen (Some t) x.0.mark = subst (λ o. IsMark marks.seen o x.0.mark) token (marks.marks x.0 x.1) in
-        let part : (p : Place) → StandsAt corpus is.word p → (z : Spot) × Contains (part_of x.0.mark marked) z × (z.place ≡ p) =
+        let part : (p : Place) → StandsAt corpus is.word p → (z : Spot) × Contains (part_of x.0.mark marked) z × (z.place ≡ p) × Contains all z =
         λ p stands.
         let z = spot_of places all p given.are (place_of_group corpus least places g p given.entries given.some is first stands) in
-        (z.0, in_part corpus all set.spots.items d x.0.mark marked t z.0 words spots_are marks mark z.1 (subst (StandsAt corpus (words.word ++ t ∷ [])) (sym z.2) (longer p stands)), z.2) in
+        (z.0, in_part corpus all set.spots.items d x.0.mark marked t z.0 words spots_are marks mark z.1 (subst (StandsAt corpus (words.word ++ t ∷ [])) (sym z.2) (longer p stands)), z.2, z.1) in
         let (p, q, pair) = is.repeated in
         let a = part p pair.first in
         let b = part q pair.second in
         let differ : a.0 ≢ b.0 = λ same. pair.different (sym a.2 ∙ ap (λ (z : Spot). z.place) same ∙ b.2) in
+        let apart : AreSame (token_before corpus a.0.place) (token_before corpus b.0.place) → ⊥ = λ same. pair.left (subst (λ w. AreSame (token_before corpus w) (token_before corpus q)) a.2 (subst (λ w. AreSame (token_before corpus a.0.place) (token_before corpus w)) b.2 same)) in
         let several : 2 ≤ length (part_of x.0.mark marked) = two_in (part_of x.0.mark marked) a.0 b.0 a.1 b.1 differ in
         let some : 0 < x.0.mark = (marks_of_token marks.seen t x.0.mark x.0.mark marks.apart mark mark).1 in
-        let (k, s', within, at, h) = are.all x.0 x.1 some (All-contains (λ (z : Marked). z.mark ≤ highest) marked x.0 low x.1) several in
+        let (k, s', within, at, h) = are.all x.0 x.1 some (All-contains (λ (z : Marked). z.mark ≤ highest) marked x.0 low x.1) (several, differ_before corpus all (part_of x.0.mark marked) a.0 b.0 given.spots a.3 b.3 a.1 b.1 apart) in
         let here' = part f f_stands in (
           k,
           s',
@@ -278,12 +280,13 @@ walk_step {T} corpus least places all sets rest more set old new given popped sp
       (λ h. walk.words s (in_rest s h))
       (λ h. part_words s (split.parts.are.each s h))
       (in_more s c);
+  gives = λ s c. ⊎_elim (λ h. walk.gives s (in_rest s h)) (λ h. (split.parts.are.each s h).gives) (in_more s c);
   apart = subst (AllPairs AreApart) (sym split.parts.is)
       (AllPairs-append AreApart rest split.parts.parts
       (AllPairs-front AreApart rest (set ∷ []) popped_apart)
       (λ i j d lt within.
       let ij = split.parts.are.apart i j d lt within in
-      parts_apart corpus set.depth split.marked set.spots.items _ _ split.spots split.marks (split.parts.are.each _ (Contains-get_or split.parts.parts i d (omega (arith, lt, within)))).several ij)
+      parts_apart corpus set.depth split.marked set.spots.items _ _ split.spots split.marks (split.parts.are.each _ (Contains-get_or split.parts.parts i d (omega (arith, lt, within)))).gives.0 ij)
       (λ s t c e p in_s in_t. AllPairs-last AreApart rest set s popped_apart c p in_s (part_in t (split.parts.are.each t e) p in_t)));
   sound = λ g c. ⊎_elim
       (λ h. walk.sound g h)
@@ -346,7 +349,7 @@ walk_step {T} corpus least places all sets rest more set old new given popped sp
 
     part_words : (s : Set) → IsPart (set.depth + 1) split.marked split.highest s → IsWordSet corpus all s.depth s.spots.items
     part_words s part =
-        let several : 2 ≤ length (part_of part.mark split.marked) = omega (arith, part.several, ap length part.is) in
+        let several : 2 ≤ length (part_of part.mark split.marked) = omega (arith, part.gives.0, ap length part.is) in
         let (t, is) = token_of_part corpus set.depth part.mark split.marked split.marks part.some several in
         subst (λ n. IsWordSet corpus all n s.spots.items) (sym part.deeper)
         (subst (IsWordSet corpus all (set.depth + 1)) (sym part.is)
@@ -385,8 +388,12 @@ walk_step {T} corpus least places all sets rest more set old new given popped sp
 pub walk_begins : {T : Type 0} (corpus : List (List T)) (least : ℕ) (places : List Place) (all : List Spot) (sets : List Set) (groups : List Group) → Given corpus least places all → AreFirst all sets → groups ≡ [] → Walk corpus least places all sets groups
 walk_begins {T} corpus least places all sets groups given first none = record {
   words = λ s c. ⊎_elim
-      (λ (several, (f, depth, spots, is)). subst (λ (z : Set). IsWordSet corpus all z.depth z.spots.items) (only f s (subst (λ ss. Contains ss s) is c))
-      (subst (λ n. IsWordSet corpus all n f.spots.items) (sym depth) (subst (IsWordSet corpus all 0) (sym spots) (all_words several))))
+      (λ (gives, (f, depth, spots, is)). subst (λ (z : Set). IsWordSet corpus all z.depth z.spots.items) (only f s (subst (λ ss. Contains ss s) is c))
+      (subst (λ n. IsWordSet corpus all n f.spots.items) (sym depth) (subst (IsWordSet corpus all 0) (sym spots) (all_words gives.0))))
+      (λ (few, is). absurd (Contains-nil s (subst (λ ss. Contains ss s) is c)))
+      first;
+  gives = λ s c. ⊎_elim
+      (λ (gives, (f, depth, spots, is)). subst (λ (z : Set). MayGive z.spots.items) (only f s (subst (λ ss. Contains ss s) is c)) (subst MayGive (sym spots) gives))
       (λ (few, is). absurd (Contains-nil s (subst (λ ss. Contains ss s) is c)))
       first;
   apart = λ i j d lt within. ⊎_elim
@@ -400,7 +407,7 @@ walk_begins {T} corpus least places all sets groups given first none = record {
         long = omega (arith, depth);
         here = subst (λ (ss : List Spot). Contains (map (λ s. s.place) ss) (first_place g)) (sym spots) (subst (λ (ps : List Place). Contains ps (first_place g)) (sym given.are) here);
       })))
-      (λ (few, sets_are). absurd (two g is here few))
+      (λ (few, sets_are). absurd (few (two g is here)))
       first;
   fresh = λ g s c e h. absurd (nothing g c);
   different = λ i j d lt within. absurd (omega (arith, within, ap length none));
@@ -423,13 +430,19 @@ walk_begins {T} corpus least places all sets groups given first none = record {
       };
     }
 
-    two : (g : Group) → IsGroup corpus least g → Contains places (first_place g) → length all < 2 → ⊥
-    two g is here few =
+    two : (g : Group) → IsGroup corpus least g → Contains places (first_place g) → MayGive all
+    two g is here =
         let (p, q, pair) = is.repeated in
-        let several = two_in places p q
-        (place_of_group corpus least places g p given.entries given.some is here pair.first)
-        (place_of_group corpus least places g q given.entries given.some is here pair.second) pair.different in
-        omega (arith, several, few, ap length given.are, length-map all (λ (s : Spot). s.place))
+        let p_in = place_of_group corpus least places g p given.entries given.some is here pair.first in
+        let q_in = place_of_group corpus least places g q given.entries given.some is here pair.second in
+        let a = spot_of places all p given.are p_in in
+        let b = spot_of places all q given.are q_in in
+        let several = two_in places p q p_in q_in pair.different in
+        let apart : AreSame (token_before corpus a.0.place) (token_before corpus b.0.place) → ⊥ =
+        λ same. pair.left (subst (λ w. AreSame (token_before corpus w) (token_before corpus q)) a.2 (subst (λ w. AreSame (token_before corpus a.0.place) (token_before corpus w)) b.2 same)) in (
+          omega (arith, several, ap length given.are, length-map all (λ (s : Spot). s.place)),
+          differ_before corpus all all a.0 b.0 given.spots a.1 b.1 a.1 b.1 apart,
+        )
 
 -- the end
 pub walk_ends : {T : Type 0} (corpus : List (List T)) (least : ℕ) (places : List Place) (all : List Spot) (sets : List Set) (groups : List Group) → length sets ≡ 0 → Walk corpus least places all sets groups → AreAllOnce (IsGroupFrom corpus least places) groups

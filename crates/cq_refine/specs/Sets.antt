@@ -66,6 +66,14 @@ pub record AreMarked {T : Type 0} (corpus : List (List T)) (n : ℕ) (marked : L
   pub apart : AllPairs (λ a b. a ≢ b) seen
   pub marks : (x : Marked) → Contains marked x → IsMark seen (token_behind corpus x.spot.place n) x.mark
 
+-- the tokens before the spots are there and equal: no group has two of them that show it maximal
+abbrev pub HaveOneLeft : List Spot → Type 0
+HaveOneLeft spots = (n : ℕ) × (0 < n) × All (λ s. s.left ≡ n) spots
+
+-- the spots, two or more, may give groups
+abbrev pub MayGive : List Spot → Type 0
+MayGive spots = (2 ≤ length spots) × (HaveOneLeft spots → ⊥)
+
 -- places of a corpus in order, with each place at which the first `least` tokens of one of them stand
 pub record AreEntries {T : Type 0} (corpus : List (List T)) (least : ℕ) (places : List Place) : Type 0 where
   pub ordered : AllPairs IsBefore places
@@ -85,13 +93,13 @@ pub record AreByMark (highest : ℕ) (marked : List Marked) (parts : List (List 
   pub number : length parts ≡ highest
   pub each : (m : ℕ) (d : List Spot) → m < highest → slice_index_or parts m d ≡ part_of (m + 1) marked
 
--- the spots of one mark, two or more
+-- the spots of one mark, which may give groups
 pub record IsPart (depth : ℕ) (marked : List Marked) (highest : ℕ) (s : Set) : Type 0 where
   pub mark : ℕ
   pub some : 0 < mark
   pub low : mark ≤ highest
   pub deeper : s.depth ≡ depth
-  pub several : 2 ≤ length s.spots.items
+  pub gives : MayGive s.spots.items
   pub is : s.spots.items ≡ part_of mark marked
 
 -- the spots of two different marks
@@ -103,11 +111,11 @@ pub record ArePartsOf (marked : List Marked) (s t : Set) : Type 0 where
   pub is : s.spots.items ≡ part_of mark marked
   pub other_is : t.spots.items ≡ part_of other marked
 
--- the sets are followed by the parts of two or more spots
+-- the parts that may give groups
 pub record AreParts (depth : ℕ) (marked : List Marked) (highest : ℕ) (parts : List Set) : Type 0 where
   pub each : (s : Set) → Contains parts s → IsPart depth marked highest s
   pub apart : AllPairs (ArePartsOf marked) parts
-  pub all : (x : Marked) → Contains marked x → 0 < x.mark → x.mark ≤ highest → 2 ≤ length (part_of x.mark marked) → Any (λ s. (s.depth ≡ depth) × (s.spots.items ≡ part_of x.mark marked)) parts
+  pub all : (x : Marked) → Contains marked x → 0 < x.mark → x.mark ≤ highest → MayGive (part_of x.mark marked) → Any (λ s. (s.depth ≡ depth) × (s.spots.items ≡ part_of x.mark marked)) parts
 
 pub record AddsParts (depth : ℕ) (marked : List Marked) (highest : ℕ) (old new : List Set) : Type 0 where
   pub parts : List Set
@@ -119,10 +127,7 @@ pub record AddsParts (depth : ℕ) (marked : List Marked) (highest : ℕ) (old n
 abbrev pub group_of : ℕ → List Spot → Group
 group_of depth spots = record { tokens = depth; places = kept_of depth (map (λ s. s.place) spots) }
 
--- the tokens before the spots are there and equal, or those behind them
-abbrev pub HaveOneLeft : List Spot → Type 0
-HaveOneLeft spots = (n : ℕ) × (0 < n) × All (λ s. s.left ≡ n) spots
-
+-- the tokens behind the spots are there and equal
 abbrev pub HaveOneMark : List Marked → Type 0
 HaveOneMark marked = (n : ℕ) × (0 < n) × All (λ x. x.mark ≡ n) marked
 
@@ -147,9 +152,9 @@ pub record IsSplit {T : Type 0} (corpus : List (List T)) (least : ℕ) (set : Se
   pub parts : AddsParts (set.depth + 1) marked highest rest sets
   pub group : AddsGroup (IsChosen least set.depth set.spots.items marked) (group_of set.depth set.spots.items) old new
 
--- the one set of all spots, if they are two or more
+-- the one set of all spots, if they may give groups
 abbrev pub AreFirst : List Spot → List Set → Type 0
-AreFirst spots sets = ((2 ≤ length spots) × ((s : Set) × (s.depth ≡ 0) × (s.spots.items ≡ spots) × (sets ≡ s ∷ []))) ⊎ ((length spots < 2) × (sets ≡ []))
+AreFirst spots sets = (MayGive spots × ((s : Set) × (s.depth ≡ 0) × (s.spots.items ≡ spots) × (sets ≡ s ∷ []))) ⊎ ((MayGive spots → ⊥) × (sets ≡ []))
 
 -- exactly the groups with a property, each once
 abbrev pub AreAllOnce : (Group → Type 0) → List Group → Type 0

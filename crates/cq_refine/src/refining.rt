@@ -4,19 +4,19 @@ ghost use Rattle.cq_tokens.specs.Corpus.{corpus_of};
 ghost use Rattle.cq_refine.specs.Sets.{AreEntries, IsGroupFrom, IsLongest, IsSplit, AreFirst, AreAllOnce};
 
 use crate::marks::{marked_of, spots_of};
-use crate::sets::{add_group, are_several, highest, push_parts};
+use crate::sets::{add_group, highest, may_give, push_parts};
 use crate::spots::{Set, Spot};
 use cq_base::{Group, Memory, Place, Steps};
 use cq_tokens::FileTokens;
 use std::alloc::Global;
 use std::sync::ledger::Ledger;
 
-/// The set of all spots, if they are two or more.
+/// The set of all spots, if they may give groups.
 fn first_sets(alloc: Global, spots: Vec<Spot>) -> Result<Vec<Set>, Memory>
     ensures { IfOk result (λ sets. AreFirst spots.items sets.items) }
 {
     let mut sets = Vec::new(alloc);
-    if are_several(&spots) {
+    if may_give(&spots) {
         sets.push(Set { depth: 0, spots })?;
     }
     Ok(sets)

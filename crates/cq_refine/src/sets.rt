@@ -1,5 +1,5 @@
 ghost use Rattle.std.specs.Prelude.{◌≡◌, ◌<◌, ◌≤◌, ◌↔◌, ◌⊎◌, IsTrue, IfOk, OnOk, length, map, All, Any};
-ghost use Rattle.cq_refine.specs.Sets.{AreByMark, AddsParts, group_of, HaveOneLeft, HaveOneMark, IsChosen, AddsGroup};
+ghost use Rattle.cq_refine.specs.Sets.{AreByMark, AddsParts, group_of, HaveOneLeft, HaveOneMark, MayGive, IsChosen, AddsGroup};
 
 use crate::spots::{Marked, Set, Spot};
 use cq_base::{Group, Memory, Place, Places};
@@ -36,11 +36,11 @@ fn have_one_mark(marked: &[Marked]) -> bool
     have_mark(marked, marked[0].mark)
 }
 
-/// Whether they are two or more.
-pub(crate) fn are_several(spots: &[Spot]) -> bool
-    ensures { IsTrue result ↔ (2 ≤ length spots.now) }
+/// Whether they are two or more, and not all have one token before them.
+pub(crate) fn may_give(spots: &[Spot]) -> bool
+    ensures { IsTrue result ↔ MayGive spots.now }
 {
-    spots.len() > 1
+    spots.len() > 1 && !have_one_left(spots)
 }
 
 /// The places of the spots.
@@ -108,7 +108,7 @@ fn parts_of(alloc: Global, marked: &[Marked], highest: usize) -> Result<Vec<Vec<
     Ok(parts)
 }
 
-/// Adds the parts with marks up to the highest that have two or more spots.
+/// Adds the parts with marks up to the highest that may give groups.
 pub(crate) fn push_parts(
     alloc: Global,
     marked: &[Marked],
@@ -121,7 +121,7 @@ pub(crate) fn push_parts(
 {
     let parts = parts_of(alloc, marked, highest)?;
     for spots in parts {
-        if are_several(&spots) {
+        if may_give(&spots) {
             sets.push(Set { depth, spots })?;
         }
     }

@@ -1,14 +1,11 @@
 use Rattle.std.proofs.Common.{List, ◌≤◌, ◌<◌, ⊎_elim, ◌≡◌, ◌+◌, ◌∙◌, ap, map, length, refl, sym, subst}
-use Rattle.std.proofs.lemmas.Bool.{iff_false, cases_lt}
+use Rattle.std.proofs.lemmas.Bool.{iff_false}
 use Rattle.std.specs.Vec.Iter.{into_iter_items}
 use Rattle.cq_refine.specs.declared.spots.Spot.{Spot}
 use Rattle.cq_refine.specs.declared.spots.Set.{Set}
-use Rattle.cq_refine.specs.Sets.{part_of, AreByMark}
+use Rattle.cq_refine.specs.Sets.{AreByMark, MayGive}
 use Rattle.cq_refine.proofs.Parts.{AreLeft, left_first, left_next, no_parts, part_more, part_skipped}
 use Rattle.cq_refine.proofs.sets.push_parts.Goals as goal
-
-few : (ss : List Spot) → (2 ≤ length ss → ⊥) → length ss < 2
-few ss h = ⊎_elim (λ below. below) (λ above. absurd (h above)) (cases_lt (length ss) 2)
 
 pub loop-spots-init : goal.loop-spots-init
 loop-spots-init c =
@@ -24,11 +21,11 @@ loop-spots-preserved-in-Continue-branch-2 c =
     let s : Set = record { depth = c.args.depth; spots = c.in-Some.spots } in
     let steps = ap (map (λ part. part.items)) c.in-Some.ensures.steps.0 in
     let next = left_next m c.args.highest c.args.marked.now c.in-Some.spots.items _ (subst (AreLeft m c.args.highest c.args.marked.now) steps left) in
-    (m + 1, part_more c.args.depth c.args.marked.now m c.args.sets.now.items c.loop-spots.sets.items _ s refl next.0 (subst (λ (ss : List Spot). 2 ≤ length ss) c.deref.ensures.value (c.are_several.ensures.0 c.if-are_several.true)) c.in_ok-push.ensures.items before, next.1)
+    (m + 1, part_more c.args.depth c.args.marked.now m c.args.sets.now.items c.loop-spots.sets.items _ s refl next.0 (subst MayGive c.deref.ensures.value (c.may_give.ensures.0 c.if-may_give.true)) c.in_ok-push.ensures.items before, next.1)
 
 pub loop-spots-preserved : goal.loop-spots-preserved
 loop-spots-preserved c =
     let (m, before, left) = c.loop-spots.invariant in
     let steps = ap (map (λ part. part.items)) c.in-Some.ensures.steps.0 in
     let next = left_next m c.args.highest c.args.marked.now c.in-Some.spots.items _ (subst (AreLeft m c.args.highest c.args.marked.now) steps left) in
-    (m + 1, part_skipped c.args.depth c.args.marked.now m c.args.sets.now.items c.loop-spots.sets.items (few (part_of (m + 1) c.args.marked.now) (λ h. iff_false c.are_several.ensures c.if-are_several.false (subst (λ (ss : List Spot). 2 ≤ length ss) (sym next.0 ∙ sym c.deref.ensures.value) h))) before, next.1)
+    (m + 1, part_skipped c.args.depth c.args.marked.now m c.args.sets.now.items c.loop-spots.sets.items (λ h. iff_false c.may_give.ensures c.if-may_give.false (subst MayGive (sym c.deref.ensures.value) (subst MayGive (sym next.0) h))) before, next.1)
