@@ -1,14 +1,17 @@
 -- A shard of a core that applies the next change.
-use Rattle.std.proofs.Common.{◌≡◌, ◌↔◌, ℕ, ◌+◌, ◌-◌, ◌<◌, ◌≤◌, Bool, true, false, not, ◌||◌, List, length, map, get_or, set, Option, Some, None, Global, refl, sym, ap, ◌∙◌, subst, ⊎_elim, arith, true≢false}
-use Rattle.std.specs.Prelude.{IfSome, IsSome, option_map, slice_index}
+use Rattle.std.proofs.Common.{◌≡◌, ◌↔◌, ℕ, zero, suc, ◌+◌, ◌-◌, ◌%◌, ◌<◌, ◌≤◌, Bool, true, false, cond, not, ◌||◌, List, [], ◌∷◌, ◌++◌, length, map, get_or, set, Option, Some, None, Global, refl, sym, ap, ◌∙◌, subst, subst₂, ⊎_elim, arith, true≢false}
+use Rattle.std.specs.Prelude.{IfSome, IsSome, option_map, slice_index, count_by, ◌==◌}
 use Rattle.std.specs.Arc.{arc_value}
 use Rattle.std.specs.declared.sync.Arc.{Arc}
 use Rattle.std.proofs.lemmas.Bool.{cases_eq}
 use Rattle.std.proofs.lemmas.Option.{slice_get-get_or}
 use Rattle.std.proofs.lemmas.List.{length-map, length-set, map-set, set-get_or, get_or-map, get_or-set_same, get_or-set_other}
 use Rattle.std.proofs.lemmas.List.Elements.{All-set}
-use Rattle.std.proofs.lemmas.List.Sums.{prefix_len-le-length, prefix_len_passes}
+use Rattle.std.proofs.lemmas.List.Sums.{prefix_len-le-length, prefix_len_passes, sum_by-cons}
+use Rattle.cq_base.proofs.Bools.{or-implies}
 use Rattle.cq_base.specs.declared.lang.Lang.{Lang}
+use Rattle.cq_base.specs.declared.settings.Settings.{Settings}
+use Rattle.cq_base.specs.declared.entry.Entry.{Entry}
 use Rattle.cq_base.specs.declared.change.Change.{Change}
 use Rattle.cq_base.specs.declared.change.Change.TheVariants.{Put, Drop, Gate}
 use Rattle.cq_history.specs.Changes.{change_at, is_put}
@@ -17,24 +20,21 @@ use Rattle.cq_history.specs.Core.{Core, stepped}
 use Rattle.cq_history.specs.Core.Step.{Applies}
 use Rattle.cq_history.proofs.Cores.{step_is_sound}
 use Rattle.cq_shard.specs.Shard as shard
-use Rattle.cq_shard.specs.Shard.{Contents}
+use Rattle.cq_shard.specs.Shard.{Contents, entries_of, brought}
 use Rattle.cq_board.specs.Answers.{IsDonePut}
 use Rattle.cq_board.specs.Slots as slots
 use Rattle.cq_board.specs.Stands as board
-use Rattle.cq_core.specs.Machine.{StandsFor, Takes, applied_of, floor_of}
+use Rattle.cq_core.specs.Cores.{StandsFor, AreNumbered, applied_of, floor_of}
+use Rattle.cq_core.specs.Steps.{Takes, HasSoMany, HasNext}
 use Rattle.cq_core.proofs.Stepping.{core}
 
 -- ---- the work that is given
-
-or_false : (a b : Bool) → (not a || b) ≡ true → a ≡ true → b ≡ true
-or_false true b h e = h
-or_false false b h e = absurd (cc)
 
 module _ {W : Type 0} (IsWork : Lang → List ℕ → W → Type 0) where
   given : (c : Change) (finished : Bool) (work : Option (Arc W Global)) → (not (is_put c) || finished) ≡ true → (IsSome work → (is_put c ≡ true) × (finished ≡ true)) → ((is_put c ≡ true) × (finished ≡ true) → IsSome work) →
       IfSome work (λ w. slots.IsWorkFor IsWork c (arc_value w)) → shard.IsWorkFor IsWork (Some c) (option_map arc_value work)
   given (Put project path lang text) finished (Some w) done some there is = is
-  given (Put project path lang text) finished None done some there is = absurd (true≢false (sym (there (refl, or_false true finished done refl))))
+  given (Put project path lang text) finished None done some there is = absurd (true≢false (sym (there (refl, or-implies true finished done refl))))
   given (Drop project path) finished (Some w) done some there is = absurd (true≢false (sym (some refl).0))
   given (Drop project path) finished None done some there is = tt
   given (Gate project conditions) finished (Some w) done some there is = absurd (true≢false (sym (some refl).0))
@@ -52,6 +52,73 @@ module _ {W : Type 0} (IsWork : Lang → List ℕ → W → Type 0) where
       subst (λ o. shard.IsWorkFor IsWork o (option_map arc_value work)) (sym here)
       (given (slot_of s r).change (slot_of s r).finished work done
       (λ h. let p = given_where.0 h in (p.1, p.2)) (λ h. given_where.1 ((some, omega (arith, some, le, few)), h.0, h.1)) is)
+
+-- ---- what the change brings
+
+-- an entry for each key that is the shard's
+entries_number : (r s n at : ℕ) (keys : List ℕ) → length (entries_of r s n at keys) ≡ count_by (λ key. key % n == s) keys
+entries_number r s n at [] = refl
+entries_number r s n at (key ∷ keys) =
+    one (key % n == s) (record { key = key; change = r; at = at }) (entries_of r s n (at + 1) keys) (count_by (λ k. k % n == s) keys) (entries_number r s n (at + 1) keys)
+    ∙ sym (sum_by-cons (λ k. cond (k % n == s) 1 0) key keys)
+  where
+    one : (b : Bool) (e : Entry) (rest : List Entry) (m : ℕ) → length rest ≡ m → length (cond b (e ∷ []) [] ++ rest) ≡ cond b 1 0 + m
+    one true e rest m is = omega (arith, is)
+    one false e rest m is = omega (arith, is)
+
+module _ {W : Type 0} (keys_in : W → List ℕ) (IsWorkOf : Settings → Lang → List ℕ → W → Type 0) where
+  has_so_many : (set : Settings) (i number : ℕ) (c : Option Change) (work : Option W) → shard.IsWorkFor (IsWorkOf set) c work → (d : Change) × (c ≡ Some d) × HasSoMany keys_in IsWorkOf set i d (length (brought keys_in number i set.shards work))
+  has_so_many set i number (Some (Put project path lang text)) (Some w) is = (Put project path lang text, refl, (w, is, entries_number number i set.shards 0 (keys_in w)))
+  has_so_many set i number (Some (Put project path lang text)) None is = absurd is
+  has_so_many set i number (Some (Drop project path)) (Some w) is = absurd is
+  has_so_many set i number (Some (Drop project path)) None is = (Drop project path, refl, refl)
+  has_so_many set i number (Some (Gate project conditions)) (Some w) is = absurd is
+  has_so_many set i number (Some (Gate project conditions)) None is = (Gate project conditions, refl, refl)
+  has_so_many set i number None work is = absurd is
+
+  -- what the next change of a shard brings it
+  pub has_next : (b : board.BoardState) (shards : List Contents) (i r : ℕ) (old : Contents) (work : Option W) → AreNumbered b.settings.shards shards → i < length shards → old ≡ get_or shards i old → r ≡ old.applied + 1 → shard.IsWorkFor (IsWorkOf b.settings) (change_at (changes_in b.state) r) work
+      → HasNext keys_in IsWorkOf (core b shards) i (length (brought keys_in r old.shard old.shards work))
+  has_next b shards i r old work numbered within read next is =
+      let here : slice_index (map applied_of shards) i ≡ old.applied = get_or-map applied_of shards i old 0 within ∙ ap applied_of (sym read) in
+      let each = numbered.each i old within in
+      let first : old.shard ≡ i = ap (λ (x : Contents). x.shard) read ∙ each.0 in
+      let all : old.shards ≡ b.settings.shards = ap (λ (x : Contents). x.shards) read ∙ each.1 in
+      let (d, at, many) = has_so_many b.settings i r (change_at (changes_in b.state) r) work is in
+      record {
+        next = d;
+        is_next = ap (change_at (changes_in b.state)) (ap (λ n. n + 1) here ∙ sym next) ∙ at;
+        so_many = subst₂ (λ s n. HasSoMany keys_in IsWorkOf b.settings i d (length (brought keys_in r s n work))) (sym first) (sym all) many;
+      }
+
+-- what is read of a shard, twice
+shard_read : (shards : List Contents) (i : ℕ) (a b : Contents) → i < length shards → a ≡ get_or shards i a → b ≡ get_or shards i b → a ≡ b
+shard_read shards i a b within p q = p ∙ same_default_both shards i a b within ∙ sym q
+  where
+    same_default_both : (xs : List Contents) (k : ℕ) (d e : Contents) → k < length xs → get_or xs k d ≡ get_or xs k e
+    same_default_both [] k d e lt = absurd (omega (arith, lt))
+    same_default_both (x ∷ xs) zero d e lt = refl
+    same_default_both (x ∷ xs) (suc k) d e lt = same_default_both xs k d e (omega (arith, lt))
+
+-- the shard whose next change is ready, with what the board gives of that change's work
+pub record IsNextOf {W : Type 0} (IsWorkOf : Settings → Lang → List ℕ → W → Type 0) (b : board.BoardState) (shards : List Contents) (i applied : ℕ) (old : Contents) (lent : Option W) : Type 0 where
+  pub within : i < length shards
+  pub read : old ≡ get_or shards i old
+  pub same : applied ≡ old.applied
+  pub below : applied + 1 ≤ ready b.state
+  pub work : shard.IsWorkFor (IsWorkOf b.settings) (change_at (changes_in b.state) (applied + 1)) lent
+
+pub next_of : {W : Type 0} (IsWorkOf : Settings → Lang → List ℕ → W → Type 0) (b : board.BoardState) (shards : List Contents) (i applied : ℕ) (first old : Contents) (work : Option (Arc W Global)) (lent : Option W) → AreNumbered b.settings.shards shards → i < b.settings.shards → first ≡ get_or shards i first → old ≡ get_or shards i old → applied ≡ first.applied
+    → applied + 1 ≤ ready b.state → IsSome work ↔ IsDonePut b.state (applied + 1) → IfSome work (λ w. slots.IsWorkFor (IsWorkOf b.settings) (slot_of b.state (applied + 1)).change (arc_value w)) → lent ≡ option_map arc_value work → IsNextOf IsWorkOf b shards i applied old lent
+next_of IsWorkOf b shards i applied first old work lent numbered mine at read first_is below some is lent_is =
+    let within : i < length shards = omega (arith, mine, numbered.number_is) in
+    record {
+      within = within;
+      read = read;
+      same = first_is ∙ ap applied_of (shard_read shards i first old within at read);
+      below = below;
+      work = subst (shard.IsWorkFor (IsWorkOf b.settings) (change_at (changes_in b.state) (applied + 1))) (sym lent_is) (work_given (IsWorkOf b.settings) b.state (applied + 1) work (omega arith) below some is);
+    }
 
 -- ---- the shard
 

@@ -10,7 +10,7 @@ use Rattle.cq_shard.specs.Shard.{Contents}
 use Rattle.cq_shard.specs.Laws.{StandsAtFirst}
 use Rattle.cq_board.specs.Stands as board
 use Rattle.cq_board.specs.declared.listing.View.{View}
-use Rattle.cq_core.specs.Machine.{StandsFor, AreFresh, applied_of, floor_of}
+use Rattle.cq_core.specs.Cores.{StandsFor, AreFresh, applied_of, floor_of}
 use Rattle.cq_core.specs.Views.{AreViews, version_in}
 use Rattle.cq_core.proofs.Stepping.{core}
 

@@ -23,7 +23,8 @@ use Rattle.cq_shard.specs.Laws.{StandsOn}
 use Rattle.cq_board.specs.Stands as board
 use Rattle.cq_board.specs.declared.listing.View.{View}
 use Rattle.cq_board.specs.Listings.{IsListing}
-use Rattle.cq_core.specs.Machine.{CoreState, applied_of, StandsFor, Takes, AreNumbered, IsDone, IsStepped}
+use Rattle.cq_core.specs.Cores.{CoreState, applied_of, StandsFor, AreNumbered}
+use Rattle.cq_core.specs.Steps.{Takes, IsDone, IsStepped}
 use Rattle.cq_core.specs.declared.step.Outcome.{Outcome}
 use Rattle.cq_core.specs.Views.{AreViews, IsView, version_in}
 

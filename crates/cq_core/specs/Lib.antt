@@ -1,3 +1,4 @@
-pub mod Machine
-pub mod Reading
+pub mod Cores
+pub mod Readings
+pub mod Steps
 pub mod Views

@@ -1,8 +1,5 @@
 ghost use Rattle.std.specs.Prelude.{◌≡◌, ◌+◌, ◌<◌, ◌≤◌, ◌↔◌, ℕ, [], IfOk, OnOk, OnErr, IfSome, IsNone, IsSome, IsTrue, All, MatchOption, length, map, replicate, option_map, Some, None};
 ghost use Rattle.std.specs.Option.{option_copied};
-ghost use Rattle.cq_base.specs.declared.entry.Entry.{Entry};
-ghost use Rattle.cq_clones.specs.Lists.{AreAllInOrder};
-ghost use Rattle.cq_clones.specs.Windows.{EntryBefore};
 ghost use Rattle.std.specs.Prelude.{List};
 ghost use Rattle.std.specs.Arc.{arc_value};
 ghost use Rattle.cq_base.specs.declared.settings.Settings.{Settings};
@@ -11,17 +8,18 @@ ghost use Rattle.cq_history.specs.Changes.{change_at};
 ghost use Rattle.cq_shard.specs.Shard.{HasWindow};
 ghost use Rattle.cq_history.specs.Core as history;
 ghost use Rattle.cq_history.specs.declared.event.Event.TheVariants as event;
-ghost use Rattle.cq_history.specs.State.{changes_in, view_of, first_free, ready, IsUndone};
+ghost use Rattle.cq_history.specs.State.{view_of, first_free, ready, IsUndone};
 ghost use Rattle.cq_board.specs.Answers.{IsJob};
-ghost use Rattle.cq_core.specs.Machine.{CoreState, StandsFor, IsCaller, IsShard, IsNamed, HasWork, IsOutcome, IsStepped, step_of, AreFresh};
-ghost use Rattle.cq_core.specs.Reading.{IsRead};
+ghost use Rattle.cq_core.specs.Cores.{CoreState, StandsFor, IsCaller, IsShard, AreFresh};
+ghost use Rattle.cq_core.specs.Steps.{IsNamed, HasWork, IsOutcome, DoesStep, Counts, CountsSome};
+ghost use Rattle.cq_core.specs.Readings.{AreRead};
 ghost use Rattle.cq_core.specs.Views.{IsView};
 ghost use Rattle.cq_core.specs.declared.step.Step.TheVariants as step;
 
 use crate::step::{Outcome, Step};
 use cq_base::{Change, Entry, Memory, Settings, Steps};
-use cq_board::{Board, Finished, Job, Refused, View};
-use cq_shard::{Indexed, Shard, it_answers_what_it_holds, it_stands_at_first, it_stands_on};
+use cq_board::{Board, Finished, Job, Refused, View, shards_have_the_entries};
+use cq_shard::{Indexed, Shard, it_stands_at_first, it_stands_on};
 use std::alloc::Global;
 use std::marker::Model;
 use std::sync::Arc;
@@ -36,7 +34,7 @@ pub struct Core<W: Indexed> {
 }
 
 impl<W: Indexed> Model for Core<W> {
-    ghost use Rattle.cq_core.specs.Machine.{CoreState, StandsFor};
+    ghost use Rattle.cq_core.specs.Cores.{CoreState, StandsFor};
     ghost use Rattle.cq_core.specs.Views.{AreViews};
     ghost use Rattle.cq_history.specs.Core as history;
     ghost use Rattle.cq_shard.specs.Shard.{HasWindow};
@@ -90,7 +88,8 @@ impl<W: Indexed> Core<W> {
         }
     }
 
-    /// The entries of a shard with a key that belong to files of the caller's view; none where it has no view open.
+    /// The entries of a shard with a key that belong to files of the caller's view, by change and place; none where it has no
+    /// view open.
     pub fn read(
         &self,
         alloc: Global,
@@ -101,9 +100,9 @@ impl<W: Indexed> Core<W> {
         requires caller { IsCaller self.now by }
         requires shard { IsShard self.now shard }
         ensures none { IfOk result (λ entries. IsNone entries ↔ IsNone (view_of self.now.board.state by)) }
-        ensures entries { IfOk result (λ entries. IfSome entries (λ es. (version : ℕ) → view_of self.now.board.state by ≡ Some version → AreAllInOrder EntryBefore (IsRead (HasWindow W.keys_in W.IsWorkOf self.now.board.settings) self.now.board.settings.shards shard (changes_in self.now.board.state) version key) es.items)) }
+        ensures entries { IfOk result (λ entries. IfSome entries (λ es. AreRead W.keys_in W.IsWorkOf self.now by shard key es.items)) }
     {
-        it_answers_what_it_holds::<W>();
+        shards_have_the_entries::<W>();
         match &self.views[by as usize] {
             Some(view) => {
                 let bucket = self.shards[shard as usize].bucket(alloc, key, view.listing.live())?;
@@ -123,7 +122,9 @@ impl<W: Indexed> Core<W> {
         requires named { IsNamed self.old step }
         requires work { HasWork (W.IsWorkOf self.old.board.settings) self.old step }
         ensures outcome { IfOk result (IsOutcome self.old self.new step) }
-        ensures steps { IfOk result (IsStepped (HasWindow W.keys_in W.IsWorkOf self.old.board.settings) (step_of self.old step) self.old self.new) }
+        ensures steps { IfOk result (DoesStep W.keys_in W.IsWorkOf self.old self.new step) }
+        ensures counts { IfOk result (λ o. Counts W.keys_in W.IsWorkOf self.old step o steps.old steps.new) }
+        ensures some { OnErr result (CountsSome W.keys_in W.IsWorkOf self.old step steps.old steps.new) }
         ensures err { OnErr result (self.new ≡ self.old) }
     {
         match step {
@@ -142,7 +143,7 @@ impl<W: Indexed> Core<W> {
     fn accept(&mut self, alloc: Global, by: u32, change: Change) -> Result<Outcome, Memory>
         requires caller { IsCaller self.old by }
         ensures outcome { IfOk result (IsOutcome {W = W} self.old self.new (step.Accept by change)) }
-        ensures steps { IfOk result (IsStepped (HasWindow W.keys_in W.IsWorkOf self.old.board.settings) (step_of {W = W} self.old (step.Accept by change)) self.old self.new) }
+        ensures steps { IfOk result (DoesStep W.keys_in W.IsWorkOf self.old self.new (step.Accept by change)) }
         ensures err { OnErr result (self.new ≡ self.old) }
     {
         it_stands_on::<W>();
@@ -156,7 +157,7 @@ impl<W: Indexed> Core<W> {
     fn ask(&mut self, by: u32) -> Outcome
         requires caller { IsCaller self.old by }
         ensures outcome { IsOutcome {W = W} self.old self.new (step.Ask by) result }
-        ensures steps { IsStepped (HasWindow W.keys_in W.IsWorkOf self.old.board.settings) (step_of {W = W} self.old (step.Ask by)) self.old self.new result }
+        ensures steps { DoesStep W.keys_in W.IsWorkOf self.old self.new (step.Ask by) result }
     {
         it_stands_on::<W>();
         let asked = self.board.ask(by);
@@ -166,7 +167,7 @@ impl<W: Indexed> Core<W> {
     fn take(&mut self, by: u32) -> Result<Outcome, Memory>
         requires caller { IsCaller self.old by }
         ensures outcome { IfOk result (IsOutcome {W = W} self.old self.new (step.Took by)) }
-        ensures steps { IfOk result (IsStepped (HasWindow W.keys_in W.IsWorkOf self.old.board.settings) (step_of {W = W} self.old (step.Took by)) self.old self.new) }
+        ensures steps { IfOk result (DoesStep W.keys_in W.IsWorkOf self.old self.new (step.Took by)) }
         ensures err { OnErr result (self.new ≡ self.old) }
     {
         it_stands_on::<W>();
@@ -179,7 +180,7 @@ impl<W: Indexed> Core<W> {
     fn back(&mut self, by: u32, change: u64) -> Outcome
         requires caller { IsCaller self.old by }
         ensures outcome { IsOutcome {W = W} self.old self.new (step.Back by change) result }
-        ensures steps { IsStepped (HasWindow W.keys_in W.IsWorkOf self.old.board.settings) (step_of {W = W} self.old (step.Back by change)) self.old self.new result }
+        ensures steps { DoesStep W.keys_in W.IsWorkOf self.old self.new (step.Back by change) result }
     {
         it_stands_on::<W>();
         if self.board.back(by, change) {
@@ -193,7 +194,7 @@ impl<W: Indexed> Core<W> {
         requires caller { IsCaller self.old by }
         requires work { HasWork (W.IsWorkOf self.old.board.settings) self.old (step.Done by change work) }
         ensures outcome { IsOutcome {W = W} self.old self.new (step.Done by change work) result }
-        ensures steps { IsStepped (HasWindow W.keys_in W.IsWorkOf self.old.board.settings) (step_of {W = W} self.old (step.Done by change work)) self.old self.new result }
+        ensures steps { DoesStep W.keys_in W.IsWorkOf self.old self.new (step.Done by change work) result }
     {
         it_stands_on::<W>();
         if !self.board.is_undone(change) {
@@ -208,7 +209,9 @@ impl<W: Indexed> Core<W> {
     fn apply<L: Ledger>(&mut self, shard: u32, steps: &mut Steps<L>) -> Result<Outcome, Memory>
         requires { IsShard self.old shard }
         ensures outcome { IfOk result (IsOutcome {W = W} self.old self.new (step.Apply shard)) }
-        ensures steps { IfOk result (IsStepped (HasWindow W.keys_in W.IsWorkOf self.old.board.settings) (step_of {W = W} self.old (step.Apply shard)) self.old self.new) }
+        ensures steps { IfOk result (DoesStep W.keys_in W.IsWorkOf self.old self.new (step.Apply shard)) }
+        ensures counts { IfOk result (λ o. Counts W.keys_in W.IsWorkOf self.old (step.Apply shard) o steps.old steps.new) }
+        ensures some { OnErr result (CountsSome W.keys_in W.IsWorkOf self.old (step.Apply shard) steps.old steps.new) }
         ensures err { OnErr result (self.new ≡ self.old) }
     {
         let i = shard as usize;
@@ -225,7 +228,7 @@ impl<W: Indexed> Core<W> {
 
     fn publish(&mut self, alloc: Global, version: u64) -> Result<Outcome, Memory>
         ensures outcome { IfOk result (IsOutcome {W = W} self.old self.new (step.Publish version)) }
-        ensures steps { IfOk result (IsStepped (HasWindow W.keys_in W.IsWorkOf self.old.board.settings) (step_of {W = W} self.old (step.Publish version)) self.old self.new) }
+        ensures steps { IfOk result (DoesStep W.keys_in W.IsWorkOf self.old self.new (step.Publish version)) }
         ensures err { OnErr result (self.new ≡ self.old) }
     {
         it_stands_on::<W>();
@@ -242,7 +245,7 @@ impl<W: Indexed> Core<W> {
     fn open(&mut self, by: u32) -> Result<Outcome, Memory>
         requires caller { IsCaller self.old by }
         ensures outcome { IfOk result (IsOutcome {W = W} self.old self.new (step.Open by)) }
-        ensures steps { IfOk result (IsStepped (HasWindow W.keys_in W.IsWorkOf self.old.board.settings) (step_of {W = W} self.old (step.Open by)) self.old self.new) }
+        ensures steps { IfOk result (DoesStep W.keys_in W.IsWorkOf self.old self.new (step.Open by)) }
         ensures err { OnErr result (self.new ≡ self.old) }
     {
         it_stands_on::<W>();
@@ -258,7 +261,7 @@ impl<W: Indexed> Core<W> {
     fn shut(&mut self, by: u32) -> Outcome
         requires caller { IsCaller self.old by }
         ensures outcome { IsOutcome {W = W} self.old self.new (step.Shut by) result }
-        ensures steps { IsStepped (HasWindow W.keys_in W.IsWorkOf self.old.board.settings) (step_of {W = W} self.old (step.Shut by)) self.old self.new result }
+        ensures steps { DoesStep W.keys_in W.IsWorkOf self.old self.new (step.Shut by) result }
     {
         it_stands_on::<W>();
         if self.views[by as usize].is_none() {

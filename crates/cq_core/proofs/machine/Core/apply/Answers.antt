@@ -1,39 +1,43 @@
-use Rattle.std.proofs.Common.{◌≡◌, ℕ, zero, suc, ◌+◌, ◌<◌, ◌≤◌, List, [], ◌∷◌, length, get_or, set, refl, sym, ap, ◌∙◌, subst, arith}
-use Rattle.cq_history.specs.Changes.{change_at}
+use Rattle.std.proofs.Common.{ℕ, ◌+◌, ◌<◌, ◌≤◌, List, length, set, Option, refl, sym, ap, ◌∙◌, subst, inr, arith}
+use Rattle.std.specs.Prelude.{option_copied}
+use Rattle.cq_board.specs.Stands as board
 use Rattle.cq_history.specs.Core.{stepped}
 use Rattle.cq_history.specs.Core.Step.{Applies}
-use Rattle.cq_history.specs.State.{ready, changes_in}
-use Rattle.cq_shard.specs.Shard.{Contents, IsWorkFor, HasWindow}
+use Rattle.cq_history.specs.State.{changes_in}
+use Rattle.cq_shard.specs.Shard.{Contents, HasWindow, brought}
+use Rattle.cq_board.proofs.Turning.{always_err}
 use Rattle.cq_core.specs.declared.step.Outcome.TheVariants as outcome
-use Rattle.cq_core.specs.Machine.{CoreState, IsStepped}
-use Rattle.cq_core.proofs.Applying.{HasApplied, work_given, stands_applied, takes_applied}
+use Rattle.cq_core.specs.Cores.{CoreState, AreNumbered}
+use Rattle.cq_core.specs.Steps.{IsStepped, HasNext, Counts, CountsSome}
+use Rattle.cq_core.specs.declared.step.Step.TheVariants as step
+use Rattle.cq_core.proofs.Applying.{HasApplied, IsNextOf, next_of, has_next, stands_applied, takes_applied}
 use Rattle.cq_core.proofs.Stepping.{core}
 use Rattle.cq_core.proofs.machine.Core.apply.Given as Given
 use Rattle.cq_core.proofs.machine.Core.apply.Goals as goal
 
-shard_read : (shards : List Contents) (i : ℕ) (a b : Contents) → i < length shards → a ≡ get_or shards i a → b ≡ get_or shards i b → a ≡ b
-shard_read [] i a b lt p q = absurd (omega (arith, lt))
-shard_read (s ∷ shards) zero a b lt p q = p ∙ sym q
-shard_read (s ∷ shards) (suc i) a b lt p q = shard_read shards i a b (omega (arith, lt)) p q
+-- the next change, where the shard applies it, and where memory is refused
+next_here : (g : Given.Over) (c : goal.Joined-work-2 g) → IsNextOf g.W.Indexed.IsWorkOf c.self.inside.board c.self.inside.shards.items c.args.shard c.applied-applied.result c.index_mut-shard.result.now (option_copied c.lent.result)
+next_here g c =
+    next_of g.W.Indexed.IsWorkOf c.self.inside.board c.self.inside.shards.items c.args.shard c.applied-applied.result c.index.result.now c.index_mut-shard.result.now c.in_ok-work.work (option_copied c.lent.result) c.self.invariant.0.1.numbered
+    (subst (λ (x : CoreState). c.args.shard < x.board.settings.shards) (sym c.self.view_is) c.requires) c.index.ensures c.index_mut-shard.ensures.value c.applied-applied.ensures (let e = c.ready.ensures in omega (arith, e, c.if-applied-ready.false)) c.in_ok-work.ensures.some c.in_ok-work.ensures.work c.lent.ensures
+
+next_there : (g : Given.Over) (c : goal.Joined-work g) → IsNextOf g.W.Indexed.IsWorkOf c.self.inside.board c.self.inside.shards.items c.args.shard c.applied-applied.result c.index_mut-shard.result.now (option_copied c.lent.result)
+next_there g c =
+    next_of g.W.Indexed.IsWorkOf c.self.inside.board c.self.inside.shards.items c.args.shard c.applied-applied.result c.index.result.now c.index_mut-shard.result.now c.in_ok-work.work (option_copied c.lent.result) c.self.invariant.0.1.numbered
+    (subst (λ (x : CoreState). c.args.shard < x.board.settings.shards) (sym c.self.view_is) c.requires) c.index.ensures c.index_mut-shard.ensures.value c.applied-applied.ensures (let e = c.ready.ensures in omega (arith, e, c.if-applied-ready.false)) c.in_ok-work.ensures.some c.in_ok-work.ensures.work c.lent.ensures
 
 applied_here : (g : Given.Over) (c : goal.Joined-work-2 g) → HasApplied (HasWindow g.W.Indexed.keys_in g.W.Indexed.IsWorkOf c.self.inside.board.settings) c.self.inside.board c.self.inside.shards.items c.args.shard c.index_mut-shard.result.now c.apply.new.self
 applied_here g c =
     let b = c.self.inside.board in
-    let mine : c.args.shard < b.settings.shards = subst (λ (x : CoreState). c.args.shard < x.board.settings.shards) (sym c.self.view_is) c.requires in
-    let within : c.args.shard < length c.self.inside.shards.items = omega (arith, mine, c.self.invariant.0.1.numbered.number_is) in
-    let old = c.index_mut-shard.result.now in
-    let same : c.applied-applied.result ≡ old.applied = c.applied-applied.ensures ∙ ap (λ (s : Contents). s.applied) (shard_read c.self.inside.shards.items c.args.shard c.index.result.now old within c.index.ensures c.index_mut-shard.ensures.value) in
-    let below : c.applied-applied.result + 1 ≤ ready b.state = (let e = c.ready.ensures in omega (arith, e, c.if-applied-ready.false)) in
-    let work = work_given (g.W.Indexed.IsWorkOf b.settings) b.state (c.applied-applied.result + 1) c.in_ok-work.work (omega arith) below c.in_ok-work.ensures.some c.in_ok-work.ensures.work in
     record {
-      within = within;
+      within = (next_here g c).within;
       read = c.index_mut-shard.ensures.value;
-      next = omega (arith, below, same);
-      applied = c.in_ok-apply.ensures.applied ∙ ap (λ n. n + 1) same;
+      next = omega (arith, (next_here g c).below, (next_here g c).same);
+      applied = c.in_ok-apply.ensures.applied ∙ ap (λ n. n + 1) (next_here g c).same;
       number = c.in_ok-apply.ensures.kept.0;
       numbers = c.in_ok-apply.ensures.kept.1;
       floor = c.in_ok-apply.ensures.kept.2;
-      stands = λ was. c.in_ok-apply.ensures.stands b.settings (changes_in b.state) was (subst (IsWorkFor (g.W.Indexed.IsWorkOf b.settings) (change_at (changes_in b.state) (c.applied-applied.result + 1))) (sym c.lent.ensures) work);
+      stands = λ was. c.in_ok-apply.ensures.stands b.settings (changes_in b.state) was (next_here g c).work;
     }
 
 pub invariant_of-self-2 : goal.invariant_of-self-2
@@ -48,3 +52,19 @@ returns-clause-steps g c =
     let takes = takes_applied (HasWindow g.W.Indexed.keys_in g.W.Indexed.IsWorkOf b.settings) b c.self.inside.shards.items c.args.shard c.index_mut-shard.result.now c.apply.new.self (applied_here g c) in
     subst (λ (x : CoreState). IsStepped (HasWindow g.W.Indexed.keys_in g.W.Indexed.IsWorkOf x.board.settings) (Applies c.args.shard) x (core b (set c.self.inside.shards.items c.args.shard c.apply.new.self)) (outcome.Value (c.applied-applied.result + 1))) c.self.view_is
     (record { settings = refl; callers = refl; done = λ _. takes; not_done = λ not. absurd (not tt) })
+
+-- what the change brings the shard
+brings : (g : Given.Over) (b : board.BoardState) (shards : List Contents) (i applied : ℕ) (old : Contents) (lent : Option g.row.W.Denot) → AreNumbered b.settings.shards shards → IsNextOf g.W.Indexed.IsWorkOf b shards i applied old lent → HasNext g.W.Indexed.keys_in g.W.Indexed.IsWorkOf (core b shards) i (length (brought g.W.Indexed.keys_in (applied + 1) old.shard old.shards lent))
+brings g b shards i applied old lent numbered is = has_next g.W.Indexed.keys_in g.W.Indexed.IsWorkOf b shards i (applied + 1) old lent numbered is.within is.read (ap (λ n. n + 1) is.same) is.work
+
+pub returns-clause-counts : goal.returns-clause-counts
+returns-clause-counts g c =
+    subst (λ (x : CoreState). Counts g.W.Indexed.keys_in g.W.Indexed.IsWorkOf x (step.Apply c.args.shard) (outcome.Value (c.applied-applied.result + 1)) c.args.steps.now c.apply.new.steps) c.self.view_is
+    ((λ _. (_, brings g c.self.inside.board c.self.inside.shards.items c.args.shard c.applied-applied.result c.index_mut-shard.result.now (option_copied c.lent.result) c.self.invariant.0.1.numbered (next_here g c), c.in_ok-apply.ensures.steps)), λ not. absurd (not tt))
+
+-- what a refused application has counted
+pub returns-in_err-apply-clause-some : goal.returns-in_err-apply-clause-some
+returns-in_err-apply-clause-some g c =
+    always_err c.from_residual-in_err-apply.result
+    (subst (λ (x : CoreState). CountsSome g.W.Indexed.keys_in g.W.Indexed.IsWorkOf x (step.Apply c.args.shard) c.args.steps.now c.apply.new.steps) c.self.view_is
+    (inr (_, brings g c.self.inside.board c.self.inside.shards.items c.args.shard c.applied-applied.result c.index_mut-shard.result.now (option_copied c.lent.result) c.self.invariant.0.1.numbered (next_there g c), c.in_err-apply.ensures.most)))

@@ -2,7 +2,8 @@ use Rattle.std.proofs.Common.{refl, subst}
 use Rattle.cq_history.specs.Core.{Adds}
 use Rattle.cq_history.specs.declared.event.Event.TheVariants as event
 use Rattle.cq_core.specs.declared.step.Outcome.TheVariants as outcome
-use Rattle.cq_core.specs.Machine.{CoreState, IsStepped}
+use Rattle.cq_core.specs.Cores.{CoreState}
+use Rattle.cq_core.specs.Steps.{IsStepped}
 use Rattle.cq_core.proofs.Stepping.{core, keeps_on, keeps_same, steps_on, stays}
 use Rattle.cq_shard.specs.Shard.{HasWindow}
 use Rattle.cq_core.proofs.machine.Core.back.Goals as goal

@@ -1,7 +1,7 @@
 use Rattle.std.proofs.Common.{refl, sym, ap, subst}
 use Rattle.cq_base.specs.declared.settings.Settings.{Settings}
 use Rattle.cq_history.specs.Core.{first_core}
-use Rattle.cq_core.specs.Machine.{StandsFor, AreFresh}
+use Rattle.cq_core.specs.Cores.{StandsFor, AreFresh}
 use Rattle.cq_core.proofs.Stepping.{core}
 use Rattle.cq_core.proofs.Fresh.{fresh_core, no_views_yet}
 use Rattle.cq_shard.specs.Shard.{HasWindow}

@@ -2,7 +2,8 @@ use Rattle.std.proofs.Common.{◌≡◌, Some, refl, subst}
 use Rattle.cq_history.specs.Core.{Adds}
 use Rattle.cq_history.specs.declared.event.Event.TheVariants as event
 use Rattle.cq_core.specs.declared.step.Outcome.TheVariants as outcome
-use Rattle.cq_core.specs.Machine.{CoreState, IsStepped}
+use Rattle.cq_core.specs.Cores.{CoreState}
+use Rattle.cq_core.specs.Steps.{IsStepped}
 use Rattle.cq_core.specs.Views.{IsView}
 use Rattle.cq_core.proofs.Stepping.{core, keeps_view, steps_on}
 use Rattle.cq_shard.specs.Shard.{HasWindow}

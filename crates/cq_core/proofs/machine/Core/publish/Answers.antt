@@ -2,7 +2,8 @@ use Rattle.std.proofs.Common.{◌≡◌, refl, sym, subst, inl, inr, arith}
 use Rattle.cq_history.specs.Core.{Adds}
 use Rattle.cq_history.specs.declared.event.Event.TheVariants as event
 use Rattle.cq_core.specs.declared.step.Outcome.TheVariants as outcome
-use Rattle.cq_core.specs.Machine.{CoreState, IsStepped, Done-if, MayPublish}
+use Rattle.cq_core.specs.Cores.{CoreState}
+use Rattle.cq_core.specs.Steps.{IsStepped, Done-if, MayPublish}
 use Rattle.std.proofs.lemmas.Bool.{iff_false}
 use Rattle.std.proofs.Common.{◌≤◌, List, true, false, rules}
 use Rattle.std.specs.Prelude.{All}

@@ -1,10 +1,7 @@
-use Rattle.std.proofs.Common.{◌≡◌, ◌<◌, ℕ, Some, length, sym, ap, ◌∙◌, subst}
+use Rattle.std.proofs.Common.{◌<◌, length, sym, ap, ◌∙◌, subst}
 use Rattle.std.specs.List.Sorted.{IsStrictlyIncreasing}
-use Rattle.cq_core.specs.Machine.{CoreState}
-use Rattle.cq_core.specs.Reading.{IsRead}
-use Rattle.cq_history.specs.State.{changes_in, view_of}
-use Rattle.cq_clones.specs.Lists.{AreAllInOrder}
-use Rattle.cq_clones.specs.Windows.{EntryBefore}
+use Rattle.cq_core.specs.Cores.{CoreState}
+use Rattle.cq_core.specs.Readings.{AreRead}
 use Rattle.cq_core.proofs.Stepping.{view_at}
 use Rattle.cq_core.proofs.ReadEntries.{entries_read}
 use Rattle.cq_shard.specs.Shard.{HasWindow}
@@ -22,6 +19,6 @@ returns-in_ok-bucket-in-Some-clause-entries g c =
     let there = subst (λ (x : CoreState). c.args.by < length x.board.state.views) (sym c.self.view_is) c.requires.caller in
     let shard = subst (λ (x : CoreState). c.args.shard < x.board.settings.shards) (sym c.self.view_is) c.requires.shard in
     let view = view_at (g.W.Indexed.IsWorkOf b.settings) b.state c.self.inside.views.items c.self.invariant.1 c.args.by c.index.result.now c.in-Some.view there c.index.ensures c.in-Some.is in
-    subst (λ (x : CoreState). (version : ℕ) → view_of x.board.state c.args.by ≡ Some version → AreAllInOrder EntryBefore (IsRead (HasWindow g.W.Indexed.keys_in g.W.Indexed.IsWorkOf x.board.settings) x.board.settings.shards c.args.shard (changes_in x.board.state) version c.args.key) c.in_ok-bucket-in-Some.bucket.items) c.self.view_is
+    subst (λ (x : CoreState). AreRead g.W.Indexed.keys_in g.W.Indexed.IsWorkOf x c.args.by c.args.shard c.args.key c.in_ok-bucket-in-Some.bucket.items) c.self.view_is
     (entries_read (g.W.Indexed.IsWorkOf b.settings) (HasWindow g.W.Indexed.keys_in g.W.Indexed.IsWorkOf b.settings) b c.self.inside.shards.items c.self.invariant.0.0 c.self.invariant.0.1 c.args.by c.args.shard c.args.key c.index-in-Some.result.now shard c.index-in-Some.ensures c.in-Some.view view c.live.result.now (c.live.ensures ∙ ap (λ l. l.live) c.deref.ensures) c.in_ok-bucket-in-Some.bucket.items
-    (λ stands. c.it_answers_what_it_holds.ensures b.settings (changes_in b.state) c.index-in-Some.result.now c.args.key c.live.result.now c.in_ok-bucket-in-Some.bucket.items stands c.in_ok-bucket-in-Some.ensures))
+    (c.shards_have_the_entries.ensures b.settings) c.in_ok-bucket-in-Some.ensures)

@@ -6,7 +6,8 @@ use Rattle.cq_history.specs.Core.{Adds}
 use Rattle.cq_history.specs.State.{first_free, IsAccepted}
 use Rattle.cq_history.specs.declared.event.Event.TheVariants as event
 use Rattle.cq_core.specs.declared.step.Outcome.TheVariants as outcome
-use Rattle.cq_core.specs.Machine.{CoreState, IsStepped, Done-if}
+use Rattle.cq_core.specs.Cores.{CoreState}
+use Rattle.cq_core.specs.Steps.{IsStepped, Done-if}
 use Rattle.cq_core.proofs.Stepping.{core, keeps_on, keeps_same, steps_on, stays, allowed_of}
 use Rattle.cq_shard.specs.Shard.{HasWindow}
 use Rattle.cq_core.proofs.machine.Core.take.Goals as goal

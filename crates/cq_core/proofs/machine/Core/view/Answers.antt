@@ -1,5 +1,5 @@
 use Rattle.std.proofs.Common.{◌<◌, length, sym, subst}
-use Rattle.cq_core.specs.Machine.{CoreState}
+use Rattle.cq_core.specs.Cores.{CoreState}
 use Rattle.cq_core.specs.Views.{IsView}
 use Rattle.cq_core.proofs.Stepping.{view_at}
 use Rattle.cq_core.proofs.machine.Core.view.Goals as goal

@@ -1,65 +1,28 @@
--- What a core is to its callers, for which core of the history it stands, and what each step comes to.
-use Rattle.std.specs.Prelude.{◌≡◌, ◌⊎◌, ℕ, ◌+◌, ◌<◌, ◌≤◌, List, [], length, map, All, Some, None, IsNone, IsSome, slice_index_or, slice_index}
+-- What each step of a core comes to, and what it counts.
+use Rattle.std.specs.Prelude.{◌≡◌, ◌⊎◌, ℕ, ◌+◌, ◌%◌, ◌==◌, ◌<◌, ◌≤◌, List, length, map, count_by, All, Some, None, IsNone, IsSome}
 use Rattle.std.specs.Arc.{arc_value}
 use Rattle.cq_base.specs.declared.lang.Lang.{Lang}
+use Rattle.cq_base.specs.declared.settings.Settings.{Settings}
+use Rattle.cq_base.specs.declared.change.Change.{Change}
+use Rattle.cq_base.specs.declared.change.Change.TheVariants as change
 use Rattle.cq_history.specs.declared.event.Event.TheVariants as event
+use Rattle.cq_history.specs.Changes.{change_at}
 use Rattle.cq_history.specs.State.{changes_in, first_free, ready, view_of, slot_of, IsAccepted, IsUndone, IsTakenBy}
 use Rattle.cq_history.specs.Core as history
-use Rattle.cq_shard.specs.Shard as shard
-use Rattle.cq_board.specs.Stands as board
+use Rattle.cq_shard.specs.Shard.{HasWindow}
 use Rattle.cq_board.specs.Answers.{refusal_of}
 use Rattle.cq_board.specs.Slots.{IsWorkFor}
 use Rattle.cq_board.specs.declared.answers.Refused.{Refused}
+use Rattle.cq_core.specs.Cores.{CoreState, StandsFor, IsCaller, IsShard, applied_of, applied_at}
 use Rattle.cq_core.specs.declared.step.Step.{Step}
 use Rattle.cq_core.specs.declared.step.Step.TheVariants.{Accept, Ask, Took, Back, Done, Apply, Publish, Open, Shut}
 use Rattle.cq_core.specs.declared.step.Outcome.{Outcome}
 use Rattle.cq_core.specs.declared.step.Outcome.TheVariants as outcome
 
--- its board, and its shards
-pub record CoreState : Type 0 where
-  pub board : board.BoardState
-  pub shards : List shard.Contents
-
-abbrev pub applied_of : shard.Contents → ℕ
-applied_of s = s.applied
-
-abbrev pub floor_of : shard.Contents → ℕ
-floor_of s = s.floor
-
--- the shards are numbered from 0, each of so many, and none is swept beyond what it applied
-pub record AreNumbered (number : ℕ) (shards : List shard.Contents) : Type 0 where
-  pub number_is : length shards ≡ number
-  pub each : (i : ℕ) (d : shard.Contents) → i < length shards → ((slice_index_or shards i d).shard ≡ i) × ((slice_index_or shards i d).shards ≡ number)
-  pub passed : All (λ s. s.floor ≤ s.applied) shards
-
--- shards that have applied nothing
-pub record AreFresh (number : ℕ) (shards : List shard.Contents) : Type 0 where
-  pub number_is : length shards ≡ number
-  pub each : (i : ℕ) (d : shard.Contents) → i < length shards → slice_index_or shards i d ≡ record { shard = i; shards = number; applied = 0; floor = 0; entries = [] }
-
--- the core is this sound one of the history, and each shard stands for the changes
-pub record StandsFor (IsWindow : Lang → List ℕ → ℕ → ℕ → Type 0) (k : history.Core) (c : CoreState) : Type 0 where
-  pub past : board.StandsFor k.history c.board
-  pub applied : map applied_of c.shards ≡ k.applied
-  pub floors : map floor_of c.shards ≡ k.floors
-  pub sound : history.IsSound c.board.settings (length c.board.state.views) k
-  pub shards : All (shard.StandsFor IsWindow (changes_in c.board.state)) c.shards
-  pub numbered : AreNumbered c.board.settings.shards c.shards
-
 -- for whichever core it stood, it stands for that one behind the step, which it might take
 pub record Takes (IsWindow : Lang → List ℕ → ℕ → ℕ → Type 0) (step : history.Step) (old new : CoreState) : Type 0 where
   pub may : (k : history.Core) → StandsFor IsWindow k old → history.MayStep old.board.settings (length old.board.state.views) k step
   pub core : (k : history.Core) → StandsFor IsWindow k old → StandsFor IsWindow (history.stepped k step) new
-
-abbrev pub IsCaller : CoreState → ℕ → Type 0
-IsCaller c by = by < length c.board.state.views
-
-abbrev pub IsShard : CoreState → ℕ → Type 0
-IsShard c i = i < c.board.settings.shards
-
--- how far a shard has applied the changes
-abbrev pub applied_at : CoreState → ℕ → ℕ
-applied_at c i = slice_index (map applied_of c.shards) i
 
 -- a version may be published: it is above the last one, every change up to it is done, and every shard has applied it
 abbrev pub MayPublish : CoreState → ℕ → Type 0
@@ -132,3 +95,44 @@ pub record IsStepped (IsWindow : Lang → List ℕ → ℕ → ℕ → Type 0) (
   pub callers : length new.board.state.views ≡ length old.board.state.views
   pub done : IsDone o → Takes IsWindow step old new
   pub not_done : (IsDone o → ⊥) → new ≡ old
+
+module _ {W : Type 0} (keys_in : W → List ℕ) (IsWorkOf : Settings → Lang → List ℕ → W → Type 0) where
+  -- the core has taken this step, or is as it was
+  abbrev pub DoesStep : CoreState → CoreState → Step W → Outcome → Type 0
+  DoesStep old new step o = IsStepped (HasWindow keys_in IsWorkOf old.board.settings) (step_of old step) old new o
+
+  -- the change has so many windows whose keys are the shard's
+  abbrev pub HasSoMany : Settings → ℕ → Change → ℕ → Type 0
+  HasSoMany set shard (change.Put project path lang text) n = (work : W) × IsWorkOf set lang text work × (n ≡ count_by (λ key. key % set.shards == shard) (keys_in work))
+  HasSoMany set shard (change.Drop project path) n = n ≡ 0
+  HasSoMany set shard (change.Gate project conditions) n = n ≡ 0
+
+  -- so many of the next change that the shard applies
+  pub record HasNext (old : CoreState) (shard n : ℕ) : Type 0 where
+    pub next : Change
+    pub is_next : change_at (changes_in old.board.state) (applied_at old shard + 1) ≡ Some next
+    pub so_many : HasSoMany old.board.settings shard next n
+
+  -- Only an application that is done counts steps: one for each window of its change whose key is the shard's.
+  abbrev pub Counts : CoreState → Step W → Outcome → ℕ → ℕ → Type 0
+  Counts old (Accept by c) o before now = now ≡ before
+  Counts old (Ask by) o before now = now ≡ before
+  Counts old (Took by) o before now = now ≡ before
+  Counts old (Back by c) o before now = now ≡ before
+  Counts old (Done by c work) o before now = now ≡ before
+  Counts old (Apply shard) o before now = (IsDone o → (n : ℕ) × HasNext old shard n × (now ≡ before + n)) × ((IsDone o → ⊥) → now ≡ before)
+  Counts old (Publish version) o before now = now ≡ before
+  Counts old (Open by) o before now = now ≡ before
+  Counts old (Shut by) o before now = now ≡ before
+
+  -- one that is refused for want of memory may have counted some of them
+  abbrev pub CountsSome : CoreState → Step W → ℕ → ℕ → Type 0
+  CountsSome old (Accept by c) before now = now ≡ before
+  CountsSome old (Ask by) before now = now ≡ before
+  CountsSome old (Took by) before now = now ≡ before
+  CountsSome old (Back by c) before now = now ≡ before
+  CountsSome old (Done by c work) before now = now ≡ before
+  CountsSome old (Apply shard) before now = (now ≡ before) ⊎ ((n : ℕ) × HasNext old shard n × (now ≤ before + n))
+  CountsSome old (Publish version) before now = now ≡ before
+  CountsSome old (Open by) before now = now ≡ before
+  CountsSome old (Shut by) before now = now ≡ before

@@ -1,0 +1,14 @@
+-- The entries that a caller reads of its open version.
+use Rattle.std.specs.Prelude.{◌≡◌, ℕ, List, Some}
+use Rattle.cq_base.specs.declared.lang.Lang.{Lang}
+use Rattle.cq_base.specs.declared.settings.Settings.{Settings}
+use Rattle.cq_base.specs.declared.entry.Entry.{Entry}
+use Rattle.cq_history.specs.State.{changes_in, view_of}
+use Rattle.cq_shard.specs.Shard.{HasWindow}
+use Rattle.cq_board.specs.Entries.{AreEntriesAt}
+use Rattle.cq_core.specs.Cores.{CoreState}
+
+-- those of the version with the key where the key is the shard's, and else none
+abbrev pub AreRead : {W : Type 0} → (W → List ℕ) → (Settings → Lang → List ℕ → W → Type 0) → CoreState → ℕ → ℕ → ℕ → List Entry → Type 0
+AreRead keys_in IsWorkOf c by shard key entries =
+    (version : ℕ) → view_of c.board.state by ≡ Some version → AreEntriesAt (HasWindow keys_in IsWorkOf c.board.settings) c.board.settings.shards shard (changes_in c.board.state) version key entries
