@@ -53,7 +53,7 @@ fn texts_of(alloc: Global, words: &[String]) -> Result<Vec<Text>, Memory>
 fn words_of(alloc: Global, args: env::Args) -> Result<Vec<Text>, Memory>
     ensures { IfOk result (λ words. words.items ≡ map string_bytes (drop 1 (into_iter_items args))) }
 {
-    let words = args.skip(1).collect(alloc)?;
+    let words: Vec<String> = args.skip(1).collect(alloc)?;
     texts_of(alloc, &words)
 }
 
