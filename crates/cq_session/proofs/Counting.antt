@@ -1,6 +1,5 @@
 -- How far a history has come after one change more.
 use Rattle.std.proofs.Common.{◌≡◌, ℕ, ◌+◌, ◌≤◌, Bool, true, false, cond, List, [], ◌∷◌, ◌++◌, length, drop, Option, Some, None, refl, sym, ap, ◌∙◌, arith}
-use Rattle.std.specs.Prelude.{filter}
 use Rattle.std.specs.Option.{option_or}
 use Rattle.std.proofs.lemmas.List.{drop-append-le, length-drop}
 use Rattle.cq_base.specs.declared.change.Change.{Change}
@@ -57,11 +56,3 @@ at_most_one_more n m false e = omega (arith, e)
 pub at_least_as_many : (n m : ℕ) (gone : Bool) → n + cond gone 1 0 ≡ m → n ≤ m
 at_least_as_many n m true e = omega (arith, e)
 at_least_as_many n m false e = omega (arith, e)
-
-kept_length : {X : Type 0} (b : Bool) (x : X) (xs : List X) (n : ℕ) → length xs ≤ n → length (cond b (x ∷ xs) xs) ≤ n + 1
-kept_length true x xs n few = omega (arith, few)
-kept_length false x xs n few = omega (arith, few)
-
-pub filter_length : {X : Type 0} (p : X → Bool) (xs : List X) → length (filter p xs) ≤ length xs
-filter_length p [] = omega arith
-filter_length p (x ∷ xs) = kept_length (p x) x (filter p xs) (length xs) (filter_length p xs)
