@@ -1,5 +1,5 @@
 -- How far a history has come after one change more.
-use Rattle.std.proofs.Common.{◌≡◌, ℕ, ◌+◌, ◌≤◌, List, [], ◌∷◌, ◌++◌, length, drop, Option, Some, None, refl, sym, ap, ◌∙◌, arith}
+use Rattle.std.proofs.Common.{◌≡◌, ℕ, ◌+◌, ◌≤◌, Bool, true, false, cond, List, [], ◌∷◌, ◌++◌, length, drop, Option, Some, None, refl, sym, ap, ◌∙◌, arith}
 use Rattle.std.specs.Option.{option_or}
 use Rattle.std.proofs.lemmas.List.{drop-append-le, length-drop}
 use Rattle.cq_base.specs.declared.change.Change.{Change}
@@ -46,3 +46,13 @@ drop_whole (x ∷ xs) = drop_whole xs
 
 pub undone_none : (h : History) → undone (all_published h) ≡ None
 undone_none h = ap (first_upload (length h.changes + 1)) (drop_whole h.changes)
+
+-- ---- how many files there are
+
+pub at_most_one_more : (n m : ℕ) (old : Bool) → n ≡ m + cond old 0 1 → n ≤ m + 1
+at_most_one_more n m true e = omega (arith, e)
+at_most_one_more n m false e = omega (arith, e)
+
+pub at_least_as_many : (n m : ℕ) (gone : Bool) → n + cond gone 1 0 ≡ m → n ≤ m
+at_least_as_many n m true e = omega (arith, e)
+at_least_as_many n m false e = omega (arith, e)

@@ -10,8 +10,8 @@ use Rattle.std.proofs.lemmas.Bool.{cases_lt}
 use Rattle.std.proofs.lemmas.Map.Keys.{Less-from_sorted, sorted_from_all_adjacent}
 use Rattle.std.proofs.lemmas.Map.Views.{btree_map_get_iff}
 use Rattle.std.proofs.Math.ListN.{get_or-append}
-use Rattle.std.proofs.Math.Seq.{get_or-append_seam}
 use Rattle.std.proofs.lemmas.Option.{slice_get-get_or, slice_get_within, same_Some}
+use Rattle.cq_base.proofs.Lists.{Contains-map, Contains-from_map, AllPairs-from_map, AllPairs-map, slice_get-push}
 use Rattle.cq_base.specs.declared.lang.Lang.{Lang}
 use Rattle.cq_base.specs.declared.settings.Settings.{Settings}
 use Rattle.cq_base.specs.declared.change.Change.{Change}
@@ -23,13 +23,12 @@ use Rattle.cq_session.specs.Kept.{KeptAt}
 use Rattle.cq_session.specs.Files.{IsLastPut, Names}
 use Rattle.cq_session.specs.Stands.{Key, key_of, KeyBefore, IsLastAt, IsKeptOf, HasWork}
 use Rattle.cq_session.proofs.KeyOrder.{file_cmp, file_total, file_exact, file_equal}
-use Rattle.cq_session.proofs.Mapped.{Contains-map, Contains-from_map, pairs_from_map, pairs_to_map}
 
 -- the keys of a map are in order
 pub in_order : {L : Type 0} (m : BTreeMap FileKey (Kept L)) → IsOrdered file_cmp m → AllPairs KeyBefore (map key_of m.entries)
 in_order {L} m ordered =
-    pairs_to_map KeyBefore key_of m.entries
-    (pairs_from_map (λ (a : FileKey) (b : FileKey). file_cmp a b ≡ Less) (λ (e : KeptAt L). e.0) m.entries
+    AllPairs-map KeyBefore key_of m.entries
+    (AllPairs-from_map (λ (a : FileKey) (b : FileKey). file_cmp a b ≡ Less) (λ (e : KeptAt L). e.0) m.entries
     (λ i j d less within. Less-from_sorted file_cmp (keys m) i j d ordered less within))
 
 -- ---- a file that is put into a map
@@ -86,11 +85,6 @@ there_more xs y i x there =
     let all = length-append xs (y ∷ []) in
     slice_get-get_or (xs ++ y ∷ []) i x (omega arith) ∙ ap Some (get_or-append xs (y ∷ []) x i inside) ∙ sym (slice_get-get_or xs i x inside) ∙ there
 
-there_last : {X : Type 0} (xs : List X) (y : X) → slice_get (xs ++ y ∷ []) (length xs) ≡ Some y
-there_last xs y =
-    let all = length-append xs (y ∷ []) in
-    slice_get-get_or (xs ++ y ∷ []) (length xs) y (omega arith) ∙ ap Some (get_or-append_seam xs y [] y)
-
 -- and one of the longer list is the last, or was there
 there_cases : {X : Type 0} (xs : List X) (y : X) (i : ℕ) (x : X) → slice_get (xs ++ y ∷ []) i ≡ Some x → (slice_get xs i ≡ Some x) ⊎ ((i ≡ length xs) × (y ≡ x))
 there_cases xs y i x there =
@@ -98,7 +92,7 @@ there_cases xs y i x there =
     let all = length-append xs (y ∷ []) in
     ⊎_elim
     (λ less. inl (slice_get-get_or xs i x less ∙ ap Some (sym (get_or-append xs (y ∷ []) x i less)) ∙ sym (slice_get-get_or (xs ++ y ∷ []) i x inside) ∙ there))
-    (λ ge. let e : i ≡ length xs = omega arith in inr (e, same_Some y x (sym (there_last xs y) ∙ ap (slice_get (xs ++ y ∷ [])) (sym e) ∙ there)))
+    (λ ge. let e : i ≡ length xs = omega arith in inr (e, same_Some y x (sym (slice_get-push xs y) ∙ ap (slice_get (xs ++ y ∷ [])) (sym e) ∙ there)))
     (cases_lt i (length xs))
 
 -- the last upload at a place that the new change does not name stays the last
@@ -120,7 +114,7 @@ last_new changes project path lang text = record {
   some = omega arith;
   lang = lang;
   text = text;
-  there = ap (slice_get (changes ++ change.Put project path lang text ∷ [])) (omega arith) ∙ there_last changes (change.Put project path lang text);
+  there = ap (slice_get (changes ++ change.Put project path lang text ∷ [])) (omega arith) ∙ slice_get-push changes (change.Put project path lang text);
   last = λ k d later at named.
       let inside = slice_get_within (changes ++ change.Put project path lang text ∷ []) k d at in
       let all = length-append changes (change.Put project path lang text ∷ []) in
@@ -142,7 +136,7 @@ last_cases changes c project path number is =
       },
       λ named.
           let inside = slice_get_within changes (number - 1) (change.Put project path is.lang is.text) old in
-          is.last (length changes) c (omega (arith, is.some)) (there_last changes c) named,
+          is.last (length changes) c (omega (arith, is.some)) (slice_get-push changes c) named,
     ))
     (λ (e, new). inr (omega (arith, is.some, e), new))
     (there_cases changes c (number - 1) (change.Put project path is.lang is.text) is.there)
@@ -191,7 +185,7 @@ module _ {L : Type 0} (settings : Settings) (changes : List Change) (project pat
   work_new = record {
     path = utf8;
     reading = record { lang = lang; text = text; answer = is.answer };
-    reads = record { project = project; path = path; there = ap (slice_get (changes ++ put ∷ [])) (omega (arith, is.number_is)) ∙ there_last changes put; lexes = is.lexes };
+    reads = record { project = project; path = path; there = ap (slice_get (changes ++ put ∷ [])) (omega (arith, is.number_is)) ∙ slice_get-push changes put; lexes = is.lexes };
     shows = is.shows;
   }
 
@@ -315,5 +309,5 @@ present changes m ordered files project path some none =
 pub ordered_map : {L : Type 0} (m : BTreeMap FileKey (Kept L)) → AllPairs KeyBefore (map key_of m.entries) → IsOrdered file_cmp m
 ordered_map {L} m pairs =
     let keyed : AllPairs (λ (a : FileKey) (b : FileKey). file_cmp a b ≡ Less) (map (λ (e : KeptAt L). e.0) m.entries) =
-    pairs_to_map (λ (a : FileKey) (b : FileKey). file_cmp a b ≡ Less) (λ (e : KeptAt L). e.0) m.entries (pairs_from_map KeyBefore key_of m.entries pairs) in
+    AllPairs-map (λ (a : FileKey) (b : FileKey). file_cmp a b ≡ Less) (λ (e : KeptAt L). e.0) m.entries (AllPairs-from_map KeyBefore key_of m.entries pairs) in
     sorted_from_all_adjacent file_total (keys m) (record { project = []; path = [] }) (λ k within. keyed k (k + 1) (record { project = []; path = [] }) (omega arith) within)

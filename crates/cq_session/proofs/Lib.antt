@@ -1,6 +1,5 @@
 pub mod Sent
 pub mod KeyOrder
-pub mod Mapped
 pub mod Counting
 pub mod Keepings
 pub mod Accepted

@@ -20,7 +20,7 @@ use Rattle.cq_base.specs.declared.token.Token.{Token}
 use Rattle.cq_base.specs.declared.change.Change.{Change}
 use Rattle.cq_base.specs.declared.settings.Settings.{Settings}
 use Rattle.cq_clones.specs.Groups.{file_at, AreGroups, IsGroup, StandsAt}
-use Rattle.cq_base.proofs.Lists.{Contains-here, Contains-there}
+use Rattle.cq_base.proofs.Lists.{Contains-here, Contains-there, Contains-map, Contains-from_map, Contains-filter, Contains-from_filter, AllPairs-from_map, AllPairs-map, AllPairs-weaker, element, same_default}
 use Rattle.cq_clones.proofs.GroupLaws.{within_from_standing}
 use Rattle.cq_clones.proofs.KeptPlaces.{kept_among}
 use Rattle.cq_reply.specs.declared.reply.GroupRow.{GroupRow}
@@ -41,8 +41,7 @@ use Rattle.cq_session.specs.Kept.{KeptAt, file_of, files_of, spans_in, norms_in,
 use Rattle.cq_session.specs.Listing.{file_in, spans_read, IsInside, IsGroupInside, IsFileListing, IsListing, place_row, group_row, is_meant}
 use Rattle.cq_session.specs.Measuring.{counts_read, measures_in, IsMeasured}
 use Rattle.cq_session.specs.Stands.{Key, key_of, KeyBefore, IsLastAt, Shows, HasWork, StandsFor}
-use Rattle.cq_session.proofs.KeyOrder.{text_equal}
-use Rattle.cq_session.proofs.Mapped.{Contains-map, Contains-from_map, Contains-filter, Contains-from_filter, pairs_from_map, pairs_to_map, pairs_weaker, element, same_default}
+use Rattle.cq_base.proofs.Orderings.{bytes-tie}
 
 abbrev pub is_of : {L : Type 0} → List ℕ → KeptAt L → Bool
 is_of project e = bytes_eq e.0.project project
@@ -56,7 +55,7 @@ chosen_project project k holds = (bytes_eq-Decides k.0.project project).0 holds
 -- of two files of one project the path decides
 path_decides : (a b : Key) → a.project ≡ b.project → KeyBefore a b → slice_cmp nat_cmp a.path b.path ≡ Less
 path_decides a b same before =
-    let e : slice_cmp nat_cmp a.project b.project ≡ Equal = ap (λ q. slice_cmp nat_cmp a.project q) (sym same) ∙ text_equal a.project in
+    let e : slice_cmp nat_cmp a.project b.project ≡ Equal = ap (λ q. slice_cmp nat_cmp a.project q) (sym same) ∙ bytes-tie a.project in
     sym (ap (λ r. ordering_then r (slice_cmp nat_cmp a.path b.path)) e) ∙ before
 
 same_file : (f g : File) → f.path ≡ g.path → f.number ≡ g.number → f ≡ g
@@ -65,10 +64,10 @@ same_file f g p n = λ i. record { path = p i; number = n i }
 -- those of a project are its files, in path order
 pub project_files : {L : Type 0} (settings : Settings) (h : History) (store : Store L) (project : List ℕ) → StandsFor settings h store → AreFiles h.changes project (files_of (chosen project store.files.entries))
 project_files {L} settings h store project stands = record {
-  ordered = pairs_to_map PathBefore file_of (chosen project store.files.entries)
-      (pairs_weaker (λ a b. KeyBefore (key_of a) (key_of b)) (λ a b. PathBefore (file_of a) (file_of b)) (chosen project store.files.entries)
+  ordered = AllPairs-map PathBefore file_of (chosen project store.files.entries)
+      (AllPairs-weaker (λ a b. KeyBefore (key_of a) (key_of b)) (λ a b. PathBefore (file_of a) (file_of b)) (chosen project store.files.entries)
       (λ a b a_in b_in before. path_decides (key_of a) (key_of b) (its_project a a_in ∙ sym (its_project b b_in)) before)
-      (AllPairs-filter (λ a b. KeyBefore (key_of a) (key_of b)) (is_of project) store.files.entries (pairs_from_map KeyBefore key_of store.files.entries stands.files.ordered)));
+      (AllPairs-filter (λ a b. KeyBefore (key_of a) (key_of b)) (is_of project) store.files.entries (AllPairs-from_map KeyBefore key_of store.files.entries stands.files.ordered)));
   each = λ f. (there f, back f);
 }
   where

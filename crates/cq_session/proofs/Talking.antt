@@ -1,8 +1,8 @@
 -- One more line and its reply, and the replies of a server alone.
-use Rattle.std.proofs.Common.{◌≡◌, ℕ, ◌<◌, ◌≤◌, List, [], ◌∷◌, ◌++◌, length, Bool, true, false, ltb, Result, Ok, Err, IfOk, OnOk, refl, subst, inl, inr, arith}
-use Rattle.std.specs.Prelude.{MatchBool}
+use Rattle.std.proofs.Common.{◌≡◌, ℕ, ◌<◌, ◌≤◌, List, [], ◌∷◌, ◌++◌, length, true, false, ltb, Result, Ok, Err, IfOk, OnOk, refl, subst, inl, inr, arith}
 use Rattle.std.proofs.lemmas.Grind.{common_steps}
 use Rattle.cq_base.specs.declared.settings.Settings.{Settings}
+use Rattle.cq_base.proofs.Bools.{MatchBool-from_true, MatchBool-from_false}
 use Rattle.cq_lines.specs.Pieces.{line_limit}
 use Rattle.cq_request.specs.Reading.{line_says}
 use Rattle.cq_reply.specs.declared.reply.Reply.{Reply}
@@ -30,28 +30,19 @@ alone_up_to_memory settings h after [] (r ∷ replies) talk = absurd talk
 alone_up_to_memory settings h after (line ∷ lines) [] talk = absurd talk
 alone_up_to_memory settings h after (line ∷ lines) (r ∷ replies) talk =
     elim talk.1 [
-      | inl memory ↦ inl (memory.0, Talk-many settings talk.0 after lines replies talk.2)
+      | inl memory ↦ inl (memory.0, memory.1, Talk-many settings talk.0 after lines replies talk.2)
       | inr reply ↦ inr (talk.0, reply, alone_up_to_memory settings talk.0 after lines replies talk.2)
     ]
-
--- the two kinds of line
-by_length : (b : Bool) (P Q : Type 0) → b ≡ true → P → MatchBool b P Q
-by_length true P Q e p = p
-by_length false P Q e p = absurd (cc)
-
-by_says : (b : Bool) (P Q : Type 0) → b ≡ false → Q → MatchBool b P Q
-by_says true P Q e q = absurd (cc)
-by_says false P Q e q = q
 
 pub answers_long : (settings : Settings) (h : History) (line : List ℕ) → line_limit < length line → Answers settings h line reply.Long h
 answers_long settings h line long =
     let e : ltb line_limit (length line) ≡ true = grind (arith, common_steps) in
-    inr (by_length (ltb line_limit (length line)) _ (IsAnswer settings h (line_says settings.chunk line) reply.Long h) e (refl, refl))
+    inr (MatchBool-from_true (ltb line_limit (length line)) _ (IsAnswer settings h (line_says settings.chunk line) reply.Long h) e (refl, refl))
 
 pub answers_short : (settings : Settings) (h after : History) (line : List ℕ) (r : Reply) → length line ≤ line_limit → IsAnswer settings h (line_says settings.chunk line) r after → Answers settings h line r after
 answers_short settings h after line r short is =
     let e : ltb line_limit (length line) ≡ false = grind (arith, common_steps) in
-    inr (by_says (ltb line_limit (length line)) ((r ≡ reply.Long) × (after ≡ h)) _ e is)
+    inr (MatchBool-from_false (ltb line_limit (length line)) ((r ≡ reply.Long) × (after ≡ h)) _ e is)
 
 -- what an answer says of its value, and what it says at all
 pub both_ok : {T E : Type 0} (r : Result T E) (P S : T → Type 0) (Q : Type 0) → ((x : T) → P x → Q → S x) → IfOk r P → OnOk r Q → IfOk r S

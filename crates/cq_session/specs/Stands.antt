@@ -57,10 +57,12 @@ pub record HasWork {L : Type 0} (settings : Settings) (changes : List Change) (e
 -- the store keeps exactly the files of these changes, each with its tokens, and each project's conditions
 pub record StandsFor {L : Type 0} (settings : Settings) (h : History) (store : Store L) : Type 0 where
   pub accepted : store.accepted ≡ length h.changes
+  pub most : length h.changes ≤ 262144
   pub published : store.published ≡ h.published
   pub within : h.published ≤ length h.changes
   pub undone : store.undone ≡ undone h
   pub texts : store.texts ≡ texts_size h.changes
+  pub no_more : length store.files.entries ≤ length h.changes
   pub files : AreAllInOrder KeyBefore (IsLastAt h.changes) (map key_of store.files.entries)
   pub works : (e : KeptAt L) → Contains store.files.entries e → HasWork settings h.changes e
   pub gates : (project : List ℕ) → conditions_at store.gates project ≡ conditions_of h.changes project

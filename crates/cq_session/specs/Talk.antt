@@ -90,9 +90,10 @@ abbrev pub IsReplyTo : Settings → History → List ℕ → Reply → History �
 IsReplyTo settings h line r after =
     MatchBool (nat_lt line_limit (length line)) ((r ≡ reply.Long) × (after ≡ h)) (IsAnswer settings h (line_says settings.chunk line) r after)
 
--- the reply to a line, or want of memory, which changes nothing
+-- The reply to a line; or, where the line is not too long, want of memory, which changes nothing. A line that is too
+-- long is never taken into memory.
 abbrev pub Answers : Settings → History → List ℕ → Reply → History → Type 0
-Answers settings h line r after = ((r ≡ reply.Memory) × (after ≡ h)) ⊎ IsReplyTo settings h line r after
+Answers settings h line r after = ((length line ≤ line_limit) × (r ≡ reply.Memory) × (after ≡ h)) ⊎ IsReplyTo settings h line r after
 
 -- one reply for each line, by what was accepted before
 abbrev pub Talk : Settings → History → List (List ℕ) → List Reply → History → Type 0
@@ -108,4 +109,4 @@ IsAloneUpToMemory settings h [] [] = Unit {0}
 IsAloneUpToMemory settings h [] (r ∷ replies) = ⊥
 IsAloneUpToMemory settings h (line ∷ lines) [] = ⊥
 IsAloneUpToMemory settings h (line ∷ lines) (r ∷ replies) =
-    ((r ≡ reply.Memory) × (length replies ≡ length lines)) ⊎ ((after : History) × IsReplyTo settings h line r after × IsAloneUpToMemory settings after lines replies)
+    ((length line ≤ line_limit) × (r ≡ reply.Memory) × (length replies ≡ length lines)) ⊎ ((after : History) × IsReplyTo settings h line r after × IsAloneUpToMemory settings after lines replies)

@@ -1,6 +1,7 @@
 ghost use Rattle.std.specs.Prelude.{◌≡◌, ◌+◌, ◌≤◌, length, IfOk, IfErr, IsUtf8};
 ghost use Rattle.cq_base.specs.declared.change.Change.TheVariants as change;
 ghost use Rattle.cq_base.specs.declared.change.Condition.{Condition};
+ghost use Rattle.cq_base.specs.Settings.{IsInRange};
 ghost use Rattle.cq_request.specs.Sound.{IsSoundChange};
 ghost use Rattle.cq_session.specs.Changes.{History, with_change};
 ghost use Rattle.cq_session.specs.Accepting.{IsRefused, IsFree};
@@ -63,7 +64,7 @@ impl<L: Ledger> Store<L> {
         requires path { IsUtf8 path }
         requires utf8 { IsUtf8 text }
         requires short { length text ≤ 1048576 }
-        requires some { 1 ≤ settings.now.chunk }
+        requires in_range { IsInRange settings.now }
         requires settings { keyer.now.settings ≡ settings.now }
         ensures accepted { IfOk result (λ n. (h : History) → StandsFor settings.now h self.old → IsFree settings.now h (change.Put project path lang text) × (n ≡ length h.changes + 1) × StandsFor settings.now (with_change h (change.Put project path lang text)) self.new) }
         ensures refused { IfErr result (λ why. (h : History) → StandsFor settings.now h self.old → IsRefused settings.now h (change.Put project path lang text) why × StandsFor settings.now h self.new) }
@@ -87,6 +88,7 @@ impl<L: Ledger> Store<L> {
     }
 
     fn remove(&mut self, settings: &Settings, project: Text, path: Text) -> Result<u64, Refused>
+        requires in_range { IsInRange settings.now }
         ensures accepted { IfOk result (λ n. (h : History) → StandsFor settings.now h self.old → IsFree settings.now h (change.Drop project path) × (n ≡ length h.changes + 1) × StandsFor settings.now (with_change h (change.Drop project path)) self.new) }
         ensures refused { IfErr result (λ why. (h : History) → StandsFor settings.now h self.old → IsRefused settings.now h (change.Drop project path) why × StandsFor settings.now h self.new) }
     {
@@ -108,7 +110,8 @@ impl<L: Ledger> Store<L> {
         project: Text,
         conditions: Conditions,
     ) -> Result<u64, Refused>
-        requires { length conditions ≤ 32 }
+        requires in_range { IsInRange settings.now }
+        requires few { length conditions ≤ 32 }
         ensures accepted { IfOk result (λ n. (h : History) → StandsFor settings.now h self.old → IsFree settings.now h (change.Gate project conditions) × (n ≡ length h.changes + 1) × StandsFor settings.now (with_change h (change.Gate project conditions)) self.new) }
         ensures refused { IfErr result (λ why. (h : History) → StandsFor settings.now h self.old → IsRefused settings.now h (change.Gate project conditions) why × StandsFor settings.now h self.new) }
     {
@@ -130,7 +133,7 @@ impl<L: Ledger> Store<L> {
     ) -> Result<u64, Refused>
         requires stands { (h : History) × StandsFor settings.now h self.old }
         requires sound { IsSoundChange change }
-        requires some { 1 ≤ settings.now.chunk }
+        requires in_range { IsInRange settings.now }
         requires settings { keyer.now.settings ≡ settings.now }
         ensures accepted { IfOk result (λ n. (h : History) → StandsFor settings.now h self.old → IsFree settings.now h change × (n ≡ length h.changes + 1) × StandsFor settings.now (with_change h change) self.new) }
         ensures refused { IfErr result (λ why. (h : History) → StandsFor settings.now h self.old → IsRefused settings.now h change why × StandsFor settings.now h self.new) }

@@ -8,6 +8,7 @@ ghost use Rattle.cq_request.specs.declared.request.Request.TheVariants as reques
 ghost use Rattle.cq_request.specs.declared.request.Refusal.{Refusal};
 ghost use Rattle.cq_reply.specs.Written.{line_of, IsReplyText};
 ghost use Rattle.cq_reply.specs.declared.reply.Reply.TheVariants as reply;
+ghost use Rattle.cq_base.specs.Settings.{IsInRange};
 ghost use Rattle.cq_base.specs.declared.settings.Settings.{Settings};
 ghost use Rattle.cq_session.specs.Changes.{History};
 ghost use Rattle.cq_session.specs.Stands.{StandsFor};
@@ -80,7 +81,7 @@ fn change_line<L: Ledger>(
 ) -> Result<Line, Memory>
     requires stands { (h : History) × StandsFor settings.now h store.old }
     requires sound { IsSoundChange change }
-    requires some { 1 ≤ settings.now.chunk }
+    requires in_range { IsInRange settings.now }
     requires settings { keyer.now.settings ≡ settings.now }
     ensures replies { IfOk result (λ line. (h : History) → StandsFor settings.now h store.old → Replies settings.now h (ok (request.Change change)) (bytes_of line) store.new) }
     ensures refused { OnErr result ((h : History) → StandsFor settings.now h store.old → StandsFor settings.now h store.new) }
@@ -235,7 +236,7 @@ fn reply_line<L: Ledger>(
     steps: &mut Steps<L>,
 ) -> Result<Line, Memory>
     requires stands { (h : History) × StandsFor settings.now h store.old }
-    requires chunk { 1 ≤ settings.now.chunk }
+    requires in_range { IsInRange settings.now }
     requires settings { keyer.now.settings ≡ settings.now }
     ensures replies { IfOk result (λ made. (h : History) → StandsFor settings.now h store.old → Replies settings.now h (line_says settings.now.chunk line.now) (bytes_of made) store.new) }
     ensures refused { OnErr result ((h : History) → StandsFor settings.now h store.old → StandsFor settings.now h store.new) }
@@ -259,7 +260,7 @@ pub(crate) fn answer<K: Sink, L: Ledger>(
     steps: &mut Steps<L>,
 ) -> Result<(), Failed>
     requires stands { (h : History) × StandsFor settings.now h store.old }
-    requires chunk { 1 ≤ settings.now.chunk }
+    requires in_range { IsInRange settings.now }
     requires settings { keyer.now.settings ≡ settings.now }
     requires short { length line.now ≤ line_limit }
     ensures turn { (h : History) → StandsFor settings.now h store.old → Turns settings.now h store.new line.now (K.written sink.old) (K.written sink.new) result }

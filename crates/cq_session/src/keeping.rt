@@ -1,4 +1,5 @@
 ghost use Rattle.std.specs.Prelude.{◌≡◌, ◌≤◌, length, IfOk, IsUtf8};
+ghost use Rattle.cq_base.specs.Settings.{IsInRange};
 ghost use Rattle.cq_session.specs.Stands.{IsKeptOf};
 
 use crate::kept::Kept;
@@ -19,7 +20,7 @@ pub(crate) fn kept_of<L: Ledger>(
 ) -> Result<Kept<L>, Memory>
     requires utf8 { IsUtf8 text.now }
     requires short { length text.now ≤ 1048576 }
-    requires some { 1 ≤ settings.now.chunk }
+    requires in_range { IsInRange settings.now }
     requires settings { keyer.now.settings ≡ settings.now }
     ensures { IfOk result (IsKeptOf settings.now lang text.now number) }
 {

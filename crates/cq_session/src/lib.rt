@@ -17,6 +17,3 @@ mod store;
 
 pub use serving::{End, session};
 pub use store::Store;
-
-#[cfg(test)]
-mod tests;

@@ -1,4 +1,5 @@
 ghost use Rattle.std.specs.Prelude.{◌≡◌, ◌≤◌};
+ghost use Rattle.cq_base.specs.Settings.{IsInRange};
 ghost use Rattle.cq_lines.specs.Runs.{IsFresh};
 ghost use Rattle.cq_session.specs.Changes.{History};
 ghost use Rattle.cq_session.specs.Stands.{StandsFor};
@@ -39,7 +40,7 @@ pub fn session<S: Source, K: Sink, L: Ledger>(
     steps: &mut Steps<L>,
 ) -> End
     requires fresh { IsFresh lines.old }
-    requires chunk { 1 ≤ settings.now.chunk }
+    requires in_range { IsInRange settings.now }
     requires settings { keyer.now.settings ≡ settings.now }
     requires stands { (h : History) × StandsFor settings.now h store.old }
     ensures served { (h : History) → StandsFor settings.now h store.old → Leaves settings.now h store.new lines.old.limit (S.rest source.old) (S.rest source.new) (K.written sink.old) (K.written sink.new) result }

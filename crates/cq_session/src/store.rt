@@ -1,5 +1,7 @@
-ghost use Rattle.std.specs.Prelude.{◌≡◌, ◌≤◌, IfOk};
+ghost use Rattle.std.specs.Prelude.{◌≡◌, ◌≤◌, length, map, filter, IfOk};
 ghost use Rattle.std.specs.List.{AllByRecursion};
+ghost use Rattle.std.specs.Map.Iter.{deref_pair};
+ghost use Rattle.std.specs.Str.{bytes_eq};
 ghost use Rattle.cq_reply.specs.Written.{IsFileText, IsGroupText};
 ghost use Rattle.cq_base.specs.declared.settings.Settings.{Settings};
 ghost use Rattle.cq_session.specs.Changes.{History, no_history, all_published, done};
@@ -14,9 +16,6 @@ use cq_reply::{FileRows, GroupRows};
 use std::alloc::Global;
 use std::collections::BTreeMap;
 use std::sync::ledger::Ledger;
-
-// As many files as changes may be accepted.
-const MOST_FILES: usize = 262_144;
 
 /// The files of all projects after the changes so far, by project and then path, the conditions of each project, and how
 /// far the server has come. Of a file only the last upload is kept, as its tokens.
@@ -72,13 +71,26 @@ impl<L: Ledger> Store<L> {
         }
     }
 
+    // The files of a project, of which there are at most as many as there are changes.
+    fn project_files(
+        &self,
+        alloc: Global,
+        project: &Text,
+    ) -> Result<Vec<(&FileKey, &Kept<L>)>, Memory>
+        requires sound { (settings : Settings) × (h : History) × StandsFor settings h self.now }
+        ensures files { IfOk result (λ v. map deref_pair v.items ≡ filter (λ e. bytes_eq e.0.project project.now) self.now.files.entries) }
+        ensures few { IfOk result (λ v. length v.items ≤ 262144) }
+    {
+        of_project(alloc, &self.files, project)
+    }
+
     /// The files of a project.
     pub(crate) fn files_of(&self, alloc: Global, project: &Text) -> Result<FileRows, Memory>
         requires sound { (settings : Settings) × (h : History) × StandsFor settings h self.now }
         ensures listing { IfOk result (λ rows. (settings : Settings) (h : History) → StandsFor settings h self.now → IsFileListing h.changes project.now rows) }
         ensures texts { IfOk result (AllByRecursion IsFileText) }
     {
-        let files = of_project(alloc, &self.files, project)?;
+        let files = self.project_files(alloc, project)?;
         file_rows(alloc, &files)
     }
 
@@ -97,10 +109,7 @@ impl<L: Ledger> Store<L> {
         ensures listing { IfOk result (λ rows. (settings : Settings) (h : History) → StandsFor settings h self.now → IsListing settings h.changes project.now min path.now rows) }
         ensures texts { IfOk result (AllByRecursion IsGroupText) }
     {
-        let files = of_project(alloc, &self.files, project)?;
-        if files.len() > MOST_FILES {
-            return Err(Memory);
-        }
+        let files = self.project_files(alloc, project)?;
         let groups = groups_in(alloc, &files, min, steps)?;
         group_rows(alloc, &files, path, &groups)
     }
@@ -119,10 +128,7 @@ impl<L: Ledger> Store<L> {
         requires some { 1 ≤ min }
         ensures { IfOk result (λ m. (settings : Settings) (h : History) → StandsFor settings h self.now → IsMeasured settings h.changes project.now min path.now m) }
     {
-        let files = of_project(alloc, &self.files, project)?;
-        if files.len() > MOST_FILES {
-            return Err(Memory);
-        }
+        let files = self.project_files(alloc, project)?;
         let groups = groups_in(alloc, &files, min, steps)?;
         measures_in(alloc, &files, path, &groups)
     }

@@ -2,7 +2,11 @@
 //! that it is handed; `main` makes the real ones.
 #![tactic(auto)]
 
-ghost use Rattle.std.specs.Prelude.{◌≡◌};
+ghost use Rattle.std.specs.Prelude.{◌≡◌, ◌≢◌, map, drop, string_bytes, IfOk};
+ghost use Rattle.std.specs.IoError.{error_kind};
+ghost use Rattle.std.specs.declared.io.ErrorKind.TheVariants.{OutOfMemory};
+ghost use Rattle.std.specs.Vec.Iter.{into_iter_items};
+ghost use Rattle.cqd.specs.Top as spec;
 
 mod program;
 
@@ -12,6 +16,7 @@ use cq_io::{MemDoors, OpenGate, StdSink, StdSource};
 use std::alloc::Global;
 use std::collections::VecDeque;
 use std::env;
+use std::io::{Error, ErrorKind};
 use std::marker::Brand;
 use std::process::ExitCode;
 use std::sync::ledger::{Blank, Ledger};
@@ -20,7 +25,10 @@ const WORDS_REFUSED: u8 = 1;
 
 const OUT_OF_MEMORY: u8 = 4;
 
-fn line_of(status: u8) -> &'static str {
+// What is told of a status other than 0.
+fn line_of(status: u8) -> &'static str
+    ensures { result.now ≡ spec.line_of status }
+{
     match status {
         1 => "cqd: words refused",
         2 => "cqd: read fault",
@@ -30,13 +38,23 @@ fn line_of(status: u8) -> &'static str {
     }
 }
 
-// The words behind the program's name.
-fn words_of(alloc: Global, args: env::Args) -> Result<Vec<Text>, Memory> {
-    let mut words = Vec::new(alloc);
-    for arg in args.skip(1) {
-        words.push(Text::from_bytes(alloc, arg.as_bytes())?)?;
+// Each word, copied.
+fn texts_of(alloc: Global, words: &[String]) -> Result<Vec<Text>, Memory>
+    ensures { IfOk result (λ texts. texts.items ≡ map string_bytes words.now) }
+{
+    let mut texts = Vec::new(alloc);
+    for word in words {
+        texts.push(Text::from_bytes(alloc, word.as_bytes())?)?;
     }
-    Ok(words)
+    Ok(texts)
+}
+
+// The words behind the program's name.
+fn words_of(alloc: Global, args: env::Args) -> Result<Vec<Text>, Memory>
+    ensures { IfOk result (λ words. words.items ≡ map string_bytes (drop 1 (into_iter_items args))) }
+{
+    let words: Vec<String> = args.skip(1).collect(alloc)?;
+    texts_of(alloc, &words)
 }
 
 // Runs on standard input and output.
@@ -61,9 +79,21 @@ fn run<L: Ledger>(rt: &HostRuntime, words: &[Text], blank: Blank) -> u8
     )
 }
 
+// The status of a run whose words could not be had: memory was refused, or one is not UTF-8.
+fn status_without_words(error: &Error) -> u8
+    ensures memory { error_kind error.now ≡ OutOfMemory → result ≡ 4 }
+    ensures refused { error_kind error.now ≢ OutOfMemory → result ≡ 1 }
+{
+    match error.kind() {
+        ErrorKind::OutOfMemory => OUT_OF_MEMORY,
+        _ => WORDS_REFUSED,
+    }
+}
+
 fn status(rt: &HostRuntime) -> u8 {
-    let Ok(args) = env::args(rt) else {
-        return WORDS_REFUSED;
+    let args = match env::args(rt) {
+        Ok(args) => args,
+        Err(error) => return status_without_words(&error),
     };
     match words_of(rt.alloc(), args) {
         Ok(words) => run::<Brand>(rt, &words, Blank::new(1)),

@@ -1,4 +1,5 @@
 ghost use Rattle.std.specs.Prelude.{◌≡◌, ◌≢◌, ◌↔◌, ◌≤◌, Some, None};
+ghost use Rattle.cq_base.specs.Settings.{IsInRange};
 ghost use Rattle.cq_io.specs.Causes.{Rose};
 ghost use Rattle.cqd.specs.Top.{Runs};
 ghost use Rattle.cqd.specs.Top as spec;
@@ -33,7 +34,7 @@ fn serve<S: Source, K: Sink, L: Ledger>(
     sink: &mut K,
     steps: &mut Steps<L>,
 ) -> u8
-    requires chunk { 1 ≤ settings.now.chunk }
+    requires in_range { IsInRange settings.now }
     ensures words { result ≢ 1 }
     ensures memory { result ≡ 4 → (source.new ≡ source.old) × (sink.new ≡ sink.old) }
     ensures read_fault { result ≡ 2 → Rose (S.faults source.old) (S.faults source.new) }
@@ -96,8 +97,7 @@ pub fn top<S: Source, K: Sink, D: Doors, G: Gate, L: Ledger>(
     }
     match read_run(alloc, words) {
         Ok(Some(run)) => serve(alloc, &run.settings, source, sink, steps),
-        // The words are in form, so this does not come.
-        Ok(None) => 1,
+        Ok(None) => unreachable!(),
         Err(Memory) => 4,
     }
 }

@@ -2,7 +2,7 @@ ghost use Rattle.std.specs.Prelude.{◌≡◌, ◌<◌};
 
 use crate::program::top;
 use cq_base::{Memory, Steps, Text};
-use cq_io::{MemDoors, MemSink, MemSource, OpenGate};
+use cq_io::{Failed, MemDoors, MemSink, MemSource, OpenGate, Source};
 use std::alloc::Global;
 use std::collections::VecDeque;
 use std::marker::Brand;
@@ -62,135 +62,59 @@ fn ends_with(
     Ok(ended == status && sink.written() == output)
 }
 
-// Whether an input has this output, however it is cut.
-fn answers(alloc: Global, input: &[u8], output: &[u8]) -> Result<bool, Memory> {
-    let one = ends_with(alloc, &WORDS, input, 1, (0, 0), output, 0)?;
-    let many = ends_with(alloc, &WORDS, input, 4_096, (0, 0), output, 0)?;
-    Ok(one && many)
-}
-
 #[test]
-fn runs_of_tokens_are_listed(rt: HostRuntime) -> Result<(), Memory> {
+fn lines_are_served_however_they_are_cut(rt: HostRuntime) -> Result<(), Memory> {
     let alloc = rt.alloc();
-    assert!(rt; answers(alloc, b"", b"")?);
-    let cases = [
-        (
-            r#"{"op":"groups","project":"none","min":3}
-"#,
-            r#"{"groups":[],"ok":true,"total":0,"version":0}
-"#,
-        ),
-        (
-            r#"{"op":"put","project":"p","path":"t","lang":"any","text":"a b c x a b c y"}
-{"op":"groups","project":"p","min":3}
-"#,
-            r#"{"change":1,"ok":true}
-{"groups":[{"places":[{"at":0,"first":1,"last":1,"path":"t"},{"at":4,"first":1,"last":1,"path":"t"}],"tokens":3}],"ok":true,"total":1,"version":1}
-"#,
-        ),
-        (
-            r#"{"op":"put","project":"p","path":"t","lang":"any","text":"a a a a a a"}
-{"op":"groups","project":"p","min":2}
-"#,
-            r#"{"change":1,"ok":true}
-{"groups":[{"places":[{"at":0,"first":1,"last":1,"path":"t"},{"at":3,"first":1,"last":1,"path":"t"}],"tokens":3},{"places":[{"at":0,"first":1,"last":1,"path":"t"},{"at":2,"first":1,"last":1,"path":"t"},{"at":4,"first":1,"last":1,"path":"t"}],"tokens":2}],"ok":true,"total":2,"version":1}
-"#,
-        ),
-        (
-            r#"{"op":"put","project":"p","path":"t","lang":"any","text":"a b a b a b"}
-{"op":"groups","project":"p","min":4}
-"#,
-            r#"{"change":1,"ok":true}
+    let input = b"{\"op\":\n\n\"\xff\"\n{\"op\":\"fly\"}\n\
+        {\"op\":\"put\",\"project\":\"p\",\"path\":\"t\",\"lang\":\"any\",\"text\":\"a b\"}\n\
+        {\"op\":\"groups\",\"project\":\"p\",\"min\":2}"
+        .as_slice();
+    let output = r#"{"code":1,"error":"json","ok":false}
+{"code":1,"error":"json","ok":false}
+{"code":1,"error":"json","ok":false}
+{"code":2,"error":"op","ok":false}
+{"change":1,"ok":true}
 {"groups":[],"ok":true,"total":0,"version":1}
-"#,
-        ),
-        (
-            r#"{"op":"put","project":"p","path":"f1","lang":"any","text":"a m n x"}
-{"op":"put","project":"p","path":"f2","lang":"any","text":"a m n y"}
-{"op":"put","project":"p","path":"f3","lang":"any","text":"b m n x"}
-{"op":"groups","project":"p","min":2}
-"#,
-            r#"{"change":1,"ok":true}
-{"change":2,"ok":true}
-{"change":3,"ok":true}
-{"groups":[{"places":[{"at":0,"first":1,"last":1,"path":"f1"},{"at":0,"first":1,"last":1,"path":"f2"}],"tokens":3},{"places":[{"at":1,"first":1,"last":1,"path":"f1"},{"at":1,"first":1,"last":1,"path":"f3"}],"tokens":3},{"places":[{"at":1,"first":1,"last":1,"path":"f1"},{"at":1,"first":1,"last":1,"path":"f2"},{"at":1,"first":1,"last":1,"path":"f3"}],"tokens":2}],"ok":true,"total":3,"version":3}
-"#,
-        ),
-        (
-            r#"{"op":"put","project":"p","path":"f1","lang":"any","text":"p q r"}
-{"op":"put","project":"p","path":"f2","lang":"any","text":"p q r"}
-{"op":"groups","project":"p","min":2}
-"#,
-            r#"{"change":1,"ok":true}
-{"change":2,"ok":true}
-{"groups":[{"places":[{"at":0,"first":1,"last":1,"path":"f1"},{"at":0,"first":1,"last":1,"path":"f2"}],"tokens":3}],"ok":true,"total":1,"version":2}
-"#,
-        ),
-        (
-            r#"{"op":"put","project":"p","path":"t","lang":"any","text":"a b c x a b c y"}
-{"op":"put","project":"p","path":"t","lang":"any","text":"q"}
-{"op":"groups","project":"p","min":3}
-"#,
-            r#"{"change":1,"ok":true}
-{"change":2,"ok":true}
-{"groups":[],"ok":true,"total":0,"version":2}
-"#,
-        ),
-        (
-            r#"{"op":"put","project":"p","path":"f2","lang":"any","text":"p q r"}
-{"op":"put","project":"q","path":"f0","lang":"any","text":"p q r"}
-{"op":"put","project":"p","path":"f1","lang":"any","text":"old"}
-{"op":"put","project":"p","path":"f1","lang":"any","text":"p\nq\nr"}
-{"op":"groups","project":"p","min":2}
-"#,
-            r#"{"change":1,"ok":true}
-{"change":2,"ok":true}
-{"change":3,"ok":true}
-{"change":4,"ok":true}
-{"groups":[{"places":[{"at":0,"first":1,"last":3,"path":"f1"},{"at":0,"first":1,"last":1,"path":"f2"}],"tokens":3}],"ok":true,"total":1,"version":4}
-"#,
-        ),
-    ];
-    for (input, output) in cases {
-        assert!(rt; answers(alloc, input.as_bytes(), output.as_bytes())?);
-    }
+"#
+        .as_bytes();
+    assert!(rt; ends_with(alloc, &WORDS, b"", 9, (0, 0), b"", 0)?);
+    assert!(rt; ends_with(alloc, &WORDS, input, 1, (0, 0), output, 0)?);
+    assert!(rt; ends_with(alloc, &WORDS, input, 4_096, (0, 0), output, 0)?);
     Ok(())
 }
 
 #[test]
-fn lines_behind_a_refused_one_are_served(rt: HostRuntime) -> Result<(), Memory> {
+fn long_lines_are_told(rt: HostRuntime) -> Result<(), Memory> {
     let alloc = rt.alloc();
-    let json = r#"{"code":1,"error":"json","ok":false}
-{"groups":[],"ok":true,"total":0,"version":0}
-"#;
-    let op = r#"{"code":2,"error":"op","ok":false}
-{"groups":[],"ok":true,"total":0,"version":0}
-"#;
-    let cases = [
-        (
-            b"{\"op\":\n{\"op\":\"groups\",\"project\":\"p\",\"min\":2}\n".as_slice(),
-            json,
-        ),
-        (
-            b"\n{\"op\":\"groups\",\"project\":\"p\",\"min\":2}\n".as_slice(),
-            json,
-        ),
-        (
-            b"[1]\n{\"op\":\"groups\",\"project\":\"p\",\"min\":2}\n".as_slice(),
-            json,
-        ),
-        (
-            b"\"\xff\"\n{\"op\":\"groups\",\"project\":\"p\",\"min\":2}\n".as_slice(),
-            json,
-        ),
-        (
-            b"{\"op\":\"fly\"}\n{\"op\":\"groups\",\"project\":\"p\",\"min\":2}".as_slice(),
-            op,
-        ),
-    ];
-    for (input, output) in cases {
-        assert!(rt; answers(alloc, input, output.as_bytes())?);
-    }
+    let mut input = br#"{"op":"state"}"#.to_vec(alloc)?;
+    input.resize(8_388_608, b' ')?;
+    input.extend_from_slice(b"\n{\"op\":\"state\"}")?;
+    let least = 8_388_609 + 8_388_609;
+    input.resize(least, b' ')?;
+    input.extend_from_slice(b"\n{\"op\":\"state\"}\n")?;
+    let output = r#"{"accepted":0,"done":0,"ok":true,"published":0}
+{"code":13,"error":"long","ok":false}
+{"accepted":0,"done":0,"ok":true,"published":0}
+"#
+        .as_bytes();
+    assert!(rt; ends_with(alloc, &WORDS, &input, 65_536, (0, 0), output, 0)?);
+    Ok(())
+}
+
+fn read_once(source: &mut MemSource, out: &mut [u8; 4]) -> Result<usize, Failed> {
+    source.read(out)
+}
+
+#[test]
+fn a_reply_is_written_before_the_next_line_is_read(rt: HostRuntime) -> Result<(), Memory> {
+    let alloc = rt.alloc();
+    let words = words_of(alloc, &WORDS)?;
+    let bytes = Vec::from_slice(alloc, b"{}\n{}\n")?;
+    let mut source = MemSource::new(bytes, 3, Vec::new(alloc));
+    let mut sink = MemSink::new(alloc, 99, 99, vec![in alloc; 1u64]?)?;
+    assert_eq!(rt; run_here(alloc, &words, &mut source, &mut sink), 3);
+    let mut left = [0u8; 4];
+    assert_eq!(rt; read_once(&mut source, &mut left), Ok(3));
     Ok(())
 }
 

@@ -19,7 +19,7 @@ pub returns-in-Err-clause-turn : goal.returns-in-Err-clause-turn
 returns-in-Err-clause-turn g c = λ h stands. record {
   reply = reply.Memory;
   after = h;
-  answers = inl (refl, refl);
+  answers = inl (c.requires.short, refl, refl);
   stands = c.in-Err.ensures.refused h stands;
   sends = subst (λ piece. Sends (g.K.Sink.written c.args.sink.now) (g.K.Sink.written c.send-in-Err.new.sink) piece c.send-in-Err.result) (c.as_bytes-in-Err.ensures.bytes ∙ c.fixed.ensures) c.send-in-Err.ensures.bytes;
 }
