@@ -1,3 +1,4 @@
+pub mod Changes
 pub mod Lines
 pub mod Places
 pub mod Settings

@@ -12,7 +12,7 @@ use Rattle.cq_base.specs.declared.change.Change.TheVariants.{Put, Drop, Gate}
 use Rattle.std.specs.Prelude.{IfSome, nat_lt, is_some}
 use Rattle.std.proofs.lemmas.Bool.Decides.{nat_tests}
 use Rattle.cq_history.specs.declared.event.Event.TheVariants.{Accept}
-use Rattle.cq_history.specs.Changes.{text_len}
+use Rattle.cq_history.specs.Changes.{text_len, IsWorkFor}
 use Rattle.cq_history.specs.State.{State, Slot, new_slot, after, is_done, is_free, text_bytes}
 use Rattle.cq_history.specs.Lawful.{Permits, is_absent, is_full, is_long}
 use Rattle.cq_history.proofs.Bounds.{prefix_len-append-le}
@@ -23,7 +23,7 @@ use Rattle.cq_board.specs.declared.kept.FileKey.{FileKey}
 use Rattle.cq_board.specs.Presence.{IsPresence}
 use Rattle.cq_board.specs.Answers.{refusal_of}
 use Rattle.cq_board.specs.declared.kept.Kept.{Kept}
-use Rattle.cq_board.specs.Slots.{slot_from, change_of, state_from, IsWorked, IsWorkFor, IsNoneFree}
+use Rattle.cq_board.specs.Slots.{slot_from, change_of, state_from, IsWorked, IsNoneFree}
 use Rattle.cq_board.specs.Boards.{changes_from, SlotsOk, BoardOk}
 
 -- what is not refused is allowed

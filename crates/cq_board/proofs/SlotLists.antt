@@ -15,10 +15,10 @@ use Rattle.cq_history.specs.declared.event.Event.TheVariants.{Took, Back, Done}
 use Rattle.cq_history.specs.State.{State, Slot, no_slot, slot_of, after, is_free, is_done}
 use Rattle.cq_history.proofs.Prefixes.{map_change-set}
 use Rattle.cq_board.specs.declared.kept.Kept.{Kept}
-use Rattle.cq_board.specs.Slots.{slot_from, change_of, state_from, IsWorked, IsWorkFor, IsNoneFree}
+use Rattle.cq_board.specs.Slots.{slot_from, change_of, state_from, IsWorked, IsNoneFree}
 use Rattle.cq_board.specs.Boards.{changes_from, SlotsOk}
 use Rattle.cq_base.specs.declared.settings.Settings.{Settings}
-use Rattle.cq_history.specs.Changes.{text_len, is_put}
+use Rattle.cq_history.specs.Changes.{text_len, is_put, IsWorkFor}
 
 pub prefix_more : {X : Type 0} (p : X → Bool) (xs : List X) (i : ℕ) (d : X) → i ≤ prefix_len p xs → i < length xs → p (get_or xs i d) ≡ true → i + 1 ≤ prefix_len p xs
 prefix_more p xs i d le within passes =

@@ -4,6 +4,7 @@ use Rattle.std.specs.Arc.{arc_value}
 use Rattle.cq_base.specs.declared.change.Change.{Change}
 use Rattle.cq_base.specs.declared.change.Change.TheVariants as change
 use Rattle.cq_base.specs.declared.lang.Lang.{Lang}
+use Rattle.cq_history.specs.Changes.{IsWorkFor}
 use Rattle.cq_history.specs.State.{State, Slot, is_free}
 use Rattle.cq_board.specs.declared.kept.Stored.{Stored}
 use Rattle.cq_board.specs.declared.kept.Stored.TheVariants.{Put, Drop, Gate}
@@ -20,12 +21,6 @@ module _ {W : Type 0} where
 
   abbrev pub state_from : List (Kept W) → ℕ → ℕ → List (Option ℕ) → State
   state_from slots published floor views = record { slots = map slot_from slots; published = published; floor = floor; views = views }
-
-  -- the work is that of the change's text; only a put has work
-  abbrev pub IsWorkFor : (Lang → List ℕ → W → Type 0) → Change → W → Type 0
-  IsWorkFor IsWork (change.Put project path lang text) work = IsWork lang text work
-  IsWorkFor IsWork (change.Drop project path) work = ⊥
-  IsWorkFor IsWork (change.Gate project conditions) work = ⊥
 
   abbrev pub IsWorked : (Lang → List ℕ → W → Type 0) → Kept W → Type 0
   IsWorked IsWork k = IfSome k.work (λ work. IsWorkFor IsWork (change_of k.change) (arc_value work))

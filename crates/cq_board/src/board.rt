@@ -5,7 +5,7 @@ ghost use Rattle.std.specs.Bool.{OnTrue, OnFalse};
 ghost use Rattle.cq_history.specs.State.{first_free, ready, view_of, slot_of, changes_in, IsAccepted, IsDone, IsUndone, IsTakenBy};
 ghost use Rattle.cq_board.specs.Stands.{BoardState, StandsFor, Adds, IsCaller};
 ghost use Rattle.cq_board.specs.Answers.{asked_of, greatest_floor, lower, refusal_of, IsJob, IsDonePut};
-ghost use Rattle.cq_board.specs.Slots.{IsWorkFor};
+ghost use Rattle.cq_history.specs.Changes.{IsWorkFor};
 ghost use Rattle.cq_board.specs.Listings.{IsListing};
 
 use crate::accepting::{refusal, stored, text_len};

@@ -14,7 +14,7 @@ use Rattle.cq_base.specs.declared.settings.Settings.{Settings}
 use Rattle.cq_base.specs.declared.entry.Entry.{Entry}
 use Rattle.cq_base.specs.declared.change.Change.{Change}
 use Rattle.cq_base.specs.declared.change.Change.TheVariants.{Put, Drop, Gate}
-use Rattle.cq_history.specs.Changes.{change_at, is_put}
+use Rattle.cq_history.specs.Changes.{change_at, is_put, IsWorkFor}
 use Rattle.cq_history.specs.State.{State, Slot, no_slot, slot_of, changes_in, ready, is_done, state as state_of}
 use Rattle.cq_history.specs.Core.{Core, stepped}
 use Rattle.cq_history.specs.Core.Step.{Applies}
@@ -22,7 +22,6 @@ use Rattle.cq_history.proofs.Cores.{step_is_sound}
 use Rattle.cq_shard.specs.Shard as shard
 use Rattle.cq_shard.specs.Shard.{Contents, entries_of, brought}
 use Rattle.cq_board.specs.Answers.{IsDonePut}
-use Rattle.cq_board.specs.Slots as slots
 use Rattle.cq_board.specs.Stands as board
 use Rattle.cq_core.specs.Cores.{StandsFor, AreNumbered, applied_of, floor_of}
 use Rattle.cq_core.specs.Steps.{Takes, HasSoMany, HasNext}
@@ -32,7 +31,7 @@ use Rattle.cq_core.proofs.Stepping.{core}
 
 module _ {W : Type 0} (IsWork : Lang → List ℕ → W → Type 0) where
   given : (c : Change) (finished : Bool) (work : Option (Arc W Global)) → (not (is_put c) || finished) ≡ true → (IsSome work → (is_put c ≡ true) × (finished ≡ true)) → ((is_put c ≡ true) × (finished ≡ true) → IsSome work) →
-      IfSome work (λ w. slots.IsWorkFor IsWork c (arc_value w)) → shard.IsWorkFor IsWork (Some c) (option_map arc_value work)
+      IfSome work (λ w. IsWorkFor IsWork c (arc_value w)) → shard.HasItsWork IsWork (Some c) (option_map arc_value work)
   given (Put project path lang text) finished (Some w) done some there is = is
   given (Put project path lang text) finished None done some there is = absurd (true≢false (sym (there (refl, or-implies true finished done refl))))
   given (Drop project path) finished (Some w) done some there is = absurd (true≢false (sym (some refl).0))
@@ -40,8 +39,8 @@ module _ {W : Type 0} (IsWork : Lang → List ℕ → W → Type 0) where
   given (Gate project conditions) finished (Some w) done some there is = absurd (true≢false (sym (some refl).0))
   given (Gate project conditions) finished None done some there is = tt
 
-  pub work_given : (s : State) (r : ℕ) (work : Option (Arc W Global)) → 0 < r → r ≤ ready s → IsSome work ↔ IsDonePut s r → IfSome work (λ w. slots.IsWorkFor IsWork (slot_of s r).change (arc_value w)) →
-      shard.IsWorkFor IsWork (change_at (changes_in s) r) (option_map arc_value work)
+  pub work_given : (s : State) (r : ℕ) (work : Option (Arc W Global)) → 0 < r → r ≤ ready s → IsSome work ↔ IsDonePut s r → IfSome work (λ w. IsWorkFor IsWork (slot_of s r).change (arc_value w)) →
+      shard.HasItsWork IsWork (change_at (changes_in s) r) (option_map arc_value work)
   work_given s r work some le given_where is =
       let few = prefix_len-le-length is_done s.slots in
       let within : r - 1 < length s.slots = omega (arith, some, le, few) in
@@ -49,7 +48,7 @@ module _ {W : Type 0} (IsWork : Lang → List ℕ → W → Type 0) where
       let here : change_at (changes_in s) r ≡ Some (slot_of s r).change =
       slice_get-get_or (changes_in s) (r - 1) (slot_of s r).change (omega (arith, within, same)) ∙ ap Some (get_or-map (λ (slot : Slot). slot.change) s.slots (r - 1) no_slot (slot_of s r).change within) in
       let done : is_done (slot_of s r) ≡ true = prefix_len_passes is_done s.slots (r - 1) no_slot (omega (arith, some, le)) in
-      subst (λ o. shard.IsWorkFor IsWork o (option_map arc_value work)) (sym here)
+      subst (λ o. shard.HasItsWork IsWork o (option_map arc_value work)) (sym here)
       (given (slot_of s r).change (slot_of s r).finished work done
       (λ h. let p = given_where.0 h in (p.1, p.2)) (λ h. given_where.1 ((some, omega (arith, some, le, few)), h.0, h.1)) is)
 
@@ -67,7 +66,7 @@ entries_number r s n at (key ∷ keys) =
     one false e rest m is = omega (arith, is)
 
 module _ {W : Type 0} (keys_in : W → List ℕ) (IsWorkOf : Settings → Lang → List ℕ → W → Type 0) where
-  has_so_many : (set : Settings) (i number : ℕ) (c : Option Change) (work : Option W) → shard.IsWorkFor (IsWorkOf set) c work → (d : Change) × (c ≡ Some d) × HasSoMany keys_in IsWorkOf set i d (length (brought keys_in number i set.shards work))
+  has_so_many : (set : Settings) (i number : ℕ) (c : Option Change) (work : Option W) → shard.HasItsWork (IsWorkOf set) c work → (d : Change) × (c ≡ Some d) × HasSoMany keys_in IsWorkOf set i d (length (brought keys_in number i set.shards work))
   has_so_many set i number (Some (Put project path lang text)) (Some w) is = (Put project path lang text, refl, (w, is, entries_number number i set.shards 0 (keys_in w)))
   has_so_many set i number (Some (Put project path lang text)) None is = absurd is
   has_so_many set i number (Some (Drop project path)) (Some w) is = absurd is
@@ -77,7 +76,7 @@ module _ {W : Type 0} (keys_in : W → List ℕ) (IsWorkOf : Settings → Lang �
   has_so_many set i number None work is = absurd is
 
   -- what the next change of a shard brings it
-  pub has_next : (b : board.BoardState) (shards : List Contents) (i r : ℕ) (old : Contents) (work : Option W) → AreNumbered b.settings.shards shards → i < length shards → old ≡ get_or shards i old → r ≡ old.applied + 1 → shard.IsWorkFor (IsWorkOf b.settings) (change_at (changes_in b.state) r) work
+  pub has_next : (b : board.BoardState) (shards : List Contents) (i r : ℕ) (old : Contents) (work : Option W) → AreNumbered b.settings.shards shards → i < length shards → old ≡ get_or shards i old → r ≡ old.applied + 1 → shard.HasItsWork (IsWorkOf b.settings) (change_at (changes_in b.state) r) work
       → HasNext keys_in IsWorkOf (core b shards) i (length (brought keys_in r old.shard old.shards work))
   has_next b shards i r old work numbered within read next is =
       let here : slice_index (map applied_of shards) i ≡ old.applied = get_or-map applied_of shards i old 0 within ∙ ap applied_of (sym read) in
@@ -106,10 +105,10 @@ pub record IsNextOf {W : Type 0} (IsWorkOf : Settings → Lang → List ℕ → 
   pub read : old ≡ get_or shards i old
   pub same : applied ≡ old.applied
   pub below : applied + 1 ≤ ready b.state
-  pub work : shard.IsWorkFor (IsWorkOf b.settings) (change_at (changes_in b.state) (applied + 1)) lent
+  pub work : shard.HasItsWork (IsWorkOf b.settings) (change_at (changes_in b.state) (applied + 1)) lent
 
 pub next_of : {W : Type 0} (IsWorkOf : Settings → Lang → List ℕ → W → Type 0) (b : board.BoardState) (shards : List Contents) (i applied : ℕ) (first old : Contents) (work : Option (Arc W Global)) (lent : Option W) → AreNumbered b.settings.shards shards → i < b.settings.shards → first ≡ get_or shards i first → old ≡ get_or shards i old → applied ≡ first.applied
-    → applied + 1 ≤ ready b.state → IsSome work ↔ IsDonePut b.state (applied + 1) → IfSome work (λ w. slots.IsWorkFor (IsWorkOf b.settings) (slot_of b.state (applied + 1)).change (arc_value w)) → lent ≡ option_map arc_value work → IsNextOf IsWorkOf b shards i applied old lent
+    → applied + 1 ≤ ready b.state → IsSome work ↔ IsDonePut b.state (applied + 1) → IfSome work (λ w. IsWorkFor (IsWorkOf b.settings) (slot_of b.state (applied + 1)).change (arc_value w)) → lent ≡ option_map arc_value work → IsNextOf IsWorkOf b shards i applied old lent
 next_of IsWorkOf b shards i applied first old work lent numbered mine at read first_is below some is lent_is =
     let within : i < length shards = omega (arith, mine, numbered.number_is) in
     record {
@@ -117,7 +116,7 @@ next_of IsWorkOf b shards i applied first old work lent numbered mine at read fi
       read = read;
       same = first_is ∙ ap applied_of (shard_read shards i first old within at read);
       below = below;
-      work = subst (shard.IsWorkFor (IsWorkOf b.settings) (change_at (changes_in b.state) (applied + 1))) (sym lent_is) (work_given (IsWorkOf b.settings) b.state (applied + 1) work (omega arith) below some is);
+      work = subst (shard.HasItsWork (IsWorkOf b.settings) (change_at (changes_in b.state) (applied + 1))) (sym lent_is) (work_given (IsWorkOf b.settings) b.state (applied + 1) work (omega arith) below some is);
     }
 
 -- ---- the shard

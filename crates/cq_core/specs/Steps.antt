@@ -6,12 +6,11 @@ use Rattle.cq_base.specs.declared.settings.Settings.{Settings}
 use Rattle.cq_base.specs.declared.change.Change.{Change}
 use Rattle.cq_base.specs.declared.change.Change.TheVariants as change
 use Rattle.cq_history.specs.declared.event.Event.TheVariants as event
-use Rattle.cq_history.specs.Changes.{change_at}
+use Rattle.cq_history.specs.Changes.{change_at, IsWorkFor}
 use Rattle.cq_history.specs.State.{changes_in, first_free, ready, view_of, slot_of, IsAccepted, IsUndone, IsTakenBy}
 use Rattle.cq_history.specs.Core as history
 use Rattle.cq_shard.specs.Shard.{HasWindow}
 use Rattle.cq_board.specs.Answers.{refusal_of}
-use Rattle.cq_board.specs.Slots.{IsWorkFor}
 use Rattle.cq_board.specs.declared.answers.Refused.{Refused}
 use Rattle.cq_core.specs.Cores.{CoreState, StandsFor, IsCaller, IsShard, applied_of, applied_at}
 use Rattle.cq_core.specs.declared.step.Step.{Step}

@@ -1,6 +1,7 @@
 -- Changes, by their numbers from 1.
 use Rattle.std.specs.Prelude.{ℕ, ◌-◌, ◌<◌, ◌≤◌, Bool, true, false, ◌&&◌, List, length, slice_get, Option}
 use Rattle.std.specs.Str.{bytes_eq}
+use Rattle.cq_base.specs.declared.lang.Lang.{Lang}
 use Rattle.cq_base.specs.declared.change.Change.{Change}
 use Rattle.cq_base.specs.declared.change.Change.TheVariants.{Put, Drop, Gate}
 
@@ -27,3 +28,9 @@ IsNumber changes r = (0 < r) × (r ≤ length changes)
 
 abbrev pub change_at : List Change → ℕ → Option Change
 change_at changes r = slice_get changes (r - 1)
+
+-- the work is that of the change's text; only a put has work
+abbrev pub IsWorkFor : {W : Type 0} → (Lang → List ℕ → W → Type 0) → Change → W → Type 0
+IsWorkFor IsWork (Put project path lang text) work = IsWork lang text work
+IsWorkFor IsWork (Drop project path) work = ⊥
+IsWorkFor IsWork (Gate project conditions) work = ⊥

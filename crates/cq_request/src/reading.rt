@@ -2,7 +2,8 @@ ghost use Rattle.std.specs.Prelude.{◌≡◌, ◌≤◌, Some, IfOk, IfErr, IfS
 ghost use Rattle.std.specs.Str.{IsUtf8};
 ghost use Rattle.serde_json.specs.View.{view};
 ghost use Rattle.cq_request.specs.Members as members;
-ghost use Rattle.cq_request.specs.Sound.{IsSound, IsSoundChange, IsSoundQuery, IsSoundRefusal};
+ghost use Rattle.cq_base.specs.Changes.{IsSoundChange};
+ghost use Rattle.cq_request.specs.Sound.{IsSound, IsSoundQuery, IsSoundRefusal};
 ghost use Rattle.cq_request.specs.Reading as spec;
 ghost use Rattle.cq_request.specs.Reading.{UnlessMemory, value_says, line_says};
 ghost use Rattle.cq_request.specs.Text as text;

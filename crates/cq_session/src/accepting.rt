@@ -2,7 +2,7 @@ ghost use Rattle.std.specs.Prelude.{◌≡◌, ◌+◌, ◌≤◌, length, IfOk,
 ghost use Rattle.cq_base.specs.declared.change.Change.TheVariants as change;
 ghost use Rattle.cq_base.specs.declared.change.Condition.{Condition};
 ghost use Rattle.cq_base.specs.Settings.{IsInRange};
-ghost use Rattle.cq_request.specs.Sound.{IsSoundChange};
+ghost use Rattle.cq_base.specs.Changes.{IsSoundChange};
 ghost use Rattle.cq_session.specs.Changes.{History, with_change};
 ghost use Rattle.cq_session.specs.Accepting.{IsRefused, IsFree};
 

@@ -2,7 +2,8 @@ ghost use Rattle.std.specs.Prelude.{◌≡◌, ◌≤◌, length, IfOk, OnErr, R
 ghost use Rattle.cq_io.specs.Causes.{HasCause};
 ghost use Rattle.cq_lines.specs.Pieces.{line_limit};
 ghost use Rattle.cq_request.specs.Reading.{UnlessMemory, line_says};
-ghost use Rattle.cq_request.specs.Sound.{IsSoundChange, IsSoundQuery, IsSoundRefusal};
+ghost use Rattle.cq_base.specs.Changes.{IsSoundChange};
+ghost use Rattle.cq_request.specs.Sound.{IsSoundQuery, IsSoundRefusal};
 ghost use Rattle.cq_request.specs.declared.request.Request.{Request};
 ghost use Rattle.cq_request.specs.declared.request.Request.TheVariants as request;
 ghost use Rattle.cq_request.specs.declared.request.Refusal.{Refusal};

@@ -18,7 +18,7 @@ use Rattle.cq_history.specs.Changes.{IsNumber, change_at, is_put}
 use Rattle.cq_history.specs.Shards.{ShardHolds}
 use Rattle.cq_shard.specs.Laws.{Applies}
 use Rattle.cq_shard.specs.Runs.{Precedes, AreAdded}
-use Rattle.cq_shard.specs.Shard.{Contents, IsShard, StandsFor, row_of, entries_of, brought, IsWorkFor, HasWindow}
+use Rattle.cq_shard.specs.Shard.{Contents, IsShard, StandsFor, row_of, entries_of, brought, HasItsWork, HasWindow}
 use Rattle.cq_shard.proofs.ShardLaws.{ShardHolds-append, ShardHolds-prefix}
 use Rattle.cq_shard.proofs.Entries.{from_entries, to_entries}
 
@@ -146,7 +146,7 @@ brought_is_shard keys_in c (Some w) entries is are = put_is_shard c (keys_in w) 
 pub brought_stands : {W : Type 0} (IsWindow : Lang → List ℕ → ℕ → ℕ → Type 0) (keys_in : W → List ℕ) (IsWork : Lang → List ℕ → W → Type 0) (changes : List Change) (c : Contents) (o : Option Change) (work : Option W) (entries : List Entry) →
     AreAdded c.entries (brought keys_in (c.applied + 1) c.shard c.shards work) entries →
     ((lang : Lang) (text : List ℕ) (w : W) → IsWork lang text w → AreWindows IsWindow lang text (keys_in w)) →
-    Applies IsWindow c.shards changes c.shard c.applied c.floor → StandsFor IsWindow changes c → change_at changes (c.applied + 1) ≡ o → IsWorkFor IsWork o work →
+    Applies IsWindow c.shards changes c.shard c.applied c.floor → StandsFor IsWindow changes c → change_at changes (c.applied + 1) ≡ o → HasItsWork IsWork o work →
     StandsFor IsWindow changes (with_applied c entries)
 brought_stands IsWindow keys_in IsWork changes c None work entries are windows applies stands is of = absurd of
 brought_stands IsWindow keys_in IsWork changes c (Some (Put project path lang text)) None entries are windows applies stands is of = absurd of

@@ -6,6 +6,7 @@ use Rattle.cq_base.specs.declared.settings.Settings.{Settings}
 use Rattle.cq_base.specs.declared.entry.Entry.{Entry}
 use Rattle.cq_base.specs.declared.change.Change.{Change}
 use Rattle.cq_base.specs.declared.change.Change.TheVariants.{Put, Drop, Gate}
+use Rattle.cq_history.specs.Changes.{IsWorkFor}
 use Rattle.cq_history.specs.Shards.{Row, ShardHolds}
 use Rattle.cq_shard.specs.Runs.{AreDifferent}
 
@@ -36,15 +37,13 @@ pub record StandsFor (IsWindow : Lang → List ℕ → ℕ → ℕ → Type 0) (
   pub applied : c.applied ≤ length changes
   pub entries : (e : Entry) → Contains c.entries e ↔ Holds IsWindow changes c e
 
--- the work is that of a put's text, and no other change has one
-abbrev pub IsWorkFor : {W : Type 0} → (Lang → List ℕ → W → Type 0) → Option Change → Option W → Type 0
-IsWorkFor IsWork (Some (Put project path lang text)) (Some work) = IsWork lang text work
-IsWorkFor IsWork (Some (Put project path lang text)) None = ⊥
-IsWorkFor IsWork (Some (Drop project path)) (Some work) = ⊥
-IsWorkFor IsWork (Some (Drop project path)) None = Unit {0}
-IsWorkFor IsWork (Some (Gate project conditions)) (Some work) = ⊥
-IsWorkFor IsWork (Some (Gate project conditions)) None = Unit {0}
-IsWorkFor IsWork None work = ⊥
+-- the change there has the work that it comes with: a put that of its text, and no other change one
+abbrev pub HasItsWork : {W : Type 0} → (Lang → List ℕ → W → Type 0) → Option Change → Option W → Type 0
+HasItsWork IsWork (Some c) (Some work) = IsWorkFor IsWork c work
+HasItsWork IsWork (Some (Put project path lang text)) None = ⊥
+HasItsWork IsWork (Some (Drop project path)) None = Unit {0}
+HasItsWork IsWork (Some (Gate project conditions)) None = Unit {0}
+HasItsWork IsWork None work = ⊥
 
 -- a work of the text has at this place a window with this key
 abbrev pub HasWindow : {W : Type 0} → (W → List ℕ) → (Settings → Lang → List ℕ → W → Type 0) → Settings → Lang → List ℕ → ℕ → ℕ → Type 0

@@ -78,7 +78,7 @@ impl Shard {
     ) -> Result<(), Memory>
         requires next { change ≡ self.old.applied + 1 }
         requires few { IfSome work (λ w. length (W.keys_in w.now) < 2 ^ 32) }
-        ensures stands { (settings : Settings) (changes : List Change) → spec.StandsFor (spec.HasWindow W.keys_in W.IsWorkOf settings) changes self.old → spec.IsWorkFor (W.IsWorkOf settings) (change_at changes change) (option_copied work.entry) → OnOk result (spec.StandsFor (spec.HasWindow W.keys_in W.IsWorkOf settings) changes self.new) }
+        ensures stands { (settings : Settings) (changes : List Change) → spec.StandsFor (spec.HasWindow W.keys_in W.IsWorkOf settings) changes self.old → spec.HasItsWork (W.IsWorkOf settings) (change_at changes change) (option_copied work.entry) → OnOk result (spec.StandsFor (spec.HasWindow W.keys_in W.IsWorkOf settings) changes self.new) }
         ensures applied { OnOk result (self.new.applied ≡ change) }
         ensures kept { OnOk result ((self.new.shard ≡ self.old.shard) × (self.new.shards ≡ self.old.shards) × (self.new.floor ≡ self.old.floor)) }
         ensures same { OnErr result (self.new ≡ self.old) }

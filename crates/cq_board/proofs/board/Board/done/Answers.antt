@@ -8,7 +8,8 @@ use Rattle.cq_board.specs.Stands.{BoardState}
 use Rattle.cq_board.proofs.Adding.{Adds_from}
 use Rattle.cq_board.specs.declared.kept.Kept.{Kept}
 use Rattle.cq_board.specs.Slots.{slot_from}
-use Rattle.cq_board.specs.Slots.{state_from, IsWorkFor}
+use Rattle.cq_history.specs.Changes.{IsWorkFor}
+use Rattle.cq_board.specs.Slots.{state_from}
 use Rattle.cq_board.proofs.SlotLists.{slot_read, done_state, done_grows, done_ok, changes_stay, finished_is_done}
 use Rattle.cq_board.proofs.OneMore.{board_with}
 use Rattle.cq_board.proofs.board.Board.done.Goals as goal

@@ -1,7 +1,7 @@
 use Rattle.std.proofs.Common.{◌≡◌, ◌+◌, ◌∙◌, ℕ, refl, sym, ap, subst, option_copied}
 use Rattle.cq_history.specs.Changes.{change_at}
 use Rattle.cq_shard.specs.Runs.{AreAdded}
-use Rattle.cq_shard.specs.Shard.{Contents, IsShard, StandsFor, IsWorkFor, HasWindow, brought}
+use Rattle.cq_shard.specs.Shard.{Contents, IsShard, StandsFor, HasItsWork, HasWindow, brought}
 use Rattle.cq_shard.proofs.Standing.{brought_is_shard, brought_stands, work_windows}
 use Rattle.cq_shard.proofs.shard.Shard.apply.Goals as goal
 
@@ -28,4 +28,4 @@ returns-clause-stands g c settings changes stands of =
     (c.applying_adds_its_rows.ensures settings s.shards changes s.shard s.applied s.floor c.self.invariant.passed)
     (subst (StandsFor (HasWindow g.W.Indexed.keys_in g.W.Indexed.IsWorkOf settings) changes) (sym c.self.view_is) stands)
     refl
-    (subst (λ (n : ℕ). IsWorkFor (g.W.Indexed.IsWorkOf settings) (change_at changes n) (option_copied c.args.work)) (sym next) of))
+    (subst (λ (n : ℕ). HasItsWork (g.W.Indexed.IsWorkOf settings) (change_at changes n) (option_copied c.args.work)) (sym next) of))
