@@ -1,6 +1,6 @@
 -- How many bytes the spellings of a text's tokens have: a unit's character has at most four, and a semicolon that is
 -- inserted has one.
-use Rattle.std.proofs.Common.{◌≡◌, ℕ, ◌+◌, ◌*◌, ◌≤◌, Option, Some, None, Bool, true, false, if◌then◌else◌, Result, Ok, Err, IsOkAnd, IfOk, IsUtf8, List, [], ◌∷◌, ◌++◌, length, take, drop, codes, ap, arith, length-append}
+use Rattle.std.proofs.Common.{◌≡◌, ℕ, ◌+◌, ◌*◌, ◌≤◌, Option, Some, None, Bool, true, false, if◌then◌else◌, Result, Ok, Err, IsOkAnd, IfOk, IsUtf8, List, [], ◌∷◌, ◌++◌, length, take, drop, ap, arith, length-append}
 use Rattle.std.proofs.lemmas.List.{length-map, length-take}
 use Rattle.std.proofs.lemmas.List.Sums.{sum_by-cons, sum_by-append}
 use Rattle.std.proofs.lemmas.Str.{length-encode, len_utf8_bounds}
@@ -16,13 +16,13 @@ use Rattle.cq_munch.specs.declared.element.Spell.TheVariants.{Blank, Comment, To
 use Rattle.cq_munch.specs.declared.munching.Lexed.{Lexed}
 use Rattle.cq_munch.specs.declared.munching.Lexed.TheVariants as lexed
 use Rattle.cq_munch.specs.declared.unit.Unit.{Unit}
-use Rattle.cq_munch.specs.Characters.{characters, utf8_of}
+use Rattle.cq_munch.specs.Characters.{characters}
 use Rattle.cq_munch.specs.Language.{Language}
 use Rattle.cq_munch.specs.Lexed.{IsLexed, IsWhole, Follow, tokens_of, token_of, spelled_of, units_of}
 use Rattle.cq_munch.proofs.Decoding.{length-units_of}
 use Rattle.cq_lex_any.specs.Any.{any}
 use Rattle.cq_lex_go.specs.Go.{go}
-use Rattle.cq_lex_go.specs.Semicolons.{completed, completed_from, between, behind_last, semicolon_behind, ending, has_feed, end_of}
+use Rattle.cq_lex_go.specs.Semicolons.{completed, completed_from, between, semicolon_behind, ending, has_feed, end_of}
 use Rattle.cq_lex_c.specs.C.{c}
 use Rattle.cq_lex_c.specs.Splices.{spliced}
 use Rattle.cq_lex_c.proofs.Splicing.{length-spliced}
