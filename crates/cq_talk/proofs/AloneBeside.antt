@@ -16,7 +16,7 @@ use Rattle.cq_reply.specs.declared.reply.Reply.{Reply}
 use Rattle.cq_reply.specs.declared.reply.Reply.TheVariants as reply
 use Rattle.cq_answer.specs.Reply.{IsReply}
 use Rattle.cq_talk.specs.Said.{Said, TooLong, Read}
-use Rattle.cq_talk.specs.Replies.{version_in, refused_as, cause_told}
+use Rattle.cq_talk.specs.Replies.{version_in}
 use Rattle.cq_talk.specs.Causes.{cause, change_told}
 use Rattle.cq_talk.specs.Alone.{Walk, no_walk, done_with, changed, IsAnsweredAlone, IsReplyAlone, IsAloneUpToMemory}
 use Rattle.cq_talk.specs.Beside.{Known, nothing_known, known_then, with_told, IsPut, IsReplyBeside, IsBeside}

@@ -1,5 +1,5 @@
 -- A talk with a hub that is alone, walked.
-use Rattle.std.proofs.Common.{◌≡◌, ℕ, ◌+◌, ◌<◌, ◌≤◌, cond, List, [], ◌∷◌, ◌++◌, length, max, Option, Some, None, Ok, Err, refl, sym, ap, ◌∙◌, subst, inl, inr, arith, length-append, append-nil, append_assoc}
+use Rattle.std.proofs.Common.{◌≡◌, ℕ, ◌+◌, ◌≤◌, cond, List, [], ◌∷◌, ◌++◌, length, max, Some, None, Ok, Err, refl, sym, ap, ◌∙◌, subst, inl, inr, arith, length-append, append-nil, append_assoc}
 use Rattle.std.proofs.Math.Nat.{le-max_left, le-max_right}
 use Rattle.std.proofs.lemmas.List.{length-map}
 use Rattle.std.proofs.lemmas.List.Sums.{prefix_len-le-length}
@@ -13,17 +13,16 @@ use Rattle.cq_history.proofs.States.{state_push, Lawful-prefix, Lawful_last}
 use Rattle.cq_history.proofs.Bounds.{in_order}
 use Rattle.cq_history.proofs.Doing.{slots_number}
 use Rattle.cq_history.proofs.Prefixes.{changes_after, changes_in-state, accepted-append}
-use Rattle.cq_board.specs.declared.answers.Refused.{Refused}
 use Rattle.cq_request.specs.declared.request.Query.{Query}
 use Rattle.cq_request.specs.declared.request.Request.TheVariants as request
 use Rattle.cq_reply.specs.declared.reply.Reply.{Reply}
 use Rattle.cq_reply.specs.declared.reply.Reply.TheVariants as reply
 use Rattle.cq_answer.specs.Reply.{IsReply}
 use Rattle.cq_talk.specs.Said.{Said, TooLong, Read, WasRead}
-use Rattle.cq_talk.specs.Replies.{named, cause_told}
+use Rattle.cq_talk.specs.Replies.{named}
 use Rattle.cq_talk.specs.Causes.{cause, change_told}
 use Rattle.cq_talk.specs.Talk.{Talk, IsAnswer, IsAnswered, IsChanged, IsShown, IsServed, IsGivenUp, Tells, Asks, floor_of}
-use Rattle.cq_talk.specs.Alone.{Walk, changed, done_with, IsReplyAlone, IsAloneUpToMemory, all_published, no_walk}
+use Rattle.cq_talk.specs.Alone.{Walk, changed, IsReplyAlone, IsAloneUpToMemory, all_published, no_walk}
 use Rattle.cq_talk.proofs.Causing.{cause_is}
 use Rattle.cq_talk.proofs.GoingOn.{talk_goes_on, talk_many}
 use Rattle.cq_talk.proofs.OneMore.{ready_with}

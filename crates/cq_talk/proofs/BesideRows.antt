@@ -17,12 +17,12 @@ use Rattle.cq_history.proofs.Falling.{never_falls}
 use Rattle.cq_history.proofs.Doing.{slots_number}
 use Rattle.cq_request.specs.declared.request.Query.{Query}
 use Rattle.cq_request.specs.declared.request.Request.TheVariants as request
-use Rattle.cq_hub.specs.Hubs.{Grows, IsPublication, Never}
+use Rattle.cq_hub.specs.Hubs.{Grows, Never}
 use Rattle.cq_talk.specs.Said.{Said, TooLong, Read}
 use Rattle.cq_talk.specs.Talk.{Asks, IsServed, IsGivenUp, viewed}
 use Rattle.cq_talk.specs.Beside.{IsPut}
 use Rattle.cq_talk.specs.Laws.{AcceptsBy}
-use Rattle.cq_talk.proofs.GoingOn.{GoesOnTo, by_publishing, by_growing, by_one}
+use Rattle.cq_talk.proofs.GoingOn.{GoesOnTo, by_publishing, by_growing}
 
 -- ---- what is accepted is the caller's
 

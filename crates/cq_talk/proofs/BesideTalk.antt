@@ -1,5 +1,5 @@
 -- A talk with a hub whose other callers accept no changes, walked.
-use Rattle.std.proofs.Common.{◌≡◌, ◌⊎◌, ℕ, ◌+◌, ◌≤◌, List, [], ◌∷◌, ◌++◌, length, max, Option, Some, None, Ok, Err, refl, sym, ap, ◌∙◌, subst, inl, inr, arith, length-append}
+use Rattle.std.proofs.Common.{◌≡◌, ◌⊎◌, ℕ, ◌+◌, ◌≤◌, List, [], ◌∷◌, ◌++◌, length, max, Some, None, Ok, Err, refl, sym, ap, ◌∙◌, subst, inl, inr, arith, length-append}
 use Rattle.std.specs.List.{AllByRecursion}
 use Rattle.std.proofs.Math.Nat.{le-max_left, le-max_right, max-le}
 use Rattle.std.proofs.lemmas.List.Sums.{prefix_len-le-length}
@@ -26,14 +26,14 @@ use Rattle.cq_hub.specs.Hubs.{IsPublication}
 use Rattle.cq_talk.specs.Said.{Said, TooLong, Read, WasRead}
 use Rattle.cq_talk.specs.Replies.{named, version_in, refused_as, cause_told}
 use Rattle.cq_talk.specs.Causes.{cause, change_told}
-use Rattle.cq_talk.specs.Talk.{Talk, Answers, IsAnswered, IsShown, IsChanged, IsGivenUp, Tells, Asks}
+use Rattle.cq_talk.specs.Talk.{Talk, Answers, IsAnswered, IsShown, IsChanged, IsGivenUp, Tells}
 use Rattle.cq_talk.specs.Beside.{Known, nothing_known, known_then, changes_then, with_told, IsReplyBeside, IsBeside}
 use Rattle.cq_talk.specs.Laws.{AcceptsBy}
 use Rattle.cq_talk.proofs.GoingOn.{by_growing, by_publishing, by_one, talk_goes_on}
 use Rattle.cq_talk.proofs.BesideRows.{Fair, Keeps, fair_before, keeps, keeps_asking, keeps_to_ask, keeps_serving, keeps_giving_up, opened_published, undone_put}
 use Rattle.cq_talk.proofs.Causing.{cause_is}
 use Rattle.cq_talk.proofs.AloneTalk.{floor_seen, given_read}
-use Rattle.cq_talk.proofs.Shown.{shown_named, shown_version}
+use Rattle.cq_talk.proofs.Shown.{shown_version}
 
 -- what the user knows fits the history: each accepted change's number was named, and what was named is published
 pub record Fits (callers : ℕ) (k : Known) (seen : ℕ) (h : List Event) : Type 0 where

@@ -1,5 +1,7 @@
+pub mod Saying
 pub mod Shown
 pub mod Leading
+pub mod Changing
 pub mod Queries
 pub mod Talking
 pub mod GoingOn
@@ -11,3 +13,4 @@ pub mod BesideRows
 pub mod BesideTalk
 pub mod AloneBeside
 pub mod Giving
+pub mod Gathering

@@ -1,5 +1,5 @@
 -- What is ready behind one change more.
-use Rattle.std.proofs.Common.{◌≡◌, ℕ, ◌+◌, ◌-◌, ◌<◌, ◌≤◌, Bool, true, false, cond, not, List, [], ◌∷◌, ◌++◌, length, get_or, refl, sym, ap, ◌∙◌, ⊎_elim, arith, length-append, true≢false, lt-ltb, le-ltb}
+use Rattle.std.proofs.Common.{◌≡◌, ℕ, ◌+◌, ◌-◌, ◌<◌, ◌≤◌, Bool, true, false, cond, not, [], ◌∷◌, ◌++◌, length, get_or, refl, sym, ap, ◌∙◌, ⊎_elim, arith, length-append, true≢false, lt-ltb, le-ltb}
 use Rattle.std.specs.Prelude.{◌||◌}
 use Rattle.std.proofs.lemmas.Bool.{cases_lt}
 use Rattle.std.proofs.lemmas.List.{get_or_append_left, get_or-append-add}
@@ -7,7 +7,7 @@ use Rattle.std.proofs.lemmas.List.Sums.{prefix_len_passes, prefix_len_stops, pre
 use Rattle.cq_base.specs.declared.change.Change.{Change}
 use Rattle.cq_history.specs.Changes.{is_put}
 use Rattle.cq_history.specs.declared.event.Event.TheVariants.{Accept}
-use Rattle.cq_history.specs.State.{State, Slot, no_slot, new_slot, after, ready, is_done, IsDone}
+use Rattle.cq_history.specs.State.{State, no_slot, new_slot, after, ready, is_done, IsDone}
 use Rattle.cq_history.proofs.Bounds.{ready_after}
 use Rattle.cq_talk.specs.Alone.{Walk, done_with}
 

@@ -1,5 +1,5 @@
 -- Why a change is not accepted, by the changes before it, and what is told of that.
-use Rattle.std.specs.Prelude.{ℕ, ◌+◌, List, [], map, length, Option, Some, None}
+use Rattle.std.specs.Prelude.{◌+◌, List, [], map, length, Option, Some, None}
 use Rattle.cq_base.specs.declared.settings.Settings.{Settings}
 use Rattle.cq_base.specs.declared.change.Change.{Change}
 use Rattle.cq_history.specs.State.{new_slot}

@@ -7,3 +7,4 @@ pub mod Alone
 pub mod Beside
 pub mod Gives
 pub mod Laws
+pub mod Gathered

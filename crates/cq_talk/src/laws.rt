@@ -1,3 +1,4 @@
+ghost use Rattle.cq_talk.specs.Gathered as gathered;
 ghost use Rattle.cq_talk.specs.Laws as law;
 
 /// A talk with a hub that is alone, from the empty history on, is that of a server alone, up to the first reply that tells
@@ -21,4 +22,11 @@ pub fn alone_is_beside()
 /// What a user of a server with workers beside it may conclude from its replies.
 pub fn beside_gives()
     ensures { law.AllGiven }
+{}
+
+/// A talk is one with workers beside it where all passes are joined at the end, and those of the others accepted no change.
+pub fn talks_beside_workers()
+    ensures first { gathered.GatheredAlone }
+    ensures more { gathered.GatheredMore }
+    ensures all { gathered.TalksBesideWorkers }
 {}

@@ -5,4 +5,4 @@
 
 mod laws;
 
-pub use laws::{alone_is_beside, beside_gives, talks_alone, talks_beside};
+pub use laws::{alone_is_beside, beside_gives, talks_alone, talks_beside, talks_beside_workers};
