@@ -75,7 +75,11 @@ pub(crate) fn highest(marked: &[Marked]) -> usize
 }
 
 /// The spots of each mark, from 1 to the highest. It looks at each spot once.
-pub(crate) fn parts_of(alloc: Global, marked: &[Marked], highest: usize) -> Result<Vec<Vec<Spot>>, Memory>
+pub(crate) fn parts_of(
+    alloc: Global,
+    marked: &[Marked],
+    highest: usize,
+) -> Result<Vec<Vec<Spot>>, Memory>
     requires { All (λ x. x.mark ≤ highest) marked.now }
     ensures { IfOk result (λ parts. AreByMark highest marked.now (map (λ part. part.items) parts.items)) }
 {
