@@ -14,6 +14,7 @@ mod differing;
 mod entries;
 mod index;
 mod marks;
+mod parting;
 mod refining;
 mod sets;
 mod spots;

@@ -1,4 +1,5 @@
-ghost use Rattle.std.specs.Prelude.{◌≡◌, ◌<◌, ◌≤◌, ◌↔◌, ◌⊎◌, IsTrue, IfOk, OnOk, length, map, All, Any};
+ghost use Rattle.std.specs.Prelude.{◌≡◌, ℕ, List, ◌<◌, ◌≤◌, ◌↔◌, ◌⊎◌, IsTrue, IfOk, OnOk, length, map, All, Any};
+ghost use Rattle.cq_refine.specs.declared.spots.Marked.{Marked};
 ghost use Rattle.cq_refine.specs.Sets.{AreByMark, AddsParts, group_of, HaveOneLeft, MayGive, IsLong, AddsGroup};
 
 use crate::spots::{Marked, Set, Spot};
@@ -74,7 +75,11 @@ pub(crate) fn highest(marked: &[Marked]) -> usize
 }
 
 /// The spots of each mark, from 1 to the highest. It looks at each spot once.
-fn parts_of(alloc: Global, marked: &[Marked], highest: usize) -> Result<Vec<Vec<Spot>>, Memory>
+pub(crate) fn parts_of(
+    alloc: Global,
+    marked: &[Marked],
+    highest: usize,
+) -> Result<Vec<Vec<Spot>>, Memory>
     requires { All (λ x. x.mark ≤ highest) marked.now }
     ensures { IfOk result (λ parts. AreByMark highest marked.now (map (λ part. part.items) parts.items)) }
 {
@@ -90,6 +95,18 @@ fn parts_of(alloc: Global, marked: &[Marked], highest: usize) -> Result<Vec<Vec<
     Ok(parts)
 }
 
+/// Adds the parts that may give groups.
+pub(crate) fn push_all(parts: Vec<Vec<Spot>>, depth: u32, sets: &mut Vec<Set>) -> Result<(), Memory>
+    ensures { (highest : ℕ) (marked : List Marked) → AreByMark highest marked (map (λ part. part.items) parts.items) → OnOk result (AddsParts depth marked highest sets.old.items sets.new.items) }
+{
+    for spots in parts {
+        if may_give(&spots) {
+            sets.push(Set { depth, spots })?;
+        }
+    }
+    Ok(())
+}
+
 /// Adds the parts with marks up to the highest that may give groups.
 pub(crate) fn push_parts(
     alloc: Global,
@@ -102,10 +119,5 @@ pub(crate) fn push_parts(
     ensures { OnOk result (AddsParts depth marked.now highest sets.old.items sets.new.items) }
 {
     let parts = parts_of(alloc, marked, highest)?;
-    for spots in parts {
-        if may_give(&spots) {
-            sets.push(Set { depth, spots })?;
-        }
-    }
-    Ok(())
+    push_all(parts, depth, sets)
 }
