@@ -2,25 +2,27 @@ ghost use Rattle.std.specs.Prelude.{◌≡◌, ◌^◌, ◌<◌, ◌≤◌, leng
 ghost use Rattle.cq_groups.specs.Plain.{HasOneKey};
 
 use crate::{PlainBuckets, list_all};
-use cq_base::{Class, Group, Keys, Lang, Memory, Norm, Place, Settings, Steps, Text};
-use cq_tokens::{FileTokens, Tokens};
+use cq_base::{Class, Group, Keys, Lang, Memory, Norm, Place, Steps, Text};
+use cq_refine::Index;
+use cq_tokens::{Corpus, FileTokens, Tokens};
 use std::alloc::Global;
 use std::marker::Brand;
 use std::sync::Arc;
 use std::sync::ledger::{Blank, Ledger};
 
-const SETTINGS: Settings = Settings {
-    chunk: 2,
-    shards: 1,
-    key_bits: 0,
-    ignore_ids: false,
-    ignore_lits: false,
-    change_limit: 262_144,
-    text_limit: 33_554_432,
-    byte_limit: 65_536,
-};
+// A token that is one byte.
+fn token(alloc: Global, byte: u8) -> Result<Norm, Memory>
+    ensures { IfOk result (λ norm. length norm.text ≡ 1) }
+{
+    Ok(Norm {
+        lang: Lang::Any,
+        class: Class::Ident,
+        text: Text::from_bytes(alloc, &[byte])?,
+    })
+}
 
 // The change, and one file whose tokens are the bytes of a text. All its windows of two tokens have the key 0.
+#[tactic(auto, using(std::proofs::lemmas::List::Sums::sum_by_push))]
 fn file_of<L: Ledger>(alloc: Global, change: u64, text: &[u8]) -> Result<FileTokens<L>, Memory>
     requires short { length text.now < 1000 }
     ensures change { IfOk result (λ file. file.change ≡ change) }
@@ -28,12 +30,7 @@ fn file_of<L: Ledger>(alloc: Global, change: u64, text: &[u8]) -> Result<FileTok
 {
     let mut norms = Vec::new(alloc);
     for b in text {
-        let text = Text::from_bytes(alloc, &[*b])?;
-        norms.push(Norm {
-            lang: Lang::Any,
-            class: Class::Ident,
-            text,
-        })?;
+        norms.push(token(alloc, *b)?)?;
     }
     let windows = norms.len().saturating_sub(1);
     let keys = vec![in alloc; 0; windows]?;
@@ -65,7 +62,8 @@ fn listed<L: Ledger>(
     let files = files.as_slice();
     let mut steps = Steps::new(blank);
     let mut buckets = PlainBuckets::new(files);
-    list_all(alloc, &SETTINGS, files, min, &mut buckets, &mut steps)
+    let index = Index::new(alloc, Corpus::new(2, files))?;
+    list_all(alloc, &index, min, &mut buckets, &mut steps)
 }
 
 fn groups_of(alloc: Global, texts: &[&[u8]], min: u32) -> Result<Vec<Group>, Memory>

@@ -10,11 +10,13 @@
 #![tactic(auto)]
 
 mod changes;
+mod differing;
 mod entries;
+mod index;
 mod marks;
 mod refining;
 mod sets;
 mod spots;
 
-pub use changes::Changes;
 pub use entries::{refine, refine_with};
+pub use index::Index;

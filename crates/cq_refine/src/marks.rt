@@ -1,14 +1,15 @@
-ghost use Rattle.std.specs.Prelude.{◌≡◌, ◌≢◌, ◌⊎◌, ◌+◌, ◌^◌, ◌<◌, ◌≤◌, ◌++◌, List, length, map, option_map, slice_get, slice_index_or, ℕ, Some, IsSome, IfSome, IfNone, IfOk, OnOk, All, AllPairs, Contains};
+ghost use Rattle.std.specs.Prelude.{◌≡◌, ◌+◌, ◌^◌, ◌<◌, ◌≤◌, List, length, map, option_map, IfOk, All, Contains};
 ghost use Rattle.cq_base.specs.declared.norm.Norm.{Norm};
 ghost use Rattle.cq_refine.specs.declared.spots.Marked.{Marked};
-ghost use Rattle.cq_clones.specs.Groups.{IsPlace, token_before, token_behind};
-ghost use Rattle.cq_tokens.specs.Corpus.{corpus_of};
+ghost use Rattle.cq_clones.specs.Groups.{IsPlace, AreSame, token_before, token_behind};
+ghost use Rattle.cq_tokens.specs.Parts.{tokens_in};
 ghost use Rattle.cq_tokens.specs.Packed.{norm_in};
-ghost use Rattle.cq_refine.specs.Sets.{AreMarks, IsMarked, AreSpots, AreMarked};
+ghost use Rattle.cq_refine.specs.Sets.{AreMarks, IsMarked, AreTwoMarks, IsDifference, IsInNumbers, AreSpots, AreMarked};
 
+use crate::differing::{Difference, token_before_at, token_behind_at};
 use crate::spots::{Marked, Spot};
 use cq_base::{Memory, Place, Steps};
-use cq_tokens::{FileTokens, Seen, equal_tokens_tie};
+use cq_tokens::{FileList, Seen, equal_tokens_tie};
 use std::alloc::Global;
 use std::collections::BTreeMap;
 use std::sync::ledger::Ledger;
@@ -29,83 +30,110 @@ fn mark_of<'a>(
     Ok(*mark)
 }
 
-/// The token `n` behind a place, if there is one.
-fn token_behind<'a, L: Ledger>(
-    files: &'a [FileTokens<L>],
-    p: Place,
-    n: u32,
-    steps: &mut Steps<L>,
-) -> Option<Seen<'a>>
-    requires file { p.file < length files.now }
-    requires place { IsPlace (corpus_of files.now) p }
-    ensures token { option_map norm_in result ≡ token_behind (corpus_of files.now) p n }
-    ensures step { steps.new ≤ steps.old + 1 }
-    ensures fits { IsSome (token_behind (corpus_of files.now) p n) → n + 1 < 2 ^ 32 }
+/// The marks of two tokens that are not both there and the same. It needs no map.
+fn two_marks(first: Option<Seen<'_>>, second: Option<Seen<'_>>) -> (usize, usize)
+    requires { AreSame (option_map norm_in first) (option_map norm_in second) → ⊥ }
+    ensures { AreTwoMarks (option_map norm_in first.entry) (option_map norm_in second.entry) result.0 result.1 }
 {
-    let tokens = &files[p.file as usize].tokens;
-    let left = tokens.len() - p.at;
-    if n >= left {
-        return None;
+    match (first, second) {
+        (None, None) => (0, 0),
+        (None, Some(_)) => (0, 1),
+        (Some(_), None) => (1, 0),
+        (Some(_), Some(_)) => (1, 2),
     }
-    tokens.at(p.at + n, steps)
 }
 
-/// The token before a place, if there is one.
-fn token_before<'a, L: Ledger>(
-    files: &'a [FileTokens<L>],
-    p: Place,
-    steps: &mut Steps<L>,
-) -> Option<Seen<'a>>
-    requires { p.file < length files.now }
-    ensures token { option_map norm_in result ≡ token_before (corpus_of files.now) p }
-    ensures step { steps.new ≤ steps.old + 1 }
+/// Two places with the marks of the tokens before them.
+fn pair_of<L: Ledger>(
+    alloc: Global,
+    files: &FileList<'_, L>,
+    places: &[Place],
+    difference: &Difference<'_>,
+) -> Result<Vec<Spot>, Memory>
+    requires two { length places.now ≡ 2 }
+    requires places { All (IsPlace (tokens_in files.now)) places.now }
+    requires differ { IsDifference (token_before (tokens_in files.now)) places.now difference.now }
+    ensures places { IfOk result (λ spots. map (λ s. s.place) spots.items ≡ places.now) }
+    ensures marks { IfOk result (λ spots. AreSpots (tokens_in files.now) spots.items) }
 {
-    if p.at == 0 {
-        return None;
-    }
-    files[p.file as usize].tokens.at(p.at - 1, steps)
+    let (first, second) = two_marks(difference.first, difference.last);
+    let mut spots = Vec::with_capacity(alloc, 2)?;
+    spots.push(Spot {
+        place: places[0],
+        left: first,
+    })?;
+    spots.push(Spot {
+        place: places[1],
+        left: second,
+    })?;
+    Ok(spots)
 }
 
 /// The places with the marks of the tokens before them.
-pub(crate) fn spots_of<L: Ledger>(
+fn spots_by_map<'a, L: Ledger>(
     alloc: Global,
-    files: &[FileTokens<L>],
+    files: &FileList<'a, L>,
     places: &[Place],
+    difference: &Difference<'a>,
     steps: &mut Steps<L>,
 ) -> Result<Vec<Spot>, Memory>
-    requires { All (IsPlace (corpus_of files.now)) places.now }
+    requires places { All (IsPlace (tokens_in files.now)) places.now }
+    requires differ { IsDifference (token_before (tokens_in files.now)) places.now difference.now }
     ensures places { IfOk result (λ spots. map (λ s. s.place) spots.items ≡ places.now) }
-    ensures marks { IfOk result (λ spots. AreSpots (corpus_of files.now) spots.items) }
-    ensures steps { steps.new ≤ steps.old + length places.now }
+    ensures marks { IfOk result (λ spots. AreSpots (tokens_in files.now) spots.items) }
+    ensures steps { steps.new + difference.now.read ≤ steps.old + length places.now }
 {
     let mut marks = BTreeMap::new(alloc);
-    let mut spots = Vec::new(alloc);
-    for p in places {
-        let token = token_before(files, *p, steps);
+    let mut spots = Vec::with_capacity(alloc, places.len())?;
+    for (i, p) in places.iter().enumerate() {
+        let token = token_before_at(files, places, i, difference, steps);
         let left = mark_of(&mut marks, token)?;
         spots.push(Spot { place: *p, left })?;
     }
     Ok(spots)
 }
 
-/// The spots with the marks of the tokens `n` behind them.
-pub(crate) fn marked_of<L: Ledger>(
+/// The places with the marks of the tokens before them, of which some were read. Two places need no map.
+pub(crate) fn spots_of<'a, L: Ledger>(
     alloc: Global,
-    files: &[FileTokens<L>],
+    files: &FileList<'a, L>,
+    places: &[Place],
+    difference: &Difference<'a>,
+    steps: &mut Steps<L>,
+) -> Result<Vec<Spot>, Memory>
+    requires places { All (IsPlace (tokens_in files.now)) places.now }
+    requires differ { IsDifference (token_before (tokens_in files.now)) places.now difference.now }
+    ensures places { IfOk result (λ spots. map (λ s. s.place) spots.items ≡ places.now) }
+    ensures marks { IfOk result (λ spots. AreSpots (tokens_in files.now) spots.items) }
+    ensures steps { steps.new + difference.now.read ≤ steps.old + length places.now }
+{
+    if places.len() == 2 {
+        return pair_of(alloc, files, places, difference);
+    }
+    spots_by_map(alloc, files, places, difference, steps)
+}
+
+/// The spots with the marks of the tokens `n` behind them, of which some were read.
+pub(crate) fn marked_of<'a, L: Ledger>(
+    alloc: Global,
+    files: &FileList<'a, L>,
     spots: &[Spot],
     n: u32,
+    difference: &Difference<'a>,
     steps: &mut Steps<L>,
 ) -> Result<Vec<Marked>, Memory>
-    requires places { All (λ s. IsPlace (corpus_of files.now) s.place) spots.now }
+    requires places { All (λ s. IsPlace (tokens_in files.now) s.place) spots.now }
+    requires differ { IsDifference (λ s. token_behind (tokens_in files.now) s.place n) spots.now difference.now }
+    requires numbers { IsInNumbers n difference.now }
     ensures spots { IfOk result (λ marked. map (λ x. x.spot) marked.items ≡ spots.now) }
-    ensures marks { IfOk result (λ marked. AreMarked (corpus_of files.now) n marked.items) }
+    ensures marks { IfOk result (λ marked. AreMarked (tokens_in files.now) n marked.items) }
     ensures fits { IfOk result (λ marked. (x : Marked) → Contains marked.items x → 0 < x.mark → n + 1 < 2 ^ 32) }
-    ensures steps { steps.new ≤ steps.old + length spots.now }
+    ensures steps { steps.new + difference.now.read ≤ steps.old + length spots.now }
 {
     let mut marks = BTreeMap::new(alloc);
-    let mut marked = Vec::new(alloc);
-    for s in spots {
-        let token = token_behind(files, s.place, n, steps);
+    let mut marked = Vec::with_capacity(alloc, spots.len())?;
+    for (i, s) in spots.iter().enumerate() {
+        let token = token_behind_at(files, spots, i, n, difference, steps);
         let mark = mark_of(&mut marks, token)?;
         marked.push(Marked { spot: *s, mark })?;
     }
