@@ -1,7 +1,7 @@
 ghost use Rattle.std.specs.Prelude.{◌≡◌, ◌<◌, ◌≤◌, length, IfOk, OnOk};
 ghost use Rattle.std.specs.Str.{IsUtf8};
 ghost use Rattle.cq_base.specs.Changes.{IsSoundChange};
-ghost use Rattle.cq_core.specs.Steps.{IsNamed, HasWork};
+ghost use Rattle.cq_core.specs.Steps.{IsNamed, IsSoundStep, HasWork};
 
 use crate::{Core, Outcome, Step};
 use cq_base::{Change, Lang, Memory, Settings, Steps, Text};
@@ -76,6 +76,7 @@ fn step<L: Ledger>(
     steps: &mut Steps<L>,
 ) -> Result<Outcome, Memory>
     requires named { IsNamed core.old step }
+    requires sound { IsSoundStep step }
     requires work { HasWork (λ lang text work. Unit {0}) core.old step }
     ensures callers { OnOk result (length core.new.board.state.views ≡ length core.old.board.state.views) }
     ensures settings { OnOk result (core.new.board.settings ≡ core.old.board.settings) }
