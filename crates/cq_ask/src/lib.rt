@@ -7,3 +7,6 @@ mod project;
 
 pub use buckets::PassBuckets;
 pub use project::changes_of;
+
+#[cfg(test)]
+mod tests;
