@@ -14,3 +14,4 @@ pub mod Places
 pub mod OneStep
 pub mod ToldApart
 pub mod Gaps
+pub mod Kept

@@ -1,5 +1,5 @@
 -- Sets of places that share their first tokens.
-use Rattle.std.specs.Prelude.{◌≡◌, ◌≢◌, ◌⊎◌, ◌↔◌, ℕ, ◌+◌, ◌*◌, ◌-◌, ◌^◌, ◌<◌, ◌≤◌, List, slice_get, slice_index_or, Some, IsSome, ◌∷◌, [], ◌++◌, length, Option, option_map, All, AllPairs, Contains, Any, sum_by, map, filter, ◌==◌, not, nat_le}
+use Rattle.std.specs.Prelude.{◌≡◌, Bool, ◌≢◌, ◌⊎◌, ◌↔◌, ℕ, ◌+◌, ◌*◌, ◌-◌, ◌^◌, ◌<◌, ◌≤◌, List, slice_get, slice_index_or, Some, IsSome, ◌∷◌, [], ◌++◌, length, Option, option_map, All, AllPairs, Contains, Any, sum_by, map, filter, ◌==◌, not, nat_le}
 use Rattle.std.specs.BTreeMap.{BTreeMap, get, btree_map_len}
 use Rattle.cq_base.specs.declared.norm.Norm.{Norm}
 use Rattle.cq_tokens.specs.declared.seen.Seen.{Seen}
@@ -7,7 +7,7 @@ use Rattle.cq_tokens.specs.Packed.{norm_in, seen_cmp}
 use Rattle.cq_base.specs.declared.group.Place.{Place}
 use Rattle.cq_base.specs.declared.group.Group.{Group}
 use Rattle.cq_clones.specs.Lists.{AreAllInOrder}
-use Rattle.cq_clones.specs.Groups.{IsPlace, IsBefore, StandsAt, word_at, token_ahead, token_before, token_behind, file_at, AreSame, IsGroup, kept_of}
+use Rattle.cq_clones.specs.Groups.{IsPlace, IsBefore, StandsAt, word_at, token_ahead, token_before, token_behind, file_at, AreSame, IsGroup, is_free, kept_of}
 use Rattle.cq_base.specs.Places.{first_place}
 use Rattle.cq_refine.specs.declared.differing.Difference.{Difference}
 use Rattle.cq_refine.specs.declared.spots.Spot.{Spot}
@@ -88,6 +88,10 @@ pub record IsDifference {X : Type 0} (token : X → Option Norm) (xs : List X) (
 -- the tokens that were read `n` behind places are no further from their file's first than a number of 32 bits says
 abbrev pub IsInNumbers : ℕ → Difference → Type 0
 IsInNumbers n d = (IsSome (option_map norm_in d.first) → n + 1 < 2 ^ 32) × (IsSome (option_map norm_in d.last) → n + 1 < 2 ^ 32)
+
+-- whether the spot at `k` is free of a word at the one at `i`
+abbrev pub IsFreeBehind : ℕ → List Spot → ℕ → ℕ → Spot → Bool → Type 0
+IsFreeBehind tokens spots i k d free = is_free tokens (Some (slice_index_or spots i d).place) (slice_index_or spots k d).place ≡ free
 
 -- the spots have the same first tokens, `n` of them
 abbrev pub AreAlike : {T : Type 0} → List (List T) → ℕ → List Spot → Type 0

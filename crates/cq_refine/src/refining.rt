@@ -1,7 +1,7 @@
-ghost use Rattle.std.specs.Prelude.{◌≡◌, ◌+◌, ◌<◌, ◌≤◌, length, IfOk, OnOk, All};
+ghost use Rattle.std.specs.Prelude.{◌≡◌, ◌+◌, ◌<◌, ◌≤◌, length, IfOk, OnOk, All, AllPairs};
 ghost use Rattle.cq_clones.specs.Groups.{IsPlace, token_behind};
 ghost use Rattle.cq_tokens.specs.Parts.{tokens_in};
-ghost use Rattle.cq_refine.specs.Sets.{AreEntries, IsGroupFrom, IsDifference, IsInNumbers, AreAlike, ReadsAtMost, MayGive, IsParted, IsSplit, AreFirst, AreAllOnce};
+ghost use Rattle.cq_refine.specs.Sets.{IsSpotBefore, AreEntries, IsGroupFrom, IsDifference, IsInNumbers, AreAlike, ReadsAtMost, MayGive, IsParted, IsSplit, AreFirst, AreAllOnce};
 
 use crate::differing::{Difference, difference_before, difference_behind};
 use crate::marks::{marked_of, spots_of};
@@ -59,6 +59,7 @@ fn part<'a, L: Ledger>(
     steps: &mut Steps<L>,
 ) -> Result<(), Memory>
     requires gives { MayGive set.now.spots.items }
+    requires ordered { AllPairs IsSpotBefore set.now.spots.items }
     requires places { All (λ s. IsPlace (tokens_in files.now) s.place) set.now.spots.items }
     requires differ { IsDifference (λ s. token_behind (tokens_in files.now) s.place set.now.depth) set.now.spots.items difference.now }
     requires numbers { IsInNumbers set.now.depth difference.now }
@@ -86,6 +87,7 @@ fn split<L: Ledger>(
     steps: &mut Steps<L>,
 ) -> Result<(), Memory>
     requires gives { MayGive set.spots.items }
+    requires ordered { AllPairs IsSpotBefore set.spots.items }
     requires places { All (λ s. IsPlace (tokens_in files.now) s.place) set.spots.items }
     requires alike { AreAlike (tokens_in files.now) set.depth set.spots.items }
     ensures split { OnOk result (IsSplit (tokens_in files.now) min set sets.old.items sets.new.items groups.old.items groups.new.items) }

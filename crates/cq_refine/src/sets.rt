@@ -1,10 +1,10 @@
-ghost use Rattle.std.specs.Prelude.{◌≡◌, ℕ, List, ◌<◌, ◌≤◌, ◌↔◌, ◌⊎◌, IsTrue, IfOk, OnOk, length, map, All, Any};
+ghost use Rattle.std.specs.Prelude.{◌≡◌, ℕ, List, ◌<◌, ◌≤◌, ◌↔◌, ◌⊎◌, IsTrue, IfOk, OnOk, length, map, All, AllPairs, Any};
 ghost use Rattle.cq_refine.specs.declared.spots.Marked.{Marked};
-ghost use Rattle.cq_refine.specs.Sets.{AreByMark, AddsParts, group_of, HaveOneLeft, MayGive, IsLong, AddsGroup};
+ghost use Rattle.cq_refine.specs.Sets.{IsSpotBefore, AreByMark, AddsParts, group_of, HaveOneLeft, MayGive, IsLong, AddsGroup};
 
+use crate::keeping::kept_places;
 use crate::spots::{Marked, Set, Spot};
-use cq_base::{Group, Memory, Place, Places};
-use cq_order::kept;
+use cq_base::{Group, Memory, Places};
 use std::alloc::Global;
 
 /// Whether the mark is one of a token, and that of the token before each spot.
@@ -29,14 +29,6 @@ pub(crate) fn may_give(spots: &[Spot]) -> bool
     spots.len() > 1 && !have_one_left(spots)
 }
 
-/// The places of the spots.
-fn places_of(alloc: Global, spots: &[Spot]) -> Result<Vec<Place>, Memory>
-    ensures { IfOk result (λ places. places.items ≡ map (λ s. s.place) spots.now) }
-{
-    let places = spots.iter().map(|s| s.place).collect(alloc)?;
-    Ok(places)
-}
-
 /// Adds the group of a set that stops here, if its word is long enough and two of its places are kept.
 pub(crate) fn add_group(
     alloc: Global,
@@ -44,13 +36,13 @@ pub(crate) fn add_group(
     min: u32,
     groups: &mut Vec<Group>,
 ) -> Result<(), Memory>
+    requires { AllPairs IsSpotBefore set.now.spots.items }
     ensures { OnOk result (AddsGroup (IsLong min set.now.depth set.now.spots.items) (group_of set.now.depth set.now.spots.items) groups.old.items groups.new.items) }
 {
     if set.depth < min {
         return Ok(());
     }
-    let places = places_of(alloc, &set.spots)?;
-    let places = kept(alloc, set.depth, &places)?;
+    let places = kept_places(alloc, set.depth, &set.spots)?;
     if places.len() < 2 {
         return Ok(());
     }

@@ -83,3 +83,9 @@ split-requires-clause-alike g c =
     let (all, are, spots, walk) = c.loop-set.invariant.0 in
     let words = popped_words (tokens_in c.args.files.now) c.args.min c.args.places.now all c.loop-set.sets.items _ c.in-Some-pop.set c.loop-set.groups.items c.in-Some-pop.ensures.items walk in
     alike_of_words (tokens_in c.args.files.now) all c.in-Some-pop.set.spots.items c.in-Some-pop.set.depth words
+
+pub split-requires-clause-ordered : goal.split-requires-clause-ordered
+split-requires-clause-ordered g c =
+    let (all, are, spots, walk) = c.loop-set.invariant.0 in
+    let words = popped_words (tokens_in c.args.files.now) c.args.min c.args.places.now all c.loop-set.sets.items _ c.in-Some-pop.set c.loop-set.groups.items c.in-Some-pop.ensures.items walk in
+    words.exact.ordered
