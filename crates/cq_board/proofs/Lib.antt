@@ -13,5 +13,6 @@ pub mod Reading
 pub mod Related
 pub mod Searching
 pub mod SlotLists
+pub mod Sounding
 pub mod Turning
 pub mod VersionEntries

@@ -1,10 +1,11 @@
 -- What a board's fields keep.
-use Rattle.std.specs.Prelude.{◌≡◌, ℕ, ◌≤◌, List, [], length, map, take, All}
+use Rattle.std.specs.Prelude.{◌≡◌, ℕ, ◌<◌, ◌≤◌, ◌^◌, List, [], length, map, take, All, Option}
 use Rattle.std.specs.List.{prefix_len}
 use Rattle.std.specs.BTreeSet.{BTreeSet}
 use Rattle.cq_base.specs.declared.settings.Settings.{Settings}
 use Rattle.cq_base.specs.declared.lang.Lang.{Lang}
 use Rattle.cq_base.specs.declared.change.Change.{Change}
+use Rattle.cq_base.specs.Changes.{IsSoundChange}
 use Rattle.cq_history.specs.State.{changes_in, text_bytes, is_done}
 use Rattle.cq_board.specs.declared.kept.Kept.{Kept}
 use Rattle.cq_board.specs.declared.kept.FileKey.{FileKey}
@@ -25,9 +26,12 @@ module _ {W : Type 0} where
     pub ready : done ≡ prefix_len is_done (map slot_from slots)
     pub none_free : IsNoneFree slots free
 
-  pub record BoardOk (IsWork : Lang → List ℕ → W → Type 0) (settings : Settings) (slots : List (Kept W)) (there : BTreeSet FileKey) (bytes done free published : ℕ) (l : Listed W) : Type 0 where
+  pub record BoardOk (IsWork : Lang → List ℕ → W → Type 0) (settings : Settings) (slots : List (Kept W)) (there : BTreeSet FileKey) (bytes done free published : ℕ) (l : Listed W) (views : List (Option ℕ)) : Type 0 where
     pub kept : SlotsOk IsWork settings slots bytes done free
+    pub sound : All IsSoundChange (changes_from slots)
     pub presence : IsPresence (changes_from slots) there
     pub in_order : published ≤ done
     -- the listing is that of the published version
     pub listing : IsListing IsWork (take published (changes_from slots)) l
+    -- they are counted in 32 bits
+    pub few_views : length views < 2 ^ 32

@@ -7,5 +7,6 @@ pub mod Ordered
 pub mod Presence
 pub mod Related
 pub mod Slots
+pub mod Sound
 pub mod Stands
 pub mod Turnover

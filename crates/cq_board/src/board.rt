@@ -6,6 +6,8 @@ ghost use Rattle.cq_history.specs.State.{first_free, ready, view_of, slot_of, ch
 ghost use Rattle.cq_board.specs.Stands.{BoardState, StandsFor, Adds, IsCaller};
 ghost use Rattle.cq_board.specs.Answers.{asked_of, greatest_floor, lower, refusal_of, IsJob, IsDonePut};
 ghost use Rattle.cq_history.specs.Changes.{IsWorkFor};
+ghost use Rattle.cq_base.specs.Changes.{IsSoundChange};
+ghost use Rattle.cq_board.specs.Sound.{HasSoundText, HaveFewConditions};
 ghost use Rattle.cq_board.specs.Listings.{IsListing};
 
 use crate::accepting::{refusal, stored, text_len};
@@ -48,7 +50,7 @@ impl<W: Indexed> Model for Board<W> {
 
     ghost view = { λ b. record { settings = b.settings; state = state_from b.slots.items b.published b.floor b.views.items; events = b.events } };
 
-    ghost invariant = { λ b. BoardOk (W.IsWorkOf b.settings) b.settings b.slots.items b.there b.text_bytes b.ready b.free b.published (arc_value b.listing) };
+    ghost invariant = { λ b. BoardOk (W.IsWorkOf b.settings) b.settings b.slots.items b.there b.text_bytes b.ready b.free b.published (arc_value b.listing) b.views.items };
 }
 
 impl<W: Indexed> Board<W> {
@@ -80,6 +82,7 @@ impl<W: Indexed> Board<W> {
         requires { IsAccepted self.now.state change }
         ensures none { IfOk result (λ job. IsNone job ↔ IsDone self.now.state change) }
         ensures job { IfOk result (λ job. IfSome job (λ j. (j.change ≡ change) × IsJob self.now.state j)) }
+        ensures text { IfOk result (λ job. IfSome job HasSoundText) }
     {
         let kept = &self.slots[change as usize - 1];
         if is_done(kept) {
@@ -117,6 +120,13 @@ impl<W: Indexed> Board<W> {
         ensures { result.now ≡ self.now.settings }
     {
         &self.settings
+    }
+
+    /// How many callers it has.
+    pub fn callers(&self) -> u32
+        ensures { result ≡ length self.now.state.views }
+    {
+        self.views.len() as u32
     }
 
     /// Up to which change all are done.
@@ -180,7 +190,8 @@ impl<W: Indexed> Board<W> {
 
     /// Accepts a change, and answers its number, or the first cause against it. A refusal changes nothing.
     pub fn accept(&mut self, alloc: Global, by: u32, change: Change) -> Result<u64, Refused>
-        requires { IsCaller self.old by }
+        requires caller { IsCaller self.old by }
+        requires sound { IsSoundChange change }
         ensures adds { OnOk result (Adds (event.Accept by change) self.old self.new) }
         ensures number { IfOk result (λ number. number ≡ length self.new.state.slots) }
         ensures cause { MatchResult result (λ _. refusal_of self.old.settings self.old.state change ≡ None) (λ e. (e ≡ Refused.Memory) ⊎ (refusal_of self.old.settings self.old.state change ≡ Some e)) }
@@ -238,6 +249,7 @@ impl<W: Indexed> Board<W> {
         requires { IsCaller self.old by }
         ensures taken { IfOk result (λ job. IfSome job (λ j. Adds (event.Took by j.change) self.old self.new)) }
         ensures job { IfOk result (λ job. IfSome job (IsJob self.old.state)) }
+        ensures text { IfOk result (λ job. IfSome job HasSoundText) }
         ensures first { IfOk result (λ job. IfSome job (λ j. j.change ≡ first_free self.old.state)) }
         ensures none { result ≡ Ok None → length self.old.state.slots < first_free self.old.state }
         ensures unchanged { IfOk result (λ job. MatchOption job (self.new ≡ self.old) (λ _. IsAccepted self.old.state (first_free self.old.state))) }
@@ -284,6 +296,7 @@ impl<W: Indexed> Board<W> {
         ensures adds { IfOk result (λ view. Adds (event.Open by view.version) self.old self.new) }
         ensures version { IfOk result (λ view. view.version ≡ self.old.state.published) }
         ensures listing { IfOk result (λ view. IsListing (W.IsWorkOf self.old.settings) (take view.version (changes_in self.old.state)) (arc_value view.listing)) }
+        ensures conditions { IfOk result (λ view. HaveFewConditions (arc_value view.listing).projects) }
         ensures err { OnErr result (self.new ≡ self.old) }
     {
         let listing = Arc::try_clone(&self.listing)?;

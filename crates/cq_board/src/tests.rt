@@ -1,7 +1,9 @@
-ghost use Rattle.std.specs.Prelude.{◌≡◌};
+ghost use Rattle.std.specs.Prelude.{◌≡◌, ◌<◌, ◌≤◌, length, IfOk};
+ghost use Rattle.std.specs.Str.{IsUtf8};
+ghost use Rattle.cq_base.specs.Changes.{IsSoundChange};
 
 use crate::{Board, Refused};
-use cq_base::{Change, Conditions, Lang, Settings, Text};
+use cq_base::{Change, Conditions, Lang, Memory, Settings, Text};
 use cq_shard::Indexed;
 use std::alloc::Global;
 
@@ -37,15 +39,45 @@ const SETTINGS: Settings = Settings {
     byte_limit: 1_152_921_504_606_846_976,
 };
 
+// A text of one letter.
+fn letter(alloc: Global, byte: u8) -> Result<Text, Memory>
+    requires { byte < 128 }
+    ensures utf8 { IfOk result IsUtf8 }
+    ensures len { IfOk result (λ text. length text ≤ 1) }
+{
+    let mut bytes = Vec::new(alloc);
+    bytes.push(byte)?;
+    Ok(Text::from_vec(bytes))
+}
+
+fn put(alloc: Global) -> Result<Change, Memory>
+    ensures { IfOk result IsSoundChange }
+{
+    let project = letter(alloc, b'p')?;
+    let path = letter(alloc, b'a')?;
+    let text = letter(alloc, b'x')?;
+    Ok(Change::Put {
+        project,
+        path,
+        lang: Lang::Any,
+        text,
+    })
+}
+
+fn gate(alloc: Global) -> Result<Change, Memory>
+    ensures { IfOk result IsSoundChange }
+{
+    let project = letter(alloc, b'p')?;
+    Ok(Change::Gate {
+        project,
+        conditions: Conditions::from_vec(Vec::new(alloc)),
+    })
+}
+
 // The number of a put, and that of the job that its first caller is given then.
 fn taken(alloc: Global) -> Result<(u64, Option<u64>), Refused> {
     let mut board: Board<Bare> = Board::new(alloc, &SETTINGS, 1)?;
-    let put = Change::Put {
-        project: Text::from_bytes(alloc, b"p")?,
-        path: Text::from_bytes(alloc, b"a")?,
-        lang: Lang::Any,
-        text: Text::from_bytes(alloc, b"x")?,
-    };
+    let put = put(alloc)?;
     let number = board.accept(alloc, 0, put)?;
     let job = board.take(0)?;
     Ok((number, job.map(|job| job.change)))
@@ -54,11 +86,8 @@ fn taken(alloc: Global) -> Result<(u64, Option<u64>), Refused> {
 // Up to which change all is done behind a gate, and how many conditions and files its view has.
 fn seen(alloc: Global) -> Result<(u64, usize, usize), Refused> {
     let mut board: Board<Bare> = Board::new(alloc, &SETTINGS, 1)?;
-    let project = Text::from_bytes(alloc, b"p")?;
-    let gate = Change::Gate {
-        project: project.copied(alloc)?,
-        conditions: Conditions::from_vec(Vec::new(alloc)),
-    };
+    let project = letter(alloc, b'p')?;
+    let gate = gate(alloc)?;
     board.accept(alloc, 0, gate)?;
     let asked = board.ask(0);
     if asked.published >= asked.done {

@@ -5,6 +5,7 @@ use Rattle.cq_base.specs.declared.lang.Lang.{Lang}
 use Rattle.cq_base.specs.declared.settings.Settings.{Settings}
 use Rattle.cq_base.specs.declared.change.Change.{Change}
 use Rattle.cq_base.specs.declared.change.Change.TheVariants as change
+use Rattle.cq_base.specs.Changes.{IsSoundChange}
 use Rattle.cq_history.specs.declared.event.Event.TheVariants as event
 use Rattle.cq_history.specs.Changes.{change_at, IsWorkFor}
 use Rattle.cq_history.specs.State.{changes_in, first_free, ready, view_of, slot_of, IsAccepted, IsUndone, IsTakenBy}
@@ -43,6 +44,18 @@ module _ {W : Type 0} where
   IsNamed c (Publish version) = Unit {0}
   IsNamed c (Open by) = IsCaller c by
   IsNamed c (Shut by) = IsCaller c by
+
+  -- a change that it brings is sound
+  abbrev pub IsSoundStep : Step W → Type 0
+  IsSoundStep (Accept by change) = IsSoundChange change
+  IsSoundStep (Ask by) = Unit {0}
+  IsSoundStep (Took by) = Unit {0}
+  IsSoundStep (Back by change) = Unit {0}
+  IsSoundStep (Done by change work) = Unit {0}
+  IsSoundStep (Apply shard) = Unit {0}
+  IsSoundStep (Publish version) = Unit {0}
+  IsSoundStep (Open by) = Unit {0}
+  IsSoundStep (Shut by) = Unit {0}
 
   -- the work of a put that is not done is that of its text
   abbrev pub HasWork : (Lang → List ℕ → W → Type 0) → CoreState → Step W → Type 0

@@ -9,9 +9,11 @@ ghost use Rattle.cq_shard.specs.Shard.{HasWindow};
 ghost use Rattle.cq_history.specs.Core as history;
 ghost use Rattle.cq_history.specs.declared.event.Event.TheVariants as event;
 ghost use Rattle.cq_history.specs.State.{view_of, first_free, ready, IsUndone};
+ghost use Rattle.cq_base.specs.Changes.{IsSoundChange};
 ghost use Rattle.cq_board.specs.Answers.{IsJob};
+ghost use Rattle.cq_board.specs.Sound.{HasSoundText, HaveFewConditions};
 ghost use Rattle.cq_core.specs.Cores.{CoreState, StandsFor, IsCaller, IsShard, AreFresh};
-ghost use Rattle.cq_core.specs.Steps.{IsNamed, HasWork, IsOutcome, DoesStep, Counts, CountsSome};
+ghost use Rattle.cq_core.specs.Steps.{IsNamed, IsSoundStep, HasWork, IsOutcome, DoesStep, Counts, CountsSome};
 ghost use Rattle.cq_core.specs.Readings.{AreRead};
 ghost use Rattle.cq_core.specs.Views.{IsView};
 ghost use Rattle.cq_core.specs.declared.step.Step.TheVariants as step;
@@ -69,6 +71,7 @@ impl<W: Indexed> Core<W> {
     pub fn job(&self, change: u64) -> Result<Option<Job>, Memory>
         ensures some { IfOk result (λ job. IsSome job ↔ IsUndone self.now.board.state change) }
         ensures job { IfOk result (λ job. IfSome job (λ j. (j.change ≡ change) × IsJob self.now.board.state j)) }
+        ensures text { IfOk result (λ job. IfSome job HasSoundText) }
     {
         if !self.board.is_undone(change) {
             return Ok(None);
@@ -81,6 +84,7 @@ impl<W: Indexed> Core<W> {
         requires { IsCaller self.now by }
         ensures version { option_map (λ v. v.now.version) result ≡ view_of self.now.board.state by }
         ensures listing { IfSome result (λ v. IsView (W.IsWorkOf self.now.board.settings) self.now.board.state v.now) }
+        ensures conditions { IfSome result (λ v. HaveFewConditions (arc_value v.now.listing).projects) }
     {
         match &self.views[by as usize] {
             Some(view) => Some(view),
@@ -120,6 +124,7 @@ impl<W: Indexed> Core<W> {
         steps: &mut Steps<L>,
     ) -> Result<Outcome, Memory>
         requires named { IsNamed self.old step }
+        requires sound { IsSoundStep step }
         requires work { HasWork (W.IsWorkOf self.old.board.settings) self.old step }
         ensures outcome { IfOk result (IsOutcome self.old self.new step) }
         ensures steps { IfOk result (DoesStep W.keys_in W.IsWorkOf self.old self.new step) }
@@ -142,6 +147,7 @@ impl<W: Indexed> Core<W> {
 
     fn accept(&mut self, alloc: Global, by: u32, change: Change) -> Result<Outcome, Memory>
         requires caller { IsCaller self.old by }
+        requires sound { IsSoundChange change }
         ensures outcome { IfOk result (IsOutcome {W = W} self.old self.new (step.Accept by change)) }
         ensures steps { IfOk result (DoesStep W.keys_in W.IsWorkOf self.old self.new (step.Accept by change)) }
         ensures err { OnErr result (self.new ≡ self.old) }

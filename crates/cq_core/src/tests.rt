@@ -1,4 +1,6 @@
-ghost use Rattle.std.specs.Prelude.{◌≡◌, ◌<◌, length, OnOk};
+ghost use Rattle.std.specs.Prelude.{◌≡◌, ◌<◌, ◌≤◌, length, IfOk, OnOk};
+ghost use Rattle.std.specs.Str.{IsUtf8};
+ghost use Rattle.cq_base.specs.Changes.{IsSoundChange};
 
 use crate::{Core, Outcome, Step};
 use cq_base::{Change, Lang, Memory, Settings, Steps, Text};
@@ -40,12 +42,28 @@ const SETTINGS: Settings = Settings {
     byte_limit: 1_152_921_504_606_846_976,
 };
 
-fn put(alloc: Global) -> Result<Change, Memory> {
+// A text of one letter.
+fn letter(alloc: Global, byte: u8) -> Result<Text, Memory>
+    requires { byte < 128 }
+    ensures utf8 { IfOk result IsUtf8 }
+    ensures len { IfOk result (λ text. length text ≤ 1) }
+{
+    let mut bytes = Vec::new(alloc);
+    bytes.push(byte)?;
+    Ok(Text::from_vec(bytes))
+}
+
+fn put(alloc: Global) -> Result<Change, Memory>
+    ensures { IfOk result IsSoundChange }
+{
+    let project = letter(alloc, b'p')?;
+    let path = letter(alloc, b'a')?;
+    let text = letter(alloc, b'x')?;
     Ok(Change::Put {
-        project: Text::from_bytes(alloc, b"p")?,
-        path: Text::from_bytes(alloc, b"a")?,
+        project,
+        path,
         lang: Lang::Any,
-        text: Text::from_bytes(alloc, b"x")?,
+        text,
     })
 }
 

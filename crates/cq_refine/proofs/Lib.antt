@@ -11,3 +11,4 @@ pub mod Highest
 pub mod Weights
 pub mod KeyPlaces
 pub mod Places
+pub mod OneStep

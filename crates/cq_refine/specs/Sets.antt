@@ -1,5 +1,5 @@
 -- Sets of places that share their first tokens.
-use Rattle.std.specs.Prelude.{◌≡◌, ◌≢◌, ◌⊎◌, ◌↔◌, ℕ, ◌+◌, ◌*◌, ◌-◌, ◌<◌, ◌≤◌, List, slice_get, slice_index_or, Some, ◌∷◌, [], ◌++◌, length, Option, All, AllPairs, Contains, Any, sum_by, map, filter, ◌==◌, nat_le}
+use Rattle.std.specs.Prelude.{◌≡◌, ◌≢◌, ◌⊎◌, ◌↔◌, ℕ, ◌+◌, ◌*◌, ◌-◌, ◌^◌, ◌<◌, ◌≤◌, List, slice_get, slice_index_or, Some, IsSome, ◌∷◌, [], ◌++◌, length, Option, option_map, All, AllPairs, Contains, Any, sum_by, map, filter, ◌==◌, nat_le}
 use Rattle.std.specs.BTreeMap.{BTreeMap, get, btree_map_len}
 use Rattle.cq_base.specs.declared.norm.Norm.{Norm}
 use Rattle.cq_tokens.specs.declared.seen.Seen.{Seen}
@@ -7,8 +7,9 @@ use Rattle.cq_tokens.specs.Packed.{norm_in, seen_cmp}
 use Rattle.cq_base.specs.declared.group.Place.{Place}
 use Rattle.cq_base.specs.declared.group.Group.{Group}
 use Rattle.cq_clones.specs.Lists.{AreAllInOrder}
-use Rattle.cq_clones.specs.Groups.{IsPlace, IsBefore, StandsAt, word_at, token_ahead, token_before, token_behind, file_at, IsGroup, kept_of}
+use Rattle.cq_clones.specs.Groups.{IsPlace, IsBefore, StandsAt, word_at, token_ahead, token_before, token_behind, file_at, AreSame, IsGroup, kept_of}
 use Rattle.cq_base.specs.Places.{first_place}
+use Rattle.cq_refine.specs.declared.differing.Difference.{Difference}
 use Rattle.cq_refine.specs.declared.spots.Spot.{Spot}
 use Rattle.cq_refine.specs.declared.spots.Marked.{Marked}
 use Rattle.cq_refine.specs.declared.spots.Set.{Set}
@@ -70,6 +71,29 @@ pub record AreMarked {T : Type 0} (corpus : List (List T)) (n : ℕ) (marked : L
   pub seen : List T
   pub apart : AllPairs (λ a b. a ≢ b) seen
   pub marks : (x : Marked) → Contains marked x → IsMark seen (token_behind corpus x.spot.place n) x.mark
+
+-- all have one token
+abbrev pub AreOne : {X T : Type 0} → (X → Option T) → List X → Type 0
+AreOne {X} {T} token xs = (t : T) × All (λ x. token x ≡ Some t) xs
+
+-- the first ones were read, up to one that hasn't the token of the first, or where that has none
+pub record IsDifference {X : Type 0} (token : X → Option Norm) (xs : List X) (d : Difference) : Type 0 where
+  pub several : 2 ≤ d.read
+  pub within : d.read ≤ length xs
+  pub same : (k : ℕ) (x : X) → k + 1 < d.read → token (slice_index_or xs k x) ≡ option_map norm_in d.first
+  pub end : (x : X) → token (slice_index_or xs (d.read - 1) x) ≡ option_map norm_in d.last
+  pub differ : ¬ AreSame (option_map norm_in d.first) (option_map norm_in d.last)
+
+-- the tokens that were read `n` behind places are no further from their file's first than a number of 32 bits says
+abbrev pub IsInNumbers : ℕ → Difference → Type 0
+IsInNumbers n d = (IsSome (option_map norm_in d.first) → n + 1 < 2 ^ 32) × (IsSome (option_map norm_in d.last) → n + 1 < 2 ^ 32)
+
+-- the marks of two tokens, of which one isn't there, or which differ
+pub record AreTwoMarks {T : Type 0} (a b : Option T) (m n : ℕ) : Type 0 where
+  pub seen : List T
+  pub apart : AllPairs (λ x y. x ≢ y) seen
+  pub first : IsMark seen a m
+  pub second : IsMark seen b n
 
 -- the tokens before the spots are there and equal: no group has two of them that show it maximal
 abbrev pub HaveOneLeft : List Spot → Type 0
@@ -135,6 +159,10 @@ group_of depth spots = record { tokens = depth; places = kept_of depth (map (λ 
 -- the tokens behind the spots are there and equal
 abbrev pub HaveOneMark : List Marked → Type 0
 HaveOneMark marked = (n : ℕ) × (0 < n) × All (λ x. x.mark ≡ n) marked
+
+-- the set's word is long enough, and two of its places are kept
+abbrev pub IsLong : ℕ → ℕ → List Spot → Type 0
+IsLong least depth spots = (least ≤ depth) × (2 ≤ length (group_of depth spots).places)
 
 -- the set gives a group
 pub record IsChosen (least depth : ℕ) (spots : List Spot) (marked : List Marked) : Type 0 where

@@ -10,6 +10,7 @@
 #![tactic(auto)]
 
 mod changes;
+mod differing;
 mod entries;
 mod index;
 mod marks;

@@ -3,6 +3,7 @@ use Rattle.std.proofs.Common.{◌≡◌, ◌+◌, List, [], ◌∷◌, ◌++◌,
 use Rattle.std.specs.List.{prefix_len}
 use Rattle.cq_history.specs.declared.event.Event.TheVariants as event
 use Rattle.cq_history.specs.State.{is_done}
+use Rattle.cq_base.specs.Changes.{IsSoundChange}
 use Rattle.cq_board.proofs.Adding.{Adds_from}
 use Rattle.cq_board.specs.declared.kept.Kept.{Kept}
 use Rattle.cq_board.specs.Slots.{slot_from, change_of}
@@ -28,9 +29,9 @@ invariant_of-self-2 g c =
     ap (λ xs. refusal_of c.self.inside.settings (state_from xs 0 0 []) (change_of k.change)) (sym c.deref.ensures.value) ∙ sym c.refusal.ensures ∙ c.in_default.is in
     let done : c.done_from-self-inside.result ≡ prefix_len is_done (map slot_from (slots ++ k ∷ [])) =
     c.done_from-self-inside.ensures.done ∙ ap (λ xs. prefix_len is_done (map (slot_from {W = g.row.W.Denot}) xs)) (c.deref-2.ensures.value ∙ items) in
-    subst (λ (xs : List (Kept g.row.W.Denot)). BoardOk (g.W.Indexed.IsWorkOf c.self.inside.settings) c.self.inside.settings xs c.note.new.there (c.self.inside.text_bytes + c.text_len-len.result) c.done_from-self-inside.result c.self.inside.free c.self.inside.published (arc_value c.self.inside.listing)) (sym items)
-    (board_accepted (g.W.Indexed.IsWorkOf c.self.inside.settings) c.self.inside.settings slots c.self.inside.there c.note.new.there c.self.inside.text_bytes c.self.inside.ready c.done_from-self-inside.result c.self.inside.free c.text_len-len.result c.self.inside.published (arc_value c.self.inside.listing)
-    k refl c.self.invariant allowed c.text_len-len.ensures done (c.in_ok-note.ensures.more (changes_from slots) c.self.invariant.presence))
+    subst (λ (xs : List (Kept g.row.W.Denot)). BoardOk (g.W.Indexed.IsWorkOf c.self.inside.settings) c.self.inside.settings xs c.note.new.there (c.self.inside.text_bytes + c.text_len-len.result) c.done_from-self-inside.result c.self.inside.free c.self.inside.published (arc_value c.self.inside.listing) c.self.inside.views.items) (sym items)
+    (board_accepted (g.W.Indexed.IsWorkOf c.self.inside.settings) c.self.inside.settings slots c.self.inside.there c.note.new.there c.self.inside.text_bytes c.self.inside.ready c.done_from-self-inside.result c.self.inside.free c.text_len-len.result c.self.inside.published (arc_value c.self.inside.listing) c.self.inside.views.items
+    k refl c.self.invariant (subst IsSoundChange (sym c.in_ok-change.ensures) c.requires.sound) allowed c.text_len-len.ensures done (c.in_ok-note.ensures.more (changes_from slots) c.self.invariant.presence))
 
 pub returns-clause-adds : goal.returns-clause-adds
 returns-clause-adds g c =
@@ -44,4 +45,4 @@ returns-clause-adds g c =
     c.args.self.now _ (event.Accept c.args.by c.args.change) c.self.view_is refl refl
     (ap (λ (xs : List (Kept g.row.W.Denot)). state_from xs c.self.inside.published c.self.inside.floor c.self.inside.views.items) items
     ∙ accepted_state slots c.self.inside.published c.self.inside.floor c.self.inside.views.items k c.args.by c.args.change c.in_ok-change.ensures refl refl)
-    c.requires (allowed_accept c.self.inside.settings (state_from slots c.self.inside.published c.self.inside.floor c.self.inside.views.items) c.args.by c.args.change allowed_change)
+    c.requires.caller (allowed_accept c.self.inside.settings (state_from slots c.self.inside.published c.self.inside.floor c.self.inside.views.items) c.args.by c.args.change allowed_change) c.requires.sound

@@ -8,11 +8,12 @@ use Rattle.cq_board.specs.Stands.{BoardState}
 use Rattle.cq_board.proofs.Adding.{Adds_from}
 use Rattle.cq_board.specs.declared.kept.Kept.{Kept}
 use Rattle.cq_board.specs.Boards.{BoardOk}
-use Rattle.cq_board.specs.Slots.{slot_from}
+use Rattle.cq_board.specs.Slots.{slot_from, change_of}
 use Rattle.cq_board.specs.Slots.{state_from}
 use Rattle.cq_board.proofs.SlotLists.{took_state, held_ok, none_free_set, none_before, held_not_free, changes_stay, first_is_free, free_is_put}
 use Rattle.cq_board.proofs.OneMore.{board_with, board_free}
 use Rattle.std.proofs.lemmas.Bool.{cases_eq}
+use Rattle.cq_board.proofs.Sounding.{kept_sound, job_text}
 use Rattle.cq_board.proofs.board.Board.take.Goals as goal
 
 pub index_mut-kept-requires : goal.index_mut-kept-requires
@@ -38,7 +39,7 @@ invariant_of-self-2 g c =
     let i = c.first_free-i.result in
     let k = c.index_mut-kept.result.now in
     let j : Kept g.row.W.Denot = record { change = k.change; work = k.work; holder = Some c.args.by } in
-    board_with (g.W.Indexed.IsWorkOf c.self.inside.settings) c.self.inside.settings c.self.inside.slots.items (set c.self.inside.slots.items i j) c.self.inside.there c.self.inside.text_bytes c.self.inside.ready c.self.inside.ready c.self.inside.free (i + 1) c.self.inside.published (arc_value c.self.inside.listing)
+    board_with (g.W.Indexed.IsWorkOf c.self.inside.settings) c.self.inside.settings c.self.inside.slots.items (set c.self.inside.slots.items i j) c.self.inside.there c.self.inside.text_bytes c.self.inside.ready c.self.inside.ready c.self.inside.free (i + 1) c.self.inside.published (arc_value c.self.inside.listing) c.self.inside.views.items
     c.self.invariant
     (held_ok (g.W.Indexed.IsWorkOf c.self.inside.settings) c.self.inside.settings c.self.inside.slots.items c.self.inside.text_bytes c.self.inside.ready c.self.inside.free (i + 1) i k (Some c.args.by) within c.index_mut-kept.ensures.value
     (none_free_set c.self.inside.slots.items i i (i + 1) j (none_before c.self.inside.slots.items i (omega (arith, within)) first) (omega (arith, within))
@@ -58,7 +59,7 @@ returns-clause-taken g c =
     let first = c.first_free-i.ensures.first ∙ ap (λ xs. position_or_len is_free (map (slot_from {W = g.row.W.Denot}) xs)) c.deref.ensures.value in
     Adds_from c.self.inside.settings (state_from c.self.inside.slots.items c.self.inside.published c.self.inside.floor c.self.inside.views.items) _ c.self.inside.events _ c.args.self.now _ (event.Took c.args.by c.in_ok-job.job.change) c.self.view_is refl refl
     (took_state c.self.inside.slots.items c.self.inside.published c.self.inside.floor c.self.inside.views.items c.first_free-i.result c.args.by c.in_ok-job.job.change c.index_mut-kept.result.now within c.index_mut-kept.ensures.value c.in_ok-job.ensures.number)
-    c.requires (is_next c.self.inside.slots.items c.self.inside.published c.self.inside.floor c.self.inside.views.items c.first_free-i.result c.in_ok-job.job.change first within c.in_ok-job.ensures.number)
+    c.requires (is_next c.self.inside.slots.items c.self.inside.published c.self.inside.floor c.self.inside.views.items c.first_free-i.result c.in_ok-job.job.change first within c.in_ok-job.ensures.number) tt
 
 pub returns-clause-first : goal.returns-clause-first
 returns-clause-first g c =
@@ -79,7 +80,7 @@ pub invariant_of-self : goal.invariant_of-self
 invariant_of-self g c =
     let slots = c.self.inside.slots.items in
     let first = c.first_free-i.ensures.first ∙ ap (λ xs. position_or_len is_free (map (slot_from {W = g.row.W.Denot}) xs)) c.deref.ensures.value in
-    board_free (g.W.Indexed.IsWorkOf c.self.inside.settings) c.self.inside.settings slots c.self.inside.there c.self.inside.text_bytes c.self.inside.ready c.self.inside.free c.first_free-i.result c.self.inside.published (arc_value c.self.inside.listing) c.self.invariant
+    board_free (g.W.Indexed.IsWorkOf c.self.inside.settings) c.self.inside.settings slots c.self.inside.there c.self.inside.text_bytes c.self.inside.ready c.self.inside.free c.first_free-i.result c.self.inside.published (arc_value c.self.inside.listing) c.self.inside.views.items c.self.invariant
     (none_before slots c.first_free-i.result (omega (arith, c.first_free-i.ensures.within, ap length c.deref.ensures.value)) first)
 
 pub invariant_of-self-in_err-job : goal.invariant_of-self-in_err-job
@@ -88,6 +89,11 @@ invariant_of-self-in_err-job g c =
     let k = c.index_mut-kept.result.now in
     let first = c.first_free-i.ensures.first ∙ ap (λ xs. position_or_len is_free (map (slot_from {W = g.row.W.Denot}) xs)) c.deref.ensures.value in
     let same : set slots c.first_free-i.result k ≡ slots = ap (set slots c.first_free-i.result) c.index_mut-kept.ensures.value ∙ set-get_or slots c.first_free-i.result k in
-    subst (λ (xs : List (Kept g.row.W.Denot)). BoardOk (g.W.Indexed.IsWorkOf c.self.inside.settings) c.self.inside.settings xs c.self.inside.there c.self.inside.text_bytes c.self.inside.ready c.first_free-i.result c.self.inside.published (arc_value c.self.inside.listing)) (sym same)
-    (board_free (g.W.Indexed.IsWorkOf c.self.inside.settings) c.self.inside.settings slots c.self.inside.there c.self.inside.text_bytes c.self.inside.ready c.self.inside.free c.first_free-i.result c.self.inside.published (arc_value c.self.inside.listing) c.self.invariant
+    subst (λ (xs : List (Kept g.row.W.Denot)). BoardOk (g.W.Indexed.IsWorkOf c.self.inside.settings) c.self.inside.settings xs c.self.inside.there c.self.inside.text_bytes c.self.inside.ready c.first_free-i.result c.self.inside.published (arc_value c.self.inside.listing) c.self.inside.views.items) (sym same)
+    (board_free (g.W.Indexed.IsWorkOf c.self.inside.settings) c.self.inside.settings slots c.self.inside.there c.self.inside.text_bytes c.self.inside.ready c.self.inside.free c.first_free-i.result c.self.inside.published (arc_value c.self.inside.listing) c.self.inside.views.items c.self.invariant
     (none_before slots c.first_free-i.result (omega (arith, c.first_free-i.ensures.within, ap length c.deref.ensures.value)) first))
+
+pub returns-clause-text : goal.returns-clause-text
+returns-clause-text g c =
+    let within = below_end c.first_free-i.result c.len.result _ c.deref.result.now c.self.inside.slots.items c.first_free-i.ensures.within c.if-i-len.false c.len.ensures c.deref.ensures.len c.deref.ensures.value in
+    job_text (change_of c.index_mut-kept.result.now.change) c.in_ok-job.job (kept_sound c.self.inside.slots.items c.first_free-i.result c.index_mut-kept.result.now c.self.invariant.sound within c.index_mut-kept.ensures.value) c.in_ok-job.ensures.job

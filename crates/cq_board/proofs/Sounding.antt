@@ -1,0 +1,58 @@
+-- What is handed out of sound changes.
+use Rattle.std.proofs.Common.{◌≡◌, ℕ, zero, suc, ◌<◌, ◌≤◌, true, false, cond, List, [], ◌∷◌, length, map, get_or, sym, ap, ◌∙◌, subst, arith}
+use Rattle.std.specs.Prelude.{All}
+use Rattle.std.specs.Arc.{arc_value}
+use Rattle.std.specs.Str.{IsUtf8, bytes_eq}
+use Rattle.std.proofs.lemmas.Str.{IsUtf8-from_ascii}
+use Rattle.std.proofs.lemmas.Str.Ascii.{IsAscii-from_reads}
+use Rattle.std.proofs.lemmas.List.{length-map, get_or-map}
+use Rattle.std.proofs.lemmas.List.Elements.{All-head, All-tail}
+use Rattle.cq_base.specs.declared.lang.Lang.{Lang}
+use Rattle.cq_base.specs.declared.change.Condition.{Condition}
+use Rattle.cq_base.specs.declared.change.Change.{Change}
+use Rattle.cq_base.specs.declared.change.Change.TheVariants.{Put, Drop, Gate}
+use Rattle.cq_base.specs.Changes.{IsSoundChange}
+use Rattle.cq_history.specs.Files.{conditions_after, conditions_from, conditions_of}
+use Rattle.cq_history.specs.State.{Slot}
+use Rattle.cq_board.specs.declared.answers.Job.{Job}
+use Rattle.cq_board.specs.declared.kept.Kept.{Kept}
+use Rattle.cq_board.specs.Slots.{slot_from, change_of}
+use Rattle.cq_board.specs.Boards.{changes_from}
+use Rattle.cq_board.specs.Answers.{IsJobOf}
+use Rattle.cq_board.specs.Listings.{Listed, IsListing, conditions_in}
+use Rattle.cq_board.specs.Sound.{HasSoundText, HaveFewConditions}
+
+-- the text of a sound change's job
+pub job_text : (c : Change) (job : Job) → IsSoundChange c → IsJobOf c job → HasSoundText job
+job_text (Put project path lang text) job sound is = subst (λ t. IsUtf8 t × (length t ≤ 1048576)) (sym is.1) (sound.2, sound.3)
+job_text (Drop project path) job sound is = absurd is
+job_text (Gate project conditions) job sound is = absurd is
+
+-- the change of a slot is one of the changes
+pub kept_sound : {W : Type 0} (slots : List (Kept W)) (i : ℕ) (k : Kept W) → All IsSoundChange (changes_from slots) → i < length slots → k ≡ get_or slots i k → IsSoundChange (change_of k.change)
+kept_sound {W} slots i k sound within read =
+    let few : length (map (slot_from {W = W}) slots) ≡ length slots = length-map slots (slot_from {W = W}) in
+    subst IsSoundChange
+    (get_or-map (λ (s : Slot). s.change) (map slot_from slots) i (slot_from k) (change_of k.change) (omega (arith, few, within))
+    ∙ ap (λ (s : Slot). s.change) (get_or-map slot_from slots i k (slot_from k) within ∙ ap slot_from (sym read)))
+    (sound i (change_of k.change) (omega (arith, few, length-map (map (slot_from {W = W}) slots) (λ (s : Slot). s.change), within)))
+
+few_after : (q : List ℕ) (old : List Condition) (c : Change) → length old ≤ 32 → IsSoundChange c → length (conditions_after q old c) ≤ 32
+few_after q old (Put project path lang text) few sound = few
+few_after q old (Drop project path) few sound = few
+few_after q old (Gate project conditions) few sound = elim (bytes_eq q project) as (λ b. length (cond b conditions old) ≤ 32) [ true ↦ sound.1 | false ↦ few ]
+
+few_from : (q : List ℕ) (old : List Condition) (changes : List Change) → length old ≤ 32 → All IsSoundChange changes → length (conditions_from q old changes) ≤ 32
+few_from q old [] few sound = few
+few_from q old (c ∷ changes) few sound = few_from q (conditions_after q old c) changes (few_after q old c few (All-head IsSoundChange c changes sound)) (All-tail IsSoundChange c changes sound)
+
+pub few_conditions : {W : Type 0} (IsWork : Lang → List ℕ → W → Type 0) (changes : List Change) (l : Listed W) → All IsSoundChange changes → IsListing IsWork changes l → HaveFewConditions l.projects
+few_conditions IsWork changes l sound is q = subst (λ cs. length cs ≤ 32) (sym (is.conditions q)) (few_from q [] changes (omega arith) sound)
+
+letter_reads : (b : ℕ) → b < 128 → (k : ℕ) → k < 1 → get_or (b ∷ []) k 0 < 128
+letter_reads b few zero lt = few
+letter_reads b few (suc k) lt = absurd (omega (arith, lt))
+
+-- a letter below 128 is a text
+pub letter_utf8 : (b : ℕ) → b < 128 → IsUtf8 (b ∷ [])
+letter_utf8 b few = IsUtf8-from_ascii (b ∷ []) (IsAscii-from_reads (b ∷ []) 1 (omega arith) (letter_reads b few))
