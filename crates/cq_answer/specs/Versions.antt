@@ -1,6 +1,5 @@
 -- The versions of which some files and conditions are those of a project.
-use Rattle.std.specs.Prelude.{◌≡◌, ◌≢◌, ℕ, ◌≤◌, List, length, AllPairs}
-use Rattle.std.specs.List.{AllByRecursion}
+use Rattle.std.specs.Prelude.{◌≡◌, ◌≢◌, ℕ, ◌≤◌, List, length, All, AllPairs}
 use Rattle.cq_base.specs.Changes.{IsSoundChange}
 use Rattle.cq_base.specs.declared.settings.Settings.{Settings}
 use Rattle.cq_base.specs.declared.change.Change.{Change}
@@ -24,7 +23,7 @@ pub record AreOfVersion {L : Type 0} (set : Settings) (changes : List Change) (v
 -- they are those of some changes, as many as may be accepted, each of which is sound
 pub record HaveVersion {L : Type 0} (set : Settings) (version : ℕ) (project : List ℕ) (files : List (Owner L)) (conditions : List Condition) : Type 0 where
   pub changes : List Change
-  pub sound : AllByRecursion IsSoundChange changes
+  pub sound : All IsSoundChange changes
   pub few : length changes ≤ set.change_limit
   pub are : AreOfVersion set changes version project files conditions
 

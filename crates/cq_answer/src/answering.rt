@@ -37,7 +37,8 @@ fn reply_of<L: Ledger>(
     requires few { length conditions.now ≤ 32 }
     requires within { IsWithin (length files.now) part }
     requires measurable { AreShowable (facts_in (works_in files.now)) groups.now }
-    ensures { IfOk result (λ reply. reply ≡ spec.reply_of (facts_in (works_in files.now)) conditions.now version kind part groups.now) }
+    ensures { IfOk result (λ reply. reply
+        ≡ spec.reply_of (facts_in (works_in files.now)) conditions.now version kind part groups.now) }
 {
     match kind {
         Kind::Files => Ok(Reply::Files {

@@ -43,7 +43,8 @@ fn place_rows<L: Ledger>(
 ) -> Result<PlaceRows, Memory>
     requires some { 1 ≤ tokens }
     requires inside { (p : Place) → Contains places.now p → IsInside (facts_in (works_in files.now)).spans tokens p }
-    ensures { IfOk result (λ rows. rows ≡ map (spec.place_row (facts_in (works_in files.now)) tokens) places.now) }
+    ensures { IfOk result (λ rows. rows
+        ≡ map (spec.place_row (facts_in (works_in files.now)) tokens) places.now) }
 {
     let mut rows = Vec::new(alloc);
     for place in places {
