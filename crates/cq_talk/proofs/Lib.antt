@@ -13,4 +13,5 @@ pub mod BesideRows
 pub mod BesideTalk
 pub mod AloneBeside
 pub mod Giving
+pub mod GivingAlone
 pub mod Gathering

@@ -9,9 +9,9 @@ use Rattle.cq_reply.specs.declared.reply.Reply.{Reply}
 use Rattle.cq_reply.specs.declared.reply.Reply.TheVariants as reply
 use Rattle.cq_talk.specs.Said.{Said}
 use Rattle.cq_talk.specs.Talk.{Talk}
-use Rattle.cq_talk.specs.Alone.{IsAloneUpToMemory, no_walk}
+use Rattle.cq_talk.specs.Alone.{Walk, IsAloneUpToMemory, no_walk}
 use Rattle.cq_talk.specs.Beside.{Known, IsBeside, nothing_known}
-use Rattle.cq_talk.specs.Gives.{BesideGives}
+use Rattle.cq_talk.specs.Gives.{AloneGives, BesideGives}
 
 -- it accepts no change, unless it is this caller's
 abbrev pub AcceptsBy : ℕ → Event → Type 0
@@ -44,5 +44,8 @@ IsNoMemory r = r ≡ reply.Memory → ⊥
 abbrev pub AloneIsBeside : Type 0
 AloneIsBeside = (set : Settings) (lines : List Said) (replies : List Reply) → IsAloneUpToMemory set no_walk lines replies → AllByRecursion IsNoMemory replies → IsBeside set nothing_known lines replies
 
-abbrev pub AllGiven : Type 0
-AllGiven = (set : Settings) (k : Known) → BesideGives set k
+abbrev pub AllGivenBeside : Type 0
+AllGivenBeside = (set : Settings) (k : Known) → BesideGives set k
+
+abbrev pub AllGivenAlone : Type 0
+AllGivenAlone = (set : Settings) (k : Walk) → AloneGives set k

@@ -21,7 +21,12 @@ pub fn alone_is_beside()
 
 /// What a user of a server with workers beside it may conclude from its replies.
 pub fn beside_gives()
-    ensures { law.AllGiven }
+    ensures { law.AllGivenBeside }
+{}
+
+/// What a user of a server alone may conclude from its replies.
+pub fn alone_gives()
+    ensures { law.AllGivenAlone }
 {}
 
 /// A talk is one with workers beside it where all passes are joined at the end, and those of the others accepted no change.

@@ -5,4 +5,6 @@
 
 mod laws;
 
-pub use laws::{alone_is_beside, beside_gives, talks_alone, talks_beside, talks_beside_workers};
+pub use laws::{
+    alone_gives, alone_is_beside, beside_gives, talks_alone, talks_beside, talks_beside_workers,
+};
