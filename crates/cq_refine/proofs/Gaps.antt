@@ -1,10 +1,8 @@
 -- A spot whose word reaches into the next spot's: the token behind it is one of the word.
 use Rattle.std.proofs.Common.{◌≡◌, ℕ, ◌+◌, ◌-◌, ◌<◌, ◌≤◌, List, length, get_or, slice_get, Option, IsSome, sym, ap, ap₂, ◌∙◌, ⊎_elim, arith}
-use Rattle.std.specs.Prelude.{Contains}
 use Rattle.std.proofs.lemmas.Bool.{cases_lt}
 use Rattle.std.proofs.lemmas.List.Elements.{Contains-get_or}
-use Rattle.cq_base.specs.declared.group.Place.{Place}
-use Rattle.cq_clones.specs.Groups.{file_at, word_at, StandsAt, token_behind}
+use Rattle.cq_clones.specs.Groups.{file_at, token_behind}
 use Rattle.cq_clones.proofs.Words.{tokens_from_words}
 use Rattle.cq_clones.proofs.GroupLaws.{within_from_standing}
 use Rattle.cq_refine.specs.declared.spots.Spot.{Spot}

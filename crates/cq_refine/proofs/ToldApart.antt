@@ -1,11 +1,11 @@
 -- Spots told apart by the first one's token: those that go on by it stay, and the others are marked.
-use Rattle.std.proofs.Common.{◌≡◌, ◌≢◌, ℕ, zero, suc, ◌+◌, ◌-◌, ◌<◌, ◌≤◌, Bool, true, false, cond, not, List, [], ◌∷◌, ◌++◌, length, map, get_or, set, take, Option, Some, None, IsSome, refl, sym, ap, ◌∙◌, subst, ⊎_elim, arith, append-nil, eqb, length-set, true≢false}
-use Rattle.std.specs.Prelude.{All, AllPairs, Contains, filter}
-use Rattle.std.proofs.lemmas.Bool.{cases_eq, cases_Bool, eq-eqb, ne_eqb, eqb-true}
+use Rattle.std.proofs.Common.{◌≡◌, ◌≢◌, ℕ, zero, suc, ◌+◌, ◌-◌, ◌<◌, ◌≤◌, Bool, true, false, cond, not, List, [], ◌∷◌, ◌++◌, length, get_or, set, take, Option, IsSome, refl, sym, ap, ◌∙◌, subst, ⊎_elim, arith, append-nil, eqb, length-set, true≢false}
+use Rattle.std.specs.Prelude.{All, AllPairs, Contains}
+use Rattle.std.proofs.lemmas.Bool.{cases_eq, eq-eqb, ne_eqb}
 use Rattle.std.proofs.lemmas.List.{get_or-take, get_or-set_same, get_or-set_other, length-take-le}
 use Rattle.std.proofs.lemmas.List.Elements.{filter-append, All-contains, Contains-get_or}
 use Rattle.cq_base.proofs.Lists.{Contains-filter}
-use Rattle.cq_clones.specs.Groups.{token_behind, token_ahead, AreSame}
+use Rattle.cq_clones.specs.Groups.{token_behind, AreSame}
 use Rattle.cq_refine.specs.declared.parting.Parting.{Parting}
 use Rattle.cq_refine.specs.declared.spots.Spot.{Spot}
 use Rattle.cq_refine.specs.declared.spots.Marked.{Marked}

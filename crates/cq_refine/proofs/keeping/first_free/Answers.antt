@@ -1,4 +1,4 @@
-use Rattle.std.proofs.Common.{◌≡◌, ◌+◌, ◌-◌, ◌<◌, ◌/◌, false, Some, arith, get_or, length, ap₂, sym, ◌∙◌}
+use Rattle.std.proofs.Common.{◌+◌, ◌-◌, ◌<◌, ◌/◌, false, Some, arith, length, ap₂, sym, ◌∙◌}
 use Rattle.std.proofs.lemmas.List.{get_or_default}
 use Rattle.cq_clones.specs.Groups.{is_free}
 use Rattle.cq_refine.specs.declared.spots.Spot.{Spot}

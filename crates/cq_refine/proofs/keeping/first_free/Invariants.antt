@@ -1,4 +1,4 @@
-use Rattle.std.proofs.Common.{◌≡◌, ℕ, ◌-◌, ◌<◌, ◌≤◌, true, false, length}
+use Rattle.std.proofs.Common.{ℕ, ◌-◌, ◌<◌, ◌≤◌, true, false, length}
 use Rattle.cq_refine.specs.declared.spots.Spot.{Spot}
 use Rattle.cq_refine.specs.Sets.{IsFreeBehind}
 use Rattle.cq_refine.proofs.keeping.first_free.Given as goal

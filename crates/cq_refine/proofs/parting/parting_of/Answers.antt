@@ -1,16 +1,15 @@
 use Rattle.std.specs.BTreeMap.{get}
 use Rattle.cq_tokens.specs.declared.seen.Seen.{Seen}
 use Rattle.cq_tokens.specs.Packed.{norm_in, seen_cmp}
-use Rattle.std.proofs.Common.{◌≡◌, ◌-◌, ◌+◌, [], ◌++◌, ◌∷◌, List, None, arith, ap, ◌∙◌, sym, subst, get_or, take}
+use Rattle.std.proofs.Common.{◌≡◌, ◌-◌, ◌+◌, [], ◌++◌, List, None, arith, ap, ◌∙◌, sym, subst, get_or, take}
 use Rattle.std.specs.Prelude.{option_map}
 use Rattle.std.proofs.lemmas.Bool.{iff_false}
 use Rattle.std.proofs.lemmas.List.{take_more, take_all}
 use Rattle.cq_clones.specs.Groups.{token_behind, AreSame}
 use Rattle.cq_tokens.specs.Parts.{tokens_in}
 use Rattle.cq_refine.specs.declared.spots.Spot.{Spot}
-use Rattle.cq_refine.specs.declared.spots.Marked.{Marked}
-use Rattle.cq_refine.specs.Sets.{AreMarks, IsMarked}
-use Rattle.cq_refine.proofs.Marking.{marks_none, marking_none}
+use Rattle.cq_refine.specs.Sets.{IsMarked}
+use Rattle.cq_refine.proofs.Marking.{marks_none}
 use Rattle.cq_refine.proofs.ToldApart.{Apart, apart_begins, apart_stays, apart_leaves, apart_ends, first_tokens}
 use Rattle.cq_refine.proofs.parting.parting_of.Goals as goal
 

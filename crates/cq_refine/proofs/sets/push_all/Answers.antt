@@ -1,8 +1,7 @@
-use Rattle.std.proofs.Common.{ℕ, arith, List, ◌≤◌, ◌<◌, ⊎_elim, ◌≡◌, ◌+◌, ◌∙◌, ap, map, length, refl, sym, subst}
+use Rattle.std.proofs.Common.{ℕ, arith, ◌≡◌, ◌+◌, ap, map, refl, sym, subst}
 use Rattle.std.proofs.lemmas.Bool.{iff_false}
 use Rattle.std.proofs.lemmas.List.{length-map}
 use Rattle.std.specs.Vec.Iter.{into_iter_items}
-use Rattle.cq_refine.specs.declared.spots.Spot.{Spot}
 use Rattle.cq_refine.specs.declared.spots.Set.{Set}
 use Rattle.cq_refine.specs.Sets.{AreByMark, AddsParts, MayGive}
 use Rattle.cq_refine.proofs.Parts.{AreLeft, left_first, left_next, no_parts, part_more, part_skipped}
