@@ -195,16 +195,43 @@ fn taken(alloc: Global) -> Result<(bool, Option<u64>, bool), Refused> {
 fn each_shard_answers_for_its_keys(rt: HostRuntime) -> Result<(), Refused> {
     let (number, finished, version, odd) = run::<Apart>(rt.alloc(), 3)?;
     assert_eq!(rt; (number, finished, version), (1, Finished::Done, 1));
-    assert_eq!(rt; odd.as_slice(), [Entry { key: 3, change: 1, at: 0 }].as_slice());
+    assert_eq!(rt;
+        odd.as_slice(),
+        [Entry {
+            key: 3,
+            change: 1,
+            at: 0
+        }]
+        .as_slice()
+    );
     let (_, _, _, even) = run::<Apart>(rt.alloc(), 4)?;
-    assert_eq!(rt; even.as_slice(), [Entry { key: 4, change: 1, at: 1 }].as_slice());
+    assert_eq!(rt;
+        even.as_slice(),
+        [Entry {
+            key: 4,
+            change: 1,
+            at: 1
+        }]
+        .as_slice()
+    );
     Ok(())
 }
 
 #[test]
 fn all_windows_may_have_one_key(rt: HostRuntime) -> Result<(), Refused> {
     let (_, _, _, entries) = run::<Alike>(rt.alloc(), 0)?;
-    let both = [Entry { key: 0, change: 1, at: 0 }, Entry { key: 0, change: 1, at: 1 }];
+    let both = [
+        Entry {
+            key: 0,
+            change: 1,
+            at: 0,
+        },
+        Entry {
+            key: 0,
+            change: 1,
+            at: 1,
+        },
+    ];
     assert_eq!(rt; entries.as_slice(), both.as_slice());
     Ok(())
 }

@@ -60,10 +60,21 @@ const RESERVED: [&[&[u8]]; 13] = [
     &[b"_"],
     &[b"do", b"if"],
     &[b"for", b"int", b"new", b"try"],
-    &[b"byte", b"case", b"char", b"else", b"enum", b"goto", b"long", b"this", b"void", b"true", b"null"],
-    &[b"break", b"catch", b"class", b"const", b"final", b"float", b"short", b"super", b"throw", b"while", b"false"],
-    &[b"assert", b"double", b"import", b"native", b"public", b"return", b"static", b"switch", b"throws"],
-    &[b"boolean", b"default", b"extends", b"finally", b"package", b"private"],
+    &[
+        b"byte", b"case", b"char", b"else", b"enum", b"goto", b"long", b"this", b"void", b"true",
+        b"null",
+    ],
+    &[
+        b"break", b"catch", b"class", b"const", b"final", b"float", b"short", b"super", b"throw",
+        b"while", b"false",
+    ],
+    &[
+        b"assert", b"double", b"import", b"native", b"public", b"return", b"static", b"switch",
+        b"throws",
+    ],
+    &[
+        b"boolean", b"default", b"extends", b"finally", b"package", b"private",
+    ],
     &[b"abstract", b"continue", b"strictfp", b"volatile"],
     &[b"interface", b"protected", b"transient"],
     &[b"implements", b"instanceof"],
