@@ -1,0 +1,4 @@
+pub mod Growing
+pub mod ShardSteps
+pub mod Soloing
+pub mod Staying

@@ -1,0 +1,55 @@
+-- What a call of a hub does to the history for which a pass stands.
+use Rattle.std.specs.Prelude.{◌≡◌, ◌⊎◌, ℕ, ◌+◌, ◌-◌, ◌^◌, min, List, [], ◌++◌, Some}
+use Rattle.std.specs.List.{AllByRecursion}
+use Rattle.cq_history.specs.declared.event.Event.{Event}
+use Rattle.cq_history.specs.declared.event.Event.TheVariants.{Accept, Ask, Took, Back, Done, Publish, Open, Shut, Floor}
+use Rattle.cq_history.specs.State.{own, maker}
+
+abbrev pub IsPublication : Event → Type 0
+IsPublication (Accept by change) = ⊥
+IsPublication (Ask by) = ⊥
+IsPublication (Took by r) = ⊥
+IsPublication (Back by r) = ⊥
+IsPublication (Done by r) = ⊥
+IsPublication (Publish p) = Unit {0}
+IsPublication (Open by p) = ⊥
+IsPublication (Shut by) = ⊥
+IsPublication (Floor f) = ⊥
+
+-- no event
+abbrev pub Never : Event → Type 0
+Never e = ⊥
+
+-- The second history is the first one and further events, of which the caller's are these, in this order. Others' events
+-- may stand anywhere between them; but where nobody else calls the hub, those alone that `May` come.
+pub record Grows (alone : Type 0) (May : Event → Type 0) (c : ℕ) (h after events : List Event) : Type 0 where
+  pub more : List Event
+  pub after_is : after ≡ h ++ more
+  pub own_is : own c more ≡ events
+  pub alone_is : alone → AllByRecursion (λ (e : Event). (maker e ≡ Some c) ⊎ May e) more
+
+module _ {S P : Type 0} (Stands : S → P → ℕ → List Event → Type 0) where
+  -- it is a pass of the hub
+  abbrev pub IsPassOf : S → P → Type 0
+  IsPassOf hub pass = (c : ℕ) × (h : List Event) × Stands hub pass c h
+
+  -- it stands for a history of which this holds, which its caller has seen
+  abbrev pub HasSeen : S → P → (ℕ → List Event → Type 0) → Type 0
+  HasSeen hub pass Holds = (c : ℕ) × (h : List Event) × Stands hub pass c h × Holds c h
+
+  -- A call behind a history: others' events may come, what the call answers is said of the history then, and behind that
+  -- one the call's own events come at once. The pass stands for all of it.
+  pub record Calls (alone : Type 0) (May : Event → Type 0) (c : ℕ) (hub : S) (pass : P) (h events : List Event) (Says : List Event → Type 0) : Type 0 where
+    pub mid : List Event
+    pub others : Grows alone May c h mid []
+    pub says : Says mid
+    pub stands : Stands hub pass c (mid ++ events)
+
+  -- it is so for each caller and history that the pass stood for
+  abbrev pub Extends : Type 0 → (Event → Type 0) → S → P → P → (ℕ → List Event) → (ℕ → List Event → Type 0) → Type 0
+  Extends alone May hub old new events Says =
+      (c : ℕ) (h : List Event) → Stands hub old c h → Calls alone May c hub new h (events c) (Says c)
+
+-- it is one more, up to its last value
+abbrev pub one_more : ℕ → ℕ
+one_more n = min (n + 1) (2 ^ 64 - 1)

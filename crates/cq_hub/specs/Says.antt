@@ -1,0 +1,30 @@
+-- What the calls of a hub answer, said of the state of the history just before their own events.
+use Rattle.std.specs.Prelude.{◌≡◌, ◌⊎◌, ℕ, ◌+◌, ◌<◌, List, length, Option, None, Some, MatchOption}
+use Rattle.cq_base.specs.declared.settings.Settings.{Settings}
+use Rattle.cq_base.specs.declared.change.Change.{Change}
+use Rattle.cq_history.specs.declared.event.Event.{Event}
+use Rattle.cq_history.specs.State.{State, state, accepted, first_free, IsAccepted, IsDone, IsUndone}
+use Rattle.cq_board.specs.Answers.{refusal_of, IsJob}
+use Rattle.cq_board.specs.declared.answers.Job.{Job}
+use Rattle.cq_board.specs.declared.answers.Refused.{Refused}
+use Rattle.cq_board.specs.declared.answers.Refused.TheVariants.{Memory}
+
+-- there is no cause against the change, and this is its number
+abbrev pub IsAcceptedAs : Settings → ℕ → Change → ℕ → List Event → Type 0
+IsAcceptedAs set callers change number h = (refusal_of set (state callers h) change ≡ None) × (number ≡ length (accepted h) + 1)
+
+-- memory was refused, or this is the first cause against the change
+abbrev pub IsRefusedFor : Settings → ℕ → Change → Refused → List Event → Type 0
+IsRefusedFor set callers change cause h = (cause ≡ Memory) ⊎ (refusal_of set (state callers h) change ≡ Some cause)
+
+-- the job is that of the first change that is neither done nor taken
+abbrev pub IsFirstFree : State → Job → Type 0
+IsFirstFree s j = (j.change ≡ first_free s) × IsAccepted s j.change × IsJob s j
+
+-- each change is done or taken
+abbrev pub IsNoneFree : State → Type 0
+IsNoneFree s = length s.slots < first_free s
+
+-- the change's job where it is not done, and none where it is
+abbrev pub IsJobFor : State → ℕ → Option Job → Type 0
+IsJobFor s change job = MatchOption job (IsDone s change) (λ j. IsUndone s change × (j.change ≡ change) × IsJob s j)

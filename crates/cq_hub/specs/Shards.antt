@@ -1,0 +1,27 @@
+-- The shards beside a board: each stands for the board's changes, and is as far on as its history allows.
+use Rattle.std.specs.Prelude.{◌≡◌, ℕ, ◌<◌, ◌≤◌, List, [], length, slice_index_or}
+use Rattle.cq_base.specs.declared.lang.Lang.{Lang}
+use Rattle.cq_history.specs.State.{changes_in}
+use Rattle.cq_history.specs.Core.{IsReached}
+use Rattle.cq_shard.specs.Shard.{Contents, StandsFor}
+use Rattle.cq_board.specs.Stands.{BoardState}
+
+-- Over a relation which says of a text that it has at a place a window with a key: it is the shard of this number, and has
+-- what it should of the board's changes. It has applied what is published and nothing that is not ready, and was swept no
+-- further than the floor.
+pub record IsShardOf (IsWindow : Lang → List ℕ → ℕ → ℕ → Type 0) (b : BoardState) (number : ℕ) (c : Contents) : Type 0 where
+  pub stands : StandsFor IsWindow (changes_in b.state) c
+  pub reached : IsReached b.state c.applied
+  pub swept : c.floor ≤ b.state.floor
+  pub number_is : c.shard ≡ number
+  pub shards : c.shards ≡ b.settings.shards
+
+-- they are all the board's shards, by number
+pub record AreShardsOf (IsWindow : Lang → List ℕ → ℕ → ℕ → Type 0) (b : BoardState) (shards : List Contents) : Type 0 where
+  pub number_is : length shards ≡ b.settings.shards
+  pub each : (i : ℕ) (d : Contents) → i < length shards → IsShardOf IsWindow b i (slice_index_or shards i d)
+
+-- shards that have applied nothing
+pub record AreFresh (number : ℕ) (shards : List Contents) : Type 0 where
+  pub number_is : length shards ≡ number
+  pub each : (i : ℕ) (d : Contents) → i < length shards → slice_index_or shards i d ≡ record { shard = i; shards = number; applied = 0; floor = 0; entries = [] }

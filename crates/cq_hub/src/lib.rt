@@ -1,0 +1,11 @@
+//! One server's state behind its calls: a hub, whose passes each stand for a history of events, and the plain hub, which
+//! one caller has to itself. A call of a hub adds others' events and then its own to the history, and answers what is so
+//! in between. So what is proved over any hub holds of the plain one and of one that many threads share.
+#![tactic(auto)]
+
+mod applying;
+mod hub;
+mod solo;
+
+pub use hub::Hub;
+pub use solo::{Solo, SoloPass};
