@@ -1,11 +1,11 @@
 -- Lists of the keys of files, as they grow, and how often an index was asked.
-use Rattle.std.proofs.Common.{◌≡◌, ◌↔◌, ℕ, ◌+◌, ◌*◌, ◌<◌, ◌≤◌, List, [], ◌++◌, length, get_or, Some, sym, ap, ◌∙◌, subst, ⊎_elim, arith}
+use Rattle.std.proofs.Common.{◌≡◌, ◌↔◌, ℕ, ◌+◌, ◌*◌, ◌<◌, ◌≤◌, List, [], ◌++◌, length, get_or, slice_get, Some, sym, ap, ◌∙◌, subst, ⊎_elim, arith}
 use Rattle.std.specs.Prelude.{Contains, OnOk}
 use Rattle.std.proofs.Common.{Result, Ok, Err}
 use Rattle.std.specs.Arc.{arc_value}
 use Rattle.std.proofs.Math.Nat.{add-mul, mul-le-mul_right}
 use Rattle.std.proofs.lemmas.Bool.{cases_lt}
-use Rattle.std.proofs.lemmas.List.{get_or-map, get_or_past}
+use Rattle.std.proofs.lemmas.List.{length-map, get_or-map, get_or_past}
 use Rattle.std.proofs.lemmas.List.Elements.{Contains-append_left, Contains-append_right, Contains-append_cases}
 use Rattle.std.proofs.lemmas.Option.{slice_get-get_or, get_or_from_slice_get, slice_get_within}
 use Rattle.cq_base.specs.declared.group.Place.{Place}
@@ -13,13 +13,19 @@ use Rattle.cq_clones.specs.Groups.{file_at}
 use Rattle.cq_clones.proofs.InOrder.{in_order_same, AreAllInOrder-same}
 use Rattle.cq_base.proofs.Lists.{Contains-nil}
 use Rattle.cq_tokens.specs.declared.FileTokens.{FileTokens}
-use Rattle.cq_tokens.specs.Corpus.{keys_of}
+use Rattle.cq_tokens.specs.Corpus.{changes_of, keys_of}
 use Rattle.cq_clones.specs.Windows.{HasKey}
 use Rattle.cq_groups.specs.Listing.{IsKey, IsKeyIn, AreAllRising, Rises, RisesAtMost}
 
 -- the keys of one file
 pub keys_at : {L : Type 0} (files : List (FileTokens L)) (i : ℕ) (f : FileTokens L) → i < length files → f ≡ get_or files i f → file_at (keys_of files) i ≡ arc_value f.keys
 keys_at files i f lt read = get_or-map (λ file. arc_value file.keys) files i f [] lt ∙ ap (λ file. arc_value file.keys) (sym read)
+
+-- the change of one file
+pub change_at : {L : Type 0} (files : List (FileTokens L)) (i : ℕ) (f : FileTokens L) → i < length files → f ≡ get_or files i f → slice_get (changes_of files) i ≡ Some f.change
+change_at files i f lt read =
+    let n = length-map files (λ file. file.change) in
+    slice_get-get_or (changes_of files) i f.change (omega (arith, n, lt)) ∙ ap Some (get_or-map (λ file. file.change) files i f f.change lt ∙ ap (λ file. file.change) (sym read))
 
 -- the keys of the first files
 abbrev pub AreKeysUpto : List (List ℕ) → ℕ → List ℕ → Type 0
@@ -94,9 +100,6 @@ reads_more start old new sum sum' n longest e h k =
 
 pub reads_within : (start now sum all longest : ℕ) → sum ≤ all → now ≤ start + sum * (longest + 2) → now ≤ start + all * (longest + 2)
 reads_within start now sum all longest le h = let t = mul-le-mul_right (longest + 2) le in omega (arith, h, t)
-
-pub keys_at_or : {L : Type 0} (files : List (FileTokens L)) (i : ℕ) (d : FileTokens L) → i < length files → file_at (keys_of files) i ≡ arc_value (get_or files i d).keys
-keys_at_or files i d lt = get_or-map (λ file. arc_value file.keys) files i d [] lt
 
 -- a fact, also where there is a value
 pub on_ok : {T E P : Type 0} (r : Result T E) → P → OnOk r P

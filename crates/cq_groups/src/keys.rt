@@ -1,9 +1,9 @@
-ghost use Rattle.std.specs.Prelude.{◌≡◌, ◌+◌, ◌^◌, ◌<◌, length, IfOk, Contains};
-ghost use Rattle.cq_tokens.specs.Corpus.{keys_of};
+ghost use Rattle.std.specs.Prelude.{◌≡◌, ◌<◌, length, IfOk, Contains};
+ghost use Rattle.cq_tokens.specs.Parts.{tokens_in, keys_in};
 ghost use Rattle.cq_groups.specs.Listing.{IsKey, IsKeyIn, AreAllRising};
 
 use cq_base::Memory;
-use cq_tokens::FileTokens;
+use cq_tokens::Corpus;
 use std::alloc::Global;
 use std::sync::ledger::Ledger;
 
@@ -18,15 +18,12 @@ fn different(keys: Vec<u64>) -> Vec<u64>
 }
 
 /// The different keys of the files' windows, in order.
-pub(crate) fn all_keys<L: Ledger>(
-    alloc: Global,
-    files: &[FileTokens<L>],
-) -> Result<Vec<u64>, Memory>
-    ensures { IfOk result (λ keys. AreAllRising (IsKey (keys_of files.now)) keys.items) }
+pub(crate) fn all_keys<L: Ledger>(alloc: Global, corpus: &Corpus<'_, L>) -> Result<Vec<u64>, Memory>
+    ensures { IfOk result (λ keys. AreAllRising (IsKey (keys_in corpus.now)) keys.items) }
 {
     let mut keys = Vec::new(alloc);
-    for file in files {
-        keys.extend_from_slice(file.keys.as_slice())?;
+    for file in 0..corpus.len() {
+        keys.extend_from_slice(corpus.keys(file))?;
     }
     Ok(different(keys))
 }
@@ -34,12 +31,12 @@ pub(crate) fn all_keys<L: Ledger>(
 /// The different keys of a file's windows, in order.
 pub(crate) fn file_keys<L: Ledger>(
     alloc: Global,
-    files: &[FileTokens<L>],
+    corpus: &Corpus<'_, L>,
     file: u32,
 ) -> Result<Vec<u64>, Memory>
-    requires { file < length files.now }
-    ensures { IfOk result (λ keys. AreAllRising (IsKeyIn (keys_of files.now) file) keys.items) }
+    requires { file < length (tokens_in corpus.now.files) }
+    ensures { IfOk result (λ keys. AreAllRising (IsKeyIn (keys_in corpus.now) file) keys.items) }
 {
-    let keys = Vec::from_slice(alloc, files[file as usize].keys.as_slice())?;
+    let keys = Vec::from_slice(alloc, corpus.keys(file))?;
     Ok(different(keys))
 }

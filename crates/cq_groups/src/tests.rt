@@ -2,23 +2,13 @@ ghost use Rattle.std.specs.Prelude.{◌≡◌, ◌^◌, ◌<◌, ◌≤◌, leng
 ghost use Rattle.cq_groups.specs.Plain.{HasOneKey};
 
 use crate::{PlainBuckets, list_all};
-use cq_base::{Class, Group, Keys, Lang, Memory, Norm, Place, Settings, Steps, Text};
-use cq_tokens::{FileTokens, Tokens};
+use cq_base::{Class, Group, Keys, Lang, Memory, Norm, Place, Steps, Text};
+use cq_refine::Index;
+use cq_tokens::{Corpus, FileTokens, Tokens};
 use std::alloc::Global;
 use std::marker::Brand;
 use std::sync::Arc;
 use std::sync::ledger::{Blank, Ledger};
-
-const SETTINGS: Settings = Settings {
-    chunk: 2,
-    shards: 1,
-    key_bits: 0,
-    ignore_ids: false,
-    ignore_lits: false,
-    change_limit: 262_144,
-    text_limit: 33_554_432,
-    byte_limit: 65_536,
-};
 
 // The change, and one file whose tokens are the bytes of a text. All its windows of two tokens have the key 0.
 fn file_of<L: Ledger>(alloc: Global, change: u64, text: &[u8]) -> Result<FileTokens<L>, Memory>
@@ -65,7 +55,8 @@ fn listed<L: Ledger>(
     let files = files.as_slice();
     let mut steps = Steps::new(blank);
     let mut buckets = PlainBuckets::new(files);
-    list_all(alloc, &SETTINGS, files, min, &mut buckets, &mut steps)
+    let index = Index::new(alloc, Corpus::new(2, files))?;
+    list_all(alloc, &index, min, &mut buckets, &mut steps)
 }
 
 fn groups_of(alloc: Global, texts: &[&[u8]], min: u32) -> Result<Vec<Group>, Memory>

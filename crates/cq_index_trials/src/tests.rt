@@ -7,9 +7,9 @@ use cq_base::{Group, Memory, Settings, Steps};
 use cq_groups::{Buckets, PlainBuckets, list_all, list_file};
 use cq_key::{Keyer, files_are_keyed_by_their_windows, plain_key};
 use cq_order::order;
-use cq_refine::refine;
+use cq_refine::{Index, refine};
 use cq_scan::scan;
-use cq_tokens::FileTokens;
+use cq_tokens::{Corpus, FileTokens};
 use std::alloc::Global;
 use std::marker::Brand;
 use std::sync::ledger::{Blank, Ledger};
@@ -66,10 +66,11 @@ fn agrees<L: Ledger>(
     files_are_keyed_by_their_windows();
     let plain = scan(alloc, files, min, steps)?;
     let mut buckets = PlainBuckets::new(files);
-    let all = list_all(alloc, settings, files, min, &mut buckets, steps)?;
+    let index = Index::new(alloc, Corpus::new(settings.chunk, files))?;
+    let all = list_all(alloc, &index, min, &mut buckets, steps)?;
     let mut same = are_same(&plain, &all, None);
-    for file in 0..files.len() as u32 {
-        let found = list_file(alloc, settings, files, file, min, &mut buckets, steps)?;
+    for file in 0..index.corpus.len() {
+        let found = list_file(alloc, &index, file, min, &mut buckets, steps)?;
         same = same && are_same(&plain, &found, Some(file));
     }
     Ok(if same { Some(plain.len()) } else { None })
@@ -91,7 +92,8 @@ fn agrees_in_one_bucket<L: Ledger>(
     let plain = scan(alloc, files, min, steps)?;
     let mut buckets = PlainBuckets::new(files);
     let bucket = buckets.bucket(alloc, 0)?;
-    let found = order(refine(alloc, settings, &bucket, files, min, steps)?)?;
+    let corpus = Corpus::new(settings.chunk, files);
+    let found = order(refine(alloc, &corpus, &bucket, min, steps)?)?;
     Ok(are_same(&plain, &found, None))
 }
 

@@ -215,11 +215,6 @@ index_none Asked changes index none q file asked = (λ h. absurd (true≢false (
 pub index_all : (Asked : ℕ → Type 0) (changes : List ℕ) (n : ℕ) (index : ℕ → Option ℕ) → length changes ≤ n → IsIndexUpto Asked changes n index → (change file : ℕ) → Asked change → (index change ≡ Some file) ↔ (slice_get changes file ≡ Some change)
 index_all Asked changes n index all is q file asked = (λ h. ((is q file asked).0 h).1, λ put. (is q file asked).1 (let w = slice_get_within changes file q put in omega (arith, w, all), put))
 
-pub change_at : {L : Type 0} (files : List (FileTokens L)) (i : ℕ) (f : FileTokens L) → i < length files → f ≡ get_or files i f → slice_get (changes_of files) i ≡ Some f.change
-change_at files i f lt read =
-    let n = length-map files (λ file. file.change) in
-    slice_get-get_or (changes_of files) i f.change (omega (arith, n, lt)) ∙ ap Some (get_or-map (λ file. file.change) files i f f.change lt ∙ ap (λ file. file.change) (sym read))
-
 pub other_key : (c q : ℕ) → q ≢ c → is_eq (nat_cmp c q) ≡ false
 other_key c q other = grind arith
 

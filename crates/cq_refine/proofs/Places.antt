@@ -1,8 +1,7 @@
 -- The files of places, and places once they are sorted.
 use Rattle.std.proofs.Common.{◌≢◌, ◌⊎◌, ◌<◌, List, [], length, get_or, ap, inl, inr, ⊎_elim, arith}
-use Rattle.std.specs.Arc.{arc_value}
 use Rattle.std.proofs.lemmas.Bool.{cases_lt, cases_eq}
-use Rattle.std.proofs.lemmas.List.{length-map, get_or_past}
+use Rattle.std.proofs.lemmas.List.{get_or_past}
 use Rattle.std.proofs.lemmas.List.Elements.{Contains-get_or}
 use Rattle.cq_base.specs.declared.group.Place.{Place}
 use Rattle.cq_clones.specs.Lists.{AreAllInOrder}
@@ -10,20 +9,13 @@ use Rattle.cq_clones.specs.Groups.{IsPlace, IsBefore}
 use Rattle.cq_clones.proofs.Order.{IsBefore-cases}
 use Rattle.cq_order.specs.Order.{AreOrdered, IsOrderOf}
 use Rattle.cq_order.proofs.Sorting.{in_order_of}
-use Rattle.cq_tokens.specs.declared.files.FileTokens.{FileTokens}
-use Rattle.cq_tokens.specs.Corpus.{corpus_of}
 
 -- a place is in one of the files
-file_of_place : {T : Type 0} (corpus : List (List T)) (p : Place) → IsPlace corpus p → p.file < length corpus
+pub file_of_place : {T : Type 0} (corpus : List (List T)) (p : Place) → IsPlace corpus p → p.file < length corpus
 file_of_place corpus p here =
     ⊎_elim (λ h. h)
     (λ past. let e = ap length (get_or_past corpus p.file [] past) in absurd (omega (arith, e)))
     (cases_lt p.file (length corpus))
-
-pub file_of_files : {L : Type 0} (files : List (FileTokens L)) (p : Place) → IsPlace (corpus_of files) p → p.file < length files
-file_of_files files p here =
-    let a = file_of_place (corpus_of files) p here in
-    let b = length-map files (λ file. arc_value file.tokens) in omega (arith, a, b)
 
 is_before_or_not : (p q : Place) → IsBefore p q ⊎ (IsBefore p q → ⊥)
 is_before_or_not p q =

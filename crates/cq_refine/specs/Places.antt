@@ -3,13 +3,18 @@ use Rattle.std.specs.Prelude.{◌≡◌, ◌↔◌, ℕ, List, slice_get, Option
 use Rattle.cq_base.specs.declared.entry.Entry.{Entry}
 use Rattle.cq_base.specs.declared.group.Place.{Place}
 use Rattle.cq_base.specs.declared.group.Group.{Group}
-use Rattle.cq_clones.specs.Groups.{IsGroup}
+use Rattle.std.specs.declared.sync.ledger.Ledger.{Ghosts}
+use Rattle.cq_clones.specs.Lists.{AreAllInOrder}
+use Rattle.cq_clones.specs.Groups.{IsGroup, IsBefore}
 use Rattle.cq_base.specs.Places.{first_place}
-use Rattle.cq_clones.specs.Windows.{HasKey}
+use Rattle.cq_clones.specs.Windows.{HasKey, IsBucket}
+use Rattle.cq_tokens.specs.declared.corpus.Corpus.{Corpus}
+use Rattle.cq_tokens.specs.Parts.{tokens_in, changes_in, keys_in}
 use Rattle.std.specs.BTreeMap.{get}
 use Rattle.std.specs.BTreeSet.{BTreeSet, contains}
 use Rattle.std.specs.Ordering.{nat_cmp}
 use Rattle.cq_refine.specs.declared.changes.Changes.{Changes}
+use Rattle.cq_refine.specs.Sets.{AreAllOnce}
 
 -- the position of each change
 abbrev pub IsIndexOf : List ℕ → (ℕ → Option ℕ) → Type 0
@@ -36,3 +41,15 @@ pub record IsPlaceOf (changes : List ℕ) (e : Entry) (p : Place) : Type 0 where
 -- a group whose word begins with a window of the key
 abbrev pub IsGroupOfKey : {T : Type 0} → List (List T) → List (List ℕ) → ℕ → ℕ → Group → Type 0
 IsGroupOfKey corpus keys least key group = IsGroup corpus least group × HasKey keys key (first_place group)
+
+-- all entries of a corpus with the key, in order
+abbrev pub IsBucketIn : {L : Type 0} {g : Ghosts L} → Corpus L g → ℕ → List Entry → Type 0
+IsBucketIn corpus key bucket = IsBucket (changes_in corpus) (keys_in corpus) key bucket
+
+-- all places of a corpus at which a window of the key begins, in order
+abbrev pub ArePlacesWith : {L : Type 0} {g : Ghosts L} → Corpus L g → ℕ → List Place → Type 0
+ArePlacesWith corpus key places = AreAllInOrder IsBefore (HasKey (keys_in corpus) key) places
+
+-- exactly the groups of a corpus whose word begins with a window of the key, each once
+abbrev pub AreGroupsOfKey : {L : Type 0} {g : Ghosts L} → Corpus L g → ℕ → ℕ → List Group → Type 0
+AreGroupsOfKey corpus least key groups = AreAllOnce (IsGroupOfKey (tokens_in corpus.files) (keys_in corpus) least key) groups

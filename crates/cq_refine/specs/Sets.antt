@@ -1,5 +1,5 @@
 -- Sets of places that share their first tokens.
-use Rattle.std.specs.Prelude.{◌≡◌, ◌≢◌, ◌⊎◌, ◌↔◌, ℕ, ◌+◌, ◌-◌, ◌<◌, ◌≤◌, List, slice_get, slice_index_or, Some, ◌∷◌, [], ◌++◌, length, Option, All, AllPairs, Contains, Any, sum_by, map, filter, ◌==◌, nat_le}
+use Rattle.std.specs.Prelude.{◌≡◌, ◌≢◌, ◌⊎◌, ◌↔◌, ℕ, ◌+◌, ◌*◌, ◌-◌, ◌<◌, ◌≤◌, List, slice_get, slice_index_or, Some, ◌∷◌, [], ◌++◌, length, Option, All, AllPairs, Contains, Any, sum_by, map, filter, ◌==◌, nat_le}
 use Rattle.std.specs.BTreeMap.{BTreeMap, get, btree_map_len}
 use Rattle.cq_base.specs.declared.norm.Norm.{Norm}
 use Rattle.cq_tokens.specs.declared.seen.Seen.{Seen}
@@ -59,6 +59,11 @@ pub record IsWordSet {T : Type 0} (corpus : List (List T)) (all : List Spot) (de
 -- no word of more than `longest` tokens stands at two different places
 abbrev pub IsLongest : {T : Type 0} → List (List T) → ℕ → Type 0
 IsLongest {T} corpus longest = (p q : Place) (n : ℕ) → p ≢ q → p.at + n ≤ length (file_at corpus p.file) → q.at + n ≤ length (file_at corpus q.file) → word_at corpus p n ≡ word_at corpus q n → n ≤ longest
+
+-- from one count of steps to another, a token was read at most as often as so many places have tokens of a repeated word,
+-- and twice more each
+abbrev pub ReadsAtMost : {T : Type 0} → List (List T) → ℕ → ℕ → ℕ → Type 0
+ReadsAtMost corpus places old new = (longest : ℕ) → IsLongest corpus longest → new ≤ old + places * (longest + 2)
 
 -- the marks are those of the tokens `n` behind the spots
 pub record AreMarked {T : Type 0} (corpus : List (List T)) (n : ℕ) (marked : List Marked) : Type 0 where

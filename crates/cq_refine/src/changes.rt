@@ -1,9 +1,9 @@
-ghost use Rattle.std.specs.Prelude.{◌≡◌, ◌≢◌, ◌^◌, ◌<◌, length, IfOk, AllPairs, option_copied};
-ghost use Rattle.cq_tokens.specs.Corpus.{changes_of};
+ghost use Rattle.std.specs.Prelude.{◌≡◌, IfOk};
+ghost use Rattle.cq_tokens.specs.Parts.{changes_in};
 ghost use Rattle.cq_refine.specs.Places.{IsIndex, IsIndexFor, AreAsked, index_of};
 
 use cq_base::{Entry, Memory};
-use cq_tokens::FileTokens;
+use cq_tokens::Corpus;
 use std::alloc::Global;
 use std::collections::{BTreeMap, BTreeSet};
 use std::sync::ledger::Ledger;
@@ -21,20 +21,18 @@ fn asked(alloc: Global, bucket: &[Entry]) -> Result<BTreeSet<u64>, Memory>
 
 /// Which file each change put.
 #[derive(Drop)]
-pub struct Changes {
+pub(crate) struct Changes {
     files: BTreeMap<u64, u32>,
 }
 
 impl Changes {
-    /// The files of these changes. It costs an ordered map of them.
-    pub fn new<L: Ledger>(alloc: Global, files: &[FileTokens<L>]) -> Result<Changes, Memory>
-        requires few { length files.now < 2 ^ 32 }
-        requires apart { AllPairs (λ a b. a ≢ b) (changes_of files.now) }
-        ensures { IfOk result (λ index. IsIndex (changes_of files.now) index) }
+    /// The files of a corpus by their changes. It costs an ordered map of them.
+    pub(crate) fn new<L: Ledger>(alloc: Global, corpus: &Corpus<'_, L>) -> Result<Changes, Memory>
+        ensures { IfOk result (λ index. IsIndex (changes_in corpus.now) index) }
     {
         let mut places = BTreeMap::new(alloc);
-        for (i, file) in files.iter().enumerate() {
-            places.insert(file.change, i as u32)?;
+        for file in 0..corpus.len() {
+            places.insert(corpus.change(file), file)?;
         }
         Ok(Changes { files: places })
     }
@@ -43,24 +41,23 @@ impl Changes {
     pub(crate) fn of_bucket<L: Ledger>(
         alloc: Global,
         bucket: &[Entry],
-        files: &[FileTokens<L>],
+        corpus: &Corpus<'_, L>,
     ) -> Result<Changes, Memory>
-        requires few { length files.now < 2 ^ 32 }
-        requires apart { AllPairs (λ a b. a ≢ b) (changes_of files.now) }
-        ensures { IfOk result (λ index. IsIndexFor bucket.now (changes_of files.now) index) }
+        ensures { IfOk result (λ index. IsIndexFor bucket.now (changes_in corpus.now) index) }
     {
         let asked = asked(alloc, bucket)?;
         let mut found = BTreeMap::new(alloc);
-        for (i, file) in files.iter().enumerate() {
-            if asked.contains(&file.change) {
-                found.insert(file.change, i as u32)?;
+        for file in 0..corpus.len() {
+            let change = corpus.change(file);
+            if asked.contains(&change) {
+                found.insert(change, file)?;
             }
         }
         Ok(Changes { files: found })
     }
 
     /// The file of a change, if one of the files has it.
-    pub fn file(&self, change: u64) -> Option<u32>
+    pub(crate) fn file(&self, change: u64) -> Option<u32>
         ensures { result ≡ index_of self.now change }
     {
         self.files.get(&change).copied()

@@ -11,10 +11,11 @@
 
 mod changes;
 mod entries;
+mod index;
 mod marks;
 mod refining;
 mod sets;
 mod spots;
 
-pub use changes::Changes;
 pub use entries::{refine, refine_with};
+pub use index::Index;

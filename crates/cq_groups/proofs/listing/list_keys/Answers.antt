@@ -3,8 +3,7 @@ use Rattle.std.specs.Prelude.{sum_by}
 use Rattle.std.proofs.lemmas.List.{get_or_default, take_all}
 use Rattle.std.proofs.lemmas.List.Elements.{Contains-get_or}
 use Rattle.cq_base.specs.declared.entry.Entry.{Entry}
-use Rattle.cq_tokens.specs.Corpus.{corpus_of}
-use Rattle.cq_tokens.specs.Corpus.{changes_of, keys_of}
+use Rattle.cq_tokens.specs.Parts.{tokens_in, changes_in, keys_in}
 use Rattle.cq_clones.specs.Windows.{IsBucket}
 use Rattle.cq_refine.specs.Sets.{AreAllOnce}
 use Rattle.cq_groups.specs.Listing.{IsGroupOfKeys}
@@ -15,30 +14,30 @@ use Rattle.cq_groups.proofs.listing.list_keys.Goals as goal
 
 pub loop-key-init : goal.loop-key-init
 loop-key-init g c = record {
-  groups = groups_none (corpus_of c.args.files.now) (keys_of c.args.files.now) c.args.min c.args.keys.now _ c.new-groups.ensures.items;
+  groups = groups_none (tokens_in c.args.index.now.corpus.files) (keys_in c.args.index.now.corpus) c.args.min c.args.keys.now _ c.new-groups.ensures.items;
   for_changes = c.requires.for_changes;
   for_keys = c.requires.for_keys;
   ready = c.requires.ready;
   asked = omega arith;
   moved = g.met.B.Buckets.unmoved _;
-  bound = λ longest windows is are. omega arith;
+  bound = λ windows are longest is. omega arith;
 }
 
 pub refine_with-requires-clause-bucket : goal.refine_with-requires-clause-bucket
 refine_with-requires-clause-bucket g c = (
   get_or c.args.keys.now c.loop-key.key-index 0,
-  subst (λ (es : List Entry). IsBucket (changes_of c.args.files.now) (keys_of c.args.files.now) (get_or c.args.keys.now c.loop-key.key-index 0) es) (sym c.deref.ensures.value)
+  subst (λ (es : List Entry). IsBucket (changes_in c.args.index.now.corpus) (keys_in c.args.index.now.corpus) (get_or c.args.keys.now c.loop-key.key-index 0) es) (sym c.deref.ensures.value)
       (subst₂ (λ cs ks. IsBucket cs ks (get_or c.args.keys.now c.loop-key.key-index 0) c.in_ok-bucket.bucket.items) c.loop-key.invariant.for_changes c.loop-key.invariant.for_keys c.in_ok-bucket.ensures.bucket),
 )
 
 pub loop-key-preserved : goal.loop-key-preserved
 loop-key-preserved g c =
-    let corpus = corpus_of c.args.files.now in
-    let keys = keys_of c.args.files.now in
+    let corpus = tokens_in c.args.index.now.corpus.files in
+    let keys = keys_in c.args.index.now.corpus in
     let ks = c.args.keys.now in
     let i = c.loop-key.key-index in
     let k : ℕ = get_or ks i 0 in
-    let is_bucket = subst (λ (es : List Entry). IsBucket (changes_of c.args.files.now) keys k es) (sym c.deref.ensures.value)
+    let is_bucket = subst (λ (es : List Entry). IsBucket (changes_in c.args.index.now.corpus) keys k es) (sym c.deref.ensures.value)
     (subst₂ (λ cs zs. IsBucket cs zs k c.in_ok-bucket.bucket.items) c.loop-key.invariant.for_changes c.loop-key.invariant.for_keys c.in_ok-bucket.ensures.bucket) in
     record {
       groups = subst (AreAllOnce (IsGroupOfKeys corpus keys c.args.min (take (i + 1) ks))) (sym c.in_ok-append.ensures.items)
@@ -48,11 +47,11 @@ loop-key-preserved g c =
       ready = c.bucket.ensures.ready;
       asked = rises_more _ _ _ i c.loop-key.invariant.asked c.bucket.ensures.asked;
       moved = g.met.B.Buckets.moved_on _ _ _ c.loop-key.invariant.moved c.bucket.ensures.moved;
-      bound = λ longest windows is are.
+      bound = λ windows are longest is.
           reads_more c.args.steps.now c.loop-key.steps c.refine_with.new.steps (sum_by (count keys windows) (take i ks)) (sum_by (count keys windows) (take (i + 1) ks)) (count keys windows k) longest
           (count_next (count keys windows) ks i k c.loop-key-test.true refl)
-          (c.loop-key.invariant.bound longest windows is are)
-          (c.refine_with.ensures.places_bound k longest (with_key keys windows k) is_bucket (with_key-is keys ks windows k (Contains-get_or ks i 0 c.loop-key-test.true) are) is);
+          (c.loop-key.invariant.bound windows are longest is)
+          (c.refine_with.ensures.places_bound k (with_key keys windows k) is_bucket (with_key-is keys ks windows k (Contains-get_or ks i 0 c.loop-key-test.true) are) longest is);
     }
 
 pub returns-in_err-bucket-clause-asked_most : goal.returns-in_err-bucket-clause-asked_most
@@ -61,10 +60,10 @@ returns-in_err-bucket-clause-asked_most g c =
     rises_most _ _ (length c.args.keys.now) (i + 1) (omega (arith, c.loop-key-test.true)) (rises_more _ _ _ i c.loop-key.invariant.asked c.bucket.ensures.asked)
 
 pub returns-in_err-bucket-clause-bound : goal.returns-in_err-bucket-clause-bound
-returns-in_err-bucket-clause-bound g c = λ longest windows is are.
-    let keys = keys_of c.args.files.now in
+returns-in_err-bucket-clause-bound g c = λ windows are longest is.
+    let keys = keys_in c.args.index.now.corpus in
     let ks = c.args.keys.now in
-    reads_within c.args.steps.now _ (sum_by (count keys windows) (take c.loop-key.key-index ks)) (length windows) longest (first_counts_within keys ks windows c.loop-key.key-index c.requires.rising) (c.loop-key.invariant.bound longest windows is are)
+    reads_within c.args.steps.now _ (sum_by (count keys windows) (take c.loop-key.key-index ks)) (length windows) longest (first_counts_within keys ks windows c.loop-key.key-index c.requires.rising) (c.loop-key.invariant.bound windows are longest is)
 
 pub returns-in_err-found-clause-asked_most : goal.returns-in_err-found-clause-asked_most
 returns-in_err-found-clause-asked_most g c =
@@ -72,18 +71,18 @@ returns-in_err-found-clause-asked_most g c =
     rises_most _ _ (length c.args.keys.now) (i + 1) (omega (arith, c.loop-key-test.true)) (rises_more _ _ _ i c.loop-key.invariant.asked c.bucket.ensures.asked)
 
 pub returns-in_err-found-clause-bound : goal.returns-in_err-found-clause-bound
-returns-in_err-found-clause-bound g c = λ longest windows is are.
-    let keys = keys_of c.args.files.now in
+returns-in_err-found-clause-bound g c = λ windows are longest is.
+    let keys = keys_in c.args.index.now.corpus in
     let ks = c.args.keys.now in
     let i = c.loop-key.key-index in
     let k : ℕ = get_or ks i 0 in
-    let is_bucket = subst (λ (es : List Entry). IsBucket (changes_of c.args.files.now) keys k es) (sym c.deref.ensures.value)
+    let is_bucket = subst (λ (es : List Entry). IsBucket (changes_in c.args.index.now.corpus) keys k es) (sym c.deref.ensures.value)
     (subst₂ (λ cs zs. IsBucket cs zs k c.in_ok-bucket.bucket.items) c.loop-key.invariant.for_changes c.loop-key.invariant.for_keys c.in_ok-bucket.ensures.bucket) in
     reads_within c.args.steps.now _ (sum_by (count keys windows) (take (i + 1) ks)) (length windows) longest (first_counts_within keys ks windows (i + 1) c.requires.rising)
     (reads_more c.args.steps.now c.loop-key.steps c.refine_with.new.steps (sum_by (count keys windows) (take i ks)) (sum_by (count keys windows) (take (i + 1) ks)) (count keys windows k) longest
     (count_next (count keys windows) ks i k c.loop-key-test.true refl)
-    (c.loop-key.invariant.bound longest windows is are)
-    (c.refine_with.ensures.places_bound k longest (with_key keys windows k) is_bucket (with_key-is keys ks windows k (Contains-get_or ks i 0 c.loop-key-test.true) are) is))
+    (c.loop-key.invariant.bound windows are longest is)
+    (c.refine_with.ensures.places_bound k (with_key keys windows k) is_bucket (with_key-is keys ks windows k (Contains-get_or ks i 0 c.loop-key-test.true) are) longest is))
 
 pub returns-in_err-append-clause-asked_most : goal.returns-in_err-append-clause-asked_most
 returns-in_err-append-clause-asked_most g c =
@@ -91,23 +90,23 @@ returns-in_err-append-clause-asked_most g c =
     rises_most _ _ (length c.args.keys.now) (i + 1) (omega (arith, c.loop-key-test.true)) (rises_more _ _ _ i c.loop-key.invariant.asked c.bucket.ensures.asked)
 
 pub returns-in_err-append-clause-bound : goal.returns-in_err-append-clause-bound
-returns-in_err-append-clause-bound g c = λ longest windows is are.
-    let keys = keys_of c.args.files.now in
+returns-in_err-append-clause-bound g c = λ windows are longest is.
+    let keys = keys_in c.args.index.now.corpus in
     let ks = c.args.keys.now in
     let i = c.loop-key.key-index in
     let k : ℕ = get_or ks i 0 in
-    let is_bucket = subst (λ (es : List Entry). IsBucket (changes_of c.args.files.now) keys k es) (sym c.deref.ensures.value)
+    let is_bucket = subst (λ (es : List Entry). IsBucket (changes_in c.args.index.now.corpus) keys k es) (sym c.deref.ensures.value)
     (subst₂ (λ cs zs. IsBucket cs zs k c.in_ok-bucket.bucket.items) c.loop-key.invariant.for_changes c.loop-key.invariant.for_keys c.in_ok-bucket.ensures.bucket) in
     reads_within c.args.steps.now _ (sum_by (count keys windows) (take (i + 1) ks)) (length windows) longest (first_counts_within keys ks windows (i + 1) c.requires.rising)
     (reads_more c.args.steps.now c.loop-key.steps c.refine_with.new.steps (sum_by (count keys windows) (take i ks)) (sum_by (count keys windows) (take (i + 1) ks)) (count keys windows k) longest
     (count_next (count keys windows) ks i k c.loop-key-test.true refl)
-    (c.loop-key.invariant.bound longest windows is are)
-    (c.refine_with.ensures.places_bound k longest (with_key keys windows k) is_bucket (with_key-is keys ks windows k (Contains-get_or ks i 0 c.loop-key-test.true) are) is))
+    (c.loop-key.invariant.bound windows are longest is)
+    (c.refine_with.ensures.places_bound k (with_key keys windows k) is_bucket (with_key-is keys ks windows k (Contains-get_or ks i 0 c.loop-key-test.true) are) longest is))
 
 pub returns : goal.returns
 returns g c =
-    let corpus = corpus_of c.args.files.now in
-    let keys = keys_of c.args.files.now in
+    let corpus = tokens_in c.args.index.now.corpus.files in
+    let keys = keys_in c.args.index.now.corpus in
     let ks = c.args.keys.now in
     let i = c.loop-key.key-index in
     record {
@@ -118,6 +117,6 @@ returns g c =
       same_keys = c.loop-key.invariant.for_keys ∙ sym c.requires.for_keys;
       ready = c.loop-key.invariant.ready;
       moved = c.loop-key.invariant.moved;
-      bound = λ longest windows is are.
-          reads_within c.args.steps.now _ (sum_by (count keys windows) (take i ks)) (length windows) longest (first_counts_within keys ks windows i c.requires.rising) (c.loop-key.invariant.bound longest windows is are);
+      bound = λ windows are longest is.
+          reads_within c.args.steps.now _ (sum_by (count keys windows) (take i ks)) (length windows) longest (first_counts_within keys ks windows i c.requires.rising) (c.loop-key.invariant.bound windows are longest is);
     }

@@ -2,8 +2,7 @@ use Rattle.std.proofs.Common.{arith, sym, ◌∙◌}
 use Rattle.std.specs.Arc.{arc_value}
 use Rattle.std.proofs.lemmas.List.{length-map}
 use Rattle.cq_tokens.specs.Corpus.{changes_of, keys_of}
-use Rattle.cq_refine.proofs.KeyPlaces.{change_at}
-use Rattle.cq_groups.proofs.KeyLists.{keys_at}
+use Rattle.cq_groups.proofs.KeyLists.{change_at, keys_at}
 use Rattle.cq_groups.proofs.Entries.{files_none, files_others, files_more, files_all}
 use Rattle.cq_groups.proofs.plain.entries_of.Goals as goal
 

@@ -22,7 +22,7 @@ loop-text-preserved g c =
       | else-text-lt1000 w ↦ rw w.files-is c.loop-text.invariant
     ]
 
-pub list_all-requires-clause-keyed : goal.list_all-requires-clause-keyed
-list_all-requires-clause-keyed g c =
+pub new-requires-clause-keyed : goal.new-requires-clause-keyed
+new-requires-clause-keyed g c =
     subst (λ (fs : List (FileTokens g.row.L.Denot)). AreKeyed 2 (corpus_of fs) (keys_of fs)) (sym c.as_slice-files.ensures.value)
     (one_key_keyed c.loop-text.files.items c.loop-text.invariant.0.keys)

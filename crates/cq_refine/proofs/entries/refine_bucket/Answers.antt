@@ -6,8 +6,7 @@ use Rattle.cq_clones.specs.Lists.{AreAllInOrder}
 use Rattle.cq_clones.specs.Groups.{IsBefore}
 use Rattle.cq_clones.proofs.InOrder.{AreAllInOrder-same}
 use Rattle.cq_clones.proofs.Order.{IsBefore-apart}
-use Rattle.cq_tokens.specs.Corpus.{corpus_of}
-use Rattle.cq_tokens.specs.Corpus.{changes_of, keys_of}
+use Rattle.cq_tokens.specs.Parts.{tokens_in, changes_in, keys_in}
 use Rattle.cq_refine.specs.Sets.{AreAllOnce}
 use Rattle.cq_refine.specs.Places.{IsGroupOfKey}
 use Rattle.cq_clones.specs.Windows.{HasKey}
@@ -17,14 +16,14 @@ use Rattle.cq_refine.proofs.entries.refine_bucket.Goals as goal
 pub refine_places-requires-clause-entries : goal.refine_places-requires-clause-entries
 refine_places-requires-clause-entries g c =
     let (key, is) = c.requires.bucket in
-    let are = subst (λ (ps : List Place). AreAllInOrder IsBefore (HasKey (keys_of c.args.files.now) key) ps) (sym c.deref.ensures.value) (c.in_ok-places.ensures.places key is) in
-    key_entries c.args.settings.now.chunk c.args.min key (corpus_of c.args.files.now) (keys_of c.args.files.now) c.deref.result.now c.requires.some c.requires.long c.requires.keyed are
+    let are = subst (λ (ps : List Place). AreAllInOrder IsBefore (HasKey (keys_in c.args.corpus.now) key) ps) (sym c.deref.ensures.value) (c.in_ok-places.ensures.places key is) in
+    key_entries c.args.corpus.now.chunk c.args.min key (tokens_in c.args.corpus.now.files) (keys_in c.args.corpus.now) c.deref.result.now c.args.corpus.now.some c.requires.long c.args.corpus.now.keyed are
 
 pub returns : goal.returns
 returns g c = record {
   groups = λ key is. IfOk-weaker c.refine_places.result _ _
-      (λ groups once. groups_of_key c.args.min key (corpus_of c.args.files.now) (keys_of c.args.files.now) c.deref.result.now groups.items
-      (subst (λ (ps : List Place). AreAllInOrder IsBefore (HasKey (keys_of c.args.files.now) key) ps) (sym c.deref.ensures.value) (c.in_ok-places.ensures.places key is)) once)
+      (λ groups once. groups_of_key c.args.min key (tokens_in c.args.corpus.now.files) (keys_in c.args.corpus.now) c.deref.result.now groups.items
+      (subst (λ (ps : List Place). AreAllInOrder IsBefore (HasKey (keys_in c.args.corpus.now) key) ps) (sym c.deref.ensures.value) (c.in_ok-places.ensures.places key is)) once)
       c.refine_places.ensures.groups;
   bound = λ longest is.
       let h = c.refine_places.ensures.bound longest is in
@@ -32,15 +31,15 @@ returns g c = record {
       let le = mul-le-mul_right (longest + 2) c.in_ok-places.ensures.size in
       let e = ap (λ n. n * (longest + 2)) size in
       omega (arith, h, le, e);
-  places_bound = λ key longest places is are is_longest.
+  places_bound = λ key places is are longest is_longest.
       let h = c.refine_places.ensures.bound longest is_longest in
-      let same : c.in_ok-places.places.items ≡ places = AreAllInOrder-same IsBefore IsBefore-apart (HasKey (keys_of c.args.files.now) key) c.in_ok-places.places.items places (c.in_ok-places.ensures.places key is) are in
+      let same : c.in_ok-places.places.items ≡ places = AreAllInOrder-same IsBefore IsBefore-apart (HasKey (keys_in c.args.corpus.now) key) c.in_ok-places.places.items places (c.in_ok-places.ensures.places key is) are in
       let e = ap (λ n. n * (longest + 2)) (ap length (c.deref.ensures.value ∙ same)) in
       omega (arith, h, e);
 }
 
 pub returns-then-bucket-lt2-clause-groups : goal.returns-then-bucket-lt2-clause-groups
 returns-then-bucket-lt2-clause-groups g c = λ key is.
-    let files = c.args.files.now in
-    subst (AreAllOnce (IsGroupOfKey (corpus_of files) (keys_of files) c.args.min key)) (sym c.new.ensures.items)
-    (none_of_key (changes_of files) (keys_of files) key c.args.bucket.now (sizes_of files) c.requires.apart is c.args.settings.now.chunk c.args.min (corpus_of files) c.requires.some c.requires.long c.requires.keyed c.if-bucket-lt2.true)
+    let corpus = c.args.corpus.now in
+    subst (AreAllOnce (IsGroupOfKey (tokens_in corpus.files) (keys_in corpus) c.args.min key)) (sym c.new.ensures.items)
+    (none_of_key (changes_in corpus) (keys_in corpus) key c.args.bucket.now (sizes_of corpus.files.items.now) c.args.corpus.now.apart is c.args.corpus.now.chunk c.args.min (tokens_in corpus.files) c.args.corpus.now.some c.requires.long c.args.corpus.now.keyed c.if-bucket-lt2.true)

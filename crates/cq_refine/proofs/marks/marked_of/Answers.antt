@@ -6,17 +6,17 @@ use Rattle.std.proofs.Common.{◌≡◌, [], None, arith, get_or, take, subst, s
 use Rattle.std.proofs.lemmas.List.Elements.{Contains-push_cases}
 use Rattle.std.proofs.lemmas.List.{take_more}
 use Rattle.cq_clones.specs.Groups.{token_behind}
-use Rattle.cq_tokens.specs.Corpus.{corpus_of}
+use Rattle.cq_tokens.specs.Parts.{tokens_in}
 use Rattle.cq_refine.specs.declared.spots.Spot.{Spot}
 use Rattle.cq_refine.specs.declared.spots.Marked.{Marked}
 use Rattle.cq_refine.specs.Sets.{IsMarked}
-use Rattle.cq_refine.proofs.Places.{file_of_files}
+use Rattle.cq_refine.proofs.Places.{file_of_place}
 use Rattle.cq_refine.proofs.Marking.{marks_none, marking_none, marking_more, some_of_mark}
 use Rattle.cq_refine.proofs.marks.marked_of.Goals as goal
 
 pub loop-s-preserved : goal.loop-s-preserved
 loop-s-preserved g c =
-    let corpus = corpus_of c.args.files.now in
+    let corpus = tokens_in c.args.files.now in
     let origin : Spot = record { place = record { file = 0; at = 0 }; left = 0 } in
     let spots = c.args.spots.now in
     let i = c.loop-s.s-index in
@@ -36,7 +36,7 @@ loop-s-preserved g c =
       rw c.in_ok-push.ensures.items
           (λ x here some. ⊎_elim
           (λ h. c.loop-s.invariant.2 x h some)
-          (λ e. c.token_behind-token.ensures.fits (some_of_mark m.tokens _ c.in_ok-mark.mark m.is (subst (λ (z : Marked). 0 < z.mark) (sym e) some)))
+          (λ e. omega (arith, c.token_behind-token.ensures.fits (some_of_mark m.tokens _ c.in_ok-mark.mark m.is (subst (λ (z : Marked). 0 < z.mark) (sym e) some))))
           (Contains-push_cases c.loop-s.marked.items marked x here)),
     )
 
@@ -46,13 +46,13 @@ loop-s-init g c =
       (
         [],
         record { size = c.new-marks.ensures.len; apart = λ i j d less within. absurd (omega (arith, within)); each = marks_none norm_in (get seen_cmp c.new-marks.result) none },
-        rw c.new-marked.ensures.items (marking_none (λ (x : Marked). token_behind (corpus_of c.args.files.now) x.spot.place c.args.n) (λ x. x.spot) (λ x. x.mark)),
+        rw c.new-marked.ensures.items (marking_none (λ (x : Marked). token_behind (tokens_in c.args.files.now) x.spot.place c.args.n) (λ x. x.spot) (λ x. x.mark)),
       ),
       omega arith,
       rw c.new-marked.ensures.items (λ x here. absurd (Contains-nil x here)),
     )
 
-pub token_behind-token-requires-clause-file : goal.token_behind-token-requires-clause-file
-token_behind-token-requires-clause-file g c =
+pub token_behind-token-requires : goal.token_behind-token-requires
+token_behind-token-requires g c =
     let origin : Spot = record { place = record { file = 0; at = 0 }; left = 0 } in
-    file_of_files c.args.files.now _ (c.requires.places c.loop-s.s-index origin c.loop-s-test.true)
+    file_of_place (tokens_in c.args.files.now) _ (c.requires.places c.loop-s.s-index origin c.loop-s-test.true)

@@ -2,7 +2,7 @@ use Rattle.std.proofs.Common.{◌+◌, ◌<◌, ◌≤◌, ◌^◌, List, take}
 use Rattle.std.specs.Prelude.{Contains}
 use Rattle.cq_base.specs.declared.norm.Norm.{Norm}
 use Rattle.cq_clones.specs.Groups.{token_behind}
-use Rattle.cq_tokens.specs.Corpus.{corpus_of}
+use Rattle.cq_tokens.specs.Parts.{tokens_in}
 use Rattle.cq_refine.specs.declared.spots.Marked.{Marked}
 use Rattle.cq_refine.specs.Sets.{AreMarks}
 use Rattle.cq_refine.proofs.Marking.{Marking}
@@ -10,6 +10,6 @@ use Rattle.cq_refine.proofs.marks.marked_of.Given as goal
 
 abbrev pub invariant-loop-s : goal.invariant-loop-s
 invariant-loop-s g l =
-    ((seen : List Norm) × AreMarks l.marks seen × Marking (λ x. token_behind (corpus_of l.files) x.spot.place l.n) (λ x. x.spot) (λ x. x.mark) seen (take l.s-index l.spots) l.marked.items)
+    ((seen : List Norm) × AreMarks l.marks seen × Marking (λ x. token_behind (tokens_in l.files) x.spot.place l.n) (λ x. x.spot) (λ x. x.mark) seen (take l.s-index l.spots) l.marked.items)
     × (l.steps ≤ l.initial.steps + l.s-index)
     × ((x : Marked) → Contains l.marked.items x → 0 < x.mark → l.n + 1 < 2 ^ 32)

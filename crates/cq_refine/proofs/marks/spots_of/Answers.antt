@@ -7,7 +7,7 @@ use Rattle.std.proofs.lemmas.List.Elements.{All-contains, All-take}
 use Rattle.std.specs.Prelude.{Contains}
 use Rattle.cq_base.specs.declared.group.Place.{Place}
 use Rattle.cq_clones.specs.Groups.{IsPlace, token_before}
-use Rattle.cq_tokens.specs.Corpus.{corpus_of}
+use Rattle.cq_tokens.specs.Parts.{tokens_in}
 use Rattle.cq_refine.specs.declared.spots.Spot.{Spot}
 use Rattle.cq_refine.specs.Sets.{IsMarked}
 use Rattle.cq_base.proofs.Lists.{Contains-map}
@@ -16,7 +16,7 @@ use Rattle.cq_refine.proofs.marks.spots_of.Goals as goal
 
 pub loop-p-preserved : goal.loop-p-preserved
 loop-p-preserved g c =
-    let corpus = corpus_of c.args.files.now in
+    let corpus = tokens_in c.args.files.now in
     let origin : Place = record { file = 0; at = 0 } in
     let places = c.args.places.now in
     let i = c.loop-p.p-index in
@@ -41,14 +41,14 @@ loop-p-init g c =
       (
         [],
         record { size = c.new-marks.ensures.len; apart = λ i j d less within. absurd (omega (arith, within)); each = marks_none norm_in (get seen_cmp c.new-marks.result) none },
-        rw c.new-spots.ensures.items (marking_none (λ (s : Spot). token_before (corpus_of c.args.files.now) s.place) (λ s. s.place) (λ s. s.left)),
+        rw c.new-spots.ensures.items (marking_none (λ (s : Spot). token_before (tokens_in c.args.files.now) s.place) (λ s. s.place) (λ s. s.left)),
       ),
       omega arith,
     )
 
 pub returns-clause-marks : goal.returns-clause-marks
 returns-clause-marks g c =
-    let corpus = corpus_of c.args.files.now in
+    let corpus = tokens_in c.args.files.now in
     let (seen, are, marking) = c.loop-p.invariant.0 in
     record {
       seen = seen;

@@ -1,6 +1,6 @@
 use Rattle.std.proofs.Common.{arith, get_or, length}
 use Rattle.std.proofs.lemmas.List.Elements.{Contains-get_or}
-use Rattle.cq_tokens.specs.Corpus.{corpus_of}
+use Rattle.cq_tokens.specs.Parts.{tokens_in}
 use Rattle.cq_refine.specs.declared.spots.Spot.{Spot}
 use Rattle.cq_refine.proofs.Walk.{Given, popped_words, walk_step, walk_begins, walk_ends}
 use Rattle.cq_refine.proofs.Weights.{size_of_files, split_weighs, set_weighs, first_weighs, depth_within, files_are_longest, places_size}
@@ -8,7 +8,7 @@ use Rattle.cq_refine.proofs.refining.refine_places.Goals as goal
 
 pub loop-set-init : goal.loop-set-init
 loop-set-init g c =
-    let corpus = corpus_of c.args.files.now in
+    let corpus = tokens_in c.args.files.now in
     let all = c.in_ok-spots.spots.items in
     let given : Given corpus c.args.min c.args.places.now all = record { entries = c.requires.entries; are = c.in_ok-spots.ensures.places; spots = c.in_ok-spots.ensures.marks; some = c.requires.some } in (
       (all, given.are, given.spots, walk_begins corpus c.args.min c.args.places.now all c.in_ok-sets.sets.items c.new-groups.result.items given c.in_ok-sets.ensures c.new-groups.ensures.items),
@@ -20,18 +20,18 @@ loop-set-init g c =
 pub split-requires-clause-some : goal.split-requires-clause-some
 split-requires-clause-some g c =
     let (all, are, spots, walk) = c.loop-set.invariant.0 in
-    let words = popped_words (corpus_of c.args.files.now) c.args.min c.args.places.now all c.loop-set.sets.items _ c.in-Some.set c.loop-set.groups.items c.in-Some.ensures.items walk in
+    let words = popped_words (tokens_in c.args.files.now) c.args.min c.args.places.now all c.loop-set.sets.items _ c.in-Some.set c.loop-set.groups.items c.in-Some.ensures.items walk in
     omega (arith, words.several)
 
 pub split-requires-clause-places : goal.split-requires-clause-places
 split-requires-clause-places g c =
     let (all, are, spots, walk) = c.loop-set.invariant.0 in
-    let words = popped_words (corpus_of c.args.files.now) c.args.min c.args.places.now all c.loop-set.sets.items _ c.in-Some.set c.loop-set.groups.items c.in-Some.ensures.items walk in
+    let words = popped_words (tokens_in c.args.files.now) c.args.min c.args.places.now all c.loop-set.sets.items _ c.in-Some.set c.loop-set.groups.items c.in-Some.ensures.items walk in
     λ k d lt. spots.places (get_or c.in-Some.set.spots.items k d) ((words.exact.each _).0 (Contains-get_or c.in-Some.set.spots.items k d lt)).0
 
 pub loop-set-preserved : goal.loop-set-preserved
 loop-set-preserved g c =
-    let corpus = corpus_of c.args.files.now in
+    let corpus = tokens_in c.args.files.now in
     let (all, are, spots, walk) = c.loop-set.invariant.0 in
     let given : Given corpus c.args.min c.args.places.now all = record { entries = c.requires.entries; are = are; spots = spots; some = c.requires.some } in
     let words = popped_words corpus c.args.min c.args.places.now all c.loop-set.sets.items _ c.in-Some.set c.loop-set.groups.items c.in-Some.ensures.items walk in (
@@ -44,7 +44,7 @@ loop-set-preserved g c =
 
 pub loop-set-smaller : goal.loop-set-smaller
 loop-set-smaller g c =
-    let corpus = corpus_of c.args.files.now in
+    let corpus = tokens_in c.args.files.now in
     let (all, are, spots, walk) = c.loop-set.invariant.0 in
     let longest = size_of_files corpus in
     let words = popped_words corpus c.args.min c.args.places.now all c.loop-set.sets.items _ c.in-Some.set c.loop-set.groups.items c.in-Some.ensures.items walk in
@@ -54,7 +54,7 @@ loop-set-smaller g c =
 
 pub returns : goal.returns
 returns g c =
-    let corpus = corpus_of c.args.files.now in
+    let corpus = tokens_in c.args.files.now in
     let (all, are, spots, walk) = c.loop-set.invariant.0 in
     record {
       groups = walk_ends corpus c.args.min c.args.places.now all c.loop-set.sets.items c.loop-set.groups.items (omega (arith, c.in_default.ensures.cases, c.loop-set.sets.ok.0)) walk;
@@ -63,7 +63,7 @@ returns g c =
 
 pub returns-in_err-split-clause-bound : goal.returns-in_err-split-clause-bound
 returns-in_err-split-clause-bound g c = λ longest is.
-    let corpus = corpus_of c.args.files.now in
+    let corpus = tokens_in c.args.files.now in
     let (all, are, spots, walk) = c.loop-set.invariant.0 in
     let words = popped_words corpus c.args.min c.args.places.now all c.loop-set.sets.items _ c.in-Some.set c.loop-set.groups.items c.in-Some.ensures.items walk in
     let low = depth_within corpus all c.in-Some.set.spots.items c.in-Some.set.depth longest spots words is in

@@ -1,6 +1,6 @@
 use Rattle.std.proofs.Common.{◌≡◌, ◌≤◌, arith, ◌∙◌, subst, List, ◌+◌}
 use Rattle.std.specs.Prelude.{All, Any}
-use Rattle.cq_tokens.specs.Corpus.{corpus_of}
+use Rattle.cq_tokens.specs.Parts.{tokens_in}
 use Rattle.cq_refine.specs.declared.spots.Marked.{Marked}
 use Rattle.cq_refine.specs.declared.spots.Set.{Set}
 use Rattle.cq_refine.specs.Sets.{AddsParts, IsChosen, AddsGroup, group_of}
@@ -17,7 +17,7 @@ overflow_add-set g c =
 
 pub returns-clause-split : goal.returns-clause-split
 returns-clause-split g c =
-    let corpus = corpus_of c.args.files.now in
+    let corpus = tokens_in c.args.files.now in
     let set : Set = c.args.set.now in
     let marked = c.in_ok-marked.marked.items in
     let spots_are = c.in_ok-marked.ensures.spots ∙ c.deref.ensures.value in
