@@ -1,14 +1,5 @@
-pub mod Accepting
-pub mod Answering
-pub mod Changes
-pub mod Files
-pub mod Gates
-pub mod Kept
-pub mod Lexing
-pub mod Listing
-pub mod Measuring
-pub mod Places
+pub mod Told
+pub mod Viewing
 pub mod Sending
+pub mod Turn
 pub mod Serving
-pub mod Stands
-pub mod Talk
