@@ -8,7 +8,6 @@ use Rattle.cq_base.specs.declared.entry.Entry.{Entry}
 use Rattle.cq_clones.specs.Lists.{AreAllInOrder}
 use Rattle.cq_clones.specs.Windows.{EntryBefore}
 use Rattle.cq_base.specs.declared.settings.Settings.{Settings}
-use Rattle.cq_base.specs.Changes.{IsSoundChange}
 use Rattle.cq_history.specs.declared.event.Event.{Event}
 use Rattle.cq_history.specs.declared.event.Event.TheVariants.{Publish}
 use Rattle.cq_history.specs.State.{State, state, accepted, changes_in, view_of, is_done, slot_of, IsAccepted, IsDone, IsUndone}
@@ -39,15 +38,14 @@ module _ (IsWindow : Lang → List ℕ → ℕ → ℕ → Type 0) (set : Settin
 
   -- the shards apply more
   pub solo_shards : (more : List Contents) → AreShardsOf IsWindow old more → IsSoloOf IsWindow set c h old more
-  solo_shards more are = record { caller = is.caller; settings = is.settings; callers = is.callers; board = is.board; sound = is.sound; stand = are; some_shard = is.some_shard }
+  solo_shards more are = record { caller = is.caller; settings = is.settings; callers = is.callers; board = is.board; stand = are; some_shard = is.some_shard }
 
-  pub solo_adds : (new : BoardState) (e : Event) → Adds e old new → All IsSoundChange (accepted (e ∷ [])) → ((x : Contents) → Contains shards x → IsAppliedFor (x.applied ∷ []) e) → IsSoloOf IsWindow set c (h ++ e ∷ []) new shards
-  solo_adds new e adds sound reaches = record {
+  pub solo_adds : (new : BoardState) (e : Event) → Adds e old new → ((x : Contents) → Contains shards x → IsAppliedFor (x.applied ∷ []) e) → IsSoloOf IsWindow set c (h ++ e ∷ []) new shards
+  solo_adds new e adds reaches = record {
     caller = is.caller;
     settings = adds.settings ∙ is.settings;
     callers = adds.callers ∙ is.callers;
     board = adds.history h is.board;
-    sound = subst (All IsSoundChange) (sym (accepted-append h (e ∷ []))) (All-append IsSoundChange (accepted h) (accepted (e ∷ [])) is.sound sound);
     stand = shards_then h e old new is.board adds IsWindow (later_stands IsWindow) shards is.stand reaches;
     some_shard = subst (λ set. 0 < set.shards) (sym adds.settings) is.some_shard;
   }
@@ -55,12 +53,12 @@ module _ (IsWindow : Lang → List ℕ → ℕ → ℕ → Type 0) (set : Settin
   -- a version that every shard has applied is published
   pub solo_publishes : (new : BoardState) (version : ℕ) → Adds (Publish version) old new → All (λ x. version ≤ x.applied) shards → IsSoloOf IsWindow set c (h ++ Publish version ∷ []) new shards
   solo_publishes new version adds applied =
-      solo_adds new (Publish version) adds (All-nil IsSoundChange)
+      solo_adds new (Publish version) adds
       (λ x there. All-cons (λ a. version ≤ a) x.applied [] (All-contains (λ (y : Contents). version ≤ y.applied) shards x applied there) (All-nil (λ a. version ≤ a)))
 
   -- an event of the caller's own, which asks nothing of the shards
-  pub solo_by : (new : BoardState) (E : ℕ → Event) → Adds (E 0) old new → All IsSoundChange (accepted (E 0 ∷ [])) → ((x : Contents) → IsAppliedFor (x.applied ∷ []) (E 0)) → IsSoloOf IsWindow set c (h ++ E c ∷ []) new shards
-  solo_by new E adds sound reaches = subst (λ n. IsSoloOf IsWindow set c (h ++ E n ∷ []) new shards) (sym is.caller) (solo_adds new (E 0) adds sound (λ x there. reaches x))
+  pub solo_by : (new : BoardState) (E : ℕ → Event) → Adds (E 0) old new → ((x : Contents) → IsAppliedFor (x.applied ∷ []) (E 0)) → IsSoloOf IsWindow set c (h ++ E c ∷ []) new shards
+  solo_by new E adds reaches = subst (λ n. IsSoloOf IsWindow set c (h ++ E n ∷ []) new shards) (sym is.caller) (solo_adds new (E 0) adds (λ x there. reaches x))
 
   -- what is said of the board is said of the history
   pub solo_says : (Q : ℕ → Settings → State → Type 0) → Q 0 old.settings old.state → Q c set (state 1 h)

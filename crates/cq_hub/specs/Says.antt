@@ -5,6 +5,7 @@ use Rattle.cq_base.specs.declared.change.Change.{Change}
 use Rattle.cq_history.specs.declared.event.Event.{Event}
 use Rattle.cq_history.specs.State.{State, state, accepted, first_free, IsAccepted, IsDone, IsUndone}
 use Rattle.cq_board.specs.Answers.{refusal_of, IsJob}
+use Rattle.cq_board.specs.Sound.{HasSoundText}
 use Rattle.cq_board.specs.declared.answers.Job.{Job}
 use Rattle.cq_board.specs.declared.answers.Refused.{Refused}
 use Rattle.cq_board.specs.declared.answers.Refused.TheVariants.{Memory}
@@ -17,9 +18,9 @@ IsAcceptedAs set callers change number h = (refusal_of set (state callers h) cha
 abbrev pub IsRefusedFor : Settings → ℕ → Change → Refused → List Event → Type 0
 IsRefusedFor set callers change cause h = (cause ≡ Memory) ⊎ (refusal_of set (state callers h) change ≡ Some cause)
 
--- the job is that of the first change that is neither done nor taken
+-- the job is that of the first change that is neither done nor taken; its text is short, and UTF-8
 abbrev pub IsFirstFree : State → Job → Type 0
-IsFirstFree s j = (j.change ≡ first_free s) × IsAccepted s j.change × IsJob s j
+IsFirstFree s j = (j.change ≡ first_free s) × IsAccepted s j.change × IsJob s j × HasSoundText j
 
 -- each change is done or taken
 abbrev pub IsNoneFree : State → Type 0
@@ -27,4 +28,4 @@ IsNoneFree s = length s.slots < first_free s
 
 -- the change's job where it is not done, and none where it is
 abbrev pub IsJobFor : State → ℕ → Option Job → Type 0
-IsJobFor s change job = MatchOption job (IsDone s change) (λ j. IsUndone s change × (j.change ≡ change) × IsJob s j)
+IsJobFor s change job = MatchOption job (IsDone s change) (λ j. IsUndone s change × (j.change ≡ change) × IsJob s j × HasSoundText j)

@@ -1,12 +1,13 @@
 -- For which histories a board of one caller and its shards stand, and the laws of that.
-use Rattle.std.proofs.Common.{◌≡◌, ℕ, ◌<◌, List, length, subst, arith}
+use Rattle.std.proofs.Common.{◌≡◌, ℕ, ◌<◌, List, length, ap, ◌∙◌, subst, arith}
 use Rattle.std.specs.Prelude.{All}
 use Rattle.cq_base.specs.declared.lang.Lang.{Lang}
 use Rattle.cq_base.specs.declared.settings.Settings.{Settings}
 use Rattle.cq_base.specs.Changes.{IsSoundChange}
 use Rattle.cq_history.specs.declared.event.Event.{Event}
-use Rattle.cq_history.specs.State.{accepted}
+use Rattle.cq_history.specs.State.{accepted, changes_in}
 use Rattle.cq_history.specs.Lawful.{Lawful}
+use Rattle.cq_history.proofs.Prefixes.{changes_in-state}
 use Rattle.cq_shard.specs.Shard.{Contents}
 use Rattle.cq_board.specs.Stands.{BoardState, StandsFor}
 use Rattle.cq_hub.specs.Shards.{AreShardsOf}
@@ -17,7 +18,6 @@ pub record IsSoloOf (IsWindow : Lang → List ℕ → ℕ → ℕ → Type 0) (s
   pub settings : b.settings ≡ set
   pub callers : length b.state.views ≡ 1
   pub board : StandsFor h b
-  pub sound : All IsSoundChange (accepted h)
   pub stand : AreShardsOf IsWindow b shards
   pub some_shard : 0 < b.settings.shards
 
@@ -27,3 +27,6 @@ module _ (IsWindow : Lang → List ℕ → ℕ → ℕ → Type 0) (set : Settin
 
   pub solo_caller : c < 1
   solo_caller = let e = is.caller in omega (arith, e)
+
+  pub solo_sound : All IsSoundChange (accepted h)
+  solo_sound = subst (All IsSoundChange) (ap changes_in is.board.is ∙ changes_in-state (length b.state.views) h) is.board.sound

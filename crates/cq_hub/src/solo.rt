@@ -53,7 +53,7 @@ impl<W: Indexed> Solo<W> {
 }
 
 impl<W: Indexed> Hub for Solo<W> {
-    ghost use Rattle.cq_hub.specs.Solos.{solo_lawful, solo_caller};
+    ghost use Rattle.cq_hub.specs.Solos.{solo_lawful, solo_caller, solo_sound};
     ghost use Rattle.cq_hub.specs.SoloPasses.{settings_of, asked_by, SoloStands};
     ghost use Rattle.cq_shard.specs.Shard.{HasWindow};
 
@@ -73,7 +73,7 @@ impl<W: Indexed> Hub for Solo<W> {
 
     ghost lawful = { λ hub pass c h is. solo_lawful (HasWindow W.keys_in W.IsWorkOf (settings_of hub)) (settings_of hub) c h pass.board pass.shards.items is };
 
-    ghost sound = { λ hub pass c h is. is.sound };
+    ghost sound = { λ hub pass c h is. solo_sound (HasWindow W.keys_in W.IsWorkOf (settings_of hub)) (settings_of hub) c h pass.board pass.shards.items is };
 
     ghost caller = { λ hub pass c h is. solo_caller (HasWindow W.keys_in W.IsWorkOf (settings_of hub)) (settings_of hub) c h pass.board pass.shards.items is };
 

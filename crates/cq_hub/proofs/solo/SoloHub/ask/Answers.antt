@@ -1,6 +1,4 @@
 use Rattle.std.proofs.Common.{◌≡◌}
-use Rattle.std.proofs.lemmas.List.Elements.{All-nil}
-use Rattle.cq_base.specs.Changes.{IsSoundChange}
 use Rattle.cq_base.specs.declared.settings.Settings.{Settings}
 use Rattle.cq_history.specs.declared.event.Event.TheVariants as event
 use Rattle.cq_history.specs.State.{State}
@@ -16,4 +14,4 @@ pub returns-clause-asks : goal.returns-clause-asks
 returns-clause-asks g c = λ by h is.
     calls_now _ _ _ by _ _ h _ _
     (solo_says _ _ by h _ _ is (λ n (set : Settings) (s : State). c.ask.result ≡ asked_of s) c.ask.ensures.answer)
-    (solo_by _ _ by h _ _ is _ (λ n. event.Ask n) c.ask.ensures.adds (All-nil IsSoundChange) (λ x. tt))
+    (solo_by _ _ by h _ _ is _ (λ n. event.Ask n) c.ask.ensures.adds (λ x. tt))

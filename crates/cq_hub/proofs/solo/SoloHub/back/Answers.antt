@@ -1,7 +1,5 @@
 use Rattle.std.proofs.Common.{[], ◌∷◌}
 use Rattle.std.proofs.lemmas.Bool.{OnTrue_at, OnTrue_from, OnFalse_at, OnFalse_from, iff_false}
-use Rattle.std.proofs.lemmas.List.Elements.{All-nil}
-use Rattle.cq_base.specs.Changes.{IsSoundChange}
 use Rattle.cq_base.specs.declared.settings.Settings.{Settings}
 use Rattle.cq_history.specs.declared.event.Event.TheVariants as event
 use Rattle.cq_history.specs.State.{State, state, IsTakenBy}
@@ -18,7 +16,7 @@ returns-clause-back g c =
     OnTrue_from c.back.result (Extends (SoloStands g.W.Indexed.keys_in g.W.Indexed.IsWorkOf) (Unit {0}) Never c.args.self.now c.args.pass.now pass (λ n. event.Back n c.args.change ∷ []) (λ n mid. IsTakenBy (state 1 mid) c.args.change n)) (λ yes by h is.
     calls_now _ _ _ by _ _ h _ _
     (solo_says _ _ by h _ _ is (λ n (set : Settings) (s : State). IsTakenBy s c.args.change n) (c.back.ensures.taken.0 yes).1)
-    (solo_by _ _ by h _ _ is _ (λ n. event.Back n c.args.change) (OnTrue_at yes c.back.ensures.adds) (All-nil IsSoundChange) (λ x. tt)))
+    (solo_by _ _ by h _ _ is _ (λ n. event.Back n c.args.change) (OnTrue_at yes c.back.ensures.adds) (λ x. tt)))
 
 pub returns-clause-not_taken : goal.returns-clause-not_taken
 returns-clause-not_taken g c =

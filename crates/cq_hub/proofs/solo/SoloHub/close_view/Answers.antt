@@ -1,7 +1,5 @@
 use Rattle.std.proofs.Common.{ℕ}
 use Rattle.std.specs.Prelude.{IsSome}
-use Rattle.std.proofs.lemmas.List.Elements.{All-nil}
-use Rattle.cq_base.specs.Changes.{IsSoundChange}
 use Rattle.cq_base.specs.declared.settings.Settings.{Settings}
 use Rattle.cq_history.specs.declared.event.Event.TheVariants as event
 use Rattle.cq_history.specs.State.{State, view_of}
@@ -16,4 +14,4 @@ shut-requires g c = let r = c.requires.viewing in record {
 }
 
 pub returns-clause-shut : goal.returns-clause-shut
-returns-clause-shut g c = λ by h is. calls_now _ _ _ by _ _ h _ _ tt (solo_by _ _ by h _ _ is _ (λ n. event.Shut n) c.shut.ensures (All-nil IsSoundChange) (λ x. tt))
+returns-clause-shut g c = λ by h is. calls_now _ _ _ by _ _ h _ _ tt (solo_by _ _ by h _ _ is _ (λ n. event.Shut n) c.shut.ensures (λ x. tt))

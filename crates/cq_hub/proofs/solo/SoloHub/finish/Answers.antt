@@ -1,7 +1,5 @@
 use Rattle.std.proofs.Common.{◌≡◌, sym, ◌∙◌}
 use Rattle.std.specs.Arc.{arc_value}
-use Rattle.std.proofs.lemmas.List.Elements.{All-nil}
-use Rattle.cq_base.specs.Changes.{IsSoundChange}
 use Rattle.cq_base.specs.declared.settings.Settings.{Settings}
 use Rattle.cq_history.specs.declared.event.Event.TheVariants as event
 use Rattle.cq_history.specs.Changes.{IsWorkFor}
@@ -24,7 +22,7 @@ returns-in-Done-clause-done g c = λ same by h is.
     let there = solo_said _ _ r.0 r.1 _ _ r.2 (λ n (set : Settings) (s : State). IsAccepted s c.args.change) r.3.0 in
     calls_now _ _ _ by _ _ h _ _
     (solo_says _ _ by h _ _ is (λ n (set : Settings) (s : State). IsUndone s c.args.change) (not_done c.args.pass.now.board.state c.args.change there (λ d. let bad : Finished.Done ≡ Finished.Already = sym c.in-Done.is ∙ c.done.ensures.already.1 d in absurd (cc))))
-    (solo_by _ _ by h _ _ is _ (λ n. event.Done n c.args.change) (c.done.ensures.adds c.in-Done.is) (All-nil IsSoundChange) (λ x. tt))
+    (solo_by _ _ by h _ _ is _ (λ n. event.Done n c.args.change) (c.done.ensures.adds c.in-Done.is) (λ x. tt))
 
 pub returns-in-Already-clause-already : goal.returns-in-Already-clause-already
 returns-in-Already-clause-already g c = λ same by h is.

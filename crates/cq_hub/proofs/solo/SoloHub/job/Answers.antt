@@ -15,8 +15,9 @@ returns-in-Ok-Some-clause-job g c = λ by h is.
     let there = solo_said _ _ r.0 r.1 _ _ r.2 (λ n (set : Settings) (s : State). IsAccepted s c.args.change) r.3 in
     let none = rw c.in-Ok-Some.field-0-is at c.in-Ok-Some.ensures.none in
     let job = rw c.in-Ok-Some.field-0-is at c.in-Ok-Some.ensures.job in
+    let text = rw c.in-Ok-Some.field-0-is at c.in-Ok-Some.ensures.text in
     calls_now _ _ _ by _ _ h _ _
-    (solo_says _ _ by h _ _ is (λ n (set : Settings) (s : State). IsJobFor s c.args.change (Some c.in-Ok-Some.job)) (not_done c.args.pass.now.board.state c.args.change there (λ d. absurd (cc (none.1 d))), job.0, job.1))
+    (solo_says _ _ by h _ _ is (λ n (set : Settings) (s : State). IsJobFor s c.args.change (Some c.in-Ok-Some.job)) (not_done c.args.pass.now.board.state c.args.change there (λ d. absurd (cc (none.1 d))), job.0, job.1, text))
     (solo_nil _ _ by h _ _ is)
 
 pub returns-in-Ok-None-clause-job : goal.returns-in-Ok-None-clause-job

@@ -1,6 +1,4 @@
 use Rattle.std.proofs.Common.{◌≡◌, ℕ, None}
-use Rattle.std.proofs.lemmas.List.Elements.{All-nil}
-use Rattle.cq_base.specs.Changes.{IsSoundChange}
 use Rattle.cq_base.specs.declared.settings.Settings.{Settings}
 use Rattle.cq_history.specs.declared.event.Event.TheVariants as event
 use Rattle.cq_history.specs.State.{State, view_of}
@@ -18,8 +16,8 @@ open-requires g c = let r = c.requires.closed in record {
 pub returns-in-Ok-clause-opened : goal.returns-in-Ok-clause-opened
 returns-in-Ok-clause-opened g c = λ by h is.
     calls_now _ _ _ by _ _ h _ _
-    (solo_says _ _ by h _ _ is (λ n (set : Settings) (s : State). IsLatest (g.W.Indexed.IsWorkOf set) s c.in-Ok.view) (c.in-Ok.ensures.version, c.in-Ok.ensures.listing))
-    (solo_by _ _ by h _ _ is _ (λ n. event.Open n c.in-Ok.view.version) c.in-Ok.ensures.adds (All-nil IsSoundChange) (λ x. tt))
+    (solo_says _ _ by h _ _ is (λ n (set : Settings) (s : State). IsLatest (g.W.Indexed.IsWorkOf set) s c.in-Ok.view) (c.in-Ok.ensures.version, c.in-Ok.ensures.listing, c.in-Ok.ensures.conditions))
+    (solo_by _ _ by h _ _ is _ (λ n. event.Open n c.in-Ok.view.version) c.in-Ok.ensures.adds (λ x. tt))
 
 pub returns-in-Err-clause-refused : goal.returns-in-Err-clause-refused
 returns-in-Err-clause-refused g c = λ by h is. calls_now _ _ _ by _ _ h _ _ tt (solo_same _ _ by h _ _ is _ c.in-Err.ensures.err)

@@ -1,6 +1,4 @@
 use Rattle.std.proofs.Common.{Ok, sym, ap, subst}
-use Rattle.std.proofs.lemmas.List.Elements.{All-nil}
-use Rattle.cq_base.specs.Changes.{IsSoundChange}
 use Rattle.cq_base.specs.declared.settings.Settings.{Settings}
 use Rattle.cq_history.specs.declared.event.Event.TheVariants as event
 use Rattle.cq_history.specs.State.{State, IsAccepted}
@@ -16,11 +14,12 @@ pub returns-in-Ok-Some-clause-taken : goal.returns-in-Ok-Some-clause-taken
 returns-in-Ok-Some-clause-taken g c = λ by h is.
     let taken = rw c.in-Ok-Some.field-0-is at c.in-Ok-Some.ensures.taken in
     let job = rw c.in-Ok-Some.field-0-is at c.in-Ok-Some.ensures.job in
+    let text = rw c.in-Ok-Some.field-0-is at c.in-Ok-Some.ensures.text in
     let first = rw c.in-Ok-Some.field-0-is at c.in-Ok-Some.ensures.first in
     let there = rw c.in-Ok-Some.field-0-is at c.in-Ok-Some.ensures.unchanged in
     calls_now _ _ _ by _ _ h _ _
-    (solo_says _ _ by h _ _ is (λ n (set : Settings) (s : State). IsFirstFree s c.in-Ok-Some.job) (first, subst (IsAccepted c.args.pass.now.board.state) (sym first) there, job))
-    (solo_by _ _ by h _ _ is _ (λ n. event.Took n c.in-Ok-Some.job.change) taken (All-nil IsSoundChange) (λ x. tt))
+    (solo_says _ _ by h _ _ is (λ n (set : Settings) (s : State). IsFirstFree s c.in-Ok-Some.job) (first, subst (IsAccepted c.args.pass.now.board.state) (sym first) there, job, text))
+    (solo_by _ _ by h _ _ is _ (λ n. event.Took n c.in-Ok-Some.job.change) taken (λ x. tt))
 
 pub returns-in-Ok-None-clause-taken : goal.returns-in-Ok-None-clause-taken
 returns-in-Ok-None-clause-taken g c = λ by h is.
