@@ -1,0 +1,8 @@
+pub mod VersionFiles
+pub mod WorkReadings
+pub mod SameReadings
+pub mod Inside
+pub mod Rows
+pub mod Listable
+pub mod OneFile
+pub mod Bounds

@@ -1,0 +1,34 @@
+-- The versions of which some files and conditions are those of a project.
+use Rattle.std.specs.Prelude.{◌≡◌, ◌≢◌, ℕ, ◌^◌, ◌<◌, ◌≤◌, List, length, map, All, AllPairs}
+use Rattle.std.specs.List.{AllByRecursion}
+use Rattle.std.specs.Str.{IsUtf8}
+use Rattle.cq_base.specs.Changes.{IsSoundChange}
+use Rattle.cq_base.specs.declared.settings.Settings.{Settings}
+use Rattle.cq_base.specs.declared.change.Change.{Change}
+use Rattle.cq_base.specs.declared.change.Condition.{Condition}
+use Rattle.cq_board.specs.Related.{AreSameFiles}
+use Rattle.cq_clones.specs.Windows.{AreKeyed}
+use Rattle.cq_history.specs.Files.{File, files_at, conditions_at}
+use Rattle.cq_measures.specs.Measures.{AreSmall}
+use Rattle.cq_work.specs.Work.{IsWorkOf}
+use Rattle.cq_work.specs.declared.work.Work.{Work}
+use Rattle.cq_answer.specs.Works.{Owner, works_in, paths_in, numbers_in, norms_in, keys_in, spans_in, counts_in}
+
+-- they are those of the project at this version of the changes, each file with the work of its text
+pub record AreOfVersion {L : Type 0} (set : Settings) (changes : List Change) (version : ℕ) (project : List ℕ) (files : List (Owner L)) (conditions : List Condition) : Type 0 where
+  pub files_are : AreSameFiles (IsWorkOf set) (files_at changes version project) (works_in files)
+  pub conditions_are : conditions ≡ conditions_at changes version project
+
+-- they are those of some changes, as many as may be accepted, each of which is sound
+pub record HaveVersion {L : Type 0} (set : Settings) (version : ℕ) (project : List ℕ) (files : List (Owner L)) (conditions : List Condition) : Type 0 where
+  pub changes : List Change
+  pub sound : AllByRecursion IsSoundChange changes
+  pub few : length changes ≤ set.change_limit
+  pub are : AreOfVersion set changes version project files conditions
+
+-- what of it a listing needs
+pub record AreListable {L : Type 0} (set : Settings) (files : List (File (Work L))) : Type 0 where
+  pub few : length files ≤ 262144
+  pub apart : AllPairs (λ a b. a ≢ b) (numbers_in files)
+  pub keyed : AreKeyed set.chunk (norms_in files) (keys_in files)
+  pub some : 1 ≤ set.chunk
