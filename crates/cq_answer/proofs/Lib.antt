@@ -5,4 +5,3 @@ pub mod Inside
 pub mod Rows
 pub mod Listable
 pub mod OneFile
-pub mod Bounds

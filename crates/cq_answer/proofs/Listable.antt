@@ -1,6 +1,6 @@
 -- What a query's reply rests on: files and conditions that are those of a version.
-use Rattle.std.proofs.Common.{◌≡◌, ℕ, zero, suc, ◌<◌, ◌≤◌, Option, List, [], ◌∷◌, length, get_or, map, refl, sym, ap, ap₂, ◌∙◌, subst, subst₂, arith}
-use Rattle.std.specs.Prelude.{◌≢◌, AllPairs, Contains}
+use Rattle.std.proofs.Common.{◌≡◌, ℕ, zero, suc, ◌<◌, ◌≤◌, Option, List, [], ◌∷◌, length, get_or, map, refl, sym, ap, ap₂, ◌∙◌, subst, subst₂, arith, Result, Ok, Err}
+use Rattle.std.specs.Prelude.{◌≢◌, AllPairs, Contains, OnOk}
 use Rattle.std.specs.List.{AllByRecursion}
 use Rattle.std.specs.Str.{IsUtf8}
 use Rattle.std.proofs.lemmas.List.{length-map}
@@ -173,3 +173,8 @@ texts_are set version project files conditions k min p groups r have some are_gr
 pub conditions_few : {L : Type 0} (set : Settings) (version : ℕ) (project : List ℕ) (files : List (Owner L)) (conditions : List Condition) → HaveVersion set version project files conditions → length conditions ≤ 32
 conditions_few set version project files conditions have =
     subst (λ (cs : List Condition). length cs ≤ 32) (sym have.are.conditions_are) (few_conditions have.changes version project have.sound)
+
+-- what holds anyhow holds where there is a value
+pub when_ok : {T E P : Type 0} (r : Result T E) → P → OnOk r P
+when_ok (Ok x) h = h
+when_ok (Err e) h = tt

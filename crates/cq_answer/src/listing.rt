@@ -10,7 +10,8 @@ use crate::part::Part;
 use cq_base::{Group, Memory, Settings, Steps};
 use cq_board::Held;
 use cq_groups::{Buckets, list_all, list_file};
-use cq_tokens::FileTokens;
+use cq_refine::Index;
+use cq_tokens::{Corpus, FileTokens};
 use cq_work::Work;
 use std::alloc::Global;
 use std::sync::Arc;
@@ -73,9 +74,11 @@ pub(crate) fn groups_of<B: Buckets, L: Ledger>(
         return Ok(Vec::new(alloc));
     }
     let tokens = tokens_of(alloc, files)?;
+    let corpus = Corpus::new(settings.chunk, &tokens);
+    let index = Index::new(alloc, corpus)?;
     match part {
-        Part::Whole => list_all(alloc, settings, &tokens, min, buckets, steps),
-        Part::File(file) => list_file(alloc, settings, &tokens, file, min, buckets, steps),
+        Part::Whole => list_all(alloc, &index, min, buckets, steps),
+        Part::File(file) => list_file(alloc, &index, file, min, buckets, steps),
         Part::Nothing => Ok(Vec::new(alloc)),
     }
 }

@@ -68,18 +68,16 @@ fn file_of<L: Ledger>(
 // The reply to a query on a project of one file at version 2, where change 2 is its gate.
 fn reply_in<L: Ledger>(
     alloc: Global,
-    text: &str,
     kind: Kind,
     path: Option<Text>,
     blank: Blank,
 ) -> Result<Reply, Memory>
-    requires short { length text.now ≤ 1048576 }
     requires name { blank.name ≡ L.name }
     requires parts { blank.parts ≡ L.parts }
     requires one { L.parts ≡ 1 }
 {
     let mut files: Vec<Arc<Held<Work<L>>, Global>> = Vec::new(alloc);
-    files.push(file_of(alloc, "t", text)?)?;
+    files.push(file_of(alloc, "t", "a b c x a b c y")?)?;
     let tokens = tokens_of(alloc, &files)?;
     let mut buckets = PlainBuckets::new(&tokens);
     let mut steps = Steps::new(blank);
@@ -109,7 +107,7 @@ fn reply_to(alloc: Global, kind: Kind, path: &str) -> Result<Reply, Memory> {
     } else {
         Some(Text::from_bytes(alloc, path.as_bytes())?)
     };
-    reply_in::<Brand>(alloc, "a b c x a b c y", kind, asked, Blank::new(1))
+    reply_in::<Brand>(alloc, kind, asked, Blank::new(1))
 }
 
 fn is_row(row: &FileRow) -> bool {

@@ -1,6 +1,6 @@
 -- Where the calls of a hub bring a pass.
 use Rattle.std.proofs.Common.{◌≡◌, ◌⊎◌, inl, inr, ℕ, List, [], ◌∷◌, ◌++◌, Some, Result, Ok, Err, ◌∙◌, subst, append-nil}
-use Rattle.std.specs.Prelude.{OnErr, IfOk}
+use Rattle.std.specs.Prelude.{OnErr, OnOk, IfOk}
 use Rattle.cq_history.specs.declared.event.Event.{Event}
 use Rattle.cq_history.specs.State.{maker}
 use Rattle.cq_hub.specs.Hubs.{Grows, Calls}
@@ -19,6 +19,11 @@ on_err (Err e) p = p
 pub on_err_weaker : {T E P Q : Type 0} (r : Result T E) → (P → Q) → OnErr r P → OnErr r Q
 on_err_weaker (Ok x) to p = tt
 on_err_weaker (Err e) to p = to p
+
+-- what an answer says of its value, and what it says at all
+pub both_ok : {T E : Type 0} (r : Result T E) (P S : T → Type 0) (Q : Type 0) → ((x : T) → P x → Q → S x) → IfOk r P → OnOk r Q → IfOk r S
+both_ok (Ok x) P S Q to p q = to x p q
+both_ok (Err e) P S Q to p q = tt
 
 module _ {S P : Type 0} (Stands : S → P → ℕ → List Event → Type 0) (alone : Type 0) (callers c : ℕ) (hub : S) (pass : P) (May : Event → Type 0) (h : List Event) where
   pub lead_none : (Says Holds : List Event → Type 0) (call : Calls Stands alone May c hub pass h [] Says) → IsClosed callers c h → (Grows alone May c h call.mid [] → Says call.mid → Holds call.mid) → Leads Stands callers c hub pass Holds

@@ -7,3 +7,4 @@ pub mod Queries
 pub mod QueryLeads
 pub mod Talking
 pub mod Turns
+pub mod InView

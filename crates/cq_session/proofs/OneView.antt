@@ -1,5 +1,5 @@
 -- A view that is opened, read and shut.
-use Rattle.std.proofs.Common.{◌≡◌, ℕ, zero, suc, ◌<◌, ◌≤◌, List, [], ◌∷◌, ◌++◌, length, fold, get_or, set, Option, Some, None, refl, sym, ap, ◌∙◌, subst, arith}
+use Rattle.std.proofs.Common.{◌≡◌, ℕ, zero, suc, ◌<◌, ◌≤◌, List, [], ◌∷◌, ◌++◌, append-nil, length, take, fold, get_or, set, Option, Some, None, refl, sym, ap, ◌∙◌, subst, arith}
 use Rattle.std.specs.Prelude.{IsSome}
 use Rattle.std.proofs.lemmas.List.{length-replicate, get_or-set_same}
 use Rattle.std.proofs.lemmas.List.Sums.{prefix_len-le-length}
@@ -16,6 +16,10 @@ use Rattle.cq_history.proofs.States.{state_push, Lawful-prefix}
 use Rattle.cq_history.proofs.Bounds.{in_order}
 use Rattle.cq_history.proofs.Doing.{slots_number}
 use Rattle.cq_history.proofs.Openings.{views_after}
+use Rattle.cq_history.proofs.Prefixes.{accepted-append, changes_in-state}
+use Rattle.cq_base.specs.declared.change.Change.{Change}
+use Rattle.cq_board.specs.Listings.{IsListing}
+use Rattle.std.specs.Arc.{arc_value}
 use Rattle.cq_hub.specs.Hubs.{Calls, Grows, IsPublication, Never}
 use Rattle.cq_hub.specs.Views.{IsLatest, IsOpen}
 use Rattle.cq_hub.proofs.Growing.{grows_none, grows_then, grows_event, grows_own, view_grows, rises, no_fewer}
@@ -87,7 +91,7 @@ module _ {S P W : Type 0} (Stands : S → P → ℕ → List Event → Type 0) (
       pub is_open : IsOpen IsWork (state callers (opened.mid ++ Open c view.version ∷ [])) c view
       is_open = record {
         version = view_opened callers c view.version opened.mid (caller two c before opened.stands);
-        shows = opened.says.1;
+        shows = subst (λ (cs : List Change). IsListing IsWork (take view.version cs) (arc_value view.listing)) (changes_in-state callers opened.mid ∙ sym (changes_in-state callers before ∙ accepted-append opened.mid (Open c view.version ∷ []) ∙ append-nil (accepted opened.mid))) opened.says.1;
       }
 
       module _ (three : P) (moved : Later Stands callers alone IsWork hub view c before three) where

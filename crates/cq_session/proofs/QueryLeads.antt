@@ -26,11 +26,11 @@ module _ {S P : Type 0} (Stands : S → P → ℕ → List Event → Type 0) (se
   facts : AskFacts callers c seen r call.mid
   facts = ask_facts alone callers c seen r h call.mid call.others call.says closed named
 
-  asks : Asks alone c h then
+  abbrev asks : Asks alone c h then
   asks = record { mid = call.mid; waits = call.others; asks = refl }
 
   -- the pass stands for the history behind the question, with no view open; what was told is so there
-  pub asked_led : Leads Stands callers c hub one (λ after. (r.done ≤ ready (state callers after)) × (r.accepted ≤ length (accepted after)))
+  abbrev pub asked_led : Leads Stands callers c hub one (λ after. (r.done ≤ ready (state callers after)) × (r.accepted ≤ length (accepted after)))
   asked_led = record { after = then; stands = call.stands; closed = facts.closed; holds = (facts.ready_then, facts.few_then) }
 
   pub is_future : r.accepted < q.at → Leads Stands callers c hub one (IsAnswered set callers alone c seen h q (reply.Future r.accepted))

@@ -1,3 +1,4 @@
+pub mod Works
 pub mod Told
 pub mod Viewing
 pub mod Sending

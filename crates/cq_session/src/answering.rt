@@ -12,6 +12,7 @@ ghost use Rattle.cq_talk.specs.Steps.{Always, Led, MayLead};
 ghost use Rattle.cq_talk.specs.Talk.{IsAnswer, IsAnswered, IsChanged, IsGivenUp, Tells, Waits};
 ghost use Rattle.cq_session.specs.Told.{bytes_of};
 ghost use Rattle.cq_session.specs.Turn as turn;
+ghost use Rattle.cq_session.specs.Works.{AreWorks};
 
 use crate::helping::help;
 use crate::refusing::refusal_of;
@@ -23,6 +24,7 @@ use cq_hub::Hub;
 use cq_key::Keyer;
 use cq_reply::{Reply, Short, fixed};
 use cq_request::{Query, Request, read_request};
+use cq_shard::Indexed;
 use cq_work::Work;
 use std::alloc::Global;
 use std::sync::ledger::Ledger;
@@ -75,6 +77,7 @@ fn query_reply<L: Ledger, H: Hub<Done = Work<L>>>(
     requires in_range { IsInRange settings.now }
     requires settings { keyer.now.settings ≡ settings.now }
     requires hub_settings { H.settings hub.now ≡ settings.now }
+    requires works { AreWorks ⟦<Work<L> as Indexed>⟧.keys_in ⟦<Work<L> as Indexed>⟧.IsWorkOf }
     requires long { settings.now.chunk ≤ query.now.min }
     requires closed { MayLead H.Stands (H.callers hub.now) hub.now pass.old (λ h. seen ≤ length (accepted h)) }
     ensures replies { IfOk result (λ r. Led H.Stands (H.callers hub.now) hub.now pass.old pass.new (λ h. seen ≤ length (accepted h)) (λ c h. IsAnswered (H.settings hub.now) (H.callers hub.now) H.alone c seen h query.now r)) }
@@ -113,6 +116,7 @@ fn reply_to<L: Ledger, H: Hub<Done = Work<L>>>(
     requires in_range { IsInRange settings.now }
     requires settings { keyer.now.settings ≡ settings.now }
     requires hub_settings { H.settings hub.now ≡ settings.now }
+    requires works { AreWorks ⟦<Work<L> as Indexed>⟧.keys_in ⟦<Work<L> as Indexed>⟧.IsWorkOf }
     requires closed { MayLead H.Stands (H.callers hub.now) hub.now pass.old (λ h. seen ≤ length (accepted h)) }
     ensures replies { IfOk result (λ r. Led H.Stands (H.callers hub.now) hub.now pass.old pass.new (λ h. seen ≤ length (accepted h)) (λ c h. IsAnswer (H.settings hub.now) (H.callers hub.now) H.alone c seen h (Read (line_says settings.now.chunk line.now)) r)) }
     ensures text { IfOk result IsReplyText }
@@ -142,6 +146,7 @@ pub(crate) fn told<L: Ledger, H: Hub<Done = Work<L>>>(
     requires in_range { IsInRange settings.now }
     requires settings { keyer.now.settings ≡ settings.now }
     requires hub_settings { H.settings hub.now ≡ settings.now }
+    requires works { AreWorks ⟦<Work<L> as Indexed>⟧.keys_in ⟦<Work<L> as Indexed>⟧.IsWorkOf }
     requires closed { MayLead H.Stands (H.callers hub.now) hub.now pass.old (λ h. seen ≤ length (accepted h)) }
     ensures { Led H.Stands (H.callers hub.now) hub.now pass.old pass.new (λ h. seen ≤ length (accepted h)) (λ c h. turn.Tells (H.settings hub.now) (H.callers hub.now) H.alone c seen h (Read (line_says settings.now.chunk line.now)) (bytes_of result.0) result.1) }
 {

@@ -5,11 +5,13 @@ ghost use Rattle.cq_board.specs.Sound.{HasSoundText};
 ghost use Rattle.cq_history.specs.State.{state, accepted, ready, IsAccepted, IsDone};
 ghost use Rattle.cq_talk.specs.Steps.{Always, Helps, Led, MayLead};
 ghost use Rattle.cq_work.specs.Work.{IsWorkOf};
+ghost use Rattle.cq_session.specs.Works.{AreWorks};
 
 use cq_base::{Memory, Settings};
 use cq_board::{Finished, Job};
 use cq_hub::Hub;
 use cq_key::Keyer;
+use cq_shard::Indexed;
 use cq_work::{Work, work_of};
 use std::alloc::Global;
 use std::sync::Arc;
@@ -42,6 +44,7 @@ fn help_one<L: Ledger, H: Hub<Done = Work<L>>>(
     requires in_range { IsInRange settings.now }
     requires settings { keyer.now.settings ≡ settings.now }
     requires hub_settings { H.settings hub.now ≡ settings.now }
+    requires works { AreWorks ⟦<Work<L> as Indexed>⟧.keys_in ⟦<Work<L> as Indexed>⟧.IsWorkOf }
     requires accepted { MayLead H.Stands (H.callers hub.now) hub.now pass.old (λ h. IsAccepted (state (H.callers hub.now) h) change) }
     ensures done { OnOk result (Led H.Stands (H.callers hub.now) hub.now pass.old pass.new Always (λ c h. Helps H.alone c change h (λ after. IsDone (state (H.callers hub.now) after) change))) }
     ensures refused { OnErr result (Led H.Stands (H.callers hub.now) hub.now pass.old pass.new Always (λ c h. Helps H.alone c change h Always)) }
@@ -73,6 +76,7 @@ pub(crate) fn help<L: Ledger, H: Hub<Done = Work<L>>>(
     requires in_range { IsInRange settings.now }
     requires settings { keyer.now.settings ≡ settings.now }
     requires hub_settings { H.settings hub.now ≡ settings.now }
+    requires works { AreWorks ⟦<Work<L> as Indexed>⟧.keys_in ⟦<Work<L> as Indexed>⟧.IsWorkOf }
     requires accepted { MayLead H.Stands (H.callers hub.now) hub.now pass.old (λ h. (done ≤ ready (state (H.callers hub.now) h)) × (to ≤ length (accepted h))) }
     ensures done { OnOk result (Led H.Stands (H.callers hub.now) hub.now pass.old pass.new (λ h. done ≤ ready (state (H.callers hub.now) h)) (λ c h. Helps H.alone c to h (λ after. done ≤ to → to ≤ ready (state (H.callers hub.now) after)))) }
     ensures refused { OnErr result (Led H.Stands (H.callers hub.now) hub.now pass.old pass.new (λ h. done ≤ ready (state (H.callers hub.now) h)) (λ c h. Helps H.alone c to h Always)) }

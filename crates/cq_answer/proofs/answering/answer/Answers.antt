@@ -4,8 +4,7 @@ use Rattle.std.proofs.lemmas.Result.{IfOk-weaker}
 use Rattle.cq_base.specs.declared.group.Group.{Group}
 use Rattle.cq_answer.specs.Parts.{AreGroupsOf}
 use Rattle.cq_answer.specs.Works.{work_in, works_in, norms_in}
-use Rattle.cq_answer.proofs.Listable.{listable, measurable, replied, keys_asked, most_read, texts_are, conditions_few}
-use Rattle.cq_answer.proofs.Bounds.{when_ok}
+use Rattle.cq_answer.proofs.Listable.{listable, measurable, replied, keys_asked, most_read, texts_are, conditions_few, when_ok}
 use Rattle.cq_answer.proofs.answering.answer.Goals as goal
 
 pub part_of-part-requires : goal.part_of-part-requires

@@ -12,7 +12,7 @@ pub help-requires-clause-accepted : goal.help-requires-clause-accepted
 help-requires-clause-accepted g c =
     let r = c.requires.closed in
     let led = asked_led _ (g.H.Hub.settings c.args.hub.now) _ _ _ r.0 c.args.seen c.args.query.now r.1 _ c.ask-asked.result (c.ask-asked.ensures.asks r.0 r.1 r.2) r.3.0 r.3.1 in
-    (r.0, led.after, led.stands, led.closed, led.holds)
+    (r.0, led.after, led.stands, (led.closed, led.holds))
 
 pub view_reply-requires-clause-ready : goal.view_reply-requires-clause-ready
 view_reply-requires-clause-ready g c =
@@ -20,7 +20,7 @@ view_reply-requires-clause-ready g c =
     let call = c.ask-asked.ensures.asks r.0 r.1 r.2 in
     let led = asked_led _ (g.H.Hub.settings c.args.hub.now) _ _ _ r.0 c.args.seen c.args.query.now r.1 _ c.ask-asked.result call r.3.0 r.3.1 in
     let helped = c.in-Ok.ensures.done r.0 led.after led.stands led.closed led.holds.0 in
-    (r.0, helped.after, helped.stands, helped.closed, all_ready _ (g.H.Hub.settings c.args.hub.now) _ _ _ r.0 c.args.seen c.args.query.now r.1 _ c.ask-asked.result call r.3.0 r.3.1 (let x = c.if-query-asked.false in omega (arith, x)) c.if-query.true _ helped)
+    (r.0, helped.after, helped.stands, (helped.closed, all_ready _ (g.H.Hub.settings c.args.hub.now) _ _ _ r.0 c.args.seen c.args.query.now r.1 _ c.ask-asked.result call r.3.0 r.3.1 (let x = c.if-query-asked.false in omega (arith, x)) c.if-query.true _ helped))
 
 pub returns-in-Ok-clause-replies : goal.returns-in-Ok-clause-replies
 returns-in-Ok-clause-replies g c =
@@ -52,7 +52,7 @@ pub view_reply-requires-2-clause-ready : goal.view_reply-requires-2-clause-ready
 view_reply-requires-2-clause-ready g c =
     let r = c.requires.closed in
     let led = asked_led _ (g.H.Hub.settings c.args.hub.now) _ _ _ r.0 c.args.seen c.args.query.now r.1 _ c.ask-asked.result (c.ask-asked.ensures.asks r.0 r.1 r.2) r.3.0 r.3.1 in
-    (r.0, led.after, led.stands, led.closed, led.holds.0)
+    (r.0, led.after, led.stands, (led.closed, led.holds.0))
 
 pub returns-clause-replies : goal.returns-clause-replies
 returns-clause-replies g c =

@@ -10,7 +10,7 @@ pub help_one-requires-clause-accepted : goal.help_one-requires-clause-accepted
 help_one-requires-clause-accepted g c =
     let r = c.requires.accepted in
     let led = c.changes.invariant r.0 r.1 r.2 r.3.0 r.3.1.0 in
-    (r.0, led.after, led.stands, led.closed, next_accepted _ r.0 c.args.to r.1 (g.H.Hub.callers c.args.hub.now) c.changes.i _ led.after r.3.1.1 c.changes-test.true led.holds)
+    (r.0, led.after, led.stands, (led.closed, next_accepted _ r.0 c.args.to r.1 (g.H.Hub.callers c.args.hub.now) c.changes.i _ led.after r.3.1.1 c.changes-test.true led.holds))
 
 pub returns-in-Err-clause-refused : goal.returns-in-Err-clause-refused
 returns-in-Err-clause-refused g c = λ by h stands closed le.

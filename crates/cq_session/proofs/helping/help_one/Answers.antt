@@ -4,7 +4,6 @@ use Rattle.cq_base.specs.declared.settings.Settings.{Settings}
 use Rattle.cq_history.specs.declared.event.Event.TheVariants.{Done}
 use Rattle.cq_history.specs.State.{state}
 use Rattle.cq_hub.proofs.Growing.{grows_event, grows_then, view_grows}
-use Rattle.cq_work.specs.Work.{IsWorkOf}
 use Rattle.cq_session.proofs.Leading.{lead_none, lead_event, stands_mid}
 use Rattle.cq_session.proofs.Working.{job_work, done_then}
 use Rattle.cq_session.proofs.helping.help_one.Goals as goal
@@ -27,13 +26,22 @@ pub returns-in-Err-work_for-clause-refused : goal.returns-in-Err-work_for-clause
 returns-in-Err-work_for-clause-refused g c =
     λ by h stands closed always. lead_none _ _ _ by _ _ _ h _ _ ((rw c.in-Ok-Some.field-0-is at c.in-Ok-Some.ensures.job) by h stands) closed (λ others says. record { finished = []; up_to = tt; grows = others; so = tt })
 
-pub finish-requires-clause-work : goal.finish-requires-clause-work
-finish-requires-clause-work g c =
+pub finish-requires : goal.finish-requires
+finish-requires g c =
     let r = c.requires.accepted in
     let first = (rw c.in-Ok-Some.field-0-is at c.in-Ok-Some.ensures.job) r.0 r.1 r.2 in
-    (r.0, first.mid, stands_mid _ _ r.0 _ _ _ r.1 _ first, first.says.0.0,
-      job_work (IsWorkOf (g.H.Hub.settings c.args.hub.now)) (state (g.H.Hub.callers c.args.hub.now) first.mid) c.args.change c.in-Ok-Some.job (arc_value c.in-Ok-work_for.work) first.says.1 first.says.2
-          (subst (λ (set : Settings). IsWorkOf set c.in-Ok-Some.job.lang (arc_value c.in-Ok-Some.job.text) (arc_value c.in-Ok-work_for.work)) (sym c.requires.hub_settings) c.in-Ok-work_for.ensures))
+    record {
+      work = (
+        r.0,
+        first.mid,
+        stands_mid _ _ r.0 _ _ _ r.1 _ first,
+        (
+          first.says.0.0,
+          job_work (g.bound-3.IsWorkOf (g.H.Hub.settings c.args.hub.now)) (state (g.H.Hub.callers c.args.hub.now) first.mid) c.args.change c.in-Ok-Some.job (arc_value c.in-Ok-work_for.work) first.says.1 first.says.2
+              (subst (λ (set : Settings). g.bound-3.IsWorkOf set c.in-Ok-Some.job.lang (arc_value c.in-Ok-Some.job.text) (arc_value c.in-Ok-work_for.work)) (sym c.requires.hub_settings) ((c.requires.works.works c.args.settings.now c.in-Ok-Some.job.lang (arc_value c.in-Ok-Some.job.text) (arc_value c.in-Ok-work_for.work)).1 c.in-Ok-work_for.ensures)),
+        ),
+      );
+    }
 
 pub returns-in-Done-clause-done : goal.returns-in-Done-clause-done
 returns-in-Done-clause-done g c = λ by h stands closed always.

@@ -34,7 +34,7 @@ pub turn-requires-clause-closed : goal.turn-requires-clause-closed
 turn-requires-clause-closed g c =
     let r = c.requires.closed in
     let led = c.lines.invariant.goes r.0 r.1 r.2 r.3.0 tt in
-    (r.0, led.after, led.stands, led.closed, led.holds.within)
+    (r.0, led.after, led.stands, (led.closed, led.holds.within))
 
 pub lines-preserved-in-Ok : goal.lines-preserved-in-Ok
 lines-preserved-in-Ok g c =
