@@ -1,10 +1,9 @@
 pub mod Sent
-pub mod Leading
+pub mod Answered
 pub mod Working
 pub mod ManyWorks
 pub mod OneView
-pub mod Queries
+pub mod InView
 pub mod QueryLeads
 pub mod Talking
 pub mod Turns
-pub mod InView

@@ -11,7 +11,7 @@ use Rattle.cq_hub.specs.Hubs.{Grows, Never}
 use Rattle.cq_hub.proofs.Growing.{grows_then, grows_as, rises, no_fewer}
 use Rattle.cq_history.proofs.Doing.{slots_number}
 use Rattle.cq_talk.specs.Steps.{Helps}
-use Rattle.cq_session.proofs.Working.{ready_more}
+use Rattle.cq_talk.proofs.OneMore.{ready_more}
 
 all_up : (a b : ℕ) (rs ss : List ℕ) → b ≤ a → AllByRecursion (λ (r : ℕ). r ≤ a) rs → AllByRecursion (λ (r : ℕ). r ≤ b) ss → AllByRecursion (λ (r : ℕ). r ≤ a) (rs ++ ss)
 all_up a b [] [] le one two = tt

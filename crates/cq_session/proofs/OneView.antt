@@ -2,7 +2,6 @@
 use Rattle.std.proofs.Common.{◌≡◌, ℕ, zero, suc, ◌<◌, ◌≤◌, List, [], ◌∷◌, ◌++◌, append-nil, length, take, fold, get_or, set, Option, Some, None, refl, sym, ap, ◌∙◌, subst, arith}
 use Rattle.std.specs.Prelude.{IsSome}
 use Rattle.std.proofs.lemmas.List.{length-replicate, get_or-set_same}
-use Rattle.std.proofs.lemmas.List.Sums.{prefix_len-le-length}
 use Rattle.cq_base.specs.declared.lang.Lang.{Lang}
 use Rattle.cq_base.specs.declared.settings.Settings.{Settings}
 use Rattle.cq_answer.specs.Reply.{IsReply}
@@ -10,11 +9,9 @@ use Rattle.cq_ask.specs.Moves.{Later}
 use Rattle.cq_board.specs.declared.listing.View.{View}
 use Rattle.cq_history.specs.declared.event.Event.{Event}
 use Rattle.cq_history.specs.declared.event.Event.TheVariants.{Open, Shut}
-use Rattle.cq_history.specs.State.{State, start, after, state, accepted, is_done, view_of}
+use Rattle.cq_history.specs.State.{State, start, after, state, accepted, view_of}
 use Rattle.cq_history.specs.Lawful.{Lawful}
 use Rattle.cq_history.proofs.States.{state_push, Lawful-prefix}
-use Rattle.cq_history.proofs.Bounds.{in_order}
-use Rattle.cq_history.proofs.Doing.{slots_number}
 use Rattle.cq_history.proofs.Openings.{views_after}
 use Rattle.cq_history.proofs.Prefixes.{accepted-append, changes_in-state}
 use Rattle.cq_base.specs.declared.change.Change.{Change}
@@ -27,8 +24,9 @@ use Rattle.cq_reply.specs.declared.reply.Reply.{Reply}
 use Rattle.cq_request.specs.declared.request.Query.{Query}
 use Rattle.cq_talk.specs.Steps.{IsClosed, Leads, Views}
 use Rattle.cq_talk.proofs.Shown.{shown_grows}
+use Rattle.cq_talk.proofs.Talking.{published_few}
 use Rattle.cq_session.specs.Viewing.{ShowsAt, ViewsOrNot}
-use Rattle.cq_session.proofs.Leading.{stands_mid}
+use Rattle.cq_talk.proofs.Leading.{stands_mid}
 
 set_none : (views : List (Option ℕ)) (c : ℕ) → get_or (set views c None) c None ≡ None
 set_none [] c = refl
@@ -49,20 +47,13 @@ view_opened callers c v h lt =
 view_shut : (callers c : ℕ) (h : List Event) → view_of (state callers (h ++ Shut c ∷ [])) c ≡ None
 view_shut callers c h = ap (λ s. view_of s c) (state_push callers h (Shut c)) ∙ set_none (state callers h).views c
 
-pub published_few : (set : Settings) (callers : ℕ) (h : List Event) → Lawful set callers h → (state callers h).published ≤ length (accepted h)
-published_few set callers h law =
-    let order = (in_order set callers h law).published in
-    let few = prefix_len-le-length is_done (state callers h).slots in
-    let number = slots_number callers h in
-    omega (arith, order, few, number)
-
 module _ {S P W : Type 0} (Stands : S → P → ℕ → List Event → Type 0) (set : Settings) (callers : ℕ) (alone : Type 0) (hub : S) (IsWork : Lang → List ℕ → W → Type 0)
     (lawful : (pass : P) (c : ℕ) (h : List Event) → Stands hub pass c h → Lawful set callers h) (caller : (pass : P) (c : ℕ) (h : List Event) → Stands hub pass c h → c < callers) (c to : ℕ) (h : List Event) where
   -- the publication was given up
   pub not_advanced : (Says : List Event → Type 0) (pass : P) (advanced : Calls Stands alone IsPublication c hub pass h [] Says) → IsClosed callers c h → Leads Stands callers c hub pass (ViewsOrNot alone c to h)
   not_advanced Says pass advanced closed = record {
     after = advanced.mid;
-    stands = stands_mid Stands alone c hub pass IsPublication h Says advanced;
+    stands = stands_mid Stands alone callers c hub pass IsPublication h Says advanced;
     closed = view_grows callers alone IsPublication c h advanced.mid [] advanced.others tt ∙ closed;
     holds = record { view = None; views = record { helped = advanced.mid; helps = advanced.others; views = grows_none alone c Never advanced.mid; recent = tt } };
   }
@@ -75,7 +66,7 @@ module _ {S P W : Type 0} (Stands : S → P → ℕ → List Event → Type 0) (
     pub not_viewed : (Says : List Event → Type 0) (pass : P) (opened : Calls Stands alone Never c hub pass advanced.mid [] Says) → IsClosed callers c h → Leads Stands callers c hub pass (ViewsOrNot alone c to h)
     not_viewed Says pass opened closed = record {
       after = opened.mid;
-      stands = stands_mid Stands alone c hub pass Never advanced.mid Says opened;
+      stands = stands_mid Stands alone callers c hub pass Never advanced.mid Says opened;
       closed = view_grows callers alone Never c advanced.mid opened.mid [] opened.others tt ∙ still_closed closed;
       holds = record { view = None; views = record { helped = advanced.mid; helps = advanced.others; views = opened.others; recent = tt } };
     }

@@ -15,15 +15,15 @@ use Rattle.cq_talk.specs.Said.{Read}
 use Rattle.cq_talk.specs.Steps.{Always, IsClosed, Leads, Helps}
 use Rattle.cq_talk.specs.Talk.{Asks, IsAnswered, IsGivenUp}
 use Rattle.cq_session.specs.Viewing.{ShowsAt, ViewsOrNot}
-use Rattle.cq_session.proofs.Leading.{lead_event, lead_weaker}
-use Rattle.cq_session.proofs.Queries.{AskFacts, ask_facts, floor_waiting, worked, worked_alone, waited}
+use Rattle.cq_talk.proofs.Leading.{lead_event, lead_weaker}
+use Rattle.cq_talk.proofs.Queries.{AskFacts, ask_facts, floor_waiting, worked, worked_alone, waited}
 
 module _ {S P : Type 0} (Stands : S → P → ℕ → List Event → Type 0) (set : Settings) (callers : ℕ) (alone : Type 0) (hub : S) (c seen : ℕ) (q : Query) (h : List Event) (one : P) (r : Asked)
     (call : Calls Stands alone Never c hub one h (Ask c ∷ []) (λ mid. r ≡ asked_of (state callers mid))) (closed : IsClosed callers c h) (named : seen ≤ length (accepted h)) where
   abbrev then : List Event
   then = call.mid ++ Ask c ∷ []
 
-  facts : AskFacts callers c seen r call.mid
+  pub facts : AskFacts callers c seen r call.mid
   facts = ask_facts alone callers c seen r h call.mid call.others call.says closed named
 
   abbrev asks : Asks alone c h then

@@ -20,7 +20,8 @@ use Rattle.cq_talk.specs.Talk.{Answers}
 use Rattle.cq_session.specs.declared.serving.End.TheVariants as end
 use Rattle.cq_session.specs.Turn.{IsTalk}
 use Rattle.cq_session.specs.Serving.{SoFar, Replied, Serves}
-use Rattle.cq_session.proofs.Talking.{talk_more, named_few, seen_more}
+use Rattle.cq_talk.proofs.Talking.{named_few, seen_more}
+use Rattle.cq_session.proofs.Talking.{talk_more}
 
 module _ (set : Settings) (callers : ℕ) (alone : Type 0) (c : ℕ) (h : List Event) where
   pub so_far_none : (a w : Option (List ℕ)) (x : Held) → IsFresh x → SoFar set callers alone c h x.limit a a w w x 0 h

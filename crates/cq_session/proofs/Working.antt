@@ -40,16 +40,3 @@ done_then callers c r h is =
       (is.0.0, let n = length-set s.slots (r - 1) slot in let b = is.0.1 in omega (arith, n, b)),
       ap is_done (get_or-set_same s.slots (r - 1) slot no_slot within) ∙ or_true (not (is_put (slot_of s r).change)),
     )
-
--- one more is ready
-pub ready_more : (s : State) (i : ℕ) → i ≤ ready s → IsDone s (i + 1) → i + 1 ≤ ready s
-ready_more s i le done =
-    ⊎_elim
-    (λ (lt : i < ready s). omega (arith, lt))
-    (λ (ge : ready s ≤ i).
-    let same : i ≡ ready s = omega (arith, le, ge) in
-    let b = done.0.1 in
-    let few : ready s < length s.slots = omega (arith, b, same) in
-    let one : (i + 1) - 1 ≡ ready s = omega (arith, same) in
-    absurd (true≢false (sym done.1 ∙ ap (λ n. is_done (get_or s.slots n no_slot)) one ∙ prefix_len_stops is_done s.slots no_slot few)))
-    (cases_lt i (ready s))

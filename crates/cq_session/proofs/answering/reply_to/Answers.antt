@@ -9,7 +9,8 @@ use Rattle.cq_request.specs.declared.request.Request.TheVariants as request
 use Rattle.cq_request.specs.declared.request.Refusal.{Refusal}
 use Rattle.cq_talk.specs.Said.{Read}
 use Rattle.cq_talk.specs.Talk.{IsAnswer, IsGivenUp}
-use Rattle.cq_session.proofs.Leading.{both_ok, on_err, on_err_weaker, lead_weaker}
+use Rattle.cq_talk.proofs.Leading.{lead_weaker}
+use Rattle.cq_session.proofs.Answered.{both_ok, on_err, on_err_weaker}
 use Rattle.cq_session.proofs.Talking.{nothing_done}
 use Rattle.cq_session.proofs.answering.reply_to.Goals as goal
 

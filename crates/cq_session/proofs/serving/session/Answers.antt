@@ -4,7 +4,7 @@ use Rattle.cq_history.specs.Lawful.{Lawful}
 use Rattle.cq_hub.proofs.Growing.{grows_none}
 use Rattle.cq_lines.proofs.Whole.{fewer}
 use Rattle.cq_reply.specs.declared.reply.Reply.TheVariants as reply
-use Rattle.cq_session.proofs.Leading.{lead_weaker}
+use Rattle.cq_talk.proofs.Leading.{lead_weaker}
 use Rattle.cq_session.proofs.Talking.{answers_long}
 use Rattle.cq_session.proofs.Turns.{so_far_none, so_far_more, write_failed, finished, spent, read_failed}
 use Rattle.cq_session.proofs.serving.session.Goals as goal
