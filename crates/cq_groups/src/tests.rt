@@ -10,7 +10,19 @@ use std::marker::Brand;
 use std::sync::Arc;
 use std::sync::ledger::{Blank, Ledger};
 
+// A token that is one byte.
+fn token(alloc: Global, byte: u8) -> Result<Norm, Memory>
+    ensures { IfOk result (λ norm. length norm.text ≡ 1) }
+{
+    Ok(Norm {
+        lang: Lang::Any,
+        class: Class::Ident,
+        text: Text::from_bytes(alloc, &[byte])?,
+    })
+}
+
 // The change, and one file whose tokens are the bytes of a text. All its windows of two tokens have the key 0.
+#[tactic(auto, using(std::proofs::lemmas::List::Sums::sum_by_push))]
 fn file_of<L: Ledger>(alloc: Global, change: u64, text: &[u8]) -> Result<FileTokens<L>, Memory>
     requires short { length text.now < 1000 }
     ensures change { IfOk result (λ file. file.change ≡ change) }
@@ -18,12 +30,7 @@ fn file_of<L: Ledger>(alloc: Global, change: u64, text: &[u8]) -> Result<FileTok
 {
     let mut norms = Vec::new(alloc);
     for b in text {
-        let text = Text::from_bytes(alloc, &[*b])?;
-        norms.push(Norm {
-            lang: Lang::Any,
-            class: Class::Ident,
-            text,
-        })?;
+        norms.push(token(alloc, *b)?)?;
     }
     let windows = norms.len().saturating_sub(1);
     let keys = vec![in alloc; 0; windows]?;

@@ -1,6 +1,9 @@
 //! One server's state behind its calls: a hub, whose passes each stand for a history of events, and the plain hub, which
 //! one caller has to itself. A call of a hub adds others' events and then its own to the history, and answers what is so
 //! in between. So what is proved over any hub holds of the plain one and of one that many threads share.
+//!
+//! The plain hub holds a board and its shards, and a call costs what it costs there. To advance, each shard applies each
+//! further change once, with a look at each key of its work, and the board publishes; a bucket is read of one shard.
 #![tactic(auto)]
 
 mod applying;
@@ -9,3 +12,6 @@ mod solo;
 
 pub use hub::Hub;
 pub use solo::{Solo, SoloPass};
+
+#[cfg(test)]
+mod tests;

@@ -95,7 +95,7 @@ impl<W: Indexed> Hub for Solo<W> {
 
     fn take(&self, pass: &mut SoloPass<W>) -> Result<Option<Job>, Memory> {
         match pass.board.take(0) {
-            Ok(Some(job)) => Ok(Some(job)),
+            Ok(Some(taken)) => Ok(Some(taken)),
             Ok(None) => Ok(None),
             Err(Memory) => Err(Memory),
         }

@@ -2,6 +2,7 @@ ghost use Rattle.std.specs.Prelude.{◌≡◌, ◌≢◌, ◌≤◌, ◌<◌, �
 ghost use Rattle.std.specs.Arc.{arc_value};
 ghost use Rattle.cq_key.specs.Keys.{window_keys};
 ghost use Rattle.cq_tokens.specs.Corpus.{changes_of, corpus_of, keys_of};
+ghost use Rattle.cq_tokens.specs.Packed.{spelling_bytes};
 ghost use Rattle.cq_index_trials.specs.Project.{IsProject};
 
 use crate::draws::Draws;
@@ -13,7 +14,9 @@ use std::sync::Arc;
 use std::sync::ledger::Ledger;
 
 // One of three names.
-fn drawn_token(alloc: Global, draws: &mut Draws) -> Result<Norm, Memory> {
+fn drawn_token(alloc: Global, draws: &mut Draws) -> Result<Norm, Memory>
+    ensures { IfOk result (λ norm. length norm.text ≡ 1) }
+{
     let name = b"abc"[draws.below(3) as usize];
     Ok(Norm {
         lang: Lang::Any,
@@ -23,8 +26,9 @@ fn drawn_token(alloc: Global, draws: &mut Draws) -> Result<Norm, Memory> {
 }
 
 // Up to a dozen tokens.
+#[tactic(auto, using(std::proofs::lemmas::List::Sums::sum_by_push))]
 fn drawn_tokens(alloc: Global, draws: &mut Draws) -> Result<Vec<Norm>, Memory>
-    ensures { IfOk result (λ norms. vec_len norms < 2 ^ 32) }
+    ensures { IfOk result (λ norms. (vec_len norms < 2 ^ 32) × (spelling_bytes norms.items < 2 ^ 32)) }
 {
     let mut norms = Vec::new(alloc);
     for _token in 0..draws.below(13) {
@@ -41,6 +45,7 @@ fn file_of<L: Ledger>(
     norms: &[Norm],
 ) -> Result<FileTokens<L>, Memory>
     requires few { length norms.now < 2 ^ 32 }
+    requires short { spelling_bytes norms.now < 2 ^ 32 }
     requires some { 1 ≤ keyer.now.settings.chunk }
     ensures change { IfOk result (λ file. file.change ≡ change) }
     ensures keys { IfOk result (λ file. arc_value file.keys ≡ window_keys keyer.now.settings (arc_value file.tokens)) }

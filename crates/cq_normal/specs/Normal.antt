@@ -1,5 +1,5 @@
 -- Tokens as they are compared.
-use Rattle.std.specs.Prelude.{ℕ, List, [], map, Bool, if◌then◌else◌, codes}
+use Rattle.std.specs.Prelude.{ℕ, ◌≤◌, List, [], length, map, sum_by, Bool, if◌then◌else◌, codes}
 use Rattle.std.specs.Str.{bytes_eq}
 use Rattle.cq_base.specs.declared.settings.Settings.{Settings}
 use Rattle.cq_base.specs.declared.lang.Lang.{Lang}
@@ -44,3 +44,7 @@ norm_of settings l s = record { lang = l; class = s.token.class; text = normal_t
 -- token by token
 abbrev pub normal : Settings → Lang → List Spelled → List Norm
 normal settings l tokens = map (norm_of settings l) tokens
+
+-- the spellings that are compared have no more bytes together than the tokens' own
+abbrev pub AreNoLonger : List Spelled → List Norm → Type 0
+AreNoLonger tokens norms = sum_by (λ n. length n.text) norms ≤ sum_by (λ s. length s.text) tokens

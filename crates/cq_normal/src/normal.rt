@@ -78,7 +78,8 @@ pub fn normalise(
     lang: Lang,
     tokens: Vec<Spelled>,
 ) -> Result<Vec<Norm>, Memory>
-    ensures { IfOk result (λ v. v.items ≡ spec.normal settings.now lang tokens.items) }
+    ensures normal { IfOk result (λ v. v.items ≡ spec.normal settings.now lang tokens.items) }
+    ensures no_longer { IfOk result (λ v. spec.AreNoLonger tokens.items v.items) }
 {
     let mut norms = Vec::with_capacity(alloc, tokens.len())?;
     for spelled in tokens {

@@ -11,3 +11,6 @@ pub mod Highest
 pub mod Weights
 pub mod KeyPlaces
 pub mod Places
+pub mod OneStep
+pub mod ToldApart
+pub mod Gaps

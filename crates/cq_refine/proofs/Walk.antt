@@ -1,5 +1,5 @@
 -- The walk over sets of places: what holds between its steps, and that a step keeps it.
-use Rattle.std.proofs.Common.{◌≡◌, ◌≢◌, ◌⊎◌, ℕ, zero, suc, ◌+◌, ◌<◌, ◌≤◌, List, [], ◌∷◌, ◌++◌, length, get_or, take, map, Some, refl, sym, ap, ap₂, ◌∙◌, subst, inl, inr, ⊎_elim, arith, eqb, eq-eqb, eqb-true}
+use Rattle.std.proofs.Common.{◌≡◌, ◌≢◌, ◌⊎◌, ℕ, zero, suc, ◌+◌, ◌<◌, ◌≤◌, List, [], ◌∷◌, ◌++◌, length, get_or, take, map, Some, IsSome, refl, sym, ap, ap₂, ◌∙◌, subst, inl, inr, ⊎_elim, arith, eqb, eq-eqb, eqb-true}
 use Rattle.std.specs.Prelude.{All, AllPairs, Contains, Any, filter}
 use Rattle.std.proofs.lemmas.Bool.{cases_lt}
 use Rattle.std.proofs.lemmas.List.{length-map, take_more, length-take-le}
@@ -16,7 +16,7 @@ use Rattle.cq_clones.proofs.GroupLaws.{within_from_standing, word_of_group}
 use Rattle.cq_refine.specs.declared.spots.Spot.{Spot}
 use Rattle.cq_refine.specs.declared.spots.Marked.{Marked}
 use Rattle.cq_refine.specs.declared.spots.Set.{Set}
-use Rattle.cq_refine.specs.Sets.{IsMark, AreSpots, AreMarked, IsWordSet, AreEntries, IsGroupFrom, part_of, IsPart, ArePartsOf, AreParts, group_of, MayGive, IsChosen, IsSplit, AreFirst, AreAllOnce}
+use Rattle.cq_refine.specs.Sets.{IsMark, AreOne, AreSpots, AreMarked, IsWordSet, AreEntries, IsGroupFrom, part_of, IsPart, ArePartsOf, AreParts, group_of, MayGive, IsChosen, IsSplit, AreFirst, AreAllOnce}
 use Rattle.cq_refine.proofs.Marking.{marks_of_token}
 use Rattle.cq_refine.proofs.SetGroups.{set_occurrences, set_is_maximal, IsGroupAt, places_of_set, differ_before, none_by_left, none_by_mark}
 use Rattle.cq_refine.proofs.WordSets.{part_is_word_set}
@@ -444,6 +444,35 @@ walk_begins {T} corpus least places all sets groups given first none = record {
           differ_before corpus all all a.0 b.0 given.spots a.1 b.1 a.1 b.1 apart,
         )
 
+-- two places of a group, with tokens before them that are not both there and the same
+pair_of_group : {T : Type 0} (corpus : List (List T)) (least : ℕ) (places : List Place) (g : Group) → AreEntries corpus least places → 1 ≤ least → IsGroupFrom corpus least places g → (p : Place) × (q : Place) × Contains places p × Contains places q × (p ≢ q) × (AreSame (token_before corpus p) (token_before corpus q) → ⊥)
+pair_of_group corpus least places g entries some (is, here) =
+    let (p, q, pair) = is.repeated in
+    (p, q, place_of_group corpus least places g p entries some is here pair.first, place_of_group corpus least places g q entries some is here pair.second, pair.different, pair.left)
+
+no_groups : {T : Type 0} (corpus : List (List T)) (least : ℕ) (places : List Place) (groups : List Group) → ((g : Group) → IsGroupFrom corpus least places g → ⊥) → groups ≡ [] → AreAllOnce (IsGroupFrom corpus least places) groups
+no_groups corpus least places groups none is = record {
+  ordered = λ i j d lt within. absurd (omega (arith, within, ap length is));
+  each = λ g. (λ c. absurd (Contains-nil g (subst (λ (gs : List Group). Contains gs g) is c)), λ h. absurd (none g h));
+}
+
+-- fewer than two places give no group
+pub none_of_few : {T : Type 0} (corpus : List (List T)) (least : ℕ) (places : List Place) (groups : List Group) → AreEntries corpus least places → 1 ≤ least → length places < 2 → groups ≡ [] → AreAllOnce (IsGroupFrom corpus least places) groups
+none_of_few corpus least places groups entries some few is =
+    no_groups corpus least places groups
+    (λ g h. let (p, q, p_in, q_in, different, left) = pair_of_group corpus least places g entries some h in let several = two_in places p q p_in q_in different in omega (arith, few, several))
+    is
+
+-- nor do places with one token before them all
+pub none_of_one : {T : Type 0} (corpus : List (List T)) (least : ℕ) (places : List Place) (groups : List Group) → AreEntries corpus least places → 1 ≤ least → AreOne (token_before corpus) places → groups ≡ [] → AreAllOnce (IsGroupFrom corpus least places) groups
+none_of_one corpus least places groups entries some (t, one) is =
+    no_groups corpus least places groups
+    (λ g h. let (p, q, p_in, q_in, different, left) = pair_of_group corpus least places g entries some h in
+    let a = All-contains (λ w. token_before corpus w ≡ Some t) places p one p_in in
+    let b = All-contains (λ w. token_before corpus w ≡ Some t) places q one q_in in
+    left (subst IsSome (sym a) refl, a ∙ sym b))
+    is
+
 -- the end
 pub walk_ends : {T : Type 0} (corpus : List (List T)) (least : ℕ) (places : List Place) (all : List Spot) (sets : List Set) (groups : List Group) → length sets ≡ 0 → Walk corpus least places all sets groups → AreAllOnce (IsGroupFrom corpus least places) groups
 walk_ends corpus least places all sets groups none walk = record {
@@ -454,3 +483,6 @@ walk_ends corpus least places all sets groups none walk = record {
 -- the set that is taken
 pub popped_words : {T : Type 0} (corpus : List (List T)) (least : ℕ) (places : List Place) (all : List Spot) (sets rest : List Set) (set : Set) (groups : List Group) → sets ≡ rest ++ set ∷ [] → Walk corpus least places all sets groups → IsWordSet corpus all set.depth set.spots.items
 popped_words corpus least places all sets rest set groups popped walk = walk.words set (subst (λ ss. Contains ss set) (sym popped) (Contains-push rest set))
+
+pub popped_gives : {T : Type 0} (corpus : List (List T)) (least : ℕ) (places : List Place) (all : List Spot) (sets rest : List Set) (set : Set) (groups : List Group) → sets ≡ rest ++ set ∷ [] → Walk corpus least places all sets groups → MayGive set.spots.items
+popped_gives corpus least places all sets rest set groups popped walk = walk.gives set (subst (λ ss. Contains ss set) (sym popped) (Contains-push rest set))

@@ -1,5 +1,5 @@
 -- Sets of places that share their first tokens.
-use Rattle.std.specs.Prelude.{◌≡◌, ◌≢◌, ◌⊎◌, ◌↔◌, ℕ, ◌+◌, ◌*◌, ◌-◌, ◌<◌, ◌≤◌, List, slice_get, slice_index_or, Some, ◌∷◌, [], ◌++◌, length, Option, All, AllPairs, Contains, Any, sum_by, map, filter, ◌==◌, nat_le}
+use Rattle.std.specs.Prelude.{◌≡◌, ◌≢◌, ◌⊎◌, ◌↔◌, ℕ, ◌+◌, ◌*◌, ◌-◌, ◌^◌, ◌<◌, ◌≤◌, List, slice_get, slice_index_or, Some, IsSome, ◌∷◌, [], ◌++◌, length, Option, option_map, All, AllPairs, Contains, Any, sum_by, map, filter, ◌==◌, not, nat_le}
 use Rattle.std.specs.BTreeMap.{BTreeMap, get, btree_map_len}
 use Rattle.cq_base.specs.declared.norm.Norm.{Norm}
 use Rattle.cq_tokens.specs.declared.seen.Seen.{Seen}
@@ -7,11 +7,13 @@ use Rattle.cq_tokens.specs.Packed.{norm_in, seen_cmp}
 use Rattle.cq_base.specs.declared.group.Place.{Place}
 use Rattle.cq_base.specs.declared.group.Group.{Group}
 use Rattle.cq_clones.specs.Lists.{AreAllInOrder}
-use Rattle.cq_clones.specs.Groups.{IsPlace, IsBefore, StandsAt, word_at, token_ahead, token_before, token_behind, file_at, IsGroup, kept_of}
+use Rattle.cq_clones.specs.Groups.{IsPlace, IsBefore, StandsAt, word_at, token_ahead, token_before, token_behind, file_at, AreSame, IsGroup, kept_of}
 use Rattle.cq_base.specs.Places.{first_place}
+use Rattle.cq_refine.specs.declared.differing.Difference.{Difference}
 use Rattle.cq_refine.specs.declared.spots.Spot.{Spot}
 use Rattle.cq_refine.specs.declared.spots.Marked.{Marked}
 use Rattle.cq_refine.specs.declared.spots.Set.{Set}
+use Rattle.cq_refine.specs.declared.parting.Parting.{Parting}
 
 -- the mark of a token among different ones: its position there from 1 on, and 0 for no token
 pub record IsMark {T : Type 0} (seen : List T) (token : Option T) (mark : ℕ) : Type 0 where
@@ -71,6 +73,39 @@ pub record AreMarked {T : Type 0} (corpus : List (List T)) (n : ℕ) (marked : L
   pub apart : AllPairs (λ a b. a ≢ b) seen
   pub marks : (x : Marked) → Contains marked x → IsMark seen (token_behind corpus x.spot.place n) x.mark
 
+-- all have one token
+abbrev pub AreOne : {X T : Type 0} → (X → Option T) → List X → Type 0
+AreOne {X} {T} token xs = (t : T) × All (λ x. token x ≡ Some t) xs
+
+-- the first ones were read, up to one that hasn't the token of the first, or where that has none
+pub record IsDifference {X : Type 0} (token : X → Option Norm) (xs : List X) (d : Difference) : Type 0 where
+  pub several : 2 ≤ d.read
+  pub within : d.read ≤ length xs
+  pub same : (k : ℕ) (x : X) → k + 1 < d.read → token (slice_index_or xs k x) ≡ option_map norm_in d.first
+  pub end : (x : X) → token (slice_index_or xs (d.read - 1) x) ≡ option_map norm_in d.last
+  pub differ : ¬ AreSame (option_map norm_in d.first) (option_map norm_in d.last)
+
+-- the tokens that were read `n` behind places are no further from their file's first than a number of 32 bits says
+abbrev pub IsInNumbers : ℕ → Difference → Type 0
+IsInNumbers n d = (IsSome (option_map norm_in d.first) → n + 1 < 2 ^ 32) × (IsSome (option_map norm_in d.last) → n + 1 < 2 ^ 32)
+
+-- the spots have the same first tokens, `n` of them
+abbrev pub AreAlike : {T : Type 0} → List (List T) → ℕ → List Spot → Type 0
+AreAlike corpus n spots = (s t : Spot) (k : ℕ) → Contains spots s → Contains spots t → k < n → token_behind corpus s.place k ≡ token_behind corpus t.place k
+
+-- the next spot stands in the same file, so many tokens further on
+pub record IsGap (spots : List Spot) (i gap : ℕ) (d : Spot) : Type 0 where
+  pub within : i + 1 < length spots
+  pub file : (slice_index_or spots i d).place.file ≡ (slice_index_or spots (i + 1) d).place.file
+  pub at : (slice_index_or spots i d).place.at + gap ≡ (slice_index_or spots (i + 1) d).place.at
+
+-- the marks of two tokens, of which one isn't there, or which differ
+pub record AreTwoMarks {T : Type 0} (a b : Option T) (m n : ℕ) : Type 0 where
+  pub seen : List T
+  pub apart : AllPairs (λ x y. x ≢ y) seen
+  pub first : IsMark seen a m
+  pub second : IsMark seen b n
+
 -- the tokens before the spots are there and equal: no group has two of them that show it maximal
 abbrev pub HaveOneLeft : List Spot → Type 0
 HaveOneLeft spots = (n : ℕ) × (0 < n) × All (λ s. s.left ≡ n) spots
@@ -92,6 +127,19 @@ IsGroupFrom corpus least places group = IsGroup corpus least group × Contains p
 -- the spots with one mark
 abbrev pub part_of : ℕ → List Marked → List Spot
 part_of mark marked = map (λ x. x.spot) (filter (λ x. x.mark == mark) marked)
+
+-- the spots with other marks than one
+abbrev pub others_of : ℕ → List Marked → List Marked
+others_of mark marked = filter (λ x. not (x.mark == mark)) marked
+
+-- spots were parted: some stay, whose mark is one of a token, and the others have their marks
+pub record IsParting {T : Type 0} (corpus : List (List T)) (n : ℕ) (spots : List Spot) (parting : Parting) : Type 0 where
+  pub marked : List Marked
+  pub is : map (λ x. x.spot) marked ≡ spots
+  pub marks : AreMarked corpus n marked
+  pub some : 0 < parting.mark
+  pub stay : parting.stay.items ≡ part_of parting.mark marked
+  pub others : parting.others.items ≡ others_of parting.mark marked
 
 -- the spots of each mark from 1 to the highest
 pub record AreByMark (highest : ℕ) (marked : List Marked) (parts : List (List Spot)) : Type 0 where
@@ -128,6 +176,15 @@ pub record AddsParts (depth : ℕ) (marked : List Marked) (highest : ℕ) (old n
   pub are : AreParts depth marked highest parts
   pub size : sum_by (λ s. length s.spots.items) parts ≤ length (filter (λ x. nat_le x.mark highest) marked)
 
+-- the parts of a set, of which those that may give groups stand behind other sets
+pub record IsParted {T : Type 0} (corpus : List (List T)) (set : Set) (rest sets : List Set) : Type 0 where
+  pub marked : List Marked
+  pub spots : map (λ x. x.spot) marked ≡ set.spots.items
+  pub marks : AreMarked corpus set.depth marked
+  pub highest : ℕ
+  pub all : All (λ x. x.mark ≤ highest) marked
+  pub parts : AddsParts (set.depth + 1) marked highest rest sets
+
 -- the group of a set's places
 abbrev pub group_of : ℕ → List Spot → Group
 group_of depth spots = record { tokens = depth; places = kept_of depth (map (λ s. s.place) spots) }
@@ -135,6 +192,10 @@ group_of depth spots = record { tokens = depth; places = kept_of depth (map (λ 
 -- the tokens behind the spots are there and equal
 abbrev pub HaveOneMark : List Marked → Type 0
 HaveOneMark marked = (n : ℕ) × (0 < n) × All (λ x. x.mark ≡ n) marked
+
+-- the set's word is long enough, and two of its places are kept
+abbrev pub IsLong : ℕ → ℕ → List Spot → Type 0
+IsLong least depth spots = (least ≤ depth) × (2 ≤ length (group_of depth spots).places)
 
 -- the set gives a group
 pub record IsChosen (least depth : ℕ) (spots : List Spot) (marked : List Marked) : Type 0 where

@@ -10,9 +10,11 @@
 #![tactic(auto)]
 
 mod changes;
+mod differing;
 mod entries;
 mod index;
 mod marks;
+mod parting;
 mod refining;
 mod sets;
 mod spots;

@@ -1,11 +1,12 @@
-ghost use Rattle.std.specs.Prelude.{◌≡◌, ◌≢◌, ◌⊎◌, ◌+◌, ◌^◌, ◌<◌, ◌≤◌, ◌++◌, List, length, map, option_map, slice_get, slice_index_or, ℕ, Some, IsSome, IfSome, IfNone, IfOk, OnOk, All, AllPairs, Contains};
+ghost use Rattle.std.specs.Prelude.{◌≡◌, ◌+◌, ◌^◌, ◌<◌, ◌≤◌, List, length, map, option_map, IfOk, All, Contains};
 ghost use Rattle.cq_base.specs.declared.norm.Norm.{Norm};
 ghost use Rattle.cq_refine.specs.declared.spots.Marked.{Marked};
-ghost use Rattle.cq_clones.specs.Groups.{IsPlace, token_before, token_behind};
+ghost use Rattle.cq_clones.specs.Groups.{IsPlace, AreSame, token_before, token_behind};
 ghost use Rattle.cq_tokens.specs.Parts.{tokens_in};
 ghost use Rattle.cq_tokens.specs.Packed.{norm_in};
-ghost use Rattle.cq_refine.specs.Sets.{AreMarks, IsMarked, AreSpots, AreMarked};
+ghost use Rattle.cq_refine.specs.Sets.{AreMarks, IsMarked, AreTwoMarks, IsDifference, IsInNumbers, AreSpots, AreMarked};
 
+use crate::differing::{Difference, token_before_at, token_behind_at};
 use crate::spots::{Marked, Spot};
 use cq_base::{Memory, Place, Steps};
 use cq_tokens::{FileList, Seen, equal_tokens_tie};
@@ -14,7 +15,7 @@ use std::collections::BTreeMap;
 use std::sync::ledger::Ledger;
 
 /// The mark of a token, which is a new one where the token is new. It costs one search among the different tokens.
-fn mark_of<'a>(
+pub(crate) fn mark_of<'a>(
     marks: &mut BTreeMap<Seen<'a>, usize>,
     token: Option<Seen<'a>>,
 ) -> Result<usize, Memory>
@@ -29,46 +30,110 @@ fn mark_of<'a>(
     Ok(*mark)
 }
 
-/// The places with the marks of the tokens before them.
-pub(crate) fn spots_of<L: Ledger>(
+/// The marks of two tokens that are not both there and the same. It needs no map.
+fn two_marks(first: Option<Seen<'_>>, second: Option<Seen<'_>>) -> (usize, usize)
+    requires { AreSame (option_map norm_in first) (option_map norm_in second) → ⊥ }
+    ensures { AreTwoMarks (option_map norm_in first.entry) (option_map norm_in second.entry) result.0 result.1 }
+{
+    match (first, second) {
+        (None, None) => (0, 0),
+        (None, Some(_)) => (0, 1),
+        (Some(_), None) => (1, 0),
+        (Some(_), Some(_)) => (1, 2),
+    }
+}
+
+/// Two places with the marks of the tokens before them.
+fn pair_of<L: Ledger>(
     alloc: Global,
     files: &FileList<'_, L>,
     places: &[Place],
-    steps: &mut Steps<L>,
+    difference: &Difference<'_>,
 ) -> Result<Vec<Spot>, Memory>
-    requires { All (IsPlace (tokens_in files.now)) places.now }
+    requires two { length places.now ≡ 2 }
+    requires places { All (IsPlace (tokens_in files.now)) places.now }
+    requires differ { IsDifference (token_before (tokens_in files.now)) places.now difference.now }
     ensures places { IfOk result (λ spots. map (λ s. s.place) spots.items ≡ places.now) }
     ensures marks { IfOk result (λ spots. AreSpots (tokens_in files.now) spots.items) }
-    ensures steps { steps.new ≤ steps.old + length places.now }
+{
+    let (first, second) = two_marks(difference.first, difference.last);
+    let mut spots = Vec::with_capacity(alloc, 2)?;
+    spots.push(Spot {
+        place: places[0],
+        left: first,
+    })?;
+    spots.push(Spot {
+        place: places[1],
+        left: second,
+    })?;
+    Ok(spots)
+}
+
+/// The places with the marks of the tokens before them.
+fn spots_by_map<'a, L: Ledger>(
+    alloc: Global,
+    files: &FileList<'a, L>,
+    places: &[Place],
+    difference: &Difference<'a>,
+    steps: &mut Steps<L>,
+) -> Result<Vec<Spot>, Memory>
+    requires places { All (IsPlace (tokens_in files.now)) places.now }
+    requires differ { IsDifference (token_before (tokens_in files.now)) places.now difference.now }
+    ensures places { IfOk result (λ spots. map (λ s. s.place) spots.items ≡ places.now) }
+    ensures marks { IfOk result (λ spots. AreSpots (tokens_in files.now) spots.items) }
+    ensures steps { steps.new + difference.now.read ≤ steps.old + length places.now }
 {
     let mut marks = BTreeMap::new(alloc);
-    let mut spots = Vec::new(alloc);
-    for p in places {
-        let token = files.token_before(*p, steps);
+    let mut spots = Vec::with_capacity(alloc, places.len())?;
+    for (i, p) in places.iter().enumerate() {
+        let token = token_before_at(files, places, i, difference, steps);
         let left = mark_of(&mut marks, token)?;
         spots.push(Spot { place: *p, left })?;
     }
     Ok(spots)
 }
 
-/// The spots with the marks of the tokens `n` behind them.
-pub(crate) fn marked_of<L: Ledger>(
+/// The places with the marks of the tokens before them, of which some were read. Two places need no map.
+pub(crate) fn spots_of<'a, L: Ledger>(
     alloc: Global,
-    files: &FileList<'_, L>,
+    files: &FileList<'a, L>,
+    places: &[Place],
+    difference: &Difference<'a>,
+    steps: &mut Steps<L>,
+) -> Result<Vec<Spot>, Memory>
+    requires places { All (IsPlace (tokens_in files.now)) places.now }
+    requires differ { IsDifference (token_before (tokens_in files.now)) places.now difference.now }
+    ensures places { IfOk result (λ spots. map (λ s. s.place) spots.items ≡ places.now) }
+    ensures marks { IfOk result (λ spots. AreSpots (tokens_in files.now) spots.items) }
+    ensures steps { steps.new + difference.now.read ≤ steps.old + length places.now }
+{
+    if places.len() == 2 {
+        return pair_of(alloc, files, places, difference);
+    }
+    spots_by_map(alloc, files, places, difference, steps)
+}
+
+/// The spots with the marks of the tokens `n` behind them, of which some were read.
+pub(crate) fn marked_of<'a, L: Ledger>(
+    alloc: Global,
+    files: &FileList<'a, L>,
     spots: &[Spot],
     n: u32,
+    difference: &Difference<'a>,
     steps: &mut Steps<L>,
 ) -> Result<Vec<Marked>, Memory>
     requires places { All (λ s. IsPlace (tokens_in files.now) s.place) spots.now }
+    requires differ { IsDifference (λ s. token_behind (tokens_in files.now) s.place n) spots.now difference.now }
+    requires numbers { IsInNumbers n difference.now }
     ensures spots { IfOk result (λ marked. map (λ x. x.spot) marked.items ≡ spots.now) }
     ensures marks { IfOk result (λ marked. AreMarked (tokens_in files.now) n marked.items) }
     ensures fits { IfOk result (λ marked. (x : Marked) → Contains marked.items x → 0 < x.mark → n + 1 < 2 ^ 32) }
-    ensures steps { steps.new ≤ steps.old + length spots.now }
+    ensures steps { steps.new + difference.now.read ≤ steps.old + length spots.now }
 {
     let mut marks = BTreeMap::new(alloc);
-    let mut marked = Vec::new(alloc);
-    for s in spots {
-        let token = files.token_behind(s.place, n, steps);
+    let mut marked = Vec::with_capacity(alloc, spots.len())?;
+    for (i, s) in spots.iter().enumerate() {
+        let token = token_behind_at(files, spots, i, n, difference, steps);
         let mark = mark_of(&mut marks, token)?;
         marked.push(Marked { spot: *s, mark })?;
     }

@@ -1,9 +1,11 @@
-ghost use Rattle.std.specs.Prelude.{◌≡◌, ℕ, ◌+◌, ◌*◌, ◌<◌, ◌≤◌, length, IfOk, OnOk, All, map};
-ghost use Rattle.cq_clones.specs.Groups.{IsPlace};
+ghost use Rattle.std.specs.Prelude.{◌≡◌, ◌+◌, ◌<◌, ◌≤◌, length, IfOk, OnOk, All};
+ghost use Rattle.cq_clones.specs.Groups.{IsPlace, token_behind};
 ghost use Rattle.cq_tokens.specs.Parts.{tokens_in};
-ghost use Rattle.cq_refine.specs.Sets.{AreEntries, IsGroupFrom, ReadsAtMost, IsSplit, AreFirst, AreAllOnce};
+ghost use Rattle.cq_refine.specs.Sets.{AreEntries, IsGroupFrom, IsDifference, IsInNumbers, AreAlike, ReadsAtMost, MayGive, IsParted, IsSplit, AreFirst, AreAllOnce};
 
+use crate::differing::{Difference, difference_before, difference_behind};
 use crate::marks::{marked_of, spots_of};
+use crate::parting::push_parting;
 use crate::sets::{add_group, highest, may_give, push_parts};
 use crate::spots::{Set, Spot};
 use cq_base::{Group, Memory, Place, Steps};
@@ -22,23 +24,22 @@ fn first_sets(alloc: Global, spots: Vec<Spot>) -> Result<Vec<Set>, Memory>
     Ok(sets)
 }
 
-/// Gives up a set for its group and its parts by the next token.
-fn split<L: Ledger>(
+/// Adds the parts of a set whose first place is at its file's end.
+fn push_marked<'a, L: Ledger>(
     alloc: Global,
-    files: &FileList<'_, L>,
+    files: &FileList<'a, L>,
     set: &Set,
-    min: u32,
+    difference: &Difference<'a>,
     sets: &mut Vec<Set>,
-    groups: &mut Vec<Group>,
     steps: &mut Steps<L>,
 ) -> Result<(), Memory>
-    requires some { 0 < length set.now.spots.items }
     requires places { All (λ s. IsPlace (tokens_in files.now) s.place) set.now.spots.items }
-    ensures split { OnOk result (IsSplit (tokens_in files.now) min set.now sets.old.items sets.new.items groups.old.items groups.new.items) }
-    ensures steps { steps.new ≤ steps.old + length set.now.spots.items }
+    requires differ { IsDifference (λ s. token_behind (tokens_in files.now) s.place set.now.depth) set.now.spots.items difference.now }
+    requires numbers { IsInNumbers set.now.depth difference.now }
+    ensures parted { OnOk result (IsParted (tokens_in files.now) set.now sets.old.items sets.new.items) }
+    ensures steps { steps.new + difference.now.read ≤ steps.old + length set.now.spots.items }
 {
-    let marked = marked_of(alloc, files, &set.spots, set.depth, steps)?;
-    add_group(alloc, set, &marked, min, groups)?;
+    let marked = marked_of(alloc, files, &set.spots, set.depth, difference, steps)?;
     let highest = highest(&marked);
     if highest > 0 {
         push_parts(alloc, &marked, highest, set.depth + 1, sets)?;
@@ -46,7 +47,61 @@ fn split<L: Ledger>(
     Ok(())
 }
 
-/// The groups whose first place is one of the places, each once.
+/// Gives up a set whose places go on by different tokens for its group and its parts. Two places have no parts.
+fn part<'a, L: Ledger>(
+    alloc: Global,
+    files: &FileList<'a, L>,
+    set: &Set,
+    difference: &Difference<'a>,
+    min: u32,
+    sets: &mut Vec<Set>,
+    groups: &mut Vec<Group>,
+    steps: &mut Steps<L>,
+) -> Result<(), Memory>
+    requires gives { MayGive set.now.spots.items }
+    requires places { All (λ s. IsPlace (tokens_in files.now) s.place) set.now.spots.items }
+    requires differ { IsDifference (λ s. token_behind (tokens_in files.now) s.place set.now.depth) set.now.spots.items difference.now }
+    requires numbers { IsInNumbers set.now.depth difference.now }
+    ensures split { OnOk result (IsSplit (tokens_in files.now) min set.now sets.old.items sets.new.items groups.old.items groups.new.items) }
+    ensures steps { steps.new + difference.now.read ≤ steps.old + length set.now.spots.items }
+{
+    add_group(alloc, set, min, groups)?;
+    if set.spots.len() == 2 {
+        return Ok(());
+    }
+    if difference.first.is_none() {
+        return push_marked(alloc, files, set, difference, sets, steps);
+    }
+    push_parting(alloc, files, set, difference, sets, steps)
+}
+
+/// Takes a set one token further: all of it, where its places go on by one token, and else its parts.
+fn split<L: Ledger>(
+    alloc: Global,
+    files: &FileList<'_, L>,
+    set: Set,
+    min: u32,
+    sets: &mut Vec<Set>,
+    groups: &mut Vec<Group>,
+    steps: &mut Steps<L>,
+) -> Result<(), Memory>
+    requires gives { MayGive set.spots.items }
+    requires places { All (λ s. IsPlace (tokens_in files.now) s.place) set.spots.items }
+    requires alike { AreAlike (tokens_in files.now) set.depth set.spots.items }
+    ensures split { OnOk result (IsSplit (tokens_in files.now) min set sets.old.items sets.new.items groups.old.items groups.new.items) }
+    ensures steps { steps.new ≤ steps.old + length set.spots.items }
+{
+    let Some(difference) = difference_behind(files, &set.spots, set.depth, steps) else {
+        sets.push(Set {
+            depth: set.depth + 1,
+            spots: set.spots,
+        })?;
+        return Ok(());
+    };
+    part(alloc, files, &set, &difference, min, sets, groups, steps)
+}
+
+/// The groups whose first place is one of the places, each once. Places with one token before them all give none.
 pub(crate) fn refine_places<L: Ledger>(
     alloc: Global,
     files: &FileList<'_, L>,
@@ -60,10 +115,16 @@ pub(crate) fn refine_places<L: Ledger>(
     ensures bound { ReadsAtMost (tokens_in files.now) (length places.now) steps.old steps.new }
 {
     let mut groups = Vec::new(alloc);
-    let spots = spots_of(alloc, files, places, steps)?;
+    if places.len() < 2 {
+        return Ok(groups);
+    }
+    let Some(difference) = difference_before(files, places, steps) else {
+        return Ok(groups);
+    };
+    let spots = spots_of(alloc, files, places, &difference, steps)?;
     let mut sets = first_sets(alloc, spots)?;
     while let Some(set) = sets.pop() {
-        split(alloc, files, &set, min, &mut sets, &mut groups, steps)?;
+        split(alloc, files, set, min, &mut sets, &mut groups, steps)?;
     }
     Ok(groups)
 }

@@ -1,5 +1,6 @@
-ghost use Rattle.std.specs.Prelude.{◌≡◌, ◌<◌, ◌≤◌, ◌↔◌, ◌⊎◌, IsTrue, IfOk, OnOk, length, map, All, Any};
-ghost use Rattle.cq_refine.specs.Sets.{AreByMark, AddsParts, group_of, HaveOneLeft, HaveOneMark, MayGive, IsChosen, AddsGroup};
+ghost use Rattle.std.specs.Prelude.{◌≡◌, ℕ, List, ◌<◌, ◌≤◌, ◌↔◌, ◌⊎◌, IsTrue, IfOk, OnOk, length, map, All, Any};
+ghost use Rattle.cq_refine.specs.declared.spots.Marked.{Marked};
+ghost use Rattle.cq_refine.specs.Sets.{AreByMark, AddsParts, group_of, HaveOneLeft, MayGive, IsLong, AddsGroup};
 
 use crate::spots::{Marked, Set, Spot};
 use cq_base::{Group, Memory, Place, Places};
@@ -13,27 +14,12 @@ fn have_left(spots: &[Spot], left: usize) -> bool
     left > 0 && spots.iter().all(|s| s.left == left)
 }
 
-/// Whether the mark is one of a token, and that of the token behind each spot.
-fn have_mark(marked: &[Marked], mark: usize) -> bool
-    ensures { IsTrue result ↔ ((0 < mark) × All (λ x. x.mark ≡ mark) marked.now) }
-{
-    mark > 0 && marked.iter().all(|x| x.mark == mark)
-}
-
 /// Whether the tokens before the spots are there and equal.
 fn have_one_left(spots: &[Spot]) -> bool
     requires { 0 < length spots.now }
     ensures { IsTrue result ↔ HaveOneLeft spots.now }
 {
     have_left(spots, spots[0].left)
-}
-
-/// Whether the tokens behind the spots are there and equal.
-fn have_one_mark(marked: &[Marked]) -> bool
-    requires { 0 < length marked.now }
-    ensures { IsTrue result ↔ HaveOneMark marked.now }
-{
-    have_mark(marked, marked[0].mark)
 }
 
 /// Whether they are two or more, and not all have one token before them.
@@ -51,19 +37,16 @@ fn places_of(alloc: Global, spots: &[Spot]) -> Result<Vec<Place>, Memory>
     Ok(places)
 }
 
-/// Adds the group of the set, if it gives one.
+/// Adds the group of a set that stops here, if its word is long enough and two of its places are kept.
 pub(crate) fn add_group(
     alloc: Global,
     set: &Set,
-    marked: &[Marked],
     min: u32,
     groups: &mut Vec<Group>,
 ) -> Result<(), Memory>
-    requires spots { 0 < length set.now.spots.items }
-    requires marked { 0 < length marked.now }
-    ensures { OnOk result (AddsGroup (IsChosen min set.now.depth set.now.spots.items marked.now) (group_of set.now.depth set.now.spots.items) groups.old.items groups.new.items) }
+    ensures { OnOk result (AddsGroup (IsLong min set.now.depth set.now.spots.items) (group_of set.now.depth set.now.spots.items) groups.old.items groups.new.items) }
 {
-    if set.depth < min || have_one_left(&set.spots) || have_one_mark(marked) {
+    if set.depth < min {
         return Ok(());
     }
     let places = places_of(alloc, &set.spots)?;
@@ -92,7 +75,11 @@ pub(crate) fn highest(marked: &[Marked]) -> usize
 }
 
 /// The spots of each mark, from 1 to the highest. It looks at each spot once.
-fn parts_of(alloc: Global, marked: &[Marked], highest: usize) -> Result<Vec<Vec<Spot>>, Memory>
+pub(crate) fn parts_of(
+    alloc: Global,
+    marked: &[Marked],
+    highest: usize,
+) -> Result<Vec<Vec<Spot>>, Memory>
     requires { All (λ x. x.mark ≤ highest) marked.now }
     ensures { IfOk result (λ parts. AreByMark highest marked.now (map (λ part. part.items) parts.items)) }
 {
@@ -108,6 +95,18 @@ fn parts_of(alloc: Global, marked: &[Marked], highest: usize) -> Result<Vec<Vec<
     Ok(parts)
 }
 
+/// Adds the parts that may give groups.
+pub(crate) fn push_all(parts: Vec<Vec<Spot>>, depth: u32, sets: &mut Vec<Set>) -> Result<(), Memory>
+    ensures { (highest : ℕ) (marked : List Marked) → AreByMark highest marked (map (λ part. part.items) parts.items) → OnOk result (AddsParts depth marked highest sets.old.items sets.new.items) }
+{
+    for spots in parts {
+        if may_give(&spots) {
+            sets.push(Set { depth, spots })?;
+        }
+    }
+    Ok(())
+}
+
 /// Adds the parts with marks up to the highest that may give groups.
 pub(crate) fn push_parts(
     alloc: Global,
@@ -120,10 +119,5 @@ pub(crate) fn push_parts(
     ensures { OnOk result (AddsParts depth marked.now highest sets.old.items sets.new.items) }
 {
     let parts = parts_of(alloc, marked, highest)?;
-    for spots in parts {
-        if may_give(&spots) {
-            sets.push(Set { depth, spots })?;
-        }
-    }
-    Ok(())
+    push_all(parts, depth, sets)
 }

@@ -8,17 +8,24 @@ use std::marker::Brand;
 use std::sync::Arc;
 use std::sync::ledger::{Blank, Ledger};
 
+// A token that is one byte.
+fn token(alloc: Global, byte: u8) -> Result<Norm, Memory>
+    ensures { IfOk result (λ norm. length norm.text ≡ 1) }
+{
+    Ok(Norm {
+        lang: Lang::Any,
+        class: Class::Ident,
+        text: Text::from_bytes(alloc, &[byte])?,
+    })
+}
+
 // A file whose tokens are the bytes of a text.
+#[tactic(auto, using(std::proofs::lemmas::List::Sums::sum_by_push))]
 fn file_of<L: Ledger>(alloc: Global, text: &[u8]) -> Result<FileTokens<L>, Memory> {
     let mut norms = Vec::new(alloc);
     for b in text {
         if norms.len() < 1000 {
-            let text = Text::from_bytes(alloc, &[*b])?;
-            norms.push(Norm {
-                lang: Lang::Any,
-                class: Class::Ident,
-                text,
-            })?;
+            norms.push(token(alloc, *b)?)?;
         }
     }
     Ok(FileTokens {

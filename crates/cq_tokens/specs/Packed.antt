@@ -1,5 +1,5 @@
 -- Tokens whose texts lie one behind the other.
-use Rattle.std.specs.Prelude.{ℕ, zero, suc, ◌-◌, ◌≤◌, List, [], ◌∷◌, take, drop}
+use Rattle.std.specs.Prelude.{ℕ, zero, suc, ◌-◌, ◌≤◌, List, [], ◌∷◌, length, sum_by, take, drop}
 use Rattle.cq_base.specs.declared.norm.Norm.{Norm}
 use Rattle.cq_tokens.specs.declared.seen.Seen.{Seen}
 use Rattle.cq_tokens.specs.declared.packed.Mark.{Mark}
@@ -9,6 +9,10 @@ use Rattle.cq_tokens.specs.contracts.seen.SeenOrd.TheImpl as seen_order
 -- the token that is seen
 abbrev pub norm_in : Seen → Norm
 norm_in s = record { lang = s.lang; class = s.class; text = s.text.now }
+
+-- how many bytes the spellings of tokens have together
+abbrev pub spelling_bytes : List Norm → ℕ
+spelling_bytes norms = sum_by (λ n. length n.text) norms
 
 -- the order of tokens, as it is derived: by language, class and text
 abbrev pub seen_cmp : Seen → Seen → Ordering

@@ -20,18 +20,22 @@ pub(crate) struct Packed {
     pub bytes: Vec<u8>,
 }
 
-// How many bytes the texts have; room is taken for so many, and nothing else rests on it.
-fn size_of(norms: &[Norm]) -> usize {
-    let mut size = 0usize;
+// How many bytes the texts have.
+fn size_of(norms: &[Norm]) -> usize
+    requires { spec.spelling_bytes norms.now < 2 ^ 32 }
+    ensures { result ≡ spec.spelling_bytes norms.now }
+{
+    let mut size = 0;
     for norm in norms {
-        size = size.saturating_add(norm.text.as_bytes().len());
+        size += norm.text.as_bytes().len();
     }
     size
 }
 
 /// These tokens, with copies of their texts.
 pub(crate) fn pack(alloc: Global, norms: &[Norm]) -> Result<Packed, Memory>
-    requires { length norms.now < 2 ^ 32 }
+    requires few { length norms.now < 2 ^ 32 }
+    requires short { spec.spelling_bytes norms.now < 2 ^ 32 }
     ensures tokens { IfOk result (λ p. spec.norms_from 0 p.marks.items p.bytes.items ≡ norms.now) }
     ensures ends { IfOk result (λ p. spec.AreEnds 0 p.marks.items (length p.bytes.items)) }
     ensures few { IfOk result (λ p. vec_len p.marks < 2 ^ 32) }
@@ -40,9 +44,6 @@ pub(crate) fn pack(alloc: Global, norms: &[Norm]) -> Result<Packed, Memory>
     let mut bytes = Vec::with_capacity(alloc, size_of(norms))?;
     for norm in norms {
         bytes.extend_from_slice(norm.text.as_bytes())?;
-        if bytes.len() > u32::MAX as usize {
-            return Err(Memory);
-        }
         marks.push(Mark {
             lang: norm.lang,
             class: norm.class,

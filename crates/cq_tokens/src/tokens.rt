@@ -1,5 +1,5 @@
 ghost use Rattle.std.specs.Prelude.{◌≡◌, ◌≤◌, ◌↔◌, ◌+◌, ◌^◌, ◌<◌, length, slice_get, option_map, IsNone, IfOk};
-ghost use Rattle.cq_tokens.specs.Packed.{norm_in};
+ghost use Rattle.cq_tokens.specs.Packed.{norm_in, spelling_bytes};
 
 use crate::packed::{Packed, pack, seen_at};
 use crate::seen::Seen;
@@ -29,9 +29,10 @@ impl<L: Ledger> Model for Tokens<L> {
 }
 
 impl<L: Ledger> Tokens<L> {
-    /// These tokens, whose texts are copied. Where the texts have 2^32 bytes or more, memory is refused.
+    /// These tokens, whose texts are copied.
     pub fn new(alloc: Global, norms: &[Norm]) -> Result<Tokens<L>, Memory>
-        requires { length norms.now < 2 ^ 32 }
+        requires few { length norms.now < 2 ^ 32 }
+        requires short { spelling_bytes norms.now < 2 ^ 32 }
         ensures { IfOk result (λ t. t ≡ norms.now) }
     {
         let packed = pack(alloc, norms)?;

@@ -1,5 +1,5 @@
 -- What a text is lexed to, by its language.
-use Rattle.std.specs.Prelude.{ℕ, Ok, List, [], map, false}
+use Rattle.std.specs.Prelude.{ℕ, Ok, List, [], length, map, sum_by, false}
 use Rattle.cq_base.specs.declared.lang.Lang.{Lang}
 use Rattle.cq_base.specs.declared.lang.Lang.TheVariants as lang
 use Rattle.cq_base.specs.declared.token.Token.{Token}
@@ -34,6 +34,10 @@ abbrev pub state_of : Lexed → State
 state_of (lexed.Tokens v) = state.Ok
 state_of (lexed.Fault at) = state.Fault at
 state_of lexed.Large = state.Large
+
+-- how many bytes the spellings of tokens have together
+abbrev pub spelled_bytes : List Spelled → ℕ
+spelled_bytes tokens = sum_by (λ s. length s.text) tokens
 
 -- where tokens stand
 abbrev pub spans_of : List Spelled → List Token

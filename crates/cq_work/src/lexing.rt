@@ -1,4 +1,4 @@
-ghost use Rattle.std.specs.Prelude.{◌≡◌, ◌≤◌, IfOk, IsUtf8, length};
+ghost use Rattle.std.specs.Prelude.{◌≡◌, ◌+◌, ◌*◌, ◌≤◌, IfOk, IsUtf8, length};
 ghost use Rattle.cq_work.specs.Lexing as spec;
 ghost use Rattle.cq_work.specs.Lexing.{LexesTo};
 
@@ -11,8 +11,8 @@ use cq_lex_java::Java;
 use cq_munch::{Lexed, munch};
 use std::alloc::Global;
 
-/// What a text is lexed to, by its language. It is read once.
-pub(crate) fn lexed(alloc: Global, lang: Lang, text: &Text) -> Result<Lexed, Memory>
+// What a text is lexed to, by its language.
+fn lexed_by(alloc: Global, lang: Lang, text: &Text) -> Result<Lexed, Memory>
     requires utf8 { IsUtf8 text.now }
     requires short { length text.now ≤ 1048576 }
     ensures lexes { IfOk result (LexesTo lang text.now) }
@@ -24,6 +24,18 @@ pub(crate) fn lexed(alloc: Global, lang: Lang, text: &Text) -> Result<Lexed, Mem
         Lang::C => munch::<C>(alloc, text),
         Lang::Java => munch::<Java>(alloc, text),
     }
+}
+
+/// What a text is lexed to, by its language. It is read once. A spelling has at most 4 bytes for each byte of the text
+/// that it comes from, and an inserted semicolon has one.
+pub(crate) fn lexed(alloc: Global, lang: Lang, text: &Text) -> Result<Lexed, Memory>
+    requires utf8 { IsUtf8 text.now }
+    requires short { length text.now ≤ 1048576 }
+    ensures lexes { IfOk result (LexesTo lang text.now) }
+    ensures few { IfOk result (λ a. length (spec.tokens_in a) ≤ 262144) }
+    ensures short { IfOk result (λ a. spec.spelled_bytes (spec.tokens_in a) ≤ 4 * length text.now + 262144) }
+{
+    lexed_by(alloc, lang, text)
 }
 
 /// What it tells of the text.

@@ -1,4 +1,4 @@
-use Rattle.std.proofs.Common.{◌+◌, ◌<◌, ◌≤◌, ◌^◌, List, take}
+use Rattle.std.proofs.Common.{◌+◌, ◌-◌, ◌<◌, ◌≤◌, ◌^◌, List, take}
 use Rattle.std.specs.Prelude.{Contains}
 use Rattle.cq_base.specs.declared.norm.Norm.{Norm}
 use Rattle.cq_clones.specs.Groups.{token_behind}
@@ -8,8 +8,8 @@ use Rattle.cq_refine.specs.Sets.{AreMarks}
 use Rattle.cq_refine.proofs.Marking.{Marking}
 use Rattle.cq_refine.proofs.marks.marked_of.Given as goal
 
-abbrev pub invariant-loop-s : goal.invariant-loop-s
-invariant-loop-s g l =
-    ((seen : List Norm) × AreMarks l.marks seen × Marking (λ x. token_behind (tokens_in l.files) x.spot.place l.n) (λ x. x.spot) (λ x. x.mark) seen (take l.s-index l.spots) l.marked.items)
-    × (l.steps ≤ l.initial.steps + l.s-index)
+abbrev pub invariant-loop-i : goal.invariant-loop-i
+invariant-loop-i g l =
+    ((seen : List Norm) × AreMarks l.marks seen × Marking (λ x. token_behind (tokens_in l.files) x.spot.place l.n) (λ x. x.spot) (λ x. x.mark) seen (take l.i l.spots) l.marked.items)
+    × (l.steps ≤ l.initial.steps + (l.i - l.difference.read))
     × ((x : Marked) → Contains l.marked.items x → 0 < x.mark → l.n + 1 < 2 ^ 32)

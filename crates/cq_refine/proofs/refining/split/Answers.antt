@@ -1,45 +1,17 @@
-use Rattle.std.proofs.Common.{◌≡◌, ◌≤◌, arith, ◌∙◌, subst, List, ◌+◌}
-use Rattle.std.specs.Prelude.{All, Any}
+use Rattle.std.proofs.Common.{refl, subst, List, ◌+◌}
 use Rattle.cq_tokens.specs.Parts.{tokens_in}
-use Rattle.cq_refine.specs.declared.spots.Marked.{Marked}
+use Rattle.cq_clones.specs.Groups.{token_behind}
+use Rattle.cq_refine.specs.declared.spots.Spot.{Spot}
 use Rattle.cq_refine.specs.declared.spots.Set.{Set}
-use Rattle.cq_refine.specs.Sets.{AddsParts, IsChosen, AddsGroup, group_of}
-use Rattle.cq_refine.proofs.Parts.{no_parts}
+use Rattle.cq_refine.specs.Sets.{AreOne}
+use Rattle.cq_refine.proofs.OneStep.{all_go_on}
 use Rattle.cq_refine.proofs.refining.split.Goals as goal
-use Rattle.cq_refine.proofs.refining.split.Goals.{then-highest-gt0+in_ok-push_parts, else-highest-gt0}
 
-pub overflow_add-set : goal.overflow_add-set
-overflow_add-set g c =
-    let marked = c.in_ok-marked.marked.items in
-    let (k, x, within, at, is) = subst (Any (λ (z : Marked). z.mark ≡ c.highest-highest.result)) c.deref-3.ensures.value (c.highest-highest.ensures.one c.if-highest-gt0.true) in
-    let fits = c.in_ok-marked.ensures.fits x (k, within, at) (omega (arith, is, c.if-highest-gt0.true)) in
-    omega (arith, fits)
-
-pub returns-clause-split : goal.returns-clause-split
-returns-clause-split g c =
+pub returns-in_default-clause-split : goal.returns-in_default-clause-split
+returns-in_default-clause-split g c =
     let corpus = tokens_in c.args.files.now in
-    let set : Set = c.args.set.now in
-    let marked = c.in_ok-marked.marked.items in
-    let spots_are = c.in_ok-marked.ensures.spots ∙ c.deref.ensures.value in
-    let all = subst (All (λ (x : Marked). x.mark ≤ c.highest-highest.result)) c.deref-3.ensures.value c.highest-highest.ensures.all in
-    let group = subst (λ (ms : List Marked). AddsGroup (IsChosen c.args.min set.depth set.spots.items ms) (group_of set.depth set.spots.items) c.args.groups.now.items c.add_group.new.groups.items) c.deref-2.ensures.value c.in_ok-add_group.ensures in
-    elim c.if-highest-gt0.branch [
-      | then-highest-gt0+in_ok-push_parts w ↦ rw w.sets-is (record {
-        marked = marked;
-        spots = spots_are;
-        marks = c.in_ok-marked.ensures.marks;
-        highest = c.highest-highest.result;
-        all = all;
-        parts = subst (λ (ms : List Marked). AddsParts (set.depth + 1) ms c.highest-highest.result c.args.sets.now.items w.push_parts.new.sets.items) w.deref-then-highest-gt0.ensures.value w.in_ok-push_parts.ensures;
-        group = group;
-      })
-      | else-highest-gt0 w ↦ rw w.sets-is (record {
-        marked = marked;
-        spots = spots_are;
-        marks = c.in_ok-marked.ensures.marks;
-        highest = 0;
-        all = subst (λ n. All (λ (x : Marked). x.mark ≤ n) marked) (omega (arith, w.if-highest-gt0.false)) all;
-        parts = no_parts (set.depth + 1) marked c.args.sets.now.items;
-        group = group;
-      })
-    ]
+    let set : Set = c.args.set in
+    let s : Set = record { depth = set.depth + 1; spots = set.spots } in
+    all_go_on corpus c.args.min set s c.args.sets.now.items c.push.new.self.items c.args.groups.now.items
+    (subst (λ (ss : List Spot). AreOne (λ z. token_behind corpus z.place set.depth) ss) c.deref.ensures.value c.in_default.ensures.one)
+    c.requires.gives refl refl c.in_ok-push.ensures.items

@@ -1,5 +1,5 @@
 use Rattle.std.proofs.Common.{◌≡◌, length, take}
-use Rattle.cq_tokens.specs.Packed.{norms_from, AreEnds, last_end}
+use Rattle.cq_tokens.specs.Packed.{norms_from, AreEnds, last_end, spelling_bytes}
 use Rattle.cq_tokens.proofs.packed.pack.Given as goal
 
 -- the tokens so far
@@ -9,4 +9,5 @@ invariant-loop-norm l = record {
   ends : AreEnds 0 l.marks.items (length l.bytes.items);
   last : last_end 0 l.marks.items ≡ length l.bytes.items;
   many : length l.marks.items ≡ l.norm-index;
+  size : length l.bytes.items ≡ spelling_bytes (take l.norm-index l.norms);
 }

@@ -18,8 +18,8 @@ returns-in-Ok-Some-clause-taken g c = λ by h is.
     let first = rw c.in-Ok-Some.field-0-is at c.in-Ok-Some.ensures.first in
     let there = rw c.in-Ok-Some.field-0-is at c.in-Ok-Some.ensures.unchanged in
     calls_now _ _ _ by _ _ h _ _
-    (solo_says _ _ by h _ _ is (λ n (set : Settings) (s : State). IsFirstFree s c.in-Ok-Some.job) (first, subst (IsAccepted c.args.pass.now.board.state) (sym first) there, job, text))
-    (solo_by _ _ by h _ _ is _ (λ n. event.Took n c.in-Ok-Some.job.change) taken (λ x. tt))
+    (solo_says _ _ by h _ _ is (λ n (set : Settings) (s : State). IsFirstFree s c.in-Ok-Some.taken) (first, subst (IsAccepted c.args.pass.now.board.state) (sym first) there, job, text))
+    (solo_by _ _ by h _ _ is _ (λ n. event.Took n c.in-Ok-Some.taken.change) taken (λ x. tt))
 
 pub returns-in-Ok-None-clause-taken : goal.returns-in-Ok-None-clause-taken
 returns-in-Ok-None-clause-taken g c = λ by h is.

@@ -1,7 +1,7 @@
 use Rattle.std.specs.BTreeMap.{get}
 use Rattle.cq_tokens.specs.declared.seen.Seen.{Seen}
 use Rattle.cq_tokens.specs.Packed.{norm_in, seen_cmp}
-use Rattle.std.proofs.Common.{◌≡◌, [], None, arith, get_or, take, subst, List}
+use Rattle.std.proofs.Common.{◌≡◌, [], ◌∷◌, ◌++◌, None, arith, get_or, take, subst, sym, ap, ◌∙◌, List}
 use Rattle.std.proofs.lemmas.List.{take_more}
 use Rattle.std.proofs.lemmas.List.Elements.{All-contains, All-take}
 use Rattle.std.specs.Prelude.{Contains}
@@ -12,36 +12,36 @@ use Rattle.cq_refine.specs.declared.spots.Spot.{Spot}
 use Rattle.cq_refine.specs.Sets.{IsMarked}
 use Rattle.cq_base.proofs.Lists.{Contains-map}
 use Rattle.cq_refine.proofs.Marking.{marks_none, marking_none, marking_more}
-use Rattle.cq_refine.proofs.marks.spots_of.Goals as goal
+use Rattle.cq_refine.proofs.marks.spots_by_map.Goals as goal
 
-pub loop-p-preserved : goal.loop-p-preserved
-loop-p-preserved g c =
+pub loop-i-preserved : goal.loop-i-preserved
+loop-i-preserved g c =
     let corpus = tokens_in c.args.files.now in
-    let origin : Place = record { file = 0; at = 0 } in
     let places = c.args.places.now in
-    let i = c.loop-p.p-index in
+    let i = c.loop-i.i in
+    let origin : Place = record { file = 0; at = 0 } in
     let p : Place = get_or places i origin in
     let spot : Spot = record { place = p; left = c.in_ok-left.left } in
-    let (seen, are, marking) = c.loop-p.invariant.0 in
-    let m : IsMarked seen c.mark_of.new.marks (token_before corpus p) c.in_ok-left.left = subst (λ t. IsMarked seen c.mark_of.new.marks t c.in_ok-left.left) c.token_before-token.ensures.token (c.in_ok-left.ensures seen are) in (
+    let (seen, are, marking) = c.loop-i.invariant.0 in
+    let m : IsMarked seen c.mark_of.new.marks (token_before corpus p) c.in_ok-left.left = subst (λ t. IsMarked seen c.mark_of.new.marks t c.in_ok-left.left) (c.token_before_at-token.ensures.token origin) (c.in_ok-left.ensures seen are) in (
       (
         m.tokens,
         m.are,
         rw c.in_ok-push.ensures.items
-            (marking_more (λ (s : Spot). token_before corpus s.place) (λ s. s.place) (λ s. s.left) seen m.tokens (take i places) _ c.loop-p.spots.items spot
+            (marking_more (λ (s : Spot). token_before corpus s.place) (λ s. s.place) (λ s. s.left) seen m.tokens (take i places) _ c.loop-i.spots.items spot
             m.grows m.are.apart m.is
-            (take_more places i origin c.loop-p-test.true) marking),
+            (take_more places i origin c.loop-i-test.true) marking),
       ),
-      omega (arith, c.token_before-token.ensures.step, c.loop-p.invariant.1),
+      omega (arith, c.token_before_at-token.ensures.step, c.loop-i.invariant.1),
     )
 
-pub loop-p-init : goal.loop-p-init
-loop-p-init g c =
+pub loop-i-init : goal.loop-i-init
+loop-i-init g c =
     let none : (q : Seen) → get seen_cmp c.new-marks.result q ≡ None = λ q. grind (arith, c.new-marks.ensures.empty) in (
       (
         [],
         record { size = c.new-marks.ensures.len; apart = λ i j d less within. absurd (omega (arith, within)); each = marks_none norm_in (get seen_cmp c.new-marks.result) none },
-        rw c.new-spots.ensures.items (marking_none (λ (s : Spot). token_before (tokens_in c.args.files.now) s.place) (λ s. s.place) (λ s. s.left)),
+        rw c.in_ok-spots.ensures.items (marking_none (λ (s : Spot). token_before (tokens_in c.args.files.now) s.place) (λ s. s.place) (λ s. s.left)),
       ),
       omega arith,
     )
@@ -49,12 +49,12 @@ loop-p-init g c =
 pub returns-clause-marks : goal.returns-clause-marks
 returns-clause-marks g c =
     let corpus = tokens_in c.args.files.now in
-    let (seen, are, marking) = c.loop-p.invariant.0 in
+    let (seen, are, marking) = c.loop-i.invariant.0 in
     record {
       seen = seen;
       apart = marking.apart;
       marks = marking.marks;
-      places = λ s here. All-contains (IsPlace corpus) (take c.loop-p.p-index c.args.places.now) s.place
-          (All-take (IsPlace corpus) c.loop-p.p-index c.args.places.now c.requires)
-          (subst (λ (ps : List Place). Contains ps s.place) marking.keys (Contains-map (λ s. s.place) c.loop-p.spots.items s here));
+      places = λ s here. All-contains (IsPlace corpus) (take c.loop-i.i c.args.places.now) s.place
+          (All-take (IsPlace corpus) c.loop-i.i c.args.places.now c.requires.places)
+          (subst (λ (ps : List Place). Contains ps s.place) marking.keys (Contains-map (λ s. s.place) c.loop-i.spots.items s here));
     }
