@@ -5,25 +5,19 @@ use Rattle.std.specs.List.{AllByRecursion}
 use Rattle.std.specs.Str.{IsUtf8}
 use Rattle.std.proofs.lemmas.List.{length-map}
 use Rattle.cq_base.proofs.Lists.{Contains-here, Contains-there}
-use Rattle.cq_base.specs.Changes.{IsSoundChange}
 use Rattle.cq_base.specs.Settings.{IsInRange}
 use Rattle.cq_base.specs.declared.change.Change.{Change}
 use Rattle.cq_base.specs.declared.change.Condition.{Condition}
 use Rattle.cq_base.specs.declared.group.Group.{Group}
 use Rattle.cq_base.specs.declared.group.Place.{Place}
-use Rattle.cq_base.specs.declared.measures.FileCounts.{FileCounts}
 use Rattle.cq_base.specs.declared.norm.Norm.{Norm}
 use Rattle.cq_base.specs.declared.settings.Settings.{Settings}
-use Rattle.cq_base.specs.declared.token.Token.{Token}
 use Rattle.cq_board.specs.Related.{AreSameFiles}
 use Rattle.cq_clones.specs.Windows.{AreKeyed}
-use Rattle.cq_gate.specs.Verdict.{verdict_of}
 use Rattle.cq_history.specs.Files.{File, Source, files_at, conditions_at}
 use Rattle.cq_key.proofs.Keyed.{keyed_by_windows}
-use Rattle.cq_measures.specs.Measures.{IsMeasurable, AreGroupsInside}
-use Rattle.cq_reply.specs.declared.reply.FileRow.{FileRow}
+use Rattle.cq_measures.specs.Measures.{AreGroupsInside}
 use Rattle.cq_reply.specs.declared.reply.Reply.{Reply}
-use Rattle.cq_reply.specs.declared.reply.Reply.TheVariants as reply
 use Rattle.cq_reply.specs.Written.{IsFileText, IsPlaceText, IsGroupText, IsReplyText}
 use Rattle.cq_request.specs.declared.request.Kind.{Kind}
 use Rattle.cq_request.specs.declared.request.Kind.TheVariants as kind
@@ -33,12 +27,11 @@ use Rattle.cq_work.specs.declared.work.Work.{Work}
 use Rattle.cq_answer.specs.declared.part.Part.{Part}
 use Rattle.cq_answer.specs.Parts.{part_of, AreGroupsOf, AreKeysOf, AreMostReads}
 use Rattle.cq_answer.specs.Questions.{AreAsked, IsMostRead}
-use Rattle.cq_answer.specs.Readings.{Reading, paths_read, corpus_read, keys_read, spans_read, counts_read}
-use Rattle.cq_answer.specs.Reply.{IsReply, part_read}
-use Rattle.cq_answer.specs.Reply as spec
-use Rattle.cq_answer.specs.Rows.{place_row, group_row, measures_of}
+use Rattle.cq_answer.specs.Readings.{paths_read, corpus_read, keys_read}
+use Rattle.cq_answer.specs.Reply.{IsReply, part_read, reply_of}
+use Rattle.cq_answer.specs.Rows.{Facts, facts_read, place_row, group_row, AreShowable}
 use Rattle.cq_answer.specs.Versions.{AreOfVersion, HaveVersion, AreListable}
-use Rattle.cq_answer.specs.Works.{Owner, works_in, paths_in, norms_in, keys_in, spans_in, counts_in, row_of, reply_of}
+use Rattle.cq_answer.specs.Works.{Owner, works_in, paths_in, norms_in, keys_in, spans_in, row_of, facts_in}
 use Rattle.cq_answer.proofs.VersionFiles.{numbers_apart, few_files, paths_are_texts, few_conditions}
 use Rattle.cq_answer.proofs.WorkReadings.{Reads, reads, as_many}
 use Rattle.cq_answer.proofs.SameReadings.{same_paths, same_corpus, same_keys}
@@ -70,7 +63,7 @@ module _ {L : Type 0} (set : Settings) (changes : List Change) (version : ℕ) (
       (λ i. ap (λ xs. length (get_or xs i [])) found.norms ∙ as_many set found.readings i ∙ ap (λ xs. length (get_or xs i [])) (sym found.spans))
       are_groups
 
-  pub measurable : (min : ℕ) (p : Part) (groups : List Group) → 1 ≤ min → length (works_in files) ≤ 262144 → AreGroupsOf (norms_in (works_in files)) min p groups → IsMeasurable (counts_in (works_in files)) (spans_in (works_in files)) groups
+  pub measurable : (min : ℕ) (p : Part) (groups : List Group) → 1 ≤ min → length (works_in files) ≤ 262144 → AreGroupsOf (norms_in (works_in files)) min p groups → AreShowable (facts_in (works_in files)) groups
   measurable min p groups some few are_groups = record {
     few = let many = length-map (works_in files) (λ (f : File (Work L)). f.body.counts) in omega (arith, many, few);
     small = found.small;
@@ -79,13 +72,11 @@ module _ {L : Type 0} (set : Settings) (changes : List Change) (version : ℕ) (
 
   -- ---- the reply
 
-  replies_same : (k : Kind) (p : Part) (groups : List Group) → reply_of (works_in files) conditions version k p groups ≡ spec.reply_of found.readings (conditions_at changes version project) version k p groups
-  replies_same kind.Files p groups = ap (λ (rows : List FileRow). reply.Files rows version) found.rows
-  replies_same kind.Groups p groups = ap₂ (λ (ps : List (List ℕ)) (ss : List (List Token)). reply.Groups (map (group_row ps ss) groups) version) found.paths found.spans
-  replies_same kind.Measures p groups = ap₂ (λ (cs : List FileCounts) (ss : List (List Token)). reply.Measures (measures_of cs ss groups p) version) found.counts found.spans
-  replies_same kind.Verdict p groups =
-      ap₂ (λ (cs : List FileCounts) (ss : List (List Token)). reply.Verdict (verdict_of conditions (measures_of cs ss groups p)) version) found.counts found.spans
-      ∙ ap (λ (all : List Condition). reply.Verdict (verdict_of all (measures_of (counts_read found.readings) (spans_read found.readings) groups p)) version) are.conditions_are
+  facts_same : facts_in (works_in files) ≡ facts_read found.readings
+  facts_same = λ i. record { rows = found.rows i; paths = found.paths i; spans = found.spans i; counts = found.counts i }
+
+  replies_same : (k : Kind) (p : Part) (groups : List Group) → reply_of (facts_in (works_in files)) conditions version k p groups ≡ reply_of (facts_read found.readings) (conditions_at changes version project) version k p groups
+  replies_same k p groups = ap₂ (λ (facts : Facts) (all : List Condition). reply_of facts all version k p groups) facts_same are.conditions_are
 
   part_same : (k : Kind) (path : Option (List ℕ)) (p : Part) → p ≡ part_of (paths_in (works_in files)) k path → p ≡ part_of (paths_read found.readings) k path
   part_same k path p is = is ∙ ap (λ ps. part_of ps k path) found.paths
@@ -93,7 +84,7 @@ module _ {L : Type 0} (set : Settings) (changes : List Change) (version : ℕ) (
 -- the reply from the works is that of the changes
 pub replied : {L : Type 0} (set : Settings) (changes : List Change) (version : ℕ) (q : Query) (files : List (Owner L)) (conditions : List Condition) (p : Part) (groups : List Group) (r : Reply)
     → AreOfVersion set changes version q.project files conditions → p ≡ part_of (paths_in (works_in files)) q.kind q.path → AreGroupsOf (norms_in (works_in files)) q.min p groups
-    → r ≡ reply_of (works_in files) conditions version q.kind p groups → IsReply set changes version q r
+    → r ≡ reply_of (facts_in (works_in files)) conditions version q.kind p groups → IsReply set changes version q r
 replied set changes version q files conditions p groups r are part_is are_groups reply_is =
     let here = found set changes version q.project files conditions are in
     let same = part_same set changes version q.project files conditions are q.kind q.path p part_is in
@@ -102,7 +93,7 @@ replied set changes version q files conditions p groups r are part_is are_groups
       are_read = here.are;
       groups = groups;
       are_groups = subst₂ (λ (corpus : List (List Norm)) (at : Part). AreGroupsOf corpus q.min at groups) here.norms same are_groups;
-      reply_is = reply_is ∙ replies_same set changes version q.project files conditions are q.kind p groups ∙ ap (λ (at : Part). spec.reply_of here.readings (conditions_at changes version q.project) version q.kind at groups) same;
+      reply_is = reply_is ∙ replies_same set changes version q.project files conditions are q.kind p groups ∙ ap (λ (at : Part). reply_of (facts_read here.readings) (conditions_at changes version q.project) version q.kind at groups) same;
     }
 
 -- ---- what is asked and read
@@ -146,26 +137,26 @@ text_at [] i texts inside = absurd (omega arith)
 text_at (p ∷ paths) zero texts inside = texts.0
 text_at (p ∷ paths) (suc i) texts inside = text_at paths i texts.1 (omega arith)
 
-place_texts : (paths : List (List ℕ)) (spans : List (List Token)) (n : ℕ) (ps : List Place) → AllByRecursion IsUtf8 paths → ((p : Place) → Contains ps p → p.file < length paths) → AllByRecursion IsPlaceText (map (place_row paths spans n) ps)
-place_texts paths spans n [] texts low = tt
-place_texts paths spans n (p ∷ ps) texts low = (text_at paths p.file texts (low p (Contains-here p ps)), place_texts paths spans n ps texts (λ q c. low q (Contains-there p q ps c)))
+place_texts : (facts : Facts) (n : ℕ) (ps : List Place) → AllByRecursion IsUtf8 facts.paths → ((p : Place) → Contains ps p → p.file < length facts.paths) → AllByRecursion IsPlaceText (map (place_row facts n) ps)
+place_texts facts n [] texts low = tt
+place_texts facts n (p ∷ ps) texts low = (text_at facts.paths p.file texts (low p (Contains-here p ps)), place_texts facts n ps texts (λ q c. low q (Contains-there p q ps c)))
 
-group_texts : (paths : List (List ℕ)) (spans : List (List Token)) (groups : List Group) → AllByRecursion IsUtf8 paths → length spans ≡ length paths → AreGroupsInside spans groups → AllByRecursion IsGroupText (map (group_row paths spans) groups)
-group_texts paths spans [] texts many inside = tt
-group_texts paths spans (g ∷ groups) texts many inside = (
-  place_texts paths spans g.tokens g.places texts (λ p c. let low = ((inside g (Contains-here g groups)).1 p c).0 in omega (arith, low, many)),
-  group_texts paths spans groups texts many (λ h c. inside h (Contains-there g h groups c)),
+group_texts : (facts : Facts) (groups : List Group) → AllByRecursion IsUtf8 facts.paths → length facts.spans ≡ length facts.paths → AreGroupsInside facts.spans groups → AllByRecursion IsGroupText (map (group_row facts) groups)
+group_texts facts [] texts many inside = tt
+group_texts facts (g ∷ groups) texts many inside = (
+  place_texts facts g.tokens g.places texts (λ p c. let low = ((inside g (Contains-here g groups)).1 p c).0 in omega (arith, low, many)),
+  group_texts facts groups texts many (λ h c. inside h (Contains-there g h groups c)),
 )
 
-reply_texts : {L : Type 0} (files : List (File (Work L))) (conditions : List Condition) (version : ℕ) (k : Kind) (p : Part) (groups : List Group) → AllByRecursion IsUtf8 (paths_in files) → AreGroupsInside (spans_in files) groups → IsReplyText (reply_of files conditions version k p groups)
+reply_texts : {L : Type 0} (files : List (File (Work L))) (conditions : List Condition) (version : ℕ) (k : Kind) (p : Part) (groups : List Group) → AllByRecursion IsUtf8 (paths_in files) → AreGroupsInside (spans_in files) groups → IsReplyText (reply_of (facts_in files) conditions version k p groups)
 reply_texts files conditions version kind.Files p groups texts inside = file_texts files texts
 reply_texts {L} files conditions version kind.Groups p groups texts inside =
-    group_texts (paths_in files) (spans_in files) groups texts (length-map files (λ (f : File (Work L)). f.body.spans.items) ∙ sym (length-map files (λ (f : File (Work L)). f.path))) inside
+    group_texts (facts_in files) groups texts (length-map files (λ (f : File (Work L)). f.body.spans.items) ∙ sym (length-map files (λ (f : File (Work L)). f.path))) inside
 reply_texts files conditions version kind.Measures p groups texts inside = tt
 reply_texts files conditions version kind.Verdict p groups texts inside = tt
 
 pub texts_are : {L : Type 0} (set : Settings) (version : ℕ) (project : List ℕ) (files : List (Owner L)) (conditions : List Condition) (k : Kind) (min : ℕ) (p : Part) (groups : List Group) (r : Reply)
-    → HaveVersion set version project files conditions → 1 ≤ min → AreGroupsOf (norms_in (works_in files)) min p groups → r ≡ reply_of (works_in files) conditions version k p groups → IsReplyText r
+    → HaveVersion set version project files conditions → 1 ≤ min → AreGroupsOf (norms_in (works_in files)) min p groups → r ≡ reply_of (facts_in (works_in files)) conditions version k p groups → IsReplyText r
 texts_are set version project files conditions k min p groups r have some are_groups is =
     let paths = texts_of_works set (files_at have.changes version project) (works_in files) have.are.files_are (paths_are_texts have.changes version project have.sound) in
     subst IsReplyText (sym is) (reply_texts (works_in files) conditions version k p groups paths (inside set have.changes version project files conditions have.are min p groups some are_groups))

@@ -1,7 +1,9 @@
 -- A project of one file, and a gate behind it.
-use Rattle.std.proofs.Common.{◌≡◌, ℕ, ◌≤◌, Bool, true, cond, List, [], ◌∷◌, length, refl, sym, ap, subst}
+use Rattle.std.proofs.Common.{◌≡◌, ℕ, ◌≤◌, true, cond, List, [], ◌∷◌, length, refl, sym, ap, subst}
 use Rattle.std.specs.Str.{bytes_eq, IsUtf8}
 use Rattle.std.proofs.lemmas.Slice.Eq.{bytes_eq-Decides}
+use Rattle.std.proofs.lemmas.List.Elements.{All-cons, All-nil}
+use Rattle.cq_base.specs.Changes.{IsSoundChange}
 use Rattle.cq_base.specs.declared.change.Change.TheVariants.{Put, Gate}
 use Rattle.cq_base.specs.declared.change.Condition.{Condition}
 use Rattle.cq_base.specs.declared.lang.Lang.TheVariants.{Any}
@@ -18,7 +20,7 @@ one_file set project path text conditions file room project_text path_text utf8 
     let itself : bytes_eq project project ≡ true = (bytes_eq-Decides project project).1 refl in
     record {
       changes = Put project path Any text ∷ Gate project conditions ∷ [];
-      sound = ((project_text, path_text, utf8, short), ((project_text, few), tt));
+      sound = All-cons IsSoundChange (Put project path Any text) (Gate project conditions ∷ []) (project_text, path_text, utf8, short) (All-cons IsSoundChange (Gate project conditions) [] (project_text, few) (All-nil IsSoundChange));
       few = room;
       are = record {
         files_are = subst (λ b. AreSameFiles (IsWorkOf set) (cond b (first_put path text ∷ []) []) (work_in file ∷ [])) (sym itself) (is, tt);

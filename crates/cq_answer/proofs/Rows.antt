@@ -1,5 +1,5 @@
 -- What is read at a position of the files.
-use Rattle.std.proofs.Common.{◌≡◌, ℕ, ◌<◌, Bool, cond, Option, Some, None, List, [], length, get_or, map, nat_lt, sym, ap, ap₂, ◌∙◌, arith}
+use Rattle.std.proofs.Common.{◌≡◌, ℕ, ◌<◌, Bool, cond, Some, None, List, length, get_or, map, nat_lt, sym, ap, ap₂, ◌∙◌, arith}
 use Rattle.std.specs.List.{position}
 use Rattle.std.specs.Str.{bytes_eq}
 use Rattle.std.proofs.lemmas.List.{get_or-map, length-map, get_or_default}

@@ -1,5 +1,5 @@
 -- What the files and the conditions of a project after some changes have.
-use Rattle.std.proofs.Common.{◌≡◌, ◌⊎◌, ℕ, zero, suc, ◌+◌, ◌-◌, ◌≤◌, Bool, true, false, cond, Option, Some, List, [], ◌∷◌, length, take, drop, map, slice_get, refl, sym, ap, ◌∙◌, subst, inl, inr, arith, length-append}
+use Rattle.std.proofs.Common.{◌≡◌, ℕ, zero, suc, ◌+◌, ◌-◌, ◌≤◌, Bool, true, false, cond, Some, List, [], ◌∷◌, length, take, drop, map, slice_get, refl, sym, ap, ◌∙◌, subst, inl, inr, arith, length-append}
 use Rattle.std.specs.Prelude.{◌≢◌, All, AllPairs, not, filter, insert}
 use Rattle.std.specs.List.{AllByRecursion}
 use Rattle.std.specs.Str.{bytes_eq, IsUtf8}
@@ -14,7 +14,7 @@ use Rattle.cq_base.specs.declared.change.Change.{Change}
 use Rattle.cq_base.specs.declared.change.Change.TheVariants.{Put, Drop, Gate}
 use Rattle.cq_base.specs.declared.change.Condition.{Condition}
 use Rattle.cq_history.specs.Changes.{change_at}
-use Rattle.cq_history.specs.Files.{Source, is_before, place_of, without_file, files_after, files_from, files_of, files_at, conditions_from, conditions_of, conditions_at}
+use Rattle.cq_history.specs.Files.{Source, is_before, place_of, without_file, files_after, files_from, files_at, conditions_from, conditions_at}
 use Rattle.cq_history.specs.Standing.{Has, AreInPathOrder, IsLastPut}
 use Rattle.cq_history.proofs.Standing.{files_stand}
 
@@ -98,6 +98,10 @@ few_files changes version q =
 
 -- ---- what sound changes bring
 
+one_by_one : {X : Type 0} (P : X → Type 0) (xs : List X) → All P xs → AllByRecursion P xs
+one_by_one P [] all = tt
+one_by_one P (x ∷ xs) all = (all 0 x (omega arith), one_by_one P xs (λ k d inside. all (suc k) d (omega arith)))
+
 all_taken : {X : Type 0} (P : X → Type 0) (n : ℕ) (xs : List X) → AllByRecursion P xs → AllByRecursion P (take n xs)
 all_taken P zero xs all = tt
 all_taken P (suc n) [] all = tt
@@ -113,13 +117,13 @@ each_has P [] each = tt
 each_has P (f ∷ files) each = (each f (inl refl), each_has P files (λ g there. each g (inr there)))
 
 -- the paths of the files are texts
-pub paths_are_texts : (changes : List Change) (version : ℕ) (q : List ℕ) → AllByRecursion IsSoundChange changes → AllByRecursion (λ (f : Source). IsUtf8 f.path) (files_at changes version q)
+pub paths_are_texts : (changes : List Change) (version : ℕ) (q : List ℕ) → All IsSoundChange changes → AllByRecursion (λ (f : Source). IsUtf8 f.path) (files_at changes version q)
 paths_are_texts changes version q sound =
     let stand = files_stand (take version changes) q in
     each_has (λ (f : Source). IsUtf8 f.path) (files_at changes version q)
     (λ f there.
     let last = (stand.each f).0 there in
-    let is_sound : IsSoundChange (Put q f.path f.lang f.body) = all_at IsSoundChange (take version changes) (f.number - 1) (Put q f.path f.lang f.body) (all_taken IsSoundChange version changes sound) last.put in
+    let is_sound : IsSoundChange (Put q f.path f.lang f.body) = all_at IsSoundChange (take version changes) (f.number - 1) (Put q f.path f.lang f.body) (all_taken IsSoundChange version changes (one_by_one IsSoundChange changes sound)) last.put in
     is_sound.1)
 
 short : (b : Bool) (new old : List Condition) → length new ≤ 32 → length old ≤ 32 → length (cond b new old) ≤ 32
@@ -132,5 +136,5 @@ short_from q old (Put project path lang text ∷ cs) few sound = short_from q ol
 short_from q old (Drop project path ∷ cs) few sound = short_from q old cs few sound.1
 short_from q old (Gate project conditions ∷ cs) few sound = short_from q (cond (bytes_eq q project) conditions old) cs (short (bytes_eq q project) conditions old sound.0.1 few) sound.1
 
-pub few_conditions : (changes : List Change) (version : ℕ) (q : List ℕ) → AllByRecursion IsSoundChange changes → length (conditions_at changes version q) ≤ 32
-few_conditions changes version q sound = short_from q [] (take version changes) (omega arith) (all_taken IsSoundChange version changes sound)
+pub few_conditions : (changes : List Change) (version : ℕ) (q : List ℕ) → All IsSoundChange changes → length (conditions_at changes version q) ≤ 32
+few_conditions changes version q sound = short_from q [] (take version changes) (omega arith) (all_taken IsSoundChange version changes (one_by_one IsSoundChange changes sound))

@@ -1,7 +1,6 @@
 -- What the works of files show of their texts.
 use Rattle.std.proofs.Common.{◌≡◌, ℕ, zero, suc, List, [], ◌∷◌, length, map, get_or, refl, sym, ap, ap₂, ◌∙◌}
 use Rattle.std.specs.Prelude.{All}
-use Rattle.std.specs.Arc.{arc_value}
 use Rattle.std.proofs.lemmas.List.{length-map}
 use Rattle.std.proofs.lemmas.List.Elements.{All-cons, All-nil}
 use Rattle.cq_base.specs.Lines.{lines_of}
@@ -17,7 +16,7 @@ use Rattle.cq_normal.specs.Normal.{norm_of}
 use Rattle.cq_reply.specs.declared.reply.FileRow.{FileRow}
 use Rattle.cq_work.specs.Counts.{counts_of}
 use Rattle.cq_work.specs.Lexing.{tokens_in, state_of}
-use Rattle.cq_work.specs.Work.{IsWorkOf, Shows}
+use Rattle.cq_work.specs.Work.{IsWorkOf}
 use Rattle.cq_work.specs.declared.work.State.{State}
 use Rattle.cq_work.specs.declared.work.State.TheVariants as state
 use Rattle.cq_work.specs.declared.work.Work.{Work}

@@ -12,17 +12,17 @@ use Rattle.cq_request.specs.declared.request.Kind.{Kind}
 use Rattle.cq_request.specs.declared.request.Kind.TheVariants as kind
 use Rattle.cq_request.specs.declared.request.Query.{Query}
 use Rattle.cq_answer.specs.declared.part.Part.{Part}
-use Rattle.cq_answer.specs.Readings.{Reading, AreRead, paths_read, corpus_read, spans_read, counts_read}
+use Rattle.cq_answer.specs.Readings.{Reading, AreRead, paths_read, corpus_read}
 use Rattle.cq_answer.specs.Parts.{part_of, AreGroupsOf}
-use Rattle.cq_answer.specs.Rows.{file_row, group_row, measures_of}
+use Rattle.cq_answer.specs.Rows.{Facts, facts_read, group_row, measures_of}
 
 -- by the kind of the query: a row for each file, in path order; the groups, each place with its path and lines; the
 -- measures; or what the project's conditions say of them
-abbrev pub reply_of : List Reading → List Condition → ℕ → Kind → Part → List Group → Reply
-reply_of readings conditions version kind.Files p groups = reply.Files (map file_row readings) version
-reply_of readings conditions version kind.Groups p groups = reply.Groups (map (group_row (paths_read readings) (spans_read readings)) groups) version
-reply_of readings conditions version kind.Measures p groups = reply.Measures (measures_of (counts_read readings) (spans_read readings) groups p) version
-reply_of readings conditions version kind.Verdict p groups = reply.Verdict (verdict_of conditions (measures_of (counts_read readings) (spans_read readings) groups p)) version
+abbrev pub reply_of : Facts → List Condition → ℕ → Kind → Part → List Group → Reply
+reply_of facts conditions version kind.Files p groups = reply.Files facts.rows version
+reply_of facts conditions version kind.Groups p groups = reply.Groups (map (group_row facts) groups) version
+reply_of facts conditions version kind.Measures p groups = reply.Measures (measures_of facts groups p) version
+reply_of facts conditions version kind.Verdict p groups = reply.Verdict (verdict_of conditions (measures_of facts groups p)) version
 
 -- the part of the project that the query lists
 abbrev pub part_read : List Reading → Query → Part
@@ -34,4 +34,4 @@ pub record IsReply (set : Settings) (changes : List Change) (version : ℕ) (q :
   pub are_read : AreRead changes version q.project readings
   pub groups : List Group
   pub are_groups : AreGroupsOf (corpus_read set readings) q.min (part_read readings q) groups
-  pub reply_is : reply ≡ reply_of readings (conditions_at changes version q.project) version q.kind (part_read readings q) groups
+  pub reply_is : reply ≡ reply_of (facts_read readings) (conditions_at changes version q.project) version q.kind (part_read readings q) groups

@@ -3,24 +3,16 @@ use Rattle.std.specs.Prelude.{◌≡◌, ℕ, List, length, map}
 use Rattle.std.specs.Arc.{arc_value}
 use Rattle.std.specs.declared.sync.Arc.{Arc}
 use Rattle.std.specs.declared.alloc.Global.{Global}
-use Rattle.cq_base.specs.declared.change.Condition.{Condition}
-use Rattle.cq_base.specs.declared.group.Group.{Group}
 use Rattle.cq_base.specs.declared.measures.FileCounts.{FileCounts}
 use Rattle.cq_base.specs.declared.norm.Norm.{Norm}
 use Rattle.cq_base.specs.declared.token.Token.{Token}
 use Rattle.cq_board.specs.Listings.{file_from}
 use Rattle.cq_board.specs.declared.held.Held.{Held}
-use Rattle.cq_gate.specs.Verdict.{verdict_of}
 use Rattle.cq_history.specs.Files.{File}
 use Rattle.cq_reply.specs.declared.reply.FileRow.{FileRow}
-use Rattle.cq_reply.specs.declared.reply.Reply.{Reply}
-use Rattle.cq_reply.specs.declared.reply.Reply.TheVariants as reply
-use Rattle.cq_request.specs.declared.request.Kind.{Kind}
-use Rattle.cq_request.specs.declared.request.Kind.TheVariants as kind
 use Rattle.cq_tokens.specs.declared.files.FileTokens.{FileTokens}
 use Rattle.cq_work.specs.declared.work.Work.{Work}
-use Rattle.cq_answer.specs.declared.part.Part.{Part}
-use Rattle.cq_answer.specs.Rows.{shown_in, group_row, measures_of}
+use Rattle.cq_answer.specs.Rows.{Facts, shown_in}
 
 -- a file of a listing behind its owner, and what it is: a path, a number, a language and a work
 abbrev pub Owner : Type 0 → Type 0
@@ -55,15 +47,11 @@ module _ {L : Type 0} where
   abbrev pub row_of : File (Work L) → FileRow
   row_of f = record { path = f.path; change = f.number; lang = f.lang; lines = f.body.counts.lines; shown = shown_in f.body.state; tokens = length (arc_value f.body.tokens) }
 
-  -- what a listing takes of a file
-  pub record HaveTokens (f : File (Work L)) (t : FileTokens L) : Type 0 where
+  abbrev pub facts_in : List (File (Work L)) → Facts
+  facts_in files = record { rows = map row_of files; paths = paths_in files; spans = spans_in files; counts = counts_in files }
+
+  -- the tokens and the keys are those of the file
+  pub record AreTokensOf (f : File (Work L)) (t : FileTokens L) : Type 0 where
     pub change : t.change ≡ f.number
     pub tokens : arc_value t.tokens ≡ arc_value f.body.tokens
     pub keys : arc_value t.keys ≡ arc_value f.body.keys
-
-  -- the reply to a query of this kind, from the groups that it lists
-  abbrev pub reply_of : List (File (Work L)) → List Condition → ℕ → Kind → Part → List Group → Reply
-  reply_of files conditions version kind.Files p groups = reply.Files (map row_of files) version
-  reply_of files conditions version kind.Groups p groups = reply.Groups (map (group_row (paths_in files) (spans_in files)) groups) version
-  reply_of files conditions version kind.Measures p groups = reply.Measures (measures_of (counts_in files) (spans_in files) groups p) version
-  reply_of files conditions version kind.Verdict p groups = reply.Verdict (verdict_of conditions (measures_of (counts_in files) (spans_in files) groups p)) version

@@ -1,15 +1,12 @@
 ghost use Rattle.std.specs.Prelude.{◌≡◌, ℕ, ◌+◌, ◌≤◌, List, length, IfOk, OnOk};
 ghost use Rattle.cq_base.specs.Settings.{IsInRange};
-ghost use Rattle.cq_base.specs.declared.change.Change.{Change};
 ghost use Rattle.cq_groups.specs.Listing.{Rises, RisesAtMost};
-ghost use Rattle.cq_measures.specs.Measures.{IsMeasurable};
 ghost use Rattle.cq_reply.specs.Written.{IsReplyText};
 ghost use Rattle.cq_answer.specs.Parts.{IsWithin};
-ghost use Rattle.cq_answer.specs.Questions.{AreAsked, IsMostRead};
-ghost use Rattle.cq_answer.specs.Reply.{IsReply};
-ghost use Rattle.cq_answer.specs.Versions.{AreOfVersion, HaveVersion};
-ghost use Rattle.cq_answer.specs.Works as works;
-ghost use Rattle.cq_answer.specs.Works.{works_in, keys_in, numbers_in, counts_in, spans_in};
+ghost use Rattle.cq_answer.specs.Reply as spec;
+ghost use Rattle.cq_answer.specs.Rows.{AreShowable};
+ghost use Rattle.cq_answer.specs.Versions.{HaveVersion, IsReplyOn, AreAskedOn, IsMostReadOn};
+ghost use Rattle.cq_answer.specs.Works.{works_in, keys_in, numbers_in, facts_in};
 
 use crate::listing::groups_of;
 use crate::measuring::measures_of;
@@ -39,8 +36,9 @@ fn reply_of<L: Ledger>(
 ) -> Result<Reply, Memory>
     requires few { length conditions.now ≤ 32 }
     requires within { IsWithin (length files.now) part }
-    requires measurable { IsMeasurable (counts_in (works_in files.now)) (spans_in (works_in files.now)) groups.now }
-    ensures { IfOk result (λ reply. reply ≡ works.reply_of (works_in files.now) conditions.now version kind part groups.now) }
+    requires measurable { AreShowable (facts_in (works_in files.now)) groups.now }
+    ensures { IfOk result (λ reply. reply
+        ≡ spec.reply_of (facts_in (works_in files.now)) conditions.now version kind part groups.now) }
 {
     match kind {
         Kind::Files => Ok(Reply::Files {
@@ -84,15 +82,18 @@ pub fn answer<B: Buckets, L: Ledger>(
     requires for_changes { B.file_changes buckets.old ≡ numbers_in (works_in files.now) }
     requires for_keys { B.file_keys buckets.old ≡ keys_in (works_in files.now) }
     requires ready { B.ready buckets.old }
-    ensures reply { IfOk result (λ reply. (changes : List Change) → AreOfVersion settings.now changes version query.now.project files.now conditions.now → IsReply settings.now changes version query.now reply) }
+    ensures reply { IfOk result (IsReplyOn settings.now version query.now files.now conditions.now) }
     ensures texts { IfOk result IsReplyText }
-    ensures asked { (changes : List Change) (ks : List ℕ) → AreOfVersion settings.now changes version query.now.project files.now conditions.now → AreAsked settings.now changes version query.now ks → OnOk result (Rises (B.asked buckets.old) (B.asked buckets.new) (length ks)) }
-    ensures asked_most { (changes : List Change) (ks : List ℕ) → AreOfVersion settings.now changes version query.now.project files.now conditions.now → AreAsked settings.now changes version query.now ks → RisesAtMost (B.asked buckets.old) (B.asked buckets.new) (length ks) }
+    ensures asked { (ks : List ℕ) → AreAskedOn settings.now version query.now files.now conditions.now ks
+        → OnOk result (Rises (B.asked buckets.old) (B.asked buckets.new) (length ks)) }
+    ensures asked_most { (ks : List ℕ) → AreAskedOn settings.now version query.now files.now conditions.now ks
+        → RisesAtMost (B.asked buckets.old) (B.asked buckets.new) (length ks) }
     ensures same_changes { B.file_changes buckets.new ≡ B.file_changes buckets.old }
     ensures same_keys { B.file_keys buckets.new ≡ B.file_keys buckets.old }
     ensures ready { B.ready buckets.new }
     ensures moved { B.moved buckets.old buckets.new }
-    ensures reads { (changes : List Change) (reads : ℕ) → AreOfVersion settings.now changes version query.now.project files.now conditions.now → IsMostRead settings.now changes version query.now reads → steps.new ≤ steps.old + reads }
+    ensures reads { (reads : ℕ) → IsMostReadOn settings.now version query.now files.now conditions.now reads
+        → steps.new ≤ steps.old + reads }
 {
     let part = part_of(files, query);
     let groups = groups_of(alloc, settings, files, part, query.min, buckets, steps)?;

@@ -3,7 +3,7 @@ ghost use Rattle.cq_groups.specs.Listing.{Rises, RisesAtMost};
 ghost use Rattle.cq_tokens.specs.Corpus as corpus;
 ghost use Rattle.cq_answer.specs.Parts.{IsWithin, AreGroupsOf, AreKeysOf, AreMostReads};
 ghost use Rattle.cq_answer.specs.Versions.{AreListable};
-ghost use Rattle.cq_answer.specs.Works.{work_in, works_in, norms_in, keys_in, numbers_in, HaveTokens};
+ghost use Rattle.cq_answer.specs.Works.{work_in, works_in, norms_in, keys_in, numbers_in, AreTokensOf};
 
 use crate::file::{change_of, work_of};
 use crate::part::Part;
@@ -19,7 +19,7 @@ use std::sync::ledger::Ledger;
 
 // Another owner of a file's tokens and keys.
 fn shared<L: Ledger>(file: &Arc<Held<Work<L>>, Global>) -> Result<FileTokens<L>, Memory>
-    ensures { IfOk result (λ t. HaveTokens (work_in file.now) t) }
+    ensures { IfOk result (λ t. AreTokensOf (work_in file.now) t) }
 {
     let work = work_of(file);
     Ok(FileTokens {
@@ -62,13 +62,16 @@ pub(crate) fn groups_of<B: Buckets, L: Ledger>(
     requires for_keys { B.file_keys buckets.old ≡ keys_in (works_in files.now) }
     requires ready { B.ready buckets.old }
     ensures groups { IfOk result (λ groups. AreGroupsOf (norms_in (works_in files.now)) min part groups.items) }
-    ensures asked { (ks : List ℕ) → AreKeysOf (keys_in (works_in files.now)) part ks → OnOk result (Rises (B.asked buckets.old) (B.asked buckets.new) (length ks)) }
-    ensures asked_most { (ks : List ℕ) → AreKeysOf (keys_in (works_in files.now)) part ks → RisesAtMost (B.asked buckets.old) (B.asked buckets.new) (length ks) }
+    ensures asked { (ks : List ℕ) → AreKeysOf (keys_in (works_in files.now)) part ks
+        → OnOk result (Rises (B.asked buckets.old) (B.asked buckets.new) (length ks)) }
+    ensures asked_most { (ks : List ℕ) → AreKeysOf (keys_in (works_in files.now)) part ks
+        → RisesAtMost (B.asked buckets.old) (B.asked buckets.new) (length ks) }
     ensures same_changes { B.file_changes buckets.new ≡ B.file_changes buckets.old }
     ensures same_keys { B.file_keys buckets.new ≡ B.file_keys buckets.old }
     ensures ready { B.ready buckets.new }
     ensures moved { B.moved buckets.old buckets.new }
-    ensures reads { (reads : ℕ) → AreMostReads (norms_in (works_in files.now)) (keys_in (works_in files.now)) part reads → steps.new ≤ steps.old + reads }
+    ensures reads { (reads : ℕ) → AreMostReads (norms_in (works_in files.now)) (keys_in (works_in files.now)) part reads
+        → steps.new ≤ steps.old + reads }
 {
     if part == Part::Nothing {
         return Ok(Vec::new(alloc));

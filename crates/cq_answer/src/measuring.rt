@@ -1,8 +1,8 @@
 ghost use Rattle.std.specs.Prelude.{◌≡◌, length, IfOk};
-ghost use Rattle.cq_measures.specs.Measures.{counts_of, spans_of, IsMeasurable};
+ghost use Rattle.cq_measures.specs.Measures.{counts_of, spans_of};
 ghost use Rattle.cq_answer.specs.Parts.{IsWithin};
 ghost use Rattle.cq_answer.specs.Rows as spec;
-ghost use Rattle.cq_answer.specs.Works.{works_in, counts_in, spans_in};
+ghost use Rattle.cq_answer.specs.Works.{works_in, facts_in};
 
 use crate::file::work_of;
 use crate::part::Part;
@@ -30,8 +30,8 @@ fn lines_of<'a, L: Ledger>(
     alloc: Global,
     files: &'a [Arc<Held<Work<L>>, Global>],
 ) -> Result<Vec<FileLines<'a>>, Memory>
-    ensures counts { IfOk result (λ v. counts_of v.items ≡ counts_in (works_in files.now)) }
-    ensures spans { IfOk result (λ v. spans_of v.items ≡ spans_in (works_in files.now)) }
+    ensures counts { IfOk result (λ v. counts_of v.items ≡ (facts_in (works_in files.now)).counts) }
+    ensures spans { IfOk result (λ v. spans_of v.items ≡ (facts_in (works_in files.now)).spans) }
 {
     let mut all = Vec::new(alloc);
     for file in files {
@@ -52,8 +52,8 @@ pub(crate) fn measures_of<L: Ledger>(
     groups: &[Group],
 ) -> Result<Measures, Memory>
     requires within { IsWithin (length files.now) part }
-    requires measurable { IsMeasurable (counts_in (works_in files.now)) (spans_in (works_in files.now)) groups.now }
-    ensures { IfOk result (λ m. m ≡ spec.measures_of (counts_in (works_in files.now)) (spans_in (works_in files.now)) groups.now part) }
+    requires measurable { spec.AreShowable (facts_in (works_in files.now)) groups.now }
+    ensures { IfOk result (λ m. m ≡ spec.measures_of (facts_in (works_in files.now)) groups.now part) }
 {
     let lines = lines_of(alloc, files)?;
     match part {

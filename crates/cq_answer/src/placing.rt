@@ -2,7 +2,7 @@ ghost use Rattle.std.specs.Prelude.{◌≡◌, ◌≤◌, map, IfOk, Contains};
 ghost use Rattle.cq_base.specs.declared.group.Place.{Place};
 ghost use Rattle.cq_measures.specs.Measures.{IsInside, IsGroupInside, AreGroupsInside};
 ghost use Rattle.cq_answer.specs.Rows as spec;
-ghost use Rattle.cq_answer.specs.Works.{works_in, paths_in, spans_in};
+ghost use Rattle.cq_answer.specs.Works.{works_in, facts_in};
 
 use crate::file::{path_of, work_of};
 use cq_base::{Group, Memory, Place};
@@ -21,8 +21,8 @@ fn place_row<L: Ledger>(
     place: Place,
 ) -> Result<PlaceRow, Memory>
     requires some { 1 ≤ tokens }
-    requires inside { IsInside (spans_in (works_in files.now)) tokens place }
-    ensures { IfOk result (λ row. row ≡ spec.place_row (paths_in (works_in files.now)) (spans_in (works_in files.now)) tokens place) }
+    requires inside { IsInside (facts_in (works_in files.now)).spans tokens place }
+    ensures { IfOk result (λ row. row ≡ spec.place_row (facts_in (works_in files.now)) tokens place) }
 {
     let file = &files[place.file as usize];
     let spans = &work_of(file).spans;
@@ -42,8 +42,9 @@ fn place_rows<L: Ledger>(
     places: &[Place],
 ) -> Result<PlaceRows, Memory>
     requires some { 1 ≤ tokens }
-    requires inside { (p : Place) → Contains places.now p → IsInside (spans_in (works_in files.now)) tokens p }
-    ensures { IfOk result (λ rows. rows ≡ map (spec.place_row (paths_in (works_in files.now)) (spans_in (works_in files.now)) tokens) places.now) }
+    requires inside { (p : Place) → Contains places.now p → IsInside (facts_in (works_in files.now)).spans tokens p }
+    ensures { IfOk result (λ rows. rows
+        ≡ map (spec.place_row (facts_in (works_in files.now)) tokens) places.now) }
 {
     let mut rows = Vec::new(alloc);
     for place in places {
@@ -57,8 +58,8 @@ fn group_row<L: Ledger>(
     files: &[Arc<Held<Work<L>>, Global>],
     group: &Group,
 ) -> Result<GroupRow, Memory>
-    requires { IsGroupInside (spans_in (works_in files.now)) group.now }
-    ensures { IfOk result (λ row. row ≡ spec.group_row (paths_in (works_in files.now)) (spans_in (works_in files.now)) group.now) }
+    requires { IsGroupInside (facts_in (works_in files.now)).spans group.now }
+    ensures { IfOk result (λ row. row ≡ spec.group_row (facts_in (works_in files.now)) group.now) }
 {
     Ok(GroupRow {
         tokens: group.tokens,
@@ -72,8 +73,8 @@ pub(crate) fn group_rows<L: Ledger>(
     files: &[Arc<Held<Work<L>>, Global>],
     groups: &[Group],
 ) -> Result<GroupRows, Memory>
-    requires { AreGroupsInside (spans_in (works_in files.now)) groups.now }
-    ensures { IfOk result (λ rows. rows ≡ map (spec.group_row (paths_in (works_in files.now)) (spans_in (works_in files.now))) groups.now) }
+    requires { AreGroupsInside (facts_in (works_in files.now)).spans groups.now }
+    ensures { IfOk result (λ rows. rows ≡ map (spec.group_row (facts_in (works_in files.now))) groups.now) }
 {
     let mut rows = Vec::new(alloc);
     for group in groups {

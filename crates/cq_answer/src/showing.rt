@@ -1,6 +1,6 @@
-ghost use Rattle.std.specs.Prelude.{◌≡◌, map, IfOk};
+ghost use Rattle.std.specs.Prelude.{◌≡◌, IfOk};
 ghost use Rattle.cq_answer.specs.Rows as spec;
-ghost use Rattle.cq_answer.specs.Works.{work_in, works_in, row_of};
+ghost use Rattle.cq_answer.specs.Works.{work_in, works_in, row_of, facts_in};
 
 use crate::file::{change_of, lang_of, path_of, work_of};
 use cq_base::Memory;
@@ -40,7 +40,7 @@ pub(crate) fn file_rows<L: Ledger>(
     alloc: Global,
     files: &[Arc<Held<Work<L>>, Global>],
 ) -> Result<FileRows, Memory>
-    ensures { IfOk result (λ rows. rows ≡ map row_of (works_in files.now)) }
+    ensures { IfOk result (λ rows. rows ≡ (facts_in (works_in files.now)).rows) }
 {
     let mut rows = Vec::new(alloc);
     for file in files {

@@ -186,9 +186,10 @@ fn shows_measures(reply: &Reply, want: u64, density: u64) -> bool {
 
 fn fails_the_second(reply: &Reply) -> bool {
     match reply {
-        Reply::Verdict { verdict: Verdict::Error(failed), version } => {
-            *version == 2 && matches!(failed.as_slice(), [1])
-        }
+        Reply::Verdict {
+            verdict: Verdict::Error(failed),
+            version,
+        } => { *version == 2 && matches!(failed.as_slice(), [1]) }
         _ => false,
     }
 }
@@ -197,18 +198,39 @@ fn fails_the_second(reply: &Reply) -> bool {
 fn each_kind_is_answered(rt: HostRuntime) -> Result<(), Memory> {
     let alloc = rt.alloc();
     assert!(&rt; shows_the_file(&reply_to(alloc, Kind::Files, "")?), "files");
-    assert!(&rt; shows_the_group(&reply_to(alloc, Kind::Groups, "")?), "groups");
-    assert!(&rt; shows_measures(&reply_to(alloc, Kind::Measures, "")?, 1, 10_000), "measures");
-    assert!(&rt; fails_the_second(&reply_to(alloc, Kind::Verdict, "")?), "verdict");
+    assert!(&rt;
+        shows_the_group(&reply_to(alloc, Kind::Groups, "")?),
+        "groups"
+    );
+    assert!(&rt;
+        shows_measures(&reply_to(alloc, Kind::Measures, "")?, 1, 10_000),
+        "measures"
+    );
+    assert!(&rt;
+        fails_the_second(&reply_to(alloc, Kind::Verdict, "")?),
+        "verdict"
+    );
     Ok(())
 }
 
 #[test]
 fn a_path_is_answered(rt: HostRuntime) -> Result<(), Memory> {
     let alloc = rt.alloc();
-    assert!(&rt; shows_the_group(&reply_to(alloc, Kind::Groups, "t")?), "groups of the file");
-    assert!(&rt; shows_measures(&reply_to(alloc, Kind::Measures, "t")?, 1, 10_000), "its measures");
-    assert!(&rt; shows_no_group(&reply_to(alloc, Kind::Groups, "u")?), "none of no file");
-    assert!(&rt; shows_measures(&reply_to(alloc, Kind::Measures, "u")?, 0, 0), "nor measures");
+    assert!(&rt;
+        shows_the_group(&reply_to(alloc, Kind::Groups, "t")?),
+        "groups of the file"
+    );
+    assert!(&rt;
+        shows_measures(&reply_to(alloc, Kind::Measures, "t")?, 1, 10_000),
+        "its measures"
+    );
+    assert!(&rt;
+        shows_no_group(&reply_to(alloc, Kind::Groups, "u")?),
+        "none of no file"
+    );
+    assert!(&rt;
+        shows_measures(&reply_to(alloc, Kind::Measures, "u")?, 0, 0),
+        "nor measures"
+    );
     Ok(())
 }

@@ -1,7 +1,6 @@
-use Rattle.std.proofs.Common.{◌≡◌, ◌≤◌, ◌≢◌, ℕ, length, sym, subst, arith}
+use Rattle.std.proofs.Common.{◌≤◌, sym, subst, arith}
 use Rattle.std.proofs.lemmas.List.{length-map}
 use Rattle.std.proofs.lemmas.Result.{IfOk-weaker}
-use Rattle.cq_base.specs.declared.group.Group.{Group}
 use Rattle.cq_answer.specs.Parts.{AreGroupsOf}
 use Rattle.cq_answer.specs.Works.{work_in, works_in, norms_in}
 use Rattle.cq_answer.proofs.Listable.{listable, measurable, replied, keys_asked, most_read, texts_are, conditions_few, when_ok}
@@ -20,12 +19,12 @@ groups_of-requires-clause-listable g c =
     listable c.args.settings.now have.changes c.args.version c.args.query.now.project c.args.files.now c.args.conditions.now have.are c.requires.settings have.few
 
 pub returns-in_err-groups-clause-asked_most : goal.returns-in_err-groups-clause-asked_most
-returns-in_err-groups-clause-asked_most g c = λ changes ks are asked.
-    c.groups_of.ensures.asked_most ks (keys_asked c.args.settings.now changes c.args.version c.args.query.now c.args.files.now c.args.conditions.now c.part_of-part.result ks are c.part_of-part.ensures.part asked)
+returns-in_err-groups-clause-asked_most g c = λ ks on.
+    c.groups_of.ensures.asked_most ks (keys_asked c.args.settings.now on.changes c.args.version c.args.query.now c.args.files.now c.args.conditions.now c.part_of-part.result ks on.are c.part_of-part.ensures.part on.asked)
 
 pub returns-in_err-groups-clause-reads : goal.returns-in_err-groups-clause-reads
-returns-in_err-groups-clause-reads g c = λ changes n are most.
-    c.groups_of.ensures.reads n (most_read c.args.settings.now changes c.args.version c.args.query.now c.args.files.now c.args.conditions.now c.part_of-part.result n are c.part_of-part.ensures.part most)
+returns-in_err-groups-clause-reads g c = λ n on.
+    c.groups_of.ensures.reads n (most_read c.args.settings.now on.changes c.args.version c.args.query.now c.args.files.now c.args.conditions.now c.part_of-part.result n on.are c.part_of-part.ensures.part on.most)
 
 pub reply_of-requires-clause-few : goal.reply_of-requires-clause-few
 reply_of-requires-clause-few g c = conditions_few c.args.settings.now c.args.version c.args.query.now.project c.args.files.now c.args.conditions.now c.requires.of_version
@@ -52,13 +51,13 @@ returns-clause-texts g c =
     texts_are c.args.settings.now c.args.version c.args.query.now.project c.args.files.now c.args.conditions.now c.args.query.now.kind c.args.query.now.min c.part_of-part.result c.deref.result.now r c.requires.of_version some groups is) c.reply_of.ensures
 
 pub returns-clause-asked : goal.returns-clause-asked
-returns-clause-asked g c = λ changes ks are asked.
-    when_ok c.reply_of.result (c.in_ok-groups.ensures.asked ks (keys_asked c.args.settings.now changes c.args.version c.args.query.now c.args.files.now c.args.conditions.now c.part_of-part.result ks are c.part_of-part.ensures.part asked))
+returns-clause-asked g c = λ ks on.
+    when_ok c.reply_of.result (c.in_ok-groups.ensures.asked ks (keys_asked c.args.settings.now on.changes c.args.version c.args.query.now c.args.files.now c.args.conditions.now c.part_of-part.result ks on.are c.part_of-part.ensures.part on.asked))
 
 pub returns-clause-asked_most : goal.returns-clause-asked_most
-returns-clause-asked_most g c = λ changes ks are asked.
-    c.groups_of.ensures.asked_most ks (keys_asked c.args.settings.now changes c.args.version c.args.query.now c.args.files.now c.args.conditions.now c.part_of-part.result ks are c.part_of-part.ensures.part asked)
+returns-clause-asked_most g c = λ ks on.
+    c.groups_of.ensures.asked_most ks (keys_asked c.args.settings.now on.changes c.args.version c.args.query.now c.args.files.now c.args.conditions.now c.part_of-part.result ks on.are c.part_of-part.ensures.part on.asked)
 
 pub returns-clause-reads : goal.returns-clause-reads
-returns-clause-reads g c = λ changes n are most.
-    c.groups_of.ensures.reads n (most_read c.args.settings.now changes c.args.version c.args.query.now c.args.files.now c.args.conditions.now c.part_of-part.result n are c.part_of-part.ensures.part most)
+returns-clause-reads g c = λ n on.
+    c.groups_of.ensures.reads n (most_read c.args.settings.now on.changes c.args.version c.args.query.now c.args.files.now c.args.conditions.now c.part_of-part.result n on.are c.part_of-part.ensures.part on.most)

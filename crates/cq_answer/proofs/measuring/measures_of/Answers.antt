@@ -1,10 +1,10 @@
-use Rattle.std.proofs.Common.{◌≡◌, ◌∙◌, List, sym, ap, ap₂}
+use Rattle.std.proofs.Common.{◌∙◌, List, sym, ap, ap₂}
 use Rattle.std.proofs.lemmas.Result.{IfOk-weaker}
 use Rattle.cq_base.specs.declared.measures.FileCounts.{FileCounts}
 use Rattle.cq_base.specs.declared.token.Token.{Token}
 use Rattle.cq_measures.specs.Measures.{counts_of, spans_of, project_measures, file_measures}
 use Rattle.cq_answer.specs.Rows.{measures_of}
-use Rattle.cq_answer.specs.Works.{works_in, counts_in, spans_in}
+use Rattle.cq_answer.specs.Works.{works_in, facts_in}
 use Rattle.cq_answer.proofs.measuring.measures_of.Goals as goal
 
 pub returns-in-Whole : goal.returns-in-Whole
@@ -15,7 +15,7 @@ returns-in-Whole g c =
     IfOk-weaker c.project_measures.result _ _ (λ m is.
     is
     ∙ ap₂ (λ (cs : List FileCounts) (ss : List (List Token)). project_measures cs ss c.args.groups.now) counts spans
-    ∙ ap (measures_of (counts_in files) (spans_in files) c.args.groups.now) (sym c.in-Whole.is)) c.project_measures.ensures
+    ∙ ap (measures_of (facts_in files) c.args.groups.now) (sym c.in-Whole.is)) c.project_measures.ensures
 
 pub returns-in-File : goal.returns-in-File
 returns-in-File g c =
@@ -25,4 +25,4 @@ returns-in-File g c =
     IfOk-weaker c.file_measures.result _ _ (λ m is.
     is
     ∙ ap₂ (λ (cs : List FileCounts) (ss : List (List Token)). file_measures cs ss c.in-File.file c.args.groups.now) counts spans
-    ∙ ap (measures_of (counts_in files) (spans_in files) c.args.groups.now) (sym c.in-File.is)) c.file_measures.ensures
+    ∙ ap (measures_of (facts_in files) c.args.groups.now) (sym c.in-File.is)) c.file_measures.ensures

@@ -1,4 +1,4 @@
-use Rattle.std.proofs.Common.{◌≡◌, ◌<◌, ◌+◌, ◌-◌, List, [], ap, sym, ◌∙◌, get_or, length, arith}
+use Rattle.std.proofs.Common.{◌≡◌, ◌<◌, ◌+◌, ◌-◌, [], ap, sym, ◌∙◌, get_or, length, arith}
 use Rattle.cq_base.specs.declared.token.Token.{Token}
 use Rattle.cq_work.specs.declared.work.Work.{Work}
 use Rattle.cq_answer.specs.Works.{works_in, spans_in}
