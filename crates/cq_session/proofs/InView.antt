@@ -2,7 +2,6 @@
 use Rattle.std.proofs.Common.{◌≡◌, ℕ, List, [], ◌∷◌, length, map, take, refl, sym, ap, ap₂, ◌∙◌, subst, arith}
 use Rattle.std.specs.Prelude.{All}
 use Rattle.std.specs.Arc.{arc_value}
-use Rattle.std.proofs.lemmas.List.Elements.{recursion_from_All}
 use Rattle.cq_answer.specs.Versions.{AreOfVersion, HaveVersion}
 use Rattle.cq_answer.specs.Works.{Owner, works_in, keys_in as keys_of_files}
 use Rattle.cq_base.specs.Changes.{IsSoundChange}
@@ -51,4 +50,4 @@ module _ {L : Type 0} (keys_in : Work L → List ℕ) (IsWork : Settings → Lan
     })
 
     pub have_version : Lawful set callers h → All IsSoundChange (accepted h) → HaveVersion now view.version project files conditions
-    have_version law sound = record { changes = accepted h; sound = recursion_from_All IsSoundChange (accepted h) sound; few = (few_accepted now callers h (subst (λ (s : Settings). Lawful s callers h) same law)).1; are = of_version }
+    have_version law sound = record { changes = accepted h; sound = sound; few = (few_accepted now callers h (subst (λ (s : Settings). Lawful s callers h) same law)).1; are = of_version }
