@@ -6,8 +6,6 @@ use Rattle.std.specs.declared.alloc.Global.{Global}
 use Rattle.cq_base.specs.declared.measures.FileCounts.{FileCounts}
 use Rattle.cq_base.specs.declared.norm.Norm.{Norm}
 use Rattle.cq_base.specs.declared.token.Token.{Token}
-use Rattle.cq_board.specs.Listings.{file_from}
-use Rattle.cq_board.specs.declared.held.Held.{Held}
 use Rattle.cq_history.specs.Files.{File}
 use Rattle.cq_reply.specs.declared.reply.FileRow.{FileRow}
 use Rattle.cq_tokens.specs.declared.files.FileTokens.{FileTokens}
@@ -16,10 +14,10 @@ use Rattle.cq_answer.specs.Rows.{Facts, shown_in}
 
 -- a file of a listing behind its owner, and what it is: a path, a number, a language and a work
 abbrev pub Owner : Type 0 → Type 0
-Owner L = Arc (Held (Work L)) Global
+Owner L = Arc (File (Work L)) Global
 
 abbrev pub work_in : {L : Type 0} → Owner L → File (Work L)
-work_in owner = file_from owner
+work_in owner = arc_value owner
 
 abbrev pub works_in : {L : Type 0} → List (Owner L) → List (File (Work L))
 works_in owners = map work_in owners
