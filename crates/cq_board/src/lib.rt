@@ -14,12 +14,14 @@
 mod accepting;
 mod answers;
 mod board;
+mod draft;
 mod files;
 mod held;
 mod kept;
 mod laws;
 mod listing;
 mod live;
+mod merging;
 mod presence;
 mod projects;
 mod slot_tests;
