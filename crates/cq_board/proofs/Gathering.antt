@@ -15,7 +15,7 @@ use Rattle.std.proofs.lemmas.Map.Lookups.{exact_bytes}
 use Rattle.std.proofs.lemmas.Map.Text.{is_eq-slice_cmp}
 use Rattle.std.proofs.lemmas.Slice.Eq.{bytes_eq-Decides}
 use Rattle.cq_history.specs.Files.{File}
-use Rattle.cq_board.specs.Drafts.{edited_at, edited_all, IsOwn, AreOwn}
+use Rattle.cq_board.specs.Drafts.{edited_at, edited_all, number_in, IsOwn, AreOwn}
 use Rattle.cq_board.specs.Listings.{number_at, path_of}
 use Rattle.cq_board.specs.Ordered.{AreRising}
 use Rattle.cq_board.proofs.FileAt.{file_at, number_file, file_at-with, file_at-without, same_files}
@@ -136,6 +136,6 @@ module _ {W : Type 0} where
     unfolding pick
     number_before is = number_file (arc_value p) files ∙ sym (number_then None is)
 
-    pub number_replaced : (file : Option (Arc (File W) Global)) → Some file ≡ lookup (is_at (text_cmp p)) es → option_map (λ (held : Arc (File W) Global). (arc_value held).number) file ≡ number_at (arc_value p) (edited_all es files)
+    pub number_replaced : (file : Option (Arc (File W) Global)) → Some file ≡ lookup (is_at (text_cmp p)) es → option_map number_in file ≡ number_at (arc_value p) (edited_all es files)
     number_replaced None is = number_dropped is
     number_replaced (Some held) is = number_put held is

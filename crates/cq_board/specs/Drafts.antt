@@ -26,6 +26,10 @@ module _ {W : Type 0} where
   abbrev pub AreOwn : List (Arc (List ℕ) Global × Option (Arc (File W) Global)) → Type 0
   AreOwn es = AllByRecursion (λ (e : Arc (List ℕ) Global × Option (Arc (File W) Global)). IsOwn (arc_value e.0) e.1) es
 
+  -- the number of the change that put the file
+  abbrev pub number_in : Arc (File W) Global → ℕ
+  number_in held = (arc_value held).number
+
   -- another file, or none, stands at the path
   pub record IsSetAt (p : List ℕ) (file : Option (Arc (File W) Global)) (old new : ListedProject W) : Type 0 where
     pub name : new.name ≡ old.name

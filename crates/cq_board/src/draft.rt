@@ -5,7 +5,7 @@ ghost use Rattle.std.specs.Arc.{arc_value};
 ghost use Rattle.std.specs.Ordering.{nat_cmp};
 ghost use Rattle.std.specs.Cmp.Lexicographic.{slice_cmp};
 ghost use Rattle.std.specs.Str.{bytes_eq};
-ghost use Rattle.cq_board.specs.Drafts.{IsOwn, IsSetAt};
+ghost use Rattle.cq_board.specs.Drafts.{IsOwn, IsSetAt, number_in};
 ghost use Rattle.cq_board.specs.Edits.{edited_files, edited_conditions, replaced_by};
 ghost use Rattle.cq_board.specs.Listings.{number_at, name_in, files_in, conditions_in, position_of};
 ghost use Rattle.cq_board.specs.Ordered.{AreRising, IsAt, IsGap};
@@ -126,7 +126,7 @@ impl<W: Drop> Draft<W> {
 
 // The change that put a file, if there is one.
 fn change_in<W: Drop>(file: Option<Arc<Held<W>, Global>>) -> Option<u64>
-    ensures { result ≡ option_map (λ held. (arc_value held).number) file }
+    ensures { result ≡ option_map number_in file }
 {
     match file {
         Some(held) => Some(held.change),
