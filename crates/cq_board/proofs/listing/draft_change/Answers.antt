@@ -10,6 +10,6 @@ edit_draft-requires g c = let (changes, base, put, gone, n, is) = c.requires.bef
 pub returns : goal.returns
 returns g c = record {
   next = draft_adds (g.W.Indexed.IsWorkOf c.args.settings.now) c.args.number (change_of c.args.kept.now.change) c.in_ok-edit.edit c.in_ok-edit.ensures c.args.drafts.now.items c.edit_draft.new.drafts.items
-    (arc_value c.project_of.result.now) c.project_of.ensures
-    c.edit_draft.result c.edit_draft.ensures.names c.edit_draft.ensures.number c.edit_draft.ensures.files c.edit_draft.ensures.conditions;
+      (arc_value c.project_of.result.now) c.project_of.ensures
+      c.edit_draft.result c.edit_draft.ensures.names c.edit_draft.ensures.number c.edit_draft.ensures.files c.edit_draft.ensures.conditions;
 }
