@@ -1,10 +1,14 @@
 pub mod Adding
 pub mod Advances
+pub mod Cutting
 pub mod Editing
+pub mod FileAt
 pub mod FileLists
+pub mod Gathering
 pub mod Living
 pub mod Numbers
 pub mod OneMore
+pub mod OneWalk
 pub mod OwnerLists
 pub mod PathOrders
 pub mod Places

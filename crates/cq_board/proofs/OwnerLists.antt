@@ -155,3 +155,46 @@ module _ {W : Type 0} where
   -- the one at the index of a search
   pub found_within : (name : List ℕ) (projects : List (Arc (ListedProject W) Global)) (i : ℕ) → IsAt owner_name name projects i → i < length projects
   found_within name projects i at = omega (arith, ap length at.is, length-append at.before (at.item ∷ at.after), at.index)
+
+-- ---- the same of the projects of drafts, which have no owners
+
+module _ {W : Type 0} (name : List ℕ) (projects : List (ListedProject W)) (i : ℕ) where
+  pub listed_position : IsAt name_in name projects i → i ≡ position_of name projects
+  listed_position at = sym at.index ∙ sym (position_seam name_in name at.before at.after at.item at.low at.same) ∙ ap (position_of name) (sym at.is)
+
+  pub listed_within : IsAt name_in name projects i → i < length projects
+  listed_within at = omega (arith, ap length at.is, length-append at.before (at.item ∷ at.after), at.index)
+
+  module _ (gap : IsGap name_in name projects i) (part : ListedProject W) (named : part.name ≡ name) where
+    listed_seam : insert projects i part ≡ gap.before ++ part ∷ gap.after
+    listed_seam = ap₂ (λ ps n. insert ps n part) gap.is (sym gap.index) ∙ insert_seam gap.before gap.after part
+
+    pub listed_rising : AreRising name_in projects → AreRising name_in (insert projects i part)
+    listed_rising rising =
+        subst (AreRising name_in) (sym listed_seam)
+        (rising_insert name_in gap.before gap.after part
+        (subst (λ p. AreBelow name_in p gap.before) (sym named) gap.low)
+        (subst (λ p. AreAbove name_in p gap.after) (sym named) gap.high)
+        (subst (AreRising name_in) gap.is rising))
+
+    pub listed_inserted : i < length (insert projects i part)
+    listed_inserted = omega (arith, ap length listed_seam, length-append gap.before (part ∷ gap.after), gap.index)
+
+    pub listed_first : i ≡ position_of name (insert projects i part)
+    listed_first = sym gap.index ∙ sym (position_seam name_in name gap.before gap.after part gap.low named) ∙ ap (position_of name) (sym listed_seam)
+
+    apart : (P : List ℕ → Type 0) (ps : List (ListedProject W)) → AllByRecursion (λ p. P (name_in p)) ps → ((q : List ℕ) → P q → bytes_eq part.name q ≡ false) → AllByRecursion (λ p. bytes_eq part.name (name_in p) ≡ false) ps
+    apart P [] all each = tt
+    apart P (p ∷ ps) all each = (each (name_in p) all.0, apart P ps all.1 each)
+
+    low_no : AllByRecursion (λ p. bytes_eq part.name (name_in p) ≡ false) gap.before
+    low_no = apart (λ q. is_before q name ≡ true) gap.before gap.low (λ q h. ap (λ n. bytes_eq n q) named ∙ below_apart name q h)
+
+    high_no : AllByRecursion (λ p. bytes_eq part.name (name_in p) ≡ false) gap.after
+    high_no = apart (λ q. is_before name q ≡ true) gap.after gap.high (λ q h. ap (λ n. bytes_eq n q) named ∙ above_apart name q h)
+
+    pub listed_files : part.files ≡ [] → (q : List ℕ) → files_in (insert projects i part) q ≡ files_in projects q
+    listed_files none q = ap (λ ps. files_in ps q) listed_seam ∙ files_in-seam gap.before gap.after part none low_no high_no q ∙ ap (λ ps. files_in ps q) (sym gap.is)
+
+    pub listed_conditions : part.conditions ≡ [] → (q : List ℕ) → conditions_in (insert projects i part) q ≡ conditions_in projects q
+    listed_conditions none q = ap (λ ps. conditions_in ps q) listed_seam ∙ conditions_in-seam gap.before gap.after part none low_no high_no q ∙ ap (λ ps. conditions_in ps q) (sym gap.is)

@@ -35,7 +35,7 @@ module _ {X : Type 0} where
   abbrev AreElsewhere : List ℕ → List (File X) → Type 0
   AreElsewhere p files = AllByRecursion (λ (g : File X). bytes_eq p g.path ≡ false) files
 
-  all_without : (P : File X → Type 0) (p : List ℕ) (files : List (File X)) → AllByRecursion P files → AllByRecursion P (without_file p files)
+  pub all_without : (P : File X → Type 0) (p : List ℕ) (files : List (File X)) → AllByRecursion P files → AllByRecursion P (without_file p files)
   all_without P p [] all = tt
   all_without P p (g ∷ files) all = go (not (bytes_eq p g.path)) (all_without P p files all.1)
     where
@@ -51,7 +51,7 @@ module _ {X : Type 0} where
       go true rest = (all_without (λ (f : File X). is_before g.path f.path ≡ true) p files rising.0, rest)
       go false rest = rest
 
-  elsewhere : (p : List ℕ) (files : List (File X)) → AreElsewhere p (without_file p files)
+  pub elsewhere : (p : List ℕ) (files : List (File X)) → AreElsewhere p (without_file p files)
   elsewhere p [] = tt
   elsewhere p (g ∷ files) = go (bytes_eq p g.path) refl (elsewhere p files)
     where
@@ -59,12 +59,12 @@ module _ {X : Type 0} where
       go true e rest = rest
       go false e rest = (e, rest)
 
-  all_insert : (P : File X → Type 0) (files : List (File X)) (n : ℕ) (g : File X) → AllByRecursion P files → P g → AllByRecursion P (insert files n g)
+  pub all_insert : (P : File X → Type 0) (files : List (File X)) (n : ℕ) (g : File X) → AllByRecursion P files → P g → AllByRecursion P (insert files n g)
   all_insert P files zero g all here = (here, all)
   all_insert P [] (suc n) g all here = (here, tt)
   all_insert P (x ∷ files) (suc n) g all here = (all.0, all_insert P files n g all.1 here)
 
-  all_behind : (p q : List ℕ) (files : List (File X)) → is_before p q ≡ true → AllByRecursion (λ (g : File X). is_before q g.path ≡ true) files → AllByRecursion (λ (g : File X). is_before p g.path ≡ true) files
+  pub all_behind : (p q : List ℕ) (files : List (File X)) → is_before p q ≡ true → AllByRecursion (λ (g : File X). is_before q g.path ≡ true) files → AllByRecursion (λ (g : File X). is_before p g.path ≡ true) files
   all_behind p q [] before all = tt
   all_behind p q (g ∷ files) before all = (before_chain p q g.path before all.0, all_behind p q files before all.1)
 

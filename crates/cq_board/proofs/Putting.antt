@@ -31,7 +31,7 @@ by_no true h = absurd (h refl)
 by_no false h = refl
 
 -- a path before another is not that one
-before_apart : (p q : List ℕ) → is_before p q ≡ true → p ≡ q → ⊥
+pub before_apart : (p q : List ℕ) → is_before p q ≡ true → p ≡ q → ⊥
 before_apart p q h same = not_less (slice_cmp nat_cmp p q) h (ap (slice_cmp nat_cmp p) (sym same) ∙ itself (slice_cmp nat_cmp p p) (nat_list_cmp_total.antisymm p p))
 
 pub below_apart : (p q : List ℕ) → is_before q p ≡ true → bytes_eq p q ≡ false
@@ -45,7 +45,7 @@ less_of Less h = refl
 less_of Equal h = absurd (cc)
 less_of Greater h = absurd (cc)
 
-below_not_above : (p q : List ℕ) → is_before q p ≡ true → is_before p q ≡ false
+pub below_not_above : (p q : List ℕ) → is_before q p ≡ true → is_before p q ≡ false
 below_not_above p q h = by_no (is_before p q) (λ other. before_apart p p (ap is_lt (nat_list_cmp_total.trans p q p (less_of _ other) (less_of _ h))) refl)
 
 pub insert_seam : {X : Type 0} (a b : List X) (f : X) → insert (a ++ b) (length a) f ≡ a ++ f ∷ b
@@ -57,7 +57,7 @@ remove_seam [] b f = refl
 remove_seam (g ∷ a) b f = ap (λ r. g ∷ r) (remove_seam a b f)
 
 module _ {X : Type 0} where
-  without_above : (p : List ℕ) (b : List (File X)) → AllByRecursion (λ f. is_before p f.path ≡ true) b → without_file p b ≡ b
+  pub without_above : (p : List ℕ) (b : List (File X)) → AllByRecursion (λ f. is_before p f.path ≡ true) b → without_file p b ≡ b
   without_above p [] high = refl
   without_above p (g ∷ b) high = ap (λ t. cond (not t) (g ∷ without_file p b) (without_file p b)) (above_apart p g.path high.0) ∙ ap (λ r. g ∷ r) (without_above p b high.1)
 
@@ -69,7 +69,7 @@ module _ {X : Type 0} where
   without_at p [] b x same low high = ap (λ t. cond (not t) (x ∷ without_file p b) (without_file p b)) ((bytes_eq-Decides p x.path).1 (sym same)) ∙ without_above p b high
   without_at p (g ∷ a) b x same low high = ap (λ t. cond (not t) (g ∷ without_file p (a ++ x ∷ b)) (without_file p (a ++ x ∷ b))) (below_apart p g.path low.0) ∙ ap (λ r. g ∷ r) (without_at p a b x same low.1 high)
 
-  place_gap : (p : List ℕ) (a b : List (File X)) → AllByRecursion (λ f. is_before f.path p ≡ true) a → AllByRecursion (λ f. is_before p f.path ≡ true) b → place_of p (a ++ b) ≡ length a
+  pub place_gap : (p : List ℕ) (a b : List (File X)) → AllByRecursion (λ f. is_before f.path p ≡ true) a → AllByRecursion (λ f. is_before p f.path ≡ true) b → place_of p (a ++ b) ≡ length a
   place_gap p [] [] low high = refl
   place_gap p [] (g ∷ b) low high = ap (λ t. cond (not t) (1 + place_of p b) 0) high.0
   place_gap p (g ∷ a) b low high = ap (λ t. cond (not t) (1 + place_of p (a ++ b)) 0) (below_not_above p g.path low.0) ∙ (let e = place_gap p a b low.1 high in omega (arith, e))
@@ -99,11 +99,11 @@ module _ {X : Type 0} where
 -- ---- the files that are held
 
 module _ {W : Type 0} where
-  all_below : (p : List ℕ) (hs : List (Arc (File W) Global)) → AreBelow path_in p hs → AllByRecursion (λ f. is_before f.path p ≡ true) (map arc_value hs)
+  pub all_below : (p : List ℕ) (hs : List (Arc (File W) Global)) → AreBelow path_in p hs → AllByRecursion (λ f. is_before f.path p ≡ true) (map arc_value hs)
   all_below p [] low = tt
   all_below p (h ∷ hs) low = (low.0, all_below p hs low.1)
 
-  all_above : (p : List ℕ) (hs : List (Arc (File W) Global)) → AreAbove path_in p hs → AllByRecursion (λ f. is_before p f.path ≡ true) (map arc_value hs)
+  pub all_above : (p : List ℕ) (hs : List (Arc (File W) Global)) → AreAbove path_in p hs → AllByRecursion (λ f. is_before p f.path ≡ true) (map arc_value hs)
   all_above p [] high = tt
   all_above p (h ∷ hs) high = (high.0, all_above p hs high.1)
 

@@ -33,6 +33,10 @@ pub always_err : {T E : Type 0} {P : Type 0} (r : Result T E) → P → OnErr r 
 always_err (Ok x) h = tt
 always_err (Err e) h = h
 
+pub ok_both : {T E P Q R : Type 0} (r : Result T E) → (P → Q → R) → OnOk r P → OnOk r Q → OnOk r R
+ok_both (Ok x) f a b = f a b
+ok_both (Err e) f a b = tt
+
 -- ---- what is left
 
 pub left_has : (xs gone : List ℕ) (r : ℕ) → Contains (left xs gone) r ↔ (Contains xs r × (Contains gone r → ⊥))
@@ -235,3 +239,13 @@ module _ {W : Type 0} (IsWork : Lang → List ℕ → W → Type 0) (number : �
       (which ∙ ap (λ p. replaced_by e (files_in old p)) named)
       (λ q. files q ∙ ap (λ p. cond (bytes_eq q p) (edited_files e (files_in old q)) (files_in old q)) named)
       (λ q. conditions q ∙ ap (λ p. cond (bytes_eq q p) (edited_conditions e (conditions_in old q)) (conditions_in old q)) named)
+
+module _ {W : Type 0} (IsWork : Lang → List ℕ → W → Type 0) (number : ℕ) (c : Change) (e : ProjectEdit W) (is_edit : IsEditFor IsWork number c e) (old new : List (ListedProject W)) where
+  -- the same where the order of names is told with the rest
+  pub draft_adds : {E : Type 0} (name : List ℕ) → name ≡ project_named c → (r : Result (Option ℕ) E) → OnOk r (AreRising name_in new) →
+      IfOk r (λ o. o ≡ replaced_by e (files_in old name)) →
+      OnOk r ((q : List ℕ) → files_in new q ≡ cond (bytes_eq q name) (edited_files e (files_in old q)) (files_in old q)) →
+      OnOk r ((q : List ℕ) → conditions_in new q ≡ cond (bytes_eq q name) (edited_conditions e (conditions_in old q)) (conditions_in old q)) →
+      IfOk r (AddsChange IsWork number c old new)
+  draft_adds {E = E} name named (Err err) names which files conditions = tt
+  draft_adds {E = E} name named (Ok o) names which files conditions = edit_adds IsWork number c e is_edit old new names {E = E} name named (Ok o) which files conditions

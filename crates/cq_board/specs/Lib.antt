@@ -1,5 +1,6 @@
 pub mod Answers
 pub mod Boards
+pub mod Drafts
 pub mod Edits
 pub mod Entries
 pub mod Listings

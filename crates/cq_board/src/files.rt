@@ -1,4 +1,4 @@
-ghost use Rattle.std.specs.Prelude.{◌≡◌, ◌≤◌, IfOk, IfErr, OnOk, OnErr, length, map};
+ghost use Rattle.std.specs.Prelude.{◌≡◌, ◌≤◌, ◌++◌, IfOk, IfErr, OnOk, OnErr, length, map};
 ghost use Rattle.std.specs.Arc.{arc_value};
 ghost use Rattle.std.specs.Ordering.{nat_cmp};
 ghost use Rattle.std.specs.Cmp.Lexicographic.{slice_cmp};
@@ -19,8 +19,8 @@ fn compare<W>(held: &Arc<Held<W>, Global>, path: &Text) -> Ordering
     held.path.as_bytes().cmp(path.as_bytes())
 }
 
-// Where the path is among files in path order, or where it belongs.
-fn find<W>(files: &[Arc<Held<W>, Global>], path: &Text) -> Result<usize, usize>
+/// Where the path is among files in path order, or where it belongs.
+pub fn find<W>(files: &[Arc<Held<W>, Global>], path: &Text) -> Result<usize, usize>
     requires { AreRising path_in files.now }
     ensures found { IfOk result (IsAt path_in path.now files.now) }
     ensures gap { IfErr result (IsGap path_in path.now files.now) }
@@ -69,6 +69,31 @@ pub fn put_file<W: Drop>(
     }
 }
 
+/// The number of the change that put the file at the path, if there is one.
+pub fn number_of<W>(files: &[Arc<Held<W>, Global>], path: &Text) -> Option<u64>
+    requires { AreRising path_of (map arc_value files.now) }
+    ensures { result ≡ number_at path.now (map arc_value files.now) }
+{
+    match find(files, path) {
+        Ok(i) => Some(files[i].change),
+        Err(_) => None,
+    }
+}
+
+/// Puts the files behind those of a list, an owner more for each.
+pub fn append_shared<W: Drop>(
+    all: &mut Vec<Arc<Held<W>, Global>>,
+    files: &[Arc<Held<W>, Global>],
+) -> Result<(), Memory>
+    ensures { OnOk result (map arc_value all.new.items ≡ map arc_value all.old.items ++ map arc_value files.now) }
+{
+    for f in files {
+        let f = Arc::try_clone(f)?;
+        all.push(f)?;
+    }
+    Ok(())
+}
+
 /// Another list of the same files, an owner more for each.
 pub fn shared_files<W: Drop>(
     alloc: Global,
@@ -77,9 +102,6 @@ pub fn shared_files<W: Drop>(
     ensures { IfOk result (λ all. map arc_value all.items ≡ map arc_value files.now) }
 {
     let mut all = Vec::with_capacity(alloc, files.len())?;
-    for f in files {
-        let f = Arc::try_clone(f)?;
-        all.push(f)?;
-    }
+    append_shared(&mut all, files)?;
     Ok(all)
 }

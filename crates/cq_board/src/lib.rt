@@ -5,8 +5,8 @@
 //! Accepting a change costs a slot and a search among the places at which files stand. Taking one looks at the changes
 //! from behind the last that was taken, or from the least that was given back since. Publishing one change costs a search and a move in the list of its project,
 //! 8 bytes a file, where no view has that list, and else a copy of it, an owner a file. Publishing several at once costs
-//! an owner for each project and one copy of the list of each project that changed, and then each change a search and a
-//! move in that list. The numbers of all files are changed in place, in one walk where many were replaced or dropped;
+//! an owner for each project, for each change a search among the projects and in the list of its own, and for each project
+//! whose files changed one walk that makes its list anew: a search for each path that is named, and an owner a file. The numbers of all files are changed in place, in one walk where many were replaced or dropped;
 //! they are copied first where a view still shows the last version. No text, no path and no work is copied: each is held
 //! once, behind an owner that slots, listings and jobs share.
 #![tactic(auto)]
@@ -14,12 +14,14 @@
 mod accepting;
 mod answers;
 mod board;
+mod draft;
 mod files;
 mod held;
 mod kept;
 mod laws;
 mod listing;
 mod live;
+mod merging;
 mod presence;
 mod projects;
 mod slot_tests;

@@ -11,6 +11,7 @@ ghost use Rattle.cq_board.specs.Ordered.{AreRising};
 ghost use Rattle.cq_board.specs.Listings.{IsListing, HaveSame, owner_name, projects_in, files_in, conditions_in};
 ghost use Rattle.cq_board.specs.Turnover.{IsNext, IsBefore, AddsChange, from_option};
 
+use crate::draft::{Draft, drafts_of, edit_draft, finished_all};
 use crate::held::{Held, Project};
 use crate::kept::{Kept, Stored};
 use crate::live::{Turnover, note, turn, turn_one};
@@ -164,19 +165,22 @@ fn apply_change<W: Indexed>(
     edit_in(alloc, projects, project_of(&kept.change), edit)
 }
 
-// The same projects, an owner more for each.
-fn shared<W: Drop>(
+// Makes one change more in the drafts, which is the one with the next number and done. It answers the change whose file it
+// replaced or dropped, if there was one.
+fn draft_change<W: Indexed>(
     alloc: Global,
-    projects: &[Arc<Project<W>, Global>],
-) -> Result<Vec<Arc<Project<W>, Global>>, Memory>
-    ensures { IfOk result (λ all. projects_in all.items ≡ projects_in projects.now) }
+    settings: &Settings,
+    drafts: &mut Vec<Draft<W>>,
+    number: u64,
+    kept: &Kept<W>,
+) -> Result<Option<u64>, Memory>
+    requires done { is_done (slot_from kept.now) ≡ true }
+    requires work { IsWorked (W.IsWorkOf settings.now) kept.now }
+    requires before { IsBefore (W.IsWorkOf settings.now) number drafts.old.items }
+    ensures next { IfOk result (AddsChange (W.IsWorkOf settings.now) number (change_of kept.now.change) drafts.old.items drafts.new.items) }
 {
-    let mut all = Vec::with_capacity(alloc, projects.len())?;
-    for project in projects {
-        let project = Arc::try_clone(project)?;
-        all.push(project)?;
-    }
-    Ok(all)
+    let edit = edit_of(alloc, settings, number, kept)?;
+    edit_draft(alloc, drafts, project_of(&kept.change), edit)
 }
 
 /// What the listing of a later version has of its own: its projects, and the numbers that come and go.
@@ -202,14 +206,15 @@ fn next_listing<W: Indexed>(
     requires listing { IsListing (W.IsWorkOf settings.now) (take before (changes_from slots.now)) old.now }
     ensures { IfOk result (λ next. IsNext (W.IsWorkOf settings.now) (take version (changes_from slots.now)) old.now.live (map arc_value next.projects.items) next.turnover.put.items next.turnover.gone.items) }
 {
-    let mut projects = shared(alloc, &old.projects)?;
+    let mut drafts = drafts_of(alloc, &old.projects)?;
     let mut turnover = Turnover::new(alloc);
     for number in before..version {
         let kept = &slots[number as usize];
-        let replaced = apply_change(alloc, settings, &mut projects, number + 1, kept)?;
+        let replaced = draft_change(alloc, settings, &mut drafts, number + 1, kept)?;
         note(&mut turnover.put, put_number(&kept.change, number + 1))?;
         note(&mut turnover.gone, replaced)?;
     }
+    let projects = finished_all(alloc, drafts)?;
     Ok(Next { projects, turnover })
 }
 

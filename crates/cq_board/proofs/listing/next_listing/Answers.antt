@@ -23,7 +23,7 @@ pub loop-number-init : goal.loop-number-init
 loop-number-init g c =
     let IsWork = g.W.Indexed.IsWorkOf c.args.settings.now in
     let changes = take c.args.before (changes_from c.args.slots.now) in
-    let same : projects_in c.in_ok-projects.projects.items ≡ c.args.old.now.projects = c.in_ok-projects.ensures ∙ ap (map arc_value) c.deref.ensures.value ∙ ap (λ (l : Listed g.row.W.Denot). l.projects) c.old.view_is in
+    let same : c.in_ok-drafts.drafts.items ≡ c.args.old.now.projects = c.in_ok-drafts.ensures ∙ ap (map arc_value) c.deref.ensures.value ∙ ap (λ (l : Listed g.row.W.Denot). l.projects) c.old.view_is in
     subst (λ ps. IsNext IsWork changes c.args.old.now.live ps c.new-turnover.result.put.items c.new-turnover.result.gone.items) (sym same)
     (subst₂ (λ put gone. IsNext IsWork changes c.args.old.now.live c.args.old.now.projects put gone) (sym c.new-turnover.ensures.put) (sym c.new-turnover.ensures.gone)
     (next_first IsWork changes c.args.old.now c.requires.listing))
@@ -34,14 +34,14 @@ bounds-slots-number g c = within c.args.slots.now c.loop-number.number c.args.ve
 pub offset_bounds-slots-number : goal.offset_bounds-slots-number
 offset_bounds-slots-number g c = let lt = within c.args.slots.now c.loop-number.number c.args.version c.loop-number-test.true c.requires.done in omega (arith, lt, c.well_formed)
 
-pub apply_change-requires-clause-done : goal.apply_change-requires-clause-done
-apply_change-requires-clause-done g c =
+pub draft_change-requires-clause-done : goal.draft_change-requires-clause-done
+draft_change-requires-clause-done g c =
     let lt = within c.args.slots.now c.loop-number.number c.args.version c.loop-number-test.true c.requires.done in
     ap is_done (sym (slot_read c.args.slots.now c.loop-number.number c.index-slots-number.result lt c.index-slots-number.is))
     ∙ prefix_len_passes is_done (map slot_from c.args.slots.now) c.loop-number.number no_slot (omega (arith, c.loop-number-test.true, c.requires.done))
 
-pub apply_change-requires-clause-work : goal.apply_change-requires-clause-work
-apply_change-requires-clause-work g c =
+pub draft_change-requires-clause-work : goal.draft_change-requires-clause-work
+draft_change-requires-clause-work g c =
     let lt = within c.args.slots.now c.loop-number.number c.args.version c.loop-number-test.true c.requires.done in
     let P : Kept g.row.W.Denot → Type 0 = IsWorked (g.W.Indexed.IsWorkOf c.args.settings.now) in
     subst P (sym c.index-slots-number.is) (All-get_or P c.args.slots.now c.loop-number.number c.index-slots-number.result lt c.requires.works)
@@ -52,14 +52,14 @@ loop-number-preserved g c =
     let changes : List Change = changes_from c.args.slots.now in
     let few : length changes ≡ length c.args.slots.now = length-map (map slot_from c.args.slots.now) (λ (s : Slot). s.change) ∙ length-map c.args.slots.now (slot_from {W = g.row.W.Denot}) in
     let IsWork = g.W.Indexed.IsWorkOf c.args.settings.now in
-    let P : List Change → Type 0 = λ cs. IsNext IsWork cs c.args.old.now.live (projects_in c.apply_change.new.projects.items) c.note.new.gone.items c.note-in-loop-number.new.gone.items in
+    let P : List Change → Type 0 = λ cs. IsNext IsWork cs c.args.old.now.live c.draft_change.new.drafts.items c.note.new.gone.items c.note-in-loop-number.new.gone.items in
     subst P (sym (next_changes c.args.slots.now c.loop-number.number c.index-slots-number.result lt c.index-slots-number.is))
-    (subst₂ (λ put gone. IsNext IsWork (take c.loop-number.number changes ++ change_of c.index-slots-number.result.change ∷ []) c.args.old.now.live (projects_in c.apply_change.new.projects.items) put gone)
+    (subst₂ (λ put gone. IsNext IsWork (take c.loop-number.number changes ++ change_of c.index-slots-number.result.change ∷ []) c.args.old.now.live c.draft_change.new.drafts.items put gone)
     (sym (c.in_ok-note.ensures ∙ ap (λ xs. c.loop-number.turnover.put.items ++ xs) c.put_number.ensures)) (sym c.in_ok-note-2.ensures)
     (c.in_ok-replaced.ensures.next (take c.loop-number.number changes) c.args.old.now.live c.loop-number.turnover.put.items c.loop-number.turnover.gone.items (ap (λ n. n + 1) (length-take-le c.loop-number.number changes (omega (arith, few, lt)))) c.loop-number.invariant))
 
-pub apply_change-requires-clause-before : goal.apply_change-requires-clause-before
-apply_change-requires-clause-before g c =
+pub draft_change-requires-clause-before : goal.draft_change-requires-clause-before
+draft_change-requires-clause-before g c =
     let lt = within c.args.slots.now c.loop-number.number c.args.version c.loop-number-test.true c.requires.done in
     let changes : List Change = changes_from c.args.slots.now in
     let few : length changes ≡ length c.args.slots.now = length-map (map slot_from c.args.slots.now) (λ (s : Slot). s.change) ∙ length-map c.args.slots.now (slot_from {W = g.row.W.Denot}) in
@@ -68,4 +68,4 @@ apply_change-requires-clause-before g c =
 pub returns : goal.returns
 returns g c =
     let end : c.loop-number.number ≡ c.args.version = omega (arith, c.loop-number-test.false, c.loop-number.auto.number-end) in
-    subst (λ n. IsNext (g.W.Indexed.IsWorkOf c.args.settings.now) (take n (changes_from c.args.slots.now)) c.args.old.now.live (projects_in c.loop-number.projects.items) c.loop-number.turnover.put.items c.loop-number.turnover.gone.items) end c.loop-number.invariant
+    subst₂ (λ n ps. IsNext (g.W.Indexed.IsWorkOf c.args.settings.now) (take n (changes_from c.args.slots.now)) c.args.old.now.live ps c.loop-number.turnover.put.items c.loop-number.turnover.gone.items) end (sym c.in_ok-projects.ensures) c.loop-number.invariant
