@@ -90,7 +90,13 @@ fn query_reply<L: Ledger, H: Hub<Done = Work<L>>>(
     }
     if query.finish {
         return match help(
-            alloc, settings, keyer, hub, asked.done, asked.accepted, pass,
+            alloc,
+            settings,
+            keyer,
+            hub,
+            asked.done,
+            asked.accepted,
+            pass,
         ) {
             Ok(()) => view_reply(alloc, settings, hub, query, asked.accepted, pass, steps),
             Err(Memory) => Err(Memory),

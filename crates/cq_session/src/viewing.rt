@@ -54,7 +54,14 @@ fn reply_in<L: Ledger, H: Hub<Done = Work<L>>>(
                 pass,
             };
             answer(
-                alloc, settings, files, conditions, query, view.version, &mut buckets, steps,
+                alloc,
+                settings,
+                files,
+                conditions,
+                query,
+                view.version,
+                &mut buckets,
+                steps,
             )
         }
         Err(Memory) => Err(Memory),

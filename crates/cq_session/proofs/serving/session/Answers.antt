@@ -91,4 +91,4 @@ returns-in-Err-turn_long-clause-served g c =
     let sends = c.in-Err-turn_long.ensures.bytes in
     λ by h stands closed always.
     lead_weaker _ _ by _ _ _ _ (c.lines.invariant.goes by h stands closed tt) (λ now so. write_failed c.args.settings.now _ _ by h now now _ _ _ _ _ _ _ _ _ _ cuts.got cuts.finds.0 reply.Long so cuts.bytes cuts.taken cuts.within cuts.limit (λ e. (cuts.stays e).0) cuts.finds.2
-        (answers_long c.args.settings.now (g.H.Hub.callers c.args.hub.now) g.H.Hub.alone by c.lines.seen now cuts.finds.0 cuts.finds.1) sends.0 sends.1 sends.2 sends.3)
+    (answers_long c.args.settings.now (g.H.Hub.callers c.args.hub.now) g.H.Hub.alone by c.lines.seen now cuts.finds.0 cuts.finds.1) sends.0 sends.1 sends.2 sends.3)

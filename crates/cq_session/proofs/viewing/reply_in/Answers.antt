@@ -41,8 +41,8 @@ pub returns-in-Ok-clause-reply : goal.returns-in-Ok-clause-reply
 returns-in-Ok-clause-reply g c = IfOk-weaker c.answer.result _ _ (λ reply shows by h stands opened.
     subst (λ (set : Settings). IsReply set (accepted h) c.args.view.now.version c.args.query.now reply) (sym c.requires.hub_settings)
     (shows (accepted h) (of_version g.bound-3.keys_in g.bound-3.IsWorkOf c.requires.works (g.H.Hub.settings c.args.hub.now) c.args.settings.now c.requires.hub_settings (g.H.Hub.callers c.args.hub.now) by h c.args.view.now c.args.query.now.project c.files-files.result.now c.conditions-conditions.result.now opened
-        (c.files-files.ensures ∙ ap (λ (l : Listed (Work g.row.L.Denot)). files_in l.projects c.args.query.now.project) c.deref.ensures)
-        (c.conditions-conditions.ensures ∙ ap (λ (l : Listed (Work g.row.L.Denot)). conditions_in l.projects c.args.query.now.project) c.deref-2.ensures)))) c.answer.ensures.reply
+    (c.files-files.ensures ∙ ap (λ (l : Listed (Work g.row.L.Denot)). files_in l.projects c.args.query.now.project) c.deref.ensures)
+    (c.conditions-conditions.ensures ∙ ap (λ (l : Listed (Work g.row.L.Denot)). conditions_in l.projects c.args.query.now.project) c.deref-2.ensures)))) c.answer.ensures.reply
 
 pub returns-in-Ok-clause-moves : goal.returns-in-Ok-clause-moves
 returns-in-Ok-clause-moves g c =

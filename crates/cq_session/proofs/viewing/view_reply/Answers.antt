@@ -14,8 +14,14 @@ pub open_view-requires : goal.open_view-requires
 open_view-requires g c =
     let r = c.requires.ready in
     let advanced = c.in-Ok.ensures.published r.0 r.1 r.2 in
-    record { closed = (r.0, advanced.mid, stands_mid _ _ (g.H.Hub.callers c.args.hub.now) r.0 _ _ _ r.1 _ advanced,
-      still_closed g.H.Hub.Stands (g.H.Hub.settings c.args.hub.now) (g.H.Hub.callers c.args.hub.now) g.H.Hub.alone c.args.hub.now (g.bound-3.IsWorkOf (g.H.Hub.settings c.args.hub.now)) (λ p c h s. g.met.H.Hub.lawful _ p c h s) (λ p c h s. g.met.H.Hub.caller _ p c h s) r.0 c.args.to r.1 c.in-Ok._published _ advanced r.3.0) }
+    record {
+      closed = (
+        r.0,
+        advanced.mid,
+        stands_mid _ _ (g.H.Hub.callers c.args.hub.now) r.0 _ _ _ r.1 _ advanced,
+        still_closed g.H.Hub.Stands (g.H.Hub.settings c.args.hub.now) (g.H.Hub.callers c.args.hub.now) g.H.Hub.alone c.args.hub.now (g.bound-3.IsWorkOf (g.H.Hub.settings c.args.hub.now)) (λ p c h s. g.met.H.Hub.lawful _ p c h s) (λ p c h s. g.met.H.Hub.caller _ p c h s) r.0 c.args.to r.1 c.in-Ok._published _ advanced r.3.0,
+      );
+    }
 
 pub returns-in-Err-open_view-clause-refused : goal.returns-in-Err-open_view-clause-refused
 returns-in-Err-open_view-clause-refused g c = λ by h stands closed always.
@@ -27,9 +33,12 @@ pub reply_in-reply-requires-clause-viewing : goal.reply_in-reply-requires-clause
 reply_in-reply-requires-clause-viewing g c =
     let r = c.requires.ready in
     let advanced = c.in-Ok.ensures.published r.0 r.1 r.2 in
-    let opened = c.in-Ok-open_view.ensures.opened r.0 advanced.mid (stands_mid _ _ (g.H.Hub.callers c.args.hub.now) r.0 _ _ _ r.1 _ advanced) in
-    (r.0, opened.mid ++ Open r.0 c.in-Ok-open_view.view.version ∷ [], opened.stands,
-      is_open g.H.Hub.Stands (g.H.Hub.settings c.args.hub.now) (g.H.Hub.callers c.args.hub.now) g.H.Hub.alone c.args.hub.now (g.bound-3.IsWorkOf (g.H.Hub.settings c.args.hub.now)) (λ p c h s. g.met.H.Hub.lawful _ p c h s) (λ p c h s. g.met.H.Hub.caller _ p c h s) r.0 c.args.to r.1 c.in-Ok._published _ advanced c.in-Ok-open_view.view _ opened)
+    let opened = c.in-Ok-open_view.ensures.opened r.0 advanced.mid (stands_mid _ _ (g.H.Hub.callers c.args.hub.now) r.0 _ _ _ r.1 _ advanced) in (
+      r.0,
+      opened.mid ++ Open r.0 c.in-Ok-open_view.view.version ∷ [],
+      opened.stands,
+      is_open g.H.Hub.Stands (g.H.Hub.settings c.args.hub.now) (g.H.Hub.callers c.args.hub.now) g.H.Hub.alone c.args.hub.now (g.bound-3.IsWorkOf (g.H.Hub.settings c.args.hub.now)) (λ p c h s. g.met.H.Hub.lawful _ p c h s) (λ p c h s. g.met.H.Hub.caller _ p c h s) r.0 c.args.to r.1 c.in-Ok._published _ advanced c.in-Ok-open_view.view _ opened,
+    )
 
 pub close_view-requires : goal.close_view-requires
 close_view-requires g c =
