@@ -4,8 +4,8 @@ ghost use Rattle.cq_base.specs.declared.lang.Lang.{Lang};
 ghost use Rattle.cq_base.specs.declared.settings.Settings.{Settings};
 ghost use Rattle.cq_base.specs.Changes.{IsSoundChange};
 ghost use Rattle.cq_history.specs.Changes.{is_put};
-ghost use Rattle.cq_history.specs.State.{state, ready, slot_of, view_of, IsAccepted};
-ghost use Rattle.cq_hub.specs.Hubs.{IsPassOf, HasSeen};
+ghost use Rattle.cq_history.specs.State.{state, slot_of, view_of, IsAccepted};
+ghost use Rattle.cq_hub.specs.Hubs.{HasSeen};
 
 use crate::{Hub, Solo};
 use cq_base::{Change, Entry, Lang, Memory, Settings, Text};
@@ -195,16 +195,43 @@ fn taken(alloc: Global) -> Result<(bool, Option<u64>, bool), Refused> {
 fn each_shard_answers_for_its_keys(rt: HostRuntime) -> Result<(), Refused> {
     let (number, finished, version, odd) = run::<Apart>(rt.alloc(), 3)?;
     assert_eq!(rt; (number, finished, version), (1, Finished::Done, 1));
-    assert_eq!(rt; odd.as_slice(), [Entry { key: 3, change: 1, at: 0 }].as_slice());
+    assert_eq!(rt;
+        odd.as_slice(),
+        [Entry {
+            key: 3,
+            change: 1,
+            at: 0
+        }]
+        .as_slice()
+    );
     let (_, _, _, even) = run::<Apart>(rt.alloc(), 4)?;
-    assert_eq!(rt; even.as_slice(), [Entry { key: 4, change: 1, at: 1 }].as_slice());
+    assert_eq!(rt;
+        even.as_slice(),
+        [Entry {
+            key: 4,
+            change: 1,
+            at: 1
+        }]
+        .as_slice()
+    );
     Ok(())
 }
 
 #[test]
 fn all_windows_may_have_one_key(rt: HostRuntime) -> Result<(), Refused> {
     let (_, _, _, entries) = run::<Alike>(rt.alloc(), 0)?;
-    let both = [Entry { key: 0, change: 1, at: 0 }, Entry { key: 0, change: 1, at: 1 }];
+    let both = [
+        Entry {
+            key: 0,
+            change: 1,
+            at: 0,
+        },
+        Entry {
+            key: 0,
+            change: 1,
+            at: 1,
+        },
+    ];
     assert_eq!(rt; entries.as_slice(), both.as_slice());
     Ok(())
 }
