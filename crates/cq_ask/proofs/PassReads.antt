@@ -9,13 +9,12 @@ use Rattle.std.specs.Arc.{arc_value}
 use Rattle.cq_base.specs.declared.lang.Lang.{Lang}
 use Rattle.cq_base.specs.declared.settings.Settings.{Settings}
 use Rattle.cq_history.specs.declared.event.Event.{Event}
-use Rattle.cq_history.specs.Files.{files_at, files_of}
+use Rattle.cq_history.specs.Files.{File, files_at, files_of}
 use Rattle.cq_history.specs.State.{state, accepted}
 use Rattle.cq_history.specs.Lawful.{Lawful}
 use Rattle.cq_history.proofs.Prefixes.{changes_in-state}
 use Rattle.cq_board.specs.declared.listing.View.{View}
-use Rattle.cq_board.specs.declared.held.Held.{Held}
-use Rattle.cq_board.specs.Listings.{file_from, files_in}
+use Rattle.cq_board.specs.Listings.{files_in}
 use Rattle.cq_board.specs.Related.{AreSameFiles}
 use Rattle.cq_hub.specs.Hubs.{Calls, Never}
 use Rattle.cq_hub.specs.Views.{IsOpen}
@@ -49,22 +48,22 @@ open_files IsWork callers c h v project files opened are =
 
 -- ---- the changes of the files, gathered
 
-module _ {W : Type 0} (files : Files W) (i : ℕ) (f : Arc (Held W) Global) (within : i < length files) (at : f ≡ get_or files i f) where
-  number_at : get_or (numbers_in files) i 0 ≡ (arc_value f).change
+module _ {W : Type 0} (files : Files W) (i : ℕ) (f : Arc (File W) Global) (within : i < length files) (at : f ≡ get_or files i f) where
+  number_at : get_or (numbers_in files) i 0 ≡ (arc_value f).number
   number_at =
-      get_or-map number_in (shown files) i (file_from f) 0 (omega (arith, within, length-map files file_from))
-      ∙ ap number_in (get_or-map file_from files i f (file_from f) within ∙ ap file_from (sym at))
+      get_or-map number_in (shown files) i (arc_value f) 0 (omega (arith, within, length-map files arc_value))
+      ∙ ap number_in (get_or-map arc_value files i f (arc_value f) within ∙ ap arc_value (sym at))
 
   -- one more
-  pub numbers_more : (old new : List ℕ) (change : ℕ) → old ≡ take i (numbers_in files) → change ≡ (arc_value f).change → new ≡ old ++ change ∷ [] → new ≡ take (i + 1) (numbers_in files)
+  pub numbers_more : (old new : List ℕ) (change : ℕ) → old ≡ take i (numbers_in files) → change ≡ (arc_value f).number → new ≡ old ++ change ∷ [] → new ≡ take (i + 1) (numbers_in files)
   numbers_more old new change front is pushed =
       pushed ∙ ap (λ xs. xs ++ change ∷ []) front ∙ ap (λ n. take i (numbers_in files) ++ n ∷ []) (is ∙ sym number_at)
-      ∙ sym (take_more (numbers_in files) i 0 (omega (arith, within, length-map files file_from, length-map (shown files) number_in)))
+      ∙ sym (take_more (numbers_in files) i 0 (omega (arith, within, length-map files arc_value, length-map (shown files) number_in)))
 
 -- all of them, in order
 pub changes_all : {W : Type 0} (files : Files W) (i : ℕ) (gathered sorted : List ℕ) → length files ≤ i → gathered ≡ take i (numbers_in files) → IsSorted nat_cmp sorted → IsPermutation gathered sorted → AreChangesOf files sorted
 changes_all files i gathered sorted past front in_order permuted =
-    let all : gathered ≡ numbers_in files = front ∙ take_all i (numbers_in files) (omega (arith, past, length-map files file_from, length-map (shown files) number_in)) in
+    let all : gathered ≡ numbers_in files = front ∙ take_all i (numbers_in files) (omega (arith, past, length-map files arc_value, length-map (shown files) number_in)) in
     record {
       sorted = in_order;
       each = λ r. (λ there. subst (λ xs. Contains xs r) all (Contains-permutation sorted gathered r (IsPermutation-sym gathered sorted permuted) there), λ there. Contains-permutation gathered sorted r permuted (subst (λ xs. Contains xs r) (sym all) there));

@@ -9,17 +9,16 @@ use Rattle.cq_base.specs.declared.lang.Lang.{Lang}
 use Rattle.cq_history.specs.declared.event.Event.{Event}
 use Rattle.cq_history.specs.Files.{File}
 use Rattle.cq_history.specs.State.{state}
-use Rattle.cq_board.specs.declared.held.Held.{Held}
 use Rattle.cq_board.specs.declared.listing.View.{View}
-use Rattle.cq_board.specs.Listings.{file_from, files_in}
+use Rattle.cq_board.specs.Listings.{files_in}
 use Rattle.cq_hub.specs.Views.{IsOpen}
 
 abbrev pub Files : Type 0 → Type 0
-Files W = List (Arc (Held W) Global)
+Files W = List (Arc (File W) Global)
 
 module _ {W : Type 0} where
   abbrev pub shown : Files W → List (File W)
-  shown files = map file_from files
+  shown files = map arc_value files
 
   abbrev pub number_in : File W → ℕ
   number_in f = f.number

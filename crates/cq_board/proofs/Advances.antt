@@ -19,10 +19,9 @@ use Rattle.cq_board.specs.Related.{IsSameFile, AreSameFiles}
 use Rattle.cq_board.specs.declared.kept.Kept.{Kept}
 use Rattle.cq_board.specs.Slots.{slot_from, change_of}
 use Rattle.cq_board.specs.Boards.{changes_from}
-use Rattle.cq_board.specs.Listings.{name_in, path_of, number_at, files_in, conditions_in, listed, IsListing}
+use Rattle.cq_board.specs.Listings.{name_in, path_of, number_at, files_in, conditions_in, listed, IsListing, ListedProject}
 use Rattle.cq_board.specs.Ordered.{AreRising}
 use Rattle.cq_board.proofs.Living.{live_put, live_drop, live_gate}
-use Rattle.cq_board.specs.declared.held.Project.{Project}
 use Rattle.cq_board.proofs.OwnerLists.{rising_same}
 use Rattle.cq_board.proofs.Related.{same_with, same_without}
 
@@ -47,14 +46,14 @@ module _ {X Y : Type 0} (Body : Lang → X → Y → Type 0) where
   same_number p [] (y ∷ ys) same = absurd same
   same_number p (x ∷ xs) [] same = absurd same
 
-module _ {W : Type 0} (IsWork : Lang → List ℕ → W → Type 0) (changes : List Change) (number : ℕ) (n : length changes + 1 ≡ number) (old : List (Project W)) (live : List ℕ) (is : IsListing IsWork changes (listed old live)) where
+module _ {W : Type 0} (IsWork : Lang → List ℕ → W → Type 0) (changes : List Change) (number : ℕ) (n : length changes + 1 ≡ number) (old : List (ListedProject W)) (live : List ℕ) (is : IsListing IsWork changes (listed old live)) where
   pub paths_rise : (q : List ℕ) → AreRising path_of (files_in old q)
   paths_rise q = rising_same path_of path_of (files_of q changes) (files_in old q) (same_paths IsWork (files_of q changes) (files_in old q) (is.files q)) (in_order_rising (files_of q changes) (files_stand changes q).ordered)
 
   pub number_here : (project path : List ℕ) → number_at path (files_in old project) ≡ number_at path (files_of project changes)
   number_here project path = sym (same_number IsWork path (files_of project changes) (files_in old project) (is.files project))
 
-  module _ (new : List (Project W)) (now : List ℕ) (names : AreRising name_in new) (rising : IsStrictlyIncreasing now) where
+  module _ (new : List (ListedProject W)) (now : List ℕ) (names : AreRising name_in new) (rising : IsStrictlyIncreasing now) where
     pub advance_put : (project path : List ℕ) (lang : Lang) (text : List ℕ) (f : File W) (replaced : Option ℕ) →
         replaced ≡ number_at path (files_in old project) →
         ((r : ℕ) → Contains now r ↔ ((r ≡ number) ⊎ (Contains live r × (replaced ≢ Some r)))) →

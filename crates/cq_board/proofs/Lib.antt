@@ -6,6 +6,7 @@ pub mod Living
 pub mod Numbers
 pub mod OneMore
 pub mod OwnerLists
+pub mod PathOrders
 pub mod Places
 pub mod ProjectLists
 pub mod Putting

@@ -6,10 +6,8 @@ use Rattle.std.specs.declared.sync.Arc.{Arc}
 use Rattle.std.specs.Str.{bytes_eq}
 use Rattle.std.proofs.lemmas.List.{map-append, map-set, set-get_or, get_or-map}
 use Rattle.std.proofs.lemmas.Slice.Eq.{bytes_eq-Decides}
-use Rattle.cq_history.specs.Files.{is_before}
-use Rattle.cq_board.specs.declared.held.Held.{Held}
-use Rattle.cq_board.specs.declared.held.Project.{Project}
-use Rattle.cq_board.specs.Listings.{owner_name, projects_in, name_in, gate_of, path_in, path_of, file_from, files_in, conditions_in, position_of}
+use Rattle.cq_history.specs.Files.{is_before, File}
+use Rattle.cq_board.specs.Listings.{owner_name, projects_in, name_in, path_in, path_of, files_in, conditions_in, position_of, ListedProject}
 use Rattle.cq_board.specs.Ordered.{AreRising, AreBelow, AreAbove, IsAt, IsGap}
 use Rattle.cq_board.proofs.Putting.{below_apart, above_apart, insert_seam}
 use Rattle.cq_board.proofs.ProjectLists.{files_in-seam, conditions_in-seam}
@@ -76,31 +74,31 @@ module _ {X : Type 0} (text : X → List ℕ) where
 
 module _ {W : Type 0} where
   -- files in path order, as they are held
-  held_paths : (hs : List (Arc (Held W) Global)) → map path_of (map file_from hs) ≡ map path_in hs
+  held_paths : (hs : List (Arc (File W) Global)) → map path_of (map arc_value hs) ≡ map path_in hs
   held_paths [] = refl
   held_paths (h ∷ hs) = ap (λ ps. path_in h ∷ ps) (held_paths hs)
 
-  pub rising_held : (hs : List (Arc (Held W) Global)) → AreRising path_of (map file_from hs) → AreRising path_in hs
-  rising_held hs rising = rising_same path_of path_in (map file_from hs) hs (held_paths hs) rising
+  pub rising_held : (hs : List (Arc (File W) Global)) → AreRising path_of (map arc_value hs) → AreRising path_in hs
+  rising_held hs rising = rising_same path_of path_in (map arc_value hs) hs (held_paths hs) rising
 
-  pub rising_alike : (hs ks : List (Arc (Held W) Global)) → map file_from ks ≡ map file_from hs → AreRising path_in hs → AreRising path_in ks
-  rising_alike hs ks same rising = rising_held ks (subst (AreRising path_of) (sym same) (rising_same path_in path_of hs (map file_from hs) (sym (held_paths hs)) rising))
+  pub rising_alike : (hs ks : List (Arc (File W) Global)) → map arc_value ks ≡ map arc_value hs → AreRising path_in hs → AreRising path_in ks
+  rising_alike hs ks same rising = rising_held ks (subst (AreRising path_of) (sym same) (rising_same path_in path_of hs (map arc_value hs) (sym (held_paths hs)) rising))
 
   -- ---- the owner at an index
 
-  position_owners : (name : List ℕ) (owners : List (Arc (Project W) Global)) → position_of name (projects_in owners) ≡ position_or_len (λ (p : Arc (Project W) Global). bytes_eq name (owner_name p)) owners
+  position_owners : (name : List ℕ) (owners : List (Arc (ListedProject W) Global)) → position_of name (projects_in owners) ≡ position_or_len (λ (p : Arc (ListedProject W) Global). bytes_eq name (owner_name p)) owners
   position_owners name [] = refl
   position_owners name (p ∷ owners) = ap (λ n. cond (not (bytes_eq name (owner_name p))) (1 + n) 0) (position_owners name owners)
 
-  pub position_at : (name : List ℕ) (owners : List (Arc (Project W) Global)) (i : ℕ) → IsAt owner_name name owners i → i ≡ position_of name (projects_in owners)
+  pub position_at : (name : List ℕ) (owners : List (Arc (ListedProject W) Global)) (i : ℕ) → IsAt owner_name name owners i → i ≡ position_of name (projects_in owners)
   position_at name owners i at =
       sym at.index ∙ sym (position_seam owner_name name at.before at.after at.item at.low at.same)
-      ∙ ap (position_or_len (λ (p : Arc (Project W) Global). bytes_eq name (owner_name p))) (sym at.is) ∙ sym (position_owners name owners)
+      ∙ ap (position_or_len (λ (p : Arc (ListedProject W) Global). bytes_eq name (owner_name p))) (sym at.is) ∙ sym (position_owners name owners)
 
   -- ---- a project that is added
 
-  module _ (name : List ℕ) (owners : List (Arc (Project W) Global)) (i : ℕ) (gap : IsGap owner_name name owners i) (part : Arc (Project W) Global) (named : owner_name part ≡ name) where
-    abbrev project : Project W
+  module _ (name : List ℕ) (owners : List (Arc (ListedProject W) Global)) (i : ℕ) (gap : IsGap owner_name name owners i) (part : Arc (ListedProject W) Global) (named : owner_name part ≡ name) where
+    abbrev project : ListedProject W
     project = arc_value part
 
     seam : insert owners i part ≡ gap.before ++ part ∷ gap.after
@@ -120,7 +118,7 @@ module _ {W : Type 0} where
     pub added_position : i ≡ position_of name (projects_in (insert owners i part))
     added_position =
         sym gap.index ∙ sym (position_seam owner_name name gap.before gap.after part gap.low named)
-        ∙ ap (position_or_len (λ (p : Arc (Project W) Global). bytes_eq name (owner_name p))) (sym seam) ∙ sym (position_owners name (insert owners i part))
+        ∙ ap (position_or_len (λ (p : Arc (ListedProject W) Global). bytes_eq name (owner_name p))) (sym seam) ∙ sym (position_owners name (insert owners i part))
 
     projects_seam : projects_in (insert owners i part) ≡ projects_in gap.before ++ project ∷ projects_in gap.after
     projects_seam = ap projects_in seam ∙ map-append arc_value gap.before (part ∷ gap.after)
@@ -128,32 +126,32 @@ module _ {W : Type 0} where
     projects_gap : projects_in owners ≡ projects_in gap.before ++ projects_in gap.after
     projects_gap = ap projects_in gap.is ∙ map-append arc_value gap.before gap.after
 
-    others : (P : List ℕ → Type 0) (ps : List (Arc (Project W) Global)) → AllByRecursion (λ p. P (owner_name p)) ps → ((q : List ℕ) → P q → bytes_eq (name_in project) q ≡ false) → AllByRecursion (λ p. bytes_eq (name_in project) (name_in p) ≡ false) (projects_in ps)
+    others : (P : List ℕ → Type 0) (ps : List (Arc (ListedProject W) Global)) → AllByRecursion (λ p. P (owner_name p)) ps → ((q : List ℕ) → P q → bytes_eq project.name q ≡ false) → AllByRecursion (λ p. bytes_eq project.name p.name ≡ false) (projects_in ps)
     others P [] all apart = tt
     others P (p ∷ ps) all apart = (apart (owner_name p) all.0, others P ps all.1 apart)
 
-    low_apart : AllByRecursion (λ p. bytes_eq (name_in project) (name_in p) ≡ false) (projects_in gap.before)
+    low_apart : AllByRecursion (λ p. bytes_eq project.name p.name ≡ false) (projects_in gap.before)
     low_apart = others (λ q. is_before q name ≡ true) gap.before gap.low (λ q h. ap (λ n. bytes_eq n q) named ∙ below_apart name q h)
 
-    high_apart : AllByRecursion (λ p. bytes_eq (name_in project) (name_in p) ≡ false) (projects_in gap.after)
+    high_apart : AllByRecursion (λ p. bytes_eq project.name p.name ≡ false) (projects_in gap.after)
     high_apart = others (λ q. is_before name q ≡ true) gap.after gap.high (λ q h. ap (λ n. bytes_eq n q) named ∙ above_apart name q h)
 
-    pub added_files : project.files.items ≡ [] → (q : List ℕ) → files_in (projects_in (insert owners i part)) q ≡ files_in (projects_in owners) q
+    pub added_files : project.files ≡ [] → (q : List ℕ) → files_in (projects_in (insert owners i part)) q ≡ files_in (projects_in owners) q
     added_files none q = ap (λ ps. files_in ps q) projects_seam ∙ files_in-seam (projects_in gap.before) (projects_in gap.after) project none low_apart high_apart q ∙ ap (λ ps. files_in ps q) (sym projects_gap)
 
-    pub added_conditions : gate_of project ≡ [] → (q : List ℕ) → conditions_in (projects_in (insert owners i part)) q ≡ conditions_in (projects_in owners) q
+    pub added_conditions : project.conditions ≡ [] → (q : List ℕ) → conditions_in (projects_in (insert owners i part)) q ≡ conditions_in (projects_in owners) q
     added_conditions none q = ap (λ ps. conditions_in ps q) projects_seam ∙ conditions_in-seam (projects_in gap.before) (projects_in gap.after) project none low_apart high_apart q ∙ ap (λ ps. conditions_in ps q) (sym projects_gap)
 
-  pub owner_names : (projects : List (Arc (Project W) Global)) → map name_in (map arc_value projects) ≡ map owner_name projects
+  pub owner_names : (projects : List (Arc (ListedProject W) Global)) → map name_in (map arc_value projects) ≡ map owner_name projects
   owner_names [] = refl
   owner_names (p ∷ projects) = ap (λ ns. owner_name p ∷ ns) (owner_names projects)
 
-  pub rising_owners : (projects : List (Arc (Project W) Global)) → AreRising name_in (projects_in projects) → AreRising owner_name projects
+  pub rising_owners : (projects : List (Arc (ListedProject W) Global)) → AreRising name_in (projects_in projects) → AreRising owner_name projects
   rising_owners projects rising = rising_same name_in owner_name (projects_in projects) projects (owner_names projects) rising
 
-  pub rising_projects : (projects : List (Arc (Project W) Global)) → AreRising owner_name projects → AreRising name_in (projects_in projects)
+  pub rising_projects : (projects : List (Arc (ListedProject W) Global)) → AreRising owner_name projects → AreRising name_in (projects_in projects)
   rising_projects projects rising = rising_same owner_name name_in projects (projects_in projects) (sym (owner_names projects)) rising
 
   -- the one at the index of a search
-  pub found_within : (name : List ℕ) (projects : List (Arc (Project W) Global)) (i : ℕ) → IsAt owner_name name projects i → i < length projects
+  pub found_within : (name : List ℕ) (projects : List (Arc (ListedProject W) Global)) (i : ℕ) → IsAt owner_name name projects i → i < length projects
   found_within name projects i at = omega (arith, ap length at.is, length-append at.before (at.item ∷ at.after), at.index)

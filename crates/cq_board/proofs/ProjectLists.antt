@@ -1,12 +1,12 @@
 -- The projects of a listing.
+use Rattle.std.specs.Arc.{arc_value}
 use Rattle.std.proofs.Common.{◌≡◌, ℕ, zero, suc, ◌+◌, ◌<◌, Bool, true, false, cond, not, List, [], ◌∷◌, ◌++◌, length, map, get_or, set, refl, sym, ap, ◌∙◌, subst, arith, ◌⊎◌, inl, inr, ⊎_elim}
 use Rattle.std.specs.List.{AllByRecursion, position_or_len}
 use Rattle.std.specs.Str.{bytes_eq}
 use Rattle.std.proofs.lemmas.Slice.Eq.{bytes_eq-Decides}
 use Rattle.cq_base.specs.declared.change.Condition.{Condition}
 use Rattle.cq_history.specs.Files.{File}
-use Rattle.cq_board.specs.declared.held.Project.{Project}
-use Rattle.cq_board.specs.Listings.{name_in, gate_of, file_from, files_in, conditions_in, position_of}
+use Rattle.cq_board.specs.Listings.{name_in, files_in, conditions_in, position_of, ListedProject}
 
 either : (b : Bool) → (b ≡ true) ⊎ (b ≡ false)
 either true = inl refl
@@ -42,112 +42,112 @@ position-push p (x ∷ xs) y none passes =
     end ∙ ap (λ b. cond (not b) (1 + position_or_len p (xs ++ y ∷ [])) 0) (sym other))
     (either (p x))
 
-module _ {W V : Type 0} (part : Project W → V) (none : V) where
+module _ {W V : Type 0} (part : ListedProject W → V) (none : V) where
   -- what a look-up by name finds of a project
-  look : List (Project W) → List ℕ → V
+  look : List (ListedProject W) → List ℕ → V
   look [] q = none
-  look (p ∷ ps) q = cond (bytes_eq q (name_in p)) (part p) (look ps q)
+  look (p ∷ ps) q = cond (bytes_eq q p.name) (part p) (look ps q)
 
-  look-set : (name : List ℕ) (ps : List (Project W)) (i : ℕ) (n : Project W) → i ≡ position_of name ps → i < length ps → (name_in n) ≡ name → (q : List ℕ) → look (set ps i n) q ≡ cond (bytes_eq q name) (part n) (look ps q)
+  look-set : (name : List ℕ) (ps : List (ListedProject W)) (i : ℕ) (n : ListedProject W) → i ≡ position_of name ps → i < length ps → n.name ≡ name → (q : List ℕ) → look (set ps i n) q ≡ cond (bytes_eq q name) (part n) (look ps q)
   unfolding look
   look-set name [] i n at within is q = absurd (omega arith)
   look-set name (p ∷ ps) zero n at within is q =
       ⊎_elim
-      (λ (here : bytes_eq name (name_in p) ≡ true).
-      let same : name ≡ (name_in p) = (bytes_eq-Decides name (name_in p)).0 here in
+      (λ (here : bytes_eq name p.name ≡ true).
+      let same : name ≡ p.name = (bytes_eq-Decides name p.name).0 here in
       ap (λ m. cond (bytes_eq q m) (part n) (look ps q)) is
       ∙ elim (bytes_eq q name) as (λ b. cond b (part n) (look ps q) ≡ cond b (part n) (cond b (part p) (look ps q))) [ true ↦ refl | false ↦ refl ]
       ∙ ap (λ m. cond (bytes_eq q name) (part n) (cond (bytes_eq q m) (part p) (look ps q))) same)
-      (λ (other : bytes_eq name (name_in p) ≡ false).
+      (λ (other : bytes_eq name p.name ≡ false).
       let no : zero ≡ 1 + position_of name ps = at ∙ ap (λ b. cond (not b) (1 + position_of name ps) 0) other in absurd (omega (arith, no)))
-      (either (bytes_eq name (name_in p)))
+      (either (bytes_eq name p.name))
   look-set name (p ∷ ps) (suc i) n at within is q =
       ⊎_elim
-      (λ (here : bytes_eq name (name_in p) ≡ true).
+      (λ (here : bytes_eq name p.name ≡ true).
       let no : suc i ≡ 0 = at ∙ ap (λ b. cond (not b) (1 + position_of name ps) 0) here in absurd (omega (arith, no)))
-      (λ (other : bytes_eq name (name_in p) ≡ false).
+      (λ (other : bytes_eq name p.name ≡ false).
       let deeper : suc i ≡ 1 + position_of name ps = at ∙ ap (λ b. cond (not b) (1 + position_of name ps) 0) other in
-      ap (cond (bytes_eq q (name_in p)) (part p)) (look-set name ps i n (omega (arith, deeper)) (omega (arith, within)) is q)
-      ∙ swap_case (bytes_eq q (name_in p)) (bytes_eq q name) (bytes_eq name (name_in p)) (part p) (part n) (look ps q) other (λ a b. same_name q (name_in p) name a b))
-      (either (bytes_eq name (name_in p)))
+      ap (cond (bytes_eq q p.name) (part p)) (look-set name ps i n (omega (arith, deeper)) (omega (arith, within)) is q)
+      ∙ swap_case (bytes_eq q p.name) (bytes_eq q name) (bytes_eq name p.name) (part p) (part n) (look ps q) other (λ a b. same_name q p.name name a b))
+      (either (bytes_eq name p.name))
 
-  look-push : (ps : List (Project W)) (n : Project W) → part n ≡ none → (q : List ℕ) → look (ps ++ n ∷ []) q ≡ look ps q
+  look-push : (ps : List (ListedProject W)) (n : ListedProject W) → part n ≡ none → (q : List ℕ) → look (ps ++ n ∷ []) q ≡ look ps q
   unfolding look
-  look-push [] n is q = elim (bytes_eq q (name_in n)) as (λ b. cond b (part n) none ≡ none) [ true ↦ is | false ↦ refl ]
-  look-push (p ∷ ps) n is q = ap (cond (bytes_eq q (name_in p)) (part p)) (look-push ps n is q)
+  look-push [] n is q = elim (bytes_eq q n.name) as (λ b. cond b (part n) none ≡ none) [ true ↦ is | false ↦ refl ]
+  look-push (p ∷ ps) n is q = ap (cond (bytes_eq q p.name) (part p)) (look-push ps n is q)
 
-  look-none : (ps : List (Project W)) (name q : List ℕ) → q ≡ name → AllByRecursion (λ p. bytes_eq name (name_in p) ≡ false) ps → look ps q ≡ none
+  look-none : (ps : List (ListedProject W)) (name q : List ℕ) → q ≡ name → AllByRecursion (λ p. bytes_eq name p.name ≡ false) ps → look ps q ≡ none
   unfolding look
   look-none [] name q same apart = refl
-  look-none (p ∷ ps) name q same apart = ap (λ b. cond b (part p) (look ps q)) (ap (λ t. bytes_eq t (name_in p)) same ∙ apart.0) ∙ look-none ps name q same apart.1
+  look-none (p ∷ ps) name q same apart = ap (λ b. cond b (part p) (look ps q)) (ap (λ t. bytes_eq t p.name) same ∙ apart.0) ∙ look-none ps name q same apart.1
 
-  look-seam : (a b : List (Project W)) (n : Project W) → part n ≡ none → AllByRecursion (λ p. bytes_eq (name_in n) (name_in p) ≡ false) a → AllByRecursion (λ p. bytes_eq (name_in n) (name_in p) ≡ false) b → (q : List ℕ) → look (a ++ n ∷ b) q ≡ look (a ++ b) q
+  look-seam : (a b : List (ListedProject W)) (n : ListedProject W) → part n ≡ none → AllByRecursion (λ p. bytes_eq n.name p.name ≡ false) a → AllByRecursion (λ p. bytes_eq n.name p.name ≡ false) b → (q : List ℕ) → look (a ++ n ∷ b) q ≡ look (a ++ b) q
   unfolding look
   look-seam [] b n is low high q =
       ⊎_elim
-      (λ (here : bytes_eq q (name_in n) ≡ true). ap (λ t. cond t (part n) (look b q)) here ∙ is ∙ sym (look-none b (name_in n) q ((bytes_eq-Decides q (name_in n)).0 here) high))
-      (λ (other : bytes_eq q (name_in n) ≡ false). ap (λ t. cond t (part n) (look b q)) other)
-      (either (bytes_eq q (name_in n)))
-  look-seam (p ∷ a) b n is low high q = ap (cond (bytes_eq q (name_in p)) (part p)) (look-seam a b n is low.1 high q)
+      (λ (here : bytes_eq q n.name ≡ true). ap (λ t. cond t (part n) (look b q)) here ∙ is ∙ sym (look-none b n.name q ((bytes_eq-Decides q n.name).0 here) high))
+      (λ (other : bytes_eq q n.name ≡ false). ap (λ t. cond t (part n) (look b q)) other)
+      (either (bytes_eq q n.name))
+  look-seam (p ∷ a) b n is low high q = ap (cond (bytes_eq q p.name) (part p)) (look-seam a b n is low.1 high q)
 
-  look-at : (name : List ℕ) (ps : List (Project W)) (i : ℕ) (p : Project W) → i ≡ position_of name ps → i < length ps → p ≡ get_or ps i p → ((name_in p) ≡ name) × (look ps name ≡ part p)
+  look-at : (name : List ℕ) (ps : List (ListedProject W)) (i : ℕ) (p : ListedProject W) → i ≡ position_of name ps → i < length ps → p ≡ get_or ps i p → (p.name ≡ name) × (look ps name ≡ part p)
   unfolding look
   look-at name [] i p at within read = absurd (omega arith)
   look-at name (r ∷ ps) zero p at within read =
       ⊎_elim
-      (λ (here : bytes_eq name (name_in r) ≡ true).
-      (ap (λ (x : Project W). (name_in x)) read ∙ sym ((bytes_eq-Decides name (name_in r)).0 here), ap (λ b. cond b (part r) (look ps name)) here ∙ ap part (sym read)))
-      (λ (other : bytes_eq name (name_in r) ≡ false).
+      (λ (here : bytes_eq name r.name ≡ true).
+      (ap (λ (x : ListedProject W). x.name) read ∙ sym ((bytes_eq-Decides name r.name).0 here), ap (λ b. cond b (part r) (look ps name)) here ∙ ap part (sym read)))
+      (λ (other : bytes_eq name r.name ≡ false).
       let no : zero ≡ 1 + position_of name ps = at ∙ ap (λ b. cond (not b) (1 + position_of name ps) 0) other in absurd (omega (arith, no)))
-      (either (bytes_eq name (name_in r)))
+      (either (bytes_eq name r.name))
   look-at name (r ∷ ps) (suc i) p at within read =
       ⊎_elim
-      (λ (here : bytes_eq name (name_in r) ≡ true).
+      (λ (here : bytes_eq name r.name ≡ true).
       let no : suc i ≡ 0 = at ∙ ap (λ b. cond (not b) (1 + position_of name ps) 0) here in absurd (omega (arith, no)))
-      (λ (other : bytes_eq name (name_in r) ≡ false).
+      (λ (other : bytes_eq name r.name ≡ false).
       let deeper : suc i ≡ 1 + position_of name ps = at ∙ ap (λ b. cond (not b) (1 + position_of name ps) 0) other in
       let rest = look-at name ps i p (omega (arith, deeper)) (omega (arith, within)) read in
       (rest.0, ap (λ b. cond b (part r) (look ps name)) other ∙ rest.1))
-      (either (bytes_eq name (name_in r)))
+      (either (bytes_eq name r.name))
 
 module _ {W : Type 0} where
-  files_look : (ps : List (Project W)) (q : List ℕ) → files_in ps q ≡ look (λ (p : Project W). map file_from p.files.items) [] ps q
+  files_look : (ps : List (ListedProject W)) (q : List ℕ) → files_in ps q ≡ look (λ (p : ListedProject W). p.files) [] ps q
   unfolding look
   files_look [] q = refl
-  files_look (p ∷ ps) q = ap (cond (bytes_eq q (name_in p)) (map file_from p.files.items)) (files_look ps q)
+  files_look (p ∷ ps) q = ap (cond (bytes_eq q p.name) (p.files)) (files_look ps q)
 
-  conditions_look : (ps : List (Project W)) (q : List ℕ) → conditions_in ps q ≡ look (λ (p : Project W). (gate_of p)) [] ps q
+  conditions_look : (ps : List (ListedProject W)) (q : List ℕ) → conditions_in ps q ≡ look (λ (p : ListedProject W). p.conditions) [] ps q
   unfolding look
   conditions_look [] q = refl
-  conditions_look (p ∷ ps) q = ap (cond (bytes_eq q (name_in p)) (gate_of p)) (conditions_look ps q)
+  conditions_look (p ∷ ps) q = ap (cond (bytes_eq q p.name) p.conditions) (conditions_look ps q)
 
-  pub files_in-set : (name : List ℕ) (ps : List (Project W)) (i : ℕ) (n : Project W) → i ≡ position_of name ps → i < length ps → (name_in n) ≡ name → (q : List ℕ) → files_in (set ps i n) q ≡ cond (bytes_eq q name) (map file_from n.files.items) (files_in ps q)
-  files_in-set name ps i n at within is q = files_look (set ps i n) q ∙ look-set _ [] name ps i n at within is q ∙ ap (cond (bytes_eq q name) (map file_from n.files.items)) (sym (files_look ps q))
+  pub files_in-set : (name : List ℕ) (ps : List (ListedProject W)) (i : ℕ) (n : ListedProject W) → i ≡ position_of name ps → i < length ps → n.name ≡ name → (q : List ℕ) → files_in (set ps i n) q ≡ cond (bytes_eq q name) (n.files) (files_in ps q)
+  files_in-set name ps i n at within is q = files_look (set ps i n) q ∙ look-set _ [] name ps i n at within is q ∙ ap (cond (bytes_eq q name) (n.files)) (sym (files_look ps q))
 
-  pub conditions_in-set : (name : List ℕ) (ps : List (Project W)) (i : ℕ) (n : Project W) → i ≡ position_of name ps → i < length ps → (name_in n) ≡ name → (q : List ℕ) → conditions_in (set ps i n) q ≡ cond (bytes_eq q name) (gate_of n) (conditions_in ps q)
-  conditions_in-set name ps i n at within is q = conditions_look (set ps i n) q ∙ look-set _ [] name ps i n at within is q ∙ ap (cond (bytes_eq q name) (gate_of n)) (sym (conditions_look ps q))
+  pub conditions_in-set : (name : List ℕ) (ps : List (ListedProject W)) (i : ℕ) (n : ListedProject W) → i ≡ position_of name ps → i < length ps → n.name ≡ name → (q : List ℕ) → conditions_in (set ps i n) q ≡ cond (bytes_eq q name) n.conditions (conditions_in ps q)
+  conditions_in-set name ps i n at within is q = conditions_look (set ps i n) q ∙ look-set _ [] name ps i n at within is q ∙ ap (cond (bytes_eq q name) n.conditions) (sym (conditions_look ps q))
 
-  pub files_in-seam : (a b : List (Project W)) (n : Project W) → n.files.items ≡ [] → AllByRecursion (λ p. bytes_eq (name_in n) (name_in p) ≡ false) a → AllByRecursion (λ p. bytes_eq (name_in n) (name_in p) ≡ false) b → (q : List ℕ) → files_in (a ++ n ∷ b) q ≡ files_in (a ++ b) q
-  files_in-seam a b n is low high q = files_look (a ++ n ∷ b) q ∙ look-seam (λ (p : Project W). map file_from p.files.items) [] a b n (ap (map file_from) is) low high q ∙ sym (files_look (a ++ b) q)
+  pub files_in-seam : (a b : List (ListedProject W)) (n : ListedProject W) → n.files ≡ [] → AllByRecursion (λ p. bytes_eq n.name p.name ≡ false) a → AllByRecursion (λ p. bytes_eq n.name p.name ≡ false) b → (q : List ℕ) → files_in (a ++ n ∷ b) q ≡ files_in (a ++ b) q
+  files_in-seam a b n is low high q = files_look (a ++ n ∷ b) q ∙ look-seam (λ (p : ListedProject W). p.files) [] a b n is low high q ∙ sym (files_look (a ++ b) q)
 
-  pub conditions_in-seam : (a b : List (Project W)) (n : Project W) → gate_of n ≡ [] → AllByRecursion (λ p. bytes_eq (name_in n) (name_in p) ≡ false) a → AllByRecursion (λ p. bytes_eq (name_in n) (name_in p) ≡ false) b → (q : List ℕ) → conditions_in (a ++ n ∷ b) q ≡ conditions_in (a ++ b) q
-  conditions_in-seam a b n is low high q = conditions_look (a ++ n ∷ b) q ∙ look-seam (λ (p : Project W). gate_of p) [] a b n is low high q ∙ sym (conditions_look (a ++ b) q)
+  pub conditions_in-seam : (a b : List (ListedProject W)) (n : ListedProject W) → n.conditions ≡ [] → AllByRecursion (λ p. bytes_eq n.name p.name ≡ false) a → AllByRecursion (λ p. bytes_eq n.name p.name ≡ false) b → (q : List ℕ) → conditions_in (a ++ n ∷ b) q ≡ conditions_in (a ++ b) q
+  conditions_in-seam a b n is low high q = conditions_look (a ++ n ∷ b) q ∙ look-seam (λ (p : ListedProject W). p.conditions) [] a b n is low high q ∙ sym (conditions_look (a ++ b) q)
 
   -- what the look-up finds at the project's own name
-  pub files_at-position : (name : List ℕ) (ps : List (Project W)) (i : ℕ) (p : Project W) → i ≡ position_of name ps → i < length ps → p ≡ get_or ps i p → ((name_in p) ≡ name) × (files_in ps name ≡ map file_from p.files.items) × (conditions_in ps name ≡ (gate_of p))
+  pub files_at-position : (name : List ℕ) (ps : List (ListedProject W)) (i : ℕ) (p : ListedProject W) → i ≡ position_of name ps → i < length ps → p ≡ get_or ps i p → (p.name ≡ name) × (files_in ps name ≡ p.files) × (conditions_in ps name ≡ p.conditions)
   files_at-position name ps i p at within read =
-      let files = look-at (λ (x : Project W). map file_from x.files.items) [] name ps i p at within read in
-      let conditions = look-at (λ (x : Project W). (gate_of x)) [] name ps i p at within read in
+      let files = look-at (λ (x : ListedProject W). x.files) [] name ps i p at within read in
+      let conditions = look-at (λ (x : ListedProject W). x.conditions) [] name ps i p at within read in
       (files.0, files_look ps name ∙ files.1, conditions_look ps name ∙ conditions.1)
 
   -- a file is put into the project at its place
-  pub put_at : (name : List ℕ) (ps : List (Project W)) (i : ℕ) (p n : Project W) (change : List (File W) → List (File W)) → i ≡ position_of name ps → i < length ps → p ≡ get_or ps i p → (name_in n) ≡ (name_in p) → map file_from n.files.items ≡ change (map file_from p.files.items) →
+  pub put_at : (name : List ℕ) (ps : List (ListedProject W)) (i : ℕ) (p n : ListedProject W) (change : List (File W) → List (File W)) → i ≡ position_of name ps → i < length ps → p ≡ get_or ps i p → n.name ≡ p.name → n.files ≡ change (p.files) →
       (q : List ℕ) → files_in (set ps i n) q ≡ cond (bytes_eq q name) (change (files_in ps q)) (files_in ps q)
   put_at name ps i p n change at within read named done q =
       let here = files_at-position name ps i p at within read in
       files_in-set name ps i n at within (named ∙ here.0) q ∙ ap (λ fs. cond (bytes_eq q name) fs (files_in ps q)) (done ∙ ap change (sym here.1)) ∙ changed_at_name q name change (files_in ps)
 
-  pub gate_at : (name : List ℕ) (ps : List (Project W)) (i : ℕ) (p n : Project W) (change : List Condition → List Condition) → i ≡ position_of name ps → i < length ps → p ≡ get_or ps i p → (name_in n) ≡ (name_in p) → gate_of n ≡ change (gate_of p) →
+  pub gate_at : (name : List ℕ) (ps : List (ListedProject W)) (i : ℕ) (p n : ListedProject W) (change : List Condition → List Condition) → i ≡ position_of name ps → i < length ps → p ≡ get_or ps i p → n.name ≡ p.name → n.conditions ≡ change p.conditions →
       (q : List ℕ) → conditions_in (set ps i n) q ≡ cond (bytes_eq q name) (change (conditions_in ps q)) (conditions_in ps q)
   gate_at name ps i p n change at within read named done q =
       let here = files_at-position name ps i p at within read in

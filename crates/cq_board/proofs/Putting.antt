@@ -13,8 +13,7 @@ use Rattle.std.proofs.lemmas.Cmp.{nat_list_cmp_total}
 use Rattle.std.proofs.lemmas.Slice.Eq.{bytes_eq-Decides}
 use Rattle.std.proofs.lemmas.List.{map-append}
 use Rattle.cq_history.specs.Files.{File, is_before, with_file, without_file, place_of}
-use Rattle.cq_board.specs.declared.held.Held.{Held}
-use Rattle.cq_board.specs.Listings.{file_from, path_in, number_at}
+use Rattle.cq_board.specs.Listings.{path_in, number_at}
 use Rattle.cq_board.specs.Ordered.{AreBelow, AreAbove, IsAt, IsGap}
 
 itself : (r : Ordering) → r ≡ ordering_reverse r → r ≡ Equal
@@ -100,63 +99,63 @@ module _ {X : Type 0} where
 -- ---- the files that are held
 
 module _ {W : Type 0} where
-  all_below : (p : List ℕ) (hs : List (Arc (Held W) Global)) → AreBelow path_in p hs → AllByRecursion (λ f. is_before f.path p ≡ true) (map file_from hs)
+  all_below : (p : List ℕ) (hs : List (Arc (File W) Global)) → AreBelow path_in p hs → AllByRecursion (λ f. is_before f.path p ≡ true) (map arc_value hs)
   all_below p [] low = tt
   all_below p (h ∷ hs) low = (low.0, all_below p hs low.1)
 
-  all_above : (p : List ℕ) (hs : List (Arc (Held W) Global)) → AreAbove path_in p hs → AllByRecursion (λ f. is_before p f.path ≡ true) (map file_from hs)
+  all_above : (p : List ℕ) (hs : List (Arc (File W) Global)) → AreAbove path_in p hs → AllByRecursion (λ f. is_before p f.path ≡ true) (map arc_value hs)
   all_above p [] high = tt
   all_above p (h ∷ hs) high = (high.0, all_above p hs high.1)
 
-  module _ (hs : List (Arc (Held W) Global)) (p : List ℕ) (i : ℕ) where
-    split_at : (at : IsAt path_in p hs i) → map file_from hs ≡ map file_from at.before ++ file_from at.item ∷ map file_from at.after
-    split_at at = ap (map file_from) at.is ∙ map-append file_from at.before (at.item ∷ at.after)
+  module _ (hs : List (Arc (File W) Global)) (p : List ℕ) (i : ℕ) where
+    split_at : (at : IsAt path_in p hs i) → map arc_value hs ≡ map arc_value at.before ++ arc_value at.item ∷ map arc_value at.after
+    split_at at = ap (map arc_value) at.is ∙ map-append arc_value at.before (at.item ∷ at.after)
 
-    split_gap : (gap : IsGap path_in p hs i) → map file_from hs ≡ map file_from gap.before ++ map file_from gap.after
-    split_gap gap = ap (map file_from) gap.is ∙ map-append file_from gap.before gap.after
+    split_gap : (gap : IsGap path_in p hs i) → map arc_value hs ≡ map arc_value gap.before ++ map arc_value gap.after
+    split_gap gap = ap (map arc_value) gap.is ∙ map-append arc_value gap.before gap.after
 
-    pub replaced_at : (at : IsAt path_in p hs i) (h : Arc (Held W) Global) → path_in h ≡ p → map file_from (set hs i h) ≡ with_file (file_from h) (map file_from hs)
+    pub replaced_at : (at : IsAt path_in p hs i) (h : Arc (File W) Global) → path_in h ≡ p → map arc_value (set hs i h) ≡ with_file (arc_value h) (map arc_value hs)
     replaced_at at h same =
-        ap₂ (λ ys n. map file_from (set ys n h)) at.is (sym at.index)
-        ∙ ap (map file_from) (set-append_seam at.before at.item at.after h)
-        ∙ map-append file_from at.before (h ∷ at.after)
-        ∙ sym (with_at (file_from h) (map file_from at.before) (map file_from at.after) (file_from at.item) (at.same ∙ sym same)
-        (subst (λ q. AllByRecursion (λ f. is_before f.path q ≡ true) (map file_from at.before)) (sym same) (all_below p at.before at.low))
-        (subst (λ q. AllByRecursion (λ f. is_before q f.path ≡ true) (map file_from at.after)) (sym same) (all_above p at.after at.high)))
-        ∙ ap (with_file (file_from h)) (sym (split_at at))
+        ap₂ (λ ys n. map arc_value (set ys n h)) at.is (sym at.index)
+        ∙ ap (map arc_value) (set-append_seam at.before at.item at.after h)
+        ∙ map-append arc_value at.before (h ∷ at.after)
+        ∙ sym (with_at (arc_value h) (map arc_value at.before) (map arc_value at.after) (arc_value at.item) (at.same ∙ sym same)
+        (subst (λ q. AllByRecursion (λ f. is_before f.path q ≡ true) (map arc_value at.before)) (sym same) (all_below p at.before at.low))
+        (subst (λ q. AllByRecursion (λ f. is_before q f.path ≡ true) (map arc_value at.after)) (sym same) (all_above p at.after at.high)))
+        ∙ ap (with_file (arc_value h)) (sym (split_at at))
 
-    pub removed_at : (at : IsAt path_in p hs i) → map file_from (remove hs i) ≡ without_file p (map file_from hs)
+    pub removed_at : (at : IsAt path_in p hs i) → map arc_value (remove hs i) ≡ without_file p (map arc_value hs)
     removed_at at =
-        ap₂ (λ ys n. map file_from (remove ys n)) at.is (sym at.index)
-        ∙ ap (map file_from) (remove_seam at.before at.after at.item)
-        ∙ map-append file_from at.before at.after
-        ∙ sym (without_at p (map file_from at.before) (map file_from at.after) (file_from at.item) at.same (all_below p at.before at.low) (all_above p at.after at.high))
+        ap₂ (λ ys n. map arc_value (remove ys n)) at.is (sym at.index)
+        ∙ ap (map arc_value) (remove_seam at.before at.after at.item)
+        ∙ map-append arc_value at.before at.after
+        ∙ sym (without_at p (map arc_value at.before) (map arc_value at.after) (arc_value at.item) at.same (all_below p at.before at.low) (all_above p at.after at.high))
         ∙ ap (without_file p) (sym (split_at at))
 
-    pub number_at_index : (at : IsAt path_in p hs i) (h : Arc (Held W) Global) → h ≡ get_or hs i h → Some (arc_value h).change ≡ number_at p (map file_from hs)
+    pub number_at_index : (at : IsAt path_in p hs i) (h : Arc (File W) Global) → h ≡ get_or hs i h → Some (arc_value h).number ≡ number_at p (map arc_value hs)
     number_at_index at h read =
         let here : h ≡ at.item = read ∙ ap₂ (λ ys n. get_or ys n h) at.is (sym at.index) ∙ get_or-append_seam at.before at.item at.after h in
-        ap (λ (x : Arc (Held W) Global). Some (arc_value x).change) here
-        ∙ sym (number_is p (map file_from at.before) (map file_from at.after) (file_from at.item) at.same (all_below p at.before at.low))
+        ap (λ (x : Arc (File W) Global). Some (arc_value x).number) here
+        ∙ sym (number_is p (map arc_value at.before) (map arc_value at.after) (arc_value at.item) at.same (all_below p at.before at.low))
         ∙ ap (number_at p) (sym (split_at at))
 
-    pub inserted_at : (gap : IsGap path_in p hs i) (h : Arc (Held W) Global) → path_in h ≡ p → map file_from (insert hs i h) ≡ with_file (file_from h) (map file_from hs)
+    pub inserted_at : (gap : IsGap path_in p hs i) (h : Arc (File W) Global) → path_in h ≡ p → map arc_value (insert hs i h) ≡ with_file (arc_value h) (map arc_value hs)
     inserted_at gap h same =
-        ap₂ (λ ys n. map file_from (insert ys n h)) gap.is (sym gap.index)
-        ∙ ap (map file_from) (insert_seam gap.before gap.after h)
-        ∙ map-append file_from gap.before (h ∷ gap.after)
-        ∙ sym (with_gap (file_from h) (map file_from gap.before) (map file_from gap.after)
-        (subst (λ q. AllByRecursion (λ f. is_before f.path q ≡ true) (map file_from gap.before)) (sym same) (all_below p gap.before gap.low))
-        (subst (λ q. AllByRecursion (λ f. is_before q f.path ≡ true) (map file_from gap.after)) (sym same) (all_above p gap.after gap.high)))
-        ∙ ap (with_file (file_from h)) (sym (split_gap gap))
+        ap₂ (λ ys n. map arc_value (insert ys n h)) gap.is (sym gap.index)
+        ∙ ap (map arc_value) (insert_seam gap.before gap.after h)
+        ∙ map-append arc_value gap.before (h ∷ gap.after)
+        ∙ sym (with_gap (arc_value h) (map arc_value gap.before) (map arc_value gap.after)
+        (subst (λ q. AllByRecursion (λ f. is_before f.path q ≡ true) (map arc_value gap.before)) (sym same) (all_below p gap.before gap.low))
+        (subst (λ q. AllByRecursion (λ f. is_before q f.path ≡ true) (map arc_value gap.after)) (sym same) (all_above p gap.after gap.high)))
+        ∙ ap (with_file (arc_value h)) (sym (split_gap gap))
 
-    pub none_at : IsGap path_in p hs i → without_file p (map file_from hs) ≡ map file_from hs
+    pub none_at : IsGap path_in p hs i → without_file p (map arc_value hs) ≡ map arc_value hs
     none_at gap =
         ap (without_file p) (split_gap gap)
-        ∙ without_gap p (map file_from gap.before) (map file_from gap.after) (all_below p gap.before gap.low) (all_above p gap.after gap.high)
+        ∙ without_gap p (map arc_value gap.before) (map arc_value gap.after) (all_below p gap.before gap.low) (all_above p gap.after gap.high)
         ∙ sym (split_gap gap)
 
-    pub no_number_at : IsGap path_in p hs i → None ≡ number_at p (map file_from hs)
+    pub no_number_at : IsGap path_in p hs i → None ≡ number_at p (map arc_value hs)
     no_number_at gap =
-        sym (number_gap p (map file_from gap.before) (map file_from gap.after) (all_below p gap.before gap.low) (all_above p gap.after gap.high))
+        sym (number_gap p (map arc_value gap.before) (map arc_value gap.after) (all_below p gap.before gap.low) (all_above p gap.after gap.high))
         ∙ ap (number_at p) (sym (split_gap gap))

@@ -1,4 +1,5 @@
 -- The numbers that are left of some, and what comes next behind one change more.
+use Rattle.std.specs.Arc.{arc_value}
 use Rattle.std.proofs.Common.{◌≡◌, ◌≢◌, ◌⊎◌, ◌↔◌, ℕ, zero, suc, ◌+◌, ◌<◌, ◌≤◌, nat_eq, not, true≢false, cond, List, [], ◌∷◌, ◌++◌, length, take, get_or, Option, Some, None, Ok, Err, Result, refl, sym, ap, ◌∙◌, subst, subst₂, inl, inr, ⊎_elim, arith}
 use Rattle.std.specs.Prelude.{Contains, IfOk, OnOk, OnErr}
 use Rattle.std.specs.List.{list_any}
@@ -18,11 +19,10 @@ use Rattle.cq_history.specs.Files.{File, files_of, with_file, without_file}
 use Rattle.cq_base.proofs.Bools.{cond-same}
 use Rattle.cq_shard.proofs.Entries.{any_of, from_filter, to_filter}
 use Rattle.cq_board.specs.Related.{IsSameFile, AreSameFiles}
-use Rattle.cq_board.specs.declared.held.Project.{Project}
 use Rattle.cq_board.specs.declared.projects.ProjectEdit.{ProjectEdit}
 use Rattle.cq_board.specs.declared.projects.ProjectEdit.TheVariants as edit
 use Rattle.cq_board.specs.Edits.{edited_files, edited_conditions, replaced_by, IsEditFor, project_named, put_by}
-use Rattle.cq_board.specs.Listings.{Listed, listed, file_from, name_in, number_at, files_in, conditions_in, HaveSame, AreLive, IsListing}
+use Rattle.cq_board.specs.Listings.{Listed, listed, name_in, number_at, files_in, conditions_in, HaveSame, AreLive, IsListing, ListedProject}
 use Rattle.cq_board.specs.Ordered.{AreRising}
 use Rattle.cq_board.specs.Turnover.{IsNext, AddsChange, left, from_option}
 use Rattle.cq_board.proofs.Numbers.{rising-from_pairs, rising_push}
@@ -109,7 +109,7 @@ module _ {W : Type 0} (IsWork : Lang → List ℕ → W → Type 0) where
       }
 
   -- a listing with its projects, whose numbers are those that are left
-  pub next_listed : (changes : List Change) (base : List ℕ) (ps : List (Project W)) (put gone : List ℕ) (l : Listed W) → IsNext IsWork changes base ps put gone → l.projects ≡ ps → IsStrictlyIncreasing l.live → ((r : ℕ) → Contains l.live r ↔ (Contains (base ++ put) r × (Contains gone r → ⊥))) → IsListing IsWork changes l
+  pub next_listed : (changes : List Change) (base : List ℕ) (ps : List (ListedProject W)) (put gone : List ℕ) (l : Listed W) → IsNext IsWork changes base ps put gone → l.projects ≡ ps → IsStrictlyIncreasing l.live → ((r : ℕ) → Contains l.live r ↔ (Contains (base ++ put) r × (Contains gone r → ⊥))) → IsListing IsWork changes l
   next_listed changes base ps put gone l is same rising which = record {
     names = subst (AreRising name_in) (sym same) is.listing.names;
     files = λ q. subst (λ xs. AreSameFiles IsWork (files_of q changes) (files_in xs q)) (sym same) (is.listing.files q);
@@ -123,7 +123,7 @@ module _ {W : Type 0} (IsWork : Lang → List ℕ → W → Type 0) where
     };
   }
 
-  pub next_installed : {T E : Type 0} (r : Result T E) (changes : List Change) (base : List ℕ) (ps : List (Project W)) (put gone : List ℕ) (l : Listed W) → IsNext IsWork changes base ps put gone → OnOk r (l.projects ≡ ps) → OnOk r (IsStrictlyIncreasing l.live) → OnOk r ((k : ℕ) → Contains l.live k ↔ (Contains (base ++ put) k × (Contains gone k → ⊥))) → OnOk r (IsListing IsWork changes l)
+  pub next_installed : {T E : Type 0} (r : Result T E) (changes : List Change) (base : List ℕ) (ps : List (ListedProject W)) (put gone : List ℕ) (l : Listed W) → IsNext IsWork changes base ps put gone → OnOk r (l.projects ≡ ps) → OnOk r (IsStrictlyIncreasing l.live) → OnOk r ((k : ℕ) → Contains l.live k ↔ (Contains (base ++ put) k × (Contains gone k → ⊥))) → OnOk r (IsListing IsWork changes l)
   next_installed (Ok x) changes base ps put gone l is same rising which = next_listed changes base ps put gone l is same rising which
   next_installed (Err e) changes base ps put gone l is same rising which = tt
 
@@ -136,7 +136,7 @@ module _ {W : Type 0} (IsWork : Lang → List ℕ → W → Type 0) where
     numbers = subst (AreLive changes) (sym live) is.numbers;
   }
 
-  module _ (changes : List Change) (number : ℕ) (n : length changes + 1 ≡ number) (base : List ℕ) (old : List (Project W)) (put gone : List ℕ) (is : IsNext IsWork changes base old put gone) where
+  module _ (changes : List Change) (number : ℕ) (n : length changes + 1 ≡ number) (base : List ℕ) (old : List (ListedProject W)) (put gone : List ℕ) (is : IsNext IsWork changes base old put gone) where
     longer : (c : Change) (r : ℕ) → r ≤ length changes → r ≤ length (changes ++ c ∷ [])
     longer c r le = let e = length-append changes (c ∷ []) in omega (arith, le, e)
 
@@ -149,7 +149,7 @@ module _ {W : Type 0} (IsWork : Lang → List ℕ → W → Type 0) where
     gone_then c project path o which r here =
         longer c r (⊎_elim (λ g. is.gone_known r g) (λ k. replaced_known project path o r which (some_from o r k)) (Contains-append_cases gone (from_option o) r here))
 
-    module _ (new : List (Project W)) (names : AreRising name_in new) where
+    module _ (new : List (ListedProject W)) (names : AreRising name_in new) where
       pub next_put : (project path : List ℕ) (lang : Lang) (text : List ℕ) (f : File W) (o : Option ℕ) → o ≡ number_at path (files_in old project) →
           ((q : List ℕ) → files_in new q ≡ cond (bytes_eq q project) (with_file f (files_in old q)) (files_in old q)) → ((q : List ℕ) → conditions_in new q ≡ conditions_in old q) →
           IsSameFile IsWork (record { path = path; number = number; lang = lang; body = text }) f → IsNext IsWork (changes ++ Put project path lang text ∷ []) base new (put ++ number ∷ []) (gone ++ from_option o)
@@ -204,7 +204,7 @@ module _ {W : Type 0} (IsWork : Lang → List ℕ → W → Type 0) where
           ((q : List ℕ) → conditions_in new q ≡ cond (bytes_eq q (project_named c)) (edited_conditions e (conditions_in old q)) (conditions_in old q)) →
           IsNext IsWork (changes ++ c ∷ []) base new (put ++ put_by c number) (gone ++ from_option o)
       next_edit (Put project path lang text) (edit.Put held) is_edit o which files conditions =
-          next_put project path lang text (file_from held) o (which ∙ ap (λ p. number_at p (files_in old project)) (sym is_edit.path)) files
+          next_put project path lang text (arc_value held) o (which ∙ ap (λ p. number_at p (files_in old project)) (sym is_edit.path)) files
           (λ q. conditions q ∙ cond-same (bytes_eq q project) (conditions_in old q)) is_edit
       next_edit (Drop project path) (edit.Drop p) is_edit o which files conditions =
           subst (λ ns. IsNext IsWork (changes ++ Drop project path ∷ []) base new ns (gone ++ from_option o)) (sym (append-nil put))
@@ -222,7 +222,7 @@ module _ {W : Type 0} (IsWork : Lang → List ℕ → W → Type 0) where
       next_edit (Gate project cs) (edit.Put held) is_edit o which files conditions = absurd is_edit
       next_edit (Gate project cs) (edit.Drop p) is_edit o which files conditions = absurd is_edit
 
-module _ {W : Type 0} (IsWork : Lang → List ℕ → W → Type 0) (number : ℕ) (c : Change) (e : ProjectEdit W) (is_edit : IsEditFor IsWork number c e) (old new : List (Project W)) (names : AreRising name_in new) where
+module _ {W : Type 0} (IsWork : Lang → List ℕ → W → Type 0) (number : ℕ) (c : Change) (e : ProjectEdit W) (is_edit : IsEditFor IsWork number c e) (old new : List (ListedProject W)) (names : AreRising name_in new) where
   -- an edit that the change asks for adds it, where it is made
   pub edit_adds : {E : Type 0} (name : List ℕ) → name ≡ project_named c → (r : Result (Option ℕ) E) →
       IfOk r (λ o. o ≡ replaced_by e (files_in old name)) →

@@ -9,11 +9,11 @@ use Rattle.cq_history.specs.Files.{File, Source, with_file, without_file}
 use Rattle.cq_board.specs.Related.{IsSameFile}
 use Rattle.cq_board.specs.declared.projects.ProjectEdit.{ProjectEdit}
 use Rattle.cq_board.specs.declared.projects.ProjectEdit.TheVariants.{Put, Drop, Gate}
-use Rattle.cq_board.specs.Listings.{file_from, path_in, number_at}
+use Rattle.cq_board.specs.Listings.{path_in, number_at}
 
 module _ {W : Type 0} where
   abbrev pub edited_files : ProjectEdit W → List (File W) → List (File W)
-  edited_files (Put held) files = with_file (file_from held) files
+  edited_files (Put held) files = with_file (arc_value held) files
   edited_files (Drop path) files = without_file (arc_value path) files
   edited_files (Gate conditions) files = files
 
@@ -31,7 +31,7 @@ module _ {W : Type 0} where
   -- the edit is what the change of this number asks for, with the work of its text
   abbrev pub IsEditFor : (Lang → List ℕ → W → Type 0) → ℕ → Change → ProjectEdit W → Type 0
   IsEditFor IsWork r (change.Put project path lang text) (Put held) =
-      let f : Source = record { path = path; number = r; lang = lang; body = text } in IsSameFile IsWork f (file_from held)
+      let f : Source = record { path = path; number = r; lang = lang; body = text } in IsSameFile IsWork f (arc_value held)
   IsEditFor IsWork r (change.Drop project path) (Drop p) = arc_value p ≡ path
   IsEditFor IsWork r (change.Gate project conditions) (Gate cs) = arc_value cs ≡ conditions
   IsEditFor IsWork r (change.Put project path lang text) (Drop p) = ⊥

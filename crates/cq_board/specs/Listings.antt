@@ -13,8 +13,6 @@ use Rattle.cq_history.specs.Files.{File, Source, files_of, conditions_of}
 use Rattle.cq_history.specs.Standing.{Has}
 use Rattle.cq_board.specs.Ordered.{AreRising}
 use Rattle.cq_board.specs.Related.{AreSameFiles}
-use Rattle.cq_board.specs.declared.held.Held.{Held}
-use Rattle.cq_board.specs.declared.held.Project.{Project}
 
 abbrev pub path_of : {X : Type 0} → File X → List ℕ
 path_of f = f.path
@@ -24,41 +22,36 @@ abbrev pub number_at : {X : Type 0} → List ℕ → List (File X) → Option �
 number_at p [] = None
 number_at p (f ∷ files) = if bytes_eq p f.path then Some f.number else number_at p files
 
+-- what a project is to its readers: its name, its files in path order, each with its work, and the conditions of its last
+-- gate, none before its first
+pub record ListedProject (W : Type 0) : Type 0 where
+  pub name : List ℕ
+  pub files : List (File W)
+  pub conditions : List Condition
+
 module _ {W : Type 0} where
-  abbrev pub path_in : Arc (Held W) Global → List ℕ
-  path_in h = arc_value (arc_value h).path
+  abbrev pub path_in : Arc (File W) Global → List ℕ
+  path_in h = (arc_value h).path
 
-  -- the file that an owner holds
-  abbrev pub file_from : Arc (Held W) Global → File W
-  file_from h = record { path = path_in h; number = (arc_value h).change; lang = (arc_value h).lang; body = arc_value (arc_value h).work }
+  abbrev pub name_in : ListedProject W → List ℕ
+  name_in p = p.name
 
-  abbrev pub name_in : Project W → List ℕ
-  name_in p = arc_value p.name
-
-  -- the conditions of its last gate, none before its first
-  abbrev pub gate_of : Project W → List Condition
-  gate_of p = unwrap_or (option_map arc_value p.conditions) []
-
-  abbrev pub files_in : List (Project W) → List ℕ → List (File W)
+  abbrev pub files_in : List (ListedProject W) → List ℕ → List (File W)
   files_in [] q = []
-  files_in (p ∷ ps) q = if bytes_eq q (name_in p) then map file_from p.files.items else files_in ps q
+  files_in (p ∷ ps) q = if bytes_eq q p.name then p.files else files_in ps q
 
-  abbrev pub conditions_in : List (Project W) → List ℕ → List Condition
+  abbrev pub conditions_in : List (ListedProject W) → List ℕ → List Condition
   conditions_in [] q = []
-  conditions_in (p ∷ ps) q = if bytes_eq q (name_in p) then gate_of p else conditions_in ps q
+  conditions_in (p ∷ ps) q = if bytes_eq q p.name then p.conditions else conditions_in ps q
 
   -- the index of a project, or how many there are
-  abbrev pub position_of : List ℕ → List (Project W) → ℕ
-  position_of q ps = position_or_len (λ (p : Project W). bytes_eq q (name_in p)) ps
+  abbrev pub position_of : List ℕ → List (ListedProject W) → ℕ
+  position_of q ps = position_or_len (λ (p : ListedProject W). bytes_eq q p.name) ps
 
   -- both have the same files and conditions of each project
-  pub record HaveSame (old new : List (Project W)) : Type 0 where
+  pub record HaveSame (old new : List (ListedProject W)) : Type 0 where
     pub files : (q : List ℕ) → files_in new q ≡ files_in old q
     pub conditions : (q : List ℕ) → conditions_in new q ≡ conditions_in old q
-
-  -- what of a project stays the same where its files' paths and works get other owners
-  abbrev pub shown : Project W → List ℕ × List (File W) × List Condition
-  shown p = (name_in p, map file_from p.files.items, gate_of p)
 
 -- the number is that of a file of a project after the changes
 abbrev pub IsLive : List Change → ℕ → Type 0
@@ -71,17 +64,17 @@ pub record AreLive (changes : List Change) (live : List ℕ) : Type 0 where
 
 -- what a listing is to its readers: its projects, and the numbers of their files' changes
 pub record Listed (W : Type 0) : Type 0 where
-  pub projects : List (Project W)
+  pub projects : List (ListedProject W)
   pub live : List ℕ
 
 module _ {W : Type 0} where
-  abbrev pub owner_name : Arc (Project W) Global → List ℕ
+  abbrev pub owner_name : Arc (ListedProject W) Global → List ℕ
   owner_name p = name_in (arc_value p)
 
-  abbrev pub projects_in : List (Arc (Project W) Global) → List (Project W)
+  abbrev pub projects_in : List (Arc (ListedProject W) Global) → List (ListedProject W)
   projects_in owners = map arc_value owners
 
-  abbrev pub listed : List (Project W) → List ℕ → Listed W
+  abbrev pub listed : List (ListedProject W) → List ℕ → Listed W
   listed projects live = record { projects = projects; live = live }
 
   -- the projects are those after the changes, by name, each file with its work

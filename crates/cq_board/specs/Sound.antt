@@ -5,8 +5,7 @@ use Rattle.std.specs.Str.{IsUtf8}
 use Rattle.cq_base.specs.Changes.{IsSoundChange}
 use Rattle.cq_history.specs.State.{State, changes_in}
 use Rattle.cq_board.specs.declared.answers.Job.{Job}
-use Rattle.cq_board.specs.declared.held.Project.{Project}
-use Rattle.cq_board.specs.Listings.{conditions_in}
+use Rattle.cq_board.specs.Listings.{conditions_in, ListedProject}
 
 -- each accepted change is sound
 abbrev pub AreSound : State → Type 0
@@ -17,5 +16,5 @@ abbrev pub HasSoundText : Job → Type 0
 HasSoundText job = IsUtf8 (arc_value job.text) × (length (arc_value job.text) ≤ 1048576)
 
 -- no project has more than 32 conditions
-abbrev pub HaveFewConditions : {W : Type 0} → List (Project W) → Type 0
+abbrev pub HaveFewConditions : {W : Type 0} → List (ListedProject W) → Type 0
 HaveFewConditions projects = (q : List ℕ) → length (conditions_in projects q) ≤ 32

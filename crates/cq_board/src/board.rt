@@ -165,7 +165,7 @@ impl<W: Indexed> Board<W> {
         least(self.published, &self.views)
     }
 
-    /// Gives a taken change back, and answers whether there is this caller and had it, undone.
+    /// Gives a taken change back, and answers whether there is this caller and had it, undone. It takes no memory.
     pub fn back(&mut self, by: u32, change: u64) -> bool
         ensures adds { OnTrue result (Adds (event.Back by change) self.old self.new) }
         ensures taken { IsTrue result ↔ (IsCaller self.old by × IsTakenBy self.old.state change by) }
@@ -244,7 +244,9 @@ impl<W: Indexed> Board<W> {
         }
     }
 
-    /// Gives the caller the first change that is neither done nor taken, if there is one.
+    /// Gives the caller the first change that is neither done nor taken, if there is one. It looks at each change from
+    /// behind the one that was taken last on, or from the least on that was given back since: so a change that is given back
+    /// and taken again costs a look at each that is taken behind it.
     pub fn take(&mut self, by: u32) -> Result<Option<Job>, Memory>
         requires { IsCaller self.old by }
         ensures taken { IfOk result (λ job. IfSome job (λ j. Adds (event.Took by j.change) self.old self.new)) }

@@ -4,7 +4,7 @@ ghost use Rattle.std.specs.Ordering.{nat_cmp};
 ghost use Rattle.std.specs.Cmp.Lexicographic.{slice_cmp};
 ghost use Rattle.cq_history.specs.Files.{with_file, without_file};
 ghost use Rattle.cq_board.specs.Ordered.{AreRising, IsAt, IsGap};
-ghost use Rattle.cq_board.specs.Listings.{file_from, path_in, number_at};
+ghost use Rattle.cq_board.specs.Listings.{path_in, path_of, number_at};
 
 use crate::held::Held;
 use cq_base::{Memory, Text};
@@ -30,9 +30,10 @@ fn find<W>(files: &[Arc<Held<W>, Global>], path: &Text) -> Result<usize, usize>
 
 /// Takes out the file at the path, and answers the change that put it, if there is one.
 pub fn remove_file<W: Drop>(files: &mut Vec<Arc<Held<W>, Global>>, path: &Text) -> Option<u64>
-    requires { AreRising path_in files.old.items }
-    ensures files { map file_from files.new.items ≡ without_file path.now (map file_from files.old.items) }
-    ensures number { result ≡ number_at path.now (map file_from files.old.items) }
+    requires { AreRising path_of (map arc_value files.old.items) }
+    ensures rising { AreRising path_of (map arc_value files.new.items) }
+    ensures files { map arc_value files.new.items ≡ without_file path.now (map arc_value files.old.items) }
+    ensures number { result ≡ number_at path.now (map arc_value files.old.items) }
 {
     match find(files, path) {
         Ok(i) => {
@@ -49,9 +50,10 @@ pub fn put_file<W: Drop>(
     files: &mut Vec<Arc<Held<W>, Global>>,
     held: Arc<Held<W>, Global>,
 ) -> Result<Option<u64>, Memory>
-    requires { AreRising path_in files.old.items }
-    ensures files { OnOk result (map file_from files.new.items ≡ with_file (file_from held) (map file_from files.old.items)) }
-    ensures number { IfOk result (λ number. number ≡ number_at (path_in held) (map file_from files.old.items)) }
+    requires { AreRising path_of (map arc_value files.old.items) }
+    ensures rising { AreRising path_of (map arc_value files.new.items) }
+    ensures files { OnOk result (map arc_value files.new.items ≡ with_file (arc_value held) (map arc_value files.old.items)) }
+    ensures number { IfOk result (λ number. number ≡ number_at (path_in held) (map arc_value files.old.items)) }
     ensures unchanged { OnErr result (files.new.items ≡ files.old.items) }
 {
     match find(files, &held.path) {
@@ -72,7 +74,7 @@ pub fn shared_files<W: Drop>(
     alloc: Global,
     files: &[Arc<Held<W>, Global>],
 ) -> Result<Vec<Arc<Held<W>, Global>>, Memory>
-    ensures { IfOk result (λ all. map file_from all.items ≡ map file_from files.now) }
+    ensures { IfOk result (λ all. map arc_value all.items ≡ map arc_value files.now) }
 {
     let mut all = Vec::with_capacity(alloc, files.len())?;
     for f in files {

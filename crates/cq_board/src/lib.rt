@@ -3,7 +3,7 @@
 //! numbered from 0.
 //!
 //! Accepting a change costs a slot and a search among the places at which files stand. Taking one looks at the changes
-//! from the first on that may have been free. Publishing one change costs a search and a move in the list of its project,
+//! from behind the last that was taken, or from the least that was given back since. Publishing one change costs a search and a move in the list of its project,
 //! 8 bytes a file, where no view has that list, and else a copy of it, an owner a file. Publishing several at once costs
 //! an owner for each project and one copy of the list of each project that changed, and then each change a search and a
 //! move in that list. The numbers of all files are changed in place, in one walk where many were replaced or dropped;

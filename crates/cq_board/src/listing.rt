@@ -8,7 +8,7 @@ ghost use Rattle.cq_board.specs.Slots.{slot_from, change_of, IsWorked};
 ghost use Rattle.cq_board.specs.Boards.{changes_from};
 ghost use Rattle.cq_board.specs.Edits.{IsEditFor, project_named, put_by};
 ghost use Rattle.cq_board.specs.Ordered.{AreRising};
-ghost use Rattle.cq_board.specs.Listings.{IsListing, HaveSame, owner_name, projects_in, file_from, files_in, conditions_in};
+ghost use Rattle.cq_board.specs.Listings.{IsListing, HaveSame, owner_name, projects_in, files_in, conditions_in};
 ghost use Rattle.cq_board.specs.Turnover.{IsNext, IsBefore, AddsChange, from_option};
 
 use crate::held::{Held, Project};
@@ -55,7 +55,7 @@ impl<W> Listing<W> {
 
     /// The files of a project in path order, none where it has none. It costs a search among the projects.
     pub fn files(&self, project: &Text) -> &[Arc<Held<W>, Global>]
-        ensures { map file_from result.now ≡ files_in self.now.projects project.now }
+        ensures { map arc_value result.now ≡ files_in self.now.projects project.now }
     {
         match find(&self.projects, project) {
             Ok(i) => &self.projects[i].files,

@@ -4,7 +4,7 @@ ghost use Rattle.std.specs.Ordering.{nat_cmp};
 ghost use Rattle.std.specs.Cmp.Lexicographic.{slice_cmp};
 ghost use Rattle.std.specs.Str.{bytes_eq};
 ghost use Rattle.cq_board.specs.Ordered.{AreRising, IsAt, IsGap};
-ghost use Rattle.cq_board.specs.Listings.{path_in, path_of, file_from, owner_name, name_in, gate_of, projects_in, files_in, conditions_in, position_of, shown};
+ghost use Rattle.cq_board.specs.Listings.{path_in, path_of, owner_name, name_in, projects_in, files_in, conditions_in, position_of};
 ghost use Rattle.cq_board.specs.Edits.{edited_files, edited_conditions, replaced_by};
 
 use crate::files::{put_file, remove_file, shared_files};
@@ -40,7 +40,7 @@ pub fn find<W>(projects: &[Arc<Project<W>, Global>], name: &Text) -> Result<usiz
 
 // A copy of a project, which shares its files.
 fn copied<W: Drop>(alloc: Global, project: &Project<W>) -> Result<Project<W>, Memory>
-    ensures { IfOk result (λ p. shown p ≡ shown project.now) }
+    ensures { IfOk result (λ p. p ≡ project.now) }
 {
     let name = Arc::try_clone(&project.name)?;
     let files = shared_files(alloc, &project.files)?;
@@ -57,12 +57,11 @@ fn copied<W: Drop>(alloc: Global, project: &Project<W>) -> Result<Project<W>, Me
 
 // Edits a project, and answers the change whose file it replaced or dropped, if there was one.
 fn edit_own<W: Drop>(project: &mut Project<W>, edit: ProjectEdit<W>) -> Result<Option<u64>, Memory>
-    requires { AreRising path_in project.old.files.items }
-    ensures name { name_in project.new ≡ name_in project.old }
-    ensures files { OnOk result (map file_from project.new.files.items ≡ edited_files edit (map file_from project.old.files.items)) }
-    ensures conditions { OnOk result (gate_of project.new ≡ edited_conditions edit (gate_of project.old)) }
-    ensures number { IfOk result (λ n. n ≡ replaced_by edit (map file_from project.old.files.items)) }
-    ensures unchanged { OnErr result (shown project.new ≡ shown project.old) }
+    ensures name { project.new.name ≡ project.old.name }
+    ensures files { OnOk result (project.new.files ≡ edited_files edit project.old.files) }
+    ensures conditions { OnOk result (project.new.conditions ≡ edited_conditions edit project.old.conditions) }
+    ensures number { IfOk result (λ n. n ≡ replaced_by edit project.old.files) }
+    ensures unchanged { OnErr result (project.new ≡ project.old) }
 {
     match edit {
         ProjectEdit::Put(held) => put_file(&mut project.files, held),
@@ -80,12 +79,11 @@ fn edit_shared<W: Drop>(
     project: &mut Arc<Project<W>, Global>,
     edit: ProjectEdit<W>,
 ) -> Result<Option<u64>, Memory>
-    requires { AreRising path_in (arc_value project.old).files.items }
     ensures name { owner_name project.new ≡ owner_name project.old }
-    ensures files { OnOk result (map file_from (arc_value project.new).files.items ≡ edited_files edit (map file_from (arc_value project.old).files.items)) }
-    ensures conditions { OnOk result (gate_of (arc_value project.new) ≡ edited_conditions edit (gate_of (arc_value project.old))) }
-    ensures number { IfOk result (λ n. n ≡ replaced_by edit (map file_from (arc_value project.old).files.items)) }
-    ensures unchanged { OnErr result (shown (arc_value project.new) ≡ shown (arc_value project.old)) }
+    ensures files { OnOk result ((arc_value project.new).files ≡ edited_files edit (arc_value project.old).files) }
+    ensures conditions { OnOk result ((arc_value project.new).conditions ≡ edited_conditions edit (arc_value project.old).conditions) }
+    ensures number { IfOk result (λ n. n ≡ replaced_by edit (arc_value project.old).files) }
+    ensures unchanged { OnErr result (arc_value project.new ≡ arc_value project.old) }
 {
     match Arc::get_mut(project) {
         Some(own) => edit_own(own, edit),
@@ -138,8 +136,7 @@ pub fn edit_in<W: Drop>(
     name: &Arc<Text, Global>,
     edit: ProjectEdit<W>,
 ) -> Result<Option<u64>, Memory>
-    requires names { AreRising owner_name projects.old.items }
-    requires paths { (q : List ℕ) → AreRising path_of (files_in (projects_in projects.old.items) q) }
+    requires { AreRising owner_name projects.old.items }
     ensures names { AreRising owner_name projects.new.items }
     ensures number { IfOk result (λ n. n ≡ replaced_by edit (files_in (projects_in projects.old.items) (arc_value name.now))) }
     ensures files { OnOk result ((q : List ℕ) → files_in (projects_in projects.new.items) q ≡ (if bytes_eq q (arc_value name.now) then edited_files edit (files_in (projects_in projects.old.items) q) else files_in (projects_in projects.old.items) q)) }

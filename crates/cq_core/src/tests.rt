@@ -1,6 +1,7 @@
 ghost use Rattle.std.specs.Prelude.{◌≡◌, ◌<◌, ◌≤◌, length, IfOk, OnOk};
 ghost use Rattle.std.specs.Str.{IsUtf8};
 ghost use Rattle.cq_base.specs.Changes.{IsSoundChange};
+ghost use Rattle.cq_core.specs.Steps.{IsNamed, IsSoundStep, HasWork};
 
 use crate::{Core, Outcome, Step};
 use cq_base::{Change, Lang, Memory, Settings, Steps, Text};
@@ -67,6 +68,22 @@ fn put(alloc: Global) -> Result<Change, Memory>
     })
 }
 
+// A step, and that it leaves the settings and how many callers there are.
+fn step<L: Ledger>(
+    alloc: Global,
+    core: &mut Core<Same>,
+    step: Step<Same>,
+    steps: &mut Steps<L>,
+) -> Result<Outcome, Memory>
+    requires named { IsNamed core.old step }
+    requires sound { IsSoundStep step }
+    requires work { HasWork (λ lang text work. Unit {0}) core.old step }
+    ensures callers { OnOk result (length core.new.board.state.views ≡ length core.old.board.state.views) }
+    ensures settings { OnOk result (core.new.board.settings ≡ core.old.board.settings) }
+{
+    core.step(alloc, step, steps)
+}
+
 // A put that is done, and applied by the first of two shards.
 fn put_and_applied<L: Ledger>(
     alloc: Global,
@@ -80,11 +97,12 @@ fn put_and_applied<L: Ledger>(
     ensures settings { OnOk result (core.new.board.settings ≡ core.old.board.settings) }
 {
     let change = put(alloc)?;
-    core.step(alloc, Step::Accept { by: 0, change }, steps)?;
+    step(alloc, core, Step::Accept { by: 0, change }, steps)?;
     let work = Arc::new(alloc, Same {})?;
     let change = number;
-    core.step(
+    step(
         alloc,
+        core,
         Step::Done {
             by: 0,
             change,
@@ -92,7 +110,7 @@ fn put_and_applied<L: Ledger>(
         },
         steps,
     )?;
-    core.step(alloc, Step::Apply { shard: 0 }, steps)?;
+    step(alloc, core, Step::Apply { shard: 0 }, steps)?;
     Ok(())
 }
 
@@ -110,6 +128,72 @@ fn changes_read(alloc: Global, core: &Core<Same>) -> Result<Vec<u64>, Memory>
     Ok(changes)
 }
 
+// The first version is published, and viewed.
+fn first_published<L: Ledger>(
+    alloc: Global,
+    core: &mut Core<Same>,
+    steps: &mut Steps<L>,
+) -> Result<(), Memory>
+    requires caller { 0 < length core.old.board.state.views }
+    requires shards { core.old.board.settings.shards ≡ 2 }
+    ensures callers { OnOk result (length core.new.board.state.views ≡ length core.old.board.state.views) }
+    ensures settings { OnOk result (core.new.board.settings ≡ core.old.board.settings) }
+{
+    put_and_applied(alloc, core, 1, steps)?;
+    step(alloc, core, Step::Apply { shard: 1 }, steps)?;
+    step(alloc, core, Step::Publish { version: 1 }, steps)?;
+    step(alloc, core, Step::Open { by: 0 }, steps)?;
+    Ok(())
+}
+
+// What publishing a second change comes to while the second shard lags, and what the view reads then.
+fn while_lagging<L: Ledger>(
+    alloc: Global,
+    core: &mut Core<Same>,
+    steps: &mut Steps<L>,
+) -> Result<(Outcome, Vec<u64>), Memory>
+    requires caller { 0 < length core.old.board.state.views }
+    requires shards { core.old.board.settings.shards ≡ 2 }
+    ensures callers { OnOk result (length core.new.board.state.views ≡ length core.old.board.state.views) }
+    ensures settings { OnOk result (core.new.board.settings ≡ core.old.board.settings) }
+{
+    put_and_applied(alloc, core, 2, steps)?;
+    let outcome = step(alloc, core, Step::Publish { version: 2 }, steps)?;
+    let changes = changes_read(alloc, core)?;
+    Ok((outcome, changes))
+}
+
+// What it comes to once that shard has applied it, and what the view of the first version reads then.
+fn once_caught_up<L: Ledger>(
+    alloc: Global,
+    core: &mut Core<Same>,
+    steps: &mut Steps<L>,
+) -> Result<(Outcome, Vec<u64>), Memory>
+    requires caller { 0 < length core.old.board.state.views }
+    requires shards { core.old.board.settings.shards ≡ 2 }
+    ensures callers { OnOk result (length core.new.board.state.views ≡ length core.old.board.state.views) }
+    ensures settings { OnOk result (core.new.board.settings ≡ core.old.board.settings) }
+{
+    step(alloc, core, Step::Apply { shard: 1 }, steps)?;
+    let outcome = step(alloc, core, Step::Publish { version: 2 }, steps)?;
+    let changes = changes_read(alloc, core)?;
+    Ok((outcome, changes))
+}
+
+// What a view reads that is opened anew.
+fn opened_anew<L: Ledger>(
+    alloc: Global,
+    core: &mut Core<Same>,
+    steps: &mut Steps<L>,
+) -> Result<Vec<u64>, Memory>
+    requires caller { 0 < length core.old.board.state.views }
+    requires shards { core.old.board.settings.shards ≡ 2 }
+{
+    step(alloc, core, Step::Shut { by: 0 }, steps)?;
+    step(alloc, core, Step::Open { by: 0 }, steps)?;
+    changes_read(alloc, core)
+}
+
 // What publishing comes to while the second shard lags and after, and what a view reads before that, behind it, and once
 // it was opened anew.
 fn published<L: Ledger>(
@@ -122,19 +206,10 @@ fn published<L: Ledger>(
 {
     let mut steps: Steps<L> = Steps::new(blank);
     let mut core: Core<Same> = Core::new(alloc, &SETTINGS, 1)?;
-    put_and_applied(alloc, &mut core, 1, &mut steps)?;
-    core.step(alloc, Step::Apply { shard: 1 }, &mut steps)?;
-    core.step(alloc, Step::Publish { version: 1 }, &mut steps)?;
-    core.step(alloc, Step::Open { by: 0 }, &mut steps)?;
-    put_and_applied(alloc, &mut core, 2, &mut steps)?;
-    let lagging = core.step(alloc, Step::Publish { version: 2 }, &mut steps)?;
-    let before = changes_read(alloc, &core)?;
-    core.step(alloc, Step::Apply { shard: 1 }, &mut steps)?;
-    let done = core.step(alloc, Step::Publish { version: 2 }, &mut steps)?;
-    let behind = changes_read(alloc, &core)?;
-    core.step(alloc, Step::Shut { by: 0 }, &mut steps)?;
-    core.step(alloc, Step::Open { by: 0 }, &mut steps)?;
-    let anew = changes_read(alloc, &core)?;
+    first_published(alloc, &mut core, &mut steps)?;
+    let (lagging, before) = while_lagging(alloc, &mut core, &mut steps)?;
+    let (done, behind) = once_caught_up(alloc, &mut core, &mut steps)?;
+    let anew = opened_anew(alloc, &mut core, &mut steps)?;
     Ok((lagging, done, [before, behind, anew]))
 }
 

@@ -5,3 +5,4 @@ pub mod Elements
 pub mod Dispatch
 pub mod PunctuatorSteps
 pub mod OpenComments
+pub mod Reserved

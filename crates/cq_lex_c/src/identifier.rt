@@ -1,7 +1,7 @@
-ghost use Rattle.std.specs.Prelude.{◌≡◌, ◌↔◌, IsTrue};
+ghost use Rattle.std.specs.Prelude.{◌≡◌, ◌↔◌, IsTrue, length};
 ghost use Rattle.cq_munch.specs.Characters.{characters};
 ghost use Rattle.cq_munch.specs.Longest.{LongestAt, IsAmong};
-ghost use Rattle.cq_lex_c.specs.Identifiers.{IsIdentifier, identifier_rest, keywords};
+ghost use Rattle.cq_lex_c.specs.Identifiers.{IsIdentifier, identifier_rest, keywords, words_of_length};
 
 use crate::characters::{begins_identifier, continues_identifier};
 use cq_munch::{Machine, Unit, ascii_bytes, longest_spelling};
@@ -73,57 +73,57 @@ pub(crate) fn longest_identifier(units: &[Unit]) -> Option<usize>
     longest_spelling(Identifier::Before, units)
 }
 
+// The 44 keywords by their length.
+const RESERVED: [&[&[u8]]; 15] = [
+    &[],
+    &[],
+    &[b"do", b"if"],
+    &[b"for", b"int"],
+    &[
+        b"auto", b"case", b"char", b"else", b"enum", b"goto", b"long", b"void",
+    ],
+    &[
+        b"break", b"const", b"float", b"short", b"union", b"while", b"_Bool",
+    ],
+    &[
+        b"double", b"extern", b"inline", b"return", b"signed", b"sizeof", b"static", b"struct",
+        b"switch",
+    ],
+    &[b"default", b"typedef", b"_Atomic"],
+    &[
+        b"continue",
+        b"register",
+        b"restrict",
+        b"unsigned",
+        b"volatile",
+        b"_Alignas",
+        b"_Alignof",
+        b"_Complex",
+        b"_Generic",
+    ],
+    &[b"_Noreturn"],
+    &[b"_Imaginary"],
+    &[],
+    &[],
+    &[b"_Thread_local"],
+    &[b"_Static_assert"],
+];
+
+// Whether it stands in the list of the words of its length.
+fn is_listed(by_length: &[&[&[u8]]], word: &[u8]) -> bool
+    ensures { IsTrue result ↔ IsAmong (words_of_length by_length.now (length word.now)) word.now }
+{
+    match by_length.get(word.len()) {
+        Some(words) => words.contains(&word),
+        None => false,
+    }
+}
+
 // Whether it is one of the 44 keywords.
 fn is_reserved(word: &[u8]) -> bool
     ensures { IsTrue result ↔ IsAmong keywords word.now }
 {
-    matches!(
-        word,
-        b"auto"
-            | b"break"
-            | b"case"
-            | b"char"
-            | b"const"
-            | b"continue"
-            | b"default"
-            | b"do"
-            | b"double"
-            | b"else"
-            | b"enum"
-            | b"extern"
-            | b"float"
-            | b"for"
-            | b"goto"
-            | b"if"
-            | b"inline"
-            | b"int"
-            | b"long"
-            | b"register"
-            | b"restrict"
-            | b"return"
-            | b"short"
-            | b"signed"
-            | b"sizeof"
-            | b"static"
-            | b"struct"
-            | b"switch"
-            | b"typedef"
-            | b"union"
-            | b"unsigned"
-            | b"void"
-            | b"volatile"
-            | b"while"
-            | b"_Alignas"
-            | b"_Alignof"
-            | b"_Atomic"
-            | b"_Bool"
-            | b"_Complex"
-            | b"_Generic"
-            | b"_Imaginary"
-            | b"_Noreturn"
-            | b"_Static_assert"
-            | b"_Thread_local"
-    )
+    is_listed(&RESERVED, word)
 }
 
 /// Whether the identifier is a keyword.

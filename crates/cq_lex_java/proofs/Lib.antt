@@ -6,3 +6,4 @@ pub mod Spans
 pub mod Translating
 pub mod Elements
 pub mod Dispatch
+pub mod Reserved

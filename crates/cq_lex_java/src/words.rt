@@ -1,8 +1,8 @@
-ghost use Rattle.std.specs.Prelude.{◌≡◌, ◌↔◌, IsTrue};
+ghost use Rattle.std.specs.Prelude.{◌≡◌, ◌↔◌, IsTrue, length};
 ghost use Rattle.cq_munch.specs.Characters.{characters};
 ghost use Rattle.cq_munch.specs.Longest.{LongestAt, IsAmong};
 ghost use Rattle.cq_lex_java.specs.NameStates.{identifier_rest};
-ghost use Rattle.cq_lex_java.specs.Words.{IsIdentifier, begins_identifier, continues_identifier, keywords};
+ghost use Rattle.cq_lex_java.specs.Words.{IsIdentifier, begins_identifier, continues_identifier, keywords, words_of_length};
 
 use cq_munch::{Machine, Unit, ascii_bytes, longest_spelling};
 
@@ -54,67 +54,49 @@ pub(crate) fn longest_identifier(units: &[Unit]) -> Option<usize>
     longest_spelling(Identifier::Before, units)
 }
 
+// The 51 keywords, and true, false and null, by their length.
+const RESERVED: [&[&[u8]]; 13] = [
+    &[],
+    &[b"_"],
+    &[b"do", b"if"],
+    &[b"for", b"int", b"new", b"try"],
+    &[
+        b"byte", b"case", b"char", b"else", b"enum", b"goto", b"long", b"this", b"void", b"true",
+        b"null",
+    ],
+    &[
+        b"break", b"catch", b"class", b"const", b"final", b"float", b"short", b"super", b"throw",
+        b"while", b"false",
+    ],
+    &[
+        b"assert", b"double", b"import", b"native", b"public", b"return", b"static", b"switch",
+        b"throws",
+    ],
+    &[
+        b"boolean", b"default", b"extends", b"finally", b"package", b"private",
+    ],
+    &[b"abstract", b"continue", b"strictfp", b"volatile"],
+    &[b"interface", b"protected", b"transient"],
+    &[b"implements", b"instanceof"],
+    &[],
+    &[b"synchronized"],
+];
+
+// Whether it stands in the list of the words of its length.
+fn is_listed(by_length: &[&[&[u8]]], word: &[u8]) -> bool
+    ensures { IsTrue result ↔ IsAmong (words_of_length by_length.now (length word.now)) word.now }
+{
+    match by_length.get(word.len()) {
+        Some(words) => words.contains(&word),
+        None => false,
+    }
+}
+
 // Whether it is one of the 51 keywords, or true, false or null.
 fn is_reserved(word: &[u8]) -> bool
     ensures { IsTrue result ↔ IsAmong keywords word.now }
 {
-    matches!(
-        word,
-        b"abstract"
-            | b"assert"
-            | b"boolean"
-            | b"break"
-            | b"byte"
-            | b"case"
-            | b"catch"
-            | b"char"
-            | b"class"
-            | b"const"
-            | b"continue"
-            | b"default"
-            | b"do"
-            | b"double"
-            | b"else"
-            | b"enum"
-            | b"extends"
-            | b"final"
-            | b"finally"
-            | b"float"
-            | b"for"
-            | b"goto"
-            | b"if"
-            | b"implements"
-            | b"import"
-            | b"instanceof"
-            | b"int"
-            | b"interface"
-            | b"long"
-            | b"native"
-            | b"new"
-            | b"package"
-            | b"private"
-            | b"protected"
-            | b"public"
-            | b"return"
-            | b"short"
-            | b"static"
-            | b"strictfp"
-            | b"super"
-            | b"switch"
-            | b"synchronized"
-            | b"this"
-            | b"throw"
-            | b"throws"
-            | b"transient"
-            | b"try"
-            | b"void"
-            | b"volatile"
-            | b"while"
-            | b"_"
-            | b"true"
-            | b"false"
-            | b"null"
-    )
+    is_listed(&RESERVED, word)
 }
 
 /// Whether the identifier is a keyword, or true, false or null.

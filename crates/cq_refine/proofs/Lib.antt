@@ -12,3 +12,6 @@ pub mod Weights
 pub mod KeyPlaces
 pub mod Places
 pub mod OneStep
+pub mod ToldApart
+pub mod Gaps
+pub mod Kept

@@ -1,6 +1,6 @@
 -- A set that is taken one token further: all of it, or its parts.
-use Rattle.std.proofs.Common.{◌≡◌, ◌≢◌, ◌⊎◌, ℕ, zero, suc, ◌+◌, ◌-◌, ◌<◌, ◌≤◌, List, [], ◌∷◌, ◌++◌, length, map, get_or, Option, Some, None, IsSome, refl, sym, ap, ◌∙◌, subst, inl, inr, ⊎_elim, arith, append-nil, eqb, true≢false}
-use Rattle.std.specs.Prelude.{All, AllPairs, Contains, Any, sum_by, filter, nat_le, option_map}
+use Rattle.std.proofs.Common.{◌≡◌, ◌≢◌, ℕ, zero, suc, ◌+◌, ◌-◌, ◌<◌, ◌≤◌, List, [], ◌∷◌, ◌++◌, length, map, get_or, Option, Some, None, IsSome, refl, sym, ap, ◌∙◌, subst, inl, inr, ⊎_elim, arith, append-nil, true≢false}
+use Rattle.std.specs.Prelude.{All, Contains, filter, nat_le, option_map}
 use Rattle.std.proofs.lemmas.Bool.{cases_eq, le-leb, eq-eqb, ne_eqb}
 use Rattle.std.proofs.lemmas.List.{length-map, get_or-map}
 use Rattle.std.proofs.lemmas.List.Elements.{All-cons, All-nil, All-contains, Contains-get_or}
@@ -16,7 +16,7 @@ use Rattle.cq_refine.specs.declared.differing.Difference.{Difference}
 use Rattle.cq_refine.specs.declared.spots.Spot.{Spot}
 use Rattle.cq_refine.specs.declared.spots.Marked.{Marked}
 use Rattle.cq_refine.specs.declared.spots.Set.{Set}
-use Rattle.cq_refine.specs.Sets.{IsMark, AreOne, IsDifference, AreTwoMarks, AreSpots, AreMarked, HaveOneLeft, HaveOneMark, MayGive, part_of, IsPart, AddsParts, group_of, IsLong, IsChosen, AddsGroup, IsSplit}
+use Rattle.cq_refine.specs.Sets.{IsMark, AreOne, IsDifference, AreTwoMarks, AreSpots, AreMarked, HaveOneLeft, HaveOneMark, MayGive, part_of, IsPart, AddsParts, IsParted, group_of, IsLong, IsChosen, AddsGroup, IsSplit}
 use Rattle.cq_refine.proofs.Marking.{same_from_marks, no_mark}
 
 -- ---- all of it
@@ -25,11 +25,11 @@ use Rattle.cq_refine.proofs.Marking.{same_from_marks, no_mark}
 abbrev pub all_marked : ℕ → List Spot → List Marked
 all_marked m spots = map (λ (s : Spot). let x : Marked = record { spot = s; mark = m } in x) spots
 
-all_spots : (m : ℕ) (spots : List Spot) → map (λ x. x.spot) (all_marked m spots) ≡ spots
+pub all_spots : (m : ℕ) (spots : List Spot) → map (λ x. x.spot) (all_marked m spots) ≡ spots
 all_spots m [] = refl
 all_spots m (s ∷ ss) = ap (λ (zs : List Spot). s ∷ zs) (all_spots m ss)
 
-all_part : (m : ℕ) (spots : List Spot) → part_of m (all_marked m spots) ≡ spots
+pub all_part : (m : ℕ) (spots : List Spot) → part_of m (all_marked m spots) ≡ spots
 all_part m [] = refl
 all_part m (s ∷ ss) = rw (eq-eqb m m refl) (ap (λ (zs : List Spot). s ∷ zs) (all_part m ss))
 
@@ -37,7 +37,7 @@ all_low : (m : ℕ) (spots : List Spot) → length spots ≤ length (filter (λ 
 all_low m [] = omega arith
 all_low m (s ∷ ss) = let r = all_low m ss in rw (le-leb m m (omega arith)) (omega (arith, r))
 
-all_mark : (m : ℕ) (spots : List Spot) (x : Marked) → Contains (all_marked m spots) x → (x.mark ≡ m) × Contains spots x.spot
+pub all_mark : (m : ℕ) (spots : List Spot) (x : Marked) → Contains (all_marked m spots) x → (x.mark ≡ m) × Contains spots x.spot
 all_mark m spots x c =
     let (s, s_in, is) = Contains-from_map (λ (s : Spot). let x : Marked = record { spot = s; mark = m } in x) spots x c in
     (sym (ap (λ (z : Marked). z.mark) is), subst (Contains spots) (ap (λ (z : Marked). z.spot) is) s_in)
@@ -250,13 +250,13 @@ split_two corpus least set rest d old new is two gives adds = by set.spots.items
     by (s ∷ t ∷ u ∷ ss) e size = absurd (omega (arith, size))
 
 -- a set of more places
-pub split_parts : (corpus : List (List Norm)) (least highest : ℕ) (set : Set) (rest more : List Set) (d : Difference) (marked : List Marked) (old new : List Group) → IsDifference (λ s. token_behind corpus s.place set.depth) set.spots.items d → MayGive set.spots.items → map (λ x. x.spot) marked ≡ set.spots.items → AreMarked corpus set.depth marked → All (λ x. x.mark ≤ highest) marked → AddsParts (set.depth + 1) marked highest rest more → AddsGroup (IsLong least set.depth set.spots.items) (group_of set.depth set.spots.items) old new → IsSplit corpus least set rest more old new
-split_parts corpus least highest set rest more d marked old new is gives spots_are are low parts adds = record {
-  marked = marked;
-  spots = spots_are;
-  marks = are;
-  highest = highest;
-  all = low;
-  parts = parts;
-  group = chosen_group least set.depth set.spots.items marked (group_of set.depth set.spots.items) old new gives.1 (no_one_mark_of corpus set.depth set.spots.items marked d is spots_are are) adds;
+pub split_parts : (corpus : List (List Norm)) (least : ℕ) (set : Set) (rest more : List Set) (d : Difference) (old new : List Group) → IsDifference (λ s. token_behind corpus s.place set.depth) set.spots.items d → MayGive set.spots.items → IsParted corpus set rest more → AddsGroup (IsLong least set.depth set.spots.items) (group_of set.depth set.spots.items) old new → IsSplit corpus least set rest more old new
+split_parts corpus least set rest more d old new is gives parted adds = record {
+  marked = parted.marked;
+  spots = parted.spots;
+  marks = parted.marks;
+  highest = parted.highest;
+  all = parted.all;
+  parts = parted.parts;
+  group = chosen_group least set.depth set.spots.items parted.marked (group_of set.depth set.spots.items) old new gives.1 (no_one_mark_of corpus set.depth set.spots.items parted.marked d is parted.spots parted.marks) adds;
 }

@@ -46,7 +46,7 @@ count_more m (x ∷ xs) =
 take_more_is : (xs : List Marked) (i : ℕ) (x : Marked) → i < length xs → x ≡ get_or xs i x → take (i + 1) xs ≡ take i xs ++ x ∷ []
 take_more_is xs i x lt read = take_more xs i x lt ∙ ap (λ (y : Marked). take i xs ++ y ∷ []) (sym read)
 
-part_push : (m : ℕ) (xs : List Marked) (x : Marked) → part_of m (xs ++ x ∷ []) ≡ cond (eqb x.mark m) (part_of m xs ++ x.spot ∷ []) (part_of m xs)
+pub part_push : (m : ℕ) (xs : List Marked) (x : Marked) → part_of m (xs ++ x ∷ []) ≡ cond (eqb x.mark m) (part_of m xs ++ x.spot ∷ []) (part_of m xs)
 part_push m xs x =
     ap (map (λ (z : Marked). z.spot)) (filter-append (λ (z : Marked). eqb z.mark m) xs (x ∷ []))
     ∙ map-append (λ (z : Marked). z.spot) (filter (λ (z : Marked). eqb z.mark m) xs) (filter (λ (z : Marked). eqb z.mark m) (x ∷ []))

@@ -1,8 +1,8 @@
 -- A part of a word's set is the set of a longer word.
-use Rattle.std.proofs.Common.{◌≡◌, ℕ, ◌+◌, ◌≤◌, List, [], ◌∷◌, ◌++◌, length, map, Bool, true, Some, sym, ap, ◌∙◌, subst, subst₂, ⊎_elim, arith, eqb}
+use Rattle.std.proofs.Common.{◌≡◌, ℕ, ◌+◌, ◌≤◌, List, [], ◌∷◌, ◌++◌, length, map, Some, sym, ap, ◌∙◌, subst, eqb}
 use Rattle.std.specs.Prelude.{AllPairs, Contains, filter}
-use Rattle.std.proofs.lemmas.Bool.{cases_Bool, eqb-true, eq-eqb}
-use Rattle.std.proofs.lemmas.List.{length_push, get_or-map, length-map}
+use Rattle.std.proofs.lemmas.Bool.{eqb-true, eq-eqb}
+use Rattle.std.proofs.lemmas.List.{length_push}
 use Rattle.std.proofs.lemmas.List.Kept.{AllPairs-filter}
 use Rattle.cq_clones.specs.Groups.{StandsAt, token_behind, token_ahead}
 use Rattle.cq_base.proofs.Lists.{Contains-map, Contains-from_map, Contains-filter, Contains-from_filter, AllPairs-map, AllPairs-from_map}

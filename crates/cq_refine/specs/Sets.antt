@@ -1,5 +1,5 @@
 -- Sets of places that share their first tokens.
-use Rattle.std.specs.Prelude.{◌≡◌, ◌≢◌, ◌⊎◌, ◌↔◌, ℕ, ◌+◌, ◌*◌, ◌-◌, ◌^◌, ◌<◌, ◌≤◌, List, slice_get, slice_index_or, Some, IsSome, ◌∷◌, [], ◌++◌, length, Option, option_map, All, AllPairs, Contains, Any, sum_by, map, filter, ◌==◌, nat_le}
+use Rattle.std.specs.Prelude.{◌≡◌, Bool, ◌≢◌, ◌⊎◌, ◌↔◌, ℕ, ◌+◌, ◌*◌, ◌-◌, ◌^◌, ◌<◌, ◌≤◌, List, slice_get, slice_index_or, Some, IsSome, ◌∷◌, [], ◌++◌, length, Option, option_map, All, AllPairs, Contains, Any, sum_by, map, filter, ◌==◌, not, nat_le}
 use Rattle.std.specs.BTreeMap.{BTreeMap, get, btree_map_len}
 use Rattle.cq_base.specs.declared.norm.Norm.{Norm}
 use Rattle.cq_tokens.specs.declared.seen.Seen.{Seen}
@@ -7,12 +7,13 @@ use Rattle.cq_tokens.specs.Packed.{norm_in, seen_cmp}
 use Rattle.cq_base.specs.declared.group.Place.{Place}
 use Rattle.cq_base.specs.declared.group.Group.{Group}
 use Rattle.cq_clones.specs.Lists.{AreAllInOrder}
-use Rattle.cq_clones.specs.Groups.{IsPlace, IsBefore, StandsAt, word_at, token_ahead, token_before, token_behind, file_at, AreSame, IsGroup, kept_of}
+use Rattle.cq_clones.specs.Groups.{IsPlace, IsBefore, StandsAt, word_at, token_ahead, token_before, token_behind, file_at, AreSame, IsGroup, is_free, kept_of}
 use Rattle.cq_base.specs.Places.{first_place}
 use Rattle.cq_refine.specs.declared.differing.Difference.{Difference}
 use Rattle.cq_refine.specs.declared.spots.Spot.{Spot}
 use Rattle.cq_refine.specs.declared.spots.Marked.{Marked}
 use Rattle.cq_refine.specs.declared.spots.Set.{Set}
+use Rattle.cq_refine.specs.declared.parting.Parting.{Parting}
 
 -- the mark of a token among different ones: its position there from 1 on, and 0 for no token
 pub record IsMark {T : Type 0} (seen : List T) (token : Option T) (mark : ℕ) : Type 0 where
@@ -88,6 +89,20 @@ pub record IsDifference {X : Type 0} (token : X → Option Norm) (xs : List X) (
 abbrev pub IsInNumbers : ℕ → Difference → Type 0
 IsInNumbers n d = (IsSome (option_map norm_in d.first) → n + 1 < 2 ^ 32) × (IsSome (option_map norm_in d.last) → n + 1 < 2 ^ 32)
 
+-- whether the spot at `k` is free of a word at the one at `i`
+abbrev pub IsFreeBehind : ℕ → List Spot → ℕ → ℕ → Spot → Bool → Type 0
+IsFreeBehind tokens spots i k d free = is_free tokens (Some (slice_index_or spots i d).place) (slice_index_or spots k d).place ≡ free
+
+-- the spots have the same first tokens, `n` of them
+abbrev pub AreAlike : {T : Type 0} → List (List T) → ℕ → List Spot → Type 0
+AreAlike corpus n spots = (s t : Spot) (k : ℕ) → Contains spots s → Contains spots t → k < n → token_behind corpus s.place k ≡ token_behind corpus t.place k
+
+-- the next spot stands in the same file, so many tokens further on
+pub record IsGap (spots : List Spot) (i gap : ℕ) (d : Spot) : Type 0 where
+  pub within : i + 1 < length spots
+  pub file : (slice_index_or spots i d).place.file ≡ (slice_index_or spots (i + 1) d).place.file
+  pub at : (slice_index_or spots i d).place.at + gap ≡ (slice_index_or spots (i + 1) d).place.at
+
 -- the marks of two tokens, of which one isn't there, or which differ
 pub record AreTwoMarks {T : Type 0} (a b : Option T) (m n : ℕ) : Type 0 where
   pub seen : List T
@@ -116,6 +131,19 @@ IsGroupFrom corpus least places group = IsGroup corpus least group × Contains p
 -- the spots with one mark
 abbrev pub part_of : ℕ → List Marked → List Spot
 part_of mark marked = map (λ x. x.spot) (filter (λ x. x.mark == mark) marked)
+
+-- the spots with other marks than one
+abbrev pub others_of : ℕ → List Marked → List Marked
+others_of mark marked = filter (λ x. not (x.mark == mark)) marked
+
+-- spots were parted: some stay, whose mark is one of a token, and the others have their marks
+pub record IsParting {T : Type 0} (corpus : List (List T)) (n : ℕ) (spots : List Spot) (parting : Parting) : Type 0 where
+  pub marked : List Marked
+  pub is : map (λ x. x.spot) marked ≡ spots
+  pub marks : AreMarked corpus n marked
+  pub some : 0 < parting.mark
+  pub stay : parting.stay.items ≡ part_of parting.mark marked
+  pub others : parting.others.items ≡ others_of parting.mark marked
 
 -- the spots of each mark from 1 to the highest
 pub record AreByMark (highest : ℕ) (marked : List Marked) (parts : List (List Spot)) : Type 0 where
@@ -151,6 +179,15 @@ pub record AddsParts (depth : ℕ) (marked : List Marked) (highest : ℕ) (old n
   pub is : new ≡ old ++ parts
   pub are : AreParts depth marked highest parts
   pub size : sum_by (λ s. length s.spots.items) parts ≤ length (filter (λ x. nat_le x.mark highest) marked)
+
+-- the parts of a set, of which those that may give groups stand behind other sets
+pub record IsParted {T : Type 0} (corpus : List (List T)) (set : Set) (rest sets : List Set) : Type 0 where
+  pub marked : List Marked
+  pub spots : map (λ x. x.spot) marked ≡ set.spots.items
+  pub marks : AreMarked corpus set.depth marked
+  pub highest : ℕ
+  pub all : All (λ x. x.mark ≤ highest) marked
+  pub parts : AddsParts (set.depth + 1) marked highest rest sets
 
 -- the group of a set's places
 abbrev pub group_of : ℕ → List Spot → Group

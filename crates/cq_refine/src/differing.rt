@@ -4,7 +4,7 @@ ghost use Rattle.cq_base.specs.declared.group.Place.{Place};
 ghost use Rattle.cq_refine.specs.declared.spots.Spot.{Spot};
 ghost use Rattle.cq_tokens.specs.Packed.{norm_in};
 ghost use Rattle.cq_tokens.specs.Parts.{tokens_in};
-ghost use Rattle.cq_refine.specs.Sets.{AreOne, IsDifference, IsInNumbers};
+ghost use Rattle.cq_refine.specs.Sets.{AreOne, AreAlike, IsGap, IsDifference, IsInNumbers};
 
 use crate::spots::Spot;
 use cq_base::{Place, Steps};
@@ -23,7 +23,7 @@ pub(crate) struct Difference<'a> {
 }
 
 /// Whether both tokens are there and the same.
-fn are_same(a: Option<Seen<'_>>, b: Option<Seen<'_>>) -> bool
+pub(crate) fn are_same(a: Option<Seen<'_>>, b: Option<Seen<'_>>) -> bool
     ensures { IsTrue result ↔ AreSame (option_map norm_in a.entry) (option_map norm_in b.entry) }
 {
     match (a, b) {
@@ -59,7 +59,34 @@ pub(crate) fn difference_before<'a, L: Ledger>(
     None
 }
 
-/// The first difference among the tokens `n` behind some spots; None where they are all there and the same.
+/// How far behind the spot at `i` the next one stands in its file; 0 where it doesn't.
+fn gap_behind(spots: &[Spot], i: usize) -> u32
+    requires { i < length spots.now }
+    ensures { (d : Spot) → 0 < result → IsGap spots.now i result d }
+{
+    if i + 1 >= spots.len() || spots[i + 1].place.file != spots[i].place.file {
+        return 0;
+    }
+    spots[i + 1].place.at.saturating_sub(spots[i].place.at)
+}
+
+/// Whether there is a gap, and it is the known one.
+fn is_known(gap: u32, known: u32) -> bool
+    ensures { IsTrue result ↔ ((0 < gap) × (gap ≡ known)) }
+{
+    gap > 0 && gap == known
+}
+
+/// The gap, if a word of `n` tokens reaches over it, and else 0.
+fn gap_within(gap: u32, n: u32) -> u32
+    ensures { 0 < result → (result ≡ gap) × (gap ≤ n) }
+{
+    if gap <= n { gap } else { 0 }
+}
+
+/// The first difference among the tokens `n` behind some spots with one word of `n` tokens; None where they are all there
+/// and the same. A spot that the next one follows within the word goes on by a token of the word itself, which is read
+/// once for all that follow each other by the same gap.
 pub(crate) fn difference_behind<'a, L: Ledger>(
     files: &FileList<'a, L>,
     spots: &[Spot],
@@ -68,6 +95,7 @@ pub(crate) fn difference_behind<'a, L: Ledger>(
 ) -> Option<Difference<'a>>
     requires several { 2 ≤ length spots.now }
     requires places { All (λ s. IsPlace (tokens_in files.now) s.place) spots.now }
+    requires alike { AreAlike (tokens_in files.now) n spots.now }
     ensures one { IfNone result (AreOne (λ s. token_behind (tokens_in files.now) s.place n) spots.now) }
     ensures fits { IfNone result (n + 1 < 2 ^ 32) }
     ensures numbers { IfSome result (IsInNumbers n) }
@@ -76,7 +104,12 @@ pub(crate) fn difference_behind<'a, L: Ledger>(
     ensures steps { steps.new ≤ steps.old + length spots.now }
 {
     let first = files.token_behind(spots[0].place, n, steps);
+    let mut known = 0;
     for i in 1..spots.len() {
+        let gap = gap_behind(spots, i);
+        if is_known(gap, known) {
+            continue;
+        }
         let last = files.token_behind(spots[i].place, n, steps);
         if !are_same(first, last) {
             return Some(Difference {
@@ -85,6 +118,7 @@ pub(crate) fn difference_behind<'a, L: Ledger>(
                 read: i + 1,
             });
         }
+        known = gap_within(gap, n);
     }
     None
 }

@@ -15,7 +15,7 @@ use std::collections::BTreeMap;
 use std::sync::ledger::Ledger;
 
 /// The mark of a token, which is a new one where the token is new. It costs one search among the different tokens.
-fn mark_of<'a>(
+pub(crate) fn mark_of<'a>(
     marks: &mut BTreeMap<Seen<'a>, usize>,
     token: Option<Seen<'a>>,
 ) -> Result<usize, Memory>

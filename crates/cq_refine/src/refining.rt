@@ -1,10 +1,11 @@
-ghost use Rattle.std.specs.Prelude.{◌≡◌, ◌+◌, ◌<◌, ◌≤◌, length, IfOk, OnOk, All};
+ghost use Rattle.std.specs.Prelude.{◌≡◌, ◌+◌, ◌<◌, ◌≤◌, length, IfOk, OnOk, All, AllPairs};
 ghost use Rattle.cq_clones.specs.Groups.{IsPlace, token_behind};
 ghost use Rattle.cq_tokens.specs.Parts.{tokens_in};
-ghost use Rattle.cq_refine.specs.Sets.{AreEntries, IsGroupFrom, IsDifference, IsInNumbers, ReadsAtMost, MayGive, IsSplit, AreFirst, AreAllOnce};
+ghost use Rattle.cq_refine.specs.Sets.{IsSpotBefore, AreEntries, IsGroupFrom, IsDifference, IsInNumbers, AreAlike, ReadsAtMost, MayGive, IsParted, IsSplit, AreFirst, AreAllOnce};
 
 use crate::differing::{Difference, difference_before, difference_behind};
 use crate::marks::{marked_of, spots_of};
+use crate::parting::push_parting;
 use crate::sets::{add_group, highest, may_give, push_parts};
 use crate::spots::{Set, Spot};
 use cq_base::{Group, Memory, Place, Steps};
@@ -23,6 +24,29 @@ fn first_sets(alloc: Global, spots: Vec<Spot>) -> Result<Vec<Set>, Memory>
     Ok(sets)
 }
 
+/// Adds the parts of a set whose first place is at its file's end.
+fn push_marked<'a, L: Ledger>(
+    alloc: Global,
+    files: &FileList<'a, L>,
+    set: &Set,
+    difference: &Difference<'a>,
+    sets: &mut Vec<Set>,
+    steps: &mut Steps<L>,
+) -> Result<(), Memory>
+    requires places { All (λ s. IsPlace (tokens_in files.now) s.place) set.now.spots.items }
+    requires differ { IsDifference (λ s. token_behind (tokens_in files.now) s.place set.now.depth) set.now.spots.items difference.now }
+    requires numbers { IsInNumbers set.now.depth difference.now }
+    ensures parted { OnOk result (IsParted (tokens_in files.now) set.now sets.old.items sets.new.items) }
+    ensures steps { steps.new + difference.now.read ≤ steps.old + length set.now.spots.items }
+{
+    let marked = marked_of(alloc, files, &set.spots, set.depth, difference, steps)?;
+    let highest = highest(&marked);
+    if highest > 0 {
+        push_parts(alloc, &marked, highest, set.depth + 1, sets)?;
+    }
+    Ok(())
+}
+
 /// Gives up a set whose places go on by different tokens for its group and its parts. Two places have no parts.
 fn part<'a, L: Ledger>(
     alloc: Global,
@@ -35,6 +59,7 @@ fn part<'a, L: Ledger>(
     steps: &mut Steps<L>,
 ) -> Result<(), Memory>
     requires gives { MayGive set.now.spots.items }
+    requires ordered { AllPairs IsSpotBefore set.now.spots.items }
     requires places { All (λ s. IsPlace (tokens_in files.now) s.place) set.now.spots.items }
     requires differ { IsDifference (λ s. token_behind (tokens_in files.now) s.place set.now.depth) set.now.spots.items difference.now }
     requires numbers { IsInNumbers set.now.depth difference.now }
@@ -45,12 +70,10 @@ fn part<'a, L: Ledger>(
     if set.spots.len() == 2 {
         return Ok(());
     }
-    let marked = marked_of(alloc, files, &set.spots, set.depth, difference, steps)?;
-    let highest = highest(&marked);
-    if highest > 0 {
-        push_parts(alloc, &marked, highest, set.depth + 1, sets)?;
+    if difference.first.is_none() {
+        return push_marked(alloc, files, set, difference, sets, steps);
     }
-    Ok(())
+    push_parting(alloc, files, set, difference, sets, steps)
 }
 
 /// Takes a set one token further: all of it, where its places go on by one token, and else its parts.
@@ -64,7 +87,9 @@ fn split<L: Ledger>(
     steps: &mut Steps<L>,
 ) -> Result<(), Memory>
     requires gives { MayGive set.spots.items }
+    requires ordered { AllPairs IsSpotBefore set.spots.items }
     requires places { All (λ s. IsPlace (tokens_in files.now) s.place) set.spots.items }
+    requires alike { AreAlike (tokens_in files.now) set.depth set.spots.items }
     ensures split { OnOk result (IsSplit (tokens_in files.now) min set sets.old.items sets.new.items groups.old.items groups.new.items) }
     ensures steps { steps.new ≤ steps.old + length set.spots.items }
 {

@@ -1,9 +1,10 @@
-ghost use Rattle.std.specs.Prelude.{◌≡◌, ◌<◌, ◌≤◌, ◌↔◌, ◌⊎◌, IsTrue, IfOk, OnOk, length, map, All, Any};
-ghost use Rattle.cq_refine.specs.Sets.{AreByMark, AddsParts, group_of, HaveOneLeft, MayGive, IsLong, AddsGroup};
+ghost use Rattle.std.specs.Prelude.{◌≡◌, ℕ, List, ◌<◌, ◌≤◌, ◌↔◌, ◌⊎◌, IsTrue, IfOk, OnOk, length, map, All, AllPairs, Any};
+ghost use Rattle.cq_refine.specs.declared.spots.Marked.{Marked};
+ghost use Rattle.cq_refine.specs.Sets.{IsSpotBefore, AreByMark, AddsParts, group_of, HaveOneLeft, MayGive, IsLong, AddsGroup};
 
+use crate::keeping::kept_places;
 use crate::spots::{Marked, Set, Spot};
-use cq_base::{Group, Memory, Place, Places};
-use cq_order::kept;
+use cq_base::{Group, Memory, Places};
 use std::alloc::Global;
 
 /// Whether the mark is one of a token, and that of the token before each spot.
@@ -28,14 +29,6 @@ pub(crate) fn may_give(spots: &[Spot]) -> bool
     spots.len() > 1 && !have_one_left(spots)
 }
 
-/// The places of the spots.
-fn places_of(alloc: Global, spots: &[Spot]) -> Result<Vec<Place>, Memory>
-    ensures { IfOk result (λ places. places.items ≡ map (λ s. s.place) spots.now) }
-{
-    let places = spots.iter().map(|s| s.place).collect(alloc)?;
-    Ok(places)
-}
-
 /// Adds the group of a set that stops here, if its word is long enough and two of its places are kept.
 pub(crate) fn add_group(
     alloc: Global,
@@ -43,13 +36,13 @@ pub(crate) fn add_group(
     min: u32,
     groups: &mut Vec<Group>,
 ) -> Result<(), Memory>
+    requires { AllPairs IsSpotBefore set.now.spots.items }
     ensures { OnOk result (AddsGroup (IsLong min set.now.depth set.now.spots.items) (group_of set.now.depth set.now.spots.items) groups.old.items groups.new.items) }
 {
     if set.depth < min {
         return Ok(());
     }
-    let places = places_of(alloc, &set.spots)?;
-    let places = kept(alloc, set.depth, &places)?;
+    let places = kept_places(alloc, set.depth, &set.spots)?;
     if places.len() < 2 {
         return Ok(());
     }
@@ -74,7 +67,11 @@ pub(crate) fn highest(marked: &[Marked]) -> usize
 }
 
 /// The spots of each mark, from 1 to the highest. It looks at each spot once.
-fn parts_of(alloc: Global, marked: &[Marked], highest: usize) -> Result<Vec<Vec<Spot>>, Memory>
+pub(crate) fn parts_of(
+    alloc: Global,
+    marked: &[Marked],
+    highest: usize,
+) -> Result<Vec<Vec<Spot>>, Memory>
     requires { All (λ x. x.mark ≤ highest) marked.now }
     ensures { IfOk result (λ parts. AreByMark highest marked.now (map (λ part. part.items) parts.items)) }
 {
@@ -90,6 +87,18 @@ fn parts_of(alloc: Global, marked: &[Marked], highest: usize) -> Result<Vec<Vec<
     Ok(parts)
 }
 
+/// Adds the parts that may give groups.
+pub(crate) fn push_all(parts: Vec<Vec<Spot>>, depth: u32, sets: &mut Vec<Set>) -> Result<(), Memory>
+    ensures { (highest : ℕ) (marked : List Marked) → AreByMark highest marked (map (λ part. part.items) parts.items) → OnOk result (AddsParts depth marked highest sets.old.items sets.new.items) }
+{
+    for spots in parts {
+        if may_give(&spots) {
+            sets.push(Set { depth, spots })?;
+        }
+    }
+    Ok(())
+}
+
 /// Adds the parts with marks up to the highest that may give groups.
 pub(crate) fn push_parts(
     alloc: Global,
@@ -102,10 +111,5 @@ pub(crate) fn push_parts(
     ensures { OnOk result (AddsParts depth marked.now highest sets.old.items sets.new.items) }
 {
     let parts = parts_of(alloc, marked, highest)?;
-    for spots in parts {
-        if may_give(&spots) {
-            sets.push(Set { depth, spots })?;
-        }
-    }
-    Ok(())
+    push_all(parts, depth, sets)
 }

@@ -19,39 +19,33 @@ fn file_row(alloc: Global, lang: Lang, shown: Shown) -> Result<FileRow, Memory>
     })
 }
 
-const FILES: [(Lang, Shown, &str); 4] = [
-    (
-        Lang::Any,
-        Shown::Ok,
-        r#"{"files":[{"change":1,"lang":"any","lines":2,"path":"a/é","state":"ok","tokens":3}],"ok":true,"version":5}"#,
-    ),
-    (
-        Lang::C,
-        Shown::Fault(9),
-        r#"{"files":[{"at":9,"change":1,"lang":"c","lines":2,"path":"a/é","state":"fault","tokens":3}],"ok":true,"version":5}"#,
-    ),
-    (
-        Lang::Java,
-        Shown::Large,
-        r#"{"files":[{"change":1,"lang":"java","lines":2,"path":"a/é","state":"large","tokens":3}],"ok":true,"version":5}"#,
-    ),
-    (
-        Lang::Go,
-        Shown::Ok,
-        r#"{"files":[{"change":1,"lang":"go","lines":2,"path":"a/é","state":"ok","tokens":3}],"ok":true,"version":5}"#,
-    ),
-];
+fn writes_file(alloc: Global, lang: Lang, shown: Shown, want: &str) -> Result<bool, Memory> {
+    let files = Reply::Files {
+        files: FileRows::from_vec(vec![in alloc; file_row(alloc, lang, shown)?]?),
+        version: 5,
+    };
+    is_written(alloc, &files, want)
+}
+
+const OF_ANY: &str =
+    r#"{"files":[{"change":1,"lang":"any","lines":2,"path":"a/é","state":"ok","tokens":3}],"ok":true,"version":5}"#;
+
+const OF_C: &str =
+    r#"{"files":[{"at":9,"change":1,"lang":"c","lines":2,"path":"a/é","state":"fault","tokens":3}],"ok":true,"version":5}"#;
+
+const OF_JAVA: &str =
+    r#"{"files":[{"change":1,"lang":"java","lines":2,"path":"a/é","state":"large","tokens":3}],"ok":true,"version":5}"#;
+
+const OF_GO: &str =
+    r#"{"files":[{"change":1,"lang":"go","lines":2,"path":"a/é","state":"ok","tokens":3}],"ok":true,"version":5}"#;
 
 #[test]
 fn files_are_written(rt: HostRuntime) -> Result<(), Memory> {
     let alloc = rt.alloc();
-    for (lang, shown, want) in FILES {
-        let files = Reply::Files {
-            files: FileRows::from_vec(vec![in alloc; file_row(alloc, lang, shown)?]?),
-            version: 5,
-        };
-        assert!(rt; is_written(alloc, &files, want)?);
-    }
+    assert!(rt; writes_file(alloc, Lang::Any, Shown::Ok, OF_ANY)?);
+    assert!(rt; writes_file(alloc, Lang::C, Shown::Fault(9), OF_C)?);
+    assert!(rt; writes_file(alloc, Lang::Java, Shown::Large, OF_JAVA)?);
+    assert!(rt; writes_file(alloc, Lang::Go, Shown::Ok, OF_GO)?);
     Ok(())
 }
 

@@ -52,34 +52,75 @@ fn reply_of(code: u64) -> Reply
     }
 }
 
-const REPLIES: [(u64, &str); 17] = [
-    (1, r#"{"code":1,"error":"json","ok":false}"#),
-    (2, r#"{"code":2,"error":"op","ok":false}"#),
-    (4, r#"{"code":4,"error":"lang","ok":false}"#),
-    (5, r#"{"code":5,"error":"path","ok":false}"#),
-    (6, r#"{"code":6,"error":"text","ok":false}"#),
-    (7, r#"{"code":7,"error":"min","ok":false}"#),
-    (8, r#"{"code":8,"count":3,"error":"future","ok":false}"#),
-    (9, r#"{"code":9,"error":"absent","ok":false}"#),
-    (10, r#"{"code":10,"error":"full-changes","ok":false}"#),
-    (11, r#"{"code":11,"error":"full-text","ok":false}"#),
-    (12, r#"{"code":12,"error":"pending","number":4,"ok":false}"#),
-    (13, r#"{"code":13,"error":"long","ok":false}"#),
-    (14, r#"{"code":14,"error":"memory","ok":false}"#),
-    (15, r#"{"change":7,"ok":true}"#),
-    (16, r#"{"accepted":3,"done":2,"ok":true,"published":1}"#),
-    (
-        17,
-        r#"{"measures":{"complexity":4,"duplicated_blocks":6,"duplicated_files":7,"duplicated_lines":5,"duplicated_lines_density":18446744073709551615,"files":3,"lines":1,"ncloc":2},"ok":true,"version":8}"#,
-    ),
-    (18, r#"{"failed":[],"ok":true,"verdict":"OK","version":0}"#),
-];
+fn writes(alloc: Global, code: u64, want: &str) -> Result<bool, Memory> {
+    is_written(alloc, &reply_of(code), want)
+}
 
 #[test]
-fn replies_are_written(rt: HostRuntime) -> Result<(), Memory> {
-    for (code, want) in REPLIES {
-        assert!(rt; is_written(rt.alloc(), &reply_of(code), want)?);
-    }
+fn refusals_of_a_line_are_written(rt: HostRuntime) -> Result<(), Memory> {
+    let alloc = rt.alloc();
+    assert!(rt; writes(alloc, 1, r#"{"code":1,"error":"json","ok":false}"#)?);
+    assert!(rt; writes(alloc, 2, r#"{"code":2,"error":"op","ok":false}"#)?);
+    assert!(rt; writes(alloc, 4, r#"{"code":4,"error":"lang","ok":false}"#)?);
+    assert!(rt; writes(alloc, 5, r#"{"code":5,"error":"path","ok":false}"#)?);
+    assert!(rt; writes(alloc, 6, r#"{"code":6,"error":"text","ok":false}"#)?);
+    assert!(rt; writes(alloc, 7, r#"{"code":7,"error":"min","ok":false}"#)?);
+    Ok(())
+}
+
+#[test]
+fn refusals_of_what_is_asked_are_written(rt: HostRuntime) -> Result<(), Memory> {
+    let alloc = rt.alloc();
+    assert!(rt;
+        writes(
+            alloc,
+            8,
+            r#"{"code":8,"count":3,"error":"future","ok":false}"#
+        )?
+    );
+    assert!(rt; writes(alloc, 9, r#"{"code":9,"error":"absent","ok":false}"#)?);
+    assert!(rt;
+        writes(
+            alloc,
+            10,
+            r#"{"code":10,"error":"full-changes","ok":false}"#
+        )?
+    );
+    assert!(rt; writes(alloc, 11, r#"{"code":11,"error":"full-text","ok":false}"#)?);
+    assert!(rt;
+        writes(
+            alloc,
+            12,
+            r#"{"code":12,"error":"pending","number":4,"ok":false}"#
+        )?
+    );
+    assert!(rt; writes(alloc, 13, r#"{"code":13,"error":"long","ok":false}"#)?);
+    assert!(rt; writes(alloc, 14, r#"{"code":14,"error":"memory","ok":false}"#)?);
+    Ok(())
+}
+
+const MEASURED: &str =
+    r#"{"measures":{"complexity":4,"duplicated_blocks":6,"duplicated_files":7,"duplicated_lines":5,"duplicated_lines_density":18446744073709551615,"files":3,"lines":1,"ncloc":2},"ok":true,"version":8}"#;
+
+#[test]
+fn answers_are_written(rt: HostRuntime) -> Result<(), Memory> {
+    let alloc = rt.alloc();
+    assert!(rt; writes(alloc, 15, r#"{"change":7,"ok":true}"#)?);
+    assert!(rt;
+        writes(
+            alloc,
+            16,
+            r#"{"accepted":3,"done":2,"ok":true,"published":1}"#
+        )?
+    );
+    assert!(rt; writes(alloc, 17, MEASURED)?);
+    assert!(rt;
+        writes(
+            alloc,
+            18,
+            r#"{"failed":[],"ok":true,"verdict":"OK","version":0}"#
+        )?
+    );
     Ok(())
 }
 
@@ -105,27 +146,34 @@ fn positions_of_a_verdict_are_written(rt: HostRuntime) -> Result<(), Memory> {
     Ok(())
 }
 
+fn gives(short: Short, want: &str) -> bool {
+    fixed(short).as_bytes() == want.as_bytes()
+}
+
 #[test]
 fn short_replies_are_given_without_memory(rt: HostRuntime) {
-    let cases = [
-        (
+    assert!(rt;
+        gives(
             Short::Change(u64::MAX),
-            "{\"change\":18446744073709551615,\"ok\":true}\n",
-        ),
-        (
+            "{\"change\":18446744073709551615,\"ok\":true}\n"
+        )
+    );
+    assert!(rt;
+        gives(
             Short::Pending(12),
-            "{\"code\":12,\"error\":\"pending\",\"number\":12,\"ok\":false}\n",
-        ),
-        (
+            "{\"code\":12,\"error\":\"pending\",\"number\":12,\"ok\":false}\n"
+        )
+    );
+    assert!(rt;
+        gives(
             Short::Long,
-            "{\"code\":13,\"error\":\"long\",\"ok\":false}\n",
-        ),
-        (
+            "{\"code\":13,\"error\":\"long\",\"ok\":false}\n"
+        )
+    );
+    assert!(rt;
+        gives(
             Short::Memory,
-            "{\"code\":14,\"error\":\"memory\",\"ok\":false}\n",
-        ),
-    ];
-    for (short, want) in cases {
-        assert!(rt; fixed(short).as_bytes() == want.as_bytes());
-    }
+            "{\"code\":14,\"error\":\"memory\",\"ok\":false}\n"
+        )
+    );
 }

@@ -4,13 +4,13 @@ use std::alloc::Global;
 
 /// A line with a part that stands many times between its ends.
 #[derive(Clone, Copy)]
-struct Long<'a> {
-    front: &'a str,
-    part: &'a str,
-    back: &'a str,
+struct Long {
+    front: &'static str,
+    part: &'static str,
+    back: &'static str,
 }
 
-impl Long<'_> {
+impl Long {
     fn line(&self, alloc: Global, count: usize) -> Result<Vec<u8>, Memory> {
         let mut line = Vec::from_slice(alloc, self.front.as_bytes())?;
         for _ in 0..count {
@@ -20,63 +20,115 @@ impl Long<'_> {
         Ok(line)
     }
 
+    // Whether it is told so with so many parts.
+    fn tells(&self, alloc: Global, count: usize, word: &str) -> Result<bool, Memory> {
+        Ok(tells(alloc, &self.line(alloc, count)?, word))
+    }
+
     // Whether it is read with so many parts, and refused as the word says with one more.
     fn has_limit(&self, alloc: Global, count: usize, word: &str) -> Result<bool, Memory> {
-        let longest = self.line(alloc, count)?;
-        let longer = self.line(alloc, count.saturating_add(1))?;
-        Ok(tells(alloc, &longest, "ok") && tells(alloc, &longer, word))
+        Ok(self.tells(alloc, count, "ok")? && self.tells(alloc, count.saturating_add(1), word)?)
     }
 }
 
+const PROJECT: Long = Long {
+    front: r#"{"op":"files","project":""#,
+    part: "p",
+    back: "\"}",
+};
+
+const PATH: Long = Long {
+    front: r#"{"op":"drop","project":"p","path":""#,
+    part: "p",
+    back: "\"}",
+};
+
+const ACCENTED_PATH: Long = Long {
+    front: r#"{"op":"drop","project":"p","path":""#,
+    part: "é",
+    back: "\"}",
+};
+
+const TEXT: Long = Long {
+    front: r#"{"op":"put","project":"p","path":"t","lang":"any","text":"0123456789abcdef"#,
+    part: "0123456789abcdef",
+    back: "\"}",
+};
+
+// With one byte more.
+const UNEVEN_TEXT: Long = Long {
+    front: r#"{"op":"put","project":"p","path":"t","lang":"any","text":"0123456789abcdef"#,
+    part: "0123456789abcdef",
+    back: "x\"}",
+};
+
+const CONDITIONS: Long = Long {
+    front: r#"{"op":"gate","project":"p","conditions":[{"metric":"lines","op":"GT","error":1}"#,
+    part: r#",{"metric":"lines","op":"GT","error":1}"#,
+    back: "]}",
+};
+
 #[test]
-fn limits_are_kept(rt: HostRuntime) -> Result<(), Memory> {
-    let alloc = rt.alloc();
-    let project = Long {
-        front: r#"{"op":"files","project":""#,
-        part: "p",
-        back: "\"}",
-    };
-    assert!(rt; project.has_limit(alloc, 64, "field:project")?);
-    let path = Long {
-        front: r#"{"op":"drop","project":"p","path":""#,
-        part: "é",
-        back: "\"}",
-    };
-    assert!(rt; path.has_limit(alloc, 256, "path")?);
-    let text = Long {
-        front: r#"{"op":"put","project":"p","path":"t","lang":"any","text":"0123456789abcdef"#,
-        part: "0123456789abcdef",
-        back: "\"}",
-    };
-    assert!(rt; text.has_limit(alloc, 65_535, "text")?);
-    let conditions = Long {
-        front: r#"{"op":"gate","project":"p","conditions":[{"metric":"lines","op":"GT","error":1}"#,
-        part: r#",{"metric":"lines","op":"GT","error":1}"#,
-        back: "]}",
-    };
-    assert!(rt; conditions.has_limit(alloc, 31, "field:conditions")?);
+fn projects_have_64_bytes_at_most(rt: HostRuntime) -> Result<(), Memory> {
+    assert!(rt; PROJECT.has_limit(rt.alloc(), 64, "field:project")?);
     Ok(())
+}
+
+#[test]
+fn paths_have_512_bytes_at_most(rt: HostRuntime) -> Result<(), Memory> {
+    assert!(rt; PATH.has_limit(rt.alloc(), 512, "path")?);
+    Ok(())
+}
+
+#[test]
+fn letters_of_a_path_count_as_bytes(rt: HostRuntime) -> Result<(), Memory> {
+    assert!(rt; ACCENTED_PATH.has_limit(rt.alloc(), 256, "path")?);
+    Ok(())
+}
+
+#[test]
+fn texts_have_1_048_576_bytes_at_most(rt: HostRuntime) -> Result<(), Memory> {
+    assert!(rt; TEXT.has_limit(rt.alloc(), 65_535, "text")?);
+    Ok(())
+}
+
+#[test]
+fn a_text_of_1_048_577_bytes_is_too_long(rt: HostRuntime) -> Result<(), Memory> {
+    assert!(rt; UNEVEN_TEXT.tells(rt.alloc(), 65_535, "text")?);
+    Ok(())
+}
+
+#[test]
+fn gates_have_32_conditions_at_most(rt: HostRuntime) -> Result<(), Memory> {
+    assert!(rt; CONDITIONS.has_limit(rt.alloc(), 31, "field:conditions")?);
+    Ok(())
+}
+
+const OPENED: Long = Long {
+    front: r#"{"op":"state","a":"#,
+    part: "[",
+    back: "",
+};
+
+const SHUT: Long = Long {
+    front: "",
+    part: "]",
+    back: "}",
+};
+
+// Whether a line with so many brackets one in another is told so.
+fn nested_tells(alloc: Global, depth: usize, word: &str) -> Result<bool, Memory> {
+    let mut line = OPENED.line(alloc, depth)?;
+    let end = SHUT.line(alloc, depth)?;
+    line.extend_from_slice(&end)?;
+    Ok(tells(alloc, &line, word))
 }
 
 // 127 brackets are read, and stand where they may not; 128 nest too deep.
 #[test]
 fn depth_is_limited(rt: HostRuntime) -> Result<(), Memory> {
-    let alloc = rt.alloc();
-    let ends = Long {
-        front: r#"{"op":"state","a":"#,
-        part: "[",
-        back: "",
-    };
-    let mut shallow = ends.line(alloc, 126)?;
-    let mut deep = ends.line(alloc, 127)?;
-    for _ in 0..126 {
-        shallow.push(b']')?;
-        deep.push(b']')?;
-    }
-    shallow.push(b'}')?;
-    deep.extend_from_slice(b"]}")?;
-    assert!(rt; tells(alloc, &shallow, "field:a"));
-    assert!(rt; tells(alloc, &deep, "json"));
+    assert!(rt; nested_tells(rt.alloc(), 126, "field:a")?);
+    assert!(rt; nested_tells(rt.alloc(), 127, "json")?);
     Ok(())
 }
 

@@ -1,6 +1,7 @@
 use crate::telling::SETTINGS;
 use cq_base::{Change, Compare, Condition, Lang, Metric, Settings, Text};
 use cq_request::{Kind, Query, Refusal, Request, read_request};
+use std::alloc::Global;
 
 fn is_text(text: &Text, want: &str) -> bool {
     text.as_bytes() == want.as_bytes()
@@ -54,66 +55,147 @@ fn is_query(query: &Query, kind: Kind, path: &str, numbers: (u32, u64, bool)) ->
         && (query.min, query.at, query.finish) == numbers
 }
 
+fn reads_put(alloc: Global, line: &str, lang: Lang, text: &str) -> Result<bool, Refusal> {
+    match read_request(alloc, &SETTINGS, line.as_bytes())? {
+        Request::Change(change) => Ok(is_put(&change, lang, text)),
+        _ => Ok(false),
+    }
+}
+
+fn reads_gate(alloc: Global, line: &str, conditions: &[Condition]) -> Result<bool, Refusal> {
+    match read_request(alloc, &SETTINGS, line.as_bytes())? {
+        Request::Change(change) => Ok(is_gate(&change, conditions)),
+        _ => Ok(false),
+    }
+}
+
+fn reads_drop(alloc: Global, line: &str) -> Result<bool, Refusal> {
+    match read_request(alloc, &SETTINGS, line.as_bytes())? {
+        Request::Change(change) => Ok(is_drop(&change)),
+        _ => Ok(false),
+    }
+}
+
+fn reads_state(alloc: Global, line: &str) -> Result<bool, Refusal> {
+    match read_request(alloc, &SETTINGS, line.as_bytes())? {
+        Request::State => Ok(true),
+        _ => Ok(false),
+    }
+}
+
+/// What a query asks: of which kind, of which path, and its least tokens, its version and whether it waits.
+#[derive(Clone, Copy)]
+struct Asked {
+    kind: Kind,
+    path: &'static str,
+    numbers: (u32, u64, bool),
+}
+
+fn reads_query(
+    alloc: Global,
+    settings: &Settings,
+    line: &str,
+    want: Asked,
+) -> Result<bool, Refusal> {
+    match read_request(alloc, settings, line.as_bytes())? {
+        Request::Query(query) => Ok(is_query(&query, want.kind, want.path, want.numbers)),
+        _ => Ok(false),
+    }
+}
+
+const ESCAPED: &str =
+    r#"{"text":"a \"b\"\n\u00e9\ud83d\ude00é","op":"put","lang":"any","path":"a/b c.txt","project":"A.z_0-9"}"#;
+
+const EMPTY: &str = r#"{"text":"","op":"put","lang":"go","path":"a/b c.txt","project":"A.z_0-9"}"#;
+
 #[test]
 fn uploads_are_read(rt: HostRuntime) -> Result<(), Refusal> {
     let alloc = rt.alloc();
-    let line =
-        r#"{"text":"a \"b\"\n\u00e9\ud83d\ude00é","op":"put","lang":"any","path":"a/b c.txt","project":"A.z_0-9"}"#;
-    let put = read_request(alloc, &SETTINGS, line.as_bytes())?;
-    assert!(rt; matches!(&put, Request::Change(c) if is_put(c, Lang::Any, "a \"b\"\né😀é")));
-    let line = r#"{"text":"","op":"put","lang":"go","path":"a/b c.txt","project":"A.z_0-9"}"#;
-    let put = read_request(alloc, &SETTINGS, line.as_bytes())?;
-    assert!(rt; matches!(&put, Request::Change(c) if is_put(c, Lang::Go, "")));
+    assert!(rt; reads_put(alloc, ESCAPED, Lang::Any, "a \"b\"\né😀é")?);
+    assert!(rt; reads_put(alloc, EMPTY, Lang::Go, "")?);
     Ok(())
 }
 
 #[test]
-fn other_changes_are_read(rt: HostRuntime) -> Result<(), Refusal> {
-    let alloc = rt.alloc();
-    let line = br#"{"op":"drop","project":"p","path":"t"}"#;
-    let drop = read_request(alloc, &SETTINGS, line)?;
-    assert!(rt; matches!(&drop, Request::Change(c) if is_drop(c)));
-    let line =
-        br#"{"op":"gate","project":"p","conditions":[{"metric":"duplicated_lines_density","op":"GT","error":300},{"error":18446744073709551615,"op":"LT","metric":"ncloc"}]}"#;
-    let gate = read_request(alloc, &SETTINGS, line)?;
-    let conditions = [
-        Condition {
-            metric: Metric::Density,
-            op: Compare::Gt,
-            error: 300,
-        },
-        Condition {
-            metric: Metric::Ncloc,
-            op: Compare::Lt,
-            error: u64::MAX,
-        },
-    ];
-    assert!(rt; matches!(&gate, Request::Change(c) if is_gate(c, &conditions)));
+fn drops_are_read(rt: HostRuntime) -> Result<(), Refusal> {
+    assert!(rt; reads_drop(rt.alloc(), r#"{"op":"drop","project":"p","path":"t"}"#)?);
     Ok(())
 }
+
+const CONDITIONS: [Condition; 2] = [
+    Condition {
+        metric: Metric::Density,
+        op: Compare::Gt,
+        error: 300,
+    },
+    Condition {
+        metric: Metric::Ncloc,
+        op: Compare::Lt,
+        error: u64::MAX,
+    },
+];
+
+const GATE: &str =
+    r#"{"op":"gate","project":"p","conditions":[{"metric":"duplicated_lines_density","op":"GT","error":300},{"error":18446744073709551615,"op":"LT","metric":"ncloc"}]}"#;
+
+#[test]
+fn gates_are_read(rt: HostRuntime) -> Result<(), Refusal> {
+    let alloc = rt.alloc();
+    assert!(rt; reads_gate(alloc, GATE, &CONDITIONS)?);
+    assert!(rt; reads_gate(alloc, r#"{"op":"gate","project":"p","conditions":[]}"#, &[])?);
+    Ok(())
+}
+
+const GROUPS: &str =
+    r#"{"op":"groups","project":"p","min":20,"path":"t","at":18446744073709551615,"finish":false}"#;
+
+const MEASURES: &str = r#"{"op":"measures","project":"p","path":"t","finish":false}"#;
 
 #[test]
 fn queries_are_read(rt: HostRuntime) -> Result<(), Refusal> {
     let alloc = rt.alloc();
-    let line =
-        br#"{"op":"groups","project":"p","min":20,"path":"t","at":18446744073709551615,"finish":false}"#;
-    let groups = read_request(alloc, &SETTINGS, line)?;
-    assert!(rt;
-        matches!(&groups, Request::Query(q) if is_query(q, Kind::Groups, "t", (20, u64::MAX, false)))
-    );
-    let files = read_request(alloc, &SETTINGS, br#"{"op":"files","project":"p"}"#)?;
-    assert!(rt;
-        matches!(&files, Request::Query(q) if is_query(q, Kind::Files, "", (100, 0, true)))
-    );
+    let groups = Asked {
+        kind: Kind::Groups,
+        path: "t",
+        numbers: (20, u64::MAX, false),
+    };
+    assert!(rt; reads_query(alloc, &SETTINGS, GROUPS, groups)?);
+    let measures = Asked {
+        kind: Kind::Measures,
+        path: "t",
+        numbers: (100, 0, false),
+    };
+    assert!(rt; reads_query(alloc, &SETTINGS, MEASURES, measures)?);
+    Ok(())
+}
+
+// What is not said of a query is as the settings have it.
+#[test]
+fn queries_of_few_words_are_read(rt: HostRuntime) -> Result<(), Refusal> {
+    let alloc = rt.alloc();
+    let files = Asked {
+        kind: Kind::Files,
+        path: "",
+        numbers: (100, 0, true),
+    };
+    assert!(rt; reads_query(alloc, &SETTINGS, r#"{"op":"files","project":"p"}"#, files)?);
     let wide = Settings {
         chunk: 1_000,
         ..SETTINGS
     };
-    let verdict = read_request(alloc, &wide, br#"{"op":"verdict","project":"p","at":7}"#)?;
+    let verdict = Asked {
+        kind: Kind::Verdict,
+        path: "",
+        numbers: (1_000, 7, true),
+    };
     assert!(rt;
-        matches!(&verdict, Request::Query(q) if is_query(q, Kind::Verdict, "", (1_000, 7, true)))
+        reads_query(
+            alloc,
+            &wide,
+            r#"{"op":"verdict","project":"p","at":7}"#,
+            verdict
+        )?
     );
-    let state = read_request(alloc, &SETTINGS, br#"{"op":"state"}"#)?;
-    assert!(rt; matches!(&state, Request::State));
+    assert!(rt; reads_state(alloc, r#"{"op":"state"}"#)?);
     Ok(())
 }

@@ -1,11 +1,9 @@
 pub mod Sent
-pub mod KeyOrder
-pub mod Counting
-pub mod Keepings
-pub mod Accepted
-pub mod Replying
-pub mod Rows
-pub mod Listings
+pub mod Answered
+pub mod Working
+pub mod ManyWorks
+pub mod OneView
+pub mod InView
+pub mod QueryLeads
 pub mod Talking
 pub mod Turns
-pub mod Gated

@@ -1,50 +1,54 @@
--- One more line and its reply, and the replies of a server alone.
-use Rattle.std.proofs.Common.{◌≡◌, ℕ, ◌<◌, ◌≤◌, List, [], ◌∷◌, ◌++◌, length, true, false, ltb, Result, Ok, Err, IfOk, OnOk, refl, subst, inl, inr, arith}
-use Rattle.std.proofs.lemmas.Grind.{common_steps}
+-- One more line of bytes, and what was answered and is given up.
+use Rattle.std.proofs.Common.{◌≡◌, ℕ, ◌<◌, List, [], ◌∷◌, ◌++◌, length, map, Some, Result, Ok, Err, refl, sym, subst, inl, inr}
+use Rattle.std.proofs.lemmas.List.{map-append}
+use Rattle.cq_base.specs.declared.change.Change.{Change}
 use Rattle.cq_base.specs.declared.settings.Settings.{Settings}
-use Rattle.cq_base.proofs.Bools.{MatchBool-from_true, MatchBool-from_false}
+use Rattle.cq_history.specs.declared.event.Event.{Event}
+use Rattle.cq_hub.specs.Hubs.{Never}
+use Rattle.cq_hub.proofs.Growing.{grows_none}
 use Rattle.cq_lines.specs.Pieces.{line_limit}
-use Rattle.cq_request.specs.Reading.{line_says}
+use Rattle.cq_request.specs.declared.request.Request.{Request}
+use Rattle.cq_request.specs.declared.request.Request.TheVariants as request
+use Rattle.cq_request.specs.declared.request.Refusal.{Refusal}
 use Rattle.cq_reply.specs.declared.reply.Reply.{Reply}
 use Rattle.cq_reply.specs.declared.reply.Reply.TheVariants as reply
-use Rattle.cq_session.specs.Changes.{History}
-use Rattle.cq_session.specs.Talk.{Talk, Answers, IsAnswer, IsAloneUpToMemory}
+use Rattle.cq_talk.specs.Replies.{seen_after}
+use Rattle.cq_talk.specs.Said.{Said, said, TooLong, Read}
+use Rattle.cq_talk.specs.Talk.{Talk, Answers, IsAnswer, IsChanged, IsGivenUp, Waits}
+use Rattle.cq_talk.proofs.Saying.{said_long}
+use Rattle.cq_talk.proofs.Talking.{turn_more}
+use Rattle.cq_session.specs.Told.{NeedsMemory}
+use Rattle.cq_session.specs.Turn.{IsTalk}
 
-pub Talk-more : (settings : Settings) (h mid after : History) (lines : List (List ℕ)) (replies : List Reply) (line : List ℕ) (r : Reply) → Talk settings h lines replies mid → Answers settings mid line r after → Talk settings h (lines ++ line ∷ []) (replies ++ r ∷ []) after
-Talk-more settings h mid after [] [] line r talk answers = (after, subst (λ (p : History). Answers settings p line r after) talk answers, refl)
-Talk-more settings h mid after [] (s ∷ replies) line r talk answers = absurd talk
-Talk-more settings h mid after (l ∷ lines) [] line r talk answers = absurd talk
-Talk-more settings h mid after (l ∷ lines) (s ∷ replies) line r talk answers = (talk.0, talk.1, Talk-more settings talk.0 mid after lines replies line r talk.2 answers)
+module _ (set : Settings) (callers : ℕ) (alone : Type 0) (c : ℕ) where
+  -- a line more, by what was seen up to it
+  pub talk_more : (seen : ℕ) (h mid later : List Event) (lines : List (List ℕ)) (replies : List Reply) (line : List ℕ) (r : Reply) → seen ≡ seen_after 0 replies → IsTalk set callers alone c h mid lines replies
+      → Answers set callers alone c seen mid (said set.chunk line) r later → IsTalk set callers alone c h later (lines ++ line ∷ []) (replies ++ r ∷ [])
+  talk_more seen h mid later lines replies line r is talk answers =
+      subst (λ (ls : List Said). Talk set callers alone c 0 h ls (replies ++ r ∷ []) later) (sym (map-append (said set.chunk) lines (line ∷ [])))
+      (turn_more set callers alone c seen h mid later (map (said set.chunk) lines) replies (said set.chunk line) r is talk answers)
 
--- there is one reply for each line
-pub Talk-many : (settings : Settings) (h after : History) (lines : List (List ℕ)) (replies : List Reply) → Talk settings h lines replies after → length replies ≡ length lines
-Talk-many settings h after [] [] talk = refl
-Talk-many settings h after [] (r ∷ replies) talk = absurd talk
-Talk-many settings h after (line ∷ lines) [] talk = absurd talk
-Talk-many settings h after (line ∷ lines) (r ∷ replies) talk = let rest = Talk-many settings talk.0 after lines replies talk.2 in omega arith
+  -- a line that is too long is answered without a call
+  pub answers_long : (seen : ℕ) (h : List Event) (line : List ℕ) → line_limit < length line → Answers set callers alone c seen h (said set.chunk line) reply.Long h
+  answers_long seen h line long = subst (λ (l : Said). Answers set callers alone c seen h l reply.Long h) (sym (said_long set.chunk line long)) (inr (refl, grows_none alone c Never h))
 
--- a talk is that of a server alone, up to the first want of memory
-pub alone_up_to_memory : (settings : Settings) (h after : History) (lines : List (List ℕ)) (replies : List Reply) → Talk settings h lines replies after → IsAloneUpToMemory settings h lines replies
-alone_up_to_memory settings h after [] [] talk = tt
-alone_up_to_memory settings h after [] (r ∷ replies) talk = absurd talk
-alone_up_to_memory settings h after (line ∷ lines) [] talk = absurd talk
-alone_up_to_memory settings h after (line ∷ lines) (r ∷ replies) talk =
-    elim talk.1 [
-      | inl memory ↦ inl (memory.0, memory.1, Talk-many settings talk.0 after lines replies talk.2)
-      | inr reply ↦ inr (talk.0, reply, alone_up_to_memory settings talk.0 after lines replies talk.2)
-    ]
+  changed_given_up : (h later : List Event) (change : Change) (r : Reply) → NeedsMemory r → IsChanged set callers alone c h change r later → Waits alone c h later
+  changed_given_up h later change r needs (inl is) = absurd (subst NeedsMemory is.reply_is needs)
+  changed_given_up h later change r needs (inr is) = is.waits
 
-pub answers_long : (settings : Settings) (h : History) (line : List ℕ) → line_limit < length line → Answers settings h line reply.Long h
-answers_long settings h line long =
-    let e : ltb line_limit (length line) ≡ true = grind (arith, common_steps) in
-    inr (MatchBool-from_true (ltb line_limit (length line)) _ (IsAnswer settings h (line_says settings.chunk line) reply.Long h) e (refl, refl))
+  -- what was answered and is not told for want of memory is given up
+  pub answer_given_up : (seen : ℕ) (h later : List Event) (l : Said) (r : Reply) → NeedsMemory r → IsAnswer set callers alone c seen h l r later → IsGivenUp set callers alone c seen h l later
+  answer_given_up seen h later TooLong r needs is = absurd (subst NeedsMemory is.0 needs)
+  answer_given_up seen h later (Read (Err why)) r needs is = is.1
+  answer_given_up seen h later (Read (Ok (request.Change change))) r needs is = changed_given_up h later change r needs is
+  answer_given_up seen h later (Read (Ok (request.Query q))) r needs (inl is) = inr (inl is.asks)
+  answer_given_up seen h later (Read (Ok (request.Query q))) r needs (inr (inl is)) = inr (inl is.asks)
+  answer_given_up seen h later (Read (Ok (request.Query q))) r needs (inr (inr is)) = inr (inr (Some is.version, is.served))
+  answer_given_up seen h later (Read (Ok request.State)) r needs is = inr is.asks
 
-pub answers_short : (settings : Settings) (h after : History) (line : List ℕ) (r : Reply) → length line ≤ line_limit → IsAnswer settings h (line_says settings.chunk line) r after → Answers settings h line r after
-answers_short settings h after line r short is =
-    let e : ltb line_limit (length line) ≡ false = grind (arith, common_steps) in
-    inr (MatchBool-from_false (ltb line_limit (length line)) ((r ≡ reply.Long) × (after ≡ h)) _ e is)
-
--- what an answer says of its value, and what it says at all
-pub both_ok : {T E : Type 0} (r : Result T E) (P S : T → Type 0) (Q : Type 0) → ((x : T) → P x → Q → S x) → IfOk r P → OnOk r Q → IfOk r S
-both_ok (Ok x) P S Q to p q = to x p q
-both_ok (Err e) P S Q to p q = tt
+  -- a line that was not read for want of memory did nothing
+  pub nothing_done : (seen : ℕ) (h later : List Event) (says : Result Request Refusal) → Waits alone c h later → IsGivenUp set callers alone c seen h (Read says) later
+  nothing_done seen h later (Err why) waits = waits
+  nothing_done seen h later (Ok (request.Change change)) waits = waits
+  nothing_done seen h later (Ok (request.Query q)) waits = inl waits
+  nothing_done seen h later (Ok request.State) waits = inl waits

@@ -1,19 +1,15 @@
-//! One client's talk: the lines of a source are answered one by one, over a store of what was accepted. What is written
-//! is defined by the lines and the changes alone: files, their order, their tokens and their groups are defined over
-//! changes, not over what the store keeps. An upload costs one reading of its text and a logarithm of comparisons of
-//! paths; a listing costs what `cq_scan` costs; a change that was accepted is told without memory.
+//! One caller's talk with a hub: the lines of a source are answered one by one, each by calls of the hub. What is written
+//! is defined by the lines and by a history of events that goes on from line to line; nothing is kept here but the greatest
+//! number that was named. An upload costs one reading of its line; a query that may finish works costs these works, and a
+//! listing what `cq_answer` costs; a change that was accepted is told without memory.
 #![tactic(auto)]
 
-mod accepting;
 mod answering;
-mod keeping;
-mod kept;
-mod listing;
-mod measuring;
+mod helping;
+mod refusing;
 mod sending;
 mod serving;
-mod showing;
-mod store;
+mod telling;
+mod viewing;
 
 pub use serving::{End, session};
-pub use store::Store;

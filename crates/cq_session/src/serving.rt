@@ -1,16 +1,27 @@
-ghost use Rattle.std.specs.Prelude.{◌≡◌, ◌≤◌};
+ghost use Rattle.std.specs.Prelude.{◌≡◌, ◌≤◌, length};
 ghost use Rattle.cq_base.specs.Settings.{IsInRange};
+ghost use Rattle.cq_history.specs.State.{accepted};
+ghost use Rattle.cq_io.specs.Causes.{HasCause};
+ghost use Rattle.cq_lines.specs.Pieces.{line_limit};
 ghost use Rattle.cq_lines.specs.Runs.{IsFresh};
-ghost use Rattle.cq_session.specs.Changes.{History};
-ghost use Rattle.cq_session.specs.Stands.{StandsFor};
-ghost use Rattle.cq_session.specs.Serving.{Leaves, HasEndCause};
+ghost use Rattle.cq_reply.specs.Written.{line_of};
+ghost use Rattle.cq_reply.specs.declared.reply.Reply.TheVariants as reply;
+ghost use Rattle.cq_talk.specs.Steps.{Always, Led, MayLead};
+ghost use Rattle.cq_session.specs.Sending.{Sends};
+ghost use Rattle.cq_session.specs.Serving.{Serves, HasEndCause};
+ghost use Rattle.cq_session.specs.Turn.{IsTalk, Turns};
+ghost use Rattle.cq_session.specs.Works.{AreWorks};
 
-use crate::answering::{answer, answer_long};
-use crate::store::Store;
+use crate::answering::told;
+use crate::sending::send;
 use cq_base::{Settings, Steps};
+use cq_hub::Hub;
 use cq_io::{Failed, Sink, Source};
 use cq_key::Keyer;
 use cq_lines::{Cut, Lines};
+use cq_reply::{Short, fixed};
+use cq_shard::Indexed;
+use cq_work::Work;
 use std::alloc::Global;
 use std::sync::ledger::Ledger;
 
@@ -27,13 +38,49 @@ pub enum End {
     Spent,
 }
 
-/// Answers the lines of a source one by one, over what the store has. Windows have the keys of `keyer`. Each whole reply is handed to the sink before the
-/// next line is cut. Afterwards the store stands for what the replies tell.
-pub fn session<S: Source, K: Sink, L: Ledger>(
+// Writes the reply to a line, which is not too long. What the reply names is seen from then on.
+fn turn<L: Ledger, H: Hub<Done = Work<L>>, K: Sink>(
     alloc: Global,
     settings: &Settings,
     keyer: &Keyer,
-    store: &mut Store<L>,
+    hub: &H,
+    line: &[u8],
+    seen: &mut u64,
+    pass: &mut H::Pass,
+    sink: &mut K,
+    steps: &mut Steps<L>,
+) -> Result<(), Failed>
+    requires in_range { IsInRange settings.now }
+    requires settings { keyer.now.settings ≡ settings.now }
+    requires hub_settings { H.settings hub.now ≡ settings.now }
+    requires works { AreWorks ⟦<Work<L> as Indexed>⟧.keys_in ⟦<Work<L> as Indexed>⟧.IsWorkOf }
+    requires short { length line.now ≤ line_limit }
+    requires closed { MayLead H.Stands (H.callers hub.now) hub.now pass.old (λ h. seen.old ≤ length (accepted h)) }
+    ensures turns { Led H.Stands (H.callers hub.now) hub.now pass.old pass.new (λ h. seen.old ≤ length (accepted h)) (λ c h. Turns settings.now (H.callers hub.now) H.alone c seen.old h line.now (K.written sink.old) (K.written sink.new) result seen.new) }
+    ensures cause { HasCause (K.faults sink.old) (K.faults sink.new) result }
+{
+    let (line, number) = told(alloc, settings, keyer, hub, line, *seen, pass, steps);
+    *seen = (*seen).max(number);
+    send(sink, line.as_bytes())
+}
+
+// Writes the reply to a line that is too long.
+fn turn_long<K: Sink>(sink: &mut K) -> Result<(), Failed>
+    ensures bytes { Sends (K.written sink.old) (K.written sink.new) (line_of reply.Long) result }
+    ensures cause { HasCause (K.faults sink.old) (K.faults sink.new) result }
+{
+    send(sink, fixed(Short::Long).as_bytes())
+}
+
+/// Answers the lines of a source one by one by calls of a hub, whose pass has no view open. Windows have the keys of `keyer`.
+/// Each whole reply is handed to the sink before the next line is cut. Afterwards the pass stands for the history to which
+/// the talk came, with no view open.
+pub fn session<L: Ledger, H: Hub<Done = Work<L>>, S: Source, K: Sink>(
+    alloc: Global,
+    settings: &Settings,
+    keyer: &Keyer,
+    hub: &H,
+    pass: &mut H::Pass,
     lines: &mut Lines,
     source: &mut S,
     sink: &mut K,
@@ -42,17 +89,24 @@ pub fn session<S: Source, K: Sink, L: Ledger>(
     requires fresh { IsFresh lines.old }
     requires in_range { IsInRange settings.now }
     requires settings { keyer.now.settings ≡ settings.now }
-    requires stands { (h : History) × StandsFor settings.now h store.old }
-    ensures served { (h : History) → StandsFor settings.now h store.old → Leaves settings.now h store.new lines.old.limit (S.rest source.old) (S.rest source.new) (K.written sink.old) (K.written sink.new) result }
+    requires hub_settings { H.settings hub.now ≡ settings.now }
+    requires works { AreWorks ⟦<Work<L> as Indexed>⟧.keys_in ⟦<Work<L> as Indexed>⟧.IsWorkOf }
+    requires closed { MayLead H.Stands (H.callers hub.now) hub.now pass.old Always }
+    ensures served { Led H.Stands (H.callers hub.now) hub.now pass.old pass.new Always (λ c h after. Serves (IsTalk settings.now (H.callers hub.now) H.alone c h after) lines.old.limit (S.rest source.old) (S.rest source.new) (K.written sink.old) (K.written sink.new) result) }
     ensures cause { HasEndCause (S.faults source.old) (S.faults source.new) (K.faults sink.old) (K.faults sink.new) result }
 {
+    let mut seen = 0u64;
     'lines: loop {
         match lines.next(source) {
-            Cut::Line(line) => match answer(alloc, settings, keyer, store, sink, line, steps) {
-                Ok(()) => {}
-                Err(Failed) => return End::WriteFault,
-            },
-            Cut::TooLong => match answer_long(sink) {
+            Cut::Line(line) => {
+                match turn(
+                    alloc, settings, keyer, hub, line, &mut seen, pass, sink, steps,
+                ) {
+                    Ok(()) => {}
+                    Err(Failed) => return End::WriteFault,
+                }
+            }
+            Cut::TooLong => match turn_long(sink) {
                 Ok(()) => {}
                 Err(Failed) => return End::WriteFault,
             },

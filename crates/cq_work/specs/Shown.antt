@@ -43,10 +43,14 @@ same_tokens lexed.Large (lexed.Tokens w) h = absurd h
 same_tokens lexed.Large (lexed.Fault at) h = absurd h
 same_tokens lexed.Large lexed.Large h = refl
 
+-- whatever a text is lexed to, its tokens are the same
+pub same_lexing : (l : Lang) (text : List ℕ) (a b : Lexed) → LexesTo l text a → LexesTo l text b → tokens_in a ≡ tokens_in b
+same_lexing l text a b is also = same_tokens a b (one_lexing l text a b is also)
+
 pub keys_determined : {L : Type 0} (settings : Settings) (l : Lang) (text : List ℕ) (work other : Work L) → IsWorkOf settings l text work → IsWorkOf settings l text other → arc_value work.keys ≡ arc_value other.keys
 keys_determined settings l text work other is also =
     is.shows.keys_are
-    ∙ ap (λ tokens. window_keys settings (normal settings l tokens)) (same_tokens is.answer also.answer (one_lexing l text is.answer also.answer is.lexes also.lexes))
+    ∙ ap (λ tokens. window_keys settings (normal settings l tokens)) (same_lexing l text is.answer also.answer is.lexes also.lexes)
     ∙ sym also.shows.keys_are
 
 -- no more windows than tokens

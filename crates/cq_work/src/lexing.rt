@@ -11,6 +11,21 @@ use cq_lex_java::Java;
 use cq_munch::{Lexed, munch};
 use std::alloc::Global;
 
+// What a text is lexed to, by its language.
+fn lexed_by(alloc: Global, lang: Lang, text: &Text) -> Result<Lexed, Memory>
+    requires utf8 { IsUtf8 text.now }
+    requires short { length text.now ≤ 1048576 }
+    ensures lexes { IfOk result (LexesTo lang text.now) }
+    ensures few { IfOk result (λ a. length (spec.tokens_in a) ≤ 262144) }
+{
+    match lang {
+        Lang::Any => munch::<Any>(alloc, text),
+        Lang::Go => munch::<Go>(alloc, text),
+        Lang::C => munch::<C>(alloc, text),
+        Lang::Java => munch::<Java>(alloc, text),
+    }
+}
+
 /// What a text is lexed to, by its language. It is read once. A spelling has at most 4 bytes for each byte of the text
 /// that it comes from, and an inserted semicolon has one.
 pub(crate) fn lexed(alloc: Global, lang: Lang, text: &Text) -> Result<Lexed, Memory>
@@ -20,12 +35,7 @@ pub(crate) fn lexed(alloc: Global, lang: Lang, text: &Text) -> Result<Lexed, Mem
     ensures few { IfOk result (λ a. length (spec.tokens_in a) ≤ 262144) }
     ensures short { IfOk result (λ a. spec.spelled_bytes (spec.tokens_in a) ≤ 4 * length text.now + 262144) }
 {
-    match lang {
-        Lang::Any => munch::<Any>(alloc, text),
-        Lang::Go => munch::<Go>(alloc, text),
-        Lang::C => munch::<C>(alloc, text),
-        Lang::Java => munch::<Java>(alloc, text),
-    }
+    lexed_by(alloc, lang, text)
 }
 
 /// What it tells of the text.

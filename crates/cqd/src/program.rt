@@ -7,11 +7,14 @@ ghost use Rattle.cq_words.specs.Run.{run_of};
 ghost use Rattle.cq_words.specs.declared.run.Run.{Run};
 
 use cq_base::{Memory, Settings, Steps, Text};
+use cq_hub::{Solo, SoloPass};
 use cq_io::{Doors, Gate, Sink, Source};
 use cq_key::{Keyer, plain_key};
 use cq_lines::Lines;
-use cq_session::{End, Store, session};
+use cq_session::{End, session};
+use cq_talk::{talks_alone, talks_beside};
 use cq_words::{is_run, read_run};
+use cq_work::Work;
 use std::alloc::Global;
 use std::sync::ledger::Ledger;
 
@@ -26,7 +29,7 @@ fn status_of(end: End) -> u8
     }
 }
 
-// A session over a new store, and its status.
+// A session with a plain hub that is made for it, and its status.
 fn serve<S: Source, K: Sink, L: Ledger>(
     alloc: Global,
     settings: &Settings,
@@ -49,11 +52,16 @@ fn serve<S: Source, K: Sink, L: Ledger>(
         return 4;
     };
     let keyer = Keyer::new(settings, key);
+    let made: Result<(Solo<Work<L>>, SoloPass<Work<L>>), Memory> = Solo::new(alloc, settings);
+    let Ok((hub, mut pass)) = made else {
+        return 4;
+    };
     match Lines::new(alloc, settings.byte_limit) {
         Ok(mut lines) => {
-            let mut store = Store::new(alloc);
+            talks_alone();
+            talks_beside();
             let end = session(
-                alloc, settings, &keyer, &mut store, &mut lines, source, sink, steps,
+                alloc, settings, &keyer, &hub, &mut pass, &mut lines, source, sink, steps,
             );
             status_of(end)
         }

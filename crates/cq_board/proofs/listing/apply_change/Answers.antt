@@ -8,13 +8,8 @@ use Rattle.cq_board.proofs.Advances.{paths_rise}
 use Rattle.cq_board.proofs.Turning.{edit_adds}
 use Rattle.cq_board.proofs.listing.apply_change.Goals as goal
 
-pub edit_in-requires-clause-names : goal.edit_in-requires-clause-names
-edit_in-requires-clause-names g c = let (changes, base, put, gone, n, is) = c.requires.before in rising_owners c.args.projects.now.items is.listing.names
-
-pub edit_in-requires-clause-paths : goal.edit_in-requires-clause-paths
-edit_in-requires-clause-paths g c =
-    let (changes, base, put, gone, n, is) = c.requires.before in
-    paths_rise (g.W.Indexed.IsWorkOf c.args.settings.now) changes c.args.number n (projects_in c.args.projects.now.items) (left (base ++ put) gone) is.listing
+pub edit_in-requires : goal.edit_in-requires
+edit_in-requires g c = let (changes, base, put, gone, n, is) = c.requires.before in rising_owners c.args.projects.now.items is.listing.names
 
 pub returns-clause-next : goal.returns-clause-next
 returns-clause-next g c =

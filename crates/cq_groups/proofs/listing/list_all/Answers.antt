@@ -1,6 +1,6 @@
 use Rattle.std.proofs.Common.{ap, length, sym, ◌∙◌, subst, List, ℕ}
 use Rattle.std.proofs.lemmas.Result.{IfOk-weaker}
-use Rattle.cq_tokens.specs.Parts.{tokens_in, changes_in, keys_in}
+use Rattle.cq_tokens.specs.Parts.{tokens_in, keys_in}
 use Rattle.cq_groups.specs.Listing.{IsKey, AreAllRising, Rises}
 use Rattle.cq_groups.proofs.KeyLists.{one_list, most_to, on_ok, rises_none}
 use Rattle.cq_groups.proofs.ListedGroups.{all_groups, all_windows}

@@ -4,7 +4,7 @@ use Rattle.std.proofs.lemmas.List.Elements.{Contains-get_or}
 use Rattle.std.proofs.lemmas.List.Sorted.{length_permutation}
 use Rattle.cq_base.specs.declared.entry.Entry.{Entry}
 use Rattle.cq_base.specs.declared.group.Place.{Place}
-use Rattle.cq_tokens.specs.Parts.{tokens_in, changes_in, keys_in}
+use Rattle.cq_tokens.specs.Parts.{changes_in, keys_in}
 use Rattle.cq_clones.specs.Windows.{HasKey}
 use Rattle.cq_refine.proofs.Places.{places_sorted}
 use Rattle.cq_refine.proofs.KeyPlaces.{any_entry, ArePlacesOf, places_more, places_none, places_all, sizes_of}

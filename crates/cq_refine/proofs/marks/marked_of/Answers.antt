@@ -2,7 +2,7 @@ use Rattle.std.specs.BTreeMap.{get}
 use Rattle.cq_tokens.specs.declared.seen.Seen.{Seen}
 use Rattle.cq_tokens.specs.Packed.{norm_in, seen_cmp}
 use Rattle.cq_base.proofs.Lists.{Contains-nil}
-use Rattle.std.proofs.Common.{◌≡◌, [], ◌∷◌, ◌++◌, None, arith, get_or, take, subst, sym, ap, ◌∙◌, ⊎_elim, ◌<◌}
+use Rattle.std.proofs.Common.{◌≡◌, [], None, arith, get_or, take, subst, sym, ⊎_elim, ◌<◌}
 use Rattle.std.proofs.lemmas.List.Elements.{Contains-push_cases}
 use Rattle.std.proofs.lemmas.List.{take_more}
 use Rattle.cq_clones.specs.Groups.{token_behind}

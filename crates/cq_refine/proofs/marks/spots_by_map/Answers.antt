@@ -1,7 +1,7 @@
 use Rattle.std.specs.BTreeMap.{get}
 use Rattle.cq_tokens.specs.declared.seen.Seen.{Seen}
 use Rattle.cq_tokens.specs.Packed.{norm_in, seen_cmp}
-use Rattle.std.proofs.Common.{◌≡◌, [], ◌∷◌, ◌++◌, None, arith, get_or, take, subst, sym, ap, ◌∙◌, List}
+use Rattle.std.proofs.Common.{◌≡◌, [], None, arith, get_or, take, subst, List}
 use Rattle.std.proofs.lemmas.List.{take_more}
 use Rattle.std.proofs.lemmas.List.Elements.{All-contains, All-take}
 use Rattle.std.specs.Prelude.{Contains}

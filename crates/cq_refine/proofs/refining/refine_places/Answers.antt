@@ -4,6 +4,7 @@ use Rattle.cq_tokens.specs.Parts.{tokens_in}
 use Rattle.cq_refine.specs.declared.spots.Spot.{Spot}
 use Rattle.cq_refine.proofs.Walk.{Given, popped_words, popped_gives, walk_step, walk_begins, walk_ends, none_of_few, none_of_one}
 use Rattle.cq_refine.proofs.Weights.{size_of_files, split_weighs, set_weighs, first_weighs, depth_within, files_are_longest, places_size}
+use Rattle.cq_refine.proofs.Gaps.{alike_of_words}
 use Rattle.cq_refine.proofs.refining.refine_places.Goals as goal
 
 pub loop-set-init : goal.loop-set-init
@@ -76,3 +77,15 @@ returns-then-places-lt2-clause-groups g c =
 pub returns-in_default-clause-groups : goal.returns-in_default-clause-groups
 returns-in_default-clause-groups g c =
     none_of_one (tokens_in c.args.files.now) c.args.min c.args.places.now c.new-groups.result.items c.requires.entries c.requires.some c.in_default.ensures.one c.new-groups.ensures.items
+
+pub split-requires-clause-alike : goal.split-requires-clause-alike
+split-requires-clause-alike g c =
+    let (all, are, spots, walk) = c.loop-set.invariant.0 in
+    let words = popped_words (tokens_in c.args.files.now) c.args.min c.args.places.now all c.loop-set.sets.items _ c.in-Some-pop.set c.loop-set.groups.items c.in-Some-pop.ensures.items walk in
+    alike_of_words (tokens_in c.args.files.now) all c.in-Some-pop.set.spots.items c.in-Some-pop.set.depth words
+
+pub split-requires-clause-ordered : goal.split-requires-clause-ordered
+split-requires-clause-ordered g c =
+    let (all, are, spots, walk) = c.loop-set.invariant.0 in
+    let words = popped_words (tokens_in c.args.files.now) c.args.min c.args.places.now all c.loop-set.sets.items _ c.in-Some-pop.set c.loop-set.groups.items c.in-Some-pop.ensures.items walk in
+    words.exact.ordered

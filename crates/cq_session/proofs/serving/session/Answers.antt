@@ -1,40 +1,54 @@
-use Rattle.std.proofs.Common.{◌∙◌, refl}
+use Rattle.std.proofs.Common.{[], ◌∙◌, refl, sym, ap, max, subst, arith}
+use Rattle.cq_base.specs.declared.settings.Settings.{Settings}
+use Rattle.cq_history.specs.Lawful.{Lawful}
+use Rattle.cq_hub.proofs.Growing.{grows_none}
 use Rattle.cq_lines.proofs.Whole.{fewer}
+use Rattle.cq_reply.specs.declared.reply.Reply.TheVariants as reply
+use Rattle.cq_talk.proofs.Leading.{lead_weaker}
 use Rattle.cq_session.proofs.Talking.{answers_long}
 use Rattle.cq_session.proofs.Turns.{so_far_none, so_far_more, write_failed, finished, spent, read_failed}
 use Rattle.cq_session.proofs.serving.session.Goals as goal
 
 pub lines-init : goal.lines-init
-lines-init g c = record { goes = λ h stands. record { now = h; so_far = so_far_none _ h _ _ _ c.requires.fresh; stands = stands }; source_faults = refl; sink_faults = refl }
+lines-init g c = record {
+  goes = λ by h stands closed always. record { after = h; stands = stands; closed = closed; holds = so_far_none _ _ _ by h _ _ _ c.requires.fresh };
+  source_faults = refl;
+  sink_faults = refl;
+}
 
 pub returns-in-End-clause-served : goal.returns-in-End-clause-served
-returns-in-End-clause-served g c = λ h stands. finished _ h _ _ _ _ _ _ _ _ _ (c.lines.invariant.goes h stands) (rw c.in-End.is at c.next.follows.holds-at-none)
+returns-in-End-clause-served g c = λ by h stands closed always. lead_weaker _ _ by _ _ _ _ (c.lines.invariant.goes by h stands closed tt) (λ now so. finished _ _ _ by h now _ _ _ _ _ _ _ _ _ so (rw c.in-End.is at c.next.follows.holds-at-none))
 
 pub returns-in-Spent-clause-served : goal.returns-in-Spent-clause-served
-returns-in-Spent-clause-served g c = λ h stands. spent _ h _ _ _ _ _ _ _ _ _ (c.lines.invariant.goes h stands) (rw c.in-Spent.is at c.next.follows.holds-at-none)
+returns-in-Spent-clause-served g c = λ by h stands closed always. lead_weaker _ _ by _ _ _ _ (c.lines.invariant.goes by h stands closed tt) (λ now so. spent _ _ _ by h now _ _ _ _ _ _ _ _ _ so (rw c.in-Spent.is at c.next.follows.holds-at-none))
 
 pub returns-in-ReadFault-clause-served : goal.returns-in-ReadFault-clause-served
-returns-in-ReadFault-clause-served g c = λ h stands. read_failed _ h _ _ _ _ _ _ _ _ _ (c.lines.invariant.goes h stands) (rw c.in-ReadFault.is at c.next.follows.holds-at-none)
+returns-in-ReadFault-clause-served g c = λ by h stands closed always. lead_weaker _ _ by _ _ _ _ (c.lines.invariant.goes by h stands closed tt) (λ now so. read_failed _ _ _ by h now _ _ _ _ _ _ _ _ _ so (rw c.in-ReadFault.is at c.next.follows.holds-at-none))
 
 pub lines-smaller-in-Ok : goal.lines-smaller-in-Ok
 lines-smaller-in-Ok g c =
     let cuts = rw c.in-Line.is at c.next.follows.holds-at-none in
     fewer _ c.lines.lines c.next.follows.lender-at-none _ _ cuts.taken cuts.within cuts.limit cuts.finds.1
 
-pub answer-requires-clause-stands : goal.answer-requires-clause-stands
-answer-requires-clause-stands g c = let goes = c.lines.invariant.goes c.requires.stands.0 c.requires.stands.1 in (goes.now, goes.stands)
+pub turn-requires-clause-closed : goal.turn-requires-clause-closed
+turn-requires-clause-closed g c =
+    let r = c.requires.closed in
+    let led = c.lines.invariant.goes r.0 r.1 r.2 r.3.0 tt in
+    (r.0, led.after, led.stands, (led.closed, led.holds.within))
 
 pub lines-preserved-in-Ok : goal.lines-preserved-in-Ok
 lines-preserved-in-Ok g c =
     let cuts = rw c.in-Line.is at c.next.follows.holds-at-none in
     record {
-      goes = λ h stands.
-          let goes = c.lines.invariant.goes h stands in
-          let turn = c.in-Ok.ensures.turn goes.now goes.stands in
+      goes = λ by h stands closed always.
+          let led = c.lines.invariant.goes by h stands closed tt in
+          let two = c.in-Ok.ensures.turns by led.after led.stands led.closed led.holds.within in
           record {
-            now = turn.after;
-            so_far = so_far_more _ h goes.now turn.after _ _ _ _ _ _ _ _ _ cuts.got c.in-Line.line.now turn.reply goes.so_far cuts.bytes cuts.taken cuts.within cuts.limit (λ e. (cuts.stays e).0) cuts.finds.1 turn.answers turn.sends;
-            stands = turn.stands;
+            after = two.after;
+            stands = two.stands;
+            closed = two.closed;
+            holds = so_far_more c.args.settings.now _ _ by h led.after two.after _ _ _ _ _ _ _ _ _ _ cuts.got c.in-Line.line.now two.holds.reply led.holds cuts.bytes cuts.taken cuts.within cuts.limit (λ e. (cuts.stays e).0) cuts.finds.1 two.holds.answers _
+                (subst (λ (set : Settings). Lawful set (g.H.Hub.callers c.args.hub.now) two.after) c.requires.hub_settings (g.met.H.Hub.lawful _ _ by two.after two.stands)) two.holds.seen_is two.holds.sends;
           };
       source_faults = c.in-Line.ensures.cause ∙ c.lines.invariant.source_faults;
       sink_faults = c.in-Ok.ensures.cause.kept ∙ c.lines.invariant.sink_faults;
@@ -43,14 +57,10 @@ lines-preserved-in-Ok g c =
 pub returns-in-Err-clause-served : goal.returns-in-Err-clause-served
 returns-in-Err-clause-served g c =
     let cuts = rw c.in-Line.is at c.next.follows.holds-at-none in
-    λ h stands.
-    let goes = c.lines.invariant.goes h stands in
-    let turn = c.in-Err.ensures.turn goes.now goes.stands in
-    record {
-      after = turn.after;
-      stands = turn.stands;
-      serves = write_failed _ h goes.now turn.after _ _ _ _ _ _ _ _ _ cuts.got c.in-Line.line.now turn.sends.0 turn.sends.1 turn.reply goes.so_far cuts.bytes cuts.taken cuts.within cuts.limit (λ e. (cuts.stays e).0) cuts.finds.1 turn.answers turn.sends.2 turn.sends.3;
-    }
+    λ by h stands closed always.
+    let led = c.lines.invariant.goes by h stands closed tt in
+    let two = c.in-Err.ensures.turns by led.after led.stands led.closed led.holds.within in
+    lead_weaker _ _ by _ _ _ _ two (λ now turn. write_failed _ _ _ by h led.after now _ _ _ _ _ _ _ _ _ _ cuts.got c.in-Line.line.now turn.reply led.holds cuts.bytes cuts.taken cuts.within cuts.limit (λ e. (cuts.stays e).0) cuts.finds.1 turn.answers turn.sends.0 turn.sends.1 turn.sends.2 turn.sends.3)
 
 pub lines-smaller : goal.lines-smaller
 lines-smaller g c =
@@ -61,25 +71,24 @@ pub lines-preserved : goal.lines-preserved
 lines-preserved g c =
     let cuts = rw c.in-TooLong.is at c.next.follows.holds-at-none in
     record {
-      goes = λ h stands.
-          let goes = c.lines.invariant.goes h stands in
+      goes = λ by h stands closed always.
+          let led = c.lines.invariant.goes by h stands closed tt in
           record {
-            now = goes.now;
-            so_far = so_far_more _ h goes.now goes.now _ _ _ _ _ _ _ _ _ cuts.got cuts.finds.0 _ goes.so_far cuts.bytes cuts.taken cuts.within cuts.limit (λ e. (cuts.stays e).0) cuts.finds.2 (answers_long c.args.settings.now goes.now cuts.finds.0 cuts.finds.1) c.in-Ok-answer_long.ensures.bytes;
-            stands = goes.stands;
+            after = led.after;
+            stands = led.stands;
+            closed = led.closed;
+            holds = so_far_more c.args.settings.now _ _ by h led.after led.after _ _ _ _ _ _ _ _ _ _ cuts.got cuts.finds.0 reply.Long led.holds cuts.bytes cuts.taken cuts.within cuts.limit (λ e. (cuts.stays e).0) cuts.finds.2
+                (answers_long c.args.settings.now (g.H.Hub.callers c.args.hub.now) g.H.Hub.alone by c.lines.seen led.after cuts.finds.0 cuts.finds.1) _
+                (subst (λ (set : Settings). Lawful set (g.H.Hub.callers c.args.hub.now) led.after) c.requires.hub_settings (g.met.H.Hub.lawful _ _ by led.after led.stands)) (let n = c.lines.seen in omega arith) c.in-Ok-turn_long.ensures.bytes;
           };
       source_faults = c.in-TooLong.ensures.cause ∙ c.lines.invariant.source_faults;
-      sink_faults = c.in-Ok-answer_long.ensures.cause.kept ∙ c.lines.invariant.sink_faults;
+      sink_faults = c.in-Ok-turn_long.ensures.cause.kept ∙ c.lines.invariant.sink_faults;
     }
 
-pub returns-in-Err-answer_long-clause-served : goal.returns-in-Err-answer_long-clause-served
-returns-in-Err-answer_long-clause-served g c =
+pub returns-in-Err-turn_long-clause-served : goal.returns-in-Err-turn_long-clause-served
+returns-in-Err-turn_long-clause-served g c =
     let cuts = rw c.in-TooLong.is at c.next.follows.holds-at-none in
-    let sends = c.in-Err-answer_long.ensures.bytes in
-    λ h stands.
-    let goes = c.lines.invariant.goes h stands in
-    record {
-      after = goes.now;
-      stands = goes.stands;
-      serves = write_failed _ h goes.now goes.now _ _ _ _ _ _ _ _ _ cuts.got cuts.finds.0 sends.0 sends.1 _ goes.so_far cuts.bytes cuts.taken cuts.within cuts.limit (λ e. (cuts.stays e).0) cuts.finds.2 (answers_long c.args.settings.now goes.now cuts.finds.0 cuts.finds.1) sends.2 sends.3;
-    }
+    let sends = c.in-Err-turn_long.ensures.bytes in
+    λ by h stands closed always.
+    lead_weaker _ _ by _ _ _ _ (c.lines.invariant.goes by h stands closed tt) (λ now so. write_failed c.args.settings.now _ _ by h now now _ _ _ _ _ _ _ _ _ _ cuts.got cuts.finds.0 reply.Long so cuts.bytes cuts.taken cuts.within cuts.limit (λ e. (cuts.stays e).0) cuts.finds.2
+        (answers_long c.args.settings.now (g.H.Hub.callers c.args.hub.now) g.H.Hub.alone by c.lines.seen now cuts.finds.0 cuts.finds.1) sends.0 sends.1 sends.2 sends.3)

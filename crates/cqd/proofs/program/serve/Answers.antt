@@ -1,20 +1,36 @@
-use Rattle.std.proofs.Common.{ℕ, ap, subst}
+use Rattle.std.proofs.Common.{◌≡◌, ℕ, List, [], map, ap, refl, subst}
+use Rattle.cq_base.specs.declared.settings.Settings.{Settings}
+use Rattle.cq_history.specs.Lawful.{Lawful}
+use Rattle.cq_hub.specs.Solos.{solo_lawful}
 use Rattle.cq_lines.specs.Held.{Held}
-use Rattle.cq_session.specs.Changes.{no_history}
 use Rattle.cq_session.specs.Serving.{Serves}
+use Rattle.cq_session.specs.Turn.{IsTalk}
+use Rattle.cq_talk.specs.Said.{said}
+use Rattle.cqd.specs.Top.{AreAlone}
+use Rattle.cqd.proofs.Served.{serves_as}
 use Rattle.cqd.proofs.program.serve.Goals as goal
+
+pub session-end-requires-clause-closed : goal.session-end-requires-clause-closed
+session-end-requires-clause-closed g c = (0, [], c.in-Ok-made.ensures.stands, (refl, tt))
+
+pub session-end-requires-clause-works : goal.session-end-requires-clause-works
+session-end-requires-clause-works g c = record { keys = λ work. refl; works = λ set lang text work. ((λ is. is), (λ is. is)) }
 
 pub returns-in-Ok-new-clause-runs : goal.returns-in-Ok-new-clause-runs
 returns-in-Ok-new-clause-runs g c = λ other.
     let settings = c.args.settings.now in
-    let served = c.session-end.ensures.served no_history (c.new-store.ensures settings) in
+    let led = c.session-end.ensures.served 0 [] c.in-Ok-made.ensures.stands refl tt in
+    let law : Lawful c.args.settings.now 1 led.after = subst (λ (set : Settings). Lawful set 1 led.after) c.in-Ok-made.ensures.settings (solo_lawful _ _ 0 led.after _ _ led.stands) in
     record {
       by = c.session-end.result;
       status_is = c.status_of.ensures;
-      after = served.after;
-      serves = subst (λ (limit : ℕ). Serves c.args.settings.now no_history served.after limit (g.S.Source.rest c.args.source.now) (g.S.Source.rest c.session-end.new.source) (g.K.Sink.written c.args.sink.now) (g.K.Sink.written c.session-end.new.sink) c.session-end.result) (ap (λ (held : Held). held.limit) c.in-Ok-new.ensures) served.serves;
+      serves = subst (λ (limit : ℕ). Serves (AreAlone c.args.settings.now) limit (g.S.Source.rest c.args.source.now) (g.S.Source.rest c.session-end.new.source) (g.K.Sink.written c.args.sink.now) (g.K.Sink.written c.session-end.new.sink) c.session-end.result) (ap (λ (held : Held). held.limit) c.in-Ok-new.ensures)
+          (serves_as (IsTalk c.args.settings.now 1 (Unit {0}) 0 [] led.after) (AreAlone c.args.settings.now)
+          (λ lines replies talk. record {
+            after = led.after;
+            talk = talk;
+            alone = c.talks_alone.ensures c.args.settings.now 1 0 led.after (map (said c.args.settings.now.chunk) lines) replies talk law;
+            beside = c.talks_beside.ensures.alone c.args.settings.now 1 0 led.after (map (said c.args.settings.now.chunk) lines) replies talk law;
+          }) _ _ _ _ _ _ led.holds);
       cause = c.session-end.ensures.cause;
     }
-
-pub session-end-requires-clause-stands : goal.session-end-requires-clause-stands
-session-end-requires-clause-stands g c = (no_history, c.new-store.ensures c.args.settings.now)

@@ -1,0 +1,7 @@
+pub mod VersionFiles
+pub mod WorkReadings
+pub mod SameReadings
+pub mod Inside
+pub mod Rows
+pub mod Listable
+pub mod OneFile

@@ -1,0 +1,63 @@
+use Rattle.std.proofs.Common.{◌≤◌, sym, subst, arith}
+use Rattle.std.proofs.lemmas.List.{length-map}
+use Rattle.std.proofs.lemmas.Result.{IfOk-weaker}
+use Rattle.cq_answer.specs.Parts.{AreGroupsOf}
+use Rattle.cq_answer.specs.Works.{work_in, works_in, norms_in}
+use Rattle.cq_answer.proofs.Listable.{listable, measurable, replied, keys_asked, most_read, texts_are, conditions_few, when_ok}
+use Rattle.cq_answer.proofs.answering.answer.Goals as goal
+
+pub part_of-part-requires : goal.part_of-part-requires
+part_of-part-requires g c =
+    let have = c.requires.of_version in
+    let files = listable c.args.settings.now have.changes c.args.version c.args.query.now.project c.args.files.now c.args.conditions.now have.are c.requires.settings have.few in
+    let many = length-map c.args.files.now work_in in
+    omega (arith, files.few, many)
+
+pub groups_of-requires-clause-listable : goal.groups_of-requires-clause-listable
+groups_of-requires-clause-listable g c =
+    let have = c.requires.of_version in
+    listable c.args.settings.now have.changes c.args.version c.args.query.now.project c.args.files.now c.args.conditions.now have.are c.requires.settings have.few
+
+pub returns-in_err-groups-clause-asked_most : goal.returns-in_err-groups-clause-asked_most
+returns-in_err-groups-clause-asked_most g c = λ ks on.
+    c.groups_of.ensures.asked_most ks (keys_asked c.args.settings.now on.changes c.args.version c.args.query.now c.args.files.now c.args.conditions.now c.part_of-part.result ks on.are c.part_of-part.ensures.part on.asked)
+
+pub returns-in_err-groups-clause-reads : goal.returns-in_err-groups-clause-reads
+returns-in_err-groups-clause-reads g c = λ n on.
+    c.groups_of.ensures.reads n (most_read c.args.settings.now on.changes c.args.version c.args.query.now c.args.files.now c.args.conditions.now c.part_of-part.result n on.are c.part_of-part.ensures.part on.most)
+
+pub reply_of-requires-clause-few : goal.reply_of-requires-clause-few
+reply_of-requires-clause-few g c = conditions_few c.args.settings.now c.args.version c.args.query.now.project c.args.files.now c.args.conditions.now c.requires.of_version
+
+pub reply_of-requires-clause-measurable : goal.reply_of-requires-clause-measurable
+reply_of-requires-clause-measurable g c =
+    let have = c.requires.of_version in
+    let files = listable c.args.settings.now have.changes c.args.version c.args.query.now.project c.args.files.now c.args.conditions.now have.are c.requires.settings have.few in
+    let some : 1 ≤ c.args.query.now.min = omega (arith, c.requires.settings.chunk, c.requires.long) in
+    let groups : AreGroupsOf (norms_in (works_in c.args.files.now)) c.args.query.now.min c.part_of-part.result c.deref.result.now = subst (λ gs. AreGroupsOf (norms_in (works_in c.args.files.now)) c.args.query.now.min c.part_of-part.result gs) (sym c.deref.ensures.value) c.in_ok-groups.ensures.groups in
+    measurable c.args.settings.now have.changes c.args.version c.args.query.now.project c.args.files.now c.args.conditions.now have.are c.args.query.now.min c.part_of-part.result c.deref.result.now some files.few groups
+
+pub returns-clause-reply : goal.returns-clause-reply
+returns-clause-reply g c =
+    let groups : AreGroupsOf (norms_in (works_in c.args.files.now)) c.args.query.now.min c.part_of-part.result c.deref.result.now = subst (λ gs. AreGroupsOf (norms_in (works_in c.args.files.now)) c.args.query.now.min c.part_of-part.result gs) (sym c.deref.ensures.value) c.in_ok-groups.ensures.groups in
+    IfOk-weaker c.reply_of.result _ _ (λ r is changes are.
+    replied c.args.settings.now changes c.args.version c.args.query.now c.args.files.now c.args.conditions.now c.part_of-part.result c.deref.result.now r are c.part_of-part.ensures.part groups is) c.reply_of.ensures
+
+pub returns-clause-texts : goal.returns-clause-texts
+returns-clause-texts g c =
+    let some : 1 ≤ c.args.query.now.min = omega (arith, c.requires.settings.chunk, c.requires.long) in
+    let groups : AreGroupsOf (norms_in (works_in c.args.files.now)) c.args.query.now.min c.part_of-part.result c.deref.result.now = subst (λ gs. AreGroupsOf (norms_in (works_in c.args.files.now)) c.args.query.now.min c.part_of-part.result gs) (sym c.deref.ensures.value) c.in_ok-groups.ensures.groups in
+    IfOk-weaker c.reply_of.result _ _ (λ r is.
+    texts_are c.args.settings.now c.args.version c.args.query.now.project c.args.files.now c.args.conditions.now c.args.query.now.kind c.args.query.now.min c.part_of-part.result c.deref.result.now r c.requires.of_version some groups is) c.reply_of.ensures
+
+pub returns-clause-asked : goal.returns-clause-asked
+returns-clause-asked g c = λ ks on.
+    when_ok c.reply_of.result (c.in_ok-groups.ensures.asked ks (keys_asked c.args.settings.now on.changes c.args.version c.args.query.now c.args.files.now c.args.conditions.now c.part_of-part.result ks on.are c.part_of-part.ensures.part on.asked))
+
+pub returns-clause-asked_most : goal.returns-clause-asked_most
+returns-clause-asked_most g c = λ ks on.
+    c.groups_of.ensures.asked_most ks (keys_asked c.args.settings.now on.changes c.args.version c.args.query.now c.args.files.now c.args.conditions.now c.part_of-part.result ks on.are c.part_of-part.ensures.part on.asked)
+
+pub returns-clause-reads : goal.returns-clause-reads
+returns-clause-reads g c = λ n on.
+    c.groups_of.ensures.reads n (most_read c.args.settings.now on.changes c.args.version c.args.query.now c.args.files.now c.args.conditions.now c.part_of-part.result n on.are c.part_of-part.ensures.part on.most)

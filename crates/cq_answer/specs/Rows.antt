@@ -1,0 +1,59 @@
+-- Files and groups as a reply shows them, and the measures of a part of a project.
+use Rattle.std.specs.Prelude.{ℕ, List, [], length, map, slice_index_or}
+use Rattle.cq_base.specs.Lines.{lines_of}
+use Rattle.cq_base.specs.declared.group.Group.{Group}
+use Rattle.cq_base.specs.declared.group.Place.{Place}
+use Rattle.cq_base.specs.declared.measures.FileCounts.{FileCounts}
+use Rattle.cq_base.specs.declared.measures.Measures.{Measures}
+use Rattle.cq_base.specs.declared.token.Token.{Token}
+use Rattle.cq_measures.specs.Measures.{extent_of, project_measures, file_measures, IsMeasurable}
+use Rattle.cq_reply.specs.declared.reply.FileRow.{FileRow}
+use Rattle.cq_reply.specs.declared.reply.GroupRow.{GroupRow}
+use Rattle.cq_reply.specs.declared.reply.PlaceRow.{PlaceRow}
+use Rattle.cq_reply.specs.declared.reply.Shown.{Shown}
+use Rattle.cq_reply.specs.declared.reply.Shown.TheVariants as shown
+use Rattle.cq_work.specs.declared.work.State.{State}
+use Rattle.cq_work.specs.declared.work.State.TheVariants as state
+use Rattle.cq_work.specs.Lexing.{tokens_in, state_of}
+use Rattle.cq_answer.specs.Readings.{Reading, paths_read, spans_read, counts_read}
+use Rattle.cq_answer.specs.declared.part.Part.{Part}
+use Rattle.cq_answer.specs.declared.part.Part.TheVariants as part
+
+abbrev pub shown_in : State → Shown
+shown_in state.Ok = shown.Ok
+shown_in (state.Fault at) = shown.Fault at
+shown_in state.Large = shown.Large
+
+-- a file: its change, its language, the lines of its text, and how many tokens it has
+abbrev pub file_row : Reading → FileRow
+file_row r = record { path = r.file.path; change = r.file.number; lang = r.file.lang; lines = lines_of r.file.body; shown = shown_in (state_of r.answer); tokens = length (tokens_in r.answer) }
+
+-- what a reply shows of some files: their rows, and of each its path, where its tokens stand, and what is counted of it
+pub record Facts : Type 0 where
+  pub rows : List FileRow
+  pub paths : List (List ℕ)
+  pub spans : List (List Token)
+  pub counts : List FileCounts
+
+abbrev pub facts_read : List Reading → Facts
+facts_read readings = record { rows = map file_row readings; paths = paths_read readings; spans = spans_read readings; counts = counts_read readings }
+
+-- a place of a word of `n` tokens: the path of its file, its first token, and the lines that it covers
+abbrev pub place_row : Facts → ℕ → Place → PlaceRow
+place_row facts n p = record { path = slice_index_or facts.paths p.file []; at = p.at; first = (extent_of facts.spans n p).first; last = (extent_of facts.spans n p).last }
+
+abbrev pub group_row : Facts → Group → GroupRow
+group_row facts g = record { tokens = g.tokens; places = map (place_row facts g.tokens) g.places }
+
+abbrev pub no_measures : Measures
+no_measures = record { lines = 0; ncloc = 0; files = 0; complexity = 0; dup_lines = 0; dup_blocks = 0; dup_files = 0; density = 0 }
+
+-- those of the whole project, or those of one file with the places that the groups have in it; of nothing all are 0
+abbrev pub measures_of : Facts → List Group → Part → Measures
+measures_of facts groups part.Whole = project_measures facts.counts facts.spans groups
+measures_of facts groups (part.File i) = file_measures facts.counts facts.spans i groups
+measures_of facts groups part.Nothing = no_measures
+
+-- what of the groups can be shown and measured
+abbrev pub AreShowable : Facts → List Group → Type 0
+AreShowable facts groups = IsMeasurable facts.counts facts.spans groups

@@ -1,0 +1,101 @@
+ghost use Rattle.std.specs.Prelude.{◌≡◌, ℕ, ◌+◌, ◌≤◌, List, length, IfOk, OnOk};
+ghost use Rattle.cq_base.specs.Settings.{IsInRange};
+ghost use Rattle.cq_groups.specs.Listing.{Rises, RisesAtMost};
+ghost use Rattle.cq_reply.specs.Written.{IsReplyText};
+ghost use Rattle.cq_answer.specs.Parts.{IsWithin};
+ghost use Rattle.cq_answer.specs.Reply as spec;
+ghost use Rattle.cq_answer.specs.Rows.{AreShowable};
+ghost use Rattle.cq_answer.specs.Versions.{HaveVersion, IsReplyOn, AreAskedOn, IsMostReadOn};
+ghost use Rattle.cq_answer.specs.Works.{works_in, keys_in, numbers_in, facts_in};
+
+use crate::listing::groups_of;
+use crate::measuring::measures_of;
+use crate::part::{Part, part_of};
+use crate::placing::group_rows;
+use crate::showing::file_rows;
+use cq_base::{Condition, Group, Memory, Settings, Steps};
+use cq_board::Held;
+use cq_gate::verdict;
+use cq_groups::Buckets;
+use cq_reply::Reply;
+use cq_request::{Kind, Query};
+use cq_work::Work;
+use std::alloc::Global;
+use std::sync::Arc;
+use std::sync::ledger::Ledger;
+
+// The reply to a query of this kind, from the groups that it lists.
+fn reply_of<L: Ledger>(
+    alloc: Global,
+    files: &[Arc<Held<Work<L>>, Global>],
+    conditions: &[Condition],
+    kind: Kind,
+    part: Part,
+    version: u64,
+    groups: &[Group],
+) -> Result<Reply, Memory>
+    requires few { length conditions.now ≤ 32 }
+    requires within { IsWithin (length files.now) part }
+    requires measurable { AreShowable (facts_in (works_in files.now)) groups.now }
+    ensures { IfOk result (λ reply. reply
+        ≡ spec.reply_of (facts_in (works_in files.now)) conditions.now version kind part groups.now) }
+{
+    match kind {
+        Kind::Files => Ok(Reply::Files {
+            files: file_rows(alloc, files)?,
+            version,
+        }),
+        Kind::Groups => Ok(Reply::Groups {
+            groups: group_rows(alloc, files, groups)?,
+            version,
+        }),
+        Kind::Measures => Ok(Reply::Measures {
+            measures: measures_of(alloc, files, part, groups)?,
+            version,
+        }),
+        Kind::Verdict => {
+            let measures = measures_of(alloc, files, part, groups)?;
+            Ok(Reply::Verdict {
+                verdict: verdict(alloc, conditions, &measures)?,
+                version,
+            })
+        }
+    }
+}
+
+/// The reply to a query at a version, of which these are the project's files and conditions. Want of memory leaves the
+/// buckets fit for the next question. With a path that is there, the index is asked for the keys of that file's windows
+/// alone; for the list of files, and for a path that is not there, it is not asked and no token is read.
+pub fn answer<B: Buckets, L: Ledger>(
+    alloc: Global,
+    settings: &Settings,
+    files: &[Arc<Held<Work<L>>, Global>],
+    conditions: &[Condition],
+    query: &Query,
+    version: u64,
+    buckets: &mut B,
+    steps: &mut Steps<L>,
+) -> Result<Reply, Memory>
+    requires settings { IsInRange settings.now }
+    requires of_version { HaveVersion settings.now version query.now.project files.now conditions.now }
+    requires long { settings.now.chunk ≤ query.now.min }
+    requires for_changes { B.file_changes buckets.old ≡ numbers_in (works_in files.now) }
+    requires for_keys { B.file_keys buckets.old ≡ keys_in (works_in files.now) }
+    requires ready { B.ready buckets.old }
+    ensures reply { IfOk result (IsReplyOn settings.now version query.now files.now conditions.now) }
+    ensures texts { IfOk result IsReplyText }
+    ensures asked { (ks : List ℕ) → AreAskedOn settings.now version query.now files.now conditions.now ks
+        → OnOk result (Rises (B.asked buckets.old) (B.asked buckets.new) (length ks)) }
+    ensures asked_most { (ks : List ℕ) → AreAskedOn settings.now version query.now files.now conditions.now ks
+        → RisesAtMost (B.asked buckets.old) (B.asked buckets.new) (length ks) }
+    ensures same_changes { B.file_changes buckets.new ≡ B.file_changes buckets.old }
+    ensures same_keys { B.file_keys buckets.new ≡ B.file_keys buckets.old }
+    ensures ready { B.ready buckets.new }
+    ensures moved { B.moved buckets.old buckets.new }
+    ensures reads { (reads : ℕ) → IsMostReadOn settings.now version query.now files.now conditions.now reads
+        → steps.new ≤ steps.old + reads }
+{
+    let part = part_of(files, query);
+    let groups = groups_of(alloc, settings, files, part, query.min, buckets, steps)?;
+    reply_of(alloc, files, conditions, query.kind, part, version, &groups)
+}

@@ -1,0 +1,138 @@
+-- A view that is opened, read and shut.
+use Rattle.std.proofs.Common.{◌≡◌, ℕ, zero, suc, ◌<◌, ◌≤◌, List, [], ◌∷◌, ◌++◌, append-nil, length, take, fold, get_or, set, Option, Some, None, refl, sym, ap, ◌∙◌, subst, arith}
+use Rattle.std.specs.Prelude.{IsSome}
+use Rattle.std.proofs.lemmas.List.{length-replicate, get_or-set_same}
+use Rattle.cq_base.specs.declared.lang.Lang.{Lang}
+use Rattle.cq_base.specs.declared.settings.Settings.{Settings}
+use Rattle.cq_answer.specs.Reply.{IsReply}
+use Rattle.cq_ask.specs.Moves.{Later}
+use Rattle.cq_board.specs.declared.listing.View.{View}
+use Rattle.cq_history.specs.declared.event.Event.{Event}
+use Rattle.cq_history.specs.declared.event.Event.TheVariants.{Open, Shut}
+use Rattle.cq_history.specs.State.{State, start, after, state, accepted, view_of}
+use Rattle.cq_history.specs.Lawful.{Lawful}
+use Rattle.cq_history.proofs.States.{state_push, Lawful-prefix}
+use Rattle.cq_history.proofs.Openings.{views_after}
+use Rattle.cq_history.proofs.Prefixes.{accepted-append, changes_in-state}
+use Rattle.cq_base.specs.declared.change.Change.{Change}
+use Rattle.cq_board.specs.Listings.{IsListing}
+use Rattle.std.specs.Arc.{arc_value}
+use Rattle.cq_hub.specs.Hubs.{Calls, Grows, IsPublication, Never}
+use Rattle.cq_hub.specs.Views.{IsLatest, IsOpen}
+use Rattle.cq_hub.proofs.Growing.{grows_none, grows_then, grows_event, grows_own, view_grows, rises, no_fewer}
+use Rattle.cq_reply.specs.declared.reply.Reply.{Reply}
+use Rattle.cq_request.specs.declared.request.Query.{Query}
+use Rattle.cq_talk.specs.Steps.{IsClosed, Leads, Views}
+use Rattle.cq_talk.proofs.Shown.{shown_grows}
+use Rattle.cq_talk.proofs.Talking.{published_few}
+use Rattle.cq_session.specs.Viewing.{ShowsAt, ViewsOrNot}
+use Rattle.cq_talk.proofs.Leading.{stands_mid}
+
+set_none : (views : List (Option ℕ)) (c : ℕ) → get_or (set views c None) c None ≡ None
+set_none [] c = refl
+set_none (v ∷ views) zero = refl
+set_none (v ∷ views) (suc c) = set_none views c
+
+many_views : (s : State) (h : List Event) → length (fold after s h).views ≡ length s.views
+many_views s [] = refl
+many_views s (e ∷ h) = many_views (after s e) h ∙ views_after s e
+
+pub view_opened : (callers c v : ℕ) (h : List Event) → c < callers → view_of (state callers (h ++ Open c v ∷ [])) c ≡ Some v
+view_opened callers c v h lt =
+    let none : Option ℕ = None in
+    let many = many_views (start callers) h in
+    let all = length-replicate callers none in
+    ap (λ s. view_of s c) (state_push callers h (Open c v)) ∙ get_or-set_same (state callers h).views c (Some v) None (omega (arith, many, all, lt))
+
+view_shut : (callers c : ℕ) (h : List Event) → view_of (state callers (h ++ Shut c ∷ [])) c ≡ None
+view_shut callers c h = ap (λ s. view_of s c) (state_push callers h (Shut c)) ∙ set_none (state callers h).views c
+
+module _ {S P W : Type 0} (Stands : S → P → ℕ → List Event → Type 0) (set : Settings) (callers : ℕ) (alone : Type 0) (hub : S) (IsWork : Lang → List ℕ → W → Type 0)
+    (lawful : (pass : P) (c : ℕ) (h : List Event) → Stands hub pass c h → Lawful set callers h) (caller : (pass : P) (c : ℕ) (h : List Event) → Stands hub pass c h → c < callers) (c to : ℕ) (h : List Event) where
+  -- the publication was given up
+  pub not_advanced : (Says : List Event → Type 0) (pass : P) (advanced : Calls Stands alone IsPublication c hub pass h [] Says) → IsClosed callers c h → Leads Stands callers c hub pass (ViewsOrNot alone c to h)
+  not_advanced Says pass advanced closed = record {
+    after = advanced.mid;
+    stands = stands_mid Stands alone callers c hub pass IsPublication h Says advanced;
+    closed = view_grows callers alone IsPublication c h advanced.mid [] advanced.others tt ∙ closed;
+    holds = record { view = None; views = record { helped = advanced.mid; helps = advanced.others; views = grows_none alone c Never advanced.mid; recent = tt } };
+  }
+
+  module _ (published : ℕ) (one : P) (advanced : Calls Stands alone IsPublication c hub one h [] (λ mid. (published ≡ (state callers mid).published) × (to ≤ published))) where
+    pub still_closed : IsClosed callers c h → IsClosed callers c advanced.mid
+    still_closed closed = view_grows callers alone IsPublication c h advanced.mid [] advanced.others tt ∙ closed
+
+    -- no view was opened
+    pub not_viewed : (Says : List Event → Type 0) (pass : P) (opened : Calls Stands alone Never c hub pass advanced.mid [] Says) → IsClosed callers c h → Leads Stands callers c hub pass (ViewsOrNot alone c to h)
+    not_viewed Says pass opened closed = record {
+      after = opened.mid;
+      stands = stands_mid Stands alone callers c hub pass Never advanced.mid Says opened;
+      closed = view_grows callers alone Never c advanced.mid opened.mid [] opened.others tt ∙ still_closed closed;
+      holds = record { view = None; views = record { helped = advanced.mid; helps = advanced.others; views = opened.others; recent = tt } };
+    }
+
+    module _ (view : View W) (two : P) (opened : Calls Stands alone Never c hub two advanced.mid (Open c view.version ∷ []) (λ mid. IsLatest IsWork (state callers mid) view)) where
+      abbrev before : List Event
+      before = opened.mid ++ Open c view.version ∷ []
+
+      law_then : Lawful set callers opened.mid
+      law_then = Lawful-prefix set callers opened.mid (Open c view.version ∷ []) (lawful two c before opened.stands)
+
+      -- the view is open then
+      pub is_open : IsOpen IsWork (state callers (opened.mid ++ Open c view.version ∷ [])) c view
+      is_open = record {
+        version = view_opened callers c view.version opened.mid (caller two c before opened.stands);
+        shows = subst (λ (cs : List Change). IsListing IsWork (take view.version cs) (arc_value view.listing)) (changes_in-state callers opened.mid ∙ sym (changes_in-state callers before ∙ accepted-append opened.mid (Open c view.version ∷ []) ∙ append-nil (accepted opened.mid))) opened.says.1;
+      }
+
+      module _ (three : P) (moved : Later Stands callers alone IsWork hub view c before three) where
+        -- and still is when it is shut
+        pub viewing : IsSome (view_of (state callers moved.after) c)
+        viewing = subst IsSome (sym moved.opened.version) refl
+
+        module _ (Says : List Event → Type 0) (pass : P) (shut : Calls Stands alone Never c hub pass moved.after (Shut c ∷ []) Says) where
+          abbrev later : List Event
+          later = shut.mid ++ Shut c ∷ []
+
+          was_viewed : Views alone c to h (Some view.version) (shut.mid ++ Shut c ∷ [])
+          was_viewed =
+              let up = (rises callers alone Never c advanced.mid opened.mid [] opened.others set law_then).1 in
+              let at_least = advanced.says.1 in
+              let is = advanced.says.0 in
+              let now = opened.says.0 in
+              record {
+                helped = advanced.mid;
+                helps = advanced.others;
+                views = grows_then alone c Never advanced.mid before later (Open c view.version ∷ []) (Shut c ∷ [])
+                    (grows_event alone c Never advanced.mid opened.mid (Open c view.version) refl opened.others)
+                    (grows_then alone c Never before moved.after later [] (Shut c ∷ []) moved.grows (grows_event alone c Never moved.after shut.mid (Shut c) refl shut.others));
+                recent = omega (arith, up, at_least, is, now);
+              }
+
+          few_before : view.version ≤ length (accepted before)
+          few_before =
+              let few = published_few set callers opened.mid law_then in
+              let is = opened.says.0 in
+              let one = no_fewer callers alone Never c opened.mid before _ (grows_own alone c Never opened.mid (Open c view.version) refl) in
+              omega (arith, few, is, one)
+
+          grows_later : Grows alone Never c before later (Shut c ∷ [])
+          grows_later = grows_then alone c Never before moved.after later [] (Shut c ∷ []) moved.grows (grows_event alone c Never moved.after shut.mid (Shut c) refl shut.others)
+
+          -- the view was read and shut
+          pub was_shown : (q : Query) (r : Reply) → IsReply set (accepted (opened.mid ++ Open c view.version ∷ [])) view.version q r → Leads Stands callers c hub pass (ShowsAt set alone c to q r h)
+          was_shown q r is = record {
+            after = later;
+            stands = shut.stands;
+            closed = view_shut callers c shut.mid;
+            holds = record {
+              version = view.version;
+              views = was_viewed;
+              within = let few = few_before in let more = no_fewer callers alone Never c before later _ grows_later in omega (arith, few, more);
+              shows = shown_grows set alone Never c before later _ view.version q r few_before grows_later is;
+            };
+          }
+
+          -- the view was shut, and the reply given up
+          pub was_given_up : Leads Stands callers c hub pass (ViewsOrNot alone c to h)
+          was_given_up = record { after = later; stands = shut.stands; closed = view_shut callers c shut.mid; holds = record { view = Some view.version; views = was_viewed } }

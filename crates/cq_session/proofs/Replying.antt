@@ -1,6 +1,0 @@
--- What follows from an answer without memory.
-use Rattle.std.specs.Prelude.{Result, Ok, Err, OnErr}
-
-pub on_err_weaker : {T E P Q : Type 0} (r : Result T E) → (P → Q) → OnErr r P → OnErr r Q
-on_err_weaker (Ok x) to p = tt
-on_err_weaker (Err e) to p = to p

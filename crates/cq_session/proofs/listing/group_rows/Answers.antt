@@ -1,5 +1,0 @@
-use Rattle.std.proofs.Common.{sym}
-use Rattle.cq_session.proofs.listing.group_rows.Goals as goal
-
-pub group_row-requires : goal.group_row-requires
-group_row-requires g c = c.requires _ (c.loop-group.group-index, c.loop-group-test.true, sym c.group-item.is)

@@ -1,0 +1,29 @@
+-- What is told of one line, and what is sent of it.
+use Rattle.std.specs.Prelude.{◌≡◌, ℕ, max, List, map, Option, Result}
+use Rattle.cq_base.specs.declared.settings.Settings.{Settings}
+use Rattle.cq_history.specs.declared.event.Event.{Event}
+use Rattle.cq_reply.specs.declared.reply.Reply.{Reply}
+use Rattle.cq_reply.specs.Written.{line_of}
+use Rattle.cq_talk.specs.Replies.{named}
+use Rattle.cq_talk.specs.Said.{Said, said}
+use Rattle.cq_talk.specs.Talk.{Talk, Answers}
+use Rattle.cq_session.specs.Sending.{Sends}
+
+-- the replies to lines, from one history to another, where nothing was named before
+abbrev pub IsTalk : Settings → ℕ → Type 0 → ℕ → List Event → List Event → List (List ℕ) → List Reply → Type 0
+IsTalk set callers alone c h after lines replies = Talk set callers alone c 0 h (map (said set.chunk) lines) replies after
+
+module _ (set : Settings) (callers : ℕ) (alone : Type 0) (c seen : ℕ) (h : List Event) where
+  -- the bytes are the line of the reply to what a line says, and the number is what the reply names
+  pub record Tells (says : Said) (bytes : List ℕ) (number : ℕ) (after : List Event) : Type 0 where
+    pub reply : Reply
+    pub answers : Answers set callers alone c seen h says reply after
+    pub bytes_are : bytes ≡ line_of reply
+    pub named_is : number ≡ named reply
+
+  -- the reply to a line is sent, and what it names is seen
+  pub record Turns {E : Type 0} (line : List ℕ) (before written_now : Option (List ℕ)) (result : Result (Unit {0}) E) (seen_now : ℕ) (after : List Event) : Type 0 where
+    pub reply : Reply
+    pub answers : Answers set callers alone c seen h (said set.chunk line) reply after
+    pub sends : Sends before written_now (line_of reply) result
+    pub seen_is : seen_now ≡ max seen (named reply)

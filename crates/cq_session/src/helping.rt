@@ -1,0 +1,91 @@
+ghost use Rattle.std.specs.Prelude.{◌≡◌, ◌≤◌, ◌+◌, ℕ, OnOk, OnErr, IfOk, length};
+ghost use Rattle.std.specs.Arc.{arc_value};
+ghost use Rattle.cq_base.specs.Settings.{IsInRange};
+ghost use Rattle.cq_board.specs.Sound.{HasSoundText};
+ghost use Rattle.cq_history.specs.State.{state, accepted, ready, IsAccepted, IsDone};
+ghost use Rattle.cq_talk.specs.Steps.{Always, Helps, Led, MayLead};
+ghost use Rattle.cq_work.specs.Work.{IsWorkOf};
+ghost use Rattle.cq_session.specs.Works.{AreWorks};
+
+use cq_base::{Memory, Settings};
+use cq_board::{Finished, Job};
+use cq_hub::Hub;
+use cq_key::Keyer;
+use cq_shard::Indexed;
+use cq_work::{Work, work_of};
+use std::alloc::Global;
+use std::sync::Arc;
+use std::sync::ledger::Ledger;
+
+fn work_for<L: Ledger>(
+    alloc: Global,
+    settings: &Settings,
+    keyer: &Keyer,
+    job: &Job,
+) -> Result<Arc<Work<L>, Global>, Memory>
+    requires in_range { IsInRange settings.now }
+    requires settings { keyer.now.settings ≡ settings.now }
+    requires sound { HasSoundText job.now }
+    ensures { IfOk result (λ work. IsWorkOf settings.now job.now.lang (arc_value job.now.text) (arc_value work)) }
+{
+    let work = work_of(alloc, settings, keyer, job.lang, &job.text)?;
+    Ok(Arc::new(alloc, work)?)
+}
+
+// The work of a change is done, by this caller where it was not done yet.
+fn help_one<L: Ledger, H: Hub<Done = Work<L>>>(
+    alloc: Global,
+    settings: &Settings,
+    keyer: &Keyer,
+    hub: &H,
+    change: u64,
+    pass: &mut H::Pass,
+) -> Result<(), Memory>
+    requires in_range { IsInRange settings.now }
+    requires settings { keyer.now.settings ≡ settings.now }
+    requires hub_settings { H.settings hub.now ≡ settings.now }
+    requires works { AreWorks ⟦<Work<L> as Indexed>⟧.keys_in ⟦<Work<L> as Indexed>⟧.IsWorkOf }
+    requires accepted { MayLead H.Stands (H.callers hub.now) hub.now pass.old (λ h. IsAccepted (state (H.callers hub.now) h) change) }
+    ensures done { OnOk result (Led H.Stands (H.callers hub.now) hub.now pass.old pass.new Always (λ c h. Helps H.alone c change h (λ after. IsDone (state (H.callers hub.now) after) change))) }
+    ensures refused { OnErr result (Led H.Stands (H.callers hub.now) hub.now pass.old pass.new Always (λ c h. Helps H.alone c change h Always)) }
+{
+    match hub.job(change, pass) {
+        Err(Memory) => Err(Memory),
+        Ok(None) => Ok(()),
+        Ok(Some(job)) => match work_for(alloc, settings, keyer, &job) {
+            Err(Memory) => Err(Memory),
+            Ok(work) => match hub.finish(change, work, pass) {
+                Finished::Done => Ok(()),
+                Finished::Already => Ok(()),
+            },
+        },
+    }
+}
+
+/// The works of the changes behind the first `done`, which are done, are done up to the one with the number `to`. Each costs
+/// what `work_of` does, unless it is done by then.
+pub(crate) fn help<L: Ledger, H: Hub<Done = Work<L>>>(
+    alloc: Global,
+    settings: &Settings,
+    keyer: &Keyer,
+    hub: &H,
+    done: u64,
+    to: u64,
+    pass: &mut H::Pass,
+) -> Result<(), Memory>
+    requires in_range { IsInRange settings.now }
+    requires settings { keyer.now.settings ≡ settings.now }
+    requires hub_settings { H.settings hub.now ≡ settings.now }
+    requires works { AreWorks ⟦<Work<L> as Indexed>⟧.keys_in ⟦<Work<L> as Indexed>⟧.IsWorkOf }
+    requires accepted { MayLead H.Stands (H.callers hub.now) hub.now pass.old (λ h. (done ≤ ready (state (H.callers hub.now) h)) × (to ≤ length (accepted h))) }
+    ensures done { OnOk result (Led H.Stands (H.callers hub.now) hub.now pass.old pass.new (λ h. done ≤ ready (state (H.callers hub.now) h)) (λ c h. Helps H.alone c to h (λ after. done ≤ to → to ≤ ready (state (H.callers hub.now) after)))) }
+    ensures refused { OnErr result (Led H.Stands (H.callers hub.now) hub.now pass.old pass.new (λ h. done ≤ ready (state (H.callers hub.now) h)) (λ c h. Helps H.alone c to h Always)) }
+{
+    'changes: for i in done..to {
+        match help_one(alloc, settings, keyer, hub, i + 1, pass) {
+            Ok(()) => {}
+            Err(Memory) => return Err(Memory),
+        }
+    }
+    Ok(())
+}

@@ -1,0 +1,96 @@
+ghost use Rattle.std.specs.Prelude.{◌≡◌, ◌≤◌, ℕ, IfOk, OnErr, List};
+ghost use Rattle.cq_base.specs.Settings.{IsInRange};
+ghost use Rattle.cq_answer.specs.Reply.{IsReply};
+ghost use Rattle.cq_ask.specs.Moves.{Moves};
+ghost use Rattle.cq_history.specs.declared.event.Event.{Event};
+ghost use Rattle.cq_history.specs.State.{state, accepted, ready};
+ghost use Rattle.cq_hub.specs.Hubs.{HasSeen};
+ghost use Rattle.cq_hub.specs.Views.{IsOpen};
+ghost use Rattle.cq_reply.specs.Written.{IsReplyText};
+ghost use Rattle.cq_talk.specs.Steps.{Always, Led, MayLead};
+ghost use Rattle.cq_session.specs.Works.{AreWorks};
+ghost use Rattle.cq_session.specs.Viewing.{ShowsAt, ViewsOrNot};
+
+use cq_answer::answer;
+use cq_ask::{PassBuckets, changes_of};
+use cq_base::{Memory, Settings, Steps};
+use cq_board::View;
+use cq_hub::Hub;
+use cq_reply::Reply;
+use cq_request::Query;
+use cq_shard::Indexed;
+use cq_work::Work;
+use std::alloc::Global;
+use std::sync::ledger::Ledger;
+
+// The reply to a query in a view that the pass has open.
+fn reply_in<L: Ledger, H: Hub<Done = Work<L>>>(
+    alloc: Global,
+    settings: &Settings,
+    hub: &H,
+    view: &View<Work<L>>,
+    query: &Query,
+    pass: &mut H::Pass,
+    steps: &mut Steps<L>,
+) -> Result<Reply, Memory>
+    requires in_range { IsInRange settings.now }
+    requires hub_settings { H.settings hub.now ≡ settings.now }
+    requires works { AreWorks ⟦<Work<L> as Indexed>⟧.keys_in ⟦<Work<L> as Indexed>⟧.IsWorkOf }
+    requires long { settings.now.chunk ≤ query.now.min }
+    requires viewing { HasSeen H.Stands hub.now pass.old (λ c h. IsOpen (⟦<Work<L> as Indexed>⟧.IsWorkOf (H.settings hub.now)) (state (H.callers hub.now) h) c view.now) }
+    ensures reply { IfOk result (λ reply. (c : ℕ) (h : List Event) → H.Stands hub.now pass.old c h → IsOpen (⟦<Work<L> as Indexed>⟧.IsWorkOf (H.settings hub.now)) (state (H.callers hub.now) h) c view.now → IsReply (H.settings hub.now) (accepted h) view.now.version query.now reply) }
+    ensures text { IfOk result IsReplyText }
+    ensures moves { Moves H.Stands (H.callers hub.now) H.alone (⟦<Work<L> as Indexed>⟧.IsWorkOf (H.settings hub.now)) hub.now view.now pass.old pass.new }
+{
+    let files = view.listing.files(&query.project);
+    let conditions = view.listing.conditions(&query.project);
+    match changes_of(alloc, files) {
+        Ok(changes) => {
+            let mut buckets = PassBuckets {
+                hub,
+                view,
+                files,
+                changes: &changes,
+                pass,
+            };
+            answer(
+                alloc, settings, files, conditions, query, view.version, &mut buckets, steps,
+            )
+        }
+        Err(Memory) => Err(Memory),
+    }
+}
+
+/// The reply to a query at a version that is not below `to`, up to which all changes are done. A view of it is opened for
+/// the reply, and is shut again however that ends.
+pub(crate) fn view_reply<L: Ledger, H: Hub<Done = Work<L>>>(
+    alloc: Global,
+    settings: &Settings,
+    hub: &H,
+    query: &Query,
+    to: u64,
+    pass: &mut H::Pass,
+    steps: &mut Steps<L>,
+) -> Result<Reply, Memory>
+    requires in_range { IsInRange settings.now }
+    requires hub_settings { H.settings hub.now ≡ settings.now }
+    requires works { AreWorks ⟦<Work<L> as Indexed>⟧.keys_in ⟦<Work<L> as Indexed>⟧.IsWorkOf }
+    requires long { settings.now.chunk ≤ query.now.min }
+    requires ready { MayLead H.Stands (H.callers hub.now) hub.now pass.old (λ h. to ≤ ready (state (H.callers hub.now) h)) }
+    ensures shown { IfOk result (λ reply. Led H.Stands (H.callers hub.now) hub.now pass.old pass.new Always (λ c h. ShowsAt (H.settings hub.now) H.alone c to query.now reply h)) }
+    ensures text { IfOk result IsReplyText }
+    ensures refused { OnErr result (Led H.Stands (H.callers hub.now) hub.now pass.old pass.new Always (λ c h. ViewsOrNot H.alone c to h)) }
+{
+    match hub.advance(alloc, to, pass) {
+        Ok(_published) => {}
+        Err(Memory) => return Err(Memory),
+    }
+    match hub.open_view(pass) {
+        Err(Memory) => Err(Memory),
+        Ok(view) => {
+            let reply = reply_in(alloc, settings, hub, &view, query, pass, steps);
+            hub.close_view(view, pass);
+            reply
+        }
+    }
+}

@@ -1,0 +1,17 @@
+pub mod Saying
+pub mod Shown
+pub mod Leading
+pub mod Changing
+pub mod Queries
+pub mod Talking
+pub mod GoingOn
+pub mod Causing
+pub mod OneMore
+pub mod AloneRows
+pub mod AloneTalk
+pub mod BesideRows
+pub mod BesideTalk
+pub mod AloneBeside
+pub mod Giving
+pub mod GivingAlone
+pub mod Gathering

@@ -1,0 +1,51 @@
+-- What a talk comes to that begins with the empty history, for its user.
+use Rattle.std.specs.Prelude.{◌≡◌, ℕ, List, []}
+use Rattle.std.specs.List.{AllByRecursion}
+use Rattle.cq_base.specs.declared.settings.Settings.{Settings}
+use Rattle.cq_history.specs.declared.event.Event.{Event}
+use Rattle.cq_history.specs.declared.event.Event.TheVariants.{Accept, Ask, Took, Back, Done, Publish, Open, Shut, Floor}
+use Rattle.cq_history.specs.Lawful.{Lawful}
+use Rattle.cq_reply.specs.declared.reply.Reply.{Reply}
+use Rattle.cq_reply.specs.declared.reply.Reply.TheVariants as reply
+use Rattle.cq_talk.specs.Said.{Said}
+use Rattle.cq_talk.specs.Talk.{Talk}
+use Rattle.cq_talk.specs.Alone.{Walk, IsAloneUpToMemory, no_walk}
+use Rattle.cq_talk.specs.Beside.{Known, IsBeside, nothing_known}
+use Rattle.cq_talk.specs.Gives.{AloneGives, BesideGives}
+
+-- it accepts no change, unless it is this caller's
+abbrev pub AcceptsBy : ℕ → Event → Type 0
+AcceptsBy c (Accept by change) = by ≡ c
+AcceptsBy c (Ask by) = Unit {0}
+AcceptsBy c (Took by r) = Unit {0}
+AcceptsBy c (Back by r) = Unit {0}
+AcceptsBy c (Done by r) = Unit {0}
+AcceptsBy c (Publish p) = Unit {0}
+AcceptsBy c (Open by p) = Unit {0}
+AcceptsBy c (Shut by) = Unit {0}
+AcceptsBy c (Floor f) = Unit {0}
+
+-- with a hub that is alone, its replies are those of a server alone
+abbrev pub TalksAlone : Type 0
+TalksAlone = (set : Settings) (callers c : ℕ) (after : List Event) (lines : List Said) (replies : List Reply) → Talk set callers (Unit {0}) c 0 [] lines replies after → Lawful set callers after → IsAloneUpToMemory set no_walk lines replies
+
+-- where the hub's other callers accept no changes, they are those of a server with workers beside it
+abbrev pub TalksBeside : Type 0
+TalksBeside = (set : Settings) (callers c : ℕ) (after : List Event) (lines : List Said) (replies : List Reply) → Talk set callers ⊥ c 0 [] lines replies after → Lawful set callers after → AllByRecursion (AcceptsBy c) after → IsBeside set nothing_known lines replies
+
+-- and a server alone is one with no workers beside it
+abbrev pub TalksAloneBeside : Type 0
+TalksAloneBeside = (set : Settings) (callers c : ℕ) (after : List Event) (lines : List Said) (replies : List Reply) → Talk set callers (Unit {0}) c 0 [] lines replies after → Lawful set callers after → IsBeside set nothing_known lines replies
+
+abbrev pub IsNoMemory : Reply → Type 0
+IsNoMemory r = r ≡ reply.Memory → ⊥
+
+-- the replies of a server alone are among those of one with workers beside it
+abbrev pub AloneIsBeside : Type 0
+AloneIsBeside = (set : Settings) (lines : List Said) (replies : List Reply) → IsAloneUpToMemory set no_walk lines replies → AllByRecursion IsNoMemory replies → IsBeside set nothing_known lines replies
+
+abbrev pub AllGivenBeside : Type 0
+AllGivenBeside = (set : Settings) (k : Known) → BesideGives set k
+
+abbrev pub AllGivenAlone : Type 0
+AllGivenAlone = (set : Settings) (k : Walk) → AloneGives set k

@@ -1,0 +1,10 @@
+pub mod Said
+pub mod Replies
+pub mod Talk
+pub mod Steps
+pub mod Causes
+pub mod Alone
+pub mod Beside
+pub mod Gives
+pub mod Laws
+pub mod Gathered
