@@ -1,7 +1,7 @@
 -- A board of one caller and its shards, where the board takes an event or stays.
 use Rattle.std.proofs.Common.{◌≡◌, ℕ, ◌%◌, ◌<◌, ◌≤◌, arith, Bool, true, false, inr, List, [], ◌∷◌, ◌++◌, length, take, get_or, Some, refl, sym, ap, ◌∙◌, subst, append-nil}
 use Rattle.std.specs.Prelude.{All, Contains}
-use Rattle.std.proofs.lemmas.List.Elements.{All-append, All-cons, All-nil, All-contains}
+use Rattle.std.proofs.lemmas.List.Elements.{All-cons, All-nil, All-contains}
 use Rattle.std.proofs.lemmas.Nat.{mod_below}
 use Rattle.cq_base.specs.declared.lang.Lang.{Lang}
 use Rattle.cq_base.specs.declared.entry.Entry.{Entry}
@@ -13,7 +13,7 @@ use Rattle.cq_history.specs.declared.event.Event.TheVariants.{Publish}
 use Rattle.cq_history.specs.State.{State, state, accepted, changes_in, view_of, is_done, slot_of, IsAccepted, IsDone, IsUndone}
 use Rattle.cq_history.specs.Core.{IsAppliedFor}
 use Rattle.cq_history.proofs.States.{state_push}
-use Rattle.cq_history.proofs.Prefixes.{accepted-append, changes_in-state}
+use Rattle.cq_history.proofs.Prefixes.{changes_in-state}
 use Rattle.cq_history.proofs.Doing.{slots_number}
 use Rattle.cq_shard.specs.Shard.{Contents}
 use Rattle.cq_shard.proofs.Standing.{later_stands, bucket_holds}

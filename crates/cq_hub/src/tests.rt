@@ -4,8 +4,8 @@ ghost use Rattle.cq_base.specs.declared.lang.Lang.{Lang};
 ghost use Rattle.cq_base.specs.declared.settings.Settings.{Settings};
 ghost use Rattle.cq_base.specs.Changes.{IsSoundChange};
 ghost use Rattle.cq_history.specs.Changes.{is_put};
-ghost use Rattle.cq_history.specs.State.{state, ready, slot_of, view_of, IsAccepted};
-ghost use Rattle.cq_hub.specs.Hubs.{IsPassOf, HasSeen};
+ghost use Rattle.cq_history.specs.State.{state, slot_of, view_of, IsAccepted};
+ghost use Rattle.cq_hub.specs.Hubs.{HasSeen};
 
 use crate::{Hub, Solo};
 use cq_base::{Change, Entry, Lang, Memory, Settings, Text};

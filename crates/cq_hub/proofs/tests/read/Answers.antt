@@ -1,4 +1,4 @@
-use Rattle.std.proofs.Common.{◌≡◌, [], ◌∷◌, ◌++◌, Some, refl, sym, ap, ◌∙◌, subst, append-nil}
+use Rattle.std.proofs.Common.{[], ◌∷◌, ◌++◌, refl, sym, ◌∙◌, subst, append-nil}
 use Rattle.std.specs.Prelude.{IsSome}
 use Rattle.cq_history.specs.declared.event.Event.TheVariants as event
 use Rattle.cq_hub.specs.Hubs.{IsPublication, Never}
