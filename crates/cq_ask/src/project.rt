@@ -1,4 +1,5 @@
 ghost use Rattle.std.specs.Prelude.{◌≡◌, IfOk, filter, nat_eq};
+ghost use Rattle.std.specs.Arc.{arc_value};
 ghost use Rattle.std.specs.Ordering.{nat_cmp};
 ghost use Rattle.std.specs.List.{list_any};
 ghost use Rattle.std.specs.List.Sorted.{IsSorted};
@@ -15,10 +16,17 @@ pub fn changes_of<W>(alloc: Global, files: &[Arc<Held<W>, Global>]) -> Result<Ve
 {
     let mut changes = Vec::with_capacity(alloc, files.len())?;
     for file in files {
-        changes.push(file.change)?;
+        changes.push(change_of(file))?;
     }
     changes.sort_unstable();
     Ok(changes)
+}
+
+// The number of the change that put a file.
+fn change_of<W>(file: &Arc<Held<W>, Global>) -> u64
+    ensures { result ≡ (arc_value file.now).number }
+{
+    file.change
 }
 
 /// Only the entries of these changes stay.
