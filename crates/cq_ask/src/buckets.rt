@@ -10,7 +10,7 @@ use std::sync::Arc;
 /// The buckets of a project's files in a view that the pass has open. It is ready where `files` are those that the view's
 /// listing has of one project, and `changes` is what `changes_of` gives for them.
 #[derive(Drop)]
-pub struct PassBuckets<'a, W: Indexed, H: Hub<Done = W>> {
+pub struct PassBuckets<'a, W: Indexed, H: Hub<W>> {
     pub hub: &'a H,
     pub view: &'a View<W>,
     pub files: &'a [Arc<Held<W>, Global>],
@@ -18,7 +18,7 @@ pub struct PassBuckets<'a, W: Indexed, H: Hub<Done = W>> {
     pub pass: &'a mut H::Pass,
 }
 
-impl<'a, W: Indexed, H: Hub<Done = W>> Buckets for PassBuckets<'a, W, H> {
+impl<'a, W: Indexed, H: Hub<W>> Buckets for PassBuckets<'a, W, H> {
     ghost use Rattle.cq_ask.specs.Projects.{numbers_in, keys_in_files, IsReady};
     ghost use Rattle.cq_ask.specs.Moves.{MovesTo};
     ghost use Rattle.cq_ask.specs.Moving.{moves_none, moves_then};

@@ -91,7 +91,7 @@ fn put(alloc: Global, project: u8) -> Result<Change, Memory>
 }
 
 // A put of a project is accepted by a caller that has no view open.
-fn accept<W: Made, H: Hub<Done = W>>(
+fn accept<W: Made, H: Hub<W>>(
     alloc: Global,
     project: u8,
     hub: &H,
@@ -109,7 +109,7 @@ fn accept<W: Made, H: Hub<Done = W>>(
 }
 
 // Its work is finished.
-fn finish<W: Made, H: Hub<Done = W>>(
+fn finish<W: Made, H: Hub<W>>(
     alloc: Global,
     hub: &H,
     number: u64,
@@ -126,7 +126,7 @@ fn finish<W: Made, H: Hub<Done = W>>(
 }
 
 // The bucket of a key among some files, through the pass, which is the caller's again.
-fn bucket<W: Made, H: Hub<Done = W>>(
+fn bucket<W: Made, H: Hub<W>>(
     alloc: Global,
     hub: &H,
     view: &View<W>,
@@ -150,7 +150,7 @@ fn bucket<W: Made, H: Hub<Done = W>>(
 }
 
 // What a project's files have of a key in the version that is published then.
-fn read<W: Made, H: Hub<Done = W>>(
+fn read<W: Made, H: Hub<W>>(
     alloc: Global,
     hub: &H,
     project: &Text,

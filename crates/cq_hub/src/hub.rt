@@ -26,10 +26,8 @@ use std::sync::Arc;
 /// A hub serves passes, each with its caller's number from 0. A pass stands for a history that its caller has seen: for it,
 /// and for each that it stood for, a call adds others' events and then its own. What a call asks for need hold of one
 /// history that the pass stands for.
-pub trait Hub {
+pub trait Hub<W: Indexed> {
     type Pass;
-
-    type Done: Indexed;
 
     ghost settings: { Self → Settings };
 
@@ -80,8 +78,8 @@ pub trait Hub {
         ensures asked { asked pass.new ≡ asked pass.old };
 
     /// Takes the work of a change, the first time. It takes no memory.
-    fn finish(&self, change: u64, work: Arc<Self::Done, Global>, pass: &mut Self::Pass) -> Finished
-        requires work { HasSeen Stands self.now pass.old (λ _ h. IsAccepted (state (callers self.now) h) change × IsWorkFor (Self.Done.IsWorkOf (settings self.now)) (slot_of (state (callers self.now) h) change).change (arc_value work)) }
+    fn finish(&self, change: u64, work: Arc<W, Global>, pass: &mut Self::Pass) -> Finished
+        requires work { HasSeen Stands self.now pass.old (λ _ h. IsAccepted (state (callers self.now) h) change × IsWorkFor (W.IsWorkOf (settings self.now)) (slot_of (state (callers self.now) h) change).change (arc_value work)) }
         ensures done { result ≡ Finished.Done → Extends Stands alone Never self.now pass.old pass.new (λ c. event.Done c change ∷ []) (λ _ mid. IsUndone (state (callers self.now) mid) change) }
         ensures already { result ≡ Finished.Already → Extends Stands alone Never self.now pass.old pass.new (λ _. []) (λ _ mid. IsDone (state (callers self.now) mid) change) }
         ensures asked { asked pass.new ≡ asked pass.old };
@@ -94,9 +92,9 @@ pub trait Hub {
         ensures asked { asked pass.new ≡ asked pass.old };
 
     /// Opens a view of the last published version, where this caller has none open.
-    fn open_view(&self, pass: &mut Self::Pass) -> Result<View<Self::Done>, Memory>
+    fn open_view(&self, pass: &mut Self::Pass) -> Result<View<W>, Memory>
         requires closed { HasSeen Stands self.now pass.old (λ c h. view_of (state (callers self.now) h) c ≡ None) }
-        ensures opened { IfOk result (λ view. Extends Stands alone Never self.now pass.old pass.new (λ c. event.Open c view.version ∷ []) (λ _ mid. IsLatest (Self.Done.IsWorkOf (settings self.now)) (state (callers self.now) mid) view)) }
+        ensures opened { IfOk result (λ view. Extends Stands alone Never self.now pass.old pass.new (λ c. event.Open c view.version ∷ []) (λ _ mid. IsLatest (W.IsWorkOf (settings self.now)) (state (callers self.now) mid) view)) }
         ensures refused { OnErr result (Extends Stands alone Never self.now pass.old pass.new (λ _. []) (λ _ _. Unit {0})) }
         ensures asked { asked pass.new ≡ asked pass.old };
 
@@ -105,16 +103,16 @@ pub trait Hub {
     fn read_bucket(
         &self,
         alloc: Global,
-        view: &View<Self::Done>,
+        view: &View<W>,
         key: u64,
         pass: &mut Self::Pass,
     ) -> Result<Vec<Entry>, Memory>
-        requires viewing { HasSeen Stands self.now pass.old (λ c h. IsOpen (Self.Done.IsWorkOf (settings self.now)) (state (callers self.now) h) c view.now) }
-        ensures reads { Extends Stands alone Never self.now pass.old pass.new (λ _. []) (λ _ mid. IfOk result (λ entries. AreAllInOrder EntryBefore (IsEntryAt (HasWindow Self.Done.keys_in Self.Done.IsWorkOf (settings self.now)) (accepted mid) view.now.version key) entries.items)) }
+        requires viewing { HasSeen Stands self.now pass.old (λ c h. IsOpen (W.IsWorkOf (settings self.now)) (state (callers self.now) h) c view.now) }
+        ensures reads { Extends Stands alone Never self.now pass.old pass.new (λ _. []) (λ _ mid. IfOk result (λ entries. AreAllInOrder EntryBefore (IsEntryAt (HasWindow W.keys_in W.IsWorkOf (settings self.now)) (accepted mid) view.now.version key) entries.items)) }
         ensures asked { asked pass.new ≡ one_more (asked pass.old) };
 
     /// Shuts the caller's view. It takes no memory.
-    fn close_view(&self, view: View<Self::Done>, pass: &mut Self::Pass)
+    fn close_view(&self, view: View<W>, pass: &mut Self::Pass)
         requires viewing { HasSeen Stands self.now pass.old (λ c h. IsSome (view_of (state (callers self.now) h) c)) }
         ensures shut { Extends Stands alone Never self.now pass.old pass.new (λ c. event.Shut c ∷ []) (λ _ _. Unit {0}) }
         ensures asked { asked pass.new ≡ asked pass.old };

@@ -33,9 +33,9 @@ impl<W: Indexed> Solo<W> {
     /// The hub before any event, and the pass of its caller, who is number 0.
     pub fn new(alloc: Global, settings: &Settings) -> Result<(Solo<W>, SoloPass<W>), Memory>
         requires { 1 ≤ settings.now.shards }
-        ensures stands { IfOk result (λ made. ⟦<Solo<W> as Hub>⟧.Stands made.0 made.1 0 []) }
-        ensures settings { IfOk result (λ made. ⟦<Solo<W> as Hub>⟧.settings made.0 ≡ settings.now) }
-        ensures asked { IfOk result (λ made. ⟦<Solo<W> as Hub>⟧.asked made.1 ≡ 0) }
+        ensures stands { IfOk result (λ made. ⟦<Solo<W> as Hub<W>>⟧.Stands made.0 made.1 0 []) }
+        ensures settings { IfOk result (λ made. ⟦<Solo<W> as Hub<W>>⟧.settings made.0 ≡ settings.now) }
+        ensures asked { IfOk result (λ made. ⟦<Solo<W> as Hub<W>>⟧.asked made.1 ≡ 0) }
     {
         let board = Board::new(alloc, settings, 1)?;
         let shards = shards_of(alloc, settings.shards)?;
@@ -52,14 +52,12 @@ impl<W: Indexed> Solo<W> {
     }
 }
 
-impl<W: Indexed> Hub for Solo<W> {
+impl<W: Indexed> Hub<W> for Solo<W> {
     ghost use Rattle.cq_hub.specs.Solos.{solo_lawful, solo_caller, solo_sound};
     ghost use Rattle.cq_hub.specs.SoloPasses.{settings_of, asked_by, SoloStands};
     ghost use Rattle.cq_shard.specs.Shard.{HasWindow};
 
     type Pass = SoloPass<W>;
-
-    type Done = W;
 
     ghost settings = { settings_of };
 

@@ -112,11 +112,7 @@ fn put(alloc: Global) -> Result<Change, Memory>
 }
 
 // A put is accepted by a caller that has no view open.
-fn accept<W: Made, H: Hub<Done = W>>(
-    alloc: Global,
-    hub: &H,
-    pass: &mut H::Pass,
-) -> Result<u64, Refused>
+fn accept<W: Made, H: Hub<W>>(alloc: Global, hub: &H, pass: &mut H::Pass) -> Result<u64, Refused>
     requires { HasSeen H.Stands hub.now pass.old (λ c h. view_of (state (H.callers hub.now) h) c ≡ None) }
     ensures { IfOk result (λ number. HasSeen H.Stands hub.now pass.new (λ c h. IsAccepted (state (H.callers hub.now) h) number × (is_put (slot_of (state (H.callers hub.now) h) number).change ≡ true) × (view_of (state (H.callers hub.now) h) c ≡ None))) }
 {
@@ -128,7 +124,7 @@ fn accept<W: Made, H: Hub<Done = W>>(
 }
 
 // Its work is finished.
-fn finish<W: Made, H: Hub<Done = W>>(
+fn finish<W: Made, H: Hub<W>>(
     alloc: Global,
     hub: &H,
     number: u64,
@@ -145,7 +141,7 @@ fn finish<W: Made, H: Hub<Done = W>>(
 }
 
 // The version that is published then, and what its view has of a key.
-fn read<W: Made, H: Hub<Done = W>>(
+fn read<W: Made, H: Hub<W>>(
     alloc: Global,
     hub: &H,
     key: u64,
@@ -171,7 +167,7 @@ fn run<W: Made>(alloc: Global, key: u64) -> Result<(u64, Finished, u64, Vec<Entr
 }
 
 // Whether a job is there, whether it is that which is taken, and whether it can be given back.
-fn take<W: Made, H: Hub<Done = W>>(
+fn take<W: Made, H: Hub<W>>(
     alloc: Global,
     hub: &H,
     pass: &mut H::Pass,

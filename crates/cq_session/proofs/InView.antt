@@ -1,13 +1,12 @@
 -- A query's reply in an open view.
-use Rattle.std.proofs.Common.{◌≡◌, ℕ, List, [], ◌∷◌, length, map, take, refl, sym, ap, ap₂, ◌∙◌, subst, arith}
+use Rattle.std.proofs.Common.{◌≡◌, ℕ, List, map, take, sym, ap, ◌∙◌, subst}
 use Rattle.std.specs.Prelude.{All}
 use Rattle.std.specs.Arc.{arc_value}
 use Rattle.cq_answer.specs.Versions.{AreOfVersion, HaveVersion}
-use Rattle.cq_answer.specs.Works.{Owner, works_in, keys_in as keys_of_files}
+use Rattle.cq_answer.specs.Works.{Owner}
 use Rattle.cq_base.specs.Changes.{IsSoundChange}
 use Rattle.cq_base.specs.declared.change.Change.{Change}
 use Rattle.cq_base.specs.declared.change.Condition.{Condition}
-use Rattle.cq_base.specs.declared.lang.Lang.{Lang}
 use Rattle.cq_base.specs.declared.settings.Settings.{Settings}
 use Rattle.cq_board.specs.Listings.{files_in, conditions_in}
 use Rattle.cq_board.specs.Related.{AreSameFiles}
@@ -21,33 +20,19 @@ use Rattle.cq_history.proofs.Prefixes.{changes_in-state}
 use Rattle.cq_hub.specs.Views.{IsOpen}
 use Rattle.cq_work.specs.Work.{IsWorkOf}
 use Rattle.cq_work.specs.declared.work.Work.{Work}
-use Rattle.cq_session.specs.Works.{AreWorks}
 
--- what is kept of the files fits another relation where it does this one
-same_files : {X Y : Type 0} (Was Is : Lang → X → Y → Type 0) → ((l : Lang) (x : X) (y : Y) → Was l x y → Is l x y) → (xs : List (File X)) (ys : List (File Y)) → AreSameFiles Was xs ys → AreSameFiles Is xs ys
-same_files Was Is to [] [] same = tt
-same_files Was Is to (x ∷ xs) (y ∷ ys) same = (record { path = same.0.path; number = same.0.number; lang = same.0.lang; body = to x.lang x.body y.body same.0.body }, same_files Was Is to xs ys same.1)
-same_files Was Is to [] (y ∷ ys) same = absurd same
-same_files Was Is to (x ∷ xs) [] same = absurd same
+module _ {L : Type 0} (set now : Settings) (same : set ≡ now) (callers c : ℕ) (h : List Event) (view : View (Work L)) (project : List ℕ) (files : List (Owner L)) (conditions : List Condition) (opened : IsOpen (IsWorkOf set) (state callers h) c view)
+    (files_are : map arc_value files ≡ files_in (arc_value view.listing).projects project) (conditions_are : conditions ≡ conditions_in (arc_value view.listing).projects project) where
+  files_then : AreSameFiles (IsWorkOf set) (files_at (accepted h) view.version project) (files_in (arc_value view.listing).projects project)
+  files_then =
+      subst (λ (cs : List Change). AreSameFiles (IsWorkOf set) (files_of project (take view.version cs)) (files_in (arc_value view.listing).projects project)) (changes_in-state callers h) (opened.shows.files project)
 
-module _ {L : Type 0} (keys_in : Work L → List ℕ) (IsWork : Settings → Lang → List ℕ → Work L → Type 0) (works : AreWorks keys_in IsWork) where
-  pub file_keys : (files : List (File (Work L))) → map (λ (f : File (Work L)). keys_in f.body) files ≡ keys_of_files files
-  file_keys [] = refl
-  file_keys (f ∷ files) = ap₂ (λ ks all. ks ∷ all) (works.keys f.body) (file_keys files)
+  -- its files and conditions are those of its version of the accepted changes
+  pub of_version : AreOfVersion now (accepted h) view.version project files conditions
+  of_version = subst (λ (s : Settings). AreOfVersion s (accepted h) view.version project files conditions) same (record {
+    files_are = subst (λ (fs : List (File (Work L))). AreSameFiles (IsWorkOf set) (files_at (accepted h) view.version project) fs) (sym files_are) files_then;
+    conditions_are = conditions_are ∙ opened.shows.conditions project ∙ ap (λ cs. conditions_of project (take view.version cs)) (changes_in-state callers h);
+  })
 
-  module _ (set now : Settings) (same : set ≡ now) (callers c : ℕ) (h : List Event) (view : View (Work L)) (project : List ℕ) (files : List (Owner L)) (conditions : List Condition) (opened : IsOpen (IsWork set) (state callers h) c view)
-      (files_are : map arc_value files ≡ files_in (arc_value view.listing).projects project) (conditions_are : conditions ≡ conditions_in (arc_value view.listing).projects project) where
-    files_then : AreSameFiles (IsWorkOf set) (files_at (accepted h) view.version project) (files_in (arc_value view.listing).projects project)
-    files_then =
-        subst (λ (cs : List Change). AreSameFiles (IsWorkOf set) (files_of project (take view.version cs)) (files_in (arc_value view.listing).projects project)) (changes_in-state callers h)
-        (same_files (IsWork set) (IsWorkOf set) (λ l text work. (works.works set l text work).0) _ _ (opened.shows.files project))
-
-    -- its files and conditions are those of its version of the accepted changes
-    pub of_version : AreOfVersion now (accepted h) view.version project files conditions
-    of_version = subst (λ (s : Settings). AreOfVersion s (accepted h) view.version project files conditions) same (record {
-      files_are = subst (λ (fs : List (File (Work L))). AreSameFiles (IsWorkOf set) (files_at (accepted h) view.version project) fs) (sym files_are) files_then;
-      conditions_are = conditions_are ∙ opened.shows.conditions project ∙ ap (λ cs. conditions_of project (take view.version cs)) (changes_in-state callers h);
-    })
-
-    pub have_version : Lawful set callers h → All IsSoundChange (accepted h) → HaveVersion now view.version project files conditions
-    have_version law sound = record { changes = accepted h; sound = sound; few = (few_accepted now callers h (subst (λ (s : Settings). Lawful s callers h) same law)).1; are = of_version }
+  pub have_version : Lawful set callers h → All IsSoundChange (accepted h) → HaveVersion now view.version project files conditions
+  have_version law sound = record { changes = accepted h; sound = sound; few = (few_accepted now callers h (subst (λ (s : Settings). Lawful s callers h) same law)).1; are = of_version }

@@ -15,7 +15,7 @@ use Rattle.cq_talk.specs.Said.{Read}
 use Rattle.cq_talk.specs.Steps.{Always, IsClosed, Leads, Helps}
 use Rattle.cq_talk.specs.Talk.{Asks, IsAnswered, IsGivenUp}
 use Rattle.cq_session.specs.Viewing.{ShowsAt, ViewsOrNot}
-use Rattle.cq_talk.proofs.Leading.{lead_event, lead_weaker}
+use Rattle.cq_talk.proofs.Leading.{lead_weaker}
 use Rattle.cq_talk.proofs.Queries.{AskFacts, ask_facts, floor_waiting, worked, worked_alone, waited}
 
 module _ {S P : Type 0} (Stands : S → P → ℕ → List Event → Type 0) (set : Settings) (callers : ℕ) (alone : Type 0) (hub : S) (c seen : ℕ) (q : Query) (h : List Event) (one : P) (r : Asked)

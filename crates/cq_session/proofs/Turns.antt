@@ -14,7 +14,7 @@ use Rattle.cq_lines.specs.declared.lines.Cut.TheVariants as cut
 use Rattle.cq_lines.proofs.Whole.{cut_none, cut_line, cut_front, run_ends, flat_map_more}
 use Rattle.cq_reply.specs.declared.reply.Reply.{Reply}
 use Rattle.cq_reply.specs.Written.{line_of}
-use Rattle.cq_talk.specs.Replies.{named, seen_after}
+use Rattle.cq_talk.specs.Replies.{named}
 use Rattle.cq_talk.specs.Said.{said}
 use Rattle.cq_talk.specs.Talk.{Answers}
 use Rattle.cq_session.specs.declared.serving.End.TheVariants as end

@@ -1,17 +1,15 @@
 -- The works of changes.
-use Rattle.std.proofs.Common.{◌≡◌, ℕ, ◌+◌, ◌-◌, ◌<◌, ◌≤◌, Bool, true, false, List, [], ◌∷◌, ◌++◌, length, get_or, refl, sym, ap, ◌∙◌, subst, ⊎_elim, arith, true≢false}
+use Rattle.std.proofs.Common.{◌≡◌, ℕ, ◌-◌, ◌<◌, Bool, true, false, List, [], ◌∷◌, ◌++◌, length, refl, sym, ap, ◌∙◌, subst, arith}
 use Rattle.std.specs.Prelude.{◌||◌, not}
 use Rattle.std.specs.Arc.{arc_value}
-use Rattle.std.proofs.lemmas.Bool.{cases_lt}
 use Rattle.std.proofs.lemmas.List.{length-set, get_or-set_same}
-use Rattle.std.proofs.lemmas.List.Sums.{prefix_len_stops}
 use Rattle.cq_base.specs.declared.lang.Lang.{Lang}
 use Rattle.cq_base.specs.declared.change.Change.{Change}
 use Rattle.cq_base.specs.declared.change.Change.TheVariants.{Put, Drop, Gate}
 use Rattle.cq_history.specs.declared.event.Event.{Event}
 use Rattle.cq_history.specs.declared.event.Event.TheVariants.{Done}
 use Rattle.cq_history.specs.Changes.{is_put, IsWorkFor}
-use Rattle.cq_history.specs.State.{State, Slot, no_slot, slot_of, state, is_done, ready, IsDone, IsUndone}
+use Rattle.cq_history.specs.State.{State, Slot, no_slot, slot_of, state, is_done, IsDone, IsUndone}
 use Rattle.cq_history.proofs.States.{state_push}
 use Rattle.cq_board.specs.Answers.{IsJob, IsJobOf}
 use Rattle.cq_board.specs.declared.answers.Job.{Job}

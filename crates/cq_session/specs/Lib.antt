@@ -1,4 +1,3 @@
-pub mod Works
 pub mod Told
 pub mod Viewing
 pub mod Sending

@@ -1,8 +1,7 @@
 -- The line that tells a reply.
-use Rattle.std.specs.Prelude.{◌≡◌, ℕ, List}
+use Rattle.std.specs.Prelude.{ℕ, List}
 use Rattle.cq_reply.specs.declared.reply.Reply.{Reply}
 use Rattle.cq_reply.specs.declared.reply.Reply.TheVariants as reply
-use Rattle.cq_reply.specs.Written.{line_of}
 use Rattle.cq_session.specs.declared.telling.Line.{Line}
 use Rattle.cq_session.specs.declared.telling.Line.TheVariants as line
 

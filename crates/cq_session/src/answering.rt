@@ -12,7 +12,6 @@ ghost use Rattle.cq_talk.specs.Steps.{Always, Led, MayLead};
 ghost use Rattle.cq_talk.specs.Talk.{IsAnswer, IsAnswered, IsChanged, IsGivenUp, Tells, Waits};
 ghost use Rattle.cq_session.specs.Told.{bytes_of};
 ghost use Rattle.cq_session.specs.Turn as turn;
-ghost use Rattle.cq_session.specs.Works.{AreWorks};
 
 use crate::helping::help;
 use crate::refusing::refusal_of;
@@ -29,7 +28,7 @@ use cq_work::Work;
 use std::alloc::Global;
 use std::sync::ledger::Ledger;
 
-fn change_reply<H: Hub>(
+fn change_reply<W: Indexed, H: Hub<W>>(
     alloc: Global,
     hub: &H,
     change: Change,
@@ -50,7 +49,7 @@ fn change_reply<H: Hub>(
     }
 }
 
-fn state_reply<H: Hub>(hub: &H, pass: &mut H::Pass) -> Reply
+fn state_reply<W: Indexed, H: Hub<W>>(hub: &H, pass: &mut H::Pass) -> Reply
     requires stands { IsPassOf H.Stands hub.now pass.old }
     ensures replies { Led H.Stands (H.callers hub.now) hub.now pass.old pass.new Always (λ c h. Tells (H.settings hub.now) (H.callers hub.now) H.alone c h result) }
     ensures text { IsReplyText result }
@@ -64,7 +63,7 @@ fn state_reply<H: Hub>(hub: &H, pass: &mut H::Pass) -> Reply
 }
 
 // The reply to a query whose floor is at least `seen`.
-fn query_reply<L: Ledger, H: Hub<Done = Work<L>>>(
+fn query_reply<L: Ledger, H: Hub<Work<L>>>(
     alloc: Global,
     settings: &Settings,
     keyer: &Keyer,
@@ -77,7 +76,6 @@ fn query_reply<L: Ledger, H: Hub<Done = Work<L>>>(
     requires in_range { IsInRange settings.now }
     requires settings { keyer.now.settings ≡ settings.now }
     requires hub_settings { H.settings hub.now ≡ settings.now }
-    requires works { AreWorks ⟦<Work<L> as Indexed>⟧.keys_in ⟦<Work<L> as Indexed>⟧.IsWorkOf }
     requires long { settings.now.chunk ≤ query.now.min }
     requires closed { MayLead H.Stands (H.callers hub.now) hub.now pass.old (λ h. seen ≤ length (accepted h)) }
     ensures replies { IfOk result (λ r. Led H.Stands (H.callers hub.now) hub.now pass.old pass.new (λ h. seen ≤ length (accepted h)) (λ c h. IsAnswered (H.settings hub.now) (H.callers hub.now) H.alone c seen h query.now r)) }
@@ -109,7 +107,7 @@ fn query_reply<L: Ledger, H: Hub<Done = Work<L>>>(
 }
 
 // The reply to what a line says. Where memory is refused, what was done is a beginning of what the line does.
-fn reply_to<L: Ledger, H: Hub<Done = Work<L>>>(
+fn reply_to<L: Ledger, H: Hub<Work<L>>>(
     alloc: Global,
     settings: &Settings,
     keyer: &Keyer,
@@ -122,7 +120,6 @@ fn reply_to<L: Ledger, H: Hub<Done = Work<L>>>(
     requires in_range { IsInRange settings.now }
     requires settings { keyer.now.settings ≡ settings.now }
     requires hub_settings { H.settings hub.now ≡ settings.now }
-    requires works { AreWorks ⟦<Work<L> as Indexed>⟧.keys_in ⟦<Work<L> as Indexed>⟧.IsWorkOf }
     requires closed { MayLead H.Stands (H.callers hub.now) hub.now pass.old (λ h. seen ≤ length (accepted h)) }
     ensures replies { IfOk result (λ r. Led H.Stands (H.callers hub.now) hub.now pass.old pass.new (λ h. seen ≤ length (accepted h)) (λ c h. IsAnswer (H.settings hub.now) (H.callers hub.now) H.alone c seen h (Read (line_says settings.now.chunk line.now)) r)) }
     ensures text { IfOk result IsReplyText }
@@ -139,7 +136,7 @@ fn reply_to<L: Ledger, H: Hub<Done = Work<L>>>(
 }
 
 /// The line that tells the reply to a line, and the number that the reply names.
-pub(crate) fn told<L: Ledger, H: Hub<Done = Work<L>>>(
+pub(crate) fn told<L: Ledger, H: Hub<Work<L>>>(
     alloc: Global,
     settings: &Settings,
     keyer: &Keyer,
@@ -152,7 +149,6 @@ pub(crate) fn told<L: Ledger, H: Hub<Done = Work<L>>>(
     requires in_range { IsInRange settings.now }
     requires settings { keyer.now.settings ≡ settings.now }
     requires hub_settings { H.settings hub.now ≡ settings.now }
-    requires works { AreWorks ⟦<Work<L> as Indexed>⟧.keys_in ⟦<Work<L> as Indexed>⟧.IsWorkOf }
     requires closed { MayLead H.Stands (H.callers hub.now) hub.now pass.old (λ h. seen ≤ length (accepted h)) }
     ensures { Led H.Stands (H.callers hub.now) hub.now pass.old pass.new (λ h. seen ≤ length (accepted h)) (λ c h. turn.Tells (H.settings hub.now) (H.callers hub.now) H.alone c seen h (Read (line_says settings.now.chunk line.now)) (bytes_of result.0) result.1) }
 {

@@ -5,13 +5,11 @@ ghost use Rattle.cq_board.specs.Sound.{HasSoundText};
 ghost use Rattle.cq_history.specs.State.{state, accepted, ready, IsAccepted, IsDone};
 ghost use Rattle.cq_talk.specs.Steps.{Always, Helps, Led, MayLead};
 ghost use Rattle.cq_work.specs.Work.{IsWorkOf};
-ghost use Rattle.cq_session.specs.Works.{AreWorks};
 
 use cq_base::{Memory, Settings};
 use cq_board::{Finished, Job};
 use cq_hub::Hub;
 use cq_key::Keyer;
-use cq_shard::Indexed;
 use cq_work::{Work, work_of};
 use std::alloc::Global;
 use std::sync::Arc;
@@ -33,7 +31,7 @@ fn work_for<L: Ledger>(
 }
 
 // The work of a change is done, by this caller where it was not done yet.
-fn help_one<L: Ledger, H: Hub<Done = Work<L>>>(
+fn help_one<L: Ledger, H: Hub<Work<L>>>(
     alloc: Global,
     settings: &Settings,
     keyer: &Keyer,
@@ -44,7 +42,6 @@ fn help_one<L: Ledger, H: Hub<Done = Work<L>>>(
     requires in_range { IsInRange settings.now }
     requires settings { keyer.now.settings ≡ settings.now }
     requires hub_settings { H.settings hub.now ≡ settings.now }
-    requires works { AreWorks ⟦<Work<L> as Indexed>⟧.keys_in ⟦<Work<L> as Indexed>⟧.IsWorkOf }
     requires accepted { MayLead H.Stands (H.callers hub.now) hub.now pass.old (λ h. IsAccepted (state (H.callers hub.now) h) change) }
     ensures done { OnOk result (Led H.Stands (H.callers hub.now) hub.now pass.old pass.new Always (λ c h. Helps H.alone c change h (λ after. IsDone (state (H.callers hub.now) after) change))) }
     ensures refused { OnErr result (Led H.Stands (H.callers hub.now) hub.now pass.old pass.new Always (λ c h. Helps H.alone c change h Always)) }
@@ -64,7 +61,7 @@ fn help_one<L: Ledger, H: Hub<Done = Work<L>>>(
 
 /// The works of the changes behind the first `done`, which are done, are done up to the one with the number `to`. Each costs
 /// what `work_of` does, unless it is done by then.
-pub(crate) fn help<L: Ledger, H: Hub<Done = Work<L>>>(
+pub(crate) fn help<L: Ledger, H: Hub<Work<L>>>(
     alloc: Global,
     settings: &Settings,
     keyer: &Keyer,
@@ -76,7 +73,6 @@ pub(crate) fn help<L: Ledger, H: Hub<Done = Work<L>>>(
     requires in_range { IsInRange settings.now }
     requires settings { keyer.now.settings ≡ settings.now }
     requires hub_settings { H.settings hub.now ≡ settings.now }
-    requires works { AreWorks ⟦<Work<L> as Indexed>⟧.keys_in ⟦<Work<L> as Indexed>⟧.IsWorkOf }
     requires accepted { MayLead H.Stands (H.callers hub.now) hub.now pass.old (λ h. (done ≤ ready (state (H.callers hub.now) h)) × (to ≤ length (accepted h))) }
     ensures done { OnOk result (Led H.Stands (H.callers hub.now) hub.now pass.old pass.new (λ h. done ≤ ready (state (H.callers hub.now) h)) (λ c h. Helps H.alone c to h (λ after. done ≤ to → to ≤ ready (state (H.callers hub.now) after)))) }
     ensures refused { OnErr result (Led H.Stands (H.callers hub.now) hub.now pass.old pass.new (λ h. done ≤ ready (state (H.callers hub.now) h)) (λ c h. Helps H.alone c to h Always)) }

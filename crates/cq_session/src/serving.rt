@@ -10,7 +10,6 @@ ghost use Rattle.cq_talk.specs.Steps.{Always, Led, MayLead};
 ghost use Rattle.cq_session.specs.Sending.{Sends};
 ghost use Rattle.cq_session.specs.Serving.{Serves, HasEndCause};
 ghost use Rattle.cq_session.specs.Turn.{IsTalk, Turns};
-ghost use Rattle.cq_session.specs.Works.{AreWorks};
 
 use crate::answering::told;
 use crate::sending::send;
@@ -20,7 +19,6 @@ use cq_io::{Failed, Sink, Source};
 use cq_key::Keyer;
 use cq_lines::{Cut, Lines};
 use cq_reply::{Short, fixed};
-use cq_shard::Indexed;
 use cq_work::Work;
 use std::alloc::Global;
 use std::sync::ledger::Ledger;
@@ -39,7 +37,7 @@ pub enum End {
 }
 
 // Writes the reply to a line, which is not too long. What the reply names is seen from then on.
-fn turn<L: Ledger, H: Hub<Done = Work<L>>, K: Sink>(
+fn turn<L: Ledger, H: Hub<Work<L>>, K: Sink>(
     alloc: Global,
     settings: &Settings,
     keyer: &Keyer,
@@ -53,7 +51,6 @@ fn turn<L: Ledger, H: Hub<Done = Work<L>>, K: Sink>(
     requires in_range { IsInRange settings.now }
     requires settings { keyer.now.settings ≡ settings.now }
     requires hub_settings { H.settings hub.now ≡ settings.now }
-    requires works { AreWorks ⟦<Work<L> as Indexed>⟧.keys_in ⟦<Work<L> as Indexed>⟧.IsWorkOf }
     requires short { length line.now ≤ line_limit }
     requires closed { MayLead H.Stands (H.callers hub.now) hub.now pass.old (λ h. seen.old ≤ length (accepted h)) }
     ensures turns { Led H.Stands (H.callers hub.now) hub.now pass.old pass.new (λ h. seen.old ≤ length (accepted h)) (λ c h. Turns settings.now (H.callers hub.now) H.alone c seen.old h line.now (K.written sink.old) (K.written sink.new) result seen.new) }
@@ -75,7 +72,7 @@ fn turn_long<K: Sink>(sink: &mut K) -> Result<(), Failed>
 /// Answers the lines of a source one by one by calls of a hub, whose pass has no view open. Windows have the keys of `keyer`.
 /// Each whole reply is handed to the sink before the next line is cut. Afterwards the pass stands for the history to which
 /// the talk came, with no view open.
-pub fn session<L: Ledger, H: Hub<Done = Work<L>>, S: Source, K: Sink>(
+pub fn session<L: Ledger, H: Hub<Work<L>>, S: Source, K: Sink>(
     alloc: Global,
     settings: &Settings,
     keyer: &Keyer,
@@ -90,7 +87,6 @@ pub fn session<L: Ledger, H: Hub<Done = Work<L>>, S: Source, K: Sink>(
     requires in_range { IsInRange settings.now }
     requires settings { keyer.now.settings ≡ settings.now }
     requires hub_settings { H.settings hub.now ≡ settings.now }
-    requires works { AreWorks ⟦<Work<L> as Indexed>⟧.keys_in ⟦<Work<L> as Indexed>⟧.IsWorkOf }
     requires closed { MayLead H.Stands (H.callers hub.now) hub.now pass.old Always }
     ensures served { Led H.Stands (H.callers hub.now) hub.now pass.old pass.new Always (λ c h after. Serves (IsTalk settings.now (H.callers hub.now) H.alone c h after) lines.old.limit (S.rest source.old) (S.rest source.new) (K.written sink.old) (K.written sink.new) result) }
     ensures cause { HasEndCause (S.faults source.old) (S.faults source.new) (K.faults sink.old) (K.faults sink.new) result }

@@ -8,7 +8,7 @@ ghost use Rattle.cq_hub.specs.Hubs.{HasSeen};
 ghost use Rattle.cq_hub.specs.Views.{IsOpen};
 ghost use Rattle.cq_reply.specs.Written.{IsReplyText};
 ghost use Rattle.cq_talk.specs.Steps.{Always, Led, MayLead};
-ghost use Rattle.cq_session.specs.Works.{AreWorks};
+ghost use Rattle.cq_work.specs.Work.{IsWorkOf};
 ghost use Rattle.cq_session.specs.Viewing.{ShowsAt, ViewsOrNot};
 
 use cq_answer::answer;
@@ -18,13 +18,12 @@ use cq_board::View;
 use cq_hub::Hub;
 use cq_reply::Reply;
 use cq_request::Query;
-use cq_shard::Indexed;
 use cq_work::Work;
 use std::alloc::Global;
 use std::sync::ledger::Ledger;
 
 // The reply to a query in a view that the pass has open.
-fn reply_in<L: Ledger, H: Hub<Done = Work<L>>>(
+fn reply_in<L: Ledger, H: Hub<Work<L>>>(
     alloc: Global,
     settings: &Settings,
     hub: &H,
@@ -35,12 +34,11 @@ fn reply_in<L: Ledger, H: Hub<Done = Work<L>>>(
 ) -> Result<Reply, Memory>
     requires in_range { IsInRange settings.now }
     requires hub_settings { H.settings hub.now ≡ settings.now }
-    requires works { AreWorks ⟦<Work<L> as Indexed>⟧.keys_in ⟦<Work<L> as Indexed>⟧.IsWorkOf }
     requires long { settings.now.chunk ≤ query.now.min }
-    requires viewing { HasSeen H.Stands hub.now pass.old (λ c h. IsOpen (⟦<Work<L> as Indexed>⟧.IsWorkOf (H.settings hub.now)) (state (H.callers hub.now) h) c view.now) }
-    ensures reply { IfOk result (λ reply. (c : ℕ) (h : List Event) → H.Stands hub.now pass.old c h → IsOpen (⟦<Work<L> as Indexed>⟧.IsWorkOf (H.settings hub.now)) (state (H.callers hub.now) h) c view.now → IsReply (H.settings hub.now) (accepted h) view.now.version query.now reply) }
+    requires viewing { HasSeen H.Stands hub.now pass.old (λ c h. IsOpen (IsWorkOf (H.settings hub.now)) (state (H.callers hub.now) h) c view.now) }
+    ensures reply { IfOk result (λ reply. (c : ℕ) (h : List Event) → H.Stands hub.now pass.old c h → IsOpen (IsWorkOf (H.settings hub.now)) (state (H.callers hub.now) h) c view.now → IsReply (H.settings hub.now) (accepted h) view.now.version query.now reply) }
     ensures text { IfOk result IsReplyText }
-    ensures moves { Moves H.Stands (H.callers hub.now) H.alone (⟦<Work<L> as Indexed>⟧.IsWorkOf (H.settings hub.now)) hub.now view.now pass.old pass.new }
+    ensures moves { Moves H.Stands (H.callers hub.now) H.alone (IsWorkOf (H.settings hub.now)) hub.now view.now pass.old pass.new }
 {
     let files = view.listing.files(&query.project);
     let conditions = view.listing.conditions(&query.project);
@@ -70,7 +68,7 @@ fn reply_in<L: Ledger, H: Hub<Done = Work<L>>>(
 
 /// The reply to a query at a version that is not below `to`, up to which all changes are done. A view of it is opened for
 /// the reply, and is shut again however that ends.
-pub(crate) fn view_reply<L: Ledger, H: Hub<Done = Work<L>>>(
+pub(crate) fn view_reply<L: Ledger, H: Hub<Work<L>>>(
     alloc: Global,
     settings: &Settings,
     hub: &H,
@@ -81,7 +79,6 @@ pub(crate) fn view_reply<L: Ledger, H: Hub<Done = Work<L>>>(
 ) -> Result<Reply, Memory>
     requires in_range { IsInRange settings.now }
     requires hub_settings { H.settings hub.now ≡ settings.now }
-    requires works { AreWorks ⟦<Work<L> as Indexed>⟧.keys_in ⟦<Work<L> as Indexed>⟧.IsWorkOf }
     requires long { settings.now.chunk ≤ query.now.min }
     requires ready { MayLead H.Stands (H.callers hub.now) hub.now pass.old (λ h. to ≤ ready (state (H.callers hub.now) h)) }
     ensures shown { IfOk result (λ reply. Led H.Stands (H.callers hub.now) hub.now pass.old pass.new Always (λ c h. ShowsAt (H.settings hub.now) H.alone c to query.now reply h)) }

@@ -5,6 +5,7 @@ use Rattle.cq_history.specs.declared.event.Event.TheVariants.{Done}
 use Rattle.cq_history.specs.State.{state}
 use Rattle.cq_hub.proofs.Growing.{grows_event, grows_then, view_grows}
 use Rattle.cq_talk.proofs.Leading.{lead_none, lead_event, stands_mid}
+use Rattle.cq_work.specs.Work.{IsWorkOf}
 use Rattle.cq_session.proofs.Working.{job_work, done_then}
 use Rattle.cq_session.proofs.helping.help_one.Goals as goal
 
@@ -37,8 +38,8 @@ finish-requires g c =
         stands_mid _ _ (g.H.Hub.callers c.args.hub.now) r.0 _ _ _ r.1 _ first,
         (
           first.says.0.0,
-          job_work (g.bound-3.IsWorkOf (g.H.Hub.settings c.args.hub.now)) (state (g.H.Hub.callers c.args.hub.now) first.mid) c.args.change c.in-Ok-Some.job (arc_value c.in-Ok.work) first.says.1 first.says.2
-              (subst (λ (set : Settings). g.bound-3.IsWorkOf set c.in-Ok-Some.job.lang (arc_value c.in-Ok-Some.job.text) (arc_value c.in-Ok.work)) (sym c.requires.hub_settings) ((c.requires.works.works c.args.settings.now c.in-Ok-Some.job.lang (arc_value c.in-Ok-Some.job.text) (arc_value c.in-Ok.work)).1 c.in-Ok.ensures)),
+          job_work (IsWorkOf (g.H.Hub.settings c.args.hub.now)) (state (g.H.Hub.callers c.args.hub.now) first.mid) c.args.change c.in-Ok-Some.job (arc_value c.in-Ok.work) first.says.1 first.says.2
+              (subst (λ (set : Settings). IsWorkOf set c.in-Ok-Some.job.lang (arc_value c.in-Ok-Some.job.text) (arc_value c.in-Ok.work)) (sym c.requires.hub_settings) c.in-Ok.ensures),
         ),
       );
     }

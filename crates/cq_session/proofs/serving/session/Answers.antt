@@ -1,7 +1,6 @@
-use Rattle.std.proofs.Common.{[], ◌∙◌, refl, sym, ap, max, subst, arith}
+use Rattle.std.proofs.Common.{◌∙◌, refl, subst, arith}
 use Rattle.cq_base.specs.declared.settings.Settings.{Settings}
 use Rattle.cq_history.specs.Lawful.{Lawful}
-use Rattle.cq_hub.proofs.Growing.{grows_none}
 use Rattle.cq_lines.proofs.Whole.{fewer}
 use Rattle.cq_reply.specs.declared.reply.Reply.TheVariants as reply
 use Rattle.cq_talk.proofs.Leading.{lead_weaker}

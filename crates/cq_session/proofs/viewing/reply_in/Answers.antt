@@ -1,5 +1,4 @@
-use Rattle.std.proofs.Common.{◌≡◌, List, ℕ, map, sym, ap, ◌∙◌, subst}
-use Rattle.std.specs.Arc.{arc_value}
+use Rattle.std.proofs.Common.{List, ℕ, sym, ap, ◌∙◌, subst}
 use Rattle.std.proofs.lemmas.Result.{IfOk-weaker}
 use Rattle.cq_answer.specs.Reply.{IsReply}
 use Rattle.cq_ask.specs.Moves.{Moves}
@@ -9,20 +8,18 @@ use Rattle.cq_board.specs.Listings.{Listed, files_in, conditions_in}
 use Rattle.cq_history.specs.State.{accepted}
 use Rattle.cq_hub.specs.Hubs.{Never}
 use Rattle.cq_hub.proofs.Growing.{grows_none}
+use Rattle.cq_work.specs.Work.{IsWorkOf}
 use Rattle.cq_work.specs.declared.work.Work.{Work}
-use Rattle.cq_session.proofs.InView.{file_keys, of_version, have_version}
+use Rattle.cq_session.proofs.InView.{of_version, have_version}
 use Rattle.cq_session.proofs.viewing.reply_in.Goals as goal
 
 pub answer-requires-clause-of_version : goal.answer-requires-clause-of_version
 answer-requires-clause-of_version g c =
     let r = c.requires.viewing in
-    have_version g.bound-3.keys_in g.bound-3.IsWorkOf c.requires.works (g.H.Hub.settings c.args.hub.now) c.args.settings.now c.requires.hub_settings (g.H.Hub.callers c.args.hub.now) r.0 r.1 c.args.view.now c.args.query.now.project c.files-files.result.now c.conditions-conditions.result.now r.3
+    have_version (g.H.Hub.settings c.args.hub.now) c.args.settings.now c.requires.hub_settings (g.H.Hub.callers c.args.hub.now) r.0 r.1 c.args.view.now c.args.query.now.project c.files-files.result.now c.conditions-conditions.result.now r.3
     (c.files-files.ensures ∙ ap (λ (l : Listed (Work g.row.L.Denot)). files_in l.projects c.args.query.now.project) c.deref.ensures)
     (c.conditions-conditions.ensures ∙ ap (λ (l : Listed (Work g.row.L.Denot)). conditions_in l.projects c.args.query.now.project) c.deref-2.ensures)
     (g.met.H.Hub.lawful _ _ r.0 r.1 r.2) (g.met.H.Hub.sound _ _ r.0 r.1 r.2)
-
-pub answer-requires-clause-for_keys : goal.answer-requires-clause-for_keys
-answer-requires-clause-for_keys g c = file_keys g.bound-3.keys_in g.bound-3.IsWorkOf c.requires.works (map arc_value c.files-files.result.now)
 
 pub answer-requires-clause-ready : goal.answer-requires-clause-ready
 answer-requires-clause-ready g c =
@@ -40,14 +37,14 @@ answer-requires-clause-ready g c =
 pub returns-in-Ok-clause-reply : goal.returns-in-Ok-clause-reply
 returns-in-Ok-clause-reply g c = IfOk-weaker c.answer.result _ _ (λ reply shows by h stands opened.
     subst (λ (set : Settings). IsReply set (accepted h) c.args.view.now.version c.args.query.now reply) (sym c.requires.hub_settings)
-    (shows (accepted h) (of_version g.bound-3.keys_in g.bound-3.IsWorkOf c.requires.works (g.H.Hub.settings c.args.hub.now) c.args.settings.now c.requires.hub_settings (g.H.Hub.callers c.args.hub.now) by h c.args.view.now c.args.query.now.project c.files-files.result.now c.conditions-conditions.result.now opened
+    (shows (accepted h) (of_version (g.H.Hub.settings c.args.hub.now) c.args.settings.now c.requires.hub_settings (g.H.Hub.callers c.args.hub.now) by h c.args.view.now c.args.query.now.project c.files-files.result.now c.conditions-conditions.result.now opened
     (c.files-files.ensures ∙ ap (λ (l : Listed (Work g.row.L.Denot)). files_in l.projects c.args.query.now.project) c.deref.ensures)
     (c.conditions-conditions.ensures ∙ ap (λ (l : Listed (Work g.row.L.Denot)). conditions_in l.projects c.args.query.now.project) c.deref-2.ensures)))) c.answer.ensures.reply
 
 pub returns-in-Ok-clause-moves : goal.returns-in-Ok-clause-moves
 returns-in-Ok-clause-moves g c =
     let same = c.pass-1.given.1 (sym c.answer.ensures.moved.same_pass) in
-    subst (λ (p : g.row.H-Pass.Denot). Moves g.H.Hub.Stands (g.H.Hub.callers c.args.hub.now) g.H.Hub.alone (g.bound-3.IsWorkOf (g.H.Hub.settings c.args.hub.now)) c.args.hub.now c.args.view.now c.args.pass.now p) (sym same) c.answer.ensures.moved.moves
+    subst (λ (p : g.row.H-Pass.Denot). Moves g.H.Hub.Stands (g.H.Hub.callers c.args.hub.now) g.H.Hub.alone (IsWorkOf (g.H.Hub.settings c.args.hub.now)) c.args.hub.now c.args.view.now c.args.pass.now p) (sym same) c.answer.ensures.moved.moves
 
 pub returns-in-Err-clause-moves : goal.returns-in-Err-clause-moves
 returns-in-Err-clause-moves g c = λ by h stands opened. record { after = h; grows = grows_none g.H.Hub.alone by Never h; stands = stands; opened = opened }

@@ -2,13 +2,14 @@ use Rattle.std.proofs.Common.{[], ◌∷◌, ◌++◌}
 use Rattle.cq_history.specs.declared.event.Event.TheVariants.{Open}
 use Rattle.std.proofs.lemmas.Result.{IfOk-weaker}
 use Rattle.cq_talk.proofs.Leading.{stands_mid}
+use Rattle.cq_work.specs.Work.{IsWorkOf}
 use Rattle.cq_session.proofs.Answered.{on_err}
 use Rattle.cq_session.proofs.OneView.{not_advanced, still_closed, not_viewed, is_open, viewing, was_shown, was_given_up}
 use Rattle.cq_session.proofs.viewing.view_reply.Goals as goal
 
 pub returns-in-Err-clause-refused : goal.returns-in-Err-clause-refused
 returns-in-Err-clause-refused g c = λ by h stands closed always.
-    not_advanced g.H.Hub.Stands (g.H.Hub.settings c.args.hub.now) (g.H.Hub.callers c.args.hub.now) g.H.Hub.alone c.args.hub.now (g.bound-3.IsWorkOf (g.H.Hub.settings c.args.hub.now)) (λ p c h s. g.met.H.Hub.lawful _ p c h s) (λ p c h s. g.met.H.Hub.caller _ p c h s) by c.args.to h _ _ (c.in-Err.ensures.published by h stands) closed
+    not_advanced g.H.Hub.Stands (g.H.Hub.settings c.args.hub.now) (g.H.Hub.callers c.args.hub.now) g.H.Hub.alone c.args.hub.now (IsWorkOf {L = g.row.L.Denot} (g.H.Hub.settings c.args.hub.now)) (λ p c h s. g.met.H.Hub.lawful _ p c h s) (λ p c h s. g.met.H.Hub.caller _ p c h s) by c.args.to h _ _ (c.in-Err.ensures.published by h stands) closed
 
 pub open_view-requires : goal.open_view-requires
 open_view-requires g c =
@@ -19,7 +20,7 @@ open_view-requires g c =
         r.0,
         advanced.mid,
         stands_mid _ _ (g.H.Hub.callers c.args.hub.now) r.0 _ _ _ r.1 _ advanced,
-        still_closed g.H.Hub.Stands (g.H.Hub.settings c.args.hub.now) (g.H.Hub.callers c.args.hub.now) g.H.Hub.alone c.args.hub.now (g.bound-3.IsWorkOf (g.H.Hub.settings c.args.hub.now)) (λ p c h s. g.met.H.Hub.lawful _ p c h s) (λ p c h s. g.met.H.Hub.caller _ p c h s) r.0 c.args.to r.1 c.in-Ok._published _ advanced r.3.0,
+        still_closed g.H.Hub.Stands (g.H.Hub.settings c.args.hub.now) (g.H.Hub.callers c.args.hub.now) g.H.Hub.alone c.args.hub.now (IsWorkOf {L = g.row.L.Denot} (g.H.Hub.settings c.args.hub.now)) (λ p c h s. g.met.H.Hub.lawful _ p c h s) (λ p c h s. g.met.H.Hub.caller _ p c h s) r.0 c.args.to r.1 c.in-Ok._published _ advanced r.3.0,
       );
     }
 
@@ -27,7 +28,7 @@ pub returns-in-Err-open_view-clause-refused : goal.returns-in-Err-open_view-clau
 returns-in-Err-open_view-clause-refused g c = λ by h stands closed always.
     let advanced = c.in-Ok.ensures.published by h stands in
     let opened = c.in-Err-open_view.ensures.refused by advanced.mid (stands_mid _ _ (g.H.Hub.callers c.args.hub.now) by _ _ _ h _ advanced) in
-    not_viewed g.H.Hub.Stands (g.H.Hub.settings c.args.hub.now) (g.H.Hub.callers c.args.hub.now) g.H.Hub.alone c.args.hub.now (g.bound-3.IsWorkOf (g.H.Hub.settings c.args.hub.now)) (λ p c h s. g.met.H.Hub.lawful _ p c h s) (λ p c h s. g.met.H.Hub.caller _ p c h s) by c.args.to h c.in-Ok._published _ advanced _ _ opened closed
+    not_viewed g.H.Hub.Stands (g.H.Hub.settings c.args.hub.now) (g.H.Hub.callers c.args.hub.now) g.H.Hub.alone c.args.hub.now (IsWorkOf {L = g.row.L.Denot} (g.H.Hub.settings c.args.hub.now)) (λ p c h s. g.met.H.Hub.lawful _ p c h s) (λ p c h s. g.met.H.Hub.caller _ p c h s) by c.args.to h c.in-Ok._published _ advanced _ _ opened closed
 
 pub reply_in-reply-requires-clause-viewing : goal.reply_in-reply-requires-clause-viewing
 reply_in-reply-requires-clause-viewing g c =
@@ -37,7 +38,7 @@ reply_in-reply-requires-clause-viewing g c =
       r.0,
       opened.mid ++ Open r.0 c.in-Ok-open_view.view.version ∷ [],
       opened.stands,
-      is_open g.H.Hub.Stands (g.H.Hub.settings c.args.hub.now) (g.H.Hub.callers c.args.hub.now) g.H.Hub.alone c.args.hub.now (g.bound-3.IsWorkOf (g.H.Hub.settings c.args.hub.now)) (λ p c h s. g.met.H.Hub.lawful _ p c h s) (λ p c h s. g.met.H.Hub.caller _ p c h s) r.0 c.args.to r.1 c.in-Ok._published _ advanced c.in-Ok-open_view.view _ opened,
+      is_open g.H.Hub.Stands (g.H.Hub.settings c.args.hub.now) (g.H.Hub.callers c.args.hub.now) g.H.Hub.alone c.args.hub.now (IsWorkOf {L = g.row.L.Denot} (g.H.Hub.settings c.args.hub.now)) (λ p c h s. g.met.H.Hub.lawful _ p c h s) (λ p c h s. g.met.H.Hub.caller _ p c h s) r.0 c.args.to r.1 c.in-Ok._published _ advanced c.in-Ok-open_view.view _ opened,
     )
 
 pub close_view-requires : goal.close_view-requires
@@ -45,22 +46,22 @@ close_view-requires g c =
     let r = c.requires.ready in
     let advanced = c.in-Ok.ensures.published r.0 r.1 r.2 in
     let opened = c.in-Ok-open_view.ensures.opened r.0 advanced.mid (stands_mid _ _ (g.H.Hub.callers c.args.hub.now) r.0 _ _ _ r.1 _ advanced) in
-    let there = is_open g.H.Hub.Stands (g.H.Hub.settings c.args.hub.now) (g.H.Hub.callers c.args.hub.now) g.H.Hub.alone c.args.hub.now (g.bound-3.IsWorkOf (g.H.Hub.settings c.args.hub.now)) (λ p c h s. g.met.H.Hub.lawful _ p c h s) (λ p c h s. g.met.H.Hub.caller _ p c h s) r.0 c.args.to r.1 c.in-Ok._published _ advanced c.in-Ok-open_view.view _ opened in
+    let there = is_open g.H.Hub.Stands (g.H.Hub.settings c.args.hub.now) (g.H.Hub.callers c.args.hub.now) g.H.Hub.alone c.args.hub.now (IsWorkOf {L = g.row.L.Denot} (g.H.Hub.settings c.args.hub.now)) (λ p c h s. g.met.H.Hub.lawful _ p c h s) (λ p c h s. g.met.H.Hub.caller _ p c h s) r.0 c.args.to r.1 c.in-Ok._published _ advanced c.in-Ok-open_view.view _ opened in
     let moved = c.reply_in-reply.ensures.moves r.0 (opened.mid ++ Open r.0 c.in-Ok-open_view.view.version ∷ []) opened.stands there in
-    record { viewing = (r.0, moved.after, moved.stands, viewing g.H.Hub.Stands (g.H.Hub.settings c.args.hub.now) (g.H.Hub.callers c.args.hub.now) g.H.Hub.alone c.args.hub.now (g.bound-3.IsWorkOf (g.H.Hub.settings c.args.hub.now)) (λ p c h s. g.met.H.Hub.lawful _ p c h s) (λ p c h s. g.met.H.Hub.caller _ p c h s) r.0 c.args.to r.1 c.in-Ok._published _ advanced c.in-Ok-open_view.view _ opened _ moved) }
+    record { viewing = (r.0, moved.after, moved.stands, viewing g.H.Hub.Stands (g.H.Hub.settings c.args.hub.now) (g.H.Hub.callers c.args.hub.now) g.H.Hub.alone c.args.hub.now (IsWorkOf {L = g.row.L.Denot} (g.H.Hub.settings c.args.hub.now)) (λ p c h s. g.met.H.Hub.lawful _ p c h s) (λ p c h s. g.met.H.Hub.caller _ p c h s) r.0 c.args.to r.1 c.in-Ok._published _ advanced c.in-Ok-open_view.view _ opened _ moved) }
 
 pub returns-in-Ok-open_view-clause-shown : goal.returns-in-Ok-open_view-clause-shown
 returns-in-Ok-open_view-clause-shown g c = IfOk-weaker c.reply_in-reply.result _ _ (λ reply is by h stands closed always.
     let advanced = c.in-Ok.ensures.published by h stands in
     let opened = c.in-Ok-open_view.ensures.opened by advanced.mid (stands_mid _ _ (g.H.Hub.callers c.args.hub.now) by _ _ _ h _ advanced) in
-    let there = is_open g.H.Hub.Stands (g.H.Hub.settings c.args.hub.now) (g.H.Hub.callers c.args.hub.now) g.H.Hub.alone c.args.hub.now (g.bound-3.IsWorkOf (g.H.Hub.settings c.args.hub.now)) (λ p c h s. g.met.H.Hub.lawful _ p c h s) (λ p c h s. g.met.H.Hub.caller _ p c h s) by c.args.to h c.in-Ok._published _ advanced c.in-Ok-open_view.view _ opened in
+    let there = is_open g.H.Hub.Stands (g.H.Hub.settings c.args.hub.now) (g.H.Hub.callers c.args.hub.now) g.H.Hub.alone c.args.hub.now (IsWorkOf {L = g.row.L.Denot} (g.H.Hub.settings c.args.hub.now)) (λ p c h s. g.met.H.Hub.lawful _ p c h s) (λ p c h s. g.met.H.Hub.caller _ p c h s) by c.args.to h c.in-Ok._published _ advanced c.in-Ok-open_view.view _ opened in
     let moved = c.reply_in-reply.ensures.moves by (opened.mid ++ Open by c.in-Ok-open_view.view.version ∷ []) opened.stands there in
-    was_shown g.H.Hub.Stands (g.H.Hub.settings c.args.hub.now) (g.H.Hub.callers c.args.hub.now) g.H.Hub.alone c.args.hub.now (g.bound-3.IsWorkOf (g.H.Hub.settings c.args.hub.now)) (λ p c h s. g.met.H.Hub.lawful _ p c h s) (λ p c h s. g.met.H.Hub.caller _ p c h s) by c.args.to h c.in-Ok._published _ advanced c.in-Ok-open_view.view _ opened _ moved _ _ (c.close_view.ensures.shut by moved.after moved.stands) c.args.query.now reply (is by (opened.mid ++ Open by c.in-Ok-open_view.view.version ∷ []) opened.stands there)) c.reply_in-reply.ensures.reply
+    was_shown g.H.Hub.Stands (g.H.Hub.settings c.args.hub.now) (g.H.Hub.callers c.args.hub.now) g.H.Hub.alone c.args.hub.now (IsWorkOf {L = g.row.L.Denot} (g.H.Hub.settings c.args.hub.now)) (λ p c h s. g.met.H.Hub.lawful _ p c h s) (λ p c h s. g.met.H.Hub.caller _ p c h s) by c.args.to h c.in-Ok._published _ advanced c.in-Ok-open_view.view _ opened _ moved _ _ (c.close_view.ensures.shut by moved.after moved.stands) c.args.query.now reply (is by (opened.mid ++ Open by c.in-Ok-open_view.view.version ∷ []) opened.stands there)) c.reply_in-reply.ensures.reply
 
 pub returns-in-Ok-open_view-clause-refused : goal.returns-in-Ok-open_view-clause-refused
 returns-in-Ok-open_view-clause-refused g c = on_err c.reply_in-reply.result (λ by h stands closed always.
     let advanced = c.in-Ok.ensures.published by h stands in
     let opened = c.in-Ok-open_view.ensures.opened by advanced.mid (stands_mid _ _ (g.H.Hub.callers c.args.hub.now) by _ _ _ h _ advanced) in
-    let there = is_open g.H.Hub.Stands (g.H.Hub.settings c.args.hub.now) (g.H.Hub.callers c.args.hub.now) g.H.Hub.alone c.args.hub.now (g.bound-3.IsWorkOf (g.H.Hub.settings c.args.hub.now)) (λ p c h s. g.met.H.Hub.lawful _ p c h s) (λ p c h s. g.met.H.Hub.caller _ p c h s) by c.args.to h c.in-Ok._published _ advanced c.in-Ok-open_view.view _ opened in
+    let there = is_open g.H.Hub.Stands (g.H.Hub.settings c.args.hub.now) (g.H.Hub.callers c.args.hub.now) g.H.Hub.alone c.args.hub.now (IsWorkOf {L = g.row.L.Denot} (g.H.Hub.settings c.args.hub.now)) (λ p c h s. g.met.H.Hub.lawful _ p c h s) (λ p c h s. g.met.H.Hub.caller _ p c h s) by c.args.to h c.in-Ok._published _ advanced c.in-Ok-open_view.view _ opened in
     let moved = c.reply_in-reply.ensures.moves by (opened.mid ++ Open by c.in-Ok-open_view.view.version ∷ []) opened.stands there in
-    was_given_up g.H.Hub.Stands (g.H.Hub.settings c.args.hub.now) (g.H.Hub.callers c.args.hub.now) g.H.Hub.alone c.args.hub.now (g.bound-3.IsWorkOf (g.H.Hub.settings c.args.hub.now)) (λ p c h s. g.met.H.Hub.lawful _ p c h s) (λ p c h s. g.met.H.Hub.caller _ p c h s) by c.args.to h c.in-Ok._published _ advanced c.in-Ok-open_view.view _ opened _ moved _ _ (c.close_view.ensures.shut by moved.after moved.stands))
+    was_given_up g.H.Hub.Stands (g.H.Hub.settings c.args.hub.now) (g.H.Hub.callers c.args.hub.now) g.H.Hub.alone c.args.hub.now (IsWorkOf {L = g.row.L.Denot} (g.H.Hub.settings c.args.hub.now)) (λ p c h s. g.met.H.Hub.lawful _ p c h s) (λ p c h s. g.met.H.Hub.caller _ p c h s) by c.args.to h c.in-Ok._published _ advanced c.in-Ok-open_view.view _ opened _ moved _ _ (c.close_view.ensures.shut by moved.after moved.stands))
