@@ -13,9 +13,6 @@ use Rattle.cqd.proofs.program.serve.Goals as goal
 pub session-end-requires-clause-closed : goal.session-end-requires-clause-closed
 session-end-requires-clause-closed g c = (0, [], c.in-Ok-made.ensures.stands, (refl, tt))
 
-pub session-end-requires-clause-works : goal.session-end-requires-clause-works
-session-end-requires-clause-works g c = record { keys = λ work. refl; works = λ set lang text work. ((λ is. is), (λ is. is)) }
-
 pub returns-in-Ok-new-clause-runs : goal.returns-in-Ok-new-clause-runs
 returns-in-Ok-new-clause-runs g c = λ other.
     let settings = c.args.settings.now in
