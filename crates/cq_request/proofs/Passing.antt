@@ -14,7 +14,8 @@ use Rattle.cq_request.specs.declared.request.Refusal.TheVariants as refusal
 use Rattle.cq_request.specs.Text.{is_path, is_short}
 use Rattle.cq_request.specs.Members.{items_in}
 use Rattle.cq_request.specs.Conditions.{condition_of, are_conditions}
-use Rattle.cq_request.specs.Rows.{needed, is_good, bad_field, row_of, fault_in}
+use Rattle.cq_request.specs.Tables.{is_good, bad_field}
+use Rattle.cq_request.specs.Rows.{needed, rule_of, rules_of, fault_of}
 use Rattle.cq_request.specs.Reading.{unless, field_or, lang_named, text_passes, min_passes, value_refused, why_refused, conditions_or}
 
 -- the last of four tests behind which nothing is refused has passed
@@ -31,11 +32,11 @@ none_named (Some n) later none = absurd (cc)
 
 pub min_passed : (chunk : ℕ) (o : Op) (d : Data) → why_refused chunk o d ≡ None → min_passes chunk d ≡ true
 min_passed chunk o d accepted =
-    all_passed (text_passes (λ name. is_some (lang_named name)) (codes "lang") d) (text_passes is_path (codes "path") d) (text_passes is_short (codes "text") d) (min_passes chunk d) (none_named (fault_in (row_of o) d) (value_refused chunk d) accepted).1
+    all_passed (text_passes (λ name. is_some (lang_named name)) (codes "lang") d) (text_passes is_path (codes "path") d) (text_passes is_short (codes "text") d) (min_passes chunk d) (none_named (fault_of o d) (value_refused chunk d) accepted).1
 
 -- ---- the conditions of a gate
 
-first_none : {X : Type 0} (a b : Option X) → option_or a b ≡ None → a ≡ None
+pub first_none : {X : Type 0} (a b : Option X) → option_or a b ≡ None → a ≡ None
 first_none None b none = refl
 first_none (Some x) b none = absurd (cc)
 
@@ -63,11 +64,11 @@ listed : (o : Option Items) → unwrap_or (option_map (λ ds. are_conditions (it
 listed None are = omega arith
 listed (Some ds) are = within (items_in ds) are
 
-there : (o : Option Data) → is_good (needed name.Conditions) o ≡ true → length (filter_map condition_of (unwrap_or (option_map items_in (option_and_then as_array o)) [])) ≤ 32
+there : (o : Option Data) → is_good (rule_of (needed name.Conditions)) o ≡ true → length (filter_map condition_of (unwrap_or (option_map items_in (option_and_then as_array o)) [])) ≤ 32
 there None are = omega arith
 there (Some d) are = listed (as_array d) are
 
 pub few_conditions : (chunk : ℕ) (d : Data) → why_refused chunk op.Gate d ≡ None → length (conditions_or d) ≤ 32
 few_conditions chunk d accepted =
-    let none = first_none (bad_field (row_of op.Gate) d) _ (none_named (fault_in (row_of op.Gate) d) (value_refused chunk d) accepted).0 in
+    let none = first_none (bad_field (rules_of op.Gate) d) _ (none_named (fault_of op.Gate d) (value_refused chunk d) accepted).0 in
     there (get (codes "conditions") d) (second_good _ _ _ _ none)

@@ -1,18 +1,17 @@
 -- The requests: for each, its fields in the order in which they are checked.
-use Rattle.std.specs.Prelude.{◌||◌, ℕ, List, [], ◌∷◌, Bool, true, false, not, if◌then◌else◌, Option, Some, None, is_some, option_and_then, option_map, unwrap_or, codes}
-use Rattle.std.specs.Option.{option_or}
-use Rattle.std.specs.List.{list_any}
+use Rattle.std.specs.Prelude.{ℕ, List, [], ◌∷◌, map, Bool, true, false, if◌then◌else◌, Option, Some, None, is_some, option_and_then, option_map, unwrap_or, codes}
 use Rattle.std.specs.Str.{bytes_eq}
 use Rattle.serde_json.specs.Data.{Data}
-use Rattle.serde_json.specs.Find.{get, as_str, as_bool, as_object}
+use Rattle.serde_json.specs.Find.{as_str, as_bool}
 use Rattle.cq_request.specs.declared.row.Op.{Op}
 use Rattle.cq_request.specs.declared.row.Op.TheVariants as op
 use Rattle.cq_request.specs.declared.row.Name.{Name}
 use Rattle.cq_request.specs.declared.row.Name.TheVariants as name
 use Rattle.cq_request.specs.declared.row.Field.{Field}
 use Rattle.cq_request.specs.Text.{is_project}
-use Rattle.cq_request.specs.Members.{text_at, number_of, least_key}
+use Rattle.cq_request.specs.Members.{text_at, number_of}
 use Rattle.cq_request.specs.Conditions.{is_condition_list}
+use Rattle.cq_request.specs.Tables.{Rule, fault_in}
 
 abbrev pub needed : Name → Field
 needed n = record { name = n; is_needed = true }
@@ -67,24 +66,13 @@ key_of name.Min = codes "min"
 key_of name.At = codes "at"
 key_of name.Finish = codes "finish"
 
--- the field is there and of its form, or it may be left out and is
-abbrev pub is_good : Field → Option Data → Bool
-is_good f None = not f.is_needed
-is_good f (Some v) = is_of_form f.name v
+-- what a field asks of an object
+abbrev pub rule_of : Field → Rule
+rule_of f = record { key = key_of f.name; is_needed = f.is_needed; is_of_form = is_of_form f.name }
 
--- the first field of a row that is not good
-abbrev pub bad_field : List Field → Data → Option (List ℕ)
-bad_field [] d = None
-bad_field (f ∷ fields) d = if is_good f (get (key_of f.name) d) then bad_field fields d else Some (key_of f.name)
+abbrev pub rules_of : Op → List Rule
+rules_of o = map rule_of (row_of o)
 
--- `op`, or a key of the row
-abbrev pub is_of_row : List Field → List ℕ → Bool
-is_of_row fields key = bytes_eq key (codes "op") || list_any (λ f. bytes_eq key (key_of f.name)) fields
-
--- the least key by bytes that is neither
-abbrev pub other_key : List Field → Data → Option (List ℕ)
-other_key fields d = option_and_then (least_key (λ key. not (is_of_row fields key))) (as_object d)
-
--- the member that a refusal names
-abbrev pub fault_in : List Field → Data → Option (List ℕ)
-fault_in fields d = option_or (bad_field fields d) (other_key fields d)
+-- the member that a refusal names of an object that asks for this
+abbrev pub fault_of : Op → Data → Option (List ℕ)
+fault_of o d = fault_in (codes "op") (rules_of o) d

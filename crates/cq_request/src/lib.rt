@@ -8,7 +8,11 @@ mod member;
 mod reading;
 mod request;
 mod row;
+mod table;
 mod text;
 
-pub use reading::{read_request, read_value};
+pub use member::{number_at, taken, text_at};
+pub use reading::{parsed, read_request, read_value};
 pub use request::{Kind, Query, Refusal, Request};
+pub use row::{Op, op_of};
+pub use table::{Ruled, fault_in};

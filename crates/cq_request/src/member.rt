@@ -1,11 +1,11 @@
 ghost use Rattle.std.specs.Prelude.{◌≡◌, [], codes, option_map, option_and_then, unwrap_or};
 ghost use Rattle.std.specs.Str.{IsUtf8};
-ghost use Rattle.serde_json.specs.Find.{get, as_array, get_member, as_str};
-ghost use Rattle.serde_json.specs.View.{view, items_view, members_view};
+ghost use Rattle.serde_json.specs.Find.{get, as_array, as_str};
+ghost use Rattle.serde_json.specs.View.{view, items_view};
 ghost use Rattle.cq_request.specs.Members as members;
 
 use cq_base::Text;
-use serde_json::{Map, Value};
+use serde_json::Value;
 use std::alloc::Global;
 
 /// How many members an object has; 0 for a value that is none.
@@ -19,14 +19,14 @@ pub(crate) fn member_count(value: &Value) -> usize
 }
 
 /// The member of this name, where it is a text.
-pub(crate) fn text_at<'v>(value: &'v Value, key: &str) -> Option<&'v str>
+pub fn text_at<'v>(value: &'v Value, key: &str) -> Option<&'v str>
     ensures { option_map (λ s. s.now) result ≡ members.text_at key.now (view value.now) }
 {
     value.get(key)?.as_str()
 }
 
 /// The member of this name, where it is a number.
-pub(crate) fn number_at(value: &Value, key: &str) -> Option<u64>
+pub fn number_at(value: &Value, key: &str) -> Option<u64>
     ensures { result ≡ members.number_at key.now (view value.now) }
 {
     value.get(key)?.as_u64()
@@ -57,24 +57,23 @@ fn text_of(alloc: Global, value: Value) -> Text
     }
 }
 
-/// The text of an upload among its members, which is moved.
-fn text_in(alloc: Global, members: &mut Map<String, Value>) -> Text
-    ensures text { result ≡ unwrap_or (option_and_then as_str (get_member (codes "text") (members_view members.old.entries))) [] }
-    ensures utf8 { IsUtf8 result }
+/// The member of this name, moved out of its object.
+pub fn taken(mut value: Value, key: &str) -> Option<Value>
+    ensures { option_map view result ≡ get key.now (view value) }
 {
-    match members.remove("text") {
-        Some(value) => text_of(alloc, value),
-        None => Text::from_vec(Vec::new(alloc)),
+    match value.get_mut(key) {
+        Some(member) => Some(member.take()),
+        None => None,
     }
 }
 
 /// The text of an upload, moved out of its value.
-pub(crate) fn taken_text(alloc: Global, mut value: Value) -> Text
+pub(crate) fn taken_text(alloc: Global, value: Value) -> Text
     ensures text { result ≡ unwrap_or (members.text_at (codes "text") (view value)) [] }
     ensures utf8 { IsUtf8 result }
 {
-    match value.as_object_mut() {
-        Some(members) => text_in(alloc, members),
+    match taken(value, "text") {
+        Some(member) => text_of(alloc, member),
         None => Text::from_vec(Vec::new(alloc)),
     }
 }

@@ -5,13 +5,14 @@ ghost use Rattle.cq_request.specs.Members as members;
 ghost use Rattle.cq_base.specs.Changes.{IsSoundChange};
 ghost use Rattle.cq_request.specs.Sound.{IsSound, IsSoundQuery, IsSoundRefusal};
 ghost use Rattle.cq_request.specs.Reading as spec;
-ghost use Rattle.cq_request.specs.Reading.{UnlessMemory, value_says, line_says};
+ghost use Rattle.cq_request.specs.Spelled.{spelled};
+ghost use Rattle.cq_request.specs.Reading.{UnlessMemory, IsNoJson, value_says, line_says};
 ghost use Rattle.cq_request.specs.Text as text;
 
 use crate::condition::conditions_in;
 use crate::member::{flag_at, list_at, number_at, taken_text, text_at};
 use crate::request::{Kind, Query, Refusal, Request};
-use crate::row::{Op, fault_in, op_of, row_of};
+use crate::row::{Op, fault_of, op_of};
 use crate::text::{is_path, is_short};
 use cq_base::{Change, Conditions, Lang, Memory, Settings, Text};
 use serde_json::Value;
@@ -93,7 +94,7 @@ fn why_refused(
     ensures refused { IfOk result (λ r. r ≡ spec.why_refused settings.now.chunk op (view value.now)) }
     ensures named { IfOk result (λ r. IfSome r IsSoundRefusal) }
 {
-    match fault_in(row_of(op), value) {
+    match fault_of(op, value) {
         Some(name) => {
             let name = Text::from_bytes(alloc, name.as_bytes())?;
             Ok(Some(Refusal::Field(name)))
@@ -240,6 +241,22 @@ pub fn read_value(alloc: Global, settings: &Settings, value: Value) -> Result<Re
     }
 }
 
+/// The value that a line spells. `Json` comes exactly where `serde_json` gives none for another cause than memory.
+pub fn parsed(alloc: Global, line: &[u8]) -> Result<Value, Refusal>
+    ensures spelled { IfOk result (λ v. spelled line.now ≡ Some (view v)) }
+    ensures refused { IfErr result (IsNoJson line.now) }
+{
+    match Value::from_slice(alloc, line) {
+        Ok(value) => Ok(value),
+        Err(error) => {
+            if error.is_memory() {
+                return Err(Refusal::Memory);
+            }
+            Err(Refusal::Json)
+        }
+    }
+}
+
 /// The request that a line spells, or why it is refused: `Json` exactly where `serde_json` gives no value for it, or
 /// one that is no object.
 pub fn read_request(alloc: Global, settings: &Settings, line: &[u8]) -> Result<Request, Refusal>
@@ -247,13 +264,8 @@ pub fn read_request(alloc: Global, settings: &Settings, line: &[u8]) -> Result<R
     ensures sound { IfOk result (IsSound settings.now.chunk) }
     ensures named { IfErr result IsSoundRefusal }
 {
-    match Value::from_slice(alloc, line) {
+    match parsed(alloc, line) {
         Ok(value) => read_value(alloc, settings, value),
-        Err(error) => {
-            if error.is_memory() {
-                return Err(Refusal::Memory);
-            }
-            Err(Refusal::Json)
-        }
+        Err(refusal) => Err(refusal),
     }
 }

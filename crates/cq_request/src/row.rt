@@ -1,19 +1,17 @@
 ghost use Rattle.std.specs.Prelude.{◌≡◌, option_map};
-ghost use Rattle.std.specs.List.{list_any};
-ghost use Rattle.std.specs.Str.{bytes_eq};
 ghost use Rattle.serde_json.specs.View.{view};
-ghost use Rattle.serde_json.specs.Find.{get};
 ghost use Rattle.cq_request.specs.declared.row.Name.TheVariants as name;
 ghost use Rattle.cq_request.specs.Rows as rows;
 
 use crate::condition::is_condition_list;
 use crate::member::text_at;
+use crate::table::{Ruled, fault_in};
 use crate::text::is_project;
 use serde_json::Value;
 
 /// What can be asked for.
 #[derive(Clone, Copy, Debug, PartialEq, Eq)]
-pub(crate) enum Op {
+pub enum Op {
     Put,
     Drop,
     Gate,
@@ -104,7 +102,7 @@ const GROUPS: [Field; 5] = [PROJECT, MAYBE_MIN, MAYBE_PATH, MAYBE_AT, MAYBE_FINI
 const VERDICT: [Field; 4] = [PROJECT, MAYBE_MIN, MAYBE_AT, MAYBE_FINISH];
 
 /// The fields of a request, in the order in which they are checked.
-pub(crate) fn row_of(op: Op) -> &'static [Field]
+fn row_of(op: Op) -> &'static [Field]
     ensures { result.now ≡ rows.row_of op }
 {
     match op {
@@ -136,7 +134,7 @@ fn op_named(word: &str) -> Option<Op>
 }
 
 /// What an object asks for, if it names a request.
-pub(crate) fn op_of(value: &Value) -> Option<Op>
+pub fn op_of(value: &Value) -> Option<Op>
     ensures { result ≡ rows.op_of (view value.now) }
 {
     op_named(text_at(value, "op")?)
@@ -178,63 +176,25 @@ fn is_of_form(name: Name, value: &Value) -> bool
     }
 }
 
-fn is_good(field: &Field, value: &Value) -> bool
-    ensures { result ≡ rows.is_good field.now (get (rows.key_of field.now.name) (view value.now)) }
-{
-    match value.get(key_of(field.name)) {
-        Some(member) => is_of_form(field.name, member),
-        None => !field.is_needed,
+impl Ruled for Field {
+    ghost rule = { rows.rule_of };
+
+    fn key(&self) -> &'static str {
+        key_of(self.name)
+    }
+
+    fn is_needed(&self) -> bool {
+        self.is_needed
+    }
+
+    fn is_of_form(&self, value: &Value) -> bool {
+        is_of_form(self.name, value)
     }
 }
 
-fn bad_field(fields: &[Field], value: &Value) -> Option<&'static str>
-    ensures { option_map (λ s. s.now) result ≡ rows.bad_field fields.now (view value.now) }
+/// The member for which an object is refused that asks for this, if there is one.
+pub(crate) fn fault_of<'v>(op: Op, value: &'v Value) -> Option<&'v str>
+    ensures { option_map (λ s. s.now) result ≡ rows.fault_of op (view value.now) }
 {
-    for field in fields {
-        if !is_good(field, value) {
-            return Some(key_of(field.name));
-        }
-    }
-    None
-}
-
-fn has_field(fields: &[Field], key: &str) -> bool
-    ensures { result ≡ list_any (λ f. bytes_eq key.now (rows.key_of f.name)) fields.now }
-{
-    for field in fields {
-        if key == key_of(field.name) {
-            return true;
-        }
-    }
-    false
-}
-
-fn is_of_row(fields: &[Field], key: &str) -> bool
-    ensures { result ≡ rows.is_of_row fields.now key.now }
-{
-    key == "op" || has_field(fields, key)
-}
-
-// The members stand in the order of their keys, so that the first is the least.
-fn other_key<'v>(fields: &[Field], value: &'v Value) -> Option<&'v str>
-    ensures { option_map (λ s. s.now) result ≡ rows.other_key fields.now (view value.now) }
-{
-    let members = value.as_object()?;
-    for name in members.keys() {
-        if !is_of_row(fields, name.as_str()) {
-            return Some(name.as_str());
-        }
-    }
-    None
-}
-
-/// The member that a refusal names: the first field of the row that is missing or not of its form, or else the least
-/// other key by bytes.
-pub(crate) fn fault_in<'v>(fields: &[Field], value: &'v Value) -> Option<&'v str>
-    ensures { option_map (λ s. s.now) result ≡ rows.fault_in fields.now (view value.now) }
-{
-    match bad_field(fields, value) {
-        Some(name) => Some(name),
-        None => other_key(fields, value),
-    }
+    fault_in("op", row_of(op), value)
 }

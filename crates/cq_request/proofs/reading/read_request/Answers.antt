@@ -1,12 +1,15 @@
-use Rattle.std.proofs.Common.{◌≡◌, true, false, sym, ap, subst}
-use Rattle.cq_request.specs.Reading.{UnlessMemory, spelled_says}
-use Rattle.cq_request.proofs.Spelling.{spelled_ok, spelled_none}
+use Rattle.std.proofs.Common.{sym, ap, subst}
+use Rattle.cq_request.specs.Reading.{UnlessMemory, value_says, of_spelled}
+use Rattle.cq_request.proofs.Spelling.{no_json, unnamed}
 use Rattle.cq_request.proofs.reading.read_request.Goals as goal
 
 pub returns-in-Ok-clause-says : goal.returns-in-Ok-clause-says
 returns-in-Ok-clause-says c =
-    let says = ap (spelled_says c.args.settings.now.chunk) (spelled_ok c.args.line.now _ c.in-Ok.ensures.ok.0 c.in-Ok.ensures.ok.1) in
+    let says = ap (of_spelled (value_says c.args.settings.now.chunk)) c.in-Ok.ensures.spelled in
     subst (UnlessMemory c.read_value.result) (sym says) c.read_value.ensures.says
 
-pub returns-else-is_memory-clause-says : goal.returns-else-is_memory-clause-says
-returns-else-is_memory-clause-says c = ap (spelled_says c.args.settings.now.chunk) (spelled_none c.args.line.now (c.in-Err.ensures.err (λ m. let bad : false ≡ true = c.if-is_memory.ensures.1 m in cc)))
+pub returns-in-Err-clause-says : goal.returns-in-Err-clause-says
+returns-in-Err-clause-says c = no_json (value_says c.args.settings.now.chunk) c.args.line.now c.in-Err.refusal c.in-Err.ensures.refused
+
+pub returns-in-Err-clause-named : goal.returns-in-Err-clause-named
+returns-in-Err-clause-named c = unnamed c.args.line.now c.in-Err.refusal c.in-Err.ensures.refused
