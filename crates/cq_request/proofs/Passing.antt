@@ -26,7 +26,7 @@ all_passed true true false d none = absurd (cc)
 all_passed true false c d none = absurd (cc)
 all_passed false b c d none = absurd (cc)
 
-none_named : (o : Option (List ℕ)) (later : Option Refusal) → field_or o later ≡ None → (o ≡ None) × (later ≡ None)
+pub none_named : (o : Option (List ℕ)) (later : Option Refusal) → field_or o later ≡ None → (o ≡ None) × (later ≡ None)
 none_named None later none = (refl, none)
 none_named (Some n) later none = absurd (cc)
 
@@ -36,9 +36,13 @@ min_passed chunk o d accepted =
 
 -- ---- the conditions of a gate
 
-pub first_none : {X : Type 0} (a b : Option X) → option_or a b ≡ None → a ≡ None
+first_none : {X : Type 0} (a b : Option X) → option_or a b ≡ None → a ≡ None
 first_none None b none = refl
 first_none (Some x) b none = absurd (cc)
+
+pub second_none : {X : Type 0} (a b : Option X) → option_or a b ≡ None → b ≡ None
+second_none None b none = none
+second_none (Some x) b none = absurd (cc)
 
 -- of two fields the second is good where none is bad
 second_good : (a b : Bool) (k l : List ℕ) → cond a (cond b None (Some l)) (Some k) ≡ None → b ≡ true

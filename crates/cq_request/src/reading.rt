@@ -153,7 +153,7 @@ fn min_or(settings: &Settings, value: &Value) -> u32
 }
 
 fn query_of(alloc: Global, settings: &Settings, kind: Kind, value: &Value) -> Result<Query, Memory>
-    requires passes { spec.min_passes settings.now.chunk (view value.now) ≡ true }
+    requires accepted { spec.why_refused settings.now.chunk (spec.op_asking kind) (view value.now) ≡ None }
     ensures query { IfOk result (λ q. q ≡ spec.query_of settings.now.chunk kind (view value.now)) }
     ensures sound { IfOk result (IsSoundQuery settings.now.chunk) }
 {
@@ -209,17 +209,16 @@ fn request_of(alloc: Global, settings: &Settings, op: Op, value: Value) -> Resul
     ensures request { IfOk result (λ r. r ≡ spec.request_of settings.now.chunk op (view value)) }
     ensures sound { IfOk result (IsSound settings.now.chunk) }
 {
-    let kind = match op {
-        Op::Put => return Ok(Request::Change(put_of(alloc, value)?)),
-        Op::Drop => return Ok(Request::Change(drop_of(alloc, &value)?)),
-        Op::Gate => return Ok(Request::Change(gate_of(alloc, &value)?)),
-        Op::State => return Ok(Request::State),
-        Op::Files => Kind::Files,
-        Op::Groups => Kind::Groups,
-        Op::Measures => Kind::Measures,
-        Op::Verdict => Kind::Verdict,
-    };
-    Ok(Request::Query(query_of(alloc, settings, kind, &value)?))
+    match op {
+        Op::Put => Ok(Request::Change(put_of(alloc, value)?)),
+        Op::Drop => Ok(Request::Change(drop_of(alloc, &value)?)),
+        Op::Gate => Ok(Request::Change(gate_of(alloc, &value)?)),
+        Op::Files => Ok(Request::Query(query_of(alloc, settings, Kind::Files, &value)?)),
+        Op::Groups => Ok(Request::Query(query_of(alloc, settings, Kind::Groups, &value)?)),
+        Op::Measures => Ok(Request::Query(query_of(alloc, settings, Kind::Measures, &value)?)),
+        Op::Verdict => Ok(Request::Query(query_of(alloc, settings, Kind::Verdict, &value)?)),
+        Op::State => Ok(Request::State),
+    }
 }
 
 /// The request that a value is, or why it is refused. `Json` comes exactly where it is no object; the other refusals

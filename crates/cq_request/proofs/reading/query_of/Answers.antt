@@ -1,0 +1,15 @@
+use Rattle.std.proofs.Common.{sym, subst}
+use Rattle.serde_json.specs.View.{view}
+use Rattle.cq_request.specs.Sound.{IsPathOf}
+use Rattle.cq_request.specs.Reading.{op_asking}
+use Rattle.cq_request.proofs.Passing.{min_passed}
+use Rattle.cq_request.proofs.Lacking.{path_of_kind}
+use Rattle.cq_request.proofs.reading.query_of.Goals as goal
+
+pub min_or-requires : goal.min_or-requires
+min_or-requires c = record { passes = min_passed c.args.settings.now.chunk (op_asking c.args.kind) (view c.args.value.now) c.requires.accepted }
+
+pub returns-clause-sound : goal.returns-clause-sound
+returns-clause-sound c =
+    let path = path_of_kind c.args.settings.now.chunk c.args.kind (view c.args.value.now) c.requires.accepted in
+    (c.in_ok-text_or.ensures.utf8, c.in_ok-path_at.ensures.utf8, c.min_or.ensures.window, subst (IsPathOf c.args.kind) (sym c.in_ok-path_at.ensures.path) path)
