@@ -1,4 +1,4 @@
-use crate::{kept, order, sort_entries, sort_places};
+use crate::{Spot, kept, order, sort_entries, sort_places, spot_of};
 use cq_base::{Entry, Group, Memory, Place, Places};
 use std::alloc::Global;
 
@@ -45,4 +45,15 @@ fn places_entries_and_groups_come_in_order(rt: HostRuntime) -> Result<(), Memory
     let lengths: Vec<u32> = sorted.iter().map(|g| g.tokens).collect(alloc)?;
     assert!(rt; lengths.as_slice() == [1, 5, 2].as_slice());
     Ok(())
+}
+
+#[test]
+fn a_change_is_found_at_the_position_of_its_file(rt: HostRuntime) {
+    let spot = |change: u64, file: u32| Spot { change, file };
+    let spots = [spot(3, 1), spot(5, 0), spot(9, 2)];
+    assert_eq!(rt; spot_of(&spots, 3), Some(1));
+    assert_eq!(rt; spot_of(&spots, 5), Some(0));
+    assert_eq!(rt; spot_of(&spots, 9), Some(2));
+    assert_eq!(rt; spot_of(&spots, 4), None);
+    assert_eq!(rt; spot_of(&[], 4), None);
 }
