@@ -1,6 +1,6 @@
 -- The files that are held, as files.
 use Rattle.std.proofs.Common.{◌≡◌, ℕ, zero, suc, ◌+◌, ◌<◌, Bool, true, false, cond, not, List, [], ◌∷◌, length, map, get_or, refl, sym, ap, arith}
-use Rattle.std.specs.List.{filter, insert, position_or_len}
+use Rattle.std.specs.List.{filter, insert, remove, position_or_len}
 use Rattle.std.proofs.lemmas.List.Sums.{position_or_len_is}
 
 pub filter-map : {X Y : Type 0} (p : Y → Bool) (f : X → Y) (xs : List X) → filter p (map f xs) ≡ map f (filter (λ x. p (f x)) xs)
@@ -21,3 +21,9 @@ pub insert-map : {X Y : Type 0} (f : X → Y) (xs : List X) (n : ℕ) (y : X) �
 insert-map f xs zero y = refl
 insert-map f [] (suc n) y = refl
 insert-map f (x ∷ xs) (suc n) y = ap (λ ys. f x ∷ ys) (insert-map f xs n y)
+
+pub remove-map : {X Y : Type 0} (f : X → Y) (xs : List X) (n : ℕ) → map f (remove xs n) ≡ remove (map f xs) n
+remove-map f [] zero = refl
+remove-map f [] (suc n) = refl
+remove-map f (x ∷ xs) zero = refl
+remove-map f (x ∷ xs) (suc n) = ap (λ ys. f x ∷ ys) (remove-map f xs n)

@@ -1,5 +1,5 @@
 -- The files of a draft, where one path more is set.
-use Rattle.std.proofs.Common.{Global, ◌≡◌, ℕ, Bool, true, false, true≢false, cond, List, [], ◌∷◌, Option, Some, None, refl, sym, ap, ap₂, ◌∙◌, subst}
+use Rattle.std.proofs.Common.{Global, ◌≡◌, ℕ, Bool, true, false, true≢false, cond, List, [], ◌∷◌, ◌++◌, map, Option, Some, None, refl, sym, ap, ap₂, ◌∙◌, subst}
 use Rattle.std.specs.Prelude.{option_map}
 use Rattle.std.specs.Arc.{arc_value}
 use Rattle.std.specs.declared.sync.Arc.{Arc}
@@ -11,6 +11,7 @@ use Rattle.std.specs.Ordering.{nat_cmp, match_ordering}
 use Rattle.std.specs.declared.cmp.Ordering.{Ordering}
 use Rattle.std.specs.declared.cmp.Ordering.TheVariants.{Less, Equal, Greater}
 use Rattle.std.specs.Cmp.Lexicographic.{slice_cmp}
+use Rattle.std.proofs.lemmas.List.{append_assoc, map-append}
 use Rattle.std.proofs.lemmas.Map.Lookups.{exact_bytes}
 use Rattle.std.proofs.lemmas.Map.Text.{is_eq-slice_cmp}
 use Rattle.std.proofs.lemmas.Slice.Eq.{bytes_eq-Decides}
@@ -139,3 +140,10 @@ module _ {W : Type 0} where
     pub number_replaced : (file : Option (Arc (File W) Global)) → Some file ≡ lookup (is_at (text_cmp p)) es → option_map number_in file ≡ number_at (arc_value p) (edited_all es files)
     number_replaced None is = number_dropped is
     number_replaced (Some held) is = number_put held is
+
+-- ---- the drafts that are finished
+
+pub finished_more : {X : Type 0} (done now : List (Arc X Global)) (p : Arc X Global) (d : X) (rest left all : List X) → now ≡ done ++ p ∷ [] → arc_value p ≡ d → left ≡ d ∷ rest → map arc_value done ++ left ≡ all → map arc_value now ++ rest ≡ all
+finished_more done now p d rest left all pushed is next was =
+    ap (λ ps. map arc_value ps ++ rest) pushed ∙ ap (λ xs. xs ++ rest) (map-append arc_value done (p ∷ [])) ∙ append_assoc (map arc_value done) (arc_value p ∷ []) rest
+    ∙ ap (λ e. map arc_value done ++ e ∷ rest) is ∙ ap (λ xs. map arc_value done ++ xs) (sym next) ∙ was

@@ -5,7 +5,9 @@ pub mod Editing
 pub mod FileAt
 pub mod FileLists
 pub mod Gathering
+pub mod InPlace
 pub mod Living
+pub mod Newer
 pub mod Numbers
 pub mod OneMore
 pub mod OneWalk
@@ -18,6 +20,9 @@ pub mod Reading
 pub mod Related
 pub mod Searching
 pub mod SlotLists
+pub mod SpotEdits
+pub mod SpotLists
+pub mod SpottedFiles
 pub mod Sounding
 pub mod Turning
 pub mod VersionEntries

@@ -60,7 +60,7 @@ by_no true h = absurd (h refl)
 by_no false h = refl
 
 -- two files of one number stand at one place
-one_place : (changes : List Change) (q r : List ℕ) (f g : Source) → IsLastPut changes q f → IsLastPut changes r g → f.number ≡ g.number → (q ≡ r) × (f.path ≡ g.path)
+pub one_place : (changes : List Change) (q r : List ℕ) (f g : Source) → IsLastPut changes q f → IsLastPut changes r g → f.number ≡ g.number → (q ≡ r) × (f.path ≡ g.path)
 one_place changes q r f g is other same =
     same_put q r f.path g.path f.lang g.lang f.body g.body (sym is.put ∙ ap (change_at changes) same ∙ other.put)
 

@@ -10,6 +10,7 @@ use Rattle.cq_board.specs.Related.{IsSameFile}
 use Rattle.cq_board.specs.declared.projects.ProjectEdit.{ProjectEdit}
 use Rattle.cq_board.specs.declared.projects.ProjectEdit.TheVariants.{Put, Drop, Gate}
 use Rattle.cq_board.specs.Listings.{path_in, number_at}
+use Rattle.cq_board.specs.Spotted.{AreOlder}
 
 module _ {W : Type 0} where
   abbrev pub edited_files : ProjectEdit W → List (File W) → List (File W)
@@ -27,6 +28,12 @@ module _ {W : Type 0} where
   replaced_by (Put held) files = number_at (path_in held) files
   replaced_by (Drop path) files = number_at (arc_value path) files
   replaced_by (Gate conditions) files = None
+
+  -- a file that it puts was put by a later change than all that are there
+  abbrev pub IsNewer : ProjectEdit W → List (File W) → Type 0
+  IsNewer (Put held) files = AreOlder (arc_value held).number files
+  IsNewer (Drop path) files = Unit {0}
+  IsNewer (Gate conditions) files = Unit {0}
 
   -- the edit is what the change of this number asks for, with the work of its text
   abbrev pub IsEditFor : (Lang → List ℕ → W → Type 0) → ℕ → Change → ProjectEdit W → Type 0

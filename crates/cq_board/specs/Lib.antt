@@ -8,6 +8,7 @@ pub mod Ordered
 pub mod Presence
 pub mod Related
 pub mod Slots
+pub mod Spotted
 pub mod Sound
 pub mod Stands
 pub mod Turnover

@@ -1,11 +1,12 @@
 //! The next listing while a batch of changes is gathered: what stands at each path that the batch names is kept beside
 //! each project, and made in its list at once, in path order.
-ghost use Rattle.std.specs.Prelude.{◌≡◌, ◌<◌, ℕ, List, length, map, option_map, IfOk, IfErr, OnOk, if◌then◌else◌};
+ghost use Rattle.std.specs.Prelude.{◌≡◌, ◌<◌, ℕ, List, All, length, map, option_map, IfOk, IfErr, OnOk, if◌then◌else◌};
 ghost use Rattle.std.specs.Arc.{arc_value};
 ghost use Rattle.std.specs.Ordering.{nat_cmp};
 ghost use Rattle.std.specs.Cmp.Lexicographic.{slice_cmp};
 ghost use Rattle.std.specs.Str.{bytes_eq};
 ghost use Rattle.cq_board.specs.Drafts.{IsOwn, IsSetAt, number_in};
+ghost use Rattle.cq_board.specs.Spotted.{AreApart};
 ghost use Rattle.cq_board.specs.Edits.{edited_files, edited_conditions, replaced_by};
 ghost use Rattle.cq_board.specs.Listings.{number_at, name_in, files_in, conditions_in, position_of};
 ghost use Rattle.cq_board.specs.Ordered.{AreRising, IsAt, IsGap};
@@ -13,6 +14,7 @@ ghost use Rattle.cq_board.specs.Ordered.{AreRising, IsAt, IsGap};
 use crate::files::number_of;
 use crate::held::{Held, Project};
 use crate::merging::merged;
+use crate::project_files::ProjectFiles;
 use crate::projects::ProjectEdit;
 use cq_base::{Conditions, Memory, Text};
 use std::alloc::Global;
@@ -65,7 +67,7 @@ impl<W: Drop> Draft<W> {
         ensures set { OnOk result (IsSetAt (arc_value path) file self.old self.new) }
         ensures number { IfOk result (λ number. number ≡ number_at (arc_value path) self.old.files) }
     {
-        let before = number_of(&self.project.files, &path);
+        let before = number_of(self.project.files.items(), &path);
         match self.paths.insert(path, file)? {
             Some(replaced) => Ok(change_in(replaced)),
             None => Ok(before),
@@ -94,6 +96,7 @@ impl<W: Drop> Draft<W> {
 
     // The project with what the batch makes of it: the same one where it changes nothing.
     fn finished(self, alloc: Global) -> Result<Arc<Project<W>, Global>, Memory>
+        requires apart { AreApart self }
         ensures { IfOk result (λ project. arc_value project ≡ self) }
     {
         let Draft {
@@ -104,7 +107,8 @@ impl<W: Drop> Draft<W> {
         if paths.is_empty() && conditions.is_none() {
             return Ok(project);
         }
-        let files = merged(alloc, &project.files, paths)?;
+        let files = merged(alloc, project.files.items(), paths)?;
+        let files = ProjectFiles::gathered(alloc, files)?;
         let name = Arc::try_clone(&project.name)?;
         let conditions = match conditions {
             Some(conditions) => Some(conditions),
@@ -154,6 +158,7 @@ pub fn finished_all<W: Drop>(
     alloc: Global,
     drafts: Vec<Draft<W>>,
 ) -> Result<Vec<Arc<Project<W>, Global>>, Memory>
+    requires apart { All AreApart drafts.items }
     ensures { IfOk result (λ projects. map arc_value projects.items ≡ drafts.items) }
 {
     let mut projects = Vec::with_capacity(alloc, drafts.len())?;
@@ -200,7 +205,7 @@ fn draft_at<W: Drop>(
                 alloc,
                 Project {
                     name,
-                    files: Vec::new(alloc),
+                    files: ProjectFiles::new(alloc),
                     conditions: None,
                 },
             )?;

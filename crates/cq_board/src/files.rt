@@ -1,8 +1,8 @@
-ghost use Rattle.std.specs.Prelude.{◌≡◌, ◌≤◌, ◌++◌, IfOk, IfErr, OnOk, OnErr, length, map};
+ghost use Rattle.std.specs.Prelude.{◌≡◌, ◌<◌, ◌≤◌, ◌++◌, IfOk, IfErr, OnOk, insert, map};
 ghost use Rattle.std.specs.Arc.{arc_value};
+ghost use Rattle.std.specs.Vec.{vec_len, vec_capacity};
 ghost use Rattle.std.specs.Ordering.{nat_cmp};
 ghost use Rattle.std.specs.Cmp.Lexicographic.{slice_cmp};
-ghost use Rattle.cq_history.specs.Files.{with_file, without_file};
 ghost use Rattle.cq_board.specs.Ordered.{AreRising, IsAt, IsGap};
 ghost use Rattle.cq_board.specs.Listings.{path_in, path_of, number_at};
 
@@ -28,44 +28,18 @@ pub fn find<W>(files: &[Arc<Held<W>, Global>], path: &Text) -> Result<usize, usi
     files.binary_search_by(|f| compare(f, path))
 }
 
-/// Takes out the file at the path, and answers the change that put it, if there is one.
-pub fn remove_file<W: Drop>(files: &mut Vec<Arc<Held<W>, Global>>, path: &Text) -> Option<u64>
-    requires { AreRising path_of (map arc_value files.old.items) }
-    ensures rising { AreRising path_of (map arc_value files.new.items) }
-    ensures files { map arc_value files.new.items ≡ without_file path.now (map arc_value files.old.items) }
-    ensures number { result ≡ number_at path.now (map arc_value files.old.items) }
-{
-    match find(files, path) {
-        Ok(i) => {
-            let held = files.remove(i);
-            Some(held.change)
-        }
-        Err(_) => None,
-    }
-}
-
-/// Puts a file at its place, in place of the one at its path, and answers the change that had put that one, if there was
-/// one. Where memory is refused, the files are as before.
-pub fn put_file<W: Drop>(
+/// Puts a file in at an index, where there is room for it. It takes no memory.
+pub fn insert_within<W: Drop>(
     files: &mut Vec<Arc<Held<W>, Global>>,
+    i: usize,
     held: Arc<Held<W>, Global>,
-) -> Result<Option<u64>, Memory>
-    requires { AreRising path_of (map arc_value files.old.items) }
-    ensures rising { AreRising path_of (map arc_value files.new.items) }
-    ensures files { OnOk result (map arc_value files.new.items ≡ with_file (arc_value held) (map arc_value files.old.items)) }
-    ensures number { IfOk result (λ number. number ≡ number_at (path_in held) (map arc_value files.old.items)) }
-    ensures unchanged { OnErr result (files.new.items ≡ files.old.items) }
+)
+    requires within { i ≤ vec_len files.old }
+    requires room { vec_len files.old < vec_capacity files.old }
+    ensures { files.new.items ≡ insert files.old.items i held }
 {
-    match find(files, &held.path) {
-        Ok(i) => {
-            let number = files[i].change;
-            files[i] = held;
-            Ok(Some(number))
-        }
-        Err(i) => {
-            files.insert(i, held)?;
-            Ok(None)
-        }
+    if files.insert(i, held).is_err() {
+        unreachable!();
     }
 }
 

@@ -23,14 +23,17 @@ mod listing;
 mod live;
 mod merging;
 mod presence;
+mod project_files;
 mod projects;
 mod slot_tests;
+mod spots;
 
 pub use answers::{Asked, Finished, Job, Refused};
 pub use board::Board;
 pub use held::Held;
 pub use laws::shards_have_the_entries;
 pub use listing::{Listing, View};
+pub use project_files::ProjectFiles;
 
 #[cfg(test)]
 mod tests;

@@ -15,6 +15,7 @@ use crate::draft::{Draft, drafts_of, edit_draft, finished_all};
 use crate::held::{Held, Project};
 use crate::kept::{Kept, Stored};
 use crate::live::{Turnover, note, turn, turn_one};
+use crate::project_files::ProjectFiles;
 use crate::projects::{ProjectEdit, edit_in, find};
 use cq_base::{Condition, Memory, Settings, Text};
 use cq_shard::Indexed;
@@ -28,10 +29,12 @@ use std::sync::Arc;
 pub struct Listing<W> {
     projects: Vec<Arc<Project<W>, Global>>,
     live: Vec<u64>,
+    // What is lent of a project that has none.
+    no_files: ProjectFiles<W>,
 }
 
 impl<W> Model for Listing<W> {
-    ghost use Rattle.std.specs.Prelude.{map};
+    ghost use Rattle.std.specs.Prelude.{◌≡◌, [], map};
     ghost use Rattle.std.specs.Arc.{arc_value};
     ghost use Rattle.cq_board.specs.Ordered.{AreRising};
     ghost use Rattle.cq_board.specs.Listings.{Listed, owner_name};
@@ -40,7 +43,7 @@ impl<W> Model for Listing<W> {
 
     ghost view = { λ l. record { projects = map arc_value l.projects.items; live = l.live.items } };
 
-    ghost invariant = { λ l. AreRising owner_name l.projects.items };
+    ghost invariant = { λ l. AreRising owner_name l.projects.items × (l.no_files ≡ []) };
 }
 
 impl<W> Listing<W> {
@@ -51,6 +54,17 @@ impl<W> Listing<W> {
         Listing {
             projects: Vec::new(alloc),
             live: Vec::new(alloc),
+            no_files: ProjectFiles::new(alloc),
+        }
+    }
+
+    /// The files of a project, none where it has none. It costs a search among the projects.
+    pub fn project(&self, name: &Text) -> &ProjectFiles<W>
+        ensures { result.now ≡ files_in self.now.projects name.now }
+    {
+        match find(&self.projects, name) {
+            Ok(i) => &self.projects[i].files,
+            Err(_) => &self.no_files,
         }
     }
 
@@ -59,7 +73,7 @@ impl<W> Listing<W> {
         ensures { map arc_value result.now ≡ files_in self.now.projects project.now }
     {
         match find(&self.projects, project) {
-            Ok(i) => &self.projects[i].files,
+            Ok(i) => self.projects[i].files.items(),
             Err(_) => &[],
         }
     }
@@ -246,6 +260,7 @@ fn turn_to<W: Drop>(
                 Listing {
                     projects: next.projects,
                     live,
+                    no_files: ProjectFiles::new(alloc),
                 },
             )?;
             Ok(())

@@ -5,10 +5,10 @@ ghost use Rattle.std.specs.Cmp.Lexicographic.{slice_cmp};
 ghost use Rattle.std.specs.Str.{bytes_eq};
 ghost use Rattle.cq_board.specs.Ordered.{AreRising, IsAt, IsGap};
 ghost use Rattle.cq_board.specs.Listings.{path_in, path_of, owner_name, name_in, projects_in, files_in, conditions_in, position_of};
-ghost use Rattle.cq_board.specs.Edits.{edited_files, edited_conditions, replaced_by};
+ghost use Rattle.cq_board.specs.Edits.{edited_files, edited_conditions, replaced_by, IsNewer};
 
-use crate::files::{put_file, remove_file, shared_files};
 use crate::held::{Held, Project};
+use crate::project_files::ProjectFiles;
 use cq_base::{Conditions, Memory, Text};
 use std::alloc::Global;
 use std::cmp::Ordering;
@@ -43,7 +43,7 @@ fn copied<W: Drop>(alloc: Global, project: &Project<W>) -> Result<Project<W>, Me
     ensures { IfOk result (λ p. p ≡ project.now) }
 {
     let name = Arc::try_clone(&project.name)?;
-    let files = shared_files(alloc, &project.files)?;
+    let files = project.files.copied(alloc)?;
     let conditions = match &project.conditions {
         Some(conditions) => Some(Arc::try_clone(conditions)?),
         None => None,
@@ -57,6 +57,7 @@ fn copied<W: Drop>(alloc: Global, project: &Project<W>) -> Result<Project<W>, Me
 
 // Edits a project, and answers the change whose file it replaced or dropped, if there was one.
 fn edit_own<W: Drop>(project: &mut Project<W>, edit: ProjectEdit<W>) -> Result<Option<u64>, Memory>
+    requires newer { IsNewer edit project.old.files }
     ensures name { project.new.name ≡ project.old.name }
     ensures files { OnOk result (project.new.files ≡ edited_files edit project.old.files) }
     ensures conditions { OnOk result (project.new.conditions ≡ edited_conditions edit project.old.conditions) }
@@ -64,8 +65,8 @@ fn edit_own<W: Drop>(project: &mut Project<W>, edit: ProjectEdit<W>) -> Result<O
     ensures unchanged { OnErr result (project.new ≡ project.old) }
 {
     match edit {
-        ProjectEdit::Put(held) => put_file(&mut project.files, held),
-        ProjectEdit::Drop(path) => Ok(remove_file(&mut project.files, &path)),
+        ProjectEdit::Put(held) => project.files.put(held),
+        ProjectEdit::Drop(path) => Ok(project.files.remove(&path)),
         ProjectEdit::Gate(conditions) => {
             project.conditions = Some(conditions);
             Ok(None)
@@ -79,6 +80,7 @@ fn edit_shared<W: Drop>(
     project: &mut Arc<Project<W>, Global>,
     edit: ProjectEdit<W>,
 ) -> Result<Option<u64>, Memory>
+    requires newer { IsNewer edit (arc_value project.old).files }
     ensures name { owner_name project.new ≡ owner_name project.old }
     ensures files { OnOk result ((arc_value project.new).files ≡ edited_files edit (arc_value project.old).files) }
     ensures conditions { OnOk result ((arc_value project.new).conditions ≡ edited_conditions edit (arc_value project.old).conditions) }
@@ -117,7 +119,7 @@ fn project_at<W: Drop>(
                 alloc,
                 Project {
                     name,
-                    files: Vec::new(alloc),
+                    files: ProjectFiles::new(alloc),
                     conditions: None,
                 },
             )?;
@@ -136,7 +138,8 @@ pub fn edit_in<W: Drop>(
     name: &Arc<Text, Global>,
     edit: ProjectEdit<W>,
 ) -> Result<Option<u64>, Memory>
-    requires { AreRising owner_name projects.old.items }
+    requires names { AreRising owner_name projects.old.items }
+    requires newer { IsNewer edit (files_in (projects_in projects.old.items) (arc_value name.now)) }
     ensures names { AreRising owner_name projects.new.items }
     ensures number { IfOk result (λ n. n ≡ replaced_by edit (files_in (projects_in projects.old.items) (arc_value name.now))) }
     ensures files { OnOk result ((q : List ℕ) → files_in (projects_in projects.new.items) q ≡ (if bytes_eq q (arc_value name.now) then edited_files edit (files_in (projects_in projects.old.items) q) else files_in (projects_in projects.old.items) q)) }

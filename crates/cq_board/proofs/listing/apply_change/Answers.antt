@@ -1,15 +1,21 @@
 use Rattle.std.proofs.Common.{◌++◌}
 use Rattle.std.specs.Arc.{arc_value}
 use Rattle.cq_board.specs.Slots.{change_of}
-use Rattle.cq_board.specs.Listings.{projects_in}
+use Rattle.cq_board.specs.Listings.{listed, projects_in}
 use Rattle.cq_board.specs.Turnover.{left}
 use Rattle.cq_board.proofs.OwnerLists.{rising_owners, rising_projects}
 use Rattle.cq_board.proofs.Advances.{paths_rise}
+use Rattle.cq_board.proofs.Newer.{newer_edit}
 use Rattle.cq_board.proofs.Turning.{edit_adds}
 use Rattle.cq_board.proofs.listing.apply_change.Goals as goal
 
-pub edit_in-requires : goal.edit_in-requires
-edit_in-requires g c = let (changes, base, put, gone, n, is) = c.requires.before in rising_owners c.args.projects.now.items is.listing.names
+pub edit_in-requires-clause-names : goal.edit_in-requires-clause-names
+edit_in-requires-clause-names g c = let (changes, base, put, gone, n, is) = c.requires.before in rising_owners c.args.projects.now.items is.listing.names
+
+pub edit_in-requires-clause-newer : goal.edit_in-requires-clause-newer
+edit_in-requires-clause-newer g c =
+    let (changes, base, put, gone, n, is) = c.requires.before in
+    newer_edit (g.W.Indexed.IsWorkOf c.args.settings.now) changes (listed (projects_in c.args.projects.now.items) (left (base ++ put) gone)) is.listing c.args.number (change_of c.args.kept.now.change) c.in_ok-edit.edit (arc_value c.project_of.result.now) n c.in_ok-edit.ensures
 
 pub returns-clause-next : goal.returns-clause-next
 returns-clause-next g c =

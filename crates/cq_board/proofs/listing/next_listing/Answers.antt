@@ -11,6 +11,7 @@ use Rattle.cq_board.specs.declared.kept.Kept.{Kept}
 use Rattle.cq_board.specs.Slots.{slot_from, change_of, IsWorked}
 use Rattle.cq_board.specs.Listings.{Listed, projects_in}
 use Rattle.cq_board.specs.Turnover.{IsNext}
+use Rattle.cq_board.proofs.Newer.{all_apart}
 use Rattle.cq_board.proofs.Turning.{next_first}
 use Rattle.cq_board.proofs.SlotLists.{slot_read}
 use Rattle.cq_board.proofs.Advances.{next_changes}
@@ -64,6 +65,10 @@ draft_change-requires-clause-before g c =
     let changes : List Change = changes_from c.args.slots.now in
     let few : length changes ≡ length c.args.slots.now = length-map (map slot_from c.args.slots.now) (λ (s : Slot). s.change) ∙ length-map c.args.slots.now (slot_from {W = g.row.W.Denot}) in
     (take c.loop-number.number changes, c.args.old.now.live, c.loop-number.turnover.put.items, c.loop-number.turnover.gone.items, ap (λ n. n + 1) (length-take-le c.loop-number.number changes (omega (arith, few, lt))), c.loop-number.invariant)
+
+pub finished_all-requires : goal.finished_all-requires
+finished_all-requires g c =
+    record { apart = all_apart (g.W.Indexed.IsWorkOf c.args.settings.now) (take c.loop-number.number (changes_from c.args.slots.now)) _ c.loop-number.invariant.listing }
 
 pub returns : goal.returns
 returns g c =

@@ -1,13 +1,18 @@
 use Rattle.std.specs.Arc.{arc_value}
-use Rattle.std.proofs.Common.{List, ℕ, ◌≡◌, ap, subst}
+use Rattle.std.proofs.Common.{List, ℕ, ◌≡◌, sym, ap, subst}
 use Rattle.std.specs.Prelude.{IfOk}
 use Rattle.std.proofs.lemmas.Result.{on_ok_weaker, on_err_weaker}
 use Rattle.cq_base.specs.declared.change.Condition.{Condition}
 use Rattle.cq_history.specs.Files.{File}
 use Rattle.cq_board.specs.Listings.{ListedProject}
-use Rattle.cq_board.specs.Edits.{edited_files, edited_conditions, replaced_by}
+use Rattle.cq_board.specs.Edits.{edited_files, edited_conditions, replaced_by, IsNewer}
 use Rattle.cq_board.proofs.Editing.{names_stay, files_here, files_edited, files_same, conditions_edited, conditions_same}
 use Rattle.cq_board.proofs.projects.edit_in.Goals as goal
+
+pub edit_shared-requires : goal.edit_shared-requires
+edit_shared-requires g c = record {
+  newer = subst (IsNewer c.args.edit) (sym (files_here (arc_value c.args.name.now) c.args.projects.now.items c.project_at.new.projects.items c.in_ok-i.i c.in_ok-i.ensures.first c.in_ok-i.ensures.within c.index_mut.result.now c.index_mut.ensures.value c.project_at.ensures.files)) c.requires.newer;
+}
 
 pub returns-clause-names : goal.returns-clause-names
 returns-clause-names g c = names_stay (arc_value c.args.name.now) c.args.projects.now.items c.project_at.new.projects.items c.in_ok-i.i c.in_ok-i.ensures.first c.in_ok-i.ensures.within c.index_mut.result.now c.index_mut.ensures.value c.edit_shared.new.project c.edit_shared.ensures.name c.project_at.ensures.names

@@ -16,7 +16,7 @@ pub returns-clause-set : goal.returns-clause-set
 returns-clause-set g c =
     let es = c.self.inside.paths.entries in
     let files = (arc_value c.self.inside.project).files in
-    let rising : AreRising path_of files = subst (λ (p : ListedProject g.row.W.Denot). AreRising path_of p.files) (c.behind-self.view_is ∙ c.deref.ensures) c.behind-self.invariant in
+    let rising : AreRising path_of files = subst (λ (p : ListedProject g.row.W.Denot). AreRising path_of p.files) (c.behind-self.view_is ∙ c.deref.ensures) c.items.ensures.rising in
     let name = ap name_in c.self.view_is in
     let made = ap (λ xs. edited_all xs files) c.in_ok-replaced.ensures.entries ∙ set_files es c.args.path c.args.file files c.requires c.self.invariant rising
     ∙ ap (λ (p : ListedProject g.row.W.Denot). edited_at (arc_value c.args.path) c.args.file p.files) c.self.view_is in
@@ -34,7 +34,7 @@ returns-clause-number g c =
     elim c.match-branch-2.branch [
       | in-Some w ↦ rw w.result-is (w.change_in.ensures ∙ number_replaced es c.args.path files c.self.invariant w.in-Some.replaced (sym w.in-Some.is ∙ c.in_ok-replaced.ensures.old) ∙ seen)
       | in-None w ↦ rw w.result-is
-          (c.number_of-before.ensures ∙ ap₂ (λ p (hs : List (Arc (File g.row.W.Denot) Global)). number_at p (map arc_value hs)) c.deref-3.ensures c.deref-2.ensures.value
+          (c.number_of-before.ensures ∙ ap₂ (λ p (fs : List (File g.row.W.Denot)). number_at p fs) c.deref-2.ensures c.items.ensures.files
           ∙ ap (λ (p : ListedProject g.row.W.Denot). number_at (arc_value c.args.path) p.files) (c.behind-self.view_is ∙ c.deref.ensures)
           ∙ number_before es c.args.path files c.self.invariant (sym w.in-None.is ∙ c.in_ok-replaced.ensures.old) ∙ seen)
     ]

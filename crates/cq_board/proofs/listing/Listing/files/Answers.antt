@@ -1,6 +1,4 @@
-use Rattle.cq_history.specs.Files.{File}
-use Rattle.std.specs.Arc.{arc_value}
-use Rattle.std.proofs.Common.{List, Global, map, ap, subst, ◌∙◌}
+use Rattle.std.proofs.Common.{List, Global, ap, subst, ◌∙◌}
 use Rattle.std.specs.declared.sync.Arc.{Arc}
 use Rattle.cq_board.specs.Listings.{Listed, owner_name, files_in, ListedProject}
 use Rattle.cq_board.specs.Ordered.{IsAt, IsGap}
@@ -9,7 +7,7 @@ use Rattle.cq_board.proofs.listing.Listing.files.Goals as goal
 
 pub returns-in-Ok : goal.returns-in-Ok
 returns-in-Ok g c =
-    ap (λ (hs : List (Arc (File g.row.W.Denot) Global)). map arc_value hs) c.deref-in-Ok-2.ensures.value ∙ ap (λ (p : ListedProject g.row.W.Denot). p.files) (c.behind-index.view_is ∙ c.deref-in-Ok.ensures)
+    c.items.ensures.files ∙ ap (λ (p : ListedProject g.row.W.Denot). p.files) (c.behind-index.view_is ∙ c.deref-in-Ok.ensures)
     ∙ files_found c.args.project.now c.self.inside.projects.items c.in-Ok.i (subst (λ (ps : List (Arc (ListedProject g.row.W.Denot) Global)). IsAt owner_name c.args.project.now ps c.in-Ok.i) c.deref.ensures.value c.in-Ok.ensures.found) c.index.result.now c.index.ensures
     ∙ ap (λ (l : Listed g.row.W.Denot). files_in l.projects c.args.project.now) c.self.view_is
 
