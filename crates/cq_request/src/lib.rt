@@ -1,6 +1,7 @@
 //! Requests, read from lines of JSON. What a line means is one table of requests and one order of refusals, over
 //! `serde_json`'s own reading of bytes, and `read_request` answers exactly that, want of memory apart. A line is parsed
-//! once; the text of an upload is moved out of what was parsed, and the short texts beside it are copied.
+//! once; the text of an upload is moved out of what was parsed, and the short texts beside it are copied. What reads
+//! the fields of a table's row is lent to crates whose lines have another table.
 #![tactic(auto)]
 
 mod condition;
