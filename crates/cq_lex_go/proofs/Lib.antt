@@ -1,5 +1,4 @@
 pub mod NumberSteps
-pub mod NumberFront
 pub mod Elements
 pub mod Dispatch
 pub mod Inserting

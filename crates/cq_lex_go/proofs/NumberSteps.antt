@@ -1,13 +1,11 @@
 -- The steps of the scan of numbers are right: each is tested by computing, at one character of each kind.
-use Rattle.std.proofs.Common.{◌≡◌, ℕ, ◌<◌, Option, Bool, true, List, [], ◌∷◌, ◌↔◌, inl, length, get_or, ⊎_elim, refl, sym, subst, ◌∙◌, arith}
+use Rattle.std.proofs.Common.{◌≡◌, ℕ, Option, Bool, true, List, [], ◌∷◌, ◌↔◌, refl, arith}
 use Rattle.std.specs.List.{list_all}
-use Rattle.std.specs.Option.{option_map}
-use Rattle.cq_munch.specs.Behind.{SpellsAny, agree_each, entry_ok, any_takes_empty}
+use Rattle.std.specs.Option.{IfNone, IfSome}
+use Rattle.cq_munch.specs.Behind.{SpellsAny, agree_each}
 use Rattle.cq_munch.specs.Longest.{LongestAt}
 use Rattle.cq_munch.specs.Pattern.{Spells}
-use Rattle.cq_munch.proofs.Front.{LongestAt-same}
-use Rattle.cq_munch.proofs.Steps.{and_both, any_takes_empty-if, any_takes_empty-then}
-use Rattle.cq_munch.proofs.Tables.{all_at, agree-after, agrees_everywhere}
+use Rattle.cq_munch.proofs.Tables.{all_at, state_ok, ends, step_none, step_next, agrees_behind, one_pattern}
 use Rattle.cq_lex_go.specs.Numbers.{number}
 use Rattle.cq_lex_go.specs.NumberStates.{kind_rows, kind_of, sample, next_of, may_end, reached, rest_of}
 use Rattle.cq_lex_go.specs.declared.number.Kind.{Kind}
@@ -15,140 +13,71 @@ use Rattle.cq_lex_go.specs.declared.number.Kind.TheVariants as kinds
 use Rattle.cq_lex_go.specs.declared.number.Number.{Number}
 use Rattle.cq_lex_go.specs.declared.number.Number.TheVariants as states
 
-step_ok : Number → Kind → Bool
-step_ok s k = entry_ok (rest_of s) (sample k) (option_map rest_of (next_of s k))
-
-all_kinds : List Kind
+abbrev all_kinds : List Kind
 all_kinds = kinds.Zero ∷ kinds.One ∷ kinds.Octal ∷ kinds.Decimal ∷ kinds.B ∷ kinds.E ∷ kinds.Hex ∷ kinds.O ∷ kinds.X ∷ kinds.P ∷ kinds.I ∷ kinds.Underscore ∷ kinds.Dot ∷ kinds.Sign ∷ kinds.Other ∷ []
 
-place : Kind → ℕ
-place kinds.Zero = 0
-place kinds.One = 1
-place kinds.Octal = 2
-place kinds.Decimal = 3
-place kinds.B = 4
-place kinds.E = 5
-place kinds.Hex = 6
-place kinds.O = 7
-place kinds.X = 8
-place kinds.P = 9
-place kinds.I = 10
-place kinds.Underscore = 11
-place kinds.Dot = 12
-place kinds.Sign = 13
-place kinds.Other = 14
+each_kind : (test : Kind → Bool) → list_all test all_kinds ≡ true → (k : Kind) → test k ≡ true
+each_kind test h kinds.Zero = all_at test all_kinds h 0 kinds.Zero (omega arith)
+each_kind test h kinds.One = all_at test all_kinds h 1 kinds.One (omega arith)
+each_kind test h kinds.Octal = all_at test all_kinds h 2 kinds.Octal (omega arith)
+each_kind test h kinds.Decimal = all_at test all_kinds h 3 kinds.Decimal (omega arith)
+each_kind test h kinds.B = all_at test all_kinds h 4 kinds.B (omega arith)
+each_kind test h kinds.E = all_at test all_kinds h 5 kinds.E (omega arith)
+each_kind test h kinds.Hex = all_at test all_kinds h 6 kinds.Hex (omega arith)
+each_kind test h kinds.O = all_at test all_kinds h 7 kinds.O (omega arith)
+each_kind test h kinds.X = all_at test all_kinds h 8 kinds.X (omega arith)
+each_kind test h kinds.P = all_at test all_kinds h 9 kinds.P (omega arith)
+each_kind test h kinds.I = all_at test all_kinds h 10 kinds.I (omega arith)
+each_kind test h kinds.Underscore = all_at test all_kinds h 11 kinds.Underscore (omega arith)
+each_kind test h kinds.Dot = all_at test all_kinds h 12 kinds.Dot (omega arith)
+each_kind test h kinds.Sign = all_at test all_kinds h 13 kinds.Sign (omega arith)
+each_kind test h kinds.Other = all_at test all_kinds h 14 kinds.Other (omega arith)
 
-at_place : (k : Kind) → get_or all_kinds (place k) k ≡ k
-unfolding all_kinds place
-at_place kinds.Zero = refl
-at_place kinds.One = refl
-at_place kinds.Octal = refl
-at_place kinds.Decimal = refl
-at_place kinds.B = refl
-at_place kinds.E = refl
-at_place kinds.Hex = refl
-at_place kinds.O = refl
-at_place kinds.X = refl
-at_place kinds.P = refl
-at_place kinds.I = refl
-at_place kinds.Underscore = refl
-at_place kinds.Dot = refl
-at_place kinds.Sign = refl
-at_place kinds.Other = refl
+-- the test of all states
+right : (s : Number) → state_ok rest_of may_end sample next_of all_kinds s ≡ true
+unfolding state_ok rest_of number
+right states.Start = refl
+right states.Zero = refl
+right states.Whole = refl
+right states.Point = refl
+right states.Zeros = refl
+right states.NotOctal = refl
+right states.BinaryMark = refl
+right states.Exponent = refl
+right states.OctalMark = refl
+right states.HexMark = refl
+right states.Imaginary = refl
+right states.ZerosGap = refl
+right states.WholePoint = refl
+right states.Wholes = refl
+right states.WholesGap = refl
+right states.Fraction = refl
+right states.NotOctalGap = refl
+right states.Binary = refl
+right states.BinaryGap = refl
+right states.ExponentDigits = refl
+right states.ExponentGap = refl
+right states.OctalDigits = refl
+right states.OctalGap = refl
+right states.HexDigits = refl
+right states.HexGap = refl
+right states.HexPoint = refl
+right states.HexWholePoint = refl
+right states.HexFraction = refl
 
-in_place : (k : Kind) → place k < length all_kinds
-unfolding all_kinds place
-in_place kinds.Zero = omega arith
-in_place kinds.One = omega arith
-in_place kinds.Octal = omega arith
-in_place kinds.Decimal = omega arith
-in_place kinds.B = omega arith
-in_place kinds.E = omega arith
-in_place kinds.Hex = omega arith
-in_place kinds.O = omega arith
-in_place kinds.X = omega arith
-in_place kinds.P = omega arith
-in_place kinds.I = omega arith
-in_place kinds.Underscore = omega arith
-in_place kinds.Dot = omega arith
-in_place kinds.Sign = omega arith
-in_place kinds.Other = omega arith
-
--- the test of all steps
-steps_of : (s : Number) → list_all (step_ok s) all_kinds ≡ true
-unfolding all_kinds step_ok rest_of number
-steps_of states.Start = refl
-steps_of states.Zero = refl
-steps_of states.Whole = refl
-steps_of states.Point = refl
-steps_of states.Zeros = refl
-steps_of states.NotOctal = refl
-steps_of states.BinaryMark = refl
-steps_of states.Exponent = refl
-steps_of states.OctalMark = refl
-steps_of states.HexMark = refl
-steps_of states.Imaginary = refl
-steps_of states.ZerosGap = refl
-steps_of states.WholePoint = refl
-steps_of states.Wholes = refl
-steps_of states.WholesGap = refl
-steps_of states.Fraction = refl
-steps_of states.NotOctalGap = refl
-steps_of states.Binary = refl
-steps_of states.BinaryGap = refl
-steps_of states.ExponentDigits = refl
-steps_of states.ExponentGap = refl
-steps_of states.OctalDigits = refl
-steps_of states.OctalGap = refl
-steps_of states.HexDigits = refl
-steps_of states.HexGap = refl
-steps_of states.HexPoint = refl
-steps_of states.HexWholePoint = refl
-steps_of states.HexFraction = refl
-
-pub right : (s : Number) (k : Kind) → entry_ok (rest_of s) (sample k) (option_map rest_of (next_of s k)) ≡ true
-unfolding step_ok
-right s k = subst (λ v. step_ok s v ≡ true) (at_place k) (all_at (step_ok s) all_kinds (steps_of s) (place k) k (in_place k))
-
-pub agrees : (s : Number) (c : ℕ) → agree_each c (sample (kind_of c)) (rest_of s) ≡ true
+agrees : (s : Number) (c : ℕ) → agree_each c (sample (kind_of c)) (rest_of s) ≡ true
 unfolding rest_of number
-agrees s c =
-    agree-after c (sample (kind_of c)) (reached s) (number ∷ []) (and_both _ _ (agrees_everywhere number kind_rows kinds.Other sample refl refl refl (omega arith) c) refl)
+agrees s c = agrees_behind number kind_rows kinds.Other sample refl refl refl (omega arith) (reached s) c
 
-ends : (s : Number) → may_end s ≡ any_takes_empty (rest_of s)
-unfolding rest_of number
-ends states.Start = refl
-ends states.Zero = refl
-ends states.Whole = refl
-ends states.Point = refl
-ends states.Zeros = refl
-ends states.NotOctal = refl
-ends states.BinaryMark = refl
-ends states.Exponent = refl
-ends states.OctalMark = refl
-ends states.HexMark = refl
-ends states.Imaginary = refl
-ends states.ZerosGap = refl
-ends states.WholePoint = refl
-ends states.Wholes = refl
-ends states.WholesGap = refl
-ends states.Fraction = refl
-ends states.NotOctalGap = refl
-ends states.Binary = refl
-ends states.BinaryGap = refl
-ends states.ExponentDigits = refl
-ends states.ExponentGap = refl
-ends states.OctalDigits = refl
-ends states.OctalGap = refl
-ends states.HexDigits = refl
-ends states.HexGap = refl
-ends states.HexPoint = refl
-ends states.HexWholePoint = refl
-ends states.HexFraction = refl
+pub number_none : (s : Number) (c : ℕ) (r : Option Number) → next_of s (kind_of c) ≡ r → IfNone r ((t : List ℕ) → SpellsAny (rest_of s) (c ∷ t) → ⊥)
+number_none s c r is = step_none rest_of may_end sample next_of all_kinds right kind_of agrees each_kind s c r is
+
+pub number_next : (s : Number) (c : ℕ) (r : Option Number) → next_of s (kind_of c) ≡ r → IfSome r (λ n. (t : List ℕ) → SpellsAny (rest_of s) (c ∷ t) ↔ SpellsAny (rest_of n) t)
+number_next s c r is = step_next rest_of may_end sample next_of all_kinds right kind_of agrees each_kind s c r is
 
 pub an_end : (s : Number) (b : Bool) → b ≡ may_end s → (b ≡ true) ↔ SpellsAny (rest_of s) []
-an_end s b is = (λ h. any_takes_empty-then (rest_of s) (sym (is ∙ ends s) ∙ h), λ h. is ∙ ends s ∙ any_takes_empty-if (rest_of s) h)
+an_end s b is = ends rest_of may_end sample next_of all_kinds right s b is
 
 pub starts : (text : List ℕ) (r : Option ℕ) → LongestAt (SpellsAny (rest_of states.Start)) text r → LongestAt (Spells number) text r
 unfolding rest_of
-starts text r h = LongestAt-same (SpellsAny (number ∷ [])) (Spells number) (λ s. (⊎_elim (λ a. a) (λ b. absurd b), λ a. inl a)) text r h
+starts text r h = one_pattern number text r h

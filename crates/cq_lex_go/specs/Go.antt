@@ -5,14 +5,14 @@ use Rattle.cq_munch.specs.declared.element.Spell.TheVariants.{Blank, Comment, To
 use Rattle.cq_munch.specs.Language.{Language, marked}
 use Rattle.cq_munch.specs.Longest.{IsAmong}
 use Rattle.cq_munch.specs.Pattern.{Spells}
-use Rattle.cq_munch.specs.Table.{Row, table, first}
+use Rattle.cq_munch.specs.Table.{Row, table, first, begins}
 use Rattle.cq_lex_go.specs.Words.{IsName, keywords, punctuation, blank_characters}
-use Rattle.cq_lex_go.specs.Numbers.{number, begins_as_number}
+use Rattle.cq_lex_go.specs.Numbers.{number}
 use Rattle.cq_munch.specs.Comments.{IsBlockComment, IsLineComment}
 use Rattle.cq_munch.specs.Quotes.{quoted}
 use Rattle.cq_munch.specs.declared.ends.LineEnds.TheVariants.{Feed}
 use Rattle.cq_munch.specs.declared.quoted.Quote.TheVariants.{Double, Single}
-use Rattle.cq_lex_go.specs.Openers.{begins, IsRawString}
+use Rattle.cq_lex_go.specs.Openers.{IsRawString}
 
 abbrev pub names : Row
 names = record { spell = Token Ident; set = λ s. IsName s × (IsAmong keywords s → ⊥) }
@@ -24,7 +24,7 @@ abbrev pub blanks : Row
 blanks = record { spell = Blank; set = IsAmong blank_characters }
 
 abbrev pub numbers : Row
-numbers = record { spell = Token Literal; set = λ s. Spells number s × IsTrue (begins_as_number s) }
+numbers = record { spell = Token Literal; set = Spells number }
 
 -- what an escape means is not checked
 abbrev pub strings : Row

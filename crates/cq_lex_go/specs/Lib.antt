@@ -7,6 +7,7 @@ pub mod RawStates
 pub mod Go
 pub mod Fronts
 pub mod Ascii
+pub mod Starts
 pub mod Semicolons
 pub mod NoneLost
 pub mod OneKind

@@ -73,16 +73,3 @@ real = decimal ∣ binary ∣ octal ∣ hex ∣ decimal_float ∣ hex_float
 -- a number, or one with an i behind it
 unfoldable pub number : Pattern
 number = real ∣ (real ∣ digits decimal_digit) ▸ only 105
-
--- A digit, or a point and a digit. Each number begins so, which is said of the row too: by its first characters it is
--- apart from the other rows.
-abbrev pub is_digit : ℕ → Bool
-is_digit c = nat_lt 47 c && nat_lt c 58
-
-abbrev pub begins_with_digit : List ℕ → Bool
-begins_with_digit [] = false
-begins_with_digit (c ∷ s) = is_digit c
-
-abbrev pub begins_as_number : List ℕ → Bool
-begins_as_number [] = false
-begins_as_number (c ∷ s) = is_digit c || ((c == 46) && begins_with_digit s)

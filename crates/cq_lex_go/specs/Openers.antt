@@ -2,12 +2,6 @@
 use Rattle.std.specs.Prelude.{◌≡◌, ℕ, ◌==◌, ◌&&◌, Bool, true, false, List, [], ◌∷◌, MatchBool}
 use Rattle.cq_munch.specs.Comments.{IsAfter}
 
--- the text begins with this one
-abbrev pub begins : List ℕ → List ℕ → Bool
-begins [] text = true
-begins (c ∷ cs) [] = false
-begins (c ∷ cs) (d ∷ ds) = (d == c) && begins cs ds
-
 -- characters up to the first backquote, and no more
 abbrev pub EndsAtBackquote : List ℕ → Type 0
 EndsAtBackquote [] = ⊥

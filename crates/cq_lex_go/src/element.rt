@@ -1,10 +1,9 @@
 ghost use Rattle.std.specs.Prelude.{◌≡◌, ◌<◌, ◌^◌, ℕ, [], ◌∷◌, length, slice_index_or};
 ghost use Rattle.cq_munch.specs.Characters.{characters};
 ghost use Rattle.cq_munch.specs.Language.{Takes};
-ghost use Rattle.cq_munch.specs.Table.{InTable, table};
+ghost use Rattle.cq_munch.specs.Table.{InTable, table, begins};
 ghost use Rattle.cq_munch.specs.declared.element.Spell.TheVariants.{Token as token};
 ghost use Rattle.cq_lex_go.specs.Go.{unmarked};
-ghost use Rattle.cq_lex_go.specs.Openers.{begins};
 ghost use Rattle.cq_lex_go.specs.Words.{IsName};
 ghost use Rattle.cq_lex_go.specs.Fronts.{front_of, rows_of};
 ghost use Rattle.cq_lex_go.specs.declared.element.Front.TheVariants.{Letter, Other};

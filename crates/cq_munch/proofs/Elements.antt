@@ -110,6 +110,9 @@ too_many {lang} {bytes} {units} {tokens} {at} {mode} {end} {line} so_far many re
   let is = ap length so_far.tokens_are in let more = tokens-more bytes units 0 so_far.elements rest.0 in omega arith,
 )
 
+further : (at n : ℕ) (units : List Unit) → drop n (drop at units) ≡ drop (at + n) units
+further at n units = drop-drop n at units ∙ ap (λ k. drop k units) (omega arith)
+
 -- an element that is no token
 pub one_blank : {lang : Language} {bytes : List ℕ} {units : List Unit} {tokens : List Spelled} {at mode end line : ℕ} → SoFar lang bytes units tokens at mode end line → (f : Found) → Takes lang at mode (drop at (characters units)) (Some f)
     → at + f.units ≤ length units → f.mode ≤ 3 → tokens ≡ tokens ++ token_of bytes f.spell (take f.units (drop at units)) → SoFar lang bytes units tokens (at + f.units) f.mode end line
@@ -123,9 +126,6 @@ one_blank {lang} {bytes} {units} {tokens} {at} {mode} {end} {line} so_far f take
   line_is = so_far.line_is;
   ordered = so_far.ordered;
 }
-  where
-    further : (at n : ℕ) (units : List Unit) → drop n (drop at units) ≡ drop (at + n) units
-    further at n units = drop-drop n at units ∙ ap (λ k. drop k units) (omega arith)
 
 -- an element that is a token
 pub one_token : {lang : Language} {bytes : List ℕ} {units : List Unit} {tokens : List Spelled} {at mode end line : ℕ} → SoFar lang bytes units tokens at mode end line → (f : Found) → Takes lang at mode (drop at (characters units)) (Some f)
@@ -157,9 +157,6 @@ one_token {lang} {bytes} {units} {tokens} {at} {mode} {end} {line} so_far f take
       ordered = subst (λ ts. TokensFollow 0 ts (s.token.start + s.token.len)) (sym more_is) (TokensFollow-push 0 tokens end (s.token.start + s.token.len) s so_far.ordered (omega (arith, start_is, ends.0)) (omega (arith, len_is, ends.1)) refl);
     }
   where
-    further : (at n : ℕ) (units : List Unit) → drop n (drop at units) ≡ drop (at + n) units
-    further at n units = drop-drop n at units ∙ ap (λ k. drop k units) (omega arith)
-
     taken_some : (n : ℕ) (xs : List Unit) → 0 < n → n ≤ length xs → 0 < length (take n xs)
     taken_some n xs some within = omega (arith, length-take-le n xs within)
 

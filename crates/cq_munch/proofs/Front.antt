@@ -1,7 +1,7 @@
 -- The longest spelling at the front, as a scan reads one character more.
 use Rattle.std.proofs.Common.{◌≡◌, ℕ, ◌+◌, ◌<◌, ◌≤◌, Option, Some, None, List, [], ◌∷◌, ◌++◌, ◌↔◌, length, take, drop, arith, refl, sym, ap, subst, ◌∙◌, ⊎_elim, length-take-le, map, get_or, append_assoc}
 use Rattle.std.proofs.lemmas.List.{take-take, take_all, take_more, drop_more, append-nil, get_or-map, length-map, get_or-take, take-append-drop}
-use Rattle.std.proofs.str.Laws.{order}
+use Rattle.std.proofs.lemmas.Bool.{cases_lt}
 use Rattle.cq_munch.specs.declared.unit.Unit.{Unit}
 use Rattle.cq_munch.specs.Longest.{LongestAt}
 
@@ -19,7 +19,7 @@ module _ (set : List ℕ → Type 0) (text : List ℕ) (i : ℕ) (inside : i ≤
       ⊎_elim
       (λ behind. none m behind within spelled)
       (λ before. h m some (omega (arith, length_is)) (subst set (sym (front_is m before)) spelled))
-      (order i m)
+      (cases_lt i m)
   stopped (Some n) h none =
       let short : n ≤ i = omega (arith, h.within, length_is) in
       record {
@@ -30,7 +30,7 @@ module _ (set : List ℕ → Type 0) (text : List ℕ) (i : ℕ) (inside : i ≤
             ⊎_elim
             (λ behind. none m behind within spelled)
             (λ before. h.longest m more (omega (arith, length_is)) (subst set (sym (front_is m before)) spelled))
-            (order i m);
+            (cases_lt i m);
       }
 
   longer_front : i < length text → length (take (i + 1) text) ≡ i + 1
@@ -116,7 +116,7 @@ scanned_ended set rest text i found so_far none =
     ⊎_elim
     (λ inside. scanned_stopped so_far (get_or text i 0) inside refl (none (get_or text i 0)))
     (λ end. scanned_all set rest text i found so_far end)
-    (order i (length text))
+    (cases_lt i (length text))
 
 -- a unit's character
 pub ch_at : (units : List Unit) (i : ℕ) → i < length units → get_or (map (λ (u : Unit). u.ch) units) i 0 ≡ (get_or units i (record { ch = 0; start = 0; len = 0 })).ch

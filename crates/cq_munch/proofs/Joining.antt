@@ -1,7 +1,8 @@
 -- The element of a table, from the longest spellings of its rows.
 use Rattle.std.proofs.Common.{subst, ap, ◌≡◌, ℕ, ◌<◌, ◌≤◌, Option, Some, None, Bool, true, false, cond, ltb, List, [], ◌∷◌, ◌++◌, ◌⊎◌, inl, inr, ⊎_elim, length, take, refl, sym, ◌∙◌, arith}
-use Rattle.std.specs.Prelude.{MatchBool}
-use Rattle.std.proofs.lemmas.Bool.{ltb-true, ltb-false}
+use Rattle.std.specs.Prelude.{MatchBool, IfSome}
+use Rattle.std.proofs.lemmas.Bool.{ltb-true, ltb-false, MatchBool-at_true, MatchBool-at_false}
+use Rattle.cq_base.proofs.Bools.{MatchBool-from_true, MatchBool-from_false}
 use Rattle.cq_munch.specs.Longest.{IsLongest, LongestAt}
 use Rattle.cq_munch.specs.declared.element.Found.{Found}
 use Rattle.cq_munch.specs.declared.element.Spell.{Spell}
@@ -61,45 +62,29 @@ module _ (at mode : ℕ) (text : List ℕ) where
 
 -- where the test passes, the first rows alone
 module _ (test : ℕ → ℕ → List ℕ → Bool) (rows : List Row) (lang : Language) (at mode : ℕ) (text : List ℕ) where
-  chosen : (b : Bool) (P Q : Type 0) → b ≡ true → MatchBool b P Q → P
-  chosen true P Q h k = k
-  chosen false P Q h k = absurd (cc)
-
-  passed : (b : Bool) (P Q : Type 0) → b ≡ false → MatchBool b P Q → Q
-  passed true P Q h k = absurd (cc)
-  passed false P Q h k = k
-
-  choose : (b : Bool) (P Q : Type 0) → b ≡ true → P → MatchBool b P Q
-  choose true P Q h k = k
-  choose false P Q h k = absurd (cc)
-
-  pass : (b : Bool) (P Q : Type 0) → b ≡ false → Q → MatchBool b P Q
-  pass true P Q h k = absurd (cc)
-  pass false P Q h k = k
-
   pub takes_first : test at mode text ≡ true → (r : Option Found) → Takes (table rows) at mode text r → ((spell : Spell) (s : List ℕ) → lang.mode_behind mode spell s ≡ mode) → Takes (first test rows lang) at mode text r
-  takes_first h None taken same = λ m some within x. taken m some within (x.0, chosen (test at mode text) _ (lang.tried at mode text x.0 (take m text)) h x.1)
+  takes_first h None taken same = λ m some within x. taken m some within (x.0, MatchBool-at_true (InTable rows x.0 (take m text)) (lang.tried at mode text x.0 (take m text)) h x.1)
   takes_first h (Some f) taken same = (
     record {
       some = taken.0.some;
       within = taken.0.within;
-      spelled = (f.spell, choose (test at mode text) (InTable rows f.spell (take f.units text)) (lang.tried at mode text f.spell (take f.units text)) h taken.1);
-      longest = λ m more within x. taken.0.longest m more within (x.0, chosen (test at mode text) _ (lang.tried at mode text x.0 (take m text)) h x.1);
+      spelled = (f.spell, MatchBool-from_true (test at mode text) (InTable rows f.spell (take f.units text)) (lang.tried at mode text f.spell (take f.units text)) h taken.1);
+      longest = λ m more within x. taken.0.longest m more within (x.0, MatchBool-at_true (InTable rows x.0 (take m text)) (lang.tried at mode text x.0 (take m text)) h x.1);
     },
-    choose (test at mode text) (InTable rows f.spell (take f.units text)) (lang.tried at mode text f.spell (take f.units text)) h taken.1,
+    MatchBool-from_true (test at mode text) (InTable rows f.spell (take f.units text)) (lang.tried at mode text f.spell (take f.units text)) h taken.1,
     taken.2 ∙ sym (same f.spell (take f.units text)),
   )
 
   pub takes_rest : test at mode text ≡ false → (r : Option Found) → Takes lang at mode text r → Takes (first test rows lang) at mode text r
-  takes_rest h None taken = λ m some within x. taken m some within (x.0, passed (test at mode text) (InTable rows x.0 (take m text)) _ h x.1)
+  takes_rest h None taken = λ m some within x. taken m some within (x.0, MatchBool-at_false (InTable rows x.0 (take m text)) (lang.tried at mode text x.0 (take m text)) h x.1)
   takes_rest h (Some f) taken = (
     record {
       some = taken.0.some;
       within = taken.0.within;
-      spelled = (f.spell, pass (test at mode text) (InTable rows f.spell (take f.units text)) (lang.tried at mode text f.spell (take f.units text)) h taken.1);
-      longest = λ m more within x. taken.0.longest m more within (x.0, passed (test at mode text) (InTable rows x.0 (take m text)) _ h x.1);
+      spelled = (f.spell, MatchBool-from_false (test at mode text) (InTable rows f.spell (take f.units text)) (lang.tried at mode text f.spell (take f.units text)) h taken.1);
+      longest = λ m more within x. taken.0.longest m more within (x.0, MatchBool-at_false (InTable rows x.0 (take m text)) (lang.tried at mode text x.0 (take m text)) h x.1);
     },
-    pass (test at mode text) (InTable rows f.spell (take f.units text)) (lang.tried at mode text f.spell (take f.units text)) h taken.1,
+    MatchBool-from_false (test at mode text) (InTable rows f.spell (take f.units text)) (lang.tried at mode text f.spell (take f.units text)) h taken.1,
     taken.2,
   )
 
@@ -171,3 +156,34 @@ narrowed at mode text rows few down up (Some f) h = (
   up f.spell (take f.units text) h.1,
   h.2,
 )
+
+better_none : (a : Option Found) → better a None ≡ a
+better_none None = refl
+better_none (Some f) = refl
+
+-- a table of one row
+pub one_row_taken : (at mode : ℕ) (text : List ℕ) (row : Row) (len : Option ℕ) (own : Option Found) → own ≡ found_of row.spell mode len → LongestAt row.set text len → Takes (table (row ∷ [])) at mode text own
+one_row_taken at mode text row len own is h = row_more at mode text row [] len own None own is (sym (better_none own)) h (no_rows at mode text)
+
+-- rows whose spellings are all in one set, which is scanned
+module _ (rows : List Row) (set : List ℕ → Type 0) (in_set : (spell : Spell) (s : List ℕ) → InTable rows spell s → set s) (at mode : ℕ) (text : List ℕ) where
+  pub none_in_set : LongestAt set text None → Takes (table rows) at mode text None
+  none_in_set none = λ m some within x. none m some within (in_set x.0 (take m text) x.1)
+
+  pub one_in_set : (spell : Spell) (len : ℕ) → IsLongest set text len → InTable rows spell (take len text) → Takes (table rows) at mode text (Some (record { spell = spell; units = len; mode = mode }))
+  one_in_set spell len longest row = (
+    record {
+      some = longest.some;
+      within = longest.within;
+      spelled = (spell, row);
+      longest = λ m more within x. longest.longest m more within (in_set x.0 (take m text) x.1);
+    },
+    row,
+    refl,
+  )
+
+-- an element of a language that keeps the mode keeps it
+pub mode_kept : (lang : Language) (at mode : ℕ) (text : List ℕ) (r : Option Found) → ((spell : Spell) (s : List ℕ) → lang.mode_behind mode spell s ≡ mode) → mode ≤ 3 → Takes lang at mode text r → IfSome r (λ f. f.mode ≤ 3)
+mode_kept lang at mode text None same known taken = tt
+mode_kept lang at mode text (Some f) same known taken =
+    let e : f.mode ≡ mode = taken.2 ∙ same f.spell (take f.units text) in omega (arith, e, known)

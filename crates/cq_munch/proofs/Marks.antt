@@ -1,35 +1,20 @@
 -- A byte order mark, and places where none is.
 use Rattle.std.proofs.Common.{◌≡◌, ℕ, zero, suc, Option, Some, None, Bool, true, false, List, [], ◌∷◌, length, take, refl, sym, ap, ◌∙◌, arith, length-take-le}
 use Rattle.std.specs.Prelude.{MatchBool}
-use Rattle.std.proofs.lemmas.Bool.{eqb-true}
+use Rattle.std.proofs.lemmas.Bool.{eqb-true, MatchBool-at_true, MatchBool-at_false}
+use Rattle.cq_base.proofs.Bools.{MatchBool-from_true, MatchBool-from_false}
 use Rattle.cq_munch.specs.declared.element.Found.{Found}
 use Rattle.cq_munch.specs.declared.element.Spell.{Spell}
 use Rattle.cq_munch.specs.declared.element.Spell.TheVariants.{Blank}
 use Rattle.cq_munch.specs.Language.{Language, Takes, Allows, marked, has_mark}
 
-chosen_none : (b : Bool) (P Q : Type 0) → b ≡ false → MatchBool b P Q → Q
-chosen_none true P Q h k = absurd (cc)
-chosen_none false P Q h k = k
-
-chosen_mark : (b : Bool) (P Q : Type 0) → b ≡ true → MatchBool b P Q → P
-chosen_mark true P Q h k = k
-chosen_mark false P Q h k = absurd (cc)
-
-choose_none : (b : Bool) (P Q : Type 0) → b ≡ false → Q → MatchBool b P Q
-choose_none true P Q h k = absurd (cc)
-choose_none false P Q h k = k
-
-choose_mark : (b : Bool) (P Q : Type 0) → b ≡ true → P → MatchBool b P Q
-choose_mark true P Q h k = k
-choose_mark false P Q h k = absurd (cc)
-
 -- where there is no mark, the language's own rows are tried
 module _ (lang : Language) (at mode : ℕ) (text : List ℕ) (h : has_mark at text ≡ false) where
   own : (s : List ℕ) → Allows (marked lang) at mode text s → Allows lang at mode text s
-  own s row = (row.0, chosen_none (has_mark at text) ((row.0 ≡ Blank) × (s ≡ 65279 ∷ [])) (lang.tried at mode text row.0 s) h row.1)
+  own s row = (row.0, MatchBool-at_false ((row.0 ≡ Blank) × (s ≡ 65279 ∷ [])) (lang.tried at mode text row.0 s) h row.1)
 
   tried : (spell : Spell) (s : List ℕ) → lang.tried at mode text spell s → (marked lang).tried at mode text spell s
-  tried spell s row = choose_none (has_mark at text) ((spell ≡ Blank) × (s ≡ 65279 ∷ [])) (lang.tried at mode text spell s) h row
+  tried spell s row = MatchBool-from_false (has_mark at text) ((spell ≡ Blank) × (s ≡ 65279 ∷ [])) (lang.tried at mode text spell s) h row
 
   pub takes_unmarked : (r : Option Found) → Takes lang at mode text r → Takes (marked lang) at mode text r
   takes_unmarked None taken = λ m some within spelled. taken m some within (own _ spelled)
@@ -52,13 +37,13 @@ takes_mark lang mode (c ∷ cs) h same =
     let is : c ≡ 65279 = eqb-true c 65279 h in
     let alone : c ∷ [] ≡ 65279 ∷ [] = ap (λ v. v ∷ []) is in
     let rows : (marked lang).tried 0 mode (c ∷ cs) Blank (c ∷ []) =
-    choose_mark (has_mark 0 (c ∷ cs)) ((Blank ≡ Blank) × (c ∷ [] ≡ 65279 ∷ [])) (lang.tried 0 mode (c ∷ cs) Blank (c ∷ [])) h (refl, alone) in (
+    MatchBool-from_true (has_mark 0 (c ∷ cs)) ((Blank ≡ Blank) × (c ∷ [] ≡ 65279 ∷ [])) (lang.tried 0 mode (c ∷ cs) Blank (c ∷ [])) h (refl, alone) in (
       record {
         some = omega arith;
         within = omega arith;
         spelled = (Blank, rows);
         longest = λ m more within spelled.
-            let is_mark = chosen_mark (has_mark 0 (c ∷ cs)) ((spelled.0 ≡ Blank) × (take m (c ∷ cs) ≡ 65279 ∷ [])) (lang.tried 0 mode (c ∷ cs) spelled.0 (take m (c ∷ cs))) h spelled.1 in
+            let is_mark = MatchBool-at_true ((spelled.0 ≡ Blank) × (take m (c ∷ cs) ≡ 65279 ∷ [])) (lang.tried 0 mode (c ∷ cs) spelled.0 (take m (c ∷ cs))) h spelled.1 in
             let one = ap length is_mark.1 in
             let as_long = length-take-le m (c ∷ cs) within in
             omega arith;

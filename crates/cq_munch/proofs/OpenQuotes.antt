@@ -1,7 +1,7 @@
 -- A scan of a text in quotes that is not closed: no text in these quotes begins at a character that it read.
 use Rattle.std.proofs.Common.{◌≡◌, ◌⊎◌, ℕ, zero, suc, ◌+◌, ◌-◌, ◌<◌, ◌≤◌, Option, Some, None, Bool, true, false, List, [], ◌∷◌, ◌++◌, ◌↔◌, length, get_or, take, drop, refl, sym, ap, subst, ◌∙◌, inl, inr, ⊎_elim, arith, length-drop}
 use Rattle.std.proofs.lemmas.List.{drop_more, take-append-drop, drop-take, take-take}
-use Rattle.std.proofs.str.Laws.{order}
+use Rattle.std.proofs.lemmas.Bool.{cases_lt}
 use Rattle.cq_munch.specs.Behind.{SpellsAny}
 use Rattle.cq_munch.specs.Longest.{LongestAt}
 use Rattle.cq_munch.specs.Pattern.{Spells, only, many, ◌▸◌}
@@ -17,8 +17,7 @@ use Rattle.cq_munch.specs.declared.quoted.Place.{Place}
 use Rattle.cq_munch.specs.declared.quoted.Place.TheVariants as places
 use Rattle.cq_munch.specs.declared.quoted.Quoted.{Quoted}
 use Rattle.cq_munch.proofs.Front.{Scanned, scanned_none, scanned_kept, scanned_won, scanned_stopped, scanned_all, scanned_ended}
-use Rattle.cq_munch.proofs.QuoteSteps.{at, right, agrees, starts, an_end}
-use Rattle.cq_munch.proofs.Tables.{step_none, step_next}
+use Rattle.cq_munch.proofs.QuoteSteps.{at, quote_none, quote_next, starts, an_end}
 
 -- the spellings that go on from a place
 abbrev Goes : Quote → LineEnds → Place → List ℕ → Type 0
@@ -56,10 +55,10 @@ Start quote ends = Goes quote ends places.Before
 begun_here : (quote : Quote) (ends : LineEnds) (place next : Place) (c : ℕ) (s : List ℕ) → place_behind quote place (role_of quote ends (mark_of c)) ≡ Some next → closed_at next ≡ false
     → (first : Option Place) → place_behind quote places.Before (role_of quote ends (mark_of c)) ≡ first → Start quote ends (c ∷ s) → Goes quote ends next s
 begun_here quote ends place next c s is unclosed None begins h =
-    absurd (step_none rest_of mark_of sample next_of agrees right (at quote ends places.Before) c None (ap (stepped quote ends) begins) s h)
+    absurd (quote_none (at quote ends places.Before) c None (ap (stepped quote ends) begins) s h)
 begun_here quote ends place next c s is unclosed (Some first) begins h =
     let roles = by_role quote (role_of quote ends (mark_of c)) place first next begins is unclosed in
-    let goes = (step_next rest_of mark_of sample next_of agrees right (at quote ends places.Before) c (Some (at quote ends first)) (ap (stepped quote ends) begins) s).0 h in
+    let goes = (quote_next (at quote ends places.Before) c (Some (at quote ends first)) (ap (stepped quote ends) begins) s).0 h in
     let opened : Goes quote ends places.Opened s = subst (λ p. Goes quote ends p s) roles.0 goes in
     ⊎_elim (λ same. subst (λ p. Goes quote ends p s) (sym same) opened) (λ inside. subst (λ p. Goes quote ends p s) (sym inside) (opened_inside quote ends s opened)) roles.1
 
@@ -114,7 +113,7 @@ module _ {quote : Quote} {ends : LineEnds} {state : Quoted} {text : List ℕ} {i
   pub stopped_at : next_of state (mark_of c) ≡ None → LongestAt (Start quote ends) text None
   stopped_at is =
       scanned_stopped so_far.scanned c inside c_is
-      (step_none rest_of mark_of sample next_of agrees right (at quote ends state.place) c None (ap (λ v. next_of v (mark_of c)) as_at ∙ is))
+      (quote_none (at quote ends state.place) c None (ap (λ v. next_of v (mark_of c)) as_at ∙ is))
 
   module _ (next : Quoted) (is : next_of state (mark_of c) ≡ Some next) where
     here : next_of (at quote ends state.place) (mark_of c) ≡ Some next
@@ -123,10 +122,10 @@ module _ {quote : Quote} {ends : LineEnds} {state : Quoted} {text : List ℕ} {i
     -- the text is closed with c
     pub closed_at_once : is_closed next ≡ true → LongestAt (Start quote ends) text (Some (i + 1))
     closed_at_once closed =
-        let goes = step_next rest_of mark_of sample next_of agrees right (at quote ends state.place) c (Some next) here in
+        let goes = quote_next (at quote ends state.place) c (Some next) here in
         let won = scanned_won so_far.scanned c inside c_is (SpellsAny (rest_of next)) goes ((an_end next true (sym closed)).0 refl) in
         scanned_ended (Start quote ends) (SpellsAny (rest_of next)) text (i + 1) (Some (i + 1)) won
-        (λ d. step_none rest_of mark_of sample next_of agrees right next d None (ap (stepped next.quote next.ends) (behind_closed next.quote next.place (role_of next.quote next.ends (mark_of d)) closed)))
+        (λ d. quote_none next d None (ap (stepped next.quote next.ends) (behind_closed next.quote next.place (role_of next.quote next.ends (mark_of d)) closed)))
 
     -- it is not
     module _ (unclosed : is_closed next ≡ false) where
@@ -139,7 +138,7 @@ module _ {quote : Quote} {ends : LineEnds} {state : Quoted} {text : List ℕ} {i
       scanned_on : Scanned (Start quote ends) (Goes quote ends next.place) text (i + 1) None
       scanned_on =
           scanned_kept so_far.scanned c inside c_is (Goes quote ends next.place)
-          (step_next rest_of mark_of sample next_of agrees right (at quote ends state.place) c (Some (at quote ends next.place)) (ap (stepped quote ends) parts.2)) not_yet
+          (quote_next (at quote ends state.place) c (Some (at quote ends next.place)) (ap (stepped quote ends) parts.2)) not_yet
 
       begun_at : (s : List ℕ) → Start quote ends (get_or text i 0 ∷ s) → Start quote ends (take (i + 1) text ++ s)
       begun_at s h =
@@ -155,7 +154,7 @@ module _ {quote : Quote} {ends : LineEnds} {state : Quoted} {text : List ℕ} {i
             ⊎_elim
             (λ before. so_far.begun j before s h)
             (λ last. let same : i ≡ j = omega arith in subst (λ k. Start quote ends (get_or text k 0 ∷ s) → Start quote ends (take (k + 1) text ++ s)) same (begun_at s) h)
-            (order j i);
+            (cases_lt j i);
       }
 
 -- none of the characters that were read begins a text that is closed

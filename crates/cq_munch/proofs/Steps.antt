@@ -1,13 +1,13 @@
 -- What may follow a character: a pattern's spellings that begin with it, without it.
 use Rattle.std.proofs.Common.{◌≡◌, ℕ, Bool, true, false, cond, ◌&&◌, ◌||◌, List, [], ◌∷◌, ◌++◌, ◌⊎◌, inl, inr, ⊎_elim, refl, sym, ap, subst, ◌∙◌}
-use Rattle.std.proofs.lemmas.Bool.{eqb-true}
+use Rattle.std.proofs.lemmas.Bool.{eqb-true, and_parts, and_from, or_cases, or_left, or_right}
 use Rattle.std.specs.Bool.{beq}
 use Rattle.std.specs.List.{concat, AllByRecursion}
 use Rattle.cq_munch.specs.Behind.{takes_empty, any_takes_empty, SpellsAny, joined, joined_each, behind, behind_each, same, same_ranges, has, covers, agree, agree_each}
 use Rattle.cq_munch.specs.Pattern.{Range, in_ranges, Pattern, never, empty, among, except, ◌▸◌, ◌∣◌, many, Spells}
 
 -- first the laws on the empty spelling
-beq-is : (a b : Bool) → beq a b ≡ true → a ≡ b
+pub beq-is : (a b : Bool) → beq a b ≡ true → a ≡ b
 beq-is true true h = refl
 beq-is false false h = refl
 beq-is true false h = absurd (cc)
@@ -16,25 +16,6 @@ beq-is false true h = absurd (cc)
 pub beq-same : (a b : Bool) → a ≡ b → beq a b ≡ true
 beq-same true b h = subst (λ v. beq true v ≡ true) h refl
 beq-same false b h = subst (λ v. beq false v ≡ true) h refl
-
-or_left : (a b : Bool) → a ≡ true → (a || b) ≡ true
-or_left a b h = subst (λ v. (v || b) ≡ true) (sym h) refl
-
-or_right : (a b : Bool) → b ≡ true → (a || b) ≡ true
-or_right true b h = refl
-or_right false b h = h
-
-pub and_both : (a b : Bool) → a ≡ true → b ≡ true → (a && b) ≡ true
-and_both true b h k = k
-and_both false b h k = h
-
-pub and_cases : (a b : Bool) → (a && b) ≡ true → (a ≡ true) × (b ≡ true)
-and_cases true b h = (refl, h)
-and_cases false b h = absurd (cc)
-
-or_cases : (a b : Bool) → (a || b) ≡ true → (a ≡ true) ⊎ (b ≡ true)
-or_cases true b h = inl refl
-or_cases false b h = inr h
 
 nil_cases : (a b : List ℕ) → [] ≡ a ++ b → (a ≡ []) × (b ≡ [])
 nil_cases [] b h = (refl, sym h)
@@ -47,7 +28,7 @@ takes_empty-if (among ranges) h = let e : [] ≡ h.0 ∷ [] = h.1 in absurd (cc)
 takes_empty-if (except ranges) h = let e : [] ≡ h.0 ∷ [] = h.1 in absurd (cc)
 takes_empty-if (p ▸ q) h =
     let e = nil_cases h.0 h.1 h.2 in
-    and_both _ _ (takes_empty-if p (subst (Spells p) e.0 h.3)) (takes_empty-if q (subst (Spells q) e.1 h.4))
+    and_from _ _ (takes_empty-if p (subst (Spells p) e.0 h.3)) (takes_empty-if q (subst (Spells q) e.1 h.4))
 takes_empty-if (p ∣ q) h = ⊎_elim (λ a. or_left _ _ (takes_empty-if p a)) (λ b. or_right _ _ (takes_empty-if q b)) h
 takes_empty-if (many p) h = refl
 
@@ -57,7 +38,7 @@ takes_empty-then empty h = refl
 takes_empty-then (among ranges) h = absurd (cc)
 takes_empty-then (except ranges) h = absurd (cc)
 takes_empty-then (p ▸ q) h =
-    let both = and_cases _ _ h in ([], [], refl, takes_empty-then p both.0, takes_empty-then q both.1)
+    let both = and_parts _ _ h in ([], [], refl, takes_empty-then p both.0, takes_empty-then q both.1)
 takes_empty-then (p ∣ q) h = ⊎_elim (λ a. inl (takes_empty-then p a)) (λ b. inr (takes_empty-then q b)) (or_cases _ _ h)
 takes_empty-then (many p) h = ([], refl, tt)
 
@@ -195,6 +176,15 @@ pub any_takes_empty-if : (ps : List Pattern) → SpellsAny ps [] → any_takes_e
 any_takes_empty-if [] h = absurd h
 any_takes_empty-if (p ∷ ps) h = ⊎_elim (λ a. or_left _ _ (takes_empty-if p a)) (λ b. or_right _ _ (any_takes_empty-if ps b)) h
 
+-- what may stand behind a word, and that the word is spelled where nothing may
+abbrev pub behind_word : List ℕ → List Pattern → List Pattern
+behind_word [] ps = ps
+behind_word (c ∷ w) ps = behind_word w (behind_each c ps)
+
+pub spelled_word : (w : List ℕ) (ps : List Pattern) → SpellsAny ps w → any_takes_empty (behind_word w ps) ≡ true
+spelled_word [] ps h = any_takes_empty-if ps h
+spelled_word (c ∷ w) ps h = spelled_word w (behind_each c ps) (behind_each-if ps c w h)
+
 pub any_takes_empty-then : (ps : List Pattern) → any_takes_empty ps ≡ true → SpellsAny ps []
 any_takes_empty-then [] h = absurd (cc)
 any_takes_empty-then (p ∷ ps) h = ⊎_elim (λ a. inl (takes_empty-then p a)) (λ b. inr (any_takes_empty-then ps b)) (or_cases _ _ h)
@@ -203,8 +193,8 @@ any_takes_empty-then (p ∷ ps) h = ⊎_elim (λ a. inl (takes_empty-then p a)) 
 same_ranges-is : (rs qs : List Range) → same_ranges rs qs ≡ true → rs ≡ qs
 same_ranges-is [] [] h = refl
 same_ranges-is ((a, b) ∷ rs) ((c, d) ∷ qs) h =
-    let first = and_cases _ _ h in
-    let second = and_cases _ _ first.1 in
+    let first = and_parts _ _ h in
+    let second = and_parts _ _ first.1 in
     let low : a ≡ c = eqb-true a c first.0 in
     let high : b ≡ d = eqb-true b d second.0 in
     let rest : rs ≡ qs = same_ranges-is rs qs second.1 in
@@ -217,12 +207,12 @@ same-is empty empty h = refl
 same-is (among rs) (among qs) h = ap among (same_ranges-is rs qs h)
 same-is (except rs) (except qs) h = ap except (same_ranges-is rs qs h)
 same-is (a ▸ b) (c ▸ d) h =
-    let both = and_cases _ _ h in
+    let both = and_parts _ _ h in
     let left : a ≡ c = same-is a c both.0 in
     let right : b ≡ d = same-is b d both.1 in
     cc
 same-is (a ∣ b) (c ∣ d) h =
-    let both = and_cases _ _ h in
+    let both = and_parts _ _ h in
     let left : a ≡ c = same-is a c both.0 in
     let right : b ≡ d = same-is b d both.1 in
     cc
@@ -237,7 +227,7 @@ has-spells (q ∷ qs) p s h k =
 pub covers-spells : (ps qs : List Pattern) → covers ps qs ≡ true → (s : List ℕ) → SpellsAny ps s → SpellsAny qs s
 covers-spells [] qs h s k = absurd k
 covers-spells (p ∷ ps) qs h s k =
-    let both = and_cases _ _ h in
+    let both = and_parts _ _ h in
     ⊎_elim (λ a. has-spells qs p s both.0 a) (λ b. covers-spells ps qs both.1 s b) k
 
 -- characters that no class tells apart have the same behind them
@@ -247,15 +237,15 @@ agree-behind c d empty h = refl
 agree-behind c d (among rs) h = ap (λ v. cond v (empty ∷ []) []) (beq-is _ _ h)
 agree-behind c d (except rs) h = ap (λ v. cond v [] (empty ∷ [])) (beq-is _ _ h)
 agree-behind c d (p ▸ q) h =
-    let both = and_cases _ _ h in
+    let both = and_parts _ _ h in
     λ i. joined_each (agree-behind c d p both.0 i) q ++ cond (takes_empty p) (agree-behind c d q both.1 i) []
 agree-behind c d (p ∣ q) h =
-    let both = and_cases _ _ h in
+    let both = and_parts _ _ h in
     λ i. agree-behind c d p both.0 i ++ agree-behind c d q both.1 i
 agree-behind c d (many p) h = λ i. joined_each (agree-behind c d p h i) (many p)
 
 pub agree-behind_each : (c d : ℕ) (ps : List Pattern) → agree_each c d ps ≡ true → behind_each c ps ≡ behind_each d ps
 agree-behind_each c d [] h = refl
 agree-behind_each c d (p ∷ ps) h =
-    let both = and_cases _ _ h in
+    let both = and_parts _ _ h in
     λ i. agree-behind c d p both.0 i ++ agree-behind_each c d ps both.1 i

@@ -1,39 +1,41 @@
 -- A scan by a table: its entries are tested at one character of each class, by computing.
-use Rattle.std.proofs.Common.{◌≡◌, ℕ, zero, suc, ◌<◌, ◌≤◌, Option, Some, None, Bool, true, false, cond, ◌||◌, List, [], ◌∷◌, ◌++◌, ◌↔◌, ⊎_elim, refl, sym, ap, subst, ◌∙◌, arith, length, get_or}
+use Rattle.std.proofs.Common.{◌≡◌, ℕ, zero, suc, ◌<◌, ◌≤◌, Option, Some, None, Bool, true, false, cond, ◌&&◌, ◌||◌, List, [], ◌∷◌, ◌++◌, ◌↔◌, inl, ⊎_elim, refl, sym, ap, subst, ◌∙◌, arith, length, get_or}
+use Rattle.std.specs.Bool.{beq}
 use Rattle.std.specs.List.{list_all}
 use Rattle.std.specs.Option.{option_map, IfNone, IfSome}
-use Rattle.std.proofs.lemmas.Bool.{ltb-true}
+use Rattle.std.proofs.lemmas.Bool.{ltb-true, cases_lt, and_parts, and_from}
 use Rattle.std.proofs.lemmas.Grind.{common_steps}
-use Rattle.std.proofs.str.Laws.{order}
-use Rattle.cq_munch.specs.Pattern.{Range, in_range, in_ranges, Pattern, never, empty, among, except, ◌▸◌, ◌∣◌, many}
-use Rattle.cq_munch.specs.Behind.{takes_empty, SpellsAny, joined, joined_each, behind, behind_each, has, distinct, after, agree, agree_each, entry_ok, class_in, ascii_ranges, ascii_rows, ascii, each_below}
-use Rattle.cq_munch.proofs.Steps.{and_cases, and_both, beq-same, covers-spells, behind_each-if, behind_each-then, agree-behind_each}
+use Rattle.cq_munch.specs.Pattern.{Range, in_range, in_ranges, Pattern, never, empty, among, except, ◌▸◌, ◌∣◌, many, Spells}
+use Rattle.cq_munch.specs.Behind.{takes_empty, SpellsAny, joined, joined_each, behind, behind_each, has, distinct, after, any_takes_empty, agree, agree_each, entry_ok, class_in, ascii_ranges, ascii_rows, ascii, each_below}
+use Rattle.cq_munch.specs.Longest.{LongestAt}
+use Rattle.cq_munch.proofs.Front.{LongestAt-same}
+use Rattle.cq_munch.proofs.Steps.{beq-is, beq-same, any_takes_empty-if, any_takes_empty-then, covers-spells, behind_each-if, behind_each-then, agree-behind_each}
 
 pub below_each : (n : ℕ) (test : ℕ → Bool) → each_below n test ≡ true → (c : ℕ) → c < n → test c ≡ true
 below_each zero test h c l = absurd (omega arith)
 below_each (suc n) test h c l =
-    let both = and_cases _ _ h in
-    ⊎_elim (λ less. below_each n test both.1 c less) (λ last. let is : c ≡ n = omega arith in ap test is ∙ both.0) (order c n)
+    let both = and_parts _ _ h in
+    ⊎_elim (λ less. below_each n test both.1 c less) (λ last. let is : c ≡ n = omega arith in ap test is ∙ both.0) (cases_lt c n)
 
 -- what agrees goes on agreeing
 module _ (c d : ℕ) where
   agree-joined : (p q : Pattern) → agree c d p ≡ true → agree c d q ≡ true → agree c d (joined p q) ≡ true
-  agree-joined never q h k = and_both _ _ h k
+  agree-joined never q h k = and_from _ _ h k
   agree-joined empty q h k = k
-  agree-joined (among rs) q h k = and_both _ _ h k
-  agree-joined (except rs) q h k = and_both _ _ h k
-  agree-joined (a ▸ b) q h k = and_both _ _ h k
-  agree-joined (a ∣ b) q h k = and_both _ _ h k
-  agree-joined (many a) q h k = and_both _ _ h k
+  agree-joined (among rs) q h k = and_from _ _ h k
+  agree-joined (except rs) q h k = and_from _ _ h k
+  agree-joined (a ▸ b) q h k = and_from _ _ h k
+  agree-joined (a ∣ b) q h k = and_from _ _ h k
+  agree-joined (many a) q h k = and_from _ _ h k
 
   agree-joined_each : (ps : List Pattern) (q : Pattern) → agree_each c d ps ≡ true → agree c d q ≡ true → agree_each c d (joined_each ps q) ≡ true
   agree-joined_each [] q h k = refl
   agree-joined_each (p ∷ ps) q h k =
-      let both = and_cases _ _ h in and_both _ _ (agree-joined p q both.0 k) (agree-joined_each ps q both.1 k)
+      let both = and_parts _ _ h in and_from _ _ (agree-joined p q both.0 k) (agree-joined_each ps q both.1 k)
 
   agree-append : (ps qs : List Pattern) → agree_each c d ps ≡ true → agree_each c d qs ≡ true → agree_each c d (ps ++ qs) ≡ true
   agree-append [] qs h k = k
-  agree-append (p ∷ ps) qs h k = let both = and_cases _ _ h in and_both _ _ both.0 (agree-append ps qs both.1 k)
+  agree-append (p ∷ ps) qs h k = let both = and_parts _ _ h in and_from _ _ both.0 (agree-append ps qs both.1 k)
 
   agree-not_chosen : (v : Bool) (ps : List Pattern) → agree_each c d ps ≡ true → agree_each c d (cond v [] ps) ≡ true
   agree-not_chosen true ps h = refl
@@ -49,25 +51,25 @@ module _ (c d : ℕ) where
   agree-rest x (among rs) h = agree-chosen (in_ranges rs x) (empty ∷ []) refl
   agree-rest x (except rs) h = agree-not_chosen (in_ranges rs x) (empty ∷ []) refl
   agree-rest x (p ▸ q) h =
-      let both = and_cases _ _ h in
+      let both = and_parts _ _ h in
       agree-append (joined_each (behind x p) q) _ (agree-joined_each (behind x p) q (agree-rest x p both.0) both.1) (agree-chosen (takes_empty p) (behind x q) (agree-rest x q both.1))
   agree-rest x (p ∣ q) h =
-      let both = and_cases _ _ h in agree-append (behind x p) _ (agree-rest x p both.0) (agree-rest x q both.1)
+      let both = and_parts _ _ h in agree-append (behind x p) _ (agree-rest x p both.0) (agree-rest x q both.1)
   agree-rest x (many p) h = agree-joined_each (behind x p) (many p) (agree-rest x p h) h
 
   agree-rest_each : (x : ℕ) (ps : List Pattern) → agree_each c d ps ≡ true → agree_each c d (behind_each x ps) ≡ true
   agree-rest_each x [] h = refl
   agree-rest_each x (p ∷ ps) h =
-      let both = and_cases _ _ h in agree-append (behind x p) _ (agree-rest x p both.0) (agree-rest_each x ps both.1)
+      let both = and_parts _ _ h in agree-append (behind x p) _ (agree-rest x p both.0) (agree-rest_each x ps both.1)
 
   agree-pick : (v : Bool) (p : Pattern) (ps : List Pattern) → agree c d p ≡ true → agree_each c d ps ≡ true → agree_each c d (cond v ps (p ∷ ps)) ≡ true
   agree-pick true p ps h k = k
-  agree-pick false p ps h k = and_both _ _ h k
+  agree-pick false p ps h k = and_from _ _ h k
 
   agree-distinct : (ps : List Pattern) → agree_each c d ps ≡ true → agree_each c d (distinct ps) ≡ true
   agree-distinct [] h = refl
   agree-distinct (p ∷ ps) h =
-      let both = and_cases _ _ h in agree-pick (has (distinct ps) p) p (distinct ps) both.0 (agree-distinct ps both.1)
+      let both = and_parts _ _ h in agree-pick (has (distinct ps) p) p (distinct ps) both.0 (agree-distinct ps both.1)
 
   pub agree-after : (w : List ℕ) (ps : List Pattern) → agree_each c d ps ≡ true → agree_each c d (after w ps) ≡ true
   agree-after [] ps h = h
@@ -80,7 +82,7 @@ entry_none ps c d same ok s h =
 
 pub entry_some : (ps qs : List Pattern) (c d : ℕ) → agree_each c d ps ≡ true → entry_ok ps d (Some qs) ≡ true → (s : List ℕ) → SpellsAny ps (c ∷ s) ↔ SpellsAny qs s
 entry_some ps qs c d same ok s =
-    let both = and_cases _ _ ok in
+    let both = and_parts _ _ ok in
     let is = agree-behind_each c d ps same in (
       λ h. covers-spells (behind_each d ps) qs both.0 s (subst (λ v. SpellsAny v s) is (behind_each-if ps c s h)),
       λ h. behind_each-then ps c s (subst (λ v. SpellsAny v s) (sym is) (covers-spells qs (behind_each d ps) both.1 s h)),
@@ -93,13 +95,13 @@ range_past r c h k = grind (arith, common_steps)
 in_ranges_past : (rs : List Range) (c : ℕ) → ascii_ranges rs ≡ true → 128 ≤ c → in_ranges rs c ≡ false
 in_ranges_past [] c h k = refl
 in_ranges_past (r ∷ rs) c h k =
-    let both = and_cases _ _ h in
+    let both = and_parts _ _ h in
     ap (λ v. v || in_ranges rs c) (range_past r c (ltb-true r.1 128 both.0) k) ∙ in_ranges_past rs c both.1 k
 
 pub class_past : {K : Type 0} (rows : List (List Range × K)) (other : K) (c : ℕ) → ascii_rows rows ≡ true → 128 ≤ c → class_in rows other c ≡ other
 class_past [] other c h k = refl
 class_past (row ∷ rows) other c h k =
-    let both = and_cases _ _ h in
+    let both = and_parts _ _ h in
     ap (λ v. cond v row.1 (class_in rows other c)) (in_ranges_past row.0 c both.0 k) ∙ class_past rows other c both.1 k
 
 pub agree_past : (p : Pattern) (c d : ℕ) → ascii p ≡ true → 128 ≤ c → 128 ≤ d → agree c d p ≡ true
@@ -108,32 +110,47 @@ agree_past empty c d h k l = refl
 agree_past (among rs) c d h k l = beq-same _ _ (in_ranges_past rs c h k ∙ sym (in_ranges_past rs d h l))
 agree_past (except rs) c d h k l = beq-same _ _ (in_ranges_past rs c h k ∙ sym (in_ranges_past rs d h l))
 agree_past (p ▸ q) c d h k l =
-    let both = and_cases _ _ h in and_both _ _ (agree_past p c d both.0 k l) (agree_past q c d both.1 k l)
+    let both = and_parts _ _ h in and_from _ _ (agree_past p c d both.0 k l) (agree_past q c d both.1 k l)
 agree_past (p ∣ q) c d h k l =
-    let both = and_cases _ _ h in and_both _ _ (agree_past p c d both.0 k l) (agree_past q c d both.1 k l)
+    let both = and_parts _ _ h in and_from _ _ (agree_past p c d both.0 k l) (agree_past q c d both.1 k l)
 agree_past (many p) c d h k l = agree_past p c d h k l
 
 -- a test of all holds at each place
 pub all_at : {K : Type 0} (test : K → Bool) (ks : List K) → list_all test ks ≡ true → (i : ℕ) (d : K) → i < length ks → test (get_or ks i d) ≡ true
 all_at test [] h i d l = absurd (omega arith)
-all_at test (k ∷ ks) h zero d l = (and_cases _ _ h).0
-all_at test (k ∷ ks) h (suc i) d l = all_at test ks (and_cases _ _ h).1 i d (omega arith)
+all_at test (k ∷ ks) h zero d l = (and_parts _ _ h).0
+all_at test (k ∷ ks) h (suc i) d l = all_at test ks (and_parts _ _ h).1 i d (omega arith)
 
--- A scan whose steps were tested at one character of each kind: what its two functions say.
-module _ {S K : Type 0} (rest_of : S → List Pattern) (kind_of : ℕ → K) (sample : K → ℕ) (next : S → K → Option S)
-    (agrees : (s : S) (c : ℕ) → agree_each c (sample (kind_of c)) (rest_of s) ≡ true)
-    (right : (s : S) (k : K) → entry_ok (rest_of s) (sample k) (option_map rest_of (next s k)) ≡ true) where
-  pub step_none : (s : S) (c : ℕ) (r : Option S) → next s (kind_of c) ≡ r → IfNone r ((t : List ℕ) → SpellsAny (rest_of s) (c ∷ t) → ⊥)
-  step_none s c (Some n) is = tt
-  step_none s c None is =
-      entry_none (rest_of s) c (sample (kind_of c)) (agrees s c)
-      (subst (λ v. entry_ok (rest_of s) (sample (kind_of c)) (option_map rest_of v) ≡ true) is (right s (kind_of c)))
+-- A scan whose states were tested at one character of each kind: what its two functions say.
+module _ {S K : Type 0} (rest_of : S → List Pattern) (may_end : S → Bool) (sample : K → ℕ) (next : S → K → Option S) (kinds : List K) where
+  -- the test of a state
+  unfoldable pub state_ok : S → Bool
+  state_ok s = list_all (λ k. entry_ok (rest_of s) (sample k) (option_map rest_of (next s k))) kinds && beq (may_end s) (any_takes_empty (rest_of s))
 
-  pub step_next : (s : S) (c : ℕ) (r : Option S) → next s (kind_of c) ≡ r → IfSome r (λ n. (t : List ℕ) → SpellsAny (rest_of s) (c ∷ t) ↔ SpellsAny (rest_of n) t)
-  step_next s c None is = tt
-  step_next s c (Some n) is =
-      entry_some (rest_of s) (rest_of n) c (sample (kind_of c)) (agrees s c)
-      (subst (λ v. entry_ok (rest_of s) (sample (kind_of c)) (option_map rest_of v) ≡ true) is (right s (kind_of c)))
+  module _ (right : (s : S) → state_ok s ≡ true) where
+    pub ends : (s : S) (b : Bool) → b ≡ may_end s → (b ≡ true) ↔ SpellsAny (rest_of s) []
+    unfolding state_ok
+    ends s b is =
+        let same = is ∙ beq-is _ _ (and_parts _ _ (right s)).1 in
+        (λ h. any_takes_empty-then (rest_of s) (sym same ∙ h), λ h. same ∙ any_takes_empty-if (rest_of s) h)
+
+    module _ (kind_of : ℕ → K) (agrees : (s : S) (c : ℕ) → agree_each c (sample (kind_of c)) (rest_of s) ≡ true)
+        (each_kind : (test : K → Bool) → list_all test kinds ≡ true → (k : K) → test k ≡ true) where
+      step_right : (s : S) (k : K) → entry_ok (rest_of s) (sample k) (option_map rest_of (next s k)) ≡ true
+      unfolding state_ok
+      step_right s k = each_kind (λ v. entry_ok (rest_of s) (sample v) (option_map rest_of (next s v))) (and_parts _ _ (right s)).0 k
+
+      pub step_none : (s : S) (c : ℕ) (r : Option S) → next s (kind_of c) ≡ r → IfNone r ((t : List ℕ) → SpellsAny (rest_of s) (c ∷ t) → ⊥)
+      step_none s c (Some n) is = tt
+      step_none s c None is =
+          entry_none (rest_of s) c (sample (kind_of c)) (agrees s c)
+          (subst (λ v. entry_ok (rest_of s) (sample (kind_of c)) (option_map rest_of v) ≡ true) is (step_right s (kind_of c)))
+
+      pub step_next : (s : S) (c : ℕ) (r : Option S) → next s (kind_of c) ≡ r → IfSome r (λ n. (t : List ℕ) → SpellsAny (rest_of s) (c ∷ t) ↔ SpellsAny (rest_of n) t)
+      step_next s c None is = tt
+      step_next s c (Some n) is =
+          entry_some (rest_of s) (rest_of n) c (sample (kind_of c)) (agrees s c)
+          (subst (λ v. entry_ok (rest_of s) (sample (kind_of c)) (option_map rest_of v) ≡ true) is (step_right s (kind_of c)))
 
 -- the test of the classes, below 128 by computing and past it by the ranges' ends
 pub agrees_everywhere : {K : Type 0} (p : Pattern) (rows : List (List Range × K)) (other : K) (sample : K → ℕ)
@@ -143,4 +160,15 @@ agrees_everywhere p rows other sample low rows_low p_low past c =
     ⊎_elim
     (λ l. below_each 128 (λ x. agree x (sample (class_in rows other x)) p) low c l)
     (λ h. subst (λ k. agree c (sample k) p ≡ true) (sym (class_past rows other c rows_low h)) (agree_past p c (sample other) p_low h past))
-    (order c 128)
+    (cases_lt c 128)
+
+-- and so behind a text that leads to a state
+pub agrees_behind : {K : Type 0} (p : Pattern) (rows : List (List Range × K)) (other : K) (sample : K → ℕ)
+    → each_below 128 (λ x. agree x (sample (class_in rows other x)) p) ≡ true → ascii_rows rows ≡ true → ascii p ≡ true → 128 ≤ sample other
+    → (w : List ℕ) (c : ℕ) → agree_each c (sample (class_in rows other c)) (after w (p ∷ [])) ≡ true
+agrees_behind p rows other sample low rows_low p_low past w c =
+    agree-after c (sample (class_in rows other c)) w (p ∷ []) (and_from _ _ (agrees_everywhere p rows other sample low rows_low p_low past c) refl)
+
+-- a list of one pattern
+pub one_pattern : (p : Pattern) (text : List ℕ) (r : Option ℕ) → LongestAt (SpellsAny (p ∷ [])) text r → LongestAt (Spells p) text r
+one_pattern p text r h = LongestAt-same (SpellsAny (p ∷ [])) (Spells p) (λ s. (⊎_elim (λ a. a) (λ b. absurd b), λ a. inl a)) text r h

@@ -1,14 +1,17 @@
 -- A scan of a list of words: what may follow a character is again a list of words, and that it is the list of the next
 -- state is tested by computing.
-use Rattle.std.proofs.Common.{◌≡◌, ◌⊎◌, ℕ, zero, suc, ◌<◌, ◌≤◌, Option, Some, None, Bool, true, false, ◌&&◌, ◌||◌, ◌==◌, nat_lt, List, [], ◌∷◌, ◌↔◌, length, get_or, drop, refl, sym, subst, ap, ap₂, ◌∙◌, inl, inr, ⊎_elim, arith}
-use Rattle.std.proofs.lemmas.Bool.{ltb-true, eqb-true}
-use Rattle.std.proofs.lemmas.Bool.Decides.{eqb_tells}
+use Rattle.std.proofs.Common.{◌≡◌, ◌⊎◌, ℕ, zero, suc, ◌<◌, ◌≤◌, Option, Some, None, Bool, true, false, ◌&&◌, ◌||◌, ◌==◌, not, nat_lt, nat_le, All, List, [], ◌∷◌, ◌↔◌, length, get_or, drop, refl, sym, subst, ap, ap₂, ◌∙◌, inl, inr, ⊎_elim, arith}
+use Rattle.std.proofs.lemmas.Bool.{ltb-true, leb-true, eqb-true, eq-eqb, ne_eqb, cases_lt, and_parts, or_cases}
 use Rattle.std.proofs.lemmas.Slice.Eq.{text_from_reads, HasBytesAt}
-use Rattle.std.specs.Option.{IfNone, IfSome}
-use Rattle.std.proofs.str.Laws.{order}
-use Rattle.cq_munch.specs.Behind.{each_below}
+use Rattle.std.specs.Bool.{beq}
+use Rattle.std.specs.List.{list_all, AllByRecursion}
+use Rattle.std.specs.Prelude.{IsTrue}
+use Rattle.std.specs.Option.{IfNone, IfSome, is_some}
+use Rattle.cq_munch.specs.Behind.{class_in, ascii_rows, each_below}
+use Rattle.cq_munch.specs.Pattern.{Range}
 use Rattle.cq_munch.specs.Longest.{IsAmong}
-use Rattle.cq_munch.proofs.Tables.{below_each}
+use Rattle.cq_munch.proofs.Steps.{beq-is}
+use Rattle.cq_munch.proofs.Tables.{below_each, class_past}
 
 -- the words that begin with a character, without it
 unfoldable pub put : Bool → List ℕ → List (List ℕ) → List (List ℕ)
@@ -19,9 +22,6 @@ unfoldable pub behind_words : ℕ → List (List ℕ) → List (List ℕ)
 behind_words c [] = []
 behind_words c ([] ∷ ws) = behind_words c ws
 behind_words c ((d ∷ w) ∷ ws) = put (d == c) w (behind_words c ws)
-
-pub same_number : (d c : ℕ) → d ≡ c → (d == c) ≡ true
-same_number d c e = ⊎_elim (λ h. h.0) (λ h. absurd (h.1 e)) (eqb_tells d c)
 
 put_here : (b : Bool) (w s : List ℕ) (rest : List (List ℕ)) → b ≡ true → s ≡ w → IsAmong (put b w rest) s
 unfolding put
@@ -44,7 +44,7 @@ behind_if [] c s h = absurd h
 behind_if ([] ∷ ws) c s h = ⊎_elim (λ e. absurd (cc)) (λ k. behind_if ws c s k) h
 behind_if ((d ∷ w) ∷ ws) c s h =
     ⊎_elim
-    (λ e. put_here (d == c) w s (behind_words c ws) (same_number d c (sym (ap (λ v. get_or v 0 0) e))) (ap (drop 1) e))
+    (λ e. put_here (d == c) w s (behind_words c ws) (eq-eqb d c (sym (ap (λ v. get_or v 0 0) e))) (ap (drop 1) e))
     (λ k. put_later (d == c) w s (behind_words c ws) (behind_if ws c s k))
     h
 
@@ -72,24 +72,12 @@ unfoldable pub includes : List (List ℕ) → List (List ℕ) → Bool
 includes [] ws = true
 includes (v ∷ vs) ws = has_word v ws && includes vs ws
 
-left_of : (a b : Bool) → (a && b) ≡ true → a ≡ true
-left_of true b h = refl
-left_of false b h = absurd (cc)
-
-right_of : (a b : Bool) → (a && b) ≡ true → b ≡ true
-right_of true b h = h
-right_of false b h = absurd (cc)
-
-or_cases : (a b : Bool) → (a || b) ≡ true → (a ≡ true) ⊎ (b ≡ true)
-or_cases true b h = inl refl
-or_cases false b h = inr h
-
 same_word-is : (v w : List ℕ) → same_word v w ≡ true → v ≡ w
 unfolding same_word
 same_word-is [] [] h = refl
 same_word-is [] (d ∷ w) h = absurd (cc)
 same_word-is (c ∷ v) [] h = absurd (cc)
-same_word-is (c ∷ v) (d ∷ w) h = ap₂ ◌∷◌ (eqb-true c d (left_of _ _ h)) (same_word-is v w (right_of (c == d) _ h))
+same_word-is (c ∷ v) (d ∷ w) h = ap₂ ◌∷◌ (eqb-true c d (and_parts _ _ h).0) (same_word-is v w (and_parts (c == d) _ h).1)
 
 pub has_word-among : (v : List ℕ) (ws : List (List ℕ)) → has_word v ws ≡ true → IsAmong ws v
 unfolding has_word
@@ -100,27 +88,28 @@ includes-among : (vs ws : List (List ℕ)) (s : List ℕ) → includes vs ws ≡
 unfolding includes
 includes-among [] ws s h k = absurd k
 includes-among (v ∷ vs) ws s h k =
-    ⊎_elim (λ e. subst (IsAmong ws) (sym e) (has_word-among v ws (left_of _ _ h))) (λ later. includes-among vs ws s (right_of (has_word v ws) _ h) later) k
+    ⊎_elim (λ e. subst (IsAmong ws) (sym e) (has_word-among v ws (and_parts _ _ h).0)) (λ later. includes-among vs ws s (and_parts (has_word v ws) _ h).1 later) k
 
 unfoldable pub heads_below : List (List ℕ) → Bool
 heads_below [] = true
 heads_below ([] ∷ ws) = heads_below ws
 heads_below ((d ∷ w) ∷ ws) = nat_lt d 128 && heads_below ws
 
+-- a character past ASCII is no other one
+apart : (d c : ℕ) → d < 128 → 128 ≤ c → d ≡ c → ⊥
+apart d c below past e = omega (arith, e)
+
 put_none : (b : Bool) (w : List ℕ) (rest : List (List ℕ)) → b ≡ false → rest ≡ [] → put b w rest ≡ []
 unfolding put
 put_none true w rest h e = absurd (cc)
 put_none false w rest h e = e
-
-other_number : (d c : ℕ) → d < 128 → 128 ≤ c → (d == c) ≡ false
-other_number d c below past = ⊎_elim (λ h. let e = h.1 in absurd (omega (arith, e))) (λ h. h.0) (eqb_tells d c)
 
 nothing_past : (ws : List (List ℕ)) (c : ℕ) → heads_below ws ≡ true → 128 ≤ c → behind_words c ws ≡ []
 unfolding behind_words heads_below
 nothing_past [] c h past = refl
 nothing_past ([] ∷ ws) c h past = nothing_past ws c h past
 nothing_past ((d ∷ w) ∷ ws) c h past =
-    put_none (d == c) w (behind_words c ws) (other_number d c (ltb-true d 128 (left_of _ _ h)) past) (nothing_past ws c (right_of (nat_lt d 128) _ h) past)
+    put_none (d == c) w (behind_words c ws) (ne_eqb d c (apart d c (ltb-true d 128 (and_parts _ _ h).0) past)) (nothing_past ws c (and_parts (nat_lt d 128) _ h).1 past)
 
 -- the empty word is among others where the test says so
 among_has : (ws : List (List ℕ)) → IsAmong ws [] → has_word [] ws ≡ true
@@ -134,45 +123,98 @@ unfoldable pub words_after : {S : Type 0} → (S → List (List ℕ)) → Option
 words_after words_of None = []
 words_after words_of (Some s) = words_of s
 
--- A machine whose states are lists of words, tested at each ASCII character; past these no state goes on, and no word
--- has one.
-module _ {S : Type 0} (words_of : S → List (List ℕ)) (next : S → ℕ → Option S) where
-  unfoldable pub word_step_ok : S → ℕ → Bool
-  word_step_ok s c = includes (behind_words c (words_of s)) (words_after words_of (next s c)) && includes (words_after words_of (next s c)) (behind_words c (words_of s))
+-- A machine whose states are lists of words, by a table of the characters of ASCII that it tells apart: each state is
+-- tested at each of these; past them no state goes on, and no word has one.
+module _ {S G : Type 0} (words_of : S → List (List ℕ)) (may_end : S → Bool) (rows : List (List Range × G)) (other : G) (next_of : S → G → Option S) where
+  abbrev pub next_at : S → ℕ → Option S
+  next_at s c = next_of s (class_in rows other c)
 
-  module _ (steps_below : (s : S) → each_below 128 (word_step_ok s) ≡ true) (heads : (s : S) → heads_below (words_of s) ≡ true) (past : (s : S) (c : ℕ) → 128 ≤ c → next s c ≡ None) where
-    low_step : (s : S) (c : ℕ) (t : List ℕ) → word_step_ok s c ≡ true → IsAmong (words_of s) (c ∷ t) ↔ IsAmong (words_after words_of (next s c)) t
+  unfoldable pub word_step_ok : S → ℕ → Bool
+  word_step_ok s c =
+      includes (behind_words c (words_of s)) (words_after words_of (next_at s c)) && includes (words_after words_of (next_at s c)) (behind_words c (words_of s))
+
+  -- the test of a state
+  unfoldable pub word_state_ok : S → Bool
+  word_state_ok s = each_below 128 (word_step_ok s) && (heads_below (words_of s) && (not (is_some (next_of s other)) && beq (may_end s) (has_word [] (words_of s))))
+
+  module _ (right : (s : S) → word_state_ok s ≡ true) (rows_low : ascii_rows rows ≡ true) where
+    low_step : (s : S) (c : ℕ) (t : List ℕ) → word_step_ok s c ≡ true → IsAmong (words_of s) (c ∷ t) ↔ IsAmong (words_after words_of (next_at s c)) t
     unfolding word_step_ok
     low_step s c t ok =
         let own = behind_words c (words_of s) in
-        let behind = words_after words_of (next s c) in (
-          λ h. includes-among own behind t (left_of _ _ ok) (behind_if (words_of s) c t h),
-          λ h. behind_then (words_of s) c t (includes-among behind own t (right_of (includes own behind) _ ok) h),
+        let behind = words_after words_of (next_at s c) in
+        let both = and_parts (includes own behind) (includes behind own) ok in (
+          λ h. includes-among own behind t both.0 (behind_if (words_of s) c t h),
+          λ h. behind_then (words_of s) c t (includes-among behind own t both.1 h),
         )
 
-    high_step : (s : S) (c : ℕ) (t : List ℕ) → 128 ≤ c → IsAmong (words_of s) (c ∷ t) ↔ IsAmong (words_after words_of (next s c)) t
-    unfolding words_after
+    nothing : (r : Option S) → not (is_some r) ≡ true → r ≡ None
+    nothing None h = refl
+    nothing (Some s) h = absurd (cc)
+
+    stops : (s : S) (c : ℕ) → 128 ≤ c → next_at s c ≡ None
+    unfolding word_state_ok
+    stops s c high =
+        ap (next_of s) (class_past rows other c rows_low high) ∙ nothing (next_of s other) (and_parts _ _ (and_parts (heads_below (words_of s)) _ (and_parts (each_below 128 (word_step_ok s)) _ (right s)).1).1).0
+
+    high_step : (s : S) (c : ℕ) (t : List ℕ) → 128 ≤ c → IsAmong (words_of s) (c ∷ t) ↔ IsAmong (words_after words_of (next_at s c)) t
+    unfolding words_after word_state_ok
     high_step s c t high = (
-      λ h. absurd (subst (λ ws. IsAmong ws t) (nothing_past (words_of s) c (heads s) high) (behind_if (words_of s) c t h)),
-      λ h. absurd (subst (λ v. IsAmong (words_after words_of v) t) (past s c high) h),
+      λ h.
+          absurd
+          (subst (λ ws. IsAmong ws t) (nothing_past (words_of s) c (and_parts _ _ (and_parts (each_below 128 (word_step_ok s)) _ (right s)).1).0 high) (behind_if (words_of s) c t h)),
+      λ h. absurd (subst (λ v. IsAmong (words_after words_of v) t) (stops s c high) h),
     )
 
-    words_behind : (s : S) (c : ℕ) (t : List ℕ) → IsAmong (words_of s) (c ∷ t) ↔ IsAmong (words_after words_of (next s c)) t
-    words_behind s c t = ⊎_elim (λ below. low_step s c t (below_each 128 (word_step_ok s) (steps_below s) c below)) (λ high. high_step s c t high) (order c 128)
+    words_behind : (s : S) (c : ℕ) (t : List ℕ) → IsAmong (words_of s) (c ∷ t) ↔ IsAmong (words_after words_of (next_at s c)) t
+    unfolding word_state_ok
+    words_behind s c t =
+        ⊎_elim (λ low. low_step s c t (below_each 128 (word_step_ok s) (and_parts _ _ (right s)).0 c low)) (λ high. high_step s c t high) (cases_lt c 128)
 
-    pub word_none : (s : S) (c : ℕ) (r : Option S) → r ≡ next s c → IfNone r ((t : List ℕ) → IsAmong (words_of s) (c ∷ t) → ⊥)
+    pub word_none : (s : S) (c : ℕ) (r : Option S) → r ≡ next_at s c → IfNone r ((t : List ℕ) → IsAmong (words_of s) (c ∷ t) → ⊥)
     unfolding words_after
     word_none s c None is = λ t h. subst (λ v. IsAmong (words_after words_of v) t) (sym is) ((words_behind s c t).0 h)
     word_none s c (Some n) is = tt
 
-    pub word_next : (s : S) (c : ℕ) (r : Option S) → r ≡ next s c → IfSome r (λ n. (t : List ℕ) → IsAmong (words_of s) (c ∷ t) ↔ IsAmong (words_of n) t)
+    pub word_next : (s : S) (c : ℕ) (r : Option S) → r ≡ next_at s c → IfSome r (λ n. (t : List ℕ) → IsAmong (words_of s) (c ∷ t) ↔ IsAmong (words_of n) t)
     unfolding words_after
     word_next s c None is = tt
     word_next s c (Some n) is = λ t. subst (λ v. IsAmong (words_of s) (c ∷ t) ↔ IsAmong (words_after words_of v) t) (sym is) (words_behind s c t)
 
--- a word ends where the test finds the empty one
-pub word_end : (ws : List (List ℕ)) (b : Bool) → b ≡ has_word [] ws → (b ≡ true) ↔ IsAmong ws []
-word_end ws b is = (λ h. has_word-among [] ws (sym is ∙ h), λ h. is ∙ among_has ws h)
+    -- a word ends where the test says so
+    pub word_end : (s : S) (b : Bool) → b ≡ may_end s → (b ≡ true) ↔ IsAmong (words_of s) []
+    unfolding word_state_ok
+    word_end s b is =
+        let same = is ∙ beq-is _ _ (and_parts _ _ (and_parts (heads_below (words_of s)) _ (and_parts (each_below 128 (word_step_ok s)) _ (right s)).1).1).1 in
+        (λ h. has_word-among [] (words_of s) (sym same ∙ h), λ h. same ∙ among_has (words_of s) h)
+
+-- what each word of a list passes, one of them passes
+pub among_passes : (ws : List (List ℕ)) (test : List ℕ → Bool) (s : List ℕ) → list_all test ws ≡ true → IsAmong ws s → test s ≡ true
+among_passes [] test s h among = absurd among
+among_passes (w ∷ ws) test s h among =
+    ⊎_elim (λ e. ap test e ∙ (and_parts _ _ h).0) (λ rest. among_passes ws test s (and_parts (test w) _ h).1 rest) among
+
+-- characters of ASCII, of which each that passes the one test passes the other
+pub low_each : (low test : ℕ → Bool) → ((c : ℕ) → c < 128 → low c ≡ true → test c ≡ true) → (s : List ℕ) → list_all (λ c. nat_lt c 128 && low c) s ≡ true → AllByRecursion (λ c. IsTrue (test c)) s
+low_each low test passes [] h = tt
+low_each low test passes (c ∷ s) h =
+    let both = and_parts (nat_lt c 128 && low c) _ h in
+    let here = and_parts (nat_lt c 128) (low c) both.0 in
+    (passes c (ltb-true c 128 here.0) here.1, low_each low test passes s both.1)
+
+-- of ASCII characters alone
+pub low_at : (w : List ℕ) → list_all (λ c. nat_lt c 128) w ≡ true → All (λ c. c < 128) w
+low_at [] h k d within = absurd (omega arith)
+low_at (c ∷ w) h zero d within = ltb-true c 128 (and_parts _ _ h).0
+low_at (c ∷ w) h (suc k) d within = low_at w (and_parts (nat_lt c 128) _ h).1 k d (omega arith)
+
+-- words of at most so many characters, each of ASCII
+abbrev pub short_word : ℕ → List ℕ → Bool
+short_word most w = nat_le (length w) most && list_all (λ c. nat_lt c 128) w
+
+pub among_short : (ws : List (List ℕ)) (most : ℕ) → list_all (short_word most) ws ≡ true → (s : List ℕ) → IsAmong ws s → (length s ≤ most) × All (λ c. c < 128) s
+among_short ws most all s among =
+    let both = and_parts (nat_le (length s) most) _ (among_passes ws (short_word most) s all among) in (leb-true (length s) most both.0, low_at s both.1)
 
 -- bytes that were read one by one are a word of the list
 pub word_read : (ws : List (List ℕ)) (n : ℕ) (s : List ℕ) → n < length ws → length s ≡ length (get_or ws n []) → HasBytesAt s 0 (get_or ws n []) → IsAmong ws s

@@ -1,4 +1,5 @@
 pub mod Longest
+pub mod ByLength
 pub mod Pattern
 pub mod Behind
 pub mod LineEnds
@@ -9,5 +10,6 @@ pub mod QuoteStates
 pub mod Characters
 pub mod Language
 pub mod Table
+pub mod Fronts
 pub mod Lexed
 pub mod OneAnswer

@@ -1,5 +1,5 @@
 -- A language's table, row by row, and rows that come before it.
-use Rattle.std.specs.Prelude.{◌≡◌, ℕ, Bool, ◌⊎◌, nat_lt, MatchBool, Option, Some, None, List, [], ◌∷◌, if◌then◌else◌}
+use Rattle.std.specs.Prelude.{◌≡◌, ℕ, Bool, true, false, ◌⊎◌, ◌&&◌, ◌==◌, nat_lt, MatchBool, Option, Some, None, List, [], ◌∷◌, if◌then◌else◌}
 use Rattle.cq_munch.specs.declared.element.Spell.{Spell}
 use Rattle.cq_munch.specs.declared.element.Found.{Found}
 use Rattle.cq_munch.specs.Language.{Language}
@@ -34,3 +34,9 @@ better (Some a) (Some b) = if nat_lt a.units b.units then Some b else Some a
 abbrev pub found_of : Spell → ℕ → Option ℕ → Option Found
 found_of spell mode None = None
 found_of spell mode (Some n) = Some (record { spell = spell; units = n; mode = mode })
+
+-- the text begins with this one
+abbrev pub begins : List ℕ → List ℕ → Bool
+begins [] text = true
+begins (c ∷ cs) [] = false
+begins (c ∷ cs) (d ∷ ds) = (d == c) && begins cs ds

@@ -1,6 +1,6 @@
 use Rattle.cq_munch.specs.Characters.{characters}
 use Rattle.cq_lex_go.specs.Go.{marks}
-use Rattle.cq_lex_go.proofs.Elements.{one_row_taken}
+use Rattle.cq_munch.proofs.Joining.{one_row_taken}
 use Rattle.cq_lex_go.proofs.element.operator.Goals as goal
 
 pub returns : goal.returns

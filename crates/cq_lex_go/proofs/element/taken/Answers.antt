@@ -1,13 +1,11 @@
 use Rattle.std.proofs.Common.{◌≡◌, Some, get_or, [], ◌∷◌, ap, refl, sym, ◌∙◌}
 use Rattle.cq_munch.specs.Characters.{characters}
 use Rattle.cq_munch.proofs.Front.{ch_at, as_many}
-use Rattle.cq_munch.proofs.Joining.{row_more}
+use Rattle.cq_munch.proofs.Joining.{row_more, one_row_taken}
 use Rattle.cq_lex_go.specs.Fronts.{front_of}
 use Rattle.cq_lex_go.specs.Go.{blanks, numbers, strings, runes, marks, raws}
 use Rattle.cq_lex_go.specs.declared.element.Front.TheVariants as fronts
 use Rattle.cq_lex_go.proofs.Dispatch.{no_opener, raw_there, one_blank, slash_is}
-use Rattle.cq_lex_go.proofs.Elements.{one_row_taken}
-use Rattle.cq_lex_go.proofs.NumberFront.{numbers_row}
 use Rattle.cq_lex_go.proofs.element.taken.Goals as goal
 
 pub returns-in-Blank : goal.returns-in-Blank
@@ -32,7 +30,7 @@ returns-in-Digit c = λ at.
     let some = as_many c.args.units.now 0 c.requires.some in
     let is : front_of (get_or text 0 0) ≡ fronts.Digit = ap front_of (ch_at c.args.units.now 0 c.requires.some) ∙ sym c.front_of.ensures ∙ c.in-Digit.is in
     no_opener at c.args.mode text some _ fronts.Digit is refl refl
-    (one_row_taken at c.args.mode text numbers _ _ c.found_of-in-Digit.ensures (numbers_row text _ c.longest_number.ensures))
+    (one_row_taken at c.args.mode text numbers _ _ c.found_of-in-Digit.ensures c.longest_number.ensures)
 
 pub returns-in-Point : goal.returns-in-Point
 returns-in-Point c = λ at.
@@ -40,7 +38,7 @@ returns-in-Point c = λ at.
     let some = as_many c.args.units.now 0 c.requires.some in
     let is : front_of (get_or text 0 0) ≡ fronts.Point = ap front_of (ch_at c.args.units.now 0 c.requires.some) ∙ sym c.front_of.ensures ∙ c.in-Point.is in
     no_opener at c.args.mode text some _ fronts.Point is refl refl
-    (row_more at c.args.mode text numbers (marks ∷ []) _ _ _ _ c.found_of-in-Point.ensures c.better.ensures (numbers_row text _ c.longest_number-in-Point.ensures) (c.operator.ensures at))
+    (row_more at c.args.mode text numbers (marks ∷ []) _ _ _ _ c.found_of-in-Point.ensures c.better.ensures c.longest_number-in-Point.ensures (c.operator.ensures at))
 
 pub returns-in-Double : goal.returns-in-Double
 returns-in-Double c = λ at.

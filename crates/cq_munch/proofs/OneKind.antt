@@ -1,0 +1,67 @@
+-- No spelling is of two kinds: what is enough for it, row by row and opener by opener.
+use Rattle.std.proofs.Common.{◌≡◌, ℕ, Bool, true, false, not, List, [], ◌∷◌, refl, sym, ap, ◌∙◌, inl, ⊎_elim}
+use Rattle.std.specs.Prelude.{MatchBool}
+use Rattle.std.specs.List.{list_all}
+use Rattle.std.proofs.lemmas.Bool.{not-true, both_ways}
+use Rattle.cq_munch.specs.Behind.{any_takes_empty}
+use Rattle.cq_munch.specs.Fronts.{Placed, rows_in, rows_at, AllStart}
+use Rattle.cq_munch.specs.Language.{Language, has_mark, marked}
+use Rattle.cq_munch.specs.Longest.{IsAmong}
+use Rattle.cq_munch.specs.Pattern.{Pattern, Spells}
+use Rattle.cq_munch.specs.Table.{Row, InTable, table, first}
+use Rattle.cq_munch.specs.declared.element.Spell.{Spell}
+use Rattle.cq_munch.specs.declared.element.Spell.TheVariants.{Blank}
+use Rattle.cq_munch.proofs.Dispatch.{rows_down, no_empty}
+use Rattle.cq_munch.proofs.Steps.{behind_word, spelled_word}
+use Rattle.cq_munch.proofs.WordLists.{among_passes}
+
+abbrev pub OneKind : List Row → Type 0
+OneKind rows = (s : List ℕ) (a b : Spell) → InTable rows a s → InTable rows b s → a ≡ b
+
+pub no_kind : OneKind []
+no_kind s a b h k = absurd h
+
+-- one row more: what it spells is of no other kind
+pub one_more : (row : Row) (rows : List Row) → OneKind rows → ((s : List ℕ) (b : Spell) → row.set s → InTable rows b s → row.spell ≡ b) → OneKind (row ∷ rows)
+one_more row rows rest same s a b h k =
+    ⊎_elim
+    (λ own. ⊎_elim (λ too. own.0 ∙ sym too.0) (λ other. own.0 ∙ same s b own.1 other) k)
+    (λ other. ⊎_elim (λ own. sym (own.0 ∙ same s a own.1 other)) (λ too. rest s a b other too) k)
+    h
+
+pub one_row : (row : Row) → OneKind (row ∷ [])
+one_row row = one_more row [] no_kind (λ s b own other. absurd other)
+
+-- two rows with no spelling in common
+pub two_apart : (row other : Row) → ((s : List ℕ) → row.set s → other.set s → ⊥) → OneKind (row ∷ other ∷ [])
+two_apart row other apart = one_more row (other ∷ []) (one_row other) (λ s b own h. ⊎_elim (λ too. absurd (apart s own too.1)) (λ none. absurd none) h)
+
+-- rows that stand at one front have one kind, so all have
+pub by_fronts : {F : Type 0} (front : ℕ → F) (rows : List (Placed F)) → AllStart front rows → ((f : F) → OneKind (rows_at rows f)) → OneKind (rows_in rows)
+by_fronts front rows all each [] a b h k = absurd (no_empty front rows all a h)
+by_fronts front rows all each (c ∷ s) a b h k = each (front c) (c ∷ s) a b (rows_down front rows all a c s h) (rows_down front rows all b c s k)
+
+-- none of the words is a spelling of the pattern
+pub no_word_spelled : (p : Pattern) (ws : List (List ℕ)) → list_all (λ w. not (any_takes_empty (behind_word w (p ∷ [])))) ws ≡ true → (s : List ℕ) → Spells p s → IsAmong ws s → ⊥
+no_word_spelled p ws all s spelled among =
+    both_ways (any_takes_empty (behind_word s (p ∷ []))) (not-true _ (among_passes ws (λ w. not (any_takes_empty (behind_word w (p ∷ [])))) s all among)) (spelled_word s (p ∷ []) (inl spelled))
+
+-- ---- a language
+
+abbrev pub HasOneKind : Language → Type 0
+HasOneKind lang = (at mode : ℕ) (text s : List ℕ) (a b : Spell) → lang.tried at mode text a s → lang.tried at mode text b s → a ≡ b
+
+by_test : (t : Bool) (P Q : Spell → Type 0) (a b : Spell) → (P a → P b → a ≡ b) → (Q a → Q b → a ≡ b) → MatchBool t (P a) (Q a) → MatchBool t (P b) (Q b) → a ≡ b
+by_test true P Q a b p q h k = p h k
+by_test false P Q a b p q h k = q h k
+
+pub of_table : (rows : List Row) → OneKind rows → HasOneKind (table rows)
+of_table rows one at mode text s a b h k = one s a b h k
+
+pub of_first : (test : ℕ → ℕ → List ℕ → Bool) (row : Row) (lang : Language) → HasOneKind lang → HasOneKind (first test (row ∷ []) lang)
+of_first test row lang one at mode text s a b h k =
+    by_test (test at mode text) (λ x. InTable (row ∷ []) x s) (λ x. lang.tried at mode text x s) a b (one_row row s a b) (one at mode text s a b) h k
+
+pub of_marked : (lang : Language) → HasOneKind lang → HasOneKind (marked lang)
+of_marked lang one at mode text s a b h k =
+    by_test (has_mark at text) (λ x. (x ≡ Blank) × (s ≡ 65279 ∷ [])) (λ x. lang.tried at mode text x s) a b (λ x y. x.0 ∙ sym y.0) (one at mode text s a b) h k
