@@ -1,14 +1,14 @@
 -- The table of Go's elements.
 use Rattle.std.specs.Prelude.{ℕ, Bool, List, [], ◌∷◌, IsTrue}
 use Rattle.cq_base.specs.declared.token.Class.TheVariants.{Ident, Word, Literal, Punct}
-use Rattle.cq_munch.specs.declared.element.Spell.TheVariants.{Blank, Comment, Token}
+use Rattle.cq_munch.specs.declared.element.Spell.TheVariants.{Blank, Token}
 use Rattle.cq_munch.specs.Language.{Language, marked}
 use Rattle.cq_munch.specs.Longest.{IsAmong}
 use Rattle.cq_munch.specs.Pattern.{Spells}
 use Rattle.cq_munch.specs.Table.{Row, table, first, begins}
 use Rattle.cq_lex_go.specs.Words.{IsName, keywords, punctuation, blank_characters}
 use Rattle.cq_lex_go.specs.Numbers.{number}
-use Rattle.cq_munch.specs.Comments.{IsBlockComment, IsLineComment}
+use Rattle.cq_munch.specs.Commented.{commented}
 use Rattle.cq_munch.specs.Quotes.{quoted}
 use Rattle.cq_munch.specs.declared.ends.LineEnds.TheVariants.{Feed}
 use Rattle.cq_munch.specs.declared.quoted.Quote.TheVariants.{Double, Single}
@@ -39,34 +39,19 @@ marks = record { spell = Token Punct; set = IsAmong punctuation }
 abbrev pub rows : List Row
 rows = names ∷ reserved ∷ blanks ∷ numbers ∷ strings ∷ runes ∷ marks ∷ []
 
-abbrev pub blocks : Row
-blocks = record { spell = Comment; set = IsBlockComment }
-
-abbrev pub lines : Row
-lines = record { spell = Comment; set = IsLineComment Feed }
-
 abbrev pub raws : Row
 raws = record { spell = Token Literal; set = IsRawString }
 
--- an opener stands there
-abbrev pub opens_block : ℕ → ℕ → List ℕ → Bool
-opens_block at mode text = begins (47 ∷ 42 ∷ []) text
-
-abbrev pub opens_line : ℕ → ℕ → List ℕ → Bool
-opens_line at mode text = begins (47 ∷ 47 ∷ []) text
-
+-- a raw string is opened there
 abbrev pub opens_raw : ℕ → ℕ → List ℕ → Bool
 opens_raw at mode text = begins (96 ∷ []) text
 
--- Where an opener stands, only its own row is tried.
-abbrev pub behind_raw : Language
-behind_raw = first opens_raw (raws ∷ []) (table rows)
-
-abbrev pub behind_line : Language
-behind_line = first opens_line (lines ∷ []) behind_raw
+-- Where a raw string or a comment is opened, only its own row is tried.
+abbrev pub with_raws : Language
+with_raws = first opens_raw (raws ∷ []) (table rows)
 
 abbrev pub unmarked : Language
-unmarked = first opens_block (blocks ∷ []) behind_line
+unmarked = commented Feed with_raws
 
 abbrev pub go : Language
 go = marked unmarked

@@ -1,10 +1,10 @@
 -- No spelling is of two kinds: at each first character the rows that can stand there are apart.
 use Rattle.std.proofs.Common.{ℕ, List, [], ◌∷◌, refl}
-use Rattle.cq_munch.proofs.Dispatch.{goes_on}
-use Rattle.cq_munch.proofs.OneKind.{OneKind, HasOneKind, no_kind, one_row, two_apart, by_fronts, no_word_spelled, of_table, of_first, of_marked}
+use Rattle.cq_munch.proofs.OneKind.{OneKind, HasOneKind, no_kind, one_row, two_apart, by_fronts, no_word_spelled, of_table, of_first, of_commented, of_marked}
 use Rattle.cq_munch.specs.Table.{table}
+use Rattle.cq_munch.specs.declared.ends.LineEnds.TheVariants.{Feed}
 use Rattle.cq_lex_go.specs.Fronts.{front_of, placed, rows_of}
-use Rattle.cq_lex_go.specs.Go.{go, rows, names, reserved, blanks, numbers, strings, runes, marks, blocks, lines, raws, opens_block, opens_line, opens_raw, behind_raw, behind_line, unmarked}
+use Rattle.cq_lex_go.specs.Go.{go, rows, names, reserved, blanks, numbers, strings, runes, marks, raws, opens_raw, with_raws, unmarked}
 use Rattle.cq_lex_go.specs.Numbers.{number}
 use Rattle.cq_lex_go.specs.Starts.{all_start}
 use Rattle.cq_lex_go.specs.Words.{punctuation}
@@ -24,8 +24,4 @@ at_front fronts.Back = no_kind
 at_front fronts.Other = one_row marks
 
 pub one_kind_of_go : HasOneKind go
-one_kind_of_go =
-    of_marked unmarked
-    (of_first opens_block blocks behind_line
-    (of_first opens_line lines behind_raw
-    (of_first opens_raw raws (table rows) (of_table rows (by_fronts front_of placed all_start at_front)))))
+one_kind_of_go = of_marked unmarked (of_commented Feed with_raws (of_first opens_raw raws (table rows) (of_table rows (by_fronts front_of placed all_start at_front))))

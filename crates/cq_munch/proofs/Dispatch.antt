@@ -6,16 +6,18 @@ use Rattle.std.proofs.lemmas.Bool.{ltb-true, eqb-true, cases_lt, cases_Bool, and
 use Rattle.cq_base.proofs.Bools.{or-implies}
 use Rattle.cq_munch.specs.Behind.{SpellsAny, behind, behind_each, takes_empty, any_takes_empty, class_in, ascii, ascii_rows, each_below}
 use Rattle.cq_munch.specs.Fronts.{FrontTable, front_in, Placed, rows_in, kept, rows_at, starts, AllStart}
-use Rattle.cq_munch.specs.Language.{Takes}
+use Rattle.cq_munch.specs.Commented.{blocks, lines, opens_block, opens_line, commented}
+use Rattle.cq_munch.specs.Language.{Language, Takes}
 use Rattle.cq_munch.specs.Longest.{IsAmong, LongestAt}
 use Rattle.cq_munch.specs.Pattern.{Pattern, Spells}
-use Rattle.cq_munch.specs.Table.{InTable, table, begins}
+use Rattle.cq_munch.specs.Table.{InTable, table, first, begins}
 use Rattle.cq_munch.specs.declared.element.Found.{Found}
 use Rattle.cq_munch.specs.declared.element.Spell.{Spell}
-use Rattle.cq_munch.proofs.Joining.{narrowed}
+use Rattle.cq_munch.specs.declared.ends.LineEnds.{LineEnds}
+use Rattle.cq_munch.proofs.Joining.{narrowed, takes_rest}
 use Rattle.cq_munch.proofs.Steps.{behind_each-if, takes_empty-if, agree-behind_each}
 use Rattle.cq_munch.proofs.Tables.{below_each, class_past, agree_past}
-use Rattle.cq_munch.proofs.WordLists.{among_passes}
+use Rattle.cq_munch.proofs.WordLists.{has_word, has_word-among, among_passes}
 
 -- a table of fronts, and the ASCII letters among its letters, which compute
 pub record Known {F : Type 0} (t : FrontTable F) : Type 0 where
@@ -97,6 +99,23 @@ module _ {F : Type 0} {t : FrontTable F} (known : Known t) where
       (λ high. absurd (both_ways (at (front_in t c)) (ap at (front_past c high) ∙ either at (t.is_letter c) no_letter no_other) is))
       (cases_lt c 128)
 
+  -- a front of one character alone
+  pub only_char : (at : F → Bool) (n : ℕ) → at t.letter ≡ false → at t.other ≡ false → each_below 128 (λ c. not (at (low_front c)) || (c == n)) ≡ true → (c : ℕ) → at (front_in t c) ≡ true → c ≡ n
+  only_char at n no_letter no_other all c is = eqb-true c n (only_chars at (λ d. d == n) no_letter no_other all c is)
+
+  -- a front of words of one character
+  pub one_of : (at : F → Bool) (ws : List (List ℕ)) → at t.letter ≡ false → at t.other ≡ false → each_below 128 (λ c. not (at (low_front c)) || has_word (c ∷ []) ws) ≡ true → list_all (λ w. length w == 1) ws ≡ true
+      → (text : List ℕ) → 0 < length text → at (front_in t (get_or text 0 0)) ≡ true → LongestAt (IsAmong ws) text (Some 1)
+  one_of at ws no_letter no_other all single [] some is = absurd (omega arith)
+  one_of at ws no_letter no_other all single (c ∷ text) some is = record {
+    some = omega arith;
+    within = omega arith;
+    spelled = has_word-among (c ∷ []) ws (only_chars at (λ d. has_word (d ∷ []) ws) no_letter no_other all c is);
+    longest = λ m more within among.
+        let one = eqb-true (length (take m (c ∷ text))) 1 (among_passes ws (λ w. length w == 1) (take m (c ∷ text)) single among) in
+        let long = length-take-le m (c ∷ text) within in omega arith;
+  }
+
 -- ---- the rows at a front
 
 module _ {F : Type 0} where
@@ -147,14 +166,15 @@ module _ {F : Type 0} where
       other : (c == n) ≡ true → (c == n) ≡ false
       other same = absurd (both_ways (at f) fails (ap at (sym is ∙ ap front (eqb-true c n same)) ∙ here))
 
--- a list of single characters
-pub one_long : (ws : List (List ℕ)) → list_all (λ w. length w == 1) ws ≡ true → (text : List ℕ) → 0 < length text → IsAmong ws (get_or text 0 0 ∷ []) → LongestAt (IsAmong ws) text (Some 1)
-one_long ws all [] some there = absurd (omega arith)
-one_long ws all (c ∷ t) some there = record {
-  some = omega arith;
-  within = omega arith;
-  spelled = there;
-  longest = λ m more within among.
-      let one = eqb-true (length (take m (c ∷ t))) 1 (among_passes ws (λ w. length w == 1) (take m (c ∷ t)) all among) in
-      let long = length-take-le m (c ∷ t) within in omega arith;
-}
+-- ---- comments
+
+module _ (ends : LineEnds) (lang : Language) (at mode : ℕ) (text : List ℕ) (r : Option Found) where
+  -- where none is opened
+  pub no_comment : begins (47 ∷ 42 ∷ []) text ≡ false → begins (47 ∷ 47 ∷ []) text ≡ false → Takes lang at mode text r → Takes (commented ends lang) at mode text r
+  no_comment block line h =
+      takes_rest opens_block (blocks ∷ []) (first opens_line (lines ends ∷ []) lang) at mode text block r (takes_rest opens_line (lines ends ∷ []) lang at mode text line r h)
+
+  -- and so at a front that is no slash's
+  pub at_no_slash : {F : Type 0} (front : ℕ → F) (slash : F → Bool) → slash (front 47) ≡ true → (f : F) → slash f ≡ false → front (get_or text 0 0) ≡ f → Takes lang at mode text r → Takes (commented ends lang) at mode text r
+  at_no_slash front slash here f fails is h =
+      no_comment (not_begun front slash 47 (42 ∷ []) here f fails text is) (not_begun front slash 47 (47 ∷ []) here f fails text is) h

@@ -2,6 +2,7 @@ pub mod Front
 pub mod Steps
 pub mod Tables
 pub mod WordLists
+pub mod Reserved
 pub mod QuoteSteps
 pub mod OpenQuotes
 pub mod Orders

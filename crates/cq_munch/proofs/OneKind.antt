@@ -4,6 +4,7 @@ use Rattle.std.specs.Prelude.{MatchBool}
 use Rattle.std.specs.List.{list_all}
 use Rattle.std.proofs.lemmas.Bool.{not-true, both_ways}
 use Rattle.cq_munch.specs.Behind.{any_takes_empty}
+use Rattle.cq_munch.specs.Commented.{blocks, lines, opens_block, opens_line, commented}
 use Rattle.cq_munch.specs.Fronts.{Placed, rows_in, rows_at, AllStart}
 use Rattle.cq_munch.specs.Language.{Language, has_mark, marked}
 use Rattle.cq_munch.specs.Longest.{IsAmong}
@@ -11,6 +12,7 @@ use Rattle.cq_munch.specs.Pattern.{Pattern, Spells}
 use Rattle.cq_munch.specs.Table.{Row, InTable, table, first}
 use Rattle.cq_munch.specs.declared.element.Spell.{Spell}
 use Rattle.cq_munch.specs.declared.element.Spell.TheVariants.{Blank}
+use Rattle.cq_munch.specs.declared.ends.LineEnds.{LineEnds}
 use Rattle.cq_munch.proofs.Dispatch.{rows_down, no_empty}
 use Rattle.cq_munch.proofs.Steps.{behind_word, spelled_word}
 use Rattle.cq_munch.proofs.WordLists.{among_passes}
@@ -65,3 +67,6 @@ of_first test row lang one at mode text s a b h k =
 pub of_marked : (lang : Language) → HasOneKind lang → HasOneKind (marked lang)
 of_marked lang one at mode text s a b h k =
     by_test (has_mark at text) (λ x. (x ≡ Blank) × (s ≡ 65279 ∷ [])) (λ x. lang.tried at mode text x s) a b (λ x y. x.0 ∙ sym y.0) (one at mode text s a b) h k
+
+pub of_commented : (ends : LineEnds) (lang : Language) → HasOneKind lang → HasOneKind (commented ends lang)
+of_commented ends lang one = of_first opens_block blocks (first opens_line (lines ends ∷ []) lang) (of_first opens_line (lines ends) lang one)

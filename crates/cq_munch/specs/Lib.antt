@@ -10,6 +10,7 @@ pub mod QuoteStates
 pub mod Characters
 pub mod Language
 pub mod Table
+pub mod Commented
 pub mod Fronts
 pub mod Lexed
 pub mod OneAnswer

@@ -29,6 +29,6 @@ pub use mark::is_mark;
 pub use munching::{Lexed, munch, one_answer};
 pub use plain::plain_units;
 pub use quoted::{Quote, longest_quoted, scan_quoted};
-pub use rows::{better, found_of};
+pub use rows::{better, found_of, second_is};
 pub use unit::Unit;
-pub use words::ascii_bytes;
+pub use words::{ascii_bytes, is_listed};

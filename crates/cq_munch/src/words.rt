@@ -1,5 +1,7 @@
-ghost use Rattle.std.specs.Prelude.{◌≡◌, ◌<◌, ◌≤◌, length, take, All, IsTrue};
+ghost use Rattle.std.specs.Prelude.{◌≡◌, ◌↔◌, ◌<◌, ◌≤◌, length, take, All, IsTrue};
+ghost use Rattle.cq_munch.specs.ByLength.{words_of_length};
 ghost use Rattle.cq_munch.specs.Characters.{characters};
+ghost use Rattle.cq_munch.specs.Longest.{IsAmong};
 
 use crate::unit::Unit;
 
@@ -21,4 +23,14 @@ pub fn ascii_bytes(units: &[Unit], room: &mut [u8]) -> bool
         room[i] = unit.ch as u8;
     }
     true
+}
+
+/// Whether a word stands in the list of the words of its length. It costs one comparison with each of these.
+pub fn is_listed(by_length: &[&[&[u8]]], word: &[u8]) -> bool
+    ensures { IsTrue result ↔ IsAmong (words_of_length by_length.now (length word.now)) word.now }
+{
+    match by_length.get(word.len()) {
+        Some(words) => words.contains(&word),
+        None => false,
+    }
 }

@@ -2,19 +2,24 @@ use Rattle.std.proofs.Common.{◌≡◌, Some, get_or, [], ◌∷◌, ap, refl, 
 use Rattle.cq_munch.specs.Characters.{characters}
 use Rattle.cq_munch.proofs.Front.{ch_at, as_many}
 use Rattle.cq_munch.proofs.Joining.{row_more, one_row_taken}
-use Rattle.cq_lex_go.specs.Fronts.{front_of}
+use Rattle.cq_munch.proofs.Dispatch.{only_char, one_of}
+use Rattle.cq_munch.proofs.WordLists.{has_word, same_word}
+use Rattle.cq_lex_go.specs.Fronts.{front_of, at_blank, at_slash}
+use Rattle.cq_lex_go.specs.Starts.{known}
+use Rattle.cq_lex_go.specs.Words.{blank_characters}
 use Rattle.cq_lex_go.specs.Go.{blanks, numbers, strings, runes, marks, raws}
 use Rattle.cq_lex_go.specs.declared.element.Front.TheVariants as fronts
-use Rattle.cq_lex_go.proofs.Dispatch.{no_opener, raw_there, one_blank, slash_is}
+use Rattle.cq_lex_go.proofs.Dispatch.{no_opener, raw_there}
 use Rattle.cq_lex_go.proofs.element.taken.Goals as goal
 
 pub returns-in-Blank : goal.returns-in-Blank
+unfolding has_word same_word
 returns-in-Blank c = λ at.
     let text = characters c.args.units.now in
     let some = as_many c.args.units.now 0 c.requires.some in
     let is : front_of (get_or text 0 0) ≡ fronts.Blank = ap front_of (ch_at c.args.units.now 0 c.requires.some) ∙ sym c.front_of.ensures ∙ c.in-Blank.is in
     no_opener at c.args.mode text some _ fronts.Blank is refl refl
-    (one_row_taken at c.args.mode text blanks (Some 1) _ c.found_of.ensures (one_blank text some is))
+    (one_row_taken at c.args.mode text blanks (Some 1) _ c.found_of.ensures (one_of known at_blank blank_characters refl refl refl refl text some (ap at_blank is)))
 
 pub returns-in-Letter : goal.returns-in-Letter
 returns-in-Letter c = λ at.
@@ -74,4 +79,4 @@ returns-in-Other c = λ at.
 
 pub behind_slash-requires-clause-slash : goal.behind_slash-requires-clause-slash
 behind_slash-requires-clause-slash c =
-    slash_is (get_or (characters c.args.units.now) 0 0) (ap front_of (ch_at c.args.units.now 0 c.requires.some) ∙ sym c.front_of.ensures ∙ c.in-Slash.is)
+    only_char known at_slash 47 refl refl refl (get_or (characters c.args.units.now) 0 0) (ap at_slash (ap front_of (ch_at c.args.units.now 0 c.requires.some) ∙ sym c.front_of.ensures ∙ c.in-Slash.is))
