@@ -1,9 +1,7 @@
 pub mod NumberSteps
-pub mod NumberFront
 pub mod OperatorSteps
 pub mod Opening
 pub mod Spans
 pub mod Translating
 pub mod Elements
 pub mod Dispatch
-pub mod Reserved

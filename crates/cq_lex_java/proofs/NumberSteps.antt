@@ -1,22 +1,17 @@
 -- The steps of the scan of numbers are right: each is tested by computing, at one character of each kind.
-use Rattle.std.proofs.Common.{◌≡◌, ℕ, Option, Bool, true, List, [], ◌∷◌, ◌↔◌, inl, ⊎_elim, refl, sym, ◌∙◌, arith}
+use Rattle.std.proofs.Common.{◌≡◌, ℕ, Option, Bool, true, List, [], ◌∷◌, ◌↔◌, refl, arith}
 use Rattle.std.specs.List.{list_all}
-use Rattle.std.specs.Option.{option_map}
-use Rattle.cq_munch.specs.Behind.{SpellsAny, agree_each, entry_ok, any_takes_empty}
+use Rattle.std.specs.Option.{IfNone, IfSome}
+use Rattle.cq_munch.specs.Behind.{SpellsAny, agree_each}
 use Rattle.cq_munch.specs.Longest.{LongestAt}
 use Rattle.cq_munch.specs.Pattern.{Spells}
-use Rattle.cq_munch.proofs.Front.{LongestAt-same}
-use Rattle.cq_munch.proofs.Steps.{and_both, any_takes_empty-if, any_takes_empty-then}
-use Rattle.cq_munch.proofs.Tables.{all_at, agree-after, agrees_everywhere}
+use Rattle.cq_munch.proofs.Tables.{all_at, state_ok, ends, step_none, step_next, agrees_behind, one_pattern}
 use Rattle.cq_lex_java.specs.Numbers.{number}
 use Rattle.cq_lex_java.specs.NumberStates.{kind_rows, kind_of, sample, next_of, may_end, reached, rest_of}
 use Rattle.cq_lex_java.specs.declared.number.Kind.{Kind}
 use Rattle.cq_lex_java.specs.declared.number.Kind.TheVariants as kinds
 use Rattle.cq_lex_java.specs.declared.number.Number.{Number}
 use Rattle.cq_lex_java.specs.declared.number.Number.TheVariants as states
-
-step_ok : Number → Kind → Bool
-step_ok s k = entry_ok (rest_of s) (sample k) (option_map rest_of (next_of s k))
 
 abbrev all_kinds : List Kind
 all_kinds = kinds.Zero ∷ kinds.One ∷ kinds.Octal ∷ kinds.Decimal ∷ kinds.B ∷ kinds.E ∷ kinds.Hex ∷ kinds.Suffix ∷ kinds.L ∷ kinds.X ∷ kinds.P ∷ kinds.Underscore ∷ kinds.Dot ∷ kinds.Sign ∷ kinds.Other ∷ []
@@ -38,87 +33,54 @@ each_kind test h kinds.Dot = all_at test all_kinds h 12 kinds.Dot (omega arith)
 each_kind test h kinds.Sign = all_at test all_kinds h 13 kinds.Sign (omega arith)
 each_kind test h kinds.Other = all_at test all_kinds h 14 kinds.Other (omega arith)
 
--- the test of all steps
-steps_of : (s : Number) → list_all (step_ok s) all_kinds ≡ true
-unfolding step_ok rest_of number
-steps_of states.Start = refl
-steps_of states.Zero = refl
-steps_of states.Whole = refl
-steps_of states.Point = refl
-steps_of states.Zeros = refl
-steps_of states.NotOctal = refl
-steps_of states.BinaryMark = refl
-steps_of states.Exponent = refl
-steps_of states.Done = refl
-steps_of states.HexMark = refl
-steps_of states.ZeroGap = refl
-steps_of states.WholePoint = refl
-steps_of states.Wholes = refl
-steps_of states.WholeGap = refl
-steps_of states.Fraction = refl
-steps_of states.ZerosGap = refl
-steps_of states.NotOctalGap = refl
-steps_of states.Binary = refl
-steps_of states.ExponentDigits = refl
-steps_of states.ExponentSign = refl
-steps_of states.HexDigits = refl
-steps_of states.HexPoint = refl
-steps_of states.WholesGap = refl
-steps_of states.FractionGap = refl
-steps_of states.BinaryGap = refl
-steps_of states.ExponentGap = refl
-steps_of states.HexExponent = refl
-steps_of states.HexGap = refl
-steps_of states.HexWholePoint = refl
-steps_of states.HexFraction = refl
-steps_of states.HexFractionGap = refl
+-- the test of all states
+right : (s : Number) → state_ok rest_of may_end sample next_of all_kinds s ≡ true
+unfolding state_ok rest_of number
+right states.Start = refl
+right states.Zero = refl
+right states.Whole = refl
+right states.Point = refl
+right states.Zeros = refl
+right states.NotOctal = refl
+right states.BinaryMark = refl
+right states.Exponent = refl
+right states.Done = refl
+right states.HexMark = refl
+right states.ZeroGap = refl
+right states.WholePoint = refl
+right states.Wholes = refl
+right states.WholeGap = refl
+right states.Fraction = refl
+right states.ZerosGap = refl
+right states.NotOctalGap = refl
+right states.Binary = refl
+right states.ExponentDigits = refl
+right states.ExponentSign = refl
+right states.HexDigits = refl
+right states.HexPoint = refl
+right states.WholesGap = refl
+right states.FractionGap = refl
+right states.BinaryGap = refl
+right states.ExponentGap = refl
+right states.HexExponent = refl
+right states.HexGap = refl
+right states.HexWholePoint = refl
+right states.HexFraction = refl
+right states.HexFractionGap = refl
 
-pub right : (s : Number) (k : Kind) → entry_ok (rest_of s) (sample k) (option_map rest_of (next_of s k)) ≡ true
-unfolding step_ok
-right s k = each_kind (step_ok s) (steps_of s) k
-
-pub agrees : (s : Number) (c : ℕ) → agree_each c (sample (kind_of c)) (rest_of s) ≡ true
+agrees : (s : Number) (c : ℕ) → agree_each c (sample (kind_of c)) (rest_of s) ≡ true
 unfolding rest_of number
-agrees s c =
-    agree-after c (sample (kind_of c)) (reached s) (number ∷ []) (and_both _ _ (agrees_everywhere number kind_rows kinds.Other sample refl refl refl (omega arith) c) refl)
+agrees s c = agrees_behind number kind_rows kinds.Other sample refl refl refl (omega arith) (reached s) c
 
-ends : (s : Number) → may_end s ≡ any_takes_empty (rest_of s)
-unfolding rest_of number
-ends states.Start = refl
-ends states.Zero = refl
-ends states.Whole = refl
-ends states.Point = refl
-ends states.Zeros = refl
-ends states.NotOctal = refl
-ends states.BinaryMark = refl
-ends states.Exponent = refl
-ends states.Done = refl
-ends states.HexMark = refl
-ends states.ZeroGap = refl
-ends states.WholePoint = refl
-ends states.Wholes = refl
-ends states.WholeGap = refl
-ends states.Fraction = refl
-ends states.ZerosGap = refl
-ends states.NotOctalGap = refl
-ends states.Binary = refl
-ends states.ExponentDigits = refl
-ends states.ExponentSign = refl
-ends states.HexDigits = refl
-ends states.HexPoint = refl
-ends states.WholesGap = refl
-ends states.FractionGap = refl
-ends states.BinaryGap = refl
-ends states.ExponentGap = refl
-ends states.HexExponent = refl
-ends states.HexGap = refl
-ends states.HexWholePoint = refl
-ends states.HexFraction = refl
-ends states.HexFractionGap = refl
+pub number_none : (s : Number) (c : ℕ) (r : Option Number) → next_of s (kind_of c) ≡ r → IfNone r ((t : List ℕ) → SpellsAny (rest_of s) (c ∷ t) → ⊥)
+number_none s c r is = step_none rest_of may_end sample next_of all_kinds right kind_of agrees each_kind s c r is
+
+pub number_next : (s : Number) (c : ℕ) (r : Option Number) → next_of s (kind_of c) ≡ r → IfSome r (λ n. (t : List ℕ) → SpellsAny (rest_of s) (c ∷ t) ↔ SpellsAny (rest_of n) t)
+number_next s c r is = step_next rest_of may_end sample next_of all_kinds right kind_of agrees each_kind s c r is
 
 pub an_end : (s : Number) (b : Bool) → b ≡ may_end s → (b ≡ true) ↔ SpellsAny (rest_of s) []
-an_end s b is = (λ h. any_takes_empty-then (rest_of s) (sym (is ∙ ends s) ∙ h), λ h. is ∙ ends s ∙ any_takes_empty-if (rest_of s) h)
+an_end s b is = ends rest_of may_end sample next_of all_kinds right s b is
 
 pub starts : (text : List ℕ) (r : Option ℕ) → LongestAt (SpellsAny (rest_of states.Start)) text r → LongestAt (Spells number) text r
 unfolding rest_of
-starts text r h = LongestAt-same (SpellsAny (number ∷ [])) (Spells number) (λ s. (⊎_elim (λ a. a) (λ b. absurd b), λ a. inl a)) text r h
+starts text r h = one_pattern number text r h

@@ -1,6 +1,6 @@
 -- Which ASCII characters begin and continue an identifier.
 use Rattle.std.proofs.Common.{◌≡◌, ℕ, ◌<◌, Bool, true, false, ◌&&◌, ◌||◌, ◌==◌, nat_le, nat_lt, List, [], ◌∷◌, ⊎_elim, refl, ap, ◌∙◌}
-use Rattle.std.proofs.lemmas.Bool.{ltb-true}
+use Rattle.std.proofs.lemmas.Bool.{ltb-true, and_parts}
 use Rattle.std.specs.Bool.{beq}
 use Rattle.std.specs.Prelude.{IsTrue}
 use Rattle.std.specs.List.{list_all, AllByRecursion}
@@ -9,6 +9,7 @@ use Rattle.ucd_table.proofs.Facts.{Stepped-below, same_from_beq}
 use Rattle.ucd_derived.proofs.BinaryLemmas.{is_xid_start_stepped, is_xid_continue_stepped}
 use Rattle.unicode_ident.specs.Ident.{is_xid_start, is_xid_continue}
 use Rattle.cq_munch.specs.Longest.{IsAmong}
+use Rattle.cq_munch.proofs.WordLists.{among_passes, low_each}
 use Rattle.cq_lex_java.specs.Words.{begins_identifier, continues_identifier, IsIdentifier, keywords}
 
 abbrev pub is_ascii_letter : ℕ → Bool
@@ -28,48 +29,20 @@ pub continues_below : (c : ℕ) → c < 128 → continues_identifier c ≡ conti
 unfolding tables continues_identifier is_xid_continue_stepped
 continues_below c below = same_from_beq _ _ (Stepped-below is_xid_continue is_xid_continue_stepped (λ d b. beq (b || (d == 36)) (continues_ascii d)) 128 refl c below)
 
-pub both_left : (a b : Bool) → (a && b) ≡ true → a ≡ true
-both_left true b h = refl
-both_left false b h = absurd (cc)
-
-pub both_right : (a b : Bool) → (a && b) ≡ true → b ≡ true
-both_right true b h = h
-both_right false b h = absurd (cc)
-
--- what each word of a list passes, one of them passes
-pub among_passes : (ws : List (List ℕ)) (test : List ℕ → Bool) (s : List ℕ) → list_all test ws ≡ true → IsAmong ws s → test s ≡ true
-among_passes [] test s h among = absurd among
-among_passes (w ∷ ws) test s h among =
-    ⊎_elim (λ e. ap test e ∙ both_left _ _ h) (λ rest. among_passes ws test s (both_right (test w) _ h) rest) among
-
 -- ---- each keyword is an identifier
-
-in_name : ℕ → Bool
-in_name c = nat_lt c 128 && continues_ascii c
-
-begins_name : ℕ → Bool
-begins_name c = nat_lt c 128 && begins_ascii c
 
 is_word : List ℕ → Bool
 is_word [] = false
-is_word (c ∷ s) = begins_name c && list_all in_name s
-
-rest_of_word : (s : List ℕ) → list_all in_name s ≡ true → AllByRecursion (λ d. IsTrue (continues_identifier d)) s
-unfolding in_name
-rest_of_word [] h = tt
-rest_of_word (c ∷ s) h =
-    let here = both_left (in_name c) (list_all in_name s) h in
-    let low : c < 128 = ltb-true c 128 (both_left (nat_lt c 128) _ here) in
-    (continues_below c low ∙ both_right (nat_lt c 128) _ here, rest_of_word s (both_right (in_name c) _ h))
+is_word (c ∷ s) = (nat_lt c 128 && begins_ascii c) && list_all (λ d. nat_lt d 128 && continues_ascii d) s
 
 identifier_of_word : (w : List ℕ) → is_word w ≡ true → IsIdentifier w
-unfolding is_word begins_name
+unfolding is_word
 identifier_of_word [] h = absurd (cc)
 identifier_of_word (c ∷ s) h =
-    let here = both_left (begins_name c) (list_all in_name s) h in
-    let low : c < 128 = ltb-true c 128 (both_left (nat_lt c 128) _ here) in
-    (begins_below c low ∙ both_right (nat_lt c 128) _ here, rest_of_word s (both_right (begins_name c) _ h))
+    let both = and_parts (nat_lt c 128 && begins_ascii c) _ h in
+    let here = and_parts (nat_lt c 128) (begins_ascii c) both.0 in
+    (begins_below c (ltb-true c 128 here.0) ∙ here.1, low_each continues_ascii continues_identifier (λ d low is. continues_below d low ∙ is) s both.1)
 
 pub keyword_is_identifier : (s : List ℕ) → IsAmong keywords s → IsIdentifier s
-unfolding is_word begins_name in_name
+unfolding is_word
 keyword_is_identifier s among = identifier_of_word s (among_passes keywords is_word s refl among)

@@ -1,7 +1,7 @@
 -- Text blocks (JLS 3.10.6). What an escape means is not checked.
 use Rattle.std.specs.Prelude.{◌≡◌, ℕ, Bool, false, ◌==◌, ◌||◌, ◌&&◌, List, [], ◌∷◌, drop, IsTrue, MatchBool}
 use Rattle.cq_munch.specs.Comments.{IsAfter}
-use Rattle.cq_lex_java.specs.Openers.{begins}
+use Rattle.cq_munch.specs.Table.{begins}
 use Rattle.cq_lex_java.specs.declared.block.Block.{Block}
 use Rattle.cq_lex_java.specs.declared.block.Block.TheVariants as at
 

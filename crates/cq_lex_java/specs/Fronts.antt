@@ -1,29 +1,67 @@
 -- Which rows can stand at a place, by the first character there.
-use Rattle.std.specs.Prelude.{ℕ, if◌then◌else◌, List, [], ◌∷◌}
-use Rattle.cq_munch.specs.Behind.{class_in}
-use Rattle.cq_munch.specs.Pattern.{Range}
+use Rattle.std.specs.Prelude.{ℕ, Bool, true, false, List, [], ◌∷◌}
+use Rattle.cq_munch.specs.Fronts.{FrontTable, front_in, Placed, rows_at}
 use Rattle.cq_munch.specs.Table.{Row}
 use Rattle.cq_lex_java.specs.Words.{begins_identifier}
 use Rattle.cq_lex_java.specs.Java.{names, reserved, blanks, numbers, strings, chars, marks}
 use Rattle.cq_lex_java.specs.declared.element.Front.{Front}
 use Rattle.cq_lex_java.specs.declared.element.Front.TheVariants as fronts
 
-abbrev pub front_rows : List (List Range × Front)
-front_rows =
-    ((32, 32) ∷ (9, 9) ∷ (12, 12) ∷ (13, 13) ∷ (10, 10) ∷ [], fronts.Blank) ∷ ((48, 57) ∷ [], fronts.Digit) ∷ ((46, 46) ∷ [], fronts.Point)
-    ∷ ((47, 47) ∷ [], fronts.Slash) ∷ ((34, 34) ∷ [], fronts.Double) ∷ ((39, 39) ∷ [], fronts.Single) ∷ ((26, 26) ∷ [], fronts.End) ∷ []
+abbrev pub front_table : FrontTable Front
+front_table = record {
+  rows = ((32, 32) ∷ (9, 9) ∷ (12, 12) ∷ (13, 13) ∷ (10, 10) ∷ [], fronts.Blank) ∷ ((48, 57) ∷ [], fronts.Digit) ∷ ((46, 46) ∷ [], fronts.Point)
+      ∷ ((47, 47) ∷ [], fronts.Slash) ∷ ((34, 34) ∷ [], fronts.Double) ∷ ((39, 39) ∷ [], fronts.Single) ∷ ((26, 26) ∷ [], fronts.End) ∷ [];
+  letter = fronts.Letter;
+  other = fronts.Other;
+  is_letter = begins_identifier;
+}
 
 abbrev pub front_of : ℕ → Front
-front_of c = class_in front_rows (if begins_identifier c then fronts.Letter else fronts.Other) c
+front_of c = front_in front_table c
+
+-- where a row can stand
+abbrev pub at_letter : Front → Bool
+at_letter fronts.Letter = true
+at_letter _ = false
+
+abbrev pub at_blank : Front → Bool
+at_blank fronts.Blank = true
+at_blank _ = false
+
+abbrev pub at_number : Front → Bool
+at_number fronts.Digit = true
+at_number fronts.Point = true
+at_number _ = false
+
+abbrev pub at_double : Front → Bool
+at_double fronts.Double = true
+at_double _ = false
+
+abbrev pub at_single : Front → Bool
+at_single fronts.Single = true
+at_single _ = false
+
+abbrev pub at_mark : Front → Bool
+at_mark fronts.Point = true
+at_mark fronts.Slash = true
+at_mark fronts.Other = true
+at_mark _ = false
+
+-- where a comment can be opened, and where the text's end may stand
+abbrev pub at_slash : Front → Bool
+at_slash fronts.Slash = true
+at_slash _ = false
+
+abbrev pub at_last : Front → Bool
+at_last fronts.End = true
+at_last _ = false
+
+abbrev pub placed : List (Placed Front)
+placed =
+    record { row = names; at = at_letter } ∷ record { row = reserved; at = at_letter } ∷ record { row = blanks; at = at_blank }
+    ∷ record { row = numbers; at = at_number } ∷ record { row = strings; at = at_double } ∷ record { row = chars; at = at_single }
+    ∷ record { row = marks; at = at_mark } ∷ []
 
 -- the rows that have a spelling with such a first character
 abbrev pub rows_of : Front → List Row
-rows_of fronts.Blank = blanks ∷ []
-rows_of fronts.Letter = names ∷ reserved ∷ []
-rows_of fronts.Digit = numbers ∷ []
-rows_of fronts.Point = numbers ∷ marks ∷ []
-rows_of fronts.Slash = marks ∷ []
-rows_of fronts.Double = strings ∷ []
-rows_of fronts.Single = chars ∷ []
-rows_of fronts.End = []
-rows_of fronts.Other = marks ∷ []
+rows_of f = rows_at placed f

@@ -1,18 +1,18 @@
 -- The table of Java's elements.
 use Rattle.std.specs.Prelude.{◌≡◌, ℕ, Bool, List, [], ◌∷◌, IsTrue}
 use Rattle.cq_base.specs.declared.token.Class.TheVariants.{Ident, Word, Literal, Punct}
-use Rattle.cq_munch.specs.Comments.{IsBlockComment, IsLineComment}
+use Rattle.cq_munch.specs.Commented.{commented}
 use Rattle.cq_munch.specs.Language.{Language, marked}
 use Rattle.cq_munch.specs.Longest.{IsAmong}
 use Rattle.cq_munch.specs.Pattern.{Spells}
 use Rattle.cq_munch.specs.Quotes.{quoted}
 use Rattle.cq_munch.specs.Table.{Row, table, first}
-use Rattle.cq_munch.specs.declared.element.Spell.TheVariants.{Blank, Comment, Token}
+use Rattle.cq_munch.specs.declared.element.Spell.TheVariants.{Blank, Token}
 use Rattle.cq_munch.specs.declared.ends.LineEnds.TheVariants.{ReturnOrFeed}
 use Rattle.cq_munch.specs.declared.quoted.Quote.TheVariants.{Double, Single}
 use Rattle.cq_lex_java.specs.Blocks.{IsTextBlock, opens}
-use Rattle.cq_lex_java.specs.Numbers.{number, begins_as_number}
-use Rattle.cq_lex_java.specs.Openers.{begins, is_end}
+use Rattle.cq_lex_java.specs.Numbers.{number}
+use Rattle.cq_lex_java.specs.Openers.{is_end}
 use Rattle.cq_lex_java.specs.Operators.{operators}
 use Rattle.cq_lex_java.specs.Words.{IsIdentifier, keywords, blank_characters}
 
@@ -26,7 +26,7 @@ abbrev pub blanks : Row
 blanks = record { spell = Blank; set = IsAmong blank_characters }
 
 abbrev pub numbers : Row
-numbers = record { spell = Token Literal; set = λ s. Spells number s × IsTrue (begins_as_number s) }
+numbers = record { spell = Token Literal; set = Spells number }
 
 -- what an escape means is not checked
 abbrev pub strings : Row
@@ -41,43 +41,29 @@ marks = record { spell = Token Punct; set = IsAmong operators }
 abbrev pub rows : List Row
 rows = names ∷ reserved ∷ blanks ∷ numbers ∷ strings ∷ chars ∷ marks ∷ []
 
-abbrev pub blocks : Row
-blocks = record { spell = Comment; set = IsBlockComment }
-
-abbrev pub lines : Row
-lines = record { spell = Comment; set = IsLineComment ReturnOrFeed }
-
 abbrev pub text_blocks : Row
 text_blocks = record { spell = Token Literal; set = IsTextBlock }
 
 abbrev pub ends : Row
 ends = record { spell = Blank; set = λ s. s ≡ 26 ∷ [] }
 
--- an opener stands there; the character U+001A is a blank where nothing follows (JLS 3.5)
-abbrev pub opens_comment : ℕ → ℕ → List ℕ → Bool
-opens_comment at mode text = begins (47 ∷ 42 ∷ []) text
-
-abbrev pub opens_line : ℕ → ℕ → List ℕ → Bool
-opens_line at mode text = begins (47 ∷ 47 ∷ []) text
-
+-- a text block is opened there
 abbrev pub opens_text : ℕ → ℕ → List ℕ → Bool
 opens_text at mode text = opens text
 
+-- the character U+001A is a blank where nothing follows (JLS 3.5)
 abbrev pub opens_end : ℕ → ℕ → List ℕ → Bool
 opens_end at mode text = is_end text
 
--- Where one of these stands, only its own row is tried.
-abbrev pub behind_end : Language
-behind_end = first opens_end (ends ∷ []) (table rows)
+-- Where one of these or a comment is opened, only its own row is tried.
+abbrev pub with_end : Language
+with_end = first opens_end (ends ∷ []) (table rows)
 
-abbrev pub behind_text : Language
-behind_text = first opens_text (text_blocks ∷ []) behind_end
-
-abbrev pub behind_line : Language
-behind_line = first opens_line (lines ∷ []) behind_text
+abbrev pub with_texts : Language
+with_texts = first opens_text (text_blocks ∷ []) with_end
 
 abbrev pub unmarked : Language
-unmarked = first opens_comment (blocks ∷ []) behind_line
+unmarked = commented ReturnOrFeed with_texts
 
 abbrev pub java : Language
 java = marked unmarked

@@ -11,4 +11,5 @@ pub mod Blocks
 pub mod Java
 pub mod Fronts
 pub mod Ascii
+pub mod Starts
 pub mod OneKind

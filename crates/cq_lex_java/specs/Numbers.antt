@@ -69,16 +69,3 @@ hex_float = hex_significand ▸ one_of 112 80 ▸ optional sign ▸ digits decim
 
 unfoldable pub number : Pattern
 number = decimal ∣ hexadecimal ∣ octal ∣ binary ∣ decimal_float ∣ hex_float
-
--- ---- how each begins, which is proved
-
-abbrev pub is_digit : ℕ → Bool
-is_digit c = nat_lt 47 c && nat_lt c 58
-
-abbrev pub begins_with_digit : List ℕ → Bool
-begins_with_digit [] = false
-begins_with_digit (c ∷ s) = is_digit c
-
-abbrev pub begins_as_number : List ℕ → Bool
-begins_as_number [] = false
-begins_as_number (c ∷ s) = is_digit c || ((c == 46) && begins_with_digit s)

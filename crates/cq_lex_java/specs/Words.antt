@@ -1,6 +1,5 @@
 -- Identifiers, keywords and blanks (JLS 3.6, 3.8, 3.9). Contextual keywords are identifiers.
 use Rattle.std.specs.Prelude.{ℕ, Bool, ◌||◌, ◌==◌, List, [], ◌∷◌, map, slice_index_or, IsTrue, codes}
-use Rattle.std.specs.Borrow.{Bor}
 use Rattle.std.specs.List.{AllByRecursion}
 use Rattle.unicode_ident.specs.Ident.{is_xid_start, is_xid_continue}
 
@@ -11,10 +10,6 @@ blank_characters = (32 ∷ []) ∷ (9 ∷ []) ∷ (12 ∷ []) ∷ (13 ∷ []) �
 -- the keywords, and the literals true, false and null
 abbrev pub keywords : List (List ℕ)
 keywords = codes "abstract" ∷ codes "assert" ∷ codes "boolean" ∷ codes "break" ∷ codes "byte" ∷ codes "case" ∷ codes "catch" ∷ codes "char" ∷ codes "class" ∷ codes "const" ∷ codes "continue" ∷ codes "default" ∷ codes "do" ∷ codes "double" ∷ codes "else" ∷ codes "enum" ∷ codes "extends" ∷ codes "final" ∷ codes "finally" ∷ codes "float" ∷ codes "for" ∷ codes "goto" ∷ codes "if" ∷ codes "implements" ∷ codes "import" ∷ codes "instanceof" ∷ codes "int" ∷ codes "interface" ∷ codes "long" ∷ codes "native" ∷ codes "new" ∷ codes "package" ∷ codes "private" ∷ codes "protected" ∷ codes "public" ∷ codes "return" ∷ codes "short" ∷ codes "static" ∷ codes "strictfp" ∷ codes "super" ∷ codes "switch" ∷ codes "synchronized" ∷ codes "this" ∷ codes "throw" ∷ codes "throws" ∷ codes "transient" ∷ codes "try" ∷ codes "void" ∷ codes "volatile" ∷ codes "while" ∷ codes "_" ∷ codes "true" ∷ codes "false" ∷ codes "null" ∷ []
-
--- of lists of words, in the order of the words' length, the one of a length
-abbrev pub words_of_length : List (Bor (List (Bor (List ℕ)))) → ℕ → List (List ℕ)
-words_of_length lists n = slice_index_or (map (λ words. map (λ word. word.now) words.now) lists) n []
 
 -- XID_Start (UAX #31), an underscore and a dollar sign
 unfoldable pub begins_identifier : ℕ → Bool

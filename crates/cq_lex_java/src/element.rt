@@ -4,7 +4,6 @@ ghost use Rattle.cq_munch.specs.Language.{Takes};
 ghost use Rattle.cq_munch.specs.Table.{InTable, table};
 ghost use Rattle.cq_munch.specs.declared.element.Spell.TheVariants.{Token as token};
 ghost use Rattle.cq_lex_java.specs.Java.{unmarked};
-ghost use Rattle.cq_lex_java.specs.Openers.{begins};
 ghost use Rattle.cq_lex_java.specs.Words.{IsIdentifier};
 ghost use Rattle.cq_lex_java.specs.Fronts.{front_of, rows_of};
 ghost use Rattle.cq_lex_java.specs.declared.element.Front.TheVariants.{Letter, Other};
@@ -16,7 +15,7 @@ use crate::words::{begins_identifier, is_keyword, longest_identifier};
 use cq_base::Class;
 use cq_munch::{
     Found, LineEnds, Quote, Spell, Unit, better, found_of, longest_block_comment,
-    longest_line_comment, longest_quoted,
+    longest_line_comment, longest_quoted, second_is,
 };
 
 /// What a first character tells of the element that begins with it.
@@ -87,17 +86,6 @@ fn operator(units: &[Unit], mode: u8) -> Option<Found>
     ensures { (at : ℕ) → Takes (table (rows_of Other)) at mode (characters units.now) result }
 {
     found_of(Spell::Token(Class::Punct), mode, longest_operator(units))
-}
-
-// Whether this one stands behind the slash at the front.
-fn second_is(units: &[Unit], ch: char) -> bool
-    requires slash { slice_index_or (characters units.now) 0 0 ≡ 47 }
-    ensures { result ≡ begins (47 ∷ ch ∷ []) (characters units.now) }
-{
-    match units {
-        [_, second, ..] => second.ch == ch,
-        _ => false,
-    }
 }
 
 // The comment or operator at the front, which is a slash.

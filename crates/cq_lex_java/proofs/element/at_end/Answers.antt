@@ -6,7 +6,7 @@ use Rattle.cq_munch.proofs.Front.{as_many}
 use Rattle.cq_munch.proofs.Joining.{no_rows}
 use Rattle.cq_lex_java.specs.Java.{ends}
 use Rattle.cq_lex_java.proofs.Dispatch.{blank_last, nothing_there, last_there, not_last, one_end}
-use Rattle.cq_lex_java.proofs.Elements.{one_row_taken}
+use Rattle.cq_munch.proofs.Joining.{one_row_taken}
 use Rattle.cq_lex_java.proofs.element.at_end.Goals as goal
 
 pub returns-then-units-eq1 : goal.returns-then-units-eq1

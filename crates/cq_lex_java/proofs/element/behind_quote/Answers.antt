@@ -3,7 +3,7 @@ use Rattle.cq_munch.specs.Characters.{characters}
 use Rattle.cq_munch.proofs.Front.{as_many}
 use Rattle.cq_lex_java.specs.Java.{strings, text_blocks}
 use Rattle.cq_lex_java.proofs.Dispatch.{string_there, block_there}
-use Rattle.cq_lex_java.proofs.Elements.{one_row_taken}
+use Rattle.cq_munch.proofs.Joining.{one_row_taken}
 use Rattle.cq_lex_java.proofs.element.behind_quote.Goals as goal
 
 pub returns-then-opens_block : goal.returns-then-opens_block

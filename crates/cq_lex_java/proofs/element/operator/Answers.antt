@@ -1,6 +1,6 @@
 use Rattle.cq_munch.specs.Characters.{characters}
 use Rattle.cq_lex_java.specs.Java.{marks}
-use Rattle.cq_lex_java.proofs.Elements.{one_row_taken}
+use Rattle.cq_munch.proofs.Joining.{one_row_taken}
 use Rattle.cq_lex_java.proofs.element.operator.Goals as goal
 
 pub returns : goal.returns

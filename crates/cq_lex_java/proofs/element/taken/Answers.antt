@@ -1,22 +1,25 @@
 use Rattle.std.proofs.Common.{◌≡◌, Some, get_or, [], ◌∷◌, ap, refl, sym, ◌∙◌}
 use Rattle.cq_munch.specs.Characters.{characters}
 use Rattle.cq_munch.proofs.Front.{ch_at, as_many}
-use Rattle.cq_munch.proofs.Joining.{row_more}
-use Rattle.cq_lex_java.specs.Fronts.{front_of}
+use Rattle.cq_munch.proofs.Joining.{row_more, one_row_taken}
+use Rattle.cq_munch.proofs.Dispatch.{only_char, one_of}
+use Rattle.cq_munch.proofs.WordLists.{has_word, same_word}
+use Rattle.cq_lex_java.specs.Fronts.{front_of, at_blank, at_double, at_slash, at_last}
+use Rattle.cq_lex_java.specs.Starts.{known}
+use Rattle.cq_lex_java.specs.Words.{blank_characters}
 use Rattle.cq_lex_java.specs.Java.{blanks, numbers, chars, marks}
 use Rattle.cq_lex_java.specs.declared.element.Front.TheVariants as fronts
-use Rattle.cq_lex_java.proofs.Dispatch.{no_opener, one_blank, slash_is, double_is, end_is}
-use Rattle.cq_lex_java.proofs.Elements.{one_row_taken}
-use Rattle.cq_lex_java.proofs.NumberFront.{numbers_row}
+use Rattle.cq_lex_java.proofs.Dispatch.{no_opener}
 use Rattle.cq_lex_java.proofs.element.taken.Goals as goal
 
 pub returns-in-Blank : goal.returns-in-Blank
+unfolding has_word same_word
 returns-in-Blank c = λ at.
     let text = characters c.args.units.now in
     let some = as_many c.args.units.now 0 c.requires.some in
     let is : front_of (get_or text 0 0) ≡ fronts.Blank = ap front_of (ch_at c.args.units.now 0 c.requires.some) ∙ sym c.front_of.ensures ∙ c.in-Blank.is in
     no_opener at c.args.mode text some _ fronts.Blank is refl refl refl
-    (one_row_taken at c.args.mode text blanks (Some 1) _ c.found_of.ensures (one_blank text some is))
+    (one_row_taken at c.args.mode text blanks (Some 1) _ c.found_of.ensures (one_of known at_blank blank_characters refl refl refl refl text some (ap at_blank is)))
 
 pub returns-in-Letter : goal.returns-in-Letter
 returns-in-Letter c = λ at.
@@ -32,7 +35,7 @@ returns-in-Digit c = λ at.
     let some = as_many c.args.units.now 0 c.requires.some in
     let is : front_of (get_or text 0 0) ≡ fronts.Digit = ap front_of (ch_at c.args.units.now 0 c.requires.some) ∙ sym c.front_of.ensures ∙ c.in-Digit.is in
     no_opener at c.args.mode text some _ fronts.Digit is refl refl refl
-    (one_row_taken at c.args.mode text numbers _ _ c.found_of-in-Digit.ensures (numbers_row text _ c.longest_number.ensures))
+    (one_row_taken at c.args.mode text numbers _ _ c.found_of-in-Digit.ensures c.longest_number.ensures)
 
 pub returns-in-Point : goal.returns-in-Point
 returns-in-Point c = λ at.
@@ -40,7 +43,7 @@ returns-in-Point c = λ at.
     let some = as_many c.args.units.now 0 c.requires.some in
     let is : front_of (get_or text 0 0) ≡ fronts.Point = ap front_of (ch_at c.args.units.now 0 c.requires.some) ∙ sym c.front_of.ensures ∙ c.in-Point.is in
     no_opener at c.args.mode text some _ fronts.Point is refl refl refl
-    (row_more at c.args.mode text numbers (marks ∷ []) _ _ _ _ c.found_of-in-Point.ensures c.better.ensures (numbers_row text _ c.longest_number-in-Point.ensures) (c.operator.ensures at))
+    (row_more at c.args.mode text numbers (marks ∷ []) _ _ _ _ c.found_of-in-Point.ensures c.better.ensures c.longest_number-in-Point.ensures (c.operator.ensures at))
 
 pub returns-in-Single : goal.returns-in-Single
 returns-in-Single c = λ at.
@@ -60,12 +63,12 @@ returns-in-Other c = λ at.
 
 pub behind_slash-requires-clause-slash : goal.behind_slash-requires-clause-slash
 behind_slash-requires-clause-slash c =
-    slash_is (get_or (characters c.args.units.now) 0 0) (ap front_of (ch_at c.args.units.now 0 c.requires.some) ∙ sym c.front_of.ensures ∙ c.in-Slash.is)
+    only_char known at_slash 47 refl refl refl (get_or (characters c.args.units.now) 0 0) (ap at_slash (ap front_of (ch_at c.args.units.now 0 c.requires.some) ∙ sym c.front_of.ensures ∙ c.in-Slash.is))
 
 pub behind_quote-requires-clause-quote : goal.behind_quote-requires-clause-quote
 behind_quote-requires-clause-quote c =
-    double_is (get_or (characters c.args.units.now) 0 0) (ap front_of (ch_at c.args.units.now 0 c.requires.some) ∙ sym c.front_of.ensures ∙ c.in-Double.is)
+    only_char known at_double 34 refl refl refl (get_or (characters c.args.units.now) 0 0) (ap at_double (ap front_of (ch_at c.args.units.now 0 c.requires.some) ∙ sym c.front_of.ensures ∙ c.in-Double.is))
 
 pub at_end-requires-clause-end : goal.at_end-requires-clause-end
 at_end-requires-clause-end c =
-    end_is (get_or (characters c.args.units.now) 0 0) (ap front_of (ch_at c.args.units.now 0 c.requires.some) ∙ sym c.front_of.ensures ∙ c.in-End.is)
+    only_char known at_last 26 refl refl refl (get_or (characters c.args.units.now) 0 0) (ap at_last (ap front_of (ch_at c.args.units.now 0 c.requires.some) ∙ sym c.front_of.ensures ∙ c.in-End.is))

@@ -4,7 +4,7 @@ use Rattle.cq_munch.specs.Language.{Takes}
 use Rattle.cq_munch.proofs.Marks.{takes_mark_at, takes_unmarked}
 use Rattle.cq_munch.proofs.Texts.{characters_from}
 use Rattle.cq_lex_java.specs.Java.{unmarked}
-use Rattle.cq_lex_java.proofs.Elements.{mode_kept}
+use Rattle.cq_munch.proofs.Joining.{mode_kept}
 use Rattle.cq_lex_java.proofs.language.JavaLexis.longest.Goals as goal
 
 pub returns-then-is_mark-clause-taken : goal.returns-then-is_mark-clause-taken
