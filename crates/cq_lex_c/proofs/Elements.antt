@@ -3,7 +3,7 @@ use Rattle.std.proofs.Common.{◌≡◌, ℕ, zero, suc, ◌<◌, ◌≤◌, Opt
 use Rattle.std.specs.Prelude.{IfSome, IfNone, IsTrue, IsFalse, MatchBool, codes}
 use Rattle.std.specs.List.{list_all}
 use Rattle.std.specs.Str.{bytes_eq}
-use Rattle.std.proofs.lemmas.Bool.{ltb-true, leb-true, not-true, false_from_ne_true}
+use Rattle.std.proofs.lemmas.Bool.{and_parts, not-true, false_from_ne_true}
 use Rattle.std.proofs.lemmas.Slice.Eq.{bytes_eq-Decides}
 use Rattle.cq_base.proofs.Bools.{MatchBool-from_false, MatchBool-from_true}
 use Rattle.cq_base.specs.declared.token.Class.{Class}
@@ -14,45 +14,17 @@ use Rattle.cq_munch.specs.Language.{Language, Takes}
 use Rattle.cq_munch.specs.Longest.{IsLongest, LongestAt, IsAmong}
 use Rattle.cq_munch.specs.Table.{Row, InTable, table, better, found_of}
 use Rattle.cq_munch.proofs.Joining.{row_more, no_rows, two_tables}
-use Rattle.cq_lex_c.specs.Ascii.{among_passes, keyword_is_identifier, both_left, both_right}
+use Rattle.cq_munch.proofs.WordLists.{low_at}
+use Rattle.cq_lex_c.specs.Ascii.{keyword_is_identifier}
+use Rattle.cq_lex_c.specs.Starts.{matched}
 use Rattle.cq_lex_c.specs.C.{identifiers, reserved, IsOther, moded, mode_behind}
 use Rattle.cq_lex_c.specs.Headers.{EndsAt, IsHeader, closes, has_header}
 use Rattle.cq_lex_c.specs.Identifiers.{IsIdentifier, keywords}
 
 -- ---- identifiers and keywords
 
-name_of_row : (spell : Spell) (s : List ℕ) → InTable (identifiers ∷ reserved ∷ []) spell s → IsIdentifier s
+pub name_of_row : (spell : Spell) (s : List ℕ) → InTable (identifiers ∷ reserved ∷ []) spell s → IsIdentifier s
 name_of_row spell s h = ⊎_elim (λ own. own.1.0) (λ other. ⊎_elim (λ word. keyword_is_identifier s word.1) (λ none. absurd none) other) h
-
-pub no_name : (at mode : ℕ) (text : List ℕ) → LongestAt IsIdentifier text None → Takes (table (identifiers ∷ reserved ∷ [])) at mode text None
-no_name at mode text none = λ m some within x. none m some within (name_of_row x.0 (take m text) x.1)
-
-pub a_name : (at mode : ℕ) (text : List ℕ) (len : ℕ) (class : Class) → IsLongest IsIdentifier text len → InTable (identifiers ∷ reserved ∷ []) (Token class) (take len text) → Takes (table (identifiers ∷ reserved ∷ [])) at mode text (Some (record { spell = Token class; units = len; mode = mode }))
-a_name at mode text len class name row = (
-  record {
-    some = name.some;
-    within = name.within;
-    spelled = (Token class, row);
-    longest = λ m more within x. name.longest m more within (name_of_row x.0 (take m text) x.1);
-  },
-  row,
-  refl,
-)
-
--- keywords are short, and ASCII
-short_word : List ℕ → Bool
-short_word w = nat_le (length w) 14 && list_all (λ c. nat_lt c 128) w
-
-low_at : (w : List ℕ) → list_all (λ c. nat_lt c 128) w ≡ true → All (λ c. c < 128) w
-low_at [] h k d within = absurd (omega arith)
-low_at (c ∷ w) h zero d within = ltb-true c 128 (both_left _ _ h)
-low_at (c ∷ w) h (suc k) d within = low_at w (both_right (nat_lt c 128) _ h) k d (omega arith)
-
-pub keyword_is_short : (s : List ℕ) → IsAmong keywords s → (length s ≤ 14) × All (λ c. c < 128) s
-unfolding short_word
-keyword_is_short s among =
-    let passes = among_passes keywords short_word s refl among in
-    (leb-true (length s) 14 (both_left _ _ passes), low_at s (both_right (nat_le (length s) 14) _ passes))
 
 pub include_is_short : (s : List ℕ) → bytes_eq s (codes "include") ≡ true → (length s ≤ 7) × All (λ c. c < 128) s
 include_is_short s h =
@@ -60,13 +32,6 @@ include_is_short s h =
     subst (λ w. (length w ≤ 7) × All (λ c. c < 128) w) (sym is) (omega arith, low_at (codes "include") refl)
 
 -- ---- one row
-
-better_none : (a : Option Found) → better a None ≡ a
-better_none None = refl
-better_none (Some f) = refl
-
-pub one_row_taken : (at mode : ℕ) (text : List ℕ) (row : Row) (len : Option ℕ) (own : Option Found) → own ≡ found_of row.spell mode len → LongestAt row.set text len → Takes (table (row ∷ [])) at mode text own
-one_row_taken at mode text row len own is h = row_more at mode text row [] len own None own is (sym (better_none own)) h (no_rows at mode text)
 
 -- two tables
 pub joined : (at mode : ℕ) (text : List ℕ) (xs ys : List Row) (a b all : Option Found) → all ≡ better a b → Takes (table xs) at mode text a → Takes (table ys) at mode text b → Takes (table (xs ++ ys)) at mode text all
@@ -89,10 +54,6 @@ one_other (c ∷ t) some other = record {
     by (d ∷ u) (suc (suc m)) more within h = h
 
 -- ---- header names
-
-pub matched : (b : Bool) (P Q : Type 0) → MatchBool b P Q → ((b ≡ true) × P) ⊎ ((b ≡ false) × Q)
-matched true P Q h = inl (refl, h)
-matched false P Q h = inr (refl, h)
 
 closing : (close : ℕ) (some : Bool) (s : List ℕ) (m : ℕ) → EndsAt close some (take m s) → closes close some s ≡ true
 closing close some s zero h = absurd h
@@ -120,8 +81,8 @@ record Closed (close : ℕ) (some : Bool) (s : List ℕ) : Type 0 where
 closed_more : (close : ℕ) (some : Bool) (c : ℕ) (s : List ℕ) → (closes close true s ≡ true → Closed close true s) → (b : Bool) → (c == close) ≡ b → cond b some (not (c == 10) && closes close true s) ≡ true → Closed close some (c ∷ s)
 closed_more close some c s rest true e k = record { len = 1; within = omega arith; ends = MatchBool-from_true (c == close) (IsTrue some × _) _ e (k, refl) }
 closed_more close some c s rest false e k =
-    let more = rest (both_right (not (c == 10)) _ k) in
-    record { len = suc more.len; within = omega (arith, more.within); ends = MatchBool-from_false (c == close) _ _ e (not-true (c == 10) (both_left _ _ k), more.ends) }
+    let more = rest (and_parts (not (c == 10)) _ k).1 in
+    record { len = suc more.len; within = omega (arith, more.within); ends = MatchBool-from_false (c == close) _ _ e (not-true (c == 10) (and_parts _ _ k).0, more.ends) }
 
 closed : (close : ℕ) (some : Bool) (s : List ℕ) → closes close some s ≡ true → Closed close some s
 closed close some [] h = absurd (cc)
@@ -134,8 +95,8 @@ header_not (c ∷ s) none h = by (c == 60) refl h
     by : (b : Bool) → (c == 60) ≡ b → cond b (closes 62 false s) ((c == 34) && closes 34 false s) ≡ true → ⊥
     by true e k = let rest = closed 62 false s k in none (suc rest.len) (omega arith) (omega (arith, rest.within)) (MatchBool-from_true (c == 60) _ _ e rest.ends)
     by false e k =
-        let rest = closed 34 false s (both_right (c == 34) _ k) in
-        none (suc rest.len) (omega arith) (omega (arith, rest.within)) (MatchBool-from_false (c == 60) _ _ e (both_left _ _ k, rest.ends))
+        let rest = closed 34 false s (and_parts (c == 34) _ k).1 in
+        none (suc rest.len) (omega arith) (omega (arith, rest.within)) (MatchBool-from_false (c == 60) _ _ e ((and_parts _ _ k).0, rest.ends))
 
 pub header_some : (mode : ℕ) (text : List ℕ) (r : Option ℕ) → mode ≡ 2 → LongestAt IsHeader text r → IfSome r (λ n. IsTrue ((mode == 2) && has_header text) × IsLongest IsHeader text n)
 header_some mode text None is h = tt

@@ -5,4 +5,3 @@ pub mod Elements
 pub mod Dispatch
 pub mod PunctuatorSteps
 pub mod OpenComments
-pub mod Reserved

@@ -2,7 +2,7 @@
 use Rattle.std.proofs.Common.{◌≡◌, ◌⊎◌, ℕ, zero, suc, ◌<◌, ◌≤◌, Some, None, Bool, true, false, not, nat_lt, ◌&&◌, ◌||◌, ◌==◌, List, [], ◌∷◌, length, take, drop, refl, sym, subst, ap, ◌∙◌, inl, inr, arith, length-drop}
 use Rattle.std.specs.Prelude.{MatchBool, IsTrue}
 use Rattle.std.specs.Char.{is_ascii_digit}
-use Rattle.std.proofs.lemmas.Bool.{eqb-true}
+use Rattle.std.proofs.lemmas.Bool.{eqb-true, and_parts}
 use Rattle.std.proofs.lemmas.List.{length-map}
 use Rattle.cq_base.proofs.Bools.{MatchBool-from_true, MatchBool-from_false}
 use Rattle.cq_munch.specs.Characters.{characters}
@@ -10,20 +10,25 @@ use Rattle.cq_munch.specs.Comments.{IsBlockComment}
 use Rattle.cq_munch.specs.Language.{Allows, Takes, has_mark}
 use Rattle.cq_munch.specs.Lexed.{EndsAt}
 use Rattle.cq_munch.specs.Longest.{LongestAt, IsAmong}
-use Rattle.cq_munch.specs.Table.{InTable}
+use Rattle.cq_munch.specs.Commented.{lines, opens_block, opens_line}
+use Rattle.cq_munch.specs.Table.{InTable, begins}
+use Rattle.cq_munch.specs.declared.ends.LineEnds.TheVariants.{Feed}
 use Rattle.cq_munch.specs.declared.element.Spell.{Spell}
 use Rattle.cq_munch.specs.declared.element.Spell.TheVariants.{Blank, Comment, Token}
 use Rattle.cq_munch.specs.declared.unit.Unit.{Unit}
 use Rattle.cq_base.specs.declared.token.Class.TheVariants.{Ident, Word, Literal, Punct}
-use Rattle.cq_lex_c.specs.Ascii.{begins_below, among_passes, both_left, both_right}
-use Rattle.cq_lex_c.specs.C.{c, rows, lines, unmarked, behind_block, is_blank, begins, opens_block, opens_line, opens_header}
+use Rattle.cq_munch.proofs.WordLists.{among_passes, has_word, same_word, has_word-among}
+use Rattle.cq_munch.proofs.Dispatch.{only_chars}
+use Rattle.cq_lex_c.specs.Ascii.{begins_below}
+use Rattle.cq_lex_c.specs.C.{c, rows, unmarked, with_comments, is_blank, blank_characters, opens_header}
 use Rattle.cq_lex_c.specs.Characters.{begins_identifier}
 use Rattle.cq_lex_c.specs.Headers.{IsHeader, has_header}
 use Rattle.cq_lex_c.specs.Identifiers.{IsIdentifier, IsTail, keywords}
 use Rattle.cq_lex_c.specs.Numbers.{IsNumber}
 use Rattle.cq_lex_c.specs.OpenComments.{IsOpenComment}
 use Rattle.cq_lex_c.specs.declared.identifier.Identifier.TheVariants as name_at
-use Rattle.cq_lex_c.proofs.Dispatch.{blank_is, blank_there}
+use Rattle.cq_lex_c.specs.Fronts.{at_blank}
+use Rattle.cq_lex_c.specs.Starts.{known, blank_test}
 use Rattle.cq_lex_c.proofs.Elements.{header_not}
 
 -- ---- a row has each character
@@ -47,11 +52,15 @@ number_of d digit = by (d == 46) refl
     by true e = let is : d ≡ 46 = eqb-true d 46 e in let bad : false ≡ true = sym (ap is_ascii_digit is) ∙ digit in absurd (cc)
     by false e = MatchBool-from_false (d == 46) ⊥ _ e (digit, tt)
 
+blank_there : (d : ℕ) → is_blank d ≡ true → IsAmong blank_characters (d ∷ [])
+unfolding has_word same_word
+blank_there d h = has_word-among (d ∷ []) blank_characters (only_chars known at_blank (λ e. has_word (e ∷ []) blank_characters) refl refl refl d (sym (blank_test d) ∙ h))
+
 row_of : (d : ℕ) → (spell : Spell) × InTable rows spell (d ∷ [])
 row_of d = by (is_blank d) (begins_identifier d) (is_ascii_digit d) refl refl refl
   where
     by : (blank letter digit : Bool) → is_blank d ≡ blank → begins_identifier d ≡ letter → is_ascii_digit d ≡ digit → (spell : Spell) × InTable rows spell (d ∷ [])
-    by true letter digit h k l = (Blank, inr (inr (inl (refl, blank_there d (blank_is d h)))))
+    by true letter digit h k l = (Blank, inr (inr (inl (refl, blank_there d h))))
     by false true digit h k l = (Token Ident, inl (refl, (name_of d k, no_keyword d)))
     by false false true h k l = (Token Literal, inr (inr (inr (inl (refl, number_of d l)))))
     by false false false h k l =
@@ -70,9 +79,9 @@ mark_is (suc at) text h = absurd (cc)
 
 line_there : (text : List ℕ) → begins (47 ∷ 47 ∷ []) text ≡ true → (2 ≤ length text) × (take 2 text ≡ 47 ∷ 47 ∷ [])
 line_there [] h = absurd (cc)
-line_there (d ∷ []) h = let bad : false ≡ true = both_right (d == 47) false h in absurd (cc)
+line_there (d ∷ []) h = let bad : false ≡ true = (and_parts (d == 47) false h).1 in absurd (cc)
 line_there (d ∷ e ∷ s) h =
-    (omega arith, (λ k. eqb-true d 47 (both_left (d == 47) _ h) k ∷ eqb-true e 47 (both_left (e == 47) true (both_right (d == 47) _ h)) k ∷ []))
+    (omega arith, (λ k. eqb-true d 47 (and_parts (d == 47) _ h).0 k ∷ eqb-true e 47 (and_parts (e == 47) true (and_parts (d == 47) _ h).1).0 k ∷ []))
 
 module _ (at mode : ℕ) (text : List ℕ) (some : 0 < length text) (none : Takes c at mode text None) where
   -- the test of each opener, and where it fails
@@ -86,9 +95,9 @@ module _ (at mode : ℕ) (text : List ℕ) (some : 0 < length text) (none : Take
   no_header : (b : Bool) → opens_header at mode text ≡ b → b ≡ false
   no_header false e = refl
   no_header true e =
-      absurd (header_not text (λ m some within x. none m some within (Token Word, in_c (Token Word) (take m text) (MatchBool-from_true (opens_header at mode text) _ _ e (inl (refl, x))))) (both_right (mode == 2) (has_header text) e))
+      absurd (header_not text (λ m some within x. none m some within (Token Word, in_c (Token Word) (take m text) (MatchBool-from_true (opens_header at mode text) _ _ e (inl (refl, x))))) (and_parts (mode == 2) (has_header text) e).1)
 
-  in_unmarked : (spell : Spell) (s : List ℕ) → behind_block.tried at mode text spell s → unmarked.tried at mode text spell s
+  in_unmarked : (spell : Spell) (s : List ℕ) → with_comments.tried at mode text spell s → unmarked.tried at mode text spell s
   in_unmarked spell s h = MatchBool-from_false (opens_header at mode text) _ _ (no_header (opens_header at mode text) refl) h
 
   -- one of the other rows has the first character, or two slashes
@@ -99,7 +108,7 @@ module _ (at mode : ℕ) (text : List ℕ) (some : 0 < length text) (none : Take
         Comment,
         in_c Comment (take 2 text) (in_unmarked Comment (take 2 text)
             (MatchBool-from_false (opens_block at mode text) _ _ apart
-            (MatchBool-from_true (opens_line at mode text) _ _ e (subst (InTable (lines ∷ []) Comment) (sym line.1) (inl (refl, (refl, (refl, tt)))))))),
+            (MatchBool-from_true (opens_line at mode text) _ _ e (subst (InTable (lines Feed ∷ []) Comment) (sym line.1) (inl (refl, (refl, (refl, tt)))))))),
       )
   other_taken apart false e =
       let row = first_row text some in

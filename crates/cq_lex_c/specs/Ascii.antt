@@ -1,6 +1,6 @@
 -- Which ASCII characters begin and continue an identifier.
 use Rattle.std.proofs.Common.{◌≡◌, ℕ, ◌<◌, Bool, true, false, ◌&&◌, ◌||◌, ◌==◌, not, nat_le, nat_lt, List, [], ◌∷◌, ⊎_elim, refl, ap, ◌∙◌}
-use Rattle.std.proofs.lemmas.Bool.{ltb-true, not-true}
+use Rattle.std.proofs.lemmas.Bool.{ltb-true, not-true, and_parts}
 use Rattle.std.specs.Bool.{beq}
 use Rattle.std.specs.Prelude.{IsTrue, MatchBool}
 use Rattle.std.specs.List.{list_all}
@@ -10,6 +10,7 @@ use Rattle.ucd_table.proofs.Facts.{Stepped-below, same_from_beq}
 use Rattle.ucd_derived.proofs.BinaryLemmas.{is_xid_start_stepped, is_xid_continue_stepped}
 use Rattle.unicode_ident.specs.Ident.{is_xid_start, is_xid_continue}
 use Rattle.cq_munch.specs.Longest.{IsAmong}
+use Rattle.cq_munch.proofs.WordLists.{among_passes}
 use Rattle.cq_lex_c.specs.Characters.{begins_identifier, continues_identifier}
 use Rattle.cq_lex_c.specs.Identifiers.{IsTail, IsIdentifier, keywords}
 use Rattle.cq_lex_c.specs.declared.identifier.Identifier.TheVariants as at
@@ -31,20 +32,6 @@ pub continues_below : (c : ℕ) → c < 128 → continues_identifier c ≡ conti
 unfolding tables continues_identifier is_xid_continue_stepped
 continues_below c below = same_from_beq _ _ (Stepped-below is_xid_continue is_xid_continue_stepped (λ d b. beq (b || (d == 36)) (continues_ascii d)) 128 refl c below)
 
-pub both_left : (a b : Bool) → (a && b) ≡ true → a ≡ true
-both_left true b h = refl
-both_left false b h = absurd (cc)
-
-pub both_right : (a b : Bool) → (a && b) ≡ true → b ≡ true
-both_right true b h = h
-both_right false b h = absurd (cc)
-
--- what each word of a list passes, one of them passes
-pub among_passes : (ws : List (List ℕ)) (test : List ℕ → Bool) (s : List ℕ) → list_all test ws ≡ true → IsAmong ws s → test s ≡ true
-among_passes [] test s h among = absurd among
-among_passes (w ∷ ws) test s h among =
-    ⊎_elim (λ e. ap test e ∙ both_left _ _ h) (λ rest. among_passes ws test s (both_right (test w) _ h) rest) among
-
 -- ---- each keyword is an identifier
 
 in_name : ℕ → Bool
@@ -61,21 +48,21 @@ tail_of_word : (s : List ℕ) → list_all in_name s ≡ true → IsTail at.Whol
 unfolding in_name
 tail_of_word [] h = tt
 tail_of_word (c ∷ s) h =
-    let here = both_left (in_name c) (list_all in_name s) h in
-    let both = both_right (nat_lt c 128) _ here in
-    let low : c < 128 = ltb-true c 128 (both_left (nat_lt c 128) _ here) in
-    MatchBool-from_false (c == 92) (IsTail at.Mark s) (IsTrue (continues_identifier c) × IsTail at.Whole s) (not-true (c == 92) (both_right (continues_ascii c) _ both))
-    (continues_below c low ∙ both_left (continues_ascii c) _ both, tail_of_word s (both_right (in_name c) _ h))
+    let all = and_parts (in_name c) (list_all in_name s) h in
+    let here = and_parts (nat_lt c 128) (continues_ascii c && not (c == 92)) all.0 in
+    let both = and_parts (continues_ascii c) (not (c == 92)) here.1 in
+    MatchBool-from_false (c == 92) (IsTail at.Mark s) (IsTrue (continues_identifier c) × IsTail at.Whole s) (not-true (c == 92) both.1)
+    (continues_below c (ltb-true c 128 here.0) ∙ both.0, tail_of_word s all.1)
 
 identifier_of_word : (w : List ℕ) → is_word w ≡ true → IsIdentifier w
 unfolding is_word begins_name
 identifier_of_word [] h = absurd (cc)
 identifier_of_word (c ∷ s) h =
-    let here = both_left (begins_name c) (list_all in_name s) h in
-    let both = both_right (nat_lt c 128) _ here in
-    let low : c < 128 = ltb-true c 128 (both_left (nat_lt c 128) _ here) in
-    MatchBool-from_false (c == 92) (IsTail at.Mark s) (IsTrue (begins_identifier c) × IsTail at.Whole s) (not-true (c == 92) (both_right (begins_ascii c) _ both))
-    (begins_below c low ∙ both_left (begins_ascii c) _ both, tail_of_word s (both_right (begins_name c) _ h))
+    let all = and_parts (begins_name c) (list_all in_name s) h in
+    let here = and_parts (nat_lt c 128) (begins_ascii c && not (c == 92)) all.0 in
+    let both = and_parts (begins_ascii c) (not (c == 92)) here.1 in
+    MatchBool-from_false (c == 92) (IsTail at.Mark s) (IsTrue (begins_identifier c) × IsTail at.Whole s) (not-true (c == 92) both.1)
+    (begins_below c (ltb-true c 128 here.0) ∙ both.0, tail_of_word s all.1)
 
 pub keyword_is_identifier : (s : List ℕ) → IsAmong keywords s → IsIdentifier s
 unfolding is_word begins_name in_name

@@ -4,7 +4,7 @@ use Rattle.std.specs.Prelude.{ℕ, Bool, true, false, ◌&&◌, ◌||◌, ◌==�
 use Rattle.std.specs.Str.{bytes_eq}
 use Rattle.std.specs.Char.{is_ascii_digit}
 use Rattle.cq_base.specs.declared.token.Class.TheVariants.{Ident, Word, Literal, Punct}
-use Rattle.cq_munch.specs.Comments.{IsBlockComment, IsLineComment}
+use Rattle.cq_munch.specs.Commented.{commented}
 use Rattle.cq_munch.specs.Language.{Language, marked}
 use Rattle.cq_munch.specs.Longest.{IsAmong}
 use Rattle.cq_munch.specs.Table.{Row, table, first}
@@ -17,12 +17,6 @@ use Rattle.cq_lex_c.specs.Identifiers.{IsIdentifier, keywords}
 use Rattle.cq_lex_c.specs.Numbers.{IsNumber}
 use Rattle.cq_lex_c.specs.Punctuators.{punctuators}
 use Rattle.cq_lex_c.specs.Texts.{IsText, IsPrefixed}
-
--- the text begins with this one
-abbrev pub begins : List ℕ → List ℕ → Bool
-begins [] text = true
-begins (c ∷ cs) [] = false
-begins (c ∷ cs) (d ∷ ds) = (d == c) && begins cs ds
 
 -- space, tab, vertical tab, form feed, carriage return and line feed
 abbrev pub blank_characters : List (List ℕ)
@@ -67,34 +61,19 @@ others = record { spell = Token Punct; set = IsOther }
 abbrev pub rows : List Row
 rows = identifiers ∷ reserved ∷ blanks ∷ numbers ∷ texts ∷ prefixed ∷ marks ∷ others ∷ []
 
-abbrev pub blocks : Row
-blocks = record { spell = Comment; set = IsBlockComment }
-
-abbrev pub lines : Row
-lines = record { spell = Comment; set = IsLineComment Feed }
-
 abbrev pub headers : Row
 headers = record { spell = Token Word; set = IsHeader }
 
--- an opener stands there; a header name does in mode 2 alone
-abbrev pub opens_block : ℕ → ℕ → List ℕ → Bool
-opens_block at mode text = begins (47 ∷ 42 ∷ []) text
-
-abbrev pub opens_line : ℕ → ℕ → List ℕ → Bool
-opens_line at mode text = begins (47 ∷ 47 ∷ []) text
-
+-- a header name stands there, in mode 2 alone
 abbrev pub opens_header : ℕ → ℕ → List ℕ → Bool
 opens_header at mode text = (mode == 2) && has_header text
 
--- Where one of these stands, only its own row is tried.
-abbrev pub behind_line : Language
-behind_line = first opens_line (lines ∷ []) (table rows)
-
-abbrev pub behind_block : Language
-behind_block = first opens_block (blocks ∷ []) behind_line
+-- Where a header name stands or a comment is opened, only its own row is tried.
+abbrev pub with_comments : Language
+with_comments = commented Feed (table rows)
 
 abbrev pub unmarked : Language
-unmarked = first opens_header (headers ∷ []) behind_block
+unmarked = first opens_header (headers ∷ []) with_comments
 
 -- the mode behind an element
 abbrev pub mode_of_token : ℕ → List ℕ → ℕ

@@ -1,6 +1,5 @@
 -- Identifiers and keywords (C11 6.4.1, 6.4.2, 6.4.3). What a universal character name stands for is not checked.
 use Rattle.std.specs.Prelude.{ℕ, ◌-◌, ◌==◌, nat_le, if◌then◌else◌, List, [], ◌∷◌, map, slice_index_or, IsTrue, MatchBool, ⊤, codes}
-use Rattle.std.specs.Borrow.{Bor}
 use Rattle.std.specs.Char.{is_ascii_hexdigit}
 use Rattle.cq_lex_c.specs.Characters.{begins_identifier, continues_identifier}
 use Rattle.cq_lex_c.specs.declared.identifier.Identifier.{Identifier}
@@ -34,7 +33,3 @@ identifier_rest (at.Digits n) s = IsTail (at.Digits n) s
 
 abbrev pub keywords : List (List ℕ)
 keywords = codes "auto" ∷ codes "break" ∷ codes "case" ∷ codes "char" ∷ codes "const" ∷ codes "continue" ∷ codes "default" ∷ codes "do" ∷ codes "double" ∷ codes "else" ∷ codes "enum" ∷ codes "extern" ∷ codes "float" ∷ codes "for" ∷ codes "goto" ∷ codes "if" ∷ codes "inline" ∷ codes "int" ∷ codes "long" ∷ codes "register" ∷ codes "restrict" ∷ codes "return" ∷ codes "short" ∷ codes "signed" ∷ codes "sizeof" ∷ codes "static" ∷ codes "struct" ∷ codes "switch" ∷ codes "typedef" ∷ codes "union" ∷ codes "unsigned" ∷ codes "void" ∷ codes "volatile" ∷ codes "while" ∷ codes "_Alignas" ∷ codes "_Alignof" ∷ codes "_Atomic" ∷ codes "_Bool" ∷ codes "_Complex" ∷ codes "_Generic" ∷ codes "_Imaginary" ∷ codes "_Noreturn" ∷ codes "_Static_assert" ∷ codes "_Thread_local" ∷ []
-
--- of lists of words, in the order of the words' length, the one of a length
-abbrev pub words_of_length : List (Bor (List (Bor (List ℕ)))) → ℕ → List (List ℕ)
-words_of_length lists n = slice_index_or (map (λ words. map (λ word. word.now) words.now) lists) n []

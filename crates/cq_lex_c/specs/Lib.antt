@@ -11,5 +11,6 @@ pub mod PunctuatorStates
 pub mod C
 pub mod Fronts
 pub mod Ascii
+pub mod Starts
 pub mod OneKind
 pub mod OpenComments

@@ -6,7 +6,8 @@ use Rattle.cq_munch.specs.Lexed.{IsLexed, unit_at, units_of}
 use Rattle.cq_munch.specs.Longest.{LongestAt}
 use Rattle.cq_munch.specs.declared.munching.Lexed.TheVariants.{Fault}
 use Rattle.cq_munch.specs.declared.unit.Unit.{Unit}
-use Rattle.cq_lex_c.specs.C.{c, begins}
+use Rattle.cq_munch.specs.Table.{begins}
+use Rattle.cq_lex_c.specs.C.{c}
 use Rattle.cq_lex_c.specs.Splices.{spliced}
 
 -- at the unit of this byte stand a slash and a star, and no star with a slash behind it closes them

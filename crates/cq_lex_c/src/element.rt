@@ -4,7 +4,7 @@ ghost use Rattle.cq_munch.specs.Language.{Takes};
 ghost use Rattle.cq_munch.specs.Longest.{IsLongest, LongestAt};
 ghost use Rattle.cq_munch.specs.Table.{InTable, table};
 ghost use Rattle.cq_munch.specs.declared.element.Spell.TheVariants.{Token as token};
-ghost use Rattle.cq_lex_c.specs.C.{begins, behind_block, identifiers, reserved, others, unmarked};
+ghost use Rattle.cq_lex_c.specs.C.{identifiers, reserved, others, unmarked, with_comments};
 ghost use Rattle.cq_lex_c.specs.Fronts.{front_of, rows_of};
 ghost use Rattle.cq_lex_c.specs.Headers.{IsHeader, has_header};
 ghost use Rattle.cq_lex_c.specs.Identifiers.{IsIdentifier};
@@ -19,6 +19,7 @@ use crate::punctuator::longest_punctuator;
 use cq_base::Class;
 use cq_munch::{
     Found, LineEnds, Spell, Unit, better, found_of, longest_block_comment, longest_line_comment,
+    second_is,
 };
 
 /// What a first character tells of the element that begins with it.
@@ -96,23 +97,12 @@ fn punctuator(units: &[Unit], mode: u8) -> Option<Found>
     )
 }
 
-// Whether this one stands behind the slash at the front.
-fn second_is(units: &[Unit], ch: char) -> bool
-    requires slash { slice_index_or (characters units.now) 0 0 ≡ 47 }
-    ensures { result ≡ begins (47 ∷ ch ∷ []) (characters units.now) }
-{
-    match units {
-        [_, second, ..] => second.ch == ch,
-        _ => false,
-    }
-}
-
 // The comment or punctuator at the front, which is a slash.
 fn behind_slash(units: &[Unit], mode: u8) -> Option<Found>
     requires some { 0 < length units.now }
     requires short { length units.now < 2 ^ 32 }
     requires slash { slice_index_or (characters units.now) 0 0 ≡ 47 }
-    ensures { (at : ℕ) → Takes behind_block at mode (characters units.now) result }
+    ensures { (at : ℕ) → Takes with_comments at mode (characters units.now) result }
 {
     if second_is(units, '*') {
         return found_of(Spell::Comment, mode, longest_block_comment(units));
@@ -134,7 +124,7 @@ fn element(units: &[Unit], mode: u8, text: Option<usize>, prefixed: Option<usize
     requires short { length units.now < 2 ^ 32 }
     requires text { LongestAt IsText (characters units.now) text }
     requires prefixed { LongestAt IsPrefixed (characters units.now) prefixed }
-    ensures { (at : ℕ) → Takes behind_block at mode (characters units.now) result }
+    ensures { (at : ℕ) → Takes with_comments at mode (characters units.now) result }
 {
     let literal = Spell::Token(Class::Literal);
     let alone = found_of(Spell::Token(Class::Punct), mode, Some(1));

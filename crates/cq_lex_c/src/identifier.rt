@@ -1,10 +1,10 @@
-ghost use Rattle.std.specs.Prelude.{◌≡◌, ◌↔◌, IsTrue, length};
+ghost use Rattle.std.specs.Prelude.{◌≡◌, ◌↔◌, IsTrue};
 ghost use Rattle.cq_munch.specs.Characters.{characters};
 ghost use Rattle.cq_munch.specs.Longest.{LongestAt, IsAmong};
-ghost use Rattle.cq_lex_c.specs.Identifiers.{IsIdentifier, identifier_rest, keywords, words_of_length};
+ghost use Rattle.cq_lex_c.specs.Identifiers.{IsIdentifier, identifier_rest, keywords};
 
 use crate::characters::{begins_identifier, continues_identifier};
-use cq_munch::{Machine, Unit, ascii_bytes, longest_spelling};
+use cq_munch::{Machine, Unit, ascii_bytes, is_listed, longest_spelling};
 
 // `_Static_assert` has as many characters.
 const LONGEST_KEYWORD: usize = 14;
@@ -108,16 +108,6 @@ const RESERVED: [&[&[u8]]; 15] = [
     &[b"_Thread_local"],
     &[b"_Static_assert"],
 ];
-
-// Whether it stands in the list of the words of its length.
-fn is_listed(by_length: &[&[&[u8]]], word: &[u8]) -> bool
-    ensures { IsTrue result ↔ IsAmong (words_of_length by_length.now (length word.now)) word.now }
-{
-    match by_length.get(word.len()) {
-        Some(words) => words.contains(&word),
-        None => false,
-    }
-}
 
 // Whether it is one of the 44 keywords.
 fn is_reserved(word: &[u8]) -> bool

@@ -1,6 +1,7 @@
 -- The first character tells which rows can stand there.
 use Rattle.std.proofs.Common.{◌≡◌, ◌⊎◌, ℕ, zero, suc, ◌<◌, ◌≤◌, Option, Some, Bool, true, false, ◌&&◌, ◌||◌, ◌==◌, not, nat_lt, if◌then◌else◌, List, [], ◌∷◌, length, get_or, take, refl, sym, subst, ap, ◌∙◌, inl, inr, ⊎_elim, arith, length-take-le}
 use Rattle.std.specs.Prelude.{IsTrue}
+use Rattle.std.specs.Bool.{beq}
 use Rattle.std.specs.List.{list_all}
 use Rattle.std.proofs.lemmas.Bool.{ltb-true, eqb-true, cases_lt, cases_Bool, and_parts, and_left, not-true, both_ways}
 use Rattle.cq_base.proofs.Bools.{or-implies}
@@ -15,7 +16,7 @@ use Rattle.cq_munch.specs.declared.element.Found.{Found}
 use Rattle.cq_munch.specs.declared.element.Spell.{Spell}
 use Rattle.cq_munch.specs.declared.ends.LineEnds.{LineEnds}
 use Rattle.cq_munch.proofs.Joining.{narrowed, takes_rest}
-use Rattle.cq_munch.proofs.Steps.{behind_each-if, takes_empty-if, agree-behind_each}
+use Rattle.cq_munch.proofs.Steps.{beq-is, behind_each-if, takes_empty-if, agree-behind_each}
 use Rattle.cq_munch.proofs.Tables.{below_each, class_past, agree_past}
 use Rattle.cq_munch.proofs.WordLists.{has_word, has_word-among, among_passes}
 
@@ -97,6 +98,26 @@ module _ {F : Type 0} {t : FrontTable F} (known : Known t) where
       ⊎_elim
       (λ low. or-implies (at (low_front c)) (test c) (below_each 128 (λ d. not (at (low_front d)) || test d) all c low) (ap at (sym (front_below c low)) ∙ is))
       (λ high. absurd (both_ways (at (front_in t c)) (ap at (front_past c high) ∙ either at (t.is_letter c) no_letter no_other) is))
+      (cases_lt c 128)
+
+  -- a test that only characters of ASCII pass, and which their fronts tell
+  pub same_test : (at : F → Bool) (test : ℕ → Bool) → at t.letter ≡ false → at t.other ≡ false → each_below 128 (λ c. beq (test c) (at (low_front c))) ≡ true → ((c : ℕ) → 128 ≤ c → test c ≡ false) → (c : ℕ) → test c ≡ at (front_in t c)
+  same_test at test no_letter no_other all past c =
+      ⊎_elim
+      (λ low. beq-is _ _ (below_each 128 (λ d. beq (test d) (at (low_front d))) all c low) ∙ ap at (sym (front_below c low)))
+      (λ high. past c high ∙ sym (ap at (front_past c high) ∙ either at (t.is_letter c) no_letter no_other))
+      (cases_lt c 128)
+
+  chosen : (at : F → Bool) (b : Bool) → at t.letter ≡ true → at t.other ≡ false → at (if b then t.letter else t.other) ≡ b
+  chosen at true h k = h
+  chosen at false h k = k
+
+  -- and that of letters
+  pub letter_test : (at : F → Bool) → at t.letter ≡ true → at t.other ≡ false → each_below 128 (λ c. beq (known.low_letter c) (at (low_front c))) ≡ true → (c : ℕ) → t.is_letter c ≡ at (front_in t c)
+  letter_test at here no_other all c =
+      ⊎_elim
+      (λ low. known.below c low ∙ beq-is _ _ (below_each 128 (λ d. beq (known.low_letter d) (at (low_front d))) all c low) ∙ ap at (sym (front_below c low)))
+      (λ high. sym (ap at (front_past c high) ∙ chosen at (t.is_letter c) here no_other))
       (cases_lt c 128)
 
   -- a front of one character alone

@@ -1,9 +1,9 @@
 use Rattle.std.proofs.Common.{Some, [], ◌∷◌}
 use Rattle.cq_munch.specs.Characters.{characters}
 use Rattle.cq_munch.proofs.Front.{as_many}
-use Rattle.cq_munch.proofs.Joining.{row_more}
+use Rattle.cq_munch.proofs.Joining.{row_more, one_row_taken}
 use Rattle.cq_lex_c.specs.C.{marks, others}
-use Rattle.cq_lex_c.proofs.Elements.{one_row_taken, one_other}
+use Rattle.cq_lex_c.proofs.Elements.{one_other}
 use Rattle.cq_lex_c.proofs.element.punctuator.Goals as goal
 
 pub returns : goal.returns

@@ -1,8 +1,11 @@
-use Rattle.cq_lex_c.proofs.Reserved.{reserved-among}
+use Rattle.std.proofs.Common.{map, refl}
+use Rattle.cq_munch.proofs.Reserved.{has, by_length_among}
+use Rattle.cq_lex_c.specs.Identifiers.{keywords}
+use Rattle.cq_lex_c.specs.declared.identifier.TheConstants.{RESERVED}
 use Rattle.cq_lex_c.proofs.identifier.is_reserved.Goals as goal
 
 pub returns : goal.returns
 returns c =
     let listed = c.is_listed.ensures in
-    let same = reserved-among c.args.word.now in
+    let same = by_length_among keywords (map (λ row. map (λ w. w.now) row.now) RESERVED) refl refl c.args.word.now in
     (λ h. same.0 (listed.0 h), λ among. listed.1 (same.1 among))
