@@ -1,5 +1,6 @@
 -- The element at the front of a text.
-use Rattle.std.proofs.Common.{◌≡◌, ℕ, zero, suc, ◌<◌, ◌≤◌, Some, None, Bool, true, false, cond, List, [], ◌∷◌, length, take, refl, sym, subst, ◌∙◌, arith}
+use Rattle.std.proofs.Common.{◌≡◌, ℕ, zero, suc, ◌<◌, ◌≤◌, Some, None, Bool, true, false, cond, List, [], ◌∷◌, length, take, refl, sym, subst, arith}
+use Rattle.std.proofs.lemmas.Bool.{both_ways}
 use Rattle.std.specs.Char.{is_whitespace, is_ascii_digit}
 use Rattle.unicode_ident.specs.Ident.{is_xid_continue}
 use Rattle.cq_munch.specs.Longest.{IsLongest, LongestAt}
@@ -35,9 +36,6 @@ run_begins : (c : ℕ) (s : List ℕ) (m : ℕ) → 0 < m → IsRun (take m (c �
 run_begins c s zero some h = absurd (omega arith)
 run_begins c s (suc m) some h = h.0
 
-no : {A : Type 0} (b : Bool) → b ≡ true → b ≡ false → A
-no b h k = let e : true ≡ false = sym h ∙ k in absurd (cc)
-
 -- one character, with which no run begins
 pub one_taken : (at mode c : ℕ) (s : List ℕ) (spell : Spell) → is_xid_continue c ≡ false → Rows spell (c ∷ []) → Takes plain at mode (c ∷ s) (Some (record { spell = spell; units = 1; mode = mode }))
 one_taken at mode c s spell apart row = (
@@ -45,7 +43,7 @@ one_taken at mode c s spell apart row = (
     some = omega arith;
     within = omega arith;
     spelled = (spell, row);
-    longest = λ m more within h. no _ (run_begins c s m (omega arith) (longer_row (c ∷ s) m h.0 more within h.1)) apart;
+    longest = λ m more within h. both_ways _ apart (run_begins c s m (omega arith) (longer_row (c ∷ s) m h.0 more within h.1));
   },
   row,
   refl,

@@ -3,7 +3,7 @@ use Rattle.std.proofs.Common.{◌≡◌, ℕ, zero, suc, ◌<◌, ◌≤◌, Opt
 use Rattle.std.specs.Prelude.{IfSome, IfNone, IsTrue, IsFalse, MatchBool, codes}
 use Rattle.std.specs.List.{list_all}
 use Rattle.std.specs.Str.{bytes_eq}
-use Rattle.std.proofs.lemmas.Bool.{and_parts, not-true, false_from_ne_true}
+use Rattle.std.proofs.lemmas.Bool.{and_parts, and_right, not-true, false_from_ne_true}
 use Rattle.std.proofs.lemmas.Slice.Eq.{bytes_eq-Decides}
 use Rattle.cq_base.proofs.Bools.{MatchBool-from_false, MatchBool-from_true}
 use Rattle.cq_base.specs.declared.token.Class.{Class}
@@ -102,12 +102,8 @@ pub header_some : (mode : ℕ) (text : List ℕ) (r : Option ℕ) → mode ≡ 2
 header_some mode text None is h = tt
 header_some mode text (Some n) is h = (ap (λ m. (m == 2) && has_header text) is ∙ header_there text n h.spelled, h)
 
-both_false : (a b : Bool) → b ≡ false → (a && b) ≡ false
-both_false true b e = e
-both_false false b e = refl
-
 pub header_none : (mode : ℕ) (text : List ℕ) (r : Option ℕ) → LongestAt IsHeader text r → IfNone r (IsFalse ((mode == 2) && has_header text))
-header_none mode text None h = both_false (mode == 2) (has_header text) (false_from_ne_true (has_header text) (header_not text h))
+header_none mode text None h = and_right (mode == 2) (has_header text) (false_from_ne_true (has_header text) (header_not text h))
 header_none mode text (Some n) h = tt
 
 -- ---- modes

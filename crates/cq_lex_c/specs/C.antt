@@ -31,6 +31,10 @@ identifiers = record { spell = Token Ident; set = λ s. IsIdentifier s × (IsAmo
 abbrev pub reserved : Row
 reserved = record { spell = Token Word; set = IsAmong keywords }
 
+-- identifiers and keywords
+abbrev pub names : List Row
+names = identifiers ∷ reserved ∷ []
+
 abbrev pub blanks : Row
 blanks = record { spell = Blank; set = IsAmong blank_characters }
 
@@ -75,10 +79,14 @@ with_comments = commented Feed (table rows)
 abbrev pub unmarked : Language
 unmarked = first opens_header (headers ∷ []) with_comments
 
+-- the hash, spelled in one of two ways
+abbrev pub is_hash : List ℕ → Bool
+is_hash s = bytes_eq s (codes "#") || bytes_eq s (codes "%:")
+
 -- the mode behind an element
 abbrev pub mode_of_token : ℕ → List ℕ → ℕ
 mode_of_token mode s =
-    if (mode == 0) && (bytes_eq s (codes "#") || bytes_eq s (codes "%:")) then 1 else if (mode == 1) && bytes_eq s (codes "include") then 2 else 3
+    if (mode == 0) && is_hash s then 1 else if (mode == 1) && bytes_eq s (codes "include") then 2 else 3
 
 abbrev pub mode_behind : ℕ → Spell → List ℕ → ℕ
 mode_behind mode Blank s = if bytes_eq s (10 ∷ []) then 0 else mode

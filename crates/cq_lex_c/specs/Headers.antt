@@ -1,5 +1,6 @@
 -- Header names (C11 6.4.7).
 use Rattle.std.specs.Prelude.{◌≡◌, ℕ, Bool, true, false, not, ◌==◌, ◌&&◌, if◌then◌else◌, List, [], ◌∷◌, IsTrue, IsFalse, MatchBool}
+use Rattle.cq_munch.specs.Longest.{IsLongest}
 use Rattle.cq_lex_c.specs.declared.header.Header.{Header}
 use Rattle.cq_lex_c.specs.declared.header.Header.TheVariants as at
 
@@ -26,3 +27,7 @@ closes close some (c ∷ s) = if c == close then some else not (c == 10) && clos
 abbrev pub has_header : List ℕ → Bool
 has_header [] = false
 has_header (c ∷ s) = if c == 60 then closes 62 false s else (c == 34) && closes 34 false s
+
+-- in mode 2 one stands there, of so many characters
+abbrev pub IsHeaderAt : ℕ → List ℕ → ℕ → Type 0
+IsHeaderAt mode text n = IsTrue ((mode == 2) && has_header text) × IsLongest IsHeader text n

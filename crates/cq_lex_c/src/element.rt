@@ -1,12 +1,12 @@
 ghost use Rattle.std.specs.Prelude.{◌≡◌, ◌<◌, ◌^◌, ◌&&◌, ◌==◌, ℕ, [], ◌∷◌, length, slice_index_or, IsTrue, IsFalse, IfSome, IfNone};
 ghost use Rattle.cq_munch.specs.Characters.{characters};
 ghost use Rattle.cq_munch.specs.Language.{Takes};
-ghost use Rattle.cq_munch.specs.Longest.{IsLongest, LongestAt};
+ghost use Rattle.cq_munch.specs.Longest.{LongestAt};
 ghost use Rattle.cq_munch.specs.Table.{InTable, table};
 ghost use Rattle.cq_munch.specs.declared.element.Spell.TheVariants.{Token as token};
-ghost use Rattle.cq_lex_c.specs.C.{identifiers, reserved, others, unmarked, with_comments};
+ghost use Rattle.cq_lex_c.specs.C.{names, others, unmarked, with_comments};
 ghost use Rattle.cq_lex_c.specs.Fronts.{front_of, rows_of};
-ghost use Rattle.cq_lex_c.specs.Headers.{IsHeader, has_header};
+ghost use Rattle.cq_lex_c.specs.Headers.{IsHeaderAt, has_header};
 ghost use Rattle.cq_lex_c.specs.Identifiers.{IsIdentifier};
 ghost use Rattle.cq_lex_c.specs.Texts.{IsText, IsPrefixed};
 ghost use Rattle.cq_lex_c.specs.declared.element.Front.TheVariants.{Other};
@@ -60,7 +60,7 @@ fn front_of(ch: char) -> Front
 
 fn class_of(name: &[Unit]) -> Class
     requires { IsIdentifier (characters name.now) }
-    ensures { InTable (identifiers ∷ reserved ∷ []) (token result) (characters name.now) }
+    ensures { InTable names (token result) (characters name.now) }
 {
     if is_keyword(name) {
         Class::Word
@@ -72,7 +72,7 @@ fn class_of(name: &[Unit]) -> Class
 // The identifier or keyword at the front.
 fn name(units: &[Unit], mode: u8) -> Option<Found>
     requires { length units.now < 2 ^ 32 }
-    ensures { (at : ℕ) → Takes (table (identifiers ∷ reserved ∷ [])) at mode (characters units.now) result }
+    ensures { (at : ℕ) → Takes (table names) at mode (characters units.now) result }
 {
     match longest_identifier(units) {
         None => None,
@@ -145,7 +145,7 @@ fn element(units: &[Unit], mode: u8, text: Option<usize>, prefixed: Option<usize
 
 // The header name at the front, where one is looked for.
 fn header_at(units: &[Unit], mode: u8) -> Option<usize>
-    ensures some { IfSome result (λ n. IsTrue ((mode == 2) && has_header (characters units.now)) × IsLongest IsHeader (characters units.now) n) }
+    ensures some { IfSome result (IsHeaderAt mode (characters units.now)) }
     ensures none { IfNone result (IsFalse ((mode == 2) && has_header (characters units.now))) }
 {
     if mode == 2 {

@@ -1,12 +1,12 @@
 ghost use Rattle.std.specs.Prelude.{◌≡◌, ◌≤◌, ◌||◌, ◌∷◌, [], codes};
 ghost use Rattle.std.specs.Str.{bytes_eq};
 ghost use Rattle.cq_munch.specs.Characters.{characters};
-ghost use Rattle.cq_lex_c.specs.C.{mode_behind};
+ghost use Rattle.cq_lex_c.specs.C.{is_hash, mode_behind};
 
 use cq_munch::{Spell, Unit, ascii_bytes};
 
 fn is_hash(units: &[Unit]) -> bool
-    ensures { result ≡ (bytes_eq (characters units.now) (codes "#") || bytes_eq (characters units.now) (codes "%:")) }
+    ensures { result ≡ is_hash (characters units.now) }
 {
     match units {
         [first] => first.ch == '#',

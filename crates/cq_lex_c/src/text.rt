@@ -2,8 +2,7 @@ ghost use Rattle.std.specs.Prelude.{◌≡◌, ℕ, List, ◌<◌, ◌≤◌, �
 ghost use Rattle.std.specs.Option.{option_map};
 ghost use Rattle.cq_munch.specs.Characters.{characters};
 ghost use Rattle.cq_munch.specs.Longest.{LongestAt};
-ghost use Rattle.cq_munch.specs.Pattern.{Spells};
-ghost use Rattle.cq_munch.specs.Quotes.{quoted};
+ghost use Rattle.cq_munch.specs.Quotes.{QuotedAt};
 ghost use Rattle.cq_munch.specs.declared.ends.LineEnds.TheVariants.{ReturnOrFeed};
 ghost use Rattle.cq_lex_c.specs.Texts.{IsText, IsSmall, IsPrefixed};
 ghost use Rattle.cq_lex_c.specs.Unclosed.{NoneIn, IsTrueOf};
@@ -39,7 +38,7 @@ pub(crate) fn nothing_known() -> Unclosed
 fn quoted_at(quote: Quote, units: &[Unit], at: usize, known: &mut Span) -> Option<usize>
     requires inside { at ≤ length units.now }
     requires known { NoneIn quote known.old (characters units.now) }
-    ensures text { LongestAt (Spells (quoted quote ReturnOrFeed)) (drop at (characters units.now)) result }
+    ensures text { QuotedAt quote ReturnOrFeed (drop at (characters units.now)) result }
     ensures known { NoneIn quote known.new (characters units.now) }
 {
     if known.from <= at && at < known.to {

@@ -1,16 +1,23 @@
 -- The element at a front, and what opens there.
-use Rattle.std.proofs.Common.{◌≡◌, ℕ, ◌<◌, Option, Bool, true, false, ◌&&◌, ◌==◌, List, [], ◌∷◌, length, get_or, refl, ap, arith}
+use Rattle.std.proofs.Common.{◌≡◌, ℕ, ◌<◌, Option, Bool, true, false, ◌&&◌, ◌==◌, List, [], ◌∷◌, length, get_or, refl, ap, ⊎_elim, arith}
 use Rattle.cq_munch.specs.Language.{Takes}
-use Rattle.cq_munch.specs.Table.{table, begins}
+use Rattle.cq_munch.specs.Table.{InTable, table, begins}
 use Rattle.cq_munch.specs.declared.element.Found.{Found}
 use Rattle.cq_munch.specs.declared.ends.LineEnds.TheVariants.{Feed}
 use Rattle.cq_munch.proofs.Dispatch.{only_char, table_at, not_begun, no_comment, at_no_slash}
 use Rattle.cq_munch.proofs.Joining.{takes_first, takes_rest}
 use Rattle.cq_lex_go.specs.Fronts.{front_of, placed, rows_of, at_slash, at_back}
-use Rattle.cq_lex_go.specs.Go.{rows, raws, opens_raw, with_raws, unmarked}
+use Rattle.cq_lex_go.specs.Go.{names, reserved, rows, raws, opens_raw, with_raws, unmarked}
 use Rattle.cq_lex_go.specs.Starts.{known, all_start}
 use Rattle.cq_lex_go.specs.declared.element.Front.{Front}
 use Rattle.cq_lex_go.specs.declared.element.Front.TheVariants as fronts
+use Rattle.cq_munch.specs.declared.element.Spell.{Spell}
+use Rattle.cq_lex_go.specs.Words.{IsName}
+use Rattle.cq_lex_go.specs.Ascii.{keyword_is_name}
+
+-- both rows are names
+pub name_of_row : (spell : Spell) (s : List ℕ) → InTable (names ∷ reserved ∷ []) spell s → IsName s
+name_of_row spell s h = ⊎_elim (λ own. own.1.0) (λ other. ⊎_elim (λ word. keyword_is_name s word.1) (λ none. absurd none) other) h
 
 opened : (text : List ℕ) → 0 < length text → get_or text 0 0 ≡ 96 → begins (96 ∷ []) text ≡ true
 opened [] some is = absurd (omega arith)

@@ -1,20 +1,27 @@
 -- The element at a front, and what opens there.
-use Rattle.std.proofs.Common.{◌≡◌, ℕ, ◌<◌, Option, Some, Bool, true, false, ◌&&◌, ◌==◌, List, [], ◌∷◌, length, get_or, drop, refl, sym, subst, ap, ◌∙◌, arith}
+use Rattle.std.proofs.Common.{◌≡◌, ℕ, ◌<◌, Option, Some, Bool, true, false, ◌&&◌, ◌==◌, List, [], ◌∷◌, length, get_or, drop, refl, sym, subst, ap, ◌∙◌, ⊎_elim, arith}
 use Rattle.std.proofs.lemmas.Bool.{eqb-true, both_ways, and_left}
 use Rattle.cq_munch.specs.Language.{Takes}
 use Rattle.cq_munch.specs.Longest.{LongestAt}
-use Rattle.cq_munch.specs.Table.{table, begins}
+use Rattle.cq_munch.specs.Table.{InTable, table, begins}
 use Rattle.cq_munch.specs.declared.element.Found.{Found}
 use Rattle.cq_munch.specs.declared.ends.LineEnds.TheVariants.{ReturnOrFeed}
 use Rattle.cq_munch.proofs.Dispatch.{table_at, not_begun, no_comment, at_no_slash}
 use Rattle.cq_munch.proofs.Joining.{takes_first, takes_rest}
 use Rattle.cq_lex_java.specs.Blocks.{opens, opening}
 use Rattle.cq_lex_java.specs.Fronts.{front_of, placed, rows_of, at_double, at_slash, at_last}
-use Rattle.cq_lex_java.specs.Java.{rows, text_blocks, ends, opens_text, opens_end, with_end, with_texts, unmarked}
+use Rattle.cq_lex_java.specs.Java.{names, reserved, rows, text_blocks, ends, opens_text, opens_end, with_end, with_texts, unmarked}
 use Rattle.cq_lex_java.specs.Openers.{is_end}
 use Rattle.cq_lex_java.specs.Starts.{all_start}
 use Rattle.cq_lex_java.specs.declared.element.Front.{Front}
 use Rattle.cq_lex_java.specs.declared.element.Front.TheVariants as fronts
+use Rattle.cq_munch.specs.declared.element.Spell.{Spell}
+use Rattle.cq_lex_java.specs.Words.{IsIdentifier}
+use Rattle.cq_lex_java.specs.Ascii.{keyword_is_identifier}
+
+-- both rows are identifiers
+pub name_of_row : (spell : Spell) (s : List ℕ) → InTable (names ∷ reserved ∷ []) spell s → IsIdentifier s
+name_of_row spell s h = ⊎_elim (λ own. own.1.0) (λ other. ⊎_elim (λ word. keyword_is_identifier s word.1) (λ none. absurd none) other) h
 
 -- what a front opens not
 no_text : (f : Front) (text : List ℕ) → at_double f ≡ false → front_of (get_or text 0 0) ≡ f → opens text ≡ false

@@ -3,5 +3,4 @@ pub mod OperatorSteps
 pub mod Opening
 pub mod Spans
 pub mod Translating
-pub mod Elements
 pub mod Dispatch

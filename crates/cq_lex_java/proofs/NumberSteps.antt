@@ -1,11 +1,8 @@
 -- The steps of the scan of numbers are right: each is tested by computing, at one character of each kind.
-use Rattle.std.proofs.Common.{◌≡◌, ℕ, Option, Bool, true, List, [], ◌∷◌, ◌↔◌, refl, arith}
+use Rattle.std.proofs.Common.{◌≡◌, ℕ, Bool, true, List, [], ◌∷◌, refl, arith}
 use Rattle.std.specs.List.{list_all}
-use Rattle.std.specs.Option.{IfNone, IfSome}
-use Rattle.cq_munch.specs.Behind.{SpellsAny, agree_each}
-use Rattle.cq_munch.specs.Longest.{LongestAt}
-use Rattle.cq_munch.specs.Pattern.{Spells}
-use Rattle.cq_munch.proofs.Tables.{all_at, state_ok, ends, step_none, step_next, agrees_behind, one_pattern}
+use Rattle.cq_munch.specs.Behind.{agree_each}
+use Rattle.cq_munch.proofs.Tables.{all_at, state_ok, agrees_behind}
 use Rattle.cq_lex_java.specs.Numbers.{number}
 use Rattle.cq_lex_java.specs.NumberStates.{kind_rows, kind_of, sample, next_of, may_end, reached, rest_of}
 use Rattle.cq_lex_java.specs.declared.number.Kind.{Kind}
@@ -13,10 +10,10 @@ use Rattle.cq_lex_java.specs.declared.number.Kind.TheVariants as kinds
 use Rattle.cq_lex_java.specs.declared.number.Number.{Number}
 use Rattle.cq_lex_java.specs.declared.number.Number.TheVariants as states
 
-abbrev all_kinds : List Kind
+abbrev pub all_kinds : List Kind
 all_kinds = kinds.Zero ∷ kinds.One ∷ kinds.Octal ∷ kinds.Decimal ∷ kinds.B ∷ kinds.E ∷ kinds.Hex ∷ kinds.Suffix ∷ kinds.L ∷ kinds.X ∷ kinds.P ∷ kinds.Underscore ∷ kinds.Dot ∷ kinds.Sign ∷ kinds.Other ∷ []
 
-each_kind : (test : Kind → Bool) → list_all test all_kinds ≡ true → (k : Kind) → test k ≡ true
+pub each_kind : (test : Kind → Bool) → list_all test all_kinds ≡ true → (k : Kind) → test k ≡ true
 each_kind test h kinds.Zero = all_at test all_kinds h 0 kinds.Zero (omega arith)
 each_kind test h kinds.One = all_at test all_kinds h 1 kinds.One (omega arith)
 each_kind test h kinds.Octal = all_at test all_kinds h 2 kinds.Octal (omega arith)
@@ -34,7 +31,7 @@ each_kind test h kinds.Sign = all_at test all_kinds h 13 kinds.Sign (omega arith
 each_kind test h kinds.Other = all_at test all_kinds h 14 kinds.Other (omega arith)
 
 -- the test of all states
-right : (s : Number) → state_ok rest_of may_end sample next_of all_kinds s ≡ true
+pub right : (s : Number) → state_ok rest_of may_end sample next_of all_kinds s ≡ true
 unfolding state_ok rest_of number
 right states.Start = refl
 right states.Zero = refl
@@ -68,19 +65,6 @@ right states.HexWholePoint = refl
 right states.HexFraction = refl
 right states.HexFractionGap = refl
 
-agrees : (s : Number) (c : ℕ) → agree_each c (sample (kind_of c)) (rest_of s) ≡ true
+pub agrees : (s : Number) (c : ℕ) → agree_each c (sample (kind_of c)) (rest_of s) ≡ true
 unfolding rest_of number
 agrees s c = agrees_behind number kind_rows kinds.Other sample refl refl refl (omega arith) (reached s) c
-
-pub number_none : (s : Number) (c : ℕ) (r : Option Number) → next_of s (kind_of c) ≡ r → IfNone r ((t : List ℕ) → SpellsAny (rest_of s) (c ∷ t) → ⊥)
-number_none s c r is = step_none rest_of may_end sample next_of all_kinds right kind_of agrees each_kind s c r is
-
-pub number_next : (s : Number) (c : ℕ) (r : Option Number) → next_of s (kind_of c) ≡ r → IfSome r (λ n. (t : List ℕ) → SpellsAny (rest_of s) (c ∷ t) ↔ SpellsAny (rest_of n) t)
-number_next s c r is = step_next rest_of may_end sample next_of all_kinds right kind_of agrees each_kind s c r is
-
-pub an_end : (s : Number) (b : Bool) → b ≡ may_end s → (b ≡ true) ↔ SpellsAny (rest_of s) []
-an_end s b is = ends rest_of may_end sample next_of all_kinds right s b is
-
-pub starts : (text : List ℕ) (r : Option ℕ) → LongestAt (SpellsAny (rest_of states.Start)) text r → LongestAt (Spells number) text r
-unfolding rest_of
-starts text r h = one_pattern number text r h

@@ -1,28 +1,7 @@
 -- How numbers are spelled (JLS 3.10.1, 3.10.2).
-use Rattle.std.specs.Prelude.{ℕ, Bool, false, ◌&&◌, ◌||◌, ◌==◌, nat_lt, List, [], ◌∷◌}
+use Rattle.std.specs.Prelude.{[], ◌∷◌}
+use Rattle.cq_munch.specs.Digits.{decimal_digit, octal_digit, binary_digit, hex_digit, zero_digit, underscore, point, sign}
 use Rattle.cq_munch.specs.Pattern.{Pattern, among, ◌▸◌, ◌∣◌, many, optional, only, one_of}
-
--- the digits of each base
-abbrev pub decimal_digit : Pattern
-decimal_digit = among ((48, 57) ∷ [])
-
-abbrev pub octal_digit : Pattern
-octal_digit = among ((48, 55) ∷ [])
-
-abbrev pub binary_digit : Pattern
-binary_digit = among ((48, 49) ∷ [])
-
-abbrev pub hex_digit : Pattern
-hex_digit = among ((48, 57) ∷ (65, 70) ∷ (97, 102) ∷ [])
-
-abbrev pub zero_digit : Pattern
-zero_digit = only 48
-
-abbrev pub underscore : Pattern
-underscore = only 95
-
-abbrev pub point : Pattern
-point = only 46
 
 -- digits of one base, with underscores between them
 abbrev pub digits : Pattern → Pattern
@@ -47,9 +26,6 @@ binary = zero_digit ▸ one_of 98 66 ▸ digits binary_digit ▸ long_suffix
 -- floating-point numbers, with or without a suffix f, F, d or D
 abbrev pub float_suffix : Pattern
 float_suffix = among ((102, 102) ∷ (70, 70) ∷ (100, 100) ∷ (68, 68) ∷ [])
-
-abbrev pub sign : Pattern
-sign = one_of 43 45
 
 abbrev pub exponent : Pattern
 exponent = one_of 101 69 ▸ optional sign ▸ digits decimal_digit

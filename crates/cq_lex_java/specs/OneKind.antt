@@ -1,6 +1,7 @@
 -- No spelling is of two kinds: at each first character the rows that can stand there are apart.
 use Rattle.std.proofs.Common.{ℕ, List, [], ◌∷◌, refl}
-use Rattle.cq_munch.proofs.OneKind.{OneKind, HasOneKind, no_kind, one_row, two_apart, by_fronts, no_word_spelled, of_table, of_first, of_commented, of_marked}
+use Rattle.cq_munch.specs.Language.{HasOneKind}
+use Rattle.cq_munch.proofs.OneKind.{OneKind, no_kind, one_row, two_apart, by_fronts, no_word_spelled, of_table, of_first, of_commented, of_marked}
 use Rattle.cq_munch.specs.Table.{table}
 use Rattle.cq_munch.specs.declared.ends.LineEnds.TheVariants.{ReturnOrFeed}
 use Rattle.cq_lex_java.specs.Fronts.{front_of, placed, rows_of}

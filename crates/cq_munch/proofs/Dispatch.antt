@@ -1,11 +1,10 @@
 -- The first character tells which rows can stand there.
 use Rattle.std.proofs.Common.{◌≡◌, ◌⊎◌, ℕ, zero, suc, ◌<◌, ◌≤◌, Option, Some, Bool, true, false, ◌&&◌, ◌||◌, ◌==◌, not, nat_lt, if◌then◌else◌, List, [], ◌∷◌, length, get_or, take, refl, sym, subst, ap, ◌∙◌, inl, inr, ⊎_elim, arith, length-take-le}
-use Rattle.std.specs.Prelude.{IsTrue}
 use Rattle.std.specs.Bool.{beq}
 use Rattle.std.specs.List.{list_all}
-use Rattle.std.proofs.lemmas.Bool.{ltb-true, eqb-true, cases_lt, cases_Bool, and_parts, and_left, not-true, both_ways}
+use Rattle.std.proofs.lemmas.Bool.{ltb-true, eqb-true, cases_lt, cases_Bool, and_parts, and_left, both_ways}
 use Rattle.cq_base.proofs.Bools.{or-implies}
-use Rattle.cq_munch.specs.Behind.{SpellsAny, behind, behind_each, takes_empty, any_takes_empty, class_in, ascii, ascii_rows, each_below}
+use Rattle.cq_munch.specs.Behind.{SpellsAny, behind_each, takes_empty, class_in, ascii, ascii_rows, each_below}
 use Rattle.cq_munch.specs.Fronts.{FrontTable, front_in, Placed, rows_in, kept, rows_at, starts, AllStart}
 use Rattle.cq_munch.specs.Commented.{blocks, lines, opens_block, opens_line, commented}
 use Rattle.cq_munch.specs.Language.{Language, Takes}

@@ -11,7 +11,7 @@ use Rattle.cq_munch.specs.declared.element.Spell.{Spell}
 use Rattle.cq_munch.specs.declared.element.Spell.TheVariants.{Blank, Comment, Token as TokenOf}
 use Rattle.cq_munch.specs.Language.{Language, Takes}
 use Rattle.cq_munch.specs.Characters.{characters}
-use Rattle.cq_munch.specs.Lexed.{Follow, IsWhole, EndsAt, StopsFrom, GoesToEnd, IsCut, InOrder, TokensFollow, spelled_of, token_of, tokens_of, unit_at, end_of}
+use Rattle.cq_munch.specs.Lexed.{Follow, EndsAt, StopsFrom, GoesToEnd, IsCut, InOrder, TokensFollow, spelled_of, token_of, tokens_of, unit_at, end_of}
 use Rattle.cq_munch.proofs.Orders.{InOrder-drop, InOrder-behind, InOrder-ends, InOrder-take}
 
 Follow-push : (lang : Language) (text : List ℕ) (a m : ℕ) (fs : List Found) (at mode : ℕ) (f : Found) → Follow lang text a m fs at mode → Takes lang at mode (drop at text) (Some f)

@@ -1,6 +1,5 @@
 -- A byte order mark, and places where none is.
-use Rattle.std.proofs.Common.{◌≡◌, ℕ, zero, suc, Option, Some, None, Bool, true, false, List, [], ◌∷◌, length, take, refl, sym, ap, ◌∙◌, arith, length-take-le}
-use Rattle.std.specs.Prelude.{MatchBool}
+use Rattle.std.proofs.Common.{◌≡◌, ℕ, zero, suc, Option, Some, None, true, false, List, [], ◌∷◌, length, take, refl, sym, ap, ◌∙◌, arith, length-take-le}
 use Rattle.std.proofs.lemmas.Bool.{eqb-true, MatchBool-at_true, MatchBool-at_false}
 use Rattle.cq_base.proofs.Bools.{MatchBool-from_true, MatchBool-from_false}
 use Rattle.cq_munch.specs.declared.element.Found.{Found}

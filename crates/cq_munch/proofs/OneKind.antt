@@ -1,12 +1,12 @@
 -- No spelling is of two kinds: what is enough for it, row by row and opener by opener.
-use Rattle.std.proofs.Common.{◌≡◌, ℕ, Bool, true, false, not, List, [], ◌∷◌, refl, sym, ap, ◌∙◌, inl, ⊎_elim}
+use Rattle.std.proofs.Common.{◌≡◌, ℕ, Bool, true, false, not, List, [], ◌∷◌, sym, ◌∙◌, inl, ⊎_elim}
 use Rattle.std.specs.Prelude.{MatchBool}
 use Rattle.std.specs.List.{list_all}
 use Rattle.std.proofs.lemmas.Bool.{not-true, both_ways}
 use Rattle.cq_munch.specs.Behind.{any_takes_empty}
 use Rattle.cq_munch.specs.Commented.{blocks, lines, opens_block, opens_line, commented}
 use Rattle.cq_munch.specs.Fronts.{Placed, rows_in, rows_at, AllStart}
-use Rattle.cq_munch.specs.Language.{Language, has_mark, marked}
+use Rattle.cq_munch.specs.Language.{Language, has_mark, marked, HasOneKind}
 use Rattle.cq_munch.specs.Longest.{IsAmong}
 use Rattle.cq_munch.specs.Pattern.{Pattern, Spells}
 use Rattle.cq_munch.specs.Table.{Row, InTable, table, first}
@@ -49,9 +49,6 @@ no_word_spelled p ws all s spelled among =
     both_ways (any_takes_empty (behind_word s (p ∷ []))) (not-true _ (among_passes ws (λ w. not (any_takes_empty (behind_word w (p ∷ [])))) s all among)) (spelled_word s (p ∷ []) (inl spelled))
 
 -- ---- a language
-
-abbrev pub HasOneKind : Language → Type 0
-HasOneKind lang = (at mode : ℕ) (text s : List ℕ) (a b : Spell) → lang.tried at mode text a s → lang.tried at mode text b s → a ≡ b
 
 by_test : (t : Bool) (P Q : Spell → Type 0) (a b : Spell) → (P a → P b → a ≡ b) → (Q a → Q b → a ≡ b) → MatchBool t (P a) (Q a) → MatchBool t (P b) (Q b) → a ≡ b
 by_test true P Q a b p q h k = p h k

@@ -1,12 +1,12 @@
 -- A scan of a text in quotes that is not closed: no text in these quotes begins at a character that it read.
-use Rattle.std.proofs.Common.{◌≡◌, ◌⊎◌, ℕ, zero, suc, ◌+◌, ◌-◌, ◌<◌, ◌≤◌, Option, Some, None, Bool, true, false, List, [], ◌∷◌, ◌++◌, ◌↔◌, length, get_or, take, drop, refl, sym, ap, subst, ◌∙◌, inl, inr, ⊎_elim, arith, length-drop}
+use Rattle.std.proofs.Common.{◌≡◌, ◌⊎◌, ℕ, zero, suc, ◌+◌, ◌<◌, ◌≤◌, Option, Some, None, true, false, List, [], ◌∷◌, ◌++◌, length, get_or, take, drop, refl, sym, ap, subst, ◌∙◌, inl, inr, ⊎_elim, arith, length-drop}
 use Rattle.std.proofs.lemmas.List.{drop_more, take-append-drop, drop-take, take-take}
 use Rattle.std.proofs.lemmas.Bool.{cases_lt}
 use Rattle.cq_munch.specs.Behind.{SpellsAny}
 use Rattle.cq_munch.specs.Longest.{LongestAt}
 use Rattle.cq_munch.specs.Pattern.{Spells, only, many, ◌▸◌}
 use Rattle.cq_munch.specs.Quotes.{quoted, item, NoneCloses}
-use Rattle.cq_munch.specs.QuoteStates.{mark_of, sample, role_of, place_behind, next_of, stepped, closed_at, is_closed, rest_of}
+use Rattle.cq_munch.specs.QuoteStates.{mark_of, role_of, place_behind, next_of, stepped, closed_at, is_closed, rest_of}
 use Rattle.cq_munch.specs.declared.ends.LineEnds.{LineEnds}
 use Rattle.cq_munch.specs.declared.ends.LineEnds.TheVariants as ends
 use Rattle.cq_munch.specs.declared.quoted.Quote.{Quote}

@@ -1,5 +1,5 @@
 -- The steps of the scan of a text in quotes are right: each is tested by computing, at one character of each kind.
-use Rattle.std.proofs.Common.{◌≡◌, ℕ, Option, Bool, true, List, [], ◌∷◌, ◌↔◌, inl, ⊎_elim, refl, sym, ◌∙◌, arith}
+use Rattle.std.proofs.Common.{◌≡◌, ℕ, Option, Bool, true, List, [], ◌∷◌, ◌↔◌, refl, arith}
 use Rattle.std.specs.List.{list_all}
 use Rattle.std.specs.Option.{IfNone, IfSome}
 use Rattle.cq_munch.specs.Behind.{SpellsAny, after, agree_each}

@@ -1,5 +1,5 @@
 -- Words in lists by their length.
-use Rattle.std.proofs.Common.{◌≡◌, ℕ, zero, suc, ◌≤◌, ◌↔◌, Bool, true, false, ◌||◌, Bor, List, [], ◌∷◌, length, map, get_or, bytes_eq, Decides, refl, sym, ap, ◌∙◌, arith}
+use Rattle.std.proofs.Common.{◌≡◌, ℕ, zero, suc, ◌↔◌, Bool, true, false, ◌||◌, Bor, List, [], ◌∷◌, length, map, get_or, bytes_eq, Decides, refl, sym, ap, ◌∙◌}
 use Rattle.std.specs.List.{list_all, list_any}
 use Rattle.std.specs.Slice.{IsItemAt}
 use Rattle.std.specs.Prelude.{Some}

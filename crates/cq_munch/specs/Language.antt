@@ -33,3 +33,7 @@ Takes lang at mode text (Some found) =
     IsLongest (Allows lang at mode text) text found.units
     × lang.tried at mode text found.spell (take found.units text)
     × (found.mode ≡ lang.mode_behind mode found.spell (take found.units text))
+
+-- no spelling is of two kinds
+abbrev pub HasOneKind : Language → Type 0
+HasOneKind lang = (at mode : ℕ) (text s : List ℕ) (a b : Spell) → lang.tried at mode text a s → lang.tried at mode text b s → a ≡ b

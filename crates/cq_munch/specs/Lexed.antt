@@ -1,5 +1,5 @@
 -- What a text is lexed to.
-use Rattle.std.specs.Prelude.{◌≡◌, ℕ, ◌+◌, ◌-◌, ◌<◌, ◌≤◌, Some, None, Result, Ok, Err, List, [], ◌∷◌, ◌++◌, length, take, drop, slice_index_or, MatchResult, IsOkAnd, ⊤}
+use Rattle.std.specs.Prelude.{◌≡◌, ℕ, ◌+◌, ◌-◌, ◌<◌, ◌≤◌, Some, None, Result, Ok, Err, List, [], ◌∷◌, ◌++◌, length, take, drop, slice_index_or, MatchResult, IsOkAnd, IfOk, ⊤}
 use Rattle.std.specs.Char.{len_utf8}
 use Rattle.std.specs.Str.{chars}
 use Rattle.cq_base.specs.Lines.{line_at}
@@ -37,6 +37,13 @@ abbrev pub InOrder : ℕ → List Unit → ℕ → Type 0
 InOrder from [] to = from ≤ to
 InOrder from (u ∷ us) to = (from ≤ u.start) × (0 < u.len) × InOrder (u.start + u.len) us to
 
+-- of a translation: its units lie so from the first byte to one, and they are at most so many
+abbrev pub UnitsInOrder : ℕ → Translated → Type 0
+UnitsInOrder to t = IfOk (translation t) (λ units. InOrder 0 units to)
+
+abbrev pub UnitsWithin : ℕ → Translated → Type 0
+UnitsWithin most t = IfOk (translation t) (λ units. length units ≤ most)
+
 abbrev pub unit_at : List Unit → ℕ → Unit
 unit_at units i = slice_index_or units i (record { ch = 0; start = 0; len = 0 })
 
@@ -69,6 +76,10 @@ tokens_of bytes units at (f ∷ fs) = token_of bytes f.spell (take f.units (drop
 abbrev pub TokensFollow : ℕ → List Spelled → ℕ → Type 0
 TokensFollow from [] to = from ≤ to
 TokensFollow from (t ∷ ts) to = (from ≤ t.token.start) × (0 < t.token.len) × TokensFollow (t.token.start + t.token.len) ts to
+
+-- what completes the tokens of a text takes none of them away
+abbrev pub TakesNoneAway : (List ℕ → List Spelled → List Spelled) → Type 0
+TakesNoneAway completed = (text : List ℕ) (tokens : List Spelled) → length tokens ≤ length (completed text tokens)
 
 -- the elements stand one behind the other, from a unit and a mode to a unit and a mode
 abbrev pub Follow : Language → List ℕ → ℕ → ℕ → List Found → ℕ → ℕ → Type 0
@@ -131,3 +142,7 @@ Alike (lexed.Tokens v) (lexed.Tokens w) = v.items ≡ w.items
 Alike (lexed.Fault a) (lexed.Fault b) = a ≡ b
 Alike lexed.Large lexed.Large = ⊤
 Alike _ _ = ⊥
+
+-- no text is lexed to two answers
+abbrev pub HasOneAnswer : Language → (List Unit → Result (List Unit) ℕ) → (List ℕ → List Spelled → List Spelled) → Type 0
+HasOneAnswer lang translated completed = (bytes : List ℕ) (a b : Lexed) → IsLexed lang translated completed bytes a → IsLexed lang translated completed bytes b → Alike a b

@@ -1,6 +1,7 @@
 pub mod Longest
 pub mod ByLength
 pub mod Pattern
+pub mod Digits
 pub mod Behind
 pub mod LineEnds
 pub mod Comments

@@ -1,5 +1,5 @@
 -- Texts in quotes. What an escape means is not checked.
-use Rattle.std.specs.Prelude.{ℕ, ◌<◌, ◌≤◌, None, List, [], ◌∷◌, drop}
+use Rattle.std.specs.Prelude.{ℕ, ◌<◌, ◌≤◌, Option, None, List, [], ◌∷◌, drop}
 use Rattle.cq_munch.specs.Longest.{LongestAt}
 use Rattle.cq_munch.specs.Pattern.{Range, Pattern, Spells, except, ◌▸◌, ◌∣◌, many, only}
 use Rattle.cq_munch.specs.declared.ends.LineEnds.{LineEnds}
@@ -20,6 +20,10 @@ unfoldable pub quoted : Quote → LineEnds → Pattern
 quoted quotes.Double ends = only 34 ▸ many (item 34 ends) ▸ only 34
 quoted quotes.Single ends = only 39 ▸ (item 39 ends ▸ many (item 39 ends)) ▸ only 39
 
+-- the longest text in these quotes at the front, or None where none stands there
+abbrev pub QuotedAt : Quote → LineEnds → List ℕ → Option ℕ → Type 0
+QuotedAt quote ends text len = LongestAt (Spells (quoted quote ends)) text len
+
 -- no text in these quotes begins at a character from one place up to another
 abbrev pub NoneCloses : Quote → LineEnds → List ℕ → ℕ → ℕ → Type 0
-NoneCloses quote ends text from to = (at : ℕ) → from ≤ at → at < to → LongestAt (Spells (quoted quote ends)) (drop at text) None
+NoneCloses quote ends text from to = (at : ℕ) → from ≤ at → at < to → QuotedAt quote ends (drop at text) None

@@ -1,9 +1,9 @@
 ghost use Rattle.std.specs.Prelude.{◌≡◌, ℕ, ◌^◌, ◌<◌, ◌≤◌, Result, Ok, List, length, drop, IfOk, IfSome, IsUtf8};
 ghost use Rattle.cq_base.specs.declared.token.Spelled.{Spelled};
 ghost use Rattle.cq_munch.specs.declared.unit.Unit.{Unit};
-ghost use Rattle.cq_munch.specs.Language.{Language, Takes};
+ghost use Rattle.cq_munch.specs.Language.{Language, Takes, HasOneKind};
 ghost use Rattle.cq_munch.specs.Characters.{characters};
-ghost use Rattle.cq_munch.specs.Lexed.{units_of, translation, InOrder, TokensFollow};
+ghost use Rattle.cq_munch.specs.Lexed.{units_of, translation, UnitsInOrder, UnitsWithin, TokensFollow, TakesNoneAway};
 
 use crate::element::Found;
 use crate::unit::Unit;
@@ -34,8 +34,8 @@ pub trait Lexis: Copy {
         requires utf8 { IsUtf8 text.now }
         requires short { length text.now ≤ 1048576 }
         ensures translation { IfOk result (λ t. translation t ≡ translated (units_of text.now)) }
-        ensures in_order { IfOk result (λ t. IfOk (translation t) (λ units. InOrder 0 units (length text.now))) }
-        ensures short { IfOk result (λ t. IfOk (translation t) (λ units. length units ≤ length text.now)) };
+        ensures in_order { IfOk result (UnitsInOrder (length text.now)) }
+        ensures short { IfOk result (UnitsWithin (length text.now)) };
 
     /// What is remembered is true of these characters.
     ghost is_true_of: { Self → List ℕ → Type 0 };
@@ -61,8 +61,8 @@ pub trait Lexis: Copy {
         ensures { IfOk result (λ v. v.items ≡ completed text.now tokens.items) };
 
     /// No token is taken away.
-    ghost none_lost: { (text : List ℕ) (tokens : List Spelled) → length tokens ≤ length (completed text tokens) };
+    ghost none_lost: { TakesNoneAway completed };
 
     /// No spelling is of two kinds.
-    ghost one_kind: { (at mode : ℕ) (text s : List ℕ) (a b : _) → language.tried at mode text a s → language.tried at mode text b s → a ≡ b };
+    ghost one_kind: { HasOneKind language };
 }

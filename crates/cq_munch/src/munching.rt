@@ -1,6 +1,5 @@
-ghost use Rattle.std.specs.Prelude.{ℕ, ◌≤◌, List, length, IfOk, IsUtf8};
-ghost use Rattle.cq_munch.specs.declared.munching.Lexed.{Lexed};
-ghost use Rattle.cq_munch.specs.Lexed.{IsLexed, Alike};
+ghost use Rattle.std.specs.Prelude.{◌≤◌, length, IfOk, IsUtf8};
+ghost use Rattle.cq_munch.specs.Lexed.{IsLexed, HasOneAnswer};
 
 use crate::cutting::{Cut, MOST_TOKENS, cut_up};
 use crate::lexis::{Lexis, Translated};
@@ -44,5 +43,5 @@ pub fn munch<X: Lexis>(alloc: Global, text: &Text) -> Result<Lexed, Memory>
 
 /// No text is lexed to two answers: the definition leaves nothing open.
 pub fn one_answer<X: Lexis>()
-    ensures { (bytes : List ℕ) (a b : Lexed) → IsLexed X.language X.translated X.completed bytes a → IsLexed X.language X.translated X.completed bytes b → Alike a b }
+    ensures { HasOneAnswer X.language X.translated X.completed }
 {}

@@ -1,9 +1,7 @@
 ghost use Rattle.std.specs.Prelude.{◌≡◌, ◌≤◌, Some, None, IfOk, IfErr, length};
 ghost use Rattle.cq_munch.specs.Behind.{SpellsAny};
 ghost use Rattle.cq_munch.specs.Characters.{characters};
-ghost use Rattle.cq_munch.specs.Longest.{LongestAt};
-ghost use Rattle.cq_munch.specs.Pattern.{Spells};
-ghost use Rattle.cq_munch.specs.Quotes.{quoted, NoneCloses};
+ghost use Rattle.cq_munch.specs.Quotes.{QuotedAt, NoneCloses};
 ghost use Rattle.cq_munch.specs.QuoteStates.{mark_of, role_of, place_behind, next_of, is_closed, rest_of};
 
 use crate::ends::LineEnds;
@@ -128,7 +126,7 @@ impl Machine for Quoted {
 
 /// The text in these quotes at the front, if it is closed on its line. What an escape means is not checked.
 pub fn longest_quoted(quote: Quote, ends: LineEnds, units: &[Unit]) -> Option<usize>
-    ensures { LongestAt (Spells (quoted quote ends)) (characters units.now) result }
+    ensures { QuotedAt quote ends (characters units.now) result }
 {
     longest_spelling(
         Quoted {
@@ -143,8 +141,8 @@ pub fn longest_quoted(quote: Quote, ends: LineEnds, units: &[Unit]) -> Option<us
 /// The text in these quotes at the front, or how many units were read in vain: none of them begins a text in these
 /// quotes, since a quote among them stands behind a backslash, and a text from there would go on as this one did.
 pub fn scan_quoted(quote: Quote, ends: LineEnds, units: &[Unit]) -> Result<usize, usize>
-    ensures closed { IfOk result (λ n. LongestAt (Spells (quoted quote ends)) (characters units.now) (Some n)) }
-    ensures none { IfErr result (λ read. LongestAt (Spells (quoted quote ends)) (characters units.now) None) }
+    ensures closed { IfOk result (λ n. QuotedAt quote ends (characters units.now) (Some n)) }
+    ensures none { IfErr result (λ read. QuotedAt quote ends (characters units.now) None) }
     ensures within { IfErr result (λ read. read ≤ length units.now) }
     ensures none_on { IfErr result (λ read. NoneCloses quote ends (characters units.now) 0 read) }
 {

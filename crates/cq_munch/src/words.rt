@@ -1,6 +1,6 @@
 ghost use Rattle.std.specs.Prelude.{◌≡◌, ◌↔◌, ◌<◌, ◌≤◌, length, take, All, IsTrue};
 ghost use Rattle.cq_munch.specs.ByLength.{words_of_length};
-ghost use Rattle.cq_munch.specs.Characters.{characters};
+ghost use Rattle.cq_munch.specs.Characters.{characters, AreAscii};
 ghost use Rattle.cq_munch.specs.Longest.{IsAmong};
 
 use crate::unit::Unit;
@@ -10,7 +10,7 @@ use crate::unit::Unit;
 pub fn ascii_bytes(units: &[Unit], room: &mut [u8]) -> bool
     ensures fits { IsTrue result → length units.now ≤ length room.old }
     ensures bytes { IsTrue result → take (length units.now) room.new ≡ characters units.now }
-    ensures all { length units.now ≤ length room.old → All (λ c. c < 128) (characters units.now) → IsTrue result }
+    ensures all { length units.now ≤ length room.old → AreAscii (characters units.now) → IsTrue result }
     ensures same { length room.new ≡ length room.old }
 {
     if units.len() > room.len() {

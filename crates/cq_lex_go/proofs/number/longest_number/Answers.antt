@@ -1,5 +1,8 @@
-use Rattle.cq_lex_go.proofs.NumberSteps.{starts}
+use Rattle.cq_munch.proofs.Tables.{one_pattern}
+use Rattle.cq_lex_go.specs.Numbers.{number}
+use Rattle.cq_lex_go.specs.NumberStates.{rest_of}
 use Rattle.cq_lex_go.proofs.number.longest_number.Goals as goal
 
 pub returns : goal.returns
-returns c = starts _ _ c.longest_spelling.ensures
+unfolding rest_of
+returns c = one_pattern number _ _ c.longest_spelling.ensures

@@ -9,7 +9,7 @@ use Rattle.cq_lex_java.specs.Fronts.{rows_of}
 use Rattle.cq_lex_java.specs.Words.{IsIdentifier}
 use Rattle.cq_lex_java.specs.declared.element.Front.TheVariants.{Letter}
 use Rattle.cq_munch.proofs.Joining.{none_in_set, one_in_set}
-use Rattle.cq_lex_java.proofs.Elements.{name_of_row}
+use Rattle.cq_lex_java.proofs.Dispatch.{name_of_row}
 use Rattle.cq_lex_java.proofs.element.name.Goals as goal
 
 pub class_of-class-requires : goal.class_of-class-requires

@@ -1,5 +1,7 @@
-use Rattle.cq_lex_go.proofs.NumberSteps.{an_end}
+use Rattle.cq_munch.proofs.Tables.{ends}
+use Rattle.cq_lex_go.specs.NumberStates.{sample, next_of, may_end, rest_of}
+use Rattle.cq_lex_go.proofs.NumberSteps.{all_kinds, right}
 use Rattle.cq_lex_go.proofs.number.NumberMachine.accepts.Goals as goal
 
 pub returns : goal.returns
-returns c = an_end c.args.self _ c.may_end.ensures
+returns c = ends rest_of may_end sample next_of all_kinds right c.args.self _ c.may_end.ensures

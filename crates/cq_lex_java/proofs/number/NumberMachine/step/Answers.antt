@@ -1,10 +1,13 @@
 use Rattle.std.proofs.Common.{sym, ap, ◌∙◌}
-use Rattle.cq_lex_java.specs.NumberStates.{next_of}
-use Rattle.cq_lex_java.proofs.NumberSteps.{number_none, number_next}
+use Rattle.cq_munch.proofs.Tables.{step_none, step_next}
+use Rattle.cq_lex_java.specs.NumberStates.{kind_of, sample, next_of, may_end, rest_of}
+use Rattle.cq_lex_java.proofs.NumberSteps.{all_kinds, each_kind, right, agrees}
 use Rattle.cq_lex_java.proofs.number.NumberMachine.step.Goals as goal
 
 pub returns-clause-none : goal.returns-clause-none
-returns-clause-none c = number_none c.args.self c.args.ch _ (ap (next_of c.args.self) (sym c.kind_of.ensures) ∙ sym c.next_of.ensures)
+returns-clause-none c =
+    step_none rest_of may_end sample next_of all_kinds right kind_of agrees each_kind c.args.self c.args.ch _ (ap (next_of c.args.self) (sym c.kind_of.ensures) ∙ sym c.next_of.ensures)
 
 pub returns-clause-next : goal.returns-clause-next
-returns-clause-next c = number_next c.args.self c.args.ch _ (ap (next_of c.args.self) (sym c.kind_of.ensures) ∙ sym c.next_of.ensures)
+returns-clause-next c =
+    step_next rest_of may_end sample next_of all_kinds right kind_of agrees each_kind c.args.self c.args.ch _ (ap (next_of c.args.self) (sym c.kind_of.ensures) ∙ sym c.next_of.ensures)
