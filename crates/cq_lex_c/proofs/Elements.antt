@@ -1,25 +1,22 @@
 -- The element at the front of a text, row by row.
-use Rattle.std.proofs.Common.{◌≡◌, ℕ, zero, suc, ◌<◌, ◌≤◌, Option, Some, None, Bool, true, false, ◌&&◌, ◌==◌, not, cond, nat_lt, nat_le, List, [], ◌∷◌, ◌++◌, ◌⊎◌, length, get_or, take, All, refl, sym, subst, ap, ◌∙◌, inl, inr, ⊎_elim, arith}
-use Rattle.std.specs.Prelude.{IfSome, IfNone, IsTrue, IsFalse, MatchBool, codes}
-use Rattle.std.specs.List.{list_all}
+use Rattle.std.proofs.Common.{◌≡◌, ℕ, zero, suc, ◌<◌, ◌≤◌, Option, Some, None, Bool, true, false, ◌&&◌, ◌==◌, not, cond, List, [], ◌∷◌, ◌++◌, length, get_or, take, All, refl, sym, subst, ap, ◌∙◌, ⊎_elim, arith}
+use Rattle.std.specs.Prelude.{IfSome, IfNone, IsTrue, IsFalse, codes}
 use Rattle.std.specs.Str.{bytes_eq}
 use Rattle.std.proofs.lemmas.Bool.{and_parts, and_right, not-true, false_from_ne_true}
 use Rattle.std.proofs.lemmas.Slice.Eq.{bytes_eq-Decides}
 use Rattle.cq_base.proofs.Bools.{MatchBool-from_false, MatchBool-from_true}
-use Rattle.cq_base.specs.declared.token.Class.{Class}
 use Rattle.cq_munch.specs.declared.element.Found.{Found}
 use Rattle.cq_munch.specs.declared.element.Spell.{Spell}
-use Rattle.cq_munch.specs.declared.element.Spell.TheVariants.{Token}
 use Rattle.cq_munch.specs.Language.{Language, Takes}
-use Rattle.cq_munch.specs.Longest.{IsLongest, LongestAt, IsAmong}
-use Rattle.cq_munch.specs.Table.{Row, InTable, table, better, found_of}
-use Rattle.cq_munch.proofs.Joining.{row_more, no_rows, two_tables}
+use Rattle.cq_munch.specs.Longest.{IsLongest, LongestAt}
+use Rattle.cq_munch.specs.Table.{Row, InTable, table, better}
+use Rattle.cq_munch.proofs.Joining.{two_tables}
 use Rattle.cq_munch.proofs.WordLists.{low_at}
 use Rattle.cq_lex_c.specs.Ascii.{keyword_is_identifier}
 use Rattle.cq_lex_c.specs.Starts.{matched}
 use Rattle.cq_lex_c.specs.C.{identifiers, reserved, IsOther, moded, mode_behind}
 use Rattle.cq_lex_c.specs.Headers.{EndsAt, IsHeader, closes, has_header}
-use Rattle.cq_lex_c.specs.Identifiers.{IsIdentifier, keywords}
+use Rattle.cq_lex_c.specs.Identifiers.{IsIdentifier}
 
 -- ---- identifiers and keywords
 

@@ -1,13 +1,12 @@
 -- The only place of a text where nothing is taken is that of a comment that is not closed.
-use Rattle.std.proofs.Common.{◌≡◌, ◌⊎◌, ℕ, zero, suc, ◌<◌, ◌≤◌, Some, None, Bool, true, false, not, nat_lt, ◌&&◌, ◌||◌, ◌==◌, List, [], ◌∷◌, length, take, drop, refl, sym, subst, ap, ◌∙◌, inl, inr, arith, length-drop}
-use Rattle.std.specs.Prelude.{MatchBool, IsTrue}
+use Rattle.std.proofs.Common.{◌≡◌, ℕ, zero, suc, ◌<◌, ◌≤◌, None, Bool, true, false, not, nat_lt, ◌||◌, ◌==◌, List, [], ◌∷◌, length, take, drop, refl, sym, subst, ap, ◌∙◌, inl, inr, arith, length-drop}
 use Rattle.std.specs.Char.{is_ascii_digit}
 use Rattle.std.proofs.lemmas.Bool.{eqb-true, and_parts}
 use Rattle.std.proofs.lemmas.List.{length-map}
 use Rattle.cq_base.proofs.Bools.{MatchBool-from_true, MatchBool-from_false}
 use Rattle.cq_munch.specs.Characters.{characters}
 use Rattle.cq_munch.specs.Comments.{IsBlockComment}
-use Rattle.cq_munch.specs.Language.{Allows, Takes, has_mark}
+use Rattle.cq_munch.specs.Language.{Takes, has_mark}
 use Rattle.cq_munch.specs.Lexed.{EndsAt}
 use Rattle.cq_munch.specs.Longest.{LongestAt, IsAmong}
 use Rattle.cq_munch.specs.Commented.{lines, opens_block, opens_line}
@@ -22,7 +21,7 @@ use Rattle.cq_munch.proofs.Dispatch.{only_chars}
 use Rattle.cq_lex_c.specs.Ascii.{begins_below}
 use Rattle.cq_lex_c.specs.C.{c, rows, unmarked, with_comments, is_blank, blank_characters, opens_header}
 use Rattle.cq_lex_c.specs.Characters.{begins_identifier}
-use Rattle.cq_lex_c.specs.Headers.{IsHeader, has_header}
+use Rattle.cq_lex_c.specs.Headers.{has_header}
 use Rattle.cq_lex_c.specs.Identifiers.{IsIdentifier, IsTail, keywords}
 use Rattle.cq_lex_c.specs.Numbers.{IsNumber}
 use Rattle.cq_lex_c.specs.OpenComments.{IsOpenComment}

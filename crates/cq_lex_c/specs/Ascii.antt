@@ -1,8 +1,9 @@
 -- Which ASCII characters begin and continue an identifier.
-use Rattle.std.proofs.Common.{◌≡◌, ℕ, ◌<◌, Bool, true, false, ◌&&◌, ◌||◌, ◌==◌, not, nat_le, nat_lt, List, [], ◌∷◌, ⊎_elim, refl, ap, ◌∙◌}
+use Rattle.std.proofs.Common.{◌≡◌, ℕ, ◌<◌, Bool, true, false, ◌&&◌, ◌||◌, ◌==◌, not, nat_lt, List, [], ◌∷◌, refl, ◌∙◌}
 use Rattle.std.proofs.lemmas.Bool.{ltb-true, not-true, and_parts}
+use Rattle.std.specs.Char.{is_ascii_alphabetic, is_ascii_digit}
 use Rattle.std.specs.Bool.{beq}
-use Rattle.std.specs.Prelude.{IsTrue, MatchBool}
+use Rattle.std.specs.Prelude.{IsTrue}
 use Rattle.std.specs.List.{list_all}
 use Rattle.cq_base.proofs.Bools.{MatchBool-from_false}
 use Rattle.ucd_table.proofs.Computing.{tables}
@@ -15,14 +16,11 @@ use Rattle.cq_lex_c.specs.Characters.{begins_identifier, continues_identifier}
 use Rattle.cq_lex_c.specs.Identifiers.{IsTail, IsIdentifier, keywords}
 use Rattle.cq_lex_c.specs.declared.identifier.Identifier.TheVariants as at
 
-abbrev pub is_ascii_letter : ℕ → Bool
-is_ascii_letter c = (nat_le 65 c && nat_le c 90) || (nat_le 97 c && nat_le c 122)
-
 abbrev pub begins_ascii : ℕ → Bool
-begins_ascii c = is_ascii_letter c || ((c == 95) || (c == 36))
+begins_ascii c = is_ascii_alphabetic c || ((c == 95) || (c == 36))
 
 abbrev pub continues_ascii : ℕ → Bool
-continues_ascii c = begins_ascii c || (nat_le 48 c && nat_le c 57)
+continues_ascii c = begins_ascii c || is_ascii_digit c
 
 pub begins_below : (c : ℕ) → c < 128 → begins_identifier c ≡ begins_ascii c
 unfolding tables begins_identifier is_xid_start_stepped

@@ -1,5 +1,5 @@
 -- Identifiers and keywords (C11 6.4.1, 6.4.2, 6.4.3). What a universal character name stands for is not checked.
-use Rattle.std.specs.Prelude.{ℕ, ◌-◌, ◌==◌, nat_le, if◌then◌else◌, List, [], ◌∷◌, map, slice_index_or, IsTrue, MatchBool, ⊤, codes}
+use Rattle.std.specs.Prelude.{ℕ, ◌-◌, ◌==◌, nat_le, if◌then◌else◌, List, [], ◌∷◌, IsTrue, MatchBool, ⊤, codes}
 use Rattle.std.specs.Char.{is_ascii_hexdigit}
 use Rattle.cq_lex_c.specs.Characters.{begins_identifier, continues_identifier}
 use Rattle.cq_lex_c.specs.declared.identifier.Identifier.{Identifier}

@@ -1,14 +1,11 @@
 -- No spelling is of two kinds: at each first character the rows that can stand there are apart.
-use Rattle.std.proofs.Common.{◌≡◌, ◌⊎◌, ℕ, ◌<◌, Bool, true, false, ◌&&◌, ◌||◌, ◌==◌, not, List, [], ◌∷◌, get_or, refl, sym, subst, ap, ◌∙◌, inl, inr, ⊎_elim, arith}
-use Rattle.std.specs.Prelude.{IsTrue, MatchBool}
+use Rattle.std.proofs.Common.{◌≡◌, ℕ, ◌<◌, Bool, true, false, ◌&&◌, ◌||◌, ◌==◌, not, List, [], ◌∷◌, refl, sym, subst, ap, ◌∙◌, inl, inr, ⊎_elim, arith}
 use Rattle.std.specs.Char.{is_ascii_digit}
 use Rattle.std.proofs.lemmas.Bool.{eqb-true, or_parts, or_left, or_right, and_from, not-true, both_ways}
-use Rattle.cq_munch.specs.Comments.{IsAfter}
 use Rattle.cq_munch.specs.Fronts.{starts}
 use Rattle.cq_munch.specs.Longest.{IsAmong}
 use Rattle.cq_munch.specs.Quotes.{quoted}
-use Rattle.cq_munch.specs.Table.{InTable, table}
-use Rattle.cq_munch.specs.declared.element.Spell.{Spell}
+use Rattle.cq_munch.specs.Table.{table}
 use Rattle.cq_munch.specs.declared.ends.LineEnds.TheVariants.{Feed, ReturnOrFeed}
 use Rattle.cq_munch.specs.declared.quoted.Quote.TheVariants.{Double, Single}
 use Rattle.cq_munch.specs.Language.{HasOneKind}
@@ -23,7 +20,7 @@ use Rattle.cq_lex_c.specs.Numbers.{IsNumber, BeginsWithDigit}
 use Rattle.cq_lex_c.specs.Punctuators.{punctuators}
 use Rattle.cq_lex_c.specs.Quoting.{text_first}
 use Rattle.cq_lex_c.specs.Starts.{matched, all_start}
-use Rattle.cq_lex_c.specs.Texts.{IsString, IsText, IsSmall, IsPrefixed}
+use Rattle.cq_lex_c.specs.Texts.{IsText, IsSmall, IsPrefixed}
 use Rattle.cq_lex_c.specs.declared.element.Front.{Front}
 use Rattle.cq_lex_c.specs.declared.element.Front.TheVariants as fronts
 use Rattle.cq_lex_c.specs.declared.identifier.Identifier.TheVariants as at

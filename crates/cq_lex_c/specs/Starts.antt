@@ -1,5 +1,5 @@
 -- What the spellings of each row begin with.
-use Rattle.std.proofs.Common.{◌≡◌, ◌⊎◌, ℕ, ◌<◌, ◌≤◌, Bool, true, false, ◌||◌, ◌==◌, not, List, [], ◌∷◌, refl, sym, ap, ◌∙◌, inl, inr, ⊎_elim, arith}
+use Rattle.std.proofs.Common.{◌≡◌, ◌⊎◌, ℕ, ◌≤◌, Bool, true, false, ◌||◌, ◌==◌, not, List, [], ◌∷◌, refl, sym, ◌∙◌, inl, inr, ⊎_elim, arith}
 use Rattle.std.specs.Prelude.{IsTrue, MatchBool}
 use Rattle.std.specs.Char.{is_ascii_digit}
 use Rattle.std.proofs.lemmas.Grind.{common_steps}
@@ -10,7 +10,6 @@ use Rattle.cq_munch.specs.declared.quoted.Quote.TheVariants.{Double, Single}
 use Rattle.cq_munch.proofs.Dispatch.{Known, letter_stands, this_stands, words_stand, pattern_stands, same_test, letter_test}
 use Rattle.cq_lex_c.specs.Ascii.{begins_ascii, begins_below, keyword_is_identifier}
 use Rattle.cq_lex_c.specs.C.{is_blank, is_other, IsOther, blank_characters}
-use Rattle.cq_lex_c.specs.Characters.{begins_identifier}
 use Rattle.cq_lex_c.specs.Fronts.{front_table, front_of, placed, at_letter, at_identifier, at_blank, at_digit, at_number, at_quote, at_mark, at_other}
 use Rattle.cq_lex_c.specs.Identifiers.{IsTail, IsIdentifier}
 use Rattle.cq_lex_c.specs.declared.element.Front.{Front}
@@ -89,13 +88,28 @@ other_starts (c ∷ []) h = sym (other_test c) ∙ h
 other_starts (c ∷ d ∷ s) h = absurd h
 
 pub all_start : AllStart front_of placed
-all_start =
-    (λ s h. identifier_starts s h.0,
-    (λ s h. identifier_starts s (keyword_is_identifier s h),
-    (λ s h. words_stand known blank_characters at_blank refl s h,
-    (λ s h. number_starts s h,
-    (λ s h. text_starts s h,
-    (λ s h. prefixed_starts s h,
-    (λ s h. words_stand known punctuators at_mark refl s h,
-    (λ s h. other_starts s h,
-    tt))))))))
+all_start = (
+  λ s h. identifier_starts s h.0,
+  (
+    λ s h. identifier_starts s (keyword_is_identifier s h),
+    (
+      λ s h. words_stand known blank_characters at_blank refl s h,
+      (
+        λ s h. number_starts s h,
+        (
+          λ s h. text_starts s h,
+          (
+            λ s h. prefixed_starts s h,
+            (
+              λ s h. words_stand known punctuators at_mark refl s h,
+              (
+                λ s h. other_starts s h,
+                tt,
+              ),
+            ),
+          ),
+        ),
+      ),
+    ),
+  ),
+)

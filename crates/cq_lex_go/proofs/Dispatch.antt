@@ -1,5 +1,5 @@
 -- The element at a front, and what opens there.
-use Rattle.std.proofs.Common.{◌≡◌, ℕ, ◌<◌, Option, Bool, true, false, ◌&&◌, ◌==◌, List, [], ◌∷◌, length, get_or, refl, ap, ⊎_elim, arith}
+use Rattle.std.proofs.Common.{◌≡◌, ℕ, ◌<◌, Option, true, false, ◌&&◌, ◌==◌, List, [], ◌∷◌, length, get_or, refl, ap, ⊎_elim, arith}
 use Rattle.cq_munch.specs.Language.{Takes}
 use Rattle.cq_munch.specs.Table.{InTable, table, begins}
 use Rattle.cq_munch.specs.declared.element.Found.{Found}

@@ -1,9 +1,9 @@
 -- Which ASCII characters are letters.
-use Rattle.std.proofs.Common.{◌≡◌, ℕ, ◌<◌, Bool, true, false, ◌&&◌, ◌||◌, ◌==◌, not, nat_le, nat_lt, List, [], ◌∷◌, ⊎_elim, refl, sym, subst, ap, ◌∙◌, arith}
+use Rattle.std.proofs.Common.{◌≡◌, ℕ, ◌<◌, Bool, true, false, ◌&&◌, ◌||◌, ◌==◌, nat_lt, List, [], ◌∷◌, refl, ◌∙◌}
 use Rattle.std.proofs.lemmas.Bool.{and_parts, and_from, or_left}
+use Rattle.std.specs.Char.{is_ascii_alphabetic}
 use Rattle.std.specs.Bool.{beq}
-use Rattle.std.specs.Prelude.{IsTrue}
-use Rattle.std.specs.List.{list_all, AllByRecursion}
+use Rattle.std.specs.List.{list_all}
 use Rattle.ucd_table.proofs.Computing.{tables}
 use Rattle.ucd_table.proofs.Facts.{Stepped-below, same_from_beq}
 use Rattle.ucd_category.specs.GeneralCategory.{general_category}
@@ -14,7 +14,7 @@ use Rattle.cq_lex_go.specs.Words.{is_letter, is_letter_or_digit, is_letter_categ
 
 -- an underscore, or a letter of the English alphabet
 abbrev pub is_ascii_letter : ℕ → Bool
-is_ascii_letter c = (c == 95) || (nat_le 65 c && nat_le c 90) || (nat_le 97 c && nat_le c 122)
+is_ascii_letter c = (c == 95) || is_ascii_alphabetic c
 
 pub letters_below : (c : ℕ) → c < 128 → is_letter c ≡ is_ascii_letter c
 unfolding tables is_letter general_category_stepped
@@ -35,7 +35,7 @@ name_of_word : (w : List ℕ) → is_word w ≡ true → IsName w
 unfolding is_word
 name_of_word [] h = absurd (cc)
 name_of_word (c ∷ s) h =
-    let letters = low_each is_ascii_letter is_letter (λ d low is. letters_below d low ∙ is) (c ∷ [])  (and_from _ true (and_parts (nat_lt c 128 && is_ascii_letter c) _ h).0 refl) in
+    let letters = low_each is_ascii_letter is_letter (λ d low is. letters_below d low ∙ is) (c ∷ []) (and_from _ true (and_parts (nat_lt c 128 && is_ascii_letter c) _ h).0 refl) in
     (letters.0, low_each is_ascii_letter is_letter_or_digit (λ d low is. letter_continues d (letters_below d low ∙ is)) s (and_parts (nat_lt c 128 && is_ascii_letter c) _ h).1)
 
 pub keyword_is_name : (s : List ℕ) → IsAmong keywords s → IsName s

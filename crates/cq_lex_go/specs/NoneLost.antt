@@ -1,5 +1,5 @@
 -- The inserted semicolons take no token away.
-use Rattle.std.proofs.Common.{ℕ, ◌+◌, ◌≤◌, Option, None, List, [], ◌∷◌, length, length-append, zero-le, arith}
+use Rattle.std.proofs.Common.{ℕ, ◌≤◌, Option, None, List, [], ◌∷◌, length, length-append, zero-le, arith}
 use Rattle.cq_base.specs.declared.token.Spelled.{Spelled}
 use Rattle.cq_base.specs.declared.token.Token.{Token}
 use Rattle.cq_lex_go.specs.Semicolons.{ending, between, completed, completed_from}

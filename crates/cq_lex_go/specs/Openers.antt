@@ -1,5 +1,5 @@
 -- What an opener begins (Go specification, "Comments", "String literals").
-use Rattle.std.specs.Prelude.{◌≡◌, ℕ, ◌==◌, ◌&&◌, Bool, true, false, List, [], ◌∷◌, MatchBool}
+use Rattle.std.specs.Prelude.{◌≡◌, ℕ, ◌==◌, List, [], ◌∷◌, MatchBool}
 use Rattle.cq_munch.specs.Comments.{IsAfter}
 
 -- characters up to the first backquote, and no more

@@ -20,12 +20,25 @@ name_starts (c ∷ s) h = letter_stands known at_letter refl refl c h.0
 
 pub all_start : AllStart front_of placed
 unfolding number quoted
-all_start =
-    (λ s h. name_starts s h.0,
-    (λ s h. name_starts s (keyword_is_name s h),
-    (λ s h. words_stand known blank_characters at_blank refl s h,
-    (λ s h. pattern_stands known number at_number refl refl refl refl s h,
-    (λ s h. pattern_stands known (quoted Double Feed) at_double refl refl refl refl s h,
-    (λ s h. pattern_stands known (quoted Single Feed) at_single refl refl refl refl s h,
-    (λ s h. words_stand known punctuation at_mark refl s h,
-    tt)))))))
+all_start = (
+  λ s h. name_starts s h.0,
+  (
+    λ s h. name_starts s (keyword_is_name s h),
+    (
+      λ s h. words_stand known blank_characters at_blank refl s h,
+      (
+        λ s h. pattern_stands known number at_number refl refl refl refl s h,
+        (
+          λ s h. pattern_stands known (quoted Double Feed) at_double refl refl refl refl s h,
+          (
+            λ s h. pattern_stands known (quoted Single Feed) at_single refl refl refl refl s h,
+            (
+              λ s h. words_stand known punctuation at_mark refl s h,
+              tt,
+            ),
+          ),
+        ),
+      ),
+    ),
+  ),
+)

@@ -1,5 +1,5 @@
 -- The element at a front, and what opens there.
-use Rattle.std.proofs.Common.{◌≡◌, ℕ, ◌<◌, Option, Some, Bool, true, false, ◌&&◌, ◌==◌, List, [], ◌∷◌, length, get_or, drop, refl, sym, subst, ap, ◌∙◌, ⊎_elim, arith}
+use Rattle.std.proofs.Common.{◌≡◌, ℕ, ◌<◌, Option, Some, Bool, true, false, ◌==◌, List, [], ◌∷◌, length, get_or, drop, refl, sym, subst, ap, ◌∙◌, ⊎_elim, arith}
 use Rattle.std.proofs.lemmas.Bool.{eqb-true, both_ways, and_left}
 use Rattle.cq_munch.specs.Language.{Takes}
 use Rattle.cq_munch.specs.Longest.{LongestAt}

@@ -1,5 +1,5 @@
 -- The steps of the scan of operators are right: each is tested by computing, at each ASCII character.
-use Rattle.std.proofs.Common.{◌≡◌, Bool, true, refl}
+use Rattle.std.proofs.Common.{◌≡◌, true, refl}
 use Rattle.cq_munch.proofs.WordLists.{put, behind_words, same_word, has_word, includes, heads_below, words_after, word_step_ok, word_state_ok}
 use Rattle.cq_lex_java.specs.OperatorStates.{glyph_rows, next_of, may_end, words_of}
 use Rattle.cq_lex_java.specs.declared.operator.Glyph.TheVariants as glyphs

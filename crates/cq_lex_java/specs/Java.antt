@@ -1,5 +1,5 @@
 -- The table of Java's elements.
-use Rattle.std.specs.Prelude.{◌≡◌, ℕ, Bool, List, [], ◌∷◌, IsTrue}
+use Rattle.std.specs.Prelude.{◌≡◌, ℕ, Bool, List, [], ◌∷◌}
 use Rattle.cq_base.specs.declared.token.Class.TheVariants.{Ident, Word, Literal, Punct}
 use Rattle.cq_munch.specs.Commented.{commented}
 use Rattle.cq_munch.specs.Language.{Language, marked}

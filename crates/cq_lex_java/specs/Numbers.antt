@@ -1,7 +1,7 @@
 -- How numbers are spelled (JLS 3.10.1, 3.10.2).
 use Rattle.std.specs.Prelude.{[], ◌∷◌}
 use Rattle.cq_munch.specs.Digits.{decimal_digit, octal_digit, binary_digit, hex_digit, zero_digit, underscore, point, sign}
-use Rattle.cq_munch.specs.Pattern.{Pattern, among, ◌▸◌, ◌∣◌, many, optional, only, one_of}
+use Rattle.cq_munch.specs.Pattern.{Pattern, among, ◌▸◌, ◌∣◌, many, optional, one_of}
 
 -- digits of one base, with underscores between them
 abbrev pub digits : Pattern → Pattern

@@ -1,5 +1,5 @@
 -- What stands at the front of a text.
-use Rattle.std.specs.Prelude.{ℕ, ◌==◌, ◌&&◌, Bool, true, false, List, [], ◌∷◌}
+use Rattle.std.specs.Prelude.{ℕ, ◌==◌, Bool, false, List, [], ◌∷◌}
 
 -- the character U+001A, alone
 abbrev pub is_end : List ℕ → Bool

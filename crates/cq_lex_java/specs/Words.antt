@@ -1,5 +1,5 @@
 -- Identifiers, keywords and blanks (JLS 3.6, 3.8, 3.9). Contextual keywords are identifiers.
-use Rattle.std.specs.Prelude.{ℕ, Bool, ◌||◌, ◌==◌, List, [], ◌∷◌, map, slice_index_or, IsTrue, codes}
+use Rattle.std.specs.Prelude.{ℕ, Bool, ◌||◌, ◌==◌, List, [], ◌∷◌, IsTrue, codes}
 use Rattle.std.specs.List.{AllByRecursion}
 use Rattle.unicode_ident.specs.Ident.{is_xid_start, is_xid_continue}
 

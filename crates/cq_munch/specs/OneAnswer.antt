@@ -5,13 +5,12 @@ use Rattle.std.proofs.lemmas.Bool.{cases_lt}
 use Rattle.cq_munch.specs.declared.unit.Unit.{Unit}
 use Rattle.cq_munch.specs.Longest.{IsLongest}
 use Rattle.cq_munch.specs.declared.element.Found.{Found}
-use Rattle.cq_munch.specs.declared.element.Spell.{Spell}
 use Rattle.cq_base.specs.declared.token.Spelled.{Spelled}
 use Rattle.cq_munch.specs.declared.munching.Lexed.{Lexed}
 use Rattle.cq_munch.specs.declared.munching.Lexed.TheVariants as lexed
 use Rattle.cq_munch.specs.Characters.{characters}
-use Rattle.cq_munch.specs.Language.{Language, Takes, Allows}
-use Rattle.cq_munch.specs.Lexed.{Follow, IsWhole, EndsAt, IsLexed, Alike, tokens_of, units_of, unit_at}
+use Rattle.cq_munch.specs.Language.{Language, Takes, Allows, HasOneKind}
+use Rattle.cq_munch.specs.Lexed.{Follow, IsWhole, EndsAt, IsLexed, Alike, HasOneAnswer, tokens_of, units_of, unit_at}
 
 one_length : (set : List ℕ → Type 0) (text : List ℕ) (m n : ℕ) → IsLongest set text m → IsLongest set text n → m ≡ n
 one_length set text m n h k =
@@ -20,7 +19,7 @@ one_length set text m n h k =
     (λ more. ⊎_elim (λ less. absurd (k.longest m less h.within h.spelled)) (λ same. omega arith) (cases_lt n m))
     (cases_lt m n)
 
-module _ (lang : Language) (one_kind : (at mode : ℕ) (text s : List ℕ) (a b : Spell) → lang.tried at mode text a s → lang.tried at mode text b s → a ≡ b) where
+module _ (lang : Language) (one_kind : HasOneKind lang) where
   takes_one : (at mode : ℕ) (text : List ℕ) (f g : Found) → Takes lang at mode text (Some f) → Takes lang at mode text (Some g) → f ≡ g
   takes_one at mode text f g h k =
       let units : f.units ≡ g.units = one_length (Allows lang at mode text) text f.units g.units h.0 k.0 in
@@ -105,5 +104,5 @@ module _ (lang : Language) (one_kind : (at mode : ℕ) (text s : List ℕ) (a b 
     told bytes (lexed.Tokens v) h = h
     told bytes lexed.Large h = h
 
-    pub one_answer : (bytes : List ℕ) (a b : Lexed) → IsLexed lang translated completed bytes a → IsLexed lang translated completed bytes b → Alike a b
+    pub one_answer : HasOneAnswer lang translated completed
     one_answer bytes a b h k = by_translation bytes (translated (units_of bytes)) refl a b (told bytes a h) (told bytes b k)

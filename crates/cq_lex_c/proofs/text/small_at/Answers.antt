@@ -1,4 +1,4 @@
-use Rattle.std.proofs.Common.{◌≡◌, get_or, drop, sym, subst, ◌∙◌, arith}
+use Rattle.std.proofs.Common.{◌≡◌, get_or, drop, sym, subst, ◌∙◌}
 use Rattle.cq_munch.specs.Characters.{characters}
 use Rattle.cq_munch.specs.Longest.{LongestAt}
 use Rattle.cq_lex_c.specs.Texts.{IsString, IsSmall}

@@ -1,5 +1,5 @@
 use Rattle.std.proofs.Common.{map, refl}
-use Rattle.cq_munch.proofs.Reserved.{has, by_length_among}
+use Rattle.cq_munch.proofs.Reserved.{by_length_among}
 use Rattle.cq_lex_java.specs.Words.{keywords}
 use Rattle.cq_lex_java.specs.declared.words.TheConstants.{RESERVED}
 use Rattle.cq_lex_java.proofs.words.is_reserved.Goals as goal
