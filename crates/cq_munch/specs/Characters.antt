@@ -9,5 +9,5 @@ characters units = map (λ u. u.ch) units
 abbrev pub utf8_of : List Unit → List ℕ
 utf8_of units = encode_utf8_all (characters units)
 
-abbrev pub AreAscii : List ℕ → Type 0
-AreAscii cs = All (λ c. c < 128) cs
+abbrev pub AreAscii : List Unit → Type 0
+AreAscii units = All (λ c. c < 128) (characters units)
