@@ -1,44 +1,40 @@
 -- What the spellings of each row begin with.
-use Rattle.std.proofs.Common.{ℕ, List, [], ◌∷◌, refl}
-use Rattle.std.specs.Prelude.{IsTrue}
-use Rattle.cq_munch.specs.Fronts.{starts, AllStart}
+use Rattle.std.proofs.Common.{[], ◌∷◌, refl}
+use Rattle.cq_munch.specs.Fronts.{StartAt, AllStart}
 use Rattle.cq_munch.specs.Quotes.{quoted}
 use Rattle.cq_munch.specs.declared.ends.LineEnds.TheVariants.{Feed}
 use Rattle.cq_munch.specs.declared.quoted.Quote.TheVariants.{Double, Single}
 use Rattle.cq_munch.proofs.Dispatch.{Known, letter_stands, words_stand, pattern_stands}
 use Rattle.cq_lex_go.specs.Ascii.{is_ascii_letter, letters_below, keyword_is_name}
 use Rattle.cq_lex_go.specs.Fronts.{front_table, front_of, placed, at_letter, at_blank, at_number, at_double, at_single, at_mark}
+use Rattle.cq_lex_go.specs.Go.{blanks, numbers, strings, runes, marks}
 use Rattle.cq_lex_go.specs.Numbers.{number}
 use Rattle.cq_lex_go.specs.Words.{IsName, blank_characters, punctuation}
 
 abbrev pub known : Known front_table
 known = record { low_letter = is_ascii_letter; below = letters_below; rows_low = refl }
 
-name_starts : (s : List ℕ) → IsName s → IsTrue (starts (λ c. at_letter (front_of c)) s)
-name_starts [] h = absurd h
-name_starts (c ∷ s) h = letter_stands known at_letter refl refl c h.0
+names_start : StartAt front_of at_letter IsName
+names_start [] h = absurd h
+names_start (c ∷ s) h = letter_stands known at_letter refl refl c h.0
+
+blanks_start : StartAt front_of at_blank blanks.set
+blanks_start s h = words_stand known blank_characters at_blank refl s h
+
+numbers_start : StartAt front_of at_number numbers.set
+unfolding number
+numbers_start s h = pattern_stands known number at_number refl refl refl refl s h
+
+strings_start : StartAt front_of at_double strings.set
+unfolding quoted
+strings_start s h = pattern_stands known (quoted Double Feed) at_double refl refl refl refl s h
+
+runes_start : StartAt front_of at_single runes.set
+unfolding quoted
+runes_start s h = pattern_stands known (quoted Single Feed) at_single refl refl refl refl s h
+
+marks_start : StartAt front_of at_mark marks.set
+marks_start s h = words_stand known punctuation at_mark refl s h
 
 pub all_start : AllStart front_of placed
-unfolding number quoted
-all_start = (
-  λ s h. name_starts s h.0,
-  (
-    λ s h. name_starts s (keyword_is_name s h),
-    (
-      λ s h. words_stand known blank_characters at_blank refl s h,
-      (
-        λ s h. pattern_stands known number at_number refl refl refl refl s h,
-        (
-          λ s h. pattern_stands known (quoted Double Feed) at_double refl refl refl refl s h,
-          (
-            λ s h. pattern_stands known (quoted Single Feed) at_single refl refl refl refl s h,
-            (
-              λ s h. words_stand known punctuation at_mark refl s h,
-              tt,
-            ),
-          ),
-        ),
-      ),
-    ),
-  ),
-)
+all_start = (λ s h. names_start s h.0, (λ s h. names_start s (keyword_is_name s h), (blanks_start, (numbers_start, (strings_start, (runes_start, (marks_start, tt)))))))

@@ -37,7 +37,11 @@ abbrev pub starts : (ℕ → Bool) → List ℕ → Bool
 starts test [] = false
 starts test (c ∷ s) = test c
 
--- each spelling of the rows begins with a character at whose front its row can stand
+-- each spelling of a set begins with a character at such a front
+abbrev pub StartAt : {F : Type 0} → (ℕ → F) → (F → Bool) → (List ℕ → Type 0) → Type 0
+StartAt front at set = (s : List ℕ) → set s → IsTrue (starts (λ c. at (front c)) s)
+
+-- and so do those of each row, where it can stand
 abbrev pub AllStart : {F : Type 0} → (ℕ → F) → List (Placed F) → Type 0
 AllStart front [] = ⊤
-AllStart front (p ∷ ps) = ((s : List ℕ) → p.row.set s → IsTrue (starts (λ c. p.at (front c)) s)) × AllStart front ps
+AllStart front (p ∷ ps) = StartAt front p.at p.row.set × AllStart front ps
