@@ -1,5 +1,5 @@
 -- A list of projects of which one was edited.
-use Rattle.std.proofs.Common.{Global, ◌≡◌, ◌<◌, ℕ, List, length, map, get_or, set, cond, sym, ap, ◌∙◌, subst, arith}
+use Rattle.std.proofs.Common.{Global, ◌≡◌, ◌<◌, ℕ, List, length, get_or, set, cond, sym, ap, ◌∙◌, arith}
 use Rattle.std.specs.Arc.{arc_value}
 use Rattle.std.specs.declared.sync.Arc.{Arc}
 use Rattle.std.specs.Str.{bytes_eq}
@@ -7,9 +7,9 @@ use Rattle.std.proofs.lemmas.List.{length-map, map-set, get_or-map}
 use Rattle.cq_base.proofs.Bools.{cond-same}
 use Rattle.cq_base.specs.declared.change.Condition.{Condition}
 use Rattle.cq_history.specs.Files.{File}
-use Rattle.cq_board.specs.Listings.{owner_name, projects_in, path_of, path_in, files_in, conditions_in, position_of, ListedProject}
+use Rattle.cq_board.specs.Listings.{owner_name, projects_in, files_in, conditions_in, position_of, ListedProject}
 use Rattle.cq_board.specs.Ordered.{AreRising}
-use Rattle.cq_board.proofs.OwnerLists.{rising_set, rising_held}
+use Rattle.cq_board.proofs.OwnerLists.{rising_set}
 use Rattle.cq_board.proofs.ProjectLists.{files_at-position, put_at, gate_at}
 
 module _ {W : Type 0} (name : List ℕ) (old now : List (Arc (ListedProject W) Global)) (i : ℕ) (first : i ≡ position_of name (projects_in now)) (in_range : i < length now) (was : Arc (ListedProject W) Global) (read : was ≡ get_or now i was) where

@@ -1,5 +1,5 @@
 -- Files in path order are told by what stands at each path.
-use Rattle.std.proofs.Common.{◌≡◌, ℕ, zero, suc, ◌+◌, Bool, true, false, true≢false, cond, not, List, [], ◌∷◌, Option, Some, None, refl, sym, ap, ap₂, ◌∙◌, subst, ⊎_elim, ◌⊎◌, inl, inr}
+use Rattle.std.proofs.Common.{◌≡◌, ℕ, zero, suc, Bool, true, false, true≢false, cond, not, List, [], ◌∷◌, Option, Some, None, refl, sym, ap, ap₂, ◌∙◌, subst, ⊎_elim, ◌⊎◌, inl, inr}
 use Rattle.std.specs.Prelude.{option_map}
 use Rattle.std.specs.List.{AllByRecursion, insert}
 use Rattle.std.specs.Str.{bytes_eq}
@@ -9,7 +9,7 @@ use Rattle.cq_base.proofs.Bools.{cond-same}
 use Rattle.cq_history.specs.Files.{File, is_before, with_file, without_file, place_of}
 use Rattle.cq_board.specs.Listings.{number_at, path_of}
 use Rattle.cq_board.specs.Ordered.{AreRising}
-use Rattle.cq_board.proofs.Putting.{above_apart, below_apart, before_apart}
+use Rattle.cq_board.proofs.Putting.{above_apart, before_apart}
 use Rattle.cq_board.proofs.PathOrders.{before_chain, elsewhere}
 
 some_same : {X : Type 0} {x y : X} → Some x ≡ Some y → x ≡ y

@@ -1,5 +1,5 @@
 -- A batch of edits in path order is made in one walk: an edit of a path that is behind some files leaves them as they are.
-use Rattle.std.proofs.Common.{Global, ◌≡◌, ℕ, suc, zero, ◌+◌, ◌<◌, true, false, cond, not, List, [], ◌∷◌, ◌++◌, length, map, drop, Option, Some, None, refl, sym, ap, ap₂, ◌∙◌, subst, arith}
+use Rattle.std.proofs.Common.{Global, ◌≡◌, ℕ, suc, zero, ◌+◌, ◌<◌, true, cond, not, List, [], ◌∷◌, ◌++◌, length, drop, Option, Some, None, refl, sym, ap, ◌∙◌, subst, arith}
 use Rattle.std.specs.Prelude.{All}
 use Rattle.std.specs.Arc.{arc_value}
 use Rattle.std.specs.Map.{keys_of}
@@ -9,8 +9,7 @@ use Rattle.std.proofs.lemmas.List.Elements.{All-head, All-tail}
 use Rattle.cq_board.proofs.Gathering.{text_cmp}
 use Rattle.std.specs.declared.sync.Arc.{Arc}
 use Rattle.std.specs.List.{AllByRecursion, insert}
-use Rattle.std.specs.Str.{bytes_eq}
-use Rattle.std.proofs.lemmas.List.{append_assoc, append-nil}
+use Rattle.std.proofs.lemmas.List.{append_assoc}
 use Rattle.std.proofs.lemmas.Slice.Eq.{bytes_eq-Decides}
 use Rattle.cq_history.specs.Files.{File, is_before, with_file, without_file, place_of}
 use Rattle.cq_board.specs.Drafts.{edited_at, edited_all, IsOwn, AreOwn, one_or_none, Merges}

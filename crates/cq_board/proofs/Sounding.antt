@@ -1,7 +1,6 @@
 -- What is handed out of sound changes.
 use Rattle.std.proofs.Common.{◌≡◌, ℕ, zero, suc, ◌<◌, ◌≤◌, true, false, cond, List, [], ◌∷◌, length, map, get_or, sym, ap, ◌∙◌, subst, arith}
 use Rattle.std.specs.Prelude.{All}
-use Rattle.std.specs.Arc.{arc_value}
 use Rattle.std.specs.Str.{IsUtf8, bytes_eq}
 use Rattle.std.proofs.lemmas.Str.{IsUtf8-from_ascii}
 use Rattle.std.proofs.lemmas.Str.Ascii.{IsAscii-from_reads}
@@ -12,14 +11,14 @@ use Rattle.cq_base.specs.declared.change.Condition.{Condition}
 use Rattle.cq_base.specs.declared.change.Change.{Change}
 use Rattle.cq_base.specs.declared.change.Change.TheVariants.{Put, Drop, Gate}
 use Rattle.cq_base.specs.Changes.{IsSoundChange}
-use Rattle.cq_history.specs.Files.{conditions_after, conditions_from, conditions_of}
+use Rattle.cq_history.specs.Files.{conditions_after, conditions_from}
 use Rattle.cq_history.specs.State.{Slot}
 use Rattle.cq_board.specs.declared.answers.Job.{Job}
 use Rattle.cq_board.specs.declared.kept.Kept.{Kept}
 use Rattle.cq_board.specs.Slots.{slot_from, change_of}
 use Rattle.cq_board.specs.Boards.{changes_from}
 use Rattle.cq_board.specs.Answers.{IsJobOf}
-use Rattle.cq_board.specs.Listings.{Listed, IsListing, conditions_in}
+use Rattle.cq_board.specs.Listings.{Listed, IsListing}
 use Rattle.cq_board.specs.Sound.{HasSoundText, HaveFewConditions}
 
 -- the text of a sound change's job

@@ -1,5 +1,5 @@
 -- The files of a project with their spots, where one is put in or taken out, and where a path stands among them.
-use Rattle.std.proofs.Common.{Global, ◌≡◌, ◌↔◌, ℕ, zero, suc, ◌+◌, ◌<◌, ◌≤◌, ◌^◌, true, List, [], ◌∷◌, ◌++◌, length, map, get_or, set, slice_get, Option, Some, None, refl, sym, ap, ◌∙◌, subst, arith}
+use Rattle.std.proofs.Common.{Global, ◌≡◌, ◌↔◌, ℕ, zero, suc, ◌+◌, ◌<◌, ◌≤◌, ◌^◌, List, [], ◌∷◌, ◌++◌, length, map, get_or, set, slice_get, Some, None, refl, sym, ap, ◌∙◌, subst, arith}
 use Rattle.std.specs.Prelude.{All, insert, remove}
 use Rattle.std.specs.Arc.{arc_value}
 use Rattle.std.specs.declared.sync.Arc.{Arc}
@@ -7,7 +7,7 @@ use Rattle.std.proofs.lemmas.List.{length-append, length-map, map-set, length-se
 use Rattle.std.proofs.lemmas.List.Edits.{length-insert, length-remove}
 use Rattle.std.proofs.lemmas.List.Elements.{Contains-get_or}
 use Rattle.std.proofs.lemmas.Option.{same_Some, none-some}
-use Rattle.cq_history.specs.Files.{File, is_before}
+use Rattle.cq_history.specs.Files.{File}
 use Rattle.cq_order.specs.declared.spots.Spot.{Spot}
 use Rattle.cq_order.specs.Spots.{AreSpots}
 use Rattle.cq_order.proofs.Spotting.{spot_each}

@@ -11,7 +11,7 @@ use Rattle.cq_clones.specs.Windows.{EntryBefore}
 use Rattle.cq_history.specs.Changes.{change_at}
 use Rattle.cq_history.proofs.Standing.{files_stand}
 use Rattle.cq_history.proofs.Numbers.{change_at-append}
-use Rattle.cq_shard.specs.Shard.{Contents, Holds, StandsFor}
+use Rattle.cq_shard.specs.Shard.{Contents, Holds}
 use Rattle.cq_shard.specs.Laws.{AnswersWhatItHolds}
 use Rattle.cq_board.specs.Listings.{AreLive}
 use Rattle.cq_board.specs.Entries.{IsEntryAt, ShardsHaveTheEntries}

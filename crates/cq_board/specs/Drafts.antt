@@ -1,12 +1,12 @@
 -- What the changes of a batch make of a project's files: at each path that they name stands a file, or none.
-use Rattle.std.specs.Prelude.{◌≡◌, ℕ, ◌+◌, List, [], ◌∷◌, ◌++◌, length, IfSome, Option, None, Some, option_map}
+use Rattle.std.specs.Prelude.{◌≡◌, ℕ, ◌+◌, List, [], ◌∷◌, ◌++◌, length, IfSome, Option, None, Some}
 use Rattle.std.specs.Arc.{arc_value}
 use Rattle.std.specs.List.{AllByRecursion}
 use Rattle.std.specs.declared.sync.Arc.{Arc}
 use Rattle.std.specs.declared.alloc.Global.{Global}
 use Rattle.cq_history.specs.Files.{File, with_file, without_file}
 use Rattle.cq_board.specs.Listings.{ListedProject, path_of}
-use Rattle.cq_board.specs.Ordered.{AreAbove, AreBelow, AreRising}
+use Rattle.cq_board.specs.Ordered.{AreAbove, AreBelow}
 
 module _ {W : Type 0} where
   -- the files with what stands at a path: a file, or none

@@ -1,6 +1,5 @@
 -- The files of one project with the spot of each change that put one.
 use Rattle.std.specs.Prelude.{◌≡◌, ◌≢◌, ◌↔◌, ◌+◌, ◌-◌, ◌<◌, ◌≤◌, ◌^◌, ℕ, nat_lt, if◌then◌else◌, List, length, map, slice_get, slice_set, insert, remove, Option, Some, All, AllPairs}
-use Rattle.std.specs.List.{AllByRecursion}
 use Rattle.cq_history.specs.Files.{File}
 use Rattle.cq_order.specs.declared.spots.Spot.{Spot}
 use Rattle.cq_order.specs.Spots.{AreSpots}

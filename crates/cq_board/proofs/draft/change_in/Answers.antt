@@ -1,6 +1,5 @@
 use Rattle.std.proofs.Common.{Global, Some, Option, sym, ap, ◌∙◌}
 use Rattle.std.specs.Prelude.{option_map}
-use Rattle.std.specs.Arc.{arc_value}
 use Rattle.std.specs.declared.sync.Arc.{Arc}
 use Rattle.cq_history.specs.Files.{File}
 use Rattle.cq_board.specs.Drafts.{number_in}

@@ -1,7 +1,5 @@
-use Rattle.std.proofs.Common.{Global, ◌≡◌, ◌<◌, [], List, ℕ, length, map, sym, ap, ◌∙◌, subst, subst₂}
+use Rattle.std.proofs.Common.{◌≡◌, ◌<◌, [], List, ℕ, length, sym, ap, ◌∙◌, subst, subst₂}
 use Rattle.std.specs.Arc.{arc_value}
-use Rattle.std.specs.declared.sync.Arc.{Arc}
-use Rattle.cq_history.specs.Files.{File}
 use Rattle.cq_board.specs.Listings.{ListedProject, name_in, files_in, conditions_in, position_of}
 use Rattle.cq_board.specs.Ordered.{AreRising, IsAt, IsGap}
 use Rattle.cq_board.proofs.OwnerLists.{listed_position, listed_within, listed_rising, listed_inserted, listed_first, listed_files, listed_conditions}

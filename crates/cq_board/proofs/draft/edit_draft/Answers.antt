@@ -1,4 +1,4 @@
-use Rattle.std.proofs.Common.{◌≡◌, List, ℕ, cond, sym, ap, ◌∙◌, subst}
+use Rattle.std.proofs.Common.{◌≡◌, List, cond, sym, ap, ◌∙◌, subst}
 use Rattle.std.specs.Arc.{arc_value}
 use Rattle.std.specs.Prelude.{IfOk}
 use Rattle.std.specs.Str.{bytes_eq}
@@ -6,7 +6,7 @@ use Rattle.std.proofs.lemmas.Result.{on_ok_weaker}
 use Rattle.cq_base.specs.declared.change.Condition.{Condition}
 use Rattle.cq_history.specs.Files.{File}
 use Rattle.cq_board.specs.Edits.{edited_files, edited_conditions, replaced_by}
-use Rattle.cq_board.specs.Listings.{name_in, files_in, conditions_in}
+use Rattle.cq_board.specs.Listings.{name_in}
 use Rattle.cq_board.proofs.OwnerLists.{rising_set}
 use Rattle.cq_board.proofs.ProjectLists.{files_at-position, put_at, gate_at}
 use Rattle.cq_board.proofs.Turning.{ok_both}

@@ -4,7 +4,6 @@ use Rattle.cq_board.specs.Slots.{change_of}
 use Rattle.cq_board.specs.Listings.{listed, projects_in}
 use Rattle.cq_board.specs.Turnover.{left}
 use Rattle.cq_board.proofs.OwnerLists.{rising_owners, rising_projects}
-use Rattle.cq_board.proofs.Advances.{paths_rise}
 use Rattle.cq_board.proofs.Newer.{newer_edit}
 use Rattle.cq_board.proofs.Turning.{edit_adds}
 use Rattle.cq_board.proofs.listing.apply_change.Goals as goal

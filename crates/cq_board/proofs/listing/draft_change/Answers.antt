@@ -1,4 +1,3 @@
-use Rattle.std.proofs.Common.{◌++◌}
 use Rattle.std.specs.Arc.{arc_value}
 use Rattle.cq_board.specs.Slots.{change_of}
 use Rattle.cq_board.proofs.Turning.{draft_adds}

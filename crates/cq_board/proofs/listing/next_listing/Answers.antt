@@ -9,7 +9,7 @@ use Rattle.cq_base.specs.declared.change.Change.{Change}
 use Rattle.cq_history.specs.State.{Slot, no_slot, is_done}
 use Rattle.cq_board.specs.declared.kept.Kept.{Kept}
 use Rattle.cq_board.specs.Slots.{slot_from, change_of, IsWorked}
-use Rattle.cq_board.specs.Listings.{Listed, projects_in}
+use Rattle.cq_board.specs.Listings.{Listed}
 use Rattle.cq_board.specs.Turnover.{IsNext}
 use Rattle.cq_board.proofs.Newer.{all_apart}
 use Rattle.cq_board.proofs.Turning.{next_first}

@@ -1,8 +1,7 @@
 use Rattle.std.specs.Arc.{arc_value}
-use Rattle.std.proofs.Common.{List, ℕ, ◌≡◌, sym, ap, subst}
+use Rattle.std.proofs.Common.{List, ◌≡◌, sym, ap, subst}
 use Rattle.std.specs.Prelude.{IfOk}
 use Rattle.std.proofs.lemmas.Result.{on_ok_weaker, on_err_weaker}
-use Rattle.cq_base.specs.declared.change.Condition.{Condition}
 use Rattle.cq_history.specs.Files.{File}
 use Rattle.cq_board.specs.Listings.{ListedProject}
 use Rattle.cq_board.specs.Edits.{edited_files, edited_conditions, replaced_by, IsNewer}

@@ -1,7 +1,6 @@
-use Rattle.cq_history.specs.Files.{File}
 use Rattle.std.specs.Arc.{arc_value}
 use Rattle.std.specs.declared.sync.Arc.{Arc}
-use Rattle.std.proofs.Common.{Global, [], map, length, ◌<◌, ◌≡◌, List, ℕ, sym, subst, subst₂, ap, ◌∙◌}
+use Rattle.std.proofs.Common.{Global, [], length, ◌<◌, ◌≡◌, List, ℕ, sym, subst, subst₂, ap, ◌∙◌}
 use Rattle.cq_board.specs.Listings.{owner_name, name_in, projects_in, files_in, conditions_in, position_of, ListedProject}
 use Rattle.cq_board.specs.Ordered.{AreRising, IsAt, IsGap}
 use Rattle.cq_board.proofs.OwnerLists.{position_at, found_within, added_rising, added_within, added_position, added_files, added_conditions}

@@ -1,4 +1,4 @@
-use Rattle.std.proofs.Common.{◌≡◌, ◌++◌, [], ◌∷◌, length, map, sym, ap, ◌∙◌, subst, arith}
+use Rattle.std.proofs.Common.{◌≡◌, ◌++◌, [], ◌∷◌, length, map, sym, ◌∙◌, subst, arith}
 use Rattle.cq_board.specs.Spotted.{Inserts, opened}
 use Rattle.cq_board.proofs.InPlace.{in_place_push}
 use Rattle.cq_board.proofs.SpotEdits.{inserts}

@@ -1,4 +1,4 @@
-use Rattle.std.proofs.Common.{◌<◌, length, sym, ap, ◌∙◌, arith}
+use Rattle.std.proofs.Common.{◌<◌, length, ap, ◌∙◌, arith}
 use Rattle.cq_order.specs.declared.spots.Spot.{Spot}
 use Rattle.cq_board.specs.Spotted.{opened}
 use Rattle.cq_board.proofs.InPlace.{in_place_read, in_place_set}

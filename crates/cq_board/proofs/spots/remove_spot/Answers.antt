@@ -1,4 +1,4 @@
-use Rattle.std.proofs.Common.{rules, ◌≡◌, ◌++◌, [], ◌∷◌, not, nat_eq, filter, map, sym, ap, ◌∙◌, subst}
+use Rattle.std.proofs.Common.{rules, ◌≡◌, not, nat_eq, filter, map, sym, ap, ◌∙◌, subst}
 use Rattle.std.proofs.lemmas.Fn.{filter_same}
 use Rattle.cq_order.specs.declared.spots.Spot.{Spot}
 use Rattle.cq_board.specs.Spotted.{Removes, closed}

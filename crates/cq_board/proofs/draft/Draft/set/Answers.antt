@@ -1,8 +1,7 @@
-use Rattle.std.proofs.Common.{Global, ◌≡◌, Some, None, List, ℕ, map, sym, ap, ap₂, ◌∙◌, subst}
+use Rattle.std.proofs.Common.{List, sym, ap, ap₂, ◌∙◌, subst}
 use Rattle.std.specs.Arc.{arc_value}
-use Rattle.std.specs.declared.sync.Arc.{Arc}
 use Rattle.cq_history.specs.Files.{File}
-use Rattle.cq_board.specs.Drafts.{AreOwn, IsSetAt, edited_all, edited_at}
+use Rattle.cq_board.specs.Drafts.{AreOwn, edited_all, edited_at}
 use Rattle.cq_board.specs.Listings.{ListedProject, name_in, number_at, path_of}
 use Rattle.cq_board.specs.Ordered.{AreRising}
 use Rattle.cq_board.proofs.Gathering.{own_insert, set_files, number_replaced, number_before}

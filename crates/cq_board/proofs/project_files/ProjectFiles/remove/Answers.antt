@@ -1,4 +1,4 @@
-use Rattle.std.proofs.Common.{Global, ◌≡◌, List, Some, map, sym, ap, ◌∙◌, subst}
+use Rattle.std.proofs.Common.{Global, List, Some, map, sym, ap, ◌∙◌, subst}
 use Rattle.std.specs.Arc.{arc_value}
 use Rattle.std.specs.declared.sync.Arc.{Arc}
 use Rattle.cq_history.specs.Files.{File, without_file}
