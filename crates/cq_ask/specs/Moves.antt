@@ -1,5 +1,5 @@
 -- How the pass behind buckets moves.
-use Rattle.std.specs.Prelude.{◌≡◌, ℕ, List, []}
+use Rattle.std.specs.Prelude.{◌≡◌, ℕ, ◌-◌, ◌^◌, ◌≤◌, min, List, []}
 use Rattle.std.specs.Borrow.{GName}
 use Rattle.cq_base.specs.declared.lang.Lang.{Lang}
 use Rattle.cq_history.specs.declared.event.Event.{Event}
@@ -28,9 +28,11 @@ pub record Carried (S V P : Type 0) : Type 0 where
   -- the name of the pass that was lent
   pub lent : GName
 
--- the hub and the view stay, and so does the place at which the pass lies; what lies there moves so
-pub record MovesTo {S P W : Type 0} (Stands : S → P → ℕ → List Event → Type 0) (callers : S → ℕ) (alone : Type 0) (IsWork : S → Lang → List ℕ → W → Type 0) (old new : Carried S (View W) P) : Type 0 where
+-- The hub and the view stay, and so does the place at which the pass lies; what lies there moves so, and has asked no fewer
+-- questions, up to the last number of 64 bits.
+pub record MovesTo {S P W : Type 0} (Stands : S → P → ℕ → List Event → Type 0) (callers : S → ℕ) (alone : Type 0) (asked : P → ℕ) (IsWork : S → Lang → List ℕ → W → Type 0) (old new : Carried S (View W) P) : Type 0 where
   pub same_hub : new.hub ≡ old.hub
   pub same_view : new.shown ≡ old.shown
   pub same_pass : new.lent ≡ old.lent
   pub moves : Moves Stands (callers old.hub) alone (IsWork old.hub) old.hub old.shown old.pass new.pass
+  pub no_fewer : min (asked old.pass) (2 ^ 64 - 1) ≤ min (asked new.pass) (2 ^ 64 - 1)

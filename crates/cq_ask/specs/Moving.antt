@@ -42,11 +42,11 @@ open_stays IsWork set callers c alone v h later law opened grows =
       shows = subst (λ cs. IsListing IsWork cs (arc_value v.listing)) (ap (take v.version) (changes_in-state callers h) ∙ sym (ap (take v.version) (changes_in-state callers later ∙ more_accepted callers alone Never c h later [] grows) ∙ take-append-le v.version (accepted h) (accepted grows.more) within)) opened.shows;
     }
 
-module _ {S P W : Type 0} (Stands : S → P → ℕ → List Event → Type 0) (callers : S → ℕ) (alone : Type 0) (IsWork : S → Lang → List ℕ → W → Type 0) where
-  pub moves_none : (b : Carried S (View W) P) → MovesTo Stands callers alone IsWork b b
-  moves_none b = record { same_hub = refl; same_view = refl; same_pass = refl; moves = λ c h stands opened. record { after = h; grows = grows_none alone c Never h; stands = stands; opened = opened } }
+module _ {S P W : Type 0} (Stands : S → P → ℕ → List Event → Type 0) (callers : S → ℕ) (alone : Type 0) (asked : P → ℕ) (IsWork : S → Lang → List ℕ → W → Type 0) where
+  pub moves_none : (b : Carried S (View W) P) → MovesTo Stands callers alone asked IsWork b b
+  moves_none b = record { same_hub = refl; same_view = refl; same_pass = refl; moves = λ c h stands opened. record { after = h; grows = grows_none alone c Never h; stands = stands; opened = opened }; no_fewer = omega arith }
 
-  pub moves_then : (b d e : Carried S (View W) P) → MovesTo Stands callers alone IsWork b d → MovesTo Stands callers alone IsWork d e → MovesTo Stands callers alone IsWork b e
+  pub moves_then : (b d e : Carried S (View W) P) → MovesTo Stands callers alone asked IsWork b d → MovesTo Stands callers alone asked IsWork d e → MovesTo Stands callers alone asked IsWork b e
   moves_then b d e one two =
       let then : Moves Stands (callers b.hub) alone (IsWork b.hub) b.hub b.shown d.pass e.pass =
       subst (λ (v : View W). Moves Stands (callers b.hub) alone (IsWork b.hub) b.hub v d.pass e.pass) one.same_view
@@ -59,4 +59,5 @@ module _ {S P W : Type 0} (Stands : S → P → ℕ → List Event → Type 0) (
             let first = one.moves c h stands opened in
             let second = then c first.after first.stands first.opened in
             record { after = second.after; grows = grows_then alone c Never h first.after second.after [] [] first.grows second.grows; stands = second.stands; opened = second.opened };
+        no_fewer = omega (arith, one.no_fewer, two.no_fewer);
       }

@@ -31,11 +31,11 @@ impl<'a, W: Indexed, H: Hub<W>> Buckets for PassBuckets<'a, W, H> {
 
     ghost ready = { λ b. IsReady H.Stands (H.callers b.hub.now) (W.IsWorkOf (H.settings b.hub.now)) b.hub.now b.view.now b.pass.now b.files.now b.changes.now };
 
-    ghost moved = { λ b d. MovesTo H.Stands H.callers H.alone (λ hub. W.IsWorkOf (H.settings hub)) (record { hub = b.hub.now; shown = b.view.now; pass = b.pass.now; lent = b.pass.ghost_name }) (record { hub = d.hub.now; shown = d.view.now; pass = d.pass.now; lent = d.pass.ghost_name }) };
+    ghost moved = { λ b d. MovesTo H.Stands H.callers H.alone H.asked (λ hub. W.IsWorkOf (H.settings hub)) (record { hub = b.hub.now; shown = b.view.now; pass = b.pass.now; lent = b.pass.ghost_name }) (record { hub = d.hub.now; shown = d.view.now; pass = d.pass.now; lent = d.pass.ghost_name }) };
 
-    ghost unmoved = { λ b. moves_none H.Stands H.callers H.alone (λ hub. W.IsWorkOf (H.settings hub)) (record { hub = b.hub.now; shown = b.view.now; pass = b.pass.now; lent = b.pass.ghost_name }) };
+    ghost unmoved = { λ b. moves_none H.Stands H.callers H.alone H.asked (λ hub. W.IsWorkOf (H.settings hub)) (record { hub = b.hub.now; shown = b.view.now; pass = b.pass.now; lent = b.pass.ghost_name }) };
 
-    ghost moved_on = { λ b d e one two. moves_then H.Stands H.callers H.alone (λ hub. W.IsWorkOf (H.settings hub)) (record { hub = b.hub.now; shown = b.view.now; pass = b.pass.now; lent = b.pass.ghost_name }) (record { hub = d.hub.now; shown = d.view.now; pass = d.pass.now; lent = d.pass.ghost_name }) (record { hub = e.hub.now; shown = e.view.now; pass = e.pass.now; lent = e.pass.ghost_name }) one two };
+    ghost moved_on = { λ b d e one two. moves_then H.Stands H.callers H.alone H.asked (λ hub. W.IsWorkOf (H.settings hub)) (record { hub = b.hub.now; shown = b.view.now; pass = b.pass.now; lent = b.pass.ghost_name }) (record { hub = d.hub.now; shown = d.view.now; pass = d.pass.now; lent = d.pass.ghost_name }) (record { hub = e.hub.now; shown = e.view.now; pass = e.pass.now; lent = e.pass.ghost_name }) one two };
 
     fn bucket(&mut self, alloc: Global, key: u64) -> Result<Vec<Entry>, Memory> {
         let mut entries = self.hub.read_bucket(alloc, self.view, key, self.pass)?;

@@ -1,5 +1,6 @@
 -- What follows from an answer.
-use Rattle.std.specs.Prelude.{Result, Ok, Err, IfOk, OnOk, OnErr}
+use Rattle.std.specs.Prelude.{Bool, true, false, Result, Ok, Err, IfOk, OnOk, OnErr}
+use Rattle.std.specs.Result.{is_ok}
 
 pub on_err : {T E P : Type 0} (r : Result T E) → P → OnErr r P
 on_err (Ok x) p = tt
@@ -13,3 +14,12 @@ on_err_weaker (Err e) to p = to p
 pub both_ok : {T E : Type 0} (r : Result T E) (P S : T → Type 0) (Q : Type 0) → ((x : T) → P x → Q → S x) → IfOk r P → OnOk r Q → IfOk r S
 both_ok (Ok x) P S Q to p q = to x p q
 both_ok (Err e) P S Q to p q = tt
+
+-- what depends on whether it is a value
+pub ok_with : {T E : Type 0} (r : Result T E) (P S : T → Type 0) (Q : Bool → Type 0) → ((x : T) → P x → Q true → S x) → IfOk r P → Q (is_ok r) → IfOk r S
+ok_with (Ok x) P S Q to p q = to x p q
+ok_with (Err e) P S Q to p q = tt
+
+pub err_with : {T E : Type 0} (r : Result T E) (S : Type 0) (Q : Bool → Type 0) → (Q false → S) → Q (is_ok r) → OnErr r S
+err_with (Ok x) S Q to q = tt
+err_with (Err e) S Q to q = to q

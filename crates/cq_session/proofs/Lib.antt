@@ -1,5 +1,7 @@
 pub mod Sent
 pub mod Answered
+pub mod Spending
+pub mod LineCosts
 pub mod Working
 pub mod ManyWorks
 pub mod OneView

@@ -1,5 +1,5 @@
 -- A view that is opened, read and shut.
-use Rattle.std.proofs.Common.{◌≡◌, ℕ, zero, suc, ◌<◌, ◌≤◌, List, [], ◌∷◌, ◌++◌, append-nil, length, take, fold, get_or, set, Option, Some, None, refl, sym, ap, ◌∙◌, subst, arith}
+use Rattle.std.proofs.Common.{◌≡◌, ℕ, Bool, true, false, zero, suc, ◌<◌, ◌≤◌, List, [], ◌∷◌, ◌++◌, append-nil, length, take, fold, get_or, set, Option, Some, None, refl, sym, ap, ◌∙◌, subst, arith}
 use Rattle.std.specs.Prelude.{IsSome}
 use Rattle.std.proofs.lemmas.List.{length-replicate, get_or-set_same}
 use Rattle.cq_base.specs.declared.lang.Lang.{Lang}
@@ -25,7 +25,9 @@ use Rattle.cq_request.specs.declared.request.Query.{Query}
 use Rattle.cq_talk.specs.Steps.{IsClosed, Leads, Views}
 use Rattle.cq_talk.proofs.Shown.{shown_grows}
 use Rattle.cq_talk.proofs.Talking.{published_few}
+use Rattle.cq_session.specs.Costs.{Viewing, Counts, counted, Costs}
 use Rattle.cq_session.specs.Viewing.{ShowsAt, ViewsOrNot}
+use Rattle.cq_session.proofs.Spending.{costs_none, costs_later}
 use Rattle.cq_talk.proofs.Leading.{stands_mid}
 
 set_none : (views : List (Option ℕ)) (c : ℕ) → get_or (set views c None) c None ≡ None
@@ -50,12 +52,12 @@ view_shut callers c h = ap (λ s. view_of s c) (state_push callers h (Shut c)) �
 module _ {S P W : Type 0} (Stands : S → P → ℕ → List Event → Type 0) (set : Settings) (callers : ℕ) (alone : Type 0) (hub : S) (IsWork : Lang → List ℕ → W → Type 0)
     (lawful : (pass : P) (c : ℕ) (h : List Event) → Stands hub pass c h → Lawful set callers h) (caller : (pass : P) (c : ℕ) (h : List Event) → Stands hub pass c h → c < callers) (c to : ℕ) (h : List Event) where
   -- the publication was given up
-  pub not_advanced : (Says : List Event → Type 0) (pass : P) (advanced : Calls Stands alone IsPublication c hub pass h [] Says) → IsClosed callers c h → Leads Stands callers c hub pass (ViewsOrNot alone c to h)
-  not_advanced Says pass advanced closed = record {
+  pub not_advanced : (Says : List Event → Type 0) (pass : P) (advanced : Calls Stands alone IsPublication c hub pass h [] Says) → IsClosed callers c h → (q : Query) (reads asked asked_now : ℕ) → asked_now ≡ asked → Leads Stands callers c hub pass (ViewsOrNot set alone c to q (counted reads reads asked asked_now) h)
+  not_advanced Says pass advanced closed q reads asked asked_now same = record {
     after = advanced.mid;
     stands = stands_mid Stands alone callers c hub pass IsPublication h Says advanced;
     closed = view_grows callers alone IsPublication c h advanced.mid [] advanced.others tt ∙ closed;
-    holds = record { view = None; views = record { helped = advanced.mid; helps = advanced.others; views = grows_none alone c Never advanced.mid; recent = tt } };
+    holds = record { view = None; views = record { helped = advanced.mid; helps = advanced.others; views = grows_none alone c Never advanced.mid; recent = tt }; within = tt; costs = costs_none set (accepted advanced.mid) reads asked asked_now same };
   }
 
   module _ (published : ℕ) (one : P) (advanced : Calls Stands alone IsPublication c hub one h [] (λ mid. (published ≡ (state callers mid).published) × (to ≤ published))) where
@@ -63,12 +65,12 @@ module _ {S P W : Type 0} (Stands : S → P → ℕ → List Event → Type 0) (
     still_closed closed = view_grows callers alone IsPublication c h advanced.mid [] advanced.others tt ∙ closed
 
     -- no view was opened
-    pub not_viewed : (Says : List Event → Type 0) (pass : P) (opened : Calls Stands alone Never c hub pass advanced.mid [] Says) → IsClosed callers c h → Leads Stands callers c hub pass (ViewsOrNot alone c to h)
-    not_viewed Says pass opened closed = record {
+    pub not_viewed : (Says : List Event → Type 0) (pass : P) (opened : Calls Stands alone Never c hub pass advanced.mid [] Says) → IsClosed callers c h → (q : Query) (reads asked asked_now : ℕ) → asked_now ≡ asked → Leads Stands callers c hub pass (ViewsOrNot set alone c to q (counted reads reads asked asked_now) h)
+    not_viewed Says pass opened closed q reads asked asked_now same = record {
       after = opened.mid;
       stands = stands_mid Stands alone callers c hub pass Never advanced.mid Says opened;
       closed = view_grows callers alone Never c advanced.mid opened.mid [] opened.others tt ∙ still_closed closed;
-      holds = record { view = None; views = record { helped = advanced.mid; helps = advanced.others; views = opened.others; recent = tt } };
+      holds = record { view = None; views = record { helped = advanced.mid; helps = advanced.others; views = opened.others; recent = tt }; within = tt; costs = costs_none set (accepted opened.mid) reads asked asked_now same };
     }
 
     module _ (view : View W) (two : P) (opened : Calls Stands alone Never c hub two advanced.mid (Open c view.version ∷ []) (λ mid. IsLatest IsWork (state callers mid) view)) where
@@ -119,20 +121,36 @@ module _ {S P W : Type 0} (Stands : S → P → ℕ → List Event → Type 0) (
           grows_later : Grows alone Never c before later (Shut c ∷ [])
           grows_later = grows_then alone c Never before moved.after later [] (Shut c ∷ []) moved.grows (grows_event alone c Never moved.after shut.mid (Shut c) refl shut.others)
 
+          few_later : view.version ≤ length (accepted later)
+          few_later = let few = few_before in let more = no_fewer callers alone Never c before later _ grows_later in omega (arith, few, more)
+
+          abbrev viewing_of : Query → Bool → List Viewing
+          viewing_of q answered = record { query = q; version = view.version; answered = answered } ∷ []
+
+          costs_then : (q : Query) (answered : Bool) (n : Counts) → Costs set (accepted before) (viewing_of q answered) n → Costs set (accepted later) (viewing_of q answered) n
+          costs_then q answered n costs = subst (λ g. Costs set (accepted g) (viewing_of q answered) n) (sym grows_later.after_is) (costs_later set before grows_later.more (viewing_of q answered) n (few_before, tt) costs)
+
           -- the view was read and shut
-          pub was_shown : (q : Query) (r : Reply) → IsReply set (accepted (opened.mid ++ Open c view.version ∷ [])) view.version q r → Leads Stands callers c hub pass (ShowsAt set alone c to q r h)
-          was_shown q r is = record {
+          pub was_shown : (q : Query) (r : Reply) (n : Counts) → IsReply set (accepted (opened.mid ++ Open c view.version ∷ [])) view.version q r → Costs set (accepted (opened.mid ++ Open c view.version ∷ [])) (record { query = q; version = view.version; answered = true } ∷ []) n
+              → Leads Stands callers c hub pass (ShowsAt set alone c to q n r h)
+          was_shown q r n is costs = record {
             after = later;
             stands = shut.stands;
             closed = view_shut callers c shut.mid;
             holds = record {
               version = view.version;
               views = was_viewed;
-              within = let few = few_before in let more = no_fewer callers alone Never c before later _ grows_later in omega (arith, few, more);
+              within = few_later;
               shows = shown_grows set alone Never c before later _ view.version q r few_before grows_later is;
+              costs = costs_then q true n costs;
             };
           }
 
           -- the view was shut, and the reply given up
-          pub was_given_up : Leads Stands callers c hub pass (ViewsOrNot alone c to h)
-          was_given_up = record { after = later; stands = shut.stands; closed = view_shut callers c shut.mid; holds = record { view = Some view.version; views = was_viewed } }
+          pub was_given_up : (q : Query) (n : Counts) → Costs set (accepted (opened.mid ++ Open c view.version ∷ [])) (record { query = q; version = view.version; answered = false } ∷ []) n → Leads Stands callers c hub pass (ViewsOrNot set alone c to q n h)
+          was_given_up q n costs = record {
+            after = later;
+            stands = shut.stands;
+            closed = view_shut callers c shut.mid;
+            holds = record { view = Some view.version; views = was_viewed; within = few_later; costs = costs_then q false n costs };
+          }

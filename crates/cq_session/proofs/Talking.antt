@@ -17,6 +17,7 @@ use Rattle.cq_talk.specs.Said.{Said, said, TooLong, Read}
 use Rattle.cq_talk.specs.Talk.{Talk, Answers, IsAnswer, IsChanged, IsGivenUp, Waits}
 use Rattle.cq_talk.proofs.Saying.{said_long}
 use Rattle.cq_talk.proofs.Talking.{turn_more}
+use Rattle.cq_session.specs.Costs.{AtCost, Counts}
 use Rattle.cq_session.specs.Told.{NeedsMemory}
 use Rattle.cq_session.specs.Turn.{IsTalk}
 
@@ -45,6 +46,15 @@ module _ (set : Settings) (callers : ℕ) (alone : Type 0) (c : ℕ) where
   answer_given_up seen h later (Read (Ok (request.Query q))) r needs (inr (inl is)) = inr (inl is.asks)
   answer_given_up seen h later (Read (Ok (request.Query q))) r needs (inr (inr is)) = inr (inr (Some is.version, is.served))
   answer_given_up seen h later (Read (Ok request.State)) r needs is = inr is.asks
+
+  -- the answer to what a line says, where that is this
+  pub answers_as : (seen : ℕ) (h later : List Event) (n : Counts) (r : Reply) (says is : Result Request Refusal) → says ≡ is
+      → AtCost set c (Read is) r n h (IsAnswer set callers alone c seen h (Read is) r) later → AtCost set c (Read says) r n h (IsAnswer set callers alone c seen h (Read says) r) later
+  answers_as seen h later n r says is same row = subst (λ (s : Result Request Refusal). AtCost set c (Read s) r n h (IsAnswer set callers alone c seen h (Read s) r) later) (sym same) row
+
+  pub given_up_as : (seen : ℕ) (h later : List Event) (n : Counts) (says is : Result Request Refusal) → says ≡ is
+      → AtCost set c (Read is) reply.Memory n h (IsGivenUp set callers alone c seen h (Read is)) later → AtCost set c (Read says) reply.Memory n h (IsGivenUp set callers alone c seen h (Read says)) later
+  given_up_as seen h later n says is same row = subst (λ (s : Result Request Refusal). AtCost set c (Read s) reply.Memory n h (IsGivenUp set callers alone c seen h (Read s)) later) (sym same) row
 
   -- a line that was not read for want of memory did nothing
   pub nothing_done : (seen : ℕ) (h later : List Event) (says : Result Request Refusal) → Waits alone c h later → IsGivenUp set callers alone c seen h (Read says) later

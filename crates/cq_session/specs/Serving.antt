@@ -13,7 +13,8 @@ use Rattle.cq_reply.specs.Written.{line_of}
 use Rattle.cq_talk.specs.Replies.{seen_after}
 use Rattle.cq_session.specs.declared.serving.End.{End}
 use Rattle.cq_session.specs.declared.serving.End.TheVariants as end
-use Rattle.cq_session.specs.Turn.{IsTalk}
+use Rattle.cq_session.specs.Costs.{Counts}
+use Rattle.cq_session.specs.Turn.{CountedTalk}
 
 -- over what the replies to some lines are
 module _ (AreReplies : List (List ℕ) → List Reply → Type 0) where
@@ -55,13 +56,13 @@ HasEndCause source source_now sink sink_now end.Spent = (source_now ≡ source) 
 HasEndCause source source_now sink sink_now end.ReadFault = Rose source source_now × (sink_now ≡ sink)
 HasEndCause source source_now sink sink_now end.WriteFault = Rose sink sink_now × (source_now ≡ source)
 
--- Between two lines: these lines were cut, and have their replies; what was seen is what these name, and is the number of a
--- change or 0.
-pub record SoFar (set : Settings) (callers : ℕ) (alone : Type 0) (c : ℕ) (h : List Event) (limit : ℕ) (rest rest_now before written_now : Option (List ℕ)) (held : Held) (seen : ℕ) (now : List Event) : Type 0 where
+-- Between two lines: these lines were cut, and have their replies, at this cost; what was seen is what these name, and is
+-- the number of a change or 0.
+pub record SoFar (set : Settings) (callers : ℕ) (alone : Type 0) (c : ℕ) (h : List Event) (n : Counts) (limit : ℕ) (rest rest_now before written_now : Option (List ℕ)) (held : Held) (seen : ℕ) (now : List Event) : Type 0 where
   pub lines : List (List ℕ)
   pub cut : CutTo limit rest rest_now held lines
   pub replies : List Reply
-  pub talk : IsTalk set callers alone c h now lines replies
+  pub talk : CountedTalk set callers alone c h n now lines replies
   pub written : Appends before written_now (flat_map line_of replies)
   pub seen_is : seen ≡ seen_after 0 replies
   pub within : seen ≤ length (accepted now)

@@ -5,11 +5,13 @@ ghost use Rattle.cq_history.specs.State.{accepted};
 ghost use Rattle.cq_hub.specs.Hubs.{IsPassOf};
 ghost use Rattle.cq_lines.specs.Pieces.{line_limit};
 ghost use Rattle.cq_reply.specs.Written.{IsReplyText};
+ghost use Rattle.cq_reply.specs.declared.reply.Reply.TheVariants as reply;
 ghost use Rattle.cq_request.specs.Reading.{line_says};
 ghost use Rattle.cq_request.specs.declared.request.Request.TheVariants as request;
 ghost use Rattle.cq_talk.specs.Said.{Read};
 ghost use Rattle.cq_talk.specs.Steps.{Always, Led, MayLead};
 ghost use Rattle.cq_talk.specs.Talk.{IsAnswer, IsAnswered, IsChanged, IsGivenUp, Tells, Waits};
+ghost use Rattle.cq_session.specs.Costs.{AtCost, counted};
 ghost use Rattle.cq_session.specs.Told.{bytes_of};
 ghost use Rattle.cq_session.specs.Turn as turn;
 
@@ -39,6 +41,7 @@ fn change_reply<W: Indexed, H: Hub<W>>(
     ensures replies { IfOk result (λ r. Led H.Stands (H.callers hub.now) hub.now pass.old pass.new Always (λ c h. IsChanged (H.settings hub.now) (H.callers hub.now) H.alone c h change r)) }
     ensures text { IfOk result IsReplyText }
     ensures refused { OnErr result (Led H.Stands (H.callers hub.now) hub.now pass.old pass.new Always (λ c h. Waits H.alone c h)) }
+    ensures asked { H.asked pass.new ≡ H.asked pass.old }
 {
     match hub.accept(alloc, change, pass) {
         Ok(number) => Ok(Reply::Change(number)),
@@ -53,6 +56,7 @@ fn state_reply<W: Indexed, H: Hub<W>>(hub: &H, pass: &mut H::Pass) -> Reply
     requires stands { IsPassOf H.Stands hub.now pass.old }
     ensures replies { Led H.Stands (H.callers hub.now) hub.now pass.old pass.new Always (λ c h. Tells (H.settings hub.now) (H.callers hub.now) H.alone c h result) }
     ensures text { IsReplyText result }
+    ensures asked { H.asked pass.new ≡ H.asked pass.old }
 {
     let asked = hub.ask(pass);
     Reply::State {
@@ -78,9 +82,9 @@ fn query_reply<L: Ledger, H: Hub<Work<L>>>(
     requires hub_settings { H.settings hub.now ≡ settings.now }
     requires long { settings.now.chunk ≤ query.now.min }
     requires closed { MayLead H.Stands (H.callers hub.now) hub.now pass.old (λ h. seen ≤ length (accepted h)) }
-    ensures replies { IfOk result (λ r. Led H.Stands (H.callers hub.now) hub.now pass.old pass.new (λ h. seen ≤ length (accepted h)) (λ c h. IsAnswered (H.settings hub.now) (H.callers hub.now) H.alone c seen h query.now r)) }
+    ensures replies { IfOk result (λ r. Led H.Stands (H.callers hub.now) hub.now pass.old pass.new (λ h. seen ≤ length (accepted h)) (λ c h. AtCost (H.settings hub.now) c (Read (ok (request.Query query.now))) r (counted steps.old steps.new (H.asked pass.old) (H.asked pass.new)) h (IsAnswered (H.settings hub.now) (H.callers hub.now) H.alone c seen h query.now r))) }
     ensures text { IfOk result IsReplyText }
-    ensures refused { OnErr result (Led H.Stands (H.callers hub.now) hub.now pass.old pass.new (λ h. seen ≤ length (accepted h)) (λ c h. IsGivenUp (H.settings hub.now) (H.callers hub.now) H.alone c seen h (Read (ok (request.Query query.now))))) }
+    ensures refused { OnErr result (Led H.Stands (H.callers hub.now) hub.now pass.old pass.new (λ h. seen ≤ length (accepted h)) (λ c h. AtCost (H.settings hub.now) c (Read (ok (request.Query query.now))) reply.Memory (counted steps.old steps.new (H.asked pass.old) (H.asked pass.new)) h (IsGivenUp (H.settings hub.now) (H.callers hub.now) H.alone c seen h (Read (ok (request.Query query.now)))))) }
 {
     let asked = hub.ask(pass);
     if query.at > asked.accepted {
@@ -121,9 +125,9 @@ fn reply_to<L: Ledger, H: Hub<Work<L>>>(
     requires settings { keyer.now.settings ≡ settings.now }
     requires hub_settings { H.settings hub.now ≡ settings.now }
     requires closed { MayLead H.Stands (H.callers hub.now) hub.now pass.old (λ h. seen ≤ length (accepted h)) }
-    ensures replies { IfOk result (λ r. Led H.Stands (H.callers hub.now) hub.now pass.old pass.new (λ h. seen ≤ length (accepted h)) (λ c h. IsAnswer (H.settings hub.now) (H.callers hub.now) H.alone c seen h (Read (line_says settings.now.chunk line.now)) r)) }
+    ensures replies { IfOk result (λ r. Led H.Stands (H.callers hub.now) hub.now pass.old pass.new (λ h. seen ≤ length (accepted h)) (λ c h. AtCost (H.settings hub.now) c (Read (line_says settings.now.chunk line.now)) r (counted steps.old steps.new (H.asked pass.old) (H.asked pass.new)) h (IsAnswer (H.settings hub.now) (H.callers hub.now) H.alone c seen h (Read (line_says settings.now.chunk line.now)) r))) }
     ensures text { IfOk result IsReplyText }
-    ensures refused { OnErr result (Led H.Stands (H.callers hub.now) hub.now pass.old pass.new (λ h. seen ≤ length (accepted h)) (λ c h. IsGivenUp (H.settings hub.now) (H.callers hub.now) H.alone c seen h (Read (line_says settings.now.chunk line.now)))) }
+    ensures refused { OnErr result (Led H.Stands (H.callers hub.now) hub.now pass.old pass.new (λ h. seen ≤ length (accepted h)) (λ c h. AtCost (H.settings hub.now) c (Read (line_says settings.now.chunk line.now)) reply.Memory (counted steps.old steps.new (H.asked pass.old) (H.asked pass.new)) h (IsGivenUp (H.settings hub.now) (H.callers hub.now) H.alone c seen h (Read (line_says settings.now.chunk line.now))))) }
 {
     match read_request(alloc, settings, line) {
         Ok(Request::Change(change)) => change_reply(alloc, hub, change, pass),
@@ -150,7 +154,7 @@ pub(crate) fn told<L: Ledger, H: Hub<Work<L>>>(
     requires settings { keyer.now.settings ≡ settings.now }
     requires hub_settings { H.settings hub.now ≡ settings.now }
     requires closed { MayLead H.Stands (H.callers hub.now) hub.now pass.old (λ h. seen ≤ length (accepted h)) }
-    ensures { Led H.Stands (H.callers hub.now) hub.now pass.old pass.new (λ h. seen ≤ length (accepted h)) (λ c h. turn.Tells (H.settings hub.now) (H.callers hub.now) H.alone c seen h (Read (line_says settings.now.chunk line.now)) (bytes_of result.0) result.1) }
+    ensures { Led H.Stands (H.callers hub.now) hub.now pass.old pass.new (λ h. seen ≤ length (accepted h)) (λ c h. turn.Tells (H.settings hub.now) (H.callers hub.now) H.alone c seen h (counted steps.old steps.new (H.asked pass.old) (H.asked pass.new)) (Read (line_says settings.now.chunk line.now)) (bytes_of result.0) result.1) }
 {
     match reply_to(alloc, settings, keyer, hub, line, seen, pass, steps) {
         Ok(reply) => match line_of(alloc, &reply) {

@@ -45,6 +45,7 @@ fn help_one<L: Ledger, H: Hub<Work<L>>>(
     requires accepted { MayLead H.Stands (H.callers hub.now) hub.now pass.old (λ h. IsAccepted (state (H.callers hub.now) h) change) }
     ensures done { OnOk result (Led H.Stands (H.callers hub.now) hub.now pass.old pass.new Always (λ c h. Helps H.alone c change h (λ after. IsDone (state (H.callers hub.now) after) change))) }
     ensures refused { OnErr result (Led H.Stands (H.callers hub.now) hub.now pass.old pass.new Always (λ c h. Helps H.alone c change h Always)) }
+    ensures asked { H.asked pass.new ≡ H.asked pass.old }
 {
     match hub.job(change, pass) {
         Err(Memory) => Err(Memory),
@@ -76,6 +77,7 @@ pub(crate) fn help<L: Ledger, H: Hub<Work<L>>>(
     requires accepted { MayLead H.Stands (H.callers hub.now) hub.now pass.old (λ h. (done ≤ ready (state (H.callers hub.now) h)) × (to ≤ length (accepted h))) }
     ensures done { OnOk result (Led H.Stands (H.callers hub.now) hub.now pass.old pass.new (λ h. done ≤ ready (state (H.callers hub.now) h)) (λ c h. Helps H.alone c to h (λ after. done ≤ to → to ≤ ready (state (H.callers hub.now) after)))) }
     ensures refused { OnErr result (Led H.Stands (H.callers hub.now) hub.now pass.old pass.new (λ h. done ≤ ready (state (H.callers hub.now) h)) (λ c h. Helps H.alone c to h Always)) }
+    ensures asked { H.asked pass.new ≡ H.asked pass.old }
 {
     'changes: for i in done..to {
         match help_one(alloc, settings, keyer, hub, i + 1, pass) {

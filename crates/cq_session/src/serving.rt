@@ -7,9 +7,10 @@ ghost use Rattle.cq_lines.specs.Runs.{IsFresh};
 ghost use Rattle.cq_reply.specs.Written.{line_of};
 ghost use Rattle.cq_reply.specs.declared.reply.Reply.TheVariants as reply;
 ghost use Rattle.cq_talk.specs.Steps.{Always, Led, MayLead};
+ghost use Rattle.cq_session.specs.Costs.{counted};
 ghost use Rattle.cq_session.specs.Sending.{Sends};
 ghost use Rattle.cq_session.specs.Serving.{Serves, HasEndCause};
-ghost use Rattle.cq_session.specs.Turn.{IsTalk, Turns};
+ghost use Rattle.cq_session.specs.Turn.{CountedTalk, Turns};
 
 use crate::answering::told;
 use crate::sending::send;
@@ -53,7 +54,7 @@ fn turn<L: Ledger, H: Hub<Work<L>>, K: Sink>(
     requires hub_settings { H.settings hub.now ≡ settings.now }
     requires short { length line.now ≤ line_limit }
     requires closed { MayLead H.Stands (H.callers hub.now) hub.now pass.old (λ h. seen.old ≤ length (accepted h)) }
-    ensures turns { Led H.Stands (H.callers hub.now) hub.now pass.old pass.new (λ h. seen.old ≤ length (accepted h)) (λ c h. Turns settings.now (H.callers hub.now) H.alone c seen.old h line.now (K.written sink.old) (K.written sink.new) result seen.new) }
+    ensures turns { Led H.Stands (H.callers hub.now) hub.now pass.old pass.new (λ h. seen.old ≤ length (accepted h)) (λ c h. Turns settings.now (H.callers hub.now) H.alone c seen.old h (counted steps.old steps.new (H.asked pass.old) (H.asked pass.new)) line.now (K.written sink.old) (K.written sink.new) result seen.new) }
     ensures cause { HasCause (K.faults sink.old) (K.faults sink.new) result }
 {
     let (line, number) = told(alloc, settings, keyer, hub, line, *seen, pass, steps);
@@ -88,7 +89,7 @@ pub fn session<L: Ledger, H: Hub<Work<L>>, S: Source, K: Sink>(
     requires settings { keyer.now.settings ≡ settings.now }
     requires hub_settings { H.settings hub.now ≡ settings.now }
     requires closed { MayLead H.Stands (H.callers hub.now) hub.now pass.old Always }
-    ensures served { Led H.Stands (H.callers hub.now) hub.now pass.old pass.new Always (λ c h after. Serves (IsTalk settings.now (H.callers hub.now) H.alone c h after) lines.old.limit (S.rest source.old) (S.rest source.new) (K.written sink.old) (K.written sink.new) result) }
+    ensures served { Led H.Stands (H.callers hub.now) hub.now pass.old pass.new Always (λ c h after. Serves (CountedTalk settings.now (H.callers hub.now) H.alone c h (counted steps.old steps.new (H.asked pass.old) (H.asked pass.new)) after) lines.old.limit (S.rest source.old) (S.rest source.new) (K.written sink.old) (K.written sink.new) result) }
     ensures cause { HasEndCause (S.faults source.old) (S.faults source.new) (K.faults sink.old) (K.faults sink.new) result }
 {
     let mut seen = 0u64;

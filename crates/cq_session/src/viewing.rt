@@ -1,15 +1,16 @@
-ghost use Rattle.std.specs.Prelude.{◌≡◌, ◌≤◌, ℕ, IfOk, OnErr, List};
+ghost use Rattle.std.specs.Prelude.{◌≡◌, ◌≤◌, IfOk, OnErr, [], ◌∷◌};
+ghost use Rattle.std.specs.Result.{is_ok};
 ghost use Rattle.cq_base.specs.Settings.{IsInRange};
 ghost use Rattle.cq_answer.specs.Reply.{IsReply};
 ghost use Rattle.cq_ask.specs.Moves.{Moves};
-ghost use Rattle.cq_history.specs.declared.event.Event.{Event};
-ghost use Rattle.cq_history.specs.State.{state, accepted, ready};
+ghost use Rattle.cq_history.specs.State.{state, ready};
 ghost use Rattle.cq_hub.specs.Hubs.{HasSeen};
 ghost use Rattle.cq_hub.specs.Views.{IsOpen};
 ghost use Rattle.cq_reply.specs.Written.{IsReplyText};
 ghost use Rattle.cq_talk.specs.Steps.{Always, Led, MayLead};
 ghost use Rattle.cq_work.specs.Work.{IsWorkOf};
-ghost use Rattle.cq_session.specs.Viewing.{ShowsAt, ViewsOrNot};
+ghost use Rattle.cq_session.specs.Costs.{Costs, counted};
+ghost use Rattle.cq_session.specs.Viewing.{InView, ShowsAt, ViewsOrNot};
 
 use cq_answer::answer;
 use cq_ask::{PassBuckets, changes_of};
@@ -36,8 +37,9 @@ fn reply_in<L: Ledger, H: Hub<Work<L>>>(
     requires hub_settings { H.settings hub.now ≡ settings.now }
     requires long { settings.now.chunk ≤ query.now.min }
     requires viewing { HasSeen H.Stands hub.now pass.old (λ c h. IsOpen (IsWorkOf (H.settings hub.now)) (state (H.callers hub.now) h) c view.now) }
-    ensures reply { IfOk result (λ reply. (c : ℕ) (h : List Event) → H.Stands hub.now pass.old c h → IsOpen (IsWorkOf (H.settings hub.now)) (state (H.callers hub.now) h) c view.now → IsReply (H.settings hub.now) (accepted h) view.now.version query.now reply) }
+    ensures reply { IfOk result (λ reply. InView H.Stands (H.callers hub.now) (IsWorkOf (H.settings hub.now)) hub.now view.now pass.old (λ changes. IsReply (H.settings hub.now) changes view.now.version query.now reply)) }
     ensures text { IfOk result IsReplyText }
+    ensures costs { InView H.Stands (H.callers hub.now) (IsWorkOf (H.settings hub.now)) hub.now view.now pass.old (λ changes. Costs (H.settings hub.now) changes (record { query = query.now; version = view.now.version; answered = is_ok result } ∷ []) (counted steps.old steps.new (H.asked pass.old) (H.asked pass.new))) }
     ensures moves { Moves H.Stands (H.callers hub.now) H.alone (IsWorkOf (H.settings hub.now)) hub.now view.now pass.old pass.new }
 {
     let files = view.listing.files(&query.project);
@@ -81,9 +83,9 @@ pub(crate) fn view_reply<L: Ledger, H: Hub<Work<L>>>(
     requires hub_settings { H.settings hub.now ≡ settings.now }
     requires long { settings.now.chunk ≤ query.now.min }
     requires ready { MayLead H.Stands (H.callers hub.now) hub.now pass.old (λ h. to ≤ ready (state (H.callers hub.now) h)) }
-    ensures shown { IfOk result (λ reply. Led H.Stands (H.callers hub.now) hub.now pass.old pass.new Always (λ c h. ShowsAt (H.settings hub.now) H.alone c to query.now reply h)) }
+    ensures shown { IfOk result (λ reply. Led H.Stands (H.callers hub.now) hub.now pass.old pass.new Always (λ c h. ShowsAt (H.settings hub.now) H.alone c to query.now (counted steps.old steps.new (H.asked pass.old) (H.asked pass.new)) reply h)) }
     ensures text { IfOk result IsReplyText }
-    ensures refused { OnErr result (Led H.Stands (H.callers hub.now) hub.now pass.old pass.new Always (λ c h. ViewsOrNot H.alone c to h)) }
+    ensures refused { OnErr result (Led H.Stands (H.callers hub.now) hub.now pass.old pass.new Always (λ c h. ViewsOrNot (H.settings hub.now) H.alone c to query.now (counted steps.old steps.new (H.asked pass.old) (H.asked pass.new)) h)) }
 {
     match hub.advance(alloc, to, pass) {
         Ok(_published) => {}

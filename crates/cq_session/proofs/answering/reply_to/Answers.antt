@@ -1,30 +1,51 @@
-use Rattle.std.proofs.Common.{◌≡◌, Ok, sym, ap, ◌∙◌, subst}
-use Rattle.std.specs.Prelude.{Result}
+use Rattle.std.proofs.Common.{◌≡◌, Ok, Err, refl, ap, ◌∙◌}
 use Rattle.std.proofs.lemmas.Result.{IfOk-weaker}
 use Rattle.cq_hub.specs.Hubs.{Never}
 use Rattle.cq_hub.proofs.Growing.{grows_none}
+use Rattle.cq_reply.specs.declared.reply.Reply.TheVariants as reply
 use Rattle.cq_request.specs.Reading.{line_says}
-use Rattle.cq_request.specs.declared.request.Request.{Request}
 use Rattle.cq_request.specs.declared.request.Request.TheVariants as request
-use Rattle.cq_request.specs.declared.request.Refusal.{Refusal}
 use Rattle.cq_talk.specs.Said.{Read}
-use Rattle.cq_talk.specs.Talk.{IsAnswer, IsGivenUp}
 use Rattle.cq_talk.proofs.Leading.{lead_weaker}
+use Rattle.cq_session.specs.Costs.{AreViewings}
 use Rattle.cq_session.proofs.Answered.{both_ok, on_err, on_err_weaker}
-use Rattle.cq_session.proofs.Talking.{nothing_done}
+use Rattle.cq_session.proofs.LineCosts.{none_given_up, spends_asking, spends_changing, spends_waiting}
+use Rattle.cq_session.proofs.Spending.{spends_none}
+use Rattle.cq_session.proofs.Talking.{nothing_done, answers_as, given_up_as}
 use Rattle.cq_session.proofs.answering.reply_to.Goals as goal
+
+pub returns-in-Ok-Change-clause-replies : goal.returns-in-Ok-Change-clause-replies
+returns-in-Ok-Change-clause-replies g c =
+    let says : line_says c.args.settings.now.chunk c.args.line.now ≡ Ok (request.Change c.in-Ok-Change.change) = c.in-Ok-Change.ensures.says ∙ ap Ok c.in-Ok-Change.field-0-is in
+    IfOk-weaker c.change_reply.result _ _ (λ r led by h stands closed named. lead_weaker _ _ by _ _ _ _ (led by h stands closed tt)
+    (λ later is. answers_as (g.H.Hub.settings c.args.hub.now) (g.H.Hub.callers c.args.hub.now) g.H.Hub.alone by c.args.seen h later _ r _ _ says
+    (is, spends_changing _ g.H.Hub.alone by _ _ _ c.change_reply.ensures.asked (AreViewings (Read (Ok (request.Change c.in-Ok-Change.change))) r) refl h later (g.H.Hub.callers c.args.hub.now) c.in-Ok-Change.change r is))) c.change_reply.ensures.replies
+
+pub returns-in-Ok-Change-clause-refused : goal.returns-in-Ok-Change-clause-refused
+returns-in-Ok-Change-clause-refused g c =
+    let says : line_says c.args.settings.now.chunk c.args.line.now ≡ Ok (request.Change c.in-Ok-Change.change) = c.in-Ok-Change.ensures.says ∙ ap Ok c.in-Ok-Change.field-0-is in
+    on_err_weaker c.change_reply.result (λ led by h stands closed named. lead_weaker _ _ by _ _ _ _ (led by h stands closed tt)
+    (λ later is. given_up_as (g.H.Hub.settings c.args.hub.now) (g.H.Hub.callers c.args.hub.now) g.H.Hub.alone by c.args.seen h later _ _ _ says
+    (is, spends_waiting _ g.H.Hub.alone by _ _ _ c.change_reply.ensures.asked (AreViewings (Read (Ok (request.Change c.in-Ok-Change.change))) reply.Memory) refl h later is))) c.change_reply.ensures.refused
 
 pub returns-in-Ok-Query-clause-replies : goal.returns-in-Ok-Query-clause-replies
 returns-in-Ok-Query-clause-replies g c =
     let says : line_says c.args.settings.now.chunk c.args.line.now ≡ Ok (request.Query c.in-Ok-Query.query) = c.in-Ok-Query.ensures.says ∙ ap Ok c.in-Ok-Query.field-0-is in
     IfOk-weaker c.query_reply.result _ _ (λ r led by h stands closed named. lead_weaker _ _ by _ _ _ _ (led by h stands closed named)
-    (λ later is. subst (λ (s : Result Request Refusal). IsAnswer (g.H.Hub.settings c.args.hub.now) (g.H.Hub.callers c.args.hub.now) g.H.Hub.alone by c.args.seen h (Read s) r later) (sym says) is)) c.query_reply.ensures.replies
+    (λ later is. answers_as (g.H.Hub.settings c.args.hub.now) (g.H.Hub.callers c.args.hub.now) g.H.Hub.alone by c.args.seen h later _ r _ _ says is)) c.query_reply.ensures.replies
 
 pub returns-in-Ok-Query-clause-refused : goal.returns-in-Ok-Query-clause-refused
 returns-in-Ok-Query-clause-refused g c =
     let says : line_says c.args.settings.now.chunk c.args.line.now ≡ Ok (request.Query c.in-Ok-Query.query) = c.in-Ok-Query.ensures.says ∙ ap Ok c.in-Ok-Query.field-0-is in
     on_err_weaker c.query_reply.result (λ led by h stands closed named. lead_weaker _ _ by _ _ _ _ (led by h stands closed named)
-    (λ later is. subst (λ (s : Result Request Refusal). IsGivenUp (g.H.Hub.settings c.args.hub.now) (g.H.Hub.callers c.args.hub.now) g.H.Hub.alone by c.args.seen h (Read s) later) (sym says) is)) c.query_reply.ensures.refused
+    (λ later is. given_up_as (g.H.Hub.settings c.args.hub.now) (g.H.Hub.callers c.args.hub.now) g.H.Hub.alone by c.args.seen h later _ _ _ says is)) c.query_reply.ensures.refused
+
+pub returns-in-Ok-State-clause-replies : goal.returns-in-Ok-State-clause-replies
+returns-in-Ok-State-clause-replies g c =
+    let says : line_says c.args.settings.now.chunk c.args.line.now ≡ Ok request.State = c.in-Ok-State.ensures.says ∙ ap Ok c.in-Ok-State.field-0-is in
+    λ by h stands closed named. lead_weaker _ _ by _ _ _ _ (c.state_reply.ensures.replies by h stands closed tt)
+    (λ later is. answers_as (g.H.Hub.settings c.args.hub.now) (g.H.Hub.callers c.args.hub.now) g.H.Hub.alone by c.args.seen h later _ c.state_reply.result _ _ says
+    (is, spends_asking _ g.H.Hub.alone by _ _ _ c.state_reply.ensures.asked (AreViewings (Read (Ok request.State)) c.state_reply.result) refl h later is.asks))
 
 pub returns-in-Err-clause-replies : goal.returns-in-Err-clause-replies
 returns-in-Err-clause-replies g c =
@@ -32,7 +53,8 @@ returns-in-Err-clause-replies g c =
       after = h;
       stands = stands;
       closed = closed;
-      holds = subst (λ (s : Result Request Refusal). IsAnswer (g.H.Hub.settings c.args.hub.now) (g.H.Hub.callers c.args.hub.now) g.H.Hub.alone by c.args.seen h (Read s) r h) (sym (said _ c.in-Err.ensures.says)) (is, grows_none g.H.Hub.alone by Never h);
+      holds = answers_as (g.H.Hub.settings c.args.hub.now) (g.H.Hub.callers c.args.hub.now) g.H.Hub.alone by c.args.seen h h _ r _ _ ((said _ c.in-Err.ensures.says))
+          ((is, grows_none g.H.Hub.alone by Never h), spends_none _ by (AreViewings (Read (Err c.in-Err.refusal)) r) h _ _ refl);
     }) c.refusal_of.ensures.reply c.refusal_of.ensures.said
 
 pub returns-in-Err-clause-refused : goal.returns-in-Err-clause-refused
@@ -41,5 +63,8 @@ returns-in-Err-clause-refused g c =
       after = h;
       stands = stands;
       closed = closed;
-      holds = nothing_done (g.H.Hub.settings c.args.hub.now) (g.H.Hub.callers c.args.hub.now) g.H.Hub.alone by c.args.seen h h (line_says c.args.settings.now.chunk c.args.line.now) (grows_none g.H.Hub.alone by Never h);
+      holds = (
+        nothing_done (g.H.Hub.settings c.args.hub.now) (g.H.Hub.callers c.args.hub.now) g.H.Hub.alone by c.args.seen h h (line_says c.args.settings.now.chunk c.args.line.now) (grows_none g.H.Hub.alone by Never h),
+        spends_none _ by (AreViewings (Read (line_says c.args.settings.now.chunk c.args.line.now)) reply.Memory) h _ _ (none_given_up (Read (line_says c.args.settings.now.chunk c.args.line.now))),
+      );
     })

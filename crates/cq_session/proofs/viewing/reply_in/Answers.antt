@@ -1,4 +1,5 @@
-use Rattle.std.proofs.Common.{List, ℕ, sym, ap, ◌∙◌, subst}
+use Rattle.std.proofs.Common.{List, ℕ, [], ◌∷◌, sym, ap, ◌∙◌, subst, arith}
+use Rattle.std.specs.Result.{is_ok}
 use Rattle.std.proofs.lemmas.Result.{IfOk-weaker}
 use Rattle.cq_answer.specs.Reply.{IsReply}
 use Rattle.cq_ask.specs.Moves.{Moves}
@@ -10,6 +11,8 @@ use Rattle.cq_hub.specs.Hubs.{Never}
 use Rattle.cq_hub.proofs.Growing.{grows_none}
 use Rattle.cq_work.specs.Work.{IsWorkOf}
 use Rattle.cq_work.specs.declared.work.Work.{Work}
+use Rattle.cq_session.specs.Costs.{Viewing, counted, Costs}
+use Rattle.cq_session.proofs.Spending.{costs_one, costs_unread}
 use Rattle.cq_session.proofs.InView.{of_version, have_version}
 use Rattle.cq_session.proofs.viewing.reply_in.Goals as goal
 
@@ -48,3 +51,23 @@ returns-in-Ok-clause-moves g c =
 
 pub returns-in-Err-clause-moves : goal.returns-in-Err-clause-moves
 returns-in-Err-clause-moves g c = λ by h stands opened. record { after = h; grows = grows_none g.H.Hub.alone by Never h; stands = stands; opened = opened }
+
+pub returns-in-Ok-clause-costs : goal.returns-in-Ok-clause-costs
+returns-in-Ok-clause-costs g c = λ by h stands opened.
+    let set = c.args.settings.now in
+    let are = of_version (g.H.Hub.settings c.args.hub.now) set c.requires.hub_settings (g.H.Hub.callers c.args.hub.now) by h c.args.view.now c.args.query.now.project c.files-files.result.now c.conditions-conditions.result.now opened
+    (c.files-files.ensures ∙ ap (λ (l : Listed (Work g.row.L.Denot)). files_in l.projects c.args.query.now.project) c.deref.ensures)
+    (c.conditions-conditions.ensures ∙ ap (λ (l : Listed (Work g.row.L.Denot)). conditions_in l.projects c.args.query.now.project) c.deref-2.ensures) in
+    let same = c.pass-1.given.1 (sym c.answer.ensures.moved.same_pass) in
+    let n = λ (p : g.row.H-Pass.Denot). counted c.args.steps.now c.answer.new.steps (g.H.Hub.asked c.args.pass.now) (g.H.Hub.asked p) in
+    let vs : List Viewing = record { query = c.args.query.now; version = c.args.view.now.version; answered = is_ok c.answer.result } ∷ [] in
+    subst (λ (p : g.row.H-Pass.Denot). Costs (g.H.Hub.settings c.args.hub.now) (accepted h) vs (n p)) (sym same)
+    (subst (λ (s : Settings). Costs s (accepted h) vs (n c.answer.new.buckets.pass.now)) (sym c.requires.hub_settings)
+    (costs_one set (accepted h) c.args.query.now c.args.view.now.version _ _ _ _ c.answer.result
+    (λ most is. c.answer.ensures.reads most (record { changes = accepted h; are = are; most = is }))
+    (λ ks is. c.answer.ensures.asked ks (record { changes = accepted h; are = are; asked = is }))
+    (λ ks is. c.answer.ensures.asked_most ks (record { changes = accepted h; are = are; asked = is }))
+    (let fewer = c.answer.ensures.moved.no_fewer in omega (arith, fewer))))
+
+pub returns-in-Err-clause-costs : goal.returns-in-Err-clause-costs
+returns-in-Err-clause-costs g c = λ by h stands opened. costs_unread (g.H.Hub.settings c.args.hub.now) (accepted h) _ _ _ _

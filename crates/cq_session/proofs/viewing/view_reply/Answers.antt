@@ -1,15 +1,17 @@
-use Rattle.std.proofs.Common.{[], ◌∷◌, ◌++◌}
+use Rattle.std.proofs.Common.{Bool, [], ◌∷◌, ◌++◌, sym, ◌∙◌}
 use Rattle.cq_history.specs.declared.event.Event.TheVariants.{Open}
-use Rattle.std.proofs.lemmas.Result.{IfOk-weaker}
 use Rattle.cq_talk.proofs.Leading.{stands_mid}
 use Rattle.cq_work.specs.Work.{IsWorkOf}
-use Rattle.cq_session.proofs.Answered.{on_err}
+use Rattle.cq_session.specs.Costs.{counted, Costs}
+use Rattle.cq_session.specs.Viewing.{InView}
+use Rattle.cq_session.proofs.Answered.{ok_with, err_with}
+use Rattle.cq_session.proofs.Spending.{costs_same}
 use Rattle.cq_session.proofs.OneView.{not_advanced, still_closed, not_viewed, is_open, viewing, was_shown, was_given_up}
 use Rattle.cq_session.proofs.viewing.view_reply.Goals as goal
 
 pub returns-in-Err-clause-refused : goal.returns-in-Err-clause-refused
 returns-in-Err-clause-refused g c = λ by h stands closed always.
-    not_advanced g.H.Hub.Stands (g.H.Hub.settings c.args.hub.now) (g.H.Hub.callers c.args.hub.now) g.H.Hub.alone c.args.hub.now (IsWorkOf {L = g.row.L.Denot} (g.H.Hub.settings c.args.hub.now)) (λ p c h s. g.met.H.Hub.lawful _ p c h s) (λ p c h s. g.met.H.Hub.caller _ p c h s) by c.args.to h _ _ (c.in-Err.ensures.published by h stands) closed
+    not_advanced g.H.Hub.Stands (g.H.Hub.settings c.args.hub.now) (g.H.Hub.callers c.args.hub.now) g.H.Hub.alone c.args.hub.now (IsWorkOf {L = g.row.L.Denot} (g.H.Hub.settings c.args.hub.now)) (λ p c h s. g.met.H.Hub.lawful _ p c h s) (λ p c h s. g.met.H.Hub.caller _ p c h s) by c.args.to h _ _ (c.in-Err.ensures.published by h stands) closed c.args.query.now _ _ _ c.in-Err.ensures.asked
 
 pub open_view-requires : goal.open_view-requires
 open_view-requires g c =
@@ -28,7 +30,7 @@ pub returns-in-Err-open_view-clause-refused : goal.returns-in-Err-open_view-clau
 returns-in-Err-open_view-clause-refused g c = λ by h stands closed always.
     let advanced = c.in-Ok.ensures.published by h stands in
     let opened = c.in-Err-open_view.ensures.refused by advanced.mid (stands_mid _ _ (g.H.Hub.callers c.args.hub.now) by _ _ _ h _ advanced) in
-    not_viewed g.H.Hub.Stands (g.H.Hub.settings c.args.hub.now) (g.H.Hub.callers c.args.hub.now) g.H.Hub.alone c.args.hub.now (IsWorkOf {L = g.row.L.Denot} (g.H.Hub.settings c.args.hub.now)) (λ p c h s. g.met.H.Hub.lawful _ p c h s) (λ p c h s. g.met.H.Hub.caller _ p c h s) by c.args.to h c.in-Ok._published _ advanced _ _ opened closed
+    not_viewed g.H.Hub.Stands (g.H.Hub.settings c.args.hub.now) (g.H.Hub.callers c.args.hub.now) g.H.Hub.alone c.args.hub.now (IsWorkOf {L = g.row.L.Denot} (g.H.Hub.settings c.args.hub.now)) (λ p c h s. g.met.H.Hub.lawful _ p c h s) (λ p c h s. g.met.H.Hub.caller _ p c h s) by c.args.to h c.in-Ok._published _ advanced _ _ opened closed c.args.query.now _ _ _ (c.in-Err-open_view.ensures.asked ∙ c.in-Ok.ensures.asked)
 
 pub reply_in-reply-requires-clause-viewing : goal.reply_in-reply-requires-clause-viewing
 reply_in-reply-requires-clause-viewing g c =
@@ -51,17 +53,21 @@ close_view-requires g c =
     record { viewing = (r.0, moved.after, moved.stands, viewing g.H.Hub.Stands (g.H.Hub.settings c.args.hub.now) (g.H.Hub.callers c.args.hub.now) g.H.Hub.alone c.args.hub.now (IsWorkOf {L = g.row.L.Denot} (g.H.Hub.settings c.args.hub.now)) (λ p c h s. g.met.H.Hub.lawful _ p c h s) (λ p c h s. g.met.H.Hub.caller _ p c h s) r.0 c.args.to r.1 c.in-Ok._published _ advanced c.in-Ok-open_view.view _ opened _ moved) }
 
 pub returns-in-Ok-open_view-clause-shown : goal.returns-in-Ok-open_view-clause-shown
-returns-in-Ok-open_view-clause-shown g c = IfOk-weaker c.reply_in-reply.result _ _ (λ reply is by h stands closed always.
+returns-in-Ok-open_view-clause-shown g c = ok_with c.reply_in-reply.result _ _ (λ (answered : Bool). InView g.H.Hub.Stands (g.H.Hub.callers c.args.hub.now) (IsWorkOf {L = g.row.L.Denot} (g.H.Hub.settings c.args.hub.now)) c.args.hub.now c.in-Ok-open_view.view c.open_view.new.pass
+    (λ changes. Costs (g.H.Hub.settings c.args.hub.now) changes (record { query = c.args.query.now; version = c.in-Ok-open_view.view.version; answered = answered } ∷ []) (counted c.args.steps.now c.reply_in-reply.new.steps (g.H.Hub.asked c.open_view.new.pass) (g.H.Hub.asked c.reply_in-reply.new.pass)))) (λ reply is costs by h stands closed always.
     let advanced = c.in-Ok.ensures.published by h stands in
     let opened = c.in-Ok-open_view.ensures.opened by advanced.mid (stands_mid _ _ (g.H.Hub.callers c.args.hub.now) by _ _ _ h _ advanced) in
     let there = is_open g.H.Hub.Stands (g.H.Hub.settings c.args.hub.now) (g.H.Hub.callers c.args.hub.now) g.H.Hub.alone c.args.hub.now (IsWorkOf {L = g.row.L.Denot} (g.H.Hub.settings c.args.hub.now)) (λ p c h s. g.met.H.Hub.lawful _ p c h s) (λ p c h s. g.met.H.Hub.caller _ p c h s) by c.args.to h c.in-Ok._published _ advanced c.in-Ok-open_view.view _ opened in
     let moved = c.reply_in-reply.ensures.moves by (opened.mid ++ Open by c.in-Ok-open_view.view.version ∷ []) opened.stands there in
-    was_shown g.H.Hub.Stands (g.H.Hub.settings c.args.hub.now) (g.H.Hub.callers c.args.hub.now) g.H.Hub.alone c.args.hub.now (IsWorkOf {L = g.row.L.Denot} (g.H.Hub.settings c.args.hub.now)) (λ p c h s. g.met.H.Hub.lawful _ p c h s) (λ p c h s. g.met.H.Hub.caller _ p c h s) by c.args.to h c.in-Ok._published _ advanced c.in-Ok-open_view.view _ opened _ moved _ _ (c.close_view.ensures.shut by moved.after moved.stands) c.args.query.now reply (is by (opened.mid ++ Open by c.in-Ok-open_view.view.version ∷ []) opened.stands there)) c.reply_in-reply.ensures.reply
+    was_shown g.H.Hub.Stands (g.H.Hub.settings c.args.hub.now) (g.H.Hub.callers c.args.hub.now) g.H.Hub.alone c.args.hub.now (IsWorkOf {L = g.row.L.Denot} (g.H.Hub.settings c.args.hub.now)) (λ p c h s. g.met.H.Hub.lawful _ p c h s) (λ p c h s. g.met.H.Hub.caller _ p c h s) by c.args.to h c.in-Ok._published _ advanced c.in-Ok-open_view.view _ opened _ moved _ _ (c.close_view.ensures.shut by moved.after moved.stands) c.args.query.now reply _ (is by (opened.mid ++ Open by c.in-Ok-open_view.view.version ∷ []) opened.stands there)
+    (costs_same (g.H.Hub.settings c.args.hub.now) _ _ _ _ _ _ _ _ (sym (c.in-Ok-open_view.ensures.asked ∙ c.in-Ok.ensures.asked)) c.close_view.ensures.asked (costs by (opened.mid ++ Open by c.in-Ok-open_view.view.version ∷ []) opened.stands there))) c.reply_in-reply.ensures.reply c.reply_in-reply.ensures.costs
 
 pub returns-in-Ok-open_view-clause-refused : goal.returns-in-Ok-open_view-clause-refused
-returns-in-Ok-open_view-clause-refused g c = on_err c.reply_in-reply.result (λ by h stands closed always.
+returns-in-Ok-open_view-clause-refused g c = err_with c.reply_in-reply.result _ (λ (answered : Bool). InView g.H.Hub.Stands (g.H.Hub.callers c.args.hub.now) (IsWorkOf {L = g.row.L.Denot} (g.H.Hub.settings c.args.hub.now)) c.args.hub.now c.in-Ok-open_view.view c.open_view.new.pass
+    (λ changes. Costs (g.H.Hub.settings c.args.hub.now) changes (record { query = c.args.query.now; version = c.in-Ok-open_view.view.version; answered = answered } ∷ []) (counted c.args.steps.now c.reply_in-reply.new.steps (g.H.Hub.asked c.open_view.new.pass) (g.H.Hub.asked c.reply_in-reply.new.pass)))) (λ costs by h stands closed always.
     let advanced = c.in-Ok.ensures.published by h stands in
     let opened = c.in-Ok-open_view.ensures.opened by advanced.mid (stands_mid _ _ (g.H.Hub.callers c.args.hub.now) by _ _ _ h _ advanced) in
     let there = is_open g.H.Hub.Stands (g.H.Hub.settings c.args.hub.now) (g.H.Hub.callers c.args.hub.now) g.H.Hub.alone c.args.hub.now (IsWorkOf {L = g.row.L.Denot} (g.H.Hub.settings c.args.hub.now)) (λ p c h s. g.met.H.Hub.lawful _ p c h s) (λ p c h s. g.met.H.Hub.caller _ p c h s) by c.args.to h c.in-Ok._published _ advanced c.in-Ok-open_view.view _ opened in
     let moved = c.reply_in-reply.ensures.moves by (opened.mid ++ Open by c.in-Ok-open_view.view.version ∷ []) opened.stands there in
-    was_given_up g.H.Hub.Stands (g.H.Hub.settings c.args.hub.now) (g.H.Hub.callers c.args.hub.now) g.H.Hub.alone c.args.hub.now (IsWorkOf {L = g.row.L.Denot} (g.H.Hub.settings c.args.hub.now)) (λ p c h s. g.met.H.Hub.lawful _ p c h s) (λ p c h s. g.met.H.Hub.caller _ p c h s) by c.args.to h c.in-Ok._published _ advanced c.in-Ok-open_view.view _ opened _ moved _ _ (c.close_view.ensures.shut by moved.after moved.stands))
+    was_given_up g.H.Hub.Stands (g.H.Hub.settings c.args.hub.now) (g.H.Hub.callers c.args.hub.now) g.H.Hub.alone c.args.hub.now (IsWorkOf {L = g.row.L.Denot} (g.H.Hub.settings c.args.hub.now)) (λ p c h s. g.met.H.Hub.lawful _ p c h s) (λ p c h s. g.met.H.Hub.caller _ p c h s) by c.args.to h c.in-Ok._published _ advanced c.in-Ok-open_view.view _ opened _ moved _ _ (c.close_view.ensures.shut by moved.after moved.stands) c.args.query.now _
+    (costs_same (g.H.Hub.settings c.args.hub.now) _ _ _ _ _ _ _ _ (sym (c.in-Ok-open_view.ensures.asked ∙ c.in-Ok.ensures.asked)) c.close_view.ensures.asked (costs by (opened.mid ++ Open by c.in-Ok-open_view.view.version ∷ []) opened.stands there))) c.reply_in-reply.ensures.costs

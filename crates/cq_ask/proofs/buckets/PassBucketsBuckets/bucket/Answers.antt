@@ -1,4 +1,4 @@
-use Rattle.std.proofs.Common.{refl, sym, subst}
+use Rattle.std.proofs.Common.{refl, sym, subst, arith}
 use Rattle.cq_clones.specs.Windows.{IsBucket}
 use Rattle.cq_ask.specs.Projects.{numbers_in, keys_in_files, shown}
 use Rattle.cq_ask.proofs.PassReads.{read_later, ready_again, open_again, open_files}
@@ -19,6 +19,7 @@ returns-in_err-entries-clause-moved g c =
       same_view = refl;
       same_pass = refl;
       moves = λ by h stands opened. read_later g.H.Hub.Stands g.H.Hub.settings g.H.Hub.callers g.H.Hub.alone g.W.Indexed.IsWorkOf (λ hub pass n l s. g.met.H.Hub.lawful hub pass n l s) b.hub.now b.view.now b.pass.now c.read_bucket.new.pass by h _ stands opened (c.read_bucket.ensures.reads by h stands);
+      no_fewer = let e = c.read_bucket.ensures.asked in omega (arith, e);
     }
 
 pub returns-clause-ready : goal.returns-clause-ready
@@ -35,6 +36,7 @@ returns-clause-moved g c =
       same_view = refl;
       same_pass = refl;
       moves = λ by h stands opened. read_later g.H.Hub.Stands g.H.Hub.settings g.H.Hub.callers g.H.Hub.alone g.W.Indexed.IsWorkOf (λ hub pass n l s. g.met.H.Hub.lawful hub pass n l s) b.hub.now b.view.now b.pass.now c.read_bucket.new.pass by h _ stands opened (c.read_bucket.ensures.reads by h stands);
+      no_fewer = let e = c.read_bucket.ensures.asked in omega (arith, e);
     }
 
 pub returns-clause-bucket : goal.returns-clause-bucket
