@@ -3,10 +3,11 @@ use Rattle.std.specs.Prelude.{◌≡◌, ◌==◌, ℕ, List, [], map, Option, c
 use Rattle.cq_base.specs.declared.settings.Settings.{Settings}
 use Rattle.cq_history.specs.declared.event.Event.{Event}
 use Rattle.cq_reply.specs.declared.reply.Reply.{Reply}
+use Rattle.cq_session.specs.Costs.{counted}
 use Rattle.cq_session.specs.declared.serving.End.{End}
 use Rattle.cq_session.specs.declared.serving.End.TheVariants as end
 use Rattle.cq_session.specs.Serving.{Serves, HasEndCause}
-use Rattle.cq_session.specs.Turn.{IsTalk}
+use Rattle.cq_session.specs.Turn.{CountedTalk}
 use Rattle.cq_talk.specs.Alone.{IsAloneUpToMemory, no_walk}
 use Rattle.cq_talk.specs.Beside.{IsBeside, nothing_known}
 use Rattle.cq_talk.specs.Said.{said}
@@ -26,18 +27,19 @@ line_of status =
     else if status == 4 then codes "cqd: out of memory"
     else codes "cqd: byte limit"
 
--- One reply for each line, from nothing on, by a server to which nobody else speaks: by a history of its own events alone;
--- up to the first that tells want of memory, those of a server alone; and throughout, those that a server may give beside
--- which works are made.
-pub record AreAlone (settings : Settings) (lines : List (List ℕ)) (replies : List Reply) : Type 0 where
+-- One reply for each line, from nothing on, by a server to which nobody else speaks: by a history of its own events alone,
+-- where so many tokens were read before and now, and an index was asked so often; up to the first that tells want of memory,
+-- those of a server alone; and throughout, those that a server may give beside which works are made.
+pub record AreAlone (settings : Settings) (reads reads_now : ℕ) (lines : List (List ℕ)) (replies : List Reply) : Type 0 where
   pub after : List Event
-  pub talk : IsTalk settings 1 (Unit {0}) 0 [] after lines replies
+  pub asked : ℕ
+  pub talk : CountedTalk settings 1 (Unit {0}) 0 [] (counted reads reads_now 0 asked) after lines replies
   pub alone : IsAloneUpToMemory settings no_walk (map (said settings.chunk) lines) replies
   pub beside : IsBeside settings nothing_known (map (said settings.chunk) lines) replies
 
 -- a whole session, which begins with nothing accepted, and whose end gives the status
-pub record Runs (settings : Settings) (rest rest_now before written_now : Option (List ℕ)) (source source_now sink sink_now status : ℕ) : Type 0 where
+pub record Runs (settings : Settings) (reads reads_now : ℕ) (rest rest_now before written_now : Option (List ℕ)) (source source_now sink sink_now status : ℕ) : Type 0 where
   pub by : End
   pub status_is : status ≡ status_of by
-  pub serves : Serves (AreAlone settings) settings.byte_limit rest rest_now before written_now by
+  pub serves : Serves (AreAlone settings reads reads_now) settings.byte_limit rest rest_now before written_now by
   pub cause : HasEndCause source source_now sink sink_now by

@@ -44,7 +44,7 @@ fn serve<S: Source, K: Sink, L: Ledger>(
     ensures write_fault { result ≡ 3 → Rose (K.faults sink.old) (K.faults sink.new) }
     ensures finished { result ≡ 0 → (S.faults source.new ≡ S.faults source.old) × (K.faults sink.new ≡ K.faults sink.old) }
     ensures spent { result ≡ 6 → (S.faults source.new ≡ S.faults source.old) × (K.faults sink.new ≡ K.faults sink.old) }
-    ensures runs { result ≢ 4 → Runs settings.now (S.rest source.old) (S.rest source.new) (K.written sink.old) (K.written sink.new)
+    ensures runs { result ≢ 4 → Runs settings.now steps.old steps.new (S.rest source.old) (S.rest source.new) (K.written sink.old) (K.written sink.new)
         (S.faults source.old) (S.faults source.new) (K.faults sink.old) (K.faults sink.new) result }
 {
     let of = *settings;
@@ -97,7 +97,7 @@ pub fn top<S: Source, K: Sink, D: Doors, G: Gate, L: Ledger>(
     ensures doors { doors.new ≡ doors.old }
 
     // Every status but 1 and 4 is that of a session over all lines of the source.
-    ensures runs { (run : Run) → run_of words.now ≡ Some run → result ≢ 4 → Runs run.settings (S.rest source.old) (S.rest source.new) (K.written sink.old) (K.written sink.new)
+    ensures runs { (run : Run) → run_of words.now ≡ Some run → result ≢ 4 → Runs run.settings steps.old steps.new (S.rest source.old) (S.rest source.new) (K.written sink.old) (K.written sink.new)
         (S.faults source.old) (S.faults source.new) (K.faults sink.old) (K.faults sink.new) result }
 {
     if !is_run(words) {

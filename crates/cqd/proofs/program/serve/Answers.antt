@@ -4,7 +4,8 @@ use Rattle.cq_history.specs.Lawful.{Lawful}
 use Rattle.cq_hub.specs.Solos.{solo_lawful}
 use Rattle.cq_lines.specs.Held.{Held}
 use Rattle.cq_session.specs.Serving.{Serves}
-use Rattle.cq_session.specs.Turn.{IsTalk}
+use Rattle.cq_session.specs.Costs.{counted}
+use Rattle.cq_session.specs.Turn.{CountedTalk}
 use Rattle.cq_talk.specs.Said.{said}
 use Rattle.cqd.specs.Top.{AreAlone}
 use Rattle.cqd.proofs.Served.{serves_as}
@@ -21,13 +22,14 @@ returns-in-Ok-new-clause-runs g c = λ other.
     record {
       by = c.session-end.result;
       status_is = c.status_of.ensures;
-      serves = subst (λ (limit : ℕ). Serves (AreAlone c.args.settings.now) limit (g.S.Source.rest c.args.source.now) (g.S.Source.rest c.session-end.new.source) (g.K.Sink.written c.args.sink.now) (g.K.Sink.written c.session-end.new.sink) c.session-end.result) (ap (λ (held : Held). held.limit) c.in-Ok-new.ensures)
-          (serves_as (IsTalk c.args.settings.now 1 (Unit {0}) 0 [] led.after) (AreAlone c.args.settings.now)
-          (λ lines replies talk. record {
+      serves = subst (λ (limit : ℕ). Serves (AreAlone c.args.settings.now c.args.steps.now c.session-end.new.steps) limit (g.S.Source.rest c.args.source.now) (g.S.Source.rest c.session-end.new.source) (g.K.Sink.written c.args.sink.now) (g.K.Sink.written c.session-end.new.sink) c.session-end.result) (ap (λ (held : Held). held.limit) c.in-Ok-new.ensures)
+          (serves_as (CountedTalk c.args.settings.now 1 (Unit {0}) 0 [] (counted c.args.steps.now c.session-end.new.steps c.in-Ok-made.pass.asked c.session-end.new.pass.asked) led.after) (AreAlone c.args.settings.now c.args.steps.now c.session-end.new.steps)
+          (λ lines replies counts. record {
             after = led.after;
-            talk = talk;
-            alone = c.talks_alone.ensures c.args.settings.now 1 0 led.after (map (said c.args.settings.now.chunk) lines) replies talk law;
-            beside = c.talks_beside.ensures.alone c.args.settings.now 1 0 led.after (map (said c.args.settings.now.chunk) lines) replies talk law;
+            asked = c.session-end.new.pass.asked;
+            talk = subst (λ (asked : ℕ). CountedTalk c.args.settings.now 1 (Unit {0}) 0 [] (counted c.args.steps.now c.session-end.new.steps asked c.session-end.new.pass.asked) led.after lines replies) c.in-Ok-made.ensures.asked counts;
+            alone = c.talks_alone.ensures c.args.settings.now 1 0 led.after (map (said c.args.settings.now.chunk) lines) replies counts.talk law;
+            beside = c.talks_beside.ensures.alone c.args.settings.now 1 0 led.after (map (said c.args.settings.now.chunk) lines) replies counts.talk law;
           }) _ _ _ _ _ _ led.holds);
       cause = c.session-end.ensures.cause;
     }
