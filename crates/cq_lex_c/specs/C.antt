@@ -32,8 +32,8 @@ abbrev pub reserved : Row
 reserved = record { spell = Token Word; set = IsAmong keywords }
 
 -- identifiers and keywords
-abbrev pub names : List Row
-names = identifiers ∷ reserved ∷ []
+abbrev pub name_rows : List Row
+name_rows = identifiers ∷ reserved ∷ []
 
 abbrev pub blanks : Row
 blanks = record { spell = Blank; set = IsAmong blank_characters }

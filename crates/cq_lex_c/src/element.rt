@@ -4,7 +4,7 @@ ghost use Rattle.cq_munch.specs.Language.{Takes};
 ghost use Rattle.cq_munch.specs.Longest.{LongestAt};
 ghost use Rattle.cq_munch.specs.Table.{InTable, table};
 ghost use Rattle.cq_munch.specs.declared.element.Spell.TheVariants.{Token as token};
-ghost use Rattle.cq_lex_c.specs.C.{names, others, unmarked, with_comments};
+ghost use Rattle.cq_lex_c.specs.C.{name_rows, others, unmarked, with_comments};
 ghost use Rattle.cq_lex_c.specs.Fronts.{front_of, rows_of};
 ghost use Rattle.cq_lex_c.specs.Headers.{IsHeaderAt, has_header};
 ghost use Rattle.cq_lex_c.specs.Identifiers.{IsIdentifier};
@@ -60,7 +60,7 @@ fn front_of(ch: char) -> Front
 
 fn class_of(name: &[Unit]) -> Class
     requires { IsIdentifier (characters name.now) }
-    ensures { InTable names (token result) (characters name.now) }
+    ensures { InTable name_rows (token result) (characters name.now) }
 {
     if is_keyword(name) {
         Class::Word
@@ -72,7 +72,7 @@ fn class_of(name: &[Unit]) -> Class
 // The identifier or keyword at the front.
 fn name(units: &[Unit], mode: u8) -> Option<Found>
     requires { length units.now < 2 ^ 32 }
-    ensures { (at : ℕ) → Takes (table names) at mode (characters units.now) result }
+    ensures { (at : ℕ) → Takes (table name_rows) at mode (characters units.now) result }
 {
     match longest_identifier(units) {
         None => None,

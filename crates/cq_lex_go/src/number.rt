@@ -8,7 +8,7 @@ ghost use Rattle.cq_munch.specs.Behind.{SpellsAny};
 use cq_munch::{Machine, Unit, longest_spelling};
 
 /// What the rows of numbers tell apart.
-#[derive(Clone, Copy, Debug, PartialEq, Eq)]
+#[derive(Clone, Copy)]
 enum Kind {
     Zero,
     One,
@@ -28,7 +28,7 @@ enum Kind {
 }
 
 /// How far a number has come.
-#[derive(Clone, Copy, Debug, PartialEq, Eq)]
+#[derive(Clone, Copy)]
 enum Number {
     Start,
     Zero,

@@ -6,7 +6,7 @@ ghost use Rattle.cq_lex_go.specs.OperatorStates.{glyph_of, next_of, may_end, ope
 use cq_munch::{Machine, Unit, longest_spelling};
 
 /// What operators and punctuation tell apart.
-#[derive(Clone, Copy, Debug, PartialEq, Eq)]
+#[derive(Clone, Copy)]
 enum Glyph {
     Plus,
     Minus,
@@ -25,7 +25,7 @@ enum Glyph {
 }
 
 /// How far an operator has come.
-#[derive(Clone, Copy, Debug, PartialEq, Eq)]
+#[derive(Clone, Copy)]
 enum Operator {
     Start,
     Plus,

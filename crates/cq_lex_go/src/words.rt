@@ -4,7 +4,7 @@ ghost use Rattle.cq_munch.specs.Characters.{characters};
 ghost use Rattle.cq_lex_go.specs.NameStates.{name_rest};
 ghost use Rattle.cq_lex_go.specs.Words.{IsName, is_letter, is_letter_or_digit, is_letter_category, is_digit_category, keywords};
 
-use cq_munch::{Machine, Unit, ascii_bytes, longest_spelling};
+use cq_munch::{Machine, Unit, ascii_bytes, is_listed, longest_spelling};
 use unicode::properties::GeneralCategory;
 
 // `fallthrough` has as many letters.
@@ -67,38 +67,27 @@ pub(crate) fn longest_name(units: &[Unit]) -> Option<usize>
     longest_spelling(Name::Before, units)
 }
 
+// The 25 keywords by their length.
+const RESERVED: [&[&[u8]]; 12] = [
+    &[],
+    &[],
+    &[b"go", b"if"],
+    &[b"for", b"map", b"var"],
+    &[b"case", b"chan", b"else", b"func", b"goto", b"type"],
+    &[b"break", b"const", b"defer", b"range"],
+    &[b"import", b"return", b"select", b"struct", b"switch"],
+    &[b"default", b"package"],
+    &[b"continue"],
+    &[b"interface"],
+    &[],
+    &[b"fallthrough"],
+];
+
 // Whether it is one of the 25 keywords.
 fn is_reserved(word: &[u8]) -> bool
     ensures { IsTrue result ↔ IsAmong keywords word.now }
 {
-    matches!(
-        word,
-        b"break"
-            | b"case"
-            | b"chan"
-            | b"const"
-            | b"continue"
-            | b"default"
-            | b"defer"
-            | b"else"
-            | b"fallthrough"
-            | b"for"
-            | b"func"
-            | b"go"
-            | b"goto"
-            | b"if"
-            | b"import"
-            | b"interface"
-            | b"map"
-            | b"package"
-            | b"range"
-            | b"return"
-            | b"select"
-            | b"struct"
-            | b"switch"
-            | b"type"
-            | b"var"
-    )
+    is_listed(&RESERVED, word)
 }
 
 /// Whether the name is a keyword.

@@ -2,7 +2,6 @@
 -- state is tested by computing.
 use Rattle.std.proofs.Common.{◌≡◌, ◌⊎◌, ℕ, zero, suc, ◌<◌, ◌≤◌, Option, Some, None, Bool, true, false, ◌&&◌, ◌||◌, ◌==◌, not, nat_lt, nat_le, All, List, [], ◌∷◌, ◌↔◌, length, get_or, drop, refl, sym, subst, ap, ap₂, ◌∙◌, inl, inr, ⊎_elim, arith}
 use Rattle.std.proofs.lemmas.Bool.{ltb-true, leb-true, eqb-true, eq-eqb, ne_eqb, cases_lt, and_parts, or_cases}
-use Rattle.std.proofs.lemmas.Slice.Eq.{text_from_reads, HasBytesAt}
 use Rattle.std.specs.Bool.{beq}
 use Rattle.std.specs.List.{list_all, AllByRecursion}
 use Rattle.std.specs.Prelude.{IsTrue}
@@ -215,9 +214,3 @@ short_word most w = nat_le (length w) most && list_all (λ c. nat_lt c 128) w
 pub among_short : (ws : List (List ℕ)) (most : ℕ) → list_all (short_word most) ws ≡ true → (s : List ℕ) → IsAmong ws s → (length s ≤ most) × All (λ c. c < 128) s
 among_short ws most all s among =
     let both = and_parts (nat_le (length s) most) _ (among_passes ws (short_word most) s all among) in (leb-true (length s) most both.0, low_at s both.1)
-
--- bytes that were read one by one are a word of the list
-pub word_read : (ws : List (List ℕ)) (n : ℕ) (s : List ℕ) → n < length ws → length s ≡ length (get_or ws n []) → HasBytesAt s 0 (get_or ws n []) → IsAmong ws s
-word_read [] n s inside same reads = absurd (omega arith)
-word_read (w ∷ ws) zero s inside same reads = inl (text_from_reads s w same reads)
-word_read (w ∷ ws) (suc n) s inside same reads = inr (word_read ws n s (omega arith) same reads)
