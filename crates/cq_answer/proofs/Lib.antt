@@ -5,3 +5,4 @@ pub mod Inside
 pub mod Rows
 pub mod Listable
 pub mod OneFile
+pub mod Told

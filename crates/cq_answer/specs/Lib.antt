@@ -6,3 +6,4 @@ pub mod Questions
 pub mod Works
 pub mod Versions
 pub mod Trial
+pub mod Refusals

@@ -10,10 +10,12 @@ mod listing;
 mod measuring;
 mod part;
 mod placing;
+mod refusing;
 mod showing;
 
 pub use answering::answer;
 pub use part::Part;
+pub use refusing::{cause_told, refused_as};
 
 #[cfg(test)]
 mod tests;

@@ -6,7 +6,7 @@ mod buckets;
 mod project;
 
 pub use buckets::PassBuckets;
-pub use project::changes_of;
+pub use project::{changes_of, keep};
 
 #[cfg(test)]
 mod tests;

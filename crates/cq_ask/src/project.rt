@@ -30,7 +30,7 @@ fn change_of<W>(file: &Arc<Held<W>, Global>) -> u64
 }
 
 /// Only the entries of these changes stay.
-pub(crate) fn keep(entries: &mut Vec<Entry>, changes: &[u64])
+pub fn keep(entries: &mut Vec<Entry>, changes: &[u64])
     requires { IsSorted nat_cmp changes.now }
     ensures { entries.new.items ≡ filter (λ e. list_any (nat_eq e.change) changes.now) entries.old.items }
 {

@@ -1,10 +1,12 @@
 -- What a shard of a core answers for an open view.
-use Rattle.std.proofs.Common.{◌≡◌, ℕ, ◌<◌, ◌≤◌, List, length, map, take, get_or, Some, sym, ap, ◌∙◌, subst, subst₂, arith}
+use Rattle.std.proofs.Common.{◌≡◌, ℕ, ◌<◌, ◌≤◌, List, [], ◌∷◌, inl, inr, length, map, take, get_or, Some, sym, ap, ◌∙◌, subst, subst₂, arith}
 use Rattle.std.specs.Prelude.{Contains, All}
 use Rattle.std.specs.Arc.{arc_value}
 use Rattle.std.proofs.lemmas.List.{length-map, get_or-map}
 use Rattle.cq_base.specs.declared.lang.Lang.{Lang}
 use Rattle.cq_base.specs.declared.entry.Entry.{Entry}
+use Rattle.cq_history.specs.Files.{File, Source, files_at}
+use Rattle.cq_history.specs.Standing.{Has}
 use Rattle.cq_history.specs.State.{State, changes_in, view_of}
 use Rattle.cq_history.specs.Core.{Core, IsReached}
 use Rattle.cq_history.proofs.Bounds.{InOrder, in_order}
@@ -13,12 +15,30 @@ use Rattle.cq_shard.specs.Shard.{Contents}
 use Rattle.cq_board.specs.Entries.{AreEntriesAt, ShardsHaveTheEntries}
 use Rattle.cq_board.specs.Stands as board
 use Rattle.cq_board.specs.Listings.{AreLive}
+use Rattle.cq_board.specs.Related.{AreSameFiles}
 use Rattle.cq_board.specs.declared.listing.View.{View}
 use Rattle.cq_clones.specs.Lists.{AreAllInOrder}
 use Rattle.cq_clones.specs.Windows.{EntryBefore}
 use Rattle.cq_core.specs.Cores.{StandsFor, applied_of, floor_of}
+use Rattle.cq_core.specs.Readings.{AreWorked}
 use Rattle.cq_core.specs.Views.{IsView}
 use Rattle.cq_core.proofs.Stepping.{core, accepted_version}
+
+same_version : (m n : ℕ) → Some m ≡ Some n → m ≡ n
+same_version m n e = cc e
+
+module _ {W : Type 0} (IsWork : Lang → List ℕ → W → Type 0) where
+  file_work : (xs : List Source) (ys : List (File W)) (f : Source) → AreSameFiles IsWork xs ys → Has xs f → (work : W) × IsWork f.lang f.body work
+  file_work [] ys f same there = absurd there
+  file_work (x ∷ xs) [] f same there = absurd same
+  file_work (x ∷ xs) (y ∷ ys) f same (inl here) = (y.body, subst (λ (g : Source). IsWork g.lang g.body y.body) here same.0.body)
+  file_work (x ∷ xs) (y ∷ ys) f same (inr later) = file_work xs ys f same.1 later
+
+  -- the files of an open view have their works
+  pub files_worked : (b : board.BoardState) (shards : List Contents) (by : ℕ) (v : View W) → IsView IsWork b.state v × (view_of b.state by ≡ Some v.version) → AreWorked IsWork (core b shards) by
+  files_worked b shards by v view version project file opened there =
+      file_work (files_at (changes_in b.state) v.version project) _ file (view.0.files project)
+      (subst (λ n. Has (files_at (changes_in b.state) n project) file) (same_version version v.version (sym opened ∙ view.1)) there)
 
 -- what a shard answers for an open view
 module _ {W : Type 0} (IsWork : Lang → List ℕ → W → Type 0) (IsWindow : Lang → List ℕ → ℕ → ℕ → Type 0) (b : board.BoardState) (shards : List Contents) (k : Core) (is : StandsFor IsWindow k (core b shards)) (by shard key : ℕ) (c : Contents) (there : shard < b.settings.shards) (read : c ≡ get_or shards shard c)
@@ -68,6 +88,3 @@ module _ {W : Type 0} (IsWork : Lang → List ℕ → W → Type 0) (IsWindow : 
   pub entries_read : (version : ℕ) → view_of b.state by ≡ Some version → AreEntriesAt IsWindow b.settings.shards shard (changes_in b.state) version key bucket
   entries_read version opened =
       subst (λ n. AreEntriesAt IsWindow b.settings.shards shard (changes_in b.state) n key bucket) (same_version v.version version (sym view.1 ∙ opened)) entries_read_here
-    where
-      same_version : (m n : ℕ) → Some m ≡ Some n → m ≡ n
-      same_version m n e = cc e

@@ -3,6 +3,8 @@ use Rattle.std.specs.Prelude.{◌≡◌, ℕ, List, Some}
 use Rattle.cq_base.specs.declared.lang.Lang.{Lang}
 use Rattle.cq_base.specs.declared.settings.Settings.{Settings}
 use Rattle.cq_base.specs.declared.entry.Entry.{Entry}
+use Rattle.cq_history.specs.Files.{Source, files_at}
+use Rattle.cq_history.specs.Standing.{Has}
 use Rattle.cq_history.specs.State.{changes_in, view_of}
 use Rattle.cq_shard.specs.Shard.{HasWindow}
 use Rattle.cq_board.specs.Entries.{AreEntriesAt}
@@ -12,3 +14,8 @@ use Rattle.cq_core.specs.Cores.{CoreState}
 abbrev pub AreRead : {W : Type 0} → (W → List ℕ) → (Settings → Lang → List ℕ → W → Type 0) → CoreState → ℕ → ℕ → ℕ → List Entry → Type 0
 AreRead keys_in IsWorkOf c by shard key entries =
     (version : ℕ) → view_of c.board.state by ≡ Some version → AreEntriesAt (HasWindow keys_in IsWorkOf c.board.settings) c.board.settings.shards shard (changes_in c.board.state) version key entries
+
+-- each file of the caller's open version has its work
+abbrev pub AreWorked : {W : Type 0} → (Lang → List ℕ → W → Type 0) → CoreState → ℕ → Type 0
+AreWorked {W} IsWork c by =
+    (version : ℕ) (project : List ℕ) (file : Source) → view_of c.board.state by ≡ Some version → Has (files_at (changes_in c.board.state) version project) file → (work : W) × IsWork file.lang file.body work

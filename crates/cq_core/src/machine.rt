@@ -14,7 +14,7 @@ ghost use Rattle.cq_board.specs.Answers.{IsJob};
 ghost use Rattle.cq_board.specs.Sound.{HasSoundText, HaveFewConditions};
 ghost use Rattle.cq_core.specs.Cores.{CoreState, StandsFor, IsCaller, IsShard, AreFresh};
 ghost use Rattle.cq_core.specs.Steps.{IsNamed, IsSoundStep, HasWork, IsOutcome, DoesStep, Counts, CountsSome};
-ghost use Rattle.cq_core.specs.Readings.{AreRead};
+ghost use Rattle.cq_core.specs.Readings.{AreRead, AreWorked};
 ghost use Rattle.cq_core.specs.Views.{IsView};
 ghost use Rattle.cq_core.specs.declared.step.Step.TheVariants as step;
 
@@ -105,6 +105,7 @@ impl<W: Indexed> Core<W> {
         requires shard { IsShard self.now shard }
         ensures none { IfOk result (λ entries. IsNone entries ↔ IsNone (view_of self.now.board.state by)) }
         ensures entries { IfOk result (λ entries. IfSome entries (λ es. AreRead W.keys_in W.IsWorkOf self.now by shard key es.items)) }
+        ensures worked { IfOk result (λ entries. IfSome entries (λ _. AreWorked (W.IsWorkOf self.now.board.settings) self.now by)) }
     {
         shards_have_the_entries::<W>();
         match &self.views[by as usize] {

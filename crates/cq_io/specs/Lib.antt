@@ -1,4 +1,5 @@
 pub mod Causes
+pub mod Sending
 pub mod Memory
 pub mod Doors
 pub mod Standard

@@ -14,7 +14,7 @@ mod standard;
 pub use door::{Doors, MemDoors};
 pub use gate::{Gate, OpenGate};
 pub use memory::{MemSink, MemSource};
-pub use sink::Sink;
+pub use sink::{Sink, send};
 pub use source::{Failed, Source};
 pub use standard::{StdSink, StdSource};
 

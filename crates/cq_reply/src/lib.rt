@@ -9,7 +9,7 @@ mod short;
 mod value;
 mod write;
 
-pub use line::Fixed;
+pub use line::{Fixed, Line};
 pub use reply::{FileRow, FileRows, GroupRow, GroupRows, PlaceRow, PlaceRows, Reply, Shown};
 pub use short::{Short, fixed};
-pub use write::write_reply;
+pub use write::{line_of, write_reply};

@@ -1,0 +1,5 @@
+pub mod Taken
+pub mod ReadEntries
+pub mod InView
+pub mod GivenUp
+pub mod Runs

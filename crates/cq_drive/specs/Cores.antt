@@ -1,0 +1,95 @@
+-- The core that a script steps, and the core of the history for which it stands.
+use Rattle.std.specs.Prelude.{◌≡◌, ℕ, List, length, Option, Result}
+use Rattle.std.specs.Arc.{arc_value}
+use Rattle.cq_base.specs.declared.settings.Settings.{Settings}
+use Rattle.cq_core.specs.Cores.{CoreState, StandsFor}
+use Rattle.cq_core.specs.declared.step.Outcome.{Outcome}
+use Rattle.cq_core.specs.declared.step.Outcome.TheVariants as core_outcome
+use Rattle.cq_core.specs.declared.step.Step.{Step}
+use Rattle.cq_core.specs.declared.step.Step.TheVariants as core_step
+use Rattle.cq_answer.specs.Refusals.{cause_told}
+use Rattle.cq_history.specs.Core as history
+use Rattle.cq_io.specs.Sending.{Sends}
+use Rattle.cq_lines.specs.Held.{Held}
+use Rattle.cq_lines.specs.Serving.{RepliedSoFar, Serves}
+use Rattle.cq_lines.specs.declared.ending.End.{End}
+use Rattle.cq_outcome.specs.Outcomes.{line_of}
+use Rattle.cq_outcome.specs.declared.outcome.ScriptOutcome.{ScriptOutcome}
+use Rattle.cq_outcome.specs.declared.outcome.ScriptOutcome.TheVariants as outcome
+use Rattle.cq_shard.specs.Shard.{HasWindow}
+use Rattle.cq_step.specs.Reading.{step_read}
+use Rattle.cq_step.specs.declared.step.ScriptStep.{ScriptStep}
+use Rattle.cq_step.specs.declared.step.ScriptStep.TheVariants as script
+use Rattle.cq_work.specs.Work.{IsWorkOf}
+use Rattle.cq_work.specs.declared.work.Work.{Work}
+use Rattle.cq_drive.specs.Script.{callers, StepComesTo, SaidComesTo, ReadComesTo, LineComesTo, ComeTo, ComeFrom}
+
+-- the keys of a work
+abbrev pub keys_of : {L : Type 0} → Work L → List ℕ
+keys_of work = arc_value work.keys
+
+module _ (L : Type 0) (set : Settings) where
+  -- over works of texts
+  abbrev pub Stands : history.Core → CoreState → Type 0
+  Stands k c = StandsFor (HasWindow (keys_of {L = L}) IsWorkOf set) k c
+
+  -- it has these settings and the callers of a script, and there is a core that it stands for
+  pub record IsDriven (c : CoreState) : Type 0 where
+    pub settings : c.board.settings ≡ set
+    pub callers : length c.board.state.views ≡ callers
+    pub past : (k : history.Core) × Stands k c
+
+  -- it stands for a core of which this holds
+  pub record Leads (new : CoreState) (Holds : history.Core → Type 0) : Type 0 where
+    pub after : history.Core
+    pub stands : Stands after new
+    pub holds : Holds after
+
+  -- for whichever core it stood, it stands for one of which that holds; its settings and callers stay
+  pub record Led (old new : CoreState) (Row : history.Core → history.Core → Type 0) : Type 0 where
+    pub driven : IsDriven new
+    pub leads : (k : history.Core) → Stands k old → Leads new (Row k)
+
+  -- ---- what it comes to
+
+  abbrev pub StepLed : CoreState → CoreState → ScriptStep → ScriptOutcome → Type 0
+  StepLed old new step o = Led old new (λ k later. StepComesTo set k step o later)
+
+  abbrev pub SaidLed : CoreState → CoreState → List ℕ → ScriptOutcome → Type 0
+  SaidLed old new line o = Led old new (λ k later. SaidComesTo set k (step_read set line) o later)
+
+  -- these are the bytes of the outcome's line
+  abbrev pub LineLed : CoreState → CoreState → List ℕ → List ℕ → Type 0
+  LineLed old new line bytes = Led old new (λ k later. (o : ScriptOutcome) × ReadComesTo set k line o later × (bytes ≡ line_of o))
+
+  -- the outcome's line is sent
+  abbrev pub LineSent : {E : Type 0} → CoreState → CoreState → List ℕ → Option (List ℕ) → Option (List ℕ) → Result (Unit {0}) E → Type 0
+  LineSent old new line before written_now result = Led old new (λ k later. (o : ScriptOutcome) × LineComesTo set k line o later × Sends before written_now (line_of o) result)
+
+  -- for whichever core it stood, the lines of a source have their outcomes
+  abbrev pub RunServes : CoreState → ℕ → Option (List ℕ) → Option (List ℕ) → Option (List ℕ) → Option (List ℕ) → End → Type 0
+  RunServes old limit rest rest_now before written_now by = (k : history.Core) → Stands k old → Serves line_of (ComeFrom set k) limit rest rest_now before written_now by
+
+  -- between two lines: they have come to what the core stands for
+  abbrev pub RunSoFar : CoreState → CoreState → ℕ → Option (List ℕ) → Option (List ℕ) → Option (List ℕ) → Option (List ℕ) → Held → Type 0
+  RunSoFar old new limit rest rest_now before written_now held = Led old new (λ k later. RepliedSoFar line_of (λ lines outcomes. ComeTo set k lines outcomes later) limit rest rest_now before written_now held)
+
+-- what a step's outcome is to a script
+abbrev pub told : Outcome → ScriptOutcome
+told core_outcome.Ok = outcome.Done
+told (core_outcome.Value n) = outcome.Value n
+told core_outcome.NoJob = outcome.NoJob
+told (core_outcome.Refused cause) = outcome.Reply (cause_told cause)
+told core_outcome.No = outcome.No
+
+-- the step of a script that a core's step is
+abbrev pub script_step : {W : Type 0} → Step W → ScriptStep
+script_step (core_step.Accept by change) = script.Accept by change
+script_step (core_step.Ask by) = script.Ask by
+script_step (core_step.Took by) = script.Took by
+script_step (core_step.Back by change) = script.Back by change
+script_step (core_step.Done by change work) = script.Done by change
+script_step (core_step.Apply shard) = script.Apply shard
+script_step (core_step.Publish version) = script.Publish version
+script_step (core_step.Open by) = script.Open by
+script_step (core_step.Shut by) = script.Shut by

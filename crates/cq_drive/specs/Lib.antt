@@ -1,0 +1,5 @@
+pub mod Windows
+pub mod Script
+pub mod Cores
+pub mod Views
+pub mod Worked

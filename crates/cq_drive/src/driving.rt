@@ -1,0 +1,117 @@
+ghost use Rattle.std.specs.Prelude.{◌≡◌, ◌≤◌, IfOk, OnErr, length};
+ghost use Rattle.cq_base.specs.Settings.{IsInRange};
+ghost use Rattle.cq_drive.specs.Cores.{IsDriven, LineSent, RunServes};
+ghost use Rattle.cq_drive.specs.Script.{IsScript};
+ghost use Rattle.cq_io.specs.Causes.{HasCause};
+ghost use Rattle.cq_io.specs.Sending.{Sends};
+ghost use Rattle.cq_lines.specs.Pieces.{line_limit};
+ghost use Rattle.cq_lines.specs.Runs.{IsFresh};
+ghost use Rattle.cq_lines.specs.Serving.{Serves, HasEndCause};
+ghost use Rattle.cq_outcome.specs.Outcomes.{line_of};
+ghost use Rattle.cq_reply.specs.Written.{line_of as reply_line};
+ghost use Rattle.cq_reply.specs.declared.reply.Reply.TheVariants as reply;
+
+use crate::telling::outcome_line;
+use cq_base::{Memory, Settings, Steps};
+use cq_core::Core;
+use cq_io::{Failed, Sink, Source, send};
+use cq_key::Keyer;
+use cq_lines::{Cut, End, Lines};
+use cq_reply::{Short, fixed};
+use cq_work::Work;
+use std::alloc::Global;
+use std::sync::ledger::Ledger;
+
+/// How many callers a script has.
+const CALLERS: u32 = 16;
+
+// Writes the outcome of a line, which is not too long.
+fn turn<L: Ledger, K: Sink>(
+    alloc: Global,
+    settings: &Settings,
+    keyer: &Keyer,
+    core: &mut Core<Work<L>>,
+    line: &[u8],
+    sink: &mut K,
+    steps: &mut Steps<L>,
+) -> Result<(), Failed>
+    requires in_range { IsInRange settings.now }
+    requires settings { keyer.now.settings ≡ settings.now }
+    requires driven { IsDriven L settings.now core.old }
+    requires short { length line.now ≤ line_limit }
+    ensures sent { LineSent L settings.now core.old core.new line.now (K.written sink.old) (K.written sink.new) result }
+    ensures cause { HasCause (K.faults sink.old) (K.faults sink.new) result }
+{
+    let told = outcome_line(alloc, settings, keyer, core, line, steps);
+    send(sink, told.as_bytes())
+}
+
+// Writes the outcome of a line that is too long.
+fn turn_long<K: Sink>(sink: &mut K) -> Result<(), Failed>
+    ensures bytes { Sends (K.written sink.old) (K.written sink.new) (reply_line reply.Long) result }
+    ensures cause { HasCause (K.faults sink.old) (K.faults sink.new) result }
+{
+    send(sink, fixed(Short::Long).as_bytes())
+}
+
+// Steps a core by the lines of a source.
+fn run<L: Ledger, S: Source, K: Sink>(
+    alloc: Global,
+    settings: &Settings,
+    keyer: &Keyer,
+    core: &mut Core<Work<L>>,
+    lines: &mut Lines,
+    source: &mut S,
+    sink: &mut K,
+    steps: &mut Steps<L>,
+) -> End
+    requires fresh { IsFresh lines.old }
+    requires in_range { IsInRange settings.now }
+    requires settings { keyer.now.settings ≡ settings.now }
+    requires driven { IsDriven L settings.now core.old }
+    ensures served { RunServes L settings.now core.old lines.old.limit (S.rest source.old) (S.rest source.new) (K.written sink.old) (K.written sink.new) result }
+    ensures cause { HasEndCause (S.faults source.old) (S.faults source.new) (K.faults sink.old) (K.faults sink.new) result }
+{
+    'lines: loop {
+        match lines.next(source) {
+            Cut::Line(line) => match turn(alloc, settings, keyer, core, line, sink, steps) {
+                Ok(()) => {}
+                Err(Failed) => return End::WriteFault,
+            },
+            Cut::TooLong => match turn_long(sink) {
+                Ok(()) => {}
+                Err(Failed) => return End::WriteFault,
+            },
+            Cut::End => return End::Finished,
+            Cut::Spent => return End::Spent,
+            Cut::ReadFault => return End::ReadFault,
+        }
+    }
+}
+
+/// Steps a core of sixteen callers by the lines of a source, from nothing accepted on. Windows have the keys of `keyer`.
+/// Each whole outcome is handed to the sink before the next line is cut. Memory is answered before the first line alone,
+/// and then nothing was read or written.
+pub fn drive<L: Ledger, S: Source, K: Sink>(
+    alloc: Global,
+    settings: &Settings,
+    keyer: &Keyer,
+    lines: &mut Lines,
+    source: &mut S,
+    sink: &mut K,
+    steps: &mut Steps<L>,
+) -> Result<End, Memory>
+    requires fresh { IsFresh lines.old }
+    requires in_range { IsInRange settings.now }
+    requires settings { keyer.now.settings ≡ settings.now }
+    ensures script { IfOk result (Serves line_of (IsScript settings.now) lines.old.limit (S.rest source.old) (S.rest source.new) (K.written sink.old) (K.written sink.new)) }
+    ensures cause { IfOk result (HasEndCause (S.faults source.old) (S.faults source.new) (K.faults sink.old) (K.faults sink.new)) }
+    ensures lines { OnErr result (lines.new ≡ lines.old) }
+    ensures source { OnErr result (source.new ≡ source.old) }
+    ensures sink { OnErr result (sink.new ≡ sink.old) }
+{
+    let mut core: Core<Work<L>> = Core::new(alloc, settings, CALLERS)?;
+    Ok(run(
+        alloc, settings, keyer, &mut core, lines, source, sink, steps,
+    ))
+}

@@ -1,0 +1,116 @@
+ghost use Rattle.std.specs.Prelude.{◌≡◌, ◌⊎◌, IfOk, OnErr};
+ghost use Rattle.cq_base.specs.Settings.{IsInRange};
+ghost use Rattle.cq_drive.specs.Cores.{IsDriven, StepLed, SaidLed, LineLed};
+ghost use Rattle.cq_outcome.specs.Outcomes.{line_of as line_of_outcome, IsOutcomeText, NeedsMemory};
+ghost use Rattle.cq_outcome.specs.declared.outcome.ScriptOutcome.TheVariants as outcome;
+ghost use Rattle.cq_reply.specs.Lines.{bytes_of};
+ghost use Rattle.cq_reply.specs.declared.reply.Reply.TheVariants as reply;
+ghost use Rattle.cq_step.specs.Sound.{IsSoundStep};
+
+use crate::stepping::{finished, stepped};
+use crate::viewing::{read, reply};
+use cq_answer::refused_as;
+use cq_base::{Memory, Settings, Steps};
+use cq_core::{Core, Step};
+use cq_key::Keyer;
+use cq_outcome::{ScriptOutcome, line_of};
+use cq_reply::{Line, Short, fixed};
+use cq_step::{ScriptStep, read_step};
+use cq_work::Work;
+use std::alloc::Global;
+use std::sync::ledger::Ledger;
+
+// The outcome of a step that was read. Where memory is refused, nothing has changed.
+fn outcome_of<L: Ledger>(
+    alloc: Global,
+    settings: &Settings,
+    keyer: &Keyer,
+    core: &mut Core<Work<L>>,
+    step: ScriptStep,
+    steps: &mut Steps<L>,
+) -> Result<ScriptOutcome, Memory>
+    requires in_range { IsInRange settings.now }
+    requires settings { keyer.now.settings ≡ settings.now }
+    requires driven { IsDriven L settings.now core.old }
+    requires sound { IsSoundStep settings.now step }
+    ensures led { IfOk result (StepLed L settings.now core.old core.new step) }
+    ensures text { IfOk result IsOutcomeText }
+    ensures err { OnErr result (core.new ≡ core.old) }
+{
+    match step {
+        ScriptStep::Accept { by, change } => {
+            stepped(alloc, settings, core, Step::Accept { by, change }, steps)
+        }
+        ScriptStep::Ask { by } => stepped(alloc, settings, core, Step::Ask { by }, steps),
+        ScriptStep::Took { by } => stepped(alloc, settings, core, Step::Took { by }, steps),
+        ScriptStep::Back { by, change } => {
+            stepped(alloc, settings, core, Step::Back { by, change }, steps)
+        }
+        ScriptStep::Done { by, change } => {
+            finished(alloc, settings, keyer, core, by, change, steps)
+        }
+        ScriptStep::Apply { shard } => {
+            stepped(alloc, settings, core, Step::Apply { shard }, steps)
+        }
+        ScriptStep::Publish { version } => {
+            stepped(alloc, settings, core, Step::Publish { version }, steps)
+        }
+        ScriptStep::Open { by } => stepped(alloc, settings, core, Step::Open { by }, steps),
+        ScriptStep::Read { by, shard, key } => read(alloc, settings, core, by, shard, key),
+        ScriptStep::Reply { by, query } => reply(alloc, settings, core, by, &query, steps),
+        ScriptStep::Shut { by } => stepped(alloc, settings, core, Step::Shut { by }, steps),
+    }
+}
+
+// The outcome of a line that is not too long. Where memory is refused, nothing has changed.
+fn said<L: Ledger>(
+    alloc: Global,
+    settings: &Settings,
+    keyer: &Keyer,
+    core: &mut Core<Work<L>>,
+    line: &[u8],
+    steps: &mut Steps<L>,
+) -> Result<ScriptOutcome, Memory>
+    requires in_range { IsInRange settings.now }
+    requires settings { keyer.now.settings ≡ settings.now }
+    requires driven { IsDriven L settings.now core.old }
+    ensures led { IfOk result (SaidLed L settings.now core.old core.new line.now) }
+    ensures text { IfOk result IsOutcomeText }
+    ensures err { OnErr result (core.new ≡ core.old) }
+{
+    match read_step(alloc, settings, line) {
+        Ok(step) => outcome_of(alloc, settings, keyer, core, step, steps),
+        Err(refusal) => Ok(ScriptOutcome::Reply(refused_as(refusal)?)),
+    }
+}
+
+// The line of an outcome, or where memory is refused the one that tells that.
+fn line_or_memory(alloc: Global, told: &ScriptOutcome) -> Line
+    requires { IsOutcomeText told.now }
+    ensures { (bytes_of result ≡ line_of_outcome told.now) ⊎ (NeedsMemory told.now × (bytes_of result ≡ line_of_outcome (outcome.Reply reply.Memory))) }
+{
+    match line_of(alloc, told) {
+        Ok(line) => line,
+        Err(Memory) => Line::Short(fixed(Short::Memory)),
+    }
+}
+
+/// The line of the outcome of a line that is not too long.
+pub(crate) fn outcome_line<L: Ledger>(
+    alloc: Global,
+    settings: &Settings,
+    keyer: &Keyer,
+    core: &mut Core<Work<L>>,
+    line: &[u8],
+    steps: &mut Steps<L>,
+) -> Line
+    requires in_range { IsInRange settings.now }
+    requires settings { keyer.now.settings ≡ settings.now }
+    requires driven { IsDriven L settings.now core.old }
+    ensures { LineLed L settings.now core.old core.new line.now (bytes_of result) }
+{
+    match said(alloc, settings, keyer, core, line, steps) {
+        Ok(outcome) => line_or_memory(alloc, &outcome),
+        Err(Memory) => Line::Short(fixed(Short::Memory)),
+    }
+}

@@ -1,0 +1,110 @@
+ghost use Rattle.std.specs.Prelude.{◌≡◌, ◌<◌, ◌≤◌, IfOk, Some};
+ghost use Rattle.std.specs.Arc.{arc_value};
+ghost use Rattle.cq_base.specs.Settings.{IsInRange};
+ghost use Rattle.cq_board.specs.Sound.{HaveFewConditions};
+ghost use Rattle.cq_core.specs.Views.{IsView};
+ghost use Rattle.cq_drive.specs.Cores.{IsDriven, StepLed};
+ghost use Rattle.cq_drive.specs.Script.{callers};
+ghost use Rattle.cq_history.specs.State.{view_of};
+ghost use Rattle.cq_outcome.specs.Outcomes.{IsOutcomeText};
+ghost use Rattle.cq_step.specs.declared.step.ScriptStep.TheVariants as script;
+ghost use Rattle.cq_work.specs.Work.{IsWorkOf};
+
+use crate::buckets::CoreBuckets;
+use cq_answer::answer;
+use cq_ask::changes_of;
+use cq_base::{Memory, Settings, Steps};
+use cq_board::View;
+use cq_core::Core;
+use cq_outcome::{Entries, ScriptOutcome};
+use cq_request::Query;
+use cq_work::Work;
+use std::alloc::Global;
+use std::sync::ledger::Ledger;
+
+/// The entries of a shard with a key in the caller's view.
+pub(crate) fn read<L: Ledger>(
+    alloc: Global,
+    settings: &Settings,
+    core: &Core<Work<L>>,
+    by: u32,
+    shard: u32,
+    key: u64,
+) -> Result<ScriptOutcome, Memory>
+    requires driven { IsDriven L settings.now core.now }
+    requires caller { by < callers }
+    requires shard { shard < settings.now.shards }
+    ensures led { IfOk result (StepLed L settings.now core.now core.now (script.Read by shard key)) }
+    ensures text { IfOk result IsOutcomeText }
+{
+    match core.read(alloc, by, shard, key)? {
+        Some(entries) => Ok(ScriptOutcome::Read(Entries::from_vec(entries))),
+        None => Ok(ScriptOutcome::No),
+    }
+}
+
+// The reply to a query at the version of a view, which the caller has open.
+fn answered<L: Ledger>(
+    alloc: Global,
+    settings: &Settings,
+    core: &Core<Work<L>>,
+    by: u32,
+    view: &View<Work<L>>,
+    query: &Query,
+    steps: &mut Steps<L>,
+) -> Result<ScriptOutcome, Memory>
+    requires in_range { IsInRange settings.now }
+    requires driven { IsDriven L settings.now core.now }
+    requires caller { by < callers }
+    requires long { settings.now.chunk ≤ query.now.min }
+    requires opened { view_of core.now.board.state by ≡ Some view.now.version }
+    requires listing { IsView (IsWorkOf core.now.board.settings) core.now.board.state view.now }
+    requires few { HaveFewConditions (arc_value view.now.listing).projects }
+    ensures led { IfOk result (StepLed L settings.now core.now core.now (script.Reply by query.now)) }
+    ensures text { IfOk result IsOutcomeText }
+{
+    let files = view.listing.files(&query.project);
+    let conditions = view.listing.conditions(&query.project);
+    let changes = changes_of(alloc, files)?;
+    let mut buckets = CoreBuckets {
+        core,
+        settings,
+        by,
+        files,
+        changes: &changes,
+        asked: 0,
+    };
+    let reply = answer(
+        alloc,
+        settings,
+        files,
+        conditions,
+        query,
+        view.version,
+        &mut buckets,
+        steps,
+    )?;
+    Ok(ScriptOutcome::Reply(reply))
+}
+
+/// The reply to a query at the version of the caller's view.
+pub(crate) fn reply<L: Ledger>(
+    alloc: Global,
+    settings: &Settings,
+    core: &Core<Work<L>>,
+    by: u32,
+    query: &Query,
+    steps: &mut Steps<L>,
+) -> Result<ScriptOutcome, Memory>
+    requires in_range { IsInRange settings.now }
+    requires driven { IsDriven L settings.now core.now }
+    requires caller { by < callers }
+    requires long { settings.now.chunk ≤ query.now.min }
+    ensures led { IfOk result (StepLed L settings.now core.now core.now (script.Reply by query.now)) }
+    ensures text { IfOk result IsOutcomeText }
+{
+    match core.view(by) {
+        Some(view) => answered(alloc, settings, core, by, view, query, steps),
+        None => Ok(ScriptOutcome::No),
+    }
+}

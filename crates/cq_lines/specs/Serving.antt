@@ -1,0 +1,55 @@
+-- What is written for the lines of a source, from the source to the sink.
+use Rattle.std.specs.Prelude.{◌≡◌, ◌<◌, ℕ, List, ◌++◌, length, flat_map, Option}
+use Rattle.std.specs.Io.KnownBytes.{Consumes, Appends, IsAtEnd}
+use Rattle.cq_io.specs.Causes.{Rose}
+use Rattle.cq_lines.specs.Held.{Held}
+use Rattle.cq_lines.specs.Pieces.{closed_lines, all_lines}
+use Rattle.cq_lines.specs.Runs.{CutTo}
+use Rattle.cq_lines.specs.declared.ending.End.{End}
+use Rattle.cq_lines.specs.declared.ending.End.TheVariants as end
+
+-- over the bytes of a reply, and over what the replies to some lines are
+module _ {R : Type 0} (line_of : R → List ℕ) (AreReplies : List (List ℕ) → List R → Type 0) where
+  -- these lines have their replies, and these are what was written, each whole and in order
+  pub record Replied (before written_now : Option (List ℕ)) (lines : List (List ℕ)) : Type 0 where
+    pub replies : List R
+    pub talk : AreReplies lines replies
+    pub written : Appends before written_now (flat_map line_of replies)
+
+  -- a front of the lines have their replies, and a front of these was written
+  pub record PartReplied (before written_now : Option (List ℕ)) (lines : List (List ℕ)) : Type 0 where
+    pub some : List (List ℕ)
+    pub others : List (List ℕ)
+    pub parts : some ++ others ≡ lines
+    pub replies : List R
+    pub talk : AreReplies some replies
+    pub out : List ℕ
+    pub more : List ℕ
+    pub front : out ++ more ≡ flat_map line_of replies
+    pub written : Appends before written_now out
+
+  -- by how it ended: got is what was taken from the source
+  abbrev pub ServedBy : ℕ → Option (List ℕ) → Option (List ℕ) → Option (List ℕ) → List ℕ → End → Type 0
+  ServedBy limit rest before written_now got end.Finished = IsAtEnd rest × (length got < limit) × Replied before written_now (all_lines got)
+  ServedBy limit rest before written_now got end.Spent = (length got ≡ limit) × Replied before written_now (closed_lines got)
+  ServedBy limit rest before written_now got end.ReadFault = Replied before written_now (closed_lines got)
+  ServedBy limit rest before written_now got end.WriteFault = PartReplied before written_now (all_lines got)
+
+  -- the lines of a source were served
+  pub record Serves (limit : ℕ) (rest rest_now before written_now : Option (List ℕ)) (by : End) : Type 0 where
+    pub got : List ℕ
+    pub bytes : Consumes rest rest_now got
+    pub served : ServedBy limit rest_now before written_now got by
+
+  -- between two lines: those that were cut have their replies, which were written
+  pub record RepliedSoFar (limit : ℕ) (rest rest_now before written_now : Option (List ℕ)) (held : Held) : Type 0 where
+    pub lines : List (List ℕ)
+    pub cut : CutTo limit rest rest_now held lines
+    pub replied : Replied before written_now lines
+
+-- the counts of the source and of the sink
+abbrev pub HasEndCause : ℕ → ℕ → ℕ → ℕ → End → Type 0
+HasEndCause source source_now sink sink_now end.Finished = (source_now ≡ source) × (sink_now ≡ sink)
+HasEndCause source source_now sink sink_now end.Spent = (source_now ≡ source) × (sink_now ≡ sink)
+HasEndCause source source_now sink sink_now end.ReadFault = Rose source source_now × (sink_now ≡ sink)
+HasEndCause source source_now sink sink_now end.WriteFault = Rose sink sink_now × (source_now ≡ source)

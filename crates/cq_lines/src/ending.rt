@@ -1,0 +1,12 @@
+/// How the answering of a source's lines ended.
+#[derive(Clone, Copy, Debug, PartialEq, Eq)]
+pub enum End {
+    /// The input was read to its end, and every reply was written.
+    Finished,
+    /// The source failed, and the lines taken before have their replies.
+    ReadFault,
+    /// The sink failed, and what was written is a front of the replies.
+    WriteFault,
+    /// As many bytes were taken as may be, and every whole line of them has its reply.
+    Spent,
+}
