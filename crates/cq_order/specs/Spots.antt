@@ -1,5 +1,5 @@
 -- Where each change of a list stands.
-use Rattle.std.specs.Prelude.{◌≡◌, ◌↔◌, ◌<◌, ◌==◌, ℕ, List, [], ◌∷◌, slice_get, Option, Some, None, AllPairs, if◌then◌else◌}
+use Rattle.std.specs.Prelude.{◌≡◌, ◌↔◌, ◌<◌, ◌==◌, ℕ, ◌+◌, Bool, nat_lt, List, [], ◌∷◌, slice_get, Option, Some, None, AllPairs, if◌then◌else◌}
 use Rattle.cq_order.specs.declared.spots.Spot.{Spot}
 
 -- by change
@@ -20,3 +20,12 @@ IsPositionOf changes change position = (file : ℕ) → (position ≡ Some file)
 pub record AreSpots (changes : List ℕ) (spots : List Spot) : Type 0 where
   pub rising : AllPairs SpotBefore spots
   pub each : (change : ℕ) → IsPositionOf changes change (spot_of spots change)
+
+-- the test of the order
+abbrev pub is_spot_before : Spot → Spot → Bool
+is_spot_before a b = nat_lt a.change b.change
+
+-- the changes with their positions, of which the first is `file`
+abbrev pub spots_from : ℕ → List ℕ → List Spot
+spots_from file [] = []
+spots_from file (change ∷ changes) = record { change = change; file = file } ∷ spots_from (file + 1) changes

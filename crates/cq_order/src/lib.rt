@@ -1,6 +1,7 @@
 //! Places, entries and groups in their order, the occurrences of a word that are kept, and the spots of a list's changes.
 //! Both the plain listing and the listing by index stand on these, so that they agree on order and on overlaps. A sort of
-//! n items costs n log n comparisons; `kept` one walk; `spot_of` a binary search, and nothing is made for it.
+//! n items costs n log n comparisons; `kept` one walk; `spot_of` a binary search, and nothing is made
+//! for it.
 #![tactic(auto)]
 
 mod entries;
@@ -13,7 +14,7 @@ pub use entries::sort_entries;
 pub use groups::order;
 pub use keeping::kept;
 pub use places::sort_places;
-pub use spots::{Spot, spot_of};
+pub use spots::{Spot, spot_of, spots_of};
 
 #[cfg(test)]
 mod tests;

@@ -1,5 +1,11 @@
-ghost use Rattle.std.specs.Prelude.{◌≡◌, ℕ, List, AllPairs};
-ghost use Rattle.cq_order.specs.Spots.{AreSpots, IsPositionOf, SpotBefore, spot_of};
+ghost use Rattle.std.specs.Prelude.{◌≡◌, ◌≢◌, ◌<◌, ◌^◌, ℕ, List, length, AllPairs, IfOk};
+ghost use Rattle.std.specs.Ordering.{is_lt};
+ghost use Rattle.cq_order.specs.Order.{IsOrderOf};
+ghost use Rattle.cq_order.specs.Spots.{AreSpots, IsPositionOf, SpotBefore, spot_of, is_spot_before, spots_from};
+
+use cq_base::Memory;
+use std::alloc::Global;
+use std::cmp::Ordering;
 
 /// Where the file that a change put stands among the files of its project: its position, from 0.
 #[derive(Clone, Copy, Debug, PartialEq, Eq)]
@@ -18,4 +24,43 @@ pub fn spot_of(spots: &[Spot], change: u64) -> Option<u32>
         Ok(i) => Some(spots[i].file),
         Err(_) => None,
     }
+}
+
+/// By change.
+fn compare_spots(a: &Spot, b: &Spot) -> Ordering
+    ensures { is_lt result ≡ is_spot_before a.now b.now }
+{
+    a.change.cmp(&b.change)
+}
+
+fn sort_spots(spots: &mut Vec<Spot>)
+    ensures { IsOrderOf SpotBefore spots.old.items spots.new.items }
+{
+    spots.sort_unstable_by(|a, b| compare_spots(a, b));
+}
+
+// The changes with their positions, in the order of these.
+fn unsorted(alloc: Global, changes: &[u64]) -> Result<Vec<Spot>, Memory>
+    requires { length changes.now < 2 ^ 32 }
+    ensures { IfOk result (λ spots. spots.items ≡ spots_from 0 changes.now) }
+{
+    let mut spots = Vec::with_capacity(alloc, changes.len())?;
+    for file in 0..changes.len() {
+        spots.push(Spot {
+            change: changes[file],
+            file: file as u32,
+        })?;
+    }
+    Ok(spots)
+}
+
+/// The spots of different changes. It costs a sort of them.
+pub fn spots_of(alloc: Global, changes: &[u64]) -> Result<Vec<Spot>, Memory>
+    requires few { length changes.now < 2 ^ 32 }
+    requires apart { AllPairs (λ a b. a ≢ b) changes.now }
+    ensures { IfOk result (λ spots. AreSpots changes.now spots.items) }
+{
+    let mut spots = unsorted(alloc, changes)?;
+    sort_spots(&mut spots);
+    Ok(spots)
 }

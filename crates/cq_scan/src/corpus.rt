@@ -5,8 +5,7 @@ ghost use Rattle.cq_tokens.specs.Parts.{tokens_in};
 ghost use Rattle.cq_scan.specs.Match.{Matches};
 
 use cq_base::{Place, Steps};
-use cq_tokens::{FileList, Seen};
-use std::sync::ledger::Ledger;
+use cq_tokens::{FileList, Files, Seen};
 
 /// Whether both tokens are there and equal.
 fn are_equal(a: Option<Seen<'_>>, b: Option<Seen<'_>>) -> bool
@@ -19,12 +18,12 @@ fn are_equal(a: Option<Seen<'_>>, b: Option<Seen<'_>>) -> bool
 }
 
 /// Whether the tokens `n` behind two places are there and equal.
-fn are_same<L: Ledger>(
-    files: &FileList<'_, L>,
+fn are_same<F: Files>(
+    files: &FileList<'_, F>,
     p: Place,
     q: Place,
     n: u32,
-    steps: &mut Steps<L>,
+    steps: &mut Steps<F::Reads>,
 ) -> bool
     requires p_file { p.file < length (tokens_in files.now) }
     requires q_file { q.file < length (tokens_in files.now) }
@@ -37,11 +36,11 @@ fn are_same<L: Ledger>(
 
 /// Whether the tokens before two places are there and equal.
 #[tactic(auto, using(crate::proofs::Places::file_of_place))]
-pub(crate) fn are_same_before<L: Ledger>(
-    files: &FileList<'_, L>,
+pub(crate) fn are_same_before<F: Files>(
+    files: &FileList<'_, F>,
     p: Place,
     q: Place,
-    steps: &mut Steps<L>,
+    steps: &mut Steps<F::Reads>,
 ) -> bool
     requires p_in { IsPlace (tokens_in files.now) p }
     requires q_in { IsPlace (tokens_in files.now) q }
@@ -54,11 +53,11 @@ pub(crate) fn are_same_before<L: Ledger>(
 
 /// How many tokens from two places on are equal.
 #[tactic(auto, using(crate::proofs::Places::file_of_place))]
-pub(crate) fn match_len<L: Ledger>(
-    files: &FileList<'_, L>,
+pub(crate) fn match_len<F: Files>(
+    files: &FileList<'_, F>,
     p: Place,
     q: Place,
-    steps: &mut Steps<L>,
+    steps: &mut Steps<F::Reads>,
 ) -> u32
     requires p_in { IsPlace (tokens_in files.now) p }
     requires q_in { IsPlace (tokens_in files.now) q }
@@ -77,12 +76,12 @@ pub(crate) fn match_len<L: Ledger>(
 
 /// Whether the word of `n` tokens at `p` stands at `q` too.
 #[tactic(auto, using(crate::proofs::Places::file_of_place))]
-pub(crate) fn stands_at<L: Ledger>(
-    files: &FileList<'_, L>,
+pub(crate) fn stands_at<F: Files>(
+    files: &FileList<'_, F>,
     p: Place,
     n: u32,
     q: Place,
-    steps: &mut Steps<L>,
+    steps: &mut Steps<F::Reads>,
 ) -> bool
     requires p_in { IsPlace (tokens_in files.now) p }
     requires within { p.at + n ≤ length (file_at (tokens_in files.now) p.file) }

@@ -8,8 +8,7 @@ ghost use Rattle.cq_scan.specs.Found.{Adds, AreTied, IsOfWord};
 
 use crate::corpus::stands_at;
 use cq_base::{Group, Memory, Place, Steps};
-use cq_tokens::FileList;
-use std::sync::ledger::Ledger;
+use cq_tokens::{FileList, Files};
 
 // Whether both begin at the same place and are equally long.
 fn are_tied(g: &Group, h: &Group) -> bool
@@ -26,12 +25,12 @@ fn is_listed(groups: &[Group], group: &Group) -> bool
 }
 
 // Whether a group is of the word of `tokens` tokens at `p`.
-fn is_of_word<L: Ledger>(
-    files: &FileList<'_, L>,
+fn is_of_word<F: Files>(
+    files: &FileList<'_, F>,
     p: Place,
     tokens: u32,
     group: &Group,
-    steps: &mut Steps<L>,
+    steps: &mut Steps<F::Reads>,
 ) -> bool
     requires p_in { IsPlace (tokens_in files.now) p }
     requires within { p.at + tokens ≤ length (file_at (tokens_in files.now) p.file) }
@@ -43,12 +42,12 @@ fn is_of_word<L: Ledger>(
 
 /// Whether a group of the word of `tokens` tokens at `p` is there. It reads that word once for each group of its
 /// length, up to the first difference.
-pub(crate) fn is_known<L: Ledger>(
-    files: &FileList<'_, L>,
+pub(crate) fn is_known<F: Files>(
+    files: &FileList<'_, F>,
     p: Place,
     tokens: u32,
     groups: &[Group],
-    steps: &mut Steps<L>,
+    steps: &mut Steps<F::Reads>,
 ) -> bool
     requires p_in { IsPlace (tokens_in files.now) p }
     requires within { p.at + tokens ≤ length (file_at (tokens_in files.now) p.file) }

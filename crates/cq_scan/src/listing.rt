@@ -1,6 +1,5 @@
 ghost use Rattle.std.specs.Prelude.{◌≡◌, ◌+◌, ◌^◌, ◌<◌, ◌≤◌, length, slice_index_or, IfOk, OnOk};
 ghost use Rattle.cq_clones.specs.Groups.{file_at, word_at, IsPlace, IsBefore, IsMaximalAt, AreGroups};
-ghost use Rattle.cq_tokens.specs.Corpus.{corpus_of};
 ghost use Rattle.cq_tokens.specs.Parts.{tokens_in};
 ghost use Rattle.cq_scan.specs.Found.{AreAllPlaces, IsPair, IsFoundBy, AreFound, Adds};
 
@@ -9,21 +8,20 @@ use crate::known::{add_once, is_known};
 use crate::occurrences::{all_places, occurrences};
 use cq_base::{Group, Memory, Place, Places, Steps};
 use cq_order::{kept, order};
-use cq_tokens::{FileList, FileTokens};
+use cq_tokens::{FileList, Files};
 use std::alloc::Global;
-use std::sync::ledger::Ledger;
 
 // What a listing goes over: all places of some files. The groups that are found are lent, and what a call adds is those
 // whose words are maximal at the places that it compares.
 #[derive(Drop)]
-struct PairScan<'a, L: Ledger> {
+struct PairScan<'a, F: Files> {
     alloc: Global,
-    files: &'a FileList<'a, L>,
+    files: &'a FileList<'a, F>,
     places: &'a [Place],
     min: u32,
 }
 
-impl<'a, L: Ledger> PairScan<'a, L> {
+impl<'a, F: Files> PairScan<'a, F> {
     // Adds the group of the word of `tokens` tokens that is maximal at the two places, if two places of it are kept.
     fn add_word(
         &self,
@@ -31,7 +29,7 @@ impl<'a, L: Ledger> PairScan<'a, L> {
         q: Place,
         tokens: u32,
         groups: &mut Vec<Group>,
-        steps: &mut Steps<L>,
+        steps: &mut Steps<F::Reads>,
     ) -> Result<(), Memory>
         requires some { 1 ≤ self.now.min }
         requires places { AreAllPlaces (tokens_in self.now.files.now) self.now.places.now }
@@ -60,7 +58,7 @@ impl<'a, L: Ledger> PairScan<'a, L> {
         p: Place,
         q: Place,
         groups: &mut Vec<Group>,
-        steps: &mut Steps<L>,
+        steps: &mut Steps<F::Reads>,
     ) -> Result<(), Memory>
         requires some { 1 ≤ self.now.min }
         requires places { AreAllPlaces (tokens_in self.now.files.now) self.now.places.now }
@@ -85,7 +83,7 @@ impl<'a, L: Ledger> PairScan<'a, L> {
         i: usize,
         p: Place,
         groups: &mut Vec<Group>,
-        steps: &mut Steps<L>,
+        steps: &mut Steps<F::Reads>,
     ) -> Result<(), Memory>
         requires some { 1 ≤ self.now.min }
         requires places { AreAllPlaces (tokens_in self.now.files.now) self.now.places.now }
@@ -102,7 +100,7 @@ impl<'a, L: Ledger> PairScan<'a, L> {
     }
 
     // All groups, in order.
-    fn groups(&self, steps: &mut Steps<L>) -> Result<Vec<Group>, Memory>
+    fn groups(&self, steps: &mut Steps<F::Reads>) -> Result<Vec<Group>, Memory>
         requires some { 1 ≤ self.now.min }
         requires places { AreAllPlaces (tokens_in self.now.files.now) self.now.places.now }
         ensures { IfOk result (λ groups. AreGroups (tokens_in self.now.files.now) self.now.min groups.items) }
@@ -118,15 +116,14 @@ impl<'a, L: Ledger> PairScan<'a, L> {
 
 /// All groups of the files, in order: the repeated words of at least `min` tokens with their kept places. `Place::file`
 /// is a position in `files`. Each read of a token is a step.
-pub fn scan<L: Ledger>(
+pub fn scan<F: Files>(
     alloc: Global,
-    files: &[FileTokens<L>],
+    files: &F,
     min: u32,
-    steps: &mut Steps<L>,
+    steps: &mut Steps<F::Reads>,
 ) -> Result<Vec<Group>, Memory>
-    requires few { length files.now < 2 ^ 32 }
     requires some { 1 ≤ min }
-    ensures { IfOk result (λ groups. AreGroups (corpus_of files.now) min groups.items) }
+    ensures { IfOk result (λ groups. AreGroups (F.tokens files.now) min groups.items) }
 {
     let list = FileList::new(files);
     let places = all_places(alloc, &list)?;

@@ -7,13 +7,12 @@ ghost use Rattle.cq_scan.specs.Found.{AreAllPlaces};
 
 use crate::corpus::stands_at;
 use cq_base::{Memory, Place, Steps};
-use cq_tokens::FileList;
+use cq_tokens::{FileList, Files};
 use std::alloc::Global;
-use std::sync::ledger::Ledger;
 
 // Adds the places of a file, behind those of the files before it.
-fn push_places<L: Ledger>(
-    files: &FileList<'_, L>,
+fn push_places<F: Files>(
+    files: &FileList<'_, F>,
     file: u32,
     all: &mut Vec<Place>,
 ) -> Result<(), Memory>
@@ -31,9 +30,9 @@ fn push_places<L: Ledger>(
 }
 
 /// All places of the files, in order.
-pub(crate) fn all_places<L: Ledger>(
+pub(crate) fn all_places<F: Files>(
     alloc: Global,
-    files: &FileList<'_, L>,
+    files: &FileList<'_, F>,
 ) -> Result<Vec<Place>, Memory>
     ensures { IfOk result (λ all. AreAllPlaces (tokens_in files.now) all.items) }
 {
@@ -45,13 +44,13 @@ pub(crate) fn all_places<L: Ledger>(
 }
 
 /// The places at which the word of `n` tokens at `p` stands, in order: those of all places of the files.
-pub(crate) fn occurrences<L: Ledger>(
+pub(crate) fn occurrences<F: Files>(
     alloc: Global,
-    files: &FileList<'_, L>,
+    files: &FileList<'_, F>,
     p: Place,
     n: u32,
     places: &[Place],
-    steps: &mut Steps<L>,
+    steps: &mut Steps<F::Reads>,
 ) -> Result<Vec<Place>, Memory>
     requires p_in { IsPlace (tokens_in files.now) p }
     requires within { p.at + n ≤ length (file_at (tokens_in files.now) p.file) }

@@ -2,7 +2,7 @@ ghost use Rattle.std.specs.Prelude.{◌≡◌, ◌^◌, ◌<◌, ◌≤◌, leng
 
 use crate::scan;
 use cq_base::{Class, Group, Keys, Lang, Memory, Norm, Place, Steps, Text};
-use cq_tokens::{FileTokens, Tokens};
+use cq_tokens::{FileTokens, PlainFiles, Tokens};
 use std::alloc::Global;
 use std::marker::Brand;
 use std::sync::Arc;
@@ -54,7 +54,7 @@ fn listed<L: Ledger>(
         }
     }
     let mut steps = Steps::new(blank);
-    scan(alloc, &files, min, &mut steps)
+    scan(alloc, &PlainFiles::new(&files), min, &mut steps)
 }
 
 fn groups_of(alloc: Global, texts: &[&[u8]], min: u32) -> Result<Vec<Group>, Memory>

@@ -2,7 +2,7 @@
 use Rattle.std.specs.Prelude.{ℕ, List, map}
 use Rattle.std.specs.Arc.{arc_value}
 use Rattle.cq_base.specs.declared.norm.Norm.{Norm}
-use Rattle.cq_tokens.specs.declared.files.FileTokens.{FileTokens}
+use Rattle.cq_tokens.specs.declared.plain.FileTokens.{FileTokens}
 
 -- the corpus: the tokens of each file
 abbrev pub corpus_of : {L : Type 0} → List (FileTokens L) → List (List Norm)

@@ -8,13 +8,15 @@ mod corpus;
 mod files;
 mod laws;
 mod packed;
+mod plain;
 mod reading;
 mod seen;
 mod tokens;
 
 pub use corpus::{Corpus, FileList};
-pub use files::FileTokens;
+pub use files::Files;
 pub use laws::equal_tokens_tie;
+pub use plain::{FileTokens, PlainFiles};
 pub use seen::Seen;
 pub use tokens::Tokens;
 
