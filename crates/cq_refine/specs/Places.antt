@@ -1,37 +1,17 @@
 -- The places of the entries with one key.
-use Rattle.std.specs.Prelude.{◌≡◌, ◌↔◌, ℕ, List, slice_get, Option, Some, Any, IsTrue}
+use Rattle.std.specs.Prelude.{◌≡◌, ℕ, List, slice_get, Some}
 use Rattle.cq_base.specs.declared.entry.Entry.{Entry}
 use Rattle.cq_base.specs.declared.group.Place.{Place}
 use Rattle.cq_base.specs.declared.group.Group.{Group}
-use Rattle.std.specs.declared.sync.ledger.Ledger.{Ghosts}
+use Rattle.std.specs.declared.sync.ledger.Ledger as ledger
 use Rattle.cq_clones.specs.Lists.{AreAllInOrder}
 use Rattle.cq_clones.specs.Groups.{IsGroup, IsBefore}
 use Rattle.cq_base.specs.Places.{first_place}
 use Rattle.cq_clones.specs.Windows.{HasKey, IsBucket}
+use Rattle.cq_tokens.specs.declared.files.Files as files
 use Rattle.cq_tokens.specs.declared.corpus.Corpus.{Corpus}
 use Rattle.cq_tokens.specs.Parts.{tokens_in, changes_in, keys_in}
-use Rattle.std.specs.BTreeMap.{get}
-use Rattle.std.specs.BTreeSet.{BTreeSet, contains}
-use Rattle.std.specs.Ordering.{nat_cmp}
-use Rattle.cq_refine.specs.declared.changes.Changes.{Changes}
 use Rattle.cq_refine.specs.Sets.{AreAllOnce}
-
--- the position of each change
-abbrev pub IsIndexOf : List ℕ → (ℕ → Option ℕ) → Type 0
-IsIndexOf changes index = (change file : ℕ) → (index change ≡ Some file) ↔ (slice_get changes file ≡ Some change)
-
-abbrev pub index_of : Changes → ℕ → Option ℕ
-index_of c change = get nat_cmp c.files change
-
-abbrev pub IsIndex : List ℕ → Changes → Type 0
-IsIndex changes c = IsIndexOf changes (index_of c)
-
--- the position of each change that an entry has
-abbrev pub IsIndexFor : List Entry → List ℕ → Changes → Type 0
-IsIndexFor bucket changes c = (change file : ℕ) → Any (λ e. e.change ≡ change) bucket → (index_of c change ≡ Some file) ↔ (slice_get changes file ≡ Some change)
-
-abbrev pub AreAsked : List Entry → BTreeSet ℕ → Type 0
-AreAsked bucket asked = (change : ℕ) → IsTrue (contains nat_cmp asked change) ↔ Any (λ e. e.change ≡ change) bucket
 
 -- the place of an entry
 pub record IsPlaceOf (changes : List ℕ) (e : Entry) (p : Place) : Type 0 where
@@ -42,14 +22,15 @@ pub record IsPlaceOf (changes : List ℕ) (e : Entry) (p : Place) : Type 0 where
 abbrev pub IsGroupOfKey : {T : Type 0} → List (List T) → List (List ℕ) → ℕ → ℕ → Group → Type 0
 IsGroupOfKey corpus keys least key group = IsGroup corpus least group × HasKey keys key (first_place group)
 
--- all entries of a corpus with the key, in order
-abbrev pub IsBucketIn : {L : Type 0} {g : Ghosts L} → Corpus L g → ℕ → List Entry → Type 0
-IsBucketIn corpus key bucket = IsBucket (changes_in corpus) (keys_in corpus) key bucket
+module _ {F R : Type 0} {f : files.Ghosts F R} {g : ledger.Ghosts R} where
+  -- all entries of a corpus with the key, in order
+  abbrev pub IsBucketIn : Corpus F R f g → ℕ → List Entry → Type 0
+  IsBucketIn corpus key bucket = IsBucket (changes_in corpus) (keys_in corpus) key bucket
 
--- all places of a corpus at which a window of the key begins, in order
-abbrev pub ArePlacesWith : {L : Type 0} {g : Ghosts L} → Corpus L g → ℕ → List Place → Type 0
-ArePlacesWith corpus key places = AreAllInOrder IsBefore (HasKey (keys_in corpus) key) places
+  -- all places of a corpus at which a window of the key begins, in order
+  abbrev pub ArePlacesWith : Corpus F R f g → ℕ → List Place → Type 0
+  ArePlacesWith corpus key places = AreAllInOrder IsBefore (HasKey (keys_in corpus) key) places
 
--- exactly the groups of a corpus whose word begins with a window of the key, each once
-abbrev pub AreGroupsOfKey : {L : Type 0} {g : Ghosts L} → Corpus L g → ℕ → ℕ → List Group → Type 0
-AreGroupsOfKey corpus least key groups = AreAllOnce (IsGroupOfKey (tokens_in corpus.files) (keys_in corpus) least key) groups
+  -- exactly the groups of a corpus whose word begins with a window of the key, each once
+  abbrev pub AreGroupsOfKey : Corpus F R f g → ℕ → ℕ → List Group → Type 0
+  AreGroupsOfKey corpus least key groups = AreAllOnce (IsGroupOfKey (tokens_in corpus.files) (keys_in corpus) least key) groups

@@ -8,8 +8,7 @@ ghost use Rattle.cq_refine.specs.Sets.{AreOne, AreAlike, IsGap, IsDifference, Is
 
 use crate::spots::Spot;
 use cq_base::{Place, Steps};
-use cq_tokens::{FileList, Seen};
-use std::sync::ledger::Ledger;
+use cq_tokens::{FileList, Files, Seen};
 
 /// What was read of the tokens on one side of some places, where they are not all there and the same.
 #[derive(Clone, Copy)]
@@ -33,10 +32,10 @@ pub(crate) fn are_same(a: Option<Seen<'_>>, b: Option<Seen<'_>>) -> bool
 }
 
 /// The first difference among the tokens before some places; None where they are all there and the same.
-pub(crate) fn difference_before<'a, L: Ledger>(
-    files: &FileList<'a, L>,
+pub(crate) fn difference_before<'a, F: Files>(
+    files: &FileList<'a, F>,
     places: &[Place],
-    steps: &mut Steps<L>,
+    steps: &mut Steps<F::Reads>,
 ) -> Option<Difference<'a>>
     requires several { 2 ≤ length places.now }
     requires places { All (IsPlace (tokens_in files.now)) places.now }
@@ -87,11 +86,11 @@ fn gap_within(gap: u32, n: u32) -> u32
 /// The first difference among the tokens `n` behind some spots with one word of `n` tokens; None where they are all there
 /// and the same. A spot that the next one follows within the word goes on by a token of the word itself, which is read
 /// once for all that follow each other by the same gap.
-pub(crate) fn difference_behind<'a, L: Ledger>(
-    files: &FileList<'a, L>,
+pub(crate) fn difference_behind<'a, F: Files>(
+    files: &FileList<'a, F>,
     spots: &[Spot],
     n: u32,
-    steps: &mut Steps<L>,
+    steps: &mut Steps<F::Reads>,
 ) -> Option<Difference<'a>>
     requires several { 2 ≤ length spots.now }
     requires places { All (λ s. IsPlace (tokens_in files.now) s.place) spots.now }
@@ -124,12 +123,12 @@ pub(crate) fn difference_behind<'a, L: Ledger>(
 }
 
 /// The token before the place at `i`. It is read unless it was.
-pub(crate) fn token_before_at<'a, L: Ledger>(
-    files: &FileList<'a, L>,
+pub(crate) fn token_before_at<'a, F: Files>(
+    files: &FileList<'a, F>,
     places: &[Place],
     i: usize,
     difference: &Difference<'a>,
-    steps: &mut Steps<L>,
+    steps: &mut Steps<F::Reads>,
 ) -> Option<Seen<'a>>
     requires within { i < length places.now }
     requires places { All (IsPlace (tokens_in files.now)) places.now }
@@ -147,13 +146,13 @@ pub(crate) fn token_before_at<'a, L: Ledger>(
 }
 
 /// The token `n` behind the spot at `i`. It is read unless it was.
-pub(crate) fn token_behind_at<'a, L: Ledger>(
-    files: &FileList<'a, L>,
+pub(crate) fn token_behind_at<'a, F: Files>(
+    files: &FileList<'a, F>,
     spots: &[Spot],
     i: usize,
     n: u32,
     difference: &Difference<'a>,
-    steps: &mut Steps<L>,
+    steps: &mut Steps<F::Reads>,
 ) -> Option<Seen<'a>>
     requires within { i < length spots.now }
     requires places { All (λ s. IsPlace (tokens_in files.now) s.place) spots.now }

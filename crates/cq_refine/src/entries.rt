@@ -2,18 +2,16 @@ ghost use Rattle.std.specs.Prelude.{◌≡◌, ℕ, ◌≤◌, length, IfOk, Lis
 ghost use Rattle.cq_base.specs.declared.group.Place.{Place};
 ghost use Rattle.cq_clones.specs.Groups.{IsBefore};
 ghost use Rattle.cq_order.specs.Order.{IsOrderOf};
-ghost use Rattle.cq_tokens.specs.Parts.{tokens_in, changes_in};
+ghost use Rattle.cq_tokens.specs.Parts.{tokens_in};
 ghost use Rattle.cq_refine.specs.Sets.{ReadsAtMost};
-ghost use Rattle.cq_refine.specs.Places.{IsIndexFor, IsBucketIn, ArePlacesWith, AreGroupsOfKey};
+ghost use Rattle.cq_refine.specs.Places.{IsBucketIn, ArePlacesWith, AreGroupsOfKey};
 
-use crate::changes::Changes;
 use crate::index::Index;
 use crate::refining::refine_places;
 use cq_base::{Entry, Group, Memory, Place, Steps};
-use cq_order::sort_places;
-use cq_tokens::Corpus;
+use cq_order::{sort_places, spot_of};
+use cq_tokens::Files;
 use std::alloc::Global;
-use std::sync::ledger::Ledger;
 
 /// The places in order.
 fn in_order(places: Vec<Place>) -> Vec<Place>
@@ -25,56 +23,31 @@ fn in_order(places: Vec<Place>) -> Vec<Place>
 }
 
 /// The places of a bucket's entries, in order.
-fn places_of_bucket<L: Ledger>(
+fn places_of_bucket<F: Files>(
     alloc: Global,
-    index: &Changes,
+    index: &Index<'_, F>,
     bucket: &[Entry],
-    corpus: &Corpus<'_, L>,
 ) -> Result<Vec<Place>, Memory>
-    requires index { IsIndexFor bucket.now (changes_in corpus.now) index.now }
-    requires bucket { (key : ℕ) × IsBucketIn corpus.now key bucket.now }
-    ensures places { (key : ℕ) → IsBucketIn corpus.now key bucket.now → IfOk result (λ places. ArePlacesWith corpus.now key places.items) }
+    requires { (key : ℕ) × IsBucketIn index.now.corpus key bucket.now }
+    ensures places { (key : ℕ) → IsBucketIn index.now.corpus key bucket.now → IfOk result (λ places. ArePlacesWith index.now.corpus key places.items) }
     ensures size { IfOk result (λ places. length places.items ≤ length bucket.now) }
 {
     let mut places = Vec::with_capacity(alloc, bucket.len())?;
     for entry in bucket {
-        if let Some(file) = index.file(entry.change) {
+        if let Some(file) = spot_of(index.spots, entry.change) {
             places.push(Place { file, at: entry.at })?;
         }
     }
     Ok(in_order(places))
 }
 
-/// The groups whose word begins with a window of the bucket's key, each once. The index has the files of its entries.
-fn refine_bucket<L: Ledger>(
-    alloc: Global,
-    index: &Changes,
-    bucket: &[Entry],
-    corpus: &Corpus<'_, L>,
-    min: u32,
-    steps: &mut Steps<L>,
-) -> Result<Vec<Group>, Memory>
-    requires index { IsIndexFor bucket.now (changes_in corpus.now) index.now }
-    requires bucket { (key : ℕ) × IsBucketIn corpus.now key bucket.now }
-    requires long { corpus.now.chunk ≤ min }
-    ensures groups { (key : ℕ) → IsBucketIn corpus.now key bucket.now → IfOk result (λ groups. AreGroupsOfKey corpus.now min key groups.items) }
-    ensures bound { ReadsAtMost (tokens_in corpus.now.files) (length bucket.now) steps.old steps.new }
-    ensures places_bound { (key : ℕ) (places : List Place) → IsBucketIn corpus.now key bucket.now → ArePlacesWith corpus.now key places → ReadsAtMost (tokens_in corpus.now.files) (length places) steps.old steps.new }
-{
-    if bucket.len() < 2 {
-        return Ok(Vec::new(alloc));
-    }
-    let places = places_of_bucket(alloc, index, bucket, corpus)?;
-    refine_places(alloc, &corpus.files, &places, min, steps)
-}
-
 /// The groups whose word begins with a window of the bucket's key, each once. A bucket of one entry costs nothing.
-pub fn refine_with<L: Ledger>(
+pub fn refine<F: Files>(
     alloc: Global,
-    index: &Index<'_, L>,
+    index: &Index<'_, F>,
     bucket: &[Entry],
     min: u32,
-    steps: &mut Steps<L>,
+    steps: &mut Steps<F::Reads>,
 ) -> Result<Vec<Group>, Memory>
     requires bucket { (key : ℕ) × IsBucketIn index.now.corpus key bucket.now }
     requires long { index.now.corpus.chunk ≤ min }
@@ -82,26 +55,9 @@ pub fn refine_with<L: Ledger>(
     ensures bound { ReadsAtMost (tokens_in index.now.corpus.files) (length bucket.now) steps.old steps.new }
     ensures places_bound { (key : ℕ) (places : List Place) → IsBucketIn index.now.corpus key bucket.now → ArePlacesWith index.now.corpus key places → ReadsAtMost (tokens_in index.now.corpus.files) (length places) steps.old steps.new }
 {
-    refine_bucket(alloc, &index.changes, bucket, &index.corpus, min, steps)
-}
-
-/// The groups whose word begins with a window of the bucket's key, each once. It searches each file's change among those
-/// of the bucket; for many buckets make an `Index`.
-pub fn refine<L: Ledger>(
-    alloc: Global,
-    corpus: &Corpus<'_, L>,
-    bucket: &[Entry],
-    min: u32,
-    steps: &mut Steps<L>,
-) -> Result<Vec<Group>, Memory>
-    requires bucket { (key : ℕ) × IsBucketIn corpus.now key bucket.now }
-    requires long { corpus.now.chunk ≤ min }
-    ensures groups { (key : ℕ) → IsBucketIn corpus.now key bucket.now → IfOk result (λ groups. AreGroupsOfKey corpus.now min key groups.items) }
-    ensures bound { ReadsAtMost (tokens_in corpus.now.files) (length bucket.now) steps.old steps.new }
-{
     if bucket.len() < 2 {
         return Ok(Vec::new(alloc));
     }
-    let index = Changes::of_bucket(alloc, bucket, corpus)?;
-    refine_bucket(alloc, &index, bucket, corpus, min, steps)
+    let places = places_of_bucket(alloc, index, bucket)?;
+    refine_places(alloc, &index.corpus.files, &places, min, steps)
 }

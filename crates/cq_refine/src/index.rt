@@ -1,28 +1,39 @@
-ghost use Rattle.std.specs.Prelude.{◌≡◌, IfOk};
+ghost use Rattle.std.specs.Prelude.{◌≡◌, ◌≢◌, AllPairs, IfOk};
+ghost use Rattle.cq_order.specs.Spots.{AreSpots};
 ghost use Rattle.cq_tokens.specs.Parts.{changes_in};
-ghost use Rattle.cq_refine.specs.Places.{IsIndex};
 
-use crate::changes::Changes;
 use cq_base::Memory;
-use cq_tokens::Corpus;
+use cq_order::{Spot, spots_of};
+use cq_tokens::{Corpus, Files};
 use std::alloc::Global;
-use std::sync::ledger::Ledger;
 
-/// A corpus with the file of each of its changes. It is made once, and serves each bucket and each list.
+/// A corpus with the spots of its changes. Both are lent, and nothing is made for it.
 #[derive(Drop)]
-pub struct Index<'a, L: Ledger> {
-    pub corpus: Corpus<'a, L>,
-    pub(crate) changes: Changes,
+pub struct Index<'a, F: Files> {
+    pub corpus: Corpus<'a, F>,
+    pub(crate) spots: &'a [Spot],
 
-    ghost index: { IsIndex (changes_in corpus) changes },
+    ghost spots_are: { AreSpots (changes_in corpus) spots.now },
 }
 
-impl<'a, L: Ledger> Index<'a, L> {
-    /// The index of a corpus. It costs an ordered map of its files.
-    pub fn new(alloc: Global, corpus: Corpus<'a, L>) -> Result<Index<'a, L>, Memory>
-        ensures { IfOk result (λ index. index.corpus ≡ corpus.entry) }
+impl<'a, F: Files> Index<'a, F> {
+    /// The index of a corpus, of which these are the spots.
+    pub fn new(corpus: Corpus<'a, F>, spots: &'a [Spot]) -> Index<'a, F>
+        requires { AreSpots (changes_in corpus) spots.now }
+        ensures { result.corpus ≡ corpus.entry }
     {
-        let changes = Changes::new(alloc, &corpus)?;
-        Ok(Index { corpus, changes })
+        Index { corpus, spots }
     }
+}
+
+/// The spots of files' changes, where nobody keeps them. It costs a sort of them.
+pub fn spots_in<F: Files>(alloc: Global, files: &F) -> Result<Vec<Spot>, Memory>
+    requires { AllPairs (λ a b. a ≢ b) (F.changes files.now) }
+    ensures { IfOk result (λ spots. AreSpots (F.changes files.now) spots.items) }
+{
+    let mut changes = Vec::new(alloc);
+    for file in 0..files.len() {
+        changes.push(files.change(file))?;
+    }
+    spots_of(alloc, &changes)
 }

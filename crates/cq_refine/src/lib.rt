@@ -8,11 +8,10 @@
 //! places of a group are found by jumps, a binary search each. No token is copied: memory is linear in the entries of the
 //! bucket.
 //!
-//! `refine_with` takes an `Index`, which is made once of a corpus and serves many buckets; `refine` searches each file's
-//! change among those of its bucket, n log m comparisons for n files and m entries.
+//! An `Index` lends the spots of its corpus's changes: the file of an entry is found by a binary search, and nothing that
+//! grows with the corpus is made for a bucket.
 #![tactic(auto)]
 
-mod changes;
 mod differing;
 mod entries;
 mod index;
@@ -23,5 +22,5 @@ mod refining;
 mod sets;
 mod spots;
 
-pub use entries::{refine, refine_with};
-pub use index::Index;
+pub use entries::refine;
+pub use index::{Index, spots_in};

@@ -9,10 +9,9 @@ ghost use Rattle.cq_refine.specs.Sets.{AreMarks, IsMarked, AreTwoMarks, IsDiffer
 use crate::differing::{Difference, token_before_at, token_behind_at};
 use crate::spots::{Marked, Spot};
 use cq_base::{Memory, Place, Steps};
-use cq_tokens::{FileList, Seen, equal_tokens_tie};
+use cq_tokens::{FileList, Files, Seen, equal_tokens_tie};
 use std::alloc::Global;
 use std::collections::BTreeMap;
-use std::sync::ledger::Ledger;
 
 /// The mark of a token, which is a new one where the token is new. It costs one search among the different tokens.
 pub(crate) fn mark_of<'a>(
@@ -44,9 +43,9 @@ fn two_marks(first: Option<Seen<'_>>, second: Option<Seen<'_>>) -> (usize, usize
 }
 
 /// Two places with the marks of the tokens before them.
-fn pair_of<L: Ledger>(
+fn pair_of<F: Files>(
     alloc: Global,
-    files: &FileList<'_, L>,
+    files: &FileList<'_, F>,
     places: &[Place],
     difference: &Difference<'_>,
 ) -> Result<Vec<Spot>, Memory>
@@ -70,12 +69,12 @@ fn pair_of<L: Ledger>(
 }
 
 /// The places with the marks of the tokens before them.
-fn spots_by_map<'a, L: Ledger>(
+fn spots_by_map<'a, F: Files>(
     alloc: Global,
-    files: &FileList<'a, L>,
+    files: &FileList<'a, F>,
     places: &[Place],
     difference: &Difference<'a>,
-    steps: &mut Steps<L>,
+    steps: &mut Steps<F::Reads>,
 ) -> Result<Vec<Spot>, Memory>
     requires places { All (IsPlace (tokens_in files.now)) places.now }
     requires differ { IsDifference (token_before (tokens_in files.now)) places.now difference.now }
@@ -94,12 +93,12 @@ fn spots_by_map<'a, L: Ledger>(
 }
 
 /// The places with the marks of the tokens before them, of which some were read. Two places need no map.
-pub(crate) fn spots_of<'a, L: Ledger>(
+pub(crate) fn spots_of<'a, F: Files>(
     alloc: Global,
-    files: &FileList<'a, L>,
+    files: &FileList<'a, F>,
     places: &[Place],
     difference: &Difference<'a>,
-    steps: &mut Steps<L>,
+    steps: &mut Steps<F::Reads>,
 ) -> Result<Vec<Spot>, Memory>
     requires places { All (IsPlace (tokens_in files.now)) places.now }
     requires differ { IsDifference (token_before (tokens_in files.now)) places.now difference.now }
@@ -114,13 +113,13 @@ pub(crate) fn spots_of<'a, L: Ledger>(
 }
 
 /// The spots with the marks of the tokens `n` behind them, of which some were read.
-pub(crate) fn marked_of<'a, L: Ledger>(
+pub(crate) fn marked_of<'a, F: Files>(
     alloc: Global,
-    files: &FileList<'a, L>,
+    files: &FileList<'a, F>,
     spots: &[Spot],
     n: u32,
     difference: &Difference<'a>,
-    steps: &mut Steps<L>,
+    steps: &mut Steps<F::Reads>,
 ) -> Result<Vec<Marked>, Memory>
     requires places { All (λ s. IsPlace (tokens_in files.now) s.place) spots.now }
     requires differ { IsDifference (λ s. token_behind (tokens_in files.now) s.place n) spots.now difference.now }

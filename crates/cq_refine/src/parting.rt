@@ -10,10 +10,9 @@ use crate::marks::mark_of;
 use crate::sets::{highest, parts_of, push_all};
 use crate::spots::{Marked, Set, Spot};
 use cq_base::{Memory, Steps};
-use cq_tokens::FileList;
+use cq_tokens::{FileList, Files};
 use std::alloc::Global;
 use std::collections::BTreeMap;
-use std::sync::ledger::Ledger;
 
 /// Spots told apart by the token behind their word.
 #[derive(Drop)]
@@ -28,13 +27,13 @@ pub(crate) struct Parting {
 
 /// Tells the spots that go on as the first one does from the others. Those before the first difference are copied as they
 /// stand, and each later one costs a comparison; only the others are searched in a map.
-fn parting_of<'a, L: Ledger>(
+fn parting_of<'a, F: Files>(
     alloc: Global,
-    files: &FileList<'a, L>,
+    files: &FileList<'a, F>,
     spots: &[Spot],
     n: u32,
     difference: &Difference<'a>,
-    steps: &mut Steps<L>,
+    steps: &mut Steps<F::Reads>,
 ) -> Result<Parting, Memory>
     requires some { IsSome (option_map norm_in difference.now.first) }
     requires places { All (λ s. IsPlace (tokens_in files.now) s.place) spots.now }
@@ -74,13 +73,13 @@ fn parts_with(alloc: Global, parting: Parting) -> Result<Vec<Vec<Spot>>, Memory>
 }
 
 /// Adds the parts of a set that may give groups, where its first place goes on by a token.
-pub(crate) fn push_parting<'a, L: Ledger>(
+pub(crate) fn push_parting<'a, F: Files>(
     alloc: Global,
-    files: &FileList<'a, L>,
+    files: &FileList<'a, F>,
     set: &Set,
     difference: &Difference<'a>,
     sets: &mut Vec<Set>,
-    steps: &mut Steps<L>,
+    steps: &mut Steps<F::Reads>,
 ) -> Result<(), Memory>
     requires some { IsSome (option_map norm_in difference.now.first) }
     requires places { All (λ s. IsPlace (tokens_in files.now) s.place) set.now.spots.items }

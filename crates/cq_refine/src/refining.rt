@@ -9,9 +9,8 @@ use crate::parting::push_parting;
 use crate::sets::{add_group, highest, may_give, push_parts};
 use crate::spots::{Set, Spot};
 use cq_base::{Group, Memory, Place, Steps};
-use cq_tokens::FileList;
+use cq_tokens::{FileList, Files};
 use std::alloc::Global;
-use std::sync::ledger::Ledger;
 
 /// The set of all spots, if they may give groups.
 fn first_sets(alloc: Global, spots: Vec<Spot>) -> Result<Vec<Set>, Memory>
@@ -25,13 +24,13 @@ fn first_sets(alloc: Global, spots: Vec<Spot>) -> Result<Vec<Set>, Memory>
 }
 
 /// Adds the parts of a set whose first place is at its file's end.
-fn push_marked<'a, L: Ledger>(
+fn push_marked<'a, F: Files>(
     alloc: Global,
-    files: &FileList<'a, L>,
+    files: &FileList<'a, F>,
     set: &Set,
     difference: &Difference<'a>,
     sets: &mut Vec<Set>,
-    steps: &mut Steps<L>,
+    steps: &mut Steps<F::Reads>,
 ) -> Result<(), Memory>
     requires places { All (λ s. IsPlace (tokens_in files.now) s.place) set.now.spots.items }
     requires differ { IsDifference (λ s. token_behind (tokens_in files.now) s.place set.now.depth) set.now.spots.items difference.now }
@@ -48,15 +47,15 @@ fn push_marked<'a, L: Ledger>(
 }
 
 /// Gives up a set whose places go on by different tokens for its group and its parts. Two places have no parts.
-fn part<'a, L: Ledger>(
+fn part<'a, F: Files>(
     alloc: Global,
-    files: &FileList<'a, L>,
+    files: &FileList<'a, F>,
     set: &Set,
     difference: &Difference<'a>,
     min: u32,
     sets: &mut Vec<Set>,
     groups: &mut Vec<Group>,
-    steps: &mut Steps<L>,
+    steps: &mut Steps<F::Reads>,
 ) -> Result<(), Memory>
     requires gives { MayGive set.now.spots.items }
     requires ordered { AllPairs IsSpotBefore set.now.spots.items }
@@ -77,14 +76,14 @@ fn part<'a, L: Ledger>(
 }
 
 /// Takes a set one token further: all of it, where its places go on by one token, and else its parts.
-fn split<L: Ledger>(
+fn split<F: Files>(
     alloc: Global,
-    files: &FileList<'_, L>,
+    files: &FileList<'_, F>,
     set: Set,
     min: u32,
     sets: &mut Vec<Set>,
     groups: &mut Vec<Group>,
-    steps: &mut Steps<L>,
+    steps: &mut Steps<F::Reads>,
 ) -> Result<(), Memory>
     requires gives { MayGive set.spots.items }
     requires ordered { AllPairs IsSpotBefore set.spots.items }
@@ -104,12 +103,12 @@ fn split<L: Ledger>(
 }
 
 /// The groups whose first place is one of the places, each once. Places with one token before them all give none.
-pub(crate) fn refine_places<L: Ledger>(
+pub(crate) fn refine_places<F: Files>(
     alloc: Global,
-    files: &FileList<'_, L>,
+    files: &FileList<'_, F>,
     places: &[Place],
     min: u32,
-    steps: &mut Steps<L>,
+    steps: &mut Steps<F::Reads>,
 ) -> Result<Vec<Group>, Memory>
     requires entries { AreEntries (tokens_in files.now) min places.now }
     requires some { 1 ≤ min }

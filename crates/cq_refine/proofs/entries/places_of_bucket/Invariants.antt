@@ -5,4 +5,4 @@ use Rattle.cq_refine.proofs.entries.places_of_bucket.Given as goal
 
 abbrev pub invariant-loop-entry : goal.invariant-loop-entry
 invariant-loop-entry g l =
-    ArePlacesOf (changes_in l.corpus) (take l.entry-index l.bucket) l.places.items × (length l.places.items ≤ l.entry-index)
+    ArePlacesOf (changes_in l.index.corpus) (take l.entry-index l.bucket) l.places.items × (length l.places.items ≤ l.entry-index)

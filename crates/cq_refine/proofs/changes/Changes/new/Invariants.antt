@@ -1,8 +1,0 @@
-use Rattle.std.specs.BTreeMap.{get}
-use Rattle.std.specs.Ordering.{nat_cmp}
-use Rattle.cq_tokens.specs.Parts.{changes_in}
-use Rattle.cq_refine.proofs.KeyPlaces.{Every, IsIndexUpto}
-use Rattle.cq_refine.proofs.changes.Changes.new.Given as goal
-
-abbrev pub invariant-loop-file : goal.invariant-loop-file
-invariant-loop-file g l = IsIndexUpto Every (changes_in l.corpus) l.file (λ change. get nat_cmp l.places change)
