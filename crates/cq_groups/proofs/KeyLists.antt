@@ -2,7 +2,6 @@
 use Rattle.std.proofs.Common.{◌≡◌, ◌↔◌, ℕ, ◌+◌, ◌*◌, ◌<◌, ◌≤◌, List, [], ◌++◌, length, get_or, slice_get, Some, sym, ap, ◌∙◌, subst, ⊎_elim, arith}
 use Rattle.std.specs.Prelude.{Contains, OnOk}
 use Rattle.std.proofs.Common.{Result, Ok, Err}
-use Rattle.std.specs.Arc.{arc_value}
 use Rattle.std.proofs.Math.Nat.{add-mul, mul-le-mul_right}
 use Rattle.std.proofs.lemmas.Bool.{cases_lt}
 use Rattle.std.proofs.lemmas.List.{length-map, get_or-map, get_or_past}
@@ -12,20 +11,8 @@ use Rattle.cq_base.specs.declared.group.Place.{Place}
 use Rattle.cq_clones.specs.Groups.{file_at}
 use Rattle.cq_clones.proofs.InOrder.{in_order_same, AreAllInOrder-same}
 use Rattle.cq_base.proofs.Lists.{Contains-nil}
-use Rattle.cq_tokens.specs.declared.FileTokens.{FileTokens}
-use Rattle.cq_tokens.specs.Corpus.{changes_of, keys_of}
 use Rattle.cq_clones.specs.Windows.{HasKey}
 use Rattle.cq_groups.specs.Listing.{IsKey, IsKeyIn, AreAllRising, Rises, RisesAtMost}
-
--- the keys of one file
-pub keys_at : {L : Type 0} (files : List (FileTokens L)) (i : ℕ) (f : FileTokens L) → i < length files → f ≡ get_or files i f → file_at (keys_of files) i ≡ arc_value f.keys
-keys_at files i f lt read = get_or-map (λ file. arc_value file.keys) files i f [] lt ∙ ap (λ file. arc_value file.keys) (sym read)
-
--- the change of one file
-pub change_at : {L : Type 0} (files : List (FileTokens L)) (i : ℕ) (f : FileTokens L) → i < length files → f ≡ get_or files i f → slice_get (changes_of files) i ≡ Some f.change
-change_at files i f lt read =
-    let n = length-map files (λ file. file.change) in
-    slice_get-get_or (changes_of files) i f.change (omega (arith, n, lt)) ∙ ap Some (get_or-map (λ file. file.change) files i f f.change lt ∙ ap (λ file. file.change) (sym read))
 
 -- the keys of the first files
 abbrev pub AreKeysUpto : List (List ℕ) → ℕ → List ℕ → Type 0

@@ -3,9 +3,8 @@ ghost use Rattle.cq_tokens.specs.Parts.{tokens_in, keys_in};
 ghost use Rattle.cq_groups.specs.Listing.{IsKey, IsKeyIn, AreAllRising};
 
 use cq_base::Memory;
-use cq_tokens::Corpus;
+use cq_tokens::{Corpus, Files};
 use std::alloc::Global;
-use std::sync::ledger::Ledger;
 
 /// The different ones of the keys, in order.
 fn different(keys: Vec<u64>) -> Vec<u64>
@@ -18,7 +17,7 @@ fn different(keys: Vec<u64>) -> Vec<u64>
 }
 
 /// The different keys of the files' windows, in order.
-pub(crate) fn all_keys<L: Ledger>(alloc: Global, corpus: &Corpus<'_, L>) -> Result<Vec<u64>, Memory>
+pub(crate) fn all_keys<F: Files>(alloc: Global, corpus: &Corpus<'_, F>) -> Result<Vec<u64>, Memory>
     ensures { IfOk result (λ keys. AreAllRising (IsKey (keys_in corpus.now)) keys.items) }
 {
     let mut keys = Vec::new(alloc);
@@ -29,9 +28,9 @@ pub(crate) fn all_keys<L: Ledger>(alloc: Global, corpus: &Corpus<'_, L>) -> Resu
 }
 
 /// The different keys of a file's windows, in order.
-pub(crate) fn file_keys<L: Ledger>(
+pub(crate) fn file_keys<F: Files>(
     alloc: Global,
-    corpus: &Corpus<'_, L>,
+    corpus: &Corpus<'_, F>,
     file: u32,
 ) -> Result<Vec<u64>, Memory>
     requires { file < length (tokens_in corpus.now.files) }

@@ -10,18 +10,18 @@ use crate::buckets::Buckets;
 use crate::keys::{all_keys, file_keys};
 use cq_base::{Group, Memory, Steps};
 use cq_order::order;
-use cq_refine::{Index, refine_with};
+use cq_refine::{Index, refine};
+use cq_tokens::Files;
 use std::alloc::Global;
-use std::sync::ledger::Ledger;
 
 /// The groups of different keys, each once. It asks once for each key.
-fn list_keys<B: Buckets, L: Ledger>(
+fn list_keys<B: Buckets, F: Files>(
     alloc: Global,
-    index: &Index<'_, L>,
+    index: &Index<'_, F>,
     keys: &[u64],
     min: u32,
     buckets: &mut B,
-    steps: &mut Steps<L>,
+    steps: &mut Steps<F::Reads>,
 ) -> Result<Vec<Group>, Memory>
     requires long { index.now.corpus.chunk ≤ min }
     requires for_changes { B.file_changes buckets.old ≡ changes_in index.now.corpus }
@@ -40,19 +40,19 @@ fn list_keys<B: Buckets, L: Ledger>(
     let mut groups = Vec::new(alloc);
     for key in keys {
         let bucket = buckets.bucket(alloc, *key)?;
-        let mut found = refine_with(alloc, index, &bucket, min, steps)?;
+        let mut found = refine(alloc, index, &bucket, min, steps)?;
         groups.append(&mut found)?;
     }
     Ok(groups)
 }
 
 /// All groups of the files, in order. It asks once for each different key of a window.
-pub fn list_all<B: Buckets, L: Ledger>(
+pub fn list_all<B: Buckets, F: Files>(
     alloc: Global,
-    index: &Index<'_, L>,
+    index: &Index<'_, F>,
     min: u32,
     buckets: &mut B,
-    steps: &mut Steps<L>,
+    steps: &mut Steps<F::Reads>,
 ) -> Result<Vec<Group>, Memory>
     requires long { index.now.corpus.chunk ≤ min }
     requires for_changes { B.file_changes buckets.old ≡ changes_in index.now.corpus }
@@ -98,13 +98,13 @@ fn in_file(alloc: Global, groups: Vec<Group>, file: u32) -> Result<Vec<Group>, M
 }
 
 /// The groups with a place in the file, in order. It asks once for each different key of the file's windows.
-pub fn list_file<B: Buckets, L: Ledger>(
+pub fn list_file<B: Buckets, F: Files>(
     alloc: Global,
-    index: &Index<'_, L>,
+    index: &Index<'_, F>,
     file: u32,
     min: u32,
     buckets: &mut B,
-    steps: &mut Steps<L>,
+    steps: &mut Steps<F::Reads>,
 ) -> Result<Vec<Group>, Memory>
     requires within { file < length (tokens_in index.now.corpus.files) }
     requires long { index.now.corpus.chunk ≤ min }

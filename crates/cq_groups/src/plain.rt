@@ -2,15 +2,13 @@ ghost use Rattle.std.specs.Prelude.{◌≡◌, ◌≢◌, refl, ◌⊎◌, ◌^�
 ghost use Rattle.std.proofs.Common.{◌∙◌};
 ghost use Rattle.cq_base.specs.declared.entry.Entry.{Entry};
 ghost use Rattle.cq_clones.specs.Lists.{AreAllInOrder};
-ghost use Rattle.cq_tokens.specs.Corpus.{changes_of, keys_of};
 ghost use Rattle.cq_clones.specs.Windows.{IsBucket};
 
 use crate::buckets::Buckets;
 use cq_base::{Entry, Memory};
 use cq_order::sort_entries;
-use cq_tokens::FileTokens;
+use cq_tokens::Files;
 use std::alloc::Global;
-use std::sync::ledger::Ledger;
 
 /// Adds the entries of a file that have the key.
 fn push_entries(entries: &mut Vec<Entry>, change: u64, keys: &[u64], key: u64) -> Result<(), Memory>
@@ -32,17 +30,13 @@ fn push_entries(entries: &mut Vec<Entry>, change: u64, keys: &[u64], key: u64) -
 }
 
 /// All entries of the files with the key, in order.
-fn entries_of<L: Ledger>(
-    alloc: Global,
-    files: &[FileTokens<L>],
-    key: u64,
-) -> Result<Vec<Entry>, Memory>
-    requires { AllPairs (λ a b. a ≢ b) (changes_of files.now) }
-    ensures { IfOk result (λ entries. IsBucket (changes_of files.now) (keys_of files.now) key entries.items) }
+fn entries_of<F: Files>(alloc: Global, files: &F, key: u64) -> Result<Vec<Entry>, Memory>
+    requires { AllPairs (λ a b. a ≢ b) (F.changes files.now) }
+    ensures { IfOk result (λ entries. IsBucket (F.changes files.now) (F.keys files.now) key entries.items) }
 {
     let mut entries = Vec::new(alloc);
-    for file in files {
-        push_entries(&mut entries, file.change, file.keys.as_slice(), key)?;
+    for file in 0..files.len() {
+        push_entries(&mut entries, files.change(file), files.keys(file), key)?;
     }
     sort_entries(&mut entries);
     Ok(entries)
@@ -50,16 +44,16 @@ fn entries_of<L: Ledger>(
 
 /// Buckets over files in memory, which reads all keys at each question.
 #[derive(Drop)]
-pub struct PlainBuckets<'a, L: Ledger> {
-    files: &'a [FileTokens<L>],
+pub struct PlainBuckets<'a, F: Files> {
+    files: &'a F,
     asked: u64,
 
-    ghost apart: { AllPairs (λ a b. a ≢ b) (changes_of files.now) },
+    ghost apart: { AllPairs (λ a b. a ≢ b) (F.changes files.now) },
 }
 
-impl<'a, L: Ledger> PlainBuckets<'a, L> {
-    pub fn new(files: &'a [FileTokens<L>]) -> PlainBuckets<'a, L>
-        requires { AllPairs (λ a b. a ≢ b) (changes_of files.now) }
+impl<'a, F: Files> PlainBuckets<'a, F> {
+    pub fn new(files: &'a F) -> PlainBuckets<'a, F>
+        requires { AllPairs (λ a b. a ≢ b) (F.changes files.now) }
         ensures files { result.files.now ≡ files.now }
         ensures asked { result.asked ≡ 0 }
     {
@@ -74,10 +68,10 @@ impl<'a, L: Ledger> PlainBuckets<'a, L> {
     }
 }
 
-impl<'a, L: Ledger> Buckets for PlainBuckets<'a, L> {
-    ghost file_changes = { λ b. changes_of b.files.now };
+impl<'a, F: Files> Buckets for PlainBuckets<'a, F> {
+    ghost file_changes = { λ b. F.changes b.files.now };
 
-    ghost file_keys = { λ b. keys_of b.files.now };
+    ghost file_keys = { λ b. F.keys b.files.now };
 
     ghost asked = { λ b. b.asked };
 

@@ -3,8 +3,8 @@ ghost use Rattle.cq_groups.specs.Plain.{HasOneKey};
 
 use crate::{PlainBuckets, list_all};
 use cq_base::{Class, Group, Keys, Lang, Memory, Norm, Place, Steps, Text};
-use cq_refine::Index;
-use cq_tokens::{Corpus, FileTokens, Tokens};
+use cq_refine::{Index, spots_in};
+use cq_tokens::{Corpus, FileTokens, PlainFiles, Tokens};
 use std::alloc::Global;
 use std::marker::Brand;
 use std::sync::Arc;
@@ -59,10 +59,11 @@ fn listed<L: Ledger>(
             files.push(file)?;
         }
     }
-    let files = files.as_slice();
+    let listed = PlainFiles::new(&files);
+    let spots = spots_in(alloc, &listed)?;
+    let index = Index::new(Corpus::new(2, &listed), &spots);
+    let mut buckets = PlainBuckets::new(&listed);
     let mut steps = Steps::new(blank);
-    let mut buckets = PlainBuckets::new(files);
-    let index = Index::new(alloc, Corpus::new(2, files))?;
     list_all(alloc, &index, min, &mut buckets, &mut steps)
 }
 

@@ -7,9 +7,9 @@ use cq_base::{Group, Memory, Settings, Steps};
 use cq_groups::{Buckets, PlainBuckets, list_all, list_file};
 use cq_key::{Keyer, files_are_keyed_by_their_windows, plain_key};
 use cq_order::order;
-use cq_refine::{Index, refine};
+use cq_refine::{Index, refine, spots_in};
 use cq_scan::scan;
-use cq_tokens::{Corpus, FileTokens};
+use cq_tokens::{Corpus, FileTokens, PlainFiles};
 use std::alloc::Global;
 use std::marker::Brand;
 use std::sync::ledger::{Blank, Ledger};
@@ -64,9 +64,11 @@ fn agrees<L: Ledger>(
     requires long { settings.now.chunk ≤ min }
 {
     files_are_keyed_by_their_windows();
-    let plain = scan(alloc, files, min, steps)?;
-    let mut buckets = PlainBuckets::new(files);
-    let index = Index::new(alloc, Corpus::new(settings.chunk, files))?;
+    let files = PlainFiles::new(files);
+    let plain = scan(alloc, &files, min, steps)?;
+    let spots = spots_in(alloc, &files)?;
+    let index = Index::new(Corpus::new(settings.chunk, &files), &spots);
+    let mut buckets = PlainBuckets::new(&files);
     let all = list_all(alloc, &index, min, &mut buckets, steps)?;
     let mut same = are_same(&plain, &all, None);
     for file in 0..index.corpus.len() {
@@ -89,11 +91,12 @@ fn agrees_in_one_bucket<L: Ledger>(
     requires long { settings.now.chunk ≤ min }
 {
     files_are_keyed_by_their_windows();
-    let plain = scan(alloc, files, min, steps)?;
-    let mut buckets = PlainBuckets::new(files);
-    let bucket = buckets.bucket(alloc, 0)?;
-    let corpus = Corpus::new(settings.chunk, files);
-    let found = order(refine(alloc, &corpus, &bucket, min, steps)?)?;
+    let files = PlainFiles::new(files);
+    let plain = scan(alloc, &files, min, steps)?;
+    let spots = spots_in(alloc, &files)?;
+    let index = Index::new(Corpus::new(settings.chunk, &files), &spots);
+    let bucket = PlainBuckets::new(&files).bucket(alloc, 0)?;
+    let found = order(refine(alloc, &index, &bucket, min, steps)?)?;
     Ok(are_same(&plain, &found, None))
 }
 

@@ -23,8 +23,8 @@ loop-key-init g c = record {
   bound = λ windows are longest is. omega arith;
 }
 
-pub refine_with-requires-clause-bucket : goal.refine_with-requires-clause-bucket
-refine_with-requires-clause-bucket g c = (
+pub refine-requires-clause-bucket : goal.refine-requires-clause-bucket
+refine-requires-clause-bucket g c = (
   get_or c.args.keys.now c.loop-key.key-index 0,
   subst (λ (es : List Entry). IsBucket (changes_in c.args.index.now.corpus) (keys_in c.args.index.now.corpus) (get_or c.args.keys.now c.loop-key.key-index 0) es) (sym c.deref.ensures.value)
       (subst₂ (λ cs ks. IsBucket cs ks (get_or c.args.keys.now c.loop-key.key-index 0) c.in_ok-bucket.bucket.items) c.loop-key.invariant.for_changes c.loop-key.invariant.for_keys c.in_ok-bucket.ensures.bucket),
@@ -48,10 +48,10 @@ loop-key-preserved g c =
       asked = rises_more _ _ _ i c.loop-key.invariant.asked c.bucket.ensures.asked;
       moved = g.met.B.Buckets.moved_on _ _ _ c.loop-key.invariant.moved c.bucket.ensures.moved;
       bound = λ windows are longest is.
-          reads_more c.args.steps.now c.loop-key.steps c.refine_with.new.steps (sum_by (count keys windows) (take i ks)) (sum_by (count keys windows) (take (i + 1) ks)) (count keys windows k) longest
+          reads_more c.args.steps.now c.loop-key.steps c.refine.new.steps (sum_by (count keys windows) (take i ks)) (sum_by (count keys windows) (take (i + 1) ks)) (count keys windows k) longest
           (count_next (count keys windows) ks i k c.loop-key-test.true refl)
           (c.loop-key.invariant.bound windows are longest is)
-          (c.refine_with.ensures.places_bound k (with_key keys windows k) is_bucket (with_key-is keys ks windows k (Contains-get_or ks i 0 c.loop-key-test.true) are) longest is);
+          (c.refine.ensures.places_bound k (with_key keys windows k) is_bucket (with_key-is keys ks windows k (Contains-get_or ks i 0 c.loop-key-test.true) are) longest is);
     }
 
 pub returns-in_err-bucket-clause-asked_most : goal.returns-in_err-bucket-clause-asked_most
@@ -79,10 +79,10 @@ returns-in_err-found-clause-bound g c = λ windows are longest is.
     let is_bucket = subst (λ (es : List Entry). IsBucket (changes_in c.args.index.now.corpus) keys k es) (sym c.deref.ensures.value)
     (subst₂ (λ cs zs. IsBucket cs zs k c.in_ok-bucket.bucket.items) c.loop-key.invariant.for_changes c.loop-key.invariant.for_keys c.in_ok-bucket.ensures.bucket) in
     reads_within c.args.steps.now _ (sum_by (count keys windows) (take (i + 1) ks)) (length windows) longest (first_counts_within keys ks windows (i + 1) c.requires.rising)
-    (reads_more c.args.steps.now c.loop-key.steps c.refine_with.new.steps (sum_by (count keys windows) (take i ks)) (sum_by (count keys windows) (take (i + 1) ks)) (count keys windows k) longest
+    (reads_more c.args.steps.now c.loop-key.steps c.refine.new.steps (sum_by (count keys windows) (take i ks)) (sum_by (count keys windows) (take (i + 1) ks)) (count keys windows k) longest
     (count_next (count keys windows) ks i k c.loop-key-test.true refl)
     (c.loop-key.invariant.bound windows are longest is)
-    (c.refine_with.ensures.places_bound k (with_key keys windows k) is_bucket (with_key-is keys ks windows k (Contains-get_or ks i 0 c.loop-key-test.true) are) longest is))
+    (c.refine.ensures.places_bound k (with_key keys windows k) is_bucket (with_key-is keys ks windows k (Contains-get_or ks i 0 c.loop-key-test.true) are) longest is))
 
 pub returns-in_err-append-clause-asked_most : goal.returns-in_err-append-clause-asked_most
 returns-in_err-append-clause-asked_most g c =
@@ -98,10 +98,10 @@ returns-in_err-append-clause-bound g c = λ windows are longest is.
     let is_bucket = subst (λ (es : List Entry). IsBucket (changes_in c.args.index.now.corpus) keys k es) (sym c.deref.ensures.value)
     (subst₂ (λ cs zs. IsBucket cs zs k c.in_ok-bucket.bucket.items) c.loop-key.invariant.for_changes c.loop-key.invariant.for_keys c.in_ok-bucket.ensures.bucket) in
     reads_within c.args.steps.now _ (sum_by (count keys windows) (take (i + 1) ks)) (length windows) longest (first_counts_within keys ks windows (i + 1) c.requires.rising)
-    (reads_more c.args.steps.now c.loop-key.steps c.refine_with.new.steps (sum_by (count keys windows) (take i ks)) (sum_by (count keys windows) (take (i + 1) ks)) (count keys windows k) longest
+    (reads_more c.args.steps.now c.loop-key.steps c.refine.new.steps (sum_by (count keys windows) (take i ks)) (sum_by (count keys windows) (take (i + 1) ks)) (count keys windows k) longest
     (count_next (count keys windows) ks i k c.loop-key-test.true refl)
     (c.loop-key.invariant.bound windows are longest is)
-    (c.refine_with.ensures.places_bound k (with_key keys windows k) is_bucket (with_key-is keys ks windows k (Contains-get_or ks i 0 c.loop-key-test.true) are) longest is))
+    (c.refine.ensures.places_bound k (with_key keys windows k) is_bucket (with_key-is keys ks windows k (Contains-get_or ks i 0 c.loop-key-test.true) are) longest is))
 
 pub returns : goal.returns
 returns g c =

@@ -1,6 +1,5 @@
-use Rattle.cq_tokens.specs.Corpus.{changes_of, keys_of}
 use Rattle.cq_groups.proofs.Entries.{AreOfFiles}
 use Rattle.cq_groups.proofs.plain.entries_of.Given as goal
 
 abbrev pub invariant-loop-file : goal.invariant-loop-file
-invariant-loop-file g l = AreOfFiles (changes_of l.files) (keys_of l.files) l.key l.file-index l.entries.items
+invariant-loop-file g l = AreOfFiles (g.F.Files.changes l.files) (g.F.Files.keys l.files) l.key l.file l.entries.items

@@ -1,4 +1,4 @@
-use Rattle.std.proofs.Common.{arith, ap, length, sym, subst, List}
+use Rattle.std.proofs.Common.{arith, ap, length, sym, ◌∙◌, subst, List}
 use Rattle.std.proofs.lemmas.List.{length_push}
 use Rattle.cq_tokens.specs.declared.FileTokens.{FileTokens}
 use Rattle.cq_tokens.specs.Corpus.{corpus_of}
@@ -24,5 +24,5 @@ loop-text-preserved g c =
 
 pub new-requires-clause-keyed : goal.new-requires-clause-keyed
 new-requires-clause-keyed g c =
-    subst (λ (fs : List (FileTokens g.row.L.Denot)). AreKeyed 2 (corpus_of fs) (keys_of fs)) (sym c.as_slice-files.ensures.value)
+    subst (λ (fs : List (FileTokens g.row.L.Denot)). AreKeyed 2 (corpus_of fs) (keys_of fs)) (sym (c.new-listed.ensures ∙ c.deref.ensures.value))
     (one_key_keyed c.loop-text.files.items c.loop-text.invariant.0.keys)
