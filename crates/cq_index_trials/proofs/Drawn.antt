@@ -7,7 +7,7 @@ use Rattle.std.proofs.lemmas.List.Elements.{All-push}
 use Rattle.std.proofs.lemmas.List.Quantifiers.{all_pairs_push}
 use Rattle.cq_base.specs.declared.settings.Settings.{Settings}
 use Rattle.cq_base.specs.declared.norm.Norm.{Norm}
-use Rattle.cq_tokens.specs.declared.files.FileTokens.{FileTokens}
+use Rattle.cq_tokens.specs.declared.FileTokens.{FileTokens}
 use Rattle.cq_tokens.specs.Corpus.{changes_of, corpus_of, keys_of}
 use Rattle.cq_key.specs.Keys.{window_keys}
 use Rattle.cq_index_trials.specs.Project.{IsProject}

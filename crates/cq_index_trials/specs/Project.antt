@@ -1,7 +1,7 @@
 -- Files with different changes, each with the keys of its windows.
 use Rattle.std.specs.Prelude.{◌≡◌, ◌≢◌, ◌<◌, ◌≤◌, ◌^◌, List, length, map, All, AllPairs}
 use Rattle.cq_base.specs.declared.settings.Settings.{Settings}
-use Rattle.cq_tokens.specs.declared.files.FileTokens.{FileTokens}
+use Rattle.cq_tokens.specs.declared.FileTokens.{FileTokens}
 use Rattle.cq_tokens.specs.Corpus.{changes_of, corpus_of, keys_of}
 use Rattle.cq_key.specs.Keys.{window_keys}
 

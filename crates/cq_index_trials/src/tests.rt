@@ -64,11 +64,11 @@ fn agrees<L: Ledger>(
     requires long { settings.now.chunk ≤ min }
 {
     files_are_keyed_by_their_windows();
-    let files = PlainFiles::new(files);
-    let plain = scan(alloc, &files, min, steps)?;
-    let spots = spots_in(alloc, &files)?;
-    let index = Index::new(Corpus::new(settings.chunk, &files), &spots);
-    let mut buckets = PlainBuckets::new(&files);
+    let listed = PlainFiles::new(files);
+    let plain = scan(alloc, &listed, min, steps)?;
+    let spots = spots_in(alloc, &listed)?;
+    let index = Index::new(Corpus::new(settings.chunk, &listed), &spots);
+    let mut buckets = PlainBuckets::new(&listed);
     let all = list_all(alloc, &index, min, &mut buckets, steps)?;
     let mut same = are_same(&plain, &all, None);
     for file in 0..index.corpus.len() {
@@ -91,11 +91,13 @@ fn agrees_in_one_bucket<L: Ledger>(
     requires long { settings.now.chunk ≤ min }
 {
     files_are_keyed_by_their_windows();
-    let files = PlainFiles::new(files);
-    let plain = scan(alloc, &files, min, steps)?;
-    let spots = spots_in(alloc, &files)?;
-    let index = Index::new(Corpus::new(settings.chunk, &files), &spots);
-    let bucket = PlainBuckets::new(&files).bucket(alloc, 0)?;
+    let listed = PlainFiles::new(files);
+    let plain = scan(alloc, &listed, min, steps)?;
+    let spots = spots_in(alloc, &listed)?;
+    let corpus = Corpus::new(settings.chunk, &listed);
+    let index = Index::new(corpus, &spots);
+    let mut buckets = PlainBuckets::new(&listed);
+    let bucket = buckets.bucket(alloc, 0)?;
     let found = order(refine(alloc, &index, &bucket, min, steps)?)?;
     Ok(are_same(&plain, &found, None))
 }

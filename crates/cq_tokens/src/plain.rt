@@ -20,7 +20,7 @@ pub struct FileTokens<L: Ledger> {
 /// The files of a list, fewer than 2^32.
 #[derive(Drop)]
 pub struct PlainFiles<'a, L: Ledger> {
-    items: &'a [FileTokens<L>],
+    pub items: &'a [FileTokens<L>],
 
     ghost few: { length items.now < 2 ^ 32 },
 }
