@@ -31,7 +31,7 @@ use Rattle.cq_answer.specs.Readings.{paths_read, corpus_read, keys_read}
 use Rattle.cq_answer.specs.Reply.{IsReply, part_read, reply_of}
 use Rattle.cq_answer.specs.Rows.{Facts, facts_read, place_row, group_row, AreShowable}
 use Rattle.cq_answer.specs.Versions.{AreOfVersion, HaveVersion, AreListable}
-use Rattle.cq_answer.specs.Works.{Owner, works_in, paths_in, norms_in, keys_in, spans_in, row_of, facts_in}
+use Rattle.cq_answer.specs.Works.{paths_in, norms_in, keys_in, spans_in, row_of, facts_in}
 use Rattle.cq_answer.proofs.VersionFiles.{numbers_apart, few_files, paths_are_texts, few_conditions}
 use Rattle.cq_answer.proofs.WorkReadings.{Reads, reads, as_many}
 use Rattle.cq_answer.proofs.SameReadings.{same_paths, same_corpus, same_keys}
@@ -45,46 +45,46 @@ as_many_works set (x ∷ sources) (f ∷ files) same = ap suc (as_many_works set
 
 -- ---- what a listing and measures need
 
-module _ {L : Type 0} (set : Settings) (changes : List Change) (version : ℕ) (project : List ℕ) (files : List (Owner L)) (conditions : List Condition) (are : AreOfVersion set changes version project files conditions) where
-  abbrev pub found : Reads set (files_at changes version project) (works_in files)
-  found = reads set (files_at changes version project) (works_in files) are.files_are
+module _ {L : Type 0} (set : Settings) (changes : List Change) (version : ℕ) (project : List ℕ) (files : List (File (Work L))) (conditions : List Condition) (are : AreOfVersion set changes version project files conditions) where
+  abbrev pub found : Reads set (files_at changes version project) files
+  found = reads set (files_at changes version project) files are.files_are
 
-  pub listable : IsInRange set → length changes ≤ set.change_limit → AreListable set (works_in files)
+  pub listable : IsInRange set → length changes ≤ set.change_limit → AreListable set files
   listable range few = record {
-    few = let most = few_files changes version project in let many = as_many_works set (files_at changes version project) (works_in files) are.files_are in omega (arith, most, many, few, range.change_limit_most);
+    few = let most = few_files changes version project in let many = as_many_works set (files_at changes version project) files are.files_are in omega (arith, most, many, few, range.change_limit_most);
     apart = subst (AllPairs (λ a b. a ≢ b)) (sym found.numbers) (numbers_apart changes version project);
     keyed = subst₂ (AreKeyed set.chunk) (sym found.norms) (sym found.keys) (keyed_by_windows set (corpus_read set found.readings) range.chunk);
     some = range.chunk;
   }
 
-  pub inside : (min : ℕ) (p : Part) (groups : List Group) → 1 ≤ min → AreGroupsOf (norms_in (works_in files)) min p groups → AreGroupsInside (spans_in (works_in files)) groups
+  pub inside : (min : ℕ) (p : Part) (groups : List Group) → 1 ≤ min → AreGroupsOf (norms_in files) min p groups → AreGroupsInside (spans_in files) groups
   inside min p groups some are_groups =
-      groups_inside (norms_in (works_in files)) (spans_in (works_in files)) min p groups some
+      groups_inside (norms_in files) (spans_in files) min p groups some
       (λ i. ap (λ xs. length (get_or xs i [])) found.norms ∙ as_many set found.readings i ∙ ap (λ xs. length (get_or xs i [])) (sym found.spans))
       are_groups
 
-  pub measurable : (min : ℕ) (p : Part) (groups : List Group) → 1 ≤ min → length (works_in files) ≤ 262144 → AreGroupsOf (norms_in (works_in files)) min p groups → AreShowable (facts_in (works_in files)) groups
+  pub measurable : (min : ℕ) (p : Part) (groups : List Group) → 1 ≤ min → length files ≤ 262144 → AreGroupsOf (norms_in files) min p groups → AreShowable (facts_in files) groups
   measurable min p groups some few are_groups = record {
-    few = let many = length-map (works_in files) (λ (f : File (Work L)). f.body.counts) in omega (arith, many, few);
+    few = let many = length-map files (λ (f : File (Work L)). f.body.counts) in omega (arith, many, few);
     small = found.small;
     inside = inside min p groups some are_groups;
   }
 
   -- ---- the reply
 
-  facts_same : facts_in (works_in files) ≡ facts_read found.readings
+  facts_same : facts_in files ≡ facts_read found.readings
   facts_same = λ i. record { rows = found.rows i; paths = found.paths i; spans = found.spans i; counts = found.counts i }
 
-  replies_same : (k : Kind) (p : Part) (groups : List Group) → reply_of (facts_in (works_in files)) conditions version k p groups ≡ reply_of (facts_read found.readings) (conditions_at changes version project) version k p groups
+  replies_same : (k : Kind) (p : Part) (groups : List Group) → reply_of (facts_in files) conditions version k p groups ≡ reply_of (facts_read found.readings) (conditions_at changes version project) version k p groups
   replies_same k p groups = ap₂ (λ (facts : Facts) (all : List Condition). reply_of facts all version k p groups) facts_same are.conditions_are
 
-  part_same : (k : Kind) (path : Option (List ℕ)) (p : Part) → p ≡ part_of (paths_in (works_in files)) k path → p ≡ part_of (paths_read found.readings) k path
+  part_same : (k : Kind) (path : Option (List ℕ)) (p : Part) → p ≡ part_of (paths_in files) k path → p ≡ part_of (paths_read found.readings) k path
   part_same k path p is = is ∙ ap (λ ps. part_of ps k path) found.paths
 
 -- the reply from the works is that of the changes
-pub replied : {L : Type 0} (set : Settings) (changes : List Change) (version : ℕ) (q : Query) (files : List (Owner L)) (conditions : List Condition) (p : Part) (groups : List Group) (r : Reply)
-    → AreOfVersion set changes version q.project files conditions → p ≡ part_of (paths_in (works_in files)) q.kind q.path → AreGroupsOf (norms_in (works_in files)) q.min p groups
-    → r ≡ reply_of (facts_in (works_in files)) conditions version q.kind p groups → IsReply set changes version q r
+pub replied : {L : Type 0} (set : Settings) (changes : List Change) (version : ℕ) (q : Query) (files : List (File (Work L))) (conditions : List Condition) (p : Part) (groups : List Group) (r : Reply)
+    → AreOfVersion set changes version q.project files conditions → p ≡ part_of (paths_in files) q.kind q.path → AreGroupsOf (norms_in files) q.min p groups
+    → r ≡ reply_of (facts_in files) conditions version q.kind p groups → IsReply set changes version q r
 replied set changes version q files conditions p groups r are part_is are_groups reply_is =
     let here = found set changes version q.project files conditions are in
     let same = part_same set changes version q.project files conditions are q.kind q.path p part_is in
@@ -98,8 +98,8 @@ replied set changes version q files conditions p groups r are part_is are_groups
 
 -- ---- what is asked and read
 
-pub keys_asked : {L : Type 0} (set : Settings) (changes : List Change) (version : ℕ) (q : Query) (files : List (Owner L)) (conditions : List Condition) (p : Part) (ks : List ℕ)
-    → AreOfVersion set changes version q.project files conditions → p ≡ part_of (paths_in (works_in files)) q.kind q.path → AreAsked set changes version q ks → AreKeysOf (keys_in (works_in files)) p ks
+pub keys_asked : {L : Type 0} (set : Settings) (changes : List Change) (version : ℕ) (q : Query) (files : List (File (Work L))) (conditions : List Condition) (p : Part) (ks : List ℕ)
+    → AreOfVersion set changes version q.project files conditions → p ≡ part_of (paths_in files) q.kind q.path → AreAsked set changes version q ks → AreKeysOf (keys_in files) p ks
 keys_asked set changes version q files conditions p ks are part_is asked =
     let here = found set changes version q.project files conditions are in
     let same = part_same set changes version q.project files conditions are q.kind q.path p part_is in
@@ -108,8 +108,8 @@ keys_asked set changes version q files conditions p ks are part_is asked =
     let at : part_read asked.readings q ≡ p = ap (λ ps. part_of ps q.kind q.path) (same_paths asked.readings here.readings alike) ∙ sym same in
     subst₂ (λ (all : List (List ℕ)) (part : Part). AreKeysOf all part ks) keys at asked.are_keys
 
-pub most_read : {L : Type 0} (set : Settings) (changes : List Change) (version : ℕ) (q : Query) (files : List (Owner L)) (conditions : List Condition) (p : Part) (n : ℕ)
-    → AreOfVersion set changes version q.project files conditions → p ≡ part_of (paths_in (works_in files)) q.kind q.path → IsMostRead set changes version q n → AreMostReads (norms_in (works_in files)) (keys_in (works_in files)) p n
+pub most_read : {L : Type 0} (set : Settings) (changes : List Change) (version : ℕ) (q : Query) (files : List (File (Work L))) (conditions : List Condition) (p : Part) (n : ℕ)
+    → AreOfVersion set changes version q.project files conditions → p ≡ part_of (paths_in files) q.kind q.path → IsMostRead set changes version q n → AreMostReads (norms_in files) (keys_in files) p n
 most_read set changes version q files conditions p n are part_is most =
     let here = found set changes version q.project files conditions are in
     let same = part_same set changes version q.project files conditions are q.kind q.path p part_is in
@@ -117,8 +117,8 @@ most_read set changes version q files conditions p n are part_is most =
     let corpus = same_corpus set most.readings here.readings alike ∙ sym here.norms in
     let keys = same_keys set most.readings here.readings alike ∙ sym here.keys in
     let at : part_read most.readings q ≡ p = ap (λ ps. part_of ps q.kind q.path) (same_paths most.readings here.readings alike) ∙ sym same in
-    let with_corpus : AreMostReads (norms_in (works_in files)) (keys_read set most.readings) (part_read most.readings q) n = subst (λ (c : List (List Norm)). AreMostReads c (keys_read set most.readings) (part_read most.readings q) n) corpus most.are_reads in
-    subst₂ (λ (all : List (List ℕ)) (part : Part). AreMostReads (norms_in (works_in files)) all part n) keys at with_corpus
+    let with_corpus : AreMostReads (norms_in files) (keys_read set most.readings) (part_read most.readings q) n = subst (λ (c : List (List Norm)). AreMostReads c (keys_read set most.readings) (part_read most.readings q) n) corpus most.are_reads in
+    subst₂ (λ (all : List (List ℕ)) (part : Part). AreMostReads (norms_in files) all part n) keys at with_corpus
 
 -- ---- the texts of a reply are UTF-8
 
@@ -155,13 +155,13 @@ reply_texts {L} files conditions version kind.Groups p groups texts inside =
 reply_texts files conditions version kind.Measures p groups texts inside = tt
 reply_texts files conditions version kind.Verdict p groups texts inside = tt
 
-pub texts_are : {L : Type 0} (set : Settings) (version : ℕ) (project : List ℕ) (files : List (Owner L)) (conditions : List Condition) (k : Kind) (min : ℕ) (p : Part) (groups : List Group) (r : Reply)
-    → HaveVersion set version project files conditions → 1 ≤ min → AreGroupsOf (norms_in (works_in files)) min p groups → r ≡ reply_of (facts_in (works_in files)) conditions version k p groups → IsReplyText r
+pub texts_are : {L : Type 0} (set : Settings) (version : ℕ) (project : List ℕ) (files : List (File (Work L))) (conditions : List Condition) (k : Kind) (min : ℕ) (p : Part) (groups : List Group) (r : Reply)
+    → HaveVersion set version project files conditions → 1 ≤ min → AreGroupsOf (norms_in files) min p groups → r ≡ reply_of (facts_in files) conditions version k p groups → IsReplyText r
 texts_are set version project files conditions k min p groups r have some are_groups is =
-    let paths = texts_of_works set (files_at have.changes version project) (works_in files) have.are.files_are (paths_are_texts have.changes version project have.sound) in
-    subst IsReplyText (sym is) (reply_texts (works_in files) conditions version k p groups paths (inside set have.changes version project files conditions have.are min p groups some are_groups))
+    let paths = texts_of_works set (files_at have.changes version project) files have.are.files_are (paths_are_texts have.changes version project have.sound) in
+    subst IsReplyText (sym is) (reply_texts files conditions version k p groups paths (inside set have.changes version project files conditions have.are min p groups some are_groups))
 
-pub conditions_few : {L : Type 0} (set : Settings) (version : ℕ) (project : List ℕ) (files : List (Owner L)) (conditions : List Condition) → HaveVersion set version project files conditions → length conditions ≤ 32
+pub conditions_few : {L : Type 0} (set : Settings) (version : ℕ) (project : List ℕ) (files : List (File (Work L))) (conditions : List Condition) → HaveVersion set version project files conditions → length conditions ≤ 32
 conditions_few set version project files conditions have =
     subst (λ (cs : List Condition). length cs ≤ 32) (sym have.are.conditions_are) (few_conditions have.changes version project have.sound)
 

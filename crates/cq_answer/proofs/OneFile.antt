@@ -12,9 +12,10 @@ use Rattle.cq_board.specs.Related.{AreSameFiles}
 use Rattle.cq_work.specs.Work.{IsWorkOf}
 use Rattle.cq_answer.specs.Trial.{first_put, IsFileOf}
 use Rattle.cq_answer.specs.Versions.{HaveVersion}
-use Rattle.cq_answer.specs.Works.{Owner, work_in}
+use Rattle.cq_history.specs.Files.{File}
+use Rattle.cq_work.specs.declared.work.Work.{Work}
 
-pub one_file : {L : Type 0} (set : Settings) (project path text : List ℕ) (conditions : List Condition) (file : Owner L) → 2 ≤ set.change_limit → IsUtf8 project → IsUtf8 path → IsUtf8 text → length text ≤ 1048576 → length conditions ≤ 32 → IsFileOf set path text (work_in file)
+pub one_file : {L : Type 0} (set : Settings) (project path text : List ℕ) (conditions : List Condition) (file : File (Work L)) → 2 ≤ set.change_limit → IsUtf8 project → IsUtf8 path → IsUtf8 text → length text ≤ 1048576 → length conditions ≤ 32 → IsFileOf set path text file
     → HaveVersion set 2 project (file ∷ []) conditions
 one_file set project path text conditions file room project_text path_text utf8 short few is =
     let itself : bytes_eq project project ≡ true = (bytes_eq-Decides project project).1 refl in
@@ -23,7 +24,7 @@ one_file set project path text conditions file room project_text path_text utf8 
       sound = All-cons IsSoundChange (Put project path Any text) (Gate project conditions ∷ []) (project_text, path_text, utf8, short) (All-cons IsSoundChange (Gate project conditions) [] (project_text, few) (All-nil IsSoundChange));
       few = room;
       are = record {
-        files_are = subst (λ b. AreSameFiles (IsWorkOf set) (cond b (first_put path text ∷ []) []) (work_in file ∷ [])) (sym itself) (is, tt);
+        files_are = subst (λ b. AreSameFiles (IsWorkOf set) (cond b (first_put path text ∷ []) []) (file ∷ [])) (sym itself) (is, tt);
         conditions_are = ap (λ b. cond b conditions []) (sym itself);
       };
     }

@@ -13,15 +13,15 @@ use Rattle.cq_work.specs.Work.{IsWorkOf}
 use Rattle.cq_work.specs.declared.work.Work.{Work}
 use Rattle.cq_answer.specs.Questions.{AreAsked, IsMostRead}
 use Rattle.cq_answer.specs.Reply.{IsReply}
-use Rattle.cq_answer.specs.Works.{Owner, works_in, numbers_in, norms_in, keys_in}
+use Rattle.cq_answer.specs.Works.{numbers_in, norms_in, keys_in}
 
 -- they are those of the project at this version of the changes, each file with the work of its text
-pub record AreOfVersion {L : Type 0} (set : Settings) (changes : List Change) (version : ℕ) (project : List ℕ) (files : List (Owner L)) (conditions : List Condition) : Type 0 where
-  pub files_are : AreSameFiles (IsWorkOf set) (files_at changes version project) (works_in files)
+pub record AreOfVersion {L : Type 0} (set : Settings) (changes : List Change) (version : ℕ) (project : List ℕ) (files : List (File (Work L))) (conditions : List Condition) : Type 0 where
+  pub files_are : AreSameFiles (IsWorkOf set) (files_at changes version project) files
   pub conditions_are : conditions ≡ conditions_at changes version project
 
 -- they are those of some changes, as many as may be accepted, each of which is sound
-pub record HaveVersion {L : Type 0} (set : Settings) (version : ℕ) (project : List ℕ) (files : List (Owner L)) (conditions : List Condition) : Type 0 where
+pub record HaveVersion {L : Type 0} (set : Settings) (version : ℕ) (project : List ℕ) (files : List (File (Work L))) (conditions : List Condition) : Type 0 where
   pub changes : List Change
   pub sound : All IsSoundChange changes
   pub few : length changes ≤ set.change_limit
@@ -37,17 +37,17 @@ pub record AreListable {L : Type 0} (set : Settings) (files : List (File (Work L
 -- ---- whatever the changes are
 
 -- it is the reply by all changes of which they are those of the version
-abbrev pub IsReplyOn : {L : Type 0} → Settings → ℕ → Query → List (Owner L) → List Condition → Reply → Type 0
+abbrev pub IsReplyOn : {L : Type 0} → Settings → ℕ → Query → List (File (Work L)) → List Condition → Reply → Type 0
 IsReplyOn set version q files conditions reply = (changes : List Change) → AreOfVersion set changes version q.project files conditions → IsReply set changes version q reply
 
 -- the keys are those that are asked for by such changes
-pub record AreAskedOn {L : Type 0} (set : Settings) (version : ℕ) (q : Query) (files : List (Owner L)) (conditions : List Condition) (ks : List ℕ) : Type 0 where
+pub record AreAskedOn {L : Type 0} (set : Settings) (version : ℕ) (q : Query) (files : List (File (Work L))) (conditions : List Condition) (ks : List ℕ) : Type 0 where
   pub changes : List Change
   pub are : AreOfVersion set changes version q.project files conditions
   pub asked : AreAsked set changes version q ks
 
 -- no more tokens than these are read by such changes
-pub record IsMostReadOn {L : Type 0} (set : Settings) (version : ℕ) (q : Query) (files : List (Owner L)) (conditions : List Condition) (reads : ℕ) : Type 0 where
+pub record IsMostReadOn {L : Type 0} (set : Settings) (version : ℕ) (q : Query) (files : List (File (Work L))) (conditions : List Condition) (reads : ℕ) : Type 0 where
   pub changes : List Change
   pub are : AreOfVersion set changes version q.project files conditions
   pub most : IsMostRead set changes version q reads

@@ -1,5 +1,5 @@
 -- The files of a listing, each with its work.
-use Rattle.std.specs.Prelude.{◌≡◌, ℕ, List, length, map}
+use Rattle.std.specs.Prelude.{ℕ, List, length, map}
 use Rattle.std.specs.Arc.{arc_value}
 use Rattle.std.specs.declared.sync.Arc.{Arc}
 use Rattle.std.specs.declared.alloc.Global.{Global}
@@ -8,7 +8,6 @@ use Rattle.cq_base.specs.declared.norm.Norm.{Norm}
 use Rattle.cq_base.specs.declared.token.Token.{Token}
 use Rattle.cq_history.specs.Files.{File}
 use Rattle.cq_reply.specs.declared.reply.FileRow.{FileRow}
-use Rattle.cq_tokens.specs.declared.files.FileTokens.{FileTokens}
 use Rattle.cq_work.specs.declared.work.Work.{Work}
 use Rattle.cq_answer.specs.Rows.{Facts, shown_in}
 
@@ -47,9 +46,3 @@ module _ {L : Type 0} where
 
   abbrev pub facts_in : List (File (Work L)) → Facts
   facts_in files = record { rows = map row_of files; paths = paths_in files; spans = spans_in files; counts = counts_in files }
-
-  -- the tokens and the keys are those of the file
-  pub record AreTokensOf (f : File (Work L)) (t : FileTokens L) : Type 0 where
-    pub change : t.change ≡ f.number
-    pub tokens : arc_value t.tokens ≡ arc_value f.body.tokens
-    pub keys : arc_value t.keys ≡ arc_value f.body.keys

@@ -14,7 +14,7 @@ use crate::part::{Part, part_of};
 use crate::placing::group_rows;
 use crate::showing::file_rows;
 use cq_base::{Condition, Group, Memory, Settings, Steps};
-use cq_board::Held;
+use cq_board::{Held, ProjectFiles};
 use cq_gate::verdict;
 use cq_groups::Buckets;
 use cq_reply::Reply;
@@ -69,7 +69,7 @@ fn reply_of<L: Ledger>(
 pub fn answer<B: Buckets, L: Ledger>(
     alloc: Global,
     settings: &Settings,
-    files: &[Arc<Held<Work<L>>, Global>],
+    files: &ProjectFiles<Work<L>>,
     conditions: &[Condition],
     query: &Query,
     version: u64,
@@ -79,8 +79,8 @@ pub fn answer<B: Buckets, L: Ledger>(
     requires settings { IsInRange settings.now }
     requires of_version { HaveVersion settings.now version query.now.project files.now conditions.now }
     requires long { settings.now.chunk ≤ query.now.min }
-    requires for_changes { B.file_changes buckets.old ≡ numbers_in (works_in files.now) }
-    requires for_keys { B.file_keys buckets.old ≡ keys_in (works_in files.now) }
+    requires for_changes { B.file_changes buckets.old ≡ numbers_in files.now }
+    requires for_keys { B.file_keys buckets.old ≡ keys_in files.now }
     requires ready { B.ready buckets.old }
     ensures reply { IfOk result (IsReplyOn settings.now version query.now files.now conditions.now) }
     ensures texts { IfOk result IsReplyText }
@@ -97,5 +97,6 @@ pub fn answer<B: Buckets, L: Ledger>(
 {
     let part = part_of(files, query);
     let groups = groups_of(alloc, settings, files, part, query.min, buckets, steps)?;
-    reply_of(alloc, files, conditions, query.kind, part, version, &groups)
+    let items = files.items();
+    reply_of(alloc, items, conditions, query.kind, part, version, &groups)
 }

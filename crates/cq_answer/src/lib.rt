@@ -12,6 +12,7 @@ mod part;
 mod placing;
 mod refusing;
 mod showing;
+mod works;
 
 pub use answering::answer;
 pub use part::Part;

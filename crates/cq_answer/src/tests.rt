@@ -4,9 +4,9 @@ ghost use Rattle.cq_answer.specs.Trial.{IsFileOf};
 ghost use Rattle.cq_answer.specs.Works.{work_in};
 
 use crate::answer;
-use crate::listing::tokens_of;
+use crate::works::WorkFiles;
 use cq_base::{Compare, Condition, Lang, Measures, Memory, Metric, Settings, Steps, Text};
-use cq_board::Held;
+use cq_board::{Held, ProjectFiles};
 use cq_gate::Verdict;
 use cq_groups::PlainBuckets;
 use cq_key::{Keyer, plain_key};
@@ -78,8 +78,9 @@ fn reply_in<L: Ledger>(
 {
     let mut files: Vec<Arc<Held<Work<L>>, Global>> = Vec::new(alloc);
     files.push(file_of(alloc, "t", "a b c x a b c y")?)?;
-    let tokens = tokens_of(alloc, &files)?;
-    let mut buckets = PlainBuckets::new(&tokens);
+    let files = ProjectFiles::gathered(alloc, files)?;
+    let works = WorkFiles { files: &files };
+    let mut buckets = PlainBuckets::new(&works);
     let mut steps = Steps::new(blank);
     let query = Query {
         kind,

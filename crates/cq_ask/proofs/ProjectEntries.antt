@@ -1,8 +1,10 @@
 -- Which of a version's entries are those of one project's files.
-use Rattle.std.proofs.Common.{◌≡◌, ℕ, zero, suc, List, [], ◌∷◌, map, take, get_or, filter, Some, refl, sym, ap, ◌∙◌, subst, subst₂, inl, inr, ⊎_elim, nat_eq}
+use Rattle.std.proofs.Common.{◌≡◌, ℕ, zero, suc, List, [], ◌∷◌, map, take, get_or, filter, Option, Some, None, is_some, refl, sym, ap, ◌∙◌, subst, subst₂, inl, inr, ⊎_elim, nat_eq}
 use Rattle.std.specs.Prelude.{◌↔◌, Contains, slice_get}
 use Rattle.std.specs.List.{list_any}
-use Rattle.std.proofs.lemmas.Bool.{eqb-true}
+use Rattle.std.proofs.lemmas.Bool.{eqb-true, false_from_ne_true}
+use Rattle.std.proofs.lemmas.Option.{slice_get_within, get_or_from_slice_get, slice_get-get_or}
+use Rattle.cq_order.specs.Spots.{IsPositionOf}
 use Rattle.std.proofs.lemmas.Map.Views.{Contains-from_any}
 use Rattle.std.proofs.lemmas.List.Kept.{AllPairs-filter}
 use Rattle.cq_base.proofs.Lists.{Contains-here, Contains-there, Contains-cases, Contains-nil, Contains-filter, Contains-from_filter}
@@ -99,18 +101,31 @@ module _ {W : Type 0} (keys_in : W → List ℕ) (IsWorkOf : Settings → Lang �
         is,
       )
 
+  abbrev numbers : List ℕ
+  numbers = map (λ (f : File W). f.number) files
+
   -- those of the version with the key, with the entries of other changes taken out
-  pub project_bucket : (numbers : List ℕ) (entries : List Entry) → ((r : ℕ) → Contains numbers r ↔ Contains (map (λ (f : File W). f.number) files) r) → AreAllInOrder EntryBefore (IsEntryAt (HasWindow keys_in IsWorkOf set) changes version key) entries →
-      IsBucket (map (λ (f : File W). f.number) files) (map (λ (f : File W). keys_in f.body) files) key (filter (λ e. list_any (nat_eq e.change) numbers) entries)
-  project_bucket numbers entries each are = record {
+  pub project_bucket : (entries : List Entry) → AreAllInOrder EntryBefore (IsEntryAt (HasWindow keys_in IsWorkOf set) changes version key) entries →
+      IsBucket (map (λ (f : File W). f.number) files) (map (λ (f : File W). keys_in f.body) files) key (filter (λ e. list_any (nat_eq e.change) (map (λ (f : File W). f.number) files)) entries)
+  project_bucket entries are = record {
     ordered = AllPairs-filter EntryBefore (λ e. list_any (nat_eq e.change) numbers) entries are.ordered;
     each = λ e. (
       λ h.
           let (there, kept) = Contains-from_filter (λ d. list_any (nat_eq d.change) numbers) entries e h in
           let at = (are.each e).0 there in
-          (at.same_key, entry_of e at ((each e.change).0 (Contains-from_any eqb-true e.change numbers kept))),
+          (at.same_key, entry_of e at (Contains-from_any eqb-true e.change numbers kept)),
       λ h.
           let (at, is) = entry_at e h.0 h.1 in
-          Contains-filter (λ d. list_any (nat_eq d.change) numbers) entries e ((are.each e).1 at) (any_of e.change numbers ((each e.change).1 is)),
+          Contains-filter (λ d. list_any (nat_eq d.change) numbers) entries e ((are.each e).1 at) (any_of e.change numbers is),
     );
   }
+
+-- whether a number has a position
+pub among_positions : (xs : List ℕ) (n : ℕ) (r : Option ℕ) → IsPositionOf xs n r → is_some r ≡ list_any (nat_eq n) xs
+among_positions xs n (Some i) is =
+    let put = (is i).0 refl in
+    sym (any_of n xs (i, slice_get_within xs i n put, get_or_from_slice_get xs i n n put))
+among_positions xs n None is = sym (false_from_ne_true (list_any (nat_eq n) xs) (λ h.
+    let (k, within, here) = Contains-from_any eqb-true n xs h in
+    let found : None ≡ Some k = (is k).1 (slice_get-get_or xs k n within ∙ ap Some here) in
+    absurd (cc)))

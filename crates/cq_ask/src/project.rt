@@ -1,46 +1,20 @@
-ghost use Rattle.std.specs.Prelude.{◌≡◌, IfOk, filter, nat_eq};
-ghost use Rattle.std.specs.Arc.{arc_value};
-ghost use Rattle.std.specs.Ordering.{nat_cmp};
+ghost use Rattle.std.specs.Prelude.{◌≡◌, filter, nat_eq};
 ghost use Rattle.std.specs.List.{list_any};
-ghost use Rattle.std.specs.List.Sorted.{IsSorted};
-ghost use Rattle.cq_ask.specs.Projects.{AreChangesOf};
+ghost use Rattle.cq_board.specs.Spotted.{numbers_of};
 
-use cq_base::{Entry, Memory};
-use cq_board::Held;
-use std::alloc::Global;
-use std::sync::Arc;
+use cq_base::Entry;
+use cq_board::ProjectFiles;
 
-/// The changes that put the files, in order.
-pub fn changes_of<W>(alloc: Global, files: &[Arc<Held<W>, Global>]) -> Result<Vec<u64>, Memory>
-    ensures { IfOk result (λ changes. AreChangesOf files.now changes.items) }
+/// Only the entries of these files' changes stay.
+pub fn keep<W>(entries: &mut Vec<Entry>, files: &ProjectFiles<W>)
+    ensures { entries.new.items ≡ filter (λ e. list_any (nat_eq e.change) (numbers_of files.now)) entries.old.items }
 {
-    let mut changes = Vec::with_capacity(alloc, files.len())?;
-    for file in files {
-        changes.push(change_of(file))?;
-    }
-    changes.sort_unstable();
-    Ok(changes)
+    entries.retain(|e| is_among(files, e.change));
 }
 
-// The number of the change that put a file.
-fn change_of<W>(file: &Arc<Held<W>, Global>) -> u64
-    ensures { result ≡ (arc_value file.now).number }
+// Whether one of the files was put by this change.
+fn is_among<W>(files: &ProjectFiles<W>, change: u64) -> bool
+    ensures { result ≡ list_any (nat_eq change) (numbers_of files.now) }
 {
-    file.change
-}
-
-/// Only the entries of these changes stay.
-pub fn keep(entries: &mut Vec<Entry>, changes: &[u64])
-    requires { IsSorted nat_cmp changes.now }
-    ensures { entries.new.items ≡ filter (λ e. list_any (nat_eq e.change) changes.now) entries.old.items }
-{
-    entries.retain(|e| is_among(changes, e.change));
-}
-
-// Whether a number is among sorted ones.
-fn is_among(changes: &[u64], change: u64) -> bool
-    requires { IsSorted nat_cmp changes.now }
-    ensures { result ≡ list_any (nat_eq change) changes.now }
-{
-    changes.binary_search(&change).is_ok()
+    files.position_of_change(change).is_some()
 }

@@ -8,11 +8,12 @@ ghost use Rattle.cq_history.specs.State.{state, slot_of, view_of, IsAccepted};
 ghost use Rattle.cq_clones.specs.Windows.{IsBucket};
 ghost use Rattle.cq_hub.specs.Hubs.{HasSeen};
 ghost use Rattle.cq_ask.specs.Moves.{Moves};
-ghost use Rattle.cq_ask.specs.Projects.{numbers_in, keys_in_files, IsReady};
+ghost use Rattle.cq_board.specs.Spotted.{numbers_of};
+ghost use Rattle.cq_ask.specs.Projects.{keys_in_files, IsReady};
 
-use crate::{PassBuckets, changes_of};
+use crate::PassBuckets;
 use cq_base::{Change, Entry, Lang, Memory, Settings, Text};
-use cq_board::{Finished, Held, Refused, View};
+use cq_board::{Finished, ProjectFiles, Refused, View};
 use cq_groups::Buckets;
 use cq_hub::{Hub, Solo};
 use cq_shard::Indexed;
@@ -130,20 +131,18 @@ fn bucket<W: Made, H: Hub<W>>(
     alloc: Global,
     hub: &H,
     view: &View<W>,
-    files: &[Arc<Held<W>, Global>],
-    changes: &[u64],
+    files: &ProjectFiles<W>,
     key: u64,
     pass: &mut H::Pass,
 ) -> Result<Vec<Entry>, Memory>
-    requires { IsReady H.Stands (H.callers hub.now) (W.IsWorkOf (H.settings hub.now)) hub.now view.now pass.old files.now changes.now }
-    ensures bucket { IfOk result (λ entries. IsBucket (numbers_in files.now) (keys_in_files W.keys_in files.now) key entries.items) }
+    requires { IsReady H.Stands (H.callers hub.now) (W.IsWorkOf (H.settings hub.now)) hub.now view.now pass.old files.now }
+    ensures bucket { IfOk result (λ entries. IsBucket (numbers_of files.now) (keys_in_files W.keys_in files.now) key entries.items) }
     ensures moves { Moves H.Stands (H.callers hub.now) H.alone (W.IsWorkOf (H.settings hub.now)) hub.now view.now pass.old pass.new }
 {
     let mut buckets = PassBuckets {
         hub,
         view,
         files,
-        changes,
         pass,
     };
     buckets.bucket(alloc, key)
@@ -162,9 +161,8 @@ fn read<W: Made, H: Hub<W>>(
     let asked = hub.ask(pass);
     hub.advance(alloc, asked.done, pass)?;
     let view = hub.open_view(pass)?;
-    let files = view.listing.files(project);
-    let changes = changes_of(alloc, files)?;
-    let entries = bucket(alloc, hub, &view, files, &changes, key, pass)?;
+    let files = view.listing.project(project);
+    let entries = bucket(alloc, hub, &view, files, key, pass)?;
     hub.close_view(view, pass);
     Ok(entries)
 }

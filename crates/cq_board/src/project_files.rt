@@ -97,7 +97,7 @@ impl<W> ProjectFiles<W> {
 
 impl<W: Drop> ProjectFiles<W> {
     /// Files in path order, each put by a change of its own.
-    pub(crate) fn gathered(
+    pub fn gathered(
         alloc: Global,
         items: Vec<Arc<Held<W>, Global>>,
     ) -> Result<ProjectFiles<W>, Memory>

@@ -12,7 +12,7 @@ use Rattle.std.proofs.lemmas.Cmp.{ranked}
 use Rattle.std.proofs.lemmas.Option.{same_Some, slice_get_within}
 use Rattle.cq_base.proofs.Lists.{Contains-nil, Contains-cases, Contains-there}
 use Rattle.cq_order.specs.declared.spots.Spot.{Spot}
-use Rattle.cq_order.specs.Spots.{SpotBefore, spot_of, IsPositionOf, AreSpots, is_spot_before, spots_from}
+use Rattle.cq_order.specs.Spots.{SpotBefore, spot_of, IsPositionOf, AreSpots, is_spot_before, with_positions}
 use Rattle.cq_order.specs.Order.{IsOrderOf, AreOrdered}
 use Rattle.cq_order.proofs.Sorting.{weak_order}
 
@@ -61,8 +61,8 @@ spot_iff spots change file rising = (
 )
 
 -- spots that rise and have exactly the pairs of a change and its position
-pub are_spots : (changes : List ℕ) (spots : List Spot) → AllPairs SpotBefore spots → ((s : Spot) → Contains spots s ↔ (slice_get changes s.file ≡ Some s.change)) → AreSpots changes spots
-are_spots changes spots rising each = record {
+pub spots_from : (changes : List ℕ) (spots : List Spot) → AllPairs SpotBefore spots → ((s : Spot) → Contains spots s ↔ (slice_get changes s.file ≡ Some s.change)) → AreSpots changes spots
+spots_from changes spots rising each = record {
   rising = rising;
   each = λ change file. (
     λ found. (each _).0 ((spot_iff spots change file rising).0 found),
@@ -115,59 +115,59 @@ pub is_spot_before-order : IsStrictWeakOrder is_spot_before
 is_spot_before-order = weak_order SpotBefore is_spot_before is_spot_before-says SpotBefore-apart SpotBefore-chain
 
 -- one change more
-pub spots_more : (first : ℕ) (changes : List ℕ) (change : ℕ) → spots_from first (changes ++ change ∷ []) ≡ spots_from first changes ++ record { change = change; file = first + length changes } ∷ []
+pub spots_more : (first : ℕ) (changes : List ℕ) (change : ℕ) → with_positions first (changes ++ change ∷ []) ≡ with_positions first changes ++ record { change = change; file = first + length changes } ∷ []
 spots_more first [] change = ap (λ n. (let s : Spot = record { change = change; file = n } in s) ∷ []) (sym (add-zero first))
 spots_more first (c ∷ changes) change =
     let later = spots_more (first + 1) changes change in
     let at : first + 1 + length changes ≡ first + suc (length changes) = omega arith in
-    ap (λ ss. (let s : Spot = record { change = c; file = first } in s) ∷ ss) (later ∙ ap (λ n. spots_from (first + 1) changes ++ (let s : Spot = record { change = change; file = n } in s) ∷ []) at)
+    ap (λ ss. (let s : Spot = record { change = c; file = first } in s) ∷ ss) (later ∙ ap (λ n. with_positions (first + 1) changes ++ (let s : Spot = record { change = change; file = n } in s) ∷ []) at)
 
-pub spots_pushed : (changes : List ℕ) (i : ℕ) (old new : List Spot) → i < length changes → new ≡ old ++ record { change = get_or changes i 0; file = i } ∷ [] → old ≡ spots_from 0 (take i changes) → new ≡ spots_from 0 (take (i + 1) changes)
+pub spots_pushed : (changes : List ℕ) (i : ℕ) (old new : List Spot) → i < length changes → new ≡ old ++ record { change = get_or changes i 0; file = i } ∷ [] → old ≡ with_positions 0 (take i changes) → new ≡ with_positions 0 (take (i + 1) changes)
 spots_pushed changes i old new within pushed so_far =
     let size : 0 + length (take i changes) ≡ i = omega (arith, length-take-le i changes (omega (arith, within))) in
     pushed
     ∙ ap₂ (λ (ss : List Spot) (n : ℕ). ss ++ (let s : Spot = record { change = get_or changes i 0; file = n } in s) ∷ []) so_far (sym size)
     ∙ sym (spots_more 0 (take i changes) (get_or changes i 0))
-    ∙ ap (spots_from 0) (sym (take_more changes i 0 within))
+    ∙ ap (with_positions 0) (sym (take_more changes i 0 within))
 
-pub spots_none : (changes : List ℕ) (spots : List Spot) → spots ≡ [] → spots ≡ spots_from 0 (take 0 changes)
+pub spots_none : (changes : List ℕ) (spots : List Spot) → spots ≡ [] → spots ≡ with_positions 0 (take 0 changes)
 spots_none changes spots none = none
 
-pub spots_all : (changes : List ℕ) (n : ℕ) (spots : List Spot) → length changes ≤ n → spots ≡ spots_from 0 (take n changes) → spots ≡ spots_from 0 changes
-spots_all changes n spots past is = is ∙ ap (spots_from 0) (take_all n changes past)
+pub spots_all : (changes : List ℕ) (n : ℕ) (spots : List Spot) → length changes ≤ n → spots ≡ with_positions 0 (take n changes) → spots ≡ with_positions 0 changes
+spots_all changes n spots past is = is ∙ ap (with_positions 0) (take_all n changes past)
 
 -- exactly the pairs of a change and its position
 
-pair_of : (first : ℕ) (changes : List ℕ) (s : Spot) → Contains (spots_from first changes) s → (i : ℕ) × (s.file ≡ first + i) × (slice_get changes i ≡ Some s.change)
+pair_of : (first : ℕ) (changes : List ℕ) (s : Spot) → Contains (with_positions first changes) s → (i : ℕ) × (s.file ≡ first + i) × (slice_get changes i ≡ Some s.change)
 pair_of first [] s there = absurd (Contains-nil s there)
 pair_of first (c ∷ changes) s there =
     ⊎_elim
     (λ e. (0, sym (ap (λ (z : Spot). z.file) e) ∙ sym (add-zero first), ap (λ (z : Spot). Some z.change) e))
     (λ later. let (i, file, put) = pair_of (first + 1) changes s later in (suc i, omega (arith, file), put))
-    (Contains-cases (let h : Spot = record { change = c; file = first } in h) s (spots_from (first + 1) changes) there)
+    (Contains-cases (let h : Spot = record { change = c; file = first } in h) s (with_positions (first + 1) changes) there)
 
-from_pair : (first : ℕ) (changes : List ℕ) (s : Spot) (i : ℕ) → s.file ≡ first + i → slice_get changes i ≡ Some s.change → Contains (spots_from first changes) s
+from_pair : (first : ℕ) (changes : List ℕ) (s : Spot) (i : ℕ) → s.file ≡ first + i → slice_get changes i ≡ Some s.change → Contains (with_positions first changes) s
 from_pair first [] s i file put = let h = slice_get_within [] i s.change put in absurd (omega (arith, h))
 from_pair first (c ∷ changes) s zero file put = (0, omega arith, spot_is (record { change = c; file = first }) s (same_Some _ _ put) (omega (arith, file)))
 from_pair first (c ∷ changes) s (suc i) file put =
-    Contains-there (record { change = c; file = first }) s (spots_from (first + 1) changes) (from_pair (first + 1) changes s i (omega (arith, file)) put)
+    Contains-there (record { change = c; file = first }) s (with_positions (first + 1) changes) (from_pair (first + 1) changes s i (omega (arith, file)) put)
 
-pub spots_each : (changes : List ℕ) (s : Spot) → Contains (spots_from 0 changes) s ↔ (slice_get changes s.file ≡ Some s.change)
+pub spots_each : (changes : List ℕ) (s : Spot) → Contains (with_positions 0 changes) s ↔ (slice_get changes s.file ≡ Some s.change)
 spots_each changes s = (
   λ there. let (i, file, put) = pair_of 0 changes s there in let e : i ≡ s.file = omega (arith, file) in subst (λ n. slice_get changes n ≡ Some s.change) e put,
   λ put. from_pair 0 changes s s.file (omega arith) put,
 )
 
-length-spots : (first : ℕ) (changes : List ℕ) → length (spots_from first changes) ≡ length changes
+length-spots : (first : ℕ) (changes : List ℕ) → length (with_positions first changes) ≡ length changes
 length-spots first [] = refl
 length-spots first (c ∷ changes) = ap suc (length-spots (first + 1) changes)
 
-change_at : (first : ℕ) (changes : List ℕ) (i : ℕ) (d : Spot) → (get_or (spots_from first changes) i d).change ≡ get_or changes i d.change
+change_at : (first : ℕ) (changes : List ℕ) (i : ℕ) (d : Spot) → (get_or (with_positions first changes) i d).change ≡ get_or changes i d.change
 change_at first [] i d = refl
 change_at first (c ∷ changes) zero d = refl
 change_at first (c ∷ changes) (suc i) d = change_at (first + 1) changes i d
 
-pub spots_ordered : (changes : List ℕ) → AllPairs (λ a b. a ≢ b) changes → AllPairs (AreOrdered SpotBefore) (spots_from 0 changes)
+pub spots_ordered : (changes : List ℕ) → AllPairs (λ a b. a ≢ b) changes → AllPairs (AreOrdered SpotBefore) (with_positions 0 changes)
 spots_ordered changes apart i j d lt within =
     let size = length-spots 0 changes in
     let a = change_at 0 changes i d in
@@ -176,12 +176,12 @@ spots_ordered changes apart i j d lt within =
     ⊎_elim
     (λ same. absurd (differ (sym a ∙ same ∙ b)))
     (λ sides. sides)
-    (cases_order (get_or (spots_from 0 changes) i d).change (get_or (spots_from 0 changes) j d).change)
+    (cases_order (get_or (with_positions 0 changes) i d).change (get_or (with_positions 0 changes) j d).change)
 
 -- in order they are the spots
-pub sorted_spots : (changes : List ℕ) (unsorted sorted : List Spot) → AllPairs (λ a b. a ≢ b) changes → unsorted ≡ spots_from 0 changes → IsOrderOf SpotBefore unsorted sorted → AreSpots changes sorted
+pub sorted_spots : (changes : List ℕ) (unsorted sorted : List Spot) → AllPairs (λ a b. a ≢ b) changes → unsorted ≡ with_positions 0 changes → IsOrderOf SpotBefore unsorted sorted → AreSpots changes sorted
 sorted_spots changes unsorted sorted apart is order =
-    are_spots changes sorted
+    spots_from changes sorted
     (order.strict (subst (AllPairs (AreOrdered SpotBefore)) (sym is) (spots_ordered changes apart)))
     (λ s. (
       λ there. (spots_each changes s).0 (subst (λ ss. Contains ss s) is ((order.each s).0 there)),

@@ -26,6 +26,6 @@ abbrev pub is_spot_before : Spot → Spot → Bool
 is_spot_before a b = nat_lt a.change b.change
 
 -- the changes with their positions, of which the first is `file`
-abbrev pub spots_from : ℕ → List ℕ → List Spot
-spots_from file [] = []
-spots_from file (change ∷ changes) = record { change = change; file = file } ∷ spots_from (file + 1) changes
+abbrev pub with_positions : ℕ → List ℕ → List Spot
+with_positions file [] = []
+with_positions file (change ∷ changes) = record { change = change; file = file } ∷ with_positions (file + 1) changes

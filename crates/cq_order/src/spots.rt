@@ -1,7 +1,7 @@
 ghost use Rattle.std.specs.Prelude.{◌≡◌, ◌≢◌, ◌<◌, ◌^◌, ℕ, List, length, AllPairs, IfOk};
 ghost use Rattle.std.specs.Ordering.{is_lt};
 ghost use Rattle.cq_order.specs.Order.{IsOrderOf};
-ghost use Rattle.cq_order.specs.Spots.{AreSpots, IsPositionOf, SpotBefore, spot_of, is_spot_before, spots_from};
+ghost use Rattle.cq_order.specs.Spots.{AreSpots, IsPositionOf, SpotBefore, spot_of, is_spot_before, with_positions};
 
 use cq_base::Memory;
 use std::alloc::Global;
@@ -42,7 +42,7 @@ fn sort_spots(spots: &mut Vec<Spot>)
 // The changes with their positions, in the order of these.
 fn unsorted(alloc: Global, changes: &[u64]) -> Result<Vec<Spot>, Memory>
     requires { length changes.now < 2 ^ 32 }
-    ensures { IfOk result (λ spots. spots.items ≡ spots_from 0 changes.now) }
+    ensures { IfOk result (λ spots. spots.items ≡ with_positions 0 changes.now) }
 {
     let mut spots = Vec::with_capacity(alloc, changes.len())?;
     for file in 0..changes.len() {

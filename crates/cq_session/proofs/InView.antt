@@ -1,9 +1,8 @@
 -- A query's reply in an open view.
-use Rattle.std.proofs.Common.{◌≡◌, ℕ, List, map, take, sym, ap, ◌∙◌, subst}
+use Rattle.std.proofs.Common.{◌≡◌, ℕ, List, take, sym, ap, ◌∙◌, subst}
 use Rattle.std.specs.Prelude.{All}
 use Rattle.std.specs.Arc.{arc_value}
 use Rattle.cq_answer.specs.Versions.{AreOfVersion, HaveVersion}
-use Rattle.cq_answer.specs.Works.{Owner}
 use Rattle.cq_base.specs.Changes.{IsSoundChange}
 use Rattle.cq_base.specs.declared.change.Change.{Change}
 use Rattle.cq_base.specs.declared.change.Condition.{Condition}
@@ -21,8 +20,8 @@ use Rattle.cq_hub.specs.Views.{IsOpen}
 use Rattle.cq_work.specs.Work.{IsWorkOf}
 use Rattle.cq_work.specs.declared.work.Work.{Work}
 
-module _ {L : Type 0} (set now : Settings) (same : set ≡ now) (callers c : ℕ) (h : List Event) (view : View (Work L)) (project : List ℕ) (files : List (Owner L)) (conditions : List Condition) (opened : IsOpen (IsWorkOf set) (state callers h) c view)
-    (files_are : map arc_value files ≡ files_in (arc_value view.listing).projects project) (conditions_are : conditions ≡ conditions_in (arc_value view.listing).projects project) where
+module _ {L : Type 0} (set now : Settings) (same : set ≡ now) (callers c : ℕ) (h : List Event) (view : View (Work L)) (project : List ℕ) (files : List (File (Work L))) (conditions : List Condition) (opened : IsOpen (IsWorkOf set) (state callers h) c view)
+    (files_are : files ≡ files_in (arc_value view.listing).projects project) (conditions_are : conditions ≡ conditions_in (arc_value view.listing).projects project) where
   files_then : AreSameFiles (IsWorkOf set) (files_at (accepted h) view.version project) (files_in (arc_value view.listing).projects project)
   files_then =
       subst (λ (cs : List Change). AreSameFiles (IsWorkOf set) (files_of project (take view.version cs)) (files_in (arc_value view.listing).projects project)) (changes_in-state callers h) (opened.shows.files project)

@@ -13,7 +13,7 @@ ghost use Rattle.cq_session.specs.Costs.{Costs, counted};
 ghost use Rattle.cq_session.specs.Viewing.{InView, ShowsAt, ViewsOrNot};
 
 use cq_answer::answer;
-use cq_ask::{PassBuckets, changes_of};
+use cq_ask::PassBuckets;
 use cq_base::{Memory, Settings, Steps};
 use cq_board::View;
 use cq_hub::Hub;
@@ -42,30 +42,24 @@ fn reply_in<L: Ledger, H: Hub<Work<L>>>(
     ensures costs { InView H.Stands (H.callers hub.now) (IsWorkOf (H.settings hub.now)) hub.now view.now pass.old (λ changes. Costs (H.settings hub.now) changes (record { query = query.now; version = view.now.version; answered = is_ok result } ∷ []) (counted steps.old steps.new (H.asked pass.old) (H.asked pass.new))) }
     ensures moves { Moves H.Stands (H.callers hub.now) H.alone (IsWorkOf (H.settings hub.now)) hub.now view.now pass.old pass.new }
 {
-    let files = view.listing.files(&query.project);
+    let files = view.listing.project(&query.project);
     let conditions = view.listing.conditions(&query.project);
-    match changes_of(alloc, files) {
-        Ok(changes) => {
-            let mut buckets = PassBuckets {
-                hub,
-                view,
-                files,
-                changes: &changes,
-                pass,
-            };
-            answer(
-                alloc,
-                settings,
-                files,
-                conditions,
-                query,
-                view.version,
-                &mut buckets,
-                steps,
-            )
-        }
-        Err(Memory) => Err(Memory),
-    }
+    let mut buckets = PassBuckets {
+        hub,
+        view,
+        files,
+        pass,
+    };
+    answer(
+        alloc,
+        settings,
+        files,
+        conditions,
+        query,
+        view.version,
+        &mut buckets,
+        steps,
+    )
 }
 
 /// The reply to a query at a version that is not below `to`, up to which all changes are done. A view of it is opened for

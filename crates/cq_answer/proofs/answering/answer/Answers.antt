@@ -1,17 +1,19 @@
-use Rattle.std.proofs.Common.{◌≤◌, sym, subst, arith}
+use Rattle.std.proofs.Common.{◌≡◌, ◌≤◌, List, length, map, sym, ap, ◌∙◌, subst, arith}
 use Rattle.std.proofs.lemmas.List.{length-map}
 use Rattle.std.proofs.lemmas.Result.{IfOk-weaker}
-use Rattle.cq_answer.specs.Parts.{AreGroupsOf}
-use Rattle.cq_answer.specs.Works.{work_in, works_in, norms_in}
+use Rattle.cq_history.specs.Files.{File}
+use Rattle.cq_work.specs.declared.work.Work.{Work}
+use Rattle.cq_answer.specs.Parts.{AreGroupsOf, IsWithin}
+use Rattle.cq_answer.specs.Reply.{reply_of}
+use Rattle.cq_answer.specs.Rows.{AreShowable}
+use Rattle.cq_answer.specs.Works.{work_in, facts_in, norms_in}
 use Rattle.cq_answer.proofs.Listable.{listable, measurable, replied, keys_asked, most_read, texts_are, conditions_few, when_ok}
 use Rattle.cq_answer.proofs.answering.answer.Goals as goal
 
-pub part_of-part-requires : goal.part_of-part-requires
-part_of-part-requires g c =
-    let have = c.requires.of_version in
-    let files = listable c.args.settings.now have.changes c.args.version c.args.query.now.project c.args.files.now c.args.conditions.now have.are c.requires.settings have.few in
-    let many = length-map c.args.files.now work_in in
-    omega (arith, files.few, many)
+-- as many owners as files
+pub reply_of-requires-clause-within : goal.reply_of-requires-clause-within
+reply_of-requires-clause-within g c =
+    subst (λ n. IsWithin n c.part_of-part.result) (sym (ap length c.items-items.ensures.files) ∙ length-map c.items-items.result.now work_in) c.part_of-part.ensures.within
 
 pub groups_of-requires-clause-listable : goal.groups_of-requires-clause-listable
 groups_of-requires-clause-listable g c =
@@ -34,21 +36,22 @@ reply_of-requires-clause-measurable g c =
     let have = c.requires.of_version in
     let files = listable c.args.settings.now have.changes c.args.version c.args.query.now.project c.args.files.now c.args.conditions.now have.are c.requires.settings have.few in
     let some : 1 ≤ c.args.query.now.min = omega (arith, c.requires.settings.chunk, c.requires.long) in
-    let groups : AreGroupsOf (norms_in (works_in c.args.files.now)) c.args.query.now.min c.part_of-part.result c.deref.result.now = subst (λ gs. AreGroupsOf (norms_in (works_in c.args.files.now)) c.args.query.now.min c.part_of-part.result gs) (sym c.deref.ensures.value) c.in_ok-groups.ensures.groups in
-    measurable c.args.settings.now have.changes c.args.version c.args.query.now.project c.args.files.now c.args.conditions.now have.are c.args.query.now.min c.part_of-part.result c.deref.result.now some files.few groups
+    let groups : AreGroupsOf (norms_in c.args.files.now) c.args.query.now.min c.part_of-part.result c.deref.result.now = subst (λ gs. AreGroupsOf (norms_in c.args.files.now) c.args.query.now.min c.part_of-part.result gs) (sym c.deref.ensures.value) c.in_ok-groups.ensures.groups in
+    subst (λ (fs : List (File (Work g.row.L.Denot))). AreShowable (facts_in fs) c.deref.result.now) (sym c.items-items.ensures.files)
+    (measurable c.args.settings.now have.changes c.args.version c.args.query.now.project c.args.files.now c.args.conditions.now have.are c.args.query.now.min c.part_of-part.result c.deref.result.now some files.few groups)
 
 pub returns-clause-reply : goal.returns-clause-reply
 returns-clause-reply g c =
-    let groups : AreGroupsOf (norms_in (works_in c.args.files.now)) c.args.query.now.min c.part_of-part.result c.deref.result.now = subst (λ gs. AreGroupsOf (norms_in (works_in c.args.files.now)) c.args.query.now.min c.part_of-part.result gs) (sym c.deref.ensures.value) c.in_ok-groups.ensures.groups in
+    let groups : AreGroupsOf (norms_in c.args.files.now) c.args.query.now.min c.part_of-part.result c.deref.result.now = subst (λ gs. AreGroupsOf (norms_in c.args.files.now) c.args.query.now.min c.part_of-part.result gs) (sym c.deref.ensures.value) c.in_ok-groups.ensures.groups in
     IfOk-weaker c.reply_of.result _ _ (λ r is changes are.
-    replied c.args.settings.now changes c.args.version c.args.query.now c.args.files.now c.args.conditions.now c.part_of-part.result c.deref.result.now r are c.part_of-part.ensures.part groups is) c.reply_of.ensures
+    replied c.args.settings.now changes c.args.version c.args.query.now c.args.files.now c.args.conditions.now c.part_of-part.result c.deref.result.now r are c.part_of-part.ensures.part groups (is ∙ ap (λ (fs : List (File (Work g.row.L.Denot))). reply_of (facts_in fs) c.args.conditions.now c.args.version c.args.query.now.kind c.part_of-part.result c.deref.result.now) c.items-items.ensures.files)) c.reply_of.ensures
 
 pub returns-clause-texts : goal.returns-clause-texts
 returns-clause-texts g c =
     let some : 1 ≤ c.args.query.now.min = omega (arith, c.requires.settings.chunk, c.requires.long) in
-    let groups : AreGroupsOf (norms_in (works_in c.args.files.now)) c.args.query.now.min c.part_of-part.result c.deref.result.now = subst (λ gs. AreGroupsOf (norms_in (works_in c.args.files.now)) c.args.query.now.min c.part_of-part.result gs) (sym c.deref.ensures.value) c.in_ok-groups.ensures.groups in
+    let groups : AreGroupsOf (norms_in c.args.files.now) c.args.query.now.min c.part_of-part.result c.deref.result.now = subst (λ gs. AreGroupsOf (norms_in c.args.files.now) c.args.query.now.min c.part_of-part.result gs) (sym c.deref.ensures.value) c.in_ok-groups.ensures.groups in
     IfOk-weaker c.reply_of.result _ _ (λ r is.
-    texts_are c.args.settings.now c.args.version c.args.query.now.project c.args.files.now c.args.conditions.now c.args.query.now.kind c.args.query.now.min c.part_of-part.result c.deref.result.now r c.requires.of_version some groups is) c.reply_of.ensures
+    texts_are c.args.settings.now c.args.version c.args.query.now.project c.args.files.now c.args.conditions.now c.args.query.now.kind c.args.query.now.min c.part_of-part.result c.deref.result.now r c.requires.of_version some groups (is ∙ ap (λ (fs : List (File (Work g.row.L.Denot))). reply_of (facts_in fs) c.args.conditions.now c.args.version c.args.query.now.kind c.part_of-part.result c.deref.result.now) c.items-items.ensures.files)) c.reply_of.ensures
 
 pub returns-clause-asked : goal.returns-clause-asked
 returns-clause-asked g c = λ ks on.

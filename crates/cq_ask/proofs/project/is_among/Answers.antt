@@ -1,6 +1,7 @@
 use Rattle.std.proofs.Common.{◌∙◌}
-use Rattle.cq_board.proofs.Numbers.{among}
+use Rattle.cq_board.specs.Spotted.{numbers_of}
+use Rattle.cq_ask.proofs.ProjectEntries.{among_positions}
 use Rattle.cq_ask.proofs.project.is_among.Goals as goal
 
 pub returns : goal.returns
-returns c = c.is_ok.ensures.value ∙ among c.args.changes.now c.args.change c.binary_search.result c.binary_search.ensures.position c.requires
+returns g c = c.is_some.ensures ∙ among_positions (numbers_of c.args.files.now) c.args.change c.position_of_change.result c.position_of_change.ensures

@@ -5,7 +5,6 @@ use Rattle.cq_board.specs.Listings.{files_in}
 use Rattle.cq_hub.specs.Hubs.{IsPublication, Never}
 use Rattle.cq_hub.proofs.Following.{view_then, latest_opened}
 use Rattle.cq_hub.proofs.Staying.{closed_stays}
-use Rattle.cq_ask.specs.Projects.{AreChangesOf}
 use Rattle.cq_ask.proofs.tests.read.Goals as goal
 
 pub open_view-requires : goal.open_view-requires
@@ -32,8 +31,7 @@ bucket-requires g c =
       stands = opened.stands;
       opened = latest_opened callers r.0 opened.mid (g.W.Indexed.IsWorkOf (g.H.Hub.settings c.args.hub.now)) c.in_ok-view.view there opened.says;
       project = c.args.project.now;
-      files_are = c.files-files.ensures ∙ ap (λ l. files_in l.projects c.args.project.now) c.deref.ensures;
-      changes_are = subst (AreChangesOf c.files-files.result.now) (sym c.deref-2.ensures.value) c.in_ok-changes.ensures;
+      files_are = c.project-files.ensures ∙ ap (λ l. files_in l.projects c.args.project.now) c.deref.ensures;
     }
 
 pub close_view-requires : goal.close_view-requires

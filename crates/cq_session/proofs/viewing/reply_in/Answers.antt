@@ -3,24 +3,21 @@ use Rattle.std.specs.Result.{is_ok}
 use Rattle.std.proofs.lemmas.Result.{IfOk-weaker}
 use Rattle.cq_answer.specs.Reply.{IsReply}
 use Rattle.cq_ask.specs.Moves.{Moves}
-use Rattle.cq_ask.specs.Projects.{AreChangesOf}
 use Rattle.cq_base.specs.declared.settings.Settings.{Settings}
 use Rattle.cq_board.specs.Listings.{Listed, files_in, conditions_in}
 use Rattle.cq_history.specs.State.{accepted}
-use Rattle.cq_hub.specs.Hubs.{Never}
-use Rattle.cq_hub.proofs.Growing.{grows_none}
 use Rattle.cq_work.specs.Work.{IsWorkOf}
 use Rattle.cq_work.specs.declared.work.Work.{Work}
 use Rattle.cq_session.specs.Costs.{Viewing, counted, Costs}
-use Rattle.cq_session.proofs.Spending.{costs_one, costs_unread}
+use Rattle.cq_session.proofs.Spending.{costs_one}
 use Rattle.cq_session.proofs.InView.{of_version, have_version}
 use Rattle.cq_session.proofs.viewing.reply_in.Goals as goal
 
 pub answer-requires-clause-of_version : goal.answer-requires-clause-of_version
 answer-requires-clause-of_version g c =
     let r = c.requires.viewing in
-    have_version (g.H.Hub.settings c.args.hub.now) c.args.settings.now c.requires.hub_settings (g.H.Hub.callers c.args.hub.now) r.0 r.1 c.args.view.now c.args.query.now.project c.files-files.result.now c.conditions-conditions.result.now r.3
-    (c.files-files.ensures ∙ ap (λ (l : Listed (Work g.row.L.Denot)). files_in l.projects c.args.query.now.project) c.deref.ensures)
+    have_version (g.H.Hub.settings c.args.hub.now) c.args.settings.now c.requires.hub_settings (g.H.Hub.callers c.args.hub.now) r.0 r.1 c.args.view.now c.args.query.now.project c.project-files.result.now c.conditions-conditions.result.now r.3
+    (c.project-files.ensures ∙ ap (λ (l : Listed (Work g.row.L.Denot)). files_in l.projects c.args.query.now.project) c.deref.ensures)
     (c.conditions-conditions.ensures ∙ ap (λ (l : Listed (Work g.row.L.Denot)). conditions_in l.projects c.args.query.now.project) c.deref-2.ensures)
     (g.met.H.Hub.lawful _ _ r.0 r.1 r.2) (g.met.H.Hub.sound _ _ r.0 r.1 r.2)
 
@@ -33,30 +30,26 @@ answer-requires-clause-ready g c =
       stands = r.2;
       opened = r.3;
       project = c.args.query.now.project;
-      files_are = c.files-files.ensures ∙ ap (λ (l : Listed (Work g.row.L.Denot)). files_in l.projects c.args.query.now.project) c.deref.ensures;
-      changes_are = subst (λ (changes : List ℕ). AreChangesOf c.files-files.result.now changes) (sym c.deref-in-Ok.ensures.value) c.in-Ok.ensures;
+      files_are = c.project-files.ensures ∙ ap (λ (l : Listed (Work g.row.L.Denot)). files_in l.projects c.args.query.now.project) c.deref.ensures;
     }
 
-pub returns-in-Ok-clause-reply : goal.returns-in-Ok-clause-reply
-returns-in-Ok-clause-reply g c = IfOk-weaker c.answer.result _ _ (λ reply shows by h stands opened.
+pub returns-clause-reply : goal.returns-clause-reply
+returns-clause-reply g c = IfOk-weaker c.answer.result _ _ (λ reply shows by h stands opened.
     subst (λ (set : Settings). IsReply set (accepted h) c.args.view.now.version c.args.query.now reply) (sym c.requires.hub_settings)
-    (shows (accepted h) (of_version (g.H.Hub.settings c.args.hub.now) c.args.settings.now c.requires.hub_settings (g.H.Hub.callers c.args.hub.now) by h c.args.view.now c.args.query.now.project c.files-files.result.now c.conditions-conditions.result.now opened
-    (c.files-files.ensures ∙ ap (λ (l : Listed (Work g.row.L.Denot)). files_in l.projects c.args.query.now.project) c.deref.ensures)
+    (shows (accepted h) (of_version (g.H.Hub.settings c.args.hub.now) c.args.settings.now c.requires.hub_settings (g.H.Hub.callers c.args.hub.now) by h c.args.view.now c.args.query.now.project c.project-files.result.now c.conditions-conditions.result.now opened
+    (c.project-files.ensures ∙ ap (λ (l : Listed (Work g.row.L.Denot)). files_in l.projects c.args.query.now.project) c.deref.ensures)
     (c.conditions-conditions.ensures ∙ ap (λ (l : Listed (Work g.row.L.Denot)). conditions_in l.projects c.args.query.now.project) c.deref-2.ensures)))) c.answer.ensures.reply
 
-pub returns-in-Ok-clause-moves : goal.returns-in-Ok-clause-moves
-returns-in-Ok-clause-moves g c =
+pub returns-clause-moves : goal.returns-clause-moves
+returns-clause-moves g c =
     let same = c.pass-1.given.1 (sym c.answer.ensures.moved.same_pass) in
     subst (λ (p : g.row.H-Pass.Denot). Moves g.H.Hub.Stands (g.H.Hub.callers c.args.hub.now) g.H.Hub.alone (IsWorkOf (g.H.Hub.settings c.args.hub.now)) c.args.hub.now c.args.view.now c.args.pass.now p) (sym same) c.answer.ensures.moved.moves
 
-pub returns-in-Err-clause-moves : goal.returns-in-Err-clause-moves
-returns-in-Err-clause-moves g c = λ by h stands opened. record { after = h; grows = grows_none g.H.Hub.alone by Never h; stands = stands; opened = opened }
-
-pub returns-in-Ok-clause-costs : goal.returns-in-Ok-clause-costs
-returns-in-Ok-clause-costs g c = λ by h stands opened.
+pub returns-clause-costs : goal.returns-clause-costs
+returns-clause-costs g c = λ by h stands opened.
     let set = c.args.settings.now in
-    let are = of_version (g.H.Hub.settings c.args.hub.now) set c.requires.hub_settings (g.H.Hub.callers c.args.hub.now) by h c.args.view.now c.args.query.now.project c.files-files.result.now c.conditions-conditions.result.now opened
-    (c.files-files.ensures ∙ ap (λ (l : Listed (Work g.row.L.Denot)). files_in l.projects c.args.query.now.project) c.deref.ensures)
+    let are = of_version (g.H.Hub.settings c.args.hub.now) set c.requires.hub_settings (g.H.Hub.callers c.args.hub.now) by h c.args.view.now c.args.query.now.project c.project-files.result.now c.conditions-conditions.result.now opened
+    (c.project-files.ensures ∙ ap (λ (l : Listed (Work g.row.L.Denot)). files_in l.projects c.args.query.now.project) c.deref.ensures)
     (c.conditions-conditions.ensures ∙ ap (λ (l : Listed (Work g.row.L.Denot)). conditions_in l.projects c.args.query.now.project) c.deref-2.ensures) in
     let same = c.pass-1.given.1 (sym c.answer.ensures.moved.same_pass) in
     let n = λ (p : g.row.H-Pass.Denot). counted c.args.steps.now c.answer.new.steps (g.H.Hub.asked c.args.pass.now) (g.H.Hub.asked p) in
@@ -68,6 +61,3 @@ returns-in-Ok-clause-costs g c = λ by h stands opened.
     (λ ks is. c.answer.ensures.asked ks (record { changes = accepted h; are = are; asked = is }))
     (λ ks is. c.answer.ensures.asked_most ks (record { changes = accepted h; are = are; asked = is }))
     (let fewer = c.answer.ensures.moved.no_fewer in omega (arith, fewer))))
-
-pub returns-in-Err-clause-costs : goal.returns-in-Err-clause-costs
-returns-in-Err-clause-costs g c = λ by h stands opened. costs_unread (g.H.Hub.settings c.args.hub.now) (accepted h) _ _ _ _
