@@ -126,10 +126,6 @@ module _ (set : Settings) (changes : List Change) (vs us : List Viewing) (reads 
 
 -- ---- one view
 
--- of which nothing was read and for which nothing was asked
-pub costs_unread : (set : Settings) (changes : List Change) (q : Query) (version reads asked : ℕ) → Costs set changes (record { query = q; version = version; answered = false } ∷ []) (counted reads reads asked asked)
-costs_unread set changes q version reads asked = record { reads = λ most all. omega arith; asked = λ keys all. omega arith; asked_most = λ keys all. (omega arith, omega arith); no_fewer = omega arith }
-
 module _ (set : Settings) (changes : List Change) (q : Query) (version reads reads_now asked asked_now : ℕ) where
   asked_where : {T E : Type 0} (r : Result T E) → ((ks : List ℕ) → AreAsked set changes version q ks → OnOk r (Rises asked asked_now (length ks))) → RisesAtLeast asked asked_now 0
       → (keys : Viewing → List ℕ) → let vs = told (record { query = q; version = version; answered = is_ok r } ∷ []) in AllByRecursion (Keys set changes keys) vs → RisesAtLeast asked asked_now (sum_by (many keys) vs)

@@ -1,4 +1,4 @@
-use Rattle.std.proofs.Common.{◌≡◌, ℕ, ◌<◌, rules, Some, length, arith, sym, ap, ◌∙◌}
+use Rattle.std.proofs.Common.{◌≡◌, rules, Some, refl, arith, sym, ap, ◌∙◌}
 use Rattle.std.proofs.lemmas.List.{length-map}
 use Rattle.std.proofs.lemmas.Option.{slice_get_within}
 use Rattle.cq_history.specs.Files.{File}
@@ -15,7 +15,7 @@ returns-in-Some-position_of_path-clause-part g c =
 
 pub returns-in-Some-position_of_path-clause-within : goal.returns-in-Some-position_of_path-clause-within
 returns-in-Some-position_of_path-clause-within g c =
-    let within = slice_get_within (paths_in c.args.files.now) c.in-Some-position_of_path.file c.in-Some.path ((c.in-Some-position_of_path.ensures c.in-Some-position_of_path.file).0 _) in
+    let within = slice_get_within (paths_in c.args.files.now) c.in-Some-position_of_path.file c.in-Some.path ((c.in-Some-position_of_path.ensures c.in-Some-position_of_path.file).0 refl) in
     omega (arith, within, length-map c.args.files.now (λ (f : File (Work g.row.L.Denot)). f.path))
 
 pub returns-in-None-clause-part : goal.returns-in-None-clause-part
