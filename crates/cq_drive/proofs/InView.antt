@@ -4,9 +4,8 @@ use Rattle.std.specs.Arc.{arc_value}
 use Rattle.std.specs.List.{list_any}
 use Rattle.cq_answer.specs.Reply.{IsReply}
 use Rattle.cq_answer.specs.Versions.{AreOfVersion, HaveVersion, IsReplyOn}
-use Rattle.cq_answer.specs.Works.{Owner}
 use Rattle.cq_ask.proofs.ProjectEntries.{project_bucket}
-use Rattle.cq_ask.specs.Projects.{Files, shown, numbers_in, keys_in_files, AreChangesOf}
+use Rattle.cq_ask.specs.Projects.{keys_in_files}
 use Rattle.cq_base.specs.Settings.{IsInRange}
 use Rattle.cq_base.specs.declared.change.Change.{Change}
 use Rattle.cq_base.specs.declared.change.Condition.{Condition}
@@ -15,6 +14,7 @@ use Rattle.cq_base.specs.declared.settings.Settings.{Settings}
 use Rattle.cq_board.specs.Entries.{AreEntriesAt}
 use Rattle.cq_board.specs.Listings.{files_in, conditions_in}
 use Rattle.cq_board.specs.Related.{AreSameFiles}
+use Rattle.cq_board.specs.Spotted.{numbers_of}
 use Rattle.cq_board.specs.declared.listing.View.{View}
 use Rattle.cq_clones.specs.Windows.{IsBucket}
 use Rattle.cq_core.specs.Cores.{CoreState}
@@ -40,11 +40,11 @@ use Rattle.cq_drive.proofs.Taken.{led_same, state_is}
 
 module _ (L : Type 0) (set : Settings) where
   -- the bucket of the key's shard, without the entries of other projects
-  pub bucket_of : (c : CoreState) (by key : ℕ) (files : Files (Work L)) (changes : List ℕ) (entries : List Entry) → IsInView L set c by files changes → AreRead (keys_of {L = L}) IsWorkOf c by (key % set.shards) key entries
-      → IsBucket (numbers_in files) (keys_in_files (keys_of {L = L}) files) key (filter (λ e. list_any (nat_eq e.change) changes) entries)
-  bucket_of c by key files changes entries view read =
+  pub bucket_of : (c : CoreState) (by key : ℕ) (files : List (File (Work L))) (entries : List Entry) → IsInView L set c by files → AreRead (keys_of {L = L}) IsWorkOf c by (key % set.shards) key entries
+      → IsBucket (numbers_of files) (keys_in_files (keys_of {L = L}) files) key (filter (λ e. list_any (nat_eq e.change) (numbers_of files)) entries)
+  bucket_of c by key files entries view read =
       let at = subst (λ (st : Settings). AreEntriesAt (HasWindow (keys_of {L = L}) IsWorkOf st) st.shards (key % set.shards) (changes_in c.board.state) view.version key entries) view.driven.settings (read view.version view.opened) in
-      project_bucket (keys_of {L = L}) IsWorkOf keys_determined set (changes_in c.board.state) view.version view.project (shown files) view.files_are key changes entries view.changes_are.each
+      project_bucket (keys_of {L = L}) IsWorkOf keys_determined set (changes_in c.board.state) view.version view.project files view.files_are key entries
       (record { ordered = at.ordered; each = λ e. (λ there. ((at.each e).0 there).1, λ is. (at.each e).1 (refl, is)) })
 
   file_keys : (files : List (File (Work L))) → map (λ (f : File (Work L)). keys_of f.body) files ≡ map (λ (f : File (Work L)). arc_value f.body.keys) files
@@ -60,8 +60,8 @@ module _ (L : Type 0) (set : Settings) where
       let number = ap (λ (s : State). length (changes_in s)) stands.past.is ∙ ap length (changes_in-state (length c.board.state.views) k.history) in
       omega (arith, (few_accepted set (length c.board.state.views) k.history law).1, number)
 
-  module _ (c : CoreState) (by : ℕ) (view : View (Work L)) (project : List ℕ) (files : List (Owner L)) (conditions : List Condition) (driven : IsDriven L set c) (is : IsView (λ lang text work. IsWorkOf c.board.settings lang text work) c.board.state view)
-      (files_are : map arc_value files ≡ files_in (arc_value view.listing).projects project) (conditions_are : conditions ≡ conditions_in (arc_value view.listing).projects project) where
+  module _ (c : CoreState) (by : ℕ) (view : View (Work L)) (project : List ℕ) (files : List (File (Work L))) (conditions : List Condition) (driven : IsDriven L set c) (is : IsView (λ lang text work. IsWorkOf c.board.settings lang text work) c.board.state view)
+      (files_are : files ≡ files_in (arc_value view.listing).projects project) (conditions_are : conditions ≡ conditions_in (arc_value view.listing).projects project) where
     -- the files and conditions of the view are those of its version
     pub of_version : AreOfVersion set (changes_in c.board.state) view.version project files conditions
     of_version = record {
@@ -73,8 +73,8 @@ module _ (L : Type 0) (set : Settings) where
     pub have_version : HaveVersion set view.version project files conditions
     have_version = record { changes = changes_in c.board.state; sound = driven.past.1.past.sound; few = few c driven; are = of_version }
 
-    pub in_view : (changes : List ℕ) → IsInRange set → by < callers → view_of c.board.state by ≡ Some view.version → AreChangesOf files changes → IsInView L set c by files changes
-    in_view changes in_range caller opened are = record { in_range = in_range; driven = driven; caller = caller; version = view.version; opened = opened; project = project; files_are = of_version.files_are; changes_are = are }
+    pub in_view : IsInRange set → by < callers → view_of c.board.state by ≡ Some view.version → IsInView L set c by files
+    in_view in_range caller opened = record { in_range = in_range; driven = driven; caller = caller; version = view.version; opened = opened; project = project; files_are = of_version.files_are }
 
     -- the reply on them is that of the version
     pub was_answered : (query : Query) (reply : Reply) → query.project ≡ project → view_of c.board.state by ≡ Some view.version → IsReplyOn set view.version query files conditions reply → StepLed L set c c (script.Reply by query) (outcome.Reply reply)

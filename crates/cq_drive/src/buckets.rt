@@ -1,38 +1,36 @@
 use cq_ask::keep;
 use cq_base::{Entry, Memory, Settings};
-use cq_board::Held;
+use cq_board::ProjectFiles;
 use cq_core::Core;
 use cq_groups::Buckets;
 use cq_work::Work;
 use std::alloc::Global;
-use std::sync::Arc;
 use std::sync::ledger::Ledger;
 
 /// The buckets of a project's files in the view that a caller of a core has open: those of the key's shard, without the
-/// entries of other projects. It is ready where `files` are those that the view's listing has of one project, and
-/// `changes` is what `changes_of` of cq_ask gives for them.
+/// entries of other projects. It is ready where `files` are those that the view's listing has of one project.
 #[derive(Drop)]
 pub(crate) struct CoreBuckets<'a, L: Ledger> {
     pub(crate) core: &'a Core<Work<L>>,
     pub(crate) settings: &'a Settings,
     pub(crate) by: u32,
-    pub(crate) files: &'a [Arc<Held<Work<L>>, Global>],
-    pub(crate) changes: &'a [u64],
+    pub(crate) files: &'a ProjectFiles<Work<L>>,
     pub(crate) asked: u64,
 }
 
 impl<'a, L: Ledger> Buckets for CoreBuckets<'a, L> {
-    ghost use Rattle.cq_ask.specs.Projects.{numbers_in, keys_in_files};
+    ghost use Rattle.cq_ask.specs.Projects.{keys_in_files};
+    ghost use Rattle.cq_board.specs.Spotted.{numbers_of};
     ghost use Rattle.cq_drive.specs.Cores.{keys_of};
     ghost use Rattle.cq_drive.specs.Views.{IsInView};
 
-    ghost file_changes = { λ b. numbers_in b.files.now };
+    ghost file_changes = { λ b. numbers_of b.files.now };
 
     ghost file_keys = { λ b. keys_in_files keys_of b.files.now };
 
     ghost asked = { λ b. b.asked };
 
-    ghost ready = { λ b. IsInView L b.settings.now b.core.now b.by b.files.now b.changes.now };
+    ghost ready = { λ b. IsInView L b.settings.now b.core.now b.by b.files.now };
 
     ghost moved = { λ b d. Unit {0} };
 
@@ -45,7 +43,7 @@ impl<'a, L: Ledger> Buckets for CoreBuckets<'a, L> {
         let shard = (key % u64::from(self.settings.shards)) as u32;
         match self.core.read(alloc, self.by, shard, key)? {
             Some(mut entries) => {
-                keep(&mut entries, self.changes);
+                keep(&mut entries, self.files);
                 Ok(entries)
             }
             None => unreachable!(),

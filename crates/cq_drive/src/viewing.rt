@@ -12,7 +12,6 @@ ghost use Rattle.cq_work.specs.Work.{IsWorkOf};
 
 use crate::buckets::CoreBuckets;
 use cq_answer::answer;
-use cq_ask::changes_of;
 use cq_base::{Memory, Settings, Steps};
 use cq_board::View;
 use cq_core::Core;
@@ -63,15 +62,13 @@ fn answered<L: Ledger>(
     ensures led { IfOk result (StepLed L settings.now core.now core.now (script.Reply by query.now)) }
     ensures text { IfOk result IsOutcomeText }
 {
-    let files = view.listing.files(&query.project);
+    let files = view.listing.project(&query.project);
     let conditions = view.listing.conditions(&query.project);
-    let changes = changes_of(alloc, files)?;
     let mut buckets = CoreBuckets {
         core,
         settings,
         by,
         files,
-        changes: &changes,
         asked: 0,
     };
     let reply = answer(

@@ -1,5 +1,4 @@
 use Rattle.std.proofs.Common.{List, ℕ, refl, sym, ap, ◌∙◌, subst}
-use Rattle.cq_ask.specs.Projects.{AreChangesOf}
 use Rattle.cq_board.specs.Listings.{Listed, files_in, conditions_in}
 use Rattle.cq_work.specs.declared.work.Work.{Work}
 use Rattle.cq_drive.proofs.InView.{have_version, in_view, was_answered}
@@ -7,21 +6,20 @@ use Rattle.cq_drive.proofs.viewing.answered.Goals as goal
 
 pub answer-requires-clause-of_version : goal.answer-requires-clause-of_version
 answer-requires-clause-of_version g c =
-    have_version g.row.L.Denot c.args.settings.now c.args.core.now c.args.by c.args.view.now c.args.query.now.project c.files-files.result.now c.conditions-conditions.result.now c.requires.driven c.requires.listing
-    (c.files-files.ensures ∙ ap (λ (l : Listed (Work g.row.L.Denot)). files_in l.projects c.args.query.now.project) c.deref.ensures)
+    have_version g.row.L.Denot c.args.settings.now c.args.core.now c.args.by c.args.view.now c.args.query.now.project c.project-files.result.now c.conditions-conditions.result.now c.requires.driven c.requires.listing
+    (c.project-files.ensures ∙ ap (λ (l : Listed (Work g.row.L.Denot)). files_in l.projects c.args.query.now.project) c.deref.ensures)
     (c.conditions-conditions.ensures ∙ ap (λ (l : Listed (Work g.row.L.Denot)). conditions_in l.projects c.args.query.now.project) c.deref-2.ensures)
 
 pub answer-requires-clause-ready : goal.answer-requires-clause-ready
 answer-requires-clause-ready g c =
-    in_view g.row.L.Denot c.args.settings.now c.args.core.now c.args.by c.args.view.now c.args.query.now.project c.files-files.result.now c.conditions-conditions.result.now c.requires.driven c.requires.listing
-    (c.files-files.ensures ∙ ap (λ (l : Listed (Work g.row.L.Denot)). files_in l.projects c.args.query.now.project) c.deref.ensures)
+    in_view g.row.L.Denot c.args.settings.now c.args.core.now c.args.by c.args.view.now c.args.query.now.project c.project-files.result.now c.conditions-conditions.result.now c.requires.driven c.requires.listing
+    (c.project-files.ensures ∙ ap (λ (l : Listed (Work g.row.L.Denot)). files_in l.projects c.args.query.now.project) c.deref.ensures)
     (c.conditions-conditions.ensures ∙ ap (λ (l : Listed (Work g.row.L.Denot)). conditions_in l.projects c.args.query.now.project) c.deref-2.ensures)
-    c.deref-3.result.now c.requires.in_range c.requires.caller c.requires.opened
-    (subst (λ (changes : List ℕ). AreChangesOf c.files-files.result.now changes) (sym c.deref-3.ensures.value) c.in_ok-changes.ensures)
+    c.requires.in_range c.requires.caller c.requires.opened
 
 pub returns-clause-led : goal.returns-clause-led
 returns-clause-led g c =
-    was_answered g.row.L.Denot c.args.settings.now c.args.core.now c.args.by c.args.view.now c.args.query.now.project c.files-files.result.now c.conditions-conditions.result.now c.requires.driven c.requires.listing
-    (c.files-files.ensures ∙ ap (λ (l : Listed (Work g.row.L.Denot)). files_in l.projects c.args.query.now.project) c.deref.ensures)
+    was_answered g.row.L.Denot c.args.settings.now c.args.core.now c.args.by c.args.view.now c.args.query.now.project c.project-files.result.now c.conditions-conditions.result.now c.requires.driven c.requires.listing
+    (c.project-files.ensures ∙ ap (λ (l : Listed (Work g.row.L.Denot)). files_in l.projects c.args.query.now.project) c.deref.ensures)
     (c.conditions-conditions.ensures ∙ ap (λ (l : Listed (Work g.row.L.Denot)). conditions_in l.projects c.args.query.now.project) c.deref-2.ensures)
     c.args.query.now c.in_ok-reply.reply refl c.requires.opened c.in_ok-reply.ensures.reply
