@@ -1,19 +1,21 @@
 //! Places, entries and groups in their order, the occurrences of a word that are kept, and the spots of a list's changes.
 //! Both the plain listing and the listing by index stand on these, so that they agree on order and on overlaps. A sort of
-//! n items costs n log n comparisons; `kept` one walk; `spot_of` a binary search, and nothing is made
-//! for it.
+//! n items costs n log n comparisons; `kept` one walk; `spot_of` a binary search between the two places that `reach` gives in
+//! constant time, and nothing is made for it.
 #![tactic(auto)]
 
 mod entries;
 mod groups;
 mod keeping;
 mod places;
+mod rising;
 mod spots;
 
 pub use entries::sort_entries;
 pub use groups::order;
 pub use keeping::kept;
 pub use places::sort_places;
+pub use rising::reach;
 pub use spots::{Spot, spot_of, spots_of};
 
 #[cfg(test)]

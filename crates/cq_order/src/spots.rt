@@ -7,6 +7,8 @@ use cq_base::Memory;
 use std::alloc::Global;
 use std::cmp::Ordering;
 
+use crate::rising::reach;
+
 /// Where the file that a change put stands among the files of its project: its position, from 0.
 #[derive(Clone, Copy, Debug, PartialEq, Eq)]
 pub struct Spot {
@@ -14,14 +16,21 @@ pub struct Spot {
     pub file: u32,
 }
 
-/// The position of the file that a change put, if it is among them. It is a binary search.
+/// The position of the file that a change put, if it is among them. It is a binary search of the places where the change
+/// can stand.
 pub fn spot_of(spots: &[Spot], change: u64) -> Option<u32>
     requires rising { AllPairs SpotBefore spots.now }
     ensures spot { result ≡ spot_of spots.now change }
     ensures position { (changes : List ℕ) → AreSpots changes spots.now → IsPositionOf changes change result }
 {
-    match spots.binary_search_by_key(&change, |spot| spot.change) {
-        Ok(i) => Some(spots[i].file),
+    if spots.is_empty() {
+        return None;
+    }
+    let last = spots.len() - 1;
+    let (from, to) = reach(spots[0].change, spots[last].change, spots.len(), change);
+    let near = &spots[from..to];
+    match near.binary_search_by_key(&change, |spot| spot.change) {
+        Ok(i) => Some(near[i].file),
         Err(_) => None,
     }
 }

@@ -1,5 +1,6 @@
 pub mod Entries
 pub mod Live
+pub mod Masks
 pub mod RowOrder
 pub mod Merging
 pub mod Finding

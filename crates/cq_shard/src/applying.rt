@@ -1,4 +1,5 @@
-ghost use Rattle.std.specs.Prelude.{◌≡◌, ◌+◌, ◌<◌, ◌≤◌, ◌^◌, length, option_copied, All, IfOk, OnOk, OnErr, IfSome};
+ghost use Rattle.std.specs.Prelude.{◌≡◌, ◌+◌, ◌<◌, ◌≤◌, ◌^◌, ◌%◌, length, option_copied, All, IfOk, OnOk, OnErr, IfSome};
+ghost use Rattle.std.specs.Int.{IsPowerOfTwo};
 ghost use Rattle.cq_shard.specs.Runs.{AreAdded};
 ghost use Rattle.cq_shard.specs.Shard.{entries_of, brought};
 
@@ -16,6 +17,20 @@ pub(crate) struct Part {
     pub change: u64,
 }
 
+// The key modulo the number of shards. Where that is the power of two it needs no division.
+#[tactic(auto, using(crate::proofs::Masks::mask_is_remainder))]
+fn remainder(key: u64, shards: u64, power: u64) -> u64
+    requires some { 0 < shards }
+    requires power { IsPowerOfTwo power }
+    ensures { result ≡ key % shards }
+{
+    if shards == power {
+        key & (power - 1)
+    } else {
+        key % shards
+    }
+}
+
 // The entries that the change brings, where its windows have these keys, by place.
 fn entries_for(alloc: Global, part: Part, keys: &[u64]) -> Result<Vec<Entry>, Memory>
     requires few { length keys.now < 2 ^ 32 }
@@ -23,8 +38,10 @@ fn entries_for(alloc: Global, part: Part, keys: &[u64]) -> Result<Vec<Entry>, Me
     ensures { IfOk result (λ entries. entries.items ≡ entries_of part.change part.shard part.shards 0 keys.now) }
 {
     let mut entries = Vec::new(alloc);
+    let shards = u64::from(part.shards);
+    let power = shards.next_power_of_two();
     for (at, key) in keys.iter().enumerate() {
-        if *key % u64::from(part.shards) == u64::from(part.shard) {
+        if remainder(*key, shards, power) == u64::from(part.shard) {
             let entry = Entry {
                 key: *key,
                 change: part.change,
