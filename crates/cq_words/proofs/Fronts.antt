@@ -1,16 +1,25 @@
 -- How words are read from their front on.
-use Rattle.std.proofs.Common.{◌≡◌, ℕ, ◌+◌, ◌-◌, ◌<◌, ◌≤◌, Bool, true, false, cond, Option, Some, None, List, [], ◌∷◌, length, take, drop, get_or, refl, sym, ap, ap₂, ◌∙◌, inl, inr, arith}
+use Rattle.std.proofs.Common.{◌≡◌, ℕ, ◌+◌, ◌-◌, ◌<◌, ◌≤◌, Bool, true, false, cond, Option, Some, None, List, [], ◌∷◌, length, take, drop, map, suc, zero, get_or, refl, sym, ap, ap₂, ◌∙◌, inl, inr, arith}
 use Rattle.std.specs.List.{position_or_len, before_first, after_first, list_any, list_all}
 use Rattle.std.proofs.lemmas.List.{take_all, take_rest}
 use Rattle.std.proofs.lemmas.List.Folds.{list_any_at, list_any_none}
 use Rattle.std.proofs.lemmas.List.Sums.{passes_at_first, fails_before_first}
 use Rattle.std.specs.Prelude.{◌&&◌, ◌⊎◌, is_some, option_map, option_and_then, unwrap_or, if◌then◌else◌}
-use Rattle.std.specs.Str.{is_utf8}
-use Rattle.cq_words.specs.Front.{is_plain, items_in, IsFront, IsFrontOf}
+use Rattle.std.specs.Str.{bytes_eq, is_utf8}
+use Rattle.std.proofs.lemmas.Bool.{or_parts}
+use Rattle.cq_words.specs.Front.{is_plain, read_in, IsFront, IsFrontOf}
+use Rattle.cq_words.specs.declared.form.Left.{Left}
 use Rattle.cq_words.specs.declared.form.Front.{Front}
-use Rattle.cq_words.specs.Run.{run_row, run_made, run_from}
-use Rattle.cq_words.specs.declared.run.Run.{Run}
-use Rattle.cq_words.specs.Grammar.{Word, Row, Rest, Item, Look, named, dashed, plain, with_item, is_equals, look_of, look_after_two, word_read, value_read, items_from, items_of, are_whole, are_distinct}
+use Rattle.cq_words.specs.Command.{settings_made, run_made, make_made, settings_from, command_from, command_after}
+use Rattle.cq_words.specs.Table.{row_of, options_of, positionals_of, param_name, range_of, number_or, number_from, has_flag}
+use Rattle.cq_words.specs.declared.command.Command.{Command}
+use Rattle.cq_words.specs.declared.command.Command.TheVariants as command
+use Rattle.cq_words.specs.declared.table.Verb.{Verb}
+use Rattle.cq_words.specs.declared.table.Verb.TheVariants as verb
+use Rattle.cq_words.specs.declared.table.Param.{Param}
+use Rattle.cq_words.specs.declared.table.Param.TheVariants as param
+use Rattle.cq_words.specs.declared.table.Flag.TheVariants as flag
+use Rattle.cq_words.specs.Grammar.{Word, Row, Rest, Item, Look, named, dashed, plain, with_item, is_equals, look_of, look_after_two, word_read, value_read, item_of, has_item, items_from, are_whole, are_distinct}
 
 -- the name and the value, where there is an equals sign
 pub joined_look : (xs : Word) (at : ℕ) → at ≡ position_or_len is_equals xs → at < length xs → named (take at xs) (Some (take (length xs - (at + 1)) (drop (at + 1) xs))) ≡ look_after_two xs
@@ -61,15 +70,31 @@ value_plain rest left name word dashed is = absurd (cc)
 value_plain rest left name word plain is = refl
 
 -- no words spell no items
-pub no_words : (row : Row) (words : List Word) → length words ≡ 0 → items_from row words [] None ≡ Some []
+pub no_words : (row : Row) (words left : List Word) → length words ≡ 0 → items_from row words left None ≡ Some []
 unfolding items_from
-no_words row [] none = refl
-no_words row (w ∷ words) none = absurd (omega (arith, none))
+no_words row [] left none = refl
+no_words row (w ∷ words) left none = absurd (omega (arith, none))
+
+-- the positional that comes next
+place_first : (params : List Param) (k : ℕ) (p : Param) → k < length params → p ≡ get_or params k p → drop k (map param_name params) ≡ param_name p ∷ drop (suc k) (map param_name params)
+place_first [] k p inside is = absurd (omega (arith, inside))
+place_first (q ∷ params) zero p inside is = ap (λ r. param_name r ∷ map param_name params) (sym is)
+place_first (q ∷ params) (suc k) p inside is = place_first params k p (omega (arith, inside)) is
+
+pub place_next : (params : List Param) (k : ℕ) (p : Param) → k < length params → p ≡ get_or params k p → drop k (map param_name params) ≡ param_name p ∷ drop (k + 1) (map param_name params)
+place_next params k p inside is = let one : suc k ≡ k + 1 = omega arith in place_first params k p inside is ∙ ap (λ n. param_name p ∷ drop n (map param_name params)) one
+
+pub place_missing : (params : List Param) (k : ℕ) → length params ≤ k → drop k (map param_name params) ≡ []
+place_missing [] zero past = refl
+place_missing [] (suc k) past = refl
+place_missing (q ∷ params) zero past = absurd (omega (arith, past))
+place_missing (q ∷ params) (suc k) past = place_missing params k (omega (arith, past))
 
 -- what stands at the front of what is read stands at the front of the words
-pub front_is : (f : Option Front) (words : List Word) (n : ℕ) (read : Option (List Item)) → items_from run_row words [] None ≡ read → n < length words → IsFront f n read → IsFrontOf f words
-front_is None words n read same less is = same ∙ is
-front_is (Some f) words n read same less is = (same ∙ is.0, let short = is.1 in omega (arith, less, short))
+pub front_is : (f : Option Front) (l behind : Left) (read : Option (List Item)) → read_in l None ≡ read
+    → length behind.words.now < length l.words.now → IsFront f behind read → IsFrontOf f l
+front_is None l behind read same less is = same ∙ is
+front_is (Some f) l behind read same less is = (same ∙ is.0, let short = is.1 in omega (arith, less, short))
 
 -- ---- the values
 
@@ -81,37 +106,112 @@ map_some : {X Y : Type 0} (f : X → Y) (o : Option X) → is_some (option_map f
 map_some f None = refl
 map_some f (Some x) = refl
 
--- all of it is made where each number is there
-pub run_some : (chunk shards key_bits change_limit text_limit byte_limit workers : Option ℕ) (ids lits : Bool) → is_some (run_made chunk shards key_bits change_limit text_limit byte_limit workers ids lits) ≡ (is_some chunk && (is_some shards && (is_some key_bits && (is_some change_limit && (is_some text_limit && (is_some byte_limit && is_some workers))))))
-run_some chunk shards key_bits change_limit text_limit byte_limit workers ids lits =
-    and_then_some _ chunk _ (λ a. and_then_some _ shards _ (λ b. and_then_some _ key_bits _ (λ c. and_then_some _ change_limit _ (λ d. and_then_some _ text_limit _ (λ e. and_then_some _ byte_limit _ (λ f. map_some _ workers))))))
+-- settings are made where each number is there
+settings_some : (chunk shards key_bits change_limit text_limit byte_limit : Option ℕ) (ids lits : Bool) → is_some (settings_made chunk shards key_bits change_limit text_limit byte_limit ids lits)
+    ≡ (is_some chunk && (is_some shards && (is_some key_bits && (is_some change_limit && (is_some text_limit && is_some byte_limit)))))
+settings_some chunk shards key_bits change_limit text_limit byte_limit ids lits =
+    and_then_some _ chunk _ (λ a. and_then_some _ shards _ (λ b. and_then_some _ key_bits _ (λ c.
+    and_then_some _ change_limit _ (λ d. and_then_some _ text_limit _ (λ e. map_some _ byte_limit)))))
 
-pub in_a_row : (a b c d e f g : Bool) → ((a && (b && c)) && ((d && (e && f)) && g)) ≡ (a && (b && (c && (d && (e && (f && g))))))
-in_a_row false b c d e f g = refl
-in_a_row true false c d e f g = refl
-in_a_row true true false d e f g = refl
-in_a_row true true true false e f g = refl
-in_a_row true true true true false f g = refl
-in_a_row true true true true true f g = refl
+and_all : (b : Bool) → (b && true) ≡ b
+and_all true = refl
+and_all false = refl
+
+last_one : (a b c d e f g : Bool) → ((a && (b && (c && (d && (e && f))))) && g) ≡ ((a && (b && (c && (d && (e && (f && (g && true))))))) && true)
+last_one false b c d e f g = refl
+last_one true false c d e f g = refl
+last_one true true false d e f g = refl
+last_one true true true false e f g = refl
+last_one true true true true false f g = refl
+last_one true true true true true false g = refl
+last_one true true true true true true true = refl
+last_one true true true true true true false = refl
+
+no_last : (a b c d e f : Bool) → (a && (b && (c && (d && (e && f))))) ≡ ((a && (b && (c && (d && (e && (f && true)))))) && true)
+no_last false b c d e f = refl
+no_last true false c d e f = refl
+no_last true true false d e f = refl
+no_last true true true false e f = refl
+no_last true true true true false f = refl
+no_last true true true true true true = refl
+no_last true true true true true false = refl
+
+abbrev pub is_there : List Item → Param → Bool
+is_there items p = is_some (number_from p items)
+
+settings_there : (items : List Item) → is_some (settings_from items)
+    ≡ (is_there items param.Chunk && (is_there items param.Shards && (is_there items param.KeyBits && (is_there items param.ChangeLimit && (is_there items param.TextLimit && is_there items param.ByteLimit)))))
+settings_there items = settings_some (number_from param.Chunk items) (number_from param.Shards items) (number_from param.KeyBits items)
+    (number_from param.ChangeLimit items) (number_from param.TextLimit items) (number_from param.ByteLimit items)
+    (has_flag flag.IgnoreIds items) (has_flag flag.IgnoreLiterals items)
+
+-- a command's numbers are there just where the command is
+pub all_there : (v : Verb) (items : List Item) → (list_all (is_there items) (options_of v) && list_all (is_there items) (positionals_of v)) ≡ is_some (command_from v items)
+all_there verb.Run items = sym (map_some command.Run (run_made (settings_from items) (number_from param.Workers items))
+    ∙ and_then_some _ (settings_from items) _ (λ s. map_some _ (number_from param.Workers items))
+    ∙ ap (λ b. b && is_there items param.Workers) (settings_there items)
+    ∙ last_one (is_there items param.Chunk) (is_there items param.Shards) (is_there items param.KeyBits) (is_there items param.ChangeLimit) (is_there items param.TextLimit) (is_there items param.ByteLimit) (is_there items param.Workers))
+all_there verb.Drive items = sym (map_some command.Drive (settings_from items) ∙ settings_there items
+    ∙ no_last (is_there items param.Chunk) (is_there items param.Shards) (is_there items param.KeyBits) (is_there items param.ChangeLimit) (is_there items param.TextLimit) (is_there items param.ByteLimit))
+all_there verb.Make items = sym (map_some command.Make (make_made (number_from param.Number items) (number_from param.Files items))
+    ∙ and_then_some _ (number_from param.Number items) _ (λ n. map_some _ (number_from param.Files items))
+    ∙ ap (λ b. is_there items param.Number && b) (sym (and_all (is_there items param.Files))))
+
+-- a positional's number is there only where its item is
+item_missing : (name : Word) (items : List Item) → has_item items name ≡ false → item_of name items ≡ None
+item_missing name [] none = refl
+item_missing name (item ∷ items) none =
+    let parts = or_parts (bytes_eq item.0 name) (has_item items name) none in
+    ap (λ b. cond b (Some item) (item_of name items)) parts.0 ∙ item_missing name items parts.1
+
+-- so a command's values say that its positionals are there
+placed : (v : Verb) (items : List Item) → cond (list_all (has_item items) (row_of v).positionals) (command_from v items) None ≡ command_from v items
+placed verb.Run items = refl
+placed verb.Drive items = refl
+placed verb.Make items = first (has_item items (param_name param.Number)) (has_item items (param_name param.Files)) refl refl
+  where
+    both : Option ℕ → Option ℕ → Option Command
+    both number files = option_map command.Make (make_made number files)
+
+    no_files : (number : Option ℕ) → both number None ≡ None
+    no_files None = refl
+    no_files (Some n) = refl
+
+    first : (a b : Bool) → has_item items (param_name param.Number) ≡ a → has_item items (param_name param.Files) ≡ b
+        → cond (a && (b && true)) (command_from verb.Make items) None ≡ command_from verb.Make items
+    first true true number files = refl
+    first true false number files = sym (ap (λ x. both (number_from param.Number items) (number_or (range_of param.Files) x)) (item_missing (param_name param.Files) items files) ∙ no_files (number_from param.Number items))
+    first false b number files = sym (ap (λ x. both (number_or (range_of param.Number) x) (number_from param.Files items)) (item_missing (param_name param.Number) items number))
 
 -- what is read of words, by whether they are texts and what items they spell
-abbrev formed : Bool → Option (List Item) → Option Run
-formed texts items = option_and_then run_from (if texts then option_and_then (λ is. if are_whole run_row is then Some is else None) items else None)
+abbrev formed : Verb → Bool → Option (List Item) → Option Command
+formed v texts items = option_and_then (command_from v) (if texts then option_and_then (λ is. if are_whole (row_of v) is then Some is else None) items else None)
 
-formed_all : (texts : Bool) (items : Option (List Item)) → texts ≡ true → is_some items ≡ true → are_distinct (unwrap_or items []) ≡ true → formed texts items ≡ run_from (unwrap_or items [])
-formed_all true (Some items) t i d = ap (λ b. option_and_then run_from (cond (b && true) (Some items) None)) d
-formed_all true None t i d = absurd (cc)
-formed_all false items t i d = absurd (cc)
+whole : (v : Verb) (items : List Item) (d p : Bool) → option_and_then (command_from v) (cond (d && p) (Some items) None) ≡ cond d (cond p (command_from v items) None) None
+whole v items true true = refl
+whole v items true false = refl
+whole v items false p = refl
 
-formed_none : (texts : Bool) (items : Option (List Item)) → (texts ≡ false) ⊎ ((is_some items ≡ false) ⊎ (are_distinct (unwrap_or items []) ≡ false)) → formed texts items ≡ None
-formed_none false items why = refl
-formed_none true None why = refl
-formed_none true (Some items) (inl t) = absurd (cc)
-formed_none true (Some items) (inr (inl i)) = absurd (cc)
-formed_none true (Some items) (inr (inr d)) = ap (λ b. option_and_then run_from (cond (b && true) (Some items) None)) d
+formed_all : (v : Verb) (texts : Bool) (items : Option (List Item)) → texts ≡ true → is_some items ≡ true → are_distinct (unwrap_or items []) ≡ true → formed v texts items ≡ command_from v (unwrap_or items [])
+formed_all v true (Some items) t i d = whole v items (are_distinct items) (list_all (has_item items) (row_of v).positionals)
+    ∙ ap (λ b. cond b (cond (list_all (has_item items) (row_of v).positionals) (command_from v items) None) None) d ∙ placed v items
+formed_all v true None t i d = absurd (cc)
+formed_all v false items t i d = absurd (cc)
 
-pub read_all : (words : List Word) → list_all is_utf8 words ≡ true → is_some (items_from run_row words [] None) ≡ true → are_distinct (items_in words) ≡ true → option_and_then run_from (items_of run_row words) ≡ run_from (items_in words)
-read_all words = formed_all (list_all is_utf8 words) (items_from run_row words [] None)
+formed_none : (v : Verb) (texts : Bool) (items : Option (List Item)) → (texts ≡ false) ⊎ ((is_some items ≡ false) ⊎ (are_distinct (unwrap_or items []) ≡ false)) → formed v texts items ≡ None
+formed_none v false items why = refl
+formed_none v true None why = refl
+formed_none v true (Some items) (inl t) = absurd (cc)
+formed_none v true (Some items) (inr (inl i)) = absurd (cc)
+formed_none v true (Some items) (inr (inr d)) = whole v items (are_distinct items) (list_all (has_item items) (row_of v).positionals)
+    ∙ ap (λ b. cond b (cond (list_all (has_item items) (row_of v).positionals) (command_from v items) None) None) d
 
-pub read_none : (words : List Word) → (list_all is_utf8 words ≡ false) ⊎ ((is_some (items_from run_row words [] None) ≡ false) ⊎ (are_distinct (items_in words) ≡ false)) → option_and_then run_from (items_of run_row words) ≡ None
-read_none words = formed_none (list_all is_utf8 words) (items_from run_row words [] None)
+pub read_all : (v : Verb) (words : List Word) → list_all is_utf8 words ≡ true → is_some (items_from (row_of v) words (row_of v).positionals None) ≡ true
+    → are_distinct (unwrap_or (items_from (row_of v) words (row_of v).positionals None) []) ≡ true
+    → command_after v words ≡ command_from v (unwrap_or (items_from (row_of v) words (row_of v).positionals None) [])
+read_all v words = formed_all v (list_all is_utf8 words) (items_from (row_of v) words (row_of v).positionals None)
+
+pub read_none : (v : Verb) (words : List Word)
+    → (list_all is_utf8 words ≡ false) ⊎ ((is_some (items_from (row_of v) words (row_of v).positionals None) ≡ false) ⊎ (are_distinct (unwrap_or (items_from (row_of v) words (row_of v).positionals None) []) ≡ false))
+    → command_after v words ≡ None
+read_none v words = formed_none v (list_all is_utf8 words) (items_from (row_of v) words (row_of v).positionals None)

@@ -9,7 +9,7 @@ pub mod Matching
 pub mod Lone
 pub mod Values
 pub mod Exact
-pub mod RunExact
+pub mod CommandExact
 pub mod Decimal
 pub mod FormLaws
 pub mod Fronts

@@ -1,13 +1,24 @@
 -- What `clap` is asked, and what is read of its answer.
-use Rattle.std.specs.Prelude.{◌&&◌, ◌||◌, ℕ, Bool, true, false, not, List, [], ◌∷◌, Option, Some, None, codes}
+use Rattle.std.specs.Prelude.{◌&&◌, ◌||◌, ℕ, Bool, true, false, not, List, [], ◌∷◌, Option, Some, None, option_map, fold, codes}
 use Rattle.std.specs.Str.{bytes_eq, is_utf8}
 use Rattle.clap.specs.Kinds.{Kinds}
 use Rattle.clap.specs.Walk.{Row as Entry, Rule, first_of}
 use Rattle.clap.specs.Simple.{App, new_app, new_rule, on_top, with_rule}
 use Rattle.clap.specs.declared.builder.action.ArgAction.TheVariants.{SetTrue}
+use Rattle.cq_base.specs.declared.settings.Settings.{Settings}
+use Rattle.cq_words.specs.Grammar.{Word}
 use Rattle.cq_words.specs.Numbers.{number_within}
-use Rattle.cq_words.specs.Run.{run_made}
-use Rattle.cq_words.specs.declared.run.Run.{Run}
+use Rattle.cq_words.specs.Table.{verb_name, options_of, flags_of, positionals_of, param_name, flag_name, range_of}
+use Rattle.cq_words.specs.Command.{settings_made, run_made, make_made}
+use Rattle.cq_words.specs.declared.table.Verb.{Verb}
+use Rattle.cq_words.specs.declared.table.Verb.TheVariants as verb
+use Rattle.cq_words.specs.declared.table.Param.{Param}
+use Rattle.cq_words.specs.declared.table.Param.TheVariants as param
+use Rattle.cq_words.specs.declared.table.Flag.{Flag}
+use Rattle.cq_words.specs.declared.table.Flag.TheVariants as flag
+use Rattle.cq_words.specs.declared.table.Range.{Range}
+use Rattle.cq_words.specs.declared.command.Command.{Command}
+use Rattle.cq_words.specs.declared.command.Command.TheVariants as command
 
 -- the value, where no kind of error comes
 abbrev pub when : {X : Type 0} → Kinds → Option X → Option X
@@ -32,34 +43,49 @@ flag_arg name = record (new_rule name) { long = Some name; action = Some SetTrue
 abbrev pub bare_app : List ℕ → App
 bare_app name = on_top (λ s. record s { no_binary_name = true; disable_help_flag = true }) (new_app name)
 
-abbrev pub with_settings : App → App
-with_settings app = with_rule (with_rule (with_rule (with_rule (with_rule (with_rule app
-    (option_arg (codes "chunk"))) (option_arg (codes "shards"))) (option_arg (codes "key-bits"))) (option_arg (codes "change-limit")))
-    (option_arg (codes "text-limit"))) (option_arg (codes "byte-limit"))
+abbrev pub positional_arg : Word → Rule
+positional_arg name = record (new_rule name) { required = true }
 
-abbrev pub with_flags_set : App → App
-with_flags_set app = with_rule (with_rule app (flag_arg (codes "ignore-ids"))) (flag_arg (codes "ignore-literals"))
+abbrev pub with_options : App → List Param → App
+with_options app params = fold (λ app p. with_rule app (option_arg (param_name p))) app params
 
-abbrev pub run_app : App
-run_app = with_flags_set (with_rule (with_settings (bare_app (codes "run"))) (option_arg (codes "workers")))
+abbrev pub with_flags : App → List Flag → App
+with_flags app flags = fold (λ app f. with_rule app (flag_arg (flag_name f))) app flags
 
-abbrev pub text_number : ℕ → ℕ → ℕ → Option (List ℕ) → Option ℕ
-text_number low high otherwise None = Some otherwise
-text_number low high otherwise (Some text) = number_within low high text
+abbrev pub with_positionals : App → List Param → App
+with_positionals app params = fold (λ app p. with_rule app (positional_arg (param_name p))) app params
 
-abbrev pub text_is_true : Option (List ℕ) → Bool
+-- the simple command that is asked
+abbrev pub asked_app : Verb → App
+asked_app v = with_positionals (with_flags (with_options (bare_app (verb_name v)) (options_of v)) (flags_of v)) (positionals_of v)
+
+abbrev pub text_number : Range → Option Word → Option ℕ
+text_number range None = range.otherwise
+text_number range (Some text) = number_within range.low range.high text
+
+abbrev pub text_is_true : Option Word → Bool
 text_is_true None = false
 text_is_true (Some text) = bytes_eq text (codes "true")
 
 -- what the entries of a parse give
-abbrev pub run_read : List Entry → Option Run
-run_read entries = run_made
-    (text_number 1 1000 20 (first_of (codes "chunk") entries))
-    (text_number 1 64 16 (first_of (codes "shards") entries))
-    (text_number 0 64 64 (first_of (codes "key-bits") entries))
-    (text_number 1 262144 262144 (first_of (codes "change-limit") entries))
-    (text_number 1 67108864 33554432 (first_of (codes "text-limit") entries))
-    (text_number 1 1152921504606846976 1152921504606846976 (first_of (codes "byte-limit") entries))
-    (text_number 0 0 0 (first_of (codes "workers") entries))
-    (text_is_true (first_of (codes "ignore-ids") entries))
-    (text_is_true (first_of (codes "ignore-literals") entries))
+abbrev pub number_read : Param → List Entry → Option ℕ
+number_read p entries = text_number (range_of p) (first_of (param_name p) entries)
+
+abbrev pub flag_read : Flag → List Entry → Bool
+flag_read f entries = text_is_true (first_of (flag_name f) entries)
+
+abbrev pub settings_read : List Entry → Option Settings
+settings_read entries = settings_made
+    (number_read param.Chunk entries)
+    (number_read param.Shards entries)
+    (number_read param.KeyBits entries)
+    (number_read param.ChangeLimit entries)
+    (number_read param.TextLimit entries)
+    (number_read param.ByteLimit entries)
+    (flag_read flag.IgnoreIds entries)
+    (flag_read flag.IgnoreLiterals entries)
+
+abbrev pub command_read : Verb → List Entry → Option Command
+command_read verb.Run entries = option_map command.Run (run_made (settings_read entries) (number_read param.Workers entries))
+command_read verb.Drive entries = option_map command.Drive (settings_read entries)
+command_read verb.Make entries = option_map command.Make (make_made (number_read param.Number entries) (number_read param.Files entries))

@@ -1,9 +1,11 @@
 -- The item at the front of words, as it is read without memory.
-use Rattle.std.specs.Prelude.{◌≡◌, ℕ, ◌<◌, ◌≤◌, Bool, true, false, List, [], length, Option, Some, None, option_map, unwrap_or}
-use Rattle.cq_words.specs.Grammar.{Word, Item, Look, named, dashed, plain, with_item, items_from, item_of}
-use Rattle.cq_words.specs.Run.{run_row, number_or}
+use Rattle.std.specs.Prelude.{◌≡◌, ◌<◌, ◌≤◌, Bool, true, false, List, [], length, drop, Option, Some, None, option_map, unwrap_or, is_some}
+use Rattle.cq_words.specs.Grammar.{Word, Item, Look, named, dashed, plain, with_item, items_from, named_read, positional_read, word_read}
+use Rattle.cq_words.specs.Table.{row_of, number_or, range_of}
+use Rattle.cq_words.specs.declared.table.Param.{Param}
 use Rattle.cq_words.specs.declared.form.Look.{Look as Seen}
 use Rattle.cq_words.specs.declared.form.Look.TheVariants as seen
+use Rattle.cq_words.specs.declared.form.Left.{Left}
 use Rattle.cq_words.specs.declared.form.Front.{Front}
 
 abbrev pub look_in : Seen → Look
@@ -16,23 +18,41 @@ is_plain (named name value) = false
 is_plain dashed = false
 is_plain plain = true
 
+-- the positionals that are to come
+abbrev pub places_in : Left → List Word
+places_in l = drop l.placed (row_of l.verb).positionals
+
+-- what is read of the words that are left
+abbrev pub read_in : Left → Option Word → Option (List Item)
+read_in l waits = items_from (row_of l.verb) l.words.now (places_in l) waits
+
+-- the same behind a name, behind a word that is no option's, and behind any word
+abbrev pub named_in : Left → Word → Option Word → Option (List Item)
+named_in l name value = named_read (row_of l.verb) (items_from (row_of l.verb) l.words.now) (places_in l) name value
+
+abbrev pub placed_in : Left → Word → Option (List Item)
+placed_in l word = positional_read (items_from (row_of l.verb) l.words.now) (places_in l) word
+
+abbrev pub word_in : Left → Word → Look → Option (List Item)
+word_in l word look = word_read (row_of l.verb) (items_from (row_of l.verb) l.words.now) (places_in l) word look
+
 abbrev pub item_in : Front → Item
 item_in f = (f.name.now, option_map (λ v. v.now) f.value)
 
--- what is read begins with the item, and goes on with the words behind it, which are at most `n`
-abbrev pub IsFront : Option Front → ℕ → Option (List Item) → Type 0
-IsFront None n read = read ≡ None
-IsFront (Some f) n read = (read ≡ with_item (item_in f) (items_from run_row f.rest.now [] None)) × (length f.rest.now ≤ n)
+-- what is read begins with the item, and goes on with the words behind it, which are no more than these
+abbrev pub IsFront : Option Front → Left → Option (List Item) → Type 0
+IsFront None l read = read ≡ None
+IsFront (Some f) l read = (read ≡ with_item (item_in f) (read_in f.left None)) × (length f.left.words.now ≤ length l.words.now)
 
--- the same of what is read of some words, of which fewer are left behind it
-abbrev pub IsFrontOf : Option Front → List Word → Type 0
-IsFrontOf None words = items_from run_row words [] None ≡ None
-IsFrontOf (Some f) words = (items_from run_row words [] None ≡ with_item (item_in f) (items_from run_row f.rest.now [] None)) × (length f.rest.now < length words)
+-- the same of what is read of the words that are left, of which fewer are left behind it
+abbrev pub IsFrontOf : Option Front → Left → Type 0
+IsFrontOf None l = read_in l None ≡ None
+IsFrontOf (Some f) l = (read_in l None ≡ with_item (item_in f) (read_in f.left None)) × (length f.left.words.now < length l.words.now)
 
 -- the items of words that have them
-abbrev pub items_in : List Word → List Item
-items_in words = unwrap_or (items_from run_row words [] None) []
+abbrev pub items_in : Left → List Item
+items_in l = unwrap_or (read_in l None) []
 
--- the number of an option in them
-abbrev pub number_in : List Word → Word → ℕ → ℕ → ℕ → Option ℕ
-number_in words name low high otherwise = number_or low high otherwise (item_of name (items_in words))
+-- the value of an item is a number in its range
+abbrev pub is_within : Param → Option Word → Bool
+is_within p value = is_some (number_or (range_of p) (Some ([], value)))

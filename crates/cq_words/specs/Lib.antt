@@ -1,6 +1,7 @@
 pub mod Grammar
 pub mod Numbers
-pub mod Run
+pub mod Table
+pub mod Command
 pub mod Asked
 pub mod Form
 pub mod Front

@@ -4,6 +4,9 @@ ghost use Rattle.clap.specs.Words.{app_of, found_of, rows_of, rule_of, with_rule
 ghost use Rattle.clap.specs.Walk.{texts};
 ghost use Rattle.cq_words.specs.Asked as spec;
 
+use crate::table::{
+    Flag, Param, Verb, flag_name, flags_of, options_of, param_name, positionals_of, verb_name,
+};
 use clap::error::ErrorKind;
 use clap::{Arg, ArgAction, ArgMatches, Command};
 use cq_base::{Memory, Text};
@@ -59,7 +62,7 @@ fn with_flag<'a>(
     command.arg(Arg::new(alloc, name).long(name).action(ArgAction::SetTrue))
 }
 
-pub(crate) fn bare_command<'a>(alloc: Global, name: &'a str) -> Command<'a>
+fn bare_command<'a>(alloc: Global, name: &'a str) -> Command<'a>
     ensures { app_of result ≡ spec.bare_app name.entry.now }
 {
     Command::new(alloc, name)
@@ -67,30 +70,67 @@ pub(crate) fn bare_command<'a>(alloc: Global, name: &'a str) -> Command<'a>
         .disable_help_flag(true)
 }
 
-fn with_settings<'a>(alloc: Global, command: Command<'a>) -> Result<Command<'a>, AllocError>
-    ensures { IfOk result (λ c. app_of c ≡ spec.with_settings (app_of command.entry)) }
+fn with_positional<'a>(
+    alloc: Global,
+    command: Command<'a>,
+    name: &'a str,
+) -> Result<Command<'a>, AllocError>
+    ensures { IfOk result (λ c. app_of c ≡ with_rule (app_of command.entry) (spec.positional_arg name.entry.now)) }
 {
-    let command = with_option(alloc, command, "chunk")?;
-    let command = with_option(alloc, command, "shards")?;
-    let command = with_option(alloc, command, "key-bits")?;
-    let command = with_option(alloc, command, "change-limit")?;
-    let command = with_option(alloc, command, "text-limit")?;
-    with_option(alloc, command, "byte-limit")
+    command.arg(Arg::new(alloc, name).required(true))
 }
 
-fn with_flags_set<'a>(alloc: Global, command: Command<'a>) -> Result<Command<'a>, AllocError>
-    ensures { IfOk result (λ c. app_of c ≡ spec.with_flags_set (app_of command.entry)) }
+fn with_options<'a>(
+    alloc: Global,
+    bare: Command<'a>,
+    params: &[Param],
+) -> Result<Command<'a>, AllocError>
+    ensures { IfOk result (λ c. app_of c ≡ spec.with_options (app_of bare.entry) params.now) }
 {
-    let command = with_flag(alloc, command, "ignore-ids")?;
-    with_flag(alloc, command, "ignore-literals")
+    let mut command = bare;
+    for param in params {
+        command = with_option(alloc, command, param_name(*param))?;
+    }
+    Ok(command)
 }
 
-pub(crate) fn run_command<'a>(alloc: Global) -> Result<Command<'a>, AllocError>
-    ensures { IfOk result (λ c. app_of c ≡ spec.run_app) }
+fn with_flags<'a>(
+    alloc: Global,
+    bare: Command<'a>,
+    flags: &[Flag],
+) -> Result<Command<'a>, AllocError>
+    ensures { IfOk result (λ c. app_of c ≡ spec.with_flags (app_of bare.entry) flags.now) }
 {
-    let command = with_settings(alloc, bare_command(alloc, "run"))?;
-    let command = with_option(alloc, command, "workers")?;
-    with_flags_set(alloc, command)
+    let mut command = bare;
+    for flag in flags {
+        command = with_flag(alloc, command, flag_name(*flag))?;
+    }
+    Ok(command)
+}
+
+fn with_positionals<'a>(
+    alloc: Global,
+    bare: Command<'a>,
+    params: &[Param],
+) -> Result<Command<'a>, AllocError>
+    ensures { IfOk result (λ c. app_of c ≡ spec.with_positionals (app_of bare.entry) params.now) }
+{
+    let mut command = bare;
+    for param in params {
+        command = with_positional(alloc, command, param_name(*param))?;
+    }
+    Ok(command)
+}
+
+/// The simple command of the row.
+pub(crate) fn command_asked<'a>(alloc: Global, verb: Verb) -> Result<Command<'a>, AllocError>
+    ensures { IfOk result (λ c. app_of c ≡ spec.asked_app verb) }
+{
+    let name: &'a str = verb_name(verb);
+    let bare = bare_command(alloc, name);
+    let command = with_options(alloc, bare, options_of(verb))?;
+    let command = with_flags(alloc, command, flags_of(verb))?;
+    with_positionals(alloc, command, positionals_of(verb))
 }
 
 /// What `clap` finds in the words, or none where it refuses them.

@@ -1,11 +1,17 @@
-ghost use Rattle.std.specs.Prelude.{◌≡◌, ◌<◌, ℕ, List, [], true, None, Some, length, codes, is_some, ◌&&◌, option_and_then};
+ghost use Rattle.std.specs.Prelude.{◌≡◌, ◌<◌, true, None, Some, length, map, is_some, option_map};
 ghost use Rattle.std.specs.List.{list_all, list_any, position_or_len};
 ghost use Rattle.std.specs.Str.{bytes_eq, is_utf8};
+ghost use Rattle.cq_words.specs.Front.{items_in, look_in, named_in, placed_in, read_in, word_in, IsFront, IsFrontOf};
 ghost use Rattle.cq_words.specs.Front as spec;
 ghost use Rattle.cq_words.specs.Grammar as grammar;
-ghost use Rattle.cq_words.specs.Run.{run_row, run_from, run_of, number_or};
+ghost use Rattle.cq_words.specs.Command.{command_after, command_from, command_of};
+ghost use Rattle.cq_words.specs.Table as table;
 
 use crate::numbers::number_within;
+use crate::table::{
+    Flag, Param, Verb, flag_name, flags_of, options_of, param_name, positionals_of, range_of,
+    verb_named,
+};
 use cq_base::Text;
 use std::str;
 
@@ -30,7 +36,7 @@ fn equals_at(bytes: &[u8]) -> usize
 }
 
 fn look_after_two<'a>(rest: &'a [u8]) -> Look<'a>
-    ensures { spec.look_in result ≡ grammar.look_after_two rest.entry.now }
+    ensures { look_in result ≡ grammar.look_after_two rest.entry.now }
 {
     if rest.is_empty() {
         return Look::Dashed;
@@ -44,7 +50,7 @@ fn look_after_two<'a>(rest: &'a [u8]) -> Look<'a>
 }
 
 fn look_of<'a>(word: &'a [u8]) -> Look<'a>
-    ensures { spec.look_in result ≡ grammar.look_of word.entry.now }
+    ensures { look_in result ≡ grammar.look_of word.entry.now }
 {
     match word {
         [b'-', b'-', rest @ ..] => look_after_two(rest),
@@ -53,45 +59,54 @@ fn look_of<'a>(word: &'a [u8]) -> Look<'a>
     }
 }
 
-fn is_option(name: &[u8]) -> bool
-    ensures { result ≡ grammar.has_name run_row.options name.now }
+fn has_param(params: &[Param], name: &[u8]) -> bool
+    ensures { result ≡ grammar.has_name (map table.param_name params.now) name.now }
 {
-    matches!(
-        name,
-        b"chunk"
-            | b"shards"
-            | b"key-bits"
-            | b"change-limit"
-            | b"text-limit"
-            | b"byte-limit"
-            | b"workers"
-    )
+    for param in params {
+        if param_name(*param).as_bytes() == name {
+            return true;
+        }
+    }
+    false
 }
 
-fn is_flag(name: &[u8]) -> bool
-    ensures { result ≡ grammar.has_name run_row.flags name.now }
+fn has_flag(flags: &[Flag], name: &[u8]) -> bool
+    ensures { result ≡ grammar.has_name (map table.flag_name flags.now) name.now }
 {
-    matches!(name, b"ignore-ids" | b"ignore-literals")
+    for flag in flags {
+        if flag_name(*flag).as_bytes() == name {
+            return true;
+        }
+    }
+    false
 }
 
-/// An option with its value, or a flag, and the words behind it.
+/// The words of a command that are left, behind so many positionals.
+#[derive(Clone, Copy)]
+pub(crate) struct Left<'a> {
+    pub verb: Verb,
+    pub words: &'a [Text],
+    pub placed: usize,
+}
+
+/// An option with its value, a flag or a positional, and the words behind it.
 #[derive(Clone, Copy)]
 pub(crate) struct Front<'a> {
     pub name: &'a [u8],
     pub value: Option<&'a [u8]>,
-    pub rest: &'a [Text],
+    pub left: Left<'a>,
 }
 
-fn joined_front<'a>(name: &'a [u8], value: &'a [u8], rest: &'a [Text]) -> Option<Front<'a>>
-    ensures { spec.IsFront result (length rest.entry.now) (grammar.named_read run_row (grammar.items_from run_row rest.entry.now) [] name.entry.now (Some value.entry.now)) }
+fn joined_front<'a>(name: &'a [u8], value: &'a [u8], left: Left<'a>) -> Option<Front<'a>>
+    ensures { IsFront result left.entry (named_in left.entry name.entry.now (Some value.entry.now)) }
 {
-    if !is_option(name) {
+    if !has_param(options_of(left.verb), name) {
         return None;
     }
     Some(Front {
         name,
         value: Some(value),
-        rest,
+        left,
     })
 }
 
@@ -102,10 +117,10 @@ fn is_plain(word: &Text) -> bool
 }
 
 // The option's value is the next word.
-fn spaced_front<'a>(name: &'a [u8], words: &'a [Text]) -> Option<Front<'a>>
-    ensures { spec.IsFront result (length words.entry.now) (grammar.items_from run_row words.entry.now [] (Some name.entry.now)) }
+fn spaced_front<'a>(name: &'a [u8], left: Left<'a>) -> Option<Front<'a>>
+    ensures { IsFront result left.entry (read_in left.entry (Some name.entry.now)) }
 {
-    let [value, rest @ ..] = words else {
+    let [value, rest @ ..] = left.words else {
         return None;
     };
     if !is_plain(value) {
@@ -114,155 +129,172 @@ fn spaced_front<'a>(name: &'a [u8], words: &'a [Text]) -> Option<Front<'a>>
     Some(Front {
         name,
         value: Some(value.as_bytes()),
-        rest,
+        left: Left {
+            verb: left.verb,
+            words: rest,
+            placed: left.placed,
+        },
     })
 }
 
-fn bare_front<'a>(name: &'a [u8], rest: &'a [Text]) -> Option<Front<'a>>
-    ensures { spec.IsFront result (length rest.entry.now) (grammar.named_read run_row (grammar.items_from run_row rest.entry.now) [] name.entry.now None) }
+fn bare_front<'a>(name: &'a [u8], left: Left<'a>) -> Option<Front<'a>>
+    ensures { IsFront result left.entry (named_in left.entry name.entry.now None) }
 {
-    if is_option(name) {
-        return spaced_front(name, rest);
+    if has_param(options_of(left.verb), name) {
+        return spaced_front(name, left);
     }
-    if !is_flag(name) {
+    if !has_flag(flags_of(left.verb), name) {
         return None;
     }
     Some(Front {
         name,
         value: None,
-        rest,
+        left,
     })
 }
 
-fn front_behind<'a>(look: Look<'a>, rest: &'a [Text]) -> Option<Front<'a>>
-    ensures { (word : List ℕ) → spec.IsFront result (length rest.entry.now) (grammar.word_read run_row (grammar.items_from run_row rest.entry.now) [] word (spec.look_in look.entry)) }
+fn placed_front<'a>(word: &'a [u8], left: Left<'a>) -> Option<Front<'a>>
+    ensures { IsFront result left.entry (placed_in left.entry word.entry.now) }
+{
+    let places = positionals_of(left.verb);
+    if left.placed >= places.len() {
+        return None;
+    }
+    Some(Front {
+        name: param_name(places[left.placed]).as_bytes(),
+        value: Some(word),
+        left: Left {
+            verb: left.verb,
+            words: left.words,
+            placed: left.placed + 1,
+        },
+    })
+}
+
+fn front_behind<'a>(look: Look<'a>, word: &'a [u8], left: Left<'a>) -> Option<Front<'a>>
+    ensures { IsFront result left.entry (word_in left.entry word.entry.now (look_in look.entry)) }
 {
     match look {
-        Look::Named(name, Some(value)) => joined_front(name, value, rest),
-        Look::Named(name, None) => bare_front(name, rest),
-        Look::Dashed | Look::Plain => None,
+        Look::Named(name, Some(value)) => joined_front(name, value, left),
+        Look::Named(name, None) => bare_front(name, left),
+        Look::Dashed => None,
+        Look::Plain => placed_front(word, left),
     }
 }
 
-// The item at the front of some words.
-fn front_of<'a>(words: &'a [Text]) -> Option<Front<'a>>
-    requires { 0 < length words.now }
-    ensures { spec.IsFrontOf result words.entry.now }
+// The item at the front of the words that are left.
+fn front_of<'a>(left: Left<'a>) -> Option<Front<'a>>
+    requires { 0 < length left.words.now }
+    ensures { IsFrontOf result left.entry }
 {
-    let [word, rest @ ..] = words else {
+    let [word, rest @ ..] = left.words else {
         return None;
     };
-    front_behind(look_of(word.as_bytes()), rest)
+    let behind = Left {
+        verb: left.verb,
+        words: rest,
+        placed: left.placed,
+    };
+    front_behind(look_of(word.as_bytes()), word.as_bytes(), behind)
 }
 
 // Whether the words are items, one behind the other.
-fn are_items(words: &[Text]) -> bool
-    ensures { result ≡ is_some (grammar.items_from run_row words.now [] None) }
+fn are_items(all: Left<'_>) -> bool
+    ensures { result ≡ is_some (read_in all.entry None) }
 {
-    let mut left = words;
-    'items: while !left.is_empty() {
+    let mut left = all;
+    'items: while !left.words.is_empty() {
         let Some(front) = front_of(left) else {
             return false;
         };
-        left = front.rest;
+        left = front.left;
     }
     true
 }
 
 // Whether an item of the words has the name.
-fn has_item(words: &[Text], name: &[u8]) -> bool
-    requires { is_some (grammar.items_from run_row words.now [] None) ≡ true }
-    ensures { result ≡ list_any (λ other. bytes_eq name.now other.0) (spec.items_in words.now) }
+fn has_item(all: Left<'_>, name: &[u8]) -> bool
+    requires { is_some (read_in all None) ≡ true }
+    ensures { result ≡ list_any (λ other. bytes_eq name.now other.0) (items_in all.entry) }
 {
-    let mut left = words;
-    'items: while !left.is_empty() {
+    let mut left = all;
+    'items: while !left.words.is_empty() {
         let Some(front) = front_of(left) else {
             return false;
         };
         if name == front.name {
             return true;
         }
-        left = front.rest;
+        left = front.left;
     }
     false
 }
 
 // Whether no two items have one name.
-fn are_distinct(words: &[Text]) -> bool
-    requires { is_some (grammar.items_from run_row words.now [] None) ≡ true }
-    ensures { result ≡ grammar.are_distinct (spec.items_in words.now) }
+fn are_distinct(all: Left<'_>) -> bool
+    requires { is_some (read_in all None) ≡ true }
+    ensures { result ≡ grammar.are_distinct (items_in all.entry) }
 {
-    let mut left = words;
-    'items: while !left.is_empty() {
+    let mut left = all;
+    'items: while !left.words.is_empty() {
         let Some(front) = front_of(left) else {
             return false;
         };
-        if has_item(front.rest, front.name) {
+        if has_item(front.left, front.name) {
             return false;
         }
-        left = front.rest;
+        left = front.left;
     }
     true
 }
 
-// Whether the value of this name, if there is one, is a number in its range.
-fn is_within(words: &[Text], name: &[u8], low: u64, high: u64) -> bool
-    requires { is_some (grammar.items_from run_row words.now [] None) ≡ true }
-    ensures { (otherwise : ℕ) → result ≡ is_some (number_or low high otherwise (grammar.item_of name.now (spec.items_in words.now))) }
+fn is_within(value: Option<&[u8]>, param: Param) -> bool
+    ensures { result ≡ spec.is_within param (option_map (λ v. v.now) value.entry) }
 {
-    let mut left = words;
-    'items: while !left.is_empty() {
+    let range = range_of(param);
+    match value {
+        Some(value) => number_within(range.low, range.high, value).is_some(),
+        None => false,
+    }
+}
+
+// Whether the number of this name lies in its range, or may be left out and is.
+fn is_given(all: Left<'_>, param: Param) -> bool
+    requires { is_some (read_in all None) ≡ true }
+    ensures { result ≡ is_some (table.number_from param (items_in all.entry)) }
+{
+    let name = param_name(param).as_bytes();
+    let mut left = all;
+    'items: while !left.words.is_empty() {
         let Some(front) = front_of(left) else {
             return false;
         };
         if front.name == name {
-            return match front.value {
-                Some(value) => number_within(low, high, value).is_some(),
-                None => false,
-            };
+            return is_within(front.value, param);
         }
-        left = front.rest;
+        left = front.left;
+    }
+    range_of(param).otherwise.is_some()
+}
+
+// Whether each of these numbers is given so.
+fn are_given(all: Left<'_>, params: &[Param]) -> bool
+    requires { is_some (read_in all None) ≡ true }
+    ensures { result ≡ list_all (λ p. is_some (table.number_from p (items_in all.entry))) params.now }
+{
+    for param in params {
+        if !is_given(all, *param) {
+            return false;
+        }
     }
     true
 }
 
-fn all_three(first: bool, second: bool, third: bool) -> bool
-    ensures { result ≡ (first && (second && third)) }
+fn are_values_within(all: Left<'_>) -> bool
+    requires { is_some (read_in all None) ≡ true }
+    ensures { result ≡ is_some (command_from all.entry.verb (items_in all.entry)) }
 {
-    first && second && third
-}
-
-fn are_sizes_within(words: &[Text]) -> bool
-    requires { is_some (grammar.items_from run_row words.now [] None) ≡ true }
-    ensures { result ≡ (is_some (spec.number_in words.now (codes "chunk") 1 1000 20) && (is_some (spec.number_in words.now (codes "shards") 1 64 16) && is_some (spec.number_in words.now (codes "key-bits") 0 64 64))) }
-{
-    all_three(
-        is_within(words, b"chunk", 1, 1_000),
-        is_within(words, b"shards", 1, 64),
-        is_within(words, b"key-bits", 0, 64),
-    )
-}
-
-fn are_limits_within(words: &[Text]) -> bool
-    requires { is_some (grammar.items_from run_row words.now [] None) ≡ true }
-    ensures { result ≡ (is_some (spec.number_in words.now (codes "change-limit") 1 262144 262144) && (is_some (spec.number_in words.now (codes "text-limit") 1 67108864 33554432) && is_some (spec.number_in words.now (codes "byte-limit") 1 1152921504606846976 1152921504606846976))) }
-{
-    all_three(
-        is_within(words, b"change-limit", 1, 262_144),
-        is_within(words, b"text-limit", 1, 67_108_864),
-        is_within(words, b"byte-limit", 1, 1_152_921_504_606_846_976),
-    )
-}
-
-fn are_values_within(words: &[Text]) -> bool
-    requires { is_some (grammar.items_from run_row words.now [] None) ≡ true }
-    ensures { result ≡ is_some (run_from (spec.items_in words.now)) }
-{
-    all_three(
-        are_sizes_within(words),
-        are_limits_within(words),
-        is_within(words, b"workers", 0, 0),
-    )
+    are_given(all, options_of(all.verb)) && are_given(all, positionals_of(all.verb))
 }
 
 fn is_text(word: &Text) -> bool
@@ -285,27 +317,35 @@ fn are_texts(words: &[Text]) -> bool
     true
 }
 
-fn are_in_form(words: &[Text]) -> bool
-    ensures { result ≡ is_some (option_and_then run_from (grammar.items_of run_row words.now)) }
+fn are_in_form(verb: Verb, words: &[Text]) -> bool
+    ensures { result ≡ is_some (command_after verb words.now) }
 {
     if !are_texts(words) {
         return false;
     }
-    if !are_items(words) {
+    let all = Left {
+        verb,
+        words,
+        placed: 0,
+    };
+    if !are_items(all) {
         return false;
     }
-    if !are_distinct(words) {
+    if !are_distinct(all) {
         return false;
     }
-    are_values_within(words)
+    are_values_within(all)
 }
 
-/// Whether the words are words of `run` in form. It takes no memory, and reads each word once for each word.
-pub fn is_run(words: &[Text]) -> bool
-    ensures { result ≡ is_some (run_of words.now) }
+/// Whether the words are in form. It takes no memory, and reads each word once for each word.
+pub fn is_command(words: &[Text]) -> bool
+    ensures { result ≡ is_some (command_of words.now) }
 {
-    let [command, rest @ ..] = words else {
+    let [word, rest @ ..] = words else {
         return false;
     };
-    command.as_bytes() == b"run".as_slice() && are_in_form(rest)
+    match verb_named(word.as_bytes()) {
+        Some(verb) => are_in_form(verb, rest),
+        None => false,
+    }
 }

@@ -1,11 +1,10 @@
 //! What the grammar says, for those who read it.
-ghost use Rattle.std.specs.Prelude.{◌≡◌, ◌↔◌, List, ℕ, Some};
-ghost use Rattle.cq_words.specs.Form.{IsInForm};
-ghost use Rattle.cq_words.specs.Grammar.{Item, items_of};
-ghost use Rattle.cq_words.specs.Run.{run_row};
+ghost use Rattle.cq_words.specs.Form.{AreReadInForm};
+ghost use Rattle.cq_words.specs.Table.{row_of};
+ghost use Rattle.cq_words.specs.declared.table.Verb.{Verb};
 
 /// The reader of the grammar finds items exactly where the words are made of options, flags and
-/// positionals of the row, each once, and all of them text.
+/// positionals of the command, each once, and all of them text.
 pub fn words_in_form()
-    ensures { (words : List (List ℕ)) (items : List Item) → (items_of run_row words ≡ Some items) ↔ IsInForm run_row words items }
+    ensures { (v : Verb) → AreReadInForm (row_of v) }
 {}

@@ -5,13 +5,14 @@
 #![tactic(auto)]
 
 mod asked;
+mod command;
 mod form;
 mod laws;
 mod numbers;
 mod reading;
-mod run;
+mod table;
 
-pub use form::is_run;
+pub use command::{Command, Make, Run};
+pub use form::is_command;
 pub use laws::words_in_form;
-pub use reading::read_run;
-pub use run::Run;
+pub use reading::read_command;

@@ -1,118 +1,137 @@
-ghost use Rattle.std.specs.Prelude.{◌≡◌, ◌≤◌, IfOk, IfSome, codes, option_and_then, option_map};
+ghost use Rattle.std.specs.Prelude.{◌≡◌, ◌≤◌, IfOk, IfSome, option_map};
 ghost use Rattle.clap.specs.Words.{first_of, found_of, rows_of};
 ghost use Rattle.cq_base.specs.Settings.{IsInRange};
 ghost use Rattle.cq_words.specs.Asked as spec;
-ghost use Rattle.std.specs.Str.{bytes_eq};
-ghost use Rattle.cq_words.specs.Grammar.{items_of};
-ghost use Rattle.cq_words.specs.Run.{run_from, run_of, run_row};
+ghost use Rattle.cq_words.specs.Command.{command_after, command_of, HasRanges};
+ghost use Rattle.cq_words.specs.Table as table;
+ghost use Rattle.cq_words.specs.declared.table.Verb.TheVariants as verb;
 
-use crate::asked::{matches_in, run_command, texts_of};
+use crate::asked::{command_asked, matches_in, texts_of};
+use crate::command::{Command, Make, Run};
 use crate::numbers::number_within;
-use crate::run::Run;
+use crate::table::{Flag, Param, Verb, flag_name, param_name, range_of, verb_named};
 use clap::ArgMatches;
 use cq_base::{Memory, Settings, Text};
 use std::alloc::Global;
 
 /// The first value of this name, as text.
-pub(crate) fn text_of<'a>(matches: &ArgMatches<'a>, name: &str) -> Option<&'a str>
+fn text_of<'a>(matches: &ArgMatches<'a>, name: &str) -> Option<&'a str>
     ensures { option_map (λ s. s.now) result ≡ first_of name.now (rows_of (found_of matches.now)) }
 {
     matches.get_str(name)
 }
 
-fn wide_number(text: Option<&str>, low: u64, high: u64, otherwise: u64) -> Option<u64>
-    ensures value { result ≡ spec.text_number low high otherwise (option_map (λ s. s.now) text.entry) }
-    ensures within { otherwise ≤ high → IfSome result (λ n. n ≤ high) }
-    ensures above { low ≤ otherwise → IfSome result (λ n. low ≤ n) }
+fn number_read(matches: &ArgMatches, param: Param) -> Option<u64>
+    ensures value { result ≡ spec.number_read param (rows_of (found_of matches.now)) }
+    ensures most { IfSome result (λ n. n ≤ (table.range_of param).high) }
+    ensures least { IfSome result (λ n. (table.range_of param).low ≤ n) }
 {
-    match text {
-        Some(text) => number_within(low, high, text.as_bytes()),
-        None => Some(otherwise),
+    let range = range_of(param);
+    match text_of(matches, param_name(param)) {
+        Some(text) => number_within(range.low, range.high, text.as_bytes()),
+        None => range.otherwise,
     }
 }
 
-fn number(text: Option<&str>, low: u32, high: u32, otherwise: u32) -> Option<u32>
-    requires below { otherwise ≤ high }
-    requires above { low ≤ otherwise }
-    ensures value { result ≡ spec.text_number low high otherwise (option_map (λ s. s.now) text.entry) }
-    ensures above { IfSome result (λ n. low ≤ n) }
-    ensures within { IfSome result (λ n. n ≤ high) }
+fn is_set(matches: &ArgMatches, flag: Flag) -> bool
+    ensures { result ≡ spec.flag_read flag (rows_of (found_of matches.now)) }
 {
-    let number = wide_number(text, low as u64, high as u64, otherwise as u64)?;
-    Some(number as u32)
-}
-
-fn is_true(text: Option<&str>) -> bool
-    ensures { result ≡ spec.text_is_true (option_map (λ s. s.now) text.entry) }
-{
-    match text {
+    match text_of(matches, flag_name(flag)) {
         Some(text) => text == "true",
         None => false,
     }
 }
 
-fn run_read(matches: &ArgMatches) -> Option<Run>
-    ensures run { result ≡ spec.run_read (rows_of (found_of matches.now)) }
-    ensures in_range { IfSome result (λ run. IsInRange run.settings) }
+fn settings_read(matches: &ArgMatches) -> Option<Settings>
+    ensures settings { result ≡ spec.settings_read (rows_of (found_of matches.now)) }
+    ensures in_range { IfSome result IsInRange }
 {
-    let chunk = number(text_of(matches, "chunk"), 1, 1_000, 20)?;
-    let shards = number(text_of(matches, "shards"), 1, 64, 16)?;
-    let key_bits = number(text_of(matches, "key-bits"), 0, 64, 64)?;
-    let change_limit = wide_number(text_of(matches, "change-limit"), 1, 262_144, 262_144)?;
-    let text_limit = wide_number(text_of(matches, "text-limit"), 1, 67_108_864, 33_554_432)?;
-    let byte_limit = wide_number(
-        text_of(matches, "byte-limit"),
-        1,
-        1_152_921_504_606_846_976,
-        1_152_921_504_606_846_976,
-    )?;
-    let workers = number(text_of(matches, "workers"), 0, 0, 0)?;
-    Some(Run {
-        settings: Settings {
-            chunk,
-            shards,
-            key_bits,
-            ignore_ids: is_true(text_of(matches, "ignore-ids")),
-            ignore_lits: is_true(text_of(matches, "ignore-literals")),
-            change_limit,
-            text_limit,
-            byte_limit,
-        },
-        workers,
+    let chunk = number_read(matches, Param::Chunk)?;
+    let shards = number_read(matches, Param::Shards)?;
+    let key_bits = number_read(matches, Param::KeyBits)?;
+    let change_limit = number_read(matches, Param::ChangeLimit)?;
+    let text_limit = number_read(matches, Param::TextLimit)?;
+    let byte_limit = number_read(matches, Param::ByteLimit)?;
+    Some(Settings {
+        chunk: chunk as u32,
+        shards: shards as u32,
+        key_bits: key_bits as u32,
+        ignore_ids: is_set(matches, Flag::IgnoreIds),
+        ignore_lits: is_set(matches, Flag::IgnoreLiterals),
+        change_limit,
+        text_limit,
+        byte_limit,
     })
 }
 
-/// What the words after `run` give.
-fn run_after(alloc: Global, words: &[Text]) -> Result<Option<Run>, Memory>
-    ensures run { IfOk result (λ r. r ≡ option_and_then run_from (items_of run_row words.now)) }
-    ensures in_range { IfOk result (λ r. IfSome r (λ run. IsInRange run.settings)) }
+fn run_read(matches: &ArgMatches) -> Option<Command>
+    ensures command { result ≡ spec.command_read verb.Run (rows_of (found_of matches.now)) }
+    ensures in_range { IfSome result HasRanges }
+{
+    let settings = settings_read(matches)?;
+    let workers = number_read(matches, Param::Workers)?;
+    Some(Command::Run(Run {
+        settings,
+        workers: workers as u32,
+    }))
+}
+
+fn drive_read(matches: &ArgMatches) -> Option<Command>
+    ensures command { result ≡ spec.command_read verb.Drive (rows_of (found_of matches.now)) }
+    ensures in_range { IfSome result HasRanges }
+{
+    let settings = settings_read(matches)?;
+    Some(Command::Drive(settings))
+}
+
+fn make_read(matches: &ArgMatches) -> Option<Command>
+    ensures command { result ≡ spec.command_read verb.Make (rows_of (found_of matches.now)) }
+    ensures in_range { IfSome result HasRanges }
+{
+    let number = number_read(matches, Param::Number)?;
+    let files = number_read(matches, Param::Files)?;
+    Some(Command::Make(Make {
+        number,
+        files: files as u32,
+    }))
+}
+
+fn command_read(verb: Verb, matches: &ArgMatches) -> Option<Command>
+    ensures command { result ≡ spec.command_read verb (rows_of (found_of matches.now)) }
+    ensures in_range { IfSome result HasRanges }
+{
+    match verb {
+        Verb::Run => run_read(matches),
+        Verb::Drive => drive_read(matches),
+        Verb::Make => make_read(matches),
+    }
+}
+
+/// What the words after a command's name give.
+fn command_after(alloc: Global, verb: Verb, words: &[Text]) -> Result<Option<Command>, Memory>
+    ensures command { IfOk result (λ r. r ≡ command_after verb words.now) }
+    ensures in_range { IfOk result (λ r. IfSome r HasRanges) }
 {
     let Some(texts) = texts_of(alloc, words)? else {
         return Ok(None);
     };
-    let command = run_command(alloc)?;
+    let command = command_asked(alloc, verb)?;
     let Some(matches) = matches_in(command, texts.as_slice())? else {
         return Ok(None);
     };
-    Ok(run_read(&matches))
+    Ok(command_read(verb, &matches))
 }
 
-fn is_run(word: &Text) -> bool
-    ensures { result ≡ bytes_eq word.now (codes "run") }
+/// What the words ask for where they are in form, and None exactly where they are not.
+pub fn read_command(alloc: Global, words: &[Text]) -> Result<Option<Command>, Memory>
+    ensures command { IfOk result (λ r. r ≡ command_of words.now) }
+    ensures in_range { IfOk result (λ r. IfSome r HasRanges) }
 {
-    word.as_bytes() == b"run".as_slice()
-}
-
-/// What the words give where they are words of `run` in form, and None exactly where they are not.
-pub fn read_run(alloc: Global, words: &[Text]) -> Result<Option<Run>, Memory>
-    ensures run { IfOk result (λ r. r ≡ run_of words.now) }
-    ensures in_range { IfOk result (λ r. IfSome r (λ run. IsInRange run.settings)) }
-{
-    let [command, rest @ ..] = words else {
+    let [word, rest @ ..] = words else {
         return Ok(None);
     };
-    if !is_run(command) {
-        return Ok(None);
+    match verb_named(word.as_bytes()) {
+        Some(verb) => command_after(alloc, verb, rest),
+        None => Ok(None),
     }
-    run_after(alloc, rest)
 }

@@ -1,5 +1,5 @@
 use cq_base::{Settings, Text};
-use cq_words::{Run, read_run};
+use cq_words::{Command, Make, Run, is_command, read_command};
 use std::alloc::Global;
 use std::test::Fail;
 
@@ -14,15 +14,15 @@ const DEFAULTS: Settings = Settings {
     byte_limit: 1_152_921_504_606_846_976,
 };
 
-fn read(alloc: Global, all: &[&str]) -> Result<Option<Run>, Fail> {
+fn read(alloc: Global, all: &[&str]) -> Result<Option<Command>, Fail> {
     let mut words = Vec::new(alloc);
     for word in all {
         words.push(Text::from_bytes(alloc, word.as_bytes())?)?;
     }
-    Ok(read_run(alloc, words.as_slice())?)
+    Ok(read_command(alloc, words.as_slice())?)
 }
 
-const REFUSED: [&[&str]; 52] = [
+const REFUSED: [&[&str]; 76] = [
     &[],
     &[""],
     &["listen"],
@@ -75,6 +75,30 @@ const REFUSED: [&[&str]; 52] = [
     &["run", "--ignore-literals", "5"],
     &["run", "--chunk", "0x5"],
     &["run", "--chunk", "5 "],
+    &["walk"],
+    &["drive", "--workers", "0"],
+    &["drive", "--workers=0"],
+    &["drive", "x"],
+    &["drive", "--chunk"],
+    &["drive", "--chunk", "0"],
+    &["drive", "--shards", "65"],
+    &["drive", "--chunk", "5", "--chunk=6"],
+    &["drive", "--ignore-ids", "--ignore-ids"],
+    &["drive", "--"],
+    &["make"],
+    &["make", "1"],
+    &["make", "7", "3", "4"],
+    &["make", "1", "10001"],
+    &["make", "00000000000000000007", "3"],
+    &["make", "7", "00000000000000000003"],
+    &["make", "--chunk", "2", "7", "3"],
+    &["make", "7", "3", "--ignore-ids"],
+    &["make", "--number", "7", "3"],
+    &["make", "-1", "3"],
+    &["make", "7", "-"],
+    &["make", "--", "7", "3"],
+    &["make", "7", ""],
+    &["make", "7", "+3"],
 ];
 
 #[test]
@@ -91,7 +115,8 @@ fn what_is_no_text_is_refused(rt: HostRuntime) -> Result<(), Fail> {
     let mut words = Vec::new(alloc);
     words.push(Text::from_bytes(alloc, b"run")?)?;
     words.push(Text::from_bytes(alloc, b"--chunk=\xff")?)?;
-    assert_eq!(rt; read_run(alloc, words.as_slice())?, None);
+    assert!(rt; !is_command(words.as_slice()));
+    assert_eq!(rt; read_command(alloc, words.as_slice())?, None);
     Ok(())
 }
 
@@ -101,7 +126,9 @@ fn defaults_stand_where_nothing_is_said(rt: HostRuntime) -> Result<(), Fail> {
         settings: DEFAULTS,
         workers: 0,
     };
-    assert_eq!(rt; read(rt.alloc(), &["run"])?, Some(run));
+    let alloc = rt.alloc();
+    assert_eq!(rt; read(alloc, &["run"])?, Some(Command::Run(run)));
+    assert_eq!(rt; read(alloc, &["drive"])?, Some(Command::Drive(DEFAULTS)));
     Ok(())
 }
 
@@ -136,16 +163,79 @@ fn options_and_flags_are_read(rt: HostRuntime) -> Result<(), Fail> {
         "--change-limit",
         "1",
     ];
-    assert_eq!(rt; read(rt.alloc(), words.as_slice())?, Some(run));
+    assert_eq!(rt;
+        read(rt.alloc(), words.as_slice())?,
+        Some(Command::Run(run))
+    );
+    Ok(())
+}
+
+#[test]
+fn the_settings_of_drive_are_read(rt: HostRuntime) -> Result<(), Fail> {
+    let settings = Settings {
+        chunk: 2,
+        shards: 3,
+        key_bits: 4,
+        ignore_ids: true,
+        ignore_lits: false,
+        change_limit: 5,
+        text_limit: 6,
+        byte_limit: 7,
+    };
+    let words = [
+        "drive",
+        "--chunk",
+        "2",
+        "--shards=3",
+        "--key-bits",
+        "4",
+        "--change-limit=5",
+        "--ignore-ids",
+        "--text-limit",
+        "6",
+        "--byte-limit=7",
+    ];
+    let alloc = rt.alloc();
+    assert_eq!(rt;
+        read(alloc, words.as_slice())?,
+        Some(Command::Drive(settings))
+    );
+    let literals = Settings {
+        ignore_lits: true,
+        ..DEFAULTS
+    };
+    let words = ["drive", "--ignore-literals"];
+    assert_eq!(rt;
+        read(alloc, words.as_slice())?,
+        Some(Command::Drive(literals))
+    );
+    Ok(())
+}
+
+fn made(number: u64, files: u32) -> Option<Command> {
+    Some(Command::Make(Make { number, files }))
+}
+
+#[test]
+fn the_numbers_of_make_are_read(rt: HostRuntime) -> Result<(), Fail> {
+    let alloc = rt.alloc();
+    assert_eq!(rt; read(alloc, &["make", "7", "3"])?, made(7, 3));
+    assert_eq!(rt; read(alloc, &["make", "5", "0"])?, made(5, 0));
+    assert_eq!(rt; read(alloc, &["make", "0", "10000"])?, made(0, 10_000));
+    let greatest = ["make", "9999999999999999999", "0000000000000000001"];
+    assert_eq!(rt; read(alloc, &greatest)?, made(9_999_999_999_999_999_999, 1));
     Ok(())
 }
 
 fn chunk_and_more(alloc: Global, words: &[&str]) -> Result<Option<(u32, u32, u32)>, Fail> {
-    Ok(read(alloc, words)?.map(|run| (
-        run.settings.chunk,
-        run.settings.shards,
-        run.settings.key_bits,
-    )))
+    match read(alloc, words)? {
+        Some(Command::Run(run)) => Ok(Some((
+            run.settings.chunk,
+            run.settings.shards,
+            run.settings.key_bits,
+        ))),
+        _ => Ok(None),
+    }
 }
 
 #[test]

@@ -1,12 +1,11 @@
-use Rattle.std.proofs.Common.{◌≡◌, true, None, [], length}
+use Rattle.std.proofs.Common.{◌≡◌, true, None, length}
 use Rattle.std.specs.Prelude.{is_some}
-use Rattle.cq_words.specs.Front.{items_in}
-use Rattle.cq_words.specs.Grammar.{items_from, are_distinct}
-use Rattle.cq_words.specs.Run.{run_row}
+use Rattle.cq_words.specs.Grammar.{are_distinct}
+use Rattle.cq_words.specs.Front.{items_in, read_in}
 use Rattle.cq_words.proofs.form.are_distinct.Given as goal
 
 abbrev pub invariant-items : goal.invariant-items
-invariant-items l = (is_some (items_from run_row l.left [] None) ≡ true) × (are_distinct (items_in l.left) ≡ are_distinct (items_in l.words))
+invariant-items l = (is_some (read_in l.left None) ≡ true) × (are_distinct (items_in l.left) ≡ are_distinct (items_in l.all))
 
 abbrev pub decreases-items : goal.decreases-items
-decreases-items l = length l.left
+decreases-items l = length l.left.words.now

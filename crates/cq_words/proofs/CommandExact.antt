@@ -1,0 +1,135 @@
+-- What is read of the entries of a parse is what the words give.
+use Rattle.std.proofs.Common.{◌≡◌, ◌∙◌, ap, refl, Bool, true, false, cond, List, [], ◌∷◌, map, Option, Some, None}
+use Rattle.std.specs.Prelude.{option_map, option_and_then}
+use Rattle.std.specs.List.{list_all}
+use Rattle.std.specs.Str.{is_utf8}
+use Rattle.clap.specs.Walk.{Row as Entry}
+use Rattle.clap.specs.Simple.{App, built, matches_of}
+use Rattle.clap.specs.Faults.{fault_of}
+use Rattle.clap.specs.Words.{is_simple_and_free}
+use Rattle.clap.proofs.OnLiterals.{clap_on_literals}
+use Rattle.cq_words.specs.Asked.{is_asked, asked_app, command_read, settings_read, when}
+use Rattle.cq_words.specs.Command.{command_after, command_from, make_made, run_made, settings_from, settings_made}
+use Rattle.cq_words.specs.Grammar.{Word, Row, Item, are_whole, has_name, items_from, items_of}
+use Rattle.cq_words.specs.Table.{flag_name, param_name, row_of, verb_name}
+use Rattle.cq_words.specs.declared.command.Command.TheVariants as command
+use Rattle.cq_words.specs.declared.table.Flag.{Flag}
+use Rattle.cq_words.specs.declared.table.Flag.TheVariants as flag
+use Rattle.cq_words.specs.declared.table.Param.{Param}
+use Rattle.cq_words.specs.declared.table.Param.TheVariants as param
+use Rattle.cq_words.specs.declared.table.Verb.{Verb}
+use Rattle.cq_words.specs.declared.table.Verb.TheVariants as verb
+use Rattle.cq_words.proofs.Rules.{Places, rules_of}
+use Rattle.cq_words.proofs.Exact.{answers_asked, built_app, none_in_form}
+use Rattle.cq_words.proofs.Matching.{ArePlain, entries_of}
+use Rattle.cq_words.proofs.Values.{AreBare, AreBareIfSome, flag_is, items_bare, number_is}
+
+built_is : (v : Verb) → built (asked_app v) ≡ built_app (verb_name v) (row_of v)
+unfolding clap_on_literals
+built_is verb.Run = refl
+built_is verb.Drive = refl
+built_is verb.Make = refl
+
+is_bare : (v : Verb) → (asked_app v).top.no_binary_name ≡ true
+is_bare verb.Run = refl
+is_bare verb.Drive = refl
+is_bare verb.Make = refl
+
+pub is_simple : (v : Verb) → is_simple_and_free (asked_app v) ≡ true
+is_simple verb.Run = refl
+is_simple verb.Drive = refl
+is_simple verb.Make = refl
+
+places : (v : Verb) → Places (rules_of (row_of v)) 1 (row_of v).positionals
+places verb.Run = refl
+places verb.Drive = refl
+places verb.Make = (refl, refl, (refl, refl, refl))
+
+are_plain : (v : Verb) → ArePlain (row_of v) (row_of v).positionals
+are_plain verb.Run = tt
+are_plain verb.Drive = tt
+are_plain verb.Make = (refl, (refl, tt))
+
+-- no number has a flag's name, and no flag an option's or a positional's
+other_name : (p : Param) → has_name (map flag_name (flag.IgnoreIds ∷ flag.IgnoreLiterals ∷ [])) (param_name p) ≡ false
+other_name param.Chunk = refl
+other_name param.Shards = refl
+other_name param.KeyBits = refl
+other_name param.ChangeLimit = refl
+other_name param.TextLimit = refl
+other_name param.ByteLimit = refl
+other_name param.Workers = refl
+other_name param.Number = refl
+other_name param.Files = refl
+
+no_option : (v : Verb) (f : Flag) → has_name (row_of v).options (flag_name f) ≡ false
+no_option verb.Run flag.IgnoreIds = refl
+no_option verb.Run flag.IgnoreLiterals = refl
+no_option verb.Drive flag.IgnoreIds = refl
+no_option verb.Drive flag.IgnoreLiterals = refl
+no_option verb.Make f = refl
+
+no_place : (v : Verb) (f : Flag) → has_name (row_of v).positionals (flag_name f) ≡ false
+no_place verb.Run f = refl
+no_place verb.Drive f = refl
+no_place verb.Make flag.IgnoreIds = refl
+no_place verb.Make flag.IgnoreLiterals = refl
+
+-- the values, from the entries and from the items
+abbrev AreAllBare : List Item → Type 0
+AreAllBare items = (f : Flag) → AreBare (flag_name f) items
+
+settings_are : (row : Row) (items : List Item) → ((p : Param) → has_name row.flags (param_name p) ≡ false) → ((f : Flag) → has_name row.flags (flag_name f) ≡ true) → AreAllBare items
+    → settings_read (entries_of row items) ≡ settings_from items
+settings_are row items other known bare = λ i. settings_made
+    (number_is row items param.Chunk (other param.Chunk) i)
+    (number_is row items param.Shards (other param.Shards) i)
+    (number_is row items param.KeyBits (other param.KeyBits) i)
+    (number_is row items param.ChangeLimit (other param.ChangeLimit) i)
+    (number_is row items param.TextLimit (other param.TextLimit) i)
+    (number_is row items param.ByteLimit (other param.ByteLimit) i)
+    (flag_is row (flag_name flag.IgnoreIds) items (known flag.IgnoreIds) (bare flag.IgnoreIds) i)
+    (flag_is row (flag_name flag.IgnoreLiterals) items (known flag.IgnoreLiterals) (bare flag.IgnoreLiterals) i)
+
+known_flag : (f : Flag) → has_name (map flag_name (flag.IgnoreIds ∷ flag.IgnoreLiterals ∷ [])) (flag_name f) ≡ true
+known_flag flag.IgnoreIds = refl
+known_flag flag.IgnoreLiterals = refl
+
+values_are : (v : Verb) (items : List Item) → AreAllBare items → command_read v (entries_of (row_of v) items) ≡ command_from v items
+values_are verb.Run items bare = λ i. option_map command.Run
+    (run_made (settings_are (row_of verb.Run) items other_name known_flag bare i) (number_is (row_of verb.Run) items param.Workers refl i))
+values_are verb.Drive items bare = λ i. option_map command.Drive (settings_are (row_of verb.Drive) items other_name known_flag bare i)
+values_are verb.Make items bare = λ i. option_map command.Make
+    (make_made (number_is (row_of verb.Make) items param.Number refl i) (number_is (row_of verb.Make) items param.Files refl i))
+
+bare_items : (row : Row) (x : Option (List Item)) (name : Word) → AreBareIfSome name x → AreBareIfSome name (option_and_then (λ items. cond (are_whole row items) (Some items) None) x)
+bare_items row None name bare = tt
+bare_items row (Some items) name bare = go (are_whole row items)
+  where
+    go : (b : Bool) → AreBareIfSome name (cond b (Some items) None)
+    go true = bare
+    go false = tt
+
+bare_in_form : (row : Row) (words : List Word) (name : Word) → AreBareIfSome name (items_from row words row.positionals None) → AreBareIfSome name (items_of row words)
+bare_in_form row words name bare = go (list_all is_utf8 words)
+  where
+    go : (b : Bool) → AreBareIfSome name (cond b (option_and_then (λ items. cond (are_whole row items) (Some items) None) (items_from row words row.positionals None)) None)
+    go true = bare_items row (items_from row words row.positionals None) name bare
+    go false = tt
+
+read_both : (v : Verb) (x : Option (List Item)) → ((f : Flag) → AreBareIfSome (flag_name f) x)
+    → option_and_then (command_read v) (option_map (entries_of (row_of v)) x) ≡ option_and_then (command_from v) x
+read_both v None bare = refl
+read_both v (Some items) bare = values_are v items bare
+
+pub refused : (v : Verb) (words : List Word) → list_all is_asked words ≡ false → command_after v words ≡ None
+refused v words h = ap (option_and_then (command_from v)) (none_in_form (row_of v) words h)
+
+-- what is read of the answer, if there is one
+pub answered : (v : Verb) (a : App) (handed words : List Word) (entries : Option (List Entry)) → a ≡ asked_app v → list_all is_asked words ≡ true → handed ≡ words
+    → entries ≡ when (fault_of a handed) (Some (matches_of a handed)) → option_and_then (command_read v) entries ≡ command_after v words
+answered v a handed words entries app h same e =
+    ap (option_and_then (command_read v)) (e ∙ (λ i. when (fault_of (app i) (same i)) (Some (matches_of (app i) (same i))))
+    ∙ answers_asked (verb_name v) (row_of v) (asked_app v) (built_is v) (is_bare v) (places v) (are_plain v) words h)
+    ∙ read_both v (items_of (row_of v) words)
+    (λ f. bare_in_form (row_of v) words (flag_name f) (items_bare (row_of v) (flag_name f) (no_option v f) words (row_of v).positionals None (no_place v f) tt))

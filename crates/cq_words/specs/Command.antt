@@ -1,0 +1,67 @@
+-- What the words of the command line ask for.
+use Rattle.std.specs.Prelude.{ℕ, ◌≤◌, Bool, List, [], ◌∷◌, Option, Some, None, option_and_then, option_map}
+use Rattle.cq_base.specs.Settings.{IsInRange}
+use Rattle.cq_base.specs.declared.settings.Settings.{Settings}
+use Rattle.cq_words.specs.Grammar.{Word, Item, items_of}
+use Rattle.cq_words.specs.Table.{row_of, verb_named, number_from, has_flag}
+use Rattle.cq_words.specs.declared.table.Verb.{Verb}
+use Rattle.cq_words.specs.declared.table.Verb.TheVariants as verb
+use Rattle.cq_words.specs.declared.table.Param.TheVariants as param
+use Rattle.cq_words.specs.declared.table.Flag.TheVariants as flag
+use Rattle.cq_words.specs.declared.command.Run.{Run}
+use Rattle.cq_words.specs.declared.command.Make.{Make}
+use Rattle.cq_words.specs.declared.command.Command.{Command}
+use Rattle.cq_words.specs.declared.command.Command.TheVariants as command
+
+-- all of it, where each number is in its range
+abbrev pub settings_made : Option ℕ → Option ℕ → Option ℕ → Option ℕ → Option ℕ → Option ℕ → Bool → Bool → Option Settings
+settings_made chunk shards key_bits change_limit text_limit byte_limit ignore_ids ignore_literals =
+    option_and_then (λ chunk. option_and_then (λ shards. option_and_then (λ key_bits.
+    option_and_then (λ change_limit. option_and_then (λ text_limit. option_map (λ byte_limit. record {
+      chunk = chunk;
+      shards = shards;
+      key_bits = key_bits;
+      ignore_ids = ignore_ids;
+      ignore_lits = ignore_literals;
+      change_limit = change_limit;
+      text_limit = text_limit;
+      byte_limit = byte_limit;
+    }) byte_limit) text_limit) change_limit) key_bits) shards) chunk
+
+abbrev pub run_made : Option Settings → Option ℕ → Option Run
+run_made settings workers = option_and_then (λ settings. option_map (λ workers. record { settings = settings; workers = workers }) workers) settings
+
+abbrev pub make_made : Option ℕ → Option ℕ → Option Make
+make_made number files = option_and_then (λ number. option_map (λ files. record { number = number; files = files }) files) number
+
+abbrev pub settings_from : List Item → Option Settings
+settings_from items = settings_made
+    (number_from param.Chunk items)
+    (number_from param.Shards items)
+    (number_from param.KeyBits items)
+    (number_from param.ChangeLimit items)
+    (number_from param.TextLimit items)
+    (number_from param.ByteLimit items)
+    (has_flag flag.IgnoreIds items)
+    (has_flag flag.IgnoreLiterals items)
+
+-- what the items of a command give
+abbrev pub command_from : Verb → List Item → Option Command
+command_from verb.Run items = option_map command.Run (run_made (settings_from items) (number_from param.Workers items))
+command_from verb.Drive items = option_map command.Drive (settings_from items)
+command_from verb.Make items = option_map command.Make (make_made (number_from param.Number items) (number_from param.Files items))
+
+-- what the words behind a command's name give
+abbrev pub command_after : Verb → List Word → Option Command
+command_after v words = option_and_then (command_from v) (items_of (row_of v) words)
+
+-- what the words give where they are in form
+abbrev pub command_of : List Word → Option Command
+command_of [] = None
+command_of (word ∷ words) = option_and_then (λ v. command_after v words) (verb_named word)
+
+-- the settings are in their ranges, and the files are few
+abbrev pub HasRanges : Command → Type 0
+HasRanges (command.Run run) = IsInRange run.settings
+HasRanges (command.Drive settings) = IsInRange settings
+HasRanges (command.Make make) = make.files ≤ 10000

@@ -1,0 +1,88 @@
+-- What each command takes: its options, flags and positionals, and the ranges of their numbers.
+use Rattle.std.specs.Prelude.{ℕ, Bool, List, [], ◌∷◌, map, Option, Some, None, if◌then◌else◌, option_and_then, codes}
+use Rattle.std.specs.Str.{bytes_eq}
+use Rattle.cq_words.specs.Grammar.{Word, Row, Item, item_of, has_item}
+use Rattle.cq_words.specs.Numbers.{number_within}
+use Rattle.cq_words.specs.declared.table.Verb.{Verb}
+use Rattle.cq_words.specs.declared.table.Verb.TheVariants as verb
+use Rattle.cq_words.specs.declared.table.Param.{Param}
+use Rattle.cq_words.specs.declared.table.Param.TheVariants as param
+use Rattle.cq_words.specs.declared.table.Flag.{Flag}
+use Rattle.cq_words.specs.declared.table.Flag.TheVariants as flag
+use Rattle.cq_words.specs.declared.table.Range.{Range}
+
+abbrev pub verb_name : Verb → Word
+verb_name verb.Run = codes "run"
+verb_name verb.Drive = codes "drive"
+verb_name verb.Make = codes "make"
+
+-- the command that a word names
+abbrev pub verb_named : Word → Option Verb
+verb_named word =
+    if bytes_eq word (codes "run") then Some verb.Run
+    else (if bytes_eq word (codes "drive") then Some verb.Drive
+    else (if bytes_eq word (codes "make") then Some verb.Make
+    else None))
+
+abbrev pub options_of : Verb → List Param
+options_of verb.Run = param.Chunk ∷ param.Shards ∷ param.KeyBits ∷ param.ChangeLimit ∷ param.TextLimit ∷ param.ByteLimit ∷ param.Workers ∷ []
+options_of verb.Drive = param.Chunk ∷ param.Shards ∷ param.KeyBits ∷ param.ChangeLimit ∷ param.TextLimit ∷ param.ByteLimit ∷ []
+options_of verb.Make = []
+
+abbrev pub flags_of : Verb → List Flag
+flags_of verb.Run = flag.IgnoreIds ∷ flag.IgnoreLiterals ∷ []
+flags_of verb.Drive = flag.IgnoreIds ∷ flag.IgnoreLiterals ∷ []
+flags_of verb.Make = []
+
+abbrev pub positionals_of : Verb → List Param
+positionals_of verb.Run = []
+positionals_of verb.Drive = []
+positionals_of verb.Make = param.Number ∷ param.Files ∷ []
+
+abbrev pub param_name : Param → Word
+param_name param.Chunk = codes "chunk"
+param_name param.Shards = codes "shards"
+param_name param.KeyBits = codes "key-bits"
+param_name param.ChangeLimit = codes "change-limit"
+param_name param.TextLimit = codes "text-limit"
+param_name param.ByteLimit = codes "byte-limit"
+param_name param.Workers = codes "workers"
+param_name param.Number = codes "number"
+param_name param.Files = codes "files"
+
+abbrev pub flag_name : Flag → Word
+flag_name flag.IgnoreIds = codes "ignore-ids"
+flag_name flag.IgnoreLiterals = codes "ignore-literals"
+
+-- an option may be left out, and then has its default; a positional has to be there
+abbrev pub option_range : ℕ → ℕ → ℕ → Range
+option_range low high otherwise = record { low = low; high = high; otherwise = Some otherwise }
+
+abbrev pub positional_range : ℕ → ℕ → Range
+positional_range low high = record { low = low; high = high; otherwise = None }
+
+abbrev pub range_of : Param → Range
+range_of param.Chunk = option_range 1 1000 20
+range_of param.Shards = option_range 1 64 16
+range_of param.KeyBits = option_range 0 64 64
+range_of param.ChangeLimit = option_range 1 262144 262144
+range_of param.TextLimit = option_range 1 67108864 33554432
+range_of param.ByteLimit = option_range 1 1152921504606846976 1152921504606846976
+range_of param.Workers = option_range 0 0 0
+range_of param.Number = positional_range 0 9999999999999999999
+range_of param.Files = positional_range 0 10000
+
+-- the row of a command
+abbrev pub row_of : Verb → Row
+row_of v = record { options = map param_name (options_of v); flags = map flag_name (flags_of v); positionals = map param_name (positionals_of v) }
+
+-- the number of an item in its range; the default where the item is not there
+abbrev pub number_or : Range → Option Item → Option ℕ
+number_or range None = range.otherwise
+number_or range (Some item) = option_and_then (number_within range.low range.high) item.1
+
+abbrev pub number_from : Param → List Item → Option ℕ
+number_from p items = number_or (range_of p) (item_of (param_name p) items)
+
+abbrev pub has_flag : Flag → List Item → Bool
+has_flag f items = has_item items (flag_name f)
