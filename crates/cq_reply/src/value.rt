@@ -114,8 +114,8 @@ fn files_value(alloc: Global, rows: &[FileRow], version: u64) -> Result<Value, A
     json!(in alloc; {"files": files, "ok": true, "version": version})
 }
 
-// The eight measures, by SonarQube's metric keys.
-fn measures_members(alloc: Global, measures: &Measures) -> Result<Value, AllocError>
+/// The eight measures, by SonarQube's metric keys.
+pub fn measures_members(alloc: Global, measures: &Measures) -> Result<Value, AllocError>
     ensures { IfOk result (λ v. view v ≡ measures_members measures.now) }
 {
     json!(in alloc; {

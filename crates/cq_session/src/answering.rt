@@ -66,8 +66,9 @@ fn state_reply<W: Indexed, H: Hub<W>>(hub: &H, pass: &mut H::Pass) -> Reply
     }
 }
 
-// The reply to a query whose floor is at least `seen`.
-fn query_reply<L: Ledger, H: Hub<Work<L>>>(
+/// The reply to a query whose floor is at least `seen`. Where memory is refused, what was done is a beginning of what the
+/// query does.
+pub fn query_reply<L: Ledger, H: Hub<Work<L>>>(
     alloc: Global,
     settings: &Settings,
     keyer: &Keyer,

@@ -12,4 +12,6 @@ mod serving;
 mod telling;
 mod viewing;
 
+pub use answering::query_reply;
+pub use sending::send;
 pub use serving::{End, session};

@@ -1,0 +1,4 @@
+use Rattle.cq_make.proofs.tests.tells.Given as goal
+
+abbrev pub ghosts-made : goal.ghosts-made
+ghosts-made a = record { name = a.blank.name; parts = a.blank.parts }

@@ -1,0 +1,26 @@
+-- What `make` writes.
+use Rattle.std.specs.Prelude.{◌≡◌, ℕ, List, Option, Result}
+use Rattle.cq_base.specs.declared.measures.Measures.{Measures}
+use Rattle.cq_base.specs.declared.settings.Settings.{Settings}
+use Rattle.cq_reply.specs.declared.reply.FileRow.{FileRow}
+use Rattle.cq_reply.specs.declared.reply.GroupRow.{GroupRow}
+use Rattle.cq_reply.specs.declared.reply.Reply.{Reply}
+use Rattle.cq_reply.specs.declared.reply.Reply.TheVariants as reply
+use Rattle.cq_session.specs.Sending.{Sends}
+use Rattle.cq_make.specs.Summary.{IsSummary}
+
+-- the project's line is sent
+pub record Makes {E : Type 0} (set : Settings) (number files : ℕ) (before written_now : Option (List ℕ)) (result : Result (Unit {0}) E) : Type 0 where
+  pub line : List ℕ
+  pub is_summary : IsSummary set number files line
+  pub sends : Sends before written_now line result
+
+-- the reply shows these groups, these measures, or these files
+abbrev pub ShowsGroups : Reply → Type 0
+ShowsGroups r = (rows : List GroupRow) × (version : ℕ) × (r ≡ reply.Groups rows version)
+
+abbrev pub ShowsMeasures : Reply → Type 0
+ShowsMeasures r = (measures : Measures) × (version : ℕ) × (r ≡ reply.Measures measures version)
+
+abbrev pub ShowsFiles : Reply → Type 0
+ShowsFiles r = (rows : List FileRow) × (version : ℕ) × (r ≡ reply.Files rows version)

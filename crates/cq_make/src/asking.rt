@@ -1,0 +1,51 @@
+ghost use Rattle.std.specs.Prelude.{◌≡◌, ◌≤◌, IfOk};
+ghost use Rattle.cq_base.specs.Settings.{IsInRange};
+ghost use Rattle.cq_talk.specs.Steps.{Always, Led, MayLead};
+ghost use Rattle.cq_make.specs.Summary.{question, IsAnsweredByAll};
+
+use crate::generator::PROJECT;
+use cq_base::{Memory, Settings, Steps, Text};
+use cq_hub::{Hub, Solo, SoloPass};
+use cq_key::Keyer;
+use cq_reply::Reply;
+use cq_request::{Kind, Query};
+use cq_session::query_reply;
+use cq_work::Work;
+use std::alloc::Global;
+use std::sync::ledger::Ledger;
+
+const LEAST_TOKENS: u32 = 50;
+
+fn question(alloc: Global, kind: Kind) -> Result<Query, Memory>
+    ensures { IfOk result (λ query. query ≡ question kind) }
+{
+    Ok(Query {
+        kind,
+        project: Text::from_bytes(alloc, PROJECT)?,
+        path: None,
+        min: LEAST_TOKENS,
+        at: 0,
+        finish: true,
+    })
+}
+
+/// The reply to a question about the project, by all changes that are accepted.
+pub(crate) fn reply_of<L: Ledger>(
+    alloc: Global,
+    settings: &Settings,
+    keyer: &Keyer,
+    hub: &Solo<Work<L>>,
+    kind: Kind,
+    pass: &mut SoloPass<Work<L>>,
+    steps: &mut Steps<L>,
+) -> Result<Reply, Memory>
+    requires in_range { IsInRange settings.now }
+    requires short { settings.now.chunk ≤ 50 }
+    requires settings { keyer.now.settings ≡ settings.now }
+    requires hub_settings { ⟦<Solo<Work<L>> as Hub<Work<L>>>⟧.settings hub.now ≡ settings.now }
+    requires closed { MayLead ⟦<Solo<Work<L>> as Hub<Work<L>>>⟧.Stands 1 hub.now pass.old Always }
+    ensures reply { IfOk result (λ reply. Led ⟦<Solo<Work<L>> as Hub<Work<L>>>⟧.Stands 1 hub.now pass.old pass.new Always (λ c h. IsAnsweredByAll settings.now kind h reply)) }
+{
+    let query = question(alloc, kind)?;
+    query_reply(alloc, settings, keyer, hub, &query, 0, pass, steps)
+}
