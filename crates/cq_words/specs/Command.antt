@@ -1,9 +1,9 @@
 -- What the words of the command line ask for.
-use Rattle.std.specs.Prelude.{ℕ, ◌≤◌, Bool, List, [], ◌∷◌, Option, Some, None, option_and_then, option_map}
+use Rattle.std.specs.Prelude.{ℕ, ◌≤◌, Bool, false, List, [], ◌∷◌, Option, Some, None, option_and_then, option_map}
 use Rattle.cq_base.specs.Settings.{IsInRange}
 use Rattle.cq_base.specs.declared.settings.Settings.{Settings}
 use Rattle.cq_words.specs.Grammar.{Word, Item, items_of}
-use Rattle.cq_words.specs.Table.{row_of, verb_named, number_from, has_flag}
+use Rattle.cq_words.specs.Table.{row_of, verb_named, number_from, has_flag, default_of}
 use Rattle.cq_words.specs.declared.table.Verb.{Verb}
 use Rattle.cq_words.specs.declared.table.Verb.TheVariants as verb
 use Rattle.cq_words.specs.declared.table.Param.TheVariants as param
@@ -44,6 +44,19 @@ settings_from items = settings_made
     (number_from param.ByteLimit items)
     (has_flag flag.IgnoreIds items)
     (has_flag flag.IgnoreLiterals items)
+
+-- the settings where no option and no flag is given
+abbrev pub default_settings : Settings
+default_settings = record {
+  chunk = default_of param.Chunk;
+  shards = default_of param.Shards;
+  key_bits = default_of param.KeyBits;
+  ignore_ids = false;
+  ignore_lits = false;
+  change_limit = default_of param.ChangeLimit;
+  text_limit = default_of param.TextLimit;
+  byte_limit = default_of param.ByteLimit;
+}
 
 -- what the items of a command give
 abbrev pub command_from : Verb → List Item → Option Command

@@ -1,5 +1,5 @@
 -- What each command takes: its options, flags and positionals, and the ranges of their numbers.
-use Rattle.std.specs.Prelude.{ℕ, Bool, List, [], ◌∷◌, map, Option, Some, None, if◌then◌else◌, option_and_then, codes}
+use Rattle.std.specs.Prelude.{ℕ, Bool, List, [], ◌∷◌, map, Option, Some, None, if◌then◌else◌, option_and_then, unwrap_or, codes}
 use Rattle.std.specs.Str.{bytes_eq}
 use Rattle.cq_words.specs.Grammar.{Word, Row, Item, item_of, has_item}
 use Rattle.cq_words.specs.Numbers.{number_within}
@@ -86,3 +86,7 @@ number_from p items = number_or (range_of p) (item_of (param_name p) items)
 
 abbrev pub has_flag : Flag → List Item → Bool
 has_flag f items = has_item items (flag_name f)
+
+-- the default of an option
+abbrev pub default_of : Param → ℕ
+default_of p = unwrap_or (range_of p).otherwise 0

@@ -15,4 +15,4 @@ mod table;
 pub use command::{Command, Make, Run};
 pub use form::is_command;
 pub use laws::words_in_form;
-pub use reading::read_command;
+pub use reading::{default_settings, read_command};

@@ -2,7 +2,7 @@ ghost use Rattle.std.specs.Prelude.{◌≡◌, ◌≤◌, IfOk, IfSome, option_m
 ghost use Rattle.clap.specs.Words.{first_of, found_of, rows_of};
 ghost use Rattle.cq_base.specs.Settings.{IsInRange};
 ghost use Rattle.cq_words.specs.Asked as spec;
-ghost use Rattle.cq_words.specs.Command.{command_after, command_of, HasRanges};
+ghost use Rattle.cq_words.specs.Command.{command_after, command_of, default_settings, HasRanges};
 ghost use Rattle.cq_words.specs.Table as table;
 ghost use Rattle.cq_words.specs.declared.table.Verb.TheVariants as verb;
 
@@ -30,6 +30,29 @@ fn number_read(matches: &ArgMatches, param: Param) -> Option<u64>
     match text_of(matches, param_name(param)) {
         Some(text) => number_within(range.low, range.high, text.as_bytes()),
         None => range.otherwise,
+    }
+}
+
+fn default_of(param: Param) -> u64
+    ensures { result ≡ table.default_of param }
+{
+    range_of(param).otherwise.unwrap_or(0)
+}
+
+/// The settings where no option and no flag is given.
+pub fn default_settings() -> Settings
+    ensures settings { result ≡ default_settings }
+    ensures in_range { IsInRange result }
+{
+    Settings {
+        chunk: default_of(Param::Chunk) as u32,
+        shards: default_of(Param::Shards) as u32,
+        key_bits: default_of(Param::KeyBits) as u32,
+        ignore_ids: false,
+        ignore_lits: false,
+        change_limit: default_of(Param::ChangeLimit),
+        text_limit: default_of(Param::TextLimit),
+        byte_limit: default_of(Param::ByteLimit),
     }
 }
 

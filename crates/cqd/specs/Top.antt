@@ -1,7 +1,10 @@
 -- What the top call does, by its status.
-use Rattle.std.specs.Prelude.{◌≡◌, ◌==◌, ℕ, List, [], map, Option, codes, if◌then◌else◌}
+use Rattle.std.specs.Prelude.{◌≡◌, ◌==◌, ℕ, List, [], map, Option, Some, None, Result, Ok, Err, codes, if◌then◌else◌}
 use Rattle.cq_base.specs.declared.settings.Settings.{Settings}
 use Rattle.cq_history.specs.declared.event.Event.{Event}
+use Rattle.cq_io.specs.Causes.{HasCause}
+use Rattle.cq_io.specs.declared.source.Failed.{Failed}
+use Rattle.cq_make.specs.Made.{Makes}
 use Rattle.cq_reply.specs.declared.reply.Reply.{Reply}
 use Rattle.cq_session.specs.Costs.{counted}
 use Rattle.cq_session.specs.declared.serving.End.{End}
@@ -11,12 +14,19 @@ use Rattle.cq_session.specs.Turn.{CountedTalk}
 use Rattle.cq_talk.specs.Alone.{IsAloneUpToMemory, no_walk}
 use Rattle.cq_talk.specs.Beside.{IsBeside, nothing_known}
 use Rattle.cq_talk.specs.Said.{said}
+use Rattle.cq_words.specs.Command.{default_settings}
+use Rattle.cq_words.specs.declared.command.Command.{Command}
+use Rattle.cq_words.specs.declared.command.Command.TheVariants as command
 
 abbrev pub status_of : End → ℕ
 status_of end.Finished = 0
 status_of end.ReadFault = 2
 status_of end.WriteFault = 3
 status_of end.Spent = 6
+
+abbrev pub status_sent : {E : Type 0} → Result (Unit {0}) E → ℕ
+status_sent (Ok sent) = 0
+status_sent (Err failed) = 3
 
 -- the line on standard error that tells a status other than 0
 abbrev pub line_of : ℕ → List ℕ
@@ -43,3 +53,17 @@ pub record Runs (settings : Settings) (reads reads_now : ℕ) (rest rest_now bef
   pub status_is : status ≡ status_of by
   pub serves : Serves (AreAlone settings reads reads_now) settings.byte_limit rest rest_now before written_now by
   pub cause : HasEndCause source source_now sink sink_now by
+
+-- the line of a made project is written, and how that ended gives the status
+pub record IsMade (number files : ℕ) (before written_now : Option (List ℕ)) (sink sink_now status : ℕ) : Type 0 where
+  pub by : Result (Unit {0}) Failed
+  pub status_is : status ≡ status_sent by
+  pub makes : Makes default_settings number files before written_now by
+  pub cause : HasCause sink sink_now by
+
+-- the words are out of form, or ask for what is not served yet
+abbrev pub IsRefused : Option Command → Type 0
+IsRefused None = Unit {0}
+IsRefused (Some (command.Run run)) = ⊥
+IsRefused (Some (command.Drive settings)) = Unit {0}
+IsRefused (Some (command.Make make)) = ⊥

@@ -1,19 +1,22 @@
-ghost use Rattle.std.specs.Prelude.{◌≡◌, ◌≢◌, ◌↔◌, ◌≤◌, Some, None};
+ghost use Rattle.std.specs.Prelude.{◌≡◌, ◌≢◌, ◌↔◌, ◌≤◌, Some};
 ghost use Rattle.cq_base.specs.Settings.{IsInRange};
 ghost use Rattle.cq_io.specs.Causes.{Rose};
-ghost use Rattle.cqd.specs.Top.{Runs};
+ghost use Rattle.cqd.specs.Top.{IsMade, IsRefused, Runs};
 ghost use Rattle.cqd.specs.Top as spec;
-ghost use Rattle.cq_words.specs.Run.{run_of};
-ghost use Rattle.cq_words.specs.declared.run.Run.{Run};
+ghost use Rattle.cq_words.specs.Command.{command_of};
+ghost use Rattle.cq_words.specs.declared.command.Command.TheVariants as command;
+ghost use Rattle.cq_words.specs.declared.command.Make.{Make};
+ghost use Rattle.cq_words.specs.declared.command.Run.{Run};
 
 use cq_base::{Memory, Settings, Steps, Text};
 use cq_hub::{Solo, SoloPass};
-use cq_io::{Doors, Gate, Sink, Source};
+use cq_io::{Doors, Failed, Gate, Sink, Source};
 use cq_key::{Keyer, plain_key};
 use cq_lines::Lines;
+use cq_make::make;
 use cq_session::{End, session};
 use cq_talk::{talks_alone, talks_beside};
-use cq_words::{is_run, read_run};
+use cq_words::{Command, Make, default_settings, is_command, read_command};
 use cq_work::Work;
 use std::alloc::Global;
 use std::sync::ledger::Ledger;
@@ -69,8 +72,33 @@ fn serve<S: Source, K: Sink, L: Ledger>(
     }
 }
 
-/// The whole program: the words, and the lines of the source answered into the sink. Its answer is the status with
-/// which the process is to end.
+// Makes a project and writes its line, and answers the status.
+fn made<K: Sink, L: Ledger>(alloc: Global, asked: Make, sink: &mut K, steps: &mut Steps<L>) -> u8
+    requires few { asked.files ≤ 10000 }
+    ensures words { result ≢ 1 }
+    ensures read_fault { result ≢ 2 }
+    ensures spent { result ≢ 6 }
+    ensures memory { result ≡ 4 → sink.new ≡ sink.old }
+    ensures write_fault { result ≡ 3 → Rose (K.faults sink.old) (K.faults sink.new) }
+    ensures finished { result ≡ 0 → K.faults sink.new ≡ K.faults sink.old }
+    ensures makes { result ≢ 4 → IsMade asked.number asked.files (K.written sink.old) (K.written sink.new) (K.faults sink.old) (K.faults sink.new) result }
+{
+    match make(
+        alloc,
+        &default_settings(),
+        asked.number,
+        asked.files,
+        sink,
+        steps,
+    ) {
+        Ok(Ok(())) => 0,
+        Ok(Err(Failed)) => 3,
+        Err(Memory) => 4,
+    }
+}
+
+/// The whole program: what the words ask for, over these ends. Its answer is the status with which the process is to end.
+/// `run` answers the lines of the source into the sink; `make` writes one line; `drive` is not served yet.
 pub fn top<S: Source, K: Sink, D: Doors, G: Gate, L: Ledger>(
     alloc: Global,
     words: &[Text],
@@ -81,7 +109,7 @@ pub fn top<S: Source, K: Sink, D: Doors, G: Gate, L: Ledger>(
     steps: &mut Steps<L>,
 ) -> u8
     // 1 exactly where the words are out of form, and nothing is read or written then.
-    ensures words { (result ≡ 1) ↔ (run_of words.now ≡ None) }
+    ensures words { (result ≡ 1) ↔ IsRefused (command_of words.now) }
     ensures refused { result ≡ 1 → (source.new ≡ source.old) × (sink.new ≡ sink.old) }
 
     // 4 for want of memory before a line is read.
@@ -96,15 +124,21 @@ pub fn top<S: Source, K: Sink, D: Doors, G: Gate, L: Ledger>(
     // No door is asked for.
     ensures doors { doors.new ≡ doors.old }
 
-    // Every status but 1 and 4 is that of a session over all lines of the source.
-    ensures runs { (run : Run) → run_of words.now ≡ Some run → result ≢ 4 → Runs run.settings steps.old steps.new (S.rest source.old) (S.rest source.new) (K.written sink.old) (K.written sink.new)
+    // Every status of `run` but 4 is that of a session over all lines of the source.
+    ensures runs { (run : Run) → command_of words.now ≡ Some (command.Run run) → result ≢ 4 → Runs run.settings steps.old steps.new (S.rest source.old) (S.rest source.new) (K.written sink.old) (K.written sink.new)
         (S.faults source.old) (S.faults source.new) (K.faults sink.old) (K.faults sink.new) result }
+
+    // Every status of `make` but 4 is that of sending the line of the project, and nothing is read.
+    ensures makes { (asked : Make) → command_of words.now ≡ Some (command.Make asked) → result ≢ 4 → IsMade asked.number asked.files (K.written sink.old) (K.written sink.new) (K.faults sink.old) (K.faults sink.new) result }
+    ensures unread { (asked : Make) → command_of words.now ≡ Some (command.Make asked) → source.new ≡ source.old }
 {
-    if !is_run(words) {
+    if !is_command(words) {
         return 1;
     }
-    match read_run(alloc, words) {
-        Ok(Some(run)) => serve(alloc, &run.settings, source, sink, steps),
+    match read_command(alloc, words) {
+        Ok(Some(Command::Run(run))) => serve(alloc, &run.settings, source, sink, steps),
+        Ok(Some(Command::Make(asked))) => made(alloc, asked, sink, steps),
+        Ok(Some(Command::Drive(_))) => 1,
         Ok(None) => unreachable!(),
         Err(Memory) => 4,
     }
