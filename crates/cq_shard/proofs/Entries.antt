@@ -1,5 +1,5 @@
 -- The entries that a change brings, and those that a bucket asks for.
-use Rattle.std.proofs.Common.{◌≡◌, ◌⊎◌, ℕ, zero, suc, ◌+◌, ◌-◌, ◌≤◌, ◌%◌, ◌==◌, ◌||◌, nat_eq, Bool, true, false, cond, Option, Some, None, List, [], ◌∷◌, filter, refl, sym, ◌∙◌, ap, ap₂, subst, subst₂, inr, ⊎_elim, arith}
+use Rattle.std.proofs.Common.{◌≡◌, ℕ, zero, suc, ◌+◌, ◌-◌, ◌≤◌, ◌%◌, ◌==◌, ◌||◌, nat_eq, Bool, true, false, cond, Option, Some, None, List, [], ◌∷◌, filter, refl, sym, ◌∙◌, ap, ap₂, subst, subst₂, inr, ⊎_elim, arith}
 use Rattle.std.specs.Prelude.{AllPairs, Contains, slice_get}
 use Rattle.std.proofs.lemmas.List.Elements.{Contains-append_left, Contains-append_right, Contains-append_cases}
 use Rattle.std.proofs.lemmas.List.Kept.{AllPairs-filter}
