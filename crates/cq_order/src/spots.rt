@@ -3,11 +3,10 @@ ghost use Rattle.std.specs.Ordering.{is_lt};
 ghost use Rattle.cq_order.specs.Order.{IsOrderOf};
 ghost use Rattle.cq_order.specs.Spots.{AreSpots, IsPositionOf, SpotBefore, spot_of, is_spot_before, with_positions};
 
+use crate::rising::reach;
 use cq_base::Memory;
 use std::alloc::Global;
 use std::cmp::Ordering;
-
-use crate::rising::reach;
 
 /// Where the file that a change put stands among the files of its project: its position, from 0.
 #[derive(Clone, Copy, Debug, PartialEq, Eq)]

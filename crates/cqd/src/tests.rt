@@ -231,9 +231,10 @@ fn options_are_the_settings(rt: HostRuntime) -> Result<(), Memory> {
 #[test]
 fn a_project_is_made_and_told(rt: HostRuntime) -> Result<(), Memory> {
     let alloc = rt.alloc();
-    let line = r#"{"groups":2,"measures":{"complexity":3,"duplicated_blocks":4,"duplicated_files":3,"duplicated_lines":40,"duplicated_lines_density":6666,"files":3,"lines":60,"ncloc":60},"ok":true,"tokens":300,"version":3}
+    let line =
+        r#"{"groups":2,"measures":{"complexity":3,"duplicated_blocks":4,"duplicated_files":3,"duplicated_lines":40,"duplicated_lines_density":6666,"files":3,"lines":60,"ncloc":60},"ok":true,"tokens":300,"version":3}
 "#
-        .as_bytes();
+            .as_bytes();
     let make = ["make", "7", "3"];
     assert!(rt; ends_with(alloc, &make, b"{}\n", 4_096, (0, 0), line, 0)?);
     assert!(rt; ends_with(alloc, &make, b"{}\n", 9, (0, 1), b"", 3)?);
