@@ -1,6 +1,6 @@
 -- Which of a version's entries are those of one project's files.
 use Rattle.std.proofs.Common.{◌≡◌, ℕ, zero, suc, List, [], ◌∷◌, map, take, get_or, filter, Option, Some, None, is_some, refl, sym, ap, ◌∙◌, subst, subst₂, inl, inr, ⊎_elim, nat_eq}
-use Rattle.std.specs.Prelude.{◌↔◌, Contains, slice_get}
+use Rattle.std.specs.Prelude.{Contains, slice_get}
 use Rattle.std.specs.List.{list_any}
 use Rattle.std.proofs.lemmas.Bool.{eqb-true, false_from_ne_true}
 use Rattle.std.proofs.lemmas.Option.{slice_get_within, get_or_from_slice_get, slice_get-get_or}

@@ -127,11 +127,11 @@ fn finish<W: Made, H: Hub<W>>(
 }
 
 // The bucket of a key among some files, through the pass, which is the caller's again.
-fn bucket<W: Made, H: Hub<W>>(
+fn bucket<'a, W: Made, H: Hub<W>>(
     alloc: Global,
-    hub: &H,
-    view: &View<W>,
-    files: &ProjectFiles<W>,
+    hub: &'a H,
+    view: &'a View<W>,
+    files: &'a ProjectFiles<W>,
     key: u64,
     pass: &mut H::Pass,
 ) -> Result<Vec<Entry>, Memory>
