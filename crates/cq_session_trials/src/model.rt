@@ -1,0 +1,230 @@
+use crate::texts::{Word, first_hash, size_of};
+use cq_base::Memory;
+use std::alloc::Global;
+
+/// An upload that was accepted.
+#[derive(Drop)]
+pub struct Put {
+    pub number: u64,
+    pub project: u32,
+    pub path: u32,
+    pub is_java: bool,
+    pub words: Vec<Word>,
+}
+
+impl Put {
+    /// The byte at which no token of its language stands.
+    pub fn fault(&self) -> Option<u64> {
+        if self.is_java {
+            first_hash(&self.words)
+        } else {
+            None
+        }
+    }
+}
+
+/// A condition of a gate: the measure with this position among the names, in their order, is greater or else less.
+#[derive(Clone, Copy)]
+pub struct Condition {
+    pub metric: u32,
+    pub is_greater: bool,
+    pub error: u64,
+}
+
+/// A change that was accepted.
+#[derive(Drop)]
+pub enum Change {
+    Put(Put),
+    Drop {
+        project: u32,
+        path: u32,
+    },
+    Gate {
+        project: u32,
+        conditions: Vec<Condition>,
+    },
+}
+
+/// What a query asks beside its name; what is left out stands for nothing.
+#[derive(Clone, Copy)]
+pub struct Query {
+    pub project: u32,
+    pub min: Option<u32>,
+    pub path: Option<u32>,
+    pub at: Option<u64>,
+    pub finish: Option<bool>,
+}
+
+/// Why a line that is of its form is refused.
+#[derive(Clone, Copy)]
+pub enum Refusal {
+    Future(u64),
+    Absent,
+    FullChanges,
+    FullText,
+    Pending(u64),
+}
+
+/// The plain model: all that was accepted, and how much of it is done and shown.
+#[derive(Drop)]
+pub struct Model {
+    pub changes: Vec<Change>,
+    change_limit: u64,
+    // Bytes that further texts may have.
+    room: u64,
+    // All of the first so many changes are done.
+    worked: u64,
+    published: u64,
+    // The greatest number that a reply of this talk named.
+    seen: u64,
+}
+
+/// The upload whose file stands at a path behind so many changes.
+pub fn file_at<'a>(
+    changes: &'a [Change],
+    version: u64,
+    project: u32,
+    path: u32,
+) -> Option<&'a Put> {
+    let mut found = None;
+    for change in changes.iter().take(version as usize) {
+        match change {
+            Change::Put(put) => {
+                if put.project == project && put.path == path {
+                    found = Some(put);
+                }
+            }
+            Change::Drop {
+                project: of,
+                path: at,
+            } => {
+                if *of == project && *at == path {
+                    found = None;
+                }
+            }
+            Change::Gate { .. } => {}
+        }
+    }
+    found
+}
+
+/// The files of a project behind so many changes, in the order of their paths.
+pub fn files_at<'a>(
+    alloc: Global,
+    changes: &'a [Change],
+    version: u64,
+    project: u32,
+) -> Result<Vec<&'a Put>, Memory> {
+    let mut files = Vec::new(alloc);
+    for path in 0..3u32 {
+        if let Some(put) = file_at(changes, version, project, path) {
+            files.push(put)?;
+        }
+    }
+    Ok(files)
+}
+
+/// The conditions of a project's last gate behind so many changes.
+pub fn conditions_at<'a>(changes: &'a [Change], version: u64, project: u32) -> &'a [Condition] {
+    let mut found: &'a [Condition] = &[];
+    for change in changes.iter().take(version as usize) {
+        if let Change::Gate {
+            project: of,
+            conditions,
+        } = change
+        {
+            if *of == project {
+                found = conditions.as_slice();
+            }
+        }
+    }
+    found
+}
+
+impl Model {
+    pub fn new(alloc: Global, change_limit: u64, text_limit: u64) -> Model {
+        Model {
+            changes: Vec::new(alloc),
+            change_limit,
+            room: text_limit,
+            worked: 0,
+            published: 0,
+            seen: 0,
+        }
+    }
+
+    /// A further talk begins.
+    pub fn begin_talk(&mut self) {
+        self.seen = 0;
+    }
+
+    pub fn accepted(&self) -> u64 {
+        self.changes.len() as u64
+    }
+
+    /// The greatest number up to which all changes are done.
+    pub fn done(&self) -> u64 {
+        let mut done = 0u64;
+        for change in &self.changes {
+            if done >= self.worked && matches!(change, Change::Put(_)) {
+                return done;
+            }
+            done = done.saturating_add(1);
+        }
+        done
+    }
+
+    // Why a change is refused: of several causes the first.
+    fn refusal(&self, change: &Change) -> Option<Refusal> {
+        if let Change::Drop { project, path } = change {
+            if file_at(&self.changes, self.accepted(), *project, *path).is_none() {
+                return Some(Refusal::Absent);
+            }
+        }
+        if self.accepted() >= self.change_limit {
+            return Some(Refusal::FullChanges);
+        }
+        match change {
+            Change::Put(put) if size_of(&put.words) > self.room => Some(Refusal::FullText),
+            _ => None,
+        }
+    }
+
+    /// Accepts a change, which is the last one then, or tells why not.
+    pub fn accept(&mut self, change: Change) -> Result<Option<Refusal>, Memory> {
+        let refusal = self.refusal(&change);
+        if refusal.is_some() {
+            return Ok(refusal);
+        }
+        if let Change::Put(put) = &change {
+            self.room = self.room.saturating_sub(size_of(&put.words));
+        }
+        self.changes.push(change)?;
+        self.seen = self.accepted();
+        Ok(None)
+    }
+
+    /// The version at which a query is answered.
+    pub fn answer(&mut self, query: &Query) -> Result<u64, Refusal> {
+        let at = query.at.unwrap_or(0);
+        if at > self.accepted() {
+            return Err(Refusal::Future(self.accepted()));
+        }
+        if query.finish.unwrap_or(true) {
+            self.worked = self.accepted();
+        }
+        let done = self.done();
+        if self.seen.max(at) > done {
+            return Err(Refusal::Pending(done.saturating_add(1)));
+        }
+        self.published = done;
+        self.seen = done;
+        Ok(done)
+    }
+
+    /// The version of the last answer, which is seen now.
+    pub fn look(&mut self) -> u64 {
+        self.seen = self.seen.max(self.published);
+        self.published
+    }
+}

@@ -1,0 +1,165 @@
+ghost use Rattle.std.specs.Prelude.{◌≡◌, OnOk};
+ghost use Rattle.cq_base.specs.Settings.{IsInRange};
+ghost use Rattle.cq_talk.specs.Steps.{Always, MayLead};
+
+use crate::asking::drawn_lines;
+use crate::draws::Draws;
+use crate::model::Model;
+use cq_base::{Memory, Settings, Steps};
+use cq_hub::{Hub, Solo, SoloPass};
+use cq_io::{MemSink, MemSource};
+use cq_key::{Keyer, plain_key};
+use cq_lines::Lines;
+use cq_session::{End, session};
+use cq_work::Work;
+use std::alloc::Global;
+use std::marker::Brand;
+use std::sync::ledger::{Blank, Ledger};
+
+// How a session ends, and what it writes for an input.
+fn written<L: Ledger, H: Hub<Work<L>>>(
+    alloc: Global,
+    settings: &Settings,
+    keyer: &Keyer,
+    hub: &H,
+    input: &[u8],
+    pass: &mut H::Pass,
+    steps: &mut Steps<L>,
+) -> Result<(End, Vec<u8>), Memory>
+    requires in_range { IsInRange settings.now }
+    requires settings { keyer.now.settings ≡ settings.now }
+    requires hub_settings { H.settings hub.now ≡ settings.now }
+    requires closed { MayLead H.Stands (H.callers hub.now) hub.now pass.old Always }
+    ensures closed { OnOk result (MayLead H.Stands (H.callers hub.now) hub.now pass.new Always) }
+{
+    let mut lines = Lines::new(alloc, settings.byte_limit)?;
+    let bytes = Vec::from_slice(alloc, input)?;
+    let mut source = MemSource::new(bytes, 97, Vec::new(alloc));
+    let mut sink = MemSink::new(alloc, 1_048_576, 89, Vec::new(alloc))?;
+    let end = session(
+        alloc,
+        settings,
+        keyer,
+        hub,
+        pass,
+        &mut lines,
+        &mut source,
+        &mut sink,
+        steps,
+    );
+    let output = Vec::from_slice(alloc, sink.written())?;
+    Ok((end, output))
+}
+
+// The line, from 1, in which what was written first differs from what was to be written.
+fn difference(written: &[u8], wanted: &[u8]) -> Option<u64> {
+    let mut line = 1u64;
+    let mut left = wanted.iter();
+    for byte in written {
+        if left.next() != Some(byte) {
+            return Some(line);
+        }
+        if *byte == b'\n' {
+            line = line.saturating_add(1);
+        }
+    }
+    if left.next().is_some() {
+        Some(line)
+    } else {
+        None
+    }
+}
+
+// The same, and 0 for a talk that did not finish.
+fn parted(end: End, written: &[u8], wanted: &[u8]) -> Option<u64> {
+    match end {
+        End::Finished => difference(written, wanted),
+        _ => Some(0),
+    }
+}
+
+// A talk of so many lines that are drawn: the line in which it differs from the model, and what the model tells.
+fn talk<L: Ledger, H: Hub<Work<L>>>(
+    alloc: Global,
+    settings: &Settings,
+    keyer: &Keyer,
+    hub: &H,
+    count: u32,
+    draws: &mut Draws,
+    model: &mut Model,
+    pass: &mut H::Pass,
+    steps: &mut Steps<L>,
+) -> Result<(Option<u64>, String), Memory>
+    requires in_range { IsInRange settings.now }
+    requires settings { keyer.now.settings ≡ settings.now }
+    requires hub_settings { H.settings hub.now ≡ settings.now }
+    requires closed { MayLead H.Stands (H.callers hub.now) hub.now pass.old Always }
+    ensures closed { OnOk result (MayLead H.Stands (H.callers hub.now) hub.now pass.new Always) }
+{
+    let lines = drawn_lines(alloc, count, draws, model)?;
+    let input = lines.asked.as_bytes();
+    match written(alloc, settings, keyer, hub, input, pass, steps) {
+        Ok((end, output)) => {
+            let found = parted(end, &output, lines.told.as_bytes());
+            Ok((found, lines.told))
+        }
+        Err(Memory) => Err(Memory),
+    }
+}
+
+/// What came of two talks in a row over one hub: the lines in which they differ from the model (0 where one did not
+/// finish), and what it tells.
+#[derive(Drop)]
+pub struct Talks {
+    pub first: Option<u64>,
+    pub second: Option<u64>,
+    pub told: String,
+    pub told_then: String,
+}
+
+fn talks_over_one_hub<L: Ledger>(
+    alloc: Global,
+    settings: &Settings,
+    counts: (u32, u32),
+    seed: u64,
+    blank: Blank,
+) -> Result<Talks, Memory>
+    requires in_range { IsInRange settings.now }
+    requires name { blank.name ≡ L.name }
+    requires parts { blank.parts ≡ L.parts }
+    requires one { L.parts ≡ 1 }
+{
+    let of = *settings;
+    let key = Box::new(alloc, move |codes: &[u64]| plain_key(&of, codes))?;
+    let keyer = Keyer::new(settings, key);
+    let mut steps: Steps<L> = Steps::new(blank);
+    let made: (Solo<Work<L>>, SoloPass<Work<L>>) = Solo::new(alloc, settings)?;
+    let (hub, mut pass) = made;
+    let mut draws = Draws::new(seed);
+    let mut model = Model::new(alloc, settings.change_limit, settings.text_limit);
+    let (count, count_then) = counts;
+    let (first, told) = talk(
+        alloc, settings, &keyer, &hub, count, &mut draws, &mut model, &mut pass, &mut steps,
+    )?;
+    let (second, told_then) = talk(
+        alloc, settings, &keyer, &hub, count_then, &mut draws, &mut model, &mut pass, &mut steps,
+    )?;
+    Ok(Talks {
+        first,
+        second,
+        told,
+        told_then,
+    })
+}
+
+/// Two talks of so many lines each, over one new hub.
+pub fn talks_here(
+    alloc: Global,
+    settings: &Settings,
+    counts: (u32, u32),
+    seed: u64,
+) -> Result<Talks, Memory>
+    requires { IsInRange settings.now }
+{
+    talks_over_one_hub::<Brand>(alloc, settings, counts, seed, Blank::new(1))
+}
