@@ -1,10 +1,15 @@
 -- What the top call does, by its status.
-use Rattle.std.specs.Prelude.{◌≡◌, ◌==◌, ℕ, List, [], map, Option, Some, None, Result, Ok, Err, codes, if◌then◌else◌}
+use Rattle.std.specs.Prelude.{◌≡◌, ◌==◌, ℕ, List, [], map, Option, Result, Ok, Err, codes, if◌then◌else◌}
 use Rattle.cq_base.specs.declared.settings.Settings.{Settings}
+use Rattle.cq_drive.specs.Script.{IsScript}
 use Rattle.cq_history.specs.declared.event.Event.{Event}
 use Rattle.cq_io.specs.Causes.{HasCause}
 use Rattle.cq_io.specs.declared.source.Failed.{Failed}
+use Rattle.cq_lines.specs.Serving as script
+use Rattle.cq_lines.specs.declared.ending.End.{End as ScriptEnd}
+use Rattle.cq_lines.specs.declared.ending.End.TheVariants as script_end
 use Rattle.cq_make.specs.Made.{Makes}
+use Rattle.cq_outcome.specs.Outcomes.{line_of as outcome_line}
 use Rattle.cq_reply.specs.declared.reply.Reply.{Reply}
 use Rattle.cq_session.specs.Costs.{counted}
 use Rattle.cq_session.specs.declared.serving.End.{End}
@@ -15,14 +20,18 @@ use Rattle.cq_talk.specs.Alone.{IsAloneUpToMemory, no_walk}
 use Rattle.cq_talk.specs.Beside.{IsBeside, nothing_known}
 use Rattle.cq_talk.specs.Said.{said}
 use Rattle.cq_words.specs.Command.{default_settings}
-use Rattle.cq_words.specs.declared.command.Command.{Command}
-use Rattle.cq_words.specs.declared.command.Command.TheVariants as command
 
-abbrev pub status_of : End → ℕ
-status_of end.Finished = 0
-status_of end.ReadFault = 2
-status_of end.WriteFault = 3
-status_of end.Spent = 6
+abbrev pub session_status : End → ℕ
+session_status end.Finished = 0
+session_status end.ReadFault = 2
+session_status end.WriteFault = 3
+session_status end.Spent = 6
+
+abbrev pub script_status : ScriptEnd → ℕ
+script_status script_end.Finished = 0
+script_status script_end.ReadFault = 2
+script_status script_end.WriteFault = 3
+script_status script_end.Spent = 6
 
 abbrev pub status_sent : {E : Type 0} → Result (Unit {0}) E → ℕ
 status_sent (Ok sent) = 0
@@ -50,9 +59,16 @@ pub record AreAlone (settings : Settings) (reads reads_now : ℕ) (lines : List 
 -- a whole session, which begins with nothing accepted, and whose end gives the status
 pub record Runs (settings : Settings) (reads reads_now : ℕ) (rest rest_now before written_now : Option (List ℕ)) (source source_now sink sink_now status : ℕ) : Type 0 where
   pub by : End
-  pub status_is : status ≡ status_of by
+  pub status_is : status ≡ session_status by
   pub serves : Serves (AreAlone settings reads reads_now) settings.byte_limit rest rest_now before written_now by
   pub cause : HasEndCause source source_now sink sink_now by
+
+-- a whole script, stepped from nothing accepted on, whose end gives the status
+pub record Drives (settings : Settings) (rest rest_now before written_now : Option (List ℕ)) (source source_now sink sink_now status : ℕ) : Type 0 where
+  pub by : ScriptEnd
+  pub status_is : status ≡ script_status by
+  pub serves : script.Serves outcome_line (IsScript settings) settings.byte_limit rest rest_now before written_now by
+  pub cause : script.HasEndCause source source_now sink sink_now by
 
 -- the line of a made project is written, and how that ended gives the status
 pub record IsMade (number files : ℕ) (before written_now : Option (List ℕ)) (sink sink_now status : ℕ) : Type 0 where
@@ -60,10 +76,3 @@ pub record IsMade (number files : ℕ) (before written_now : Option (List ℕ)) 
   pub status_is : status ≡ status_sent by
   pub makes : Makes default_settings number files before written_now by
   pub cause : HasCause sink sink_now by
-
--- the words are out of form, or ask for what is not served yet
-abbrev pub IsRefused : Option Command → Type 0
-IsRefused None = Unit {0}
-IsRefused (Some (command.Run run)) = ⊥
-IsRefused (Some (command.Drive settings)) = Unit {0}
-IsRefused (Some (command.Make make)) = ⊥

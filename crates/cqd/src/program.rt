@@ -1,7 +1,8 @@
-ghost use Rattle.std.specs.Prelude.{◌≡◌, ◌≢◌, ◌↔◌, ◌≤◌, Some};
+ghost use Rattle.std.specs.Prelude.{◌≡◌, ◌≢◌, ◌↔◌, ◌≤◌, None, Some};
 ghost use Rattle.cq_base.specs.Settings.{IsInRange};
+ghost use Rattle.cq_base.specs.declared.settings.Settings.{Settings};
 ghost use Rattle.cq_io.specs.Causes.{Rose};
-ghost use Rattle.cqd.specs.Top.{IsMade, IsRefused, Runs};
+ghost use Rattle.cqd.specs.Top.{Drives, IsMade, Runs};
 ghost use Rattle.cqd.specs.Top as spec;
 ghost use Rattle.cq_words.specs.Command.{command_of};
 ghost use Rattle.cq_words.specs.declared.command.Command.TheVariants as command;
@@ -9,26 +10,38 @@ ghost use Rattle.cq_words.specs.declared.command.Make.{Make};
 ghost use Rattle.cq_words.specs.declared.command.Run.{Run};
 
 use cq_base::{Memory, Settings, Steps, Text};
+use cq_drive::drive;
 use cq_hub::{Solo, SoloPass};
 use cq_io::{Doors, Failed, Gate, Sink, Source};
 use cq_key::{Keyer, plain_key};
-use cq_lines::Lines;
+use cq_lines::{End as ScriptEnd, Lines};
 use cq_make::make;
-use cq_session::{End, session};
+use cq_session::{End as SessionEnd, session};
 use cq_talk::{talks_alone, talks_beside};
 use cq_words::{Command, Make, default_settings, is_command, read_command};
 use cq_work::Work;
 use std::alloc::Global;
 use std::sync::ledger::Ledger;
 
-fn status_of(end: End) -> u8
-    ensures { result ≡ spec.status_of end }
+fn session_status(end: SessionEnd) -> u8
+    ensures { result ≡ spec.session_status end }
 {
     match end {
-        End::Finished => 0,
-        End::ReadFault => 2,
-        End::WriteFault => 3,
-        End::Spent => 6,
+        SessionEnd::Finished => 0,
+        SessionEnd::ReadFault => 2,
+        SessionEnd::WriteFault => 3,
+        SessionEnd::Spent => 6,
+    }
+}
+
+fn script_status(end: ScriptEnd) -> u8
+    ensures { result ≡ spec.script_status end }
+{
+    match end {
+        ScriptEnd::Finished => 0,
+        ScriptEnd::ReadFault => 2,
+        ScriptEnd::WriteFault => 3,
+        ScriptEnd::Spent => 6,
     }
 }
 
@@ -66,8 +79,40 @@ fn serve<S: Source, K: Sink, L: Ledger>(
             let end = session(
                 alloc, settings, &keyer, &hub, &mut pass, &mut lines, source, sink, steps,
             );
-            status_of(end)
+            session_status(end)
         }
+        Err(Memory) => 4,
+    }
+}
+
+// A core stepped by the lines of the source, and the status.
+fn driven<S: Source, K: Sink, L: Ledger>(
+    alloc: Global,
+    settings: &Settings,
+    source: &mut S,
+    sink: &mut K,
+    steps: &mut Steps<L>,
+) -> u8
+    requires in_range { IsInRange settings.now }
+    ensures words { result ≢ 1 }
+    ensures memory { result ≡ 4 → (source.new ≡ source.old) × (sink.new ≡ sink.old) }
+    ensures read_fault { result ≡ 2 → Rose (S.faults source.old) (S.faults source.new) }
+    ensures write_fault { result ≡ 3 → Rose (K.faults sink.old) (K.faults sink.new) }
+    ensures finished { result ≡ 0 → (S.faults source.new ≡ S.faults source.old) × (K.faults sink.new ≡ K.faults sink.old) }
+    ensures spent { result ≡ 6 → (S.faults source.new ≡ S.faults source.old) × (K.faults sink.new ≡ K.faults sink.old) }
+    ensures drives { result ≢ 4 → Drives settings.now (S.rest source.old) (S.rest source.new) (K.written sink.old) (K.written sink.new)
+        (S.faults source.old) (S.faults source.new) (K.faults sink.old) (K.faults sink.new) result }
+{
+    let of = *settings;
+    let Ok(key) = Box::new(alloc, move |codes: &[u64]| plain_key(&of, codes)) else {
+        return 4;
+    };
+    let keyer = Keyer::new(settings, key);
+    let Ok(mut lines) = Lines::new(alloc, settings.byte_limit) else {
+        return 4;
+    };
+    match drive(alloc, settings, &keyer, &mut lines, source, sink, steps) {
+        Ok(end) => script_status(end),
         Err(Memory) => 4,
     }
 }
@@ -98,7 +143,8 @@ fn made<K: Sink, L: Ledger>(alloc: Global, asked: Make, sink: &mut K, steps: &mu
 }
 
 /// The whole program: what the words ask for, over these ends. Its answer is the status with which the process is to end.
-/// `run` answers the lines of the source into the sink; `make` writes one line; `drive` is not served yet.
+/// `run` answers the lines of the source into the sink; `drive` steps a core by them, and writes their outcomes; `make`
+/// writes one line.
 pub fn top<S: Source, K: Sink, D: Doors, G: Gate, L: Ledger>(
     alloc: Global,
     words: &[Text],
@@ -109,7 +155,7 @@ pub fn top<S: Source, K: Sink, D: Doors, G: Gate, L: Ledger>(
     steps: &mut Steps<L>,
 ) -> u8
     // 1 exactly where the words are out of form, and nothing is read or written then.
-    ensures words { (result ≡ 1) ↔ IsRefused (command_of words.now) }
+    ensures words { (result ≡ 1) ↔ (command_of words.now ≡ None) }
     ensures refused { result ≡ 1 → (source.new ≡ source.old) × (sink.new ≡ sink.old) }
 
     // 4 for want of memory before a line is read.
@@ -128,6 +174,10 @@ pub fn top<S: Source, K: Sink, D: Doors, G: Gate, L: Ledger>(
     ensures runs { (run : Run) → command_of words.now ≡ Some (command.Run run) → result ≢ 4 → Runs run.settings steps.old steps.new (S.rest source.old) (S.rest source.new) (K.written sink.old) (K.written sink.new)
         (S.faults source.old) (S.faults source.new) (K.faults sink.old) (K.faults sink.new) result }
 
+    // Every status of `drive` but 4 is that of a script of all lines of the source.
+    ensures drives { (settings : Settings) → command_of words.now ≡ Some (command.Drive settings) → result ≢ 4 → Drives settings (S.rest source.old) (S.rest source.new) (K.written sink.old) (K.written sink.new)
+        (S.faults source.old) (S.faults source.new) (K.faults sink.old) (K.faults sink.new) result }
+
     // Every status of `make` but 4 is that of sending the line of the project, and nothing is read.
     ensures makes { (asked : Make) → command_of words.now ≡ Some (command.Make asked) → result ≢ 4 → IsMade asked.number asked.files (K.written sink.old) (K.written sink.new) (K.faults sink.old) (K.faults sink.new) result }
     ensures unread { (asked : Make) → command_of words.now ≡ Some (command.Make asked) → source.new ≡ source.old }
@@ -137,8 +187,8 @@ pub fn top<S: Source, K: Sink, D: Doors, G: Gate, L: Ledger>(
     }
     match read_command(alloc, words) {
         Ok(Some(Command::Run(run))) => serve(alloc, &run.settings, source, sink, steps),
+        Ok(Some(Command::Drive(settings))) => driven(alloc, &settings, source, sink, steps),
         Ok(Some(Command::Make(asked))) => made(alloc, asked, sink, steps),
-        Ok(Some(Command::Drive(_))) => 1,
         Ok(None) => unreachable!(),
         Err(Memory) => 4,
     }

@@ -240,3 +240,13 @@ fn a_project_is_made_and_told(rt: HostRuntime) -> Result<(), Memory> {
     assert!(rt; ends_with(alloc, &make, b"{}\n", 9, (0, 1), b"", 3)?);
     Ok(())
 }
+
+#[test]
+fn a_script_is_driven(rt: HostRuntime) -> Result<(), Memory> {
+    let alloc = rt.alloc();
+    let ask = b"{\"step\":\"ask\",\"by\":0}\n".as_slice();
+    let none = "{\"ok\":true,\"value\":0}\n".as_bytes();
+    let drive = ["drive", "--shards", "2"];
+    assert!(rt; ends_with(alloc, &drive, ask, 9, (0, 0), none, 0)?);
+    Ok(())
+}

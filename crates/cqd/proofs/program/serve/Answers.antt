@@ -21,7 +21,7 @@ returns-in-Ok-new-clause-runs g c = λ other.
     let law : Lawful c.args.settings.now 1 led.after = subst (λ (set : Settings). Lawful set 1 led.after) c.in-Ok-made.ensures.settings (solo_lawful _ _ 0 led.after _ _ led.stands) in
     record {
       by = c.session-end.result;
-      status_is = c.status_of.ensures;
+      status_is = c.session_status.ensures;
       serves = subst (λ (limit : ℕ). Serves (AreAlone c.args.settings.now c.args.steps.now c.session-end.new.steps) limit (g.S.Source.rest c.args.source.now) (g.S.Source.rest c.session-end.new.source) (g.K.Sink.written c.args.sink.now) (g.K.Sink.written c.session-end.new.sink) c.session-end.result) (ap (λ (held : Held). held.limit) c.in-Ok-new.ensures)
           (serves_as (CountedTalk c.args.settings.now 1 (Unit {0}) 0 [] (counted c.args.steps.now c.session-end.new.steps c.in-Ok-made.pass.asked c.session-end.new.pass.asked) led.after) (AreAlone c.args.settings.now c.args.steps.now c.session-end.new.steps)
           (λ lines replies counts. record {
