@@ -1,14 +1,20 @@
 -- A project of one file, and a gate behind it.
-use Rattle.std.proofs.Common.{◌≡◌, ℕ, ◌≤◌, true, cond, List, [], ◌∷◌, length, refl, sym, ap, subst}
+use Rattle.std.proofs.Common.{◌≡◌, ◌≢◌, ℕ, ◌≤◌, true, cond, List, [], ◌∷◌, length, refl, sym, ap, subst}
+use Rattle.std.specs.Prelude.{AllPairs}
 use Rattle.std.specs.Str.{bytes_eq, IsUtf8}
 use Rattle.std.proofs.lemmas.Slice.Eq.{bytes_eq-Decides}
 use Rattle.std.proofs.lemmas.List.Elements.{All-cons, All-nil}
+use Rattle.std.proofs.lemmas.List.Kept.{AllPairs-cons}
+use Rattle.cq_base.proofs.Lists.{AllPairs-nil}
 use Rattle.cq_base.specs.Changes.{IsSoundChange}
 use Rattle.cq_base.specs.declared.change.Change.TheVariants.{Put, Gate}
 use Rattle.cq_base.specs.declared.change.Condition.{Condition}
 use Rattle.cq_base.specs.declared.lang.Lang.TheVariants.{Any}
 use Rattle.cq_base.specs.declared.settings.Settings.{Settings}
+use Rattle.cq_board.specs.Listings.{path_of}
+use Rattle.cq_board.specs.Ordered.{AreRising}
 use Rattle.cq_board.specs.Related.{AreSameFiles}
+use Rattle.cq_board.specs.Spotted.{numbers_of}
 use Rattle.cq_work.specs.Work.{IsWorkOf}
 use Rattle.cq_answer.specs.Trial.{first_put, IsFileOf}
 use Rattle.cq_answer.specs.Versions.{HaveVersion}
@@ -28,3 +34,10 @@ one_file set project path text conditions file room project_text path_text utf8 
         conditions_are = ap (λ b. cond b conditions []) (sym itself);
       };
     }
+
+-- one file is in path order, and its change is its own
+pub one_rising : {W : Type 0} (file : File W) → AreRising path_of (file ∷ [])
+one_rising file = (tt, tt)
+
+pub one_apart : {W : Type 0} (file : File W) → AllPairs (λ a b. a ≢ b) (numbers_of (file ∷ []))
+one_apart file = AllPairs-cons (λ a b. a ≢ b) file.number [] (All-nil (λ n. file.number ≢ n)) (AllPairs-nil (λ a b. a ≢ b))
