@@ -1,8 +1,9 @@
 #!/usr/bin/env python3
 """Runs ./cqd on projects of 500 and of 3,000 files, and prints what a file that is put anew and listed by its path then
-costs: the time of a run with 200 such pairs less that of one without, and how the two projects' times compare."""
+costs: the processor time of 200 such pairs, one behind the other, once all files are listed; the least of five runs, and
+how the two projects' times compare. The program is ./cqd, or what CQD names."""
 import json
-import resource
+import os
 import subprocess
 from pathlib import Path
 
@@ -10,28 +11,41 @@ ROOT = Path(__file__).resolve().parent.parent
 PAIRS = 200
 
 
-def upload(number, edition):
-    words = [f"w{number}x{edition}x{token}" for token in range(300)] + [f"shared{number % 50}x{token}" for token in range(60)]
+def upload(number, edition, files):
+    # each shared run stands in ten files, however many there are
+    shared = number % (files // 10)
+    words = [f"w{number}x{edition}x{token}" for token in range(300)] + [f"shared{shared}x{token}" for token in range(60)]
     return {"op": "put", "project": "p", "path": f"f{number:05}", "lang": "any", "text": " ".join(words)}
 
 
-def seconds(files, pairs):
-    requests = [upload(number, 0) for number in range(files)] + [{"op": "files", "project": "q"}]
-    for pair in range(pairs):
-        number = pair * 7 % files
-        requests.append(upload(number, 1 + pair))
-        requests.append({"op": "groups", "project": "p", "path": f"f{number:05}", "min": 40})
-    lines = "".join(json.dumps(request) + "\n" for request in requests).encode()
-    before = resource.getrusage(resource.RUSAGE_CHILDREN)
-    ran = subprocess.run([ROOT / "cqd", "run"], input=lines, capture_output=True, check=True)
-    after = resource.getrusage(resource.RUSAGE_CHILDREN)
-    assert ran.stdout.count(b'"ok":true') == len(requests), "a line was refused"
-    return after.ru_utime + after.ru_stime - before.ru_utime - before.ru_stime
+def pair(index, files):
+    number = index * 7 % files
+    return [upload(number, 1 + index, files), {"op": "groups", "project": "p", "path": f"f{number:05}", "min": 40}]
+
+
+def ask(server, requests):
+    for request in requests:
+        server.stdin.write(json.dumps(request).encode() + b"\n")
+        server.stdin.flush()
+        reply = server.stdout.readline()
+        assert b'"ok":true' in reply, reply
+
+
+def processor(server):
+    return int(Path(f"/proc/{server.pid}/schedstat").read_text().split()[0]) / 1e9
 
 
 def pair_cost(files):
-    return min(seconds(files, PAIRS) - seconds(files, 0) for _ in range(5)) / PAIRS
+    with subprocess.Popen([os.environ.get("CQD", ROOT / "cqd"), "run"], stdin=subprocess.PIPE, stdout=subprocess.PIPE) as server:
+        ask(server, [upload(number, 0, files) for number in range(files)])
+        ask(server, [{"op": "groups", "project": "p", "path": "f00000", "min": 40}])
+        before = processor(server)
+        for index in range(PAIRS):
+            ask(server, pair(index, files))
+        after = processor(server)
+        server.stdin.close()
+    return (after - before) / PAIRS
 
 
-few, many = pair_cost(500), pair_cost(3000)
+few, many = (min(pair_cost(files) for _ in range(5)) for files in (500, 3000))
 print(f"a put and its groups by path: {few * 1000:.2f} ms of 500 files, {many * 1000:.2f} ms of 3,000, {many / few:.2f} times")
