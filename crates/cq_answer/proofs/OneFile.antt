@@ -11,10 +11,10 @@ use Rattle.cq_base.specs.declared.change.Change.TheVariants.{Put, Gate}
 use Rattle.cq_base.specs.declared.change.Condition.{Condition}
 use Rattle.cq_base.specs.declared.lang.Lang.TheVariants.{Any}
 use Rattle.cq_base.specs.declared.settings.Settings.{Settings}
-use Rattle.cq_board.specs.Listings.{path_of}
-use Rattle.cq_board.specs.Ordered.{AreRising}
+use Rattle.cq_projects.specs.Projects.{path_of}
+use Rattle.cq_projects.specs.Ordered.{AreRising}
 use Rattle.cq_board.specs.Related.{AreSameFiles}
-use Rattle.cq_board.specs.Spotted.{numbers_of}
+use Rattle.cq_projects.specs.Spotted.{numbers_of}
 use Rattle.cq_work.specs.Work.{IsWorkOf}
 use Rattle.cq_answer.specs.Trial.{first_put, IsFileOf}
 use Rattle.cq_answer.specs.Versions.{HaveVersion}

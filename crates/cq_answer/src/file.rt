@@ -2,7 +2,7 @@ ghost use Rattle.std.specs.Prelude.{◌≡◌};
 ghost use Rattle.cq_answer.specs.Works.{work_in};
 
 use cq_base::{Lang, Text};
-use cq_board::Held;
+use cq_projects::Held;
 use cq_work::Work;
 use std::alloc::Global;
 use std::sync::Arc;

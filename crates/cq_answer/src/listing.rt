@@ -7,7 +7,7 @@ ghost use Rattle.cq_answer.specs.Works.{norms_in, keys_in, numbers_in};
 use crate::part::Part;
 use crate::works::WorkFiles;
 use cq_base::{Group, Memory, Settings, Steps};
-use cq_board::ProjectFiles;
+use cq_projects::ProjectFiles;
 use cq_groups::{Buckets, list_all, list_file};
 use cq_refine::Index;
 use cq_tokens::Corpus;

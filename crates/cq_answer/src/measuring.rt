@@ -7,7 +7,7 @@ ghost use Rattle.cq_answer.specs.Works.{works_in, facts_in};
 use crate::file::work_of;
 use crate::part::Part;
 use cq_base::{Group, Measures, Memory};
-use cq_board::Held;
+use cq_projects::Held;
 use cq_measures::{FileLines, file_measures, project_measures};
 use cq_work::Work;
 use std::alloc::Global;

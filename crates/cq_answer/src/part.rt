@@ -3,7 +3,7 @@ ghost use Rattle.cq_answer.specs.Parts as spec;
 ghost use Rattle.cq_answer.specs.Works.{paths_in};
 
 use cq_base::Text;
-use cq_board::ProjectFiles;
+use cq_projects::ProjectFiles;
 use cq_request::{Kind, Query};
 use cq_work::Work;
 use std::sync::ledger::Ledger;

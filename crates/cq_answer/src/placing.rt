@@ -6,7 +6,7 @@ ghost use Rattle.cq_answer.specs.Works.{works_in, facts_in};
 
 use crate::file::{path_of, work_of};
 use cq_base::{Group, Memory, Place};
-use cq_board::Held;
+use cq_projects::Held;
 use cq_reply::{GroupRow, GroupRows, PlaceRow, PlaceRows};
 use cq_work::Work;
 use std::alloc::Global;

@@ -4,7 +4,7 @@ ghost use Rattle.cq_answer.specs.Works.{work_in, works_in, row_of, facts_in};
 
 use crate::file::{change_of, lang_of, path_of, work_of};
 use cq_base::Memory;
-use cq_board::Held;
+use cq_projects::Held;
 use cq_reply::{FileRow, FileRows, Shown};
 use cq_work::{State, Work};
 use std::alloc::Global;

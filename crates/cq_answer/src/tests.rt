@@ -6,7 +6,7 @@ ghost use Rattle.cq_answer.specs.Works.{work_in};
 use crate::answer;
 use crate::works::WorkFiles;
 use cq_base::{Compare, Condition, Lang, Measures, Memory, Metric, Settings, Steps, Text};
-use cq_board::{Held, ProjectFiles};
+use cq_projects::{Held, ProjectFiles};
 use cq_gate::Verdict;
 use cq_groups::PlainBuckets;
 use cq_key::{Keyer, plain_key};

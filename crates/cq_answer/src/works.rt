@@ -2,7 +2,7 @@ ghost use Rattle.std.specs.Prelude.{◌≡◌};
 ghost use Rattle.cq_answer.specs.Works.{norms_in, keys_in, numbers_in};
 ghost use Rattle.cq_answer.specs.Lent.{as_many};
 
-use cq_board::ProjectFiles;
+use cq_projects::ProjectFiles;
 use cq_tokens::{Files, Tokens};
 use cq_work::Work;
 use std::sync::ledger::Ledger;

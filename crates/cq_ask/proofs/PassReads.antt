@@ -9,7 +9,7 @@ use Rattle.cq_history.specs.State.{state, accepted}
 use Rattle.cq_history.specs.Lawful.{Lawful}
 use Rattle.cq_history.proofs.Prefixes.{changes_in-state}
 use Rattle.cq_board.specs.declared.listing.View.{View}
-use Rattle.cq_board.specs.Listings.{files_in}
+use Rattle.cq_projects.specs.Projects.{files_in}
 use Rattle.cq_board.specs.Related.{AreSameFiles}
 use Rattle.cq_hub.specs.Hubs.{Calls, Never}
 use Rattle.cq_hub.specs.Views.{IsOpen}

@@ -6,7 +6,7 @@ use Rattle.cq_history.specs.declared.event.Event.{Event}
 use Rattle.cq_history.specs.Files.{File}
 use Rattle.cq_history.specs.State.{state}
 use Rattle.cq_board.specs.declared.listing.View.{View}
-use Rattle.cq_board.specs.Listings.{files_in}
+use Rattle.cq_projects.specs.Projects.{files_in}
 use Rattle.cq_hub.specs.Views.{IsOpen}
 
 -- the keys of each file

@@ -1,6 +1,7 @@
 use crate::project::keep;
 use cq_base::{Entry, Memory};
-use cq_board::{ProjectFiles, View};
+use cq_board::View;
+use cq_projects::ProjectFiles;
 use cq_groups::Buckets;
 use cq_hub::Hub;
 use cq_shard::Indexed;
@@ -17,7 +18,7 @@ pub struct PassBuckets<'a, W: Indexed, H: Hub<W>> {
 }
 
 impl<'a, W: Indexed, H: Hub<W>> Buckets for PassBuckets<'a, W, H> {
-    ghost use Rattle.cq_board.specs.Spotted.{numbers_of};
+    ghost use Rattle.cq_projects.specs.Spotted.{numbers_of};
     ghost use Rattle.cq_ask.specs.Projects.{keys_in_files, IsReady};
     ghost use Rattle.cq_ask.specs.Moves.{MovesTo};
     ghost use Rattle.cq_ask.specs.Moving.{moves_none, moves_then};

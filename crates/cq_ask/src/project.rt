@@ -1,9 +1,9 @@
 ghost use Rattle.std.specs.Prelude.{◌≡◌, filter, nat_eq};
 ghost use Rattle.std.specs.List.{list_any};
-ghost use Rattle.cq_board.specs.Spotted.{numbers_of};
+ghost use Rattle.cq_projects.specs.Spotted.{numbers_of};
 
 use cq_base::Entry;
-use cq_board::ProjectFiles;
+use cq_projects::ProjectFiles;
 
 /// Only the entries of these files' changes stay.
 pub fn keep<W>(entries: &mut Vec<Entry>, files: &ProjectFiles<W>)

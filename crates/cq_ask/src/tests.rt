@@ -8,12 +8,13 @@ ghost use Rattle.cq_history.specs.State.{state, slot_of, view_of, IsAccepted};
 ghost use Rattle.cq_clones.specs.Windows.{IsBucket};
 ghost use Rattle.cq_hub.specs.Hubs.{HasSeen};
 ghost use Rattle.cq_ask.specs.Moves.{Moves};
-ghost use Rattle.cq_board.specs.Spotted.{numbers_of};
+ghost use Rattle.cq_projects.specs.Spotted.{numbers_of};
 ghost use Rattle.cq_ask.specs.Projects.{keys_in_files, IsReady};
 
 use crate::PassBuckets;
 use cq_base::{Change, Entry, Lang, Memory, Settings, Text};
-use cq_board::{Finished, ProjectFiles, Refused, View};
+use cq_board::{Finished, Refused, View};
+use cq_projects::ProjectFiles;
 use cq_groups::Buckets;
 use cq_hub::{Hub, Solo};
 use cq_shard::Indexed;

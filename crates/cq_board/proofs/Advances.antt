@@ -19,10 +19,11 @@ use Rattle.cq_board.specs.Related.{IsSameFile, AreSameFiles}
 use Rattle.cq_board.specs.declared.kept.Kept.{Kept}
 use Rattle.cq_board.specs.Slots.{slot_from, change_of}
 use Rattle.cq_board.specs.Boards.{changes_from}
-use Rattle.cq_board.specs.Listings.{name_in, path_of, number_at, files_in, conditions_in, listed, IsListing, ListedProject}
-use Rattle.cq_board.specs.Ordered.{AreRising}
+use Rattle.cq_board.specs.Listings.{listed, IsListing}
+use Rattle.cq_projects.specs.Projects.{name_in, path_of, number_at, files_in, conditions_in, ListedProject}
+use Rattle.cq_projects.specs.Ordered.{AreRising}
 use Rattle.cq_board.proofs.Living.{live_put, live_drop, live_gate}
-use Rattle.cq_board.proofs.OwnerLists.{rising_same}
+use Rattle.cq_projects.proofs.OwnerLists.{rising_same}
 use Rattle.cq_board.proofs.Related.{same_with, same_without}
 
 next_files : (changes : List Change) (c : Change) (number : ℕ) (q : List ℕ) → length changes + 1 ≡ number → files_of q (changes ++ c ∷ []) ≡ files_after q number (files_of q changes) c

@@ -14,8 +14,9 @@ use Rattle.cq_history.specs.Standing.{Has, AreInPathOrder, IsLastPut}
 use Rattle.cq_history.proofs.PathOrder.{insert_has}
 use Rattle.cq_history.proofs.Prefixes.{files_of_push}
 use Rattle.cq_history.proofs.Standing.{still_last, was_last, files_stand}
-use Rattle.cq_board.specs.Listings.{number_at, IsLive}
-use Rattle.cq_board.proofs.Putting.{below_apart}
+use Rattle.cq_board.specs.Listings.{IsLive}
+use Rattle.cq_projects.specs.Projects.{number_at}
+use Rattle.cq_projects.proofs.Putting.{below_apart}
 
 -- ---- the number at a path
 

@@ -13,14 +13,16 @@ use Rattle.cq_history.specs.Files.{File, Source, is_before, files_of}
 use Rattle.cq_history.specs.Standing.{Has, AreInPathOrder, IsLastPut}
 use Rattle.cq_history.proofs.Standing.{files_stand}
 use Rattle.cq_board.specs.Related.{AreSameFiles}
-use Rattle.cq_board.specs.declared.projects.ProjectEdit.{ProjectEdit}
-use Rattle.cq_board.specs.declared.projects.ProjectEdit.TheVariants as edit
-use Rattle.cq_board.specs.Edits.{IsEditFor, IsNewer}
-use Rattle.cq_board.specs.Listings.{Listed, IsListing, ListedProject, name_in, files_in}
-use Rattle.cq_board.specs.Ordered.{AreRising}
-use Rattle.cq_board.specs.Spotted.{AreApart, AreOlder, numbers_of}
+use Rattle.cq_projects.specs.declared.projects.ProjectEdit.{ProjectEdit}
+use Rattle.cq_projects.specs.declared.projects.ProjectEdit.TheVariants as edit
+use Rattle.cq_board.specs.Edits.{IsEditFor}
+use Rattle.cq_projects.specs.Edits.{IsNewer}
+use Rattle.cq_board.specs.Listings.{Listed, IsListing}
+use Rattle.cq_projects.specs.Projects.{ListedProject, name_in, files_in}
+use Rattle.cq_projects.specs.Ordered.{AreRising}
+use Rattle.cq_projects.specs.Spotted.{AreApart, AreOlder, numbers_of}
 use Rattle.cq_board.proofs.Living.{live_within, one_place}
-use Rattle.cq_board.proofs.Putting.{before_apart, below_apart}
+use Rattle.cq_projects.proofs.Putting.{before_apart, below_apart}
 
 abbrev source_numbers : List Source → List ℕ
 source_numbers files = map (λ (f : Source). f.number) files

@@ -4,9 +4,9 @@ use Rattle.std.specs.Arc.{arc_value}
 use Rattle.std.specs.declared.sync.Arc.{Arc}
 use Rattle.std.proofs.Math.Seq.{get_or-append_seam}
 use Rattle.std.proofs.lemmas.Slice.Eq.{bytes_eq-Decides}
-use Rattle.cq_board.specs.Listings.{owner_name, files_in, conditions_in, ListedProject}
-use Rattle.cq_board.specs.Ordered.{AreBelow, AreAbove, IsAt, IsGap}
-use Rattle.cq_board.proofs.Putting.{below_apart, above_apart}
+use Rattle.cq_projects.specs.Projects.{owner_name, files_in, conditions_in, ListedProject}
+use Rattle.cq_projects.specs.Ordered.{AreBelow, AreAbove, IsAt, IsGap}
+use Rattle.cq_projects.proofs.Putting.{below_apart, above_apart}
 
 module _ {W : Type 0} (name : List ℕ) where
   found_files : (a b : List (Arc (ListedProject W) Global)) (x : Arc (ListedProject W) Global) → AreBelow owner_name name a → owner_name x ≡ name → files_in (map arc_value (a ++ x ∷ b)) name ≡ (arc_value x).files

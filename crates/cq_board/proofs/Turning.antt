@@ -19,11 +19,13 @@ use Rattle.cq_history.specs.Files.{File, files_of, with_file, without_file}
 use Rattle.cq_base.proofs.Bools.{cond-same}
 use Rattle.cq_shard.proofs.Entries.{any_of, from_filter, to_filter}
 use Rattle.cq_board.specs.Related.{IsSameFile, AreSameFiles}
-use Rattle.cq_board.specs.declared.projects.ProjectEdit.{ProjectEdit}
-use Rattle.cq_board.specs.declared.projects.ProjectEdit.TheVariants as edit
-use Rattle.cq_board.specs.Edits.{edited_files, edited_conditions, replaced_by, IsEditFor, project_named, put_by}
-use Rattle.cq_board.specs.Listings.{Listed, listed, name_in, number_at, files_in, conditions_in, HaveSame, AreLive, IsListing, ListedProject}
-use Rattle.cq_board.specs.Ordered.{AreRising}
+use Rattle.cq_projects.specs.declared.projects.ProjectEdit.{ProjectEdit}
+use Rattle.cq_projects.specs.declared.projects.ProjectEdit.TheVariants as edit
+use Rattle.cq_board.specs.Edits.{IsEditFor, project_named, put_by}
+use Rattle.cq_projects.specs.Edits.{edited_files, edited_conditions, replaced_by}
+use Rattle.cq_board.specs.Listings.{Listed, listed, HaveSame, AreLive, IsListing}
+use Rattle.cq_projects.specs.Projects.{name_in, number_at, files_in, conditions_in, ListedProject}
+use Rattle.cq_projects.specs.Ordered.{AreRising}
 use Rattle.cq_board.specs.Turnover.{IsNext, AddsChange, left, from_option}
 use Rattle.cq_board.proofs.Numbers.{rising-from_pairs, rising_push}
 use Rattle.cq_board.proofs.Living.{live_within, numbered_live}
@@ -32,10 +34,6 @@ use Rattle.cq_board.proofs.Advances.{number_here, advance_put, advance_drop, adv
 pub always_err : {T E : Type 0} {P : Type 0} (r : Result T E) → P → OnErr r P
 always_err (Ok x) h = tt
 always_err (Err e) h = h
-
-pub ok_both : {T E P Q R : Type 0} (r : Result T E) → (P → Q → R) → OnOk r P → OnOk r Q → OnOk r R
-ok_both (Ok x) f a b = f a b
-ok_both (Err e) f a b = tt
 
 -- ---- what is left
 

@@ -1,14 +1,11 @@
 pub mod Answers
 pub mod Boards
-pub mod Drafts
 pub mod Edits
 pub mod Entries
 pub mod Listings
-pub mod Ordered
 pub mod Presence
 pub mod Related
 pub mod Slots
-pub mod Spotted
 pub mod Sound
 pub mod Stands
 pub mod Turnover

@@ -5,7 +5,7 @@ use Rattle.std.specs.Str.{IsUtf8}
 use Rattle.cq_base.specs.Changes.{IsSoundChange}
 use Rattle.cq_history.specs.State.{State, changes_in}
 use Rattle.cq_board.specs.declared.answers.Job.{Job}
-use Rattle.cq_board.specs.Listings.{conditions_in, ListedProject}
+use Rattle.cq_projects.specs.Projects.{conditions_in, ListedProject}
 
 -- each accepted change is sound
 abbrev pub AreSound : State → Type 0

@@ -4,7 +4,8 @@ use Rattle.std.specs.List.{list_any}
 use Rattle.std.specs.List.Sorted.{IsStrictlyIncreasing}
 use Rattle.cq_base.specs.declared.lang.Lang.{Lang}
 use Rattle.cq_base.specs.declared.change.Change.{Change}
-use Rattle.cq_board.specs.Listings.{IsListing, ListedProject}
+use Rattle.cq_board.specs.Listings.{IsListing}
+use Rattle.cq_projects.specs.Projects.{ListedProject}
 use Rattle.cq_board.specs.Edits.{put_by}
 
 abbrev pub from_option : Option ℕ → List ℕ

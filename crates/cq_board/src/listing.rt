@@ -7,17 +7,18 @@ ghost use Rattle.cq_history.specs.State.{is_done};
 ghost use Rattle.cq_board.specs.Slots.{slot_from, change_of, IsWorked};
 ghost use Rattle.cq_board.specs.Boards.{changes_from};
 ghost use Rattle.cq_board.specs.Edits.{IsEditFor, project_named, put_by};
-ghost use Rattle.cq_board.specs.Ordered.{AreRising};
-ghost use Rattle.cq_board.specs.Listings.{IsListing, HaveSame, owner_name, projects_in, files_in, conditions_in};
+ghost use Rattle.cq_projects.specs.Ordered.{AreRising};
+ghost use Rattle.cq_board.specs.Listings.{IsListing, HaveSame};
+ghost use Rattle.cq_projects.specs.Projects.{owner_name, projects_in, files_in, conditions_in};
 ghost use Rattle.cq_board.specs.Turnover.{IsNext, IsBefore, AddsChange, from_option};
 
-use crate::draft::{Draft, drafts_of, edit_draft, finished_all};
-use crate::held::{Held, Project};
 use crate::kept::{Kept, Stored};
 use crate::live::{Turnover, note, turn, turn_one};
-use crate::project_files::ProjectFiles;
-use crate::projects::{ProjectEdit, edit_in, find};
 use cq_base::{Condition, Memory, Settings, Text};
+use cq_projects::{
+    Draft, Held, Project, ProjectEdit, ProjectFiles, drafts_of, edit_draft, edit_in, find_project,
+    finished_all,
+};
 use cq_shard::Indexed;
 use std::alloc::Global;
 use std::marker::Model;
@@ -36,8 +37,9 @@ pub struct Listing<W> {
 impl<W> Model for Listing<W> {
     ghost use Rattle.std.specs.Prelude.{◌≡◌, [], map};
     ghost use Rattle.std.specs.Arc.{arc_value};
-    ghost use Rattle.cq_board.specs.Ordered.{AreRising};
-    ghost use Rattle.cq_board.specs.Listings.{Listed, owner_name};
+    ghost use Rattle.cq_projects.specs.Ordered.{AreRising};
+    ghost use Rattle.cq_board.specs.Listings.{Listed};
+    ghost use Rattle.cq_projects.specs.Projects.{owner_name};
 
     ghost Value = { Listed W };
 
@@ -62,7 +64,7 @@ impl<W> Listing<W> {
     pub fn project(&self, name: &Text) -> &ProjectFiles<W>
         ensures { result.now ≡ files_in self.now.projects name.now }
     {
-        match find(&self.projects, name) {
+        match find_project(&self.projects, name) {
             Ok(i) => &self.projects[i].files,
             Err(_) => &self.no_files,
         }
@@ -72,7 +74,7 @@ impl<W> Listing<W> {
     pub fn files(&self, project: &Text) -> &[Arc<Held<W>, Global>]
         ensures { map arc_value result.now ≡ files_in self.now.projects project.now }
     {
-        match find(&self.projects, project) {
+        match find_project(&self.projects, project) {
             Ok(i) => self.projects[i].files.items(),
             Err(_) => &[],
         }
@@ -82,7 +84,7 @@ impl<W> Listing<W> {
     pub fn conditions(&self, project: &Text) -> &[Condition]
         ensures { result.now ≡ conditions_in self.now.projects project.now }
     {
-        match find(&self.projects, project) {
+        match find_project(&self.projects, project) {
             Ok(i) => match &self.projects[i].conditions {
                 Some(conditions) => conditions.as_slice(),
                 None => &[],

@@ -12,9 +12,9 @@ use Rattle.cq_base.specs.declared.change.Condition.{Condition}
 use Rattle.cq_base.specs.declared.entry.Entry.{Entry}
 use Rattle.cq_base.specs.declared.settings.Settings.{Settings}
 use Rattle.cq_board.specs.Entries.{AreEntriesAt}
-use Rattle.cq_board.specs.Listings.{files_in, conditions_in}
+use Rattle.cq_projects.specs.Projects.{files_in, conditions_in}
 use Rattle.cq_board.specs.Related.{AreSameFiles}
-use Rattle.cq_board.specs.Spotted.{numbers_of}
+use Rattle.cq_projects.specs.Spotted.{numbers_of}
 use Rattle.cq_board.specs.declared.listing.View.{View}
 use Rattle.cq_clones.specs.Windows.{IsBucket}
 use Rattle.cq_core.specs.Cores.{CoreState}

@@ -7,7 +7,7 @@ use Rattle.cq_base.specs.Changes.{IsSoundChange}
 use Rattle.cq_base.specs.declared.change.Change.{Change}
 use Rattle.cq_base.specs.declared.change.Condition.{Condition}
 use Rattle.cq_base.specs.declared.settings.Settings.{Settings}
-use Rattle.cq_board.specs.Listings.{files_in, conditions_in}
+use Rattle.cq_projects.specs.Projects.{files_in, conditions_in}
 use Rattle.cq_board.specs.Related.{AreSameFiles}
 use Rattle.cq_board.specs.declared.listing.View.{View}
 use Rattle.cq_history.specs.declared.event.Event.{Event}

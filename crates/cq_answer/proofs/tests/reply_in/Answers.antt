@@ -5,9 +5,9 @@ use Rattle.cq_answer.specs.declared.tests.TheConstants.{SETTINGS, CONDITIONS}
 use Rattle.cq_answer.specs.Versions.{HaveVersion}
 use Rattle.cq_answer.specs.Works.{Owner, work_in, works_in}
 use Rattle.cq_answer.proofs.OneFile.{one_file, one_rising, one_apart}
-use Rattle.cq_board.specs.Listings.{path_of}
-use Rattle.cq_board.specs.Ordered.{AreRising}
-use Rattle.cq_board.specs.Spotted.{numbers_of}
+use Rattle.cq_projects.specs.Projects.{path_of}
+use Rattle.cq_projects.specs.Ordered.{AreRising}
+use Rattle.cq_projects.specs.Spotted.{numbers_of}
 use Rattle.cq_history.specs.Files.{File}
 use Rattle.cq_work.specs.declared.work.Work.{Work}
 use Rattle.cq_answer.proofs.tests.reply_in.Goals as goal

@@ -1,5 +1,5 @@
 use Rattle.std.proofs.Common.{◌∙◌}
-use Rattle.cq_board.specs.Spotted.{numbers_of}
+use Rattle.cq_projects.specs.Spotted.{numbers_of}
 use Rattle.cq_ask.proofs.ProjectEntries.{among_positions}
 use Rattle.cq_ask.proofs.project.is_among.Goals as goal
 

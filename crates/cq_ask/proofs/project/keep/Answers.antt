@@ -1,7 +1,7 @@
 use Rattle.std.proofs.Common.{rules, nat_eq}
 use Rattle.std.specs.List.{list_any}
 use Rattle.std.proofs.lemmas.Fn.{filter_same}
-use Rattle.cq_board.specs.Spotted.{numbers_of}
+use Rattle.cq_projects.specs.Spotted.{numbers_of}
 use Rattle.cq_ask.proofs.project.keep.Goals as goal
 
 pub returns : goal.returns

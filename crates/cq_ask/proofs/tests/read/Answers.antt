@@ -1,7 +1,7 @@
 use Rattle.std.proofs.Common.{[], ◌∷◌, ◌++◌, refl, sym, ap, ◌∙◌, subst, append-nil}
 use Rattle.std.specs.Prelude.{IsSome}
 use Rattle.cq_history.specs.declared.event.Event.TheVariants as event
-use Rattle.cq_board.specs.Listings.{files_in}
+use Rattle.cq_projects.specs.Projects.{files_in}
 use Rattle.cq_hub.specs.Hubs.{IsPublication, Never}
 use Rattle.cq_hub.proofs.Following.{view_then, latest_opened}
 use Rattle.cq_hub.proofs.Staying.{closed_stays}

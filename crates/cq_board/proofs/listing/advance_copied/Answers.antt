@@ -1,9 +1,10 @@
 use Rattle.std.proofs.Common.{take, subst}
 use Rattle.std.specs.Arc.{arc_value}
 use Rattle.cq_board.specs.Boards.{changes_from}
-use Rattle.cq_board.specs.Listings.{Listed, projects_in}
+use Rattle.cq_board.specs.Listings.{Listed}
+use Rattle.cq_projects.specs.Projects.{projects_in}
 use Rattle.cq_board.specs.Turnover.{IsNext}
-use Rattle.cq_board.proofs.OwnerLists.{rising_owners}
+use Rattle.cq_projects.proofs.OwnerLists.{rising_owners}
 use Rattle.cq_board.proofs.Turning.{next_installed}
 use Rattle.cq_board.proofs.listing.advance_copied.Goals as goal
 

@@ -3,9 +3,10 @@ use Rattle.std.specs.Prelude.{◌↔◌, Contains}
 use Rattle.std.specs.List.Sorted.{IsStrictlyIncreasing}
 use Rattle.cq_board.specs.Slots.{change_of}
 use Rattle.cq_board.specs.Edits.{put_by}
-use Rattle.cq_board.specs.Listings.{IsListing, listed, projects_in}
+use Rattle.cq_board.specs.Listings.{IsListing, listed}
+use Rattle.cq_projects.specs.Projects.{projects_in}
 use Rattle.cq_board.specs.Turnover.{from_option}
-use Rattle.cq_board.proofs.OwnerLists.{rising_projects}
+use Rattle.cq_projects.proofs.OwnerLists.{rising_projects}
 use Rattle.cq_board.proofs.Turning.{always_err, next_first, next_listed, listing_same}
 use Rattle.cq_board.proofs.listing.advance_own.Goals as goal
 

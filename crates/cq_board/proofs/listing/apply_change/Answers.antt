@@ -1,9 +1,10 @@
 use Rattle.std.proofs.Common.{◌++◌}
 use Rattle.std.specs.Arc.{arc_value}
 use Rattle.cq_board.specs.Slots.{change_of}
-use Rattle.cq_board.specs.Listings.{listed, projects_in}
+use Rattle.cq_board.specs.Listings.{listed}
+use Rattle.cq_projects.specs.Projects.{projects_in}
 use Rattle.cq_board.specs.Turnover.{left}
-use Rattle.cq_board.proofs.OwnerLists.{rising_owners, rising_projects}
+use Rattle.cq_projects.proofs.OwnerLists.{rising_owners, rising_projects}
 use Rattle.cq_board.proofs.Newer.{newer_edit}
 use Rattle.cq_board.proofs.Turning.{edit_adds}
 use Rattle.cq_board.proofs.listing.apply_change.Goals as goal

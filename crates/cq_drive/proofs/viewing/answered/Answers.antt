@@ -1,5 +1,6 @@
 use Rattle.std.proofs.Common.{List, ℕ, refl, sym, ap, ◌∙◌, subst}
-use Rattle.cq_board.specs.Listings.{Listed, files_in, conditions_in}
+use Rattle.cq_board.specs.Listings.{Listed}
+use Rattle.cq_projects.specs.Projects.{files_in, conditions_in}
 use Rattle.cq_work.specs.declared.work.Work.{Work}
 use Rattle.cq_drive.proofs.InView.{have_version, in_view, was_answered}
 use Rattle.cq_drive.proofs.viewing.answered.Goals as goal

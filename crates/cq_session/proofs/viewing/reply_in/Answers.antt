@@ -4,7 +4,8 @@ use Rattle.std.proofs.lemmas.Result.{IfOk-weaker}
 use Rattle.cq_answer.specs.Reply.{IsReply}
 use Rattle.cq_ask.specs.Moves.{Moves}
 use Rattle.cq_base.specs.declared.settings.Settings.{Settings}
-use Rattle.cq_board.specs.Listings.{Listed, files_in, conditions_in}
+use Rattle.cq_board.specs.Listings.{Listed}
+use Rattle.cq_projects.specs.Projects.{files_in, conditions_in}
 use Rattle.cq_history.specs.State.{accepted}
 use Rattle.cq_work.specs.Work.{IsWorkOf}
 use Rattle.cq_work.specs.declared.work.Work.{Work}

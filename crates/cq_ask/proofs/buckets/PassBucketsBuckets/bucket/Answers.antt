@@ -1,6 +1,6 @@
 use Rattle.std.proofs.Common.{refl, sym, subst, arith}
 use Rattle.cq_clones.specs.Windows.{IsBucket}
-use Rattle.cq_board.specs.Spotted.{numbers_of}
+use Rattle.cq_projects.specs.Spotted.{numbers_of}
 use Rattle.cq_ask.specs.Projects.{keys_in_files}
 use Rattle.cq_ask.proofs.PassReads.{read_later, ready_again, open_again, open_files}
 use Rattle.cq_ask.proofs.ProjectEntries.{project_bucket}

@@ -2,8 +2,9 @@ use Rattle.std.proofs.Common.{List, [], Global, ap, sym, subst, ◌∙◌}
 use Rattle.std.specs.Prelude.{option_map, unwrap_or}
 use Rattle.std.specs.Arc.{arc_value}
 use Rattle.std.specs.declared.sync.Arc.{Arc}
-use Rattle.cq_board.specs.Listings.{Listed, owner_name, conditions_in, ListedProject}
-use Rattle.cq_board.specs.Ordered.{IsAt, IsGap}
+use Rattle.cq_board.specs.Listings.{Listed}
+use Rattle.cq_projects.specs.Projects.{owner_name, conditions_in, ListedProject}
+use Rattle.cq_projects.specs.Ordered.{IsAt, IsGap}
 use Rattle.cq_board.proofs.Reading.{gate_found, gate_absent}
 use Rattle.cq_board.proofs.listing.Listing.conditions.Goals as goal
 

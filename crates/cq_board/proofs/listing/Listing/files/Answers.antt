@@ -1,7 +1,8 @@
 use Rattle.std.proofs.Common.{List, Global, ap, subst, ◌∙◌}
 use Rattle.std.specs.declared.sync.Arc.{Arc}
-use Rattle.cq_board.specs.Listings.{Listed, owner_name, files_in, ListedProject}
-use Rattle.cq_board.specs.Ordered.{IsAt, IsGap}
+use Rattle.cq_board.specs.Listings.{Listed}
+use Rattle.cq_projects.specs.Projects.{owner_name, files_in, ListedProject}
+use Rattle.cq_projects.specs.Ordered.{IsAt, IsGap}
 use Rattle.cq_board.proofs.Reading.{files_found, files_absent}
 use Rattle.cq_board.proofs.listing.Listing.files.Goals as goal
 

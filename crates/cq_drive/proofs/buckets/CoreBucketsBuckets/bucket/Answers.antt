@@ -1,7 +1,7 @@
 use Rattle.std.proofs.Common.{◌%◌, sym, subst}
 use Rattle.std.specs.Prelude.{IfSome}
 use Rattle.cq_ask.specs.Projects.{keys_in_files}
-use Rattle.cq_board.specs.Spotted.{numbers_of}
+use Rattle.cq_projects.specs.Spotted.{numbers_of}
 use Rattle.cq_clones.specs.Windows.{IsBucket}
 use Rattle.cq_core.specs.Readings.{AreRead}
 use Rattle.cq_work.specs.Work.{IsWorkOf}

@@ -1,0 +1,64 @@
+-- What the changes of a batch make of a project's files: at each path that they name stands a file, or none.
+use Rattle.std.specs.Prelude.{◌≡◌, ℕ, ◌+◌, List, [], ◌∷◌, ◌++◌, length, IfSome, Option, None, Some}
+use Rattle.std.specs.Arc.{arc_value}
+use Rattle.std.specs.List.{AllByRecursion}
+use Rattle.std.specs.declared.sync.Arc.{Arc}
+use Rattle.std.specs.declared.alloc.Global.{Global}
+use Rattle.cq_history.specs.Files.{File, with_file, without_file}
+use Rattle.cq_projects.specs.Projects.{ListedProject, path_of}
+use Rattle.cq_projects.specs.Ordered.{AreAbove, AreBelow}
+
+module _ {W : Type 0} where
+  -- the files with what stands at a path: a file, or none
+  abbrev pub edited_at : List ℕ → Option (Arc (File W) Global) → List (File W) → List (File W)
+  edited_at p None files = without_file p files
+  edited_at p (Some held) files = with_file (arc_value held) files
+
+  -- the files with what stands at each of these paths
+  abbrev pub edited_all : List (Arc (List ℕ) Global × Option (Arc (File W) Global)) → List (File W) → List (File W)
+  edited_all [] files = files
+  edited_all (e ∷ es) files = edited_at (arc_value e.0) e.1 (edited_all es files)
+
+  -- the file, if there is one, is at the path
+  abbrev pub IsOwn : List ℕ → Option (Arc (File W) Global) → Type 0
+  IsOwn p file = IfSome file (λ held. (arc_value held).path ≡ p)
+
+  abbrev pub AreOwn : List (Arc (List ℕ) Global × Option (Arc (File W) Global)) → Type 0
+  AreOwn es = AllByRecursion (λ (e : Arc (List ℕ) Global × Option (Arc (File W) Global)). IsOwn (arc_value e.0) e.1) es
+
+  -- the number of the change that put the file
+  abbrev pub number_in : Arc (File W) Global → ℕ
+  number_in held = (arc_value held).number
+
+  -- another file, or none, stands at the path
+  pub record IsSetAt (p : List ℕ) (file : Option (Arc (File W) Global)) (old new : ListedProject W) : Type 0 where
+    pub name : new.name ≡ old.name
+    pub files : new.files ≡ edited_at p file old.files
+    pub conditions : new.conditions ≡ old.conditions
+
+  abbrev pub one_or_none : Option (Arc (File W) Global) → List (File W)
+  one_or_none None = []
+  one_or_none (Some held) = arc_value held ∷ []
+
+  -- Files in path order are cut at a path: so many are before it, and so many with the one that is there.
+  pub record IsCut (p : List ℕ) (files : List (File W)) (before behind : ℕ) : Type 0 where
+    pub low : List (File W)
+    pub same : List (File W)
+    pub high : List (File W)
+    pub is : files ≡ low ++ (same ++ high)
+    pub before_is : length low ≡ before
+    pub behind_is : length low + length same ≡ behind
+    pub low_below : AreBelow path_of p low
+    pub same_at : AllByRecursion (λ (f : File W). f.path ≡ p) same
+    pub high_above : AreAbove path_of p high
+
+  -- Behind the files that are done come those of the rest before the path, and what stands there; what is left are those
+  -- behind it.
+  pub record Merges (p : List ℕ) (file : Option (Arc (File W) Global)) (done now rest left : List (File W)) : Type 0 where
+    pub low : List (File W)
+    pub same : List (File W)
+    pub is : rest ≡ low ++ (same ++ left)
+    pub now_is : now ≡ done ++ (low ++ one_or_none file)
+    pub low_below : AreBelow path_of p low
+    pub same_at : AllByRecursion (λ (f : File W). f.path ≡ p) same
+    pub left_above : AreAbove path_of p left

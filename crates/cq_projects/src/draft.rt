@@ -1,0 +1,234 @@
+//! The next listing while a batch of changes is gathered: what stands at each path that the batch names is kept beside
+//! each project, and made in its list at once, in path order.
+ghost use Rattle.std.specs.Prelude.{◌≡◌, ◌<◌, ℕ, List, All, length, map, option_map, IfOk, IfErr, OnOk, if◌then◌else◌};
+ghost use Rattle.std.specs.Arc.{arc_value};
+ghost use Rattle.std.specs.Ordering.{nat_cmp};
+ghost use Rattle.std.specs.Cmp.Lexicographic.{slice_cmp};
+ghost use Rattle.std.specs.Str.{bytes_eq};
+ghost use Rattle.cq_projects.specs.Drafts.{IsOwn, IsSetAt, number_in};
+ghost use Rattle.cq_projects.specs.Spotted.{AreApart};
+ghost use Rattle.cq_projects.specs.Edits.{edited_files, edited_conditions, replaced_by};
+ghost use Rattle.cq_projects.specs.Projects.{number_at, name_in, files_in, conditions_in, position_of};
+ghost use Rattle.cq_projects.specs.Ordered.{AreRising, IsAt, IsGap};
+
+use crate::files::number_of;
+use crate::held::{Held, Project};
+use crate::merging::merged;
+use crate::project_files::ProjectFiles;
+use crate::projects::ProjectEdit;
+use cq_base::{Conditions, Memory, Text};
+use std::alloc::Global;
+use std::cmp::Ordering;
+use std::collections::BTreeMap;
+use std::marker::Model;
+use std::sync::Arc;
+
+/// A project of the next listing: what it was, the file that stands at each path that the batch names, none where its last
+/// change there drops it, and the conditions where the batch sets them.
+#[derive(Drop)]
+pub struct Draft<W> {
+    project: Arc<Project<W>, Global>,
+    paths: BTreeMap<Arc<Text, Global>, Option<Arc<Held<W>, Global>>>,
+    conditions: Option<Arc<Conditions, Global>>,
+}
+
+impl<W> Model for Draft<W> {
+    ghost use Rattle.std.specs.Prelude.{option_map, unwrap_or};
+    ghost use Rattle.std.specs.Arc.{arc_value};
+    ghost use Rattle.cq_projects.specs.Drafts.{edited_all, AreOwn};
+    ghost use Rattle.cq_projects.specs.Projects.{ListedProject};
+
+    ghost Value = { ListedProject W };
+
+    ghost view = { λ d. record { name = (arc_value d.project).name; files = edited_all d.paths.entries (arc_value d.project).files; conditions = unwrap_or (option_map arc_value d.conditions) (arc_value d.project).conditions } };
+
+    ghost invariant = { λ d. AreOwn d.paths.entries };
+}
+
+impl<W: Drop> Draft<W> {
+    // The draft of a project that did not change yet.
+    fn of(alloc: Global, project: Arc<Project<W>, Global>) -> Draft<W>
+        ensures { result ≡ arc_value project }
+    {
+        Draft {
+            project,
+            paths: BTreeMap::new(alloc),
+            conditions: None,
+        }
+    }
+
+    // Sets what stands at a path, and answers the change whose file that replaces or drops, if there was one.
+    fn set(
+        &mut self,
+        path: Arc<Text, Global>,
+        file: Option<Arc<Held<W>, Global>>,
+    ) -> Result<Option<u64>, Memory>
+        requires { IsOwn (arc_value path) file }
+        ensures set { OnOk result (IsSetAt (arc_value path) file self.old self.new) }
+        ensures number { IfOk result (λ number. number ≡ number_at (arc_value path) self.old.files) }
+    {
+        let before = number_of(self.project.files.items(), &path);
+        match self.paths.insert(path, file)? {
+            Some(replaced) => Ok(change_in(replaced)),
+            None => Ok(before),
+        }
+    }
+
+    // Edits it, and answers the change whose file that replaces or drops, if there was one.
+    fn edit(&mut self, edit: ProjectEdit<W>) -> Result<Option<u64>, Memory>
+        ensures name { OnOk result (self.new.name ≡ self.old.name) }
+        ensures files { OnOk result (self.new.files ≡ edited_files edit self.old.files) }
+        ensures conditions { OnOk result (self.new.conditions ≡ edited_conditions edit self.old.conditions) }
+        ensures number { IfOk result (λ n. n ≡ replaced_by edit self.old.files) }
+    {
+        match edit {
+            ProjectEdit::Put(held) => {
+                let path = Arc::try_clone(&held.path)?;
+                self.set(path, Some(held))
+            }
+            ProjectEdit::Drop(path) => self.set(path, None),
+            ProjectEdit::Gate(conditions) => {
+                self.conditions = Some(conditions);
+                Ok(None)
+            }
+        }
+    }
+
+    // The project with what the batch makes of it: the same one where it changes nothing.
+    fn finished(self, alloc: Global) -> Result<Arc<Project<W>, Global>, Memory>
+        requires apart { AreApart self }
+        ensures { IfOk result (λ project. arc_value project ≡ self) }
+    {
+        let Draft {
+            project,
+            paths,
+            conditions,
+        } = self;
+        if paths.is_empty() && conditions.is_none() {
+            return Ok(project);
+        }
+        let files = merged(alloc, project.files.items(), paths)?;
+        let files = ProjectFiles::gathered(alloc, files)?;
+        let name = Arc::try_clone(&project.name)?;
+        let conditions = match conditions {
+            Some(conditions) => Some(conditions),
+            None => match &project.conditions {
+                Some(conditions) => Some(Arc::try_clone(conditions)?),
+                None => None,
+            },
+        };
+        Ok(Arc::new(
+            alloc,
+            Project {
+                name,
+                files,
+                conditions,
+            },
+        )?)
+    }
+}
+
+// The change that put a file, if there is one.
+fn change_in<W: Drop>(file: Option<Arc<Held<W>, Global>>) -> Option<u64>
+    ensures { result ≡ option_map number_in file }
+{
+    match file {
+        Some(held) => Some(held.change),
+        None => None,
+    }
+}
+
+/// The drafts of projects that did not change yet, an owner more for each project.
+pub fn drafts_of<W: Drop>(
+    alloc: Global,
+    projects: &[Arc<Project<W>, Global>],
+) -> Result<Vec<Draft<W>>, Memory>
+    ensures { IfOk result (λ drafts. drafts.items ≡ map arc_value projects.now) }
+{
+    let mut drafts = Vec::with_capacity(alloc, projects.len())?;
+    for project in projects {
+        let project = Arc::try_clone(project)?;
+        drafts.push(Draft::of(alloc, project))?;
+    }
+    Ok(drafts)
+}
+
+/// The projects with what the batch makes of them.
+pub fn finished_all<W: Drop>(
+    alloc: Global,
+    drafts: Vec<Draft<W>>,
+) -> Result<Vec<Arc<Project<W>, Global>>, Memory>
+    requires apart { All AreApart drafts.items }
+    ensures { IfOk result (λ projects. map arc_value projects.items ≡ drafts.items) }
+{
+    let mut projects = Vec::with_capacity(alloc, drafts.len())?;
+    for draft in drafts {
+        projects.push(draft.finished(alloc)?)?;
+    }
+    Ok(projects)
+}
+
+// How the draft's name compares, byte by byte.
+fn compare<W>(draft: &Draft<W>, name: &Text) -> Ordering
+    ensures { result ≡ slice_cmp nat_cmp (name_in draft.now) name.now }
+{
+    draft.project.name.as_bytes().cmp(name.as_bytes())
+}
+
+// Where the draft is among others in the order of their names, or where it belongs.
+fn find<W>(drafts: &[Draft<W>], name: &Text) -> Result<usize, usize>
+    requires { AreRising name_in drafts.now }
+    ensures found { IfOk result (IsAt name_in name.now drafts.now) }
+    ensures gap { IfErr result (IsGap name_in name.now drafts.now) }
+{
+    drafts.binary_search_by(|draft| compare(draft, name))
+}
+
+// The index of the draft of this name, which is added where it is not there.
+fn draft_at<W: Drop>(
+    alloc: Global,
+    drafts: &mut Vec<Draft<W>>,
+    name: &Arc<Text, Global>,
+) -> Result<usize, Memory>
+    requires { AreRising name_in drafts.old.items }
+    ensures names { AreRising name_in drafts.new.items }
+    ensures first { IfOk result (λ i. i ≡ position_of (arc_value name.now) drafts.new.items) }
+    ensures within { IfOk result (λ i. i < length drafts.new.items) }
+    ensures files { (q : List ℕ) → files_in drafts.new.items q ≡ files_in drafts.old.items q }
+    ensures conditions { (q : List ℕ) → conditions_in drafts.new.items q ≡ conditions_in drafts.old.items q }
+{
+    match find(drafts, name) {
+        Ok(i) => Ok(i),
+        Err(i) => {
+            let name = Arc::try_clone(name)?;
+            let project = Arc::new(
+                alloc,
+                Project {
+                    name,
+                    files: ProjectFiles::new(alloc),
+                    conditions: None,
+                },
+            )?;
+            drafts.insert(i, Draft::of(alloc, project))?;
+            Ok(i)
+        }
+    }
+}
+
+/// Edits the draft of a name, and answers the change whose file that replaces or drops, if there was one. It costs a search
+/// among the drafts, one among the project's files, and one among the paths that the batch names.
+pub fn edit_draft<W: Drop>(
+    alloc: Global,
+    drafts: &mut Vec<Draft<W>>,
+    name: &Arc<Text, Global>,
+    edit: ProjectEdit<W>,
+) -> Result<Option<u64>, Memory>
+    requires { AreRising name_in drafts.old.items }
+    ensures names { OnOk result (AreRising name_in drafts.new.items) }
+    ensures number { IfOk result (λ n. n ≡ replaced_by edit (files_in drafts.old.items (arc_value name.now))) }
+    ensures files { OnOk result ((q : List ℕ) → files_in drafts.new.items q ≡ (if bytes_eq q (arc_value name.now) then edited_files edit (files_in drafts.old.items q) else files_in drafts.old.items q)) }
+    ensures conditions { OnOk result ((q : List ℕ) → conditions_in drafts.new.items q ≡ (if bytes_eq q (arc_value name.now) then edited_conditions edit (conditions_in drafts.old.items q) else conditions_in drafts.old.items q)) }
+{
+    let i = draft_at(alloc, drafts, name)?;
+    drafts[i].edit(edit)
+}

@@ -1,0 +1,81 @@
+ghost use Rattle.std.specs.Prelude.{◌≡◌, ◌<◌, ◌≤◌, ◌++◌, IfOk, IfErr, OnOk, insert, map};
+ghost use Rattle.std.specs.Arc.{arc_value};
+ghost use Rattle.std.specs.Vec.{vec_len, vec_capacity};
+ghost use Rattle.std.specs.Ordering.{nat_cmp};
+ghost use Rattle.std.specs.Cmp.Lexicographic.{slice_cmp};
+ghost use Rattle.cq_projects.specs.Ordered.{AreRising, IsAt, IsGap};
+ghost use Rattle.cq_projects.specs.Projects.{path_in, path_of, number_at};
+
+use crate::held::Held;
+use cq_base::{Memory, Text};
+use std::alloc::Global;
+use std::cmp::Ordering;
+use std::sync::Arc;
+
+// How the file's path compares, byte by byte.
+fn compare<W>(held: &Arc<Held<W>, Global>, path: &Text) -> Ordering
+    ensures { result ≡ slice_cmp nat_cmp (path_in held.now) path.now }
+{
+    held.path.as_bytes().cmp(path.as_bytes())
+}
+
+/// Where the path is among files in path order, or where it belongs.
+pub fn find<W>(files: &[Arc<Held<W>, Global>], path: &Text) -> Result<usize, usize>
+    requires { AreRising path_in files.now }
+    ensures found { IfOk result (IsAt path_in path.now files.now) }
+    ensures gap { IfErr result (IsGap path_in path.now files.now) }
+{
+    files.binary_search_by(|f| compare(f, path))
+}
+
+/// Puts a file in at an index, where there is room for it. It takes no memory.
+pub fn insert_within<W: Drop>(
+    files: &mut Vec<Arc<Held<W>, Global>>,
+    i: usize,
+    held: Arc<Held<W>, Global>,
+)
+    requires within { i ≤ vec_len files.old }
+    requires room { vec_len files.old < vec_capacity files.old }
+    ensures { files.new.items ≡ insert files.old.items i held }
+{
+    if files.insert(i, held).is_err() {
+        unreachable!();
+    }
+}
+
+/// The number of the change that put the file at the path, if there is one.
+pub fn number_of<W>(files: &[Arc<Held<W>, Global>], path: &Text) -> Option<u64>
+    requires { AreRising path_of (map arc_value files.now) }
+    ensures { result ≡ number_at path.now (map arc_value files.now) }
+{
+    match find(files, path) {
+        Ok(i) => Some(files[i].change),
+        Err(_) => None,
+    }
+}
+
+/// Puts the files behind those of a list, an owner more for each.
+pub fn append_shared<W: Drop>(
+    all: &mut Vec<Arc<Held<W>, Global>>,
+    files: &[Arc<Held<W>, Global>],
+) -> Result<(), Memory>
+    ensures { OnOk result (map arc_value all.new.items ≡ map arc_value all.old.items ++ map arc_value files.now) }
+{
+    for f in files {
+        let f = Arc::try_clone(f)?;
+        all.push(f)?;
+    }
+    Ok(())
+}
+
+/// Another list of the same files, an owner more for each.
+pub fn shared_files<W: Drop>(
+    alloc: Global,
+    files: &[Arc<Held<W>, Global>],
+) -> Result<Vec<Arc<Held<W>, Global>>, Memory>
+    ensures { IfOk result (λ all. map arc_value all.items ≡ map arc_value files.now) }
+{
+    let mut all = Vec::with_capacity(alloc, files.len())?;
+    append_shared(&mut all, files)?;
+    Ok(all)
+}
