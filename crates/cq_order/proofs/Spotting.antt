@@ -1,25 +1,18 @@
 -- The spot of a change, in lists of spots that rise.
-use Rattle.std.proofs.Common.{◌≡◌, ◌≢◌, ◌↔◌, ℕ, zero, suc, ◌+◌, ◌<◌, ◌≤◌, IsTrue, List, [], ◌∷◌, ◌++◌, length, get_or, take, slice_get, add-zero, Option, Some, None, Err, refl, sym, ap, ap₂, ◌∙◌, subst, ⊎_elim, arith, ◌-◌, drop, subst₂}
+use Rattle.std.proofs.Common.{◌≡◌, ◌≢◌, ◌↔◌, ℕ, zero, suc, ◌+◌, ◌<◌, ◌≤◌, IsTrue, List, [], ◌∷◌, ◌++◌, length, get_or, take, slice_get, add-zero, Option, Some, None, refl, sym, ap, ap₂, ◌∙◌, subst, ⊎_elim, arith}
 use Rattle.std.specs.Prelude.{AllPairs, Contains}
-use Rattle.std.specs.Ordering.{nat_cmp, ordering_index}
-use Rattle.std.specs.declared.cmp.Ordering.TheVariants.{Equal}
-use Rattle.std.specs.List.Sorted.{IsBinarySearchResult, IsNonDecreasingBy}
 use Rattle.std.specs.Cmp.{IsStrictWeakOrder}
-use Rattle.std.proofs.lemmas.Bool.{cases_lt, cases_eq, cases_order}
-use Rattle.std.proofs.lemmas.List.{take_more, take_all, length-take-le, get_or_default}
+use Rattle.std.proofs.lemmas.Bool.{cases_eq, cases_order}
+use Rattle.std.proofs.lemmas.List.{take_more, take_all, length-take-le}
 use Rattle.std.proofs.lemmas.Bool.Decides.{nat_tests}
-use Rattle.std.proofs.lemmas.Cmp.{ranked}
-use Rattle.std.proofs.lemmas.Option.{same_Some, slice_get_within, none-some}
+use Rattle.std.proofs.lemmas.Option.{same_Some, slice_get_within}
 use Rattle.cq_base.proofs.Lists.{Contains-nil, Contains-cases, Contains-there}
 use Rattle.cq_order.specs.declared.spots.Spot.{Spot}
 use Rattle.cq_order.specs.Spots.{SpotBefore, spot_of, IsPositionOf, AreSpots, is_spot_before, with_positions}
 use Rattle.cq_order.specs.Order.{IsOrderOf, AreOrdered}
 use Rattle.cq_order.proofs.Sorting.{weak_order}
-use Rattle.cq_clones.proofs.Words.{get_or-word, length-word}
-use Rattle.cq_order.proofs.Climbing.{risen_first, risen_last}
-use Rattle.cq_order.specs.Reach.{CanStandAt}
 
-tail_rises : (s : Spot) (spots : List Spot) → AllPairs SpotBefore (s ∷ spots) → AllPairs SpotBefore spots
+pub tail_rises : (s : Spot) (spots : List Spot) → AllPairs SpotBefore (s ∷ spots) → AllPairs SpotBefore spots
 tail_rises s spots rising i j d lt within = rising (suc i) (suc j) d (omega (arith, lt)) (omega (arith, within))
 
 -- the one at a position is found
@@ -82,26 +75,6 @@ spot_each changes spots are s = (
 
 pub position_of : (changes : List ℕ) (spots : List Spot) (change : ℕ) (found : Option ℕ) → found ≡ spot_of spots change → AreSpots changes spots → IsPositionOf changes change found
 position_of changes spots change found is are = subst (IsPositionOf changes change) (sym is) (are.each change)
-
--- what a binary search finds
-
-module _ (spots : List Spot) (change : ℕ) (rising : AllPairs SpotBefore spots) where
-  comparisons_rise : IsNonDecreasingBy (λ (s : Spot). ordering_index (nat_cmp s.change change)) spots
-  comparisons_rise i j d le within =
-      let rises : i < j → (get_or spots i d).change < (get_or spots j d).change = λ lt. rising i j d lt within in
-      let same : i ≡ j → (get_or spots i d).change ≡ (get_or spots j d).change = λ e. ap (λ k. (get_or spots k d).change) e in
-      grind (arith, nat_tests, le)
-
-  pub searched_ok : (i : ℕ) (d : Spot) → i < length spots → nat_cmp (get_or spots i d).change change ≡ Equal → Some (get_or spots i d).file ≡ spot_of spots change
-  searched_ok i d within is = sym (spot_at spots change i d rising within (ranked _ change _ (sym is)))
-
-  pub searched_err : (i : ℕ) → IsBinarySearchResult (λ (s : Spot). nat_cmp s.change change) spots (Err i) → None ≡ spot_of spots change
-  searched_err i is = sym (spot_none spots change (λ k d within same.
-      let parts = is comparisons_rise in
-      ⊎_elim
-      (λ (low : k < i). let less : (get_or spots k d).change < change = ranked _ change _ (sym (parts.0 k d (omega arith) low)) in omega (arith, less, same))
-      (λ (high : i ≤ k). let more : change < (get_or spots k d).change = ranked _ change _ (sym (parts.1 k d high within)) in omega (arith, more, same))
-      (cases_lt k i)))
 
 -- the changes with their positions
 
@@ -190,52 +163,3 @@ sorted_spots changes unsorted sorted apart is order =
       λ there. (spots_each changes s).0 (subst (λ ss. Contains ss s) is ((order.each s).0 there)),
       λ put. (order.each s).1 (subst (λ ss. Contains ss s) (sym is) ((spots_each changes s).1 put)),
     ))
-
--- where a spot can stand that has a change
-
-reached : (spots : List Spot) (change k : ℕ) (d e : Spot) → AllPairs SpotBefore spots → k < length spots → (get_or spots k d).change ≡ change →
-    CanStandAt (get_or spots 0 e).change (get_or spots (length spots - 1) e).change (length spots) change k
-reached spots change k d e rising within same =
-    let is : (get_or spots k e).change ≡ change = ap (λ (s : Spot). s.change) (get_or_default spots k e d within) ∙ same in
-    let first = risen_first (λ (s : Spot). s.change) spots e rising k within in
-    let last = risen_last (λ (s : Spot). s.change) spots e rising k within in
-    (within, omega (arith, first, is), omega (arith, last, is))
-
--- and what a binary search finds between two places, where no other place can have the change
-
-module _ (spots : List Spot) (change from to : ℕ) (e : Spot) (rising : AllPairs SpotBefore spots) (low : from ≤ to) (high : to ≤ length spots)
-    (all : (k : ℕ) → CanStandAt (get_or spots 0 e).change (get_or spots (length spots - 1) e).change (length spots) change k → (from ≤ k) × (k < to)) where
-  abbrev near : List Spot
-  near = take (to - from) (drop from spots)
-
-  near_long : length near ≡ to - from
-  near_long = length-word spots from (to - from) (omega (arith, low, high))
-
-  near_rises : AllPairs SpotBefore near
-  near_rises i j d lt within =
-      let many = near_long in
-      let fits : j < to - from = omega (arith, many, within) in
-      subst₂ SpotBefore
-      (sym (get_or-word spots from (to - from) i d (omega (arith, lt, fits))))
-      (sym (get_or-word spots from (to - from) j d fits))
-      (rising (from + i) (from + j) d (omega (arith, lt)) (omega (arith, fits, low, high)))
-
-  pub near_ok : (i : ℕ) (d : Spot) → i < length near → nat_cmp (get_or near i d).change change ≡ Equal → Some (get_or near i d).file ≡ spot_of spots change
-  near_ok i d within is =
-      let many = near_long in
-      let fits : i < to - from = omega (arith, many, within) in
-      let at : get_or near i d ≡ get_or spots (from + i) d = get_or-word spots from (to - from) i d fits in
-      ap (λ (s : Spot). Some s.file) at
-      ∙ sym (spot_at spots change (from + i) d rising (omega (arith, fits, low, high)) (ap (λ (s : Spot). s.change) (sym at) ∙ ranked _ change _ (sym is)))
-
-  pub near_err : (i : ℕ) → IsBinarySearchResult (λ (s : Spot). nat_cmp s.change change) near (Err i) → None ≡ spot_of spots change
-  near_err i is = sym (spot_none spots change (λ k d within same.
-      let many = near_long in
-      let between = all k (reached spots change k d e rising within same) in
-      let above = between.0 in
-      let below = between.1 in
-      let fits : k - from < to - from = omega (arith, above, below) in
-      let place : from + (k - from) ≡ k = omega (arith, above) in
-      let at : get_or near (k - from) d ≡ get_or spots k d = get_or-word spots from (to - from) (k - from) d fits ∙ ap (λ j. get_or spots j d) place in
-      none-some _ (searched_err near change near_rises i is
-      ∙ spot_at near change (k - from) d near_rises (omega (arith, many, fits)) (ap (λ (s : Spot). s.change) at ∙ same))))

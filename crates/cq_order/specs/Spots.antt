@@ -1,5 +1,5 @@
 -- Where each change of a list stands.
-use Rattle.std.specs.Prelude.{◌≡◌, ◌↔◌, ◌<◌, ◌==◌, ℕ, ◌+◌, Bool, nat_lt, List, [], ◌∷◌, slice_get, Option, Some, None, AllPairs, if◌then◌else◌}
+use Rattle.std.specs.Prelude.{◌≡◌, ◌↔◌, ◌<◌, ◌==◌, ℕ, ◌+◌, ◌-◌, Bool, nat_lt, List, [], ◌∷◌, length, map, slice_get, slice_set, insert, remove, Option, Some, None, All, AllPairs, if◌then◌else◌}
 use Rattle.cq_order.specs.declared.spots.Spot.{Spot}
 
 -- by change
@@ -29,3 +29,33 @@ is_spot_before a b = nat_lt a.change b.change
 abbrev pub with_positions : ℕ → List ℕ → List Spot
 with_positions file [] = []
 with_positions file (change ∷ changes) = record { change = change; file = file } ∷ with_positions (file + 1) changes
+
+-- changes with their positions, where both are kept apart
+abbrev pub paired : List ℕ → List ℕ → List Spot
+paired [] files = []
+paired (change ∷ changes) [] = []
+paired (change ∷ changes) (file ∷ files) = record { change = change; file = file } ∷ paired changes files
+
+abbrev pub changes_of : List Spot → List ℕ
+changes_of spots = map (λ (s : Spot). s.change) spots
+
+-- ---- the spots where one file is edited, whatever the numbers of the files' changes are
+
+-- the spot's change, which is the latest, stands in the place of this one
+abbrev pub Replaces : ℕ → Spot → List Spot → List Spot → Type 0
+Replaces gone s old new = (changes : List ℕ) → AreSpots changes old → slice_get changes s.file ≡ Some gone → All (λ c. c < s.change) changes → AreSpots (slice_set changes s.file s.change) new
+
+-- the spot's change, which is the latest, is put in at its file among so many
+abbrev pub Inserts : ℕ → Spot → List Spot → List Spot → Type 0
+Inserts len s old new = (changes : List ℕ) → AreSpots changes old → length changes ≡ len → All (λ c. c < s.change) changes → AreSpots (insert changes s.file s.change) new
+
+-- the spot is taken out with its file
+abbrev pub Removes : Spot → List Spot → List Spot → Type 0
+Removes s old new = (changes : List ℕ) → AreSpots changes old → slice_get changes s.file ≡ Some s.change → AreSpots (remove changes s.file) new
+
+-- where a file's position comes to, when one is put in at a position or taken out there
+abbrev pub opened : ℕ → ℕ → ℕ
+opened at file = if nat_lt file at then file else file + 1
+
+abbrev pub closed : ℕ → ℕ → ℕ
+closed at file = if nat_lt at file then file - 1 else file

@@ -1,12 +1,13 @@
-ghost use Rattle.std.specs.Prelude.{◌≡◌, ◌≢◌, ◌<◌, ◌^◌, ℕ, List, length, AllPairs, IfOk};
+ghost use Rattle.std.specs.Prelude.{◌≡◌, ◌≢◌, ◌+◌, ◌++◌, ◌∷◌, [], ◌<◌, ◌≤◌, ◌^◌, ℕ, List, length, map, remove, All, AllPairs, IfOk, OnOk, OnErr};
 ghost use Rattle.std.specs.Ordering.{is_lt};
 ghost use Rattle.cq_order.specs.Order.{IsOrderOf};
-ghost use Rattle.cq_order.specs.Spots.{AreSpots, IsPositionOf, SpotBefore, spot_of, is_spot_before, with_positions};
+ghost use Rattle.cq_order.specs.Spots.{AreSpots, IsPositionOf, SpotBefore, spot_of, is_spot_before, with_positions, changes_of, Replaces, Inserts, Removes, opened, closed};
 
 use crate::rising::reach;
 use cq_base::Memory;
 use std::alloc::Global;
 use std::cmp::Ordering;
+use std::marker::Model;
 
 /// Where the file that a change put stands among the files of its project: its position, from 0.
 #[derive(Clone, Copy, Debug, PartialEq, Eq)]
@@ -15,22 +16,187 @@ pub struct Spot {
     pub file: u32,
 }
 
-/// The position of the file that a change put, if it is among them. It is a binary search of the places where the change
-/// can stand.
-pub fn spot_of(spots: &[Spot], change: u64) -> Option<u32>
+/// The spots of changes, by change. The positions are a list of their own: where a file is put in or taken out, a walk
+/// over 4 bytes a file moves those of later files. Contracts see the list of spots.
+#[derive(Drop)]
+pub struct Spots {
+    changes: Vec<u64>,
+    files: Vec<u32>,
+}
+
+impl Model for Spots {
+    ghost use Rattle.std.specs.Prelude.{◌≡◌, List, length};
+    ghost use Rattle.cq_order.specs.declared.spots.Spot.{Spot};
+    ghost use Rattle.cq_order.specs.Spots.{paired};
+
+    ghost Value = { List Spot };
+
+    ghost view = { λ s. paired s.changes.items s.files.items };
+
+    ghost invariant = { λ s. length s.changes.items ≡ length s.files.items };
+}
+
+impl Spots {
+    /// No spots. It takes no memory.
+    pub fn new(alloc: Global) -> Spots
+        ensures { result ≡ [] }
+    {
+        Spots {
+            changes: Vec::new(alloc),
+            files: Vec::new(alloc),
+        }
+    }
+
+    /// The same spots once more.
+    pub fn copied(&self, alloc: Global) -> Result<Spots, Memory>
+        ensures { IfOk result (λ spots. spots ≡ self.now) }
+    {
+        let changes = Vec::from_slice(alloc, &self.changes)?;
+        let files = Vec::from_slice(alloc, &self.files)?;
+        Ok(Spots { changes, files })
+    }
+
+    // One more, behind all others.
+    fn push(&mut self, spot: Spot) -> Result<(), Memory>
+        ensures pushed { OnOk result (self.new ≡ self.old ++ spot ∷ []) }
+        ensures unchanged { OnErr result (self.new ≡ self.old) }
+    {
+        self.files.reserve(1)?;
+        self.changes.push(spot.change)?;
+        if self.files.push(spot.file).is_err() {
+            unreachable!();
+        }
+        Ok(())
+    }
+
+    // Where a change stands among them, if it is there.
+    fn index_of(&self, change: u64) -> Option<usize>
+        requires { AllPairs SpotBefore self.now }
+        ensures { IsPositionOf (changes_of self.now) change result }
+    {
+        place_of(&self.changes, change)
+    }
+
+    // Takes out the one at an index.
+    fn take_out(&mut self, i: usize)
+        requires { i < length self.old }
+        ensures { self.new ≡ remove self.old i }
+    {
+        self.changes.remove(i);
+        self.files.remove(i);
+    }
+
+    /// Puts the latest change, which has the place of another one. It costs a search and a move.
+    pub fn replace(&mut self, gone: u64, spot: Spot) -> Result<(), Memory>
+        requires rising { AllPairs SpotBefore self.old }
+        ensures replaced { OnOk result (Replaces gone spot self.old self.new) }
+        ensures unchanged { OnErr result (self.new ≡ self.old) }
+    {
+        match self.index_of(gone) {
+            Some(i) => {
+                self.push(spot)?;
+                self.take_out(i);
+                Ok(())
+            }
+            None => self.push(spot),
+        }
+    }
+
+    /// Puts the latest change in at its file, among so many: those of later files are one further. It costs a walk, and
+    /// none where the file comes last.
+    pub fn insert(&mut self, len: usize, spot: Spot) -> Result<(), Memory>
+        requires within { spot.file ≤ len }
+        requires few { len + 1 < 2 ^ 32 }
+        requires room { All (λ s. s.file + 1 < 2 ^ 32) self.old }
+        ensures inserted { OnOk result (Inserts len spot self.old self.new) }
+        ensures unchanged { OnErr result (self.new ≡ self.old) }
+    {
+        if spot.file as usize == len {
+            return self.push(spot);
+        }
+        let last = self.files.len();
+        self.push(spot)?;
+        open_at(self.files.as_mut_slice(), spot.file);
+        self.files[last] = spot.file;
+        Ok(())
+    }
+
+    /// Takes a spot out with its file: those of later files are one less far. It costs a walk, and takes no memory.
+    pub fn remove(&mut self, spot: Spot)
+        requires rising { AllPairs SpotBefore self.old }
+        ensures { Removes spot self.old self.new }
+    {
+        match self.index_of(spot.change) {
+            Some(i) => {
+                self.take_out(i);
+                close_at(self.files.as_mut_slice(), spot.file);
+            }
+            None => {}
+        }
+    }
+}
+
+// The place of a number among rising ones, if it is there: a binary search of the places where it can stand.
+fn place_of(numbers: &[u64], number: u64) -> Option<usize>
+    requires { AllPairs (λ a b. a < b) numbers.now }
+    ensures { IsPositionOf numbers.now number result }
+{
+    if numbers.is_empty() {
+        return None;
+    }
+    let last = numbers.len() - 1;
+    let (from, to) = reach(numbers[0], numbers[last], numbers.len(), number);
+    let near = &numbers[from..to];
+    match near.binary_search(&number) {
+        Ok(i) => Some(from + i),
+        Err(_) => None,
+    }
+}
+
+/// The position of the file that a change put, if it is among them. It is a binary search of the places where the
+/// change can stand.
+pub fn spot_of(spots: &Spots, change: u64) -> Option<u32>
     requires rising { AllPairs SpotBefore spots.now }
     ensures spot { result ≡ spot_of spots.now change }
     ensures position { (changes : List ℕ) → AreSpots changes spots.now → IsPositionOf changes change result }
 {
-    if spots.is_empty() {
-        return None;
+    match spots.index_of(change) {
+        Some(i) => Some(spots.files[i]),
+        None => None,
     }
-    let last = spots.len() - 1;
-    let (from, to) = reach(spots[0].change, spots[last].change, spots.len(), change);
-    let near = &spots[from..to];
-    match near.binary_search_by_key(&change, |spot| spot.change) {
-        Ok(i) => Some(near[i].file),
-        Err(_) => None,
+}
+
+// A position when a file is put in at one.
+fn opened(file: u32, at: u32) -> u32
+    requires room { file + 1 < 2 ^ 32 }
+    ensures { result ≡ opened at file }
+{
+    if file < at { file } else { file + 1 }
+}
+
+// A position when the file at one is taken out.
+fn closed(file: u32, at: u32) -> u32
+    ensures { result ≡ closed at file }
+{
+    if at < file { file - 1 } else { file }
+}
+
+// Makes room for a file at a position.
+fn open_at(files: &mut [u32], at: u32)
+    requires { All (λ file. file + 1 < 2 ^ 32) files.old }
+    ensures { files.new ≡ map (opened at) files.old }
+{
+    for i in 0..files.len() {
+        files[i] = opened(files[i], at);
+    }
+}
+
+// Closes the gap that a file leaves at a position.
+fn close_at(files: &mut [u32], at: u32)
+    ensures { files.new ≡ map (closed at) files.old }
+{
+    for i in 0..files.len() {
+        files[i] = closed(files[i], at);
     }
 }
 
@@ -62,13 +228,24 @@ fn unsorted(alloc: Global, changes: &[u64]) -> Result<Vec<Spot>, Memory>
     Ok(spots)
 }
 
+// The same spots, changes and positions apart.
+fn apart(alloc: Global, spots: &[Spot]) -> Result<Spots, Memory>
+    ensures { IfOk result (λ all. all ≡ spots.now) }
+{
+    let mut all = Spots::new(alloc);
+    for spot in spots {
+        all.push(*spot)?;
+    }
+    Ok(all)
+}
+
 /// The spots of different changes. It costs a sort of them.
-pub fn spots_of(alloc: Global, changes: &[u64]) -> Result<Vec<Spot>, Memory>
+pub fn spots_of(alloc: Global, changes: &[u64]) -> Result<Spots, Memory>
     requires few { length changes.now < 2 ^ 32 }
     requires apart { AllPairs (λ a b. a ≢ b) changes.now }
-    ensures { IfOk result (λ spots. AreSpots changes.now spots.items) }
+    ensures { IfOk result (λ spots. AreSpots changes.now spots) }
 {
     let mut spots = unsorted(alloc, changes)?;
     sort_spots(&mut spots);
-    Ok(spots)
+    apart(alloc, &spots)
 }

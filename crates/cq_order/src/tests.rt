@@ -1,4 +1,4 @@
-use crate::{Spot, kept, order, sort_entries, sort_places, spot_of, spots_of};
+use crate::{Spots, kept, order, sort_entries, sort_places, spot_of, spots_of};
 use cq_base::{Entry, Group, Memory, Place, Places};
 use std::alloc::Global;
 
@@ -50,12 +50,10 @@ fn places_entries_and_groups_come_in_order(rt: HostRuntime) -> Result<(), Memory
 #[test]
 fn a_change_is_found_at_the_position_of_its_file(rt: HostRuntime) -> Result<(), Memory> {
     let spots = spots_of(rt.alloc(), &[5, 3, 9])?;
-    let spot = |change: u64, file: u32| Spot { change, file };
-    assert!(&rt; spots.as_slice() == [spot(3, 1), spot(5, 0), spot(9, 2)].as_slice());
     assert_eq!(&rt; spot_of(&spots, 3), Some(1));
     assert_eq!(&rt; spot_of(&spots, 5), Some(0));
     assert_eq!(&rt; spot_of(&spots, 9), Some(2));
     assert_eq!(&rt; spot_of(&spots, 4), None);
-    assert_eq!(&rt; spot_of(&[], 4), None);
+    assert_eq!(&rt; spot_of(&Spots::new(rt.alloc()), 4), None);
     Ok(())
 }

@@ -3,13 +3,11 @@ pub mod Editing
 pub mod FileAt
 pub mod FileLists
 pub mod Gathering
-pub mod InPlace
 pub mod OneWalk
 pub mod OwnerLists
 pub mod PathOrders
 pub mod ProjectLists
 pub mod Putting
 pub mod Searching
-pub mod SpotEdits
 pub mod SpotLists
 pub mod SpottedFiles

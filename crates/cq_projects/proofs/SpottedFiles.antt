@@ -9,15 +9,15 @@ use Rattle.std.proofs.lemmas.List.Elements.{Contains-get_or}
 use Rattle.std.proofs.lemmas.Option.{same_Some, none-some}
 use Rattle.cq_history.specs.Files.{File}
 use Rattle.cq_order.specs.declared.spots.Spot.{Spot}
-use Rattle.cq_order.specs.Spots.{AreSpots}
+use Rattle.cq_order.specs.Spots.{AreSpots, Replaces, Inserts, Removes}
 use Rattle.cq_order.proofs.Spotting.{spot_each}
+use Rattle.cq_order.proofs.SpotEdits.{got_in}
 use Rattle.cq_projects.specs.Projects.{path_in, path_of}
 use Rattle.cq_projects.specs.Ordered.{AreRising, AreBelow, AreAbove, IsAt, IsGap}
-use Rattle.cq_projects.specs.Spotted.{AreSpotted, AreOlder, IsPositionOfPath, Replaces, Inserts, Removes, numbers_of, paths_of}
+use Rattle.cq_projects.specs.Spotted.{AreSpotted, AreOlder, IsPositionOfPath, numbers_of, paths_of}
 use Rattle.cq_projects.proofs.FileLists.{insert-map, remove-map}
 use Rattle.cq_projects.proofs.PathOrders.{rising_with, rising_without}
 use Rattle.cq_projects.proofs.Putting.{before_apart, replaced_at, inserted_at, removed_at}
-use Rattle.cq_projects.proofs.SpotEdits.{got_in}
 use Rattle.cq_projects.proofs.SpotLists.{number_read, length_numbers}
 
 abbrev pub spot_at : ℕ → ℕ → Spot
@@ -47,7 +47,7 @@ module _ {W : Type 0} (hs : List (Arc (File W) Global)) (spots : List Spot) (is 
     at_within : IsAt path_in p hs i → i < length hs
     at_within at = omega (arith, ap length at.is, length-append at.before (at.item ∷ at.after), at.index)
 
-    gap_within : IsGap path_in p hs i → i ≤ length hs
+    pub gap_within : IsGap path_in p hs i → i ≤ length hs
     gap_within gap = omega (arith, ap length gap.is, length-append gap.before gap.after, gap.index)
 
     pub spotted_set : (at : IsAt path_in p hs i) (h old : Arc (File W) Global) (n m : ℕ) → path_in h ≡ p → n ≡ (arc_value h).number → old ≡ get_or hs i old → m ≡ (arc_value old).number → AreOlder (arc_value h).number (map arc_value hs) → Replaces m (spot_at n i) spots new → AreSpotted (map arc_value (set hs i h)) new
@@ -59,13 +59,13 @@ module _ {W : Type 0} (hs : List (Arc (File W) Global)) (spots : List Spot) (is 
       few = omega (arith, few_held, length-map (set hs i h) (arc_value {X = File W} {Z = Global}), length-set hs i h);
     }
 
-    pub spotted_insert : (gap : IsGap path_in p hs i) (h : Arc (File W) Global) (n : ℕ) → path_in h ≡ p → n ≡ (arc_value h).number → length hs + 1 < 2 ^ 32 → AreOlder (arc_value h).number (map arc_value hs) → Inserts (spot_at n i) spots new → AreSpotted (map arc_value (insert hs i h)) new
-    spotted_insert gap h n same number few older moved = record {
+    pub spotted_insert : (gap : IsGap path_in p hs i) (h : Arc (File W) Global) (n len : ℕ) → path_in h ≡ p → n ≡ (arc_value h).number → len ≡ length hs → len + 1 < 2 ^ 32 → AreOlder (arc_value h).number (map arc_value hs) → Inserts len (spot_at n i) spots new → AreSpotted (map arc_value (insert hs i h)) new
+    spotted_insert gap h n len same number size few older moved = record {
       rising = subst (AreRising path_of) (sym (inserted_at hs p i gap h same)) (rising_with (arc_value h) (map arc_value hs) is.rising);
       are_spots = subst (λ ns. AreSpots ns new) (sym (numbers_insert i h))
           (subst (λ k. AreSpots (insert (numbers_of (map arc_value hs)) i k) new) number
-          (moved (numbers_of (map arc_value hs)) is.are_spots (omega (arith, gap_within gap, length_numbers hs)) (subst (λ k. All (λ c. c < k) (numbers_of (map arc_value hs))) (sym number) older)));
-      few = omega (arith, few, length-map (insert hs i h) (arc_value {X = File W} {Z = Global}), length-insert hs i h (gap_within gap));
+          (moved (numbers_of (map arc_value hs)) is.are_spots (length_numbers hs ∙ sym size) (subst (λ k. All (λ c. c < k) (numbers_of (map arc_value hs))) (sym number) older)));
+      few = omega (arith, few, size, length-map (insert hs i h) (arc_value {X = File W} {Z = Global}), length-insert hs i h (gap_within gap));
     }
 
     pub spotted_remove : (at : IsAt path_in p hs i) (old : Arc (File W) Global) (m : ℕ) → old ≡ get_or hs i old → m ≡ (arc_value old).number → Removes (spot_at m i) spots new → AreSpotted (map arc_value (remove hs i)) new

@@ -1,5 +1,5 @@
 -- The files of one project with the spot of each change that put one.
-use Rattle.std.specs.Prelude.{◌≡◌, ◌≢◌, ◌↔◌, ◌+◌, ◌-◌, ◌<◌, ◌≤◌, ◌^◌, ℕ, nat_lt, if◌then◌else◌, List, length, map, slice_get, slice_set, insert, remove, Option, Some, All, AllPairs}
+use Rattle.std.specs.Prelude.{◌≡◌, ◌≢◌, ◌↔◌, ◌<◌, ◌^◌, ℕ, List, length, map, slice_get, Option, Some, All, AllPairs}
 use Rattle.cq_history.specs.Files.{File}
 use Rattle.cq_order.specs.declared.spots.Spot.{Spot}
 use Rattle.cq_order.specs.Spots.{AreSpots}
@@ -31,24 +31,3 @@ module _ {W : Type 0} where
   -- each was put by an earlier change than this one
   abbrev pub AreOlder : ℕ → List (File W) → Type 0
   AreOlder number files = All (λ n. n < number) (numbers_of files)
-
--- ---- the spots where one file is edited, whatever the numbers of the files' changes are
-
--- the spot's change, which is the latest, stands in the place of this one
-abbrev pub Replaces : ℕ → Spot → List Spot → List Spot → Type 0
-Replaces gone s old new = (changes : List ℕ) → AreSpots changes old → slice_get changes s.file ≡ Some gone → All (λ c. c < s.change) changes → AreSpots (slice_set changes s.file s.change) new
-
--- the spot's change, which is the latest, is put in at its file
-abbrev pub Inserts : Spot → List Spot → List Spot → Type 0
-Inserts s old new = (changes : List ℕ) → AreSpots changes old → s.file ≤ length changes → All (λ c. c < s.change) changes → AreSpots (insert changes s.file s.change) new
-
--- the spot is taken out with its file
-abbrev pub Removes : Spot → List Spot → List Spot → Type 0
-Removes s old new = (changes : List ℕ) → AreSpots changes old → slice_get changes s.file ≡ Some s.change → AreSpots (remove changes s.file) new
-
--- where a file's position comes to, when one is put in at a position or taken out there
-abbrev pub opened : ℕ → Spot → Spot
-opened at s = record { change = s.change; file = if nat_lt s.file at then s.file else s.file + 1 }
-
-abbrev pub closed : ℕ → Spot → Spot
-closed at s = record { change = s.change; file = if nat_lt at s.file then s.file - 1 else s.file }

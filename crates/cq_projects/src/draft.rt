@@ -23,8 +23,8 @@ use std::collections::BTreeMap;
 use std::marker::Model;
 use std::sync::Arc;
 
-/// A project of the next listing: what it was, the file that stands at each path that the batch names, none where its last
-/// change there drops it, and the conditions where the batch sets them.
+/// A project of the next listing: what it was, the file that stands at each path that the batch names, none where its
+/// last change there drops it, and the conditions where the batch sets them.
 #[derive(Drop)]
 pub struct Draft<W> {
     project: Arc<Project<W>, Global>,
@@ -215,8 +215,8 @@ fn draft_at<W: Drop>(
     }
 }
 
-/// Edits the draft of a name, and answers the change whose file that replaces or drops, if there was one. It costs a search
-/// among the drafts, one among the project's files, and one among the paths that the batch names.
+/// Edits the draft of a name, and answers the change whose file that replaces or drops, if there was one. It costs a
+/// search among the drafts, one among the project's files, and one among the paths that the batch names.
 pub fn edit_draft<W: Drop>(
     alloc: Global,
     drafts: &mut Vec<Draft<W>>,

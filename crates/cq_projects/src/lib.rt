@@ -1,12 +1,13 @@
 //! The projects of a version, each with its files in path order: how one edit changes them in place, and how a batch of
 //! edits makes them anew.
 //!
-//! One edit costs a search among the projects and one among its project's files, a move in that list, 8 bytes a file, and
-//! a walk over its spots, 16 bytes a file; where somebody else has the project, a copy of both first, an owner a file. A
-//! batch costs an owner for each project, for each edit a search among the projects and in the list of its own, and for
-//! each project whose files changed one walk that makes its list anew, with a search for each path that is named and an
-//! owner a file, and a sort of its spots. What a reader looks up in a project, by path or by change, is a binary search:
-//! the spots are kept with its list of files. No text, no path and no work is copied.
+//! One edit costs a search among the projects and one among its project's files, a move in that list, 8 bytes a file,
+//! and a walk over the positions of its spots, 4 bytes a file, but none where the file comes last; where somebody else
+//! has the project, a copy of both first, an owner a file. A batch costs an owner for each project, for each edit a
+//! search among the projects and in the list of its own, and for each project whose files changed one walk that makes
+//! its list anew, with a search for each path that is named and an owner a file, and a sort of its spots. What a reader
+//! looks up in a project, by path or by change, is a binary search: the spots are kept with its list of files. No text,
+//! no path and no work is copied.
 #![tactic(auto)]
 
 mod draft;

@@ -23,8 +23,8 @@ fn cut<W>(files: &[Arc<Held<W>, Global>], path: &Text) -> (usize, usize)
     }
 }
 
-// Puts the files before a path behind those that are done, and then what stands there. It answers how many of the rest are
-// through.
+// Puts the files before a path behind those that are done, and then what stands there. It answers how many of the rest
+// are through.
 fn merge_one<W: Drop>(
     done: &mut Vec<Arc<Held<W>, Global>>,
     rest: &[Arc<Held<W>, Global>],
@@ -43,7 +43,8 @@ fn merge_one<W: Drop>(
     Ok(behind)
 }
 
-/// The files of a project with what stands at some paths. It costs a search for each of these, and an owner for each file.
+/// The files of a project with what stands at some paths. It costs a search for each of these, and an owner for each
+/// file.
 pub fn merged<W: Drop>(
     alloc: Global,
     files: &[Arc<Held<W>, Global>],

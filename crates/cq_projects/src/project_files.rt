@@ -8,9 +8,9 @@ ghost use Rattle.cq_projects.specs.Spotted.{AreOlder, IsPositionOfPath, numbers_
 
 use crate::files::{find, insert_within, shared_files};
 use crate::held::Held;
-use crate::spots::{insert_spot, remove_spot, replace_spot, spots_of};
+use crate::spots::spots_of;
 use cq_base::{Memory, Text};
-use cq_order::{Spot, spot_of};
+use cq_order::{Spot, Spots, spot_of};
 use std::alloc::Global;
 use std::marker::Model;
 use std::sync::Arc;
@@ -20,7 +20,7 @@ use std::sync::Arc;
 #[derive(Drop)]
 pub struct ProjectFiles<W> {
     items: Vec<Arc<Held<W>, Global>>,
-    spots: Vec<Spot>,
+    spots: Spots,
 }
 
 impl<W> Model for ProjectFiles<W> {
@@ -33,7 +33,7 @@ impl<W> Model for ProjectFiles<W> {
 
     ghost view = { λ f. map arc_value f.items.items };
 
-    ghost invariant = { λ f. AreSpotted (map arc_value f.items.items) f.spots.items };
+    ghost invariant = { λ f. AreSpotted (map arc_value f.items.items) f.spots };
 }
 
 impl<W> ProjectFiles<W> {
@@ -43,7 +43,7 @@ impl<W> ProjectFiles<W> {
     {
         ProjectFiles {
             items: Vec::new(alloc),
-            spots: Vec::new(alloc),
+            spots: Spots::new(alloc),
         }
     }
 
@@ -71,7 +71,7 @@ impl<W> ProjectFiles<W> {
     }
 
     /// The change that put each file with the file's position, rising by change.
-    pub fn spots(&self) -> &[Spot]
+    pub fn spots(&self) -> &Spots
         ensures { AreSpots (numbers_of self.now) result.now }
     {
         &self.spots
@@ -117,12 +117,12 @@ impl<W: Drop> ProjectFiles<W> {
         ensures { IfOk result (λ files. files ≡ self.now) }
     {
         let items = shared_files(alloc, &self.items)?;
-        let spots = Vec::from_slice(alloc, &self.spots)?;
+        let spots = self.spots.copied(alloc)?;
         Ok(ProjectFiles { items, spots })
     }
 
-    /// Takes out the file at the path, and answers the change that put it, if there is one. It costs a search and a move
-    /// of what is behind it.
+    /// Takes out the file at the path, and answers the change that put it, if there is one. It costs a search and a
+    /// move of what is behind it.
     pub(crate) fn remove(&mut self, path: &Text) -> Option<u64>
         ensures files { self.new ≡ without_file path.now self.old }
         ensures number { result ≡ number_at path.now self.old }
@@ -134,16 +134,16 @@ impl<W: Drop> ProjectFiles<W> {
                     change: held.change,
                     file: i as u32,
                 };
-                remove_spot(&mut self.spots, spot);
+                self.spots.remove(spot);
                 Some(held.change)
             }
             Err(_) => None,
         }
     }
 
-    /// Puts a file of a later change than all others at its place, in place of the one at its path, and answers the change
-    /// that had put that one, if there was one. It costs a search, and a move of what is behind its place. Where memory is
-    /// refused, the files are as before.
+    /// Puts a file of a later change than all others at its place, in place of the one at its path, and answers the
+    /// change that had put that one, if there was one. It costs a search, and a move of what is behind its place. Where
+    /// memory is refused, the files are as before.
     pub(crate) fn put(&mut self, held: Arc<Held<W>, Global>) -> Result<Option<u64>, Memory>
         requires older { AreOlder (arc_value held).number self.old }
         ensures files { OnOk result (self.new ≡ with_file (arc_value held) self.old) }
@@ -157,12 +157,13 @@ impl<W: Drop> ProjectFiles<W> {
                     change: held.change,
                     file: i as u32,
                 };
-                replace_spot(&mut self.spots, gone, spot)?;
+                self.spots.replace(gone, spot)?;
                 self.items[i] = held;
                 Ok(Some(gone))
             }
             Err(i) => {
-                if self.items.len() >= u32::MAX as usize {
+                let len = self.items.len();
+                if len >= u32::MAX as usize {
                     return Err(Memory);
                 }
                 let spot = Spot {
@@ -170,7 +171,7 @@ impl<W: Drop> ProjectFiles<W> {
                     file: i as u32,
                 };
                 self.items.reserve(1)?;
-                insert_spot(&mut self.spots, spot)?;
+                self.spots.insert(len, spot)?;
                 insert_within(&mut self.items, i, held);
                 Ok(None)
             }

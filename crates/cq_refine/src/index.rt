@@ -3,7 +3,7 @@ ghost use Rattle.cq_order.specs.Spots.{AreSpots};
 ghost use Rattle.cq_tokens.specs.Parts.{changes_in};
 
 use cq_base::Memory;
-use cq_order::{Spot, spots_of};
+use cq_order::{Spots, spots_of};
 use cq_tokens::{Corpus, Files};
 use std::alloc::Global;
 
@@ -11,14 +11,14 @@ use std::alloc::Global;
 #[derive(Drop)]
 pub struct Index<'a, F: Files> {
     pub corpus: Corpus<'a, F>,
-    pub(crate) spots: &'a [Spot],
+    pub(crate) spots: &'a Spots,
 
     ghost spots_are: { AreSpots (changes_in corpus) spots.now },
 }
 
 impl<'a, F: Files> Index<'a, F> {
     /// The index of a corpus, of which these are the spots.
-    pub fn new(corpus: Corpus<'a, F>, spots: &'a [Spot]) -> Index<'a, F>
+    pub fn new(corpus: Corpus<'a, F>, spots: &'a Spots) -> Index<'a, F>
         requires { AreSpots (changes_in corpus) spots.now }
         ensures { result.corpus ≡ corpus.entry }
     {
@@ -27,9 +27,9 @@ impl<'a, F: Files> Index<'a, F> {
 }
 
 /// The spots of files' changes, where nobody keeps them. It costs a sort of them.
-pub fn spots_in<F: Files>(alloc: Global, files: &F) -> Result<Vec<Spot>, Memory>
+pub fn spots_in<F: Files>(alloc: Global, files: &F) -> Result<Spots, Memory>
     requires { AllPairs (λ a b. a ≢ b) (F.changes files.now) }
-    ensures { IfOk result (λ spots. AreSpots (F.changes files.now) spots.items) }
+    ensures { IfOk result (λ spots. AreSpots (F.changes files.now) spots) }
 {
     let mut changes = Vec::new(alloc);
     for file in 0..files.len() {

@@ -1,42 +1,28 @@
-use Rattle.std.proofs.Common.{rules, ◌≡◌, ◌-◌, ◌<◌, None, length, sym, arith}
-use Rattle.std.proofs.lemmas.List.Sorted.{answers_always}
+use Rattle.std.proofs.Common.{Some, List, sym, ap, ◌∙◌, subst, arith}
+use Rattle.std.specs.Prelude.{AllPairs}
 use Rattle.cq_order.specs.declared.spots.Spot.{Spot}
-use Rattle.cq_order.specs.Spots.{spot_of}
-use Rattle.cq_order.proofs.Climbing.{risen_first}
-use Rattle.cq_order.proofs.Spotting.{spot_none, near_ok, near_err, position_of}
+use Rattle.cq_order.specs.Spots.{SpotBefore, IsPositionOf, spot_of, changes_of}
+use Rattle.cq_order.proofs.Pairing.{index_within, spot_found, spot_absent}
+use Rattle.cq_order.proofs.Spotting.{position_of}
 use Rattle.cq_order.proofs.spots.spot_of.Goals as goal
 
-pub returns-then-is_empty-clause-position : goal.returns-then-is_empty-clause-position
-returns-then-is_empty-clause-position c changes are =
-    let spots = c.args.spots.now in
-    let none : length spots ≡ 0 = search rules in
-    let unfound : spot_of spots c.args.change ≡ None = spot_none spots c.args.change (λ k d within same. omega (arith, none, within)) in
-    position_of changes spots c.args.change _ (sym unfound) are
+pub index-requires : goal.index-requires
+index-requires c =
+    let inside = index_within c.spots.inside.changes.items c.spots.inside.files.items c.spots.invariant c.args.change c.in-Some.i (subst (λ (ss : List Spot). IsPositionOf (changes_of ss) c.args.change (Some c.in-Some.i)) (sym c.spots.view_is) c.in-Some.ensures) in
+    omega (arith, inside, c.spots.invariant, c.spots.inside.files.ok.0)
 
-pub reach-from-requires-clause-spread : goal.reach-from-requires-clause-spread
-reach-from-requires-clause-spread c =
-    let spots = c.args.spots.now in
-    let some : 0 < length spots = search rules in
-    risen_first (λ (s : Spot). s.change) spots _ c.requires.rising (length spots - 1) (omega (arith, some))
+pub returns-in-Some-clause-spot : goal.returns-in-Some-clause-spot
+returns-in-Some-clause-spot c =
+    spot_found c.spots.inside.changes.items c.spots.inside.files.items c.spots.invariant c.args.change c.in-Some.i c.index.result.now
+    (subst (AllPairs SpotBefore) (sym c.spots.view_is) c.requires.rising)
+    (subst (λ (ss : List Spot). IsPositionOf (changes_of ss) c.args.change (Some c.in-Some.i)) (sym c.spots.view_is) c.in-Some.ensures) c.index.ensures
+    ∙ ap (λ (ss : List Spot). spot_of ss c.args.change) c.spots.view_is
 
-pub returns-in-Ok-clause-spot : goal.returns-in-Ok-clause-spot
-returns-in-Ok-clause-spot c =
-    let reach = c.reach-from in
-    near_ok c.args.spots.now c.args.change reach.result.0 reach.result.1 _ c.requires.rising reach.ensures.bound.0 reach.ensures.bound.1 reach.ensures.all
-    c.in-Ok.i _ c.in-Ok.ensures.bound
-    (c.in-Ok.ensures.position (λ (s : Spot). s.change) (answers_always _ _ _ (λ f a r h called. search rules)) _)
+pub returns-in-Some-clause-position : goal.returns-in-Some-clause-position
+returns-in-Some-clause-position c changes are = position_of changes c.args.spots.now c.args.change _ (returns-in-Some-clause-spot c) are
 
-pub returns-in-Ok-clause-position : goal.returns-in-Ok-clause-position
-returns-in-Ok-clause-position c changes are =
-    position_of changes c.args.spots.now c.args.change _ (returns-in-Ok-clause-spot c) are
+pub returns-in-None-clause-spot : goal.returns-in-None-clause-spot
+returns-in-None-clause-spot c = spot_absent c.args.spots.now c.args.change c.in-None.ensures
 
-pub returns-in-Err-clause-spot : goal.returns-in-Err-clause-spot
-returns-in-Err-clause-spot c =
-    let reach = c.reach-from in
-    near_err c.args.spots.now c.args.change reach.result.0 reach.result.1 _ c.requires.rising reach.ensures.bound.0 reach.ensures.bound.1 reach.ensures.all
-    c.in-Err.field-0
-    (c.in-Err.ensures.position (λ (s : Spot). s.change) (answers_always _ _ _ (λ f a r h called. search rules)))
-
-pub returns-in-Err-clause-position : goal.returns-in-Err-clause-position
-returns-in-Err-clause-position c changes are =
-    position_of changes c.args.spots.now c.args.change _ (returns-in-Err-clause-spot c) are
+pub returns-in-None-clause-position : goal.returns-in-None-clause-position
+returns-in-None-clause-position c changes are = position_of changes c.args.spots.now c.args.change _ (returns-in-None-clause-spot c) are

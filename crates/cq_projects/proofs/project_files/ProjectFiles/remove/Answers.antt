@@ -16,10 +16,10 @@ find-requires g c = subst (AreRising path_in) (sym c.deref.ensures.value) (risin
 pub invariant_of-self : goal.invariant_of-self
 invariant_of-self g c =
     let hs = c.self.inside.items.items in
-    subst (λ (ks : List (Arc (File g.row.W.Denot) Global)). AreSpotted (map arc_value ks) c.remove_spot.new.spots.items) (sym c.remove-held.ensures.items)
-    (spotted_remove hs c.self.inside.spots.items c.self.invariant c.args.path.now c.in-Ok.i c.remove_spot.new.spots.items
+    subst (λ (ks : List (Arc (File g.row.W.Denot) Global)). AreSpotted (map arc_value ks) c.remove.new.self) (sym c.remove-held.ensures.items)
+    (spotted_remove hs c.self.inside.spots c.self.invariant c.args.path.now c.in-Ok.i c.remove.new.self
     (subst (λ (ks : List (Arc (File g.row.W.Denot) Global)). IsAt path_in c.args.path.now ks c.in-Ok.i) c.deref.ensures.value c.in-Ok.ensures.found)
-    c.remove-held.result c.behind-held.inside.change c.remove-held.ensures.value (ap (λ (f : File g.row.W.Denot). f.number) (c.behind-held.view_is ∙ c.deref-in-Ok.ensures)) c.remove_spot.ensures)
+    c.remove-held.result c.behind-held.inside.change c.remove-held.ensures.value (ap (λ (f : File g.row.W.Denot). f.number) (c.behind-held.view_is ∙ c.deref-in-Ok.ensures)) c.remove.ensures)
 
 pub returns-in-Ok-clause-files : goal.returns-in-Ok-clause-files
 returns-in-Ok-clause-files g c =

@@ -1,16 +1,18 @@
 -- The spots of files of which one is replaced, put in or taken out.
-use Rattle.std.proofs.Common.{◌≡◌, ◌≢◌, ◌⊎◌, ◌↔◌, ℕ, zero, suc, ◌+◌, ◌-◌, ◌<◌, ◌≤◌, nat_eq, not, Bool, true, List, [], ◌∷◌, ◌++◌, length, map, filter, set, slice_get, Some, refl, sym, ap, ap₂, ◌∙◌, subst, inl, inr, ⊎_elim, arith}
+use Rattle.std.proofs.Common.{◌≡◌, ◌≢◌, ◌⊎◌, ◌↔◌, ℕ, zero, suc, ◌+◌, ◌-◌, ◌<◌, ◌≤◌, nat_eq, not, cond, Bool, true, false, None, List, [], ◌∷◌, ◌++◌, length, map, filter, set, slice_get, Some, refl, sym, ap, ap₂, ◌∙◌, subst, inl, inr, ⊎_elim, arith}
 use Rattle.std.specs.Prelude.{All, AllPairs, Contains, insert, remove}
 use Rattle.std.proofs.lemmas.Bool.{cases_lt, cases_eq}
 use Rattle.std.proofs.lemmas.Bool.Decides.{nat_tests}
 use Rattle.std.proofs.lemmas.List.Elements.{All-contains, Contains-append_left, Contains-append_right, Contains-append_cases}
 use Rattle.std.proofs.lemmas.List.Kept.{AllPairs-filter}
-use Rattle.std.proofs.lemmas.Option.{same_Some, none-some}
-use Rattle.cq_base.proofs.Lists.{Contains-here, Contains-cases, Contains-nil, Contains-map, Contains-from_map, Contains-filter, Contains-from_filter, AllPairs-append, AllPairs-map}
+use Rattle.std.proofs.lemmas.Option.{same_Some, none-some, slice_get_within}
+use Rattle.std.proofs.lemmas.List.{length-map}
+use Rattle.cq_base.proofs.Lists.{Contains-here, Contains-cases, Contains-nil, Contains-map, Contains-from_map, Contains-there, Contains-filter, Contains-from_filter, AllPairs-append, AllPairs-map}
 use Rattle.cq_order.specs.declared.spots.Spot.{Spot}
 use Rattle.cq_order.specs.Spots.{AreSpots, SpotBefore}
-use Rattle.cq_order.proofs.Spotting.{spots_from, spot_each}
-use Rattle.cq_projects.specs.Spotted.{Replaces, Inserts, Removes, opened, closed}
+use Rattle.cq_order.proofs.Spotting.{spots_from, spot_each, tail_rises}
+use Rattle.cq_order.specs.Spots.{IsPositionOf, Replaces, Inserts, Removes, opened, closed, changes_of}
+use Rattle.cq_order.proofs.Pairing.{moved_by, absent_at}
 
 -- ---- what stands at a position of a list that was edited at one
 
@@ -127,27 +129,30 @@ replaces keep gone s old says changes are here latest =
 
 -- ---- one is put in
 
-open_low : (at : ℕ) (t : Spot) → t.file < at → (opened at t).file ≡ t.file
+open_low : (at : ℕ) (t : Spot) → t.file < at → opened at t.file ≡ t.file
 open_low at t lt = grind (arith, nat_tests, lt)
 
-open_high : (at : ℕ) (t : Spot) → at ≤ t.file → (opened at t).file ≡ suc t.file
+open_high : (at : ℕ) (t : Spot) → at ≤ t.file → opened at t.file ≡ suc t.file
 open_high at t le = grind (arith, nat_tests, le)
 
-pub inserts : (s : Spot) (old : List Spot) → Inserts s old (map (opened s.file) old ++ s ∷ [])
-inserts s old changes are within latest =
-    spots_with (insert changes s.file s.change) (map (opened s.file) old) s
-    (AllPairs-map SpotBefore (opened s.file) old are.rising)
-    (λ t there. let (u, was, is) = Contains-from_map (opened s.file) old t there in subst (λ (x : Spot). x.change < s.change) is (older changes old s.change are latest u was))
+pub inserts : (len : ℕ) (s : Spot) (old : List Spot) → s.file ≤ len → Inserts len s old (map (moved_by (opened s.file)) old ++ s ∷ [])
+inserts len s old low changes are size latest =
+    spots_with (insert changes s.file s.change) (map (moved_by (opened s.file)) old) s
+    (AllPairs-map SpotBefore (moved_by (opened s.file)) old are.rising)
+    (λ t there. let (u, was, is) = Contains-from_map (moved_by (opened s.file)) old t there in subst (λ (x : Spot). x.change < s.change) is (older changes old s.change are latest u was))
     (λ t. (
       λ put. ⊎_elim (λ low. inl (before t low put)) (λ le. ⊎_elim (λ at. inr (here t at put)) (λ apart. inl (behind t le apart put)) (cases_eq t.file s.file)) (cases_lt t.file s.file),
       λ either. ⊎_elim
-          (λ there. let (u, was, is) = Contains-from_map (opened s.file) old t there in
+          (λ there. let (u, was, is) = Contains-from_map (moved_by (opened s.file)) old t there in
           subst (λ (x : Spot). slice_get (insert changes s.file s.change) x.file ≡ Some x.change) is (moved u ((spot_each changes old are u).0 was)))
           (λ e. subst (λ (x : Spot). slice_get (insert changes s.file s.change) x.file ≡ Some x.change) e (got_inserted changes s.file s.change within))
           either,
     ))
   where
-    moved : (u : Spot) → slice_get changes u.file ≡ Some u.change → slice_get (insert changes s.file s.change) (opened s.file u).file ≡ Some u.change
+    within : s.file ≤ length changes
+    within = omega (arith, low, size)
+
+    moved : (u : Spot) → slice_get changes u.file ≡ Some u.change → slice_get (insert changes s.file s.change) (moved_by (opened s.file) u).file ≡ Some u.change
     moved u was =
         ⊎_elim
         (λ (lt : u.file < s.file). ap (slice_get (insert changes s.file s.change)) (open_low s.file u lt) ∙ got_before changes s.file u.file s.change lt within ∙ was)
@@ -157,33 +162,103 @@ inserts s old changes are within latest =
     here : (t : Spot) → t.file ≡ s.file → slice_get (insert changes s.file s.change) t.file ≡ Some t.change → s ≡ t
     here t at put = same_spot s t (same_Some _ _ (sym (got_inserted changes s.file s.change within) ∙ ap (slice_get (insert changes s.file s.change)) (sym at) ∙ put)) (sym at)
 
-    before : (t : Spot) → t.file < s.file → slice_get (insert changes s.file s.change) t.file ≡ Some t.change → Contains (map (opened s.file) old) t
+    before : (t : Spot) → t.file < s.file → slice_get (insert changes s.file s.change) t.file ≡ Some t.change → Contains (map (moved_by (opened s.file)) old) t
     before t lt put =
         let was = sym (got_before changes s.file t.file s.change lt within) ∙ put in
-        subst (Contains (map (opened s.file) old)) (same_spot (opened s.file t) t refl (open_low s.file t lt)) (Contains-map (opened s.file) old t ((spot_each changes old are t).1 was))
+        subst (Contains (map (moved_by (opened s.file)) old)) (same_spot (moved_by (opened s.file) t) t refl (open_low s.file t lt)) (Contains-map (moved_by (opened s.file)) old t ((spot_each changes old are t).1 was))
 
-    behind : (t : Spot) → s.file ≤ t.file → t.file ≢ s.file → slice_get (insert changes s.file s.change) t.file ≡ Some t.change → Contains (map (opened s.file) old) t
+    behind : (t : Spot) → s.file ≤ t.file → t.file ≢ s.file → slice_get (insert changes s.file s.change) t.file ≡ Some t.change → Contains (map (moved_by (opened s.file)) old) t
     behind t le apart put =
         let u : Spot = record { change = t.change; file = t.file - 1 } in
         let up : suc u.file ≡ t.file = omega (arith, le, apart) in
         let high : s.file ≤ u.file = omega (arith, le, apart) in
         let was : slice_get changes u.file ≡ Some t.change = sym (got_behind changes s.file u.file s.change high within) ∙ ap (slice_get (insert changes s.file s.change)) up ∙ put in
-        subst (Contains (map (opened s.file) old)) (same_spot (opened s.file u) t refl (open_high s.file u high ∙ up)) (Contains-map (opened s.file) old u ((spot_each changes old are u).1 was))
+        subst (Contains (map (moved_by (opened s.file)) old)) (same_spot (moved_by (opened s.file) u) t refl (open_high s.file u high ∙ up)) (Contains-map (moved_by (opened s.file)) old u ((spot_each changes old are u).1 was))
+
+-- behind all others nothing moves
+none_moved : (at : ℕ) (spots : List Spot) → ((t : Spot) → Contains spots t → t.file < at) → map (moved_by (opened at)) spots ≡ spots
+none_moved at [] below = refl
+none_moved at (t ∷ spots) below =
+    ap₂ (λ (x : Spot) xs. x ∷ xs) (same_spot (moved_by (opened at) t) t refl (open_low at t (below t (Contains-here t spots))))
+    (none_moved at spots (λ u there. below u (Contains-there t u spots there)))
+
+pub appends : (len : ℕ) (s : Spot) (old : List Spot) → s.file ≡ len → Inserts len s old (old ++ s ∷ [])
+appends len s old at changes are size latest =
+    let stay = none_moved s.file old (λ t there. let within = (got_in changes t.file t.change ((spot_each changes old are t).0 there)).0 in omega (arith, within, size, at)) in
+    subst (λ ss. AreSpots (insert changes s.file s.change) (ss ++ s ∷ [])) stay (inserts len s old (omega (arith, at)) changes are size latest)
 
 -- ---- one is taken out
 
-close_low : (at : ℕ) (t : Spot) → t.file ≤ at → (closed at t).file ≡ t.file
+-- among spots that rise, that of a change is the one at its index
+abbrev pub is_not : ℕ → Spot → Bool
+is_not gone t = not (nat_eq t.change gone)
+
+stays : (gone : ℕ) (t : Spot) (spots : List Spot) → t.change ≢ gone → filter (is_not gone) (t ∷ spots) ≡ t ∷ filter (is_not gone) spots
+stays gone t spots other = ap (λ b. cond b (t ∷ filter (is_not gone) spots) (filter (is_not gone) spots)) ((is_other t.change gone).1 other)
+
+all_stay : (gone : ℕ) (spots : List Spot) → ((t : Spot) → Contains spots t → t.change ≢ gone) → filter (is_not gone) spots ≡ spots
+all_stay gone [] other = refl
+all_stay gone (t ∷ spots) other =
+    stays gone t spots (other t (Contains-here t spots)) ∙ ap (λ ss. t ∷ ss) (all_stay gone spots (λ u there. other u (Contains-there t u spots there)))
+
+is_first : (t : Spot) (spots : List Spot) (u : Spot) → AllPairs SpotBefore (t ∷ spots) → Contains spots u → t.change < u.change
+is_first t spots u rising (k, within, at) =
+    subst (λ (x : Spot). t.change < x.change) at (rising 0 (suc k) u (omega arith) (omega (arith, within)))
+
+pub taken_out : (gone : ℕ) (spots : List Spot) (i : ℕ) → AllPairs SpotBefore spots → slice_get (changes_of spots) i ≡ Some gone → remove spots i ≡ filter (is_not gone) spots
+taken_out gone [] i rising here = absurd (none-some gone here)
+taken_out gone (t ∷ spots) zero rising here =
+    let same : t.change ≡ gone = same_Some _ _ here in
+    let out : is_not gone t ≡ false = grind (arith, nat_tests, same) in
+    sym (ap (λ b. cond b (t ∷ filter (is_not gone) spots) (filter (is_not gone) spots)) out
+    ∙ all_stay gone spots (λ u there e. let less = is_first t spots u rising there in omega (arith, less, same, e)))
+taken_out gone (t ∷ spots) (suc i) rising here =
+    let (u, there, is) = Contains-from_map (λ (x : Spot). x.change) spots gone (got_in (changes_of spots) i gone here).1 in
+    let less = is_first t spots u rising there in
+    let at : u.change ≡ gone = is in
+    ap (λ ss. t ∷ ss) (taken_out gone spots i (tail_rises t spots rising) here) ∙ sym (stays gone t spots (λ e. omega (arith, less, at, e)))
+
+pub remove_pushed : (spots : List Spot) (s : Spot) (i : ℕ) → i < length spots → remove (spots ++ s ∷ []) i ≡ remove spots i ++ s ∷ []
+remove_pushed [] s i within = absurd (omega (arith, within))
+remove_pushed (t ∷ spots) s zero within = refl
+remove_pushed (t ∷ spots) s (suc i) within = ap (λ ss. t ∷ ss) (remove_pushed spots s i (omega (arith, within)))
+
+pub index_in : (spots : List Spot) (change i : ℕ) → IsPositionOf (changes_of spots) change (Some i) → i < length spots
+index_in spots change i is =
+    let inside = slice_get_within (changes_of spots) i change ((is i).0 refl) in
+    let many = length-map spots (λ (t : Spot). t.change) in
+    omega (arith, inside, many)
+
+pub replaced : (gone : ℕ) (s : Spot) (old new : List Spot) (i : ℕ) → AllPairs SpotBefore old → IsPositionOf (changes_of old) gone (Some i) → new ≡ remove (old ++ s ∷ []) i → Replaces gone s old new
+replaced gone s old new i rising is now =
+    let at = taken_out gone old i rising ((is i).0 refl) in
+    subst (Replaces gone s old) (sym (now ∙ remove_pushed old s i (index_in old gone i is) ∙ ap (λ ss. ss ++ s ∷ []) at)) (replaces (is_not gone) gone s old (λ t. is_other t.change gone))
+
+-- a change that stands at a file is among the spots
+not_absent : (changes : List ℕ) (spots : List Spot) (s : Spot) → AreSpots changes spots → slice_get changes s.file ≡ Some s.change → IsPositionOf (changes_of spots) s.change None → ⊥
+not_absent changes spots s are here is =
+    let (k, within, at) = (spot_each changes spots are s).1 here in
+    absent_at spots s.change is k s within (ap (λ (t : Spot). t.change) at)
+
+pub replaced_none : (gone : ℕ) (s : Spot) (old new : List Spot) → IsPositionOf (changes_of old) gone None → Replaces gone s old new
+replaced_none gone s old new is changes are here latest =
+    absurd (not_absent changes old (record { change = gone; file = s.file }) are here is)
+
+pub removed_none : (s : Spot) (old new : List Spot) → IsPositionOf (changes_of old) s.change None → Removes s old new
+removed_none s old new is changes are here = absurd (not_absent changes old s are here is)
+
+close_low : (at : ℕ) (t : Spot) → t.file ≤ at → closed at t.file ≡ t.file
 close_low at t le = grind (arith, nat_tests, le)
 
-close_high : (at : ℕ) (t : Spot) → at < t.file → suc (closed at t).file ≡ t.file
+close_high : (at : ℕ) (t : Spot) → at < t.file → suc (closed at t.file) ≡ t.file
 close_high at t lt = grind (arith, nat_tests, lt)
 
-pub removes : (keep : Spot → Bool) (s : Spot) (old : List Spot) → ((t : Spot) → (keep t ≡ true) ↔ (t.change ≢ s.change)) → Removes s old (map (closed s.file) (filter keep old))
+pub removes : (keep : Spot → Bool) (s : Spot) (old : List Spot) → ((t : Spot) → (keep t ≡ true) ↔ (t.change ≢ s.change)) → Removes s old (map (moved_by (closed s.file)) (filter keep old))
 removes keep s old says changes are here =
-    spots_from (remove changes s.file) (map (closed s.file) (filter keep old))
-    (AllPairs-map SpotBefore (closed s.file) (filter keep old) (AllPairs-filter SpotBefore keep old are.rising))
+    spots_from (remove changes s.file) (map (moved_by (closed s.file)) (filter keep old))
+    (AllPairs-map SpotBefore (moved_by (closed s.file)) (filter keep old) (AllPairs-filter SpotBefore keep old are.rising))
     (λ t. (
-      λ there. let (u, kept, is) = Contains-from_map (closed s.file) (filter keep old) t there in
+      λ there. let (u, kept, is) = Contains-from_map (moved_by (closed s.file)) (filter keep old) t there in
           let (was, stays) = Contains-from_filter keep old u kept in
           subst (λ (x : Spot). slice_get (remove changes s.file) x.file ≡ Some x.change) is (moved u ((says u).0 stays) ((spot_each changes old are u).0 was)),
       λ put. ⊎_elim (λ low. below t low put) (λ le. above t le put) (cases_lt t.file s.file),
@@ -193,7 +268,7 @@ removes keep s old says changes are here =
     stays_there u apart was =
         Contains-filter keep old u ((spot_each changes old are u).1 was) ((says u).1 (λ e. apart (one_place changes old are u.file s.file s.change (was ∙ ap Some e) here)))
 
-    moved : (u : Spot) → u.change ≢ s.change → slice_get changes u.file ≡ Some u.change → slice_get (remove changes s.file) (closed s.file u).file ≡ Some u.change
+    moved : (u : Spot) → u.change ≢ s.change → slice_get changes u.file ≡ Some u.change → slice_get (remove changes s.file) (moved_by (closed s.file) u).file ≡ Some u.change
     moved u apart was =
         ⊎_elim
         (λ (lt : u.file < s.file). ap (slice_get (remove changes s.file)) (close_low s.file u (omega (arith, lt))) ∙ got_below changes s.file u.file lt ∙ was)
@@ -201,21 +276,26 @@ removes keep s old says changes are here =
         let other : u.file ≢ s.file = λ e. apart (same_Some _ _ (sym was ∙ ap (slice_get changes) e ∙ here)) in
         let lt : s.file < u.file = omega (arith, le, other) in
         let up = close_high s.file u lt in
-        got_above changes s.file (closed s.file u).file (omega (arith, lt, up)) ∙ ap (slice_get changes) up ∙ was)
+        got_above changes s.file (moved_by (closed s.file) u).file (omega (arith, lt, up)) ∙ ap (slice_get changes) up ∙ was)
         (cases_lt u.file s.file)
 
-    below : (t : Spot) → t.file < s.file → slice_get (remove changes s.file) t.file ≡ Some t.change → Contains (map (closed s.file) (filter keep old)) t
+    below : (t : Spot) → t.file < s.file → slice_get (remove changes s.file) t.file ≡ Some t.change → Contains (map (moved_by (closed s.file)) (filter keep old)) t
     below t lt put =
         let was = sym (got_below changes s.file t.file lt) ∙ put in
-        subst (Contains (map (closed s.file) (filter keep old))) (same_spot (closed s.file t) t refl (close_low s.file t (omega (arith, lt))))
-        (Contains-map (closed s.file) (filter keep old) t (stays_there t (λ e. omega (arith, lt, e)) was))
+        subst (Contains (map (moved_by (closed s.file)) (filter keep old))) (same_spot (moved_by (closed s.file) t) t refl (close_low s.file t (omega (arith, lt))))
+        (Contains-map (moved_by (closed s.file)) (filter keep old) t (stays_there t (λ e. omega (arith, lt, e)) was))
 
-    above : (t : Spot) → s.file ≤ t.file → slice_get (remove changes s.file) t.file ≡ Some t.change → Contains (map (closed s.file) (filter keep old)) t
+    above : (t : Spot) → s.file ≤ t.file → slice_get (remove changes s.file) t.file ≡ Some t.change → Contains (map (moved_by (closed s.file)) (filter keep old)) t
     above t le put =
         let u : Spot = record { change = t.change; file = t.file + 1 } in
         let up : suc t.file ≡ u.file = omega arith in
         let was : slice_get changes u.file ≡ Some t.change = ap (slice_get changes) (sym up) ∙ sym (got_above changes s.file t.file le) ∙ put in
         let back = close_high s.file u (omega (arith, le)) in
-        let down : (closed s.file u).file ≡ t.file = omega (arith, back) in
-        subst (Contains (map (closed s.file) (filter keep old))) (same_spot (closed s.file u) t refl down)
-        (Contains-map (closed s.file) (filter keep old) u (stays_there u (λ e. omega (arith, le, e)) was))
+        let down : (moved_by (closed s.file) u).file ≡ t.file = omega (arith, back) in
+        subst (Contains (map (moved_by (closed s.file)) (filter keep old))) (same_spot (moved_by (closed s.file) u) t refl down)
+        (Contains-map (moved_by (closed s.file)) (filter keep old) u (stays_there u (λ e. omega (arith, le, e)) was))
+
+pub removed : (s : Spot) (old left new : List Spot) (i : ℕ) → AllPairs SpotBefore old → IsPositionOf (changes_of old) s.change (Some i) → left ≡ remove old i → new ≡ map (moved_by (closed s.file)) left → Removes s old new
+removed s old left new i rising is out now =
+    subst (Removes s old) (sym (now ∙ ap (map (moved_by (closed s.file))) (out ∙ taken_out s.change old i rising ((is i).0 refl))))
+    (removes (is_not s.change) s old (λ t. is_other t.change s.change))
