@@ -1,0 +1,4 @@
+pub mod Fronts
+pub mod Owns
+pub mod Keeps
+pub mod Passing

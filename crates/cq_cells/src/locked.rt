@@ -1,0 +1,149 @@
+// The cells by their numbers, and the eight kinds of atomic step on them.
+ghost use Rattle.std.specs.Prelude.{◌≡◌, ◌≢◌, ◌⊎◌, ℕ, ◌-◌, ◌^◌, ◌<◌, ◌≤◌, List, [], ◌∷◌, ◌++◌, length, Option, None, Some, IfOk, IfSome, option_to_list, map};
+ghost use mathlib.Core.List.{IsPrefix};
+ghost use Rattle.cq_cells.specs.Callers.{Differ, OwnSame, NoneFrom, longer};
+ghost use Rattle.cq_cells.specs.Counts.{least_of, more_known};
+ghost use Rattle.cq_cells.specs.Rule.{MayNote};
+ghost use Rattle.cq_cells.specs.Steps.{IsIdle, HasEmpty, IsSameSeat, KeepsCaller, IsOf, first_view, view, less, child, noted_of, AllFit, Fitting};
+
+use crate::law::{CellLaw, Noting};
+use crate::rule::{Beside, CellRule, Compare, NewCaller, Note, Release, Take};
+use crate::view::View;
+use atomic_table::{Refused, Seat, Table};
+use std::alloc::{AllocError, Global};
+use std::sync::Wait;
+
+/// A token of no bytes, with which a thread steps on the cells.
+pub type Seated<I, E, K> = Seat<Option<I>, View<I, E, K>>;
+
+#[derive(Drop)]
+pub struct Locked<I, E, K, L: CellLaw<I, E, K>, R> {
+    table: Table<Option<I>, View<I, E, K>, K, CellRule<L>, Global>,
+    rt: R,
+    count: usize,
+    ghost sized: { (table.shared.table_id.words ≡ count) × (table.shared.table_id.slots ≡ count) × (0 < count) },
+}
+
+impl<I, E, K, L: CellLaw<I, E, K>, R: Wait> Locked<I, E, K, L, R> {
+    /// Takes the cell, and waits while another pass holds it.
+    pub fn take(&self, cell: usize, pass: &mut Seated<I, E, K>) -> I
+        requires own { IsOf self.now.table.shared.table_id self.now.table.shared.key pass.old × (cell < self.now.count) }
+        requires free { IsIdle pass.old }
+        ensures own { IsSameSeat pass.old pass.new × KeepsCaller (view pass.old) (view pass.new) }
+        ensures hand { HasEmpty pass.new cell result None }
+        ensures seen { IsPrefix (view pass.old).seen (view pass.new).seen }
+        ensures value { (log : List E) × (c : ℕ) × IsPrefix (view pass.new).seen log × L.lawful self.now.table.shared.key log × L.fits self.now.table.shared.key log cell c result × (cell ≡ 0 → (view pass.new).seen ≡ log) × (cell ≢ 0 → (view pass.new).seen ≡ (view pass.old).seen) × ((view pass.new).known ≡ more_known cell c (view pass.old).known) × OwnSame L.caller (view pass.old).callers log (view pass.old).seen × (c < 2 ^ 63) × (least_of cell (view pass.old).known ≤ c) }
+    {
+        for _ in self.rt.forever() {
+            let found = self.table.shared.peek(cell);
+            if found % 2 == 0 {
+                let shared = &self.table.shared;
+                if shared.compare_exchange::<Take<L>>(pass, cell, found, found + 1) == found {
+                    return shared.exchange(pass, cell, None).unwrap();
+                }
+            } else {
+                self.table
+                    .shared
+                    .park(&self.rt, cell, (found % (1 << 32)) as u32);
+            }
+        }
+        unreachable!()
+    }
+}
+
+impl<I, E, K, L: CellLaw<I, E, K>, R> Locked<I, E, K, L, R> {
+    /// Notes an event on the board in hand, or none. A load, whose number is ignored.
+    pub fn note<N: Noting<E>>(&self, cell: usize, pass: &mut Seated<I, E, K>)
+        requires own { IsOf self.now.table.shared.table_id self.now.table.shared.key pass.old × (cell < self.now.count) }
+        requires hand { (x : I) × HasEmpty pass.old cell x None }
+        requires lawful { IfSome N.event (λ e. (cell ≡ 0) × MayNote (L.lawful self.now.table.shared.key) L.asks L.caller self.now.count (view pass.old) (view pass.old).seen e) }
+        ensures own { IsSameSeat pass.old pass.new × KeepsCaller (view pass.old) (view pass.new) }
+        ensures hand { (x : I) → HasEmpty pass.old cell x None → HasEmpty pass.new cell x N.event }
+        ensures seen { ((view pass.new).seen ≡ (view pass.old).seen) × ((view pass.new).known ≡ (view pass.old).known) }
+    {
+        self.table.shared.load::<Note<N>>(pass, cell);
+    }
+
+    /// Puts a value into the cell in hand, releases it with this count, and wakes one that waits for it.
+    pub fn release(&self, cell: usize, value: I, count: u64, pass: &mut Seated<I, E, K>)
+        requires own { IsOf self.now.table.shared.table_id self.now.table.shared.key pass.old × (cell < self.now.count) }
+        requires hand { (x : I) × (event : Option E) × HasEmpty pass.old cell x event }
+        requires count { count < 2 ^ 63 }
+        requires fits { (x : I) (event : Option E) → HasEmpty pass.old cell x event → Fitting (L.lawful self.now.table.shared.key) (L.fits self.now.table.shared.key) (view pass.old).seen cell x event count value }
+        ensures own { IsSameSeat pass.old pass.new × KeepsCaller (view pass.old) (view pass.new) }
+        ensures free { IsIdle pass.new }
+        ensures seen { (view pass.new).seen ≡ (view pass.old).seen ++ option_to_list (noted_of (view pass.old).hand) }
+        ensures known { (view pass.new).known ≡ more_known cell count (view pass.old).known }
+        ensures reached { cell ≢ 0 → least_of cell (view pass.old).known ≤ count }
+    {
+        match self.table.shared.exchange(pass, cell, Some(value)) {
+            None => {}
+            Some(_old) => unreachable!(),
+        }
+        self.table.shared.store::<Release>(pass, cell, 2 * count);
+        self.table.shared.wake_one(cell);
+    }
+
+    /// The pass of the next caller, which has seen as much.
+    pub fn split(&self, pass: &mut Seated<I, E, K>) -> Seated<I, E, K>
+        requires own { IsOf self.now.table.shared.table_id self.now.table.shared.key pass.old }
+        requires free { IsIdle pass.old }
+        requires room { 0 < (view pass.old).room }
+        ensures same { IsSameSeat pass.old pass.new × IsIdle pass.new × (view pass.new ≡ less (view pass.old)) }
+        ensures new { IsOf self.now.table.shared.table_id self.now.table.shared.key result × IsIdle result × (view result ≡ child (view pass.old)) }
+    {
+        self.table.shared.split_seat::<NewCaller>(pass)
+    }
+
+    /// Takes in what another pass has seen, and its numbers. What one had seen begins with what the other had.
+    pub fn join(&self, pass: &mut Seated<I, E, K>, other: Seated<I, E, K>)
+        requires own { IsOf self.now.table.shared.table_id self.now.table.shared.key pass.old × IsOf self.now.table.shared.table_id self.now.table.shared.key other }
+        requires free { IsIdle pass.old × IsIdle other }
+        ensures own { IsSameSeat pass.old pass.new × IsIdle pass.new }
+        ensures seen { ((view pass.new).seen ≡ longer (view pass.old).seen (view other).seen) × (IsPrefix (view pass.old).seen (view other).seen ⊎ IsPrefix (view other).seen (view pass.old).seen) }
+        ensures callers { ((view pass.new).callers ≡ (view pass.old).callers ++ (view other).callers) × ((view pass.new).next ≡ (view pass.old).next) × ((view pass.new).room ≡ (view pass.old).room) × ((view pass.new).about ≡ (view pass.old).about) }
+        ensures mine { OwnSame L.caller (view pass.old).callers (view pass.new).seen (view pass.old).seen }
+        ensures theirs { OwnSame L.caller (view other).callers (view pass.new).seen (view other).seen }
+        ensures apart { Differ (view pass.new).callers }
+        ensures fresh { 0 < (view pass.new).next → NoneFrom L.caller (view pass.new).next (view pass.new).seen }
+        ensures known { (view pass.new).known ≡ (view pass.old).known ++ (view other).known }
+    {
+        self.table.shared.join_seat::<Beside>(pass, other);
+        self.table.shared.load::<Compare<L>>(pass, 0);
+    }
+
+    /// Cells with these values, each free, and the pass of the first caller.
+    pub fn new(
+        rt: R,
+        alloc: Global,
+        values: Vec<I>,
+        about: &K,
+    ) -> Result<(Locked<I, E, K, L, R>, Seated<I, E, K>), AllocError>
+    where
+        I: Drop,
+        R: Drop,
+        requires some { (0 < length values.items) × (0 < L.total about.now) }
+        requires lawful { L.lawful about.now [] }
+        requires fits { AllFit (L.fits about.now) 0 values.items }
+        ensures { IfOk result (λ c. IsOf c.0.table.shared.table_id c.0.table.shared.key c.1 × (c.0.table.shared.key ≡ about.now) × (c.0.count ≡ length values.items) × IsIdle c.1 × (view c.1 ≡ first_view (L.total about.now) about.now)) }
+    {
+        let count = values.len();
+        let words = Vec::from_elem(alloc, 0u64, count)?;
+        let slots = filled(alloc, values)?;
+        let (table, pass) = match Table::new(alloc, words.as_slice(), slots, about) {
+            Ok(made) => made,
+            Err(Refused { slots: _ }) => return Err(AllocError),
+        };
+        Ok((Locked { table, rt, count }, pass))
+    }
+}
+
+fn filled<I: Drop>(alloc: Global, values: Vec<I>) -> Result<Vec<Option<I>>, AllocError>
+    ensures { IfOk result (λ v. v.items ≡ map Some values.items) }
+{
+    let mut slots = Vec::with_capacity(alloc, values.len())?;
+    for value in values {
+        slots.push(Some(value))?;
+    }
+    Ok(slots)
+}

@@ -1,0 +1,42 @@
+use crate::item::Item;
+use crate::locked::Seated;
+use std::marker::Model;
+
+/// A caller's right to step on the cells. Contracts see what the caller knows: the history that it has seen, the cell
+/// that it holds, and how far the shards are. A pass that is dropped while it holds a cell leaves that cell held.
+#[derive(Drop)]
+pub struct Pass<B, S, E, K> {
+    pub(crate) seat: Seated<Item<B, S>, E, K>,
+    pub(crate) by: u32,
+    pub(crate) next: u32,
+}
+
+impl<B, S, E, K> Model for Pass<B, S, E, K> {
+    ghost use Rattle.cq_cells.specs.Passes.{PassState, pass_state, PassOk};
+    ghost use Rattle.cq_cells.specs.declared.item.Item.{Item};
+
+    ghost Value = { PassState (Item B S) E K };
+
+    ghost view = { λ p. pass_state p.seat.table_id p.seat.me.0 };
+
+    ghost invariant = { λ p. PassOk p.by p.next p.seat.me.0 p.seat.me.1 };
+}
+
+impl<B, S, E, K> Pass<B, S, E, K> {
+    ghost use Rattle.std.specs.Prelude.{◌≡◌};
+    ghost use Rattle.cq_cells.specs.Passes.{by_of};
+
+    /// The number of its caller.
+    pub fn by(&self) -> u32
+        ensures { result ≡ by_of self.now }
+    {
+        self.by
+    }
+
+    /// The number that the next split gives. 0 in each pass but the first.
+    pub fn next(&self) -> u32
+        ensures { result ≡ self.now.next }
+    {
+        self.next
+    }
+}
