@@ -9,12 +9,12 @@ use Rattle.cq_cells.specs.declared.view.Hand.{Hand}
 use Rattle.cq_cells.specs.declared.view.Hand.TheVariants.{Free, Has}
 use Rattle.cq_cells.specs.declared.item.Item.{Item}
 use Rattle.cq_cells.specs.declared.item.Item.TheVariants as item
-use Rattle.cq_cells.specs.Callers.{OwnSame}
+use Rattle.cq_cells.specs.Callers.{own, OwnSame}
 use Rattle.cq_cells.specs.Counts.{least_of, more_known}
 use Rattle.cq_cells.specs.Rule.{MayNote}
 use Rattle.cq_cells.specs.Steps.{noted_of, first_view, less, child, IsCompared, KeepsCaller, AllFit, Fitting}
 use Rattle.cq_cells.specs.Items.{Fits}
-use Rattle.cq_cells.specs.Passes.{CellsState, PassState, pass_state, Lies, PassOk, HasReached, MayAdd, IsFound, IsStep, AreFresh, least}
+use Rattle.cq_cells.specs.Passes.{CellsState, PassState, pass_state, Lies, PassOk, HasReached, MayAdd, IsFound, IsStep, AreFresh, IsOwn, least}
 
 module _ {I E : Type 0} where
   value_of : Hand I E → I → I
@@ -103,6 +103,15 @@ ok_first {I} {E} {K} total key v slots has is = record {
 pub keeps_both : {I E K : Type 0} (u v w : View I E K) → KeepsCaller u v → KeepsCaller v w → KeepsCaller u w
 keeps_both u v w p q = (q.0 ∙ p.0, q.1 ∙ p.1, q.2 ∙ p.2, q.3 ∙ p.3)
 
+-- of the events of a pass's callers
+pub owns : {I E K : Type 0} (caller : E → Option ℕ) (p' p : PassState I E K) (log : List E) → p' ≡ p → 0 < length p.callers → OwnSame caller p'.callers log p'.seen → IsOwn caller p log
+owns {I} {E} {K} caller p' p log is some_one h =
+    let every : OwnSame caller p.callers log p.seen = subst (λ (z : PassState I E K). OwnSame caller z.callers log z.seen) is h in record { by = first p.callers some_one every; all = every }
+  where
+    first : (cs : List ℕ) → 0 < length cs → OwnSame caller cs log p.seen → own caller (slice_index cs 0) log ≡ own caller (slice_index cs 0) p.seen
+    first [] some_c all = absurd (omega arith)
+    first (c ∷ cs) some_c all = all.0
+
 -- what is known of the shards
 pub least_append : (k : ℕ) (xs ys : List (ℕ × ℕ)) → least_of k (xs ++ ys) ≡ max (least_of k xs) (least_of k ys)
 least_append k [] ys = omega arith
@@ -177,16 +186,16 @@ module _ {B S E K : Type 0} (lawful : K → List E → Type 0) (board : K → Li
       )
 
   -- the shard that was taken
-  pub found : (caller : E → Option ℕ) (s c : ℕ) (x : S) (z : Item B S) (log : List E) (q : PassState (Item B S) E K) → z ≡ item.Shard x → q.seen ≡ p'.seen → IsPrefix q.seen log → lawful here.about log
+  pub found : 0 < length p.callers → (caller : E → Option ℕ) (s c : ℕ) (x : S) (z : Item B S) (log : List E) (q : PassState (Item B S) E K) → z ≡ item.Shard x → q.seen ≡ p'.seen → IsPrefix q.seen log → lawful here.about log
       → Fits (board here.about) (shard here.about) log (s + 1) c z → OwnSame caller p'.callers log p'.seen → c < 2 ^ 63 → q.known ≡ more_known (s + 1) c p'.known → least_of (s + 1) p'.known ≤ c
       → IsFound (lawful cells.about) (shard cells.about) caller s x p q
-  found caller s c x z log q is same pre law fit own small known low =
+  found some_one caller s c x z log q is same pre law fit own small known low =
       let was : IsFound (lawful here.about) (shard here.about) caller s x p' q = record {
         log = log;
         applied = c;
         begins = subst (λ (l : List E). IsPrefix l log) same pre;
         law = law;
-        own = own;
+        own = owns caller p' p' log refl (subst (λ (z : PassState (Item B S) E K). 0 < length z.callers) (sym is_mine) some_one) own;
         is = shard_is (board here.about) (shard here.about) log s c z x is fit;
         small = small;
         reached = has_reached s c p' q known low;

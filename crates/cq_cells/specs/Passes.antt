@@ -1,5 +1,5 @@
 -- What contracts see of cells and of passes.
-use Rattle.std.specs.Prelude.{◌≡◌, ◌≢◌, ◌⊎◌, ℕ, ◌+◌, ◌<◌, ◌≤◌, ◌^◌, List, [], ◌∷◌, ◌++◌, length, slice_index, Option, Some, None}
+use Rattle.std.specs.Prelude.{◌≡◌, ◌≢◌, ◌⊎◌, ℕ, ◌+◌, ◌-◌, ◌<◌, ◌≤◌, ◌^◌, List, [], ◌∷◌, ◌++◌, length, slice_index, Option, Some, None}
 use mathlib.Core.List.{IsPrefix}
 use Rattle.atomic_table.specs.Seated.{TableId}
 use Rattle.cq_cells.specs.declared.view.View.{View}
@@ -7,7 +7,7 @@ use Rattle.cq_cells.specs.declared.view.Hand.{Hand}
 use Rattle.cq_cells.specs.declared.view.Hand.TheVariants.{Free, Has}
 use Rattle.cq_cells.specs.declared.item.Item.{Item}
 use Rattle.cq_cells.specs.declared.item.Item.TheVariants as item
-use Rattle.cq_cells.specs.Callers.{MayCall, OwnSame}
+use Rattle.cq_cells.specs.Callers.{own, MayCall, OwnSame}
 use Rattle.cq_cells.specs.Counts.{least_of}
 
 -- cells: which they are, what they were made with, how many shards they have beside the board, and how many callers there may be
@@ -27,6 +27,9 @@ pub record PassState (I E K : Type 0) : Type 0 where
   pub known : List (ℕ × ℕ)
   pub next : ℕ
   pub room : ℕ
+
+abbrev pub cells_state : {K : Type 0} → TableId → K → ℕ → ℕ → CellsState K
+cells_state table about count callers = record { table = table; about = about; shards = count - 1; callers = callers }
 
 abbrev pub pass_state : {I E K : Type 0} → TableId → View I E K → PassState I E K
 pass_state table v = record { table = table; about = v.about; callers = v.callers; seen = v.seen; hand = v.hand; known = v.known; next = v.next; room = v.room }
@@ -59,6 +62,10 @@ module _ {I E K : Type 0} where
     pub first : 0 < p.next → p.next + p.room ≡ cells.callers
     pub later : p.next ≡ 0 → p.room ≡ 0
 
+  -- the pass of the first caller, as it is made
+  abbrev pub first_pass : CellsState K → PassState I E K
+  first_pass cells = record { table = cells.table; about = Some cells.about; callers = 0 ∷ []; seen = []; hand = Free; known = []; next = 1; room = cells.callers - 1 }
+
   -- the pass holds no cell
   abbrev pub IsFree : PassState I E K → Type 0
   IsFree p = p.hand ≡ Free
@@ -69,9 +76,10 @@ module _ {I E K : Type 0} where
     pub next : q.next ≡ p.next
     pub room : q.room ≡ p.room
 
-  -- of each of the pass's callers the history has the events that the pass has seen
-  abbrev pub IsOwn : (E → Option ℕ) → PassState I E K → List E → Type 0
-  IsOwn caller p log = OwnSame caller p.callers log p.seen
+  -- the history has the events of the pass's caller that the pass has seen and no other, and those of each caller that ended in it
+  pub record IsOwn (caller : E → Option ℕ) (p : PassState I E K) (log : List E) : Type 0 where
+    pub by : own caller (slice_index p.callers 0) log ≡ own caller (slice_index p.callers 0) p.seen
+    pub all : OwnSame caller p.callers log p.seen
 
   -- how many changes the shard is known to have applied
   abbrev pub least : PassState I E K → ℕ → ℕ
@@ -113,6 +121,10 @@ pub record IsFound {I E K S : Type 0} (lawful : List E → Type 0) (holds : List
 abbrev pub IsStep : {E S : Type 0} → (List E → Type 0) → (List E → ℕ → ℕ → S → Type 0) → List E → ℕ → S → ℕ → S → Type 0
 IsStep lawful holds seen shard x applied y = (log : List _) (a : ℕ) → lawful log → IsPrefix seen log → holds log shard a x
     → holds log shard applied y × ((applied ≡ a) ⊎ (applied ≡ a + 1))
+
+-- the same of the shard that the pass holds
+abbrev pub MayLeave : {B S E K : Type 0} → (List E → Type 0) → (List E → ℕ → ℕ → S → Type 0) → PassState (Item B S) E K → ℕ → ℕ → S → Type 0
+MayLeave lawful holds p shard applied y = (x : _) → HasShard p shard x → IsStep lawful holds p.seen shard x applied y
 
 -- shards that have applied nothing, before any event
 abbrev pub AreFresh : {E S : Type 0} → (List E → ℕ → ℕ → S → Type 0) → ℕ → List S → Type 0

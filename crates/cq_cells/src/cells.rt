@@ -1,9 +1,8 @@
 ghost use Rattle.std.specs.Prelude.{◌≡◌, ◌≢◌, ◌⊎◌, ℕ, ◌+◌, ◌-◌, ◌^◌, ◌%◌, ◌<◌, ◌≤◌, max, List, [], ◌∷◌, ◌++◌, map, length, Option, None, Some, IfOk, IfSome, option_to_list};
 ghost use mathlib.Core.List.{IsPrefix};
 ghost use Rattle.cq_cells.specs.Callers.{Differ, NoneFrom, longer};
-ghost use Rattle.cq_cells.specs.declared.view.Hand.TheVariants.{Free};
 ghost use Rattle.cq_cells.specs.declared.item.Item.TheVariants as item;
-ghost use Rattle.cq_cells.specs.Passes.{CellsState, IsPassOf, IsFree, IsSameCaller, IsOwn, HasBoard, HasShard, MayAdd, IsFound, IsStep, HasReached, AreFresh, least};
+ghost use Rattle.cq_cells.specs.Passes.{CellsState, IsPassOf, IsFree, IsSameCaller, IsOwn, HasBoard, HasShard, MayAdd, MayLeave, IsFound, HasReached, AreFresh, first_pass, least};
 
 use crate::item::Item;
 use crate::law::{ByCell, Law};
@@ -20,12 +19,12 @@ pub struct Cells<B, S, E, K, L: Law<B, S, E, K>, R> {
 }
 
 impl<B, S, E, K, L: Law<B, S, E, K>, R> Model for Cells<B, S, E, K, L, R> {
-    ghost use Rattle.std.specs.Prelude.{◌≡◌, ◌+◌, ◌-◌, ◌<◌, ◌≤◌, ◌^◌};
-    ghost use Rattle.cq_cells.specs.Passes.{CellsState};
+    ghost use Rattle.std.specs.Prelude.{◌<◌, ◌^◌};
+    ghost use Rattle.cq_cells.specs.Passes.{CellsState, cells_state};
 
     ghost Value = { CellsState K };
 
-    ghost view = { λ c. record { table = c.locked.table.shared.table_id; about = c.locked.table.shared.key; shards = c.locked.count - 1; callers = L.callers c.locked.table.shared.key } };
+    ghost view = { λ c. cells_state c.locked.table.shared.table_id c.locked.table.shared.key c.locked.count (L.callers c.locked.table.shared.key) };
 
     ghost invariant = { λ c. L.callers c.locked.table.shared.key < 2 ^ 32 };
 }
@@ -90,7 +89,7 @@ impl<B, S, E, K, L: Law<B, S, E, K>, R> Cells<B, S, E, K, L, R> {
         requires of { IsPassOf self.now pass.old }
         requires shard { shard < self.now.shards }
         requires hand { (x : S) × HasShard pass.old shard x }
-        requires step { (x : S) → HasShard pass.old shard x → IsStep (L.lawful self.now.about) (L.shard self.now.about) pass.old.seen shard x applied value }
+        requires step { MayLeave (L.lawful self.now.about) (L.shard self.now.about) pass.old shard applied value }
         requires small { applied < 2 ^ 63 }
         ensures of { IsPassOf self.now pass.new × IsSameCaller pass.old pass.new }
         ensures free { IsFree pass.new }
@@ -120,7 +119,8 @@ impl<B, S, E, K, L: Law<B, S, E, K>, R> Cells<B, S, E, K, L, R> {
         Pass { seat, by, next: 0 }
     }
 
-    /// Ends the callers of another pass: this one has then seen what either had, and has their numbers.
+    /// Ends the callers of another pass: this one has then seen what either had, and has their numbers. Where the other is
+    /// the first pass, no more callers are made.
     pub fn join_pass(&self, pass: &mut Pass<B, S, E, K>, other: Pass<B, S, E, K>)
         requires of { IsPassOf self.now pass.old × IsPassOf self.now other }
         requires free { IsFree pass.old × IsFree other }
@@ -158,9 +158,10 @@ impl<B, S, E, K, L: Law<B, S, E, K>, R> Cells<B, S, E, K, L, R> {
         requires lawful { L.lawful about.now [] }
         requires board { L.board about.now [] board }
         requires shards { AreFresh (L.shard about.now) 0 shards.items }
-        ensures cells { IfOk result (λ c. (c.0.about ≡ about.now) × (c.0.shards ≡ length shards.items) × (c.0.callers ≡ L.callers about.now)) }
+        ensures about { IfOk result (λ c. (c.0.about ≡ about.now) × (c.0.callers ≡ L.callers about.now)) }
+        ensures shards { IfOk result (λ c. c.0.shards ≡ length shards.items) }
         ensures of { IfOk result (λ c. IsPassOf c.0 c.1) }
-        ensures first { IfOk result (λ c. c.1 ≡ record { table = c.0.table; about = Some about.now; callers = 0 ∷ []; seen = []; hand = Free; known = []; next = 1; room = L.callers about.now - 1 }) }
+        ensures first { IfOk result (λ c. c.1 ≡ first_pass c.0) }
     {
         let values = items(alloc, board, shards)?;
         let (locked, seat) = Locked::new(rt, alloc, values, about)?;

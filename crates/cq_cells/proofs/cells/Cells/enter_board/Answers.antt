@@ -1,5 +1,6 @@
-use Rattle.std.proofs.Common.{None, ap, ◌∙◌}
-use Rattle.cq_cells.proofs.Passing.{idle_seat, ok_held}
+use Rattle.std.proofs.Common.{None, refl, sym, subst, ap, ◌∙◌}
+use Rattle.cq_cells.specs.Callers.{OwnSame}
+use Rattle.cq_cells.proofs.Passing.{idle_seat, ok_held, owns}
 use Rattle.cq_cells.proofs.cells.Cells.enter_board.Goals as goal
 
 pub take-requires-clause-free : goal.take-requires-clause-free
@@ -9,3 +10,7 @@ take-requires-clause-free g c = let p = c.pass.inside in
 pub invariant_of-pass : goal.invariant_of-pass
 invariant_of-pass g c = let p = c.pass.inside in let q = c.take.new.pass in
     ok_held p.by p.next p.seat.me.0 p.seat.me.1 q.me.0 q.me.1 _ c.take.result None c.pass.invariant c.take.ensures.hand c.take.ensures.own.1
+
+pub returns-clause-own : goal.returns-clause-own
+returns-clause-own g c = let v = c.take.ensures.value in let was = c.pass.inside.seat.me.0 in
+    owns g.L.Law.caller _ _ _ c.pass.view_is c.requires.of.has_caller (subst (λ l. OwnSame g.L.Law.caller was.callers l was.seen) (sym (v.5 refl)) v.8)

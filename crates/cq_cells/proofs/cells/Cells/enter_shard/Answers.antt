@@ -12,5 +12,5 @@ invariant_of-pass g c = let p = c.pass.inside in let q = c.take.new.pass in
 
 pub returns-clause-shard : goal.returns-clause-shard
 returns-clause-shard g c = let v = c.take.ensures.value in
-    found g.L.Law.lawful g.L.Law.board g.L.Law.shard _ _ _ _ c.self.view_is c.pass.view_is g.L.Law.caller c.args.shard v.1 c.in-Shard.shard c.take.result v.0 _
+    found g.L.Law.lawful g.L.Law.board g.L.Law.shard _ _ _ _ c.self.view_is c.pass.view_is c.requires.of.has_caller g.L.Law.caller c.args.shard v.1 c.in-Shard.shard c.take.result v.0 _
     c.in-Shard.is (v.6 (λ e. omega arith)) v.2 v.3 v.4 v.8 v.9 v.7 v.10

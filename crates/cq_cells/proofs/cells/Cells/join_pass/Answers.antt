@@ -1,5 +1,5 @@
 use Rattle.std.proofs.Common.{ap, sym, ◌∙◌, ◌<◌, length, subst}
-use Rattle.cq_cells.proofs.Passing.{idle_seat, ok_joined, joined_least}
+use Rattle.cq_cells.proofs.Passing.{idle_seat, ok_joined, joined_least, owns}
 use Rattle.cq_cells.proofs.cells.Cells.join_pass.Goals as goal
 
 pub join-requires-clause-free : goal.join-requires-clause-free
@@ -16,3 +16,9 @@ invariant_of-pass g c = let p = c.pass.inside in let q = c.join.new.pass in
 pub returns-clause-least : goal.returns-clause-least
 returns-clause-least g c = let p = c.pass.inside in let q = c.other.inside in
     joined_least p.seat.table_id q.seat.table_id p.seat.me.0 q.seat.me.0 c.join.new.pass.me.0 _ _ c.pass.view_is c.other.view_is c.join.ensures.known
+
+pub returns-clause-own : goal.returns-clause-own
+returns-clause-own g c = (
+  owns g.L.Law.caller _ _ _ c.pass.view_is c.requires.of.0.has_caller c.join.ensures.mine,
+  owns g.L.Law.caller _ _ _ c.other.view_is c.requires.of.1.has_caller c.join.ensures.theirs,
+)
