@@ -2,11 +2,11 @@
 use Rattle.std.specs.Prelude.{◌≡◌, ℕ, List, Option, Result}
 use Rattle.cq_base.specs.declared.measures.Measures.{Measures}
 use Rattle.cq_base.specs.declared.settings.Settings.{Settings}
+use Rattle.cq_io.specs.Sending.{Sends}
 use Rattle.cq_reply.specs.declared.reply.FileRow.{FileRow}
 use Rattle.cq_reply.specs.declared.reply.GroupRow.{GroupRow}
 use Rattle.cq_reply.specs.declared.reply.Reply.{Reply}
 use Rattle.cq_reply.specs.declared.reply.Reply.TheVariants as reply
-use Rattle.cq_session.specs.Sending.{Sends}
 use Rattle.cq_make.specs.Summary.{IsSummary}
 
 -- the project's line is sent

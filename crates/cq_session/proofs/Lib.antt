@@ -1,4 +1,3 @@
-pub mod Sent
 pub mod Answered
 pub mod Spending
 pub mod LineCosts

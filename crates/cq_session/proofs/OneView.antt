@@ -1,7 +1,6 @@
 -- A view that is opened, read and shut.
-use Rattle.std.proofs.Common.{◌≡◌, ℕ, Bool, true, false, zero, suc, ◌<◌, ◌≤◌, List, [], ◌∷◌, ◌++◌, append-nil, length, take, fold, get_or, set, Option, Some, None, refl, sym, ap, ◌∙◌, subst, arith}
+use Rattle.std.proofs.Common.{◌≡◌, ℕ, Bool, true, false, ◌<◌, ◌≤◌, List, [], ◌∷◌, ◌++◌, length, set, Some, None, refl, sym, ◌∙◌, subst, arith}
 use Rattle.std.specs.Prelude.{IsSome}
-use Rattle.std.proofs.lemmas.List.{length-replicate, get_or-set_same}
 use Rattle.cq_base.specs.declared.lang.Lang.{Lang}
 use Rattle.cq_base.specs.declared.settings.Settings.{Settings}
 use Rattle.cq_answer.specs.Reply.{IsReply}
@@ -9,16 +8,12 @@ use Rattle.cq_ask.specs.Moves.{Later}
 use Rattle.cq_board.specs.declared.listing.View.{View}
 use Rattle.cq_history.specs.declared.event.Event.{Event}
 use Rattle.cq_history.specs.declared.event.Event.TheVariants.{Open, Shut}
-use Rattle.cq_history.specs.State.{State, start, after, state, accepted, view_of}
+use Rattle.cq_history.specs.State.{after, state, accepted, view_of}
 use Rattle.cq_history.specs.Lawful.{Lawful}
-use Rattle.cq_history.proofs.States.{state_push, Lawful-prefix}
-use Rattle.cq_history.proofs.Openings.{views_after}
-use Rattle.cq_history.proofs.Prefixes.{accepted-append, changes_in-state}
-use Rattle.cq_base.specs.declared.change.Change.{Change}
-use Rattle.cq_board.specs.Listings.{IsListing}
-use Rattle.std.specs.Arc.{arc_value}
+use Rattle.cq_history.proofs.States.{Lawful-prefix}
 use Rattle.cq_hub.specs.Hubs.{Calls, Grows, IsPublication, Never}
 use Rattle.cq_hub.specs.Views.{IsLatest, IsOpen}
+use Rattle.cq_hub.proofs.Following.{latest_opened, shut_then}
 use Rattle.cq_hub.proofs.Growing.{grows_none, grows_then, grows_event, grows_own, view_grows, rises, no_fewer}
 use Rattle.cq_reply.specs.declared.reply.Reply.{Reply}
 use Rattle.cq_request.specs.declared.request.Query.{Query}
@@ -29,25 +24,6 @@ use Rattle.cq_session.specs.Costs.{Viewing, Counts, counted, Costs}
 use Rattle.cq_session.specs.Viewing.{ShowsAt, ViewsOrNot}
 use Rattle.cq_session.proofs.Spending.{costs_none, costs_later}
 use Rattle.cq_talk.proofs.Leading.{stands_mid}
-
-set_none : (views : List (Option ℕ)) (c : ℕ) → get_or (set views c None) c None ≡ None
-set_none [] c = refl
-set_none (v ∷ views) zero = refl
-set_none (v ∷ views) (suc c) = set_none views c
-
-many_views : (s : State) (h : List Event) → length (fold after s h).views ≡ length s.views
-many_views s [] = refl
-many_views s (e ∷ h) = many_views (after s e) h ∙ views_after s e
-
-pub view_opened : (callers c v : ℕ) (h : List Event) → c < callers → view_of (state callers (h ++ Open c v ∷ [])) c ≡ Some v
-view_opened callers c v h lt =
-    let none : Option ℕ = None in
-    let many = many_views (start callers) h in
-    let all = length-replicate callers none in
-    ap (λ s. view_of s c) (state_push callers h (Open c v)) ∙ get_or-set_same (state callers h).views c (Some v) None (omega (arith, many, all, lt))
-
-view_shut : (callers c : ℕ) (h : List Event) → view_of (state callers (h ++ Shut c ∷ [])) c ≡ None
-view_shut callers c h = ap (λ s. view_of s c) (state_push callers h (Shut c)) ∙ set_none (state callers h).views c
 
 module _ {S P W : Type 0} (Stands : S → P → ℕ → List Event → Type 0) (set : Settings) (callers : ℕ) (alone : Type 0) (hub : S) (IsWork : Lang → List ℕ → W → Type 0)
     (lawful : (pass : P) (c : ℕ) (h : List Event) → Stands hub pass c h → Lawful set callers h) (caller : (pass : P) (c : ℕ) (h : List Event) → Stands hub pass c h → c < callers) (c to : ℕ) (h : List Event) where
@@ -82,10 +58,7 @@ module _ {S P W : Type 0} (Stands : S → P → ℕ → List Event → Type 0) (
 
       -- the view is open then
       pub is_open : IsOpen IsWork (state callers (opened.mid ++ Open c view.version ∷ [])) c view
-      is_open = record {
-        version = view_opened callers c view.version opened.mid (caller two c before opened.stands);
-        shows = subst (λ (cs : List Change). IsListing IsWork (take view.version cs) (arc_value view.listing)) (changes_in-state callers opened.mid ∙ sym (changes_in-state callers before ∙ accepted-append opened.mid (Open c view.version ∷ []) ∙ append-nil (accepted opened.mid))) opened.says.1;
-      }
+      is_open = latest_opened callers c opened.mid IsWork view (caller two c before opened.stands) opened.says
 
       module _ (three : P) (moved : Later Stands callers alone IsWork hub view c before three) where
         -- and still is when it is shut
@@ -136,7 +109,7 @@ module _ {S P W : Type 0} (Stands : S → P → ℕ → List Event → Type 0) (
           was_shown q r n is costs = record {
             after = later;
             stands = shut.stands;
-            closed = view_shut callers c shut.mid;
+            closed = shut_then callers c shut.mid;
             holds = record {
               version = view.version;
               views = was_viewed;
@@ -151,6 +124,6 @@ module _ {S P W : Type 0} (Stands : S → P → ℕ → List Event → Type 0) (
           was_given_up q n costs = record {
             after = later;
             stands = shut.stands;
-            closed = view_shut callers c shut.mid;
+            closed = shut_then callers c shut.mid;
             holds = record { view = Some view.version; views = was_viewed; within = few_later; costs = costs_then q false n costs };
           }

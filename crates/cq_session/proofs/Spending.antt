@@ -17,17 +17,10 @@ use Rattle.cq_hub.proofs.Growing.{all-append}
 use Rattle.cq_reply.specs.declared.reply.Reply.{Reply}
 use Rattle.cq_request.specs.declared.request.Query.{Query}
 use Rattle.cq_talk.specs.Said.{Said}
+use Rattle.cq_talk.proofs.BesideRows.{all_before, all_behind}
 use Rattle.cq_session.specs.Costs.{Viewing, AreViewings, AreAllViewings, opened_by, Counts, counted, Costs, Spends, RisesAtLeast}
 
 -- ---- lists
-
-all_left : {A : Type 0} (P : A → Type 0) (xs ys : List A) → AllByRecursion P (xs ++ ys) → AllByRecursion P xs
-all_left P [] ys all = tt
-all_left P (x ∷ xs) ys all = (all.0, all_left P xs ys all.1)
-
-all_right : {A : Type 0} (P : A → Type 0) (xs ys : List A) → AllByRecursion P (xs ++ ys) → AllByRecursion P ys
-all_right P [] ys all = all
-all_right P (x ∷ xs) ys all = all_right P xs ys all.1
 
 all_kept : {A : Type 0} (P : A → Type 0) (x : A) (xs : List A) (b : Bool) → P x → AllByRecursion P xs → AllByRecursion P (cond b (x ∷ xs) xs)
 all_kept P x xs true one all = (one, all)
@@ -100,8 +93,8 @@ costs_same set changes vs reads reads_now asked asked_now before after was is co
 module _ (set : Settings) (changes : List Change) (vs us : List Viewing) (reads reads_mid reads_now asked asked_mid asked_now : ℕ) (one : Costs set changes vs (counted reads reads_mid asked asked_mid)) (two : Costs set changes us (counted reads_mid reads_now asked_mid asked_now)) where
   reads_both : (most : Viewing → ℕ) → AllByRecursion (Most set changes most) (vs ++ us) → reads_now ≤ reads + sum_by most (vs ++ us)
   reads_both most all =
-      let first = one.reads most (all_left _ vs us all) in
-      let second = two.reads most (all_right _ vs us all) in
+      let first = one.reads most (all_before _ vs us all) in
+      let second = two.reads most (all_behind _ vs us all) in
       let sum = sum_by-append most vs us in
       omega (arith, first, second, sum)
 
@@ -109,15 +102,15 @@ module _ (set : Settings) (changes : List Change) (vs us : List Viewing) (reads 
   asked_both keys all =
       let apart : told (vs ++ us) ≡ told vs ++ told us = filter-append (λ (v : Viewing). v.answered) vs us in
       let split = subst (AllByRecursion (Keys set changes keys)) apart all in
-      let first = one.asked keys (all_left _ (told vs) (told us) split) in
-      let second = two.asked keys (all_right _ (told vs) (told us) split) in
+      let first = one.asked keys (all_before _ (told vs) (told us) split) in
+      let second = two.asked keys (all_behind _ (told vs) (told us) split) in
       let sum = ap (sum_by (many keys)) apart ∙ sum_by-append (many keys) (told vs) (told us) in
       omega (arith, first, second, sum)
 
   asked_most_both : (keys : Viewing → List ℕ) → AllByRecursion (Keys set changes keys) (vs ++ us) → RisesAtMost asked asked_now (sum_by (many keys) (vs ++ us))
   asked_most_both keys all =
-      let first = one.asked_most keys (all_left _ vs us all) in
-      let second = two.asked_most keys (all_right _ vs us all) in
+      let first = one.asked_most keys (all_before _ vs us all) in
+      let second = two.asked_most keys (all_behind _ vs us all) in
       let sum = sum_by-append (many keys) vs us in
       (omega (arith, first.0, second.0), omega (arith, first.1, second.1, sum))
 

@@ -10,6 +10,7 @@ use Rattle.cq_lines.specs.Pieces.{line_limit}
 use Rattle.cq_request.specs.declared.request.Request.{Request}
 use Rattle.cq_request.specs.declared.request.Request.TheVariants as request
 use Rattle.cq_request.specs.declared.request.Refusal.{Refusal}
+use Rattle.cq_reply.specs.Lines.{NeedsMemory}
 use Rattle.cq_reply.specs.declared.reply.Reply.{Reply}
 use Rattle.cq_reply.specs.declared.reply.Reply.TheVariants as reply
 use Rattle.cq_talk.specs.Replies.{seen_after}
@@ -18,7 +19,6 @@ use Rattle.cq_talk.specs.Talk.{Talk, Answers, IsAnswer, IsChanged, IsGivenUp, Wa
 use Rattle.cq_talk.proofs.Saying.{said_long}
 use Rattle.cq_talk.proofs.Talking.{turn_more}
 use Rattle.cq_session.specs.Costs.{AtCost, Counts}
-use Rattle.cq_session.specs.Told.{NeedsMemory}
 use Rattle.cq_session.specs.Turn.{IsTalk}
 
 module _ (set : Settings) (callers : ℕ) (alone : Type 0) (c : ℕ) where

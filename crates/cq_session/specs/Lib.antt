@@ -1,6 +1,5 @@
-pub mod Told
 pub mod Costs
 pub mod Viewing
-pub mod Sending
 pub mod Turn
+pub mod Passes
 pub mod Serving

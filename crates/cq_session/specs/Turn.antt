@@ -2,13 +2,13 @@
 use Rattle.std.specs.Prelude.{◌≡◌, ℕ, max, List, map, Option, Result}
 use Rattle.cq_base.specs.declared.settings.Settings.{Settings}
 use Rattle.cq_history.specs.declared.event.Event.{Event}
+use Rattle.cq_io.specs.Sending.{Sends}
 use Rattle.cq_reply.specs.declared.reply.Reply.{Reply}
 use Rattle.cq_reply.specs.Written.{line_of}
 use Rattle.cq_talk.specs.Replies.{named}
 use Rattle.cq_talk.specs.Said.{Said, said}
 use Rattle.cq_talk.specs.Talk.{Talk, Answers}
 use Rattle.cq_session.specs.Costs.{AreAllViewings, AreViewings, Counts, Spends}
-use Rattle.cq_session.specs.Sending.{Sends}
 
 -- the replies to lines, from one history to another, where nothing was named before
 abbrev pub IsTalk : Settings → ℕ → Type 0 → ℕ → List Event → List Event → List (List ℕ) → List Reply → Type 0

@@ -3,27 +3,20 @@ ghost use Rattle.cq_base.specs.Changes.{IsSoundChange};
 ghost use Rattle.cq_base.specs.Settings.{IsInRange};
 ghost use Rattle.cq_history.specs.State.{accepted};
 ghost use Rattle.cq_hub.specs.Hubs.{IsPassOf};
-ghost use Rattle.cq_lines.specs.Pieces.{line_limit};
 ghost use Rattle.cq_reply.specs.Written.{IsReplyText};
-ghost use Rattle.cq_reply.specs.declared.reply.Reply.TheVariants as reply;
 ghost use Rattle.cq_request.specs.Reading.{line_says};
 ghost use Rattle.cq_request.specs.declared.request.Request.TheVariants as request;
-ghost use Rattle.cq_talk.specs.Said.{Read};
-ghost use Rattle.cq_talk.specs.Steps.{Always, Led, MayLead};
-ghost use Rattle.cq_talk.specs.Talk.{IsAnswer, IsAnswered, IsChanged, IsGivenUp, Tells, Waits};
-ghost use Rattle.cq_session.specs.Costs.{AtCost, counted};
-ghost use Rattle.cq_session.specs.Told.{bytes_of};
-ghost use Rattle.cq_session.specs.Turn as turn;
+ghost use Rattle.cq_talk.specs.Steps.{MayLead};
+ghost use Rattle.cq_session.specs.Passes.{HasAnswered, HasChanged, HasGivenUp, HasReplied, HasTold, HasWaited};
 
 use crate::helping::help;
-use crate::refusing::refusal_of;
-use crate::telling::{Line, line_of, named};
 use crate::viewing::view_reply;
+use cq_answer::refused_as;
 use cq_base::{Change, Memory, Settings, Steps};
 use cq_board::Refused;
 use cq_hub::Hub;
 use cq_key::Keyer;
-use cq_reply::{Reply, Short, fixed};
+use cq_reply::Reply;
 use cq_request::{Query, Request, read_request};
 use cq_shard::Indexed;
 use cq_work::Work;
@@ -38,9 +31,9 @@ fn change_reply<W: Indexed, H: Hub<W>>(
 ) -> Result<Reply, Memory>
     requires stands { IsPassOf H.Stands hub.now pass.old }
     requires sound { IsSoundChange change }
-    ensures replies { IfOk result (λ r. Led H.Stands (H.callers hub.now) hub.now pass.old pass.new Always (λ c h. IsChanged (H.settings hub.now) (H.callers hub.now) H.alone c h change r)) }
+    ensures replies { IfOk result (HasChanged H.Hub hub.now pass.old pass.new change) }
     ensures text { IfOk result IsReplyText }
-    ensures refused { OnErr result (Led H.Stands (H.callers hub.now) hub.now pass.old pass.new Always (λ c h. Waits H.alone c h)) }
+    ensures refused { OnErr result (HasWaited H.Hub hub.now pass.old pass.new) }
     ensures asked { H.asked pass.new ≡ H.asked pass.old }
 {
     match hub.accept(alloc, change, pass) {
@@ -54,7 +47,7 @@ fn change_reply<W: Indexed, H: Hub<W>>(
 
 fn state_reply<W: Indexed, H: Hub<W>>(hub: &H, pass: &mut H::Pass) -> Reply
     requires stands { IsPassOf H.Stands hub.now pass.old }
-    ensures replies { Led H.Stands (H.callers hub.now) hub.now pass.old pass.new Always (λ c h. Tells (H.settings hub.now) (H.callers hub.now) H.alone c h result) }
+    ensures replies { HasTold H.Hub hub.now pass.old pass.new result }
     ensures text { IsReplyText result }
     ensures asked { H.asked pass.new ≡ H.asked pass.old }
 {
@@ -66,8 +59,8 @@ fn state_reply<W: Indexed, H: Hub<W>>(hub: &H, pass: &mut H::Pass) -> Reply
     }
 }
 
-/// The reply to a query whose floor is at least `seen`. Where memory is refused, what was done is a beginning of what the
-/// query does.
+/// The reply to a query whose floor is at least `seen`. Where memory is refused, what was done is a beginning of what
+/// the query does.
 pub fn query_reply<L: Ledger, H: Hub<Work<L>>>(
     alloc: Global,
     settings: &Settings,
@@ -83,9 +76,10 @@ pub fn query_reply<L: Ledger, H: Hub<Work<L>>>(
     requires hub_settings { H.settings hub.now ≡ settings.now }
     requires long { settings.now.chunk ≤ query.now.min }
     requires closed { MayLead H.Stands (H.callers hub.now) hub.now pass.old (λ h. seen ≤ length (accepted h)) }
-    ensures replies { IfOk result (λ r. Led H.Stands (H.callers hub.now) hub.now pass.old pass.new (λ h. seen ≤ length (accepted h)) (λ c h. AtCost (H.settings hub.now) c (Read (ok (request.Query query.now))) r (counted steps.old steps.new (H.asked pass.old) (H.asked pass.new)) h (IsAnswered (H.settings hub.now) (H.callers hub.now) H.alone c seen h query.now r))) }
+    ensures replies { IfOk result (HasAnswered H.Hub hub.now pass.old pass.new steps.old steps.new seen query.now) }
     ensures text { IfOk result IsReplyText }
-    ensures refused { OnErr result (Led H.Stands (H.callers hub.now) hub.now pass.old pass.new (λ h. seen ≤ length (accepted h)) (λ c h. AtCost (H.settings hub.now) c (Read (ok (request.Query query.now))) reply.Memory (counted steps.old steps.new (H.asked pass.old) (H.asked pass.new)) h (IsGivenUp (H.settings hub.now) (H.callers hub.now) H.alone c seen h (Read (ok (request.Query query.now)))))) }
+    ensures refused { OnErr result (HasGivenUp H.Hub hub.now pass.old pass.new steps.old steps.new seen
+        (ok (request.Query query.now))) }
 {
     let asked = hub.ask(pass);
     if query.at > asked.accepted {
@@ -111,8 +105,8 @@ pub fn query_reply<L: Ledger, H: Hub<Work<L>>>(
     view_reply(alloc, settings, hub, query, asked.done, pass, steps)
 }
 
-// The reply to what a line says. Where memory is refused, what was done is a beginning of what the line does.
-fn reply_to<L: Ledger, H: Hub<Work<L>>>(
+/// The reply to what a line says. Where memory is refused, what was done is a beginning of what the line does.
+pub(crate) fn reply_to<L: Ledger, H: Hub<Work<L>>>(
     alloc: Global,
     settings: &Settings,
     keyer: &Keyer,
@@ -126,9 +120,11 @@ fn reply_to<L: Ledger, H: Hub<Work<L>>>(
     requires settings { keyer.now.settings ≡ settings.now }
     requires hub_settings { H.settings hub.now ≡ settings.now }
     requires closed { MayLead H.Stands (H.callers hub.now) hub.now pass.old (λ h. seen ≤ length (accepted h)) }
-    ensures replies { IfOk result (λ r. Led H.Stands (H.callers hub.now) hub.now pass.old pass.new (λ h. seen ≤ length (accepted h)) (λ c h. AtCost (H.settings hub.now) c (Read (line_says settings.now.chunk line.now)) r (counted steps.old steps.new (H.asked pass.old) (H.asked pass.new)) h (IsAnswer (H.settings hub.now) (H.callers hub.now) H.alone c seen h (Read (line_says settings.now.chunk line.now)) r))) }
+    ensures replies { IfOk result (HasReplied H.Hub hub.now pass.old pass.new steps.old steps.new seen
+        (line_says settings.now.chunk line.now)) }
     ensures text { IfOk result IsReplyText }
-    ensures refused { OnErr result (Led H.Stands (H.callers hub.now) hub.now pass.old pass.new (λ h. seen ≤ length (accepted h)) (λ c h. AtCost (H.settings hub.now) c (Read (line_says settings.now.chunk line.now)) reply.Memory (counted steps.old steps.new (H.asked pass.old) (H.asked pass.new)) h (IsGivenUp (H.settings hub.now) (H.callers hub.now) H.alone c seen h (Read (line_says settings.now.chunk line.now))))) }
+    ensures refused { OnErr result (HasGivenUp H.Hub hub.now pass.old pass.new steps.old steps.new seen
+        (line_says settings.now.chunk line.now)) }
 {
     match read_request(alloc, settings, line) {
         Ok(Request::Change(change)) => change_reply(alloc, hub, change, pass),
@@ -136,32 +132,6 @@ fn reply_to<L: Ledger, H: Hub<Work<L>>>(
             query_reply(alloc, settings, keyer, hub, &query, seen, pass, steps)
         }
         Ok(Request::State) => Ok(state_reply(hub, pass)),
-        Err(refusal) => refusal_of(refusal),
-    }
-}
-
-/// The line that tells the reply to a line, and the number that the reply names.
-pub(crate) fn told<L: Ledger, H: Hub<Work<L>>>(
-    alloc: Global,
-    settings: &Settings,
-    keyer: &Keyer,
-    hub: &H,
-    line: &[u8],
-    seen: u64,
-    pass: &mut H::Pass,
-    steps: &mut Steps<L>,
-) -> (Line, u64)
-    requires in_range { IsInRange settings.now }
-    requires settings { keyer.now.settings ≡ settings.now }
-    requires hub_settings { H.settings hub.now ≡ settings.now }
-    requires closed { MayLead H.Stands (H.callers hub.now) hub.now pass.old (λ h. seen ≤ length (accepted h)) }
-    ensures { Led H.Stands (H.callers hub.now) hub.now pass.old pass.new (λ h. seen ≤ length (accepted h)) (λ c h. turn.Tells (H.settings hub.now) (H.callers hub.now) H.alone c seen h (counted steps.old steps.new (H.asked pass.old) (H.asked pass.new)) (Read (line_says settings.now.chunk line.now)) (bytes_of result.0) result.1) }
-{
-    match reply_to(alloc, settings, keyer, hub, line, seen, pass, steps) {
-        Ok(reply) => match line_of(alloc, &reply) {
-            Ok(line) => (line, named(&reply)),
-            Err(Memory) => (Line::Short(fixed(Short::Memory)), 0),
-        },
-        Err(Memory) => (Line::Short(fixed(Short::Memory)), 0),
+        Err(refusal) => refused_as(refusal),
     }
 }

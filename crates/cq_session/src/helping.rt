@@ -1,10 +1,11 @@
-ghost use Rattle.std.specs.Prelude.{◌≡◌, ◌≤◌, ◌+◌, ℕ, OnOk, OnErr, IfOk, length};
+ghost use Rattle.std.specs.Prelude.{◌≡◌, ◌≤◌, ◌+◌, OnOk, OnErr, IfOk, length};
 ghost use Rattle.std.specs.Arc.{arc_value};
 ghost use Rattle.cq_base.specs.Settings.{IsInRange};
 ghost use Rattle.cq_board.specs.Sound.{HasSoundText};
 ghost use Rattle.cq_history.specs.State.{state, accepted, ready, IsAccepted, IsDone};
-ghost use Rattle.cq_talk.specs.Steps.{Always, Helps, Led, MayLead};
+ghost use Rattle.cq_talk.specs.Steps.{Always, MayLead};
 ghost use Rattle.cq_work.specs.Work.{IsWorkOf};
+ghost use Rattle.cq_session.specs.Passes.{HasHelped};
 
 use cq_base::{Memory, Settings};
 use cq_board::{Finished, Job};
@@ -24,7 +25,8 @@ fn work_for<L: Ledger>(
     requires in_range { IsInRange settings.now }
     requires settings { keyer.now.settings ≡ settings.now }
     requires sound { HasSoundText job.now }
-    ensures { IfOk result (λ work. IsWorkOf settings.now job.now.lang (arc_value job.now.text) (arc_value work)) }
+    ensures { IfOk result (λ work.
+        IsWorkOf settings.now job.now.lang (arc_value job.now.text) (arc_value work)) }
 {
     let work = work_of(alloc, settings, keyer, job.lang, &job.text)?;
     Ok(Arc::new(alloc, work)?)
@@ -42,9 +44,11 @@ fn help_one<L: Ledger, H: Hub<Work<L>>>(
     requires in_range { IsInRange settings.now }
     requires settings { keyer.now.settings ≡ settings.now }
     requires hub_settings { H.settings hub.now ≡ settings.now }
-    requires accepted { MayLead H.Stands (H.callers hub.now) hub.now pass.old (λ h. IsAccepted (state (H.callers hub.now) h) change) }
-    ensures done { OnOk result (Led H.Stands (H.callers hub.now) hub.now pass.old pass.new Always (λ c h. Helps H.alone c change h (λ after. IsDone (state (H.callers hub.now) after) change))) }
-    ensures refused { OnErr result (Led H.Stands (H.callers hub.now) hub.now pass.old pass.new Always (λ c h. Helps H.alone c change h Always)) }
+    requires accepted { MayLead H.Stands (H.callers hub.now) hub.now pass.old
+        (λ h. IsAccepted (state (H.callers hub.now) h) change) }
+    ensures done { OnOk result (HasHelped H.Hub hub.now pass.old pass.new Always change
+        (λ after. IsDone (state (H.callers hub.now) after) change)) }
+    ensures refused { OnErr result (HasHelped H.Hub hub.now pass.old pass.new Always change Always) }
     ensures asked { H.asked pass.new ≡ H.asked pass.old }
 {
     match hub.job(change, pass) {
@@ -60,8 +64,8 @@ fn help_one<L: Ledger, H: Hub<Work<L>>>(
     }
 }
 
-/// The works of the changes behind the first `done`, which are done, are done up to the one with the number `to`. Each costs
-/// what `work_of` does, unless it is done by then.
+/// The works of the changes behind the first `done`, which are done, are done up to the one with the number `to`. Each
+/// costs what `work_of` does, unless it is done by then.
 pub(crate) fn help<L: Ledger, H: Hub<Work<L>>>(
     alloc: Global,
     settings: &Settings,
@@ -74,9 +78,13 @@ pub(crate) fn help<L: Ledger, H: Hub<Work<L>>>(
     requires in_range { IsInRange settings.now }
     requires settings { keyer.now.settings ≡ settings.now }
     requires hub_settings { H.settings hub.now ≡ settings.now }
-    requires accepted { MayLead H.Stands (H.callers hub.now) hub.now pass.old (λ h. (done ≤ ready (state (H.callers hub.now) h)) × (to ≤ length (accepted h))) }
-    ensures done { OnOk result (Led H.Stands (H.callers hub.now) hub.now pass.old pass.new (λ h. done ≤ ready (state (H.callers hub.now) h)) (λ c h. Helps H.alone c to h (λ after. done ≤ to → to ≤ ready (state (H.callers hub.now) after)))) }
-    ensures refused { OnErr result (Led H.Stands (H.callers hub.now) hub.now pass.old pass.new (λ h. done ≤ ready (state (H.callers hub.now) h)) (λ c h. Helps H.alone c to h Always)) }
+    requires accepted { MayLead H.Stands (H.callers hub.now) hub.now pass.old
+        (λ h. (done ≤ ready (state (H.callers hub.now) h)) × (to ≤ length (accepted h))) }
+    ensures done { OnOk result (HasHelped H.Hub hub.now pass.old pass.new
+        (λ h. done ≤ ready (state (H.callers hub.now) h)) to
+        (λ after. done ≤ to → to ≤ ready (state (H.callers hub.now) after))) }
+    ensures refused { OnErr result (HasHelped H.Hub hub.now pass.old pass.new
+        (λ h. done ≤ ready (state (H.callers hub.now) h)) to Always) }
     ensures asked { H.asked pass.new ≡ H.asked pass.old }
 {
     'changes: for i in done..to {

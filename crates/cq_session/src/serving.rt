@@ -2,40 +2,27 @@ ghost use Rattle.std.specs.Prelude.{◌≡◌, ◌≤◌, length};
 ghost use Rattle.cq_base.specs.Settings.{IsInRange};
 ghost use Rattle.cq_history.specs.State.{accepted};
 ghost use Rattle.cq_io.specs.Causes.{HasCause};
+ghost use Rattle.cq_io.specs.Sending.{Sends};
 ghost use Rattle.cq_lines.specs.Pieces.{line_limit};
 ghost use Rattle.cq_lines.specs.Runs.{IsFresh};
+ghost use Rattle.cq_lines.specs.Serving.{Serves, HasEndCause};
 ghost use Rattle.cq_reply.specs.Written.{line_of};
 ghost use Rattle.cq_reply.specs.declared.reply.Reply.TheVariants as reply;
 ghost use Rattle.cq_talk.specs.Steps.{Always, Led, MayLead};
 ghost use Rattle.cq_session.specs.Costs.{counted};
-ghost use Rattle.cq_session.specs.Sending.{Sends};
-ghost use Rattle.cq_session.specs.Serving.{Serves, HasEndCause};
-ghost use Rattle.cq_session.specs.Turn.{CountedTalk, Turns};
+ghost use Rattle.cq_session.specs.Passes.{HasSentLine};
+ghost use Rattle.cq_session.specs.Turn.{CountedTalk};
 
-use crate::answering::told;
-use crate::sending::send;
+use crate::telling::told;
 use cq_base::{Settings, Steps};
 use cq_hub::Hub;
-use cq_io::{Failed, Sink, Source};
+use cq_io::{Failed, Sink, Source, send};
 use cq_key::Keyer;
-use cq_lines::{Cut, Lines};
+use cq_lines::{Cut, End, Lines};
 use cq_reply::{Short, fixed};
 use cq_work::Work;
 use std::alloc::Global;
 use std::sync::ledger::Ledger;
-
-/// How a session ended.
-#[derive(Clone, Copy, Debug, PartialEq, Eq)]
-pub enum End {
-    /// The input was read to its end, and every reply was written.
-    Finished,
-    /// The source failed, and the lines taken before have their replies.
-    ReadFault,
-    /// The sink failed, and what was written is a front of the replies.
-    WriteFault,
-    /// As many bytes were taken as may be, and every whole line of them has its reply.
-    Spent,
-}
 
 // Writes the reply to a line, which is not too long. What the reply names is seen from then on.
 fn turn<L: Ledger, H: Hub<Work<L>>, K: Sink>(
@@ -54,7 +41,8 @@ fn turn<L: Ledger, H: Hub<Work<L>>, K: Sink>(
     requires hub_settings { H.settings hub.now ≡ settings.now }
     requires short { length line.now ≤ line_limit }
     requires closed { MayLead H.Stands (H.callers hub.now) hub.now pass.old (λ h. seen.old ≤ length (accepted h)) }
-    ensures turns { Led H.Stands (H.callers hub.now) hub.now pass.old pass.new (λ h. seen.old ≤ length (accepted h)) (λ c h. Turns settings.now (H.callers hub.now) H.alone c seen.old h (counted steps.old steps.new (H.asked pass.old) (H.asked pass.new)) line.now (K.written sink.old) (K.written sink.new) result seen.new) }
+    ensures turns { HasSentLine H.Hub hub.now pass.old pass.new steps.old steps.new seen.old settings.now line.now
+        (K.written sink.old) (K.written sink.new) result seen.new }
     ensures cause { HasCause (K.faults sink.old) (K.faults sink.new) result }
 {
     let (line, number) = told(alloc, settings, keyer, hub, line, *seen, pass, steps);
@@ -70,9 +58,9 @@ fn turn_long<K: Sink>(sink: &mut K) -> Result<(), Failed>
     send(sink, fixed(Short::Long).as_bytes())
 }
 
-/// Answers the lines of a source one by one by calls of a hub, whose pass has no view open. Windows have the keys of `keyer`.
-/// Each whole reply is handed to the sink before the next line is cut. Afterwards the pass stands for the history to which
-/// the talk came, with no view open.
+/// Answers the lines of a source one by one by calls of a hub, whose pass has no view open. Windows have the keys of
+/// `keyer`. Each whole reply is handed to the sink before the next line is cut. Afterwards the pass stands for the
+/// history to which the talk came, with no view open.
 pub fn session<L: Ledger, H: Hub<Work<L>>, S: Source, K: Sink>(
     alloc: Global,
     settings: &Settings,
@@ -89,8 +77,12 @@ pub fn session<L: Ledger, H: Hub<Work<L>>, S: Source, K: Sink>(
     requires settings { keyer.now.settings ≡ settings.now }
     requires hub_settings { H.settings hub.now ≡ settings.now }
     requires closed { MayLead H.Stands (H.callers hub.now) hub.now pass.old Always }
-    ensures served { Led H.Stands (H.callers hub.now) hub.now pass.old pass.new Always (λ c h after. Serves (CountedTalk settings.now (H.callers hub.now) H.alone c h (counted steps.old steps.new (H.asked pass.old) (H.asked pass.new)) after) lines.old.limit (S.rest source.old) (S.rest source.new) (K.written sink.old) (K.written sink.new) result) }
-    ensures cause { HasEndCause (S.faults source.old) (S.faults source.new) (K.faults sink.old) (K.faults sink.new) result }
+    ensures served { Led H.Stands (H.callers hub.now) hub.now pass.old pass.new Always (λ c h after.
+        Serves line_of (CountedTalk settings.now (H.callers hub.now) H.alone c h
+        (counted steps.old steps.new (H.asked pass.old) (H.asked pass.new)) after)
+        lines.old.limit (S.rest source.old) (S.rest source.new) (K.written sink.old) (K.written sink.new) result) }
+    ensures cause { HasEndCause (S.faults source.old) (S.faults source.new)
+        (K.faults sink.old) (K.faults sink.new) result }
 {
     let mut seen = 0u64;
     'lines: loop {

@@ -1,47 +1,23 @@
-ghost use Rattle.std.specs.Prelude.{◌≡◌, IfOk, OnErr};
-ghost use Rattle.cq_reply.specs.Written.{line_of, IsReplyText};
+ghost use Rattle.std.specs.Prelude.{◌≡◌, ◌≤◌, length};
+ghost use Rattle.cq_base.specs.Settings.{IsInRange};
+ghost use Rattle.cq_history.specs.State.{accepted};
+ghost use Rattle.cq_reply.specs.Lines.{bytes_of};
+ghost use Rattle.cq_request.specs.Reading.{line_says};
 ghost use Rattle.cq_talk.specs.Replies.{named as named_in};
-ghost use Rattle.cq_session.specs.Told.{bytes_of, NeedsMemory};
+ghost use Rattle.cq_talk.specs.Steps.{MayLead};
+ghost use Rattle.cq_session.specs.Passes.{HasLine};
 
-use cq_base::{Memory, Text};
-use cq_reply::{Fixed, Reply, Short, fixed, write_reply};
+use crate::answering::reply_to;
+use cq_base::{Memory, Settings, Steps};
+use cq_hub::Hub;
+use cq_key::Keyer;
+use cq_reply::{Line, Reply, Short, fixed, line_of};
+use cq_work::Work;
 use std::alloc::Global;
+use std::sync::ledger::Ledger;
 
-/// The line of a reply, made in memory or without it.
-#[derive(Drop)]
-pub(crate) enum Line {
-    Made(Text),
-    Short(Fixed),
-}
-
-impl Line {
-    pub(crate) fn as_bytes(&self) -> &[u8]
-        ensures { result.now ≡ bytes_of self.now }
-    {
-        match self {
-            Line::Made(text) => text.as_bytes(),
-            Line::Short(text) => text.as_bytes(),
-        }
-    }
-}
-
-/// The line of a reply. Whether a change was accepted is told without memory, and so is a change that is not done.
-pub(crate) fn line_of(alloc: Global, reply: &Reply) -> Result<Line, Memory>
-    requires { IsReplyText reply.now }
-    ensures line { IfOk result (λ line. bytes_of line ≡ line_of reply.now) }
-    ensures memory { OnErr result (NeedsMemory reply.now) }
-{
-    match reply {
-        Reply::Change(number) => Ok(Line::Short(fixed(Short::Change(*number)))),
-        Reply::Pending(number) => Ok(Line::Short(fixed(Short::Pending(*number)))),
-        Reply::Long => Ok(Line::Short(fixed(Short::Long))),
-        Reply::Memory => Ok(Line::Short(fixed(Short::Memory))),
-        _ => Ok(Line::Made(write_reply(alloc, reply)?)),
-    }
-}
-
-/// The number that a reply names as change, version or published, and 0 where it names none.
-pub(crate) fn named(reply: &Reply) -> u64
+// The number that a reply names as change, version or published, and 0 where it names none.
+fn named(reply: &Reply) -> u64
     ensures { result ≡ named_in reply.now }
 {
     match reply {
@@ -52,5 +28,32 @@ pub(crate) fn named(reply: &Reply) -> u64
         Reply::Verdict { version, .. } => *version,
         Reply::State { published, .. } => *published,
         _ => 0,
+    }
+}
+
+/// The line that tells the reply to a line, and the number that the reply names.
+pub(crate) fn told<L: Ledger, H: Hub<Work<L>>>(
+    alloc: Global,
+    settings: &Settings,
+    keyer: &Keyer,
+    hub: &H,
+    line: &[u8],
+    seen: u64,
+    pass: &mut H::Pass,
+    steps: &mut Steps<L>,
+) -> (Line, u64)
+    requires in_range { IsInRange settings.now }
+    requires settings { keyer.now.settings ≡ settings.now }
+    requires hub_settings { H.settings hub.now ≡ settings.now }
+    requires closed { MayLead H.Stands (H.callers hub.now) hub.now pass.old (λ h. seen ≤ length (accepted h)) }
+    ensures { HasLine H.Hub hub.now pass.old pass.new steps.old steps.new seen
+        (line_says settings.now.chunk line.now) (bytes_of result.0) result.1 }
+{
+    match reply_to(alloc, settings, keyer, hub, line, seen, pass, steps) {
+        Ok(reply) => match line_of(alloc, &reply) {
+            Ok(line) => (line, named(&reply)),
+            Err(Memory) => (Line::Short(fixed(Short::Memory)), 0),
+        },
+        Err(Memory) => (Line::Short(fixed(Short::Memory)), 0),
     }
 }

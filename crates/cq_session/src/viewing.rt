@@ -4,13 +4,11 @@ ghost use Rattle.cq_base.specs.Settings.{IsInRange};
 ghost use Rattle.cq_answer.specs.Reply.{IsReply};
 ghost use Rattle.cq_ask.specs.Moves.{Moves};
 ghost use Rattle.cq_history.specs.State.{state, ready};
-ghost use Rattle.cq_hub.specs.Hubs.{HasSeen};
-ghost use Rattle.cq_hub.specs.Views.{IsOpen};
 ghost use Rattle.cq_reply.specs.Written.{IsReplyText};
-ghost use Rattle.cq_talk.specs.Steps.{Always, Led, MayLead};
+ghost use Rattle.cq_talk.specs.Steps.{MayLead};
 ghost use Rattle.cq_work.specs.Work.{IsWorkOf};
 ghost use Rattle.cq_session.specs.Costs.{Costs, counted};
-ghost use Rattle.cq_session.specs.Viewing.{InView, ShowsAt, ViewsOrNot};
+ghost use Rattle.cq_session.specs.Passes.{HasOpen, HasShown, HasViewedOrNot, WhereOpen};
 
 use cq_answer::answer;
 use cq_ask::PassBuckets;
@@ -36,11 +34,15 @@ fn reply_in<L: Ledger, H: Hub<Work<L>>>(
     requires in_range { IsInRange settings.now }
     requires hub_settings { H.settings hub.now ≡ settings.now }
     requires long { settings.now.chunk ≤ query.now.min }
-    requires viewing { HasSeen H.Stands hub.now pass.old (λ c h. IsOpen (IsWorkOf (H.settings hub.now)) (state (H.callers hub.now) h) c view.now) }
-    ensures reply { IfOk result (λ reply. InView H.Stands (H.callers hub.now) (IsWorkOf (H.settings hub.now)) hub.now view.now pass.old (λ changes. IsReply (H.settings hub.now) changes view.now.version query.now reply)) }
+    requires viewing { HasOpen H.Hub hub.now IsWorkOf view.now pass.old }
+    ensures reply { IfOk result (λ reply. WhereOpen H.Hub hub.now IsWorkOf view.now pass.old
+        (λ changes. IsReply (H.settings hub.now) changes view.now.version query.now reply)) }
     ensures text { IfOk result IsReplyText }
-    ensures costs { InView H.Stands (H.callers hub.now) (IsWorkOf (H.settings hub.now)) hub.now view.now pass.old (λ changes. Costs (H.settings hub.now) changes (record { query = query.now; version = view.now.version; answered = is_ok result } ∷ []) (counted steps.old steps.new (H.asked pass.old) (H.asked pass.new))) }
-    ensures moves { Moves H.Stands (H.callers hub.now) H.alone (IsWorkOf (H.settings hub.now)) hub.now view.now pass.old pass.new }
+    ensures costs { WhereOpen H.Hub hub.now IsWorkOf view.now pass.old (λ changes. Costs (H.settings hub.now) changes
+        (record { query = query.now; version = view.now.version; answered = is_ok result } ∷ [])
+        (counted steps.old steps.new (H.asked pass.old) (H.asked pass.new))) }
+    ensures moves { Moves H.Stands (H.callers hub.now) H.alone (IsWorkOf (H.settings hub.now))
+        hub.now view.now pass.old pass.new }
 {
     let files = view.listing.project(&query.project);
     let conditions = view.listing.conditions(&query.project);
@@ -62,8 +64,8 @@ fn reply_in<L: Ledger, H: Hub<Work<L>>>(
     )
 }
 
-/// The reply to a query at a version that is not below `to`, up to which all changes are done. A view of it is opened for
-/// the reply, and is shut again however that ends.
+/// The reply to a query at a version that is not below `to`, up to which all changes are done. A view of it is opened
+/// for the reply, and is shut again however that ends.
 pub(crate) fn view_reply<L: Ledger, H: Hub<Work<L>>>(
     alloc: Global,
     settings: &Settings,
@@ -76,10 +78,11 @@ pub(crate) fn view_reply<L: Ledger, H: Hub<Work<L>>>(
     requires in_range { IsInRange settings.now }
     requires hub_settings { H.settings hub.now ≡ settings.now }
     requires long { settings.now.chunk ≤ query.now.min }
-    requires ready { MayLead H.Stands (H.callers hub.now) hub.now pass.old (λ h. to ≤ ready (state (H.callers hub.now) h)) }
-    ensures shown { IfOk result (λ reply. Led H.Stands (H.callers hub.now) hub.now pass.old pass.new Always (λ c h. ShowsAt (H.settings hub.now) H.alone c to query.now (counted steps.old steps.new (H.asked pass.old) (H.asked pass.new)) reply h)) }
+    requires ready { MayLead H.Stands (H.callers hub.now) hub.now pass.old
+        (λ h. to ≤ ready (state (H.callers hub.now) h)) }
+    ensures shown { IfOk result (HasShown H.Hub hub.now pass.old pass.new steps.old steps.new to query.now) }
     ensures text { IfOk result IsReplyText }
-    ensures refused { OnErr result (Led H.Stands (H.callers hub.now) hub.now pass.old pass.new Always (λ c h. ViewsOrNot (H.settings hub.now) H.alone c to query.now (counted steps.old steps.new (H.asked pass.old) (H.asked pass.new)) h)) }
+    ensures refused { OnErr result (HasViewedOrNot H.Hub hub.now pass.old pass.new steps.old steps.new to query.now) }
 {
     match hub.advance(alloc, to, pass) {
         Ok(_published) => {}

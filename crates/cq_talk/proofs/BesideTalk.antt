@@ -21,10 +21,11 @@ use Rattle.cq_request.specs.declared.request.Refusal.{Refusal}
 use Rattle.cq_request.specs.declared.request.Refusal.TheVariants as refusal
 use Rattle.cq_reply.specs.declared.reply.Reply.{Reply}
 use Rattle.cq_reply.specs.declared.reply.Reply.TheVariants as reply
+use Rattle.cq_answer.specs.Refusals.{refused_as, cause_told}
 use Rattle.cq_answer.specs.Reply.{IsReply}
 use Rattle.cq_hub.specs.Hubs.{IsPublication}
 use Rattle.cq_talk.specs.Said.{Said, TooLong, Read, WasRead}
-use Rattle.cq_talk.specs.Replies.{named, version_in, refused_as, cause_told}
+use Rattle.cq_talk.specs.Replies.{named, version_in}
 use Rattle.cq_talk.specs.Causes.{cause, change_told}
 use Rattle.cq_talk.specs.Talk.{Talk, Answers, IsAnswered, IsShown, IsChanged, IsGivenUp, Tells}
 use Rattle.cq_talk.specs.Beside.{Known, nothing_known, known_then, changes_then, with_told, IsReplyBeside, IsBeside}

@@ -11,7 +11,7 @@ use Rattle.cq_history.specs.declared.event.Event.TheVariants.{Accept, Ask}
 use Rattle.cq_history.specs.State.{state}
 use Rattle.cq_reply.specs.declared.reply.Reply.TheVariants as reply
 use Rattle.cq_hub.specs.Says.{IsAcceptedAs, IsRefusedFor}
-use Rattle.cq_talk.specs.Replies.{cause_told}
+use Rattle.cq_answer.specs.Refusals.{cause_told}
 use Rattle.cq_talk.specs.Talk.{IsChanged, Tells, Waits}
 
 module _ (set : Settings) (callers : ℕ) (alone : Type 0) (c : ℕ) (h mid : List Event) (waits : Waits alone c h mid) where

@@ -7,8 +7,9 @@ use Rattle.cq_board.specs.declared.answers.Refused.TheVariants as refused
 use Rattle.cq_request.specs.declared.request.Query.{Query}
 use Rattle.cq_reply.specs.declared.reply.Reply.{Reply}
 use Rattle.cq_reply.specs.declared.reply.Reply.TheVariants as reply
+use Rattle.cq_answer.specs.Refusals.{cause_told}
 use Rattle.cq_talk.specs.Said.{Said}
-use Rattle.cq_talk.specs.Replies.{version_in, cause_told}
+use Rattle.cq_talk.specs.Replies.{version_in}
 use Rattle.cq_talk.specs.Causes.{cause, change_told}
 use Rattle.cq_talk.specs.Alone.{Walk, changed, all_published, IsAnsweredAlone, IsReplyAlone, IsAloneUpToMemory}
 use Rattle.cq_talk.specs.Gives.{AloneGives, changes, asks, asks_state}

@@ -21,8 +21,9 @@ use Rattle.cq_request.specs.declared.request.Refusal.TheVariants as refusal
 use Rattle.cq_reply.specs.declared.reply.Reply.{Reply}
 use Rattle.cq_hub.specs.Hubs.{IsPublication, Never}
 use Rattle.cq_hub.proofs.Growing.{no_fewer, accepted_more}
+use Rattle.cq_answer.specs.Refusals.{refused_as, cause_told}
 use Rattle.cq_talk.specs.Said.{Said, TooLong, Read}
-use Rattle.cq_talk.specs.Replies.{named, seen_after, refused_as, cause_told}
+use Rattle.cq_talk.specs.Replies.{named, seen_after}
 use Rattle.cq_talk.specs.Talk.{Talk, Answers, IsAnswer, IsAnswered, IsChanged, IsGivenUp, IsServed, Tells, Asks, Waits}
 use Rattle.cq_talk.proofs.Shown.{shown_named}
 

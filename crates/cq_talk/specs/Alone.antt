@@ -8,9 +8,9 @@ use Rattle.cq_request.specs.declared.request.Query.{Query}
 use Rattle.cq_request.specs.declared.request.Request.TheVariants as request
 use Rattle.cq_reply.specs.declared.reply.Reply.{Reply}
 use Rattle.cq_reply.specs.declared.reply.Reply.TheVariants as reply
+use Rattle.cq_answer.specs.Refusals.{refused_as}
 use Rattle.cq_answer.specs.Reply.{IsReply}
 use Rattle.cq_talk.specs.Said.{Said, TooLong, Read, WasRead}
-use Rattle.cq_talk.specs.Replies.{refused_as}
 use Rattle.cq_talk.specs.Causes.{cause, change_told}
 
 -- the accepted changes, up to which one all are done, and the published version

@@ -8,9 +8,10 @@ use Rattle.cq_request.specs.declared.request.Query.{Query}
 use Rattle.cq_request.specs.declared.request.Request.TheVariants as request
 use Rattle.cq_reply.specs.declared.reply.Reply.{Reply}
 use Rattle.cq_reply.specs.declared.reply.Reply.TheVariants as reply
+use Rattle.cq_answer.specs.Refusals.{refused_as}
 use Rattle.cq_answer.specs.Reply.{IsReply}
 use Rattle.cq_talk.specs.Said.{Said, TooLong, Read, WasRead}
-use Rattle.cq_talk.specs.Replies.{refused_as, version_in}
+use Rattle.cq_talk.specs.Replies.{version_in}
 use Rattle.cq_talk.specs.Causes.{cause, change_told}
 
 -- What the user knows: the changes that were accepted, and the greatest version or published number that a reply named.

@@ -7,7 +7,7 @@ use Rattle.cq_board.specs.Answers.{refusal_of}
 use Rattle.cq_board.specs.declared.answers.Refused.{Refused}
 use Rattle.cq_reply.specs.declared.reply.Reply.{Reply}
 use Rattle.cq_reply.specs.declared.reply.Reply.TheVariants as reply
-use Rattle.cq_talk.specs.Replies.{cause_told}
+use Rattle.cq_answer.specs.Refusals.{cause_told}
 
 -- the first cause against a change behind these changes, if there is one
 abbrev pub cause : Settings → List Change → Change → Option Refused

@@ -7,8 +7,9 @@ use Rattle.cq_request.specs.declared.request.Query.{Query}
 use Rattle.cq_request.specs.declared.request.Request.TheVariants as request
 use Rattle.cq_reply.specs.declared.reply.Reply.{Reply}
 use Rattle.cq_reply.specs.declared.reply.Reply.TheVariants as reply
+use Rattle.cq_answer.specs.Refusals.{cause_told}
 use Rattle.cq_talk.specs.Said.{Said, TooLong, Read}
-use Rattle.cq_talk.specs.Replies.{version_in, cause_told}
+use Rattle.cq_talk.specs.Replies.{version_in}
 use Rattle.cq_talk.specs.Alone.{Walk, done_with, IsAloneUpToMemory}
 use Rattle.cq_talk.specs.Beside.{Known, IsBeside}
 

@@ -12,10 +12,11 @@ use Rattle.cq_request.specs.declared.request.Query.{Query}
 use Rattle.cq_request.specs.declared.request.Request.TheVariants as request
 use Rattle.cq_reply.specs.declared.reply.Reply.{Reply}
 use Rattle.cq_reply.specs.declared.reply.Reply.TheVariants as reply
+use Rattle.cq_answer.specs.Refusals.{refused_as, cause_told}
 use Rattle.cq_answer.specs.Reply.{IsReply}
 use Rattle.cq_hub.specs.Hubs.{Grows, IsPublication, Never}
 use Rattle.cq_talk.specs.Said.{Said, TooLong, Read}
-use Rattle.cq_talk.specs.Replies.{refused_as, cause_told, named}
+use Rattle.cq_talk.specs.Replies.{named}
 
 -- The floor of a query: the greatest of what was named before, the version that it asks for, and, where it may work, how
 -- many changes there are at its question.

@@ -5,37 +5,31 @@ use Rattle.cq_drive.specs.Script.{IsScript}
 use Rattle.cq_history.specs.declared.event.Event.{Event}
 use Rattle.cq_io.specs.Causes.{HasCause}
 use Rattle.cq_io.specs.declared.source.Failed.{Failed}
-use Rattle.cq_lines.specs.Serving as script
-use Rattle.cq_lines.specs.declared.ending.End.{End as ScriptEnd}
-use Rattle.cq_lines.specs.declared.ending.End.TheVariants as script_end
+use Rattle.cq_lines.specs.Serving.{Serves, HasEndCause}
+use Rattle.cq_lines.specs.declared.ending.End.{End}
+use Rattle.cq_lines.specs.declared.ending.End.TheVariants as end
 use Rattle.cq_make.specs.Made.{Makes}
 use Rattle.cq_outcome.specs.Outcomes.{line_of as outcome_line}
+use Rattle.cq_reply.specs.Written.{line_of as reply_line}
 use Rattle.cq_reply.specs.declared.reply.Reply.{Reply}
 use Rattle.cq_session.specs.Costs.{counted}
-use Rattle.cq_session.specs.declared.serving.End.{End}
-use Rattle.cq_session.specs.declared.serving.End.TheVariants as end
-use Rattle.cq_session.specs.Serving.{Serves, HasEndCause}
 use Rattle.cq_session.specs.Turn.{CountedTalk}
 use Rattle.cq_talk.specs.Alone.{IsAloneUpToMemory, no_walk}
 use Rattle.cq_talk.specs.Beside.{IsBeside, nothing_known}
 use Rattle.cq_talk.specs.Said.{said}
 use Rattle.cq_words.specs.Command.{default_settings}
 
-abbrev pub session_status : End → ℕ
-session_status end.Finished = 0
-session_status end.ReadFault = 2
-session_status end.WriteFault = 3
-session_status end.Spent = 6
+-- the status of a run that ends so
+abbrev pub status_of : End → ℕ
+status_of end.Finished = 0
+status_of end.ReadFault = 2
+status_of end.WriteFault = 3
+status_of end.Spent = 6
 
-abbrev pub script_status : ScriptEnd → ℕ
-script_status script_end.Finished = 0
-script_status script_end.ReadFault = 2
-script_status script_end.WriteFault = 3
-script_status script_end.Spent = 6
-
-abbrev pub status_sent : {E : Type 0} → Result (Unit {0}) E → ℕ
-status_sent (Ok sent) = 0
-status_sent (Err failed) = 3
+-- how the writing of one line ends a run
+abbrev pub end_of : {E : Type 0} → Result (Unit {0}) E → End
+end_of (Ok sent) = end.Finished
+end_of (Err failed) = end.WriteFault
 
 -- the line on standard error that tells a status other than 0
 abbrev pub line_of : ℕ → List ℕ
@@ -59,20 +53,20 @@ pub record AreAlone (settings : Settings) (reads reads_now : ℕ) (lines : List 
 -- a whole session, which begins with nothing accepted, and whose end gives the status
 pub record Runs (settings : Settings) (reads reads_now : ℕ) (rest rest_now before written_now : Option (List ℕ)) (source source_now sink sink_now status : ℕ) : Type 0 where
   pub by : End
-  pub status_is : status ≡ session_status by
-  pub serves : Serves (AreAlone settings reads reads_now) settings.byte_limit rest rest_now before written_now by
+  pub status_is : status ≡ status_of by
+  pub serves : Serves reply_line (AreAlone settings reads reads_now) settings.byte_limit rest rest_now before written_now by
   pub cause : HasEndCause source source_now sink sink_now by
 
 -- a whole script, stepped from nothing accepted on, whose end gives the status
 pub record Drives (settings : Settings) (rest rest_now before written_now : Option (List ℕ)) (source source_now sink sink_now status : ℕ) : Type 0 where
-  pub by : ScriptEnd
-  pub status_is : status ≡ script_status by
-  pub serves : script.Serves outcome_line (IsScript settings) settings.byte_limit rest rest_now before written_now by
-  pub cause : script.HasEndCause source source_now sink sink_now by
+  pub by : End
+  pub status_is : status ≡ status_of by
+  pub serves : Serves outcome_line (IsScript settings) settings.byte_limit rest rest_now before written_now by
+  pub cause : HasEndCause source source_now sink sink_now by
 
 -- the line of a made project is written, and how that ended gives the status
 pub record IsMade (number files : ℕ) (before written_now : Option (List ℕ)) (sink sink_now status : ℕ) : Type 0 where
   pub by : Result (Unit {0}) Failed
-  pub status_is : status ≡ status_sent by
+  pub status_is : status ≡ status_of (end_of by)
   pub makes : Makes default_settings number files before written_now by
   pub cause : HasCause sink sink_now by

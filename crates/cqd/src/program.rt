@@ -14,34 +14,24 @@ use cq_drive::drive;
 use cq_hub::{Solo, SoloPass};
 use cq_io::{Doors, Failed, Gate, Sink, Source};
 use cq_key::{Keyer, plain_key};
-use cq_lines::{End as ScriptEnd, Lines};
+use cq_lines::{End, Lines};
 use cq_make::make;
-use cq_session::{End as SessionEnd, session};
+use cq_session::session;
 use cq_talk::{talks_alone, talks_beside};
 use cq_words::{Command, Make, default_settings, is_command, read_command};
 use cq_work::Work;
 use std::alloc::Global;
 use std::sync::ledger::Ledger;
 
-fn session_status(end: SessionEnd) -> u8
-    ensures { result ≡ spec.session_status end }
+// The status of a run that ends so.
+fn status_of(end: End) -> u8
+    ensures { result ≡ spec.status_of end }
 {
     match end {
-        SessionEnd::Finished => 0,
-        SessionEnd::ReadFault => 2,
-        SessionEnd::WriteFault => 3,
-        SessionEnd::Spent => 6,
-    }
-}
-
-fn script_status(end: ScriptEnd) -> u8
-    ensures { result ≡ spec.script_status end }
-{
-    match end {
-        ScriptEnd::Finished => 0,
-        ScriptEnd::ReadFault => 2,
-        ScriptEnd::WriteFault => 3,
-        ScriptEnd::Spent => 6,
+        End::Finished => 0,
+        End::ReadFault => 2,
+        End::WriteFault => 3,
+        End::Spent => 6,
     }
 }
 
@@ -58,10 +48,13 @@ fn serve<S: Source, K: Sink, L: Ledger>(
     ensures memory { result ≡ 4 → (source.new ≡ source.old) × (sink.new ≡ sink.old) }
     ensures read_fault { result ≡ 2 → Rose (S.faults source.old) (S.faults source.new) }
     ensures write_fault { result ≡ 3 → Rose (K.faults sink.old) (K.faults sink.new) }
-    ensures finished { result ≡ 0 → (S.faults source.new ≡ S.faults source.old) × (K.faults sink.new ≡ K.faults sink.old) }
-    ensures spent { result ≡ 6 → (S.faults source.new ≡ S.faults source.old) × (K.faults sink.new ≡ K.faults sink.old) }
-    ensures runs { result ≢ 4 → Runs settings.now steps.old steps.new (S.rest source.old) (S.rest source.new) (K.written sink.old) (K.written sink.new)
-        (S.faults source.old) (S.faults source.new) (K.faults sink.old) (K.faults sink.new) result }
+    ensures finished { result ≡ 0 → (S.faults source.new ≡ S.faults source.old)
+        × (K.faults sink.new ≡ K.faults sink.old) }
+    ensures spent { result ≡ 6 → (S.faults source.new ≡ S.faults source.old)
+        × (K.faults sink.new ≡ K.faults sink.old) }
+    ensures runs { result ≢ 4 → Runs settings.now steps.old steps.new (S.rest source.old) (S.rest source.new)
+        (K.written sink.old) (K.written sink.new) (S.faults source.old) (S.faults source.new)
+        (K.faults sink.old) (K.faults sink.new) result }
 {
     let of = *settings;
     let Ok(key) = Box::new(alloc, move |codes: &[u64]| plain_key(&of, codes)) else {
@@ -79,7 +72,7 @@ fn serve<S: Source, K: Sink, L: Ledger>(
             let end = session(
                 alloc, settings, &keyer, &hub, &mut pass, &mut lines, source, sink, steps,
             );
-            session_status(end)
+            status_of(end)
         }
         Err(Memory) => 4,
     }
@@ -98,10 +91,13 @@ fn driven<S: Source, K: Sink, L: Ledger>(
     ensures memory { result ≡ 4 → (source.new ≡ source.old) × (sink.new ≡ sink.old) }
     ensures read_fault { result ≡ 2 → Rose (S.faults source.old) (S.faults source.new) }
     ensures write_fault { result ≡ 3 → Rose (K.faults sink.old) (K.faults sink.new) }
-    ensures finished { result ≡ 0 → (S.faults source.new ≡ S.faults source.old) × (K.faults sink.new ≡ K.faults sink.old) }
-    ensures spent { result ≡ 6 → (S.faults source.new ≡ S.faults source.old) × (K.faults sink.new ≡ K.faults sink.old) }
-    ensures drives { result ≢ 4 → Drives settings.now (S.rest source.old) (S.rest source.new) (K.written sink.old) (K.written sink.new)
-        (S.faults source.old) (S.faults source.new) (K.faults sink.old) (K.faults sink.new) result }
+    ensures finished { result ≡ 0 → (S.faults source.new ≡ S.faults source.old)
+        × (K.faults sink.new ≡ K.faults sink.old) }
+    ensures spent { result ≡ 6 → (S.faults source.new ≡ S.faults source.old)
+        × (K.faults sink.new ≡ K.faults sink.old) }
+    ensures drives { result ≢ 4 → Drives settings.now (S.rest source.old) (S.rest source.new)
+        (K.written sink.old) (K.written sink.new) (S.faults source.old) (S.faults source.new)
+        (K.faults sink.old) (K.faults sink.new) result }
 {
     let of = *settings;
     let Ok(key) = Box::new(alloc, move |codes: &[u64]| plain_key(&of, codes)) else {
@@ -112,7 +108,7 @@ fn driven<S: Source, K: Sink, L: Ledger>(
         return 4;
     };
     match drive(alloc, settings, &keyer, &mut lines, source, sink, steps) {
-        Ok(end) => script_status(end),
+        Ok(end) => status_of(end),
         Err(Memory) => 4,
     }
 }
@@ -126,7 +122,8 @@ fn made<K: Sink, L: Ledger>(alloc: Global, asked: Make, sink: &mut K, steps: &mu
     ensures memory { result ≡ 4 → sink.new ≡ sink.old }
     ensures write_fault { result ≡ 3 → Rose (K.faults sink.old) (K.faults sink.new) }
     ensures finished { result ≡ 0 → K.faults sink.new ≡ K.faults sink.old }
-    ensures makes { result ≢ 4 → IsMade asked.number asked.files (K.written sink.old) (K.written sink.new) (K.faults sink.old) (K.faults sink.new) result }
+    ensures makes { result ≢ 4 → IsMade asked.number asked.files (K.written sink.old) (K.written sink.new)
+        (K.faults sink.old) (K.faults sink.new) result }
 {
     match make(
         alloc,
@@ -136,15 +133,15 @@ fn made<K: Sink, L: Ledger>(alloc: Global, asked: Make, sink: &mut K, steps: &mu
         sink,
         steps,
     ) {
-        Ok(Ok(())) => 0,
-        Ok(Err(Failed)) => 3,
+        Ok(Ok(())) => status_of(End::Finished),
+        Ok(Err(Failed)) => status_of(End::WriteFault),
         Err(Memory) => 4,
     }
 }
 
-/// The whole program: what the words ask for, over these ends. Its answer is the status with which the process is to end.
-/// `run` answers the lines of the source into the sink; `drive` steps a core by them, and writes their outcomes; `make`
-/// writes one line.
+/// The whole program: what the words ask for, over these ends. Its answer is the status with which the process is to
+/// end. `run` answers the lines of the source into the sink; `drive` steps a core by them, and writes their outcomes;
+/// `make` writes one line.
 pub fn top<S: Source, K: Sink, D: Doors, G: Gate, L: Ledger>(
     alloc: Global,
     words: &[Text],
@@ -164,23 +161,32 @@ pub fn top<S: Source, K: Sink, D: Doors, G: Gate, L: Ledger>(
     // 2 and 3 only where the count of faults of that end rose; with 0 and 6 none rose.
     ensures read_fault { result ≡ 2 → Rose (S.faults source.old) (S.faults source.new) }
     ensures write_fault { result ≡ 3 → Rose (K.faults sink.old) (K.faults sink.new) }
-    ensures finished { result ≡ 0 → (S.faults source.new ≡ S.faults source.old) × (K.faults sink.new ≡ K.faults sink.old) }
-    ensures spent { result ≡ 6 → (S.faults source.new ≡ S.faults source.old) × (K.faults sink.new ≡ K.faults sink.old) }
+    ensures finished { result ≡ 0 → (S.faults source.new ≡ S.faults source.old)
+        × (K.faults sink.new ≡ K.faults sink.old) }
+    ensures spent { result ≡ 6 → (S.faults source.new ≡ S.faults source.old)
+        × (K.faults sink.new ≡ K.faults sink.old) }
 
     // No door is asked for.
     ensures doors { doors.new ≡ doors.old }
 
     // Every status of `run` but 4 is that of a session over all lines of the source.
-    ensures runs { (run : Run) → command_of words.now ≡ Some (command.Run run) → result ≢ 4 → Runs run.settings steps.old steps.new (S.rest source.old) (S.rest source.new) (K.written sink.old) (K.written sink.new)
-        (S.faults source.old) (S.faults source.new) (K.faults sink.old) (K.faults sink.new) result }
+    ensures runs { (run : Run) → command_of words.now ≡ Some (command.Run run) → result ≢ 4
+        → Runs run.settings steps.old steps.new (S.rest source.old) (S.rest source.new)
+        (K.written sink.old) (K.written sink.new) (S.faults source.old) (S.faults source.new)
+        (K.faults sink.old) (K.faults sink.new) result }
 
     // Every status of `drive` but 4 is that of a script of all lines of the source.
-    ensures drives { (settings : Settings) → command_of words.now ≡ Some (command.Drive settings) → result ≢ 4 → Drives settings (S.rest source.old) (S.rest source.new) (K.written sink.old) (K.written sink.new)
-        (S.faults source.old) (S.faults source.new) (K.faults sink.old) (K.faults sink.new) result }
+    ensures drives { (settings : Settings) → command_of words.now ≡ Some (command.Drive settings) → result ≢ 4
+        → Drives settings (S.rest source.old) (S.rest source.new)
+        (K.written sink.old) (K.written sink.new) (S.faults source.old) (S.faults source.new)
+        (K.faults sink.old) (K.faults sink.new) result }
 
     // Every status of `make` but 4 is that of sending the line of the project, and nothing is read.
-    ensures makes { (asked : Make) → command_of words.now ≡ Some (command.Make asked) → result ≢ 4 → IsMade asked.number asked.files (K.written sink.old) (K.written sink.new) (K.faults sink.old) (K.faults sink.new) result }
-    ensures unread { (asked : Make) → command_of words.now ≡ Some (command.Make asked) → source.new ≡ source.old }
+    ensures makes { (asked : Make) → command_of words.now ≡ Some (command.Make asked) → result ≢ 4
+        → IsMade asked.number asked.files (K.written sink.old) (K.written sink.new)
+        (K.faults sink.old) (K.faults sink.new) result }
+    ensures unread { (asked : Make) → command_of words.now ≡ Some (command.Make asked)
+        → source.new ≡ source.old }
 {
     if !is_command(words) {
         return 1;

@@ -1,6 +1,5 @@
 use Rattle.std.proofs.Common.{◌∙◌, arith}
-use Rattle.std.proofs.lemmas.Result.{IfOk-weaker}
-use Rattle.cq_session.proofs.Answered.{on_err_weaker}
+use Rattle.std.proofs.lemmas.Result.{IfOk-weaker, on_err_weaker}
 use Rattle.cq_session.proofs.QueryLeads.{asked_led, is_future, is_pending, all_ready, worked_shown, worked_given_up, help_given_up, waited_shown, waited_given_up}
 use Rattle.cq_session.proofs.answering.query_reply.Goals as goal
 

@@ -1,5 +1,6 @@
 use Rattle.std.proofs.Common.{◌≡◌, Ok, Err, refl, ap, ◌∙◌}
-use Rattle.std.proofs.lemmas.Result.{IfOk-weaker}
+use Rattle.std.proofs.lemmas.Result.{IfOk-weaker, on_err_weaker}
+use Rattle.cq_answer.proofs.Told.{refusal_said}
 use Rattle.cq_hub.specs.Hubs.{Never}
 use Rattle.cq_hub.proofs.Growing.{grows_none}
 use Rattle.cq_reply.specs.declared.reply.Reply.TheVariants as reply
@@ -8,7 +9,7 @@ use Rattle.cq_request.specs.declared.request.Request.TheVariants as request
 use Rattle.cq_talk.specs.Said.{Read}
 use Rattle.cq_talk.proofs.Leading.{lead_weaker}
 use Rattle.cq_session.specs.Costs.{AreViewings}
-use Rattle.cq_session.proofs.Answered.{both_ok, on_err, on_err_weaker}
+use Rattle.cq_session.proofs.Answered.{both_ok, on_err}
 use Rattle.cq_session.proofs.LineCosts.{none_given_up, spends_asking, spends_changing, spends_waiting}
 use Rattle.cq_session.proofs.Spending.{spends_none}
 use Rattle.cq_session.proofs.Talking.{nothing_done, answers_as, given_up_as}
@@ -49,17 +50,17 @@ returns-in-Ok-State-clause-replies g c =
 
 pub returns-in-Err-clause-replies : goal.returns-in-Err-clause-replies
 returns-in-Err-clause-replies g c =
-    both_ok c.refusal_of.result _ _ _ (λ r is said by h stands closed named. record {
+    both_ok c.refused_as.result _ _ _ (λ r is told by h stands closed named. record {
       after = h;
       stands = stands;
       closed = closed;
-      holds = answers_as (g.H.Hub.settings c.args.hub.now) (g.H.Hub.callers c.args.hub.now) g.H.Hub.alone by c.args.seen h h _ r _ _ ((said _ c.in-Err.ensures.says))
+      holds = answers_as (g.H.Hub.settings c.args.hub.now) (g.H.Hub.callers c.args.hub.now) g.H.Hub.alone by c.args.seen h h _ r _ _ (refusal_said c.in-Err.refusal (line_says c.args.settings.now.chunk c.args.line.now) told c.in-Err.ensures.says)
           ((is, grows_none g.H.Hub.alone by Never h), spends_none _ by (AreViewings (Read (Err c.in-Err.refusal)) r) h _ _ refl);
-    }) c.refusal_of.ensures.reply c.refusal_of.ensures.said
+    }) c.refused_as.ensures.reply c.refused_as.ensures.told
 
 pub returns-in-Err-clause-refused : goal.returns-in-Err-clause-refused
 returns-in-Err-clause-refused g c =
-    on_err c.refusal_of.result (λ by h stands closed named. record {
+    on_err c.refused_as.result (λ by h stands closed named. record {
       after = h;
       stands = stands;
       closed = closed;

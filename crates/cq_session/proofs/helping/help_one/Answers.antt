@@ -3,10 +3,11 @@ use Rattle.std.specs.Arc.{arc_value}
 use Rattle.cq_base.specs.declared.settings.Settings.{Settings}
 use Rattle.cq_history.specs.declared.event.Event.TheVariants.{Done}
 use Rattle.cq_history.specs.State.{state}
+use Rattle.cq_hub.proofs.Following.{done_then}
 use Rattle.cq_hub.proofs.Growing.{grows_event, grows_then, view_grows}
 use Rattle.cq_talk.proofs.Leading.{lead_none, lead_event, stands_mid}
 use Rattle.cq_work.specs.Work.{IsWorkOf}
-use Rattle.cq_session.proofs.Working.{job_work, done_then}
+use Rattle.cq_session.proofs.Working.{job_work}
 use Rattle.cq_session.proofs.helping.help_one.Goals as goal
 
 pub returns-in-Err-clause-refused : goal.returns-in-Err-clause-refused
@@ -53,7 +54,7 @@ returns-in-Done-clause-done g c = λ by h stands closed always.
       finished = c.args.change ∷ [];
       up_to = (let n = c.args.change in omega arith, tt);
       grows = grows_then _ by _ h first.mid _ [] _ first.others (grows_event _ by _ first.mid then.mid (Done by c.args.change) refl others);
-      so = done_then _ by c.args.change then.mid says;
+      so = done_then _ by then.mid c.args.change says;
     })
 
 pub returns-clause-done : goal.returns-clause-done

@@ -1,12 +1,14 @@
 use Rattle.std.proofs.Common.{◌∙◌, refl, subst, arith}
 use Rattle.cq_base.specs.declared.settings.Settings.{Settings}
 use Rattle.cq_history.specs.Lawful.{Lawful}
+use Rattle.cq_lines.proofs.Serving.{finished, spent, read_failed}
 use Rattle.cq_lines.proofs.Whole.{fewer}
+use Rattle.cq_reply.specs.Written.{line_of}
 use Rattle.cq_reply.specs.declared.reply.Reply.TheVariants as reply
 use Rattle.cq_talk.proofs.Leading.{lead_weaker}
 use Rattle.cq_session.proofs.LineCosts.{spends_long}
 use Rattle.cq_session.proofs.Talking.{answers_long}
-use Rattle.cq_session.proofs.Turns.{so_far_none, so_far_more, write_failed, finished, spent, read_failed}
+use Rattle.cq_session.proofs.Turns.{so_far_none, so_far_more, cut_off, replied_so_far}
 use Rattle.cq_session.proofs.serving.session.Goals as goal
 
 pub lines-init : goal.lines-init
@@ -17,13 +19,13 @@ lines-init g c = record {
 }
 
 pub returns-in-End-clause-served : goal.returns-in-End-clause-served
-returns-in-End-clause-served g c = λ by h stands closed always. lead_weaker _ _ by _ _ _ _ (c.lines.invariant.goes by h stands closed tt) (λ now so. finished _ _ _ by h now _ _ _ _ _ _ _ _ _ _ so (rw c.in-End.is at c.next.follows.holds-at-none))
+returns-in-End-clause-served g c = λ by h stands closed always. lead_weaker _ _ by _ _ _ _ (c.lines.invariant.goes by h stands closed tt) (λ now so. finished line_of _ _ _ _ _ _ _ _ _ (replied_so_far _ _ _ by h now _ _ _ _ _ _ _ _ so) (rw c.in-End.is at c.next.follows.holds-at-none))
 
 pub returns-in-Spent-clause-served : goal.returns-in-Spent-clause-served
-returns-in-Spent-clause-served g c = λ by h stands closed always. lead_weaker _ _ by _ _ _ _ (c.lines.invariant.goes by h stands closed tt) (λ now so. spent _ _ _ by h now _ _ _ _ _ _ _ _ _ _ so (rw c.in-Spent.is at c.next.follows.holds-at-none))
+returns-in-Spent-clause-served g c = λ by h stands closed always. lead_weaker _ _ by _ _ _ _ (c.lines.invariant.goes by h stands closed tt) (λ now so. spent line_of _ _ _ _ _ _ _ _ _ (replied_so_far _ _ _ by h now _ _ _ _ _ _ _ _ so) (rw c.in-Spent.is at c.next.follows.holds-at-none))
 
 pub returns-in-ReadFault-clause-served : goal.returns-in-ReadFault-clause-served
-returns-in-ReadFault-clause-served g c = λ by h stands closed always. lead_weaker _ _ by _ _ _ _ (c.lines.invariant.goes by h stands closed tt) (λ now so. read_failed _ _ _ by h now _ _ _ _ _ _ _ _ _ _ so (rw c.in-ReadFault.is at c.next.follows.holds-at-none))
+returns-in-ReadFault-clause-served g c = λ by h stands closed always. lead_weaker _ _ by _ _ _ _ (c.lines.invariant.goes by h stands closed tt) (λ now so. read_failed line_of _ _ _ _ _ _ _ _ _ (replied_so_far _ _ _ by h now _ _ _ _ _ _ _ _ so) (rw c.in-ReadFault.is at c.next.follows.holds-at-none))
 
 pub lines-smaller-in-Ok : goal.lines-smaller-in-Ok
 lines-smaller-in-Ok g c =
@@ -60,7 +62,7 @@ returns-in-Err-clause-served g c =
     λ by h stands closed always.
     let led = c.lines.invariant.goes by h stands closed tt in
     let two = c.in-Err.ensures.turns by led.after led.stands led.closed led.holds.within in
-    lead_weaker _ _ by _ _ _ _ two (λ now turn. write_failed _ _ _ by h led.after now _ _ _ _ _ _ _ _ _ _ _ _ _ _ _ _ cuts.got c.in-Line.line.now turn.reply led.holds cuts.bytes cuts.taken cuts.within cuts.limit (λ e. (cuts.stays e).0) cuts.finds.1 turn.answers turn.spends turn.sends.0 turn.sends.1 turn.sends.2 turn.sends.3)
+    lead_weaker _ _ by _ _ _ _ two (λ now turn. cut_off _ _ _ by h led.after now _ _ _ _ _ _ _ _ _ _ _ _ _ _ _ _ cuts.got c.in-Line.line.now turn.reply led.holds cuts.bytes cuts.taken cuts.within cuts.limit (λ e. (cuts.stays e).0) cuts.finds.1 turn.answers turn.spends turn.sends.0 turn.sends.1 turn.sends.2 turn.sends.3)
 
 pub lines-smaller : goal.lines-smaller
 lines-smaller g c =
@@ -90,5 +92,5 @@ returns-in-Err-turn_long-clause-served g c =
     let cuts = rw c.in-TooLong.is at c.next.follows.holds-at-none in
     let sends = c.in-Err-turn_long.ensures.bytes in
     λ by h stands closed always.
-    lead_weaker _ _ by _ _ _ _ (c.lines.invariant.goes by h stands closed tt) (λ now so. write_failed c.args.settings.now _ _ by h now now _ _ _ _ _ _ _ _ _ _ _ _ _ _ _ _ cuts.got cuts.finds.0 reply.Long so cuts.bytes cuts.taken cuts.within cuts.limit (λ e. (cuts.stays e).0) cuts.finds.2
+    lead_weaker _ _ by _ _ _ _ (c.lines.invariant.goes by h stands closed tt) (λ now so. cut_off c.args.settings.now _ _ by h now now _ _ _ _ _ _ _ _ _ _ _ _ _ _ _ _ cuts.got cuts.finds.0 reply.Long so cuts.bytes cuts.taken cuts.within cuts.limit (λ e. (cuts.stays e).0) cuts.finds.2
     (answers_long c.args.settings.now (g.H.Hub.callers c.args.hub.now) g.H.Hub.alone by c.lines.seen now cuts.finds.0 cuts.finds.1) (spends_long c.args.settings.now by now cuts.finds.0 _ _ cuts.finds.1) sends.0 sends.1 sends.2 sends.3)

@@ -1,9 +1,9 @@
 use Rattle.std.proofs.Common.{◌∙◌, ap, sym, subst, max}
 use Rattle.cq_base.specs.declared.settings.Settings.{Settings}
+use Rattle.cq_io.specs.Sending.{Sends}
 use Rattle.cq_request.specs.Reading.{line_says}
 use Rattle.cq_talk.specs.Said.{Said, Read}
 use Rattle.cq_talk.specs.Talk.{Answers}
-use Rattle.cq_session.specs.Sending.{Sends}
 use Rattle.cq_talk.proofs.Leading.{lead_weaker}
 use Rattle.cq_talk.proofs.Saying.{said_short}
 use Rattle.cq_session.proofs.LineCosts.{spends_as}

@@ -1,9 +1,10 @@
-use Rattle.std.proofs.Common.{◌≡◌, ℕ, List, [], map, ap, refl, subst}
+use Rattle.std.proofs.Common.{ℕ, [], map, ap, refl, subst}
 use Rattle.cq_base.specs.declared.settings.Settings.{Settings}
 use Rattle.cq_history.specs.Lawful.{Lawful}
 use Rattle.cq_hub.specs.Solos.{solo_lawful}
 use Rattle.cq_lines.specs.Held.{Held}
-use Rattle.cq_session.specs.Serving.{Serves}
+use Rattle.cq_lines.specs.Serving.{Serves}
+use Rattle.cq_reply.specs.Written.{line_of}
 use Rattle.cq_session.specs.Costs.{counted}
 use Rattle.cq_session.specs.Turn.{CountedTalk}
 use Rattle.cq_talk.specs.Said.{said}
@@ -21,9 +22,9 @@ returns-in-Ok-new-clause-runs g c = λ other.
     let law : Lawful c.args.settings.now 1 led.after = subst (λ (set : Settings). Lawful set 1 led.after) c.in-Ok-made.ensures.settings (solo_lawful _ _ 0 led.after _ _ led.stands) in
     record {
       by = c.session-end.result;
-      status_is = c.session_status.ensures;
-      serves = subst (λ (limit : ℕ). Serves (AreAlone c.args.settings.now c.args.steps.now c.session-end.new.steps) limit (g.S.Source.rest c.args.source.now) (g.S.Source.rest c.session-end.new.source) (g.K.Sink.written c.args.sink.now) (g.K.Sink.written c.session-end.new.sink) c.session-end.result) (ap (λ (held : Held). held.limit) c.in-Ok-new.ensures)
-          (serves_as (CountedTalk c.args.settings.now 1 (Unit {0}) 0 [] (counted c.args.steps.now c.session-end.new.steps c.in-Ok-made.pass.asked c.session-end.new.pass.asked) led.after) (AreAlone c.args.settings.now c.args.steps.now c.session-end.new.steps)
+      status_is = c.status_of.ensures;
+      serves = subst (λ (limit : ℕ). Serves line_of (AreAlone c.args.settings.now c.args.steps.now c.session-end.new.steps) limit (g.S.Source.rest c.args.source.now) (g.S.Source.rest c.session-end.new.source) (g.K.Sink.written c.args.sink.now) (g.K.Sink.written c.session-end.new.sink) c.session-end.result) (ap (λ (held : Held). held.limit) c.in-Ok-new.ensures)
+          (serves_as line_of (CountedTalk c.args.settings.now 1 (Unit {0}) 0 [] (counted c.args.steps.now c.session-end.new.steps c.in-Ok-made.pass.asked c.session-end.new.pass.asked) led.after) (AreAlone c.args.settings.now c.args.steps.now c.session-end.new.steps)
           (λ lines replies counts. record {
             after = led.after;
             asked = c.session-end.new.pass.asked;

@@ -5,7 +5,7 @@ use Rattle.cq_request.specs.Reading.{line_says}
 use Rattle.cq_talk.specs.Said.{Read}
 use Rattle.cq_session.proofs.LineCosts.{spends_untold}
 use Rattle.cq_session.proofs.Talking.{answer_given_up}
-use Rattle.cq_session.proofs.answering.told.Goals as goal
+use Rattle.cq_session.proofs.telling.told.Goals as goal
 
 pub returns-in-Ok-line_of : goal.returns-in-Ok-line_of
 returns-in-Ok-line_of g c = λ by h stands closed named. lead_weaker _ _ by _ _ _ _ (c.in-Ok.ensures.replies by h stands closed named)

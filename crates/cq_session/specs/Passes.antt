@@ -1,0 +1,93 @@
+-- Where the parts of a line bring the pass of a caller, in the words of its hub.
+use Rattle.std.specs.Prelude.{◌≤◌, ℕ, List, length, Option, Result, Ok as ok}
+use Rattle.cq_base.specs.declared.change.Change.{Change}
+use Rattle.cq_base.specs.declared.lang.Lang.{Lang}
+use Rattle.cq_base.specs.declared.settings.Settings.{Settings}
+use Rattle.cq_board.specs.declared.listing.View.{View}
+use Rattle.cq_history.specs.declared.event.Event.{Event}
+use Rattle.cq_history.specs.State.{state, accepted}
+use Rattle.cq_hub.specs.Hubs.{HasSeen}
+use Rattle.cq_hub.specs.Views.{IsOpen}
+use Rattle.cq_hub.specs.declared.hub.Hub.{Ghosts}
+use Rattle.cq_reply.specs.declared.reply.Reply.{Reply}
+use Rattle.cq_reply.specs.declared.reply.Reply.TheVariants as reply
+use Rattle.cq_request.specs.declared.request.Query.{Query}
+use Rattle.cq_request.specs.declared.request.Refusal.{Refusal}
+use Rattle.cq_request.specs.declared.request.Request.{Request}
+use Rattle.cq_request.specs.declared.request.Request.TheVariants as request
+use Rattle.cq_talk.specs.Said.{Read}
+use Rattle.cq_talk.specs.Steps.{Always, Helps, Led}
+use Rattle.cq_talk.specs.Talk.{IsAnswer, IsAnswered, IsChanged, IsGivenUp, Tells, Waits}
+use Rattle.cq_session.specs.Costs.{AtCost, Counts, counted}
+use Rattle.cq_session.specs.Turn as turn
+use Rattle.cq_session.specs.Viewing.{InView, ShowsAt, ViewsOrNot}
+
+module _ {H W P : Type 0} (of : Ghosts H W P) (hub : H) where
+  -- ---- a view that is open, where a text has these works
+
+  module _ (IsWork : Settings → Lang → List ℕ → W → Type 0) (view : View W) (pass : P) where
+    -- the pass has the view open
+    abbrev pub HasOpen : Type 0
+    HasOpen = HasSeen of.Stands hub pass (λ c h. IsOpen (IsWork (of.settings hub)) (state (of.callers hub) h) c view)
+
+    -- this holds of the accepted changes where the pass has the view open
+    abbrev pub WhereOpen : (List Change → Type 0) → Type 0
+    WhereOpen Holds = InView of.Stands (of.callers hub) (IsWork (of.settings hub)) hub view pass Holds
+
+  -- ---- from one pass to another, for each history that the first one stood for with no view open
+
+  module _ (old new : P) where
+    -- works of changes up to one were done, and that holds behind them, where this held
+    abbrev pub HasHelped : (List Event → Type 0) → ℕ → (List Event → Type 0) → Type 0
+    HasHelped If to Holds = Led of.Stands (of.callers hub) hub old new If (λ c h. Helps of.alone c to h Holds)
+
+    -- nothing but others' events came
+    abbrev pub HasWaited : Type 0
+    HasWaited = Led of.Stands (of.callers hub) hub old new Always (λ c h. Waits of.alone c h)
+
+    -- the change has this reply
+    abbrev pub HasChanged : Change → Reply → Type 0
+    HasChanged change r = Led of.Stands (of.callers hub) hub old new Always (λ c h. IsChanged (of.settings hub) (of.callers hub) of.alone c h change r)
+
+    -- the reply tells the state
+    abbrev pub HasTold : Reply → Type 0
+    HasTold r = Led of.Stands (of.callers hub) hub old new Always (λ c h. Tells (of.settings hub) (of.callers hub) of.alone c h r)
+
+    -- ---- where so many tokens were read before and now
+
+    module _ (reads reads_now : ℕ) where
+      abbrev spent : Counts
+      spent = counted reads reads_now (of.asked old) (of.asked new)
+
+      -- a view of a version not below this one was opened and shut, and the reply is by it
+      abbrev pub HasShown : ℕ → Query → Reply → Type 0
+      HasShown to q r = Led of.Stands (of.callers hub) hub old new Always (λ c h. ShowsAt (of.settings hub) of.alone c to q spent r h)
+
+      -- one was opened and shut, or none was
+      abbrev pub HasViewedOrNot : ℕ → Query → Type 0
+      HasViewedOrNot to q = Led of.Stands (of.callers hub) hub old new Always (λ c h. ViewsOrNot (of.settings hub) of.alone c to q spent h)
+
+      -- where each number that was seen is that of an accepted change
+      module _ (seen : ℕ) where
+        abbrev LedBy : (ℕ → List Event → List Event → Type 0) → Type 0
+        LedBy Row = Led of.Stands (of.callers hub) hub old new (λ h. seen ≤ length (accepted h)) Row
+
+        -- the query has this reply
+        abbrev pub HasAnswered : Query → Reply → Type 0
+        HasAnswered q r = LedBy (λ c h. AtCost (of.settings hub) c (Read (ok (request.Query q))) r spent h (IsAnswered (of.settings hub) (of.callers hub) of.alone c seen h q r))
+
+        -- what a line says has this reply
+        abbrev pub HasReplied : Result Request Refusal → Reply → Type 0
+        HasReplied says r = LedBy (λ c h. AtCost (of.settings hub) c (Read says) r spent h (IsAnswer (of.settings hub) (of.callers hub) of.alone c seen h (Read says) r))
+
+        -- memory was refused, and what was done is a beginning of what the line does
+        abbrev pub HasGivenUp : Result Request Refusal → Type 0
+        HasGivenUp says = LedBy (λ c h. AtCost (of.settings hub) c (Read says) reply.Memory spent h (IsGivenUp (of.settings hub) (of.callers hub) of.alone c seen h (Read says)))
+
+        -- these are the bytes of its reply's line, and the number that the reply names
+        abbrev pub HasLine : Result Request Refusal → List ℕ → ℕ → Type 0
+        HasLine says bytes number = LedBy (λ c h. turn.Tells (of.settings hub) (of.callers hub) of.alone c seen h spent (Read says) bytes number)
+
+        -- under settings that are the hub's, the reply to the line is sent, and what it names is seen
+        abbrev pub HasSentLine : {E : Type 0} → Settings → List ℕ → Option (List ℕ) → Option (List ℕ) → Result (Unit {0}) E → ℕ → Type 0
+        HasSentLine set line before written_now result seen_now = LedBy (λ c h. turn.Turns set (of.callers hub) of.alone c seen h spent line before written_now result seen_now)
