@@ -1,5 +1,5 @@
 -- A view that is opened, read and shut.
-use Rattle.std.proofs.Common.{◌≡◌, ℕ, Bool, true, false, ◌<◌, ◌≤◌, List, [], ◌∷◌, ◌++◌, length, set, Some, None, refl, sym, ◌∙◌, subst, arith}
+use Rattle.std.proofs.Common.{◌≡◌, ℕ, Bool, true, false, ◌<◌, ◌≤◌, List, [], ◌∷◌, ◌++◌, length, Some, None, refl, sym, ◌∙◌, subst, arith}
 use Rattle.std.specs.Prelude.{IsSome}
 use Rattle.cq_base.specs.declared.lang.Lang.{Lang}
 use Rattle.cq_base.specs.declared.settings.Settings.{Settings}
@@ -8,7 +8,7 @@ use Rattle.cq_ask.specs.Moves.{Later}
 use Rattle.cq_board.specs.declared.listing.View.{View}
 use Rattle.cq_history.specs.declared.event.Event.{Event}
 use Rattle.cq_history.specs.declared.event.Event.TheVariants.{Open, Shut}
-use Rattle.cq_history.specs.State.{after, state, accepted, view_of}
+use Rattle.cq_history.specs.State.{state, accepted, view_of}
 use Rattle.cq_history.specs.Lawful.{Lawful}
 use Rattle.cq_history.proofs.States.{Lawful-prefix}
 use Rattle.cq_hub.specs.Hubs.{Calls, Grows, IsPublication, Never}

@@ -1,5 +1,5 @@
 -- The works of changes.
-use Rattle.std.proofs.Common.{◌≡◌, ℕ, ◌-◌, List, subst}
+use Rattle.std.proofs.Common.{◌≡◌, ℕ, List, subst}
 use Rattle.std.specs.Arc.{arc_value}
 use Rattle.cq_base.specs.declared.lang.Lang.{Lang}
 use Rattle.cq_base.specs.declared.change.Change.{Change}
