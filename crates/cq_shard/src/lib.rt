@@ -2,8 +2,8 @@
 //! Applying a change costs a look at each key of its work, and one step and one entry for each that is the shard's. The
 //! entries stand in runs in order of their keys, a run for some changes that follow each other. A run is merged with the
 //! one before it where that has less than twice its entries, so an entry is moved about as often as the logarithm of how
-//! many there are. A bucket costs a binary search in each run, and one among the live changes for each entry with its
-//! key.
+//! many there are. A bucket costs a search in each run, which looks at a few entries side by side where keys are spread
+//! evenly and is a binary search at most, and one among the live changes for each entry with its key.
 #![tactic(auto)]
 
 mod applying;
@@ -11,6 +11,7 @@ mod indexed;
 mod laws;
 mod run;
 mod runs;
+mod searching;
 mod shard;
 
 pub use indexed::Indexed;
