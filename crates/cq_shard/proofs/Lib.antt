@@ -6,4 +6,5 @@ pub mod Merging
 pub mod Finding
 pub mod Gathering
 pub mod Standing
+pub mod Works
 pub mod ShardLaws

@@ -1,12 +1,12 @@
 -- What a shard is, and for which changes it stands.
-use Rattle.std.specs.Prelude.{◌≡◌, ◌↔◌, slice_get, ℕ, ◌+◌, ◌<◌, ◌≤◌, ◌%◌, ◌==◌, nat_eq, ◌&&◌, if◌then◌else◌, Bool, List, [], ◌∷◌, ◌++◌, length, Contains, All, Option, Some, None}
+use Rattle.std.specs.Prelude.{◌≡◌, ◌↔◌, slice_get, slice_index_or, ℕ, ◌+◌, ◌<◌, ◌≤◌, ◌%◌, ◌==◌, nat_eq, ◌&&◌, if◌then◌else◌, Bool, List, [], ◌∷◌, ◌++◌, length, Contains, All, Option, Some, None}
 use Rattle.std.specs.List.{list_any}
 use Rattle.cq_base.specs.declared.lang.Lang.{Lang}
 use Rattle.cq_base.specs.declared.settings.Settings.{Settings}
 use Rattle.cq_base.specs.declared.entry.Entry.{Entry}
 use Rattle.cq_base.specs.declared.change.Change.{Change}
 use Rattle.cq_base.specs.declared.change.Change.TheVariants.{Put, Drop, Gate}
-use Rattle.cq_history.specs.Changes.{IsWorkFor}
+use Rattle.cq_history.specs.Changes.{IsWorkFor, change_at}
 use Rattle.cq_history.specs.Shards.{Row, ShardHolds}
 use Rattle.cq_shard.specs.Runs.{AreDifferent}
 
@@ -58,6 +58,15 @@ entries_of change shard shards at (key ∷ keys) = (if key % shards == shard the
 abbrev pub brought : {W : Type 0} → (W → List ℕ) → ℕ → ℕ → ℕ → Option W → List Entry
 brought keys_in change shard shards None = []
 brought keys_in change shard shards (Some work) = entries_of change shard shards 0 (keys_in work)
+
+-- the entries that the changes behind so many bring to a shard, a change for each work
+abbrev pub all_brought : {W : Type 0} → (W → List ℕ) → ℕ → ℕ → ℕ → List (Option W) → List Entry
+all_brought keys_in applied shard shards [] = []
+all_brought keys_in applied shard shards (work ∷ works) = brought keys_in (applied + 1) shard shards work ++ all_brought keys_in (applied + 1) shard shards works
+
+-- the changes behind so many have the works that they come with
+abbrev pub HaveTheirWorks : {W : Type 0} → (Lang → List ℕ → W → Type 0) → List Change → ℕ → List (Option W) → Type 0
+HaveTheirWorks {W} IsWork changes applied works = (i : ℕ) (d : Option W) → i < length works → HasItsWork IsWork (change_at changes (applied + i + 1)) (slice_index_or works i d)
 
 -- the entry has this key, and its change is one of `live`
 abbrev pub is_asked : ℕ → List ℕ → Entry → Bool

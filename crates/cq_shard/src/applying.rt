@@ -1,12 +1,14 @@
-ghost use Rattle.std.specs.Prelude.{◌≡◌, ◌+◌, ◌<◌, ◌≤◌, ◌^◌, ◌%◌, length, option_copied, All, IfOk, OnOk, OnErr, IfSome};
+ghost use Rattle.std.specs.Prelude.{◌≡◌, ◌++◌, ◌+◌, ◌<◌, ◌≤◌, ◌^◌, ◌%◌, length, option_copied, All, IfOk, OnOk, OnErr, IfSome};
+ghost use Rattle.std.specs.Arc.{arc_value};
 ghost use Rattle.std.specs.Int.{IsPowerOfTwo};
 ghost use Rattle.cq_shard.specs.Runs.{AreAdded};
-ghost use Rattle.cq_shard.specs.Shard.{entries_of, brought};
+ghost use Rattle.cq_shard.specs.Shard.{entries_of, brought, all_brought};
 
 use crate::indexed::Indexed;
 use crate::runs::Runs;
 use cq_base::{Entry, Memory, Steps};
 use std::alloc::Global;
+use std::sync::Arc;
 use std::sync::ledger::Ledger;
 
 /// The shard's part of a change: which shard it is of how many, and the change's number.
@@ -31,13 +33,12 @@ fn remainder(key: u64, shards: u64, power: u64) -> u64
     }
 }
 
-// The entries that the change brings, where its windows have these keys, by place.
-fn entries_for(alloc: Global, part: Part, keys: &[u64]) -> Result<Vec<Entry>, Memory>
+// Puts the entries that the change brings, where its windows have these keys, behind others, by place.
+fn gather(part: Part, keys: &[u64], entries: &mut Vec<Entry>) -> Result<(), Memory>
     requires few { length keys.now < 2 ^ 32 }
     requires some { 0 < part.shards }
-    ensures { IfOk result (λ entries. entries.items ≡ entries_of part.change part.shard part.shards 0 keys.now) }
+    ensures { OnOk result (entries.new.items ≡ entries.old.items ++ entries_of part.change part.shard part.shards 0 keys.now) }
 {
-    let mut entries = Vec::new(alloc);
     let shards = u64::from(part.shards);
     let power = shards.next_power_of_two();
     for (at, key) in keys.iter().enumerate() {
@@ -48,6 +49,44 @@ fn entries_for(alloc: Global, part: Part, keys: &[u64]) -> Result<Vec<Entry>, Me
                 at: at as u32,
             };
             entries.push(entry)?;
+        }
+    }
+    Ok(())
+}
+
+/// The entries that the change brings to the shard, by place.
+pub(crate) fn entries_for<W: Indexed>(
+    alloc: Global,
+    part: Part,
+    work: Option<&W>,
+) -> Result<Vec<Entry>, Memory>
+    requires few { IfSome work (λ w. length (W.keys_in w.now) < 2 ^ 32) }
+    requires some { 0 < part.shards }
+    ensures { IfOk result (λ entries. entries.items ≡ brought W.keys_in part.change part.shard part.shards (option_copied work.entry)) }
+{
+    let mut entries = Vec::new(alloc);
+    if let Some(work) = work {
+        gather(part, work.keys(), &mut entries)?;
+    }
+    Ok(entries)
+}
+
+/// The entries that the changes behind the part's own bring to the shard, a change for each work, by change and place.
+pub(crate) fn entries_for_all<W: Indexed>(
+    alloc: Global,
+    mut part: Part,
+    works: &[Option<Arc<W, Global>>],
+) -> Result<Vec<Entry>, Memory>
+    requires few { All (λ work. IfSome work (λ w. length (W.keys_in (arc_value w)) < 2 ^ 32)) works.now }
+    requires room { part.change + length works.now < 2 ^ 64 }
+    requires some { 0 < part.shards }
+    ensures { IfOk result (λ entries. entries.items ≡ all_brought (λ w. W.keys_in (arc_value w)) part.change part.shard part.shards works.now) }
+{
+    let mut entries = Vec::new(alloc);
+    for work in works {
+        part.change += 1;
+        if let Some(work) = work {
+            gather(part, work.keys(), &mut entries)?;
         }
     }
     Ok(entries)
@@ -69,11 +108,27 @@ pub(crate) fn add_work<W: Indexed, L: Ledger>(
     ensures steps { OnOk result (steps.new ≡ steps.old + length (brought W.keys_in part.change part.shard part.shards (option_copied work.entry))) }
     ensures most { steps.new ≤ steps.old + length (brought W.keys_in part.change part.shard part.shards (option_copied work.entry)) }
 {
-    match work {
-        Some(work) => {
-            let entries = entries_for(alloc, part, work.keys())?;
-            runs.add(alloc, entries, steps)
-        }
-        None => Ok(()),
-    }
+    let entries = entries_for(alloc, part, work)?;
+    runs.add(alloc, entries, steps)
+}
+
+/// The entries that the changes behind the part's own bring to the shard more, or none of them.
+pub(crate) fn add_works<W: Indexed, L: Ledger>(
+    alloc: Global,
+    runs: &mut Runs,
+    part: Part,
+    works: &[Option<Arc<W, Global>>],
+    steps: &mut Steps<L>,
+) -> Result<(), Memory>
+    requires few { All (λ work. IfSome work (λ w. length (W.keys_in (arc_value w)) < 2 ^ 32)) works.now }
+    requires room { part.change + length works.now < 2 ^ 64 }
+    requires some { 0 < part.shards }
+    requires known { All (λ e. e.change ≤ part.change) runs.old }
+    ensures added { OnOk result (AreAdded runs.old (all_brought (λ w. W.keys_in (arc_value w)) part.change part.shard part.shards works.now) runs.new) }
+    ensures same { OnErr result (runs.new ≡ runs.old) }
+    ensures steps { OnOk result (steps.new ≡ steps.old + length (all_brought (λ w. W.keys_in (arc_value w)) part.change part.shard part.shards works.now)) }
+    ensures most { steps.new ≤ steps.old + length (all_brought (λ w. W.keys_in (arc_value w)) part.change part.shard part.shards works.now) }
+{
+    let entries = entries_for_all(alloc, part, works)?;
+    runs.add(alloc, entries, steps)
 }
