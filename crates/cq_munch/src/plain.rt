@@ -23,7 +23,7 @@ fn of_str(alloc: Global, text: &str) -> Result<Vec<Unit>, Memory>
     ensures in_order { IfOk result (λ v. InOrder 0 v.items (length text.now)) }
     ensures short { IfOk result (λ v. length v.items ≤ length text.now) }
 {
-    let mut units = Vec::new(alloc);
+    let mut units = Vec::with_capacity(alloc, text.len())?;
     let mut start = 0;
     for ch in text.chars() {
         let len = ch.len_utf8() as u32;

@@ -11,7 +11,7 @@ use std::alloc::Global;
 fn of_units(alloc: Global, units: &[Unit]) -> Result<Text, Memory>
     ensures { IfOk result (λ t. t ≡ utf8_of units.now) }
 {
-    let mut text = String::new(alloc);
+    let mut text = String::with_capacity(alloc, units.len())?;
     for unit in units {
         text.push(unit.ch)?;
     }
