@@ -11,6 +11,10 @@ use Rattle.cq_base.specs.declared.token.Class.TheVariants as class
 abbrev pub folded : ℕ → ℕ → ℕ
 folded key code = (key * 6364136223846793005 + code + 1) % 2 ^ 64
 
+-- what two codes behind a key add to it
+abbrev pub pair : ℕ → ℕ → ℕ
+pair first second = ((first + 1) * 6364136223846793005 + (second + 1)) % 2 ^ 64
+
 abbrev pub lang_code : Lang → ℕ
 lang_code lang.Any = 0
 lang_code lang.Go = 1

@@ -4,7 +4,7 @@ ghost use Rattle.cq_key.specs.Keys as spec;
 use cq_base::{Class, Lang, Memory, Norm};
 use std::alloc::Global;
 
-const FACTOR: u64 = 6_364_136_223_846_793_005;
+pub(crate) const FACTOR: u64 = 6_364_136_223_846_793_005;
 
 /// A key with one code more.
 pub(crate) fn folded(key: u64, code: u64) -> u64

@@ -7,6 +7,7 @@ mod code;
 mod keyer;
 mod laws;
 mod plain;
+mod stride;
 
 pub use keyer::Keyer;
 pub use laws::files_are_keyed_by_their_windows;
