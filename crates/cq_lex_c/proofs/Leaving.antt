@@ -10,7 +10,7 @@ unfolding spliced
 spliced_skip zero u us h = absurd (omega arith)
 spliced_skip (suc n) u us h = let e : n ≡ suc n - 1 = omega arith in ap (λ v. spliced v us) e
 
-spliced_keep : (u : Unit) (us : List Unit) → splice_len (u ∷ us) ≡ 0 → spliced 0 (u ∷ us) ≡ u ∷ spliced 0 us
+pub spliced_keep : (u : Unit) (us : List Unit) → splice_len (u ∷ us) ≡ 0 → spliced 0 (u ∷ us) ≡ u ∷ spliced 0 us
 unfolding spliced
 spliced_keep u us h = ap (λ n. kept n u (spliced 0 us) (spliced (n - 1) us)) h
 

@@ -7,7 +7,7 @@ ghost use Rattle.cq_lex_c.specs.Unclosed.{IsTrueOf};
 
 use crate::element::taken;
 use crate::mode::mode_behind;
-use crate::splice::splice;
+use crate::splice::unspliced;
 use crate::text::{Unclosed, nothing_known, prefixed_at, text_at};
 use cq_base::{Memory, Spelled, Text};
 use cq_munch::{Found, Lexis, Spell, Translated, Unit, is_mark, plain_units};
@@ -28,7 +28,7 @@ impl Lexis for C {
 
     fn translate(alloc: Global, text: &Text) -> Result<Translated, Memory> {
         let units = plain_units(alloc, text)?;
-        Ok(Translated::Units(splice(alloc, &units)?))
+        Ok(Translated::Units(unspliced(alloc, units)?))
     }
 
     ghost is_true_of = { λ language text. IsTrueOf language.unclosed text };

@@ -1,4 +1,4 @@
-ghost use Rattle.std.specs.Prelude.{◌≡◌, IfOk};
+ghost use Rattle.std.specs.Prelude.{◌≡◌, ◌==◌, ◌&&◌, ◌||◌, IfOk, IsFalse};
 ghost use Rattle.cq_lex_c.specs.Splices.{splice_len, spliced};
 
 use cq_base::Memory;
@@ -21,11 +21,38 @@ fn splice_len(units: &[Unit]) -> usize
     0
 }
 
-/// The units without the splices. Each is looked at once, and once more behind a backslash.
-pub(crate) fn splice(alloc: Global, units: &[Unit]) -> Result<Vec<Unit>, Memory>
+// Whether a line ends here, directly behind a backslash.
+fn ends_behind(behind: bool, ch: char) -> bool
+    ensures { result ≡ (behind && ((ch == 10) || (ch == 13))) }
+{
+    behind && (ch == '\n' || ch == '\r')
+}
+
+fn is_backslash(ch: char) -> bool
+    ensures { result ≡ (ch == 92) }
+{
+    ch == '\\'
+}
+
+// Whether a line ends directly behind a backslash. Where none does, nothing is left out.
+fn has_splice(units: &[Unit]) -> bool
+    ensures { IsFalse result → units.now ≡ spliced 0 units.now }
+{
+    let mut behind = false;
+    for unit in units {
+        if ends_behind(behind, unit.ch) {
+            return true;
+        }
+        behind = is_backslash(unit.ch);
+    }
+    false
+}
+
+// The units without the splices. Each is looked at once, and once more behind a backslash.
+fn splice(alloc: Global, units: &[Unit]) -> Result<Vec<Unit>, Memory>
     ensures { IfOk result (λ v. v.items ≡ spliced 0 units.now) }
 {
-    let mut out = Vec::new(alloc);
+    let mut out = Vec::with_capacity(alloc, units.len())?;
     let mut skip = 0;
     for (i, unit) in units.iter().enumerate() {
         if skip > 0 {
@@ -40,4 +67,14 @@ pub(crate) fn splice(alloc: Global, units: &[Unit]) -> Result<Vec<Unit>, Memory>
         }
     }
     Ok(out)
+}
+
+/// The units without the splices. Those of a text that has none are looked at once, and taken as they are.
+pub(crate) fn unspliced(alloc: Global, units: Vec<Unit>) -> Result<Vec<Unit>, Memory>
+    ensures { IfOk result (λ v. v.items ≡ spliced 0 units.items) }
+{
+    if has_splice(&units) {
+        return splice(alloc, &units);
+    }
+    Ok(units)
 }
