@@ -3,4 +3,5 @@ pub mod OperatorSteps
 pub mod Opening
 pub mod Spans
 pub mod Translating
+pub mod NoEscapes
 pub mod Dispatch

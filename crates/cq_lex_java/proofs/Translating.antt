@@ -24,7 +24,7 @@ unfolding translated
 skipping zero odd u us some = absurd (omega arith)
 skipping (suc n) odd u us some = let e : n ≡ suc n - 1 = omega arith in ap (λ k. translated k odd us) e
 
-reading : (odd : Bool) (u : Unit) (us : List Unit) (step : Step) → read_at odd (u ∷ us) ≡ step
+pub reading : (odd : Bool) (u : Unit) (us : List Unit) (step : Step) → read_at odd (u ∷ us) ≡ step
     → translated 0 odd (u ∷ us) ≡ by_step step u us (translated 0 ((u.ch == 92) && not odd) us) (translated (len_of step - 1) false us)
 unfolding translated
 reading odd u us step is = ap (λ s. by_step s u us (translated 0 ((u.ch == 92) && not odd) us) (translated (len_of s - 1) false us)) is

@@ -5,7 +5,7 @@ ghost use Rattle.cq_lex_java.specs.OneKind.{one_kind_of_java};
 ghost use Rattle.cq_lex_java.specs.Translation.{translated};
 
 use crate::element::taken;
-use crate::translation::translated;
+use crate::translation::unescaped;
 use cq_base::{Memory, Spelled, Text};
 use cq_munch::{Found, Lexis, Spell, Translated, Unit, is_mark, plain_units};
 use std::alloc::Global;
@@ -23,7 +23,7 @@ impl Lexis for Java {
 
     fn translate(alloc: Global, text: &Text) -> Result<Translated, Memory> {
         let units = plain_units(alloc, text)?;
-        translated(alloc, &units)
+        unescaped(alloc, units)
     }
 
     ghost is_true_of = { λ language text. ⊤ };

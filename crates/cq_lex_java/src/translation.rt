@@ -1,4 +1,4 @@
-ghost use Rattle.std.specs.Prelude.{◌≡◌, ◌≤◌, ◌==◌, ◌&&◌, not, false, length, IfOk};
+ghost use Rattle.std.specs.Prelude.{◌≡◌, ◌≤◌, ◌==◌, ◌&&◌, not, false, Ok, length, IfOk, IsFalse};
 ghost use Rattle.cq_munch.specs.Lexed.{InOrder, translation};
 ghost use Rattle.cq_lex_java.specs.Translation.{spanning, read_at, translated};
 ghost use Rattle.cq_lex_java.specs.Escapes.{IsStepWithin};
@@ -39,13 +39,40 @@ fn odd_behind(odd: bool, ch: char) -> bool
     ch == '\\' && !odd
 }
 
-/// The units after the Unicode escapes are read, or the byte of the first fault. Each unit is looked at once, and those
-/// of an escape twice more.
-pub(crate) fn translated(alloc: Global, units: &[Unit]) -> Result<Translated, Memory>
+// Whether a u stands here, directly behind a backslash.
+fn begins_escape(behind: bool, ch: char) -> bool
+    ensures { result ≡ (behind && (ch == 117)) }
+{
+    behind && ch == 'u'
+}
+
+fn is_backslash(ch: char) -> bool
+    ensures { result ≡ (ch == 92) }
+{
+    ch == '\\'
+}
+
+// Whether a u stands directly behind a backslash. Where none does, nothing is translated.
+fn has_escape(units: &[Unit]) -> bool
+    ensures { IsFalse result → Ok units.now ≡ translated 0 false units.now }
+{
+    let mut behind = false;
+    for unit in units {
+        if begins_escape(behind, unit.ch) {
+            return true;
+        }
+        behind = is_backslash(unit.ch);
+    }
+    false
+}
+
+// The units after the Unicode escapes are read, or the byte of the first fault. Each unit is looked at once, and those
+// of an escape twice more.
+fn translated(alloc: Global, units: &[Unit]) -> Result<Translated, Memory>
     requires { InOrder 0 units.now 1048576 }
     ensures { IfOk result (λ t. translation t ≡ translated 0 false units.now) }
 {
-    let mut out = Vec::new(alloc);
+    let mut out = Vec::with_capacity(alloc, units.len())?;
     let mut skip = 0;
     let mut odd = false;
     for (i, unit) in units.iter().enumerate() {
@@ -68,4 +95,16 @@ pub(crate) fn translated(alloc: Global, units: &[Unit]) -> Result<Translated, Me
         }
     }
     Ok(Translated::Units(out))
+}
+
+/// The units after the Unicode escapes are read, or the byte of the first fault. Those of a text without escapes are
+/// looked at once, and taken as they are.
+pub(crate) fn unescaped(alloc: Global, units: Vec<Unit>) -> Result<Translated, Memory>
+    requires { InOrder 0 units.items 1048576 }
+    ensures { IfOk result (λ t. translation t ≡ translated 0 false units.items) }
+{
+    if has_escape(&units) {
+        return translated(alloc, &units);
+    }
+    Ok(Translated::Units(units))
 }
