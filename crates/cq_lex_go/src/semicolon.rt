@@ -103,7 +103,7 @@ pub(crate) fn with_semicolons(
     requires in_order { TokensFollow 0 tokens.items (length text.now) }
     ensures { IfOk result (λ v. v.items ≡ spec.completed text.now tokens.items) }
 {
-    let mut all = Vec::new(alloc);
+    let mut all = Vec::with_capacity(alloc, tokens.len())?;
     let mut last: Option<Token> = None;
     for spelled in tokens {
         push_between(alloc, text, last, spelled.token.start, &mut all)?;
