@@ -1,0 +1,173 @@
+use crate::asking::{Lines, drawn_lines};
+use crate::running::written_here;
+use cq_base::{Memory, Settings};
+use cq_lines::End;
+use std::alloc::Global;
+
+const SETTINGS: Settings = Settings {
+    chunk: 2,
+    shards: 2,
+    key_bits: 64,
+    ignore_ids: false,
+    ignore_lits: false,
+    change_limit: 32,
+    text_limit: 200,
+    byte_limit: 1_152_921_504_606_846_976,
+};
+
+/// How a script went.
+#[derive(Clone, Copy, Debug, PartialEq, Eq)]
+enum Went {
+    /// Each outcome is as the model tells.
+    AsTold,
+    /// A setting is out of its range.
+    OutOfRange,
+    /// It did not end with the last line.
+    Unfinished,
+    /// It differs from the model in this line, from 1.
+    Otherwise(u64),
+}
+
+// The line, from 1, in which what was written first differs from what was to be written.
+fn difference(written: &[u8], wanted: &[u8]) -> Option<u64> {
+    let mut line = 1u64;
+    let mut left = wanted.iter();
+    for byte in written {
+        if left.next() != Some(byte) {
+            return Some(line);
+        }
+        if *byte == b'\n' {
+            line = line.saturating_add(1);
+        }
+    }
+    if left.next().is_some() {
+        Some(line)
+    } else {
+        None
+    }
+}
+
+// The kinds of outcomes: a step, a piece of its outcome, and how often it comes in the three scripts together, which
+// have 900 lines. An outcome is of the first kind that it fits; a refusal is counted whatever its line is.
+const KINDS: &str = r#""accept" | "value": | 96
+"ask" | "value": | 22
+"took" | null | 3
+"took" | "value": | 34
+"back" | "ok":true | 12
+"back" | {"ok":false} | 28
+"done" | "ok":true | 50
+"done" | {"ok":false} | 17
+"apply" | "value": | 111
+"apply" | {"ok":false} | 48
+"publish" | "ok":true | 18
+"publish" | {"ok":false} | 30
+"open" | "value": | 26
+"open" | {"ok":false} | 6
+"read" | "value":[] | 8
+"read" | "value":[[ | 11
+"read" | {"ok":false} | 39
+"reply" | "files":[] | 6
+"reply" | "files":[{ | 5
+"reply" | "groups":[] | 6
+"reply" | "groups":[{ | 9
+"reply" | "measures": | 6
+"reply" | "OK" | 5
+"reply" | "ERROR" | 2
+"reply" | {"ok":false} | 96
+"shut" | "ok":true | 15
+"shut" | {"ok":false} | 34
+ | "code":1, | 15
+ | "code":2, | 12
+ | "code":3, | 39
+ | "code":4, | 6
+ | "code":5, | 6
+ | "code":6, | 3
+ | "code":7, | 6
+ | "code":9, | 18
+ | "code":10, | 24
+ | "code":11, | 25
+ | "code":13, | 3
+"#;
+
+// A kind: its step, its piece, and how often it comes.
+fn parts_of(kind: &str) -> Option<(&str, &str, &str)> {
+    let (step, rest) = kind.split_once(" | ")?;
+    let (piece, count) = rest.split_once(" | ")?;
+    Some((step, piece, count))
+}
+
+// The kind of an outcome, by its position.
+fn kind_of(asked: &str, told: &str) -> Option<usize> {
+    for (i, kind) in KINDS.lines().enumerate() {
+        if let Some((step, piece, _count)) = parts_of(kind) {
+            if told.contains(piece) && asked.contains(step) {
+                return Some(i);
+            }
+        }
+    }
+    None
+}
+
+// Adds the kinds of all outcomes of a script.
+fn add_kinds(lines: &Lines, kinds: &mut Vec<Option<usize>>) -> Result<(), Memory> {
+    for (asked, told) in lines.asked.lines().zip(lines.told.lines()) {
+        kinds.push(kind_of(asked, told))?;
+    }
+    Ok(())
+}
+
+// How often a kind is to come.
+fn count_of(kind: &str) -> Option<usize> {
+    let (_step, _piece, count) = parts_of(kind)?;
+    count.parse::<usize>().ok()
+}
+
+// The first kind that does not come as often as it is said, by its position, and how often it comes.
+fn first_otherwise(kinds: &[Option<usize>]) -> Option<(usize, usize)> {
+    for (i, kind) in KINDS.lines().enumerate() {
+        let came = kinds.iter().filter(|of| **of == Some(i)).count();
+        if count_of(kind) != Some(came) {
+            return Some((i, came));
+        }
+    }
+    None
+}
+
+// A script of 300 lines, whose kinds are added to those that came.
+fn script_goes(
+    alloc: Global,
+    key_bits: u32,
+    seed: u64,
+    kinds: &mut Vec<Option<usize>>,
+) -> Result<Went, Memory> {
+    let settings = Settings {
+        key_bits,
+        ..SETTINGS
+    };
+    if settings.check().is_some() {
+        return Ok(Went::OutOfRange);
+    }
+    let lines = drawn_lines(alloc, &settings, 300, seed)?;
+    add_kinds(&lines, kinds)?;
+    let (end, output) = written_here(alloc, &settings, lines.asked.as_bytes())?;
+    if end != End::Finished {
+        return Ok(Went::Unfinished);
+    }
+    match difference(&output, lines.told.as_bytes()) {
+        Some(line) => Ok(Went::Otherwise(line)),
+        None => Ok(Went::AsTold),
+    }
+}
+
+// One key for all windows, eight keys, and all that there are.
+#[test]
+fn scripts_go_as_told(rt: HostRuntime) -> Result<(), Memory> {
+    let alloc = rt.alloc();
+    let mut kinds = Vec::new(alloc);
+    assert_eq!(rt; script_goes(alloc, 0, 8, &mut kinds)?, Went::AsTold);
+    assert_eq!(rt; script_goes(alloc, 3, 10, &mut kinds)?, Went::AsTold);
+    assert_eq!(rt; script_goes(alloc, 64, 12, &mut kinds)?, Went::AsTold);
+    assert_eq!(rt; kinds.len(), 900);
+    assert_eq!(rt; first_otherwise(&kinds), None);
+    Ok(())
+}
