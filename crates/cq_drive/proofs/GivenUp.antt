@@ -1,6 +1,5 @@
 -- An outcome whose line may be given up changes nothing.
 use Rattle.std.proofs.Common.{◌≡◌, ℕ, List, Result, Ok, Err, refl, subst, inl, inr}
-use Rattle.std.specs.Prelude.{◌⊎◌}
 use Rattle.cq_base.specs.declared.settings.Settings.{Settings}
 use Rattle.cq_history.specs.Core.{Core, Step}
 use Rattle.cq_history.specs.Core.Step.{Adds, Applies}
@@ -14,6 +13,7 @@ use Rattle.cq_request.specs.declared.request.Refusal.{Refusal}
 use Rattle.cq_step.specs.Reading.{step_read}
 use Rattle.cq_step.specs.declared.step.ScriptStep.{ScriptStep}
 use Rattle.cq_step.specs.declared.step.ScriptStep.TheVariants as script
+use Rattle.cq_drive.specs.Cores.{IsToldBy}
 use Rattle.cq_drive.specs.Script.{now, StepsWhere, StepComesTo, SaidComesTo, ReadComesTo}
 
 -- a step that was taken, or was not, and needs no memory where it was
@@ -41,7 +41,7 @@ module _ (set : Settings) (k : Core) (o : ScriptOutcome) (later : Core) (needs :
   said_stays (Err why) is = is.1
 
 -- its line, or that of want of memory
-pub line_told : (set : Settings) (k later : Core) (line bytes : List ℕ) (o : ScriptOutcome) → (bytes ≡ line_of o) ⊎ (NeedsMemory o × (bytes ≡ line_of (outcome.Reply reply.Memory))) → SaidComesTo set k (step_read set line) o later
+pub line_told : (set : Settings) (k later : Core) (line bytes : List ℕ) (o : ScriptOutcome) → IsToldBy o bytes → SaidComesTo set k (step_read set line) o later
     → (p : ScriptOutcome) × ReadComesTo set k line p later × (bytes ≡ line_of p)
 line_told set k later line bytes o (inl same) is = (o, inr is, same)
 line_told set k later line bytes o (inr given) is = (outcome.Reply reply.Memory, inl (refl, said_stays set k o later given.0 (step_read set line) is), given.1)

@@ -1,5 +1,5 @@
 -- The core that a script steps, and the core of the history for which it stands.
-use Rattle.std.specs.Prelude.{◌≡◌, ℕ, List, length, Option, Result}
+use Rattle.std.specs.Prelude.{◌≡◌, ◌⊎◌, ℕ, List, length, Option, Result}
 use Rattle.std.specs.Arc.{arc_value}
 use Rattle.cq_base.specs.declared.settings.Settings.{Settings}
 use Rattle.cq_core.specs.Cores.{CoreState, StandsFor}
@@ -13,9 +13,10 @@ use Rattle.cq_io.specs.Sending.{Sends}
 use Rattle.cq_lines.specs.Held.{Held}
 use Rattle.cq_lines.specs.Serving.{RepliedSoFar, Serves}
 use Rattle.cq_lines.specs.declared.ending.End.{End}
-use Rattle.cq_outcome.specs.Outcomes.{line_of}
+use Rattle.cq_outcome.specs.Outcomes.{line_of, NeedsMemory}
 use Rattle.cq_outcome.specs.declared.outcome.ScriptOutcome.{ScriptOutcome}
 use Rattle.cq_outcome.specs.declared.outcome.ScriptOutcome.TheVariants as outcome
+use Rattle.cq_reply.specs.declared.reply.Reply.TheVariants as reply
 use Rattle.cq_shard.specs.Shard.{HasWindow}
 use Rattle.cq_step.specs.Reading.{step_read}
 use Rattle.cq_step.specs.declared.step.ScriptStep.{ScriptStep}
@@ -23,6 +24,10 @@ use Rattle.cq_step.specs.declared.step.ScriptStep.TheVariants as script
 use Rattle.cq_work.specs.Work.{IsWorkOf}
 use Rattle.cq_work.specs.declared.work.Work.{Work}
 use Rattle.cq_drive.specs.Script.{callers, StepComesTo, SaidComesTo, ReadComesTo, LineComesTo, ComeTo, ComeFrom}
+
+-- the bytes are the outcome's line; for one whose line is made in memory they may tell that memory was refused
+abbrev pub IsToldBy : ScriptOutcome → List ℕ → Type 0
+IsToldBy o bytes = (bytes ≡ line_of o) ⊎ (NeedsMemory o × (bytes ≡ line_of (outcome.Reply reply.Memory)))
 
 -- the keys of a work
 abbrev pub keys_of : {L : Type 0} → Work L → List ℕ

@@ -1,10 +1,8 @@
-ghost use Rattle.std.specs.Prelude.{◌≡◌, ◌⊎◌, IfOk, OnErr};
+ghost use Rattle.std.specs.Prelude.{◌≡◌, IfOk, OnErr};
 ghost use Rattle.cq_base.specs.Settings.{IsInRange};
-ghost use Rattle.cq_drive.specs.Cores.{IsDriven, StepLed, SaidLed, LineLed};
-ghost use Rattle.cq_outcome.specs.Outcomes.{line_of as line_of_outcome, IsOutcomeText, NeedsMemory};
-ghost use Rattle.cq_outcome.specs.declared.outcome.ScriptOutcome.TheVariants as outcome;
+ghost use Rattle.cq_drive.specs.Cores.{IsDriven, IsToldBy, StepLed, SaidLed, LineLed};
+ghost use Rattle.cq_outcome.specs.Outcomes.{IsOutcomeText};
 ghost use Rattle.cq_reply.specs.Lines.{bytes_of};
-ghost use Rattle.cq_reply.specs.declared.reply.Reply.TheVariants as reply;
 ghost use Rattle.cq_step.specs.Sound.{IsSoundStep};
 
 use crate::stepping::{finished, stepped};
@@ -87,7 +85,7 @@ fn said<L: Ledger>(
 // The line of an outcome, or where memory is refused the one that tells that.
 fn line_or_memory(alloc: Global, told: &ScriptOutcome) -> Line
     requires { IsOutcomeText told.now }
-    ensures { (bytes_of result ≡ line_of_outcome told.now) ⊎ (NeedsMemory told.now × (bytes_of result ≡ line_of_outcome (outcome.Reply reply.Memory))) }
+    ensures { IsToldBy told.now (bytes_of result) }
 {
     match line_of(alloc, told) {
         Ok(line) => line,
