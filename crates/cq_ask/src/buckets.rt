@@ -1,9 +1,9 @@
 use crate::project::keep;
 use cq_base::{Entry, Memory};
 use cq_board::View;
-use cq_projects::ProjectFiles;
 use cq_groups::Buckets;
 use cq_hub::Hub;
+use cq_projects::ProjectFiles;
 use cq_shard::Indexed;
 use std::alloc::Global;
 

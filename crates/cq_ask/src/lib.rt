@@ -7,6 +7,3 @@ mod project;
 
 pub use buckets::PassBuckets;
 pub use project::keep;
-
-#[cfg(test)]
-mod tests;

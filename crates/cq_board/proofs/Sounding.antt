@@ -1,9 +1,7 @@
 -- What is handed out of sound changes.
-use Rattle.std.proofs.Common.{◌≡◌, ℕ, zero, suc, ◌<◌, ◌≤◌, true, false, cond, List, [], ◌∷◌, length, map, get_or, sym, ap, ◌∙◌, subst, arith}
+use Rattle.std.proofs.Common.{◌≡◌, ℕ, ◌<◌, ◌≤◌, true, false, cond, List, [], ◌∷◌, length, map, get_or, sym, ap, ◌∙◌, subst, arith}
 use Rattle.std.specs.Prelude.{All}
 use Rattle.std.specs.Str.{IsUtf8, bytes_eq}
-use Rattle.std.proofs.lemmas.Str.{IsUtf8-from_ascii}
-use Rattle.std.proofs.lemmas.Str.Ascii.{IsAscii-from_reads}
 use Rattle.std.proofs.lemmas.List.{length-map, get_or-map}
 use Rattle.std.proofs.lemmas.List.Elements.{All-head, All-tail}
 use Rattle.cq_base.specs.declared.lang.Lang.{Lang}
@@ -47,11 +45,3 @@ few_from q old (c ∷ changes) few sound = few_from q (conditions_after q old c)
 
 pub few_conditions : {W : Type 0} (IsWork : Lang → List ℕ → W → Type 0) (changes : List Change) (l : Listed W) → All IsSoundChange changes → IsListing IsWork changes l → HaveFewConditions l.projects
 few_conditions IsWork changes l sound is q = subst (λ cs. length cs ≤ 32) (sym (is.conditions q)) (few_from q [] changes (omega arith) sound)
-
-letter_reads : (b : ℕ) → b < 128 → (k : ℕ) → k < 1 → get_or (b ∷ []) k 0 < 128
-letter_reads b few zero lt = few
-letter_reads b few (suc k) lt = absurd (omega (arith, lt))
-
--- a letter below 128 is a text
-pub letter_utf8 : (b : ℕ) → b < 128 → IsUtf8 (b ∷ [])
-letter_utf8 b few = IsUtf8-from_ascii (b ∷ []) (IsAscii-from_reads (b ∷ []) 1 (omega arith) (letter_reads b few))

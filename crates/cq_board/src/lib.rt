@@ -24,6 +24,3 @@ pub use answers::{Asked, Finished, Job, Refused};
 pub use board::Board;
 pub use laws::shards_have_the_entries;
 pub use listing::{Listing, View};
-
-#[cfg(test)]
-mod tests;

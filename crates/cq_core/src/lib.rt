@@ -8,6 +8,3 @@ mod step;
 
 pub use machine::Core;
 pub use step::{Outcome, Step};
-
-#[cfg(test)]
-mod tests;

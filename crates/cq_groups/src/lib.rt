@@ -17,6 +17,3 @@ mod plain;
 pub use buckets::Buckets;
 pub use listing::{list_all, list_file};
 pub use plain::PlainBuckets;
-
-#[cfg(test)]
-mod tests;

@@ -12,6 +12,3 @@ mod solo;
 
 pub use hub::Hub;
 pub use solo::{Solo, SoloPass};
-
-#[cfg(test)]
-mod tests;

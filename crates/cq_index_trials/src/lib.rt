@@ -4,6 +4,14 @@
 #[cfg(test)]
 mod draws;
 #[cfg(test)]
+mod groups;
+#[cfg(test)]
+mod orders;
+#[cfg(test)]
 mod projects;
 #[cfg(test)]
+mod scans;
+#[cfg(test)]
 mod tests;
+#[cfg(test)]
+mod tokens;

@@ -18,6 +18,3 @@ pub use keeping::kept;
 pub use places::sort_places;
 pub use rising::reach;
 pub use spots::{Spot, Spots, spot_of, spots_of};
-
-#[cfg(test)]
-mod tests;

@@ -22,6 +22,3 @@ pub use draft::{Draft, drafts_of, edit_draft, finished_all};
 pub use held::{Held, Project};
 pub use project_files::ProjectFiles;
 pub use projects::{ProjectEdit, edit_in, find_project};
-
-#[cfg(test)]
-mod tests;

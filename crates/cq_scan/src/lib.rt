@@ -10,6 +10,3 @@ mod listing;
 mod occurrences;
 
 pub use listing::scan;
-
-#[cfg(test)]
-mod tests;

@@ -20,6 +20,3 @@ pub use laws::{
     shards_stay, sweeping_takes_out_alone,
 };
 pub use shard::Shard;
-
-#[cfg(test)]
-mod tests;

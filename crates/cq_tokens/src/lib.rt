@@ -19,6 +19,3 @@ pub use laws::equal_tokens_tie;
 pub use plain::{FileTokens, PlainFiles};
 pub use seen::Seen;
 pub use tokens::Tokens;
-
-#[cfg(test)]
-mod tests;

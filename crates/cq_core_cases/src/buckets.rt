@@ -1,0 +1,83 @@
+ghost use Rattle.std.specs.Prelude.{◌≡◌, IfOk, None};
+ghost use Rattle.cq_ask.specs.Moves.{Moves};
+ghost use Rattle.cq_ask.specs.Projects.{keys_in_files, IsReady};
+ghost use Rattle.cq_projects.specs.Spotted.{numbers_of};
+ghost use Rattle.cq_clones.specs.Windows.{IsBucket};
+ghost use Rattle.cq_history.specs.State.{state, view_of};
+ghost use Rattle.cq_hub.specs.Hubs.{HasSeen};
+
+use crate::made::{Apart, Made, SETTINGS, accept, finish, letter};
+use cq_ask::PassBuckets;
+use cq_base::{Entry, Memory, Text};
+use cq_board::{Refused, View};
+use cq_groups::Buckets;
+use cq_hub::{Hub, Solo};
+use cq_projects::ProjectFiles;
+use std::alloc::Global;
+
+// The bucket of a key among some files, through the pass, which is the caller's again.
+fn bucket<'a, W: Made, H: Hub<W>>(
+    alloc: Global,
+    hub: &'a H,
+    view: &'a View<W>,
+    files: &'a ProjectFiles<W>,
+    key: u64,
+    pass: &mut H::Pass,
+) -> Result<Vec<Entry>, Memory>
+    requires { IsReady H.Stands (H.callers hub.now) (W.IsWorkOf (H.settings hub.now)) hub.now view.now pass.old files.now }
+    ensures bucket { IfOk result (λ entries. IsBucket (numbers_of files.now) (keys_in_files W.keys_in files.now) key entries.items) }
+    ensures moves { Moves H.Stands (H.callers hub.now) H.alone (W.IsWorkOf (H.settings hub.now)) hub.now view.now pass.old pass.new }
+{
+    let mut buckets = PassBuckets {
+        hub,
+        view,
+        files,
+        pass,
+    };
+    buckets.bucket(alloc, key)
+}
+
+// What a project's files have of a key in the version that is published then.
+fn read<W: Made, H: Hub<W>>(
+    alloc: Global,
+    hub: &H,
+    project: &Text,
+    key: u64,
+    pass: &mut H::Pass,
+) -> Result<Vec<Entry>, Memory>
+    requires { HasSeen H.Stands hub.now pass.old (λ c h. view_of (state (H.callers hub.now) h) c ≡ None) }
+{
+    let asked = hub.ask(pass);
+    hub.advance(alloc, asked.done, pass)?;
+    let view = hub.open_view(pass)?;
+    let files = view.listing.project(project);
+    let entries = bucket(alloc, hub, &view, files, key, pass)?;
+    hub.close_view(view, pass);
+    Ok(entries)
+}
+
+// What the second of two projects with the same file has of a key.
+fn run<W: Made>(alloc: Global, key: u64) -> Result<Vec<Entry>, Refused> {
+    let (hub, mut pass) = Solo::<W>::new(alloc, &SETTINGS)?;
+    let first = accept(alloc, b'p', &hub, &mut pass)?;
+    finish(alloc, &hub, first, &mut pass)?;
+    let second = accept(alloc, b'q', &hub, &mut pass)?;
+    finish(alloc, &hub, second, &mut pass)?;
+    let project = letter(alloc, b'q')?;
+    Ok(read(alloc, &hub, &project, key, &mut pass)?)
+}
+
+#[test]
+fn other_projects_are_left_out(rt: HostRuntime) -> Result<(), Refused> {
+    let entries = run::<Apart>(rt.alloc(), 4)?;
+    assert_eq!(rt;
+        entries.as_slice(),
+        [Entry {
+            key: 4,
+            change: 2,
+            at: 1
+        }]
+        .as_slice()
+    );
+    Ok(())
+}

@@ -1,0 +1,107 @@
+ghost use Rattle.std.specs.Prelude.{◌≡◌, None};
+ghost use Rattle.cq_history.specs.State.{state, view_of};
+ghost use Rattle.cq_hub.specs.Hubs.{HasSeen};
+
+use crate::made::{Alike, Apart, Made, SETTINGS, accept, finish};
+use cq_base::{Entry, Memory};
+use cq_board::{Finished, Refused};
+use cq_hub::{Hub, Solo};
+use std::alloc::Global;
+
+// The version that is published then, and what its view has of a key.
+fn read<W: Made, H: Hub<W>>(
+    alloc: Global,
+    hub: &H,
+    key: u64,
+    pass: &mut H::Pass,
+) -> Result<(u64, Vec<Entry>), Memory>
+    requires { HasSeen H.Stands hub.now pass.old (λ c h. view_of (state (H.callers hub.now) h) c ≡ None) }
+{
+    let asked = hub.ask(pass);
+    let version = hub.advance(alloc, asked.done, pass)?;
+    let view = hub.open_view(pass)?;
+    let entries = hub.read_bucket(alloc, &view, key, pass)?;
+    hub.close_view(view, pass);
+    Ok((version, entries))
+}
+
+// What a put of a new hub comes to.
+fn run<W: Made>(alloc: Global, key: u64) -> Result<(u64, Finished, u64, Vec<Entry>), Refused> {
+    let (hub, mut pass) = Solo::<W>::new(alloc, &SETTINGS)?;
+    let number = accept(alloc, b'p', &hub, &mut pass)?;
+    let finished = finish(alloc, &hub, number, &mut pass)?;
+    let (version, entries) = read(alloc, &hub, key, &mut pass)?;
+    Ok((number, finished, version, entries))
+}
+
+// Whether a job is there, whether it is that which is taken, and whether it can be given back.
+fn take<W: Made, H: Hub<W>>(
+    alloc: Global,
+    hub: &H,
+    pass: &mut H::Pass,
+) -> Result<(bool, Option<u64>, bool), Refused>
+    requires { HasSeen H.Stands hub.now pass.old (λ c h. view_of (state (H.callers hub.now) h) c ≡ None) }
+{
+    let number = accept(alloc, b'p', hub, pass)?;
+    let helps = hub.job(number, pass)?.is_some();
+    match hub.take(pass)? {
+        Some(job) => Ok((helps, Some(job.change), hub.back(job.change, pass))),
+        None => Ok((helps, None, false)),
+    }
+}
+
+fn taken(alloc: Global) -> Result<(bool, Option<u64>, bool), Refused> {
+    let (hub, mut pass) = Solo::<Apart>::new(alloc, &SETTINGS)?;
+    take(alloc, &hub, &mut pass)
+}
+
+#[test]
+fn each_shard_answers_for_its_keys(rt: HostRuntime) -> Result<(), Refused> {
+    let (number, finished, version, odd) = run::<Apart>(rt.alloc(), 3)?;
+    assert_eq!(rt; (number, finished, version), (1, Finished::Done, 1));
+    assert_eq!(rt;
+        odd.as_slice(),
+        [Entry {
+            key: 3,
+            change: 1,
+            at: 0
+        }]
+        .as_slice()
+    );
+    let (_, _, _, even) = run::<Apart>(rt.alloc(), 4)?;
+    assert_eq!(rt;
+        even.as_slice(),
+        [Entry {
+            key: 4,
+            change: 1,
+            at: 1
+        }]
+        .as_slice()
+    );
+    Ok(())
+}
+
+#[test]
+fn all_windows_may_have_one_key(rt: HostRuntime) -> Result<(), Refused> {
+    let (_, _, _, entries) = run::<Alike>(rt.alloc(), 0)?;
+    let both = [
+        Entry {
+            key: 0,
+            change: 1,
+            at: 0,
+        },
+        Entry {
+            key: 0,
+            change: 1,
+            at: 1,
+        },
+    ];
+    assert_eq!(rt; entries.as_slice(), both.as_slice());
+    Ok(())
+}
+
+#[test]
+fn a_put_is_taken_and_given_back(rt: HostRuntime) -> Result<(), Refused> {
+    assert_eq!(rt; taken(rt.alloc())?, (true, Some(1), true));
+    Ok(())
+}

@@ -1,0 +1,109 @@
+ghost use Rattle.std.specs.Prelude.{◌≡◌, ◌^◌, ◌<◌, ◌≤◌, length, IfOk, vec_len};
+ghost use Rattle.cq_groups.specs.Plain.{HasOneKey};
+
+use cq_base::{Class, Group, Keys, Lang, Memory, Norm, Place, Steps, Text};
+use cq_groups::{PlainBuckets, list_all};
+use cq_refine::{Index, spots_in};
+use cq_tokens::{Corpus, FileTokens, PlainFiles, Tokens};
+use std::alloc::Global;
+use std::marker::Brand;
+use std::sync::Arc;
+use std::sync::ledger::{Blank, Ledger};
+
+// A token that is one byte.
+fn token(alloc: Global, byte: u8) -> Result<Norm, Memory>
+    ensures { IfOk result (λ norm. length norm.text ≡ 1) }
+{
+    Ok(Norm {
+        lang: Lang::Any,
+        class: Class::Ident,
+        text: Text::from_bytes(alloc, &[byte])?,
+    })
+}
+
+// The change, and one file whose tokens are the bytes of a text. All its windows of two tokens have the key 0.
+#[tactic(auto, using(std::proofs::lemmas::List::Sums::sum_by_push))]
+fn file_of<L: Ledger>(alloc: Global, change: u64, text: &[u8]) -> Result<FileTokens<L>, Memory>
+    requires short { length text.now < 1000 }
+    ensures change { IfOk result (λ file. file.change ≡ change) }
+    ensures keys { IfOk result HasOneKey }
+{
+    let mut norms = Vec::new(alloc);
+    for b in text {
+        norms.push(token(alloc, *b)?)?;
+    }
+    let windows = norms.len().saturating_sub(1);
+    let keys = vec![in alloc; 0; windows]?;
+    Ok(FileTokens {
+        change,
+        tokens: Arc::new(alloc, Tokens::new(alloc, &norms)?)?,
+        keys: Arc::new(alloc, Keys::from_vec(keys))?,
+    })
+}
+
+fn listed<L: Ledger>(
+    alloc: Global,
+    texts: &[&[u8]],
+    min: u32,
+    blank: Blank,
+) -> Result<Vec<Group>, Memory>
+    requires long { 2 ≤ min }
+    requires name { blank.name ≡ L.name }
+    requires parts { blank.parts ≡ L.parts }
+    requires one { L.parts ≡ 1 }
+{
+    let mut files: Vec<FileTokens<L>> = Vec::new(alloc);
+    for text in texts {
+        if text.len() < 1000 && files.len() < 100 {
+            let file = file_of(alloc, files.len() as u64, text)?;
+            files.push(file)?;
+        }
+    }
+    let listed = PlainFiles::new(&files);
+    let spots = spots_in(alloc, &listed)?;
+    let index = Index::new(Corpus::new(2, &listed), &spots);
+    let mut buckets = PlainBuckets::new(&listed);
+    let mut steps = Steps::new(blank);
+    list_all(alloc, &index, min, &mut buckets, &mut steps)
+}
+
+fn groups_of(alloc: Global, texts: &[&[u8]], min: u32) -> Result<Vec<Group>, Memory>
+    requires { 2 ≤ min }
+{
+    listed::<Brand>(alloc, texts, min, Blank::new(1))
+}
+
+fn is_listed(groups: &[Group], want: &[(u32, &[(u32, u32)])]) -> bool {
+    groups.len() == want.len()
+        && groups.iter().zip(want.iter()).all(|(group, (tokens, places))| {
+            let here = group.places.as_slice();
+            group.tokens == *tokens
+                && here.len() == places.len()
+                && here.iter().zip(places.iter()).all(|(p, (file, at))| {
+                    *p == Place {
+                        file: *file,
+                        at: *at,
+                    }
+                })
+        })
+}
+
+#[test]
+fn groups_are_found_where_all_keys_are_equal(rt: HostRuntime) -> Result<(), Memory> {
+    let alloc = rt.alloc();
+    let groups = groups_of(alloc, &[b"abcxabcy"], 3)?;
+    assert!(&rt; is_listed(&groups, &[(3, &[(0, 0), (0, 4)])]), "two places");
+    let groups = groups_of(alloc, &[b"amnx", b"amny", b"bmnx"], 2)?;
+    assert!(&rt;
+        is_listed(
+            &groups,
+            &[
+                (3, &[(0, 0), (1, 0)]),
+                (3, &[(0, 1), (2, 1)]),
+                (2, &[(0, 1), (1, 1), (2, 1)]),
+            ]
+        ),
+        "a word is maximal at some two places"
+    );
+    Ok(())
+}
