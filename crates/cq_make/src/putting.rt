@@ -1,7 +1,7 @@
 ghost use Rattle.std.specs.Prelude.{◌≡◌, ◌≤◌, ◌+◌, ◌*◌, IfOk, []};
 ghost use Rattle.cq_history.specs.State.{accepted};
 ghost use Rattle.cq_talk.specs.Steps.{MayLead};
-ghost use Rattle.cq_make.specs.Generator.{puts_to};
+ghost use Rattle.cq_make.specs.Made.{HasPut};
 
 use crate::generator::put_of;
 use cq_base::Memory;
@@ -20,8 +20,8 @@ fn put_one<W: Indexed>(
 ) -> Result<(), Memory>
     requires few { file + 1 ≤ (⟦<Solo<W> as Hub<W>>⟧.settings hub.now).change_limit }
     requires room { 280 * (file + 1) ≤ (⟦<Solo<W> as Hub<W>>⟧.settings hub.now).text_limit }
-    requires put { MayLead ⟦<Solo<W> as Hub<W>>⟧.Stands 1 hub.now pass.old (λ h. accepted h ≡ puts_to number file) }
-    ensures put { IfOk result (λ _. MayLead ⟦<Solo<W> as Hub<W>>⟧.Stands 1 hub.now pass.new (λ h. accepted h ≡ puts_to number (file + 1))) }
+    requires put { HasPut ⟦<Solo<W> as Hub<W>>⟧.Stands hub.now pass.old number file }
+    ensures put { IfOk result (λ _. HasPut ⟦<Solo<W> as Hub<W>>⟧.Stands hub.now pass.new number (file + 1)) }
 {
     let change = put_of(alloc, number, file)?;
     match hub.accept(alloc, change, pass) {
@@ -44,7 +44,7 @@ pub(crate) fn put_all<W: Indexed>(
     requires few { files ≤ (⟦<Solo<W> as Hub<W>>⟧.settings hub.now).change_limit }
     requires room { 280 * files ≤ (⟦<Solo<W> as Hub<W>>⟧.settings hub.now).text_limit }
     requires empty { MayLead ⟦<Solo<W> as Hub<W>>⟧.Stands 1 hub.now pass.old (λ h. accepted h ≡ []) }
-    ensures put { IfOk result (λ _. MayLead ⟦<Solo<W> as Hub<W>>⟧.Stands 1 hub.now pass.new (λ h. accepted h ≡ puts_to number files)) }
+    ensures put { IfOk result (λ _. HasPut ⟦<Solo<W> as Hub<W>>⟧.Stands hub.now pass.new number files) }
 {
     for file in 0..files {
         put_one(alloc, hub, number, file, pass)?;
