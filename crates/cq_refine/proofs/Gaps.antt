@@ -1,12 +1,14 @@
 -- A spot whose word reaches into the next spot's: the token behind it is one of the word.
-use Rattle.std.proofs.Common.{◌≡◌, ℕ, ◌+◌, ◌-◌, ◌<◌, ◌≤◌, List, length, get_or, slice_get, Option, IsSome, sym, ap, ap₂, ◌∙◌, ⊎_elim, arith}
+use Rattle.std.proofs.Common.{◌≡◌, ℕ, ◌+◌, ◌-◌, ◌<◌, ◌≤◌, List, length, get_or, take, slice_get, Option, IsSome, sym, ap, ap₂, ◌∙◌, ⊎_elim, arith}
 use Rattle.std.proofs.lemmas.Bool.{cases_lt}
+use Rattle.std.proofs.lemmas.List.{get_or_default, get_or-take, length-take}
 use Rattle.std.proofs.lemmas.List.Elements.{Contains-get_or}
 use Rattle.cq_clones.specs.Groups.{file_at, token_behind}
 use Rattle.cq_clones.proofs.Words.{tokens_from_words}
 use Rattle.cq_clones.proofs.GroupLaws.{within_from_standing}
 use Rattle.cq_refine.specs.declared.spots.Spot.{Spot}
-use Rattle.cq_refine.specs.Sets.{AreAlike, IsGap, IsWordSet}
+use Rattle.cq_refine.specs.Gaps.{IsGap, AreInSteps}
+use Rattle.cq_refine.specs.Sets.{AreAlike, IsWordSet}
 
 -- the word of one set stands at its spots
 pub alike_of_words : {T : Type 0} (corpus : List (List T)) (all spots : List Spot) (n : ℕ) → IsWordSet corpus all n spots → AreAlike corpus n spots
@@ -54,3 +56,23 @@ gap_known corpus spots n i gap known first alike is there here chosen some =
       there,
       λ d. ap (λ k. token_behind corpus (get_or spots 0 d).place (n - k)) same ∙ sym (token_by_gap corpus spots n i gap d alike (is d positive) positive low) ∙ here d,
     )
+
+-- spots that follow each other by one gap go on by one token of the word, but for the last
+pub token_in_steps : {T : Type 0} (corpus : List (List T)) (spots : List Spot) (n gap k : ℕ) (d e : Spot) → AreAlike corpus n spots → AreInSteps gap spots → 0 < gap → gap ≤ n → k + 1 < length spots → token_behind corpus (get_or spots k d).place n ≡ token_behind corpus (get_or spots 0 e).place n
+token_in_steps corpus spots n gap k d e alike steps some low lt =
+    token_by_gap corpus spots n k gap d alike (steps k d some lt) some low
+    ∙ ap (λ (s : Spot). token_behind corpus s.place (n - gap)) (get_or_default spots 0 d e (omega (arith, lt)))
+    ∙ sym (token_by_gap corpus spots n 0 gap e alike (steps 0 e some (omega (arith, lt))) some low)
+
+-- the first spots of such
+pub front_in_steps : (gap size : ℕ) (spots : List Spot) → AreInSteps gap spots → AreInSteps gap (take size spots)
+front_in_steps gap size spots steps i d some lt =
+    let part = length-take size spots in
+    let h = steps i d some (omega (arith, lt, part)) in
+    let a : get_or (take size spots) i d ≡ get_or spots i d = get_or-take size spots i d (omega (arith, lt, part)) in
+    let b : get_or (take size spots) (i + 1) d ≡ get_or spots (i + 1) d = get_or-take size spots (i + 1) d (omega (arith, lt, part)) in
+    record {
+      within = lt;
+      file = ap (λ (s : Spot). s.place.file) a ∙ h.file ∙ sym (ap (λ (s : Spot). s.place.file) b);
+      at = ap (λ (s : Spot). s.place.at + gap) a ∙ h.at ∙ sym (ap (λ (s : Spot). s.place.at) b);
+    }

@@ -15,3 +15,4 @@ pub mod OneStep
 pub mod ToldApart
 pub mod Gaps
 pub mod Kept
+pub mod Fronts

@@ -385,6 +385,10 @@ walk_step {T} corpus least places all sets rest more set old new given popped sp
 
 -- the beginning
 
+-- a set that is pushed where none was
+pub first_alone : (s : Set) (old new : List Set) → new ≡ old ++ s ∷ [] → old ≡ [] → s.depth ≡ 0 → (z : Set) × (z.depth ≡ 0) × (z.spots.items ≡ s.spots.items) × (new ≡ z ∷ [])
+first_alone s old new is none depth = (s, depth, refl, is ∙ ap (λ (ss : List Set). ss ++ s ∷ []) none)
+
 pub walk_begins : {T : Type 0} (corpus : List (List T)) (least : ℕ) (places : List Place) (all : List Spot) (sets : List Set) (groups : List Group) → Given corpus least places all → AreFirst all sets → groups ≡ [] → Walk corpus least places all sets groups
 walk_begins {T} corpus least places all sets groups given first none = record {
   words = λ s c. ⊎_elim

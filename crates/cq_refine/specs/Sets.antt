@@ -97,12 +97,6 @@ IsFreeBehind tokens spots i k d free = is_free tokens (Some (slice_index_or spot
 abbrev pub AreAlike : {T : Type 0} → List (List T) → ℕ → List Spot → Type 0
 AreAlike corpus n spots = (s t : Spot) (k : ℕ) → Contains spots s → Contains spots t → k < n → token_behind corpus s.place k ≡ token_behind corpus t.place k
 
--- the next spot stands in the same file, so many tokens further on
-pub record IsGap (spots : List Spot) (i gap : ℕ) (d : Spot) : Type 0 where
-  pub within : i + 1 < length spots
-  pub file : (slice_index_or spots i d).place.file ≡ (slice_index_or spots (i + 1) d).place.file
-  pub at : (slice_index_or spots i d).place.at + gap ≡ (slice_index_or spots (i + 1) d).place.at
-
 -- the marks of two tokens, of which one isn't there, or which differ
 pub record AreTwoMarks {T : Type 0} (a b : Option T) (m n : ℕ) : Type 0 where
   pub seen : List T

@@ -4,9 +4,10 @@ ghost use Rattle.cq_base.specs.declared.group.Place.{Place};
 ghost use Rattle.cq_refine.specs.declared.spots.Spot.{Spot};
 ghost use Rattle.cq_tokens.specs.Packed.{norm_in};
 ghost use Rattle.cq_tokens.specs.Parts.{tokens_in};
-ghost use Rattle.cq_refine.specs.Sets.{AreOne, AreAlike, IsGap, IsDifference, IsInNumbers};
+ghost use Rattle.cq_refine.specs.Gaps.{IsGap, AreInSteps};
+ghost use Rattle.cq_refine.specs.Sets.{AreOne, AreAlike, IsDifference, IsInNumbers};
 
-use crate::spots::Spot;
+use crate::spots::{Set, Spot};
 use cq_base::{Place, Steps};
 use cq_tokens::{FileList, Files, Seen};
 
@@ -76,6 +77,22 @@ fn is_known(gap: u32, known: u32) -> bool
     gap > 0 && gap == known
 }
 
+/// The gap by which all spots follow each other in one file, or 0. It looks no further than to where one doesn't.
+pub(crate) fn gap_of(spots: &[Spot]) -> u32
+    ensures { AreInSteps result spots.now }
+{
+    if spots.len() < 2 {
+        return 0;
+    }
+    let gap = gap_behind(spots, 0);
+    for i in 1..spots.len() - 1 {
+        if !is_known(gap_behind(spots, i), gap) {
+            return 0;
+        }
+    }
+    gap
+}
+
 /// The gap, if a word of `n` tokens reaches over it, and else 0.
 fn gap_within(gap: u32, n: u32) -> u32
     ensures { 0 < result → (result ≡ gap) × (gap ≤ n) }
@@ -86,7 +103,7 @@ fn gap_within(gap: u32, n: u32) -> u32
 /// The first difference among the tokens `n` behind some spots with one word of `n` tokens; None where they are all there
 /// and the same. A spot that the next one follows within the word goes on by a token of the word itself, which is read
 /// once for all that follow each other by the same gap.
-pub(crate) fn difference_behind<'a, F: Files>(
+fn difference_behind<'a, F: Files>(
     files: &FileList<'a, F>,
     spots: &[Spot],
     n: u32,
@@ -120,6 +137,61 @@ pub(crate) fn difference_behind<'a, F: Files>(
         known = gap_within(gap, n);
     }
     None
+}
+
+/// The same of spots that follow each other by one gap within the word: all but the last go on by one token of the word.
+fn difference_at_end<'a, F: Files>(
+    files: &FileList<'a, F>,
+    spots: &[Spot],
+    gap: u32,
+    n: u32,
+    steps: &mut Steps<F::Reads>,
+) -> Option<Difference<'a>>
+    requires several { 2 ≤ length spots.now }
+    requires places { All (λ s. IsPlace (tokens_in files.now) s.place) spots.now }
+    requires alike { AreAlike (tokens_in files.now) n spots.now }
+    requires in_steps { AreInSteps gap spots.now }
+    requires some { 0 < gap }
+    requires within { gap ≤ n }
+    ensures one { IfNone result (AreOne (λ s. token_behind (tokens_in files.now) s.place n) spots.now) }
+    ensures fits { IfNone result (n + 1 < 2 ^ 32) }
+    ensures numbers { IfSome result (IsInNumbers n) }
+    ensures differ { IfSome result (IsDifference (λ s. token_behind (tokens_in files.now) s.place n) spots.now) }
+    ensures read { IfSome result (λ d. steps.new ≤ steps.old + d.read) }
+    ensures steps { steps.new ≤ steps.old + length spots.now }
+{
+    let first = files.token_behind(spots[0].place, n, steps);
+    let last = files.token_behind(spots[spots.len() - 1].place, n, steps);
+    if are_same(first, last) {
+        return None;
+    }
+    Some(Difference {
+        first,
+        last,
+        read: spots.len(),
+    })
+}
+
+/// The first difference among the tokens behind the word of a set.
+pub(crate) fn difference_in<'a, F: Files>(
+    files: &FileList<'a, F>,
+    set: &Set,
+    steps: &mut Steps<F::Reads>,
+) -> Option<Difference<'a>>
+    requires several { 2 ≤ length set.now.spots.items }
+    requires places { All (λ s. IsPlace (tokens_in files.now) s.place) set.now.spots.items }
+    requires alike { AreAlike (tokens_in files.now) set.now.depth set.now.spots.items }
+    ensures one { IfNone result (AreOne (λ s. token_behind (tokens_in files.now) s.place set.now.depth) set.now.spots.items) }
+    ensures fits { IfNone result (set.now.depth + 1 < 2 ^ 32) }
+    ensures numbers { IfSome result (IsInNumbers set.now.depth) }
+    ensures differ { IfSome result (IsDifference (λ s. token_behind (tokens_in files.now) s.place set.now.depth) set.now.spots.items) }
+    ensures read { IfSome result (λ d. steps.new ≤ steps.old + d.read) }
+    ensures steps { steps.new ≤ steps.old + length set.now.spots.items }
+{
+    if set.gap > 0 && set.gap <= set.depth {
+        return difference_at_end(files, &set.spots, set.gap, set.depth, steps);
+    }
+    difference_behind(files, &set.spots, set.depth, steps)
 }
 
 /// The token before the place at `i`. It is read unless it was.

@@ -1,4 +1,5 @@
 ghost use Rattle.std.specs.Prelude.{◌≡◌, ◌+◌, ◌<◌, ◌≤◌, length, option_map, IsSome, IfOk, OnOk, All, List, map};
+ghost use Rattle.cq_base.specs.declared.norm.Norm.{Norm};
 ghost use Rattle.cq_clones.specs.Groups.{IsPlace, token_behind};
 ghost use Rattle.cq_tokens.specs.Packed.{norm_in};
 ghost use Rattle.cq_tokens.specs.Parts.{tokens_in};
@@ -7,7 +8,7 @@ ghost use Rattle.cq_refine.specs.Sets.{IsDifference, IsInNumbers, IsParting, IsP
 
 use crate::differing::{Difference, are_same, token_behind_at};
 use crate::marks::mark_of;
-use crate::sets::{highest, parts_of, push_all};
+use crate::sets::{highest, may_give, parts_of, push_all};
 use crate::spots::{Marked, Set, Spot};
 use cq_base::{Memory, Steps};
 use cq_tokens::{FileList, Files};
@@ -59,6 +60,33 @@ fn parting_of<'a, F: Files>(
         others.push(Marked { spot, mark: other })?;
     }
     Ok(Parting { mark, stay, others })
+}
+
+/// Adds a set without its last spot, one token further, if it may give groups then: where the others go on by one token, and
+/// the last by another one or none. It looks at no other spot.
+#[tactic(auto, using(crate::proofs::Gaps::front_in_steps))]
+pub(crate) fn push_front(
+    set: Set,
+    difference: &Difference<'_>,
+    sets: &mut Vec<Set>,
+) -> Result<(), Memory>
+    requires several { 2 ≤ length set.spots.items }
+    requires some { IsSome (option_map norm_in difference.now.first) }
+    requires all { difference.now.read ≡ length set.spots.items }
+    requires numbers { IsInNumbers set.depth difference.now }
+    ensures { (corpus : List (List Norm)) → IsDifference (λ s. token_behind corpus s.place set.depth) set.spots.items difference.now → OnOk result (IsParted corpus set sets.old.items sets.new.items) }
+{
+    let mut spots = set.spots;
+    spots.truncate(difference.read - 1);
+    if !may_give(&spots) {
+        return Ok(());
+    }
+    sets.push(Set {
+        depth: set.depth + 1,
+        gap: set.gap,
+        spots,
+    })?;
+    Ok(())
 }
 
 /// The spots of each mark, of which those that stay are one part.

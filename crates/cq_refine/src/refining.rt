@@ -3,9 +3,9 @@ ghost use Rattle.cq_clones.specs.Groups.{IsPlace, token_behind};
 ghost use Rattle.cq_tokens.specs.Parts.{tokens_in};
 ghost use Rattle.cq_refine.specs.Sets.{IsSpotBefore, AreEntries, IsGroupFrom, IsDifference, IsInNumbers, AreAlike, ReadsAtMost, MayGive, IsParted, IsSplit, AreFirst, AreAllOnce};
 
-use crate::differing::{Difference, difference_before, difference_behind};
+use crate::differing::{Difference, difference_before, difference_in, gap_of};
 use crate::marks::{marked_of, spots_of};
-use crate::parting::push_parting;
+use crate::parting::{push_front, push_parting};
 use crate::sets::{add_group, highest, may_give, push_parts};
 use crate::spots::{Set, Spot};
 use cq_base::{Group, Memory, Place, Steps};
@@ -18,7 +18,12 @@ fn first_sets(alloc: Global, spots: Vec<Spot>) -> Result<Vec<Set>, Memory>
 {
     let mut sets = Vec::new(alloc);
     if may_give(&spots) {
-        sets.push(Set { depth: 0, spots })?;
+        let gap = gap_of(&spots);
+        sets.push(Set {
+            depth: 0,
+            gap,
+            spots,
+        })?;
     }
     Ok(sets)
 }
@@ -46,33 +51,37 @@ fn push_marked<'a, F: Files>(
     Ok(())
 }
 
-/// Gives up a set whose places go on by different tokens for its group and its parts. Two places have no parts.
+/// Gives up a set whose places go on by different tokens for its group and its parts. Two places have no parts, and of a
+/// set whose last place alone goes on by another token the rest is kept as it stands.
 fn part<'a, F: Files>(
     alloc: Global,
     files: &FileList<'a, F>,
-    set: &Set,
+    set: Set,
     difference: &Difference<'a>,
     min: u32,
     sets: &mut Vec<Set>,
     groups: &mut Vec<Group>,
     steps: &mut Steps<F::Reads>,
 ) -> Result<(), Memory>
-    requires gives { MayGive set.now.spots.items }
-    requires ordered { AllPairs IsSpotBefore set.now.spots.items }
-    requires places { All (λ s. IsPlace (tokens_in files.now) s.place) set.now.spots.items }
-    requires differ { IsDifference (λ s. token_behind (tokens_in files.now) s.place set.now.depth) set.now.spots.items difference.now }
-    requires numbers { IsInNumbers set.now.depth difference.now }
-    ensures split { OnOk result (IsSplit (tokens_in files.now) min set.now sets.old.items sets.new.items groups.old.items groups.new.items) }
-    ensures steps { steps.new + difference.now.read ≤ steps.old + length set.now.spots.items }
+    requires gives { MayGive set.spots.items }
+    requires ordered { AllPairs IsSpotBefore set.spots.items }
+    requires places { All (λ s. IsPlace (tokens_in files.now) s.place) set.spots.items }
+    requires differ { IsDifference (λ s. token_behind (tokens_in files.now) s.place set.depth) set.spots.items difference.now }
+    requires numbers { IsInNumbers set.depth difference.now }
+    ensures split { OnOk result (IsSplit (tokens_in files.now) min set sets.old.items sets.new.items groups.old.items groups.new.items) }
+    ensures steps { steps.new + difference.now.read ≤ steps.old + length set.spots.items }
 {
-    add_group(alloc, set, min, groups)?;
+    add_group(alloc, &set, min, groups)?;
     if set.spots.len() == 2 {
         return Ok(());
     }
     if difference.first.is_none() {
-        return push_marked(alloc, files, set, difference, sets, steps);
+        return push_marked(alloc, files, &set, difference, sets, steps);
     }
-    push_parting(alloc, files, set, difference, sets, steps)
+    if difference.read == set.spots.len() {
+        return push_front(set, difference, sets);
+    }
+    push_parting(alloc, files, &set, difference, sets, steps)
 }
 
 /// Takes a set one token further: all of it, where its places go on by one token, and else its parts.
@@ -92,14 +101,15 @@ fn split<F: Files>(
     ensures split { OnOk result (IsSplit (tokens_in files.now) min set sets.old.items sets.new.items groups.old.items groups.new.items) }
     ensures steps { steps.new ≤ steps.old + length set.spots.items }
 {
-    let Some(difference) = difference_behind(files, &set.spots, set.depth, steps) else {
+    let Some(difference) = difference_in(files, &set, steps) else {
         sets.push(Set {
             depth: set.depth + 1,
+            gap: set.gap,
             spots: set.spots,
         })?;
         return Ok(());
     };
-    part(alloc, files, &set, &difference, min, sets, groups, steps)
+    part(alloc, files, set, &difference, min, sets, groups, steps)
 }
 
 /// The groups whose first place is one of the places, each once. Places with one token before them all give none.

@@ -2,6 +2,7 @@ ghost use Rattle.std.specs.Prelude.{◌≡◌, ℕ, List, ◌<◌, ◌≤◌, �
 ghost use Rattle.cq_refine.specs.declared.spots.Marked.{Marked};
 ghost use Rattle.cq_refine.specs.Sets.{IsSpotBefore, AreByMark, AddsParts, group_of, HaveOneLeft, MayGive, IsLong, AddsGroup};
 
+use crate::differing::gap_of;
 use crate::keeping::kept_places;
 use crate::spots::{Marked, Set, Spot};
 use cq_base::{Group, Memory, Places};
@@ -93,7 +94,8 @@ pub(crate) fn push_all(parts: Vec<Vec<Spot>>, depth: u32, sets: &mut Vec<Set>) -
 {
     for spots in parts {
         if may_give(&spots) {
-            sets.push(Set { depth, spots })?;
+            let gap = gap_of(&spots);
+            sets.push(Set { depth, gap, spots })?;
         }
     }
     Ok(())

@@ -1,9 +1,6 @@
-use Rattle.std.proofs.Common.{refl, subst, List, ◌+◌}
+use Rattle.std.proofs.Common.{refl}
 use Rattle.cq_tokens.specs.Parts.{tokens_in}
-use Rattle.cq_clones.specs.Groups.{token_behind}
-use Rattle.cq_refine.specs.declared.spots.Spot.{Spot}
 use Rattle.cq_refine.specs.declared.spots.Set.{Set}
-use Rattle.cq_refine.specs.Sets.{AreOne}
 use Rattle.cq_refine.proofs.OneStep.{all_go_on}
 use Rattle.cq_refine.proofs.refining.split.Goals as goal
 
@@ -11,7 +8,6 @@ pub returns-in_default-clause-split : goal.returns-in_default-clause-split
 returns-in_default-clause-split g c =
     let corpus = tokens_in c.args.files.now in
     let set : Set = c.args.set in
-    let s : Set = record { depth = set.depth + 1; spots = set.spots } in
-    all_go_on corpus c.args.min set s c.args.sets.now.items c.push.new.self.items c.args.groups.now.items
-    (subst (λ (ss : List Spot). AreOne (λ z. token_behind corpus z.place set.depth) ss) c.deref.ensures.value c.in_default.ensures.one)
+    all_go_on corpus c.args.min set _ c.args.sets.now.items c.push.new.self.items c.args.groups.now.items
+    c.in_default.ensures.one
     c.requires.gives refl refl c.in_ok-push.ensures.items

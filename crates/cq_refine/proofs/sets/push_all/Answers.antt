@@ -18,10 +18,9 @@ loop-spots-init c = λ highest marked are.
 pub loop-spots-preserved-in-Continue-1 : goal.loop-spots-preserved-in-Continue-1
 loop-spots-preserved-in-Continue-1 c = λ highest marked are.
     let (m, before, left) = c.loop-spots.invariant highest marked are in
-    let s : Set = record { depth = c.args.depth; spots = c.in-Some.spots } in
     let steps = ap (map (λ part. part.items)) c.in-Some.ensures.steps.0 in
     let next = left_next m highest marked c.in-Some.spots.items _ (subst (AreLeft m highest marked) steps left) in
-    (m + 1, part_more c.args.depth marked m c.args.sets.now.items c.loop-spots.sets.items _ s refl next.0 (subst MayGive c.deref.ensures.value (c.may_give.ensures.0 c.if-may_give.true)) c.in_ok-push.ensures.items before, next.1)
+    (m + 1, part_more c.args.depth marked m c.args.sets.now.items c.loop-spots.sets.items _ _ refl next.0 (subst MayGive c.deref.ensures.value (c.may_give.ensures.0 c.if-may_give.true)) c.in_ok-push.ensures.items before, next.1)
 
 pub loop-spots-preserved : goal.loop-spots-preserved
 loop-spots-preserved c = λ highest marked are.
