@@ -3,7 +3,7 @@
 //! entries stand in runs in order of their keys, a run for some changes that follow each other. A run is merged with the
 //! one before it where that has less than twice its entries, so an entry is moved about as often as the logarithm of how
 //! many there are. A bucket costs a search in each run, which looks at a few entries side by side where keys are spread
-//! evenly and is a binary search at most, and one among the live changes for each entry with its key.
+//! evenly and is at most a binary search and eight looks more, and one among the live changes for each entry with its key.
 #![tactic(auto)]
 
 mod applying;
