@@ -60,3 +60,6 @@ mod view;
 pub use cells::Cells;
 pub use law::Law;
 pub use pass::Pass;
+
+#[cfg(test)]
+mod tests;
