@@ -14,6 +14,7 @@ use cq_groups::Buckets;
 use cq_hub::{Hub, Solo};
 use cq_projects::ProjectFiles;
 use std::alloc::Global;
+use std::sync::Arc;
 
 // The bucket of a key among some files, through the pass, which is the caller's again.
 fn bucket<'a, W: Made, H: Hub<W>>(
@@ -60,9 +61,11 @@ fn read<W: Made, H: Hub<W>>(
 fn run<W: Made>(alloc: Global, key: u64) -> Result<Vec<Entry>, Refused> {
     let (hub, mut pass) = Solo::<W>::new(alloc, &SETTINGS)?;
     let first = accept(alloc, b'p', &hub, &mut pass)?;
-    finish(alloc, &hub, first, &mut pass)?;
+    let work = Arc::new(alloc, W::made())?;
+    finish(&hub, first, work, &mut pass)?;
     let second = accept(alloc, b'q', &hub, &mut pass)?;
-    finish(alloc, &hub, second, &mut pass)?;
+    let work = Arc::new(alloc, W::made())?;
+    finish(&hub, second, work, &mut pass)?;
     let project = letter(alloc, b'q')?;
     Ok(read(alloc, &hub, &project, key, &mut pass)?)
 }

@@ -6,7 +6,42 @@ use crate::made::{Alike, Apart, Made, SETTINGS, accept, finish};
 use cq_base::{Entry, Memory};
 use cq_board::{Finished, Refused};
 use cq_hub::{Hub, Solo};
+use cq_shard::Indexed;
 use std::alloc::Global;
+use std::cell::Cell;
+use std::sync::Arc;
+
+// Its two windows have different keys, and it counts how often they are looked at.
+#[derive(Drop)]
+struct Counted {
+    looks: Cell<u64>,
+}
+
+impl Indexed for Counted {
+    ghost use Rattle.std.specs.Prelude.{◌≡◌, ◌∷◌, [], refl};
+    ghost use Rattle.std.proofs.Common.{rules};
+
+    ghost keys_in = { λ work. 3 ∷ 4 ∷ [] };
+
+    ghost IsWorkOf = { λ settings lang text work. Unit {0} };
+
+    fn keys(&self) -> &[u64] {
+        self.looks.set(self.looks.get().wrapping_add(1));
+        &[3, 4]
+    }
+
+    ghost determined = { λ settings lang text work other is also. refl };
+
+    ghost few = { Prim.search rules };
+}
+
+impl Made for Counted {
+    fn made() -> Counted {
+        Counted {
+            looks: Cell::new(0),
+        }
+    }
+}
 
 // The version that is published then, and what its view has of a key.
 fn read<W: Made, H: Hub<W>>(
@@ -29,7 +64,8 @@ fn read<W: Made, H: Hub<W>>(
 fn run<W: Made>(alloc: Global, key: u64) -> Result<(u64, Finished, u64, Vec<Entry>), Refused> {
     let (hub, mut pass) = Solo::<W>::new(alloc, &SETTINGS)?;
     let number = accept(alloc, b'p', &hub, &mut pass)?;
-    let finished = finish(alloc, &hub, number, &mut pass)?;
+    let work = Arc::new(alloc, W::made())?;
+    let finished = finish(&hub, number, work, &mut pass)?;
     let (version, entries) = read(alloc, &hub, key, &mut pass)?;
     Ok((number, finished, version, entries))
 }
@@ -53,6 +89,25 @@ fn take<W: Made, H: Hub<W>>(
 fn taken(alloc: Global) -> Result<(bool, Option<u64>, bool), Refused> {
     let (hub, mut pass) = Solo::<Apart>::new(alloc, &SETTINGS)?;
     take(alloc, &hub, &mut pass)
+}
+
+// How often the keys of two works have been looked at, once both are published and a bucket is read.
+fn looks(alloc: Global) -> Result<(u64, u64), Refused> {
+    let (hub, mut pass) = Solo::<Counted>::new(alloc, &SETTINGS)?;
+    let first = Arc::new(alloc, Counted::made())?;
+    let second = Arc::new(alloc, Counted::made())?;
+    let number = accept(alloc, b'p', &hub, &mut pass)?;
+    finish(&hub, number, Arc::clone(&first), &mut pass)?;
+    let number = accept(alloc, b'p', &hub, &mut pass)?;
+    finish(&hub, number, Arc::clone(&second), &mut pass)?;
+    read(alloc, &hub, 3, &mut pass)?;
+    Ok((first.looks.get(), second.looks.get()))
+}
+
+#[test]
+fn each_shard_looks_at_the_keys_of_a_work_once(rt: HostRuntime) -> Result<(), Refused> {
+    assert_eq!(rt; looks(rt.alloc())?, (2, 2));
+    Ok(())
 }
 
 #[test]

@@ -1,4 +1,5 @@
 ghost use Rattle.std.specs.Prelude.{◌≡◌, ◌<◌, ◌≤◌, ℕ, List, length, IfOk, OnOk, None, true};
+ghost use Rattle.std.specs.Arc.{arc_value};
 ghost use Rattle.std.specs.Str.{IsUtf8};
 ghost use Rattle.cq_base.specs.declared.lang.Lang.{Lang};
 ghost use Rattle.cq_base.specs.declared.settings.Settings.{Settings};
@@ -132,17 +133,17 @@ pub fn accept<W: Made, H: Hub<W>>(
     }
 }
 
-/// Its work is finished.
-pub fn finish<W: Made, H: Hub<W>>(
-    alloc: Global,
+/// Its work is finished, which is that of every text.
+pub fn finish<W: Indexed, H: Hub<W>>(
     hub: &H,
     number: u64,
+    work: Arc<W, Global>,
     pass: &mut H::Pass,
 ) -> Result<Finished, Memory>
-    requires { HasSeen H.Stands hub.now pass.old (λ c h. IsAccepted (state (H.callers hub.now) h) number × (is_put (slot_of (state (H.callers hub.now) h) number).change ≡ true) × (view_of (state (H.callers hub.now) h) c ≡ None)) }
+    requires made { (settings : Settings) (lang : Lang) (text : List ℕ) → W.IsWorkOf settings lang text (arc_value work) }
+    requires seen { HasSeen H.Stands hub.now pass.old (λ c h. IsAccepted (state (H.callers hub.now) h) number × (is_put (slot_of (state (H.callers hub.now) h) number).change ≡ true) × (view_of (state (H.callers hub.now) h) c ≡ None)) }
     ensures { OnOk result (HasSeen H.Stands hub.now pass.new (λ c h. view_of (state (H.callers hub.now) h) c ≡ None)) }
 {
-    let work = Arc::new(alloc, W::made())?;
     match hub.finish(number, work, pass) {
         Finished::Done => Ok(Finished::Done),
         Finished::Already => Ok(Finished::Already),

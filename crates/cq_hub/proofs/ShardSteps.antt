@@ -1,10 +1,10 @@
 -- The shards beside a board: before any event, behind one more, where one applies the next change, and what they answer.
 use Rattle.std.proofs.Common.{◌≡◌, ℕ, ◌+◌, ◌-◌, ◌%◌, ◌<◌, ◌≤◌, Bool, true, not, ◌||◌, List, [], ◌∷◌, ◌++◌, length, take, get_or, set, Option, Some, None, Global, refl, sym, ap, ◌∙◌, subst, subst₂, ⊎_elim, arith, true≢false}
-use Rattle.std.specs.Prelude.{◌↔◌, Contains, IfSome, IsSome, option_map}
+use Rattle.std.specs.Prelude.{◌↔◌, ◌^◌, Contains, IfSome, IsSome}
 use Rattle.std.specs.Arc.{arc_value}
 use Rattle.std.specs.declared.sync.Arc.{Arc}
-use Rattle.std.proofs.lemmas.Bool.{cases_eq}
-use Rattle.std.proofs.lemmas.List.{length-map, length-set, get_or-map, get_or-set_same, get_or-set_other}
+use Rattle.std.proofs.lemmas.Bool.{cases_eq, cases_lt}
+use Rattle.std.proofs.lemmas.List.{length-map, length-set, length_push, get_or_append_left, get_or_push, get_or-map, get_or-set_same, get_or-set_other}
 use Rattle.std.proofs.lemmas.List.Elements.{Contains-get_or}
 use Rattle.std.proofs.lemmas.Option.{slice_get-get_or}
 use Rattle.std.proofs.lemmas.List.Sums.{prefix_len-le-length, prefix_len_passes}
@@ -26,7 +26,7 @@ use Rattle.cq_history.proofs.Prefixes.{changes_after}
 use Rattle.cq_history.proofs.Cores.{floor-rises}
 use Rattle.cq_history.proofs.Falling.{stays_reached}
 use Rattle.cq_history.proofs.Bounds.{InOrder, in_order}
-use Rattle.cq_shard.specs.Shard.{Contents, StandsFor, HasItsWork}
+use Rattle.cq_shard.specs.Shard.{Contents, StandsFor, HasItsWork, HaveTheirWorks}
 use Rattle.cq_shard.specs.Laws.{StandsAtFirst, StandsOn}
 use Rattle.cq_board.specs.Answers.{IsDonePut}
 use Rattle.cq_board.specs.Entries.{IsEntryAt, ShardsHaveTheEntries}
@@ -92,11 +92,11 @@ module _ (h : List Event) (e : Event) (old new : board.BoardState) (is : board.S
 -- ---- the next change is applied
 
 module _ (IsWindow : Lang → List ℕ → ℕ → ℕ → Type 0) (b : board.BoardState) where
-  -- the shard applied the change behind those that it had, which is ready
-  pub shard_applied : (n : ℕ) (old new : Contents) → old.applied + 1 ≤ ready b.state → new.applied ≡ old.applied + 1 → new.shard ≡ old.shard → new.shards ≡ old.shards → new.floor ≡ old.floor → (StandsFor IsWindow (changes_in b.state) old → StandsFor IsWindow (changes_in b.state) new) → IsShardOf IsWindow b n old → IsShardOf IsWindow b n new
-  shard_applied n old new ready_is applied shard shards floor stands was = record {
+  -- the shard applied changes that are ready behind those that it had
+  pub shard_applied : (n : ℕ) (old new : Contents) → (old.applied ≤ ready b.state → new.applied ≤ ready b.state) → old.applied ≤ new.applied → new.shard ≡ old.shard → new.shards ≡ old.shards → new.floor ≡ old.floor → (StandsFor IsWindow (changes_in b.state) old → StandsFor IsWindow (changes_in b.state) new) → IsShardOf IsWindow b n old → IsShardOf IsWindow b n new
+  shard_applied n old new ready_is more shard shards floor stands was = record {
     stands = stands was.stands;
-    reached = (omega (arith, was.reached.0, applied), omega (arith, ready_is, applied));
+    reached = (omega (arith, was.reached.0, more), ready_is was.reached.1);
     swept = omega (arith, was.swept, floor);
     number_is = shard ∙ was.number_is;
     shards = shards ∙ was.shards;
@@ -128,8 +128,12 @@ applied_more to shards i new within here before k d lt =
 -- ---- the work of the next change
 
 module _ {W : Type 0} (IsWork : Lang → List ℕ → W → Type 0) where
+  -- an owner of a work
+  abbrev IsOwned : Lang → List ℕ → Arc W Global → Type 0
+  IsOwned lang text w = IsWork lang text (arc_value w)
+
   given : (c : Change) (finished : Bool) (work : Option (Arc W Global)) → (not (is_put c) || finished) ≡ true → (IsSome work → (is_put c ≡ true) × (finished ≡ true)) → ((is_put c ≡ true) × (finished ≡ true) → IsSome work) →
-      IfSome work (λ w. IsWorkFor IsWork c (arc_value w)) → HasItsWork IsWork (Some c) (option_map arc_value work)
+      IfSome work (λ w. IsWorkFor IsWork c (arc_value w)) → HasItsWork IsOwned (Some c) work
   given (Put project path lang text) finished (Some w) done some there is = is
   given (Put project path lang text) finished None done some there is = absurd (true≢false (sym (there (refl, or-implies true finished done refl))))
   given (Drop project path) finished (Some w) done some there is = absurd (true≢false (sym (some refl).0))
@@ -139,7 +143,7 @@ module _ {W : Type 0} (IsWork : Lang → List ℕ → W → Type 0) where
 
   -- a change that is ready has the work that the board keeps of it
   pub work_given : (s : State) (r : ℕ) (work : Option (Arc W Global)) → 0 < r → r ≤ ready s → IsSome work ↔ IsDonePut s r → IfSome work (λ w. IsWorkFor IsWork (slot_of s r).change (arc_value w)) →
-      HasItsWork IsWork (change_at (changes_in s) r) (option_map arc_value work)
+      HasItsWork IsOwned (change_at (changes_in s) r) work
   work_given s r work some le given_where is =
       let few = prefix_len-le-length is_done s.slots in
       let within : r - 1 < length s.slots = omega (arith, some, le, few) in
@@ -147,9 +151,28 @@ module _ {W : Type 0} (IsWork : Lang → List ℕ → W → Type 0) where
       let here : change_at (changes_in s) r ≡ Some (slot_of s r).change =
       slice_get-get_or (changes_in s) (r - 1) (slot_of s r).change (omega (arith, within, same)) ∙ ap Some (get_or-map (λ (slot : Slot). slot.change) s.slots (r - 1) no_slot (slot_of s r).change within) in
       let done : is_done (slot_of s r) ≡ true = prefix_len_passes is_done s.slots (r - 1) no_slot (omega (arith, some, le)) in
-      subst (λ o. HasItsWork IsWork o (option_map arc_value work)) (sym here)
+      subst (λ o. HasItsWork IsOwned o work) (sym here)
       (given (slot_of s r).change (slot_of s r).finished work done
       (λ h. let p = given_where.0 h in (p.1, p.2)) (λ h. given_where.1 ((some, omega (arith, some, le, few)), h.0, h.1)) is)
+
+  -- with the work of the change behind them they are those of one change more
+  pub works_more : (changes : List Change) (from : ℕ) (works : List (Option (Arc W Global))) (work : Option (Arc W Global)) → HasItsWork IsOwned (change_at changes (from + length works + 1)) work → HaveTheirWorks IsOwned changes from works → HaveTheirWorks IsOwned changes from (works ++ work ∷ [])
+  works_more changes from works work here before i d lt =
+      let many = length_push works work in
+      ⊎_elim
+      (λ (low : i < length works). subst (HasItsWork IsOwned (change_at changes (from + i + 1))) (sym (get_or_append_left works (work ∷ []) d i low)) (before i d low))
+      (λ (high : length works ≤ i).
+      let at : length works ≡ i = omega (arith, lt, many, high) in
+      subst (HasItsWork IsOwned (change_at changes (from + i + 1))) (sym (get_or_push works work d i at))
+      (subst (λ n. HasItsWork IsOwned (change_at changes (from + n + 1)) work) at here))
+      (cases_lt i (length works))
+
+  -- a work has few keys where those of a text have
+  pub few_for : (keys_in : W → List ℕ) → ((lang : Lang) (text : List ℕ) (w : W) → IsWork lang text w → length (keys_in w) < 2 ^ 32) → (c : Change) (work : Option (Arc W Global)) → IfSome work (λ w. IsWorkFor IsWork c (arc_value w)) → IfSome work (λ w. length (keys_in (arc_value w)) < 2 ^ 32)
+  few_for keys_in few c None is = tt
+  few_for keys_in few (Put project path lang text) (Some w) is = few lang text (arc_value w) is
+  few_for keys_in few (Drop project path) (Some w) is = absurd is
+  few_for keys_in few (Gate project conditions) (Some w) is = absurd is
 
 -- ---- what the shard of a key answers
 

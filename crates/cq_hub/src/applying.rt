@@ -1,8 +1,7 @@
-ghost use Rattle.std.specs.Prelude.{◌≡◌, ◌<◌, ◌≤◌, ℕ, All, IfOk, OnOk, option_map};
-ghost use Rattle.std.specs.Option.{option_copied};
+ghost use Rattle.std.specs.Prelude.{◌≡◌, ◌-◌, ◌<◌, ◌≤◌, ◌^◌, ℕ, length, All, IfOk, IfSome, OnOk};
 ghost use Rattle.std.specs.Arc.{arc_value};
-ghost use Rattle.cq_history.specs.State.{ready};
-ghost use Rattle.cq_shard.specs.Shard.{HasWindow};
+ghost use Rattle.cq_history.specs.State.{ready, changes_in};
+ghost use Rattle.cq_shard.specs.Shard.{HasWindow, HaveTheirWorks};
 ghost use Rattle.cq_hub.specs.Shards.{IsShardOf, AreShardsOf, AreFresh};
 
 use cq_base::{Memory, Steps};
@@ -24,9 +23,10 @@ pub(crate) fn shards_of(alloc: Global, number: u32) -> Result<Vec<Shard>, Memory
     Ok(shards)
 }
 
-/// Each shard applies the changes up to a number up to which all are done. Where memory is refused, some shards have applied
-/// some of them.
+/// Each shard applies the changes up to a number up to which all are done, at once. Where memory is refused, some shards have
+/// applied them, and others none.
 pub(crate) fn apply_up_to<W: Indexed>(
+    alloc: Global,
     board: &Board<W>,
     shards: &mut Vec<Shard>,
     to: u64,
@@ -35,11 +35,12 @@ pub(crate) fn apply_up_to<W: Indexed>(
     ensures stand { AreShardsOf (HasWindow W.keys_in W.IsWorkOf board.now.settings) board.now shards.old.items → AreShardsOf (HasWindow W.keys_in W.IsWorkOf board.now.settings) board.now shards.new.items }
     ensures applied { OnOk result (All (λ c. to ≤ c.applied) shards.new.items) }
 {
-    apply_counted::<W, Brand>(board, shards, to, Blank::new(1))
+    apply_counted::<W, Brand>(alloc, board, shards, to, Blank::new(1))
 }
 
 // The same on a ledger of its own, which nobody reads.
 fn apply_counted<W: Indexed, L: Ledger>(
+    alloc: Global,
     board: &Board<W>,
     shards: &mut Vec<Shard>,
     to: u64,
@@ -54,13 +55,14 @@ fn apply_counted<W: Indexed, L: Ledger>(
 {
     let mut steps: Steps<L> = Steps::new(blank);
     'shards: for i in 0..shards.len() {
-        catch_up(board, &mut shards[i], to, &mut steps)?;
+        catch_up(alloc, board, &mut shards[i], to, &mut steps)?;
     }
     Ok(())
 }
 
-// One shard applies them.
+// One shard applies them, all at once.
 fn catch_up<W: Indexed, L: Ledger>(
+    alloc: Global,
     board: &Board<W>,
     shard: &mut Shard,
     to: u64,
@@ -70,19 +72,27 @@ fn catch_up<W: Indexed, L: Ledger>(
     ensures stands { (n : ℕ) → IsShardOf (HasWindow W.keys_in W.IsWorkOf board.now.settings) board.now n shard.old → IsShardOf (HasWindow W.keys_in W.IsWorkOf board.now.settings) board.now n shard.new }
     ensures applied { OnOk result (to ≤ shard.new.applied) }
 {
-    'changes: for i in shard.applied()..to {
-        let work = board.finished_work(i + 1)?;
-        shard.apply(i + 1, lent(&work), steps)?;
-    }
+    let works = finished_works(alloc, board, shard.applied(), to)?;
+    shard.apply_all(&works, steps)?;
     Ok(())
 }
 
-// The work that is owned, lent.
-fn lent<W>(work: &Option<Arc<W, Global>>) -> Option<&W>
-    ensures { option_copied result ≡ option_map arc_value work.now }
+// The works of the changes behind one up to another, as the board has them.
+fn finished_works<W: Indexed>(
+    alloc: Global,
+    board: &Board<W>,
+    from: u64,
+    to: u64,
+) -> Result<Vec<Option<Arc<W, Global>>>, Memory>
+    requires done { to ≤ ready board.now.state }
+    ensures number { IfOk result (λ works. length works.items ≡ to - from) }
+    ensures few { IfOk result (λ works. All (λ work. IfSome work (λ w. length (W.keys_in (arc_value w)) < 2 ^ 32)) works.items) }
+    ensures works { IfOk result (λ works. HaveTheirWorks (λ lang text w. W.IsWorkOf board.now.settings lang text (arc_value w)) (changes_in board.now.state) from works.items) }
 {
-    match work {
-        Some(work) => Some(work),
-        None => None,
+    let mut works = Vec::new(alloc);
+    'changes: for i in from..to {
+        let work = board.finished_work(i + 1)?;
+        works.push(work)?;
     }
+    Ok(works)
 }

@@ -128,7 +128,7 @@ impl<W: Indexed> Hub<W> for Solo<W> {
         if published >= to {
             return Ok(published);
         }
-        apply_up_to(&pass.board, &mut pass.shards, to)?;
+        apply_up_to(alloc, &pass.board, &mut pass.shards, to)?;
         pass.board.publish(alloc, to)?;
         Ok(to)
     }
