@@ -97,9 +97,9 @@ fn looks(alloc: Global) -> Result<(u64, u64), Refused> {
     let first = Arc::new(alloc, Counted::made())?;
     let second = Arc::new(alloc, Counted::made())?;
     let number = accept(alloc, b'p', &hub, &mut pass)?;
-    finish(&hub, number, Arc::clone(&first), &mut pass)?;
+    finish(&hub, number, Arc::try_clone(&first)?, &mut pass)?;
     let number = accept(alloc, b'p', &hub, &mut pass)?;
-    finish(&hub, number, Arc::clone(&second), &mut pass)?;
+    finish(&hub, number, Arc::try_clone(&second)?, &mut pass)?;
     read(alloc, &hub, 3, &mut pass)?;
     Ok((first.looks.get(), second.looks.get()))
 }
