@@ -1,5 +1,5 @@
 -- What is known of the counts of cells. A count stands in the upper 63 bits of the cell's word.
-use Rattle.std.specs.Prelude.{◌≡◌, ◌≢◌, ℕ, ◌/◌, ◌≤◌, ◌==◌, max, List, [], ◌∷◌, slice_index, cond}
+use Rattle.std.specs.Prelude.{◌≢◌, ℕ, ◌/◌, ◌≤◌, ◌==◌, max, List, [], ◌∷◌, slice_index, cond}
 use Rattle.cq_cells.specs.Callers.{Each}
 
 -- the greatest count that the cell k is known to have reached

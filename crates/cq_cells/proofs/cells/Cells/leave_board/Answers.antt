@@ -1,4 +1,4 @@
-use Rattle.std.proofs.Common.{rules, ◌++◌, None, refl, ap, sym, ◌∙◌}
+use Rattle.std.proofs.Common.{◌++◌, None, refl, ap, ◌∙◌}
 use Rattle.std.specs.Prelude.{option_to_list}
 use Rattle.cq_cells.specs.declared.item.Item.TheVariants as item
 use Rattle.cq_cells.specs.Steps.{noted_of}
