@@ -133,18 +133,18 @@ has_reached s c p q is low =
     }
 
 -- what is known of the shards, once another pass was joined
-pub joined_least : {I E K : Type 0} (table table' : TableId) (v w u : View I E K) (p q : PassState I E K) → pass_state table v ≡ p → pass_state table' w ≡ q → u.known ≡ v.known ++ w.known
+pub joined_least : {I E K : Type 0} (table table' : TableId) (asked asked' : ℕ) (v w u : View I E K) (p q : PassState I E K) → pass_state table asked v ≡ p → pass_state table' asked' w ≡ q → u.known ≡ v.known ++ w.known
     → (s : ℕ) → least_of (s + 1) u.known ≡ max (least p s) (least q s)
-joined_least table table' v w u p q e f is s = ap (least_of (s + 1)) is ∙ (least_append (s + 1) v.known w.known ∙ (λ i. max (least (e i) s) (least (f i) s)))
+joined_least table table' asked asked' v w u p q e f is s = ap (least_of (s + 1)) is ∙ (least_append (s + 1) v.known w.known ∙ (λ i. max (least (e i) s) (least (f i) s)))
 
 pub reached_now : {I E K : Type 0} (s c : ℕ) (p' p q : PassState I E K) → p' ≡ p → q.known ≡ more_known (s + 1) c p'.known → least_of (s + 1) p'.known ≤ c → HasReached s c p q
 reached_now {I} {E} {K} s c p' p q e is low = subst (λ (z : PassState I E K). HasReached s c z q) e (has_reached s c p' q is low)
 
-pub may_note : {I E K : Type 0} (lawful : K → List E → Type 0) (asks : E → ℕ) (caller : E → Option ℕ) (here cells : CellsState K) (table : TableId) (v : View I E K) (p : PassState I E K) (count k : ℕ) (event : Option E)
-    → here ≡ cells → pass_state table v ≡ p → k ≡ 0 → here.shards ≡ count - 1
+pub may_note : {I E K : Type 0} (lawful : K → List E → Type 0) (asks : E → ℕ) (caller : E → Option ℕ) (here cells : CellsState K) (table : TableId) (asked : ℕ) (v : View I E K) (p : PassState I E K) (count k : ℕ) (event : Option E)
+    → here ≡ cells → pass_state table asked v ≡ p → k ≡ 0 → here.shards ≡ count - 1
     → IfSome event (MayAdd (lawful cells.about) asks caller cells p) → IfSome event (λ e. (k ≡ 0) × MayNote (lawful here.about) asks caller count v v.seen e)
-may_note {I} {E} {K} lawful asks caller here cells table v p count k None e f first is may = tt
-may_note {I} {E} {K} lawful asks caller here cells table v p count k (Some event) e f first is may =
+may_note {I} {E} {K} lawful asks caller here cells table asked v p count k None e f first is may = tt
+may_note {I} {E} {K} lawful asks caller here cells table asked v p count k (Some event) e f first is may =
     let mine = subst (λ (z : CellsState K × PassState I E K). MayAdd (lawful z.0.about) asks caller z.0 z.1 event) (λ i. (sym e i, sym f i)) may in
     (first, (mine.law, mine.maker, λ j pos near. let back : (j - 1) + 1 ≡ j = omega arith in subst (λ (n : ℕ). asks event ≤ least_of n v.known) back (mine.applied (j - 1) (omega (arith, is)))))
 

@@ -17,7 +17,7 @@ pub record CellsState (K : Type 0) : Type 0 where
   pub shards : ℕ
   pub callers : ℕ
 
--- a pass: the cells that it is of, its caller's number and then those of the callers that ended in it, the history that it has seen, the cell that it holds, what it knows of the shards' counts, and in the first pass the number of the next caller and how many there may still be
+-- a pass: the cells that it is of, its caller's number and then those of the callers that ended in it, the history that it has seen, the cell that it holds, what it knows of the shards' counts, in the first pass the number of the next caller and how many there may still be, and how many questions were counted
 pub record PassState (I E K : Type 0) : Type 0 where
   pub table : TableId
   pub about : Option K
@@ -27,12 +27,13 @@ pub record PassState (I E K : Type 0) : Type 0 where
   pub known : List (ℕ × ℕ)
   pub next : ℕ
   pub room : ℕ
+  pub asked : ℕ
 
 abbrev pub cells_state : {K : Type 0} → TableId → K → ℕ → ℕ → CellsState K
 cells_state table about count callers = record { table = table; about = about; shards = count - 1; callers = callers }
 
-abbrev pub pass_state : {I E K : Type 0} → TableId → View I E K → PassState I E K
-pass_state table v = record { table = table; about = v.about; callers = v.callers; seen = v.seen; hand = v.hand; known = v.known; next = v.next; room = v.room }
+abbrev pub pass_state : {I E K : Type 0} → TableId → ℕ → View I E K → PassState I E K
+pass_state table asked v = record { table = table; about = v.about; callers = v.callers; seen = v.seen; hand = v.hand; known = v.known; next = v.next; room = v.room; asked = asked }
 
 module _ {I E : Type 0} where
   -- the value of the cell in hand is out of its slot, and no other is
@@ -64,17 +65,18 @@ module _ {I E K : Type 0} where
 
   -- the pass of the first caller, as it is made
   abbrev pub first_pass : CellsState K → PassState I E K
-  first_pass cells = record { table = cells.table; about = Some cells.about; callers = 0 ∷ []; seen = []; hand = Free; known = []; next = 1; room = cells.callers - 1 }
+  first_pass cells = record { table = cells.table; about = Some cells.about; callers = 0 ∷ []; seen = []; hand = Free; known = []; next = 1; room = cells.callers - 1; asked = 0 }
 
   -- the pass holds no cell
   abbrev pub IsFree : PassState I E K → Type 0
   IsFree p = p.hand ≡ Free
 
-  -- its callers and its room are as before
+  -- its callers, its room and its count are as before
   pub record IsSameCaller (p q : PassState I E K) : Type 0 where
     pub callers : q.callers ≡ p.callers
     pub next : q.next ≡ p.next
     pub room : q.room ≡ p.room
+    pub asked : q.asked ≡ p.asked
 
   -- the history has the events of the pass's caller that the pass has seen and no other, and those of each caller that ended in it
   pub record IsOwn (caller : E → Option ℕ) (p : PassState I E K) (log : List E) : Type 0 where

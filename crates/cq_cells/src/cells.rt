@@ -111,12 +111,17 @@ impl<B, S, E, K, L: Law<B, S, E, K>, R> Cells<B, S, E, K, L, R> {
         requires room { 0 < pass.old.room }
         ensures of { IsPassOf self.now pass.new × IsPassOf self.now result }
         ensures same { pass.new ≡ record pass.old { next = pass.old.next + 1; room = pass.old.room - 1 } }
-        ensures child { result ≡ record pass.old { callers = pass.old.next ∷ []; next = 0; room = 0 } }
+        ensures child { result ≡ record pass.old { callers = pass.old.next ∷ []; next = 0; room = 0; asked = 0 } }
     {
         let seat = self.locked.split(&mut pass.seat);
         let by = pass.next;
         pass.next += 1;
-        Pass { seat, by, next: 0 }
+        Pass {
+            seat,
+            by,
+            next: 0,
+            asked: 0,
+        }
     }
 
     /// Ends the callers of another pass: this one has then seen what either had, and has their numbers. Where the other is
@@ -133,11 +138,13 @@ impl<B, S, E, K, L: Law<B, S, E, K>, R> Cells<B, S, E, K, L, R> {
         ensures own { IsOwn L.caller pass.old pass.new.seen × IsOwn L.caller other pass.new.seen }
         ensures unmade { 0 < pass.new.next → NoneFrom L.caller pass.new.next pass.new.seen }
         ensures least { (s : ℕ) → least pass.new s ≡ max (least pass.old s) (least other s) }
+        ensures asked { pass.new.asked ≡ pass.old.asked }
     {
         let Pass {
             seat,
             by: _,
             next: _,
+            asked: _,
         } = other;
         self.locked.join(&mut pass.seat, seat);
     }
@@ -169,6 +176,7 @@ impl<B, S, E, K, L: Law<B, S, E, K>, R> Cells<B, S, E, K, L, R> {
             seat,
             by: 0,
             next: 1,
+            asked: 0,
         };
         Ok((Cells { locked }, pass))
     }

@@ -3,12 +3,14 @@ use crate::locked::Seated;
 use std::marker::Model;
 
 /// A caller's right to step on the cells. Contracts see what the caller knows: the history that it has seen, the cell
-/// that it holds, and how far the shards are. A pass that is dropped while it holds a cell leaves that cell held.
+/// that it holds, how far the shards are, and how many questions were counted. A pass that is dropped while it holds a
+/// cell leaves that cell held.
 #[derive(Drop)]
 pub struct Pass<B, S, E, K> {
     pub(crate) seat: Seated<Item<B, S>, E, K>,
     pub(crate) by: u32,
     pub(crate) next: u32,
+    pub(crate) asked: u64,
 }
 
 impl<B, S, E, K> Model for Pass<B, S, E, K> {
@@ -17,13 +19,13 @@ impl<B, S, E, K> Model for Pass<B, S, E, K> {
 
     ghost Value = { PassState (Item B S) E K };
 
-    ghost view = { λ p. pass_state p.seat.table_id p.seat.me.0 };
+    ghost view = { λ p. pass_state p.seat.table_id p.asked p.seat.me.0 };
 
     ghost invariant = { λ p. PassOk p.by p.next p.seat.me.0 p.seat.me.1 };
 }
 
 impl<B, S, E, K> Pass<B, S, E, K> {
-    ghost use Rattle.std.specs.Prelude.{◌≡◌};
+    ghost use Rattle.std.specs.Prelude.{◌≡◌, ◌+◌, ◌-◌, ◌^◌, min};
     ghost use Rattle.cq_cells.specs.Passes.{by_of};
 
     /// The number of its caller.
@@ -38,5 +40,12 @@ impl<B, S, E, K> Pass<B, S, E, K> {
         ensures { result ≡ self.now.next }
     {
         self.next
+    }
+
+    /// Counts one question more, up to 2^64 - 1. Nothing else changes.
+    pub fn count_read(&mut self)
+        ensures { self.new ≡ record self.old { asked = min (self.old.asked + 1) (2 ^ 64 - 1) } }
+    {
+        self.asked = self.asked.saturating_add(1);
     }
 }

@@ -15,7 +15,7 @@ invariant_of-pass g c = let p = c.pass.inside in let q = c.join.new.pass in
 
 pub returns-clause-least : goal.returns-clause-least
 returns-clause-least g c = let p = c.pass.inside in let q = c.other.inside in
-    joined_least p.seat.table_id q.seat.table_id p.seat.me.0 q.seat.me.0 c.join.new.pass.me.0 _ _ c.pass.view_is c.other.view_is c.join.ensures.known
+    joined_least p.seat.table_id q.seat.table_id p.asked q.asked p.seat.me.0 q.seat.me.0 c.join.new.pass.me.0 _ _ c.pass.view_is c.other.view_is c.join.ensures.known
 
 pub returns-clause-own : goal.returns-clause-own
 returns-clause-own g c = (

@@ -11,7 +11,7 @@ note-requires-clause-hand g c = let p = c.pass.inside in let hand = c.requires.1
 
 pub note-requires-clause-lawful : goal.note-requires-clause-lawful
 note-requires-clause-lawful g c = let p = c.pass.inside in
-    may_note g.L.Law.lawful g.L.Law.asks g.L.Law.caller _ _ p.seat.table_id p.seat.me.0 _ c.self.inside.locked.count 0 g.event
+    may_note g.L.Law.lawful g.L.Law.asks g.L.Law.caller _ _ p.seat.table_id p.asked p.seat.me.0 _ c.self.inside.locked.count 0 g.event
     c.self.view_is c.pass.view_is refl refl c.requires.1.1.1.1.1.1.1.1.0
 
 pub release-requires-clause-hand : goal.release-requires-clause-hand
