@@ -1,5 +1,5 @@
 -- What contracts see of a pass over a board and its shards.
-use Rattle.std.specs.Prelude.{◌≡◌, ◌⊎◌, ℕ, ◌+◌, ◌<◌, ◌≤◌, List, [], ◌++◌, length, slice_index_or, IfSome}
+use Rattle.std.specs.Prelude.{◌≡◌, ◌⊎◌, ℕ, ◌+◌, ◌^◌, ◌<◌, ◌≤◌, List, [], ◌++◌, length, slice_index_or, IfSome}
 use mathlib.Core.List.{IsPrefix}
 use Rattle.cq_base.specs.declared.lang.Lang.{Lang}
 use Rattle.cq_base.specs.declared.settings.Settings.{Settings}
@@ -23,7 +23,8 @@ BoardCells = CellsState About
 abbrev pub BoardPass : Type 0
 BoardPass = PassState (Item BoardState Contents) Event About
 
--- the pass is of these cells and has seen a lawful history; its caller is one of the board's, and its callers differ
+-- the pass is of these cells and has seen a lawful history; its caller is one of the board's, and its callers differ. A
+-- shard that it holds is counted in 63 bits
 pub record IsPassOf (cells : BoardCells) (p : BoardPass) : Type 0 where
   pub of : passes.IsPassOf cells p
   pub law : IsLawful cells.about p.seen
@@ -31,6 +32,7 @@ pub record IsPassOf (cells : BoardCells) (p : BoardPass) : Type 0 where
   pub apart : Differ p.callers
   -- the first pass may make as many more callers as the board has
   pub room : 0 < p.next → p.next + p.room ≡ cells.about.callers
+  pub few : (s : ℕ) (x : Contents) → HasShard p s x → x.applied < 2 ^ 63
 
 -- the history has the events of the pass's caller that the pass has seen and no other of them, and so of each caller that
 -- ended in it
