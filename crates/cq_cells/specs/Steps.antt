@@ -1,5 +1,5 @@
 -- What each step does to a seat's view, and what it tells.
-use Rattle.std.specs.Prelude.{◌≡◌, ◌≢◌, ◌⊎◌, ℕ, ◌+◌, ◌-◌, ◌/◌, ◌<◌, ◌≤◌, List, [], ◌∷◌, ◌++◌, Option, Some, None, IfSome, option_to_list}
+use Rattle.std.specs.Prelude.{◌≡◌, ◌≢◌, ◌⊎◌, ℕ, ◌+◌, ◌-◌, ◌/◌, ◌^◌, ◌<◌, ◌≤◌, List, [], ◌∷◌, ◌++◌, Option, Some, None, IfSome, option_to_list}
 use mathlib.Core.List.{IsPrefix}
 use Rattle.atomic_table.specs.Table.{Me, Step, rest}
 use Rattle.atomic_table.specs.declared.shared.Seat.{Seat}
@@ -9,6 +9,7 @@ use Rattle.cq_cells.specs.declared.view.Hand.{Hand}
 use Rattle.cq_cells.specs.declared.view.Hand.TheVariants.{Free, Has}
 use Rattle.cq_cells.specs.Callers.{Differ, OwnSame, NoneFrom, longer}
 use Rattle.cq_cells.specs.Counts.{least_of, more_known}
+use Rattle.cq_cells.specs.Rule.{MayNote}
 
 abbrev Sat : Type 0 → Type 0 → Type 0 → Type 0
 Sat I E K = Me (Option I) (View I E K)
@@ -82,6 +83,10 @@ module _ {I E K : Type 0} where
   abbrev pub KeepsCaller : View I E K → View I E K → Type 0
   KeepsCaller v w = (w.about ≡ v.about) × (w.callers ≡ v.callers) × (w.next ≡ v.next) × (w.room ≡ v.room)
 
+  -- the numbers of another view come behind its own, and all else of its caller is as before
+  abbrev pub KeepsAndAdds : View I E K → List ℕ → View I E K → Type 0
+  KeepsAndAdds v more w = (w.callers ≡ v.callers ++ more) × (w.next ≡ v.next) × (w.room ≡ v.room) × (w.about ≡ v.about)
+
   abbrev pub IsCompared : View I E K → Type 0
   IsCompared v = (v.beside ≡ []) × (v.joined ≡ [])
 
@@ -97,6 +102,10 @@ module _ {I E K : Type 0} where
   abbrev pub IsOf : TableId → K → Seat (Option I) (View I E K) → Type 0
   IsOf table key p = (p.table_id ≡ table) × (p.me.0.about ≡ Some key)
 
+-- one of them begins with the other
+abbrev pub AreOneHistory : {E : Type 0} → List E → List E → Type 0
+AreOneHistory a b = IsPrefix a b ⊎ IsPrefix b a
+
 module _ {I E : Type 0} where
   -- each value fits its cell before any event
   abbrev pub AllFit : (List E → ℕ → ℕ → I → Type 0) → ℕ → List I → Type 0
@@ -108,3 +117,18 @@ module _ {I E : Type 0} (lawful : List E → Type 0) (fits : List E → ℕ → 
   abbrev pub Fitting : List E → ℕ → I → Option E → ℕ → I → Type 0
   Fitting seen k x event count y = (log : List E) (c : ℕ) → lawful log → IsPrefix seen log → (k ≡ 0 → seen ≡ log) → fits log k c x
       → fits (log ++ option_to_list event) k count y × (k ≢ 0 → c ≤ count)
+
+module _ {I E K : Type 0} (lawful : K → List E → Type 0) where
+  -- what a pass finds that takes a cell: the value is right, for what it has then seen of the board, and for a history that begins with that of a shard
+  abbrev pub Finds : (K → List E → ℕ → ℕ → I → Type 0) → (E → Option ℕ) → K → ℕ → I → Seat (Option I) (View I E K) → Seat (Option I) (View I E K) → Type 0
+  Finds fits caller key k x p q =
+      (log : List E) × (c : ℕ) × IsPrefix (view q).seen log × lawful key log × fits key log k c x × (k ≡ 0 → (view q).seen ≡ log) × (k ≢ 0 → (view q).seen ≡ (view p).seen)
+      × ((view q).known ≡ more_known k c (view p).known) × OwnSame caller (view p).callers log (view p).seen × (c < 2 ^ 63) × (least_of k (view p).known ≤ c)
+
+  -- the pass may note the event, if there is one: the cell is the board's
+  abbrev pub MayNoteHere : (E → ℕ) → (E → Option ℕ) → K → ℕ → ℕ → Seat (Option I) (View I E K) → Option E → Type 0
+  MayNoteHere asks caller key count k p event = IfSome event (λ e. (k ≡ 0) × MayNote (lawful key) asks caller count (view p) (view p).seen e)
+
+  -- what is to be shown of a value that goes back
+  abbrev pub FitsBack : (K → List E → ℕ → ℕ → I → Type 0) → K → ℕ → ℕ → I → Seat (Option I) (View I E K) → Type 0
+  FitsBack fits key k count y p = (x : I) (event : Option E) → HasEmpty p k x event → Fitting (lawful key) (fits key) (view p).seen k x event count y

@@ -1,10 +1,9 @@
 // The cells by their numbers, and the eight kinds of atomic step on them.
-ghost use Rattle.std.specs.Prelude.{◌≡◌, ◌≢◌, ◌⊎◌, ℕ, ◌-◌, ◌^◌, ◌<◌, ◌≤◌, List, [], ◌∷◌, ◌++◌, length, Option, None, Some, IfOk, IfSome, option_to_list, map};
+ghost use Rattle.std.specs.Prelude.{◌≡◌, ◌≢◌, ◌⊎◌, ℕ, ◌-◌, ◌^◌, ◌<◌, ◌≤◌, List, [], ◌∷◌, ◌++◌, length, Option, None, Some, IfOk, option_to_list, map};
 ghost use mathlib.Core.List.{IsPrefix};
 ghost use Rattle.cq_cells.specs.Callers.{Differ, OwnSame, NoneFrom, longer};
 ghost use Rattle.cq_cells.specs.Counts.{least_of, more_known};
-ghost use Rattle.cq_cells.specs.Rule.{MayNote};
-ghost use Rattle.cq_cells.specs.Steps.{IsIdle, HasEmpty, IsSameSeat, KeepsCaller, IsOf, first_view, view, less, child, noted_of, AllFit, Fitting};
+ghost use Rattle.cq_cells.specs.Steps.{IsIdle, HasEmpty, IsSameSeat, KeepsCaller, KeepsAndAdds, AreOneHistory, IsOf, Finds, MayNoteHere, FitsBack, first_view, view, less, child, noted_of, AllFit};
 
 use crate::law::{CellLaw, Noting};
 use crate::rule::{Beside, CellRule, Compare, NewCaller, Note, Release, Take};
@@ -32,7 +31,7 @@ impl<I, E, K, L: CellLaw<I, E, K>, R: Wait> Locked<I, E, K, L, R> {
         ensures own { IsSameSeat pass.old pass.new × KeepsCaller (view pass.old) (view pass.new) }
         ensures hand { HasEmpty pass.new cell result None }
         ensures seen { IsPrefix (view pass.old).seen (view pass.new).seen }
-        ensures value { (log : List E) × (c : ℕ) × IsPrefix (view pass.new).seen log × L.lawful self.now.table.shared.key log × L.fits self.now.table.shared.key log cell c result × (cell ≡ 0 → (view pass.new).seen ≡ log) × (cell ≢ 0 → (view pass.new).seen ≡ (view pass.old).seen) × ((view pass.new).known ≡ more_known cell c (view pass.old).known) × OwnSame L.caller (view pass.old).callers log (view pass.old).seen × (c < 2 ^ 63) × (least_of cell (view pass.old).known ≤ c) }
+        ensures value { Finds L.lawful L.fits L.caller self.now.table.shared.key cell result pass.old pass.new }
     {
         for _ in self.rt.forever() {
             let found = self.table.shared.peek(cell);
@@ -56,7 +55,7 @@ impl<I, E, K, L: CellLaw<I, E, K>, R> Locked<I, E, K, L, R> {
     pub fn note<N: Noting<E>>(&self, cell: usize, pass: &mut Seated<I, E, K>)
         requires own { IsOf self.now.table.shared.table_id self.now.table.shared.key pass.old × (cell < self.now.count) }
         requires hand { (x : I) × HasEmpty pass.old cell x None }
-        requires lawful { IfSome N.event (λ e. (cell ≡ 0) × MayNote (L.lawful self.now.table.shared.key) L.asks L.caller self.now.count (view pass.old) (view pass.old).seen e) }
+        requires lawful { MayNoteHere L.lawful L.asks L.caller self.now.table.shared.key self.now.count cell pass.old N.event }
         ensures own { IsSameSeat pass.old pass.new × KeepsCaller (view pass.old) (view pass.new) }
         ensures hand { (x : I) → HasEmpty pass.old cell x None → HasEmpty pass.new cell x N.event }
         ensures seen { ((view pass.new).seen ≡ (view pass.old).seen) × ((view pass.new).known ≡ (view pass.old).known) }
@@ -69,7 +68,7 @@ impl<I, E, K, L: CellLaw<I, E, K>, R> Locked<I, E, K, L, R> {
         requires own { IsOf self.now.table.shared.table_id self.now.table.shared.key pass.old × (cell < self.now.count) }
         requires hand { (x : I) × (event : Option E) × HasEmpty pass.old cell x event }
         requires count { count < 2 ^ 63 }
-        requires fits { (x : I) (event : Option E) → HasEmpty pass.old cell x event → Fitting (L.lawful self.now.table.shared.key) (L.fits self.now.table.shared.key) (view pass.old).seen cell x event count value }
+        requires fits { FitsBack L.lawful L.fits self.now.table.shared.key cell count value pass.old }
         ensures own { IsSameSeat pass.old pass.new × KeepsCaller (view pass.old) (view pass.new) }
         ensures free { IsIdle pass.new }
         ensures seen { (view pass.new).seen ≡ (view pass.old).seen ++ option_to_list (noted_of (view pass.old).hand) }
@@ -90,18 +89,21 @@ impl<I, E, K, L: CellLaw<I, E, K>, R> Locked<I, E, K, L, R> {
         requires free { IsIdle pass.old }
         requires room { 0 < (view pass.old).room }
         ensures same { IsSameSeat pass.old pass.new × IsIdle pass.new × (view pass.new ≡ less (view pass.old)) }
-        ensures new { IsOf self.now.table.shared.table_id self.now.table.shared.key result × IsIdle result × (view result ≡ child (view pass.old)) }
+        ensures new { IsOf self.now.table.shared.table_id self.now.table.shared.key result }
+        ensures child { IsIdle result × (view result ≡ child (view pass.old)) }
     {
         self.table.shared.split_seat::<NewCaller>(pass)
     }
 
     /// Takes in what another pass has seen, and its numbers. What one had seen begins with what the other had.
     pub fn join(&self, pass: &mut Seated<I, E, K>, other: Seated<I, E, K>)
-        requires own { IsOf self.now.table.shared.table_id self.now.table.shared.key pass.old × IsOf self.now.table.shared.table_id self.now.table.shared.key other }
+        requires own { IsOf self.now.table.shared.table_id self.now.table.shared.key pass.old }
+        requires other { IsOf self.now.table.shared.table_id self.now.table.shared.key other }
         requires free { IsIdle pass.old × IsIdle other }
         ensures own { IsSameSeat pass.old pass.new × IsIdle pass.new }
-        ensures seen { ((view pass.new).seen ≡ longer (view pass.old).seen (view other).seen) × (IsPrefix (view pass.old).seen (view other).seen ⊎ IsPrefix (view other).seen (view pass.old).seen) }
-        ensures callers { ((view pass.new).callers ≡ (view pass.old).callers ++ (view other).callers) × ((view pass.new).next ≡ (view pass.old).next) × ((view pass.new).room ≡ (view pass.old).room) × ((view pass.new).about ≡ (view pass.old).about) }
+        ensures seen { (view pass.new).seen ≡ longer (view pass.old).seen (view other).seen }
+        ensures one_history { AreOneHistory (view pass.old).seen (view other).seen }
+        ensures callers { KeepsAndAdds (view pass.old) (view other).callers (view pass.new) }
         ensures mine { OwnSame L.caller (view pass.old).callers (view pass.new).seen (view pass.old).seen }
         ensures theirs { OwnSame L.caller (view other).callers (view pass.new).seen (view other).seen }
         ensures apart { Differ (view pass.new).callers }
@@ -125,7 +127,10 @@ impl<I, E, K, L: CellLaw<I, E, K>, R> Locked<I, E, K, L, R> {
         requires some { (0 < length values.items) × (0 < L.total about.now) }
         requires lawful { L.lawful about.now [] }
         requires fits { AllFit (L.fits about.now) 0 values.items }
-        ensures { IfOk result (λ c. IsOf c.0.table.shared.table_id c.0.table.shared.key c.1 × (c.0.table.shared.key ≡ about.now) × (c.0.count ≡ length values.items) × IsIdle c.1 × (view c.1 ≡ first_view (L.total about.now) about.now)) }
+        ensures of { IfOk result (λ c. IsOf c.0.table.shared.table_id c.0.table.shared.key c.1) }
+        ensures about { IfOk result (λ c. c.0.table.shared.key ≡ about.now) }
+        ensures count { IfOk result (λ c. c.0.count ≡ length values.items) }
+        ensures first { IfOk result (λ c. IsIdle c.1 × (view c.1 ≡ first_view (L.total about.now) about.now)) }
     {
         let count = values.len();
         let words = Vec::from_elem(alloc, 0u64, count)?;

@@ -12,4 +12,4 @@ invariant_of-pass g c = let p = c.pass.inside in let q = c.split-seat.new.pass i
 
 pub invariant_of-result : goal.invariant_of-result
 invariant_of-result g c = let p = c.pass.inside in let q = c.split-seat.result in
-    ok_child p.by p.next p.seat.me.0 p.seat.me.1 q.me.0 q.me.1 c.pass.invariant c.split-seat.ensures.new.1 c.split-seat.ensures.new.2
+    ok_child p.by p.next p.seat.me.0 p.seat.me.1 q.me.0 q.me.1 c.pass.invariant c.split-seat.ensures.child.0 c.split-seat.ensures.child.1
