@@ -19,6 +19,9 @@
 //! - A count that a pass knows a shard to have reached is no more than that shard's. Counts of shards never fall.
 //! - The first pass makes the numbers; its room is the callers less the numbers made.
 //!
+//! A pass also counts the questions that were asked with it. The count stands beside the pass's seat and is no part of the
+//! rule.
+//!
 //! # The steps
 //!
 //! | Step | On | What it does |
