@@ -1,6 +1,6 @@
 -- Passes over a board and its shards.
-use Rattle.std.proofs.Common.{◌≡◌, ◌⊎◌, ℕ, zero, suc, ◌+◌, ◌-◌, ◌<◌, ◌≤◌, ◌^◌, ◌%◌, cond, Bool, List, [], ◌∷◌, ◌++◌, length, get_or, Option, Some, None, refl, sym, ap, ◌∙◌, subst, inl, inr, ⊎_elim, arith}
-use Rattle.std.specs.Prelude.{All, IfSome, slice_index, option_to_list}
+use Rattle.std.proofs.Common.{◌≡◌, ℕ, suc, ◌+◌, ◌<◌, ◌≤◌, ◌^◌, ◌%◌, cond, List, [], ◌∷◌, ◌++◌, length, get_or, Option, Some, None, refl, sym, ap, ◌∙◌, subst, inl, inr, ⊎_elim, arith}
+use Rattle.std.specs.Prelude.{All, IfSome, option_to_list}
 use Rattle.std.proofs.lemmas.List.Elements.{All-nil}
 use Rattle.std.proofs.lemmas.List.Sums.{prefix_len-le-length}
 use mathlib.Core.List.{IsPrefix}
@@ -179,7 +179,7 @@ step_right IsWindow about seen log s old new step law begins was =
     record {
       stands = subst (λ l. StandsFor IsWindow (accepted l) new) begins.1 (step.stands later (subst (λ l. StandsFor IsWindow (accepted l) old) (sym begins.1) was.stands));
       reached = ⊎_elim (λ (same : new.applied ≡ old.applied). subst (IsReached (state_in about log)) (sym same) was.reached)
-      (λ (more : (new.applied ≡ old.applied + 1) × (new.applied ≤ ready (state_in about seen))). (omega (arith, was.reached.0, more.0), omega (arith, more.1, rises.0, ready_there))) step.applied;
+          (λ (more : (new.applied ≡ old.applied + 1) × (new.applied ≤ ready (state_in about seen))). (omega (arith, was.reached.0, more.0), omega (arith, more.1, rises.0, ready_there))) step.applied;
       swept = ⊎_elim (λ (same : new.floor ≡ old.floor). omega (arith, same, was.swept)) (λ (up : new.floor ≤ (state_in about seen).floor). omega (arith, up, rises.2, floor_there)) step.swept;
       number_is = step.number_is ∙ was.number_is;
       shards = step.shards ∙ was.shards;
@@ -212,7 +212,11 @@ pub first_board : (about : About) (b : BoardState) → about.settings ≡ b.sett
 first_board about b settings many stands = record { stands = stands; settings = sym settings; callers = sym many }
 
 module _ {W : Type 0} (keys_in : W → List ℕ) (IsWorkOf : Settings → Lang → List ℕ → W → Type 0) (about : About) where
-  first_shard : (s : ℕ) (x : Contents) → x ≡ record { shard = s; shards = about.settings.shards; applied = 0; floor = 0; entries = [] } → IsShardAt keys_in IsWorkOf about [] s 0 x
+  fresh : ℕ → Contents
+  fresh s = record { shard = s; shards = about.settings.shards; applied = 0; floor = 0; entries = [] }
+
+  first_shard : (s : ℕ) (x : Contents) → x ≡ fresh s → IsShardAt keys_in IsWorkOf about [] s 0 x
+  unfolding fresh
   first_shard s x is =
       let none = ap (λ (z : Contents). z.applied) is in
       let floor = ap (λ (z : Contents). z.floor) is in (
@@ -226,13 +230,14 @@ module _ {W : Type 0} (keys_in : W → List ℕ) (IsWorkOf : Settings → Lang �
         },
       )
 
-  first_from : (s : ℕ) (xs : List Contents) → ((i : ℕ) (d : Contents) → i < length xs → get_or xs i d ≡ record { shard = s + i; shards = about.settings.shards; applied = 0; floor = 0; entries = [] })
-      → passes.AreFresh (IsShardAt keys_in IsWorkOf about) s xs
+  first_from : (s : ℕ) (xs : List Contents) → ((i : ℕ) (d : Contents) → i < length xs → get_or xs i d ≡ fresh (s + i)) → passes.AreFresh (IsShardAt keys_in IsWorkOf about) s xs
   first_from s [] each = tt
   first_from s (x ∷ xs) each = (
-    first_shard s x (each 0 x (omega arith)),
-    first_from (s + 1) xs (λ i d near. let at : s + suc i ≡ s + 1 + i = omega arith in each (suc i) d (omega (arith, near)) ∙ ap (λ n. record { shard = n; shards = about.settings.shards; applied = 0; floor = 0; entries = [] }) at),
+    (let here : s + 0 ≡ s = omega arith in first_shard s x (each 0 x (omega arith) ∙ ap fresh here)),
+    first_from (s + 1) xs (λ i d near. let next : s + suc i ≡ s + 1 + i = omega arith in each (suc i) d (omega (arith, near)) ∙ ap fresh next),
   )
 
   pub first_shards : (number : ℕ) (xs : List Contents) → about.settings.shards ≡ number → AreFresh number xs → passes.AreFresh (IsShardAt keys_in IsWorkOf about) 0 xs
-  first_shards number xs is fresh = first_from 0 xs (λ i d near. fresh.each i d near ∙ ap (λ n. record { shard = i; shards = n; applied = 0; floor = 0; entries = [] }) (sym is))
+  unfolding fresh
+  first_shards number xs is are = first_from 0 xs (λ i d near. let next : i ≡ 0 + i = omega arith in
+      are.each i d near ∙ ap (λ n. record { shard = i; shards = n; applied = 0; floor = 0; entries = [] }) (sym is) ∙ ap fresh next)

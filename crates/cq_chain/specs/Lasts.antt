@@ -1,6 +1,5 @@
 -- A shard stays right when the history grows.
-use Rattle.std.proofs.Common.{◌≡◌, ℕ, ◌≤◌, List, [], ◌∷◌, ◌++◌, sym, subst, arith}
-use Rattle.std.specs.Prelude.{All}
+use Rattle.std.proofs.Common.{ℕ, ◌≤◌, List, [], ◌∷◌, ◌++◌, sym, subst, arith}
 use Rattle.std.proofs.lemmas.List.Elements.{All-cons, All-nil}
 use Rattle.cq_base.specs.declared.lang.Lang.{Lang}
 use Rattle.cq_base.specs.declared.settings.Settings.{Settings}
