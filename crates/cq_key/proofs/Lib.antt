@@ -1,3 +1,3 @@
 pub mod Keyed
 pub mod Windows
-pub mod Strides
+pub mod NextKeys

@@ -1,5 +1,5 @@
 -- The keys of windows: the chunk fingerprints of an index over tokens (Hummel et al., ICSM 2010).
-use Rattle.std.specs.Prelude.{◌≡◌, ℕ, ◌+◌, ◌*◌, ◌^◌, ◌%◌, List, [], ◌∷◌, length, take, map, fold, nat_le, if◌then◌else◌}
+use Rattle.std.specs.Prelude.{◌≡◌, ℕ, ◌+◌, ◌*◌, ◌^◌, ◌%◌, List, [], ◌∷◌, ◌++◌, length, take, map, fold, nat_le, if◌then◌else◌}
 use Rattle.cq_base.specs.declared.settings.Settings.{Settings}
 use Rattle.cq_base.specs.declared.lang.Lang.{Lang}
 use Rattle.cq_base.specs.declared.lang.Lang.TheVariants as lang
@@ -10,10 +10,6 @@ use Rattle.cq_base.specs.declared.token.Class.TheVariants as class
 -- one code more, in 64 bits
 abbrev pub folded : ℕ → ℕ → ℕ
 folded key code = (key * 6364136223846793005 + code + 1) % 2 ^ 64
-
--- what two codes behind a key add to it
-abbrev pub pair : ℕ → ℕ → ℕ
-pair first second = ((first + 1) * 6364136223846793005 + (second + 1)) % 2 ^ 64
 
 abbrev pub lang_code : Lang → ℕ
 lang_code lang.Any = 0
@@ -38,6 +34,14 @@ lowest key bits = key % 2 ^ bits
 -- the key of some codes
 abbrev pub key_of : Settings → List ℕ → ℕ
 key_of settings codes = lowest (fold folded 0 codes) settings.key_bits
+
+-- what the code that goes out of a window weighs in the key of the next
+abbrev pub weight : Settings → ℕ
+weight settings = 6364136223846793005 ^ settings.chunk % 2 ^ 64
+
+-- the key of the next window comes from that of a window: one code goes out in front, and one comes in behind
+abbrev pub Rolls : Settings → ℕ → ℕ → ℕ → ℕ → Type 0
+Rolls settings outgoing incoming key next = (rest : List ℕ) → length rest + 1 ≡ settings.chunk → key ≡ key_of settings (outgoing ∷ rest) → next ≡ key_of settings (rest ++ incoming ∷ [])
 
 -- the keys of all windows of `chunk` neighbouring codes, in order
 abbrev pub keys_of : Settings → List ℕ → List ℕ

@@ -1,5 +1,5 @@
 -- What a reader may rely on of keys.
-use Rattle.std.specs.Prelude.{ℕ, ◌≤◌, List, map}
+use Rattle.std.specs.Prelude.{◌≤◌, List, map}
 use Rattle.cq_base.specs.declared.settings.Settings.{Settings}
 use Rattle.cq_base.specs.declared.norm.Norm.{Norm}
 use Rattle.cq_clones.specs.Windows.{AreKeyed}

@@ -2,13 +2,14 @@ ghost use Rattle.std.specs.Prelude.{◌≡◌, ◌≤◌, ◌<◌, ◌^◌, leng
 ghost use Rattle.cq_key.specs.Keys as spec;
 
 use crate::code::codes_of;
+use crate::rolling::{rolled, weight};
 use cq_base::{Keys, Memory, Norm, Settings};
 use std::alloc::Global;
 
 type Key = Box<dyn Fn(&[u64]) -> u64>;
 
-/// Gives the keys of windows by a closure, which it keeps beside the facts that it may always be called and answers
-/// each window's key.
+/// Gives the keys of a file's windows: that of the first by a closure, which it keeps beside the facts that it may always
+/// be called and answers each window's key, and each other from the key before.
 #[derive(Drop)]
 pub struct Keyer {
     pub settings: Settings,
@@ -42,23 +43,29 @@ impl Keyer {
         self.settings.chunk as usize
     }
 
-    // The keys of the windows.
+    // The keys of the windows. Those behind the first are rolled on, and the closure is not called for them.
     fn keys_of(&self, alloc: Global, codes: &[u64]) -> Result<Vec<u64>, Memory>
         requires some { 1 ≤ self.now.settings.chunk }
         ensures { IfOk result (λ v. v.items ≡ spec.keys_of self.now.settings codes.now) }
     {
         let chunk = self.chunk();
-        let windows = (codes.len() + 1).saturating_sub(chunk);
-        let mut keys = Vec::with_capacity(alloc, windows)?;
-        let mut at = 0;
-        'windows: while codes.len() - at >= chunk {
-            keys.push(self.key(&codes[at..at + chunk]))?;
-            at += 1;
+        if codes.len() < chunk {
+            return Ok(Vec::new(alloc));
+        }
+        let more = codes.len() - chunk;
+        let mut keys = Vec::with_capacity(alloc, more + 1)?;
+        let mut key = self.key(&codes[..chunk]);
+        keys.push(key)?;
+        let weight = weight(&self.settings);
+        'windows: for at in 0..more {
+            key = rolled(&self.settings, weight, key, codes[at], codes[at + chunk]);
+            keys.push(key)?;
         }
         Ok(keys)
     }
 
-    /// The keys of all windows of a file's tokens, in order.
+    /// The keys of all windows of a file's tokens, in order. The closure is called once, or not at all where there are
+    /// fewer tokens than a window has.
     pub fn keys(&self, alloc: Global, norms: &[Norm]) -> Result<Keys, Memory>
         requires few { length norms.now < 2 ^ 32 }
         requires some { 1 ≤ self.now.settings.chunk }

@@ -2,29 +2,16 @@ ghost use Rattle.std.specs.Prelude.{◌≡◌, fold};
 ghost use Rattle.cq_key.specs.Keys as spec;
 
 use crate::code::folded;
-use crate::stride::four_folded;
 use cq_base::Settings;
-
-// A key with these codes more, one after the other.
-fn each_folded(key: u64, codes: &[u64]) -> u64
-    ensures { result ≡ fold spec.folded key codes.now }
-{
-    codes.iter().fold(key, |key, code| folded(key, *code))
-}
 
 fn codes_folded(codes: &[u64]) -> u64
     ensures { result ≡ fold spec.folded 0 codes.now }
 {
-    let mut key = 0;
-    let mut at = 0;
-    'fours: while codes.len() - at >= 4 {
-        key = four_folded(key, codes[at], codes[at + 1], codes[at + 2], codes[at + 3]);
-        at += 4;
-    }
-    each_folded(key, &codes[at..])
+    codes.iter().fold(0, |key, code| folded(key, *code))
 }
 
-fn lowest_bits(key: u64, bits: u32) -> u64
+/// As many bits of a key as are kept.
+pub(crate) fn lowest_bits(key: u64, bits: u32) -> u64
     ensures { result ≡ spec.lowest key bits }
 {
     if bits >= 64 {

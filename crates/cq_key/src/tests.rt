@@ -1,6 +1,11 @@
+ghost use Rattle.std.specs.Prelude.{◌≡◌, ◌≤◌, ◌<◌, ◌^◌, length, IfOk};
+
+use crate::code::codes_of;
 use crate::{Keyer, plain_key};
-use cq_base::{Class, Lang, Memory, Norm, Settings, Text};
+use cq_base::{Class, Keys, Lang, Memory, Norm, Settings, Text};
 use std::alloc::Global;
+use std::cell::Cell;
+use std::sync::Arc;
 
 const SETTINGS: Settings = Settings {
     chunk: 2,
@@ -18,12 +23,66 @@ const A: u64 = 13_885_033_948_157_128_056;
 
 const B: u64 = 13_885_033_948_157_128_057;
 
-fn name(alloc: Global, text: &str) -> Result<Norm, Memory> {
+fn name(alloc: Global, text: &[u8]) -> Result<Norm, Memory> {
     Ok(Norm {
         lang: Lang::Any,
         class: Class::Ident,
-        text: Text::from_bytes(alloc, text.as_bytes())?,
+        text: Text::from_bytes(alloc, text)?,
     })
+}
+
+// As many names, each a letter; the letters begin again after 77.
+fn names(alloc: Global, count: usize) -> Result<Vec<Norm>, Memory>
+    ensures { IfOk result (λ v. length v.items ≡ count) }
+{
+    let mut norms = Vec::new(alloc);
+    for at in 0..count {
+        let letter = b'a' + (at % 7 + at % 11) as u8;
+        norms.push(name(alloc, &[letter])?)?;
+    }
+    Ok(norms)
+}
+
+// The keys of these tokens, and how often the closure was called for them.
+fn keys_and_calls(alloc: Global, settings: &Settings, norms: &[Norm]) -> Result<(Keys, u64), Memory>
+    requires few { length norms.now < 2 ^ 32 }
+    requires some { 1 ≤ settings.now.chunk }
+{
+    let of = *settings;
+    let calls = Arc::new(alloc, Cell::new(0u64))?;
+    let counted = Arc::try_clone(&calls)?;
+    let key = Box::new(alloc, move |codes: &[u64]| {
+        counted.set(counted.get().wrapping_add(1));
+        plain_key(&of, codes)
+    })?;
+    let keyer = Keyer::new(settings, key);
+    let keys = keyer.keys(alloc, norms)?;
+    Ok((keys, calls.get()))
+}
+
+// How many keys these tokens have, how often the closure was called, and whether each key is that of its window alone.
+fn outcome(
+    alloc: Global,
+    chunk: u32,
+    key_bits: u32,
+    norms: &[Norm],
+) -> Result<(usize, u64, bool), Memory>
+    requires few { length norms.now < 2 ^ 32 }
+    requires some { 1 ≤ chunk }
+{
+    let settings = Settings {
+        chunk,
+        key_bits,
+        ..SETTINGS
+    };
+    let (keys, calls) = keys_and_calls(alloc, &settings, norms)?;
+    let codes = codes_of(alloc, norms)?;
+    let found = keys.as_slice();
+    let same = codes
+        .windows(chunk as usize)
+        .zip(found)
+        .all(|(window, key)| plain_key(&settings, window) == *key);
+    Ok((found.len(), calls, same))
 }
 
 #[test]
@@ -44,18 +103,35 @@ fn codes_are_folded(rt: HostRuntime) {
 #[test]
 fn each_window_has_its_key(rt: HostRuntime) -> Result<(), Memory> {
     let alloc = rt.alloc();
-    let key = Box::new(alloc, |codes: &[u64]| plain_key(&SETTINGS, codes))?;
-    let keyer = Keyer::new(&SETTINGS, key);
     let norms = vec![in alloc;
-        name(alloc, "a")?,
-        name(alloc, "b")?,
-        name(alloc, "a")?,
-        name(alloc, "b")?,
+        name(alloc, b"a")?,
+        name(alloc, b"b")?,
+        name(alloc, b"a")?,
+        name(alloc, b"b")?,
     ]?;
-    let found = keyer.keys(alloc, &norms)?;
-    assert!(rt; matches!(found.as_slice(), [191, _, 191]));
-    let few = vec![in alloc; name(alloc, "a")?]?;
-    let found = keyer.keys(alloc, &few)?;
-    assert!(rt; found.as_slice().is_empty());
+    let (found, _) = keys_and_calls(alloc, &SETTINGS, &norms)?;
+    assert_eq!(rt; found.as_slice(), [191, 235, 191].as_slice());
+    Ok(())
+}
+
+#[test]
+fn the_closure_is_called_for_the_first_window_alone(rt: HostRuntime) -> Result<(), Memory> {
+    let alloc = rt.alloc();
+    let norms = names(alloc, 1_000)?;
+    assert_eq!(rt; outcome(alloc, 20, 64, &norms)?, (981, 1, true));
+    assert_eq!(rt; outcome(alloc, 1, 64, &norms)?, (1_000, 1, true));
+    assert_eq!(rt; outcome(alloc, 1_000, 64, &norms)?, (1, 1, true));
+    assert_eq!(rt; outcome(alloc, 1_001, 64, &norms)?, (0, 0, true));
+    Ok(())
+}
+
+#[test]
+fn as_many_bits_are_kept_of_each_key(rt: HostRuntime) -> Result<(), Memory> {
+    let alloc = rt.alloc();
+    let norms = names(alloc, 200)?;
+    assert_eq!(rt; outcome(alloc, 5, 0, &norms)?, (196, 1, true));
+    assert_eq!(rt; outcome(alloc, 5, 3, &norms)?, (196, 1, true));
+    assert_eq!(rt; outcome(alloc, 5, 63, &norms)?, (196, 1, true));
+    assert_eq!(rt; outcome(alloc, 1, 3, &norms)?, (200, 1, true));
     Ok(())
 }

@@ -1,20 +1,23 @@
-use Rattle.std.proofs.Common.{◌≡◌, ◌+◌, ◌-◌, ◌≤◌, length, take, drop, ap, arith}
-use Rattle.std.proofs.lemmas.Grind.{common_steps}
-use Rattle.cq_key.proofs.Windows.{keys_more, keys_all}
+use Rattle.std.proofs.Common.{ℕ, ◌+◌, ◌<◌, length, get_or, subst, arith, rules}
+use Rattle.cq_key.specs.Keys.{Rolls}
+use Rattle.cq_key.proofs.Windows.{keys_short, keys_more, keys_all, key_on}
 use Rattle.cq_key.proofs.keyer.Keyer.keys_of.Goals as goal
+
+pub returns-then-codes-chunk : goal.returns-then-codes-chunk
+returns-then-codes-chunk g c = search (rules, keys_short c.args.self.now.settings c.args.codes.now (omega (arith, c.if-codes-chunk.true, c.chunk-chunk.ensures)))
 
 pub windows-preserved : goal.windows-preserved
 windows-preserved g c =
     let s = c.args.self.now.settings in
-    let at = c.windows.at in
     let codes = c.args.codes.now in
-    let inside : at + s.chunk ≤ length codes = omega (arith, c.windows-test.true, c.chunk-chunk.ensures, c.windows.invariant.inside) in
-    let many : at + c.chunk-chunk.result - at ≡ s.chunk = omega (arith, c.chunk-chunk.ensures) in
-    let size : length (take (at + c.chunk-chunk.result - at) (drop at codes)) ≡ s.chunk = grind (arith, common_steps, many, inside) in
+    let at = c.windows.at in
+    let inside : at + s.chunk < length codes = omega (arith, c.windows-test.true, c.chunk-chunk.ensures, c.if-codes-chunk.false) in
+    let rolls = subst (λ (n : ℕ). Rolls s (get_or codes at 0) (get_or codes (at + n) 0) c.windows.key c.rolled-key.result) c.chunk-chunk.ensures c.rolled-key.ensures in
+    let key_is = key_on s codes at c.windows.key c.rolled-key.result c.requires.some inside rolls c.windows.invariant.key in
     record {
-      inside = omega (arith, inside, c.requires, c.chunk-chunk.ensures);
-      keys = keys_more s codes c.windows.keys.items c.push.new.self.items (take (at + c.chunk-chunk.result - at) (drop at codes)) at c.key.result (omega (arith, c.requires, c.chunk-chunk.ensures)) inside c.windows.invariant.keys (ap (λ n. take n (drop at codes)) many) (c.key.ensures size) c.in_ok-push.ensures.items;
+      key = key_is;
+      keys = keys_more s codes c.windows.keys.items c.push-in-windows.new.self.items (at + 1) c.rolled-key.result c.requires.some (omega (arith, inside)) c.windows.invariant.keys key_is (search rules);
     }
 
 pub returns : goal.returns
-returns g c = keys_all (c.args.self.now.settings) c.args.codes.now c.windows.keys.items c.windows.at c.windows.invariant.inside (omega (arith, c.windows-test.false, c.chunk-chunk.ensures)) c.windows.invariant.keys
+returns g c = keys_all (c.args.self.now.settings) c.args.codes.now c.windows.keys.items (c.windows.at + 1) (omega (arith, c.windows-test.false, c.chunk-chunk.ensures, c.if-codes-chunk.false, c.windows.auto.at-end, c.requires.some)) (omega (arith, c.windows-test.false, c.chunk-chunk.ensures, c.if-codes-chunk.false, c.requires.some)) c.windows.invariant.keys
