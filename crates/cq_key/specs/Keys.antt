@@ -7,9 +7,13 @@ use Rattle.cq_base.specs.declared.norm.Norm.{Norm}
 use Rattle.cq_base.specs.declared.token.Class.{Class}
 use Rattle.cq_base.specs.declared.token.Class.TheVariants as class
 
+-- the multiplier of Knuth's MMIX generator
+abbrev pub factor : ℕ
+factor = 6364136223846793005
+
 -- one code more, in 64 bits
 abbrev pub folded : ℕ → ℕ → ℕ
-folded key code = (key * 6364136223846793005 + code + 1) % 2 ^ 64
+folded key code = (key * factor + (code + 1)) % 2 ^ 64
 
 abbrev pub lang_code : Lang → ℕ
 lang_code lang.Any = 0
@@ -37,7 +41,7 @@ key_of settings codes = lowest (fold folded 0 codes) settings.key_bits
 
 -- what the code that goes out of a window weighs in the key of the next
 abbrev pub weight : Settings → ℕ
-weight settings = 6364136223846793005 ^ settings.chunk % 2 ^ 64
+weight settings = factor ^ settings.chunk % 2 ^ 64
 
 -- the key of the next window comes from that of a window: one code goes out in front, and one comes in behind
 abbrev pub Rolls : Settings → ℕ → ℕ → ℕ → ℕ → Type 0

@@ -14,7 +14,7 @@ pub(crate) fn weight(settings: &Settings) -> u64
 
 // A key with one code more, less what the code that goes out weighs.
 fn exchanged(key: u64, weight: u64, outgoing: u64, incoming: u64) -> u64
-    ensures { (result + (outgoing + 1) * weight) % 2 ^ 64 ≡ spec.folded key incoming }
+    ensures { (weight * (outgoing + 1) + result) % 2 ^ 64 ≡ spec.folded key incoming }
 {
     folded(key, incoming).wrapping_sub(outgoing.wrapping_add(1).wrapping_mul(weight))
 }

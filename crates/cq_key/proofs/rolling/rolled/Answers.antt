@@ -7,4 +7,4 @@ pub returns : goal.returns
 returns c = λ rest size key_is.
     c.lowest_bits.ensures
     ∙ rolls c.args.settings.now c.args.outgoing c.args.incoming c.args.key c.exchanged-exchanged.result c.exchanged-exchanged.type_inv
-    (ap (λ n. (c.exchanged-exchanged.result + (c.args.outgoing + 1) * n) % 2 ^ 64) (sym c.requires) ∙ c.exchanged-exchanged.ensures) rest size key_is
+    (ap (λ n. (n * (c.args.outgoing + 1) + c.exchanged-exchanged.result) % 2 ^ 64) (sym c.requires) ∙ c.exchanged-exchanged.ensures) rest size key_is
