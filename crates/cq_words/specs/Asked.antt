@@ -1,8 +1,12 @@
 -- What `clap` is asked, and what is read of its answer.
-use Rattle.std.specs.Prelude.{◌&&◌, ◌||◌, ℕ, Bool, true, false, not, List, [], ◌∷◌, Option, Some, None, option_map, fold, codes}
+use Rattle.std.specs.Prelude.{◌≡◌, ◌&&◌, ◌||◌, ℕ, Bool, true, false, not, if◌then◌else◌, List, [], ◌∷◌, Option, Some, None, option_map, MatchOption, fold, codes}
+use Rattle.std.specs.Borrow.{Bor}
+use Rattle.std.specs.List.{list_all}
 use Rattle.std.specs.Str.{bytes_eq, is_utf8}
 use Rattle.clap.specs.Kinds.{Kinds}
 use Rattle.clap.specs.Walk.{Row as Entry, Rule, first_of}
+use Rattle.clap.specs.Words.{fault_of, found_of, matches_of, rows_of}
+use Rattle.clap.specs.declared.parser.matches.ArgMatches.{ArgMatches}
 use Rattle.clap.specs.Simple.{App, new_app, new_rule, on_top, with_rule}
 use Rattle.clap.specs.declared.builder.action.ArgAction.TheVariants.{SetTrue}
 use Rattle.cq_base.specs.declared.settings.Settings.{Settings}
@@ -32,6 +36,21 @@ is_lone word = bytes_eq word (45 ∷ []) || bytes_eq word (45 ∷ 45 ∷ [])
 -- words that are handed on
 abbrev pub is_asked : List ℕ → Bool
 is_asked word = is_utf8 word && not (is_lone word)
+
+-- the word itself where it is handed on, and else none
+abbrev pub IsHanded : List ℕ → Option (Bor (List ℕ)) → Type 0
+IsHanded word text = MatchOption text (is_asked word ≡ false) (λ t. (t.now ≡ word) × (is_asked word ≡ true))
+
+-- all of them, or none where one is not
+abbrev pub all_handed : List (List ℕ) → Option (List (List ℕ))
+all_handed words = if list_all is_asked words then Some words else None
+
+-- what `clap` finds in the words, or none where it refuses them
+abbrev pub rows_for : App → List (List ℕ) → Option (List Entry)
+rows_for app words = when (fault_of app words) (Some (matches_of app words))
+
+abbrev pub rows_in : Option ArgMatches → Option (List Entry)
+rows_in found = option_map (λ m. rows_of (found_of m)) found
 
 abbrev pub option_arg : List ℕ → Rule
 option_arg name = record (new_rule name) { long = Some name }

@@ -1,6 +1,5 @@
-ghost use Rattle.std.specs.Prelude.{◌≡◌, IfOk, true, false, Some, None, option_map, MatchOption, if◌then◌else◌};
-ghost use Rattle.std.specs.List.{list_all};
-ghost use Rattle.clap.specs.Words.{app_of, found_of, rows_of, rule_of, with_rule, matches_of, fault_of, is_simple_and_free};
+ghost use Rattle.std.specs.Prelude.{◌≡◌, IfOk, true, option_map};
+ghost use Rattle.clap.specs.Words.{app_of, with_rule, is_simple_and_free};
 ghost use Rattle.clap.specs.Walk.{texts};
 ghost use Rattle.cq_words.specs.Asked as spec;
 
@@ -15,8 +14,7 @@ use std::str;
 
 /// The word as `clap` takes it, or none where it is no UTF-8, or is `-` or `--` alone.
 fn text_of_word<'a>(word: &'a Text) -> Option<&'a str>
-    ensures { MatchOption result (spec.is_asked word.entry.now ≡ false)
-        (λ t. (t.now ≡ word.entry.now) × (spec.is_asked word.entry.now ≡ true)) }
+    ensures { spec.IsHanded word.entry.now result }
 {
     let Ok(text) = str::from_utf8(word.as_bytes()) else {
         return None;
@@ -29,8 +27,7 @@ fn text_of_word<'a>(word: &'a Text) -> Option<&'a str>
 
 /// All of them, or none where one is not to be handed on.
 pub(crate) fn texts_of<'a>(alloc: Global, words: &'a [Text]) -> Result<Option<Vec<&'a str>>, Memory>
-    ensures { IfOk result (λ r. option_map (λ v. texts v.items) r
-        ≡ (if list_all spec.is_asked words.entry.now then Some words.entry.now else None)) }
+    ensures { IfOk result (λ r. option_map (λ v. texts v.items) r ≡ spec.all_handed words.entry.now) }
 {
     let mut handed = Vec::new(alloc);
     for word in words {
@@ -139,8 +136,7 @@ pub(crate) fn matches_in<'a>(
     words: &'a [&'a str],
 ) -> Result<Option<ArgMatches<'a>>, Memory>
     requires { is_simple_and_free (app_of command) ≡ true }
-    ensures { IfOk result (λ r. option_map (λ m. rows_of (found_of m)) r
-        ≡ spec.when (fault_of (app_of command.entry) (texts words.entry.now)) (Some (matches_of (app_of command.entry) (texts words.entry.now)))) }
+    ensures { IfOk result (λ r. spec.rows_in r ≡ spec.rows_for (app_of command.entry) (texts words.entry.now)) }
 {
     match command.try_get_matches_from(words) {
         Ok(matches) => Ok(Some(matches)),

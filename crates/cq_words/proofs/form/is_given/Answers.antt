@@ -1,8 +1,8 @@
 use Rattle.std.proofs.Common.{rules, ◌∙◌, [], ap, sym}
-use Rattle.std.specs.Prelude.{unwrap_or, is_some}
+use Rattle.std.specs.Prelude.{unwrap_or}
 use Rattle.cq_words.specs.Front.{places_in}
 use Rattle.cq_words.specs.Grammar.{item_of}
-use Rattle.cq_words.specs.Table.{row_of, number_or, param_name, range_of}
+use Rattle.cq_words.specs.Table.{row_of, param_name}
 use Rattle.cq_words.proofs.Fronts.{no_words}
 use Rattle.cq_words.proofs.form.is_given.Goals as goal
 

@@ -1,4 +1,4 @@
-use Rattle.std.proofs.Common.{rules, ◌≡◌, ◌∙◌, ◌-◌, true, false, None, Some, [], length, take, drop, ap, sym}
+use Rattle.std.proofs.Common.{rules, ◌≡◌, ◌∙◌, ◌-◌, true, false, None, Some, length, take, drop, ap, sym}
 use Rattle.cq_words.specs.Front.{is_plain, places_in}
 use Rattle.cq_words.specs.Grammar.{look_of, with_item, items_from}
 use Rattle.cq_words.specs.Table.{row_of}
