@@ -1,5 +1,5 @@
 -- Lists of groups, as they grow by the pairs of places that were compared.
-use Rattle.std.proofs.Common.{◌≡◌, ◌≢◌, ◌⊎◌, ℕ, ◌+◌, ◌<◌, ◌≤◌, List, [], length, Option, IsSome, refl, sym, ap, ap₂, subst, inl, inr, ⊎_elim, arith, ◌∙◌}
+use Rattle.std.proofs.Common.{◌≡◌, ◌≢◌, ◌⊎◌, ℕ, ◌+◌, ◌<◌, ◌≤◌, List, [], length, refl, sym, ap, ap₂, subst, inl, inr, ⊎_elim, arith, ◌∙◌}
 use Rattle.std.specs.Prelude.{Contains, AllPairs, Any}
 use Rattle.std.proofs.lemmas.Bool.{cases_order}
 use Rattle.cq_base.specs.declared.group.Place.{Place}
@@ -13,6 +13,7 @@ use Rattle.cq_clones.proofs.Order.{IsBefore-apart}
 use Rattle.cq_clones.proofs.Words.{length-word}
 use Rattle.cq_clones.proofs.GroupLaws.{maximal_word, groups_of_word, word_of_group}
 use Rattle.cq_order.specs.Order.{AreOrdered, IsOrderOf}
+use Rattle.cq_tokens.proofs.Places.{AreSame-sym}
 use Rattle.cq_scan.specs.Match.{Matches}
 use Rattle.cq_scan.specs.Found.{IsPair, IsGroupOf, IsFoundBy, AreFound, Adds, IsOfWord}
 use Rattle.cq_scan.proofs.Places.{place_of_word}
@@ -191,17 +192,14 @@ place_cases p q =
     same_place : (p q : Place) → p.file ≡ q.file → p.at ≡ q.at → p ≡ q
     same_place p q e f = grind arith
 
-turned_same : {T : Type 0} (a b : Option T) → AreSame a b → AreSame b a
-turned_same a b same = (subst (λ o. IsSome o) same.1 same.0, sym same.1)
-
 -- a maximal pair is one the other way round too
 turned : {T : Type 0} (corpus : List (List T)) (word : List T) (p q : Place) → IsMaximalAt corpus word p q → IsMaximalAt corpus word q p
 turned corpus word p q pair = record {
   different = λ e. pair.different (sym e);
   first = pair.second;
   second = pair.first;
-  left = λ same. pair.left (turned_same _ _ same);
-  right = λ same. pair.right (turned_same _ _ same);
+  left = λ same. pair.left (AreSame-sym _ _ same);
+  right = λ same. pair.right (AreSame-sym _ _ same);
 }
 
 -- the groups of the pairs in order are all groups

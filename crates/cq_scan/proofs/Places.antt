@@ -2,7 +2,7 @@
 use Rattle.std.proofs.Common.{◌≡◌, ◌⊎◌, ℕ, ◌+◌, ◌<◌, ◌≤◌, List, [], ◌∷◌, ◌++◌, length, get_or, take, Some, refl, sym, ap, ◌∙◌, subst, subst₂, inl, inr, ⊎_elim, arith}
 use Rattle.std.specs.Prelude.{Contains, AllPairs}
 use Rattle.std.proofs.lemmas.Bool.{cases_lt}
-use Rattle.std.proofs.lemmas.List.{get_or_past, take_all}
+use Rattle.std.proofs.lemmas.List.{take_all}
 use Rattle.std.proofs.lemmas.Option.{slice_get-get_or, get_or_from_slice_get}
 use Rattle.cq_base.specs.declared.group.Place.{Place}
 use Rattle.cq_clones.specs.Lists.{AreAllInOrder}
@@ -12,13 +12,6 @@ use Rattle.cq_clones.proofs.InOrder.{in_order_same, in_order_push, in_order_none
 use Rattle.cq_clones.proofs.Order.{IsBefore-apart}
 use Rattle.cq_clones.proofs.Words.{length-word}
 use Rattle.cq_clones.proofs.GroupLaws.{within_from_standing}
-
--- a place is in one of the files
-pub file_of_place : {T : Type 0} (corpus : List (List T)) (p : Place) → IsPlace corpus p → p.file < length corpus
-file_of_place corpus p here =
-    ⊎_elim (λ h. h)
-    (λ past. let e = ap length (get_or_past corpus p.file [] past) in absurd (omega (arith, e)))
-    (cases_lt p.file (length corpus))
 
 -- a word of some tokens stands at places of the corpus alone
 pub place_of_word : {T : Type 0} (corpus : List (List T)) (word : List T) (z : Place) → 0 < length word → StandsAt corpus word z → IsPlace corpus z

@@ -3,7 +3,7 @@ use Rattle.std.specs.Prelude.{◌≡◌, ◌⊎◌, ℕ, List, AllPairs, Contain
 use Rattle.cq_base.specs.declared.group.Place.{Place}
 use Rattle.cq_base.specs.declared.group.Group.{Group}
 use Rattle.cq_clones.specs.Lists.{AreAllInOrder}
-use Rattle.cq_clones.specs.Groups.{IsPlace, IsBefore, word_at, IsMaximalAt, IsGroup, ComesBefore}
+use Rattle.cq_clones.specs.Groups.{IsPlace, IsBefore, StandsAt, word_at, IsMaximalAt, IsGroup, ComesBefore}
 use Rattle.cq_base.specs.Places.{first_place}
 use Rattle.cq_order.specs.Order.{AreOrdered}
 
@@ -16,9 +16,21 @@ pub record IsGroupOf {T : Type 0} (corpus : List (List T)) (least : ℕ) (p q : 
 abbrev pub AreAllPlaces : {T : Type 0} → List (List T) → List Place → Type 0
 AreAllPlaces corpus places = AreAllInOrder IsBefore (IsPlace corpus) places
 
+-- the new list has what the old one has and the places of the file, in order
+abbrev pub AddsPlacesOf : {T : Type 0} → List (List T) → ℕ → List Place → List Place → Type 0
+AddsPlacesOf corpus file old new = AreAllInOrder IsBefore (λ z. Contains old z ⊎ (IsPlace corpus z × (z.file ≡ file))) new
+
+-- all places at which the `n` tokens from this one on stand, in order
+abbrev pub AreOccurrences : {T : Type 0} → List (List T) → Place → ℕ → List Place → Type 0
+AreOccurrences corpus p n places = AreAllInOrder IsBefore (StandsAt corpus (word_at corpus p n)) places
+
 -- these two places
 abbrev pub IsPair : Place → Place → Place → Place → Type 0
 IsPair p q a b = (a ≡ p) × (b ≡ q)
+
+-- the first place and a later one
+abbrev pub IsPairFrom : Place → Place → Place → Type 0
+IsPairFrom p a b = (a ≡ p) × IsBefore p b
 
 -- a group whose word is maximal at some two places of a kind
 pub record IsFoundBy {T : Type 0} (corpus : List (List T)) (least : ℕ) (Pairs : Place → Place → Type 0) (group : Group) : Type 0 where

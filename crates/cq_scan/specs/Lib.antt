@@ -1,2 +1,3 @@
 pub mod Match
 pub mod Found
+pub mod Pairs

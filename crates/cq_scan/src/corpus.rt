@@ -1,8 +1,8 @@
-ghost use Rattle.std.specs.Prelude.{◌≡◌, ◌↔◌, ◌+◌, ◌<◌, ◌≤◌, length, IsTrue, option_map};
-ghost use Rattle.cq_clones.specs.Groups.{file_at, IsPlace, word_at, StandsAt, token_behind, token_before, AreSame};
+ghost use Rattle.std.specs.Prelude.{◌↔◌, ◌+◌, ◌<◌, ◌≤◌, length, IsTrue, option_map};
+ghost use Rattle.cq_clones.specs.Groups.{file_at, IsPlace, word_at, StandsAt, AreSame};
 ghost use Rattle.cq_tokens.specs.Packed.{norm_in};
 ghost use Rattle.cq_tokens.specs.Parts.{tokens_in};
-ghost use Rattle.cq_scan.specs.Match.{Matches};
+ghost use Rattle.cq_scan.specs.Match.{AreSameBehind, AreSameBefore, Matches};
 
 use cq_base::{Place, Steps};
 use cq_tokens::{FileList, Files, Seen};
@@ -27,7 +27,7 @@ fn are_same<F: Files>(
 ) -> bool
     requires p_file { p.file < length (tokens_in files.now) }
     requires q_file { q.file < length (tokens_in files.now) }
-    ensures { IsTrue result ↔ AreSame (token_behind (tokens_in files.now) p n) (token_behind (tokens_in files.now) q n) }
+    ensures { IsTrue result ↔ AreSameBehind (tokens_in files.now) p q n }
 {
     let a = files.token_behind(p, n, steps);
     let b = files.token_behind(q, n, steps);
@@ -35,7 +35,7 @@ fn are_same<F: Files>(
 }
 
 /// Whether the tokens before two places are there and equal.
-#[tactic(auto, using(crate::proofs::Places::file_of_place))]
+#[tactic(auto, using(cq_tokens::proofs::Places::file_of_place))]
 pub(crate) fn are_same_before<F: Files>(
     files: &FileList<'_, F>,
     p: Place,
@@ -44,7 +44,7 @@ pub(crate) fn are_same_before<F: Files>(
 ) -> bool
     requires p_in { IsPlace (tokens_in files.now) p }
     requires q_in { IsPlace (tokens_in files.now) q }
-    ensures { IsTrue result ↔ AreSame (token_before (tokens_in files.now) p) (token_before (tokens_in files.now) q) }
+    ensures { IsTrue result ↔ AreSameBefore (tokens_in files.now) p q }
 {
     let a = files.token_before(p, steps);
     let b = files.token_before(q, steps);
@@ -52,7 +52,7 @@ pub(crate) fn are_same_before<F: Files>(
 }
 
 /// How many tokens from two places on are equal.
-#[tactic(auto, using(crate::proofs::Places::file_of_place))]
+#[tactic(auto, using(cq_tokens::proofs::Places::file_of_place))]
 pub(crate) fn match_len<F: Files>(
     files: &FileList<'_, F>,
     p: Place,
@@ -75,7 +75,7 @@ pub(crate) fn match_len<F: Files>(
 }
 
 /// Whether the word of `n` tokens at `p` stands at `q` too.
-#[tactic(auto, using(crate::proofs::Places::file_of_place))]
+#[tactic(auto, using(cq_tokens::proofs::Places::file_of_place))]
 pub(crate) fn stands_at<F: Files>(
     files: &FileList<'_, F>,
     p: Place,

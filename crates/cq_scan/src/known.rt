@@ -1,4 +1,4 @@
-ghost use Rattle.std.specs.Prelude.{◌≡◌, ◌↔◌, ◌⊎◌, ◌+◌, ◌≤◌, length, IsTrue, OnOk, Any, AllPairs, Contains};
+ghost use Rattle.std.specs.Prelude.{◌≡◌, ◌↔◌, ◌+◌, ◌≤◌, length, IsTrue, OnOk, Any, AllPairs, Contains};
 ghost use Rattle.cq_base.specs.declared.group.Group.{Group};
 ghost use Rattle.cq_clones.specs.Groups.{ComesBefore, file_at, IsPlace};
 ghost use Rattle.cq_base.specs.Places.{first_place};

@@ -1,7 +1,8 @@
-ghost use Rattle.std.specs.Prelude.{◌≡◌, ◌+◌, ◌^◌, ◌<◌, ◌≤◌, length, slice_index_or, IfOk, OnOk};
-ghost use Rattle.cq_clones.specs.Groups.{file_at, word_at, IsPlace, IsBefore, IsMaximalAt, AreGroups};
+ghost use Rattle.std.specs.Prelude.{◌≡◌, ◌+◌, ◌<◌, ◌≤◌, length, slice_index_or, IfOk, OnOk};
+ghost use Rattle.cq_clones.specs.Groups.{file_at, word_at, IsPlace, IsMaximalAt, AreGroups};
 ghost use Rattle.cq_tokens.specs.Parts.{tokens_in};
-ghost use Rattle.cq_scan.specs.Found.{AreAllPlaces, IsPair, IsFoundBy, AreFound, Adds};
+ghost use Rattle.cq_scan.specs.Found.{AreAllPlaces, AreFound};
+ghost use Rattle.cq_scan.specs.Pairs.{AddsPair, AddsLater};
 
 use crate::corpus::{are_same_before, match_len};
 use crate::known::{add_once, is_known};
@@ -38,7 +39,7 @@ impl<'a, F: Files> PairScan<'a, F> {
         requires long { self.now.min ≤ tokens }
         requires maximal { IsMaximalAt (tokens_in self.now.files.now) (word_at (tokens_in self.now.files.now) p tokens) p q }
         requires found { AreFound (tokens_in self.now.files.now) self.now.min groups.old.items }
-        ensures { OnOk result (Adds (IsFoundBy (tokens_in self.now.files.now) self.now.min (IsPair p q)) groups.old.items groups.new.items) }
+        ensures { OnOk result (AddsPair self.now p q groups.old.items groups.new.items) }
     {
         if is_known(self.files, p, tokens, groups, steps) {
             return Ok(());
@@ -65,7 +66,7 @@ impl<'a, F: Files> PairScan<'a, F> {
         requires p_in { IsPlace (tokens_in self.now.files.now) p }
         requires q_in { IsPlace (tokens_in self.now.files.now) q }
         requires found { AreFound (tokens_in self.now.files.now) self.now.min groups.old.items }
-        ensures { OnOk result (Adds (IsFoundBy (tokens_in self.now.files.now) self.now.min (IsPair p q)) groups.old.items groups.new.items) }
+        ensures { OnOk result (AddsPair self.now p q groups.old.items groups.new.items) }
     {
         if p == q || are_same_before(self.files, p, q, steps) {
             return Ok(());
@@ -90,7 +91,7 @@ impl<'a, F: Files> PairScan<'a, F> {
         requires within { i < length self.now.places.now }
         requires place { p ≡ slice_index_or self.now.places.now i p }
         requires found { AreFound (tokens_in self.now.files.now) self.now.min groups.old.items }
-        ensures { OnOk result (Adds (IsFoundBy (tokens_in self.now.files.now) self.now.min (λ a b. (a ≡ p) × IsBefore p b)) groups.old.items groups.new.items) }
+        ensures { OnOk result (AddsLater self.now p groups.old.items groups.new.items) }
     {
         for j in i + 1..self.places.len() {
             let q = self.places[j];

@@ -1,9 +1,8 @@
-ghost use Rattle.std.specs.Prelude.{◌≡◌, ◌+◌, ◌<◌, ◌≤◌, ◌⊎◌, length, IfOk, OnOk, AllPairs, Contains};
+ghost use Rattle.std.specs.Prelude.{◌+◌, ◌<◌, ◌≤◌, length, IfOk, OnOk, AllPairs, Contains};
 ghost use Rattle.cq_base.specs.declared.group.Place.{Place};
-ghost use Rattle.cq_clones.specs.Lists.{AreAllInOrder};
-ghost use Rattle.cq_clones.specs.Groups.{file_at, IsBefore, IsPlace, word_at, StandsAt};
+ghost use Rattle.cq_clones.specs.Groups.{file_at, IsBefore, IsPlace};
 ghost use Rattle.cq_tokens.specs.Parts.{tokens_in};
-ghost use Rattle.cq_scan.specs.Found.{AreAllPlaces};
+ghost use Rattle.cq_scan.specs.Found.{AreAllPlaces, AddsPlacesOf, AreOccurrences};
 
 use crate::corpus::stands_at;
 use cq_base::{Memory, Place, Steps};
@@ -19,9 +18,7 @@ fn push_places<F: Files>(
     requires inside { file < length (tokens_in files.now) }
     requires ordered { AllPairs IsBefore all.old.items }
     requires earlier { (z : Place) → Contains all.old.items z → z.file < file }
-    ensures { OnOk result (AreAllInOrder IsBefore
-        (λ z. Contains all.old.items z ⊎ (IsPlace (tokens_in files.now) z × (z.file ≡ file)))
-        all.new.items) }
+    ensures { OnOk result (AddsPlacesOf (tokens_in files.now) file all.old.items all.new.items) }
 {
     for at in 0..files.file_len(file) {
         all.push(Place { file, at })?;
@@ -56,7 +53,7 @@ pub(crate) fn occurrences<F: Files>(
     requires within { p.at + n ≤ length (file_at (tokens_in files.now) p.file) }
     requires some { 0 < n }
     requires places { AreAllPlaces (tokens_in files.now) places.now }
-    ensures { IfOk result (λ found. AreAllInOrder IsBefore (StandsAt (tokens_in files.now) (word_at (tokens_in files.now) p n)) found.items) }
+    ensures { IfOk result (λ found. AreOccurrences (tokens_in files.now) p n found.items) }
 {
     let mut found = Vec::new(alloc);
     for z in places {

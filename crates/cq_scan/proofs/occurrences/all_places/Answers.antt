@@ -1,7 +1,8 @@
 use Rattle.std.proofs.Common.{arith}
 use Rattle.cq_clones.specs.Groups.{IsPlace}
 use Rattle.cq_tokens.specs.Parts.{tokens_in}
-use Rattle.cq_scan.proofs.Places.{files_more, files_all, file_of_place}
+use Rattle.cq_tokens.proofs.Places.{file_of_place}
+use Rattle.cq_scan.proofs.Places.{files_more, files_all}
 use Rattle.cq_scan.proofs.occurrences.all_places.Goals as goal
 
 pub push_places-requires-clause-earlier : goal.push_places-requires-clause-earlier

@@ -1,4 +1,4 @@
-use Rattle.std.proofs.Common.{get_or, take, sym, subst, arith}
+use Rattle.std.proofs.Common.{get_or, sym, subst, arith}
 use Rattle.std.specs.Prelude.{Contains}
 use Rattle.std.proofs.lemmas.Bool.{iff_false}
 use Rattle.std.proofs.lemmas.List.{take_all}
