@@ -1,5 +1,5 @@
 -- A set of which only the last spot goes on by another token: its first ones are a part of it.
-use Rattle.std.proofs.Common.{◌≡◌, ◌≢◌, ◌⊎◌, ℕ, ◌+◌, ◌-◌, ◌<◌, ◌≤◌, Bool, true, false, cond, List, [], ◌∷◌, ◌++◌, length, map, take, get_or, Option, Some, None, IsSome, refl, sym, ap, ◌∙◌, subst, inl, inr, ⊎_elim, arith, eqb}
+use Rattle.std.proofs.Common.{◌≡◌, ◌≢◌, ◌⊎◌, ℕ, ◌+◌, ◌-◌, ◌≤◌, Bool, true, false, cond, List, [], ◌∷◌, ◌++◌, length, take, get_or, Option, Some, None, IsSome, refl, sym, ap, ◌∙◌, subst, inl, ⊎_elim, arith, eqb}
 use Rattle.std.specs.Prelude.{All, option_map}
 use Rattle.std.proofs.lemmas.Bool.{ne_eqb}
 use Rattle.std.proofs.lemmas.List.{map-append, take_more, take_all}
@@ -11,7 +11,7 @@ use Rattle.cq_refine.specs.declared.differing.Difference.{Difference}
 use Rattle.cq_refine.specs.declared.spots.Spot.{Spot}
 use Rattle.cq_refine.specs.declared.spots.Marked.{Marked}
 use Rattle.cq_refine.specs.declared.spots.Set.{Set}
-use Rattle.cq_refine.specs.Sets.{IsMark, IsDifference, AreTwoMarks, AreMarked, MayGive, part_of, AddsParts, IsParted}
+use Rattle.cq_refine.specs.Sets.{IsMark, IsDifference, AreTwoMarks, MayGive, part_of, AddsParts, IsParted}
 use Rattle.cq_refine.proofs.OneStep.{all_marked, all_spots, all_part, all_mark, marks_first, marks_both, there}
 use Rattle.cq_refine.proofs.Parts.{part_push, no_parts, part_more, part_skipped}
 use Rattle.cq_refine.proofs.ToldApart.{first_tokens}

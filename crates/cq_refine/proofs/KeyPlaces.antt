@@ -1,10 +1,8 @@
 -- Places of one key, and the entries that stand for them.
-use Rattle.std.proofs.Common.{◌≡◌, ◌≢◌, ◌↔◌, ℕ, ◌+◌, ◌<◌, ◌≤◌, List, [], ◌∷◌, ◌++◌, length, get_or, take, slice_get, Bool, Option, Some, None, false, is_some, true≢false, refl, sym, ap, ap₂, ◌∙◌, subst, inl, inr, ⊎_elim, arith}
-use Rattle.std.specs.Prelude.{AllPairs, Contains, Any, IsTrue}
-use Rattle.std.specs.Arc.{arc_value}
-use Rattle.std.specs.Ordering.{is_eq, nat_cmp}
-use Rattle.std.proofs.lemmas.Bool.{cases_lt, cases_order, cases_eq}
-use Rattle.std.proofs.lemmas.List.{length-map, get_or_past}
+use Rattle.std.proofs.Common.{◌≡◌, ◌≢◌, ℕ, ◌+◌, ◌<◌, ◌≤◌, List, [], ◌∷◌, ◌++◌, length, get_or, take, slice_get, Some, refl, sym, ap, ap₂, ◌∙◌, subst, inl, inr, ⊎_elim, arith}
+use Rattle.std.specs.Prelude.{AllPairs, Contains, Any}
+use Rattle.std.proofs.lemmas.Bool.{cases_order}
+use Rattle.std.proofs.lemmas.List.{get_or_past}
 use Rattle.std.proofs.lemmas.List.Elements.{Contains-get_or}
 use Rattle.std.proofs.lemmas.Option.{get_or_from_slice_get, slice_get_within, slice_get_cases, same_Some}
 use Rattle.cq_base.specs.declared.entry.Entry.{Entry}
@@ -16,8 +14,6 @@ use Rattle.cq_base.specs.Places.{first_place}
 use Rattle.cq_clones.proofs.InOrder.{in_order_same, in_order_push, in_order_none, take_more_cases, take_more_left, take_more_here, before_at}
 use Rattle.cq_clones.proofs.Words.{length-word}
 use Rattle.cq_clones.proofs.GroupLaws.{within_from_standing, word_of_group}
-use Rattle.cq_tokens.specs.declared.FileTokens.{FileTokens}
-use Rattle.cq_tokens.specs.Corpus.{changes_of, keys_of}
 use Rattle.cq_clones.specs.Windows.{HasKey, AreKeyed, EntryBefore, IsBucket}
 use Rattle.cq_refine.specs.Sets.{AreEntries, IsGroupFrom, AreAllOnce}
 use Rattle.cq_refine.specs.Places.{IsPlaceOf, IsGroupOfKey}

@@ -1,21 +1,13 @@
--- The files of places, and places once they are sorted.
-use Rattle.std.proofs.Common.{◌≢◌, ◌⊎◌, ◌<◌, List, [], length, get_or, ap, inl, inr, ⊎_elim, arith}
+-- Places once they are sorted.
+use Rattle.std.proofs.Common.{◌≢◌, ◌⊎◌, List, get_or, inl, inr, ⊎_elim, arith}
 use Rattle.std.proofs.lemmas.Bool.{cases_lt, cases_eq}
-use Rattle.std.proofs.lemmas.List.{get_or_past}
 use Rattle.std.proofs.lemmas.List.Elements.{Contains-get_or}
 use Rattle.cq_base.specs.declared.group.Place.{Place}
 use Rattle.cq_clones.specs.Lists.{AreAllInOrder}
-use Rattle.cq_clones.specs.Groups.{IsPlace, IsBefore}
+use Rattle.cq_clones.specs.Groups.{IsBefore}
 use Rattle.cq_clones.proofs.Order.{IsBefore-cases}
 use Rattle.cq_order.specs.Order.{AreOrdered, IsOrderOf}
 use Rattle.cq_order.proofs.Sorting.{in_order_of}
-
--- a place is in one of the files
-pub file_of_place : {T : Type 0} (corpus : List (List T)) (p : Place) → IsPlace corpus p → p.file < length corpus
-file_of_place corpus p here =
-    ⊎_elim (λ h. h)
-    (λ past. let e = ap length (get_or_past corpus p.file [] past) in absurd (omega (arith, e)))
-    (cases_lt p.file (length corpus))
 
 is_before_or_not : (p q : Place) → IsBefore p q ⊎ (IsBefore p q → ⊥)
 is_before_or_not p q =

@@ -1,18 +1,16 @@
 -- What a set of the places of one word tells of the word's group.
-use Rattle.std.proofs.Common.{◌≡◌, ◌≢◌, ◌⊎◌, ℕ, ◌<◌, List, [], ◌∷◌, Option, Some, None, IsSome, refl, sym, ap, ap₂, ◌∙◌, subst, inl, inr, ⊎_elim, arith, true≢false}
+use Rattle.std.proofs.Common.{◌≡◌, ◌≢◌, ◌⊎◌, ℕ, ◌<◌, List, [], ◌∷◌, Option, Some, None, refl, sym, ap, ap₂, ◌∙◌, subst, inl, inr, ⊎_elim, arith, true≢false}
 use Rattle.std.specs.Prelude.{All, AllPairs, Contains}
 use Rattle.std.proofs.lemmas.Bool.{cases_eq}
 use Rattle.std.proofs.lemmas.List.Elements.{All-cons, All-nil}
 use Rattle.cq_base.specs.declared.group.Place.{Place}
 use Rattle.cq_clones.specs.Groups.{token_behind, token_before, AreSame}
 use Rattle.cq_base.proofs.Lists.{Contains-here, Contains-there}
+use Rattle.cq_tokens.proofs.Places.{AreSame-sym}
 use Rattle.cq_refine.specs.declared.spots.Marked.{Marked}
 use Rattle.cq_refine.specs.Sets.{IsMark, AreMarked}
 use Rattle.cq_refine.proofs.Marking.{same_from_marks, marks_of_token}
 use Rattle.cq_refine.proofs.Pairs.{Fails, both_fail}
-
-pub AreSame-sym : {T : Type 0} (a b : Option T) → AreSame a b → AreSame b a
-AreSame-sym a b h = (subst IsSome h.1 h.0, sym h.1)
 
 pub AreSame-trans : {T : Type 0} (a b c : Option T) → AreSame a b → AreSame b c → AreSame a c
 AreSame-trans a b c h k = (h.0, h.1 ∙ k.1)

@@ -1,10 +1,10 @@
-ghost use Rattle.std.specs.Prelude.{◌≡◌, ◌+◌, ◌-◌, ◌^◌, ◌<◌, ◌≤◌, ◌↔◌, length, slice_index_or, option_map, IsTrue, IsSome, IfSome, IfNone, All};
-ghost use Rattle.cq_clones.specs.Groups.{IsPlace, token_before, token_behind, AreSame};
-ghost use Rattle.cq_base.specs.declared.group.Place.{Place};
+ghost use Rattle.std.specs.Prelude.{◌≡◌, ◌+◌, ◌-◌, ◌^◌, ◌<◌, ◌≤◌, ◌↔◌, length, option_map, IsTrue, IsSome, IfSome, IfNone, All};
+ghost use Rattle.cq_clones.specs.Groups.{IsPlace, token_before, AreSame};
 ghost use Rattle.cq_refine.specs.declared.spots.Spot.{Spot};
 ghost use Rattle.cq_tokens.specs.Packed.{norm_in};
 ghost use Rattle.cq_tokens.specs.Parts.{tokens_in};
 ghost use Rattle.cq_refine.specs.Gaps.{IsGap, AreInSteps};
+ghost use Rattle.cq_refine.specs.Differences.{GoOnApart, GoOnByOne, IsTokenBefore, IsTokenBehind};
 ghost use Rattle.cq_refine.specs.Sets.{AreOne, AreAlike, IsDifference, IsInNumbers};
 
 use crate::spots::{Set, Spot};
@@ -112,10 +112,10 @@ fn difference_behind<'a, F: Files>(
     requires several { 2 ≤ length spots.now }
     requires places { All (λ s. IsPlace (tokens_in files.now) s.place) spots.now }
     requires alike { AreAlike (tokens_in files.now) n spots.now }
-    ensures one { IfNone result (AreOne (λ s. token_behind (tokens_in files.now) s.place n) spots.now) }
+    ensures one { IfNone result (GoOnByOne (tokens_in files.now) n spots.now) }
     ensures fits { IfNone result (n + 1 < 2 ^ 32) }
     ensures numbers { IfSome result (IsInNumbers n) }
-    ensures differ { IfSome result (IsDifference (λ s. token_behind (tokens_in files.now) s.place n) spots.now) }
+    ensures differ { IfSome result (GoOnApart (tokens_in files.now) n spots.now) }
     ensures read { IfSome result (λ d. steps.new ≤ steps.old + d.read) }
     ensures steps { steps.new ≤ steps.old + length spots.now }
 {
@@ -153,10 +153,10 @@ fn difference_at_end<'a, F: Files>(
     requires in_steps { AreInSteps gap spots.now }
     requires some { 0 < gap }
     requires within { gap ≤ n }
-    ensures one { IfNone result (AreOne (λ s. token_behind (tokens_in files.now) s.place n) spots.now) }
+    ensures one { IfNone result (GoOnByOne (tokens_in files.now) n spots.now) }
     ensures fits { IfNone result (n + 1 < 2 ^ 32) }
     ensures numbers { IfSome result (IsInNumbers n) }
-    ensures differ { IfSome result (IsDifference (λ s. token_behind (tokens_in files.now) s.place n) spots.now) }
+    ensures differ { IfSome result (GoOnApart (tokens_in files.now) n spots.now) }
     ensures read { IfSome result (λ d. steps.new ≤ steps.old + d.read) }
     ensures steps { steps.new ≤ steps.old + length spots.now }
 {
@@ -181,10 +181,10 @@ pub(crate) fn difference_in<'a, F: Files>(
     requires several { 2 ≤ length set.now.spots.items }
     requires places { All (λ s. IsPlace (tokens_in files.now) s.place) set.now.spots.items }
     requires alike { AreAlike (tokens_in files.now) set.now.depth set.now.spots.items }
-    ensures one { IfNone result (AreOne (λ s. token_behind (tokens_in files.now) s.place set.now.depth) set.now.spots.items) }
+    ensures one { IfNone result (GoOnByOne (tokens_in files.now) set.now.depth set.now.spots.items) }
     ensures fits { IfNone result (set.now.depth + 1 < 2 ^ 32) }
     ensures numbers { IfSome result (IsInNumbers set.now.depth) }
-    ensures differ { IfSome result (IsDifference (λ s. token_behind (tokens_in files.now) s.place set.now.depth) set.now.spots.items) }
+    ensures differ { IfSome result (GoOnApart (tokens_in files.now) set.now.depth set.now.spots.items) }
     ensures read { IfSome result (λ d. steps.new ≤ steps.old + d.read) }
     ensures steps { steps.new ≤ steps.old + length set.now.spots.items }
 {
@@ -205,7 +205,7 @@ pub(crate) fn token_before_at<'a, F: Files>(
     requires within { i < length places.now }
     requires places { All (IsPlace (tokens_in files.now)) places.now }
     requires differ { IsDifference (token_before (tokens_in files.now)) places.now difference.now }
-    ensures token { (p : Place) → option_map norm_in result ≡ token_before (tokens_in files.now) (slice_index_or places.now i p) }
+    ensures token { IsTokenBefore (tokens_in files.now) places.now i (option_map norm_in result) }
     ensures step { steps.new + (i - difference.now.read) ≤ steps.old + (i + 1 - difference.now.read) }
 {
     if i + 1 < difference.read {
@@ -228,10 +228,10 @@ pub(crate) fn token_behind_at<'a, F: Files>(
 ) -> Option<Seen<'a>>
     requires within { i < length spots.now }
     requires places { All (λ s. IsPlace (tokens_in files.now) s.place) spots.now }
-    requires differ { IsDifference (λ s. token_behind (tokens_in files.now) s.place n) spots.now difference.now }
+    requires differ { GoOnApart (tokens_in files.now) n spots.now difference.now }
     requires numbers { IsInNumbers n difference.now }
     ensures fits { IsSome (option_map norm_in result) → n + 1 < 2 ^ 32 }
-    ensures token { (s : Spot) → option_map norm_in result ≡ token_behind (tokens_in files.now) (slice_index_or spots.now i s).place n }
+    ensures token { IsTokenBehind (tokens_in files.now) n spots.now i (option_map norm_in result) }
     ensures step { steps.new + (i - difference.now.read) ≤ steps.old + (i + 1 - difference.now.read) }
 {
     if i + 1 < difference.read {

@@ -1,10 +1,9 @@
-ghost use Rattle.std.specs.Prelude.{◌≡◌, ℕ, ◌≤◌, length, IfOk, List};
-ghost use Rattle.cq_base.specs.declared.group.Place.{Place};
+ghost use Rattle.std.specs.Prelude.{ℕ, ◌≤◌, length, IfOk};
 ghost use Rattle.cq_clones.specs.Groups.{IsBefore};
 ghost use Rattle.cq_order.specs.Order.{IsOrderOf};
 ghost use Rattle.cq_tokens.specs.Parts.{tokens_in};
 ghost use Rattle.cq_refine.specs.Sets.{ReadsAtMost};
-ghost use Rattle.cq_refine.specs.Places.{IsBucketIn, ArePlacesWith, AreGroupsOfKey};
+ghost use Rattle.cq_refine.specs.Places.{IsBucketIn, ArePlacesOfBucket, AreGroupsOfBucket, ReadsAtMostOfBucket};
 
 use crate::index::Index;
 use crate::refining::refine_places;
@@ -29,7 +28,7 @@ fn places_of_bucket<F: Files>(
     bucket: &[Entry],
 ) -> Result<Vec<Place>, Memory>
     requires { (key : ℕ) × IsBucketIn index.now.corpus key bucket.now }
-    ensures places { (key : ℕ) → IsBucketIn index.now.corpus key bucket.now → IfOk result (λ places. ArePlacesWith index.now.corpus key places.items) }
+    ensures places { IfOk result (λ places. ArePlacesOfBucket index.now.corpus bucket.now places.items) }
     ensures size { IfOk result (λ places. length places.items ≤ length bucket.now) }
 {
     let mut places = Vec::with_capacity(alloc, bucket.len())?;
@@ -51,9 +50,9 @@ pub fn refine<F: Files>(
 ) -> Result<Vec<Group>, Memory>
     requires bucket { (key : ℕ) × IsBucketIn index.now.corpus key bucket.now }
     requires long { index.now.corpus.chunk ≤ min }
-    ensures groups { (key : ℕ) → IsBucketIn index.now.corpus key bucket.now → IfOk result (λ groups. AreGroupsOfKey index.now.corpus min key groups.items) }
+    ensures groups { IfOk result (λ groups. AreGroupsOfBucket index.now.corpus min bucket.now groups.items) }
     ensures bound { ReadsAtMost (tokens_in index.now.corpus.files) (length bucket.now) steps.old steps.new }
-    ensures places_bound { (key : ℕ) (places : List Place) → IsBucketIn index.now.corpus key bucket.now → ArePlacesWith index.now.corpus key places → ReadsAtMost (tokens_in index.now.corpus.files) (length places) steps.old steps.new }
+    ensures places_bound { ReadsAtMostOfBucket index.now.corpus bucket.now steps.old steps.new }
 {
     if bucket.len() < 2 {
         return Ok(Vec::new(alloc));

@@ -1,4 +1,4 @@
-ghost use Rattle.std.specs.Prelude.{◌≡◌, ℕ, ◌<◌, ◌≤◌, length, slice_index_or, true, false, Some, IfOk, AllPairs, map};
+ghost use Rattle.std.specs.Prelude.{◌≡◌, ℕ, ◌<◌, ◌≤◌, length, true, false, Some, IfOk, AllPairs, map};
 ghost use Rattle.cq_base.specs.declared.group.Place.{Place};
 ghost use Rattle.cq_clones.specs.Groups.{is_free, kept_of};
 ghost use Rattle.cq_refine.specs.declared.spots.Spot.{Spot};

@@ -1,10 +1,11 @@
-ghost use Rattle.std.specs.Prelude.{◌≡◌, ◌+◌, ◌^◌, ◌<◌, ◌≤◌, List, length, map, option_map, IfOk, All, Contains};
-ghost use Rattle.cq_base.specs.declared.norm.Norm.{Norm};
+ghost use Rattle.std.specs.Prelude.{◌≡◌, ◌+◌, ◌^◌, ◌<◌, ◌≤◌, length, map, option_map, IfOk, All, Contains};
 ghost use Rattle.cq_refine.specs.declared.spots.Marked.{Marked};
-ghost use Rattle.cq_clones.specs.Groups.{IsPlace, AreSame, token_before, token_behind};
+ghost use Rattle.cq_clones.specs.Groups.{IsPlace, AreSame, token_before};
 ghost use Rattle.cq_tokens.specs.Parts.{tokens_in};
 ghost use Rattle.cq_tokens.specs.Packed.{norm_in};
-ghost use Rattle.cq_refine.specs.Sets.{AreMarks, IsMarked, AreTwoMarks, IsDifference, IsInNumbers, AreSpots, AreMarked};
+ghost use Rattle.cq_refine.specs.Differences.{GoOnApart};
+ghost use Rattle.cq_refine.specs.Steps.{MarksToken};
+ghost use Rattle.cq_refine.specs.Sets.{AreTwoMarks, IsDifference, IsInNumbers, AreSpots, AreMarked};
 
 use crate::differing::{Difference, token_before_at, token_behind_at};
 use crate::spots::{Marked, Spot};
@@ -18,7 +19,7 @@ pub(crate) fn mark_of<'a>(
     marks: &mut BTreeMap<Seen<'a>, usize>,
     token: Option<Seen<'a>>,
 ) -> Result<usize, Memory>
-    ensures { (seen : List Norm) → AreMarks marks.old seen → IfOk result (IsMarked seen marks.new (option_map norm_in token.entry)) }
+    ensures { IfOk result (MarksToken marks.old marks.new (option_map norm_in token.entry)) }
 {
     equal_tokens_tie();
     let Some(seen) = token else {
@@ -122,7 +123,7 @@ pub(crate) fn marked_of<'a, F: Files>(
     steps: &mut Steps<F::Reads>,
 ) -> Result<Vec<Marked>, Memory>
     requires places { All (λ s. IsPlace (tokens_in files.now) s.place) spots.now }
-    requires differ { IsDifference (λ s. token_behind (tokens_in files.now) s.place n) spots.now difference.now }
+    requires differ { GoOnApart (tokens_in files.now) n spots.now difference.now }
     requires numbers { IsInNumbers n difference.now }
     ensures spots { IfOk result (λ marked. map (λ x. x.spot) marked.items ≡ spots.now) }
     ensures marks { IfOk result (λ marked. AreMarked (tokens_in files.now) n marked.items) }

@@ -1,10 +1,10 @@
-ghost use Rattle.std.specs.Prelude.{◌≡◌, ◌+◌, ◌<◌, ◌≤◌, length, option_map, IsSome, IfOk, OnOk, All, List, map};
-ghost use Rattle.cq_base.specs.declared.norm.Norm.{Norm};
-ghost use Rattle.cq_clones.specs.Groups.{IsPlace, token_behind};
+ghost use Rattle.std.specs.Prelude.{◌≡◌, ◌+◌, ◌<◌, ◌≤◌, length, option_map, IsSome, IfOk, OnOk, All};
+ghost use Rattle.cq_clones.specs.Groups.{IsPlace};
 ghost use Rattle.cq_tokens.specs.Packed.{norm_in};
 ghost use Rattle.cq_tokens.specs.Parts.{tokens_in};
-ghost use Rattle.cq_refine.specs.declared.spots.Marked.{Marked};
-ghost use Rattle.cq_refine.specs.Sets.{IsDifference, IsInNumbers, IsParting, IsParted, AreByMark, part_of, others_of};
+ghost use Rattle.cq_refine.specs.Differences.{GoOnApart};
+ghost use Rattle.cq_refine.specs.Sets.{IsInNumbers, IsParting, IsParted};
+ghost use Rattle.cq_refine.specs.Steps.{HasAllParts, IsPartedBy};
 
 use crate::differing::{Difference, are_same, token_behind_at};
 use crate::marks::mark_of;
@@ -38,7 +38,7 @@ fn parting_of<'a, F: Files>(
 ) -> Result<Parting, Memory>
     requires some { IsSome (option_map norm_in difference.now.first) }
     requires places { All (λ s. IsPlace (tokens_in files.now) s.place) spots.now }
-    requires differ { IsDifference (λ s. token_behind (tokens_in files.now) s.place n) spots.now difference.now }
+    requires differ { GoOnApart (tokens_in files.now) n spots.now difference.now }
     requires numbers { IsInNumbers n difference.now }
     ensures parting { IfOk result (IsParting (tokens_in files.now) n spots.now) }
     ensures steps { steps.new + difference.now.read ≤ steps.old + length spots.now }
@@ -74,7 +74,7 @@ pub(crate) fn push_front(
     requires some { IsSome (option_map norm_in difference.now.first) }
     requires all { difference.now.read ≡ length set.spots.items }
     requires numbers { IsInNumbers set.depth difference.now }
-    ensures { (corpus : List (List Norm)) → IsDifference (λ s. token_behind corpus s.place set.depth) set.spots.items difference.now → OnOk result (IsParted corpus set sets.old.items sets.new.items) }
+    ensures { OnOk result (IsPartedBy set difference.now sets.old.items sets.new.items) }
 {
     let mut spots = set.spots;
     spots.truncate(difference.read - 1);
@@ -92,7 +92,7 @@ pub(crate) fn push_front(
 /// The spots of each mark, of which those that stay are one part.
 fn parts_with(alloc: Global, parting: Parting) -> Result<Vec<Vec<Spot>>, Memory>
     requires { 0 < parting.mark }
-    ensures { (marked : List Marked) → parting.stay.items ≡ part_of parting.mark marked → parting.others.items ≡ others_of parting.mark marked → IfOk result (λ parts. AreByMark (length parts.items) marked (map (λ part. part.items) parts.items) × All (λ x. x.mark ≤ length parts.items) marked) }
+    ensures { IfOk result (λ parts. HasAllParts parting parts.items) }
 {
     let most = highest(&parting.others).max(parting.mark);
     let mut parts = parts_of(alloc, &parting.others, most)?;
@@ -111,7 +111,7 @@ pub(crate) fn push_parting<'a, F: Files>(
 ) -> Result<(), Memory>
     requires some { IsSome (option_map norm_in difference.now.first) }
     requires places { All (λ s. IsPlace (tokens_in files.now) s.place) set.now.spots.items }
-    requires differ { IsDifference (λ s. token_behind (tokens_in files.now) s.place set.now.depth) set.now.spots.items difference.now }
+    requires differ { GoOnApart (tokens_in files.now) set.now.depth set.now.spots.items difference.now }
     requires numbers { IsInNumbers set.now.depth difference.now }
     ensures parted { OnOk result (IsParted (tokens_in files.now) set.now sets.old.items sets.new.items) }
     ensures steps { steps.new + difference.now.read ≤ steps.old + length set.now.spots.items }

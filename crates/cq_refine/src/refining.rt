@@ -1,7 +1,9 @@
-ghost use Rattle.std.specs.Prelude.{◌≡◌, ◌+◌, ◌<◌, ◌≤◌, length, IfOk, OnOk, All, AllPairs};
-ghost use Rattle.cq_clones.specs.Groups.{IsPlace, token_behind};
+ghost use Rattle.std.specs.Prelude.{◌+◌, ◌<◌, ◌≤◌, length, IfOk, OnOk, All, AllPairs};
+ghost use Rattle.cq_clones.specs.Groups.{IsPlace};
 ghost use Rattle.cq_tokens.specs.Parts.{tokens_in};
-ghost use Rattle.cq_refine.specs.Sets.{IsSpotBefore, AreEntries, IsGroupFrom, IsDifference, IsInNumbers, AreAlike, ReadsAtMost, MayGive, IsParted, IsSplit, AreFirst, AreAllOnce};
+ghost use Rattle.cq_refine.specs.Differences.{GoOnApart};
+ghost use Rattle.cq_refine.specs.Sets.{IsSpotBefore, AreEntries, IsGroupFrom, IsInNumbers, AreAlike, ReadsAtMost, MayGive, IsParted, AreFirst, AreAllOnce};
+ghost use Rattle.cq_refine.specs.Steps.{Splits};
 
 use crate::differing::{Difference, difference_before, difference_in, gap_of};
 use crate::marks::{marked_of, spots_of};
@@ -38,7 +40,7 @@ fn push_marked<'a, F: Files>(
     steps: &mut Steps<F::Reads>,
 ) -> Result<(), Memory>
     requires places { All (λ s. IsPlace (tokens_in files.now) s.place) set.now.spots.items }
-    requires differ { IsDifference (λ s. token_behind (tokens_in files.now) s.place set.now.depth) set.now.spots.items difference.now }
+    requires differ { GoOnApart (tokens_in files.now) set.now.depth set.now.spots.items difference.now }
     requires numbers { IsInNumbers set.now.depth difference.now }
     ensures parted { OnOk result (IsParted (tokens_in files.now) set.now sets.old.items sets.new.items) }
     ensures steps { steps.new + difference.now.read ≤ steps.old + length set.now.spots.items }
@@ -66,9 +68,9 @@ fn part<'a, F: Files>(
     requires gives { MayGive set.spots.items }
     requires ordered { AllPairs IsSpotBefore set.spots.items }
     requires places { All (λ s. IsPlace (tokens_in files.now) s.place) set.spots.items }
-    requires differ { IsDifference (λ s. token_behind (tokens_in files.now) s.place set.depth) set.spots.items difference.now }
+    requires differ { GoOnApart (tokens_in files.now) set.depth set.spots.items difference.now }
     requires numbers { IsInNumbers set.depth difference.now }
-    ensures split { OnOk result (IsSplit (tokens_in files.now) min set sets.old.items sets.new.items groups.old.items groups.new.items) }
+    ensures split { OnOk result (Splits (tokens_in files.now) min set sets.old sets.new groups.old groups.new) }
     ensures steps { steps.new + difference.now.read ≤ steps.old + length set.spots.items }
 {
     add_group(alloc, &set, min, groups)?;
@@ -98,7 +100,7 @@ fn split<F: Files>(
     requires ordered { AllPairs IsSpotBefore set.spots.items }
     requires places { All (λ s. IsPlace (tokens_in files.now) s.place) set.spots.items }
     requires alike { AreAlike (tokens_in files.now) set.depth set.spots.items }
-    ensures split { OnOk result (IsSplit (tokens_in files.now) min set sets.old.items sets.new.items groups.old.items groups.new.items) }
+    ensures split { OnOk result (Splits (tokens_in files.now) min set sets.old sets.new groups.old groups.new) }
     ensures steps { steps.new ≤ steps.old + length set.spots.items }
 {
     let Some(difference) = difference_in(files, &set, steps) else {

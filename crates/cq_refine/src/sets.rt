@@ -1,6 +1,6 @@
-ghost use Rattle.std.specs.Prelude.{◌≡◌, ℕ, List, ◌<◌, ◌≤◌, ◌↔◌, ◌⊎◌, IsTrue, IfOk, OnOk, length, map, All, AllPairs, Any};
-ghost use Rattle.cq_refine.specs.declared.spots.Marked.{Marked};
-ghost use Rattle.cq_refine.specs.Sets.{IsSpotBefore, AreByMark, AddsParts, group_of, HaveOneLeft, MayGive, IsLong, AddsGroup};
+ghost use Rattle.std.specs.Prelude.{◌≡◌, ◌<◌, ◌≤◌, ◌↔◌, IsTrue, IfOk, OnOk, length, All, AllPairs, Any};
+ghost use Rattle.cq_refine.specs.Sets.{IsSpotBefore, AreByMark, AddsParts, HaveOneLeft, MayGive};
+ghost use Rattle.cq_refine.specs.Steps.{AddsAll, AddsGroupOf, lists_in};
 
 use crate::differing::gap_of;
 use crate::keeping::kept_places;
@@ -38,7 +38,7 @@ pub(crate) fn add_group(
     groups: &mut Vec<Group>,
 ) -> Result<(), Memory>
     requires { AllPairs IsSpotBefore set.now.spots.items }
-    ensures { OnOk result (AddsGroup (IsLong min set.now.depth set.now.spots.items) (group_of set.now.depth set.now.spots.items) groups.old.items groups.new.items) }
+    ensures { OnOk result (AddsGroupOf min set.now groups.old.items groups.new.items) }
 {
     if set.depth < min {
         return Ok(());
@@ -74,7 +74,7 @@ pub(crate) fn parts_of(
     highest: usize,
 ) -> Result<Vec<Vec<Spot>>, Memory>
     requires { All (λ x. x.mark ≤ highest) marked.now }
-    ensures { IfOk result (λ parts. AreByMark highest marked.now (map (λ part. part.items) parts.items)) }
+    ensures { IfOk result (λ parts. AreByMark highest marked.now (lists_in parts.items)) }
 {
     let mut parts = Vec::with_capacity(alloc, highest)?;
     for _mark in 0..highest {
@@ -90,7 +90,7 @@ pub(crate) fn parts_of(
 
 /// Adds the parts that may give groups.
 pub(crate) fn push_all(parts: Vec<Vec<Spot>>, depth: u32, sets: &mut Vec<Set>) -> Result<(), Memory>
-    ensures { (highest : ℕ) (marked : List Marked) → AreByMark highest marked (map (λ part. part.items) parts.items) → OnOk result (AddsParts depth marked highest sets.old.items sets.new.items) }
+    ensures { OnOk result (AddsAll depth parts.items sets.old.items sets.new.items) }
 {
     for spots in parts {
         if may_give(&spots) {

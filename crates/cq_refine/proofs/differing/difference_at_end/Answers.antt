@@ -5,9 +5,9 @@ use Rattle.std.proofs.lemmas.List.{get_or_default}
 use Rattle.cq_clones.specs.Groups.{token_behind}
 use Rattle.cq_tokens.specs.Parts.{tokens_in}
 use Rattle.cq_tokens.specs.Packed.{norm_in}
+use Rattle.cq_tokens.proofs.Places.{file_of_place}
 use Rattle.cq_refine.specs.declared.spots.Spot.{Spot}
 use Rattle.cq_refine.proofs.OneStep.{there}
-use Rattle.cq_refine.proofs.Places.{file_of_place}
 use Rattle.cq_refine.proofs.Gaps.{token_in_steps}
 use Rattle.cq_refine.proofs.differing.difference_at_end.Goals as goal
 

@@ -1,4 +1,4 @@
-use Rattle.std.proofs.Common.{◌≡◌, refl, arith, ap, length, sym, ◌∙◌, subst, get_or}
+use Rattle.std.proofs.Common.{refl, arith, ap, length, subst, get_or}
 use Rattle.std.proofs.lemmas.List.{get_or_default, take_all, length_push}
 use Rattle.std.proofs.lemmas.List.Elements.{Contains-get_or}
 use Rattle.std.proofs.lemmas.List.Sorted.{length_permutation}
@@ -7,7 +7,7 @@ use Rattle.cq_base.specs.declared.group.Place.{Place}
 use Rattle.cq_tokens.specs.Parts.{changes_in, keys_in}
 use Rattle.cq_clones.specs.Windows.{HasKey}
 use Rattle.cq_refine.proofs.Places.{places_sorted}
-use Rattle.cq_refine.proofs.KeyPlaces.{any_entry, ArePlacesOf, places_more, places_none, places_all}
+use Rattle.cq_refine.proofs.KeyPlaces.{ArePlacesOf, places_more, places_none, places_all}
 use Rattle.cq_refine.proofs.entries.places_of_bucket.Goals as goal
 use Rattle.cq_refine.proofs.entries.places_of_bucket.Goals.{in-Some+in_ok-push, in_default}
 

@@ -21,8 +21,8 @@ refine_places-requires-clause-entries g c =
 
 pub returns : goal.returns
 returns g c = record {
-  groups = λ key is. IfOk-weaker c.refine_places.result _ _
-      (λ groups once. groups_of_key c.args.min key (tokens_in c.args.index.now.corpus.files) (keys_in c.args.index.now.corpus) c.deref.result.now groups.items
+  groups = IfOk-weaker c.refine_places.result _ _
+      (λ groups once key is. groups_of_key c.args.min key (tokens_in c.args.index.now.corpus.files) (keys_in c.args.index.now.corpus) c.deref.result.now groups.items
       (subst (λ (ps : List Place). AreAllInOrder IsBefore (HasKey (keys_in c.args.index.now.corpus) key) ps) (sym c.deref.ensures.value) (c.in_ok-places.ensures.places key is)) once)
       c.refine_places.ensures.groups;
   bound = λ longest is.

@@ -1,4 +1,4 @@
-use Rattle.std.proofs.Common.{sym, refl, ◌∙◌, subst, inl, inr}
+use Rattle.std.proofs.Common.{sym, refl, ◌∙◌, subst, inr}
 use Rattle.std.proofs.lemmas.Bool.{iff_false}
 use Rattle.cq_refine.specs.Sets.{MayGive}
 use Rattle.cq_refine.proofs.Fronts.{front_parted, front_pushed}

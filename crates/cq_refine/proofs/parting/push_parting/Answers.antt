@@ -14,6 +14,6 @@ returns-clause-parted g c =
       marks = is.marks;
       highest = highest;
       all = low;
-      parts = adds;
+      parts = adds highest is.marked by_mark;
     })
-    (c.push_all.ensures highest is.marked by_mark)
+    c.push_all.ensures

@@ -28,5 +28,5 @@ returns-then-difference-len-clause-split g c =
     let corpus = tokens_in c.args.files.now in
     on_ok_weaker c.push_front.result
     (λ parted. split_parts corpus c.args.min c.args.set c.args.sets.now.items c.push_front.new.sets.items c.args.difference.now c.args.groups.now.items c.add_group.new.groups.items
-    c.requires.differ c.requires.gives parted c.in_ok-add_group.ensures)
-    (c.push_front.ensures corpus c.requires.differ)
+    c.requires.differ c.requires.gives (parted corpus c.requires.differ) c.in_ok-add_group.ensures)
+    c.push_front.ensures

@@ -2,7 +2,6 @@ use Rattle.std.proofs.Common.{ℕ, arith, ◌≡◌, ◌+◌, ap, map, refl, sym
 use Rattle.std.proofs.lemmas.Bool.{iff_false}
 use Rattle.std.proofs.lemmas.List.{length-map}
 use Rattle.std.specs.Vec.Iter.{into_iter_items}
-use Rattle.cq_refine.specs.declared.spots.Set.{Set}
 use Rattle.cq_refine.specs.Sets.{AreByMark, AddsParts, MayGive}
 use Rattle.cq_refine.proofs.Parts.{AreLeft, left_first, left_next, no_parts, part_more, part_skipped}
 use Rattle.cq_refine.proofs.sets.push_all.Goals as goal
