@@ -1,11 +1,17 @@
 -- Groups and windows by their keys, and how often an index was asked.
-use Rattle.std.specs.Prelude.{◌≡◌, ℕ, ◌+◌, ◌-◌, ◌^◌, ◌<◌, ◌≤◌, min, Bool, false, ◌||◌, ◌==◌, List, [], ◌∷◌, Any, Contains}
+use Rattle.std.specs.Prelude.{◌≡◌, ◌≢◌, ◌⊎◌, ℕ, ◌+◌, ◌-◌, ◌^◌, ◌<◌, ◌≤◌, min, Bool, false, ◌||◌, ◌==◌, List, [], ◌∷◌, length, slice_get, Some, Any, Contains}
+use Rattle.std.specs.declared.sync.ledger.Ledger as ledger
+use Rattle.cq_base.specs.declared.entry.Entry.{Entry}
 use Rattle.cq_base.specs.declared.group.Place.{Place}
 use Rattle.cq_base.specs.declared.group.Group.{Group}
 use Rattle.cq_clones.specs.Lists.{AreAllInOrder}
 use Rattle.cq_clones.specs.Groups.{file_at, IsGroup, IsBefore}
 use Rattle.cq_base.specs.Places.{first_place}
 use Rattle.cq_clones.specs.Windows.{HasKey}
+use Rattle.cq_tokens.specs.declared.files.Files as files
+use Rattle.cq_tokens.specs.declared.corpus.Corpus.{Corpus}
+use Rattle.cq_tokens.specs.Parts.{tokens_in, keys_in}
+use Rattle.cq_refine.specs.Sets.{AreAllOnce, ReadsAtMost}
 
 -- the place's window has one of the keys
 abbrev pub HasOneOf : List (List ℕ) → List ℕ → Place → Type 0
@@ -46,3 +52,40 @@ RisesAtMost old new n = (min old (2 ^ 64 - 1) ≤ min new (2 ^ 64 - 1)) × (min 
 abbrev pub has_file : ℕ → List Place → Bool
 has_file file [] = false
 has_file file (p ∷ ps) = p.file == file || has_file file ps
+
+-- the old entries and those of one file with the key, each once
+abbrev pub AddsEntries : ℕ → List ℕ → ℕ → List Entry → List Entry → Type 0
+AddsEntries change keys key old new = AreAllInOrder (λ a b. a ≢ b) (λ e. Contains old e ⊎ ((e.change ≡ change) × (e.key ≡ key) × (slice_get keys e.at ≡ Some key))) new
+
+module _ {F R : Type 0} {f : files.Ghosts F R} {g : ledger.Ghosts R} where
+  -- exactly the groups of a corpus whose word begins with a window of one of the keys, each once
+  abbrev pub AreGroupsOfKeys : Corpus F R f g → ℕ → List ℕ → List Group → Type 0
+  AreGroupsOfKeys corpus least ks groups = AreAllOnce (IsGroupOfKeys (tokens_in corpus.files) (keys_in corpus) least ks) groups
+
+  -- from one count of questions to another, it was asked once for each key of a window
+  abbrev pub AsksEachKey : Corpus F R f g → ℕ → ℕ → Type 0
+  AsksEachKey corpus old new = (ks : List ℕ) → AreAllRising (IsKey (keys_in corpus)) ks → Rises old new (length ks)
+
+  -- and no more than so
+  abbrev pub AsksKeysAtMost : Corpus F R f g → ℕ → ℕ → Type 0
+  AsksKeysAtMost corpus old new = (ks : List ℕ) → AreAllRising (IsKey (keys_in corpus)) ks → RisesAtMost old new (length ks)
+
+  -- once for each key of one file's windows
+  abbrev pub AsksEachKeyIn : Corpus F R f g → ℕ → ℕ → ℕ → Type 0
+  AsksEachKeyIn corpus file old new = (ks : List ℕ) → AreAllRising (IsKeyIn (keys_in corpus) file) ks → Rises old new (length ks)
+
+  -- and no more than so
+  abbrev pub AsksKeysAtMostIn : Corpus F R f g → ℕ → ℕ → ℕ → Type 0
+  AsksKeysAtMostIn corpus file old new = (ks : List ℕ) → AreAllRising (IsKeyIn (keys_in corpus) file) ks → RisesAtMost old new (length ks)
+
+  -- from one count of steps to another, tokens were read of no more places than a corpus has windows
+  abbrev pub ReadsWindows : Corpus F R f g → ℕ → ℕ → Type 0
+  ReadsWindows corpus old new = (windows : List Place) → AreWindows (keys_in corpus) windows → ReadsAtMost (tokens_in corpus.files) (length windows) old new
+
+  -- than it has windows with a key of one file's
+  abbrev pub ReadsReached : Corpus F R f g → ℕ → ℕ → ℕ → Type 0
+  ReadsReached corpus file old new = (windows : List Place) → AreReached (keys_in corpus) file windows → ReadsAtMost (tokens_in corpus.files) (length windows) old new
+
+  -- than it has windows with one of these keys
+  abbrev pub ReadsWindowsOf : Corpus F R f g → List ℕ → ℕ → ℕ → Type 0
+  ReadsWindowsOf corpus ks old new = (windows : List Place) → AreAllInOrder IsBefore (HasOneOf (keys_in corpus) ks) windows → ReadsAtMost (tokens_in corpus.files) (length windows) old new

@@ -1,4 +1,4 @@
-ghost use Rattle.std.specs.Prelude.{◌≡◌, ℕ, List, ◌+◌, ◌-◌, ◌^◌, min, IfOk};
+ghost use Rattle.std.specs.Prelude.{◌≡◌, ℕ, List, ◌-◌, IfOk};
 ghost use Rattle.cq_clones.specs.Windows.{IsBucket};
 ghost use Rattle.cq_groups.specs.Listing.{Rises};
 

@@ -1,4 +1,4 @@
-ghost use Rattle.std.specs.Prelude.{◌≡◌, ◌<◌, length, IfOk, Contains};
+ghost use Rattle.std.specs.Prelude.{◌<◌, length, IfOk, Contains};
 ghost use Rattle.cq_tokens.specs.Parts.{tokens_in, keys_in};
 ghost use Rattle.cq_groups.specs.Listing.{IsKey, IsKeyIn, AreAllRising};
 

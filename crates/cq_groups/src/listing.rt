@@ -1,10 +1,7 @@
-ghost use Rattle.std.specs.Prelude.{◌≡◌, ℕ, ◌<◌, ◌≤◌, length, IfOk, OnOk, IsTrue, ◌↔◌, AllPairs, Any, List, filter};
-ghost use Rattle.cq_base.specs.declared.group.Place.{Place};
-ghost use Rattle.cq_clones.specs.Lists.{AreAllInOrder};
-ghost use Rattle.cq_clones.specs.Groups.{IsBefore, AreGroups, AreGroupsIn};
+ghost use Rattle.std.specs.Prelude.{◌≡◌, ◌<◌, ◌≤◌, length, IfOk, OnOk, IsTrue, ◌↔◌, AllPairs, Any, filter};
+ghost use Rattle.cq_clones.specs.Groups.{AreGroups, AreGroupsIn};
 ghost use Rattle.cq_tokens.specs.Parts.{tokens_in, changes_in, keys_in};
-ghost use Rattle.cq_refine.specs.Sets.{ReadsAtMost, AreAllOnce};
-ghost use Rattle.cq_groups.specs.Listing.{HasOneOf, IsGroupOfKeys, IsKey, IsKeyIn, AreAllRising, AreWindows, AreReached, Rises, RisesAtMost, has_file};
+ghost use Rattle.cq_groups.specs.Listing.{AreGroupsOfKeys, AsksEachKey, AsksKeysAtMost, AsksEachKeyIn, AsksKeysAtMostIn, ReadsWindows, ReadsReached, ReadsWindowsOf, Rises, RisesAtMost, has_file};
 
 use crate::buckets::Buckets;
 use crate::keys::{all_keys, file_keys};
@@ -28,14 +25,14 @@ fn list_keys<B: Buckets, F: Files>(
     requires for_keys { B.file_keys buckets.old ≡ keys_in index.now.corpus }
     requires ready { B.ready buckets.old }
     requires rising { AllPairs (λ a b. a < b) keys.now }
-    ensures groups { IfOk result (λ groups. AreAllOnce (IsGroupOfKeys (tokens_in index.now.corpus.files) (keys_in index.now.corpus) min keys.now) groups.items) }
+    ensures groups { IfOk result (λ groups. AreGroupsOfKeys index.now.corpus min keys.now groups.items) }
     ensures asked { OnOk result (Rises (B.asked buckets.old) (B.asked buckets.new) (length keys.now)) }
     ensures asked_most { RisesAtMost (B.asked buckets.old) (B.asked buckets.new) (length keys.now) }
     ensures same_changes { B.file_changes buckets.new ≡ B.file_changes buckets.old }
     ensures same_keys { B.file_keys buckets.new ≡ B.file_keys buckets.old }
     ensures ready { B.ready buckets.new }
     ensures moved { B.moved buckets.old buckets.new }
-    ensures bound { (windows : List Place) → AreAllInOrder IsBefore (HasOneOf (keys_in index.now.corpus) keys.now) windows → ReadsAtMost (tokens_in index.now.corpus.files) (length windows) steps.old steps.new }
+    ensures bound { ReadsWindowsOf index.now.corpus keys.now steps.old steps.new }
 {
     let mut groups = Vec::new(alloc);
     for key in keys {
@@ -59,13 +56,13 @@ pub fn list_all<B: Buckets, F: Files>(
     requires for_keys { B.file_keys buckets.old ≡ keys_in index.now.corpus }
     requires ready { B.ready buckets.old }
     ensures groups { IfOk result (λ groups. AreGroups (tokens_in index.now.corpus.files) min groups.items) }
-    ensures asked { (ks : List ℕ) → AreAllRising (IsKey (keys_in index.now.corpus)) ks → OnOk result (Rises (B.asked buckets.old) (B.asked buckets.new) (length ks)) }
-    ensures asked_most { (ks : List ℕ) → AreAllRising (IsKey (keys_in index.now.corpus)) ks → RisesAtMost (B.asked buckets.old) (B.asked buckets.new) (length ks) }
+    ensures asked { OnOk result (AsksEachKey index.now.corpus (B.asked buckets.old) (B.asked buckets.new)) }
+    ensures asked_most { AsksKeysAtMost index.now.corpus (B.asked buckets.old) (B.asked buckets.new) }
     ensures same_changes { B.file_changes buckets.new ≡ B.file_changes buckets.old }
     ensures same_keys { B.file_keys buckets.new ≡ B.file_keys buckets.old }
     ensures ready { B.ready buckets.new }
     ensures moved { B.moved buckets.old buckets.new }
-    ensures bound { (windows : List Place) → AreWindows (keys_in index.now.corpus) windows → ReadsAtMost (tokens_in index.now.corpus.files) (length windows) steps.old steps.new }
+    ensures bound { ReadsWindows index.now.corpus steps.old steps.new }
 {
     let keys = all_keys(alloc, &index.corpus)?;
     let groups = list_keys(alloc, index, &keys, min, buckets, steps)?;
@@ -112,13 +109,13 @@ pub fn list_file<B: Buckets, F: Files>(
     requires for_keys { B.file_keys buckets.old ≡ keys_in index.now.corpus }
     requires ready { B.ready buckets.old }
     ensures groups { IfOk result (λ groups. AreGroupsIn (tokens_in index.now.corpus.files) min file groups.items) }
-    ensures asked { (ks : List ℕ) → AreAllRising (IsKeyIn (keys_in index.now.corpus) file) ks → OnOk result (Rises (B.asked buckets.old) (B.asked buckets.new) (length ks)) }
-    ensures asked_most { (ks : List ℕ) → AreAllRising (IsKeyIn (keys_in index.now.corpus) file) ks → RisesAtMost (B.asked buckets.old) (B.asked buckets.new) (length ks) }
+    ensures asked { OnOk result (AsksEachKeyIn index.now.corpus file (B.asked buckets.old) (B.asked buckets.new)) }
+    ensures asked_most { AsksKeysAtMostIn index.now.corpus file (B.asked buckets.old) (B.asked buckets.new) }
     ensures same_changes { B.file_changes buckets.new ≡ B.file_changes buckets.old }
     ensures same_keys { B.file_keys buckets.new ≡ B.file_keys buckets.old }
     ensures ready { B.ready buckets.new }
     ensures moved { B.moved buckets.old buckets.new }
-    ensures bound { (windows : List Place) → AreReached (keys_in index.now.corpus) file windows → ReadsAtMost (tokens_in index.now.corpus.files) (length windows) steps.old steps.new }
+    ensures bound { ReadsReached index.now.corpus file steps.old steps.new }
 {
     let keys = file_keys(alloc, &index.corpus, file)?;
     let groups = list_keys(alloc, index, &keys, min, buckets, steps)?;

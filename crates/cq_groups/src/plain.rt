@@ -1,8 +1,8 @@
-ghost use Rattle.std.specs.Prelude.{◌≡◌, ◌≢◌, refl, ◌⊎◌, ◌^◌, ◌<◌, length, slice_get, Some, AllPairs, Contains, IfOk, OnOk};
+ghost use Rattle.std.specs.Prelude.{◌≡◌, ◌≢◌, refl, ◌^◌, ◌<◌, length, AllPairs, Contains, IfOk, OnOk};
 ghost use Rattle.std.proofs.Common.{◌∙◌};
 ghost use Rattle.cq_base.specs.declared.entry.Entry.{Entry};
-ghost use Rattle.cq_clones.specs.Lists.{AreAllInOrder};
 ghost use Rattle.cq_clones.specs.Windows.{IsBucket};
+ghost use Rattle.cq_groups.specs.Listing.{AddsEntries};
 
 use crate::buckets::Buckets;
 use cq_base::{Entry, Memory};
@@ -15,7 +15,7 @@ fn push_entries(entries: &mut Vec<Entry>, change: u64, keys: &[u64], key: u64) -
     requires few { length keys.now < 2 ^ 32 }
     requires apart { AllPairs (λ a b. a ≢ b) entries.old.items }
     requires others { (e : Entry) → Contains entries.old.items e → e.change ≢ change }
-    ensures { OnOk result (AreAllInOrder (λ a b. a ≢ b) (λ e. Contains entries.old.items e ⊎ ((e.change ≡ change) × (e.key ≡ key) × (slice_get keys.now e.at ≡ Some key))) entries.new.items) }
+    ensures { OnOk result (AddsEntries change keys.now key entries.old.items entries.new.items) }
 {
     for (at, k) in keys.iter().enumerate() {
         if *k == key {

@@ -24,9 +24,9 @@ returns-clause-groups g c =
     c.order.ensures
 
 pub returns-clause-asked : goal.returns-clause-asked
-returns-clause-asked g c = λ ks is.
+returns-clause-asked g c =
     on_ok c.order.result
-    (subst (λ n. Rises (g.B.Buckets.asked c.args.buckets.now) (g.B.Buckets.asked c.list_keys.new.buckets) n)
+    (λ ks is. subst (λ n. Rises (g.B.Buckets.asked c.args.buckets.now) (g.B.Buckets.asked c.list_keys.new.buckets) n)
     (ap length c.deref.ensures.value ∙ one_list (IsKey (keys_in c.args.index.now.corpus)) c.in_ok-keys.keys.items ks c.in_ok-keys.ensures is) c.in_ok-groups.ensures.asked)
 
 pub returns-clause-asked_most : goal.returns-clause-asked_most
