@@ -2,6 +2,8 @@
 use Rattle.std.specs.Prelude.{◌≡◌, ◌<◌, ℕ, List, ◌++◌, length, flat_map, Option}
 use Rattle.std.specs.Io.KnownBytes.{Consumes, Appends, IsAtEnd}
 use Rattle.cq_io.specs.Causes.{Rose}
+use Rattle.cq_io.specs.declared.sink.Sink as sink
+use Rattle.cq_io.specs.declared.source.Source as source
 use Rattle.cq_lines.specs.Held.{Held}
 use Rattle.cq_lines.specs.Pieces.{closed_lines, all_lines}
 use Rattle.cq_lines.specs.Runs.{CutTo}
@@ -49,7 +51,17 @@ module _ {R : Type 0} (line_of : R → List ℕ) (AreReplies : List (List ℕ) �
 
 -- the counts of the source and of the sink
 abbrev pub HasEndCause : ℕ → ℕ → ℕ → ℕ → End → Type 0
-HasEndCause source source_now sink sink_now end.Finished = (source_now ≡ source) × (sink_now ≡ sink)
-HasEndCause source source_now sink sink_now end.Spent = (source_now ≡ source) × (sink_now ≡ sink)
-HasEndCause source source_now sink sink_now end.ReadFault = Rose source source_now × (sink_now ≡ sink)
-HasEndCause source source_now sink sink_now end.WriteFault = Rose sink sink_now × (source_now ≡ source)
+HasEndCause read read_now written written_now end.Finished = (read_now ≡ read) × (written_now ≡ written)
+HasEndCause read read_now written written_now end.Spent = (read_now ≡ read) × (written_now ≡ written)
+HasEndCause read read_now written written_now end.ReadFault = Rose read read_now × (written_now ≡ written)
+HasEndCause read read_now written written_now end.WriteFault = Rose written written_now × (read_now ≡ read)
+
+-- from a source to a sink
+module _ {S K : Type 0} (from : source.Ghosts S) (onto : sink.Ghosts K) where
+  -- its lines were served
+  abbrev pub ServesLines : {R : Type 0} → (R → List ℕ) → (List (List ℕ) → List R → Type 0) → ℕ → S → S → K → K → End → Type 0
+  ServesLines line_of AreReplies limit read read_now written written_now by = Serves line_of AreReplies limit (from.rest read) (from.rest read_now) (onto.written written) (onto.written written_now) by
+
+  -- their counts of faults tell how it ended
+  abbrev pub HasCauseOfEnd : S → S → K → K → End → Type 0
+  HasCauseOfEnd read read_now written written_now by = HasEndCause (from.faults read) (from.faults read_now) (onto.faults written) (onto.faults written_now) by
