@@ -63,7 +63,7 @@ pub fn project_measures(
     groups: &[Group],
 ) -> Result<Measures, Memory>
     requires { spec.IsMeasurable (spec.counts_of files.now) (spec.spans_of files.now) groups.now }
-    ensures { IfOk result (λ m. m ≡ spec.project_measures (spec.counts_of files.now) (spec.spans_of files.now) groups.now) }
+    ensures { IfOk result (λ m. m ≡ spec.measures_of_project files.now groups.now) }
 {
     let tally = count_up(extents_of(alloc, files, groups)?);
     Ok(measures_of(files.len() as u64, total(files), tally))
@@ -78,7 +78,7 @@ pub fn file_measures(
 ) -> Result<Measures, Memory>
     requires measurable { spec.IsMeasurable (spec.counts_of files.now) (spec.spans_of files.now) groups.now }
     requires inside { file < length files.now }
-    ensures { IfOk result (λ m. m ≡ spec.file_measures (spec.counts_of files.now) (spec.spans_of files.now) file groups.now) }
+    ensures { IfOk result (λ m. m ≡ spec.measures_of_file files.now file groups.now) }
 {
     let mut extents = extents_of(alloc, files, groups)?;
     keep_file(&mut extents, file);

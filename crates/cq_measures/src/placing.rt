@@ -1,4 +1,4 @@
-ghost use Rattle.std.specs.Prelude.{◌≡◌, ℕ, ◌==◌, ◌≤◌, length, filter, IfOk, OnOk, ◌++◌};
+ghost use Rattle.std.specs.Prelude.{◌≡◌, ℕ, ◌==◌, ◌≤◌, length, filter, IfOk, OnOk};
 ghost use Rattle.cq_measures.specs.Measures as spec;
 ghost use Rattle.cq_measures.specs.Sorted.{AreBelow};
 
@@ -24,7 +24,7 @@ fn extent_of(files: &[FileLines], tokens: u32, place: Place) -> Extent
 // Adds the extents of a group's places.
 fn add_extents(files: &[FileLines], group: &Group, extents: &mut Vec<Extent>) -> Result<(), Memory>
     requires { spec.IsGroupInside (spec.spans_of files.now) group.now }
-    ensures { OnOk result (extents.new.items ≡ extents.old.items ++ spec.group_extents (spec.spans_of files.now) group.now) }
+    ensures { OnOk result (spec.AddsExtents files.now group.now extents.old.items extents.new.items) }
 {
     for place in group.places.as_slice() {
         extents.push(extent_of(files, group.tokens, *place))?;
