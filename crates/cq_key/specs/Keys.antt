@@ -1,5 +1,6 @@
 -- The keys of windows: the chunk fingerprints of an index over tokens (Hummel et al., ICSM 2010).
 use Rattle.std.specs.Prelude.{◌≡◌, ℕ, ◌+◌, ◌*◌, ◌^◌, ◌%◌, List, [], ◌∷◌, ◌++◌, length, take, map, fold, nat_le, if◌then◌else◌}
+use Rattle.std.specs.Borrow.{Bor}
 use Rattle.cq_base.specs.declared.settings.Settings.{Settings}
 use Rattle.cq_base.specs.declared.lang.Lang.{Lang}
 use Rattle.cq_base.specs.declared.lang.Lang.TheVariants as lang
@@ -56,6 +57,6 @@ keys_of settings (c ∷ codes) = if nat_le settings.chunk (length (c ∷ codes))
 abbrev pub window_keys : Settings → List Norm → List ℕ
 window_keys settings norms = keys_of settings (map code_of norms)
 
--- a function answers the key of each list of `chunk` codes
-abbrev pub Answers : (List ℕ → ℕ → Type 0) → Settings → Type 0
-Answers gives settings = (codes : List ℕ) (key : ℕ) → length codes ≡ settings.chunk → gives codes key → key ≡ key_of settings codes
+-- a function answers the key of each list of `chunk` codes that it is lent
+abbrev pub GivesKeys : (Bor (List ℕ) → ℕ → Type 0) → Settings → Type 0
+GivesKeys gives settings = (codes : Bor (List ℕ)) (key : ℕ) → length codes.now ≡ settings.chunk → gives codes key → key ≡ key_of settings codes.now

@@ -15,14 +15,14 @@ pub struct Keyer {
     pub settings: Settings,
     key: Box<dyn Fn(&[u64]) -> u64>,
     ghost callable: { Key.IsAlwaysCallable key },
-    ghost exact: { (codes : _) (answer : _) → length codes.now ≡ settings.chunk → Key.post key codes answer → answer ≡ spec.key_of settings codes.now },
+    ghost exact: { spec.GivesKeys (Key.post key) settings },
 }
 
 impl Keyer {
     /// A keyer by a closure that may be called on any list, and answers the key of each list of `chunk` codes.
     pub fn new(settings: &Settings, key: Box<dyn Fn(&[u64]) -> u64>) -> Keyer
         requires callable { Key.IsAlwaysCallable key }
-        requires exact { (codes : _) (answer : _) → length codes.now ≡ settings.now.chunk → Key.post key codes answer → answer ≡ spec.key_of settings.now codes.now }
+        requires exact { spec.GivesKeys (Key.post key) settings.now }
         ensures { result.settings ≡ settings.now }
     {
         Keyer {
