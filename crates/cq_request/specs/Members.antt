@@ -4,7 +4,7 @@ use Rattle.std.specs.Ordering.{nat_cmp, match_ordering}
 use Rattle.std.specs.Cmp.Lexicographic.{slice_cmp}
 use Rattle.serde_json.specs.Data.{Data, Items, no_items, item, Members, no_members, member}
 use Rattle.serde_json.specs.Events.{members_len}
-use Rattle.serde_json.specs.Find.{get, as_str, as_bool, as_object, as_number, as_u64}
+use Rattle.serde_json.specs.Find.{get, as_str, as_bool, as_array, as_object, as_number, as_u64}
 
 -- how many there are
 abbrev pub member_count : Data → ℕ
@@ -22,6 +22,9 @@ number_at key d = option_and_then number_of (get key d)
 
 abbrev pub flag_at : List ℕ → Data → Option Bool
 flag_at key d = option_and_then as_bool (get key d)
+
+abbrev pub list_at : List ℕ → Data → Option Items
+list_at key d = option_and_then as_array (get key d)
 
 -- the values of an array
 abbrev pub items_in : Items → List Data

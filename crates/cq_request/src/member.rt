@@ -1,6 +1,6 @@
-ghost use Rattle.std.specs.Prelude.{◌≡◌, [], codes, option_map, option_and_then, unwrap_or};
+ghost use Rattle.std.specs.Prelude.{◌≡◌, [], codes, option_map, unwrap_or};
 ghost use Rattle.std.specs.Str.{IsUtf8};
-ghost use Rattle.serde_json.specs.Find.{get, as_array, as_str};
+ghost use Rattle.serde_json.specs.Find.{get, as_str};
 ghost use Rattle.serde_json.specs.View.{view, items_view};
 ghost use Rattle.cq_request.specs.Members as members;
 
@@ -41,7 +41,7 @@ pub(crate) fn flag_at(value: &Value, key: &str) -> Option<bool>
 
 /// The member of this name, where it is a list.
 pub(crate) fn list_at<'v>(value: &'v Value, key: &str) -> Option<&'v Vec<Value>>
-    ensures { option_map (λ vs. items_view vs.now.items) result ≡ option_and_then as_array (get key.now (view value.now)) }
+    ensures { option_map (λ vs. items_view vs.now.items) result ≡ members.list_at key.now (view value.now) }
 {
     value.get(key)?.as_array()
 }
