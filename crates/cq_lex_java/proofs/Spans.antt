@@ -46,11 +46,8 @@ marks-short (u ∷ us) = by (marks-short us) (u.ch == 117)
     by rest false = omega arith
 
 module _ (units : List Unit) (i marks : ℕ) (inside : i < length units) (so_far : marks + marks_of (drop i units) ≡ marks_of units) where
-  cut : drop i units ≡ unit_at units i ∷ drop (i + 1) units
-  cut = drop_more units i (record { ch = 0; start = 0; len = 0 }) inside
-
   here : marks_of (drop i units) ≡ (if (unit_at units i).ch == 117 then 1 + marks_of (drop (i + 1) units) else 0)
-  here = ap marks_of cut
+  here = ap marks_of (drop_more units i (record { ch = 0; start = 0; len = 0 }) inside)
 
   pub one_mark : (unit_at units i).ch ≡ 117 → (marks + 1) + marks_of (drop (i + 1) units) ≡ marks_of units
   one_mark is = let e = here ∙ ap (λ c. if c == 117 then 1 + marks_of (drop (i + 1) units) else 0) is in omega (arith, e, so_far)
