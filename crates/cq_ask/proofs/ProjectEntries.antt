@@ -12,7 +12,6 @@ use Rattle.cq_base.specs.declared.lang.Lang.{Lang}
 use Rattle.cq_base.specs.declared.settings.Settings.{Settings}
 use Rattle.cq_base.specs.declared.entry.Entry.{Entry}
 use Rattle.cq_base.specs.declared.change.Change.{Change}
-use Rattle.cq_base.specs.declared.change.Change.TheVariants.{Put}
 use Rattle.cq_clones.specs.Lists.{AreAllInOrder}
 use Rattle.cq_clones.specs.Windows.{EntryBefore, IsEntryOf, IsBucket}
 use Rattle.cq_history.specs.Changes.{change_at}
@@ -68,9 +67,6 @@ module _ {W : Type 0} (keys_in : W → List ℕ) (IsWork : Lang → List ℕ →
 
 -- ---- the entries
 
-same_put : (q r p s : List ℕ) (a b : Lang) (x y : List ℕ) → Some (Put q p a x) ≡ Some (Put r s b y) → (a ≡ b) × (x ≡ y)
-same_put q r p s a b x y e = (cc e, cc e)
-
 module _ {W : Type 0} (keys_in : W → List ℕ) (IsWorkOf : Settings → Lang → List ℕ → W → Type 0) (determined : (set : Settings) (lang : Lang) (text : List ℕ) (work other : W) → IsWorkOf set lang text work → IsWorkOf set lang text other → keys_in work ≡ keys_in other)
     (set : Settings) (changes : List Change) (version : ℕ) (project : List ℕ) (files : List (File W)) (same : AreSameFiles (IsWorkOf set) (files_at changes version project) files) (key : ℕ) where
   -- an entry of the version whose change is that of one of the files
@@ -80,7 +76,8 @@ module _ {W : Type 0} (keys_in : W → List ℕ) (IsWorkOf : Settings → Lang �
       let one = ((files_stand (take version changes) at.project).each at.file).0 at.there in
       let other = ((files_stand (take version changes) project).each there.source).0 there.has in
       let number : at.file.number ≡ there.source.number = at.number ∙ sym there.number_is ∙ sym there.same.number in
-      let text = same_put at.project project at.file.path there.source.path at.file.lang there.source.lang at.file.body there.source.body (sym one.put ∙ ap (change_at (take version changes)) number ∙ other.put) in
+      let put = sym one.put ∙ ap (change_at (take version changes)) number ∙ other.put in
+      let text : (at.file.lang ≡ there.source.lang) × (at.file.body ≡ there.source.body) = (cc put, cc put) in
       let (work, is_work, key_at) = at.window in
       let also : IsWorkOf set there.source.lang there.source.body work = subst₂ (λ l t. IsWorkOf set l t work) text.0 text.1 is_work in
       let keys_are = there.keys_at ∙ sym (determined set there.source.lang there.source.body work there.file.body also there.same.body) in

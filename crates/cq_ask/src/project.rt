@@ -1,13 +1,14 @@
-ghost use Rattle.std.specs.Prelude.{◌≡◌, filter, nat_eq};
+ghost use Rattle.std.specs.Prelude.{◌≡◌, nat_eq};
 ghost use Rattle.std.specs.List.{list_any};
 ghost use Rattle.cq_projects.specs.Spotted.{numbers_of};
+ghost use Rattle.cq_ask.specs.Projects.{entries_of};
 
 use cq_base::Entry;
 use cq_projects::ProjectFiles;
 
 /// Only the entries of these files' changes stay.
 pub fn keep<W>(entries: &mut Vec<Entry>, files: &ProjectFiles<W>)
-    ensures { entries.new.items ≡ filter (λ e. list_any (nat_eq e.change) (numbers_of files.now)) entries.old.items }
+    ensures { entries.new.items ≡ entries_of (numbers_of files.now) entries.old.items }
 {
     entries.retain(|e| is_among(files, e.change));
 }
