@@ -1,9 +1,9 @@
-ghost use Rattle.std.specs.Prelude.{◌≡◌, None};
+ghost use Rattle.std.specs.Prelude.{◌≡◌, ◌≤◌, None};
 ghost use Rattle.cq_history.specs.State.{state, view_of};
 ghost use Rattle.cq_hub.specs.Hubs.{HasSeen};
 
 use crate::made::{Alike, Apart, Made, SETTINGS, accept, finish};
-use cq_base::{Entry, Memory};
+use cq_base::{Entry, Memory, Settings};
 use cq_board::{Finished, Refused};
 use cq_hub::{Hub, Solo};
 use cq_shard::Indexed;
@@ -91,9 +91,12 @@ fn taken(alloc: Global) -> Result<(bool, Option<u64>, bool), Refused> {
     take(alloc, &hub, &mut pass)
 }
 
-// How often the keys of two works have been looked at, once both are published and a bucket is read.
-fn looks(alloc: Global) -> Result<(u64, u64), Refused> {
-    let (hub, mut pass) = Solo::<Counted>::new(alloc, &SETTINGS)?;
+// How often the keys of two works have been looked at, once both are published over so many shards and a bucket is read.
+fn looks(alloc: Global, shards: u32) -> Result<(u64, u64), Refused>
+    requires { 1 ≤ shards }
+{
+    let settings = Settings { shards, ..SETTINGS };
+    let (hub, mut pass) = Solo::<Counted>::new(alloc, &settings)?;
     let first = Arc::new(alloc, Counted::made())?;
     let second = Arc::new(alloc, Counted::made())?;
     let number = accept(alloc, b'p', &hub, &mut pass)?;
@@ -105,8 +108,9 @@ fn looks(alloc: Global) -> Result<(u64, u64), Refused> {
 }
 
 #[test]
-fn each_shard_looks_at_the_keys_of_a_work_once(rt: HostRuntime) -> Result<(), Refused> {
-    assert_eq!(rt; looks(rt.alloc())?, (2, 2));
+fn the_keys_of_a_work_are_looked_at_once_for_all_shards(rt: HostRuntime) -> Result<(), Refused> {
+    assert_eq!(rt; looks(rt.alloc(), 1)?, (1, 1));
+    assert_eq!(rt; looks(rt.alloc(), 7)?, (1, 1));
     Ok(())
 }
 

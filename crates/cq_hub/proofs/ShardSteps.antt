@@ -114,10 +114,6 @@ module _ (IsWindow : Lang → List ℕ → ℕ → ℕ → Type 0) (b : board.Bo
         (cases_eq n i);
   }
 
-  -- the next one of them has applied more
-  pub shards_more : (shards : List Contents) (i : ℕ) (old new : Contents) → i < length shards → old ≡ get_or shards i old → ((n : ℕ) → IsShardOf IsWindow b n old → IsShardOf IsWindow b n new) → AreShardsOf IsWindow b shards → AreShardsOf IsWindow b (set shards i new)
-  shards_more shards i old new within read more are = shards_set shards i new within (more i (subst (IsShardOf IsWindow b i) (sym read) (are.each i old within))) are
-
 pub applied_more : (to : ℕ) (shards : List Contents) (i : ℕ) (new : Contents) → i < length shards → to ≤ new.applied → ((k : ℕ) (d : Contents) → k < i → to ≤ (get_or shards k d).applied) → (k : ℕ) (d : Contents) → k < i + 1 → to ≤ (get_or (set shards i new) k d).applied
 applied_more to shards i new within here before k d lt =
     ⊎_elim

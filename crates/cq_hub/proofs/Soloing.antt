@@ -85,11 +85,13 @@ module _ (IsWindow : Lang → List ℕ → ℕ → ℕ → Type 0) (set : Settin
       subst (λ cs. AreAllInOrder EntryBefore (IsEntryAt IsWindow cs version key) bucket) (ap changes_in solo_state ∙ changes_in-state 1 h)
       (entries_of_key IsWindow (have_the_entries IsWindow (bucket_holds IsWindow)) h old is.board x 0 version key live bucket shard opened numbers asked)
 
--- the shards apply more, over the windows that the settings give
-pub solo_applies : (window_at : Settings → Lang → List ℕ → ℕ → ℕ → Type 0) (set : Settings) (c : ℕ) (h : List Event) (old : BoardState) (shards more : List Contents) → IsSoloOf (window_at set) set c h old shards → (AreShardsOf (window_at old.settings) old shards → AreShardsOf (window_at old.settings) old more) → IsSoloOf (window_at set) set c h old more
-solo_applies window_at set c h old shards more is apply =
-    solo_shards (window_at set) set c h old shards is more
-    (subst (λ s. AreShardsOf (window_at s) old more) is.settings (apply (subst (λ s. AreShardsOf (window_at s) old shards) (sym is.settings) is.stand)))
+-- the shards stand, over the windows that the board's settings give
+pub solo_stand : (window_at : Settings → Lang → List ℕ → ℕ → ℕ → Type 0) (set : Settings) (c : ℕ) (h : List Event) (old : BoardState) (shards : List Contents) → IsSoloOf (window_at set) set c h old shards → AreShardsOf (window_at old.settings) old shards
+solo_stand window_at set c h old shards is = subst (λ s. AreShardsOf (window_at s) old shards) (sym is.settings) is.stand
+
+-- they apply more
+pub solo_applies : (window_at : Settings → Lang → List ℕ → ℕ → ℕ → Type 0) (set : Settings) (c : ℕ) (h : List Event) (old : BoardState) (shards more : List Contents) → IsSoloOf (window_at set) set c h old shards → AreShardsOf (window_at old.settings) old more → IsSoloOf (window_at set) set c h old more
+solo_applies window_at set c h old shards more is apply = solo_shards (window_at set) set c h old shards is more (subst (λ s. AreShardsOf (window_at s) old more) is.settings apply)
 
 by_false : (b : Bool) → (b ≡ true → ⊥) → b ≡ false
 by_false true no₁ = absurd (no₁ refl)

@@ -1,3 +1,4 @@
+pub mod Comings
 pub mod Hubs
 pub mod Says
 pub mod Shards

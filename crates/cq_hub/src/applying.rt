@@ -1,14 +1,16 @@
-ghost use Rattle.std.specs.Prelude.{◌≡◌, ◌-◌, ◌<◌, ◌≤◌, ◌^◌, ℕ, length, All, IfOk, IfSome, OnOk};
+ghost use Rattle.std.specs.Prelude.{◌≡◌, ◌+◌, ◌-◌, ◌<◌, ◌≤◌, ◌^◌, ℕ, length, All, IfOk, IfSome, OnOk};
 ghost use Rattle.std.specs.Arc.{arc_value};
 ghost use Rattle.cq_history.specs.State.{ready, changes_in};
 ghost use Rattle.cq_shard.specs.Shard.{HasWindow, HaveTheirWorks};
 ghost use Rattle.cq_hub.specs.Shards.{IsShardOf, AreShardsOf, AreFresh};
+ghost use Rattle.cq_hub.specs.Comings.{IsComing};
 
-use cq_base::{Memory, Steps};
+use cq_base::{Entry, Memory, Steps};
 use cq_board::Board;
-use cq_shard::{Indexed, Shard};
+use cq_shard::{Indexed, Shard, parted};
 use std::alloc::Global;
 use std::marker::Brand;
+use std::mem;
 use std::sync::Arc;
 use std::sync::ledger::{Blank, Ledger};
 
@@ -23,8 +25,9 @@ pub(crate) fn shards_of(alloc: Global, number: u32) -> Result<Vec<Shard>, Memory
     Ok(shards)
 }
 
-/// Each shard applies the changes up to a number up to which all are done, at once. Where memory is refused, some shards have
-/// applied them, and others none.
+/// Each of the board's shards applies the changes up to a number up to which all are done, at once. The keys of their works
+/// are looked at once, where the shards have applied as many changes. Where memory is refused, some shards have applied them,
+/// and others none.
 pub(crate) fn apply_up_to<W: Indexed>(
     alloc: Global,
     board: &Board<W>,
@@ -32,7 +35,9 @@ pub(crate) fn apply_up_to<W: Indexed>(
     to: u64,
 ) -> Result<(), Memory>
     requires done { to ≤ ready board.now.state }
-    ensures stand { AreShardsOf (HasWindow W.keys_in W.IsWorkOf board.now.settings) board.now shards.old.items → AreShardsOf (HasWindow W.keys_in W.IsWorkOf board.now.settings) board.now shards.new.items }
+    requires some { 0 < board.now.settings.shards }
+    requires stand { AreShardsOf (HasWindow W.keys_in W.IsWorkOf board.now.settings) board.now shards.old.items }
+    ensures stand { AreShardsOf (HasWindow W.keys_in W.IsWorkOf board.now.settings) board.now shards.new.items }
     ensures applied { OnOk result (All (λ c. to ≤ c.applied) shards.new.items) }
 {
     apply_counted::<W, Brand>(alloc, board, shards, to, Blank::new(1))
@@ -50,31 +55,83 @@ fn apply_counted<W: Indexed, L: Ledger>(
     requires parts { blank.parts ≡ L.parts }
     requires one { L.parts ≡ 1 }
     requires done { to ≤ ready board.now.state }
-    ensures stand { AreShardsOf (HasWindow W.keys_in W.IsWorkOf board.now.settings) board.now shards.old.items → AreShardsOf (HasWindow W.keys_in W.IsWorkOf board.now.settings) board.now shards.new.items }
+    requires some { 0 < board.now.settings.shards }
+    requires stand { AreShardsOf (HasWindow W.keys_in W.IsWorkOf board.now.settings) board.now shards.old.items }
+    ensures stand { AreShardsOf (HasWindow W.keys_in W.IsWorkOf board.now.settings) board.now shards.new.items }
     ensures applied { OnOk result (All (λ c. to ≤ c.applied) shards.new.items) }
 {
     let mut steps: Steps<L> = Steps::new(blank);
+    let mut coming = Coming::behind(alloc, board, shards[0].applied(), to)?;
     'shards: for i in 0..shards.len() {
-        catch_up(alloc, board, &mut shards[i], to, &mut steps)?;
+        catch_up(alloc, board, i, &mut shards[i], &mut coming, &mut steps)?;
     }
     Ok(())
 }
 
-// One shard applies them, all at once.
+// The shard of this number applies them, all at once.
 fn catch_up<W: Indexed, L: Ledger>(
     alloc: Global,
     board: &Board<W>,
+    i: usize,
     shard: &mut Shard,
-    to: u64,
+    coming: &mut Coming<W>,
     steps: &mut Steps<L>,
 ) -> Result<(), Memory>
-    requires done { to ≤ ready board.now.state }
-    ensures stands { (n : ℕ) → IsShardOf (HasWindow W.keys_in W.IsWorkOf board.now.settings) board.now n shard.old → IsShardOf (HasWindow W.keys_in W.IsWorkOf board.now.settings) board.now n shard.new }
-    ensures applied { OnOk result (to ≤ shard.new.applied) }
+    requires within { i < board.now.settings.shards }
+    requires shard { IsShardOf (HasWindow W.keys_in W.IsWorkOf board.now.settings) board.now i shard.old }
+    requires coming { IsComing W.keys_in W.IsWorkOf board.now i coming.old }
+    ensures shard { IsShardOf (HasWindow W.keys_in W.IsWorkOf board.now.settings) board.now i shard.new }
+    ensures coming { OnOk result (IsComing W.keys_in W.IsWorkOf board.now (i + 1) coming.new) }
+    ensures to { OnOk result (coming.new.to ≡ coming.old.to) }
+    ensures applied { OnOk result (coming.old.to ≤ shard.new.applied) }
 {
-    let works = finished_works(alloc, board, shard.applied(), to)?;
-    shard.apply_all(&works, steps)?;
+    coming.turn_to(alloc, board, shard.applied())?;
+    let part = mem::replace(&mut coming.parts[i], Vec::new(alloc));
+    shard.apply_all(&coming.works, part, steps)?;
     Ok(())
+}
+
+// The works of the changes behind one up to another, and what they bring to each shard.
+#[derive(Drop)]
+struct Coming<W> {
+    from: u64,
+    to: u64,
+    works: Vec<Option<Arc<W, Global>>>,
+    parts: Vec<Vec<Entry>>,
+}
+
+impl<W: Indexed> Coming<W> {
+    // The works that the board has, parted anew.
+    fn behind(alloc: Global, board: &Board<W>, from: u64, to: u64) -> Result<Coming<W>, Memory>
+        requires done { to ≤ ready board.now.state }
+        requires some { 0 < board.now.settings.shards }
+        ensures coming { IfOk result (IsComing W.keys_in W.IsWorkOf board.now 0) }
+        ensures from { IfOk result (λ coming. coming.from ≡ from) }
+        ensures to { IfOk result (λ coming. coming.to ≡ to) }
+    {
+        let works = finished_works(alloc, board, from, to)?;
+        let parts = parted(alloc, from, board.settings().shards, &works)?;
+        Ok(Coming {
+            from,
+            to,
+            works,
+            parts,
+        })
+    }
+
+    // They are those behind another change, where they aren't yet.
+    fn turn_to(&mut self, alloc: Global, board: &Board<W>, from: u64) -> Result<(), Memory>
+        requires done { self.old.to ≤ ready board.now.state }
+        requires some { 0 < board.now.settings.shards }
+        ensures coming { (n : ℕ) → IsComing W.keys_in W.IsWorkOf board.now n self.old → OnOk result (IsComing W.keys_in W.IsWorkOf board.now n self.new) }
+        ensures from { OnOk result (self.new.from ≡ from) }
+        ensures to { OnOk result (self.new.to ≡ self.old.to) }
+    {
+        if self.from != from {
+            *self = Coming::behind(alloc, board, from, self.to)?;
+        }
+        Ok(())
+    }
 }
 
 // The works of the changes behind one up to another, as the board has them.

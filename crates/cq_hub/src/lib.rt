@@ -2,8 +2,9 @@
 //! one caller has to itself. A call of a hub adds others' events and then its own to the history, and answers what is so
 //! in between. So what is proved over any hub holds of the plain one and of one that many threads share.
 //!
-//! The plain hub holds a board and its shards, and a call costs what it costs there. To advance, each shard applies each
-//! further change once, with a look at each key of its work, and the board publishes; a bucket is read of one shard.
+//! The plain hub holds a board and its shards, and a call costs what it costs there. To advance, the entries of all further
+//! changes are parted among the shards by one look at each key of their works, each shard applies its part, and the board
+//! publishes; a bucket is read of one shard.
 #![tactic(auto)]
 
 mod applying;

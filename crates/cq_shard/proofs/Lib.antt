@@ -7,4 +7,5 @@ pub mod Finding
 pub mod Gathering
 pub mod Standing
 pub mod Works
+pub mod Begun
 pub mod ShardLaws

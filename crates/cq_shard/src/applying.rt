@@ -1,14 +1,12 @@
 ghost use Rattle.std.specs.Prelude.{◌≡◌, ◌++◌, ◌+◌, ◌<◌, ◌≤◌, ◌^◌, ◌%◌, length, option_copied, All, IfOk, OnOk, OnErr, IfSome};
-ghost use Rattle.std.specs.Arc.{arc_value};
 ghost use Rattle.std.specs.Int.{IsPowerOfTwo};
 ghost use Rattle.cq_shard.specs.Runs.{AreAdded};
-ghost use Rattle.cq_shard.specs.Shard.{entries_of, brought, all_brought};
+ghost use Rattle.cq_shard.specs.Shard.{entries_of, brought};
 
 use crate::indexed::Indexed;
 use crate::runs::Runs;
 use cq_base::{Entry, Memory, Steps};
 use std::alloc::Global;
-use std::sync::Arc;
 use std::sync::ledger::Ledger;
 
 /// The shard's part of a change: which shard it is of how many, and the change's number.
@@ -19,9 +17,9 @@ pub(crate) struct Part {
     pub change: u64,
 }
 
-// The key modulo the number of shards. Where that is the power of two it needs no division.
+/// The key modulo the number of shards. Where that is the power of two it needs no division.
 #[tactic(auto, using(crate::proofs::Masks::mask_is_remainder))]
-fn remainder(key: u64, shards: u64, power: u64) -> u64
+pub(crate) fn remainder(key: u64, shards: u64, power: u64) -> u64
     requires some { 0 < shards }
     requires power { IsPowerOfTwo power }
     ensures { result ≡ key % shards }
@@ -71,27 +69,6 @@ pub(crate) fn entries_for<W: Indexed>(
     Ok(entries)
 }
 
-/// The entries that the changes behind the part's own bring to the shard, a change for each work, by change and place.
-pub(crate) fn entries_for_all<W: Indexed>(
-    alloc: Global,
-    mut part: Part,
-    works: &[Option<Arc<W, Global>>],
-) -> Result<Vec<Entry>, Memory>
-    requires few { All (λ work. IfSome work (λ w. length (W.keys_in (arc_value w)) < 2 ^ 32)) works.now }
-    requires room { part.change + length works.now < 2 ^ 64 }
-    requires some { 0 < part.shards }
-    ensures { IfOk result (λ entries. entries.items ≡ all_brought (λ w. W.keys_in (arc_value w)) part.change part.shard part.shards works.now) }
-{
-    let mut entries = Vec::new(alloc);
-    for work in works {
-        part.change += 1;
-        if let Some(work) = work {
-            gather(part, work.keys(), &mut entries)?;
-        }
-    }
-    Ok(entries)
-}
-
 /// The entries that the change brings to the shard more, or none of them.
 pub(crate) fn add_work<W: Indexed, L: Ledger>(
     alloc: Global,
@@ -109,26 +86,5 @@ pub(crate) fn add_work<W: Indexed, L: Ledger>(
     ensures most { steps.new ≤ steps.old + length (brought W.keys_in part.change part.shard part.shards (option_copied work.entry)) }
 {
     let entries = entries_for(alloc, part, work)?;
-    runs.add(alloc, entries, steps)
-}
-
-/// The entries that the changes behind the part's own bring to the shard more, or none of them.
-pub(crate) fn add_works<W: Indexed, L: Ledger>(
-    alloc: Global,
-    runs: &mut Runs,
-    part: Part,
-    works: &[Option<Arc<W, Global>>],
-    steps: &mut Steps<L>,
-) -> Result<(), Memory>
-    requires few { All (λ work. IfSome work (λ w. length (W.keys_in (arc_value w)) < 2 ^ 32)) works.now }
-    requires room { part.change + length works.now < 2 ^ 64 }
-    requires some { 0 < part.shards }
-    requires known { All (λ e. e.change ≤ part.change) runs.old }
-    ensures added { OnOk result (AreAdded runs.old (all_brought (λ w. W.keys_in (arc_value w)) part.change part.shard part.shards works.now) runs.new) }
-    ensures same { OnErr result (runs.new ≡ runs.old) }
-    ensures steps { OnOk result (steps.new ≡ steps.old + length (all_brought (λ w. W.keys_in (arc_value w)) part.change part.shard part.shards works.now)) }
-    ensures most { steps.new ≤ steps.old + length (all_brought (λ w. W.keys_in (arc_value w)) part.change part.shard part.shards works.now) }
-{
-    let entries = entries_for_all(alloc, part, works)?;
     runs.add(alloc, entries, steps)
 }

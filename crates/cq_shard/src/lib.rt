@@ -9,6 +9,7 @@
 mod applying;
 mod indexed;
 mod laws;
+mod parting;
 mod run;
 mod runs;
 mod searching;
@@ -19,4 +20,5 @@ pub use laws::{
     applying_adds_its_rows, it_answers_what_it_holds, it_stands_at_first, it_stands_on,
     shards_stay, sweeping_takes_out_alone,
 };
+pub use parting::parted;
 pub use shard::Shard;

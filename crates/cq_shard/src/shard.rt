@@ -1,4 +1,4 @@
-ghost use Rattle.std.specs.Prelude.{◌≡◌, ◌+◌, ◌<◌, ◌≤◌, ◌^◌, List, ℕ, [], length, Contains, option_copied, All, IfOk, OnOk, OnErr, IfSome};
+ghost use Rattle.std.specs.Prelude.{◌≡◌, ◌+◌, ◌<◌, ◌≤◌, ◌^◌, List, ℕ, [], length, Contains, option_copied, IfOk, OnOk, OnErr, IfSome};
 ghost use Rattle.std.specs.List.Sorted.{IsStrictlyIncreasing};
 ghost use Rattle.std.specs.Arc.{arc_value};
 ghost use Rattle.cq_base.specs.declared.settings.Settings.{Settings};
@@ -8,7 +8,7 @@ ghost use Rattle.cq_clones.specs.Windows.{EntryBefore};
 ghost use Rattle.cq_history.specs.Changes.{change_at};
 ghost use Rattle.cq_shard.specs.Shard as spec;
 
-use crate::applying::{Part, add_work, add_works};
+use crate::applying::{Part, add_work};
 use crate::indexed::Indexed;
 use crate::laws::applying_adds_its_rows;
 use crate::runs::Runs;
@@ -98,16 +98,17 @@ impl Shard {
         Ok(())
     }
 
-    /// Applies the next changes, one for each of these works, which are given exactly where the changes are puts. Where memory
-    /// is refused, nothing has changed. It costs what applying them one by one does, but that their entries are sorted together
-    /// and merged once, as one run.
+    /// Applies the next changes, one for each of these works, which are given exactly where the changes are puts, and of which
+    /// these are the entries that are the shard's. Where memory is refused, nothing has changed. Each entry costs a step; they
+    /// are sorted where they stand and merged once, as one run.
     pub fn apply_all<W: Indexed, L: Ledger>(
         &mut self,
         works: &[Option<Arc<W, Global>>],
+        part: Vec<Entry>,
         steps: &mut Steps<L>,
     ) -> Result<(), Memory>
         requires room { self.old.applied + length works.now < 2 ^ 64 }
-        requires few { All (λ work. IfSome work (λ w. length (W.keys_in (arc_value w)) < 2 ^ 32)) works.now }
+        requires part { part.items ≡ spec.all_brought (λ w. W.keys_in (arc_value w)) self.old.applied self.old.shard self.old.shards works.now }
         ensures stands { (settings : Settings) (changes : List Change) → spec.StandsFor (spec.HasWindow W.keys_in W.IsWorkOf settings) changes self.old → spec.HaveTheirWorks (λ lang text w. W.IsWorkOf settings lang text (arc_value w)) changes self.old.applied works.now → OnOk result (spec.StandsFor (spec.HasWindow W.keys_in W.IsWorkOf settings) changes self.new) }
         ensures applied { OnOk result (self.new.applied ≡ self.old.applied + length works.now) }
         ensures kept { OnOk result ((self.new.shard ≡ self.old.shard) × (self.new.shards ≡ self.old.shards) × (self.new.floor ≡ self.old.floor)) }
@@ -116,12 +117,7 @@ impl Shard {
         ensures most { steps.new ≤ steps.old + length (spec.all_brought (λ w. W.keys_in (arc_value w)) self.old.applied self.old.shard self.old.shards works.now) }
     {
         applying_adds_its_rows::<W>();
-        let part = Part {
-            shard: self.shard,
-            shards: self.shards,
-            change: self.applied,
-        };
-        add_works(self.alloc, &mut self.runs, part, works, steps)?;
+        self.runs.add(self.alloc, part, steps)?;
         self.applied += works.len() as u64;
         Ok(())
     }

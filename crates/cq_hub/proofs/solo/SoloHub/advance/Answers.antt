@@ -4,7 +4,7 @@ use Rattle.cq_history.specs.declared.event.Event.TheVariants as event
 use Rattle.cq_history.specs.State.{State, ready}
 use Rattle.cq_shard.specs.Shard.{HasWindow}
 use Rattle.cq_hub.proofs.Growing.{calls_now}
-use Rattle.cq_hub.proofs.Soloing.{solo_applies, solo_publishes, solo_says, solo_said, solo_same, solo_nil, grows_published, published_then}
+use Rattle.cq_hub.proofs.Soloing.{solo_applies, solo_stand, solo_publishes, solo_says, solo_said, solo_same, solo_nil, grows_published, published_then}
 use Rattle.cq_hub.proofs.solo.SoloHub.advance.Goals as goal
 
 pub returns-then-published-to-clause-published : goal.returns-then-published-to-clause-published
@@ -12,6 +12,12 @@ returns-then-published-to-clause-published g c = λ by h is.
     calls_now _ _ _ by _ _ h _ _
     (solo_says _ _ by h _ _ is (λ n (set : Settings) (s : State). (c.published-published.result ≡ s.published) × (c.args.to ≤ c.published-published.result)) (c.published-published.ensures, c.if-published-to.true))
     (solo_nil _ _ by h _ _ is)
+
+pub apply_up_to-requires-clause-some : goal.apply_up_to-requires-clause-some
+apply_up_to-requires-clause-some g c = let r = c.requires.done in r.2.some_shard
+
+pub apply_up_to-requires-clause-stand : goal.apply_up_to-requires-clause-stand
+apply_up_to-requires-clause-stand g c = let r = c.requires.done in solo_stand (HasWindow g.W.Indexed.keys_in g.W.Indexed.IsWorkOf) _ r.0 r.1 _ _ r.2
 
 pub returns-in_err-apply_up_to-clause-published : goal.returns-in_err-apply_up_to-clause-published
 returns-in_err-apply_up_to-clause-published g c = λ by h is.

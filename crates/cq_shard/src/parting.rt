@@ -1,0 +1,66 @@
+ghost use Rattle.std.specs.Prelude.{◌≡◌, ◌++◌, ◌+◌, ◌<◌, ◌^◌, ℕ, List, [], length, map, replicate, All, IfOk, OnOk, IfSome};
+ghost use Rattle.std.specs.Arc.{arc_value};
+ghost use Rattle.cq_base.specs.declared.entry.Entry.{Entry};
+ghost use Rattle.cq_shard.specs.Shard.{entries_of};
+ghost use Rattle.cq_shard.specs.Parts.{AreParts, AreBegun};
+
+use crate::applying::remainder;
+use crate::indexed::Indexed;
+use cq_base::{Entry, Memory};
+use std::alloc::Global;
+use std::sync::Arc;
+
+/// The entries that the changes behind so many bring to each of the shards, a change for each work, by change and place. It
+/// looks at each key once, whatever the number of shards, and takes an entry for each, and a list for each shard.
+pub fn parted<W: Indexed>(
+    alloc: Global,
+    applied: u64,
+    shards: u32,
+    works: &[Option<Arc<W, Global>>],
+) -> Result<Vec<Vec<Entry>>, Memory>
+    requires some { 0 < shards }
+    requires room { applied + length works.now < 2 ^ 64 }
+    requires few { All (λ work. IfSome work (λ w. length (W.keys_in (arc_value w)) < 2 ^ 32)) works.now }
+    ensures { IfOk result (λ parts. AreParts (λ w. W.keys_in (arc_value w)) applied shards works.now (map (λ part. part.items) parts.items)) }
+{
+    let mut parts = empty(alloc, shards)?;
+    let mut change = applied;
+    for work in works {
+        change += 1;
+        if let Some(work) = work {
+            part(change, shards, work.keys(), &mut parts)?;
+        }
+    }
+    Ok(parts)
+}
+
+// So many lists without an entry.
+fn empty(alloc: Global, shards: u32) -> Result<Vec<Vec<Entry>>, Memory>
+    ensures { IfOk result (λ parts. map (λ part. part.items) parts.items ≡ replicate shards []) }
+{
+    let mut parts = Vec::with_capacity(alloc, shards as usize)?;
+    for _shard in 0..shards {
+        parts.push(Vec::new(alloc))?;
+    }
+    Ok(parts)
+}
+
+// Puts each entry that the change brings, where its windows have these keys, behind those of its shard, by place.
+fn part(change: u64, shards: u32, keys: &[u64], parts: &mut Vec<Vec<Entry>>) -> Result<(), Memory>
+    requires few { length keys.now < 2 ^ 32 }
+    requires some { 0 < shards }
+    requires number { length parts.old.items ≡ shards }
+    ensures { (rest all : ℕ → List Entry) → AreBegun shards (λ n. entries_of change n shards 0 keys.now ++ rest n) all (map (λ part. part.items) parts.old.items) → OnOk result (AreBegun shards rest all (map (λ part. part.items) parts.new.items)) }
+{
+    let number = u64::from(shards);
+    let power = number.next_power_of_two();
+    for (at, key) in keys.iter().enumerate() {
+        let shard = remainder(*key, number, power) as usize;
+        parts[shard].push(Entry {
+            key: *key,
+            change,
+            at: at as u32,
+        })?;
+    }
+    Ok(())
+}
