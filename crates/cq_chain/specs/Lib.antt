@@ -1,3 +1,4 @@
 pub mod Held
 pub mod Lasts
 pub mod Passes
+pub mod Accepting

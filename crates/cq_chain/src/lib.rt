@@ -44,10 +44,12 @@
 #![tactic(auto)]
 
 mod about;
+mod both;
 mod cells;
 mod law;
 
 pub use about::About;
+pub use both::{accept, accept_both};
 pub use cells::{Cells, Pass};
 pub use law::BoardLaw;
 

@@ -1,20 +1,14 @@
-ghost use Rattle.std.specs.Prelude.{◌≡◌, ◌+◌, ◌<◌, ◌≤◌, [], ◌∷◌, ◌++◌, length, Option, Some, IfOk};
+ghost use Rattle.std.specs.Prelude.{◌<◌, ◌≤◌, length, IfOk};
 ghost use Rattle.std.specs.Str.{IsUtf8};
 ghost use Rattle.cq_base.specs.Changes.{IsSoundChange};
-ghost use Rattle.cq_history.specs.declared.event.Event.{Event as Happened};
-ghost use Rattle.cq_history.specs.declared.event.Event.TheVariants as happened;
-ghost use Rattle.cq_history.specs.State.{own};
-ghost use Rattle.cq_board.specs.Stands.{BoardState};
-ghost use Rattle.cq_cells.specs.Passes.{IsFree, IsSameCaller, HasBoard, by_of};
-ghost use Rattle.cq_chain.specs.Held.{IsBoard};
+ghost use Rattle.cq_cells.specs.Passes.{IsFree};
 ghost use Rattle.cq_chain.specs.Passes.{IsPassOf, AreFresh};
 
 use super::*;
 use cq_base::{Change, Lang, Memory, Settings, Text};
-use cq_board::{Board, Refused};
+use cq_board::Board;
 use cq_shard::{Indexed, Shard};
 use std::alloc::Global;
-use std::snapshot::Snapshot;
 use std::sync::Wait;
 use std::test::*;
 use std::thread;
@@ -40,90 +34,6 @@ impl Indexed for Bare {
     ghost determined = { λ settings lang text work other is also. refl };
 
     ghost few = { Prim.search rules };
-}
-
-// Puts the board back, which accepted a change.
-fn leave_accepted<R>(
-    cells: &Cells<Bare, R>,
-    board: Board<Bare>,
-    pass: &mut Pass<Bare>,
-    said: &Snapshot<Change>,
-)
-    ghost event: { Option Happened }
-    requires event { event ≡ Some (happened.Accept (by_of pass.old) said.now.value) }
-    requires of { IsPassOf cells.now pass.old }
-    requires hand { (b : BoardState) × HasBoard pass.old b }
-    requires board { IsBoard cells.now.about (pass.old.seen ++ happened.Accept (by_of pass.old) said.now.value ∷ []) board }
-    ensures of { IsPassOf cells.now pass.new }
-    ensures same { IsSameCaller pass.old pass.new }
-    ensures free { IsFree pass.new }
-    ensures seen { pass.new.seen ≡ pass.old.seen ++ happened.Accept (by_of pass.old) said.now.value ∷ [] }
-{
-    cells.leave_board(board, pass);
-}
-
-// Accepts a change.
-fn accept<R: Wait>(
-    cells: &Cells<Bare, R>,
-    alloc: Global,
-    mut pass: Pass<Bare>,
-    change: Change,
-) -> (Pass<Bare>, Result<u64, Refused>)
-    requires of { IsPassOf cells.now pass × IsFree pass }
-    requires sound { IsSoundChange change }
-    ensures of { IsPassOf cells.now result.0 × IsFree result.0 }
-    ensures callers { result.0.callers ≡ pass.callers }
-    ensures own { IfOk result.1 (λ _. own (by_of pass) result.0.seen ≡ own (by_of pass) pass.seen ++ happened.Accept (by_of pass) change ∷ []) }
-{
-    let by = pass.by();
-    let mut board = cells.enter_board(&mut pass);
-    let said = Snapshot::of(&change);
-    match board.accept(alloc, by, change) {
-        Ok(number) => {
-            leave_accepted(cells, board, &mut pass, &said);
-            (pass, Ok(number))
-        }
-        Err(cause) => {
-            cells.leave_board(board, &mut pass);
-            (pass, Err(cause))
-        }
-    }
-}
-
-// Two threads accept a change each. What the joined pass has seen has both acceptances, each once.
-fn accept_both<Q: Threads, R: Wait + Sync>(
-    rt: &Q,
-    cells: &Cells<Bare, R>,
-    alloc: Global,
-    pass: &mut Pass<Bare>,
-    first: Change,
-    second: Change,
-) -> (Result<u64, Refused>, Result<u64, Refused>)
-    requires of { IsPassOf cells.now pass.old × IsFree pass.old }
-    requires room { 1 < pass.old.room }
-    requires sound { IsSoundChange first × IsSoundChange second }
-    ensures of { IsPassOf cells.now pass.new × IsFree pass.new }
-    ensures first { IfOk result.0 (λ _. let n = pass.old.next in own n pass.new.seen ≡ own n pass.old.seen ++ happened.Accept n first ∷ []) }
-    ensures second { IfOk result.1 (λ _. let n = pass.old.next + 1 in own n pass.new.seen ≡ own n pass.old.seen ++ happened.Accept n second ∷ []) }
-{
-    let one = cells.split_pass(pass);
-    let two = cells.split_pass(pass);
-    let (one, two) = join(
-        rt,
-        move || -> (Pass<Bare>, Result<u64, Refused>)
-            requires { IsPassOf cells.now one × IsFree one × IsSoundChange first }
-            ensures { IsPassOf cells.entry.now result.0 × IsFree result.0 × (result.0.callers ≡ one.callers) × IfOk result.1 (λ _. own (by_of one) result.0.seen ≡ own (by_of one) one.seen ++ happened.Accept (by_of one) first ∷ []) }
-        { accept(cells, alloc, one, first) },
-        move || -> (Pass<Bare>, Result<u64, Refused>)
-            requires { IsPassOf cells.now two × IsFree two × IsSoundChange second }
-            ensures { IsPassOf cells.entry.now result.0 × IsFree result.0 × (result.0.callers ≡ two.callers) × IfOk result.1 (λ _. own (by_of two) result.0.seen ≡ own (by_of two) two.seen ++ happened.Accept (by_of two) second ∷ []) }
-        { accept(cells, alloc, two, second) },
-    );
-    let (one, first) = one;
-    let (two, second) = two;
-    cells.join_pass(pass, one);
-    cells.join_pass(pass, two);
-    (first, second)
 }
 
 // How many events there were, and how many changes the shard has applied.

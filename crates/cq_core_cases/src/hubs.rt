@@ -43,8 +43,8 @@ impl Made for Counted {
     }
 }
 
-// The version that is published then, and what its view has of a key.
-fn read<W: Made, H: Hub<W>>(
+/// The version that is published then, and what its view has of a key.
+pub fn read<W: Made, H: Hub<W>>(
     alloc: Global,
     hub: &H,
     key: u64,

@@ -15,7 +15,7 @@ use std::sync::Arc;
 use std::sync::ledger::{Blank, Ledger};
 
 /// So many shards, which have applied nothing.
-pub(crate) fn shards_of(alloc: Global, number: u32) -> Result<Vec<Shard>, Memory>
+pub fn shards_of(alloc: Global, number: u32) -> Result<Vec<Shard>, Memory>
     ensures { IfOk result (λ shards. AreFresh number shards.items) }
 {
     let mut shards = Vec::with_capacity(alloc, number as usize)?;
@@ -134,8 +134,8 @@ impl<W: Indexed> Coming<W> {
     }
 }
 
-// The works of the changes behind one up to another, as the board has them.
-fn finished_works<W: Indexed>(
+/// The works of the changes behind one up to another, as the board has them. It takes memory for an owner of each.
+pub fn finished_works<W: Indexed>(
     alloc: Global,
     board: &Board<W>,
     from: u64,

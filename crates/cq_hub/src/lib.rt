@@ -11,5 +11,6 @@ mod applying;
 mod hub;
 mod solo;
 
+pub use applying::{finished_works, shards_of};
 pub use hub::Hub;
 pub use solo::{Solo, SoloPass};

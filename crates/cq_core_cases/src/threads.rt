@@ -1,0 +1,77 @@
+ghost use Rattle.std.specs.Prelude.{◌≡◌, ◌<◌, []};
+ghost use Rattle.cq_shared.specs.SharedPasses.{IsPassOf};
+
+use crate::hubs::read;
+use crate::made::{Apart, Made, SETTINGS, accept, finish};
+use cq_base::Memory;
+use cq_board::{Asked, Refused};
+use cq_chain::Pass;
+use cq_shared::Shared;
+use std::alloc::Global;
+use std::sync::{Arc, Wait};
+use std::thread::{Threads, join};
+
+// What one caller does who has seen nothing: a put of a project is accepted, its work is finished and published, and a key
+// is read in a view. It answers the version that was published, and how many entries there are.
+fn serve<R: Wait>(
+    alloc: Global,
+    hub: &Shared<Apart, R>,
+    project: u8,
+    mut pass: Pass<Apart>,
+) -> Result<(u64, usize), Refused>
+    requires letter { project < 128 }
+    requires of { IsPassOf hub.now pass }
+    requires fresh { pass.seen ≡ [] }
+{
+    let number = accept(alloc, project, hub, &mut pass)?;
+    let work = Arc::new(alloc, Apart::made())?;
+    finish(hub, number, work, &mut pass)?;
+    let (version, entries) = read(alloc, hub, 3, &mut pass)?;
+    Ok((version, entries.len()))
+}
+
+// Two threads do so at the same time, each for a project of its own; and what the first caller then sees.
+fn serve_both<Q: Threads, R: Wait + Sync>(
+    rt: &Q,
+    alloc: Global,
+    hub: &Shared<Apart, R>,
+    mut pass: Pass<Apart>,
+) -> (Result<(u64, usize), Refused>, Result<(u64, usize), Refused>, Asked)
+    requires of { IsPassOf hub.now pass }
+    requires fresh { pass.seen ≡ [] }
+    requires room { 1 < pass.room }
+{
+    let one = hub.split_pass(&mut pass);
+    let two = hub.split_pass(&mut pass);
+    let (one, two) = join(
+        rt,
+        move || -> Result<(u64, usize), Refused>
+            requires { IsPassOf hub.now one × (one.seen ≡ []) }
+        { serve(alloc, hub, b'p', one) },
+        move || -> Result<(u64, usize), Refused>
+            requires { IsPassOf hub.now two × (two.seen ≡ []) }
+        { serve(alloc, hub, b'q', two) },
+    );
+    (one, two, hub.ask(&mut pass))
+}
+
+// Whether each has as many entries as its version has files, and what is seen at last.
+#[test]
+fn two_threads_serve(rt: HostRuntime) -> Result<(), Refused> {
+    let (hub, pass) = Shared::<Apart, _>::new(&rt, rt.alloc(), &SETTINGS, 3)?;
+    let (one, two, asked) = serve_both(&rt, rt.alloc(), &hub, pass);
+    let (version, entries) = one?;
+    assert_eq!(rt; entries as u64, version);
+    let (version, entries) = two?;
+    assert_eq!(rt; entries as u64, version);
+    assert_eq!(rt;
+        asked,
+        Asked {
+            accepted: 2,
+            done: 2,
+            undone: None,
+            published: 2
+        }
+    );
+    Ok(())
+}

@@ -1,0 +1,13 @@
+use Rattle.std.proofs.Common.{◌≡◌, ℕ, ◌<◌, ◌≤◌}
+use Rattle.cq_cells.specs.Passes.{IsSameCaller, least}
+use Rattle.cq_shared.specs.SharedPasses.{IsPassOf}
+use Rattle.cq_shared.proofs.shared.Shared.commit_shard.Given as goal
+
+abbrev pub invariant-changes : goal.invariant-changes
+invariant-changes g l = record {
+  of : IsPassOf l.self l.pass;
+  same : IsSameCaller l.initial.pass l.pass;
+  seen : l.pass.seen ≡ l.initial.pass.seen;
+  more : (s : ℕ) → least l.initial.pass s ≤ least l.pass s;
+  applied : l.base < l._change → l._change ≤ least l.pass l.number;
+}

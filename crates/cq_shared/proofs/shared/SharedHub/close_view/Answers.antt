@@ -1,0 +1,17 @@
+use Rattle.std.proofs.Common.{◌≡◌, ◌≤◌, sym, subst, subst₂, None}
+use Rattle.std.specs.Prelude.{IsSome}
+use Rattle.std.specs.Arc.{arc_value}
+use Rattle.std.proofs.lemmas.Bool.{OnTrue_at, OnTrue_from, OnFalse_at, OnFalse_from}
+use Rattle.std.proofs.lemmas.Result.{IfOk-weaker, IfErr-weaker, on_err_weaker}
+use Rattle.cq_history.specs.Changes.{IsWorkFor}
+use Rattle.cq_history.specs.State.{ready, slot_of, view_of, IsAccepted}
+use Rattle.cq_hub.specs.Views.{IsOpen}
+use Rattle.cq_shared.specs.SharedPasses.{settings_of, state_of}
+use Rattle.cq_shared.proofs.Calling.{extends, match_weaker}
+use Rattle.cq_shared.proofs.shared.SharedHub.close_view.Goals as goal
+
+pub close_view-requires : goal.close_view-requires
+close_view-requires g c = let r = c.requires.viewing in record { of = r.2.is; viewing = subst₂ (λ n l. IsSome (view_of (state_of c.args.self.now l) n)) (sym r.2.caller) (sym r.2.seen) r.3 }
+
+pub returns-clause-shut : goal.returns-clause-shut
+returns-clause-shut g c = extends _ _ _ _ _ _ c.close_view.ensures.shut

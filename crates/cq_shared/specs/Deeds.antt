@@ -1,0 +1,27 @@
+-- The events of a caller, but for the acceptances.
+use Rattle.std.specs.Prelude.{ℕ, Option, Some, None}
+use Rattle.cq_history.specs.declared.event.Event.{Event}
+use Rattle.cq_history.specs.declared.event.Event.TheVariants as event
+use Rattle.cq_shared.specs.declared.deed.Deed.{Deed}
+use Rattle.cq_shared.specs.declared.deed.Deed.TheVariants.{Nothing, Ask, Took, Back, Done, Publish, Open, Shut}
+
+abbrev pub event_of : ℕ → Deed → Option Event
+event_of by Nothing = None
+event_of by Ask = Some (event.Ask by)
+event_of by (Took r) = Some (event.Took by r)
+event_of by (Back r) = Some (event.Back by r)
+event_of by (Done r) = Some (event.Done by r)
+event_of by (Publish p) = Some (event.Publish p)
+event_of by (Open p) = Some (event.Open by p)
+event_of by Shut = Some (event.Shut by)
+
+-- how many changes each shard must have applied before it
+abbrev pub asks_of : Deed → ℕ
+asks_of Nothing = 0
+asks_of Ask = 0
+asks_of (Took r) = 0
+asks_of (Back r) = 0
+asks_of (Done r) = 0
+asks_of (Publish p) = p
+asks_of (Open p) = 0
+asks_of Shut = 0

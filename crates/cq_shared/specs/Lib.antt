@@ -1,0 +1,4 @@
+pub mod Deeds
+pub mod SharedPasses
+pub mod Calls
+pub mod Advancing

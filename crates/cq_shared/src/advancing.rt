@@ -1,0 +1,204 @@
+ghost use Rattle.std.specs.Prelude.{◌≡◌, ◌+◌, ◌-◌, ◌<◌, ◌≤◌, ◌^◌, ℕ, List, [], length, All, IfOk, IfSome, OnOk, OnErr};
+ghost use Rattle.std.specs.Arc.{arc_value};
+ghost use Rattle.cq_base.specs.declared.settings.Settings.{Settings};
+ghost use Rattle.cq_base.specs.declared.change.Change.{Change as Told};
+ghost use Rattle.cq_history.specs.State.{accepted, ready};
+ghost use Rattle.cq_cells.specs.Passes.{IsSameCaller, least};
+ghost use Rattle.cq_shard.specs.Shard.{StandsFor, HasWindow, HaveTheirWorks};
+ghost use Rattle.cq_shared.specs.Advancing.{AreWorksFrom, HasPublished};
+ghost use Rattle.cq_shared.specs.Calls.{Calls};
+ghost use Rattle.cq_shared.specs.SharedPasses.{IsPassOf, settings_of, state_of};
+
+use crate::deed::Deed;
+use crate::shared::Shared;
+use cq_base::{Memory, Steps};
+use cq_chain::Pass;
+use cq_hub::finished_works;
+use cq_shard::{Indexed, Shard};
+use std::alloc::Global;
+use std::marker::Brand;
+use std::sync::ledger::{Blank, Ledger};
+use std::sync::{Arc, Wait};
+
+impl<W: Indexed, R: Wait> Shared<W, R> {
+    /// Publishes the changes up to a number, all of which are done, and answers the last published version. The board gives
+    /// the owners of the works in one hold; each shard applies each further change in a hold of its own, with a look at each
+    /// key of its work; and the board publishes in another. Where memory is refused, some shards may be further on than what
+    /// is published.
+    pub fn advance(&self, alloc: Global, to: u64, pass: &mut Pass<W>) -> Result<u64, Memory>
+        requires of { IsPassOf self.now pass.old }
+        requires done { to ≤ ready (state_of self.now pass.old.seen) }
+        ensures published { Calls self.now pass.old pass.new [] (λ mid. IfOk result (λ version. HasPublished (state_of self.now mid) to version)) }
+        ensures asked { pass.new.asked ≡ pass.old.asked }
+    {
+        let (base, works) = self.works_up_to(alloc, to, pass)?;
+        if to <= base {
+            return Ok(base);
+        }
+        self.commit(base, to, &works, pass)?;
+        self.publish(alloc, to, pass)
+    }
+
+    // The last published version, and the works of the changes behind it up to another.
+    fn works_up_to(
+        &self,
+        alloc: Global,
+        to: u64,
+        pass: &mut Pass<W>,
+    ) -> Result<(u64, Vec<Option<Arc<W, Global>>>), Memory>
+        requires of { IsPassOf self.now pass.old }
+        requires done { to ≤ ready (state_of self.now pass.old.seen) }
+        ensures calls { Calls self.now pass.old pass.new [] (λ _. Unit {0}) }
+        ensures base { IfOk result (λ r. r.0 ≡ (state_of self.now pass.new.seen).published) }
+        ensures works { IfOk result (λ r. AreWorksFrom W.keys_in (W.IsWorkOf (settings_of self.now)) (accepted pass.new.seen) r.0 to r.1.items) }
+        ensures asked { pass.new.asked ≡ pass.old.asked }
+    {
+        let board = self.cells.enter_board(pass);
+        let base = board.published();
+        let works = finished_works(alloc, &board, base, to);
+        self.leave_after(board, pass, Deed::Nothing);
+        Ok((base, works?))
+    }
+
+    // Each shard applies the changes up to one.
+    fn commit(
+        &self,
+        base: u64,
+        to: u64,
+        works: &Vec<Option<Arc<W, Global>>>,
+        pass: &mut Pass<W>,
+    ) -> Result<(), Memory>
+        requires of { IsPassOf self.now pass.old }
+        requires base { (base < to) × (base ≤ (state_of self.now pass.old.seen).published) }
+        requires done { to ≤ ready (state_of self.now pass.old.seen) }
+        requires works { AreWorksFrom W.keys_in (W.IsWorkOf (settings_of self.now)) (accepted pass.old.seen) base to works.now.items }
+        ensures of { IsPassOf self.now pass.new × IsSameCaller pass.old pass.new }
+        ensures seen { pass.new.seen ≡ pass.old.seen }
+        ensures applied { OnOk result ((s : ℕ) → s < (settings_of self.now).shards → to ≤ least pass.new s) }
+    {
+        'shards: for number in 0..self.shards {
+            self.commit_shard(number, base, to, works, pass)?;
+        }
+        Ok(())
+    }
+
+    // One shard applies the changes up to one, one by one.
+    fn commit_shard(
+        &self,
+        number: u32,
+        base: u64,
+        to: u64,
+        works: &Vec<Option<Arc<W, Global>>>,
+        pass: &mut Pass<W>,
+    ) -> Result<(), Memory>
+        requires of { IsPassOf self.now pass.old }
+        requires number { number < (settings_of self.now).shards }
+        requires base { (base < to) × (base ≤ (state_of self.now pass.old.seen).published) }
+        requires done { to ≤ ready (state_of self.now pass.old.seen) }
+        requires works { AreWorksFrom W.keys_in (W.IsWorkOf (settings_of self.now)) (accepted pass.old.seen) base to works.now.items }
+        ensures of { IsPassOf self.now pass.new × IsSameCaller pass.old pass.new }
+        ensures seen { pass.new.seen ≡ pass.old.seen }
+        ensures more { (s : ℕ) → least pass.old s ≤ least pass.new s }
+        ensures applied { OnOk result (to ≤ least pass.new number) }
+    {
+        'changes: for _change in base..to {
+            self.apply_one(number, base, to, works, pass)?;
+        }
+        Ok(())
+    }
+
+    // The shard applies the next change, unless it has applied so many.
+    fn apply_one(
+        &self,
+        number: u32,
+        base: u64,
+        to: u64,
+        works: &Vec<Option<Arc<W, Global>>>,
+        pass: &mut Pass<W>,
+    ) -> Result<(), Memory>
+        requires of { IsPassOf self.now pass.old }
+        requires number { number < (settings_of self.now).shards }
+        requires base { (base < to) × (base ≤ (state_of self.now pass.old.seen).published) }
+        requires done { to ≤ ready (state_of self.now pass.old.seen) }
+        requires works { AreWorksFrom W.keys_in (W.IsWorkOf (settings_of self.now)) (accepted pass.old.seen) base to works.now.items }
+        ensures of { IsPassOf self.now pass.new × IsSameCaller pass.old pass.new }
+        ensures seen { pass.new.seen ≡ pass.old.seen }
+        ensures more { (s : ℕ) → least pass.old s ≤ least pass.new s }
+        ensures first { OnOk result (base + 1 ≤ least pass.new number) }
+        ensures next { OnOk result ((n : ℕ) → n ≤ least pass.old number → n < to → n + 1 ≤ least pass.new number) }
+    {
+        let mut shard = self.cells.enter_shard(number, pass);
+        let applied = shard.applied();
+        if applied >= to {
+            self.cells.leave_shard(number, shard, pass);
+            return Ok(());
+        }
+        let at = (applied - base) as usize;
+        let done = apply_next(&mut shard, &works[at..at + 1]);
+        self.cells.leave_shard(number, shard, pass);
+        done
+    }
+
+    // Publishes the changes up to one, where another has not published as many.
+    fn publish(&self, alloc: Global, to: u64, pass: &mut Pass<W>) -> Result<u64, Memory>
+        requires of { IsPassOf self.now pass.old }
+        requires done { to ≤ ready (state_of self.now pass.old.seen) }
+        requires applied { (s : ℕ) → s < (settings_of self.now).shards → to ≤ least pass.old s }
+        ensures published { Calls self.now pass.old pass.new [] (λ mid. IfOk result (λ version. HasPublished (state_of self.now mid) to version)) }
+        ensures asked { pass.new.asked ≡ pass.old.asked }
+    {
+        let mut board = self.cells.enter_board(pass);
+        let published = board.published();
+        if to <= published {
+            self.leave_after(board, pass, Deed::Nothing);
+            return Ok(published);
+        }
+        match board.publish(alloc, to) {
+            Ok(()) => {
+                self.leave_after(board, pass, Deed::Publish(to));
+                Ok(to)
+            }
+            Err(Memory) => {
+                self.leave_after(board, pass, Deed::Nothing);
+                Err(Memory)
+            }
+        }
+    }
+}
+
+// The shard applies the next change, whose work this is.
+fn apply_next<W: Indexed>(
+    shard: &mut Shard,
+    work: &[Option<Arc<W, Global>>],
+) -> Result<(), Memory>
+    requires one { length work.now ≡ 1 }
+    requires room { shard.old.applied + 1 < 2 ^ 64 }
+    requires few { All (λ work. IfSome work (λ w. length (W.keys_in (arc_value w)) < 2 ^ 32)) work.now }
+    ensures stands { (settings : Settings) (changes : List Told) → StandsFor (HasWindow W.keys_in W.IsWorkOf settings) changes shard.old → HaveTheirWorks (λ lang text w. W.IsWorkOf settings lang text (arc_value w)) changes shard.old.applied work.now → OnOk result (StandsFor (HasWindow W.keys_in W.IsWorkOf settings) changes shard.new) }
+    ensures applied { OnOk result (shard.new.applied ≡ shard.old.applied + 1) }
+    ensures kept { OnOk result ((shard.new.shard ≡ shard.old.shard) × (shard.new.shards ≡ shard.old.shards) × (shard.new.floor ≡ shard.old.floor)) }
+    ensures same { OnErr result (shard.new ≡ shard.old) }
+{
+    apply_counted::<W, Brand>(shard, work, Blank::new(1))
+}
+
+// The same on a ledger of its own, which nobody reads.
+fn apply_counted<W: Indexed, L: Ledger>(
+    shard: &mut Shard,
+    work: &[Option<Arc<W, Global>>],
+    blank: Blank,
+) -> Result<(), Memory>
+    requires name { blank.name ≡ L.name }
+    requires parts { blank.parts ≡ L.parts }
+    requires counter { L.parts ≡ 1 }
+    requires one { length work.now ≡ 1 }
+    requires room { shard.old.applied + 1 < 2 ^ 64 }
+    requires few { All (λ work. IfSome work (λ w. length (W.keys_in (arc_value w)) < 2 ^ 32)) work.now }
+    ensures stands { (settings : Settings) (changes : List Told) → StandsFor (HasWindow W.keys_in W.IsWorkOf settings) changes shard.old → HaveTheirWorks (λ lang text w. W.IsWorkOf settings lang text (arc_value w)) changes shard.old.applied work.now → OnOk result (StandsFor (HasWindow W.keys_in W.IsWorkOf settings) changes shard.new) }
+    ensures applied { OnOk result (shard.new.applied ≡ shard.old.applied + 1) }
+    ensures kept { OnOk result ((shard.new.shard ≡ shard.old.shard) × (shard.new.shards ≡ shard.old.shards) × (shard.new.floor ≡ shard.old.floor)) }
+    ensures same { OnErr result (shard.new ≡ shard.old) }
+{
+    let mut steps: Steps<L> = Steps::new(blank);
+    shard.apply_all(work, &mut steps)
+}

@@ -1,0 +1,166 @@
+ghost use Rattle.std.specs.Prelude.{◌≡◌, ◌⊎◌, ◌+◌, ◌-◌, ◌<◌, ◌≤◌, ◌^◌, [], ◌∷◌, ◌++◌, IfOk, IsSome};
+ghost use Rattle.std.specs.Arc.{arc_value};
+ghost use mathlib.Core.List.{IsPrefix};
+ghost use Rattle.cq_cells.specs.Callers.{longer};
+ghost use Rattle.cq_cells.specs.Passes.{by_of};
+ghost use Rattle.cq_chain.specs.Passes.{IsOwn, HasNoneFrom};
+ghost use Rattle.cq_history.specs.declared.event.Event.TheVariants as event;
+ghost use Rattle.cq_history.specs.Changes.{IsWorkFor};
+ghost use Rattle.cq_history.specs.State.{slot_of, view_of, IsAccepted, IsDone, IsUndone};
+ghost use Rattle.cq_hub.specs.Hubs.{Extends, HasSeen, Never};
+ghost use Rattle.cq_shared.specs.SharedPasses.{IsPassOf, SharedStands, settings_of, callers_of, state_of, asked_by};
+
+use cq_base::{Change, Entry, Memory, Settings};
+use cq_board::{Asked, Board, Finished, Job, Refused, View};
+use cq_chain::{Cells, Pass};
+use cq_hub::{Hub, shards_of};
+use cq_shard::Indexed;
+use std::alloc::Global;
+use std::sync::{Arc, Wait};
+
+/// A board and its shards, shared by the passes of any number of threads.
+#[derive(Drop)]
+pub struct Shared<W: Indexed, R> {
+    pub(crate) cells: Cells<W, R>,
+    pub(crate) shards: u32,
+}
+
+impl<W: Indexed, R> Shared<W, R> {
+    /// A hub of 1 to 1,024 callers before any event, and the pass of the first, who is number 0. It takes memory for a board
+    /// and its shards, and for a word and a slot of each.
+    pub fn new(
+        rt: R,
+        alloc: Global,
+        settings: &Settings,
+        callers: u32,
+    ) -> Result<(Shared<W, R>, Pass<W>), Memory>
+    where
+        R: Drop,
+        requires callers { (1 ≤ callers) × (callers ≤ 1024) }
+        requires shards { 1 ≤ settings.now.shards }
+        requires limit { settings.now.change_limit < 2 ^ 63 }
+        ensures stands { IfOk result (λ made. SharedStands made.0 made.1 0 []) }
+        ensures settings { IfOk result (λ made. settings_of made.0 ≡ settings.now) }
+        ensures callers { IfOk result (λ made. callers_of made.0 ≡ callers) }
+        ensures room { IfOk result (λ made. (made.1.next ≡ 1) × (made.1.room ≡ callers - 1)) }
+        ensures asked { IfOk result (λ made. made.1.asked ≡ 0) }
+    {
+        let board = Board::new(alloc, settings, callers)?;
+        let shards = shards_of(alloc, settings.shards)?;
+        let (cells, pass) = Cells::new(rt, alloc, board, shards)?;
+        let hub = Shared {
+            cells,
+            shards: settings.shards,
+        };
+        Ok((hub, pass))
+    }
+
+    /// The pass of the next caller, which has seen what this one has, and has asked for no bucket. It takes no memory.
+    pub fn split_pass(&self, pass: &mut Pass<W>) -> Pass<W>
+        requires of { IsPassOf self.now pass.old }
+        requires room { 0 < pass.old.room }
+        ensures of { IsPassOf self.now pass.new × IsPassOf self.now result }
+        ensures same { pass.new ≡ record pass.old { next = pass.old.next + 1; room = pass.old.room - 1 } }
+        ensures child { result ≡ record pass.old { callers = pass.old.next ∷ []; next = 0; room = 0; asked = 0 } }
+    {
+        self.cells.split_pass(pass)
+    }
+
+    /// Ends the callers of another pass: this one has then seen what either had, and has their numbers. One of the two had
+    /// seen what the other had. It takes no memory.
+    pub fn join_pass(&self, pass: &mut Pass<W>, other: Pass<W>)
+        requires of { IsPassOf self.now pass.old × IsPassOf self.now other }
+        ensures of { IsPassOf self.now pass.new }
+        ensures seen { pass.new.seen ≡ longer pass.old.seen other.seen }
+        ensures one_history { IsPrefix pass.old.seen other.seen ⊎ IsPrefix other.seen pass.old.seen }
+        ensures callers { pass.new.callers ≡ pass.old.callers ++ other.callers }
+        ensures room { (pass.new.next ≡ pass.old.next) × (pass.new.room ≡ pass.old.room) }
+        ensures own { IsOwn pass.old pass.new.seen × IsOwn other pass.new.seen }
+        ensures unmade { 0 < pass.new.next → HasNoneFrom pass.new.next pass.new.seen }
+        ensures asked { pass.new.asked ≡ pass.old.asked }
+    {
+        self.cells.join_pass(pass, other);
+    }
+}
+
+impl<W: Indexed, R: Wait> Hub<W> for Shared<W, R> {
+    ghost use Rattle.cq_shared.specs.SharedPasses.{settings_of, callers_of, asked_by, SharedStands, shared_lawful, shared_sound, shared_caller};
+
+    type Pass = Pass<W>;
+
+    ghost settings = { settings_of };
+
+    ghost callers = { callers_of };
+
+    ghost alone = { ⊥ };
+
+    ghost asked = { asked_by };
+
+    ghost Stands = { SharedStands };
+
+    ghost lawful = { λ hub pass c h is. shared_lawful hub pass c h is };
+
+    ghost sound = { λ hub pass c h is. shared_sound hub pass c h is };
+
+    ghost caller = { λ hub pass c h is. shared_caller hub pass c h is };
+
+    fn accept(
+        &self,
+        alloc: Global,
+        change: Change,
+        pass: &mut Pass<W>,
+    ) -> Result<u64, Refused> {
+        self.accept(alloc, change, pass)
+    }
+
+    fn ask(&self, pass: &mut Pass<W>) -> Asked {
+        self.ask(pass)
+    }
+
+    fn take(&self, pass: &mut Pass<W>) -> Result<Option<Job>, Memory> {
+        self.take(pass)
+    }
+
+    fn job(&self, change: u64, pass: &mut Pass<W>) -> Result<Option<Job>, Memory> {
+        self.job(change, pass)
+    }
+
+    fn back(&self, change: u64, pass: &mut Pass<W>) -> bool {
+        self.back(change, pass)
+    }
+
+    fn finish(&self, change: u64, work: Arc<W, Global>, pass: &mut Pass<W>) -> Finished
+        requires work { HasSeen SharedStands self.now pass.old (λ _ h. IsAccepted (state_of self.now h) change × IsWorkFor (W.IsWorkOf (settings_of self.now)) (slot_of (state_of self.now h) change).change (arc_value work)) }
+        ensures done { result ≡ Finished.Done → Extends SharedStands ⊥ Never self.now pass.old pass.new (λ c. event.Done c change ∷ []) (λ _ mid. IsUndone (state_of self.now mid) change) }
+        ensures already { result ≡ Finished.Already → Extends SharedStands ⊥ Never self.now pass.old pass.new (λ _. []) (λ _ mid. IsDone (state_of self.now mid) change) }
+        ensures asked { asked_by pass.new ≡ asked_by pass.old }
+    {
+        self.finish(change, work, pass)
+    }
+
+    fn advance(&self, alloc: Global, to: u64, pass: &mut Pass<W>) -> Result<u64, Memory> {
+        self.advance(alloc, to, pass)
+    }
+
+    fn open_view(&self, pass: &mut Pass<W>) -> Result<View<W>, Memory> {
+        self.open_view(pass)
+    }
+
+    fn read_bucket(
+        &self,
+        alloc: Global,
+        view: &View<W>,
+        key: u64,
+        pass: &mut Pass<W>,
+    ) -> Result<Vec<Entry>, Memory> {
+        self.read_bucket(alloc, view, key, pass)
+    }
+
+    fn close_view(&self, view: View<W>, pass: &mut Pass<W>)
+        requires viewing { HasSeen SharedStands self.now pass.old (λ c h. IsSome (view_of (state_of self.now h) c)) }
+        ensures shut { Extends SharedStands ⊥ Never self.now pass.old pass.new (λ c. event.Shut c ∷ []) (λ _ _. Unit {0}) }
+        ensures asked { asked_by pass.new ≡ asked_by pass.old }
+    {
+        self.close_view(view, pass)
+    }
+}
