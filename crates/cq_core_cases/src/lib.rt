@@ -16,3 +16,5 @@ mod projects;
 mod shards;
 #[cfg(test)]
 mod steps;
+#[cfg(test)]
+mod threads;

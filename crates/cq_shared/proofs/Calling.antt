@@ -1,5 +1,5 @@
 -- What a call does to what its pass has seen.
-use Rattle.std.proofs.Common.{◌≡◌, ◌≢◌, ◌⊎◌, ℕ, ◌+◌, ◌<◌, ◌≤◌, ◌==◌, Bool, true, false, cond, List, [], ◌∷◌, ◌++◌, length, drop, Option, Some, None, Result, Ok, Err, refl, sym, ap, ◌∙◌, subst, arith, append-nil, append_assoc, length-append, eq-eqb, ne_eqb}
+use Rattle.std.proofs.Common.{◌≡◌, ◌≢◌, ℕ, ◌+◌, ◌<◌, ◌≤◌, cond, List, [], ◌∷◌, ◌++◌, length, drop, Option, Some, None, Result, Ok, Err, refl, sym, ap, ◌∙◌, subst, arith, append-nil, length-append, ne_eqb}
 use Rattle.std.specs.Prelude.{◌↔◌, IfOk, IfSome, IsNone, MatchOption, option_to_list, slice_index}
 use Rattle.std.specs.List.{AllByRecursion}
 use mathlib.Core.List.{IsPrefix}
@@ -7,10 +7,9 @@ use Rattle.cq_base.specs.declared.memory.Memory.{Memory}
 use Rattle.cq_base.specs.declared.change.Change.{Change}
 use Rattle.cq_base.specs.declared.settings.Settings.{Settings}
 use Rattle.cq_history.specs.declared.event.Event.{Event}
-use Rattle.cq_history.specs.declared.event.Event.TheVariants.{Accept, Ask, Took, Back, Done, Publish, Open, Shut, Floor}
+use Rattle.cq_history.specs.declared.event.Event.TheVariants.{Accept, Ask, Took, Back, Done, Publish, Open, Shut}
 use Rattle.cq_history.specs.State.{State, state, own, maker, is_by, accepted, ready, slot_of, view_of, IsAccepted, IsDone}
 use Rattle.cq_history.specs.Lawful.{Lawful}
-use Rattle.cq_history.proofs.States.{state_push}
 use Rattle.cq_history.proofs.Prefixes.{own-append, accepted-append}
 use Rattle.cq_history.proofs.Doing.{slots_number, accepted_stays}
 use Rattle.cq_history.proofs.Falling.{never_falls}
@@ -19,7 +18,7 @@ use Rattle.cq_board.specs.Sound.{HasSoundText}
 use Rattle.cq_board.specs.declared.answers.Job.{Job}
 use Rattle.cq_board.specs.Stands.{BoardState, Adds}
 use Rattle.cq_cells.specs.Callers.{Each, Differ}
-use Rattle.cq_cells.specs.Passes.{IsFree, IsSameCaller, HasBoard, by_of, least}
+use Rattle.cq_cells.specs.Passes.{IsFree, IsSameCaller, by_of, least}
 use Rattle.cq_chain.specs.declared.about.About.{About}
 use Rattle.cq_chain.specs.Held.{IsBoard, state_in}
 use Rattle.cq_chain.specs.Passes as chain

@@ -167,10 +167,7 @@ impl<W: Indexed, R: Wait> Shared<W, R> {
 }
 
 // The shard applies the next change, whose work this is.
-fn apply_next<W: Indexed>(
-    shard: &mut Shard,
-    work: &[Option<Arc<W, Global>>],
-) -> Result<(), Memory>
+fn apply_next<W: Indexed>(shard: &mut Shard, work: &[Option<Arc<W, Global>>]) -> Result<(), Memory>
     requires one { length work.now ≡ 1 }
     requires room { shard.old.applied + 1 < 2 ^ 64 }
     requires few { All (λ work. IfSome work (λ w. length (W.keys_in (arc_value w)) < 2 ^ 32)) work.now }

@@ -83,12 +83,7 @@ impl<W: Indexed, R: Wait> Shared<W, R> {
     }
 
     /// Accepts a change, and answers its number, or the first cause against it.
-    pub fn accept(
-        &self,
-        alloc: Global,
-        change: Change,
-        pass: &mut Pass<W>,
-    ) -> Result<u64, Refused>
+    pub fn accept(&self, alloc: Global, change: Change, pass: &mut Pass<W>) -> Result<u64, Refused>
         requires of { IsPassOf self.now pass.old }
         requires sound { IsSoundChange change }
         ensures accepted { IfOk result (λ number. Calls self.now pass.old pass.new (happened.Accept (by_of pass.old) change ∷ []) (IsAcceptedAs (settings_of self.now) (callers_of self.now) change number)) }

@@ -14,4 +14,3 @@ mod deed;
 mod shared;
 
 pub use shared::Shared;
-

@@ -104,12 +104,7 @@ impl<W: Indexed, R: Wait> Hub<W> for Shared<W, R> {
 
     ghost caller = { λ hub pass c h is. shared_caller hub pass c h is };
 
-    fn accept(
-        &self,
-        alloc: Global,
-        change: Change,
-        pass: &mut Pass<W>,
-    ) -> Result<u64, Refused> {
+    fn accept(&self, alloc: Global, change: Change, pass: &mut Pass<W>) -> Result<u64, Refused> {
         self.accept(alloc, change, pass)
     }
 

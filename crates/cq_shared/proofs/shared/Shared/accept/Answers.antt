@@ -1,22 +1,11 @@
-use Rattle.std.proofs.Common.{rules, arith, refl, sym, ap, ◌∙◌, subst, subst₂, ◌≡◌, ◌⊎◌, ◌+◌, ◌<◌, ◌∷◌, ◌++◌, [], List, length, take, ℕ, None, Some, Ok, Option, inl, inr, ⊎_elim}
-use Rattle.std.specs.Prelude.{IfOk, IfSome, IsSome, IsNone, option_to_list}
-use Rattle.std.specs.Arc.{arc_value}
-use Rattle.std.proofs.lemmas.Bool.{iff_false}
-use Rattle.cq_base.specs.declared.settings.Settings.{Settings}
-use Rattle.cq_history.specs.Changes.{IsWorkFor}
-use Rattle.cq_history.specs.State.{State, accepted, changes_in, view_of, slot_of, first_free, IsAccepted, IsDone, IsUndone, IsTakenBy}
+use Rattle.std.proofs.Common.{ap, ◌∙◌, subst₂, ◌≡◌, ◌⊎◌, ◌∷◌, ◌++◌, [], None, Some}
 use Rattle.cq_history.specs.declared.event.Event.TheVariants as event
-use Rattle.cq_history.proofs.Doing.{accepted_stays}
-use Rattle.cq_board.specs.Answers.{asked_of, refusal_of, IsJob}
-use Rattle.cq_board.specs.declared.answers.Finished.{Finished}
+use Rattle.cq_board.specs.Answers.{refusal_of}
 use Rattle.cq_board.specs.declared.answers.Refused.TheVariants as refused
-use Rattle.cq_hub.specs.Says.{IsFirstFree, IsNoneFree, IsJobFor}
-use Rattle.cq_hub.specs.Views.{IsLatest}
-use Rattle.cq_hub.proofs.Soloing.{not_done}
-use Rattle.cq_hub.proofs.Staying.{viewing_stays, closed_stays}
+use Rattle.cq_cells.specs.Passes.{by_of}
 use Rattle.cq_shared.specs.declared.deed.Deed.TheVariants as deed
-use Rattle.cq_shared.specs.SharedPasses.{cells_of, settings_of, callers_of, state_of}
-use Rattle.cq_shared.proofs.Calling.{state_is, adds_board, same_board, called, called_accepted, number_is, accepted_seen, view_seen, job_for}
+use Rattle.cq_shared.specs.SharedPasses.{cells_of}
+use Rattle.cq_shared.proofs.Calling.{state_is, adds_board, called, called_accepted, number_is}
 use Rattle.cq_shared.proofs.shared.Shared.accept.Goals as goal
 
 pub returns-in-Ok-clause-accepted : goal.returns-in-Ok-clause-accepted
@@ -32,8 +21,8 @@ returns-in-Ok-clause-accepted g c =
       c.in-Ok.ensures.number ∙ number_is (cells_of hub).about m.seen c.accept.new.self c.by-by.result c.args.change (adds_board (cells_of hub).about m.seen b c.accept.new.self (event.Accept c.by-by.result c.args.change) e.board c.in-Ok.ensures.adds),
     )
 
-pub returns-in-Err-clause-refused : goal.returns-in-Err-clause-refused
-returns-in-Err-clause-refused g c =
+pub returns-clause-refused : goal.returns-clause-refused
+returns-clause-refused g c =
     let e = c.enter_board-board.ensures in
     let m = c.enter_board-board.new.pass in
     let b = c.enter_board-board.result in

@@ -1,22 +1,10 @@
-use Rattle.std.proofs.Common.{rules, arith, refl, sym, ap, ◌∙◌, subst, subst₂, ◌≡◌, ◌⊎◌, ◌+◌, ◌<◌, ◌∷◌, ◌++◌, [], List, length, take, ℕ, None, Some, Ok, Option, inl, inr, ⊎_elim}
-use Rattle.std.specs.Prelude.{IfOk, IfSome, IsSome, IsNone, option_to_list}
-use Rattle.std.specs.Arc.{arc_value}
-use Rattle.std.proofs.lemmas.Bool.{iff_false}
-use Rattle.cq_base.specs.declared.settings.Settings.{Settings}
-use Rattle.cq_history.specs.Changes.{IsWorkFor}
-use Rattle.cq_history.specs.State.{State, accepted, changes_in, view_of, slot_of, first_free, IsAccepted, IsDone, IsUndone, IsTakenBy}
-use Rattle.cq_history.specs.declared.event.Event.TheVariants as event
-use Rattle.cq_history.proofs.Doing.{accepted_stays}
-use Rattle.cq_board.specs.Answers.{asked_of, refusal_of, IsJob}
-use Rattle.cq_board.specs.declared.answers.Finished.{Finished}
-use Rattle.cq_board.specs.declared.answers.Refused.TheVariants as refused
-use Rattle.cq_hub.specs.Says.{IsFirstFree, IsNoneFree, IsJobFor}
-use Rattle.cq_hub.specs.Views.{IsLatest}
-use Rattle.cq_hub.proofs.Soloing.{not_done}
-use Rattle.cq_hub.proofs.Staying.{viewing_stays, closed_stays}
+use Rattle.std.proofs.Common.{sym, subst}
+use Rattle.std.specs.Prelude.{IfOk}
+use Rattle.cq_history.specs.State.{State, IsAccepted}
+use Rattle.cq_hub.specs.Says.{IsJobFor}
 use Rattle.cq_shared.specs.declared.deed.Deed.TheVariants as deed
-use Rattle.cq_shared.specs.SharedPasses.{cells_of, settings_of, callers_of, state_of}
-use Rattle.cq_shared.proofs.Calling.{state_is, adds_board, same_board, called, called_accepted, number_is, accepted_seen, view_seen, job_for}
+use Rattle.cq_shared.specs.SharedPasses.{cells_of}
+use Rattle.cq_shared.proofs.Calling.{state_is, called, accepted_seen, job_for}
 use Rattle.cq_shared.proofs.shared.Shared.job.Goals as goal
 
 pub job-job-requires : goal.job-job-requires

@@ -1,4 +1,4 @@
-use Rattle.std.proofs.Common.{rules, sym, subst, ◌≡◌, ◌++◌}
+use Rattle.std.proofs.Common.{rules, sym, subst, ◌++◌}
 use Rattle.std.specs.Prelude.{IfSome, option_to_list}
 use Rattle.cq_chain.specs.Held.{IsBoard}
 use Rattle.cq_chain.specs.Passes.{MayAdd}

@@ -1,9 +1,9 @@
-use Rattle.std.proofs.Common.{◌≡◌, ◌≤◌, ◌++◌, ◌∷◌, [], refl, sym, ap, ◌∙◌, subst, arith}
+use Rattle.std.proofs.Common.{◌≤◌, sym, ap, ◌∙◌, subst, arith}
 use Rattle.cq_history.specs.declared.event.Event.TheVariants as event
 use Rattle.cq_history.specs.State.{State, ready}
 use Rattle.cq_history.proofs.States.{state_push}
 use Rattle.cq_shared.specs.declared.deed.Deed.TheVariants as deed
-use Rattle.cq_shared.specs.SharedPasses.{cells_of, callers_of, settings_of, state_of}
+use Rattle.cq_shared.specs.SharedPasses.{cells_of, callers_of, settings_of}
 use Rattle.cq_shared.proofs.Calling.{state_is, called, called_published, ready_seen}
 use Rattle.cq_shared.proofs.shared.Shared.publish.Goals as goal
 

@@ -1,4 +1,4 @@
-use Rattle.std.proofs.Common.{◌≡◌, ◌%◌, ◌≤◌, ℕ, refl, sym, ap, ◌∙◌, subst, take, arith, rules}
+use Rattle.std.proofs.Common.{◌≡◌, ◌%◌, ◌≤◌, sym, ap, ◌∙◌, subst, take, arith, rules}
 use Rattle.std.proofs.lemmas.Result.{IfOk-weaker}
 use Rattle.cq_history.specs.State.{changes_in}
 use Rattle.cq_shard.specs.Shard.{HasWindow}
@@ -31,7 +31,7 @@ returns-clause-reads g c =
     let opened = c.requires.viewing in
     let seen : q.seen ≡ p.seen = ap (λ r. r.seen) c.count_read.ensures ∙ l.seen ∙ e.seen in
     let live = subst (AreLive (take c.args.view.now.version (changes_in (state_of hub p.seen)))) (sym (c.live.ensures ∙ ap (λ x. x.live) c.deref.ensures)) opened.shows.numbers in
-    let number : c.args.key % about.settings.shards ≡ c.number.result = search rules in
+    let number : c.args.key % about.settings.shards ≡ c.args.key % c.from.result = ap (λ n. c.args.key % n) (sym (c.from.ensures ∙ c.requires.of.shards)) in
     stays hub p q _ (search rules)
     (ap (λ r. r.callers) c.count_read.ensures ∙ l.same.callers ∙ e.same.callers) (ap (λ r. r.next) c.count_read.ensures ∙ l.same.next ∙ e.same.next) (ap (λ r. r.room) c.count_read.ensures ∙ l.same.room ∙ e.same.room) seen
     (IfOk-weaker c.bucket-bucket.result _ _
@@ -43,8 +43,8 @@ returns-clause-reached g c =
     let hub = c.args.self.now in
     let p = c.args.pass.now in
     let e = c.enter_shard-shard.ensures in
-    let number : c.args.key % (settings_of hub).shards ≡ c.number.result = search rules in
+    let number : c.args.key % (settings_of hub).shards ≡ c.args.key % c.from.result = ap (λ n. c.args.key % n) (sym (c.from.ensures ∙ c.requires.of.shards)) in
     let open_is = applied_open (cells_of hub).about p.seen c.requires.of.of.law (by_of p) c.args.view.now.version c.requires.viewing.version c.enter_shard-shard.result.applied e.published in
     let here = c.leave_shard.ensures.reached.here in
-    let same = ap (λ r. least r c.number.result) c.count_read.ensures in
+    let same = ap (λ r. least r (c.args.key % c.from.result)) c.count_read.ensures in
     subst (λ n. c.args.view.now.version ≤ least c.count_read.new.self n) (sym number) (omega (arith, open_is, here, same))

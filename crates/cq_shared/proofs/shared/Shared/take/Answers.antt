@@ -1,22 +1,9 @@
-use Rattle.std.proofs.Common.{rules, arith, refl, sym, ap, ◌∙◌, subst, subst₂, ◌≡◌, ◌⊎◌, ◌+◌, ◌<◌, ◌∷◌, ◌++◌, [], List, length, take, ℕ, None, Some, Ok, Option, inl, inr, ⊎_elim}
-use Rattle.std.specs.Prelude.{IfOk, IfSome, IsSome, IsNone, option_to_list}
-use Rattle.std.specs.Arc.{arc_value}
-use Rattle.std.proofs.lemmas.Bool.{iff_false}
-use Rattle.cq_base.specs.declared.settings.Settings.{Settings}
-use Rattle.cq_history.specs.Changes.{IsWorkFor}
-use Rattle.cq_history.specs.State.{State, accepted, changes_in, view_of, slot_of, first_free, IsAccepted, IsDone, IsUndone, IsTakenBy}
-use Rattle.cq_history.specs.declared.event.Event.TheVariants as event
-use Rattle.cq_history.proofs.Doing.{accepted_stays}
-use Rattle.cq_board.specs.Answers.{asked_of, refusal_of, IsJob}
-use Rattle.cq_board.specs.declared.answers.Finished.{Finished}
-use Rattle.cq_board.specs.declared.answers.Refused.TheVariants as refused
-use Rattle.cq_hub.specs.Says.{IsFirstFree, IsNoneFree, IsJobFor}
-use Rattle.cq_hub.specs.Views.{IsLatest}
-use Rattle.cq_hub.proofs.Soloing.{not_done}
-use Rattle.cq_hub.proofs.Staying.{viewing_stays, closed_stays}
+use Rattle.std.proofs.Common.{rules, arith, refl, sym, ap, subst, Ok}
+use Rattle.cq_history.specs.State.{State, IsAccepted}
+use Rattle.cq_hub.specs.Says.{IsFirstFree, IsNoneFree}
 use Rattle.cq_shared.specs.declared.deed.Deed.TheVariants as deed
-use Rattle.cq_shared.specs.SharedPasses.{cells_of, settings_of, callers_of, state_of}
-use Rattle.cq_shared.proofs.Calling.{state_is, adds_board, same_board, called, called_accepted, number_is, accepted_seen, view_seen, job_for}
+use Rattle.cq_shared.specs.SharedPasses.{cells_of}
+use Rattle.cq_shared.proofs.Calling.{state_is, same_board, called}
 use Rattle.cq_shared.proofs.shared.Shared.take.Goals as goal
 
 pub returns-in-Ok-Some-clause-taken : goal.returns-in-Ok-Some-clause-taken
@@ -32,6 +19,14 @@ returns-in-Ok-Some-clause-taken g c =
     let there = rw c.in-Ok-Some.field-0-is at c.in-Ok-Some.ensures.unchanged in
     called c.args.self.now c.args.pass.now m c.leave_after.new.pass c.requires.of e.seen e.own e.same c.leave_after.ensures.of c.leave_after.ensures.free c.leave_after.ensures.same (deed.Took c.in-Ok-Some.job.change) _ c.leave_after.ensures.seen
     (subst (λ (s : State). IsFirstFree s c.in-Ok-Some.job) is (first, subst (IsAccepted b.state) (sym first) there, job, text))
+
+pub leave_after-requires-in-Ok-None : goal.leave_after-requires-in-Ok-None
+leave_after-requires-in-Ok-None g c =
+    let e = c.enter_board-board.ensures in
+    let m = c.enter_board-board.new.pass in
+    let b = c.enter_board-board.result in
+    let unchanged = rw c.in-Ok-None.field-0-is at c.in-Ok-None.ensures.unchanged in
+    λ κs out. (search rules, (search rules, (refl, (e.of, ((b, e.hand), ((λ s near. omega arith), same_board (cells_of c.args.self.now).about m.seen b c.take.new.self e.board unchanged))))))
 
 pub returns-in-Ok-None-clause-taken : goal.returns-in-Ok-None-clause-taken
 returns-in-Ok-None-clause-taken g c =

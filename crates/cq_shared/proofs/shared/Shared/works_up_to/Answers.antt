@@ -1,4 +1,4 @@
-use Rattle.std.proofs.Common.{◌≡◌, ◌≤◌, refl, sym, ap, ◌∙◌, subst, subst₂, append-nil}
+use Rattle.std.proofs.Common.{◌≡◌, ◌≤◌, sym, ap, ◌∙◌, subst, subst₂, append-nil}
 use Rattle.cq_history.specs.State.{State, accepted, changes_in, ready}
 use Rattle.cq_history.proofs.Prefixes.{changes_in-state}
 use Rattle.cq_shared.specs.declared.deed.Deed.TheVariants as deed
@@ -12,7 +12,7 @@ finished_works-works-requires g c =
     let e = c.enter_board-board.ensures in
     let m = c.enter_board-board.new.pass in
     let hub = c.args.self.now in
-    subst (λ (s : State). c.args.to ≤ ready s) (sym (state_is (cells_of hub).about m.seen c.enter_board-board.result e.board)) (ready_seen hub (settings_of hub) c.args.pass.now.seen m.seen e.seen e.of.law.lawful c.args.to c.requires.done)
+    record { done = subst (λ (s : State). c.args.to ≤ ready s) (sym (state_is (cells_of hub).about m.seen c.enter_board-board.result e.board)) (ready_seen hub (settings_of hub) c.args.pass.now.seen m.seen e.seen e.of.law.lawful c.args.to c.requires.done) }
 
 pub returns-clause-calls : goal.returns-clause-calls
 returns-clause-calls g c =

@@ -1,13 +1,7 @@
-use Rattle.std.proofs.Common.{◌≡◌, ◌≤◌, sym, subst, subst₂, None}
-use Rattle.std.specs.Prelude.{IsSome}
-use Rattle.std.specs.Arc.{arc_value}
-use Rattle.std.proofs.lemmas.Bool.{OnTrue_at, OnTrue_from, OnFalse_at, OnFalse_from}
-use Rattle.std.proofs.lemmas.Result.{IfOk-weaker, IfErr-weaker, on_err_weaker}
-use Rattle.cq_history.specs.Changes.{IsWorkFor}
-use Rattle.cq_history.specs.State.{ready, slot_of, view_of, IsAccepted}
-use Rattle.cq_hub.specs.Views.{IsOpen}
-use Rattle.cq_shared.specs.SharedPasses.{settings_of, state_of}
-use Rattle.cq_shared.proofs.Calling.{extends, match_weaker}
+use Rattle.std.proofs.Common.{◌≤◌, sym, subst}
+use Rattle.cq_history.specs.State.{ready}
+use Rattle.cq_shared.specs.SharedPasses.{state_of}
+use Rattle.cq_shared.proofs.Calling.{extends}
 use Rattle.cq_shared.proofs.shared.SharedHub.advance.Goals as goal
 
 pub advance-requires : goal.advance-requires
