@@ -8,6 +8,7 @@ pub mod Falling
 pub mod Holders
 pub mod Openings
 pub mod Doing
+pub mod Holding
 pub mod Lasting
 pub mod Gates
 pub mod PathOrder

@@ -3,8 +3,9 @@ use Rattle.std.specs.Prelude.{◌≡◌, ◌⊎◌, ◌↔◌, ℕ, ◌<◌, ◌
 use Rattle.cq_base.specs.declared.settings.Settings.{Settings}
 use Rattle.cq_base.specs.declared.change.Change.{Change}
 use Rattle.cq_history.specs.declared.event.Event.{Event}
+use Rattle.cq_history.specs.declared.event.Event.TheVariants.{Took, Back, Done}
 use Rattle.cq_history.specs.Changes.{is_put}
-use Rattle.cq_history.specs.State.{State, state, after, changes_in, accepted, maker, own, ready, view_of, slot_of, IsAccepted, IsDone, AreDoneUpTo}
+use Rattle.cq_history.specs.State.{State, state, after, changes_in, accepted, maker, own, ready, view_of, slot_of, IsAccepted, IsDone, IsTakenBy, AreDoneUpTo}
 use Rattle.cq_history.specs.Lasts.{holder_in, IsDoneIn, view_in, published_in, floor_in}
 use Rattle.cq_history.specs.Lawful.{Lawful}
 use Rattle.cq_history.specs.Files.{Source, files_at, files_of, files_after, has_file, is_path_put, conditions_at, conditions_of}
@@ -102,3 +103,11 @@ AcceptedChangesStay = (callers : ℕ) (h later : List Event) (r : ℕ) → IsAcc
 
 abbrev pub DoneChangesStay : Type 0
 DoneChangesStay = (settings : Settings) (callers : ℕ) (h later : List Event) (r : ℕ) → Lawful settings callers (h ++ later) → IsDone (state callers h) r → IsDone (state callers (h ++ later)) r
+
+-- what a caller has taken goes by its own events: it had it before, or took it since
+abbrev pub TakenGoesByOwnEvents : Type 0
+TakenGoesByOwnEvents = (settings : Settings) (callers : ℕ) (h later : List Event) (by r : ℕ) → Lawful settings callers (h ++ later) → IsTakenBy (state callers (h ++ later)) r by → IsTakenBy (state callers h) r by ⊎ Contains (own by later) (Took by r)
+
+-- nobody has a change that was just given back, or is done
+abbrev pub NobodyHasWhatIsOver : Type 0
+NobodyHasWhatIsOver = (settings : Settings) (callers : ℕ) (h : List Event) (e : Event) (c by r : ℕ) → Lawful settings callers (h ++ e ∷ []) → (e ≡ Back c r) ⊎ (e ≡ Done c r) → IsTakenBy (state callers (h ++ e ∷ [])) r by → ⊥

@@ -109,6 +109,16 @@ pub fn done_changes_stay()
     ensures { law.DoneChangesStay }
 {}
 
+/// What a caller has taken goes by its own events: it had it before, or took it since.
+pub fn taken_goes_by_own_events()
+    ensures { law.TakenGoesByOwnEvents }
+{}
+
+/// Nobody has a change that was just given back, or is done.
+pub fn nobody_has_what_is_over()
+    ensures { law.NobodyHasWhatIsOver }
+{}
+
 /// A history that was worked out by hand is lawful and leaves what it should.
 pub fn the_script_is_as_worked_out()
     ensures { IsAsWorkedOut }
