@@ -10,12 +10,24 @@ use Rattle.cq_history.specs.State.{changes_in, text_bytes, is_done}
 use Rattle.cq_board.specs.declared.kept.Kept.{Kept}
 use Rattle.cq_board.specs.declared.kept.FileKey.{FileKey}
 use Rattle.cq_board.specs.Listings.{Listed, IsListing}
+use Rattle.cq_board.specs.Turnover.{IsNextListing}
+use Rattle.cq_board.specs.declared.listing.Next.{Next}
+use Rattle.std.specs.Arc.{arc_value}
+use Rattle.std.specs.declared.sync.Arc.{Arc}
+use Rattle.std.specs.declared.alloc.Global.{Global}
 use Rattle.cq_board.specs.Presence.{IsPresence}
 use Rattle.cq_board.specs.Slots.{slot_from, state_from, IsWorked, IsNoneFree}
 
 module _ {W : Type 0} where
   abbrev pub changes_from : List (Kept W) → List Change
   changes_from slots = changes_in (state_from slots 0 0 [])
+
+  -- the listing is that of a version
+  abbrev pub IsListingAt : (Lang → List ℕ → W → Type 0) → List (Kept W) → ℕ → Arc (Listed W) Global → Type 0
+  IsListingAt IsWork slots version listing = IsListing IsWork (take version (changes_from slots)) (arc_value listing)
+
+  abbrev pub IsNextListingAt : (Lang → List ℕ → W → Type 0) → List (Kept W) → ℕ → List ℕ → Next W → Type 0
+  IsNextListingAt IsWork slots version base next = IsNextListing IsWork (take version (changes_from slots)) base next
 
   -- what is kept of the changes: the bytes of their texts, up to which all are done, and before which none may be taken
   pub record SlotsOk (IsWork : Lang → List ℕ → W → Type 0) (settings : Settings) (slots : List (Kept W)) (bytes done free : ℕ) : Type 0 where

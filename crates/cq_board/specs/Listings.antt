@@ -39,3 +39,7 @@ module _ {W : Type 0} where
     pub files : (q : List ℕ) → AreSameFiles IsWork (files_of q changes) (files_in l.projects q)
     pub conditions : (q : List ℕ) → conditions_in l.projects q ≡ conditions_of q changes
     pub numbers : AreLive changes l.live
+
+  -- whatever changes the one is the listing of, so is the other
+  abbrev pub ListsTheSame : (Lang → List ℕ → W → Type 0) → Listed W → Listed W → Type 0
+  ListsTheSame IsWork old new = (changes : List Change) → IsListing IsWork changes old → IsListing IsWork changes new

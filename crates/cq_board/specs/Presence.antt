@@ -1,5 +1,5 @@
 -- At which places a file stands.
-use Rattle.std.specs.Prelude.{◌≡◌, List}
+use Rattle.std.specs.Prelude.{◌≡◌, List, [], ◌∷◌, ◌++◌}
 use Rattle.std.specs.Arc.{arc_value}
 use Rattle.std.specs.BTreeSet.{BTreeSet, contains}
 use Rattle.std.specs.declared.cmp.Ordering.{Ordering}
@@ -15,3 +15,7 @@ key_cmp = key_order.ghosts.cmp
 -- the set has exactly the places at which a file stands after the changes
 abbrev pub IsPresence : List Change → BTreeSet FileKey → Type 0
 IsPresence changes there = (k : FileKey) → contains key_cmp there k ≡ has_file (arc_value k.path) (files_of (arc_value k.project) changes)
+
+-- whatever changes the set has the places of, it has those of one change more
+abbrev pub AddsPlace : Change → BTreeSet FileKey → BTreeSet FileKey → Type 0
+AddsPlace change old new = (changes : List Change) → IsPresence changes old → IsPresence (changes ++ change ∷ []) new

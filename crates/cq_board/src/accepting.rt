@@ -1,4 +1,4 @@
-ghost use Rattle.std.specs.Prelude.{◌≡◌, ◌≤◌, [], IfOk, length};
+ghost use Rattle.std.specs.Prelude.{◌≡◌, ◌≤◌, [], IfOk};
 ghost use Rattle.cq_history.specs.Changes.{text_len};
 ghost use Rattle.cq_history.specs.State.{text_bytes};
 ghost use Rattle.cq_board.specs.Answers.{refusal_of};

@@ -1,14 +1,13 @@
-ghost use Rattle.std.specs.Prelude.{◌≡◌, ◌+◌, ◌<◌, ◌≤◌, ℕ, [], length, OnOk, IfOk, OnErr, IfSome, MatchOption, MatchResult, ◌⊎◌, None, IsSome, IsTrue, IsNone, false, ◌↔◌, All, take, fold, replicate};
+ghost use Rattle.std.specs.Prelude.{◌≡◌, ◌+◌, ◌<◌, ◌≤◌, [], length, OnOk, IfOk, OnErr, IfSome, MatchOption, None, IsSome, IsTrue, IsNone, false, ◌↔◌, take, fold, replicate};
 ghost use Rattle.cq_history.specs.declared.event.Event.TheVariants as event;
 ghost use Rattle.std.specs.Arc.{arc_value};
 ghost use Rattle.std.specs.Bool.{OnTrue, OnFalse};
-ghost use Rattle.cq_history.specs.State.{first_free, ready, view_of, slot_of, changes_in, IsAccepted, IsDone, IsUndone, IsTakenBy};
+ghost use Rattle.cq_history.specs.State.{first_free, ready, view_of, slot_of, IsAccepted, IsDone, IsUndone, IsTakenBy};
 ghost use Rattle.cq_board.specs.Stands.{BoardState, StandsFor, Adds, IsCaller};
-ghost use Rattle.cq_board.specs.Answers.{asked_of, greatest_floor, lower, refusal_of, IsJob, IsDonePut};
+ghost use Rattle.cq_board.specs.Answers.{asked_of, greatest_floor, lower, IsJob, IsDonePut, IsWorkAt, HasFree, IsViewOf, TellsCause};
 ghost use Rattle.cq_history.specs.Changes.{IsWorkFor};
 ghost use Rattle.cq_base.specs.Changes.{IsSoundChange};
 ghost use Rattle.cq_board.specs.Sound.{HasSoundText, HaveFewConditions};
-ghost use Rattle.cq_board.specs.Listings.{IsListing};
 
 use crate::accepting::{refusal, stored, text_len};
 use crate::kept::{FileKey, Kept};
@@ -104,7 +103,7 @@ impl<W: Indexed> Board<W> {
     /// The work of a done put, and None for any other number.
     pub fn finished_work(&self, change: u64) -> Result<Option<Arc<W, Global>>, Memory>
         ensures some { IfOk result (λ work. IsSome work ↔ IsDonePut self.now.state change) }
-        ensures work { IfOk result (λ work. IfSome work (λ w. IsWorkFor (W.IsWorkOf self.now.settings) (slot_of self.now.state change).change (arc_value w))) }
+        ensures work { IfOk result (λ work. IfSome work (IsWorkAt (W.IsWorkOf self.now.settings) self.now.state change)) }
     {
         if change == 0 || change > self.slots.len() as u64 {
             return Ok(None);
@@ -194,7 +193,7 @@ impl<W: Indexed> Board<W> {
         requires sound { IsSoundChange change }
         ensures adds { OnOk result (Adds (event.Accept by change) self.old self.new) }
         ensures number { IfOk result (λ number. number ≡ length self.new.state.slots) }
-        ensures cause { MatchResult result (λ _. refusal_of self.old.settings self.old.state change ≡ None) (λ e. (e ≡ Refused.Memory) ⊎ (refusal_of self.old.settings self.old.state change ≡ Some e)) }
+        ensures cause { TellsCause self.old.settings self.old.state change result }
         ensures err { OnErr result (self.new ≡ self.old) }
     {
         let change = stored(alloc, change)?;
@@ -254,7 +253,7 @@ impl<W: Indexed> Board<W> {
         ensures text { IfOk result (λ job. IfSome job HasSoundText) }
         ensures first { IfOk result (λ job. IfSome job (λ j. j.change ≡ first_free self.old.state)) }
         ensures none { result ≡ Ok None → length self.old.state.slots < first_free self.old.state }
-        ensures unchanged { IfOk result (λ job. MatchOption job (self.new ≡ self.old) (λ _. IsAccepted self.old.state (first_free self.old.state))) }
+        ensures unchanged { IfOk result (λ job. MatchOption job (self.new ≡ self.old) (λ _. HasFree self.old.state)) }
         ensures err { OnErr result (self.new ≡ self.old) }
     {
         let i = first_free(&self.slots, self.free);
@@ -297,7 +296,7 @@ impl<W: Indexed> Board<W> {
         requires closed { view_of self.old.state by ≡ None }
         ensures adds { IfOk result (λ view. Adds (event.Open by view.version) self.old self.new) }
         ensures version { IfOk result (λ view. view.version ≡ self.old.state.published) }
-        ensures listing { IfOk result (λ view. IsListing (W.IsWorkOf self.old.settings) (take view.version (changes_in self.old.state)) (arc_value view.listing)) }
+        ensures listing { IfOk result (IsViewOf (W.IsWorkOf self.old.settings) self.old.state) }
         ensures conditions { IfOk result (λ view. HaveFewConditions (arc_value view.listing).projects) }
         ensures err { OnErr result (self.new ≡ self.old) }
     {

@@ -1,16 +1,15 @@
-ghost use Rattle.std.specs.Prelude.{◌≡◌, ◌+◌, ◌<◌, ◌≤◌, ◌↔◌, ℕ, [], ◌∷◌, ◌++◌, List, IfOk, OnOk, OnErr, true, length, take, map, All, Contains};
+ghost use Rattle.std.specs.Prelude.{◌≡◌, ◌+◌, ◌<◌, ◌≤◌, [], ◌++◌, IfOk, OnOk, OnErr, true, take, map, All};
 ghost use Rattle.std.specs.List.Sorted.{IsStrictlyIncreasing};
 ghost use Rattle.std.specs.Arc.{arc_value};
 ghost use Rattle.std.specs.List.{prefix_len};
-ghost use Rattle.cq_base.specs.declared.change.Change.{Change};
 ghost use Rattle.cq_history.specs.State.{is_done};
 ghost use Rattle.cq_board.specs.Slots.{slot_from, change_of, IsWorked};
-ghost use Rattle.cq_board.specs.Boards.{changes_from};
+ghost use Rattle.cq_board.specs.Boards.{changes_from, IsListingAt, IsNextListingAt};
 ghost use Rattle.cq_board.specs.Edits.{IsEditFor, project_named, put_by};
 ghost use Rattle.cq_projects.specs.Ordered.{AreRising};
-ghost use Rattle.cq_board.specs.Listings.{IsListing, HaveSame};
+ghost use Rattle.cq_board.specs.Listings.{IsListing, ListsTheSame, HaveSame};
 ghost use Rattle.cq_projects.specs.Projects.{owner_name, projects_in, files_in, conditions_in};
-ghost use Rattle.cq_board.specs.Turnover.{IsNext, IsBefore, AddsChange, from_option};
+ghost use Rattle.cq_board.specs.Turnover.{IsBefore, AddsKept, AddsOwned, IsListingBefore, ListsKept, TurnsOver, from_option};
 
 use crate::kept::{Kept, Stored};
 use crate::live::{Turnover, note, turn, turn_one};
@@ -166,19 +165,19 @@ fn edit_of<W: Indexed>(
 fn apply_change<W: Indexed>(
     alloc: Global,
     settings: &Settings,
-    projects: &mut Vec<Arc<Project<W>, Global>>,
+    owners: &mut Vec<Arc<Project<W>, Global>>,
     number: u64,
     kept: &Kept<W>,
 ) -> Result<Option<u64>, Memory>
     requires done { is_done (slot_from kept.now) ≡ true }
     requires work { IsWorked (W.IsWorkOf settings.now) kept.now }
-    requires before { IsBefore (W.IsWorkOf settings.now) number (projects_in projects.old.items) }
-    ensures names { AreRising owner_name projects.new.items }
-    ensures next { IfOk result (AddsChange (W.IsWorkOf settings.now) number (change_of kept.now.change) (projects_in projects.old.items) (projects_in projects.new.items)) }
-    ensures unchanged { OnErr result (HaveSame (projects_in projects.old.items) (projects_in projects.new.items)) }
+    requires before { IsBefore (W.IsWorkOf settings.now) number (projects_in owners.old.items) }
+    ensures names { AreRising owner_name owners.new.items }
+    ensures next { IfOk result (AddsOwned (W.IsWorkOf settings.now) number kept.now owners.old.items owners.new.items) }
+    ensures unchanged { OnErr result (HaveSame (projects_in owners.old.items) (projects_in owners.new.items)) }
 {
     let edit = edit_of(alloc, settings, number, kept)?;
-    edit_in(alloc, projects, project_of(&kept.change), edit)
+    edit_in(alloc, owners, project_of(&kept.change), edit)
 }
 
 // Makes one change more in the drafts, which is the one with the next number and done. It answers the change whose file it
@@ -193,7 +192,7 @@ fn draft_change<W: Indexed>(
     requires done { is_done (slot_from kept.now) ≡ true }
     requires work { IsWorked (W.IsWorkOf settings.now) kept.now }
     requires before { IsBefore (W.IsWorkOf settings.now) number drafts.old.items }
-    ensures next { IfOk result (AddsChange (W.IsWorkOf settings.now) number (change_of kept.now.change) drafts.old.items drafts.new.items) }
+    ensures next { IfOk result (AddsKept (W.IsWorkOf settings.now) number kept.now drafts.old.items drafts.new.items) }
 {
     let edit = edit_of(alloc, settings, number, kept)?;
     edit_draft(alloc, drafts, project_of(&kept.change), edit)
@@ -220,7 +219,7 @@ fn next_listing<W: Indexed>(
     requires done { version ≤ prefix_len is_done (map slot_from slots.now) }
     requires works { All (IsWorked (W.IsWorkOf settings.now)) slots.now }
     requires listing { IsListing (W.IsWorkOf settings.now) (take before (changes_from slots.now)) old.now }
-    ensures { IfOk result (λ next. IsNext (W.IsWorkOf settings.now) (take version (changes_from slots.now)) old.now.live (map arc_value next.projects.items) next.turnover.put.items next.turnover.gone.items) }
+    ensures { IfOk result (IsNextListingAt (W.IsWorkOf settings.now) slots.now version old.now.live) }
 {
     let mut drafts = drafts_of(alloc, &old.projects)?;
     let mut turnover = Turnover::new(alloc);
@@ -245,7 +244,7 @@ fn turn_to<W: Drop>(
     requires rising { IsStrictlyIncreasing ((arc_value listing.old).live ++ next.turnover.put.items) }
     ensures projects { OnOk result ((arc_value listing.new).projects ≡ map arc_value next.projects.items) }
     ensures rising { OnOk result (IsStrictlyIncreasing (arc_value listing.new).live) }
-    ensures live { OnOk result ((r : ℕ) → Contains (arc_value listing.new).live r ↔ (Contains ((arc_value listing.old).live ++ next.turnover.put.items) r × (Contains next.turnover.gone.items r → ⊥))) }
+    ensures live { OnOk result (TurnsOver next.turnover (arc_value listing.old).live (arc_value listing.new).live) }
     ensures same { OnErr result (arc_value listing.new ≡ arc_value listing.old) }
 {
     match Arc::get_mut(listing) {
@@ -281,9 +280,9 @@ fn advance_own<W: Indexed>(
 ) -> Result<(), Memory>
     requires done { is_done (slot_from kept.now) ≡ true }
     requires work { IsWorked (W.IsWorkOf settings.now) kept.now }
-    requires listing { (changes : List Change) × (length changes + 1 ≡ number) × IsListing (W.IsWorkOf settings.now) changes own.old }
-    ensures next { OnOk result ((changes : List Change) → length changes + 1 ≡ number → IsListing (W.IsWorkOf settings.now) changes own.old → IsListing (W.IsWorkOf settings.now) (changes ++ change_of kept.now.change ∷ []) own.new) }
-    ensures unchanged { OnErr result ((changes : List Change) → IsListing (W.IsWorkOf settings.now) changes own.old → IsListing (W.IsWorkOf settings.now) changes own.new) }
+    requires listing { IsListingBefore (W.IsWorkOf settings.now) number own.old }
+    ensures next { OnOk result (ListsKept (W.IsWorkOf settings.now) number kept.now own.old own.new) }
+    ensures unchanged { OnErr result (ListsTheSame (W.IsWorkOf settings.now) own.old own.new) }
 {
     own.live.reserve(1)?;
     let replaced = apply_change(alloc, settings, &mut own.projects, number, kept)?;
@@ -304,9 +303,9 @@ fn advance_copied<W: Indexed>(
     requires order { before < version }
     requires done { version ≤ prefix_len is_done (map slot_from slots.now) }
     requires works { All (IsWorked (W.IsWorkOf settings.now)) slots.now }
-    requires listing { IsListing (W.IsWorkOf settings.now) (take before (changes_from slots.now)) (arc_value listing.old) }
-    ensures next { OnOk result (IsListing (W.IsWorkOf settings.now) (take version (changes_from slots.now)) (arc_value listing.new)) }
-    ensures unchanged { OnErr result (IsListing (W.IsWorkOf settings.now) (take before (changes_from slots.now)) (arc_value listing.new)) }
+    requires listing { IsListingAt (W.IsWorkOf settings.now) slots.now before listing.old }
+    ensures next { OnOk result (IsListingAt (W.IsWorkOf settings.now) slots.now version listing.new) }
+    ensures unchanged { OnErr result (IsListingAt (W.IsWorkOf settings.now) slots.now before listing.new) }
 {
     let next = next_listing(alloc, settings, slots, listing, before, version)?;
     turn_to(alloc, listing, next)
@@ -324,9 +323,9 @@ fn advance_one<W: Indexed>(
     requires one { before + 1 ≡ version }
     requires done { version ≤ prefix_len is_done (map slot_from slots.now) }
     requires works { All (IsWorked (W.IsWorkOf settings.now)) slots.now }
-    requires listing { IsListing (W.IsWorkOf settings.now) (take before (changes_from slots.now)) (arc_value listing.old) }
-    ensures next { OnOk result (IsListing (W.IsWorkOf settings.now) (take version (changes_from slots.now)) (arc_value listing.new)) }
-    ensures unchanged { OnErr result (IsListing (W.IsWorkOf settings.now) (take before (changes_from slots.now)) (arc_value listing.new)) }
+    requires listing { IsListingAt (W.IsWorkOf settings.now) slots.now before listing.old }
+    ensures next { OnOk result (IsListingAt (W.IsWorkOf settings.now) slots.now version listing.new) }
+    ensures unchanged { OnErr result (IsListingAt (W.IsWorkOf settings.now) slots.now before listing.new) }
 {
     match Arc::get_mut(listing) {
         Some(own) => advance_own(alloc, settings, own, version, &slots[before as usize]),
@@ -348,9 +347,9 @@ pub fn advance_to<W: Indexed>(
     requires order { before < version }
     requires done { version ≤ prefix_len is_done (map slot_from slots.now) }
     requires works { All (IsWorked (W.IsWorkOf settings.now)) slots.now }
-    requires listing { IsListing (W.IsWorkOf settings.now) (take before (changes_from slots.now)) (arc_value listing.old) }
-    ensures next { OnOk result (IsListing (W.IsWorkOf settings.now) (take version (changes_from slots.now)) (arc_value listing.new)) }
-    ensures unchanged { OnErr result (IsListing (W.IsWorkOf settings.now) (take before (changes_from slots.now)) (arc_value listing.new)) }
+    requires listing { IsListingAt (W.IsWorkOf settings.now) slots.now before listing.old }
+    ensures next { OnOk result (IsListingAt (W.IsWorkOf settings.now) slots.now version listing.new) }
+    ensures unchanged { OnErr result (IsListingAt (W.IsWorkOf settings.now) slots.now before listing.new) }
 {
     if version == before + 1 {
         return advance_one(alloc, settings, slots, listing, before, version);

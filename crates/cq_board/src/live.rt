@@ -3,7 +3,7 @@ ghost use Rattle.std.specs.Ordering.{nat_cmp};
 ghost use Rattle.std.specs.Vec.{vec_len, vec_capacity};
 ghost use Rattle.std.specs.List.{list_any};
 ghost use Rattle.std.specs.List.Sorted.{IsStrictlyIncreasing, IsSorted};
-ghost use Rattle.cq_board.specs.Turnover.{from_option};
+ghost use Rattle.cq_board.specs.Turnover.{from_option, AreTurned, TurnsOver};
 
 use cq_base::Memory;
 use std::alloc::Global;
@@ -87,7 +87,7 @@ fn take_out_all(live: &mut Vec<u64>, mut gone: Vec<u64>)
 pub fn turn(live: &mut Vec<u64>, turnover: Turnover) -> Result<(), Memory>
     requires { IsStrictlyIncreasing (live.old.items ++ turnover.put.items) }
     ensures rising { OnOk result (IsStrictlyIncreasing live.new.items) }
-    ensures each { OnOk result ((r : ℕ) → Contains live.new.items r ↔ (Contains (live.old.items ++ turnover.put.items) r × (Contains turnover.gone.items r → ⊥))) }
+    ensures each { OnOk result (TurnsOver turnover live.old.items live.new.items) }
     ensures same { OnErr result (live.new.items ≡ live.old.items) }
 {
     live.extend_from_slice(&turnover.put)?;
@@ -104,7 +104,7 @@ pub fn turn_one(live: &mut Vec<u64>, put: Option<u64>, gone: Option<u64>)
     requires rising { IsStrictlyIncreasing (live.old.items ++ from_option put) }
     requires room { vec_len live.old + 1 ≤ vec_capacity live.old }
     ensures rising { IsStrictlyIncreasing live.new.items }
-    ensures each { (r : ℕ) → Contains live.new.items r ↔ (Contains (live.old.items ++ from_option put) r × (Contains (from_option gone) r → ⊥)) }
+    ensures each { AreTurned (from_option put) (from_option gone) live.old.items live.new.items }
 {
     append(live, put);
     if let Some(number) = gone {

@@ -1,7 +1,7 @@
-ghost use Rattle.std.specs.Prelude.{◌≡◌, ◌++◌, ◌∷◌, [], List, OnOk, OnErr};
+ghost use Rattle.std.specs.Prelude.{List, OnOk, OnErr};
 ghost use Rattle.cq_base.specs.declared.change.Change.{Change};
 ghost use Rattle.cq_board.specs.Slots.{change_of};
-ghost use Rattle.cq_board.specs.Presence.{IsPresence};
+ghost use Rattle.cq_board.specs.Presence.{IsPresence, AddsPlace};
 
 use crate::kept::{FileKey, Stored};
 use cq_base::Memory;
@@ -9,7 +9,7 @@ use std::collections::BTreeSet;
 
 /// The places at which a file stands, behind one change more. Where memory is refused they are as before.
 pub fn note(there: &mut BTreeSet<FileKey>, change: &Stored) -> Result<(), Memory>
-    ensures more { OnOk result ((changes : List Change) → IsPresence changes there.old → IsPresence (changes ++ change_of change.now ∷ []) there.new) }
+    ensures more { OnOk result (AddsPlace (change_of change.now) there.old there.new) }
     ensures same { OnErr result ((changes : List Change) → IsPresence changes there.old → IsPresence changes there.new) }
 {
     match change {

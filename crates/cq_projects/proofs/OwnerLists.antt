@@ -15,30 +15,24 @@ use Rattle.cq_projects.proofs.ProjectLists.{files_in-seam, conditions_in-seam}
 -- ---- an order goes by the texts alone
 
 module _ {X Y : Type 0} (text : X → List ℕ) (other : Y → List ℕ) where
+  head_of : (x : X) (xs : List X) (y : Y) (ys : List Y) → text x ∷ map text xs ≡ other y ∷ map other ys → text x ≡ other y
+  head_of x xs y ys e = cc e
+
+  tail_of : (x : X) (xs : List X) (y : Y) (ys : List Y) → text x ∷ map text xs ≡ other y ∷ map other ys → map text xs ≡ map other ys
+  tail_of x xs y ys e = cc e
+
   all_same : (P : List ℕ → Type 0) (xs : List X) (ys : List Y) → map text xs ≡ map other ys → AllByRecursion (λ x. P (text x)) xs → AllByRecursion (λ y. P (other y)) ys
   all_same P [] [] same all = tt
-  all_same P (x ∷ xs) (y ∷ ys) same all = (subst P (head_of same) all.0, all_same P xs ys (tail_of same) all.1)
-    where
-      head_of : text x ∷ map text xs ≡ other y ∷ map other ys → text x ≡ other y
-      head_of e = cc e
-
-      tail_of : text x ∷ map text xs ≡ other y ∷ map other ys → map text xs ≡ map other ys
-      tail_of e = cc e
+  all_same P (x ∷ xs) (y ∷ ys) same all = (subst P (head_of x xs y ys same) all.0, all_same P xs ys (tail_of x xs y ys same) all.1)
   all_same P [] (y ∷ ys) same all = absurd (cc)
   all_same P (x ∷ xs) [] same all = absurd (cc)
 
   pub rising_same : (xs : List X) (ys : List Y) → map text xs ≡ map other ys → AreRising text xs → AreRising other ys
   rising_same [] [] same rising = tt
   rising_same (x ∷ xs) (y ∷ ys) same rising = (
-    subst (λ p. AllByRecursion (λ (z : Y). is_before p (other z) ≡ true) ys) (head_of same) (all_same (λ q. is_before (text x) q ≡ true) xs ys (tail_of same) rising.0),
-    rising_same xs ys (tail_of same) rising.1,
+    subst (λ p. AllByRecursion (λ (z : Y). is_before p (other z) ≡ true) ys) (head_of x xs y ys same) (all_same (λ q. is_before (text x) q ≡ true) xs ys (tail_of x xs y ys same) rising.0),
+    rising_same xs ys (tail_of x xs y ys same) rising.1,
   )
-    where
-      head_of : text x ∷ map text xs ≡ other y ∷ map other ys → text x ≡ other y
-      head_of e = cc e
-
-      tail_of : text x ∷ map text xs ≡ other y ∷ map other ys → map text xs ≡ map other ys
-      tail_of e = cc e
   rising_same [] (y ∷ ys) same rising = absurd (cc)
   rising_same (x ∷ xs) [] same rising = absurd (cc)
 

@@ -4,7 +4,7 @@ use Rattle.std.specs.List.{AllByRecursion, insert, remove}
 use Rattle.std.specs.Arc.{arc_value}
 use Rattle.std.specs.declared.sync.Arc.{Arc}
 use Rattle.std.specs.Str.{bytes_eq}
-use Rattle.std.specs.Ordering.{nat_cmp, is_lt, ordering_reverse}
+use Rattle.std.specs.Ordering.{nat_cmp, is_lt}
 use Rattle.std.specs.declared.cmp.Ordering.{Ordering}
 use Rattle.std.specs.declared.cmp.Ordering.TheVariants.{Less, Equal, Greater}
 use Rattle.std.specs.Cmp.Lexicographic.{slice_cmp}
@@ -12,14 +12,10 @@ use Rattle.std.proofs.Math.Seq.{get_or-append_seam, set-append_seam}
 use Rattle.std.proofs.lemmas.Cmp.{nat_list_cmp_total}
 use Rattle.std.proofs.lemmas.Slice.Eq.{bytes_eq-Decides}
 use Rattle.std.proofs.lemmas.List.{map-append}
+use Rattle.cq_base.proofs.Orderings.{Less-from_is_lt, Equal-from_reverse}
 use Rattle.cq_history.specs.Files.{File, is_before, with_file, without_file, place_of}
 use Rattle.cq_projects.specs.Projects.{path_in, number_at}
 use Rattle.cq_projects.specs.Ordered.{AreBelow, AreAbove, IsAt, IsGap}
-
-itself : (r : Ordering) → r ≡ ordering_reverse r → r ≡ Equal
-itself Less e = absurd (cc)
-itself Equal e = refl
-itself Greater e = absurd (cc)
 
 not_less : (r : Ordering) → is_lt r ≡ true → r ≡ Equal → ⊥
 not_less Less h e = absurd (cc)
@@ -32,7 +28,7 @@ by_no false h = refl
 
 -- a path before another is not that one
 pub before_apart : (p q : List ℕ) → is_before p q ≡ true → p ≡ q → ⊥
-before_apart p q h same = not_less (slice_cmp nat_cmp p q) h (ap (slice_cmp nat_cmp p) (sym same) ∙ itself (slice_cmp nat_cmp p p) (nat_list_cmp_total.antisymm p p))
+before_apart p q h same = not_less (slice_cmp nat_cmp p q) h (ap (slice_cmp nat_cmp p) (sym same) ∙ Equal-from_reverse (slice_cmp nat_cmp p p) (nat_list_cmp_total.antisymm p p))
 
 pub below_apart : (p q : List ℕ) → is_before q p ≡ true → bytes_eq p q ≡ false
 below_apart p q h = by_no (bytes_eq p q) (λ e. before_apart q p h (sym ((bytes_eq-Decides p q).0 e)))
@@ -40,13 +36,8 @@ below_apart p q h = by_no (bytes_eq p q) (λ e. before_apart q p h (sym ((bytes_
 pub above_apart : (p q : List ℕ) → is_before p q ≡ true → bytes_eq p q ≡ false
 above_apart p q h = by_no (bytes_eq p q) (λ e. before_apart p q h ((bytes_eq-Decides p q).0 e))
 
-less_of : (r : Ordering) → is_lt r ≡ true → r ≡ Less
-less_of Less h = refl
-less_of Equal h = absurd (cc)
-less_of Greater h = absurd (cc)
-
 pub below_not_above : (p q : List ℕ) → is_before q p ≡ true → is_before p q ≡ false
-below_not_above p q h = by_no (is_before p q) (λ other. before_apart p p (ap is_lt (nat_list_cmp_total.trans p q p (less_of _ other) (less_of _ h))) refl)
+below_not_above p q h = by_no (is_before p q) (λ other. before_apart p p (ap is_lt (nat_list_cmp_total.trans p q p (Less-from_is_lt _ other) (Less-from_is_lt _ h))) refl)
 
 pub insert_seam : {X : Type 0} (a b : List X) (f : X) → insert (a ++ b) (length a) f ≡ a ++ f ∷ b
 insert_seam [] b f = refl

@@ -10,13 +10,9 @@ use Rattle.std.specs.Cmp.Lexicographic.{slice_cmp}
 use Rattle.std.proofs.lemmas.Cmp.{nat_list_cmp_total}
 use Rattle.std.proofs.lemmas.Map.Lookups.{exact_bytes}
 use Rattle.std.proofs.lemmas.Bool.{cases_lt}
+use Rattle.cq_base.proofs.Orderings.{Less-from_is_lt}
 use Rattle.cq_history.specs.Files.{is_before}
 use Rattle.cq_projects.specs.Ordered.{AreRising, IsAt, IsGap}
-
-less_of : (r : Ordering) → is_lt r ≡ true → r ≡ Less
-less_of Less h = refl
-less_of Equal h = absurd (cc)
-less_of Greater h = absurd (cc)
 
 turned : (r s : Ordering) → r ≡ ordering_reverse s → r ≡ Greater → is_lt s ≡ true
 turned r Less e h = refl
@@ -101,8 +97,8 @@ module _ {X : Type 0} (text : X → List ℕ) where
       most Greater = omega arith
 
       by : (s : Ordering) → slice_cmp nat_cmp (text y) p ≡ s → ordering_index (slice_cmp nat_cmp (text x) p) ≤ ordering_index s
-      by Less e = least _ (nat_list_cmp_total.trans (text x) (text y) p (less_of _ h) e)
-      by Equal e = let z = least _ (subst (λ q. slice_cmp nat_cmp (text x) q ≡ Less) (exact_bytes (text y) p e) (less_of _ h)) in omega (arith, z)
+      by Less e = least _ (nat_list_cmp_total.trans (text x) (text y) p (Less-from_is_lt _ h) e)
+      by Equal e = let z = least _ (subst (λ q. slice_cmp nat_cmp (text x) q ≡ Less) (exact_bytes (text y) p e) (Less-from_is_lt _ h)) in omega (arith, z)
       by Greater e = most _
 
   rising_pair : (xs : List X) (i j : ℕ) (d : X) → AreRising text xs → i < j → j < length xs → is_before (text (get_or xs i d)) (text (get_or xs j d)) ≡ true

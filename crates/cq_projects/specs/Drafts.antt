@@ -1,5 +1,5 @@
 -- What the changes of a batch make of a project's files: at each path that they name stands a file, or none.
-use Rattle.std.specs.Prelude.{◌≡◌, ℕ, ◌+◌, List, [], ◌∷◌, ◌++◌, length, IfSome, Option, None, Some}
+use Rattle.std.specs.Prelude.{◌≡◌, ℕ, ◌+◌, List, [], ◌∷◌, ◌++◌, length, map, drop, IfSome, Option, None, Some}
 use Rattle.std.specs.Arc.{arc_value}
 use Rattle.std.specs.List.{AllByRecursion}
 use Rattle.std.specs.declared.sync.Arc.{Arc}
@@ -62,3 +62,7 @@ module _ {W : Type 0} where
     pub low_below : AreBelow path_of p low
     pub same_at : AllByRecursion (λ (f : File W). f.path ≡ p) same
     pub left_above : AreAbove path_of p left
+
+  -- the same of files that have owners, of which so many of the rest are through
+  abbrev pub MergesOwned : List ℕ → Option (Arc (File W) Global) → List (Arc (File W) Global) → List (Arc (File W) Global) → List (Arc (File W) Global) → ℕ → Type 0
+  MergesOwned p file done now rest n = Merges p file (map arc_value done) (map arc_value now) (map arc_value rest) (map arc_value (drop n rest))

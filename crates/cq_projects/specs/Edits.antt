@@ -1,11 +1,14 @@
 -- What an edit makes of a project.
-use Rattle.std.specs.Prelude.{ℕ, List, Option, None}
+use Rattle.std.specs.Prelude.{◌≡◌, ℕ, List, Option, None, if◌then◌else◌}
 use Rattle.std.specs.Arc.{arc_value}
+use Rattle.std.specs.declared.sync.Arc.{Arc}
+use Rattle.std.specs.declared.alloc.Global.{Global}
+use Rattle.std.specs.Str.{bytes_eq}
 use Rattle.cq_base.specs.declared.change.Condition.{Condition}
 use Rattle.cq_history.specs.Files.{File, with_file, without_file}
 use Rattle.cq_projects.specs.declared.projects.ProjectEdit.{ProjectEdit}
 use Rattle.cq_projects.specs.declared.projects.ProjectEdit.TheVariants.{Put, Drop, Gate}
-use Rattle.cq_projects.specs.Projects.{path_in, number_at}
+use Rattle.cq_projects.specs.Projects.{path_in, number_at, ListedProject, files_in, conditions_in, projects_in}
 use Rattle.cq_projects.specs.Spotted.{AreOlder}
 
 module _ {W : Type 0} where
@@ -24,6 +27,21 @@ module _ {W : Type 0} where
   replaced_by (Put held) files = number_at (path_in held) files
   replaced_by (Drop path) files = number_at (arc_value path) files
   replaced_by (Gate conditions) files = None
+
+  -- the project of this name has the files, or the conditions, that an edit makes of what it had, and each other one what
+  -- it had
+  abbrev pub EditsFiles : List ℕ → ProjectEdit W → List (ListedProject W) → List (ListedProject W) → Type 0
+  EditsFiles name edit old new = (q : List ℕ) → files_in new q ≡ (if bytes_eq q name then edited_files edit (files_in old q) else files_in old q)
+
+  abbrev pub EditsConditions : List ℕ → ProjectEdit W → List (ListedProject W) → List (ListedProject W) → Type 0
+  EditsConditions name edit old new = (q : List ℕ) → conditions_in new q ≡ (if bytes_eq q name then edited_conditions edit (conditions_in old q) else conditions_in old q)
+
+  -- the same of projects that have owners
+  abbrev pub EditsOwnedFiles : List ℕ → ProjectEdit W → List (Arc (ListedProject W) Global) → List (Arc (ListedProject W) Global) → Type 0
+  EditsOwnedFiles name edit old new = EditsFiles name edit (projects_in old) (projects_in new)
+
+  abbrev pub EditsOwnedConditions : List ℕ → ProjectEdit W → List (Arc (ListedProject W) Global) → List (Arc (ListedProject W) Global) → Type 0
+  EditsOwnedConditions name edit old new = EditsConditions name edit (projects_in old) (projects_in new)
 
   -- a file that it puts was put by a later change than all that are there
   abbrev pub IsNewer : ProjectEdit W → List (File W) → Type 0

@@ -1,13 +1,12 @@
 //! The next listing while a batch of changes is gathered: what stands at each path that the batch names is kept beside
 //! each project, and made in its list at once, in path order.
-ghost use Rattle.std.specs.Prelude.{◌≡◌, ◌<◌, ℕ, List, All, length, map, option_map, IfOk, IfErr, OnOk, if◌then◌else◌};
+ghost use Rattle.std.specs.Prelude.{◌≡◌, ◌<◌, ℕ, List, All, length, map, option_map, IfOk, IfErr, OnOk};
 ghost use Rattle.std.specs.Arc.{arc_value};
 ghost use Rattle.std.specs.Ordering.{nat_cmp};
 ghost use Rattle.std.specs.Cmp.Lexicographic.{slice_cmp};
-ghost use Rattle.std.specs.Str.{bytes_eq};
 ghost use Rattle.cq_projects.specs.Drafts.{IsOwn, IsSetAt, number_in};
 ghost use Rattle.cq_projects.specs.Spotted.{AreApart};
-ghost use Rattle.cq_projects.specs.Edits.{edited_files, edited_conditions, replaced_by};
+ghost use Rattle.cq_projects.specs.Edits.{edited_files, edited_conditions, replaced_by, EditsFiles, EditsConditions};
 ghost use Rattle.cq_projects.specs.Projects.{number_at, name_in, files_in, conditions_in, position_of};
 ghost use Rattle.cq_projects.specs.Ordered.{AreRising, IsAt, IsGap};
 
@@ -226,8 +225,8 @@ pub fn edit_draft<W: Drop>(
     requires { AreRising name_in drafts.old.items }
     ensures names { OnOk result (AreRising name_in drafts.new.items) }
     ensures number { IfOk result (λ n. n ≡ replaced_by edit (files_in drafts.old.items (arc_value name.now))) }
-    ensures files { OnOk result ((q : List ℕ) → files_in drafts.new.items q ≡ (if bytes_eq q (arc_value name.now) then edited_files edit (files_in drafts.old.items q) else files_in drafts.old.items q)) }
-    ensures conditions { OnOk result ((q : List ℕ) → conditions_in drafts.new.items q ≡ (if bytes_eq q (arc_value name.now) then edited_conditions edit (conditions_in drafts.old.items q) else conditions_in drafts.old.items q)) }
+    ensures files { OnOk result (EditsFiles (arc_value name.now) edit drafts.old.items drafts.new.items) }
+    ensures conditions { OnOk result (EditsConditions (arc_value name.now) edit drafts.old.items drafts.new.items) }
 {
     let i = draft_at(alloc, drafts, name)?;
     drafts[i].edit(edit)

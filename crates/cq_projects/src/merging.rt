@@ -1,7 +1,7 @@
 //! The list of a project's files with a batch of edits, made in one walk in path order.
-ghost use Rattle.std.specs.Prelude.{◌≡◌, ◌≤◌, ◌++◌, length, map, drop, IfOk, OnOk};
+ghost use Rattle.std.specs.Prelude.{◌≡◌, ◌≤◌, length, map, IfOk};
 ghost use Rattle.std.specs.Arc.{arc_value};
-ghost use Rattle.cq_projects.specs.Drafts.{edited_all, AreOwn, IsCut, Merges};
+ghost use Rattle.cq_projects.specs.Drafts.{edited_all, AreOwn, IsCut, MergesOwned};
 ghost use Rattle.cq_projects.specs.Projects.{path_of};
 ghost use Rattle.cq_projects.specs.Ordered.{AreRising};
 
@@ -33,7 +33,7 @@ fn merge_one<W: Drop>(
 ) -> Result<usize, Memory>
     requires { AreRising path_of (map arc_value rest.now) }
     ensures within { IfOk result (λ n. n ≤ length rest.now) }
-    ensures merges { IfOk result (λ n. Merges path.now file (map arc_value done.old.items) (map arc_value done.new.items) (map arc_value rest.now) (map arc_value (drop n rest.now))) }
+    ensures merges { IfOk result (MergesOwned path.now file done.old.items done.new.items rest.now) }
 {
     let (before, behind) = cut(rest, path);
     append_shared(done, &rest[..before])?;

@@ -1,11 +1,10 @@
-ghost use Rattle.std.specs.Prelude.{◌≡◌, ◌<◌, ℕ, List, length, IfOk, IfErr, OnOk, OnErr, map, if◌then◌else◌};
+ghost use Rattle.std.specs.Prelude.{◌≡◌, ◌<◌, length, IfOk, IfErr, OnOk, OnErr};
 ghost use Rattle.std.specs.Arc.{arc_value};
 ghost use Rattle.std.specs.Ordering.{nat_cmp};
 ghost use Rattle.std.specs.Cmp.Lexicographic.{slice_cmp};
-ghost use Rattle.std.specs.Str.{bytes_eq};
 ghost use Rattle.cq_projects.specs.Ordered.{AreRising, IsAt, IsGap};
-ghost use Rattle.cq_projects.specs.Projects.{path_in, path_of, owner_name, name_in, projects_in, files_in, conditions_in, position_of};
-ghost use Rattle.cq_projects.specs.Edits.{edited_files, edited_conditions, replaced_by, IsNewer};
+ghost use Rattle.cq_projects.specs.Projects.{owner_name, projects_in, position_of, owner_files, owner_conditions, owned_files, HaveSameFiles, HaveSameConditions};
+ghost use Rattle.cq_projects.specs.Edits.{edited_files, edited_conditions, replaced_by, IsNewer, EditsOwnedFiles, EditsOwnedConditions};
 
 use crate::held::{Held, Project};
 use crate::project_files::ProjectFiles;
@@ -80,11 +79,11 @@ fn edit_shared<W: Drop>(
     project: &mut Arc<Project<W>, Global>,
     edit: ProjectEdit<W>,
 ) -> Result<Option<u64>, Memory>
-    requires newer { IsNewer edit (arc_value project.old).files }
+    requires newer { IsNewer edit (owner_files project.old) }
     ensures name { owner_name project.new ≡ owner_name project.old }
-    ensures files { OnOk result ((arc_value project.new).files ≡ edited_files edit (arc_value project.old).files) }
-    ensures conditions { OnOk result ((arc_value project.new).conditions ≡ edited_conditions edit (arc_value project.old).conditions) }
-    ensures number { IfOk result (λ n. n ≡ replaced_by edit (arc_value project.old).files) }
+    ensures files { OnOk result (owner_files project.new ≡ edited_files edit (owner_files project.old)) }
+    ensures conditions { OnOk result (owner_conditions project.new ≡ edited_conditions edit (owner_conditions project.old)) }
+    ensures number { IfOk result (λ n. n ≡ replaced_by edit (owner_files project.old)) }
     ensures unchanged { OnErr result (arc_value project.new ≡ arc_value project.old) }
 {
     match Arc::get_mut(project) {
@@ -108,8 +107,8 @@ fn project_at<W: Drop>(
     ensures names { AreRising owner_name projects.new.items }
     ensures first { IfOk result (λ i. i ≡ position_of (arc_value name.now) (projects_in projects.new.items)) }
     ensures within { IfOk result (λ i. i < length projects.new.items) }
-    ensures files { (q : List ℕ) → files_in (projects_in projects.new.items) q ≡ files_in (projects_in projects.old.items) q }
-    ensures conditions { (q : List ℕ) → conditions_in (projects_in projects.new.items) q ≡ conditions_in (projects_in projects.old.items) q }
+    ensures files { HaveSameFiles projects.old.items projects.new.items }
+    ensures conditions { HaveSameConditions projects.old.items projects.new.items }
 {
     match find_project(projects, name) {
         Ok(i) => Ok(i),
@@ -139,13 +138,13 @@ pub fn edit_in<W: Drop>(
     edit: ProjectEdit<W>,
 ) -> Result<Option<u64>, Memory>
     requires names { AreRising owner_name projects.old.items }
-    requires newer { IsNewer edit (files_in (projects_in projects.old.items) (arc_value name.now)) }
+    requires newer { IsNewer edit (owned_files projects.old.items (arc_value name.now)) }
     ensures names { AreRising owner_name projects.new.items }
-    ensures number { IfOk result (λ n. n ≡ replaced_by edit (files_in (projects_in projects.old.items) (arc_value name.now))) }
-    ensures files { OnOk result ((q : List ℕ) → files_in (projects_in projects.new.items) q ≡ (if bytes_eq q (arc_value name.now) then edited_files edit (files_in (projects_in projects.old.items) q) else files_in (projects_in projects.old.items) q)) }
-    ensures conditions { OnOk result ((q : List ℕ) → conditions_in (projects_in projects.new.items) q ≡ (if bytes_eq q (arc_value name.now) then edited_conditions edit (conditions_in (projects_in projects.old.items) q) else conditions_in (projects_in projects.old.items) q)) }
-    ensures same_files { OnErr result ((q : List ℕ) → files_in (projects_in projects.new.items) q ≡ files_in (projects_in projects.old.items) q) }
-    ensures same_conditions { OnErr result ((q : List ℕ) → conditions_in (projects_in projects.new.items) q ≡ conditions_in (projects_in projects.old.items) q) }
+    ensures number { IfOk result (λ n. n ≡ replaced_by edit (owned_files projects.old.items (arc_value name.now))) }
+    ensures files { OnOk result (EditsOwnedFiles (arc_value name.now) edit projects.old.items projects.new.items) }
+    ensures conditions { OnOk result (EditsOwnedConditions (arc_value name.now) edit projects.old.items projects.new.items) }
+    ensures same_files { OnErr result (HaveSameFiles projects.old.items projects.new.items) }
+    ensures same_conditions { OnErr result (HaveSameConditions projects.old.items projects.new.items) }
 {
     let i = project_at(alloc, projects, name)?;
     edit_shared(alloc, &mut projects[i], edit)

@@ -20,8 +20,8 @@ pub returns-in_err-replaced-clause-unchanged : goal.returns-in_err-replaced-clau
 returns-in_err-replaced-clause-unchanged g c =
     let IsWork = g.W.Indexed.IsWorkOf c.args.settings.now in
     always_err c.from_residual-in_err-replaced.result (λ changes is.
-    listing_same IsWork changes (listed (projects_in c.own.inside.projects.items) c.own.inside.live.items) (listed (projects_in c.apply_change.new.projects.items) c.reserve.new.self.items)
-    (subst (IsListing IsWork changes) (sym c.own.view_is) is) c.in_err-replaced.ensures.unchanged (rising_projects c.apply_change.new.projects.items c.apply_change.ensures.names) c.in_ok-reserve.ensures.items)
+    listing_same IsWork changes (listed (projects_in c.own.inside.projects.items) c.own.inside.live.items) (listed (projects_in c.apply_change.new.owners.items) c.reserve.new.self.items)
+    (subst (IsListing IsWork changes) (sym c.own.view_is) is) c.in_err-replaced.ensures.unchanged (rising_projects c.apply_change.new.owners.items c.apply_change.ensures.names) c.in_ok-reserve.ensures.items)
 
 pub turn_one-requires-clause-rising : goal.turn_one-requires-clause-rising
 turn_one-requires-clause-rising g c =
@@ -37,6 +37,6 @@ returns-clause-next g c changes n is =
     let first = next_first IsWork changes (listed (projects_in c.own.inside.projects.items) c.own.inside.live.items) (subst (IsListing IsWork changes) (sym c.own.view_is) is) in
     let next = c.in_ok-replaced.ensures.next changes c.own.inside.live.items [] [] n first in
     let gone : List ℕ = from_option c.in_ok-replaced.replaced in
-    next_listed IsWork (changes ++ change_of c.args.kept.now.change ∷ []) c.own.inside.live.items (projects_in c.apply_change.new.projects.items) (put_by (change_of c.args.kept.now.change) c.args.number) gone
-    (listed (projects_in c.apply_change.new.projects.items) c.turn_one.new.live.items) next refl c.turn_one.ensures.rising
+    next_listed IsWork (changes ++ change_of c.args.kept.now.change ∷ []) c.own.inside.live.items (projects_in c.apply_change.new.owners.items) (put_by (change_of c.args.kept.now.change) c.args.number) gone
+    (listed (projects_in c.apply_change.new.owners.items) c.turn_one.new.live.items) next refl c.turn_one.ensures.rising
     (λ r. subst₂ (λ (xs ys : List ℕ). Contains c.turn_one.new.live.items r ↔ (Contains (xs ++ ys) r × (Contains gone r → ⊥))) c.in_ok-reserve.ensures.items c.put_number.ensures (c.turn_one.ensures.each r))
