@@ -4,7 +4,7 @@ use Rattle.std.specs.Prelude.{option_map}
 use Rattle.std.specs.Arc.{arc_value}
 use Rattle.std.specs.declared.sync.Arc.{Arc}
 use Rattle.std.specs.List.{AllByRecursion}
-use Rattle.std.specs.Map.{lookup}
+use Rattle.std.specs.Map.{lookup, keys_of}
 use Rattle.std.specs.BTreeMap.{insert_entry, is_at}
 use Rattle.std.specs.Str.{bytes_eq}
 use Rattle.std.specs.Ordering.{nat_cmp, match_ordering}
@@ -16,7 +16,8 @@ use Rattle.std.proofs.lemmas.Map.Lookups.{exact_bytes}
 use Rattle.std.proofs.lemmas.Map.Text.{is_eq-slice_cmp}
 use Rattle.std.proofs.lemmas.Slice.Eq.{bytes_eq-Decides}
 use Rattle.cq_history.specs.Files.{File}
-use Rattle.cq_projects.specs.Drafts.{edited_at, edited_all, number_in, IsOwn, AreOwn}
+use Rattle.cq_projects.specs.declared.merging.Named.{Named}
+use Rattle.cq_projects.specs.Drafts.{edited_at, edited_all, files_at, number_in, IsCut, IsOwn, AreOwn, AreCut}
 use Rattle.cq_projects.specs.Projects.{number_at, path_of}
 use Rattle.cq_projects.specs.Ordered.{AreRising}
 use Rattle.cq_projects.proofs.FileAt.{file_at, number_file, file_at-with, file_at-without, same_files}
@@ -35,6 +36,17 @@ equal_itself p q e = ordering_eq (slice_cmp nat_cmp p q) (is_eq-slice_cmp p q �
     ordering_eq Less h = absurd (cc)
     ordering_eq Equal h = refl
     ordering_eq Greater h = absurd (cc)
+
+each_insert : {V : Type 0} (P : List ℕ → V → Type 0) (es : List (Arc (List ℕ) Global × V)) (p : Arc (List ℕ) Global) (v : V) → P (arc_value p) v →
+    AllByRecursion (λ (e : Arc (List ℕ) Global × V). P (arc_value e.0) e.1) es → AllByRecursion (λ (e : Arc (List ℕ) Global × V). P (arc_value e.0) e.1) (insert_entry text_cmp es p v)
+each_insert P [] p v here all = (here, tt)
+each_insert {V} P (e ∷ es) p v here all = go (text_cmp p e.0) refl (each_insert P es p v here all.1)
+  where
+    go : (o : Ordering) → text_cmp p e.0 ≡ o → AllByRecursion (λ (e : Arc (List ℕ) Global × V). P (arc_value e.0) e.1) (insert_entry text_cmp es p v) →
+        AllByRecursion (λ (e : Arc (List ℕ) Global × V). P (arc_value e.0) e.1) (match_ordering o ((p, v) ∷ e ∷ es) ((e.0, v) ∷ es) (e ∷ insert_entry text_cmp es p v))
+    go Less h rest = (here, all)
+    go Equal h rest = (subst (λ q. P q v) (exact_bytes (arc_value p) (arc_value e.0) h) here, all.1)
+    go Greater h rest = (all.0, rest)
 
 module _ {W : Type 0} where
   abbrev value_of : Option (Arc (File W) Global) → Option (File W)
@@ -89,13 +101,33 @@ module _ {W : Type 0} where
           (λ here there. not_equal (text_cmp p e.0) h (equal_itself (arc_value p) (arc_value e.0) (sym ((bytes_eq-Decides r (arc_value p)).0 here) ∙ (bytes_eq-Decides r (arc_value e.0)).0 there)))
 
   pub own_insert : (es : List (Arc (List ℕ) Global × Option (Arc (File W) Global))) (p : Arc (List ℕ) Global) (file : Option (Arc (File W) Global)) → IsOwn (arc_value p) file → AreOwn es → AreOwn (insert_entry text_cmp es p file)
-  own_insert [] p file own all = (own, tt)
-  own_insert (e ∷ es) p file own all = go (text_cmp p e.0) refl (own_insert es p file own all.1)
+  own_insert es p file own all = each_insert IsOwn es p file own all
+
+  pub cut_insert : (files : List (File W)) (es : List (Arc (List ℕ) Global × Named W)) (p : Arc (List ℕ) Global) (named : Named W) → IsCut (arc_value p) files named.before named.behind → AreCut files es → AreCut files (insert_entry text_cmp es p named)
+  cut_insert files es p named cut all = each_insert (λ q (n : Named W). IsCut q files n.before n.behind) es p named cut all
+
+  -- ---- the files alone
+
+  pub files_insert : (es : List (Arc (List ℕ) Global × Named W)) (p : Arc (List ℕ) Global) (named : Named W) → files_at (insert_entry text_cmp es p named) ≡ insert_entry text_cmp (files_at es) p named.file
+  files_insert [] p named = refl
+  files_insert (e ∷ es) p named = go (text_cmp p e.0) (files_insert es p named)
     where
-      go : (o : Ordering) → text_cmp p e.0 ≡ o → AreOwn (insert_entry text_cmp es p file) → AreOwn (match_ordering o ((p, file) ∷ e ∷ es) ((e.0, file) ∷ es) (e ∷ insert_entry text_cmp es p file))
-      go Less h rest = (own, all)
-      go Equal h rest = (subst (λ q. IsOwn q file) (exact_bytes (arc_value p) (arc_value e.0) h) own, all.1)
-      go Greater h rest = (all.0, rest)
+      go : (o : Ordering) → files_at (insert_entry text_cmp es p named) ≡ insert_entry text_cmp (files_at es) p named.file →
+          files_at (match_ordering o ((p, named) ∷ e ∷ es) ((e.0, named) ∷ es) (e ∷ insert_entry text_cmp es p named))
+          ≡ match_ordering o ((p, named.file) ∷ (e.0, e.1.file) ∷ files_at es) ((e.0, named.file) ∷ files_at es) ((e.0, e.1.file) ∷ insert_entry text_cmp (files_at es) p named.file)
+      go Less rest = refl
+      go Equal rest = refl
+      go Greater rest = ap (λ (xs : List (Arc (List ℕ) Global × Option (Arc (File W) Global))). (e.0, e.1.file) ∷ xs) rest
+
+  pub files_lookup : (p : Arc (List ℕ) Global) (es : List (Arc (List ℕ) Global × Named W)) → lookup (is_at (text_cmp p)) (files_at es) ≡ option_map (λ (n : Named W). n.file) (lookup (is_at (text_cmp p)) es)
+  files_lookup p [] = refl
+  files_lookup p (e ∷ es) =
+      elim (is_at (text_cmp p) e.0) as (λ b. cond b (Some e.1.file) (lookup (is_at (text_cmp p)) (files_at es)) ≡ option_map (λ (n : Named W). n.file) (cond b (Some e.1) (lookup (is_at (text_cmp p)) es)))
+      [ true ↦ refl | false ↦ files_lookup p es ]
+
+  pub keys_at : (es : List (Arc (List ℕ) Global × Named W)) → keys_of (files_at es) ≡ keys_of es
+  keys_at [] = refl
+  keys_at (e ∷ es) = ap (λ ks. e.0 ∷ ks) (keys_at es)
 
   pub set_files : (es : List (Arc (List ℕ) Global × Option (Arc (File W) Global))) (p : Arc (List ℕ) Global) (file : Option (Arc (File W) Global)) (files : List (File W)) → IsOwn (arc_value p) file → AreOwn es → AreRising path_of files →
       edited_all (insert_entry text_cmp es p file) files ≡ edited_at (arc_value p) file (edited_all es files)

@@ -1,5 +1,5 @@
 -- A batch of edits in path order is made in one walk: an edit of a path that is behind some files leaves them as they are.
-use Rattle.std.proofs.Common.{Global, ◌≡◌, ℕ, suc, zero, ◌+◌, ◌<◌, true, cond, not, List, [], ◌∷◌, ◌++◌, length, drop, Option, Some, None, refl, sym, ap, ◌∙◌, subst, arith}
+use Rattle.std.proofs.Common.{Global, ◌≡◌, ℕ, suc, ◌+◌, ◌<◌, true, cond, not, List, [], ◌∷◌, ◌++◌, length, Option, Some, None, refl, sym, ap, ◌∙◌, subst, arith}
 use Rattle.std.specs.Prelude.{All}
 use Rattle.std.specs.Arc.{arc_value}
 use Rattle.std.specs.Map.{keys_of}
@@ -14,7 +14,7 @@ use Rattle.std.proofs.lemmas.Slice.Eq.{bytes_eq-Decides}
 use Rattle.cq_history.specs.Files.{File, is_before, with_file, without_file, place_of}
 use Rattle.cq_projects.specs.Drafts.{edited_at, edited_all, IsOwn, AreOwn, one_or_none, Merges}
 use Rattle.cq_projects.specs.Projects.{path_of}
-use Rattle.cq_projects.specs.Ordered.{AreRising, AreBelow, AreAbove}
+use Rattle.cq_projects.specs.Ordered.{AreBelow, AreAbove}
 use Rattle.cq_projects.proofs.PathOrders.{before_chain, all_without, all_insert}
 use Rattle.cq_projects.proofs.Putting.{below_apart, below_not_above, without_above, place_gap}
 
@@ -50,16 +50,16 @@ module _ {X : Type 0} where
   with_same f same files at above =
       ap (λ r. insert r (place_of f.path r) f) (without_same f.path same files at above) ∙ ap (λ n. insert files n f) (place_gap f.path [] files tt above)
 
-  below_both : (p : List ℕ) (a b : List (File X)) → AreBelow path_of p a → AreBelow path_of p b → AreBelow path_of p (a ++ b)
+  pub below_both : (p : List ℕ) (a b : List (File X)) → AreBelow path_of p a → AreBelow path_of p b → AreBelow path_of p (a ++ b)
   below_both p [] b low high = high
   below_both p (x ∷ a) b low high = (low.0, below_both p a b low.1 high)
 
   -- what is below or at a path is below each later one
-  below_later : (p q : List ℕ) (files : List (File X)) → is_before p q ≡ true → AreBelow path_of p files → AreBelow path_of q files
+  pub below_later : (p q : List ℕ) (files : List (File X)) → is_before p q ≡ true → AreBelow path_of p files → AreBelow path_of q files
   below_later p q [] before below = tt
   below_later p q (x ∷ files) before below = (before_chain x.path p q below.0 before, below_later p q files before below.1)
 
-  at_later : (p q : List ℕ) (files : List (File X)) → is_before p q ≡ true → AllByRecursion (λ (f : File X). f.path ≡ p) files → AreBelow path_of q files
+  pub at_later : (p q : List ℕ) (files : List (File X)) → is_before p q ≡ true → AllByRecursion (λ (f : File X). f.path ≡ p) files → AreBelow path_of q files
   at_later p q [] before at = tt
   at_later p q (x ∷ files) before at = (ap (λ r. is_before r q) at.0 ∙ before, at_later p q files before at.1)
 
@@ -142,8 +142,3 @@ module _ {W : Type 0} where
 pub none_left : {X : Type 0} (xs : List X) → (0 < length xs → ⊥) → xs ≡ []
 none_left [] few = refl
 none_left (x ∷ xs) few = absurd (few (omega arith))
-
-pub rising_drop : {X : Type 0} (text : X → List ℕ) (n : ℕ) (xs : List X) → AreRising text xs → AreRising text (drop n xs)
-rising_drop text zero xs rising = rising
-rising_drop text (suc n) [] rising = tt
-rising_drop text (suc n) (x ∷ xs) rising = rising_drop text n xs rising.1

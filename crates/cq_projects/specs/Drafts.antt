@@ -1,10 +1,11 @@
 -- What the changes of a batch make of a project's files: at each path that they name stands a file, or none.
-use Rattle.std.specs.Prelude.{◌≡◌, ℕ, ◌+◌, List, [], ◌∷◌, ◌++◌, length, map, drop, IfSome, Option, None, Some}
+use Rattle.std.specs.Prelude.{◌≡◌, ℕ, ◌+◌, ◌-◌, List, [], ◌∷◌, ◌++◌, length, map, take, drop, IfSome, Option, None, Some}
 use Rattle.std.specs.Arc.{arc_value}
 use Rattle.std.specs.List.{AllByRecursion}
 use Rattle.std.specs.declared.sync.Arc.{Arc}
 use Rattle.std.specs.declared.alloc.Global.{Global}
 use Rattle.cq_history.specs.Files.{File, with_file, without_file}
+use Rattle.cq_projects.specs.declared.merging.Named.{Named}
 use Rattle.cq_projects.specs.Projects.{ListedProject, path_of}
 use Rattle.cq_projects.specs.Ordered.{AreAbove, AreBelow}
 
@@ -63,6 +64,18 @@ module _ {W : Type 0} where
     pub same_at : AllByRecursion (λ (f : File W). f.path ≡ p) same
     pub left_above : AreAbove path_of p left
 
-  -- the same of files that have owners, of which so many of the rest are through
-  abbrev pub MergesOwned : List ℕ → Option (Arc (File W) Global) → List (Arc (File W) Global) → List (Arc (File W) Global) → List (Arc (File W) Global) → ℕ → Type 0
-  MergesOwned p file done now rest n = Merges p file (map arc_value done) (map arc_value now) (map arc_value rest) (map arc_value (drop n rest))
+  -- the files that stand at the paths
+  abbrev pub files_at : List (Arc (List ℕ) Global × Named W) → List (Arc (List ℕ) Global × Option (Arc (File W) Global))
+  files_at entries = map (λ (e : Arc (List ℕ) Global × Named W). (e.0, e.1.file)) entries
+
+  -- the files with what stands at each of the named paths
+  abbrev pub edited_named : List (Arc (List ℕ) Global × Named W) → List (File W) → List (File W)
+  edited_named entries files = edited_all (files_at entries) files
+
+  -- of each path it is kept where the files are cut at it
+  abbrev pub AreCut : List (File W) → List (Arc (List ℕ) Global × Named W) → Type 0
+  AreCut files entries = AllByRecursion (λ (e : Arc (List ℕ) Global × Named W). IsCut (arc_value e.0) files e.1.before e.1.behind) entries
+
+  -- behind the files that are done come those from an index on and before a path, and what stands there
+  abbrev pub Joins : ℕ → ℕ → Option (Arc (File W) Global) → List (Arc (File W) Global) → List (Arc (File W) Global) → List (Arc (File W) Global) → Type 0
+  Joins from before file files done now = map arc_value now ≡ map arc_value done ++ (map arc_value (take (before - from) (drop from files)) ++ one_or_none file)

@@ -10,9 +10,9 @@ ghost use Rattle.cq_projects.specs.Edits.{edited_files, edited_conditions, repla
 ghost use Rattle.cq_projects.specs.Projects.{number_at, name_in, files_in, conditions_in, position_of};
 ghost use Rattle.cq_projects.specs.Ordered.{AreRising, IsAt, IsGap};
 
-use crate::files::number_of;
+use crate::files::{Cut, cut_at};
 use crate::held::{Held, Project};
-use crate::merging::merged;
+use crate::merging::{Named, merged};
 use crate::project_files::ProjectFiles;
 use crate::projects::ProjectEdit;
 use cq_base::{Conditions, Memory, Text};
@@ -27,21 +27,21 @@ use std::sync::Arc;
 #[derive(Drop)]
 pub struct Draft<W> {
     project: Arc<Project<W>, Global>,
-    paths: BTreeMap<Arc<Text, Global>, Option<Arc<Held<W>, Global>>>,
+    paths: BTreeMap<Arc<Text, Global>, Named<W>>,
     conditions: Option<Arc<Conditions, Global>>,
 }
 
 impl<W> Model for Draft<W> {
     ghost use Rattle.std.specs.Prelude.{option_map, unwrap_or};
     ghost use Rattle.std.specs.Arc.{arc_value};
-    ghost use Rattle.cq_projects.specs.Drafts.{edited_all, AreOwn};
+    ghost use Rattle.cq_projects.specs.Drafts.{edited_named, files_at, AreOwn, AreCut};
     ghost use Rattle.cq_projects.specs.Projects.{ListedProject};
 
     ghost Value = { ListedProject W };
 
-    ghost view = { λ d. record { name = (arc_value d.project).name; files = edited_all d.paths.entries (arc_value d.project).files; conditions = unwrap_or (option_map arc_value d.conditions) (arc_value d.project).conditions } };
+    ghost view = { λ d. record { name = (arc_value d.project).name; files = edited_named d.paths.entries (arc_value d.project).files; conditions = unwrap_or (option_map arc_value d.conditions) (arc_value d.project).conditions } };
 
-    ghost invariant = { λ d. AreOwn d.paths.entries };
+    ghost invariant = { λ d. AreCut (arc_value d.project).files d.paths.entries × AreOwn (files_at d.paths.entries) };
 }
 
 impl<W: Drop> Draft<W> {
@@ -66,10 +66,19 @@ impl<W: Drop> Draft<W> {
         ensures set { OnOk result (IsSetAt (arc_value path) file self.old self.new) }
         ensures number { IfOk result (λ number. number ≡ number_at (arc_value path) self.old.files) }
     {
-        let before = number_of(self.project.files.items(), &path);
-        match self.paths.insert(path, file)? {
-            Some(replaced) => Ok(change_in(replaced)),
-            None => Ok(before),
+        let Cut {
+            before,
+            behind,
+            change,
+        } = cut_at(self.project.files.items(), &path);
+        let named = Named {
+            before,
+            behind,
+            file,
+        };
+        match self.paths.insert(path, named)? {
+            Some(replaced) => Ok(change_in(replaced.file)),
+            None => Ok(change),
         }
     }
 

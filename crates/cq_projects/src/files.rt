@@ -4,6 +4,7 @@ ghost use Rattle.std.specs.Vec.{vec_len, vec_capacity};
 ghost use Rattle.std.specs.Ordering.{nat_cmp};
 ghost use Rattle.std.specs.Cmp.Lexicographic.{slice_cmp};
 ghost use Rattle.cq_projects.specs.Ordered.{AreRising, IsAt, IsGap};
+ghost use Rattle.cq_projects.specs.Drafts.{IsCut};
 ghost use Rattle.cq_projects.specs.Projects.{path_in, path_of, number_at};
 
 use crate::held::Held;
@@ -43,14 +44,31 @@ pub fn insert_within<W: Drop>(
     }
 }
 
-/// The number of the change that put the file at the path, if there is one.
-pub fn number_of<W>(files: &[Arc<Held<W>, Global>], path: &Text) -> Option<u64>
+/// Where files in path order are cut at a path: how many are before it, how many with the one that is there, and the
+/// change that put that one, if there is one.
+pub struct Cut {
+    pub before: usize,
+    pub behind: usize,
+    pub change: Option<u64>,
+}
+
+/// Cuts files at a path. It is a binary search.
+pub fn cut_at<W>(files: &[Arc<Held<W>, Global>], path: &Text) -> Cut
     requires { AreRising path_of (map arc_value files.now) }
-    ensures { result ≡ number_at path.now (map arc_value files.now) }
+    ensures cut { IsCut path.now (map arc_value files.now) result.before result.behind }
+    ensures change { result.change ≡ number_at path.now (map arc_value files.now) }
 {
     match find(files, path) {
-        Ok(i) => Some(files[i].change),
-        Err(_) => None,
+        Ok(i) => Cut {
+            before: i,
+            behind: i + 1,
+            change: Some(files[i].change),
+        },
+        Err(i) => Cut {
+            before: i,
+            behind: i,
+            change: None,
+        },
     }
 }
 

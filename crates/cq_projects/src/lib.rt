@@ -4,10 +4,10 @@
 //! One edit costs a search among the projects and one among its project's files, a move in that list, 8 bytes a file,
 //! and a walk over the positions of its spots, 4 bytes a file, but none where the file comes last; where somebody else
 //! has the project, a copy of both first, an owner a file. A batch costs an owner for each project, for each edit a
-//! search among the projects and in the list of its own, and for each project whose files changed one walk that makes
-//! its list anew, with a search for each path that is named and an owner a file, and a sort of its spots. What a reader
-//! looks up in a project, by path or by change, is a binary search: the spots are kept with its list of files. No text,
-//! no path and no work is copied.
+//! search among the projects, one among its project's files and one among the paths of the batch, and for each project
+//! whose files changed one walk that makes its list anew, an owner a file and no search, and a sort of its spots. What a
+//! reader looks up in a project, by path or by change, is a binary search: the spots are kept with its list of files. No
+//! text, no path and no work is copied.
 #![tactic(auto)]
 
 mod draft;

@@ -1,0 +1,23 @@
+use Rattle.std.proofs.Common.{Some, ap, ◌∙◌}
+use Rattle.cq_history.specs.Files.{File}
+use Rattle.cq_projects.proofs.OwnerLists.{rising_held}
+use Rattle.cq_projects.proofs.Putting.{number_at_index, no_number_at}
+use Rattle.cq_projects.proofs.Cutting.{cut_at as cut_found, cut_gap}
+use Rattle.cq_projects.proofs.files.cut_at.Goals as goal
+
+pub find-requires : goal.find-requires
+find-requires g c = rising_held c.args.files.now c.requires
+
+pub returns-in-Ok-clause-cut : goal.returns-in-Ok-clause-cut
+returns-in-Ok-clause-cut g c = cut_found c.args.files.now c.args.path.now c.in-Ok.i c.in-Ok.ensures.found
+
+pub returns-in-Ok-clause-change : goal.returns-in-Ok-clause-change
+returns-in-Ok-clause-change g c =
+    ap (λ (h : File g.row.W.Denot). Some h.number) (c.behind-files.view_is ∙ c.deref.ensures)
+    ∙ number_at_index c.args.files.now c.args.path.now c.in-Ok.i c.in-Ok.ensures.found c.index-files-i.result c.index-files-i.is
+
+pub returns-in-Err-clause-cut : goal.returns-in-Err-clause-cut
+returns-in-Err-clause-cut g c = cut_gap c.args.files.now c.args.path.now c.in-Err.i c.in-Err.ensures.gap
+
+pub returns-in-Err-clause-change : goal.returns-in-Err-clause-change
+returns-in-Err-clause-change g c = no_number_at c.args.files.now c.args.path.now c.in-Err.i c.in-Err.ensures.gap
