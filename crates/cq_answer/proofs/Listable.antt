@@ -1,6 +1,6 @@
 -- What a query's reply rests on: files and conditions that are those of a version.
-use Rattle.std.proofs.Common.{◌≡◌, ℕ, zero, suc, ◌<◌, ◌≤◌, Option, List, [], ◌∷◌, length, get_or, map, refl, sym, ap, ap₂, ◌∙◌, subst, subst₂, arith, Result, Ok, Err}
-use Rattle.std.specs.Prelude.{◌≢◌, AllPairs, Contains, OnOk}
+use Rattle.std.proofs.Common.{◌≡◌, ℕ, zero, suc, ◌<◌, ◌≤◌, Option, List, [], ◌∷◌, length, get_or, map, refl, sym, ap, ap₂, ◌∙◌, subst, subst₂, arith}
+use Rattle.std.specs.Prelude.{◌≢◌, AllPairs, Contains}
 use Rattle.std.specs.List.{AllByRecursion}
 use Rattle.std.specs.Str.{IsUtf8}
 use Rattle.std.proofs.lemmas.List.{length-map}
@@ -98,9 +98,11 @@ replied set changes version q files conditions p groups r are part_is are_groups
 
 -- ---- what is asked and read
 
-pub keys_asked : {L : Type 0} (set : Settings) (changes : List Change) (version : ℕ) (q : Query) (files : List (File (Work L))) (conditions : List Condition) (p : Part) (ks : List ℕ)
-    → AreOfVersion set changes version q.project files conditions → p ≡ part_of (paths_in files) q.kind q.path → AreAsked set changes version q ks → AreKeysOf (keys_in files) p ks
-keys_asked set changes version q files conditions p ks are part_is asked =
+pub keys_asked : {L : Type 0} (set : Settings) (changes : List Change) (version : ℕ) (q : Query) (files : List (File (Work L))) (p : Part) (ks : List ℕ)
+    → AreSameFiles (IsWorkOf set) (files_at changes version q.project) files → p ≡ part_of (paths_in files) q.kind q.path → AreAsked set changes version q ks → AreKeysOf (keys_in files) p ks
+keys_asked set changes version q files p ks files_are part_is asked =
+    let conditions = conditions_at changes version q.project in
+    let are : AreOfVersion set changes version q.project files conditions = record { files_are = files_are; conditions_are = refl } in
     let here = found set changes version q.project files conditions are in
     let same = part_same set changes version q.project files conditions are q.kind q.path p part_is in
     let alike = asked.are_read ∙ sym here.are in
@@ -108,9 +110,11 @@ keys_asked set changes version q files conditions p ks are part_is asked =
     let at : part_read asked.readings q ≡ p = ap (λ ps. part_of ps q.kind q.path) (same_paths asked.readings here.readings alike) ∙ sym same in
     subst₂ (λ (all : List (List ℕ)) (part : Part). AreKeysOf all part ks) keys at asked.are_keys
 
-pub most_read : {L : Type 0} (set : Settings) (changes : List Change) (version : ℕ) (q : Query) (files : List (File (Work L))) (conditions : List Condition) (p : Part) (n : ℕ)
-    → AreOfVersion set changes version q.project files conditions → p ≡ part_of (paths_in files) q.kind q.path → IsMostRead set changes version q n → AreMostReads (norms_in files) (keys_in files) p n
-most_read set changes version q files conditions p n are part_is most =
+pub most_read : {L : Type 0} (set : Settings) (changes : List Change) (version : ℕ) (q : Query) (files : List (File (Work L))) (p : Part) (n : ℕ)
+    → AreSameFiles (IsWorkOf set) (files_at changes version q.project) files → p ≡ part_of (paths_in files) q.kind q.path → IsMostRead set changes version q n → AreMostReads (norms_in files) (keys_in files) p n
+most_read set changes version q files p n files_are part_is most =
+    let conditions = conditions_at changes version q.project in
+    let are : AreOfVersion set changes version q.project files conditions = record { files_are = files_are; conditions_are = refl } in
     let here = found set changes version q.project files conditions are in
     let same = part_same set changes version q.project files conditions are q.kind q.path p part_is in
     let alike = most.are_read ∙ sym here.are in
@@ -164,8 +168,3 @@ texts_are set version project files conditions k min p groups r have some are_gr
 pub conditions_few : {L : Type 0} (set : Settings) (version : ℕ) (project : List ℕ) (files : List (File (Work L))) (conditions : List Condition) → HaveVersion set version project files conditions → length conditions ≤ 32
 conditions_few set version project files conditions have =
     subst (λ (cs : List Condition). length cs ≤ 32) (sym have.are.conditions_are) (few_conditions have.changes version project have.sound)
-
--- what holds anyhow holds where there is a value
-pub when_ok : {T E P : Type 0} (r : Result T E) → P → OnOk r P
-when_ok (Ok x) h = h
-when_ok (Err e) h = tt

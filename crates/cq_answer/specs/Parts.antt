@@ -1,12 +1,12 @@
 -- The part of a project that a query lists, with its groups, its windows and their keys.
-use Rattle.std.specs.Prelude.{◌≡◌, ℕ, ◌+◌, ◌*◌, ◌<◌, List, [], length, Option, Some, None}
+use Rattle.std.specs.Prelude.{◌≡◌, ℕ, ◌+◌, ◌*◌, ◌<◌, ◌≤◌, List, [], length, Option, Some, None}
 use Rattle.std.specs.List.{position}
 use Rattle.std.specs.Str.{bytes_eq}
 use Rattle.cq_base.specs.declared.group.Group.{Group}
 use Rattle.cq_base.specs.declared.group.Place.{Place}
 use Rattle.cq_base.specs.declared.norm.Norm.{Norm}
 use Rattle.cq_clones.specs.Groups.{AreGroups, AreGroupsIn}
-use Rattle.cq_groups.specs.Listing.{IsKey, IsKeyIn, AreAllRising, AreWindows, AreReached}
+use Rattle.cq_groups.specs.Listing.{IsKey, IsKeyIn, AreAllRising, AreWindows, AreReached, Rises, RisesAtMost}
 use Rattle.cq_refine.specs.Sets.{IsLongest}
 use Rattle.cq_request.specs.declared.request.Kind.{Kind}
 use Rattle.cq_request.specs.declared.request.Kind.TheVariants as kind
@@ -66,3 +66,17 @@ abbrev pub AreMostReads : List (List Norm) → List (List ℕ) → Part → ℕ 
 AreMostReads corpus keys part.Whole reads = AreReadsOf corpus keys part.Whole reads
 AreMostReads corpus keys (part.File i) reads = AreReadsOf corpus keys (part.File i) reads
 AreMostReads corpus keys part.Nothing reads = reads ≡ 0
+
+-- ---- from one count to another
+
+-- it was asked once for each of these keys
+abbrev pub AsksPart : List (List ℕ) → Part → ℕ → ℕ → Type 0
+AsksPart keys p old new = (ks : List ℕ) → AreKeysOf keys p ks → Rises old new (length ks)
+
+-- and no more than so
+abbrev pub AsksPartAtMost : List (List ℕ) → Part → ℕ → ℕ → Type 0
+AsksPartAtMost keys p old new = (ks : List ℕ) → AreKeysOf keys p ks → RisesAtMost old new (length ks)
+
+-- no more tokens were read
+abbrev pub ReadsPart : List (List Norm) → List (List ℕ) → Part → ℕ → ℕ → Type 0
+ReadsPart corpus keys p old new = (reads : ℕ) → AreMostReads corpus keys p reads → new ≤ old + reads

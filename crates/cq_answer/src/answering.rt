@@ -1,11 +1,9 @@
-ghost use Rattle.std.specs.Prelude.{◌≡◌, ℕ, ◌+◌, ◌≤◌, List, length, IfOk, OnOk};
+ghost use Rattle.std.specs.Prelude.{◌≡◌, ◌≤◌, length, IfOk, OnOk};
 ghost use Rattle.cq_base.specs.Settings.{IsInRange};
-ghost use Rattle.cq_groups.specs.Listing.{Rises, RisesAtMost};
 ghost use Rattle.cq_reply.specs.Written.{IsReplyText};
 ghost use Rattle.cq_answer.specs.Parts.{IsWithin};
-ghost use Rattle.cq_answer.specs.Reply as spec;
 ghost use Rattle.cq_answer.specs.Rows.{AreShowable};
-ghost use Rattle.cq_answer.specs.Versions.{HaveVersion, IsReplyOn, AreAskedOn, IsMostReadOn};
+ghost use Rattle.cq_answer.specs.Versions.{HaveVersion, IsReplyOn, ShowsGroups, AsksOn, AsksAtMostOn, ReadsOn};
 ghost use Rattle.cq_answer.specs.Works.{works_in, keys_in, numbers_in, facts_in};
 
 use crate::listing::groups_of;
@@ -37,8 +35,7 @@ fn reply_of<L: Ledger>(
     requires few { length conditions.now ≤ 32 }
     requires within { IsWithin (length files.now) part }
     requires measurable { AreShowable (facts_in (works_in files.now)) groups.now }
-    ensures { IfOk result (λ reply. reply
-        ≡ spec.reply_of (facts_in (works_in files.now)) conditions.now version kind part groups.now) }
+    ensures { IfOk result (ShowsGroups files.now conditions.now version kind part groups.now) }
 {
     match kind {
         Kind::Files => Ok(Reply::Files {
@@ -84,16 +81,13 @@ pub fn answer<B: Buckets, L: Ledger>(
     requires ready { B.ready buckets.old }
     ensures reply { IfOk result (IsReplyOn settings.now version query.now files.now conditions.now) }
     ensures texts { IfOk result IsReplyText }
-    ensures asked { (ks : List ℕ) → AreAskedOn settings.now version query.now files.now conditions.now ks
-        → OnOk result (Rises (B.asked buckets.old) (B.asked buckets.new) (length ks)) }
-    ensures asked_most { (ks : List ℕ) → AreAskedOn settings.now version query.now files.now conditions.now ks
-        → RisesAtMost (B.asked buckets.old) (B.asked buckets.new) (length ks) }
+    ensures asked { OnOk result (AsksOn B.Buckets settings.now version query.now files.now buckets.old buckets.new) }
+    ensures asked_most { AsksAtMostOn B.Buckets settings.now version query.now files.now buckets.old buckets.new }
     ensures same_changes { B.file_changes buckets.new ≡ B.file_changes buckets.old }
     ensures same_keys { B.file_keys buckets.new ≡ B.file_keys buckets.old }
     ensures ready { B.ready buckets.new }
     ensures moved { B.moved buckets.old buckets.new }
-    ensures reads { (reads : ℕ) → IsMostReadOn settings.now version query.now files.now conditions.now reads
-        → steps.new ≤ steps.old + reads }
+    ensures reads { ReadsOn settings.now version query.now files.now steps.old steps.new }
 {
     let part = part_of(files, query);
     let groups = groups_of(alloc, settings, files, part, query.min, buckets, steps)?;

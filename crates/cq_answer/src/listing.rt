@@ -1,6 +1,5 @@
-ghost use Rattle.std.specs.Prelude.{◌≡◌, ℕ, ◌+◌, ◌≤◌, List, length, IfOk, OnOk};
-ghost use Rattle.cq_groups.specs.Listing.{Rises, RisesAtMost};
-ghost use Rattle.cq_answer.specs.Parts.{IsWithin, AreGroupsOf, AreKeysOf, AreMostReads};
+ghost use Rattle.std.specs.Prelude.{◌≡◌, ◌≤◌, length, IfOk, OnOk};
+ghost use Rattle.cq_answer.specs.Parts.{IsWithin, AreGroupsOf, AsksPart, AsksPartAtMost, ReadsPart};
 ghost use Rattle.cq_answer.specs.Versions.{AreListable};
 ghost use Rattle.cq_answer.specs.Works.{norms_in, keys_in, numbers_in};
 
@@ -32,16 +31,13 @@ pub(crate) fn groups_of<B: Buckets, L: Ledger>(
     requires for_keys { B.file_keys buckets.old ≡ keys_in files.now }
     requires ready { B.ready buckets.old }
     ensures groups { IfOk result (λ groups. AreGroupsOf (norms_in files.now) min part groups.items) }
-    ensures asked { (ks : List ℕ) → AreKeysOf (keys_in files.now) part ks
-        → OnOk result (Rises (B.asked buckets.old) (B.asked buckets.new) (length ks)) }
-    ensures asked_most { (ks : List ℕ) → AreKeysOf (keys_in files.now) part ks
-        → RisesAtMost (B.asked buckets.old) (B.asked buckets.new) (length ks) }
+    ensures asked { OnOk result (AsksPart (keys_in files.now) part (B.asked buckets.old) (B.asked buckets.new)) }
+    ensures asked_most { AsksPartAtMost (keys_in files.now) part (B.asked buckets.old) (B.asked buckets.new) }
     ensures same_changes { B.file_changes buckets.new ≡ B.file_changes buckets.old }
     ensures same_keys { B.file_keys buckets.new ≡ B.file_keys buckets.old }
     ensures ready { B.ready buckets.new }
     ensures moved { B.moved buckets.old buckets.new }
-    ensures reads { (reads : ℕ) → AreMostReads (norms_in files.now) (keys_in files.now) part reads
-        → steps.new ≤ steps.old + reads }
+    ensures reads { ReadsPart (norms_in files.now) (keys_in files.now) part steps.old steps.new }
 {
     if part == Part::Nothing {
         return Ok(Vec::new(alloc));

@@ -1,13 +1,9 @@
-ghost use Rattle.std.specs.Prelude.{◌≡◌, ◌≤◌, IfOk, OnErr, Ok as ok, length};
+ghost use Rattle.std.specs.Prelude.{◌≡◌, ◌≤◌, IfOk, OnErr};
 ghost use Rattle.cq_base.specs.Changes.{IsSoundChange};
 ghost use Rattle.cq_base.specs.Settings.{IsInRange};
-ghost use Rattle.cq_history.specs.State.{accepted};
 ghost use Rattle.cq_hub.specs.Hubs.{IsPassOf};
 ghost use Rattle.cq_reply.specs.Written.{IsReplyText};
-ghost use Rattle.cq_request.specs.Reading.{line_says};
-ghost use Rattle.cq_request.specs.declared.request.Request.TheVariants as request;
-ghost use Rattle.cq_talk.specs.Steps.{MayLead};
-ghost use Rattle.cq_session.specs.Passes.{HasAnswered, HasChanged, HasGivenUp, HasReplied, HasTold, HasWaited};
+ghost use Rattle.cq_session.specs.Passes.{Begins, GivesUp, HasAccepted, HasAnswered, HasChanged, HasTold, HasWaited, Replies};
 
 use crate::helping::help;
 use crate::viewing::view_reply;
@@ -75,11 +71,10 @@ pub fn query_reply<L: Ledger, H: Hub<Work<L>>>(
     requires settings { keyer.now.settings ≡ settings.now }
     requires hub_settings { H.settings hub.now ≡ settings.now }
     requires long { settings.now.chunk ≤ query.now.min }
-    requires closed { MayLead H.Stands (H.callers hub.now) hub.now pass.old (λ h. seen ≤ length (accepted h)) }
+    requires closed { HasAccepted H.Hub hub.now pass.old seen }
     ensures replies { IfOk result (HasAnswered H.Hub hub.now pass.old pass.new steps.old steps.new seen query.now) }
     ensures text { IfOk result IsReplyText }
-    ensures refused { OnErr result (HasGivenUp H.Hub hub.now pass.old pass.new steps.old steps.new seen
-        (ok (request.Query query.now))) }
+    ensures refused { OnErr result (GivesUp H.Hub hub.now pass.old pass.new steps.old steps.new seen query.now) }
 {
     let asked = hub.ask(pass);
     if query.at > asked.accepted {
@@ -119,12 +114,10 @@ pub(crate) fn reply_to<L: Ledger, H: Hub<Work<L>>>(
     requires in_range { IsInRange settings.now }
     requires settings { keyer.now.settings ≡ settings.now }
     requires hub_settings { H.settings hub.now ≡ settings.now }
-    requires closed { MayLead H.Stands (H.callers hub.now) hub.now pass.old (λ h. seen ≤ length (accepted h)) }
-    ensures replies { IfOk result (HasReplied H.Hub hub.now pass.old pass.new steps.old steps.new seen
-        (line_says settings.now.chunk line.now)) }
+    requires closed { HasAccepted H.Hub hub.now pass.old seen }
+    ensures replies { IfOk result (Replies H.Hub hub.now pass.old pass.new steps.old steps.new seen settings.now line.now) }
     ensures text { IfOk result IsReplyText }
-    ensures refused { OnErr result (HasGivenUp H.Hub hub.now pass.old pass.new steps.old steps.new seen
-        (line_says settings.now.chunk line.now)) }
+    ensures refused { OnErr result (Begins H.Hub hub.now pass.old pass.new steps.old steps.new seen settings.now line.now) }
 {
     match read_request(alloc, settings, line) {
         Ok(Request::Change(change)) => change_reply(alloc, hub, change, pass),

@@ -1,11 +1,10 @@
-ghost use Rattle.std.specs.Prelude.{◌≡◌, ◌≤◌, ◌+◌, OnOk, OnErr, IfOk, length};
+ghost use Rattle.std.specs.Prelude.{◌≡◌, OnOk, OnErr, IfOk};
 ghost use Rattle.std.specs.Arc.{arc_value};
 ghost use Rattle.cq_base.specs.Settings.{IsInRange};
 ghost use Rattle.cq_board.specs.Sound.{HasSoundText};
-ghost use Rattle.cq_history.specs.State.{state, accepted, ready, IsAccepted, IsDone};
-ghost use Rattle.cq_talk.specs.Steps.{Always, MayLead};
+ghost use Rattle.cq_talk.specs.Steps.{Always};
 ghost use Rattle.cq_work.specs.Work.{IsWorkOf};
-ghost use Rattle.cq_session.specs.Passes.{HasHelped};
+ghost use Rattle.cq_session.specs.Passes.{HasChange, HasDone, HasDoneSome, HasDoneUpTo, HasHelped, MayHelp};
 
 use cq_base::{Memory, Settings};
 use cq_board::{Finished, Job};
@@ -44,10 +43,8 @@ fn help_one<L: Ledger, H: Hub<Work<L>>>(
     requires in_range { IsInRange settings.now }
     requires settings { keyer.now.settings ≡ settings.now }
     requires hub_settings { H.settings hub.now ≡ settings.now }
-    requires accepted { MayLead H.Stands (H.callers hub.now) hub.now pass.old
-        (λ h. IsAccepted (state (H.callers hub.now) h) change) }
-    ensures done { OnOk result (HasHelped H.Hub hub.now pass.old pass.new Always change
-        (λ after. IsDone (state (H.callers hub.now) after) change)) }
+    requires accepted { HasChange H.Hub hub.now pass.old change }
+    ensures done { OnOk result (HasDone H.Hub hub.now pass.old pass.new change) }
     ensures refused { OnErr result (HasHelped H.Hub hub.now pass.old pass.new Always change Always) }
     ensures asked { H.asked pass.new ≡ H.asked pass.old }
 {
@@ -78,13 +75,9 @@ pub(crate) fn help<L: Ledger, H: Hub<Work<L>>>(
     requires in_range { IsInRange settings.now }
     requires settings { keyer.now.settings ≡ settings.now }
     requires hub_settings { H.settings hub.now ≡ settings.now }
-    requires accepted { MayLead H.Stands (H.callers hub.now) hub.now pass.old
-        (λ h. (done ≤ ready (state (H.callers hub.now) h)) × (to ≤ length (accepted h))) }
-    ensures done { OnOk result (HasHelped H.Hub hub.now pass.old pass.new
-        (λ h. done ≤ ready (state (H.callers hub.now) h)) to
-        (λ after. done ≤ to → to ≤ ready (state (H.callers hub.now) after))) }
-    ensures refused { OnErr result (HasHelped H.Hub hub.now pass.old pass.new
-        (λ h. done ≤ ready (state (H.callers hub.now) h)) to Always) }
+    requires accepted { MayHelp H.Hub hub.now pass.old done to }
+    ensures done { OnOk result (HasDoneUpTo H.Hub hub.now pass.old pass.new done to) }
+    ensures refused { OnErr result (HasDoneSome H.Hub hub.now pass.old pass.new done to) }
     ensures asked { H.asked pass.new ≡ H.asked pass.old }
 {
     'changes: for i in done..to {

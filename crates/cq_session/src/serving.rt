@@ -1,17 +1,14 @@
 ghost use Rattle.std.specs.Prelude.{◌≡◌, ◌≤◌, length};
 ghost use Rattle.cq_base.specs.Settings.{IsInRange};
-ghost use Rattle.cq_history.specs.State.{accepted};
 ghost use Rattle.cq_io.specs.Causes.{HasCause};
 ghost use Rattle.cq_io.specs.Sending.{Sends};
 ghost use Rattle.cq_lines.specs.Pieces.{line_limit};
 ghost use Rattle.cq_lines.specs.Runs.{IsFresh};
-ghost use Rattle.cq_lines.specs.Serving.{Serves, HasEndCause};
+ghost use Rattle.cq_lines.specs.Serving.{HasCauseOfEnd};
 ghost use Rattle.cq_reply.specs.Written.{line_of};
 ghost use Rattle.cq_reply.specs.declared.reply.Reply.TheVariants as reply;
-ghost use Rattle.cq_talk.specs.Steps.{Always, Led, MayLead};
-ghost use Rattle.cq_session.specs.Costs.{counted};
-ghost use Rattle.cq_session.specs.Passes.{HasSentLine};
-ghost use Rattle.cq_session.specs.Turn.{CountedTalk};
+ghost use Rattle.cq_talk.specs.Steps.{Always, MayLead};
+ghost use Rattle.cq_session.specs.Passes.{HasAccepted, HasSentLine, HasServed};
 
 use crate::telling::told;
 use cq_base::{Settings, Steps};
@@ -40,7 +37,7 @@ fn turn<L: Ledger, H: Hub<Work<L>>, K: Sink>(
     requires settings { keyer.now.settings ≡ settings.now }
     requires hub_settings { H.settings hub.now ≡ settings.now }
     requires short { length line.now ≤ line_limit }
-    requires closed { MayLead H.Stands (H.callers hub.now) hub.now pass.old (λ h. seen.old ≤ length (accepted h)) }
+    requires closed { HasAccepted H.Hub hub.now pass.old seen.old }
     ensures turns { HasSentLine H.Hub hub.now pass.old pass.new steps.old steps.new seen.old settings.now line.now
         (K.written sink.old) (K.written sink.new) result seen.new }
     ensures cause { HasCause (K.faults sink.old) (K.faults sink.new) result }
@@ -77,12 +74,9 @@ pub fn session<L: Ledger, H: Hub<Work<L>>, S: Source, K: Sink>(
     requires settings { keyer.now.settings ≡ settings.now }
     requires hub_settings { H.settings hub.now ≡ settings.now }
     requires closed { MayLead H.Stands (H.callers hub.now) hub.now pass.old Always }
-    ensures served { Led H.Stands (H.callers hub.now) hub.now pass.old pass.new Always (λ c h after.
-        Serves line_of (CountedTalk settings.now (H.callers hub.now) H.alone c h
-        (counted steps.old steps.new (H.asked pass.old) (H.asked pass.new)) after)
-        lines.old.limit (S.rest source.old) (S.rest source.new) (K.written sink.old) (K.written sink.new) result) }
-    ensures cause { HasEndCause (S.faults source.old) (S.faults source.new)
-        (K.faults sink.old) (K.faults sink.new) result }
+    ensures served { HasServed H.Hub hub.now pass.old pass.new steps.old steps.new S.Source K.Sink settings.now
+        lines.old.limit source.old source.new sink.old sink.new result }
+    ensures cause { HasCauseOfEnd S.Source K.Sink source.old source.new sink.old sink.new result }
 {
     let mut seen = 0u64;
     'lines: loop {

@@ -1,11 +1,7 @@
-ghost use Rattle.std.specs.Prelude.{◌≡◌, ◌≤◌, length};
+ghost use Rattle.std.specs.Prelude.{◌≡◌};
 ghost use Rattle.cq_base.specs.Settings.{IsInRange};
-ghost use Rattle.cq_history.specs.State.{accepted};
-ghost use Rattle.cq_reply.specs.Lines.{bytes_of};
-ghost use Rattle.cq_request.specs.Reading.{line_says};
 ghost use Rattle.cq_talk.specs.Replies.{named as named_in};
-ghost use Rattle.cq_talk.specs.Steps.{MayLead};
-ghost use Rattle.cq_session.specs.Passes.{HasLine};
+ghost use Rattle.cq_session.specs.Passes.{HasAccepted, HasLine};
 
 use crate::answering::reply_to;
 use cq_base::{Memory, Settings, Steps};
@@ -45,9 +41,8 @@ pub(crate) fn told<L: Ledger, H: Hub<Work<L>>>(
     requires in_range { IsInRange settings.now }
     requires settings { keyer.now.settings ≡ settings.now }
     requires hub_settings { H.settings hub.now ≡ settings.now }
-    requires closed { MayLead H.Stands (H.callers hub.now) hub.now pass.old (λ h. seen ≤ length (accepted h)) }
-    ensures { HasLine H.Hub hub.now pass.old pass.new steps.old steps.new seen
-        (line_says settings.now.chunk line.now) (bytes_of result.0) result.1 }
+    requires closed { HasAccepted H.Hub hub.now pass.old seen }
+    ensures { HasLine H.Hub hub.now pass.old pass.new steps.old steps.new seen settings.now line.now result }
 {
     match reply_to(alloc, settings, keyer, hub, line, seen, pass, steps) {
         Ok(reply) => match line_of(alloc, &reply) {

@@ -1,14 +1,8 @@
-ghost use Rattle.std.specs.Prelude.{◌≡◌, ◌≤◌, IfOk, OnErr, [], ◌∷◌};
-ghost use Rattle.std.specs.Result.{is_ok};
+ghost use Rattle.std.specs.Prelude.{◌≡◌, ◌≤◌, IfOk, OnErr};
 ghost use Rattle.cq_base.specs.Settings.{IsInRange};
-ghost use Rattle.cq_answer.specs.Reply.{IsReply};
-ghost use Rattle.cq_ask.specs.Moves.{Moves};
-ghost use Rattle.cq_history.specs.State.{state, ready};
 ghost use Rattle.cq_reply.specs.Written.{IsReplyText};
-ghost use Rattle.cq_talk.specs.Steps.{MayLead};
 ghost use Rattle.cq_work.specs.Work.{IsWorkOf};
-ghost use Rattle.cq_session.specs.Costs.{Costs, counted};
-ghost use Rattle.cq_session.specs.Passes.{HasOpen, HasShown, HasViewedOrNot, WhereOpen};
+ghost use Rattle.cq_session.specs.Passes.{CostsOpen, HasOpen, HasReady, HasShown, HasViewedOrNot, KeepsOpen, ShowsOpen};
 
 use cq_answer::answer;
 use cq_ask::PassBuckets;
@@ -35,14 +29,10 @@ fn reply_in<L: Ledger, H: Hub<Work<L>>>(
     requires hub_settings { H.settings hub.now ≡ settings.now }
     requires long { settings.now.chunk ≤ query.now.min }
     requires viewing { HasOpen H.Hub hub.now IsWorkOf view.now pass.old }
-    ensures reply { IfOk result (λ reply. WhereOpen H.Hub hub.now IsWorkOf view.now pass.old
-        (λ changes. IsReply (H.settings hub.now) changes view.now.version query.now reply)) }
+    ensures reply { IfOk result (ShowsOpen H.Hub hub.now IsWorkOf view.now pass.old query.now) }
     ensures text { IfOk result IsReplyText }
-    ensures costs { WhereOpen H.Hub hub.now IsWorkOf view.now pass.old (λ changes. Costs (H.settings hub.now) changes
-        (record { query = query.now; version = view.now.version; answered = is_ok result } ∷ [])
-        (counted steps.old steps.new (H.asked pass.old) (H.asked pass.new))) }
-    ensures moves { Moves H.Stands (H.callers hub.now) H.alone (IsWorkOf (H.settings hub.now))
-        hub.now view.now pass.old pass.new }
+    ensures costs { CostsOpen H.Hub hub.now IsWorkOf view.now pass.old pass.new steps.old steps.new query.now result }
+    ensures moves { KeepsOpen H.Hub hub.now IsWorkOf view.now pass.old pass.new }
 {
     let files = view.listing.project(&query.project);
     let conditions = view.listing.conditions(&query.project);
@@ -78,8 +68,7 @@ pub(crate) fn view_reply<L: Ledger, H: Hub<Work<L>>>(
     requires in_range { IsInRange settings.now }
     requires hub_settings { H.settings hub.now ≡ settings.now }
     requires long { settings.now.chunk ≤ query.now.min }
-    requires ready { MayLead H.Stands (H.callers hub.now) hub.now pass.old
-        (λ h. to ≤ ready (state (H.callers hub.now) h)) }
+    requires ready { HasReady H.Hub hub.now pass.old to }
     ensures shown { IfOk result (HasShown H.Hub hub.now pass.old pass.new steps.old steps.new to query.now) }
     ensures text { IfOk result IsReplyText }
     ensures refused { OnErr result (HasViewedOrNot H.Hub hub.now pass.old pass.new steps.old steps.new to query.now) }

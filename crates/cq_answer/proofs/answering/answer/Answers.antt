@@ -1,13 +1,14 @@
 use Rattle.std.proofs.Common.{◌≤◌, List, length, sym, ap, ◌∙◌, subst, arith}
 use Rattle.std.proofs.lemmas.List.{length-map}
 use Rattle.std.proofs.lemmas.Result.{IfOk-weaker}
+use Rattle.cq_groups.proofs.KeyLists.{on_ok}
 use Rattle.cq_history.specs.Files.{File}
 use Rattle.cq_work.specs.declared.work.Work.{Work}
 use Rattle.cq_answer.specs.Parts.{AreGroupsOf, IsWithin}
 use Rattle.cq_answer.specs.Reply.{reply_of}
 use Rattle.cq_answer.specs.Rows.{AreShowable}
 use Rattle.cq_answer.specs.Works.{work_in, facts_in, norms_in}
-use Rattle.cq_answer.proofs.Listable.{listable, measurable, replied, keys_asked, most_read, texts_are, conditions_few, when_ok}
+use Rattle.cq_answer.proofs.Listable.{listable, measurable, replied, keys_asked, most_read, texts_are, conditions_few}
 use Rattle.cq_answer.proofs.answering.answer.Goals as goal
 
 -- as many owners as files
@@ -22,11 +23,11 @@ groups_of-requires-clause-listable g c =
 
 pub returns-in_err-groups-clause-asked_most : goal.returns-in_err-groups-clause-asked_most
 returns-in_err-groups-clause-asked_most g c = λ ks on.
-    c.groups_of.ensures.asked_most ks (keys_asked c.args.settings.now on.changes c.args.version c.args.query.now c.args.files.now c.args.conditions.now c.part_of-part.result ks on.are c.part_of-part.ensures.part on.asked)
+    c.groups_of.ensures.asked_most ks (keys_asked c.args.settings.now on.changes c.args.version c.args.query.now c.args.files.now c.part_of-part.result ks on.files_are c.part_of-part.ensures.part on.asked)
 
 pub returns-in_err-groups-clause-reads : goal.returns-in_err-groups-clause-reads
 returns-in_err-groups-clause-reads g c = λ n on.
-    c.groups_of.ensures.reads n (most_read c.args.settings.now on.changes c.args.version c.args.query.now c.args.files.now c.args.conditions.now c.part_of-part.result n on.are c.part_of-part.ensures.part on.most)
+    c.groups_of.ensures.reads n (most_read c.args.settings.now on.changes c.args.version c.args.query.now c.args.files.now c.part_of-part.result n on.files_are c.part_of-part.ensures.part on.most)
 
 pub reply_of-requires-clause-few : goal.reply_of-requires-clause-few
 reply_of-requires-clause-few g c = conditions_few c.args.settings.now c.args.version c.args.query.now.project c.args.files.now c.args.conditions.now c.requires.of_version
@@ -54,13 +55,13 @@ returns-clause-texts g c =
     texts_are c.args.settings.now c.args.version c.args.query.now.project c.args.files.now c.args.conditions.now c.args.query.now.kind c.args.query.now.min c.part_of-part.result c.deref.result.now r c.requires.of_version some groups (is ∙ ap (λ (fs : List (File (Work g.row.L.Denot))). reply_of (facts_in fs) c.args.conditions.now c.args.version c.args.query.now.kind c.part_of-part.result c.deref.result.now) c.items-items.ensures.files)) c.reply_of.ensures
 
 pub returns-clause-asked : goal.returns-clause-asked
-returns-clause-asked g c = λ ks on.
-    when_ok c.reply_of.result (c.in_ok-groups.ensures.asked ks (keys_asked c.args.settings.now on.changes c.args.version c.args.query.now c.args.files.now c.args.conditions.now c.part_of-part.result ks on.are c.part_of-part.ensures.part on.asked))
+returns-clause-asked g c =
+    on_ok c.reply_of.result (λ ks on. c.in_ok-groups.ensures.asked ks (keys_asked c.args.settings.now on.changes c.args.version c.args.query.now c.args.files.now c.part_of-part.result ks on.files_are c.part_of-part.ensures.part on.asked))
 
 pub returns-clause-asked_most : goal.returns-clause-asked_most
 returns-clause-asked_most g c = λ ks on.
-    c.groups_of.ensures.asked_most ks (keys_asked c.args.settings.now on.changes c.args.version c.args.query.now c.args.files.now c.args.conditions.now c.part_of-part.result ks on.are c.part_of-part.ensures.part on.asked)
+    c.groups_of.ensures.asked_most ks (keys_asked c.args.settings.now on.changes c.args.version c.args.query.now c.args.files.now c.part_of-part.result ks on.files_are c.part_of-part.ensures.part on.asked)
 
 pub returns-clause-reads : goal.returns-clause-reads
 returns-clause-reads g c = λ n on.
-    c.groups_of.ensures.reads n (most_read c.args.settings.now on.changes c.args.version c.args.query.now c.args.files.now c.args.conditions.now c.part_of-part.result n on.are c.part_of-part.ensures.part on.most)
+    c.groups_of.ensures.reads n (most_read c.args.settings.now on.changes c.args.version c.args.query.now c.args.files.now c.part_of-part.result n on.files_are c.part_of-part.ensures.part on.most)

@@ -1,6 +1,6 @@
 use Rattle.std.proofs.Common.{List, [], ◌∷◌, sym, ap, ◌∙◌, subst, arith}
 use Rattle.std.specs.Result.{is_ok}
-use Rattle.std.proofs.lemmas.Result.{IfOk-weaker}
+use Rattle.std.proofs.lemmas.Result.{IfOk-weaker, on_ok_weaker}
 use Rattle.cq_answer.specs.Reply.{IsReply}
 use Rattle.cq_ask.specs.Moves.{Moves}
 use Rattle.cq_base.specs.declared.settings.Settings.{Settings}
@@ -58,7 +58,7 @@ returns-clause-costs g c = λ by h stands opened.
     subst (λ (p : g.row.H-Pass.Denot). Costs (g.H.Hub.settings c.args.hub.now) (accepted h) vs (n p)) (sym same)
     (subst (λ (s : Settings). Costs s (accepted h) vs (n c.answer.new.buckets.pass.now)) (sym c.requires.hub_settings)
     (costs_one set (accepted h) c.args.query.now c.args.view.now.version _ _ _ _ c.answer.result
-    (λ most is. c.answer.ensures.reads most (record { changes = accepted h; are = are; most = is }))
-    (λ ks is. c.answer.ensures.asked ks (record { changes = accepted h; are = are; asked = is }))
-    (λ ks is. c.answer.ensures.asked_most ks (record { changes = accepted h; are = are; asked = is }))
+    (λ most is. c.answer.ensures.reads most (record { changes = accepted h; files_are = are.files_are; most = is }))
+    (λ ks is. on_ok_weaker c.answer.result (λ asks. asks ks (record { changes = accepted h; files_are = are.files_are; asked = is })) c.answer.ensures.asked)
+    (λ ks is. c.answer.ensures.asked_most ks (record { changes = accepted h; files_are = are.files_are; asked = is }))
     (let fewer = c.answer.ensures.moved.no_fewer in omega (arith, fewer))))
