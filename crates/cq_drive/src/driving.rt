@@ -1,13 +1,11 @@
 ghost use Rattle.std.specs.Prelude.{◌≡◌, ◌≤◌, IfOk, OnErr, length};
 ghost use Rattle.cq_base.specs.Settings.{IsInRange};
-ghost use Rattle.cq_drive.specs.Cores.{IsDriven, LineSent, RunServes};
-ghost use Rattle.cq_drive.specs.Script.{IsScript};
+ghost use Rattle.cq_drive.specs.Cores.{HasServed, IsDriven, LineSent, Plays};
 ghost use Rattle.cq_io.specs.Causes.{HasCause};
 ghost use Rattle.cq_io.specs.Sending.{Sends};
 ghost use Rattle.cq_lines.specs.Pieces.{line_limit};
 ghost use Rattle.cq_lines.specs.Runs.{IsFresh};
-ghost use Rattle.cq_lines.specs.Serving.{Serves, HasEndCause};
-ghost use Rattle.cq_outcome.specs.Outcomes.{line_of};
+ghost use Rattle.cq_lines.specs.Serving.{HasCauseOfEnd};
 ghost use Rattle.cq_reply.specs.Written.{line_of as reply_line};
 ghost use Rattle.cq_reply.specs.declared.reply.Reply.TheVariants as reply;
 
@@ -69,8 +67,8 @@ fn run<L: Ledger, S: Source, K: Sink>(
     requires in_range { IsInRange settings.now }
     requires settings { keyer.now.settings ≡ settings.now }
     requires driven { IsDriven L settings.now core.old }
-    ensures served { RunServes L settings.now core.old lines.old.limit (S.rest source.old) (S.rest source.new) (K.written sink.old) (K.written sink.new) result }
-    ensures cause { HasEndCause (S.faults source.old) (S.faults source.new) (K.faults sink.old) (K.faults sink.new) result }
+    ensures served { HasServed L settings.now core.old S.Source K.Sink lines.old source.old source.new sink.old sink.new result }
+    ensures cause { HasCauseOfEnd S.Source K.Sink source.old source.new sink.old sink.new result }
 {
     'lines: loop {
         match lines.next(source) {
@@ -104,8 +102,8 @@ pub fn drive<L: Ledger, S: Source, K: Sink>(
     requires fresh { IsFresh lines.old }
     requires in_range { IsInRange settings.now }
     requires settings { keyer.now.settings ≡ settings.now }
-    ensures script { IfOk result (Serves line_of (IsScript settings.now) lines.old.limit (S.rest source.old) (S.rest source.new) (K.written sink.old) (K.written sink.new)) }
-    ensures cause { IfOk result (HasEndCause (S.faults source.old) (S.faults source.new) (K.faults sink.old) (K.faults sink.new)) }
+    ensures script { IfOk result (Plays S.Source K.Sink settings.now lines.old source.old source.new sink.old sink.new) }
+    ensures cause { IfOk result (HasCauseOfEnd S.Source K.Sink source.old source.new sink.old sink.new) }
     ensures lines { OnErr result (lines.new ≡ lines.old) }
     ensures source { OnErr result (source.new ≡ source.old) }
     ensures sink { OnErr result (sink.new ≡ sink.old) }

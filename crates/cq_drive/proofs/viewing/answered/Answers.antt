@@ -1,4 +1,4 @@
-use Rattle.std.proofs.Common.{List, ℕ, refl, sym, ap, ◌∙◌, subst}
+use Rattle.std.proofs.Common.{refl, ap, ◌∙◌}
 use Rattle.cq_board.specs.Listings.{Listed}
 use Rattle.cq_projects.specs.Projects.{files_in, conditions_in}
 use Rattle.cq_work.specs.declared.work.Work.{Work}
