@@ -1,5 +1,5 @@
 -- A question that may finish works, put to a hub that is alone: the reply is by all changes.
-use Rattle.std.proofs.Common.{◌≡◌, ℕ, ◌+◌, ◌<◌, ◌≤◌, max, true, false, List, [], ◌∷◌, ◌++◌, length, Some, None, sym, ap, ◌∙◌, subst, refl, inl, inr, append-nil, arith}
+use Rattle.std.proofs.Common.{◌≡◌, ℕ, ◌+◌, ◌≤◌, max, true, false, List, [], ◌∷◌, ◌++◌, length, ap, ◌∙◌, subst, inl, inr, append-nil, arith}
 use Rattle.std.proofs.Math.Nat.{le-max_right}
 use Rattle.cq_answer.specs.Reply.{IsReply}
 use Rattle.cq_base.specs.declared.settings.Settings.{Settings}

@@ -1,16 +1,15 @@
 -- The made files are accepted one by one by a hub that is alone.
-use Rattle.std.proofs.Common.{◌≡◌, ℕ, zero, suc, ◌+◌, ◌*◌, ◌<◌, ◌≤◌, true, false, cond, Option, Some, None, List, [], ◌∷◌, ◌++◌, map, length, length-append, sym, ap, ap₂, ◌∙◌, subst, refl, inl, inr, arith}
-use Rattle.std.specs.Prelude.{◌⊎◌, nat_le, nat_lt, sum_by}
+use Rattle.std.proofs.Common.{◌≡◌, ℕ, zero, suc, ◌+◌, ◌*◌, ◌≤◌, false, cond, Some, None, List, [], ◌∷◌, ◌++◌, map, length, length-append, sym, ap, ap₂, ◌∙◌, subst, refl, inl, inr, arith}
+use Rattle.std.specs.Prelude.{nat_le, nat_lt, sum_by}
 use Rattle.std.proofs.lemmas.Bool.{lt-leb, le-ltb}
 use Rattle.std.proofs.lemmas.List.{length-map, map-append}
 use Rattle.std.proofs.lemmas.List.Sums.{sum_by-append}
 use Rattle.cq_base.specs.declared.change.Change.{Change}
 use Rattle.cq_base.specs.declared.settings.Settings.{Settings}
-use Rattle.cq_board.specs.Answers.{refusal_of}
 use Rattle.cq_board.specs.declared.answers.Refused.{Refused}
 use Rattle.cq_board.specs.declared.answers.Refused.TheVariants as refused
 use Rattle.cq_history.specs.Changes.{text_len as change_len}
-use Rattle.cq_history.specs.State.{Slot, new_slot, state, accepted}
+use Rattle.cq_history.specs.State.{Slot, new_slot, accepted}
 use Rattle.cq_history.specs.declared.event.Event.{Event}
 use Rattle.cq_history.specs.declared.event.Event.TheVariants.{Accept}
 use Rattle.cq_history.proofs.Prefixes.{accepted-append}

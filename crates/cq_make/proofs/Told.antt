@@ -1,5 +1,5 @@
 -- The replies to the three questions, and the line that tells of them.
-use Rattle.std.proofs.Common.{◌≡◌, ℕ, ◌≤◌, List, length, map, sym, ap, ap₂, ◌∙◌, subst, arith}
+use Rattle.std.proofs.Common.{◌≡◌, ℕ, ◌≤◌, List, length, map, ap, ◌∙◌, subst, arith}
 use Rattle.std.proofs.lemmas.List.{length-map}
 use Rattle.cq_answer.proofs.VersionFiles.{few_files}
 use Rattle.cq_answer.specs.Readings.{Reading}

@@ -4,6 +4,7 @@ use Rattle.cq_base.specs.declared.measures.Measures.{Measures}
 use Rattle.cq_base.specs.declared.settings.Settings.{Settings}
 use Rattle.cq_history.specs.State.{accepted}
 use Rattle.cq_history.specs.declared.event.Event.{Event}
+use Rattle.cq_hub.specs.declared.hub.Hub.{Ghosts}
 use Rattle.cq_io.specs.Sending.{Sends}
 use Rattle.cq_reply.specs.declared.reply.FileRow.{FileRow}
 use Rattle.cq_reply.specs.declared.reply.GroupRow.{GroupRow}
@@ -36,6 +37,6 @@ module _ {S P : Type 0} (Stands : S → P → ℕ → List Event → Type 0) whe
   abbrev pub HasPut : S → P → ℕ → ℕ → Type 0
   HasPut hub pass number files = MayLead Stands 1 hub pass (λ h. accepted h ≡ puts_to number files)
 
-  -- from each history for which the pass stood it was brought to one in which the question has this reply by all changes
-  abbrev pub HasAnswered : S → P → P → Settings → Kind → Reply → Type 0
-  HasAnswered hub old new set kind reply = Led Stands 1 hub old new Always (λ c h. IsAnsweredByAll set kind h reply)
+-- from each history for which the pass stood it was brought to one in which the question has this reply by all changes
+abbrev pub Answers : {S W P : Type 0} → Ghosts S W P → S → P → P → Settings → Kind → Reply → Type 0
+Answers of hub old new set kind reply = Led of.Stands 1 hub old new Always (λ c h. IsAnsweredByAll set kind h reply)

@@ -1,5 +1,5 @@
 -- The line that `make` writes.
-use Rattle.std.specs.Prelude.{◌≡◌, ℕ, List, [], ◌∷◌, ◌++◌, length, sum_by, Option, None, true, codes}
+use Rattle.std.specs.Prelude.{◌≡◌, ℕ, List, [], ◌∷◌, ◌++◌, length, sum_by, None, true, codes}
 use Rattle.serde_json.specs.Data.{Data, boolean, object, no_members, member}
 use Rattle.serde_json.specs.Written.{compact_text}
 use Rattle.cq_answer.specs.Reply.{IsReply}

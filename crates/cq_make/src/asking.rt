@@ -1,7 +1,7 @@
 ghost use Rattle.std.specs.Prelude.{◌≡◌, ◌≤◌, IfOk};
 ghost use Rattle.cq_base.specs.Settings.{IsInRange};
 ghost use Rattle.cq_talk.specs.Steps.{Always, MayLead};
-ghost use Rattle.cq_make.specs.Made.{HasAnswered};
+ghost use Rattle.cq_make.specs.Made.{Answers};
 ghost use Rattle.cq_make.specs.Summary.{question};
 
 use crate::generator::PROJECT;
@@ -45,7 +45,7 @@ pub(crate) fn reply_of<L: Ledger>(
     requires settings { keyer.now.settings ≡ settings.now }
     requires hub_settings { ⟦<Solo<Work<L>> as Hub<Work<L>>>⟧.settings hub.now ≡ settings.now }
     requires closed { MayLead ⟦<Solo<Work<L>> as Hub<Work<L>>>⟧.Stands 1 hub.now pass.old Always }
-    ensures reply { IfOk result (HasAnswered ⟦<Solo<Work<L>> as Hub<Work<L>>>⟧.Stands hub.now pass.old pass.new settings.now kind) }
+    ensures reply { IfOk result (Answers ⟦<Solo<Work<L>> as Hub<Work<L>>>⟧ hub.now pass.old pass.new settings.now kind) }
 {
     let query = question(alloc, kind)?;
     query_reply(alloc, settings, keyer, hub, &query, 0, pass, steps)

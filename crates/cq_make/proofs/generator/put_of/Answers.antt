@@ -1,5 +1,4 @@
-use Rattle.std.proofs.Common.{rules, ◌≡◌, sym, subst}
-use Rattle.cq_base.specs.Changes.{IsSoundChange}
+use Rattle.std.proofs.Common.{rules}
 use Rattle.cq_make.proofs.Texts.{put_sound}
 use Rattle.cq_make.proofs.generator.put_of.Goals as goal
 
