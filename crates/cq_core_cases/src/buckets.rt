@@ -12,6 +12,7 @@ use cq_base::{Entry, Memory, Text};
 use cq_board::{Refused, View};
 use cq_groups::Buckets;
 use cq_hub::{Hub, Solo};
+use cq_io::OpenGate;
 use cq_projects::ProjectFiles;
 use std::alloc::Global;
 use std::sync::Arc;
@@ -49,7 +50,7 @@ fn read<W: Made, H: Hub<W>>(
     requires { HasSeen H.Stands hub.now pass.old (λ c h. view_of (state (H.callers hub.now) h) c ≡ None) }
 {
     let asked = hub.ask(pass);
-    hub.advance(alloc, asked.done, pass)?;
+    hub.advance(alloc, asked.done, &OpenGate, pass)?;
     let view = hub.open_view(pass)?;
     let files = view.listing.project(project);
     let entries = bucket(alloc, hub, &view, files, key, pass)?;

@@ -6,6 +6,7 @@ use crate::made::{Alike, Apart, Made, SETTINGS, accept, finish};
 use cq_base::{Entry, Memory, Settings};
 use cq_board::{Finished, Refused};
 use cq_hub::{Hub, Solo};
+use cq_io::OpenGate;
 use cq_shard::Indexed;
 use std::alloc::Global;
 use std::cell::Cell;
@@ -53,7 +54,7 @@ pub fn read<W: Made, H: Hub<W>>(
     requires { HasSeen H.Stands hub.now pass.old (λ c h. view_of (state (H.callers hub.now) h) c ≡ None) }
 {
     let asked = hub.ask(pass);
-    let version = hub.advance(alloc, asked.done, pass)?;
+    let version = hub.advance(alloc, asked.done, &OpenGate, pass)?;
     let view = hub.open_view(pass)?;
     let entries = hub.read_bucket(alloc, &view, key, pass)?;
     hub.close_view(view, pass);

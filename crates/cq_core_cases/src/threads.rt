@@ -36,7 +36,11 @@ fn serve_both<Q: Threads, R: Wait + Sync>(
     alloc: Global,
     hub: &Shared<Apart, R>,
     mut pass: Pass<Apart>,
-) -> (Result<(u64, usize), Refused>, Result<(u64, usize), Refused>, Asked)
+) -> (
+    Result<(u64, usize), Refused>,
+    Result<(u64, usize), Refused>,
+    Asked,
+)
     requires of { IsPassOf hub.now pass }
     requires fresh { pass.seen ≡ [] }
     requires room { 1 < pass.room }

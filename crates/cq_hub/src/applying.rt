@@ -7,6 +7,7 @@ ghost use Rattle.cq_hub.specs.Comings.{IsComing};
 
 use cq_base::{Entry, Memory, Steps};
 use cq_board::Board;
+use cq_io::Gate;
 use cq_shard::{Indexed, Shard, parted};
 use std::alloc::Global;
 use std::marker::Brand;
@@ -28,11 +29,12 @@ pub fn shards_of(alloc: Global, number: u32) -> Result<Vec<Shard>, Memory>
 /// Each of the board's shards applies the changes up to a number up to which all are done, at once. The keys of their works
 /// are looked at once, where the shards have applied as many changes. Where memory is refused, some shards have applied them,
 /// and others none.
-pub(crate) fn apply_up_to<W: Indexed>(
+pub(crate) fn apply_up_to<W: Indexed, G: Gate>(
     alloc: Global,
     board: &Board<W>,
     shards: &mut Vec<Shard>,
     to: u64,
+    gate: &G,
 ) -> Result<(), Memory>
     requires done { to ≤ ready board.now.state }
     requires some { 0 < board.now.settings.shards }
@@ -40,15 +42,16 @@ pub(crate) fn apply_up_to<W: Indexed>(
     ensures stand { AreShardsOf (HasWindow W.keys_in W.IsWorkOf board.now.settings) board.now shards.new.items }
     ensures applied { OnOk result (All (λ c. to ≤ c.applied) shards.new.items) }
 {
-    apply_counted::<W, Brand>(alloc, board, shards, to, Blank::new(1))
+    apply_counted::<W, G, Brand>(alloc, board, shards, to, gate, Blank::new(1))
 }
 
 // The same on a ledger of its own, which nobody reads.
-fn apply_counted<W: Indexed, L: Ledger>(
+fn apply_counted<W: Indexed, G: Gate, L: Ledger>(
     alloc: Global,
     board: &Board<W>,
     shards: &mut Vec<Shard>,
     to: u64,
+    gate: &G,
     blank: Blank,
 ) -> Result<(), Memory>
     requires name { blank.name ≡ L.name }
@@ -62,8 +65,10 @@ fn apply_counted<W: Indexed, L: Ledger>(
 {
     let mut steps: Steps<L> = Steps::new(blank);
     let mut coming = Coming::behind(alloc, board, shards[0].applied(), to)?;
-    'shards: for i in 0..shards.len() {
+    'shards: for number in 0..board.settings().shards {
+        let i = number as usize;
         catch_up(alloc, board, i, &mut shards[i], &mut coming, &mut steps)?;
+        gate.after_shard(number);
     }
     Ok(())
 }

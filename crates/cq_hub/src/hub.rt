@@ -19,6 +19,7 @@ ghost use Rattle.cq_hub.specs.Views.{IsLatest, IsOpen};
 
 use cq_base::{Change, Entry, Memory};
 use cq_board::{Asked, Finished, Job, Refused, View};
+use cq_io::Gate;
 use cq_shard::Indexed;
 use std::alloc::Global;
 use std::sync::Arc;
@@ -85,8 +86,14 @@ pub trait Hub<W: Indexed> {
         ensures asked { asked pass.new ≡ asked pass.old };
 
     /// Publishes the changes up to a number, all of which are done, and answers the last published version. Where memory is
-    /// refused, the index may be further on than what is published.
-    fn advance(&self, alloc: Global, to: u64, pass: &mut Self::Pass) -> Result<u64, Memory>
+    /// refused, the index may be further on than what is published. The gate is told of each shard that was brought up.
+    fn advance<G: Gate>(
+        &self,
+        alloc: Global,
+        to: u64,
+        gate: &G,
+        pass: &mut Self::Pass,
+    ) -> Result<u64, Memory>
         requires done { HasSeen Stands self.now pass.old (λ _ h. to ≤ ready (state (callers self.now) h)) }
         ensures published { Extends Stands alone IsPublication self.now pass.old pass.new (λ _. []) (λ _ mid. IfOk result (λ version. (version ≡ (state (callers self.now) mid).published) × (to ≤ version))) }
         ensures asked { asked pass.new ≡ asked pass.old };

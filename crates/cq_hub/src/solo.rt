@@ -9,6 +9,7 @@ use crate::applying::{apply_up_to, shards_of};
 use crate::hub::Hub;
 use cq_base::{Change, Entry, Memory, Settings};
 use cq_board::{Asked, Board, Finished, Job, Refused, View};
+use cq_io::Gate;
 use cq_shard::{Indexed, Shard};
 use std::alloc::Global;
 use std::marker::PhantomData;
@@ -123,12 +124,18 @@ impl<W: Indexed> Hub<W> for Solo<W> {
         }
     }
 
-    fn advance(&self, alloc: Global, to: u64, pass: &mut SoloPass<W>) -> Result<u64, Memory> {
+    fn advance<G: Gate>(
+        &self,
+        alloc: Global,
+        to: u64,
+        gate: &G,
+        pass: &mut SoloPass<W>,
+    ) -> Result<u64, Memory> {
         let published = pass.board.published();
         if published >= to {
             return Ok(published);
         }
-        apply_up_to(alloc, &pass.board, &mut pass.shards, to)?;
+        apply_up_to(alloc, &pass.board, &mut pass.shards, to, gate)?;
         pass.board.publish(alloc, to)?;
         Ok(to)
     }

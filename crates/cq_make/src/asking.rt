@@ -7,6 +7,7 @@ ghost use Rattle.cq_make.specs.Summary.{question};
 use crate::generator::PROJECT;
 use cq_base::{Memory, Settings, Steps, Text};
 use cq_hub::{Hub, Solo, SoloPass};
+use cq_io::OpenGate;
 use cq_key::Keyer;
 use cq_reply::Reply;
 use cq_request::{Kind, Query};
@@ -48,5 +49,7 @@ pub(crate) fn reply_of<L: Ledger>(
     ensures reply { IfOk result (Answers ⟦<Solo<Work<L>> as Hub<Work<L>>>⟧ hub.now pass.old pass.new settings.now kind) }
 {
     let query = question(alloc, kind)?;
-    query_reply(alloc, settings, keyer, hub, &query, 0, pass, steps)
+    query_reply(
+        alloc, settings, keyer, hub, &query, 0, &OpenGate, pass, steps,
+    )
 }

@@ -11,6 +11,7 @@ use cq_answer::refused_as;
 use cq_base::{Change, Memory, Settings, Steps};
 use cq_board::Refused;
 use cq_hub::Hub;
+use cq_io::Gate;
 use cq_key::Keyer;
 use cq_reply::Reply;
 use cq_request::{Query, Request, read_request};
@@ -19,10 +20,11 @@ use cq_work::Work;
 use std::alloc::Global;
 use std::sync::ledger::Ledger;
 
-fn change_reply<W: Indexed, H: Hub<W>>(
+fn change_reply<W: Indexed, H: Hub<W>, G: Gate>(
     alloc: Global,
     hub: &H,
     change: Change,
+    gate: &G,
     pass: &mut H::Pass,
 ) -> Result<Reply, Memory>
     requires stands { IsPassOf H.Stands hub.now pass.old }
@@ -33,7 +35,10 @@ fn change_reply<W: Indexed, H: Hub<W>>(
     ensures asked { H.asked pass.new ≡ H.asked pass.old }
 {
     match hub.accept(alloc, change, pass) {
-        Ok(number) => Ok(Reply::Change(number)),
+        Ok(number) => {
+            gate.after_accept(number);
+            Ok(Reply::Change(number))
+        }
         Err(Refused::Absent) => Ok(Reply::Absent),
         Err(Refused::FullChanges) => Ok(Reply::FullChanges),
         Err(Refused::FullText) => Ok(Reply::FullText),
@@ -57,13 +62,14 @@ fn state_reply<W: Indexed, H: Hub<W>>(hub: &H, pass: &mut H::Pass) -> Reply
 
 /// The reply to a query whose floor is at least `seen`. Where memory is refused, what was done is a beginning of what
 /// the query does.
-pub fn query_reply<L: Ledger, H: Hub<Work<L>>>(
+pub fn query_reply<L: Ledger, H: Hub<Work<L>>, G: Gate>(
     alloc: Global,
     settings: &Settings,
     keyer: &Keyer,
     hub: &H,
     query: &Query,
     seen: u64,
+    gate: &G,
     pass: &mut H::Pass,
     steps: &mut Steps<L>,
 ) -> Result<Reply, Memory>
@@ -88,26 +94,37 @@ pub fn query_reply<L: Ledger, H: Hub<Work<L>>>(
             hub,
             asked.done,
             asked.accepted,
+            gate,
             pass,
         ) {
-            Ok(()) => view_reply(alloc, settings, hub, query, asked.accepted, pass, steps),
+            Ok(()) => view_reply(
+                alloc,
+                settings,
+                hub,
+                query,
+                asked.accepted,
+                gate,
+                pass,
+                steps,
+            ),
             Err(Memory) => Err(Memory),
         };
     }
     if seen.max(query.at) > asked.done {
         return Ok(Reply::Pending(asked.done + 1));
     }
-    view_reply(alloc, settings, hub, query, asked.done, pass, steps)
+    view_reply(alloc, settings, hub, query, asked.done, gate, pass, steps)
 }
 
 /// The reply to what a line says. Where memory is refused, what was done is a beginning of what the line does.
-pub(crate) fn reply_to<L: Ledger, H: Hub<Work<L>>>(
+pub(crate) fn reply_to<L: Ledger, H: Hub<Work<L>>, G: Gate>(
     alloc: Global,
     settings: &Settings,
     keyer: &Keyer,
     hub: &H,
     line: &[u8],
     seen: u64,
+    gate: &G,
     pass: &mut H::Pass,
     steps: &mut Steps<L>,
 ) -> Result<Reply, Memory>
@@ -120,9 +137,9 @@ pub(crate) fn reply_to<L: Ledger, H: Hub<Work<L>>>(
     ensures refused { OnErr result (Begins H.Hub hub.now pass.old pass.new steps.old steps.new seen settings.now line.now) }
 {
     match read_request(alloc, settings, line) {
-        Ok(Request::Change(change)) => change_reply(alloc, hub, change, pass),
+        Ok(Request::Change(change)) => change_reply(alloc, hub, change, gate, pass),
         Ok(Request::Query(query)) => {
-            query_reply(alloc, settings, keyer, hub, &query, seen, pass, steps)
+            query_reply(alloc, settings, keyer, hub, &query, seen, gate, pass, steps)
         }
         Ok(Request::State) => Ok(state_reply(hub, pass)),
         Err(refusal) => refused_as(refusal),

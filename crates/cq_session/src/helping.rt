@@ -9,6 +9,7 @@ ghost use Rattle.cq_session.specs.Passes.{HasChange, HasDone, HasDoneSome, HasDo
 use cq_base::{Memory, Settings};
 use cq_board::{Finished, Job};
 use cq_hub::Hub;
+use cq_io::Gate;
 use cq_key::Keyer;
 use cq_work::{Work, work_of};
 use std::alloc::Global;
@@ -32,12 +33,13 @@ fn work_for<L: Ledger>(
 }
 
 // The work of a change is done, by this caller where it was not done yet.
-fn help_one<L: Ledger, H: Hub<Work<L>>>(
+fn help_one<L: Ledger, H: Hub<Work<L>>, G: Gate>(
     alloc: Global,
     settings: &Settings,
     keyer: &Keyer,
     hub: &H,
     change: u64,
+    gate: &G,
     pass: &mut H::Pass,
 ) -> Result<(), Memory>
     requires in_range { IsInRange settings.now }
@@ -51,25 +53,29 @@ fn help_one<L: Ledger, H: Hub<Work<L>>>(
     match hub.job(change, pass) {
         Err(Memory) => Err(Memory),
         Ok(None) => Ok(()),
-        Ok(Some(job)) => match work_for(alloc, settings, keyer, &job) {
-            Err(Memory) => Err(Memory),
-            Ok(work) => match hub.finish(change, work, pass) {
-                Finished::Done => Ok(()),
-                Finished::Already => Ok(()),
-            },
-        },
+        Ok(Some(job)) => {
+            gate.before_work(change);
+            match work_for(alloc, settings, keyer, &job) {
+                Err(Memory) => Err(Memory),
+                Ok(work) => match hub.finish(change, work, pass) {
+                    Finished::Done => Ok(()),
+                    Finished::Already => Ok(()),
+                },
+            }
+        }
     }
 }
 
 /// The works of the changes behind the first `done`, which are done, are done up to the one with the number `to`. Each
 /// costs what `work_of` does, unless it is done by then.
-pub(crate) fn help<L: Ledger, H: Hub<Work<L>>>(
+pub(crate) fn help<L: Ledger, H: Hub<Work<L>>, G: Gate>(
     alloc: Global,
     settings: &Settings,
     keyer: &Keyer,
     hub: &H,
     done: u64,
     to: u64,
+    gate: &G,
     pass: &mut H::Pass,
 ) -> Result<(), Memory>
     requires in_range { IsInRange settings.now }
@@ -81,7 +87,7 @@ pub(crate) fn help<L: Ledger, H: Hub<Work<L>>>(
     ensures asked { H.asked pass.new ≡ H.asked pass.old }
 {
     'changes: for i in done..to {
-        match help_one(alloc, settings, keyer, hub, i + 1, pass) {
+        match help_one(alloc, settings, keyer, hub, i + 1, gate, pass) {
             Ok(()) => {}
             Err(Memory) => return Err(Memory),
         }

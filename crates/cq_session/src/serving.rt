@@ -13,7 +13,7 @@ ghost use Rattle.cq_session.specs.Passes.{HasAccepted, HasSentLine, HasServed};
 use crate::telling::told;
 use cq_base::{Settings, Steps};
 use cq_hub::Hub;
-use cq_io::{Failed, Sink, Source, send};
+use cq_io::{Failed, Gate, Sink, Source, send};
 use cq_key::Keyer;
 use cq_lines::{Cut, End, Lines};
 use cq_reply::{Short, fixed};
@@ -22,7 +22,7 @@ use std::alloc::Global;
 use std::sync::ledger::Ledger;
 
 // Writes the reply to a line, which is not too long. What the reply names is seen from then on.
-fn turn<L: Ledger, H: Hub<Work<L>>, K: Sink>(
+fn turn<L: Ledger, H: Hub<Work<L>>, K: Sink, G: Gate>(
     alloc: Global,
     settings: &Settings,
     keyer: &Keyer,
@@ -31,6 +31,7 @@ fn turn<L: Ledger, H: Hub<Work<L>>, K: Sink>(
     seen: &mut u64,
     pass: &mut H::Pass,
     sink: &mut K,
+    gate: &G,
     steps: &mut Steps<L>,
 ) -> Result<(), Failed>
     requires in_range { IsInRange settings.now }
@@ -42,7 +43,7 @@ fn turn<L: Ledger, H: Hub<Work<L>>, K: Sink>(
         (K.written sink.old) (K.written sink.new) result seen.new }
     ensures cause { HasCause (K.faults sink.old) (K.faults sink.new) result }
 {
-    let (line, number) = told(alloc, settings, keyer, hub, line, *seen, pass, steps);
+    let (line, number) = told(alloc, settings, keyer, hub, line, *seen, gate, pass, steps);
     *seen = (*seen).max(number);
     send(sink, line.as_bytes())
 }
@@ -57,8 +58,9 @@ fn turn_long<K: Sink>(sink: &mut K) -> Result<(), Failed>
 
 /// Answers the lines of a source one by one by calls of a hub, whose pass has no view open. Windows have the keys of
 /// `keyer`. Each whole reply is handed to the sink before the next line is cut. Afterwards the pass stands for the
-/// history to which the talk came, with no view open.
-pub fn session<L: Ledger, H: Hub<Work<L>>, S: Source, K: Sink>(
+/// history to which the talk came, with no view open. The gate is told of each accepted change, of each work before it is
+/// made, of each shard that was brought up and of each view that was opened.
+pub fn session<L: Ledger, H: Hub<Work<L>>, S: Source, K: Sink, G: Gate>(
     alloc: Global,
     settings: &Settings,
     keyer: &Keyer,
@@ -67,6 +69,7 @@ pub fn session<L: Ledger, H: Hub<Work<L>>, S: Source, K: Sink>(
     lines: &mut Lines,
     source: &mut S,
     sink: &mut K,
+    gate: &G,
     steps: &mut Steps<L>,
 ) -> End
     requires fresh { IsFresh lines.old }
@@ -83,7 +86,7 @@ pub fn session<L: Ledger, H: Hub<Work<L>>, S: Source, K: Sink>(
         match lines.next(source) {
             Cut::Line(line) => {
                 match turn(
-                    alloc, settings, keyer, hub, line, &mut seen, pass, sink, steps,
+                    alloc, settings, keyer, hub, line, &mut seen, pass, sink, gate, steps,
                 ) {
                     Ok(()) => {}
                     Err(Failed) => return End::WriteFault,

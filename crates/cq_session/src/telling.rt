@@ -6,6 +6,7 @@ ghost use Rattle.cq_session.specs.Passes.{HasAccepted, HasLine};
 use crate::answering::reply_to;
 use cq_base::{Memory, Settings, Steps};
 use cq_hub::Hub;
+use cq_io::Gate;
 use cq_key::Keyer;
 use cq_reply::{Line, Reply, Short, fixed, line_of};
 use cq_work::Work;
@@ -28,13 +29,14 @@ fn named(reply: &Reply) -> u64
 }
 
 /// The line that tells the reply to a line, and the number that the reply names.
-pub(crate) fn told<L: Ledger, H: Hub<Work<L>>>(
+pub(crate) fn told<L: Ledger, H: Hub<Work<L>>, G: Gate>(
     alloc: Global,
     settings: &Settings,
     keyer: &Keyer,
     hub: &H,
     line: &[u8],
     seen: u64,
+    gate: &G,
     pass: &mut H::Pass,
     steps: &mut Steps<L>,
 ) -> (Line, u64)
@@ -44,7 +46,7 @@ pub(crate) fn told<L: Ledger, H: Hub<Work<L>>>(
     requires closed { HasAccepted H.Hub hub.now pass.old seen }
     ensures { HasLine H.Hub hub.now pass.old pass.new steps.old steps.new seen settings.now line.now result }
 {
-    match reply_to(alloc, settings, keyer, hub, line, seen, pass, steps) {
+    match reply_to(alloc, settings, keyer, hub, line, seen, gate, pass, steps) {
         Ok(reply) => match line_of(alloc, &reply) {
             Ok(line) => (line, named(&reply)),
             Err(Memory) => (Line::Short(fixed(Short::Memory)), 0),

@@ -9,6 +9,7 @@ use cq_ask::PassBuckets;
 use cq_base::{Memory, Settings, Steps};
 use cq_board::View;
 use cq_hub::Hub;
+use cq_io::Gate;
 use cq_reply::Reply;
 use cq_request::Query;
 use cq_work::Work;
@@ -56,12 +57,13 @@ fn reply_in<L: Ledger, H: Hub<Work<L>>>(
 
 /// The reply to a query at a version that is not below `to`, up to which all changes are done. A view of it is opened
 /// for the reply, and is shut again however that ends.
-pub(crate) fn view_reply<L: Ledger, H: Hub<Work<L>>>(
+pub(crate) fn view_reply<L: Ledger, H: Hub<Work<L>>, G: Gate>(
     alloc: Global,
     settings: &Settings,
     hub: &H,
     query: &Query,
     to: u64,
+    gate: &G,
     pass: &mut H::Pass,
     steps: &mut Steps<L>,
 ) -> Result<Reply, Memory>
@@ -73,13 +75,14 @@ pub(crate) fn view_reply<L: Ledger, H: Hub<Work<L>>>(
     ensures text { IfOk result IsReplyText }
     ensures refused { OnErr result (HasViewedOrNot H.Hub hub.now pass.old pass.new steps.old steps.new to query.now) }
 {
-    match hub.advance(alloc, to, pass) {
+    match hub.advance(alloc, to, gate, pass) {
         Ok(_published) => {}
         Err(Memory) => return Err(Memory),
     }
     match hub.open_view(pass) {
         Err(Memory) => Err(Memory),
         Ok(view) => {
+            gate.after_open(view.version);
             let reply = reply_in(alloc, settings, hub, &view, query, pass, steps);
             hub.close_view(view, pass);
             reply

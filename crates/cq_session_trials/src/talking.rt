@@ -7,7 +7,7 @@ use crate::draws::Draws;
 use crate::model::Model;
 use cq_base::{Memory, Settings, Steps};
 use cq_hub::{Hub, Solo, SoloPass};
-use cq_io::{MemSink, MemSource};
+use cq_io::{MemSink, MemSource, OpenGate};
 use cq_key::{Keyer, plain_key};
 use cq_lines::{End, Lines};
 use cq_session::session;
@@ -45,6 +45,7 @@ fn written<L: Ledger, H: Hub<Work<L>>>(
         &mut lines,
         &mut source,
         &mut sink,
+        &OpenGate,
         steps,
     );
     let output = Vec::from_slice(alloc, sink.written())?;

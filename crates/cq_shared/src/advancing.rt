@@ -14,6 +14,7 @@ use crate::shared::Shared;
 use cq_base::{Memory, Steps};
 use cq_chain::Pass;
 use cq_hub::finished_works;
+use cq_io::Gate;
 use cq_shard::{Indexed, Shard};
 use std::alloc::Global;
 use std::marker::Brand;
@@ -24,8 +25,14 @@ impl<W: Indexed, R: Wait> Shared<W, R> {
     /// Publishes the changes up to a number, all of which are done, and answers the last published version. The board gives
     /// the owners of the works in one hold; each shard applies each further change in a hold of its own, with a look at each
     /// key of its work; and the board publishes in another. Where memory is refused, some shards may be further on than what
-    /// is published.
-    pub fn advance(&self, alloc: Global, to: u64, pass: &mut Pass<W>) -> Result<u64, Memory>
+    /// is published. The gate is told of each shard that was brought up, while the pass holds no cell.
+    pub fn advance<G: Gate>(
+        &self,
+        alloc: Global,
+        to: u64,
+        gate: &G,
+        pass: &mut Pass<W>,
+    ) -> Result<u64, Memory>
         requires of { IsPassOf self.now pass.old }
         requires done { to ≤ ready (state_of self.now pass.old.seen) }
         ensures published { Calls self.now pass.old pass.new [] (λ mid. IfOk result (λ version. HasPublished (state_of self.now mid) to version)) }
@@ -35,7 +42,7 @@ impl<W: Indexed, R: Wait> Shared<W, R> {
         if to <= base {
             return Ok(base);
         }
-        self.commit(base, to, &works, pass)?;
+        self.commit(base, to, &works, gate, pass)?;
         self.publish(alloc, to, pass)
     }
 
@@ -61,11 +68,12 @@ impl<W: Indexed, R: Wait> Shared<W, R> {
     }
 
     // Each shard applies the changes up to one.
-    fn commit(
+    fn commit<G: Gate>(
         &self,
         base: u64,
         to: u64,
         works: &Vec<Option<Arc<W, Global>>>,
+        gate: &G,
         pass: &mut Pass<W>,
     ) -> Result<(), Memory>
         requires of { IsPassOf self.now pass.old }
@@ -78,6 +86,7 @@ impl<W: Indexed, R: Wait> Shared<W, R> {
     {
         'shards: for number in 0..self.shards {
             self.commit_shard(number, base, to, works, pass)?;
+            gate.after_shard(number);
         }
         Ok(())
     }

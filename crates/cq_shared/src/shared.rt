@@ -14,6 +14,7 @@ use cq_base::{Change, Entry, Memory, Settings};
 use cq_board::{Asked, Board, Finished, Job, Refused, View};
 use cq_chain::{Cells, Pass};
 use cq_hub::{Hub, shards_of};
+use cq_io::Gate;
 use cq_shard::Indexed;
 use std::alloc::Global;
 use std::sync::{Arc, Wait};
@@ -133,8 +134,14 @@ impl<W: Indexed, R: Wait> Hub<W> for Shared<W, R> {
         self.finish(change, work, pass)
     }
 
-    fn advance(&self, alloc: Global, to: u64, pass: &mut Pass<W>) -> Result<u64, Memory> {
-        self.advance(alloc, to, pass)
+    fn advance<G: Gate>(
+        &self,
+        alloc: Global,
+        to: u64,
+        gate: &G,
+        pass: &mut Pass<W>,
+    ) -> Result<u64, Memory> {
+        self.advance(alloc, to, gate, pass)
     }
 
     fn open_view(&self, pass: &mut Pass<W>) -> Result<View<W>, Memory> {

@@ -36,11 +36,12 @@ fn status_of(end: End) -> u8
 }
 
 // A session with a plain hub that is made for it, and its status.
-fn serve<S: Source, K: Sink, L: Ledger>(
+fn serve<S: Source, K: Sink, G: Gate, L: Ledger>(
     alloc: Global,
     settings: &Settings,
     source: &mut S,
     sink: &mut K,
+    gate: &G,
     steps: &mut Steps<L>,
 ) -> u8
     requires in_range { IsInRange settings.now }
@@ -70,7 +71,7 @@ fn serve<S: Source, K: Sink, L: Ledger>(
             talks_alone();
             talks_beside();
             let end = session(
-                alloc, settings, &keyer, &hub, &mut pass, &mut lines, source, sink, steps,
+                alloc, settings, &keyer, &hub, &mut pass, &mut lines, source, sink, gate, steps,
             );
             status_of(end)
         }
@@ -192,7 +193,7 @@ pub fn top<S: Source, K: Sink, D: Doors, G: Gate, L: Ledger>(
         return 1;
     }
     match read_command(alloc, words) {
-        Ok(Some(Command::Run(run))) => serve(alloc, &run.settings, source, sink, steps),
+        Ok(Some(Command::Run(run))) => serve(alloc, &run.settings, source, sink, gate, steps),
         Ok(Some(Command::Drive(settings))) => driven(alloc, &settings, source, sink, steps),
         Ok(Some(Command::Make(asked))) => made(alloc, asked, sink, steps),
         Ok(None) => unreachable!(),

@@ -8,7 +8,7 @@ abbrev pub invariant-shards : goal.invariant-shards
 invariant-shards g l = record {
   number : length l.shards.items ≡ length l.fn.shards.items;
   stand : AreShardsOf (HasWindow g.W.Indexed.keys_in g.W.Indexed.IsWorkOf l.board.settings) l.board l.shards.items;
-  coming : IsComing g.W.Indexed.keys_in g.W.Indexed.IsWorkOf l.board l.i l.coming;
+  coming : IsComing g.W.Indexed.keys_in g.W.Indexed.IsWorkOf l.board l.number l.coming;
   to : l.coming.to ≡ l.to;
-  applied : (k : ℕ) (d : Contents) → k < l.i → l.to ≤ (get_or l.shards.items k d).applied;
+  applied : (k : ℕ) (d : Contents) → k < l.number → l.to ≤ (get_or l.shards.items k d).applied;
 }
