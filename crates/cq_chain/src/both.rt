@@ -1,5 +1,5 @@
 //! Two threads that accept a change each, by passes of their own.
-ghost use Rattle.std.specs.Prelude.{◌≡◌, ◌+◌, ◌<◌, [], ◌∷◌, ◌++◌, Option, Some, IfOk};
+ghost use Rattle.std.specs.Prelude.{◌≡◌, ◌+◌, ◌<◌, [], ◌∷◌, ◌++◌, Option, Some, IfOk, option_to_list};
 ghost use Rattle.cq_base.specs.Changes.{IsSoundChange};
 ghost use Rattle.cq_history.specs.declared.event.Event.{Event as Happened};
 ghost use Rattle.cq_history.specs.declared.event.Event.TheVariants as happened;
@@ -94,7 +94,7 @@ fn leave_accepted<W: Indexed, R>(
     requires event { event ≡ Some (happened.Accept (by_of pass.old) said.now.value) }
     requires of { IsPassOf cells.now pass.old }
     requires hand { (b : BoardState) × HasBoard pass.old b }
-    requires board { IsBoard cells.now.about (pass.old.seen ++ happened.Accept (by_of pass.old) said.now.value ∷ []) board }
+    requires board { IsBoard cells.now.about (pass.old.seen ++ option_to_list event) board }
     ensures of { IsPassOf cells.now pass.new }
     ensures same { IsSameCaller pass.old pass.new }
     ensures free { IsFree pass.new }

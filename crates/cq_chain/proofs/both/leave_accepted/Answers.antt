@@ -1,6 +1,5 @@
-use Rattle.std.proofs.Common.{rules, arith, refl, sym, subst, ◌++◌}
-use Rattle.std.specs.Prelude.{IfSome, option_to_list}
-use Rattle.cq_chain.specs.Held.{IsBoard}
+use Rattle.std.proofs.Common.{rules, arith, refl, sym, subst}
+use Rattle.std.specs.Prelude.{IfSome}
 use Rattle.cq_chain.specs.Passes.{BoardCells, MayAdd}
 use Rattle.cq_chain.proofs.both.leave_accepted.Goals as goal
 
@@ -10,5 +9,4 @@ leave_board-requires g c =
     let cells : BoardCells = c.args.cells.now in
     let p = c.args.pass.now in
     let may : IfSome g.event (MayAdd cells p) = subst (λ z. IfSome z (MayAdd cells p)) (sym r.0) (record { maker = refl; applied = λ s near. omega arith }) in
-    let board : IsBoard cells.about (p.seen ++ option_to_list g.event) c.args.board = subst (λ z. IsBoard cells.about (p.seen ++ option_to_list z) c.args.board) (sym r.0) r.1.1.1 in
-    λ κs out. (search rules, (search rules, (r.1.0, (r.1.1.0, (may, board)))))
+    λ κs out. (search rules, (search rules, (r.1.0, (r.1.1.0, (may, r.1.1.1)))))
