@@ -1,10 +1,12 @@
 -- What the top call does, by its status.
-use Rattle.std.specs.Prelude.{◌≡◌, ◌==◌, ℕ, List, [], map, Option, Result, Ok, Err, codes, if◌then◌else◌}
+use Rattle.std.specs.Prelude.{◌≡◌, ◌≢◌, ◌==◌, ℕ, List, [], map, Option, Some, Result, Ok, Err, codes, if◌then◌else◌}
 use Rattle.cq_base.specs.declared.settings.Settings.{Settings}
 use Rattle.cq_drive.specs.Script.{IsScript}
 use Rattle.cq_history.specs.declared.event.Event.{Event}
 use Rattle.cq_io.specs.Causes.{HasCause}
+use Rattle.cq_io.specs.declared.sink.Sink as sink
 use Rattle.cq_io.specs.declared.source.Failed.{Failed}
+use Rattle.cq_io.specs.declared.source.Source as source
 use Rattle.cq_lines.specs.Serving.{Serves, HasEndCause}
 use Rattle.cq_lines.specs.declared.ending.End.{End}
 use Rattle.cq_lines.specs.declared.ending.End.TheVariants as end
@@ -17,7 +19,10 @@ use Rattle.cq_session.specs.Turn.{CountedTalk}
 use Rattle.cq_talk.specs.Alone.{IsAloneUpToMemory, no_walk}
 use Rattle.cq_talk.specs.Beside.{IsBeside, nothing_known}
 use Rattle.cq_talk.specs.Said.{said}
-use Rattle.cq_words.specs.Command.{default_settings}
+use Rattle.cq_words.specs.Command.{command_of, default_settings}
+use Rattle.cq_words.specs.declared.command.Command.TheVariants as command
+use Rattle.cq_words.specs.declared.command.Make.{Make}
+use Rattle.cq_words.specs.declared.command.Run.{Run}
 
 -- the status of a run that ends so
 abbrev pub status_of : End → ℕ
@@ -51,14 +56,14 @@ pub record AreAlone (settings : Settings) (reads reads_now : ℕ) (lines : List 
   pub beside : IsBeside settings nothing_known (map (said settings.chunk) lines) replies
 
 -- a whole session, which begins with nothing accepted, and whose end gives the status
-pub record Runs (settings : Settings) (reads reads_now : ℕ) (rest rest_now before written_now : Option (List ℕ)) (source source_now sink sink_now status : ℕ) : Type 0 where
+pub record IsSession (settings : Settings) (reads reads_now : ℕ) (rest rest_now before written_now : Option (List ℕ)) (source source_now sink sink_now status : ℕ) : Type 0 where
   pub by : End
   pub status_is : status ≡ status_of by
   pub serves : Serves reply_line (AreAlone settings reads reads_now) settings.byte_limit rest rest_now before written_now by
   pub cause : HasEndCause source source_now sink sink_now by
 
 -- a whole script, stepped from nothing accepted on, whose end gives the status
-pub record Drives (settings : Settings) (rest rest_now before written_now : Option (List ℕ)) (source source_now sink sink_now status : ℕ) : Type 0 where
+pub record IsDrive (settings : Settings) (rest rest_now before written_now : Option (List ℕ)) (source source_now sink sink_now status : ℕ) : Type 0 where
   pub by : End
   pub status_is : status ≡ status_of by
   pub serves : Serves outcome_line (IsScript settings) settings.byte_limit rest rest_now before written_now by
@@ -70,3 +75,33 @@ pub record IsMade (number files : ℕ) (before written_now : Option (List ℕ)) 
   pub status_is : status ≡ status_of (end_of by)
   pub makes : Makes default_settings number files before written_now by
   pub cause : HasCause sink sink_now by
+
+-- ---- from a source to a sink
+
+module _ {S K : Type 0} (from : source.Ghosts S) (onto : sink.Ghosts K) where
+  -- each status but 4 is that of a whole session
+  abbrev pub Runs : Settings → ℕ → ℕ → S → S → K → K → ℕ → Type 0
+  Runs settings reads reads_now read read_now written written_now status =
+      status ≢ 4 → IsSession settings reads reads_now (from.rest read) (from.rest read_now) (onto.written written) (onto.written written_now) (from.faults read) (from.faults read_now) (onto.faults written) (onto.faults written_now) status
+
+  -- or of a whole script
+  abbrev pub Drives : Settings → S → S → K → K → ℕ → Type 0
+  Drives settings read read_now written written_now status =
+      status ≢ 4 → IsDrive settings (from.rest read) (from.rest read_now) (onto.written written) (onto.written written_now) (from.faults read) (from.faults read_now) (onto.faults written) (onto.faults written_now) status
+
+  -- where the words ask for it
+  abbrev pub RunsFor : List (List ℕ) → ℕ → ℕ → S → S → K → K → ℕ → Type 0
+  RunsFor words reads reads_now read read_now written written_now status =
+      (run : Run) → command_of words ≡ Some (command.Run run) → Runs run.settings reads reads_now read read_now written written_now status
+
+  abbrev pub DrivesFor : List (List ℕ) → S → S → K → K → ℕ → Type 0
+  DrivesFor words read read_now written written_now status = (settings : Settings) → command_of words ≡ Some (command.Drive settings) → Drives settings read read_now written written_now status
+
+module _ {K : Type 0} (onto : sink.Ghosts K) where
+  -- each status but 4 is that of the line of a made project
+  abbrev pub MakesLine : Make → K → K → ℕ → Type 0
+  MakesLine asked written written_now status = status ≢ 4 → IsMade asked.number asked.files (onto.written written) (onto.written written_now) (onto.faults written) (onto.faults written_now) status
+
+  -- where the words ask for it
+  abbrev pub MakesFor : List (List ℕ) → K → K → ℕ → Type 0
+  MakesFor words written written_now status = (asked : Make) → command_of words ≡ Some (command.Make asked) → MakesLine asked written written_now status

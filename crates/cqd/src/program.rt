@@ -1,13 +1,11 @@
 ghost use Rattle.std.specs.Prelude.{◌≡◌, ◌≢◌, ◌↔◌, ◌≤◌, None, Some};
 ghost use Rattle.cq_base.specs.Settings.{IsInRange};
-ghost use Rattle.cq_base.specs.declared.settings.Settings.{Settings};
 ghost use Rattle.cq_io.specs.Causes.{Rose};
-ghost use Rattle.cqd.specs.Top.{Drives, IsMade, Runs};
+ghost use Rattle.cqd.specs.Top.{Drives, DrivesFor, MakesFor, MakesLine, Runs, RunsFor};
 ghost use Rattle.cqd.specs.Top as spec;
 ghost use Rattle.cq_words.specs.Command.{command_of};
 ghost use Rattle.cq_words.specs.declared.command.Command.TheVariants as command;
 ghost use Rattle.cq_words.specs.declared.command.Make.{Make};
-ghost use Rattle.cq_words.specs.declared.command.Run.{Run};
 
 use cq_base::{Memory, Settings, Steps, Text};
 use cq_drive::drive;
@@ -53,9 +51,7 @@ fn serve<S: Source, K: Sink, G: Gate, L: Ledger>(
         × (K.faults sink.new ≡ K.faults sink.old) }
     ensures spent { result ≡ 6 → (S.faults source.new ≡ S.faults source.old)
         × (K.faults sink.new ≡ K.faults sink.old) }
-    ensures runs { result ≢ 4 → Runs settings.now steps.old steps.new (S.rest source.old) (S.rest source.new)
-        (K.written sink.old) (K.written sink.new) (S.faults source.old) (S.faults source.new)
-        (K.faults sink.old) (K.faults sink.new) result }
+    ensures runs { Runs S.Source K.Sink settings.now steps.old steps.new source.old source.new sink.old sink.new result }
 {
     let of = *settings;
     let Ok(key) = Box::new(alloc, move |codes: &[u64]| plain_key(&of, codes)) else {
@@ -96,9 +92,7 @@ fn driven<S: Source, K: Sink, L: Ledger>(
         × (K.faults sink.new ≡ K.faults sink.old) }
     ensures spent { result ≡ 6 → (S.faults source.new ≡ S.faults source.old)
         × (K.faults sink.new ≡ K.faults sink.old) }
-    ensures drives { result ≢ 4 → Drives settings.now (S.rest source.old) (S.rest source.new)
-        (K.written sink.old) (K.written sink.new) (S.faults source.old) (S.faults source.new)
-        (K.faults sink.old) (K.faults sink.new) result }
+    ensures drives { Drives S.Source K.Sink settings.now source.old source.new sink.old sink.new result }
 {
     let of = *settings;
     let Ok(key) = Box::new(alloc, move |codes: &[u64]| plain_key(&of, codes)) else {
@@ -123,8 +117,7 @@ fn made<K: Sink, L: Ledger>(alloc: Global, asked: Make, sink: &mut K, steps: &mu
     ensures memory { result ≡ 4 → sink.new ≡ sink.old }
     ensures write_fault { result ≡ 3 → Rose (K.faults sink.old) (K.faults sink.new) }
     ensures finished { result ≡ 0 → K.faults sink.new ≡ K.faults sink.old }
-    ensures makes { result ≢ 4 → IsMade asked.number asked.files (K.written sink.old) (K.written sink.new)
-        (K.faults sink.old) (K.faults sink.new) result }
+    ensures makes { MakesLine K.Sink asked sink.old sink.new result }
 {
     match make(
         alloc,
@@ -171,21 +164,13 @@ pub fn top<S: Source, K: Sink, D: Doors, G: Gate, L: Ledger>(
     ensures doors { doors.new ≡ doors.old }
 
     // Every status of `run` but 4 is that of a session over all lines of the source.
-    ensures runs { (run : Run) → command_of words.now ≡ Some (command.Run run) → result ≢ 4
-        → Runs run.settings steps.old steps.new (S.rest source.old) (S.rest source.new)
-        (K.written sink.old) (K.written sink.new) (S.faults source.old) (S.faults source.new)
-        (K.faults sink.old) (K.faults sink.new) result }
+    ensures runs { RunsFor S.Source K.Sink words.now steps.old steps.new source.old source.new sink.old sink.new result }
 
     // Every status of `drive` but 4 is that of a script of all lines of the source.
-    ensures drives { (settings : Settings) → command_of words.now ≡ Some (command.Drive settings) → result ≢ 4
-        → Drives settings (S.rest source.old) (S.rest source.new)
-        (K.written sink.old) (K.written sink.new) (S.faults source.old) (S.faults source.new)
-        (K.faults sink.old) (K.faults sink.new) result }
+    ensures drives { DrivesFor S.Source K.Sink words.now source.old source.new sink.old sink.new result }
 
     // Every status of `make` but 4 is that of sending the line of the project, and nothing is read.
-    ensures makes { (asked : Make) → command_of words.now ≡ Some (command.Make asked) → result ≢ 4
-        → IsMade asked.number asked.files (K.written sink.old) (K.written sink.new)
-        (K.faults sink.old) (K.faults sink.new) result }
+    ensures makes { MakesFor K.Sink words.now sink.old sink.new result }
     ensures unread { (asked : Make) → command_of words.now ≡ Some (command.Make asked)
         → source.new ≡ source.old }
 {
