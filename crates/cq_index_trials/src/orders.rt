@@ -1,5 +1,5 @@
 use cq_base::{Entry, Group, Memory, Place, Places};
-use cq_order::{Spots, kept, order, sort_entries, sort_places, spot_of, spots_of};
+use cq_order::{Spot, Spots, kept, order, sort_entries, sort_places, spot_of, spots_of};
 use std::alloc::Global;
 
 fn place(file: u32, at: u32) -> Place {
@@ -55,5 +55,38 @@ fn a_change_is_found_at_the_position_of_its_file(rt: HostRuntime) -> Result<(), 
     assert_eq!(&rt; spot_of(&spots, 9), Some(2));
     assert_eq!(&rt; spot_of(&spots, 4), None);
     assert_eq!(&rt; spot_of(&Spots::new(rt.alloc()), 4), None);
+    Ok(())
+}
+
+#[test]
+fn spots_are_edited_one_file_at_a_time(rt: HostRuntime) -> Result<(), Memory> {
+    let mut spots = spots_of(rt.alloc(), &[5, 3, 9])?;
+    spots.insert(
+        3,
+        Spot {
+            change: 10,
+            file: 1,
+        },
+    )?;
+    assert_eq!(&rt; spot_of(&spots, 5), Some(0));
+    assert_eq!(&rt; spot_of(&spots, 10), Some(1));
+    assert_eq!(&rt; spot_of(&spots, 3), Some(2));
+    assert_eq!(&rt; spot_of(&spots, 9), Some(3));
+    spots.replace(
+        3,
+        Spot {
+            change: 11,
+            file: 2,
+        },
+    )?;
+    assert_eq!(&rt; spot_of(&spots, 3), None);
+    assert_eq!(&rt; spot_of(&spots, 11), Some(2));
+    let copy = spots.copied(rt.alloc())?;
+    spots.remove(Spot { change: 5, file: 0 });
+    assert_eq!(&rt; spot_of(&spots, 5), None);
+    assert_eq!(&rt; spot_of(&spots, 10), Some(0));
+    assert_eq!(&rt; spot_of(&spots, 11), Some(1));
+    assert_eq!(&rt; spot_of(&spots, 9), Some(2));
+    assert_eq!(&rt; spot_of(&copy, 5), Some(0));
     Ok(())
 }
