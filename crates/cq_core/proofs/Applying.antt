@@ -1,56 +1,30 @@
 -- A shard of a core that applies the next change.
-use Rattle.std.proofs.Common.{◌≡◌, ◌↔◌, ℕ, zero, suc, ◌+◌, ◌-◌, ◌%◌, ◌<◌, ◌≤◌, Bool, true, false, cond, not, ◌||◌, List, [], ◌∷◌, ◌++◌, length, map, get_or, set, Option, Some, None, Global, refl, sym, ap, ◌∙◌, subst, subst₂, ⊎_elim, arith, true≢false}
+use Rattle.std.proofs.Common.{◌≡◌, ◌↔◌, ℕ, zero, suc, ◌+◌, ◌%◌, ◌<◌, ◌≤◌, Bool, true, false, cond, List, [], ◌∷◌, ◌++◌, length, map, get_or, set, Option, Some, None, Global, refl, sym, ap, ◌∙◌, subst, subst₂, ⊎_elim, arith}
 use Rattle.std.specs.Prelude.{IfSome, IsSome, option_map, slice_index, count_by, ◌==◌}
 use Rattle.std.specs.Arc.{arc_value}
 use Rattle.std.specs.declared.sync.Arc.{Arc}
 use Rattle.std.proofs.lemmas.Bool.{cases_eq}
-use Rattle.std.proofs.lemmas.Option.{slice_get-get_or}
 use Rattle.std.proofs.lemmas.List.{length-map, length-set, map-set, set-get_or, get_or-map, get_or-set_same, get_or-set_other}
 use Rattle.std.proofs.lemmas.List.Elements.{All-set}
-use Rattle.std.proofs.lemmas.List.Sums.{prefix_len-le-length, prefix_len_passes, sum_by-cons}
-use Rattle.cq_base.proofs.Bools.{or-implies}
+use Rattle.std.proofs.lemmas.List.Sums.{sum_by-cons}
 use Rattle.cq_base.specs.declared.lang.Lang.{Lang}
 use Rattle.cq_base.specs.declared.settings.Settings.{Settings}
 use Rattle.cq_base.specs.declared.entry.Entry.{Entry}
 use Rattle.cq_base.specs.declared.change.Change.{Change}
 use Rattle.cq_base.specs.declared.change.Change.TheVariants.{Put, Drop, Gate}
-use Rattle.cq_history.specs.Changes.{change_at, is_put, IsWorkFor}
-use Rattle.cq_history.specs.State.{State, Slot, no_slot, slot_of, changes_in, ready, is_done, state as state_of}
+use Rattle.cq_history.specs.Changes.{change_at, IsWorkFor}
+use Rattle.cq_history.specs.State.{slot_of, changes_in, ready, state as state_of}
 use Rattle.cq_history.specs.Core.{Core, stepped}
 use Rattle.cq_history.specs.Core.Step.{Applies}
 use Rattle.cq_history.proofs.Cores.{step_is_sound}
 use Rattle.cq_shard.specs.Shard as shard
+use Rattle.cq_shard.proofs.Given.{work_given}
 use Rattle.cq_shard.specs.Shard.{Contents, entries_of, brought}
 use Rattle.cq_board.specs.Answers.{IsDonePut}
 use Rattle.cq_board.specs.Stands as board
 use Rattle.cq_core.specs.Cores.{StandsFor, AreNumbered, applied_of, floor_of}
 use Rattle.cq_core.specs.Steps.{Takes, HasSoMany, HasNext}
 use Rattle.cq_core.proofs.Stepping.{core}
-
--- ---- the work that is given
-
-module _ {W : Type 0} (IsWork : Lang → List ℕ → W → Type 0) where
-  given : (c : Change) (finished : Bool) (work : Option (Arc W Global)) → (not (is_put c) || finished) ≡ true → (IsSome work → (is_put c ≡ true) × (finished ≡ true)) → ((is_put c ≡ true) × (finished ≡ true) → IsSome work) →
-      IfSome work (λ w. IsWorkFor IsWork c (arc_value w)) → shard.HasItsWork IsWork (Some c) (option_map arc_value work)
-  given (Put project path lang text) finished (Some w) done some there is = is
-  given (Put project path lang text) finished None done some there is = absurd (true≢false (sym (there (refl, or-implies true finished done refl))))
-  given (Drop project path) finished (Some w) done some there is = absurd (true≢false (sym (some refl).0))
-  given (Drop project path) finished None done some there is = tt
-  given (Gate project conditions) finished (Some w) done some there is = absurd (true≢false (sym (some refl).0))
-  given (Gate project conditions) finished None done some there is = tt
-
-  pub work_given : (s : State) (r : ℕ) (work : Option (Arc W Global)) → 0 < r → r ≤ ready s → IsSome work ↔ IsDonePut s r → IfSome work (λ w. IsWorkFor IsWork (slot_of s r).change (arc_value w)) →
-      shard.HasItsWork IsWork (change_at (changes_in s) r) (option_map arc_value work)
-  work_given s r work some le given_where is =
-      let few = prefix_len-le-length is_done s.slots in
-      let within : r - 1 < length s.slots = omega (arith, some, le, few) in
-      let same : length (changes_in s) ≡ length s.slots = length-map s.slots (λ (slot : Slot). slot.change) in
-      let here : change_at (changes_in s) r ≡ Some (slot_of s r).change =
-      slice_get-get_or (changes_in s) (r - 1) (slot_of s r).change (omega (arith, within, same)) ∙ ap Some (get_or-map (λ (slot : Slot). slot.change) s.slots (r - 1) no_slot (slot_of s r).change within) in
-      let done : is_done (slot_of s r) ≡ true = prefix_len_passes is_done s.slots (r - 1) no_slot (omega (arith, some, le)) in
-      subst (λ o. shard.HasItsWork IsWork o (option_map arc_value work)) (sym here)
-      (given (slot_of s r).change (slot_of s r).finished work done
-      (λ h. let p = given_where.0 h in (p.1, p.2)) (λ h. given_where.1 ((some, omega (arith, some, le, few)), h.0, h.1)) is)
 
 -- ---- what the change brings
 
@@ -116,7 +90,7 @@ next_of IsWorkOf b shards i applied first old work lent numbered mine at read fi
       read = read;
       same = first_is ∙ ap applied_of (shard_read shards i first old within at read);
       below = below;
-      work = subst (shard.HasItsWork (IsWorkOf b.settings) (change_at (changes_in b.state) (applied + 1))) (sym lent_is) (work_given (IsWorkOf b.settings) b.state (applied + 1) work (omega arith) below some is);
+      work = subst (shard.HasItsWork (IsWorkOf b.settings) (change_at (changes_in b.state) (applied + 1))) (sym lent_is) (work_given (IsWorkOf b.settings) arc_value b.state (applied + 1) work (omega arith) below some is);
     }
 
 -- ---- the shard

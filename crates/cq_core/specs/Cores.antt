@@ -1,6 +1,7 @@
 -- What a core is to its callers, and for which core of the history it stands.
 use Rattle.std.specs.Prelude.{◌≡◌, ℕ, ◌<◌, ◌≤◌, List, [], length, map, All, slice_index_or, slice_index}
 use Rattle.cq_base.specs.declared.lang.Lang.{Lang}
+use Rattle.cq_base.specs.declared.settings.Settings.{Settings}
 use Rattle.cq_history.specs.State.{changes_in}
 use Rattle.cq_history.specs.Core as history
 use Rattle.cq_shard.specs.Shard as shard
@@ -36,6 +37,10 @@ pub record StandsFor (IsWindow : Lang → List ℕ → ℕ → ℕ → Type 0) (
   pub sound : history.IsSound c.board.settings (length c.board.state.views) k
   pub shards : All (shard.StandsFor IsWindow (changes_in c.board.state)) c.shards
   pub numbered : AreNumbered c.board.settings.shards c.shards
+
+-- it stands for a core of the history before any step, over the windows that the settings give
+abbrev pub StandsAtFirst : (Settings → Lang → List ℕ → ℕ → ℕ → Type 0) → Settings → CoreState → Type 0
+StandsAtFirst window_at set c = StandsFor (window_at set) (history.first_core set.shards) c
 
 abbrev pub IsCaller : CoreState → ℕ → Type 0
 IsCaller c by = by < length c.board.state.views

@@ -1,5 +1,6 @@
 -- The entries that a caller reads of its open version.
-use Rattle.std.specs.Prelude.{◌≡◌, ℕ, List, Some}
+use Rattle.std.specs.Prelude.{◌≡◌, ℕ, List, Vec, Option, Some, IfSome}
+use Rattle.std.specs.declared.alloc.Global.{Global}
 use Rattle.cq_base.specs.declared.lang.Lang.{Lang}
 use Rattle.cq_base.specs.declared.settings.Settings.{Settings}
 use Rattle.cq_base.specs.declared.entry.Entry.{Entry}
@@ -19,3 +20,11 @@ AreRead keys_in IsWorkOf c by shard key entries =
 abbrev pub AreWorked : {W : Type 0} → (Lang → List ℕ → W → Type 0) → CoreState → ℕ → Type 0
 AreWorked {W} IsWork c by =
     (version : ℕ) (project : List ℕ) (file : Source) → view_of c.board.state by ≡ Some version → Has (files_at (changes_in c.board.state) version project) file → (work : W) × IsWork file.lang file.body work
+
+-- where there is an answer, these are its entries
+abbrev pub IsRead : {W : Type 0} → (W → List ℕ) → (Settings → Lang → List ℕ → W → Type 0) → CoreState → ℕ → ℕ → ℕ → Option (Vec Entry Global) → Type 0
+IsRead keys_in IsWorkOf c by shard key answer = IfSome answer (λ entries. AreRead keys_in IsWorkOf c by shard key entries.items)
+
+-- where there is an answer, the files have their works
+abbrev pub IsWorked : {W X : Type 0} → (Settings → Lang → List ℕ → W → Type 0) → CoreState → ℕ → Option X → Type 0
+IsWorked IsWorkOf c by answer = IfSome answer (λ _. AreWorked (IsWorkOf c.board.settings) c by)

@@ -6,15 +6,14 @@ ghost use Rattle.cq_base.specs.declared.settings.Settings.{Settings};
 ghost use Rattle.cq_base.specs.declared.change.Change.{Change};
 ghost use Rattle.cq_history.specs.Changes.{change_at};
 ghost use Rattle.cq_shard.specs.Shard.{HasWindow};
-ghost use Rattle.cq_history.specs.Core as history;
 ghost use Rattle.cq_history.specs.declared.event.Event.TheVariants as event;
 ghost use Rattle.cq_history.specs.State.{view_of, first_free, ready, IsUndone};
 ghost use Rattle.cq_base.specs.Changes.{IsSoundChange};
 ghost use Rattle.cq_board.specs.Answers.{IsJob};
 ghost use Rattle.cq_board.specs.Sound.{HasSoundText, HaveFewConditions};
-ghost use Rattle.cq_core.specs.Cores.{CoreState, StandsFor, IsCaller, IsShard, AreFresh};
+ghost use Rattle.cq_core.specs.Cores.{CoreState, StandsAtFirst, IsCaller, IsShard, AreFresh};
 ghost use Rattle.cq_core.specs.Steps.{IsNamed, IsSoundStep, HasWork, IsOutcome, DoesStep, Counts, CountsSome};
-ghost use Rattle.cq_core.specs.Readings.{AreRead, AreWorked};
+ghost use Rattle.cq_core.specs.Readings.{IsRead, IsWorked};
 ghost use Rattle.cq_core.specs.Views.{IsView};
 ghost use Rattle.cq_core.specs.declared.step.Step.TheVariants as step;
 
@@ -52,7 +51,7 @@ impl<W: Indexed> Core<W> {
     /// A core for so many callers, before any step.
     pub fn new(alloc: Global, settings: &Settings, callers: u32) -> Result<Core<W>, Memory>
         requires { 1 ≤ settings.now.shards }
-        ensures stands { IfOk result (StandsFor (HasWindow W.keys_in W.IsWorkOf settings.now) (history.first_core settings.now.shards)) }
+        ensures stands { IfOk result (StandsAtFirst (HasWindow W.keys_in W.IsWorkOf) settings.now) }
         ensures settings { IfOk result (λ c. c.board.settings ≡ settings.now) }
         ensures callers { IfOk result (λ c. length c.board.state.views ≡ callers) }
     {
@@ -104,8 +103,8 @@ impl<W: Indexed> Core<W> {
         requires caller { IsCaller self.now by }
         requires shard { IsShard self.now shard }
         ensures none { IfOk result (λ entries. IsNone entries ↔ IsNone (view_of self.now.board.state by)) }
-        ensures entries { IfOk result (λ entries. IfSome entries (λ es. AreRead W.keys_in W.IsWorkOf self.now by shard key es.items)) }
-        ensures worked { IfOk result (λ entries. IfSome entries (λ _. AreWorked (W.IsWorkOf self.now.board.settings) self.now by)) }
+        ensures entries { IfOk result (IsRead W.keys_in W.IsWorkOf self.now by shard key) }
+        ensures worked { IfOk result (IsWorked W.IsWorkOf self.now by) }
     {
         shards_have_the_entries::<W>();
         match &self.views[by as usize] {

@@ -128,29 +128,6 @@ module _ {W : Type 0} (IsWork : Lang → List ℕ → W → Type 0) where
   abbrev IsOwned : Lang → List ℕ → Arc W Global → Type 0
   IsOwned lang text w = IsWork lang text (arc_value w)
 
-  given : (c : Change) (finished : Bool) (work : Option (Arc W Global)) → (not (is_put c) || finished) ≡ true → (IsSome work → (is_put c ≡ true) × (finished ≡ true)) → ((is_put c ≡ true) × (finished ≡ true) → IsSome work) →
-      IfSome work (λ w. IsWorkFor IsWork c (arc_value w)) → HasItsWork IsOwned (Some c) work
-  given (Put project path lang text) finished (Some w) done some there is = is
-  given (Put project path lang text) finished None done some there is = absurd (true≢false (sym (there (refl, or-implies true finished done refl))))
-  given (Drop project path) finished (Some w) done some there is = absurd (true≢false (sym (some refl).0))
-  given (Drop project path) finished None done some there is = tt
-  given (Gate project conditions) finished (Some w) done some there is = absurd (true≢false (sym (some refl).0))
-  given (Gate project conditions) finished None done some there is = tt
-
-  -- a change that is ready has the work that the board keeps of it
-  pub work_given : (s : State) (r : ℕ) (work : Option (Arc W Global)) → 0 < r → r ≤ ready s → IsSome work ↔ IsDonePut s r → IfSome work (λ w. IsWorkFor IsWork (slot_of s r).change (arc_value w)) →
-      HasItsWork IsOwned (change_at (changes_in s) r) work
-  work_given s r work some le given_where is =
-      let few = prefix_len-le-length is_done s.slots in
-      let within : r - 1 < length s.slots = omega (arith, some, le, few) in
-      let same : length (changes_in s) ≡ length s.slots = length-map s.slots (λ (slot : Slot). slot.change) in
-      let here : change_at (changes_in s) r ≡ Some (slot_of s r).change =
-      slice_get-get_or (changes_in s) (r - 1) (slot_of s r).change (omega (arith, within, same)) ∙ ap Some (get_or-map (λ (slot : Slot). slot.change) s.slots (r - 1) no_slot (slot_of s r).change within) in
-      let done : is_done (slot_of s r) ≡ true = prefix_len_passes is_done s.slots (r - 1) no_slot (omega (arith, some, le)) in
-      subst (λ o. HasItsWork IsOwned o work) (sym here)
-      (given (slot_of s r).change (slot_of s r).finished work done
-      (λ h. let p = given_where.0 h in (p.1, p.2)) (λ h. given_where.1 ((some, omega (arith, some, le, few)), h.0, h.1)) is)
-
   -- with the work of the change behind them they are those of one change more
   pub works_more : (changes : List Change) (from : ℕ) (works : List (Option (Arc W Global))) (work : Option (Arc W Global)) → HasItsWork IsOwned (change_at changes (from + length works + 1)) work → HaveTheirWorks IsOwned changes from works → HaveTheirWorks IsOwned changes from (works ++ work ∷ [])
   works_more changes from works work here before i d lt =

@@ -1,9 +1,8 @@
-ghost use Rattle.std.specs.Prelude.{◌≡◌, ◌+◌, ◌-◌, ◌<◌, ◌≤◌, ◌^◌, ℕ, length, All, IfOk, IfSome, OnOk};
-ghost use Rattle.std.specs.Arc.{arc_value};
-ghost use Rattle.cq_history.specs.State.{ready, changes_in};
-ghost use Rattle.cq_shard.specs.Shard.{HasWindow, HaveTheirWorks};
+ghost use Rattle.std.specs.Prelude.{◌≡◌, ◌+◌, ◌-◌, ◌<◌, ◌≤◌, length, All, IfOk, OnOk};
+ghost use Rattle.cq_history.specs.State.{ready};
+ghost use Rattle.cq_shard.specs.Shard.{HasWindow, HaveFewKeys};
 ghost use Rattle.cq_hub.specs.Shards.{IsShardOf, AreShardsOf, AreFresh};
-ghost use Rattle.cq_hub.specs.Comings.{IsComing};
+ghost use Rattle.cq_hub.specs.Comings.{IsComing, StaysComing, AreWorksBehind};
 
 use cq_base::{Entry, Memory, Steps};
 use cq_board::Board;
@@ -128,7 +127,7 @@ impl<W: Indexed> Coming<W> {
     fn turn_to(&mut self, alloc: Global, board: &Board<W>, from: u64) -> Result<(), Memory>
         requires done { self.old.to ≤ ready board.now.state }
         requires some { 0 < board.now.settings.shards }
-        ensures coming { (n : ℕ) → IsComing W.keys_in W.IsWorkOf board.now n self.old → OnOk result (IsComing W.keys_in W.IsWorkOf board.now n self.new) }
+        ensures coming { OnOk result (StaysComing W.keys_in W.IsWorkOf board.now self.old self.new) }
         ensures from { OnOk result (self.new.from ≡ from) }
         ensures to { OnOk result (self.new.to ≡ self.old.to) }
     {
@@ -148,8 +147,8 @@ pub fn finished_works<W: Indexed>(
 ) -> Result<Vec<Option<Arc<W, Global>>>, Memory>
     requires done { to ≤ ready board.now.state }
     ensures number { IfOk result (λ works. length works.items ≡ to - from) }
-    ensures few { IfOk result (λ works. All (λ work. IfSome work (λ w. length (W.keys_in (arc_value w)) < 2 ^ 32)) works.items) }
-    ensures works { IfOk result (λ works. HaveTheirWorks (λ lang text w. W.IsWorkOf board.now.settings lang text (arc_value w)) (changes_in board.now.state) from works.items) }
+    ensures few { IfOk result (λ works. HaveFewKeys W.keys_in works.items) }
+    ensures works { IfOk result (λ works. AreWorksBehind W.IsWorkOf board.now from works.items) }
 {
     let mut works = Vec::new(alloc);
     'changes: for i in from..to {

@@ -1,8 +1,7 @@
 -- The entries of changes, parted among the shards.
-use Rattle.std.proofs.Common.{◌≡◌, ◌≢◌, ℕ, ◌+◌, ◌<◌, ◌%◌, ◌==◌, Bool, true, false, cond, List, [], ◌∷◌, ◌++◌, length, map, replicate, get_or, set, refl, sym, ap, ◌∙◌, subst, ⊎_elim, arith, append_assoc, append-nil}
+use Rattle.std.proofs.Common.{◌≡◌, ℕ, ◌+◌, ◌<◌, ◌%◌, cond, List, [], ◌∷◌, ◌++◌, length, replicate, get_or, set, sym, ap, ◌∙◌, subst, ⊎_elim, arith, append_assoc}
 use Rattle.std.proofs.lemmas.Bool.{cases_eq, eq-eqb, ne_eqb}
 use Rattle.std.proofs.lemmas.List.{length-set, length-replicate, get_or-replicate, get_or-set_same, get_or-set_other}
-use Rattle.std.proofs.lemmas.Nat.{mod_below}
 use Rattle.cq_base.specs.declared.entry.Entry.{Entry}
 use Rattle.cq_shard.specs.Shard.{entries_of}
 use Rattle.cq_shard.specs.Parts.{AreBegun}
@@ -13,9 +12,6 @@ module _ (shards : ℕ) (all : ℕ → List Entry) where
     number_is = length-replicate shards [];
     each = λ n d lt. ap (λ (es : List Entry). es ++ all n) (get_or-replicate shards n [] d lt);
   }
-
-  pub all_begun : (parts : List (List Entry)) → AreBegun shards (λ n. []) all parts → (n : ℕ) (d : List Entry) → n < shards → get_or parts n d ≡ all n
-  all_begun parts are n d lt = sym (append-nil (get_or parts n d)) ∙ are.each n d lt
 
   -- the entry of a key comes to the part of its shard
   pub begun_more : (change at key : ℕ) (keys : List ℕ) (rest : ℕ → List Entry) (parts more : List (List Entry)) → 0 < shards →

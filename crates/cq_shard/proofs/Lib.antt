@@ -7,5 +7,6 @@ pub mod Finding
 pub mod Gathering
 pub mod Standing
 pub mod Works
+pub mod Given
 pub mod Begun
 pub mod ShardLaws

@@ -1,4 +1,5 @@
 pub mod Laws
+pub mod Gathered
 pub mod Parts
 pub mod Runs
 pub mod Shard

@@ -1,11 +1,16 @@
 -- What a shard is, and for which changes it stands.
-use Rattle.std.specs.Prelude.{◌≡◌, ◌↔◌, slice_get, slice_index_or, ℕ, ◌+◌, ◌<◌, ◌≤◌, ◌%◌, ◌==◌, nat_eq, ◌&&◌, if◌then◌else◌, Bool, List, [], ◌∷◌, ◌++◌, length, Contains, All, Option, Some, None}
+use Rattle.std.specs.Prelude.{◌≡◌, ◌↔◌, slice_get, slice_index_or, ℕ, ◌+◌, ◌<◌, ◌≤◌, ◌%◌, ◌==◌, nat_eq, ◌&&◌, if◌then◌else◌, Bool, List, [], ◌∷◌, ◌++◌, length, Contains, All, Option, Some, None, IfSome, ◌^◌}
 use Rattle.std.specs.List.{list_any}
+use Rattle.std.specs.Arc.{arc_value}
+use Rattle.std.specs.declared.sync.Arc.{Arc}
+use Rattle.std.specs.declared.alloc.Global.{Global}
 use Rattle.cq_base.specs.declared.lang.Lang.{Lang}
 use Rattle.cq_base.specs.declared.settings.Settings.{Settings}
 use Rattle.cq_base.specs.declared.entry.Entry.{Entry}
 use Rattle.cq_base.specs.declared.change.Change.{Change}
 use Rattle.cq_base.specs.declared.change.Change.TheVariants.{Put, Drop, Gate}
+use Rattle.cq_clones.specs.Lists.{AreAllInOrder}
+use Rattle.cq_clones.specs.Windows.{EntryBefore}
 use Rattle.cq_history.specs.Changes.{IsWorkFor, change_at}
 use Rattle.cq_history.specs.Shards.{Row, ShardHolds}
 use Rattle.cq_shard.specs.Runs.{AreDifferent}
@@ -71,3 +76,47 @@ HaveTheirWorks {W} IsWork changes applied works = (i : ℕ) (d : Option W) → i
 -- the entry has this key, and its change is one of `live`
 abbrev pub is_asked : ℕ → List ℕ → Entry → Bool
 is_asked key live e = (e.key == key) && list_any (nat_eq e.change) live
+
+-- ---- what applying promises
+
+-- the same shard, swept as far
+abbrev pub IsSameShard : Contents → Contents → Type 0
+IsSameShard old new = (new.shard ≡ old.shard) × (new.shards ≡ old.shards) × (new.floor ≡ old.floor)
+
+-- For whichever settings and changes it stood, of which the one with this number has this work, it stands now.
+abbrev pub StandsOnWith : {W : Type 0} → (W → List ℕ) → (Settings → Lang → List ℕ → W → Type 0) → ℕ → Option W → Contents → Contents → Type 0
+StandsOnWith keys_in IsWorkOf change work old new =
+    (settings : Settings) (changes : List Change) → StandsFor (HasWindow keys_in IsWorkOf settings) changes old → HasItsWork (IsWorkOf settings) (change_at changes change) work → StandsFor (HasWindow keys_in IsWorkOf settings) changes new
+
+-- how many entries a change brings to this shard
+abbrev pub cost_of : {W : Type 0} → (W → List ℕ) → Contents → ℕ → Option W → ℕ
+cost_of keys_in c change work = length (brought keys_in change c.shard c.shards work)
+
+-- ---- the same of works that have owners
+
+-- what an owned work has
+abbrev pub in_owned : {W : Type 0} → (W → List ℕ) → Arc W Global → List ℕ
+in_owned keys_in work = keys_in (arc_value work)
+
+-- an owned work is that of the text
+abbrev pub IsOwnedOf : {W : Type 0} → (Settings → Lang → List ℕ → W → Type 0) → Settings → Lang → List ℕ → Arc W Global → Type 0
+IsOwnedOf IsWorkOf settings lang text work = IsWorkOf settings lang text (arc_value work)
+
+-- each work has fewer than 2^32 keys
+abbrev pub HaveFewKeys : {W : Type 0} → (W → List ℕ) → List (Option (Arc W Global)) → Type 0
+HaveFewKeys keys_in works = All (λ work. IfSome work (λ w. length (keys_in (arc_value w)) < 2 ^ 32)) works
+
+-- For whichever settings and changes it stood, of which the next ones have these works, it stands now.
+abbrev pub StandsOnWithAll : {W : Type 0} → (W → List ℕ) → (Settings → Lang → List ℕ → W → Type 0) → List (Option (Arc W Global)) → Contents → Contents → Type 0
+StandsOnWithAll keys_in IsWorkOf works old new =
+    (settings : Settings) (changes : List Change) → StandsFor (HasWindow keys_in IsWorkOf settings) changes old → HaveTheirWorks (IsOwnedOf IsWorkOf settings) changes old.applied works → StandsFor (HasWindow keys_in IsWorkOf settings) changes new
+
+-- the entries that the next changes bring to this shard, one for each of these works
+abbrev pub all_brought_to : {W : Type 0} → (W → List ℕ) → Contents → List (Option (Arc W Global)) → List Entry
+all_brought_to keys_in c works = all_brought (in_owned keys_in) c.applied c.shard c.shards works
+
+-- ---- what a bucket is
+
+-- by change and place, exactly those of some entries that have the key, and whose change is one of `live`
+abbrev pub AreAsked : ℕ → List ℕ → List Entry → List Entry → Type 0
+AreAsked key live entries bucket = AreAllInOrder EntryBefore (λ e. (e.key ≡ key) × Contains live e.change × Contains entries e) bucket

@@ -1,7 +1,7 @@
-ghost use Rattle.std.specs.Prelude.{◌≡◌, ◌++◌, ◌+◌, ◌<◌, ◌≤◌, ◌^◌, ◌%◌, length, option_copied, All, IfOk, OnOk, OnErr, IfSome};
+ghost use Rattle.std.specs.Prelude.{◌≡◌, ◌+◌, ◌<◌, ◌≤◌, ◌^◌, ◌%◌, length, option_copied, All, IfOk, OnOk, OnErr, IfSome};
 ghost use Rattle.std.specs.Int.{IsPowerOfTwo};
 ghost use Rattle.cq_shard.specs.Runs.{AreAdded};
-ghost use Rattle.cq_shard.specs.Shard.{entries_of, brought};
+ghost use Rattle.cq_shard.specs.Gathered.{AreGathered, brought_for};
 
 use crate::indexed::Indexed;
 use crate::runs::Runs;
@@ -35,7 +35,7 @@ pub(crate) fn remainder(key: u64, shards: u64, power: u64) -> u64
 fn gather(part: Part, keys: &[u64], entries: &mut Vec<Entry>) -> Result<(), Memory>
     requires few { length keys.now < 2 ^ 32 }
     requires some { 0 < part.shards }
-    ensures { OnOk result (entries.new.items ≡ entries.old.items ++ entries_of part.change part.shard part.shards 0 keys.now) }
+    ensures { OnOk result (AreGathered part keys.now entries.old.items entries.new.items) }
 {
     let shards = u64::from(part.shards);
     let power = shards.next_power_of_two();
@@ -60,7 +60,7 @@ pub(crate) fn entries_for<W: Indexed>(
 ) -> Result<Vec<Entry>, Memory>
     requires few { IfSome work (λ w. length (W.keys_in w.now) < 2 ^ 32) }
     requires some { 0 < part.shards }
-    ensures { IfOk result (λ entries. entries.items ≡ brought W.keys_in part.change part.shard part.shards (option_copied work.entry)) }
+    ensures { IfOk result (λ entries. entries.items ≡ brought_for W.keys_in part (option_copied work.entry)) }
 {
     let mut entries = Vec::new(alloc);
     if let Some(work) = work {
@@ -80,10 +80,10 @@ pub(crate) fn add_work<W: Indexed, L: Ledger>(
     requires few { IfSome work (λ w. length (W.keys_in w.now) < 2 ^ 32) }
     requires some { 0 < part.shards }
     requires later { All (λ e. e.change < part.change) runs.old }
-    ensures added { OnOk result (AreAdded runs.old (brought W.keys_in part.change part.shard part.shards (option_copied work.entry)) runs.new) }
+    ensures added { OnOk result (AreAdded runs.old (brought_for W.keys_in part (option_copied work.entry)) runs.new) }
     ensures same { OnErr result (runs.new ≡ runs.old) }
-    ensures steps { OnOk result (steps.new ≡ steps.old + length (brought W.keys_in part.change part.shard part.shards (option_copied work.entry))) }
-    ensures most { steps.new ≤ steps.old + length (brought W.keys_in part.change part.shard part.shards (option_copied work.entry)) }
+    ensures steps { OnOk result (steps.new ≡ steps.old + length (brought_for W.keys_in part (option_copied work.entry))) }
+    ensures most { steps.new ≤ steps.old + length (brought_for W.keys_in part (option_copied work.entry)) }
 {
     let entries = entries_for(alloc, part, work)?;
     runs.add(alloc, entries, steps)

@@ -1,8 +1,6 @@
-ghost use Rattle.std.specs.Prelude.{◌≡◌, ◌++◌, ◌+◌, ◌<◌, ◌^◌, ℕ, List, [], length, map, replicate, All, IfOk, OnOk, IfSome};
-ghost use Rattle.std.specs.Arc.{arc_value};
-ghost use Rattle.cq_base.specs.declared.entry.Entry.{Entry};
-ghost use Rattle.cq_shard.specs.Shard.{entries_of};
-ghost use Rattle.cq_shard.specs.Parts.{AreParts, AreBegun};
+ghost use Rattle.std.specs.Prelude.{◌≡◌, ◌+◌, ◌<◌, ◌^◌, [], length, map, replicate, IfOk, OnOk};
+ghost use Rattle.cq_shard.specs.Shard.{HaveFewKeys};
+ghost use Rattle.cq_shard.specs.Parts.{AreParts, HaveMore};
 
 use crate::applying::remainder;
 use crate::indexed::Indexed;
@@ -20,8 +18,8 @@ pub fn parted<W: Indexed>(
 ) -> Result<Vec<Vec<Entry>>, Memory>
     requires some { 0 < shards }
     requires room { applied + length works.now < 2 ^ 64 }
-    requires few { All (λ work. IfSome work (λ w. length (W.keys_in (arc_value w)) < 2 ^ 32)) works.now }
-    ensures { IfOk result (λ parts. AreParts (λ w. W.keys_in (arc_value w)) applied shards works.now (map (λ part. part.items) parts.items)) }
+    requires few { HaveFewKeys W.keys_in works.now }
+    ensures { IfOk result (λ parts. AreParts W.keys_in applied shards works.now parts.items) }
 {
     let mut parts = empty(alloc, shards)?;
     let mut change = applied;
@@ -50,7 +48,7 @@ fn part(change: u64, shards: u32, keys: &[u64], parts: &mut Vec<Vec<Entry>>) -> 
     requires few { length keys.now < 2 ^ 32 }
     requires some { 0 < shards }
     requires number { length parts.old.items ≡ shards }
-    ensures { (rest all : ℕ → List Entry) → AreBegun shards (λ n. entries_of change n shards 0 keys.now ++ rest n) all (map (λ part. part.items) parts.old.items) → OnOk result (AreBegun shards rest all (map (λ part. part.items) parts.new.items)) }
+    ensures { OnOk result (HaveMore change shards keys.now parts.old.items parts.new.items) }
 {
     let number = u64::from(shards);
     let power = number.next_power_of_two();

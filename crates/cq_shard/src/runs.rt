@@ -1,8 +1,8 @@
-ghost use Rattle.std.specs.Prelude.{◌≡◌, ◌++◌, ◌∷◌, ◌+◌, ◌≤◌, [], length, take, AllPairs, IfOk, OnOk, OnErr, Contains};
+ghost use Rattle.std.specs.Prelude.{◌≡◌, ◌++◌, ◌∷◌, ◌+◌, ◌≤◌, [], length, take, AllPairs, IfOk, OnOk, OnErr};
 ghost use Rattle.std.specs.List.Sorted.{IsStrictlyIncreasing};
-ghost use Rattle.cq_clones.specs.Lists.{AreAllInOrder};
 ghost use Rattle.cq_clones.specs.Windows.{EntryBefore};
 ghost use Rattle.cq_shard.specs.Runs.{AreRuns, AreRunsWith, AreAdded, Precedes};
+ghost use Rattle.cq_shard.specs.Shard.{AreAsked};
 
 use crate::run::Run;
 use cq_base::{Entry, Memory, Steps};
@@ -67,7 +67,7 @@ impl Runs {
     /// entry with the key.
     pub fn bucket(&self, alloc: Global, key: u64, live: &[u64]) -> Result<Vec<Entry>, Memory>
         requires { IsStrictlyIncreasing live.now }
-        ensures { IfOk result (λ bucket. AreAllInOrder EntryBefore (λ e. (e.key ≡ key) × Contains live.now e.change × Contains self.now e) bucket.items) }
+        ensures { IfOk result (λ bucket. AreAsked key live.now self.now bucket.items) }
     {
         let mut bucket = Vec::new(alloc);
         for run in &self.runs {

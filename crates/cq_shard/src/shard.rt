@@ -1,12 +1,6 @@
-ghost use Rattle.std.specs.Prelude.{◌≡◌, ◌+◌, ◌<◌, ◌≤◌, ◌^◌, List, ℕ, [], length, Contains, option_copied, IfOk, OnOk, OnErr, IfSome};
+ghost use Rattle.std.specs.Prelude.{◌≡◌, ◌+◌, ◌<◌, ◌≤◌, ◌^◌, [], length, option_copied, IfOk, OnOk, OnErr, IfSome};
 ghost use Rattle.std.specs.List.Sorted.{IsStrictlyIncreasing};
-ghost use Rattle.std.specs.Arc.{arc_value};
-ghost use Rattle.cq_base.specs.declared.settings.Settings.{Settings};
-ghost use Rattle.cq_base.specs.declared.change.Change.{Change};
-ghost use Rattle.cq_clones.specs.Lists.{AreAllInOrder};
-ghost use Rattle.cq_clones.specs.Windows.{EntryBefore};
-ghost use Rattle.cq_history.specs.Changes.{change_at};
-ghost use Rattle.cq_shard.specs.Shard as spec;
+ghost use Rattle.cq_shard.specs.Shard.{StandsOnWith, StandsOnWithAll, IsSameShard, cost_of, all_brought_to, AreAsked};
 
 use crate::applying::{Part, add_work};
 use crate::indexed::Indexed;
@@ -80,12 +74,12 @@ impl Shard {
     ) -> Result<(), Memory>
         requires next { change ≡ self.old.applied + 1 }
         requires few { IfSome work (λ w. length (W.keys_in w.now) < 2 ^ 32) }
-        ensures stands { (settings : Settings) (changes : List Change) → spec.StandsFor (spec.HasWindow W.keys_in W.IsWorkOf settings) changes self.old → spec.HasItsWork (W.IsWorkOf settings) (change_at changes change) (option_copied work.entry) → OnOk result (spec.StandsFor (spec.HasWindow W.keys_in W.IsWorkOf settings) changes self.new) }
+        ensures stands { OnOk result (StandsOnWith W.keys_in W.IsWorkOf change (option_copied work.entry) self.old self.new) }
         ensures applied { OnOk result (self.new.applied ≡ change) }
-        ensures kept { OnOk result ((self.new.shard ≡ self.old.shard) × (self.new.shards ≡ self.old.shards) × (self.new.floor ≡ self.old.floor)) }
+        ensures kept { OnOk result (IsSameShard self.old self.new) }
         ensures same { OnErr result (self.new ≡ self.old) }
-        ensures steps { OnOk result (steps.new ≡ steps.old + length (spec.brought W.keys_in change self.old.shard self.old.shards (option_copied work.entry))) }
-        ensures most { steps.new ≤ steps.old + length (spec.brought W.keys_in change self.old.shard self.old.shards (option_copied work.entry)) }
+        ensures steps { OnOk result (steps.new ≡ steps.old + cost_of W.keys_in self.old change (option_copied work.entry)) }
+        ensures most { steps.new ≤ steps.old + cost_of W.keys_in self.old change (option_copied work.entry) }
     {
         applying_adds_its_rows::<W>();
         let part = Part {
@@ -108,13 +102,13 @@ impl Shard {
         steps: &mut Steps<L>,
     ) -> Result<(), Memory>
         requires room { self.old.applied + length works.now < 2 ^ 64 }
-        requires part { part.items ≡ spec.all_brought (λ w. W.keys_in (arc_value w)) self.old.applied self.old.shard self.old.shards works.now }
-        ensures stands { (settings : Settings) (changes : List Change) → spec.StandsFor (spec.HasWindow W.keys_in W.IsWorkOf settings) changes self.old → spec.HaveTheirWorks (λ lang text w. W.IsWorkOf settings lang text (arc_value w)) changes self.old.applied works.now → OnOk result (spec.StandsFor (spec.HasWindow W.keys_in W.IsWorkOf settings) changes self.new) }
+        requires part { part.items ≡ all_brought_to W.keys_in self.old works.now }
+        ensures stands { OnOk result (StandsOnWithAll W.keys_in W.IsWorkOf works.now self.old self.new) }
         ensures applied { OnOk result (self.new.applied ≡ self.old.applied + length works.now) }
-        ensures kept { OnOk result ((self.new.shard ≡ self.old.shard) × (self.new.shards ≡ self.old.shards) × (self.new.floor ≡ self.old.floor)) }
+        ensures kept { OnOk result (IsSameShard self.old self.new) }
         ensures same { OnErr result (self.new ≡ self.old) }
-        ensures steps { OnOk result (steps.new ≡ steps.old + length (spec.all_brought (λ w. W.keys_in (arc_value w)) self.old.applied self.old.shard self.old.shards works.now)) }
-        ensures most { steps.new ≤ steps.old + length (spec.all_brought (λ w. W.keys_in (arc_value w)) self.old.applied self.old.shard self.old.shards works.now) }
+        ensures steps { OnOk result (steps.new ≡ steps.old + length (all_brought_to W.keys_in self.old works.now)) }
+        ensures most { steps.new ≤ steps.old + length (all_brought_to W.keys_in self.old works.now) }
     {
         applying_adds_its_rows::<W>();
         self.runs.add(self.alloc, part, steps)?;
@@ -126,7 +120,7 @@ impl Shard {
     /// of which there are at most the logarithm of its entries, and searches `live` for each entry with the key.
     pub fn bucket(&self, alloc: Global, key: u64, live: &[u64]) -> Result<Vec<Entry>, Memory>
         requires rising { IsStrictlyIncreasing live.now }
-        ensures { IfOk result (λ bucket. AreAllInOrder EntryBefore (λ e. (e.key ≡ key) × Contains live.now e.change × Contains self.now.entries e) bucket.items) }
+        ensures { IfOk result (λ bucket. AreAsked key live.now self.now.entries bucket.items) }
     {
         self.runs.bucket(alloc, key, live)
     }

@@ -1,9 +1,8 @@
 use Rattle.std.proofs.Common.{[], ◌∙◌, ℕ, List, Option, Global, length, map, get_or, sym, ap, subst, arith}
-use Rattle.std.proofs.lemmas.List.{get_or-map, map-set, length-set, get_or-set_other}
-use Rattle.std.specs.Arc.{arc_value}
+use Rattle.std.proofs.lemmas.List.{length-set, get_or-set_other}
 use Rattle.std.specs.declared.sync.Arc.{Arc}
 use Rattle.cq_history.specs.State.{changes_in}
-use Rattle.cq_shard.specs.Shard.{HasWindow, HaveTheirWorks, all_brought}
+use Rattle.cq_shard.specs.Shard.{HasWindow, HaveTheirWorks, IsOwnedOf, in_owned, all_brought}
 use Rattle.cq_hub.specs.Shards.{IsShardOf}
 use Rattle.cq_hub.proofs.ShardSteps.{shard_applied}
 use Rattle.cq_hub.proofs.applying.catch_up.Goals as goal
@@ -27,13 +26,10 @@ apply_all-requires-clause-part g c =
     let is = c.in_ok-turn_to.ensures.coming c.args.i c.requires.coming in
     let i = c.args.i in
     let shard = c.args.shard.now in
-    let parts = c.turn_to.new.self.parts.items in
     let within = c.requires.within in
-    let lists = is.lists in
-    let brought : ℕ → ℕ → ℕ → List (Option (Arc _ Global)) → _ = λ from n shards works. all_brought (λ w. g.W.Indexed.keys_in (arc_value w)) from n shards works in
+    let brought : ℕ → ℕ → ℕ → List (Option (Arc _ Global)) → _ = λ from n shards works. all_brought (in_owned g.W.Indexed.keys_in) from n shards works in
     ap (λ part. part.items) (c.replace-part.ensures.value ∙ c.index_mut.ensures.value)
-    ∙ sym (get_or-map (λ part. part.items) parts i c.index_mut.result.now [] (omega (arith, lists, within)))
-    ∙ is.parts i [] (omega arith) within
+    ∙ is.parts i c.index_mut.result.now (omega arith) within
     ∙ ap (λ from. brought from i c.args.board.now.settings.shards c.turn_to.new.self.works.items) (c.in_ok-turn_to.ensures.from ∙ c.applied.ensures)
     ∙ ap (λ n. brought shard.applied n c.args.board.now.settings.shards c.turn_to.new.self.works.items) (sym c.requires.shard.number_is)
     ∙ ap (λ n. brought shard.applied shard.shard n c.turn_to.new.self.works.items) (sym c.requires.shard.shards)
@@ -50,9 +46,9 @@ returns-clause-shard g c =
     let more = c.in_ok-apply_all.ensures.applied in
     let kept = c.in_ok-apply_all.ensures.kept in
     let same = ap length c.deref.ensures.value in
-    let theirs : HaveTheirWorks (λ lang text w. g.W.Indexed.IsWorkOf b.settings lang text (arc_value w)) (changes_in b.state) c.args.shard.now.applied c.deref.result.now =
-    subst (HaveTheirWorks (λ lang text w. g.W.Indexed.IsWorkOf b.settings lang text (arc_value w)) (changes_in b.state) c.args.shard.now.applied) (sym c.deref.ensures.value)
-    (subst (λ from. HaveTheirWorks (λ lang text w. g.W.Indexed.IsWorkOf b.settings lang text (arc_value w)) (changes_in b.state) from c.turn_to.new.self.works.items) (from ∙ here) is.works) in
+    let theirs : HaveTheirWorks (IsOwnedOf g.W.Indexed.IsWorkOf b.settings) (changes_in b.state) c.args.shard.now.applied c.deref.result.now =
+    subst (HaveTheirWorks (IsOwnedOf g.W.Indexed.IsWorkOf b.settings) (changes_in b.state) c.args.shard.now.applied) (sym c.deref.ensures.value)
+    (subst (λ from. HaveTheirWorks (IsOwnedOf g.W.Indexed.IsWorkOf b.settings) (changes_in b.state) from c.turn_to.new.self.works.items) (from ∙ here) is.works) in
     shard_applied (HasWindow g.W.Indexed.keys_in g.W.Indexed.IsWorkOf b.settings) b c.args.i c.args.shard.now c.apply_all.new.self
     (λ low. omega (arith, low, number, from, here, more, same, done)) (omega (arith, more)) kept.0 kept.1 kept.2
     (λ held. c.in_ok-apply_all.ensures.stands b.settings (changes_in b.state) held theirs) c.requires.shard
@@ -75,8 +71,7 @@ returns-clause-coming g c =
       works = is.works;
       lists = length-set parts c.args.i part ∙ is.lists;
       parts = λ n d above lt.
-          ap (λ ps. get_or ps n d) (map-set (λ part. part.items) parts c.args.i part)
-          ∙ get_or-set_other (map (λ part. part.items) parts) c.args.i n part.items d (λ e. omega (arith, e, above))
+          ap (λ part. part.items) (get_or-set_other parts c.args.i n part d (λ e. omega (arith, e, above)))
           ∙ is.parts n d (omega (arith, above)) lt;
     }
 

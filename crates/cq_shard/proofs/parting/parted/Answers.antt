@@ -1,9 +1,9 @@
-use Rattle.std.proofs.Common.{◌≡◌, ℕ, ◌+◌, ◌++◌, List, Global, Option, Some, None, ◌∷◌, drop, map, get_or, sym, ap, ◌∙◌, subst, arith}
-use Rattle.std.proofs.lemmas.List.{drop_more}
+use Rattle.std.proofs.Common.{◌≡◌, ℕ, ◌+◌, ◌++◌, List, Global, Option, Some, None, ◌∷◌, [], append-nil, drop, map, get_or, sym, ap, ◌∙◌, subst, arith}
+use Rattle.std.proofs.lemmas.List.{drop_more, drop_all, length-map, get_or-map}
 use Rattle.std.specs.Arc.{arc_value}
 use Rattle.std.specs.declared.sync.Arc.{Arc}
 use Rattle.cq_base.specs.declared.entry.Entry.{Entry}
-use Rattle.cq_shard.specs.Shard.{entries_of, brought, all_brought}
+use Rattle.cq_shard.specs.Shard.{in_owned, entries_of, brought, all_brought}
 use Rattle.cq_shard.specs.Parts.{AreBegun}
 use Rattle.cq_shard.proofs.parting.parted.Goals as goal
 use Rattle.cq_shard.proofs.parting.parted.Goals.{in-Some+in_ok-part, in_default}
@@ -27,4 +27,18 @@ loop-work-preserved g c =
             (subst (λ (keys : List ℕ). AreBegun c.args.shards (λ n. entries_of (change + 1) n c.args.shards 0 keys ++ rest n) all (map (λ part. part.items) c.loop-work.parts.items)) (sym (w.keys.ensures ∙ ap g.W.Indexed.keys_in w.deref.ensures)) (all_of (Some w.in-Some.work) w.in-Some.is)))
         | in_default w ↦ subst (AreBegun c.args.shards rest all) (ap (λ v. map (λ part. part.items) v.items) (sym w.parts-is)) (all_of None w.in_default.is)
       ];
+    }
+
+pub returns : goal.returns
+returns g c =
+    let parts = c.loop-work.parts.items in
+    let begun = c.loop-work.invariant.begun in
+    let number = begun.number_is in
+    let same = length-map parts (λ part. part.items) in
+    record {
+      number_is = omega (arith, number, same);
+      each = λ n d lt.
+          sym (get_or-map (λ part. part.items) parts n d [] (omega (arith, lt, number, same)))
+          ∙ sym (append-nil (get_or (map (λ part. part.items) parts) n []))
+          ∙ subst (λ (ws : List (Option (Arc _ Global))). get_or (map (λ part. part.items) parts) n [] ++ all_brought (in_owned g.W.Indexed.keys_in) c.loop-work.change n c.args.shards ws ≡ all_brought (in_owned g.W.Indexed.keys_in) c.args.applied n c.args.shards c.args.works.now) (drop_all c.loop-work.work-index c.args.works.now c.loop-work-test.false) (begun.each n [] lt);
     }
