@@ -1,14 +1,12 @@
 -- The shards beside a board: before any event, behind one more, where one applies the next change, and what they answer.
-use Rattle.std.proofs.Common.{◌≡◌, ℕ, ◌+◌, ◌-◌, ◌%◌, ◌<◌, ◌≤◌, Bool, true, not, ◌||◌, List, [], ◌∷◌, ◌++◌, length, take, get_or, set, Option, Some, None, Global, refl, sym, ap, ◌∙◌, subst, subst₂, ⊎_elim, arith, true≢false}
-use Rattle.std.specs.Prelude.{◌↔◌, ◌^◌, Contains, IfSome, IsSome}
+use Rattle.std.proofs.Common.{◌≡◌, ℕ, ◌+◌, ◌%◌, ◌<◌, ◌≤◌, List, [], ◌∷◌, ◌++◌, length, take, get_or, set, Option, Some, None, Global, sym, ap, ◌∙◌, subst, subst₂, ⊎_elim, arith}
+use Rattle.std.specs.Prelude.{◌^◌, Contains, IfSome}
 use Rattle.std.specs.Arc.{arc_value}
 use Rattle.std.specs.declared.sync.Arc.{Arc}
 use Rattle.std.proofs.lemmas.Bool.{cases_eq, cases_lt}
-use Rattle.std.proofs.lemmas.List.{length-map, length-set, length_push, get_or_append_left, get_or_push, get_or-map, get_or-set_same, get_or-set_other}
+use Rattle.std.proofs.lemmas.List.{length-map, length-set, length_push, get_or_append_left, get_or_push, get_or-set_same, get_or-set_other}
 use Rattle.std.proofs.lemmas.List.Elements.{Contains-get_or}
-use Rattle.std.proofs.lemmas.Option.{slice_get-get_or}
-use Rattle.std.proofs.lemmas.List.Sums.{prefix_len-le-length, prefix_len_passes}
-use Rattle.cq_base.proofs.Bools.{or-implies}
+use Rattle.std.proofs.lemmas.List.Sums.{prefix_len-le-length}
 use Rattle.cq_base.specs.declared.lang.Lang.{Lang}
 use Rattle.cq_base.specs.declared.entry.Entry.{Entry}
 use Rattle.cq_base.specs.declared.change.Change.{Change}
@@ -17,8 +15,8 @@ use Rattle.cq_clones.specs.Lists.{AreAllInOrder}
 use Rattle.cq_clones.specs.Windows.{EntryBefore}
 use Rattle.cq_clones.proofs.InOrder.{in_order_same}
 use Rattle.cq_history.specs.declared.event.Event.{Event}
-use Rattle.cq_history.specs.Changes.{change_at, is_put, IsWorkFor}
-use Rattle.cq_history.specs.State.{State, Slot, no_slot, slot_of, after, changes_in, accepted, is_done, ready, view_of, state as state_of}
+use Rattle.cq_history.specs.Changes.{change_at, IsWorkFor}
+use Rattle.cq_history.specs.State.{State, Slot, after, changes_in, accepted, is_done, ready, view_of, state as state_of}
 use Rattle.cq_history.specs.Lawful.{Allowed, Lawful}
 use Rattle.cq_history.specs.Core.{IsReached, IsAppliedFor}
 use Rattle.cq_history.proofs.States.{state_push, Lawful_last}
@@ -28,7 +26,6 @@ use Rattle.cq_history.proofs.Falling.{stays_reached}
 use Rattle.cq_history.proofs.Bounds.{InOrder, in_order}
 use Rattle.cq_shard.specs.Shard.{Contents, StandsFor, HasItsWork, HaveTheirWorks}
 use Rattle.cq_shard.specs.Laws.{StandsAtFirst, StandsOn}
-use Rattle.cq_board.specs.Answers.{IsDonePut}
 use Rattle.cq_board.specs.Entries.{IsEntryAt, ShardsHaveTheEntries}
 use Rattle.cq_board.specs.Listings.{AreLive}
 use Rattle.cq_board.specs.Stands as board

@@ -1,4 +1,4 @@
-use Rattle.std.proofs.Common.{[], ◌∙◌, ℕ, List, Option, Global, length, map, get_or, sym, ap, subst, arith}
+use Rattle.std.proofs.Common.{◌∙◌, ℕ, List, Option, Global, length, sym, ap, subst, arith}
 use Rattle.std.proofs.lemmas.List.{length-set, get_or-set_other}
 use Rattle.std.specs.declared.sync.Arc.{Arc}
 use Rattle.cq_history.specs.State.{changes_in}
