@@ -1,9 +1,10 @@
 ghost use Rattle.std.specs.Prelude.{◌≡◌, IfOk, map, codes};
 ghost use Rattle.std.specs.List.{AllByRecursion};
 ghost use Rattle.std.specs.Str.{IsUtf8};
-ghost use Rattle.serde_json.specs.Data.{array};
+ghost use Rattle.serde_json.specs.Data.{array, object};
 ghost use Rattle.serde_json.specs.View.{view};
-ghost use Rattle.cq_reply.specs.Written.{word_of, file_data, files_data, place_data, group_data, groups_data, count, measures_members, measures_data, failed_data, verdict_data, change_data, state_data, refusal, future_data, field_data, pending_data, reply_data, IsFileText, IsPlaceText, IsGroupText, IsReplyText};
+ghost use Rattle.cq_reply.specs.declared.reply.Shown.TheVariants.{Fault};
+ghost use Rattle.cq_reply.specs.Written.{word_of, file_members, shown_data, file_data, files_data, place_data, group_data, groups_data, count, measures_members, measures_data, failed_data, verdict_data, change_data, state_data, refusal, future_data, field_data, pending_data, reply_data, IsFileText, IsPlaceText, IsGroupText, IsReplyText};
 
 use crate::reply::{FileRow, GroupRow, PlaceRow, Reply, Shown};
 use cq_base::{Lang, Measures, Text};
@@ -76,22 +77,34 @@ fn word_of(lang: Lang) -> &'static str
     }
 }
 
+// A file that is told with no more than its state.
+fn plain_file_value(alloc: Global, row: &FileRow, state: &str) -> Result<Value, AllocError>
+    requires { IsFileText row.now }
+    ensures { IfOk result (λ v. view v ≡ object (file_members row.now state.now)) }
+{
+    let path = str::from_utf8(row.path.as_bytes()).unwrap();
+    let lang = word_of(row.lang);
+    json!(in alloc; {"change": row.change, "lang": lang, "lines": row.lines, "path": path, "state": state, "tokens": row.tokens})
+}
+
+// A file that has a fault at this byte.
+fn faulty_file_value(alloc: Global, row: &FileRow, at: u32) -> Result<Value, AllocError>
+    requires { IsFileText row.now }
+    ensures { IfOk result (λ v. view v ≡ shown_data row.now (Fault at)) }
+{
+    let path = str::from_utf8(row.path.as_bytes()).unwrap();
+    let lang = word_of(row.lang);
+    json!(in alloc; {"at": at, "change": row.change, "lang": lang, "lines": row.lines, "path": path, "state": "fault", "tokens": row.tokens})
+}
+
 fn file_value(alloc: Global, row: &FileRow) -> Result<Value, AllocError>
     requires { IsFileText row.now }
     ensures { IfOk result (λ v. view v ≡ file_data row.now) }
 {
-    let path = str::from_utf8(row.path.as_bytes()).unwrap();
-    let lang = word_of(row.lang);
     match row.shown {
-        Shown::Ok => {
-            json!(in alloc; {"change": row.change, "lang": lang, "lines": row.lines, "path": path, "state": "ok", "tokens": row.tokens})
-        }
-        Shown::Fault(at) => {
-            json!(in alloc; {"at": at, "change": row.change, "lang": lang, "lines": row.lines, "path": path, "state": "fault", "tokens": row.tokens})
-        }
-        Shown::Large => {
-            json!(in alloc; {"change": row.change, "lang": lang, "lines": row.lines, "path": path, "state": "large", "tokens": row.tokens})
-        }
+        Shown::Ok => plain_file_value(alloc, row, "ok"),
+        Shown::Fault(at) => faulty_file_value(alloc, row, at),
+        Shown::Large => plain_file_value(alloc, row, "large"),
     }
 }
 
