@@ -1,4 +1,4 @@
-ghost use Rattle.std.specs.Prelude.{◌≡◌, ◌≤◌, ◌<◌, ◌^◌, length};
+ghost use Rattle.std.specs.Prelude.{◌≡◌, ◌≤◌, ◌<◌, ◌^◌, IfSome, length};
 ghost use Rattle.cq_lex_java.specs.Escapes.{marks_of, hex_value, four_digits, escape_at, scalar, joined, pair_of, step_at, IsStepWithin, IsEscapeLong};
 
 use cq_munch::Unit;
@@ -41,7 +41,8 @@ fn marks_of(units: &[Unit]) -> usize
 }
 
 fn hex_value(ch: char) -> Option<u32>
-    ensures { result ≡ hex_value ch }
+    ensures value { result ≡ hex_value ch }
+    ensures below { IfSome result (λ n. n < 16) }
 {
     ch.to_digit(16)
 }
