@@ -30,6 +30,3 @@ pub use settings::{Field, Settings};
 pub use steps::Steps;
 pub use text::Text;
 pub use token::{Class, Mark, Spelled, Token};
-
-#[cfg(test)]
-mod tests;

@@ -17,6 +17,3 @@ pub use memory::{MemSink, MemSource};
 pub use sink::{Sink, send};
 pub use source::{Failed, Source};
 pub use standard::{StdSink, StdSource};
-
-#[cfg(test)]
-mod tests;

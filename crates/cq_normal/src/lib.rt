@@ -5,6 +5,3 @@
 mod normal;
 
 pub use normal::normalise;
-
-#[cfg(test)]
-mod tests;

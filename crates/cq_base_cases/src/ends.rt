@@ -1,7 +1,7 @@
-use crate::{
+use cq_base::Text;
+use cq_io::{
     Doors, Failed, Gate, MemDoors, MemSink, MemSource, OpenGate, Sink, Source, StdSink, StdSource,
 };
-use cq_base::Text;
 use std::collections::VecDeque;
 use std::io;
 use std::io::{ErrorKind, Read, Write};

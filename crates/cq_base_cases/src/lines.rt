@@ -1,8 +1,8 @@
 ghost use Rattle.std.specs.Prelude.{◌<◌};
 
-use crate::{Cut, LINE_LIMIT, Lines};
 use cq_base::Memory;
 use cq_io::MemSource;
+use cq_lines::{Cut, LINE_LIMIT, Lines};
 use std::alloc::Global;
 
 // What one call found, with the length of a line.

@@ -1,4 +1,4 @@
-use crate::{Field, Memory, Settings, Text, line_count, line_of};
+use cq_base::{Field, Memory, Settings, Text, line_count, line_of};
 use std::alloc::Global;
 use std::cmp::Ordering;
 

@@ -1,5 +1,5 @@
-use crate::normalise;
 use cq_base::{Class, Lang, Memory, Norm, Settings, Spelled, Text, Token};
+use cq_normal::normalise;
 use std::alloc::Global;
 
 const SETTINGS: Settings = Settings {
