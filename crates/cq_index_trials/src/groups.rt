@@ -1,7 +1,8 @@
-ghost use Rattle.std.specs.Prelude.{◌≡◌, ◌^◌, ◌<◌, ◌≤◌, length, IfOk, vec_len};
+ghost use Rattle.std.specs.Prelude.{◌≡◌, ◌^◌, ◌<◌, ◌≤◌, length, IfOk};
 ghost use Rattle.cq_groups.specs.Plain.{HasOneKey};
 
-use cq_base::{Class, Group, Keys, Lang, Memory, Norm, Place, Steps, Text};
+use crate::scans::{is_listed, token};
+use cq_base::{Group, Keys, Memory, Steps};
 use cq_groups::{PlainBuckets, list_all};
 use cq_refine::{Index, spots_in};
 use cq_tokens::{Corpus, FileTokens, PlainFiles, Tokens};
@@ -9,17 +10,6 @@ use std::alloc::Global;
 use std::marker::Brand;
 use std::sync::Arc;
 use std::sync::ledger::{Blank, Ledger};
-
-// A token that is one byte.
-fn token(alloc: Global, byte: u8) -> Result<Norm, Memory>
-    ensures { IfOk result (λ norm. length norm.text ≡ 1) }
-{
-    Ok(Norm {
-        lang: Lang::Any,
-        class: Class::Ident,
-        text: Text::from_bytes(alloc, &[byte])?,
-    })
-}
 
 // The change, and one file whose tokens are the bytes of a text. All its windows of two tokens have the key 0.
 #[tactic(auto, using(std::proofs::lemmas::List::Sums::sum_by_push))]
@@ -73,36 +63,37 @@ fn groups_of(alloc: Global, texts: &[&[u8]], min: u32) -> Result<Vec<Group>, Mem
     listed::<Brand>(alloc, texts, min, Blank::new(1))
 }
 
-fn is_listed(groups: &[Group], want: &[(u32, &[(u32, u32)])]) -> bool {
-    groups.len() == want.len()
-        && groups.iter().zip(want.iter()).all(|(group, (tokens, places))| {
-            let here = group.places.as_slice();
-            group.tokens == *tokens
-                && here.len() == places.len()
-                && here.iter().zip(places.iter()).all(|(p, (file, at))| {
-                    *p == Place {
-                        file: *file,
-                        at: *at,
-                    }
-                })
-        })
+// Whether the listing by index of files with these tokens has these groups.
+fn lists(
+    alloc: Global,
+    texts: &[&[u8]],
+    min: u32,
+    want: &[(u32, &[(u32, u32)])],
+) -> Result<bool, Memory>
+    requires { 2 ≤ min }
+{
+    let groups = groups_of(alloc, texts, min)?;
+    Ok(is_listed(&groups, want))
 }
 
 #[test]
 fn groups_are_found_where_all_keys_are_equal(rt: HostRuntime) -> Result<(), Memory> {
     let alloc = rt.alloc();
-    let groups = groups_of(alloc, &[b"abcxabcy"], 3)?;
-    assert!(&rt; is_listed(&groups, &[(3, &[(0, 0), (0, 4)])]), "two places");
-    let groups = groups_of(alloc, &[b"amnx", b"amny", b"bmnx"], 2)?;
     assert!(&rt;
-        is_listed(
-            &groups,
+        lists(alloc, &[b"abcxabcy"], 3, &[(3, &[(0, 0), (0, 4)])])?,
+        "two places"
+    );
+    assert!(&rt;
+        lists(
+            alloc,
+            &[b"amnx", b"amny", b"bmnx"],
+            2,
             &[
                 (3, &[(0, 0), (1, 0)]),
                 (3, &[(0, 1), (2, 1)]),
                 (2, &[(0, 1), (1, 1), (2, 1)]),
             ]
-        ),
+        )?,
         "a word is maximal at some two places"
     );
     Ok(())

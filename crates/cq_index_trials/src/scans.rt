@@ -8,8 +8,8 @@ use std::marker::Brand;
 use std::sync::Arc;
 use std::sync::ledger::{Blank, Ledger};
 
-// A token that is one byte.
-fn token(alloc: Global, byte: u8) -> Result<Norm, Memory>
+/// A token that is one byte.
+pub(crate) fn token(alloc: Global, byte: u8) -> Result<Norm, Memory>
     ensures { IfOk result (λ norm. length norm.text ≡ 1) }
 {
     Ok(Norm {
@@ -64,7 +64,8 @@ fn groups_of(alloc: Global, texts: &[&[u8]], min: u32) -> Result<Vec<Group>, Mem
     listed::<Brand>(alloc, texts, min, Blank::new(1))
 }
 
-fn is_listed(groups: &[Group], want: &[(u32, &[(u32, u32)])]) -> bool {
+/// Whether these are the groups, each by its tokens and its places.
+pub(crate) fn is_listed(groups: &[Group], want: &[(u32, &[(u32, u32)])]) -> bool {
     groups.len() == want.len()
         && groups.iter().zip(want.iter()).all(|(group, (tokens, places))| {
             let here = group.places.as_slice();
@@ -79,40 +80,56 @@ fn is_listed(groups: &[Group], want: &[(u32, &[(u32, u32)])]) -> bool {
         })
 }
 
+// Whether the listing of files with these tokens has these groups.
+fn lists(
+    alloc: Global,
+    texts: &[&[u8]],
+    min: u32,
+    want: &[(u32, &[(u32, u32)])],
+) -> Result<bool, Memory>
+    requires few { length texts.now < 2 ^ 32 }
+    requires some { 1 ≤ min }
+{
+    let groups = groups_of(alloc, texts, min)?;
+    Ok(is_listed(&groups, want))
+}
+
 // The worked rows on groups.
 #[test]
 fn lists_the_worked_rows(rt: HostRuntime) -> Result<(), Memory> {
     let alloc = rt.alloc();
-    let row = groups_of(alloc, &[b"abcxabcy"], 3)?;
     assert!(&rt;
-        is_listed(&row, &[(3, &[(0, 0), (0, 4)])]),
+        lists(alloc, &[b"abcxabcy"], 3, &[(3, &[(0, 0), (0, 4)])])?,
         "two places of one word"
     );
-    let row = groups_of(alloc, &[b"aaaaaa"], 2)?;
     assert!(&rt;
-        is_listed(
-            &row,
+        lists(
+            alloc,
+            &[b"aaaaaa"],
+            2,
             &[(3, &[(0, 0), (0, 3)]), (2, &[(0, 0), (0, 2), (0, 4)])]
-        ),
+        )?,
         "places of one file don't overlap"
     );
-    let row = groups_of(alloc, &[b"ababab"], 4)?;
-    assert!(&rt; is_listed(&row, &[]), "one kept place is no group");
-    let row = groups_of(alloc, &[b"amnx", b"amny", b"bmnx"], 2)?;
     assert!(&rt;
-        is_listed(
-            &row,
+        lists(alloc, &[b"ababab"], 4, &[])?,
+        "one kept place is no group"
+    );
+    assert!(&rt;
+        lists(
+            alloc,
+            &[b"amnx", b"amny", b"bmnx"],
+            2,
             &[
                 (3, &[(0, 0), (1, 0)]),
                 (3, &[(0, 1), (2, 1)]),
                 (2, &[(0, 1), (1, 1), (2, 1)]),
             ]
-        ),
+        )?,
         "a word is maximal at some two places"
     );
-    let row = groups_of(alloc, &[b"pqr", b"pqr"], 2)?;
     assert!(&rt;
-        is_listed(&row, &[(3, &[(0, 0), (1, 0)])]),
+        lists(alloc, &[b"pqr", b"pqr"], 2, &[(3, &[(0, 0), (1, 0)])])?,
         "two equal files"
     );
     Ok(())
@@ -122,44 +139,50 @@ fn lists_the_worked_rows(rt: HostRuntime) -> Result<(), Memory> {
 #[test]
 fn lists_words_that_overlap(rt: HostRuntime) -> Result<(), Memory> {
     let alloc = rt.alloc();
-    let groups = groups_of(alloc, &[b"abababab"], 2)?;
     assert!(&rt;
-        is_listed(
-            &groups,
+        lists(
+            alloc,
+            &[b"abababab"],
+            2,
             &[
                 (4, &[(0, 0), (0, 4)]),
                 (2, &[(0, 0), (0, 2), (0, 4), (0, 6)]),
             ]
-        ),
+        )?,
         "a periodic word"
     );
-    let groups = groups_of(alloc, &[b"xabcy", b"zabcw", b"qbcr"], 2)?;
     assert!(&rt;
-        is_listed(
-            &groups,
+        lists(
+            alloc,
+            &[b"xabcy", b"zabcw", b"qbcr"],
+            2,
             &[(3, &[(0, 1), (1, 1)]), (2, &[(0, 2), (1, 2), (2, 1)])]
-        ),
+        )?,
         "one word inside another"
     );
-    let groups = groups_of(alloc, &[b"aab", b"aab", b"aab"], 1)?;
     assert!(&rt;
-        is_listed(
-            &groups,
+        lists(
+            alloc,
+            &[b"aab", b"aab", b"aab"],
+            1,
             &[
                 (3, &[(0, 0), (1, 0), (2, 0)]),
                 (1, &[(0, 0), (0, 1), (1, 0), (1, 1), (2, 0), (2, 1)]),
             ]
-        ),
+        )?,
         "equal files"
     );
-    let groups = groups_of(alloc, &[b"xyab", b"zab"], 2)?;
     assert!(&rt;
-        is_listed(&groups, &[(2, &[(0, 2), (1, 1)])]),
+        lists(alloc, &[b"xyab", b"zab"], 2, &[(2, &[(0, 2), (1, 1)])])?,
         "a run up to the end of a file"
     );
-    let groups = groups_of(alloc, &[b"", b"ab", b"", b"ab", b""], 1)?;
     assert!(&rt;
-        is_listed(&groups, &[(2, &[(1, 0), (3, 0)])]),
+        lists(
+            alloc,
+            &[b"", b"ab", b"", b"ab", b""],
+            1,
+            &[(2, &[(1, 0), (3, 0)])]
+        )?,
         "files without tokens"
     );
     Ok(())
