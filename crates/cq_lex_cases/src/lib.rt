@@ -1,4 +1,4 @@
-//! Trials of the languages: what texts are lexed to, worked out by hand.
+//! Trials of the languages: what texts are lexed to, and what their works are, worked out by hand.
 #![tactic(auto)]
 
 #[cfg(test)]
@@ -11,3 +11,5 @@ mod go_texts;
 mod java_texts;
 #[cfg(test)]
 mod spelling;
+#[cfg(test)]
+mod works;

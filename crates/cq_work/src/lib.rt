@@ -9,6 +9,3 @@ mod shown;
 mod work;
 
 pub use work::{State, Work, work_of};
-
-#[cfg(test)]
-mod tests;
