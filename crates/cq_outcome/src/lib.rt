@@ -8,6 +8,3 @@ mod write;
 
 pub use outcome::{Entries, ScriptOutcome};
 pub use write::line_of;
-
-#[cfg(test)]
-mod tests;
