@@ -39,6 +39,14 @@ fn group(alloc: Global, tokens: u32, places: &[(u32, u32)]) -> Result<Group, Mem
     })
 }
 
+fn groups(alloc: Global, all: &[(u32, &[(u32, u32)])]) -> Result<Vec<Group>, Memory> {
+    let mut groups = Vec::new(alloc);
+    for (tokens, places) in all {
+        groups.push(group(alloc, *tokens, places)?)?;
+    }
+    Ok(groups)
+}
+
 // As many tokens as lines, each on its own.
 fn line_tokens(alloc: Global, lines: u32) -> Result<Vec<Token>, Memory> {
     let mut all = Vec::new(alloc);
@@ -184,12 +192,13 @@ fn each_line_and_each_block_counts_once(rt: HostRuntime) -> Result<(), Memory> {
     };
     let files = [file, file];
     // lines 1 to 10, and 5 to 14 that overlap; 3 to 6 within; 15 to 16 and 16 to 17 touch; one extent twice
-    let groups = [
-        group(alloc, 10, &[(0, 0), (0, 4)])?,
-        group(alloc, 4, &[(0, 2), (1, 2)])?,
-        group(alloc, 2, &[(0, 14), (0, 15)])?,
-        group(alloc, 4, &[(0, 2), (1, 2)])?,
+    let all: [(u32, &[(u32, u32)]); 4] = [
+        (10, &[(0, 0), (0, 4)]),
+        (4, &[(0, 2), (1, 2)]),
+        (2, &[(0, 14), (0, 15)]),
+        (4, &[(0, 2), (1, 2)]),
     ];
+    let groups = groups(alloc, &all)?;
     let project = of_project(alloc, &files, &groups)?;
     assert_eq!(rt; duplication(project), [21, 6, 2]);
     assert_eq!(rt; project.lines, 200);
@@ -212,7 +221,7 @@ fn a_place_covers_the_lines_of_its_tokens(rt: HostRuntime) -> Result<(), Memory>
         counts: counts(60),
         spans: &spans,
     };
-    let groups = [group(alloc, 2, &[(0, 0), (0, 2)])?];
+    let groups = groups(alloc, &[(2, &[(0, 0), (0, 2)])])?;
     let measures = of_project(alloc, &[file], &groups)?;
     assert_eq!(rt; duplication(measures), [51, 2, 1]);
     Ok(())
@@ -234,10 +243,7 @@ fn density(alloc: Global, duplicated: u32, lines: u64) -> Result<u64, Memory> {
         counts: counts(lines),
         spans: &spans,
     };
-    let groups = [
-        group(alloc, 1, &[(0, 0)])?,
-        group(alloc, duplicated, &[(0, 0)])?,
-    ];
+    let groups = groups(alloc, &[(1, &[(0, 0)]), (duplicated, &[(0, 0)])])?;
     Ok(of_project(alloc, &[file], &groups)?.density)
 }
 
