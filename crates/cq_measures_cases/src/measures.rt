@@ -136,8 +136,16 @@ fn of_file(
     file_measures(alloc, files, file, groups)
 }
 
-fn duplication(measures: Measures) -> [u64; 3] {
-    [measures.dup_lines, measures.dup_blocks, measures.dup_files]
+// The lines, blocks and files that are duplicated, all lines and files, and the density.
+fn told(measures: Measures) -> [u64; 6] {
+    [
+        measures.dup_lines,
+        measures.dup_blocks,
+        measures.dup_files,
+        measures.lines,
+        measures.files,
+        measures.density,
+    ]
 }
 
 #[test]
@@ -200,16 +208,11 @@ fn each_line_and_each_block_counts_once(rt: HostRuntime) -> Result<(), Memory> {
     ];
     let groups = groups(alloc, &all)?;
     let project = of_project(alloc, &files, &groups)?;
-    assert_eq!(rt; duplication(project), [21, 6, 2]);
-    assert_eq!(rt; project.lines, 200);
-    assert_eq!(rt; project.files, 2);
-    assert_eq!(rt; project.density, 1050);
+    assert_eq!(rt; told(project), [21, 6, 2, 200, 2, 1_050]);
     let first = of_file(alloc, &files, 0, &groups)?;
-    assert_eq!(rt; duplication(first), [17, 5, 1]);
-    assert_eq!(rt; first.files, 1);
-    assert_eq!(rt; first.density, 1700);
+    assert_eq!(rt; told(first), [17, 5, 1, 100, 1, 1_700]);
     let second = of_file(alloc, &files, 1, &groups)?;
-    assert_eq!(rt; duplication(second), [4, 1, 1]);
+    assert_eq!(rt; told(second), [4, 1, 1, 100, 1, 400]);
     Ok(())
 }
 
@@ -223,16 +226,14 @@ fn a_place_covers_the_lines_of_its_tokens(rt: HostRuntime) -> Result<(), Memory>
     };
     let groups = groups(alloc, &[(2, &[(0, 0), (0, 2)])])?;
     let measures = of_project(alloc, &[file], &groups)?;
-    assert_eq!(rt; duplication(measures), [51, 2, 1]);
+    assert_eq!(rt; told(measures), [51, 2, 1, 60, 1, 8_500]);
     Ok(())
 }
 
 #[test]
 fn a_project_without_files_has_zeros(rt: HostRuntime) -> Result<(), Memory> {
     let measures = of_project(rt.alloc(), &[], &[])?;
-    assert_eq!(rt; duplication(measures), [0, 0, 0]);
-    assert_eq!(rt; measures.files, 0);
-    assert_eq!(rt; measures.density, 0);
+    assert_eq!(rt; told(measures), [0; 6]);
     Ok(())
 }
 
@@ -247,16 +248,22 @@ fn density(alloc: Global, duplicated: u32, lines: u64) -> Result<u64, Memory> {
     Ok(of_project(alloc, &[file], &groups)?.density)
 }
 
+// Lines that two places share, all lines, and the density; among them 99.995, 0.995 and 0.0049 percent of more than ten
+// thousand lines.
+const DENSITIES: [(u32, u64, u64); 7] = [
+    (1, 1, 10_000),
+    (10, 15, 6_666),
+    (19_999, 20_000, 9_999),
+    (199, 20_000, 99),
+    (1, 20_001, 0),
+    (6, 200, 300),
+    (10, 332, 301),
+];
+
 #[test]
 fn density_is_rounded_down(rt: HostRuntime) -> Result<(), Memory> {
-    let alloc = rt.alloc();
-    assert_eq!(rt; density(alloc, 1, 1)?, 10_000);
-    assert_eq!(rt; density(alloc, 10, 15)?, 6_666);
-    // 99.995, 0.995 and 0.0049 percent of more than ten thousand lines
-    assert_eq!(rt; density(alloc, 19_999, 20_000)?, 9_999);
-    assert_eq!(rt; density(alloc, 199, 20_000)?, 99);
-    assert_eq!(rt; density(alloc, 1, 20_001)?, 0);
-    assert_eq!(rt; density(alloc, 6, 200)?, 300);
-    assert_eq!(rt; density(alloc, 10, 332)?, 301);
+    for (duplicated, lines, want) in DENSITIES {
+        assert_eq!(rt; density(rt.alloc(), duplicated, lines)?, want);
+    }
     Ok(())
 }
