@@ -5,8 +5,12 @@ use Rattle.std.specs.declared.sync.Arc.{Arc}
 use Rattle.std.specs.declared.alloc.Global.{Global}
 use Rattle.cq_base.specs.declared.lang.Lang.{Lang}
 use Rattle.cq_base.specs.declared.change.Change.{Change}
-use Rattle.cq_history.specs.State.{State}
-use Rattle.cq_shard.specs.Shard.{HaveTheirWorks}
+use Rattle.cq_base.specs.declared.settings.Settings.{Settings}
+use Rattle.cq_history.specs.State.{State, accepted}
+use Rattle.cq_shard.specs.Shard.{Contents, StandsFor, HasWindow, HaveTheirWorks}
+use Rattle.cq_chain.specs.Passes.{BoardPass}
+use Rattle.cq_shared.specs.declared.shared.Shared.{Shared}
+use Rattle.cq_shared.specs.SharedPasses.{settings_of}
 
 -- it is the last published version, and at least the one that was to be published
 abbrev pub HasPublished : State → ℕ → ℕ → Type 0
@@ -17,3 +21,17 @@ pub record AreWorksFrom {W : Type 0} (keys_in : W → List ℕ) (IsWork : Lang �
   pub number : length works ≡ to - base
   pub few : All (λ work. IfSome work (λ w. length (keys_in (arc_value w)) < 2 ^ 32)) works
   pub theirs : HaveTheirWorks (λ lang text w. IsWork lang text (arc_value w)) changes base works
+
+-- they are so of the changes that the pass has seen
+abbrev pub HasWorksFrom : {W R : Type 0} → Shared W R → BoardPass → (W → List ℕ) → (Settings → Lang → List ℕ → W → Type 0) → ℕ → ℕ → List (Option (Arc W Global)) → Type 0
+HasWorksFrom hub p keys_in IsWorkOf base to works = AreWorksFrom keys_in (IsWorkOf (settings_of hub)) (accepted p.seen) base to works
+
+-- a shard that stood for some changes stands for them then, where the works are those of the changes behind what it had applied
+abbrev pub StandsWithWorks : {W : Type 0} → (W → List ℕ) → (Settings → Lang → List ℕ → W → Type 0) → Contents → List (Option (Arc W Global)) → (Type 0 → Type 0) → Contents → Type 0
+StandsWithWorks keys_in IsWorkOf old works Holds new =
+    (settings : Settings) (changes : List Change) → StandsFor (HasWindow keys_in IsWorkOf settings) changes old
+    → HaveTheirWorks (λ lang text w. IsWorkOf settings lang text (arc_value w)) changes old.applied works → Holds (StandsFor (HasWindow keys_in IsWorkOf settings) changes new)
+
+-- it is the same shard of as many, swept as far
+abbrev pub IsSameShard : Contents → Contents → Type 0
+IsSameShard old new = (new.shard ≡ old.shard) × (new.shards ≡ old.shards) × (new.floor ≡ old.floor)

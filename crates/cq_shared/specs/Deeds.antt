@@ -1,7 +1,10 @@
 -- The events of a caller, but for the acceptances.
-use Rattle.std.specs.Prelude.{ℕ, Option, Some, None}
+use Rattle.std.specs.Prelude.{ℕ, List, [], ◌∷◌, Option, Some, None, option_to_list}
+use Rattle.cq_base.specs.declared.change.Change.{Change}
 use Rattle.cq_history.specs.declared.event.Event.{Event}
 use Rattle.cq_history.specs.declared.event.Event.TheVariants as event
+use Rattle.cq_cells.specs.Passes.{by_of}
+use Rattle.cq_chain.specs.Passes.{BoardPass}
 use Rattle.cq_shared.specs.declared.deed.Deed.{Deed}
 use Rattle.cq_shared.specs.declared.deed.Deed.TheVariants.{Nothing, Ask, Took, Back, Done, Publish, Open, Shut}
 
@@ -25,3 +28,10 @@ asks_of (Done r) = 0
 asks_of (Publish p) = p
 asks_of (Open p) = 0
 asks_of Shut = 0
+
+abbrev pub acceptance : BoardPass → Change → List Event
+acceptance p change = event.Accept (by_of p) change ∷ []
+
+-- the event of the pass's caller, if there is one
+abbrev pub events_of : BoardPass → Deed → List Event
+events_of p deed = option_to_list (event_of (by_of p) deed)

@@ -1,4 +1,5 @@
-pub mod Deeds
 pub mod SharedPasses
+pub mod Deeds
 pub mod Calls
+pub mod Answers
 pub mod Advancing

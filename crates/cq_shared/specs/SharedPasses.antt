@@ -7,6 +7,7 @@ use Rattle.cq_history.specs.declared.event.Event.{Event}
 use Rattle.cq_history.specs.State.{State, state, accepted}
 use Rattle.cq_history.specs.Lawful.{Lawful}
 use Rattle.cq_cells.specs.Passes.{IsFree, by_of}
+use Rattle.cq_chain.specs.declared.about.About.{About}
 use Rattle.cq_chain.specs.Passes as chain
 use Rattle.cq_chain.specs.Passes.{BoardCells, BoardPass}
 use Rattle.cq_shared.specs.declared.shared.Shared.{Shared}
@@ -15,6 +16,10 @@ module _ {W R : Type 0} where
   -- the cells of its board and its shards
   abbrev pub cells_of : Shared W R → BoardCells
   cells_of hub = hub.cells
+
+  -- what they were made with: the settings, and how many callers there are
+  abbrev pub about_of : Shared W R → About
+  about_of hub = hub.cells.about
 
   abbrev pub settings_of : Shared W R → Settings
   settings_of hub = hub.cells.about.settings

@@ -1,11 +1,8 @@
-ghost use Rattle.std.specs.Prelude.{◌≡◌, ◌+◌, ◌-◌, ◌<◌, ◌≤◌, ◌^◌, ℕ, List, [], length, All, IfOk, IfSome, OnOk, OnErr};
+ghost use Rattle.std.specs.Prelude.{◌≡◌, ◌+◌, ◌-◌, ◌<◌, ◌≤◌, ◌^◌, ℕ, [], length, All, IfOk, IfSome, OnOk, OnErr};
 ghost use Rattle.std.specs.Arc.{arc_value};
-ghost use Rattle.cq_base.specs.declared.settings.Settings.{Settings};
-ghost use Rattle.cq_base.specs.declared.change.Change.{Change as Told};
-ghost use Rattle.cq_history.specs.State.{accepted, ready};
+ghost use Rattle.cq_history.specs.State.{ready};
 ghost use Rattle.cq_cells.specs.Passes.{IsSameCaller, least};
-ghost use Rattle.cq_shard.specs.Shard.{StandsFor, HasWindow, HaveTheirWorks};
-ghost use Rattle.cq_shared.specs.Advancing.{AreWorksFrom, HasPublished};
+ghost use Rattle.cq_shared.specs.Advancing.{HasWorksFrom, HasPublished, StandsWithWorks, IsSameShard};
 ghost use Rattle.cq_shared.specs.Calls.{Calls};
 ghost use Rattle.cq_shared.specs.SharedPasses.{IsPassOf, settings_of, state_of};
 
@@ -35,7 +32,7 @@ impl<W: Indexed, R: Wait> Shared<W, R> {
     ) -> Result<u64, Memory>
         requires of { IsPassOf self.now pass.old }
         requires done { to ≤ ready (state_of self.now pass.old.seen) }
-        ensures published { Calls self.now pass.old pass.new [] (λ mid. IfOk result (λ version. HasPublished (state_of self.now mid) to version)) }
+        ensures published { Calls self.now pass.old pass.new [] (λ mid. IfOk result (HasPublished (state_of self.now mid) to)) }
         ensures asked { pass.new.asked ≡ pass.old.asked }
     {
         let (base, works) = self.works_up_to(alloc, to, pass)?;
@@ -57,7 +54,7 @@ impl<W: Indexed, R: Wait> Shared<W, R> {
         requires done { to ≤ ready (state_of self.now pass.old.seen) }
         ensures calls { Calls self.now pass.old pass.new [] (λ _. Unit {0}) }
         ensures base { IfOk result (λ r. r.0 ≡ (state_of self.now pass.new.seen).published) }
-        ensures works { IfOk result (λ r. AreWorksFrom W.keys_in (W.IsWorkOf (settings_of self.now)) (accepted pass.new.seen) r.0 to r.1.items) }
+        ensures works { IfOk result (λ r. HasWorksFrom self.now pass.new W.keys_in W.IsWorkOf r.0 to r.1.items) }
         ensures asked { pass.new.asked ≡ pass.old.asked }
     {
         let board = self.cells.enter_board(pass);
@@ -79,7 +76,7 @@ impl<W: Indexed, R: Wait> Shared<W, R> {
         requires of { IsPassOf self.now pass.old }
         requires base { (base < to) × (base ≤ (state_of self.now pass.old.seen).published) }
         requires done { to ≤ ready (state_of self.now pass.old.seen) }
-        requires works { AreWorksFrom W.keys_in (W.IsWorkOf (settings_of self.now)) (accepted pass.old.seen) base to works.now.items }
+        requires works { HasWorksFrom self.now pass.old W.keys_in W.IsWorkOf base to works.now.items }
         ensures of { IsPassOf self.now pass.new × IsSameCaller pass.old pass.new }
         ensures seen { pass.new.seen ≡ pass.old.seen }
         ensures applied { OnOk result ((s : ℕ) → s < (settings_of self.now).shards → to ≤ least pass.new s) }
@@ -104,7 +101,7 @@ impl<W: Indexed, R: Wait> Shared<W, R> {
         requires number { number < (settings_of self.now).shards }
         requires base { (base < to) × (base ≤ (state_of self.now pass.old.seen).published) }
         requires done { to ≤ ready (state_of self.now pass.old.seen) }
-        requires works { AreWorksFrom W.keys_in (W.IsWorkOf (settings_of self.now)) (accepted pass.old.seen) base to works.now.items }
+        requires works { HasWorksFrom self.now pass.old W.keys_in W.IsWorkOf base to works.now.items }
         ensures of { IsPassOf self.now pass.new × IsSameCaller pass.old pass.new }
         ensures seen { pass.new.seen ≡ pass.old.seen }
         ensures more { (s : ℕ) → least pass.old s ≤ least pass.new s }
@@ -129,7 +126,7 @@ impl<W: Indexed, R: Wait> Shared<W, R> {
         requires number { number < (settings_of self.now).shards }
         requires base { (base < to) × (base ≤ (state_of self.now pass.old.seen).published) }
         requires done { to ≤ ready (state_of self.now pass.old.seen) }
-        requires works { AreWorksFrom W.keys_in (W.IsWorkOf (settings_of self.now)) (accepted pass.old.seen) base to works.now.items }
+        requires works { HasWorksFrom self.now pass.old W.keys_in W.IsWorkOf base to works.now.items }
         ensures of { IsPassOf self.now pass.new × IsSameCaller pass.old pass.new }
         ensures seen { pass.new.seen ≡ pass.old.seen }
         ensures more { (s : ℕ) → least pass.old s ≤ least pass.new s }
@@ -153,7 +150,7 @@ impl<W: Indexed, R: Wait> Shared<W, R> {
         requires of { IsPassOf self.now pass.old }
         requires done { to ≤ ready (state_of self.now pass.old.seen) }
         requires applied { (s : ℕ) → s < (settings_of self.now).shards → to ≤ least pass.old s }
-        ensures published { Calls self.now pass.old pass.new [] (λ mid. IfOk result (λ version. HasPublished (state_of self.now mid) to version)) }
+        ensures published { Calls self.now pass.old pass.new [] (λ mid. IfOk result (HasPublished (state_of self.now mid) to)) }
         ensures asked { pass.new.asked ≡ pass.old.asked }
     {
         let mut board = self.cells.enter_board(pass);
@@ -180,9 +177,9 @@ fn apply_next<W: Indexed>(shard: &mut Shard, work: &[Option<Arc<W, Global>>]) ->
     requires one { length work.now ≡ 1 }
     requires room { shard.old.applied + 1 < 2 ^ 64 }
     requires few { All (λ work. IfSome work (λ w. length (W.keys_in (arc_value w)) < 2 ^ 32)) work.now }
-    ensures stands { (settings : Settings) (changes : List Told) → StandsFor (HasWindow W.keys_in W.IsWorkOf settings) changes shard.old → HaveTheirWorks (λ lang text w. W.IsWorkOf settings lang text (arc_value w)) changes shard.old.applied work.now → OnOk result (StandsFor (HasWindow W.keys_in W.IsWorkOf settings) changes shard.new) }
+    ensures stands { StandsWithWorks W.keys_in W.IsWorkOf shard.old work.now (OnOk result) shard.new }
     ensures applied { OnOk result (shard.new.applied ≡ shard.old.applied + 1) }
-    ensures kept { OnOk result ((shard.new.shard ≡ shard.old.shard) × (shard.new.shards ≡ shard.old.shards) × (shard.new.floor ≡ shard.old.floor)) }
+    ensures kept { OnOk result (IsSameShard shard.old shard.new) }
     ensures same { OnErr result (shard.new ≡ shard.old) }
 {
     apply_counted::<W, Brand>(shard, work, Blank::new(1))
@@ -200,9 +197,9 @@ fn apply_counted<W: Indexed, L: Ledger>(
     requires one { length work.now ≡ 1 }
     requires room { shard.old.applied + 1 < 2 ^ 64 }
     requires few { All (λ work. IfSome work (λ w. length (W.keys_in (arc_value w)) < 2 ^ 32)) work.now }
-    ensures stands { (settings : Settings) (changes : List Told) → StandsFor (HasWindow W.keys_in W.IsWorkOf settings) changes shard.old → HaveTheirWorks (λ lang text w. W.IsWorkOf settings lang text (arc_value w)) changes shard.old.applied work.now → OnOk result (StandsFor (HasWindow W.keys_in W.IsWorkOf settings) changes shard.new) }
+    ensures stands { StandsWithWorks W.keys_in W.IsWorkOf shard.old work.now (OnOk result) shard.new }
     ensures applied { OnOk result (shard.new.applied ≡ shard.old.applied + 1) }
-    ensures kept { OnOk result ((shard.new.shard ≡ shard.old.shard) × (shard.new.shards ≡ shard.old.shards) × (shard.new.floor ≡ shard.old.floor)) }
+    ensures kept { OnOk result (IsSameShard shard.old shard.new) }
     ensures same { OnErr result (shard.new ≡ shard.old) }
 {
     let mut steps: Steps<L> = Steps::new(blank);

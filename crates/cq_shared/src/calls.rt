@@ -1,28 +1,19 @@
-ghost use Rattle.std.specs.Prelude.{◌≡◌, ◌<◌, ◌≤◌, ℕ, [], ◌∷◌, ◌++◌, IfOk, IfErr, OnErr, IsSome, MatchOption, Option, Some, None, option_to_list};
+ghost use Rattle.std.specs.Prelude.{◌≡◌, ◌%◌, ◌<◌, ◌≤◌, ℕ, [], ◌∷◌, ◌++◌, IfOk, IfErr, OnErr, IsSome, Option, Some, None};
 ghost use Rattle.std.specs.Bool.{OnTrue, OnFalse};
-ghost use Rattle.std.specs.Arc.{arc_value};
 ghost use Rattle.cq_base.specs.Changes.{IsSoundChange};
 ghost use Rattle.cq_history.specs.declared.event.Event.{Event as Happened};
 ghost use Rattle.cq_history.specs.declared.event.Event.TheVariants as happened;
-ghost use Rattle.cq_history.specs.Changes.{IsWorkFor};
-ghost use Rattle.cq_history.specs.State.{slot_of, view_of, IsAccepted, IsDone, IsUndone, IsTakenBy};
-ghost use Rattle.cq_board.specs.Answers.{asked_of};
+ghost use Rattle.cq_history.specs.State.{view_of, IsAccepted};
 ghost use Rattle.cq_board.specs.Stands.{BoardState};
 ghost use Rattle.cq_cells.specs.Passes.{IsFree, IsSameCaller, HasBoard, by_of, least};
 ghost use Rattle.cq_chain.specs.Held.{IsBoard};
 ghost use Rattle.cq_chain.specs.Passes as chain;
-ghost use Rattle.cq_clones.specs.Lists.{AreAllInOrder};
-ghost use Rattle.cq_clones.specs.Windows.{EntryBefore};
-ghost use Rattle.cq_history.specs.State.{accepted};
-ghost use Rattle.cq_board.specs.Entries.{IsEntryAt};
 ghost use Rattle.cq_hub.specs.Hubs.{one_more};
-ghost use Rattle.cq_hub.specs.Says.{IsAcceptedAs, IsRefusedFor, IsFirstFree, IsNoneFree, IsJobFor};
-ghost use Rattle.cq_hub.specs.Views.{IsLatest, IsOpen};
-ghost use Rattle.cq_shard.specs.Shard.{HasWindow};
+ghost use Rattle.cq_hub.specs.Says.{IsJobFor};
+ghost use Rattle.cq_shared.specs.Answers.{SeesMore, IsTold, Accepts, Refuses, Takes, GivesBack, HasNot, Does, FindsDone, Opens, Shuts, IsItsWork, IsViewing, AreEntriesOf};
 ghost use Rattle.cq_shared.specs.Calls.{Calls};
-ghost use Rattle.cq_shared.specs.Deeds.{event_of, asks_of};
-ghost use Rattle.cq_shared.specs.SharedPasses.{IsPassOf, cells_of, settings_of, callers_of, state_of};
-ghost use Rattle.std.specs.Prelude.{◌%◌};
+ghost use Rattle.cq_shared.specs.Deeds.{event_of, events_of, acceptance, asks_of};
+ghost use Rattle.cq_shared.specs.SharedPasses.{IsPassOf, cells_of, about_of, settings_of, state_of};
 
 use crate::deed::Deed;
 use crate::shared::Shared;
@@ -42,11 +33,11 @@ impl<W: Indexed, R> Shared<W, R> {
         requires of { chain.IsPassOf (cells_of self.now) pass.old }
         requires hand { (b : BoardState) × HasBoard pass.old b }
         requires applied { (s : ℕ) → s < (settings_of self.now).shards → asks_of deed ≤ least pass.old s }
-        requires board { IsBoard (cells_of self.now).about (pass.old.seen ++ option_to_list (event_of (by_of pass.old) deed)) board }
+        requires board { IsBoard (about_of self.now) (pass.old.seen ++ events_of pass.old deed) board }
         ensures of { chain.IsPassOf (cells_of self.now) pass.new }
         ensures same { IsSameCaller pass.old pass.new }
         ensures free { IsFree pass.new }
-        ensures seen { pass.new.seen ≡ pass.old.seen ++ option_to_list (event_of (by_of pass.old) deed) }
+        ensures seen { pass.new.seen ≡ pass.old.seen ++ events_of pass.old deed }
     {
         let _deed = deed;
         self.cells.leave_board(board, pass);
@@ -58,11 +49,11 @@ impl<W: Indexed, R> Shared<W, R> {
         requires event { event ≡ Some (happened.Accept (by_of pass.old) change.now.value) }
         requires of { chain.IsPassOf (cells_of self.now) pass.old }
         requires hand { (b : BoardState) × HasBoard pass.old b }
-        requires board { IsBoard (cells_of self.now).about (pass.old.seen ++ happened.Accept (by_of pass.old) change.now.value ∷ []) board }
+        requires board { IsBoard (about_of self.now) (pass.old.seen ++ acceptance pass.old change.now.value) board }
         ensures of { chain.IsPassOf (cells_of self.now) pass.new }
         ensures same { IsSameCaller pass.old pass.new }
         ensures free { IsFree pass.new }
-        ensures seen { pass.new.seen ≡ pass.old.seen ++ happened.Accept (by_of pass.old) change.now.value ∷ [] }
+        ensures seen { pass.new.seen ≡ pass.old.seen ++ acceptance pass.old change.now.value }
     {
         self.cells.leave_board(board, pass);
     }
@@ -72,7 +63,7 @@ impl<W: Indexed, R: Wait> Shared<W, R> {
     /// What a caller sees of the changes. It takes no memory.
     pub fn ask(&self, pass: &mut Pass<W>) -> Asked
         requires of { IsPassOf self.now pass.old }
-        ensures asks { Calls self.now pass.old pass.new (happened.Ask (by_of pass.old) ∷ []) (λ mid. result ≡ asked_of (state_of self.now mid)) }
+        ensures asks { IsTold self.now pass.old pass.new result }
         ensures asked { pass.new.asked ≡ pass.old.asked }
     {
         let by = pass.by();
@@ -86,8 +77,8 @@ impl<W: Indexed, R: Wait> Shared<W, R> {
     pub fn accept(&self, alloc: Global, change: Change, pass: &mut Pass<W>) -> Result<u64, Refused>
         requires of { IsPassOf self.now pass.old }
         requires sound { IsSoundChange change }
-        ensures accepted { IfOk result (λ number. Calls self.now pass.old pass.new (happened.Accept (by_of pass.old) change ∷ []) (IsAcceptedAs (settings_of self.now) (callers_of self.now) change number)) }
-        ensures refused { IfErr result (λ cause. Calls self.now pass.old pass.new [] (IsRefusedFor (settings_of self.now) (callers_of self.now) change cause)) }
+        ensures accepted { IfOk result (Accepts self.now pass.old pass.new change) }
+        ensures refused { IfErr result (Refuses self.now pass.old pass.new change) }
         ensures asked { pass.new.asked ≡ pass.old.asked }
     {
         let by = pass.by();
@@ -108,8 +99,8 @@ impl<W: Indexed, R: Wait> Shared<W, R> {
     /// Gives the caller the first change that is neither done nor taken, if there is one.
     pub fn take(&self, pass: &mut Pass<W>) -> Result<Option<Job>, Memory>
         requires of { IsPassOf self.now pass.old }
-        ensures taken { IfOk result (λ job. MatchOption job (Calls self.now pass.old pass.new [] (λ mid. IsNoneFree (state_of self.now mid))) (λ j. Calls self.now pass.old pass.new (happened.Took (by_of pass.old) j.change ∷ []) (λ mid. IsFirstFree (state_of self.now mid) j))) }
-        ensures refused { OnErr result (Calls self.now pass.old pass.new [] (λ _. Unit {0})) }
+        ensures taken { IfOk result (Takes self.now pass.old pass.new) }
+        ensures refused { OnErr result (SeesMore self.now pass.old pass.new) }
         ensures asked { pass.new.asked ≡ pass.old.asked }
     {
         let by = pass.by();
@@ -146,8 +137,8 @@ impl<W: Indexed, R: Wait> Shared<W, R> {
     /// Gives a taken change back, and answers whether this caller had it, undone. It takes no memory.
     pub fn back(&self, change: u64, pass: &mut Pass<W>) -> bool
         requires of { IsPassOf self.now pass.old }
-        ensures back { OnTrue result (Calls self.now pass.old pass.new (happened.Back (by_of pass.old) change ∷ []) (λ mid. IsTakenBy (state_of self.now mid) change (by_of pass.old))) }
-        ensures not_taken { OnFalse result (Calls self.now pass.old pass.new [] (λ mid. IsTakenBy (state_of self.now mid) change (by_of pass.old) → ⊥)) }
+        ensures back { OnTrue result (GivesBack self.now pass.old pass.new change) }
+        ensures not_taken { OnFalse result (HasNot self.now pass.old pass.new change) }
         ensures asked { pass.new.asked ≡ pass.old.asked }
     {
         let by = pass.by();
@@ -164,9 +155,9 @@ impl<W: Indexed, R: Wait> Shared<W, R> {
     pub fn finish(&self, change: u64, work: Arc<W, Global>, pass: &mut Pass<W>) -> Finished
         requires of { IsPassOf self.now pass.old }
         requires accepted { IsAccepted (state_of self.now pass.old.seen) change }
-        requires work { IsWorkFor (W.IsWorkOf (settings_of self.now)) (slot_of (state_of self.now pass.old.seen) change).change (arc_value work) }
-        ensures done { result ≡ Finished.Done → Calls self.now pass.old pass.new (happened.Done (by_of pass.old) change ∷ []) (λ mid. IsUndone (state_of self.now mid) change) }
-        ensures already { result ≡ Finished.Already → Calls self.now pass.old pass.new [] (λ mid. IsDone (state_of self.now mid) change) }
+        requires work { IsItsWork self.now pass.old W.IsWorkOf change work }
+        ensures done { result ≡ Finished.Done → Does self.now pass.old pass.new change }
+        ensures already { result ≡ Finished.Already → FindsDone self.now pass.old pass.new change }
         ensures asked { pass.new.asked ≡ pass.old.asked }
     {
         let by = pass.by();
@@ -187,8 +178,8 @@ impl<W: Indexed, R: Wait> Shared<W, R> {
     pub fn open_view(&self, pass: &mut Pass<W>) -> Result<View<W>, Memory>
         requires of { IsPassOf self.now pass.old }
         requires closed { view_of (state_of self.now pass.old.seen) (by_of pass.old) ≡ None }
-        ensures opened { IfOk result (λ view. Calls self.now pass.old pass.new (happened.Open (by_of pass.old) view.version ∷ []) (λ mid. IsLatest (W.IsWorkOf (settings_of self.now)) (state_of self.now mid) view)) }
-        ensures refused { OnErr result (Calls self.now pass.old pass.new [] (λ _. Unit {0})) }
+        ensures opened { IfOk result (Opens self.now pass.old pass.new W.IsWorkOf) }
+        ensures refused { OnErr result (SeesMore self.now pass.old pass.new) }
         ensures asked { pass.new.asked ≡ pass.old.asked }
     {
         let by = pass.by();
@@ -209,7 +200,7 @@ impl<W: Indexed, R: Wait> Shared<W, R> {
     pub fn close_view(&self, _view: View<W>, pass: &mut Pass<W>)
         requires of { IsPassOf self.now pass.old }
         requires viewing { IsSome (view_of (state_of self.now pass.old.seen) (by_of pass.old)) }
-        ensures shut { Calls self.now pass.old pass.new (happened.Shut (by_of pass.old) ∷ []) (λ _. Unit {0}) }
+        ensures shut { Shuts self.now pass.old pass.new }
         ensures asked { pass.new.asked ≡ pass.old.asked }
     {
         let by = pass.by();
@@ -228,8 +219,8 @@ impl<W: Indexed, R: Wait> Shared<W, R> {
         pass: &mut Pass<W>,
     ) -> Result<Vec<Entry>, Memory>
         requires of { IsPassOf self.now pass.old }
-        requires viewing { IsOpen (W.IsWorkOf (settings_of self.now)) (state_of self.now pass.old.seen) (by_of pass.old) view.now }
-        ensures reads { Calls self.now pass.old pass.new [] (λ mid. IfOk result (λ entries. AreAllInOrder EntryBefore (IsEntryAt (HasWindow W.keys_in W.IsWorkOf (settings_of self.now)) (accepted mid) view.now.version key) entries.items)) }
+        requires viewing { IsViewing self.now pass.old W.IsWorkOf view.now }
+        ensures reads { Calls self.now pass.old pass.new [] (λ mid. IfOk result (λ es. AreEntriesOf self.now W.keys_in W.IsWorkOf view.now.version key mid es.items)) }
         ensures reached { view.now.version ≤ least pass.new (key % (settings_of self.now).shards) }
         ensures asked { pass.new.asked ≡ one_more pass.old.asked }
     {

@@ -1,13 +1,12 @@
 ghost use Rattle.std.specs.Prelude.{◌≡◌, ◌⊎◌, ◌+◌, ◌-◌, ◌<◌, ◌≤◌, ◌^◌, [], ◌∷◌, ◌++◌, IfOk, IsSome};
-ghost use Rattle.std.specs.Arc.{arc_value};
 ghost use mathlib.Core.List.{IsPrefix};
 ghost use Rattle.cq_cells.specs.Callers.{longer};
 ghost use Rattle.cq_cells.specs.Passes.{by_of};
 ghost use Rattle.cq_chain.specs.Passes.{IsOwn, HasNoneFrom};
 ghost use Rattle.cq_history.specs.declared.event.Event.TheVariants as event;
-ghost use Rattle.cq_history.specs.Changes.{IsWorkFor};
-ghost use Rattle.cq_history.specs.State.{slot_of, view_of, IsAccepted, IsDone, IsUndone};
+ghost use Rattle.cq_history.specs.State.{view_of};
 ghost use Rattle.cq_hub.specs.Hubs.{Extends, HasSeen, Never};
+ghost use Rattle.cq_shared.specs.Answers.{HasSeenItsWork, ExtendsByDone, ExtendsWhereDone};
 ghost use Rattle.cq_shared.specs.SharedPasses.{IsPassOf, SharedStands, settings_of, callers_of, state_of, asked_by};
 
 use cq_base::{Change, Entry, Memory, Settings};
@@ -126,9 +125,9 @@ impl<W: Indexed, R: Wait> Hub<W> for Shared<W, R> {
     }
 
     fn finish(&self, change: u64, work: Arc<W, Global>, pass: &mut Pass<W>) -> Finished
-        requires work { HasSeen SharedStands self.now pass.old (λ _ h. IsAccepted (state_of self.now h) change × IsWorkFor (W.IsWorkOf (settings_of self.now)) (slot_of (state_of self.now h) change).change (arc_value work)) }
-        ensures done { result ≡ Finished.Done → Extends SharedStands ⊥ Never self.now pass.old pass.new (λ c. event.Done c change ∷ []) (λ _ mid. IsUndone (state_of self.now mid) change) }
-        ensures already { result ≡ Finished.Already → Extends SharedStands ⊥ Never self.now pass.old pass.new (λ _. []) (λ _ mid. IsDone (state_of self.now mid) change) }
+        requires work { HasSeenItsWork self.now pass.old W.IsWorkOf change work }
+        ensures done { result ≡ Finished.Done → ExtendsByDone self.now pass.old pass.new change }
+        ensures already { result ≡ Finished.Already → ExtendsWhereDone self.now pass.old pass.new change }
         ensures asked { asked_by pass.new ≡ asked_by pass.old }
     {
         self.finish(change, work, pass)
