@@ -1,5 +1,5 @@
 -- What each call of a shared hub answers, and what it asks for.
-use Rattle.std.specs.Prelude.{◌≡◌, ℕ, List, [], ◌∷◌, Option, MatchOption}
+use Rattle.std.specs.Prelude.{◌≡◌, ℕ, List, [], ◌∷◌, Result, IfOk, Option, MatchOption}
 use Rattle.std.specs.Arc.{arc_value}
 use Rattle.std.specs.declared.sync.Arc.{Arc}
 use Rattle.std.specs.declared.alloc.Global.{Global}
@@ -9,7 +9,6 @@ use Rattle.cq_base.specs.declared.change.Change.{Change}
 use Rattle.cq_base.specs.declared.settings.Settings.{Settings}
 use Rattle.cq_clones.specs.Lists.{AreAllInOrder}
 use Rattle.cq_clones.specs.Windows.{EntryBefore}
-use Rattle.cq_history.specs.declared.event.Event.{Event}
 use Rattle.cq_history.specs.declared.event.Event.TheVariants as event
 use Rattle.cq_history.specs.Changes.{IsWorkFor}
 use Rattle.cq_history.specs.State.{accepted, slot_of, IsAccepted, IsDone, IsUndone, IsTakenBy}
@@ -94,6 +93,7 @@ module _ {W R : Type 0} (hub : Shared W R) (p : BoardPass) where
   HasSeenItsWork IsWorkOf change work =
       HasSeen SharedStands hub p (λ _ h. IsAccepted (state_of hub h) change × IsWorkFor (IsWorkOf (settings_of hub)) (slot_of (state_of hub h) change).change (arc_value work))
 
--- these are the entries with the key in all files of the version, by change and place
-abbrev pub AreEntriesOf : {W R : Type 0} → Shared W R → (W → List ℕ) → (Settings → Lang → List ℕ → W → Type 0) → ℕ → ℕ → List Event → List Entry → Type 0
-AreEntriesOf hub keys_in IsWorkOf version key h entries = AreAllInOrder EntryBefore (IsEntryAt (HasWindow keys_in IsWorkOf (settings_of hub)) (accepted h) version key) entries
+-- where there is an answer, its items are the entries with the key in all files of the version, by change and place
+abbrev pub Reads : {W R V E : Type 0} → Shared W R → BoardPass → BoardPass → Result V E → (V → List Entry) → (W → List ℕ) → (Settings → Lang → List ℕ → W → Type 0) → ℕ → ℕ → Type 0
+Reads hub p q answer items keys_in IsWorkOf version key =
+    Calls hub p q [] (λ mid. IfOk answer (λ v. AreAllInOrder EntryBefore (IsEntryAt (HasWindow keys_in IsWorkOf (settings_of hub)) (accepted mid) version key) (items v)))

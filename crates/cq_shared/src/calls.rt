@@ -10,7 +10,7 @@ ghost use Rattle.cq_chain.specs.Held.{IsBoard};
 ghost use Rattle.cq_chain.specs.Passes as chain;
 ghost use Rattle.cq_hub.specs.Hubs.{one_more};
 ghost use Rattle.cq_hub.specs.Says.{IsJobFor};
-ghost use Rattle.cq_shared.specs.Answers.{SeesMore, IsTold, Accepts, Refuses, Takes, GivesBack, HasNot, Does, FindsDone, Opens, Shuts, IsItsWork, IsViewing, AreEntriesOf};
+ghost use Rattle.cq_shared.specs.Answers.{SeesMore, IsTold, Accepts, Refuses, Takes, GivesBack, HasNot, Does, FindsDone, Opens, Shuts, IsItsWork, IsViewing, Reads};
 ghost use Rattle.cq_shared.specs.Calls.{Calls};
 ghost use Rattle.cq_shared.specs.Deeds.{event_of, events_of, acceptance, asks_of};
 ghost use Rattle.cq_shared.specs.SharedPasses.{IsPassOf, cells_of, about_of, settings_of, state_of};
@@ -220,7 +220,7 @@ impl<W: Indexed, R: Wait> Shared<W, R> {
     ) -> Result<Vec<Entry>, Memory>
         requires of { IsPassOf self.now pass.old }
         requires viewing { IsViewing self.now pass.old W.IsWorkOf view.now }
-        ensures reads { Calls self.now pass.old pass.new [] (λ mid. IfOk result (λ es. AreEntriesOf self.now W.keys_in W.IsWorkOf view.now.version key mid es.items)) }
+        ensures reads { Reads self.now pass.old pass.new result (λ v. v.items) W.keys_in W.IsWorkOf view.now.version key }
         ensures reached { view.now.version ≤ least pass.new (key % (settings_of self.now).shards) }
         ensures asked { pass.new.asked ≡ one_more pass.old.asked }
     {
