@@ -1,4 +1,5 @@
 -- What follows from an answer.
+use Rattle.std.proofs.Common.{◌≡◌, sym, subst}
 use Rattle.std.specs.Prelude.{Bool, true, false, Result, Ok, Err, IfOk, OnOk, OnErr}
 use Rattle.std.specs.Result.{is_ok}
 
@@ -19,3 +20,10 @@ ok_with (Err e) P S Q to p q = tt
 pub err_with : {T E : Type 0} (r : Result T E) (S : Type 0) (Q : Bool → Type 0) → (Q false → S) → Q (is_ok r) → OnErr r S
 err_with (Ok x) S Q to q = tt
 err_with (Err e) S Q to q = to q
+
+-- the same answer, handed on
+pub ok_same : {T E : Type 0} (r s : Result T E) (P : T → Type 0) → s ≡ r → IfOk r P → IfOk s P
+ok_same r s P same is = subst (λ x. IfOk x P) (sym same) is
+
+pub err_same : {T E : Type 0} (r s : Result T E) (P : Type 0) → s ≡ r → OnErr r P → OnErr s P
+err_same r s P same is = subst (λ x. OnErr x P) (sym same) is

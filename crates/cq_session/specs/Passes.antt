@@ -1,5 +1,5 @@
 -- Where the parts of a line bring the pass of a caller, in the words of its hub.
-use Rattle.std.specs.Prelude.{◌≤◌, ℕ, List, [], ◌∷◌, length, Option, Result, Ok as ok}
+use Rattle.std.specs.Prelude.{◌≤◌, ℕ, List, [], ◌∷◌, length, Option, Result, IsSome, Ok as ok}
 use Rattle.std.specs.Result.{is_ok}
 use Rattle.cq_answer.specs.Reply.{IsReply}
 use Rattle.cq_ask.specs.Moves.{Moves}
@@ -8,8 +8,9 @@ use Rattle.cq_base.specs.declared.lang.Lang.{Lang}
 use Rattle.cq_base.specs.declared.settings.Settings.{Settings}
 use Rattle.cq_board.specs.declared.listing.View.{View}
 use Rattle.cq_history.specs.declared.event.Event.{Event}
-use Rattle.cq_history.specs.State.{state, accepted, ready, IsAccepted, IsDone}
-use Rattle.cq_hub.specs.Hubs.{HasSeen}
+use Rattle.cq_history.specs.declared.event.Event.TheVariants as event
+use Rattle.cq_history.specs.State.{state, accepted, ready, view_of, IsAccepted, IsDone}
+use Rattle.cq_hub.specs.Hubs.{Extends, HasSeen, Never}
 use Rattle.cq_hub.specs.Views.{IsOpen}
 use Rattle.cq_hub.specs.declared.hub.Hub.{Ghosts}
 use Rattle.cq_io.specs.declared.sink.Sink as sink
@@ -57,6 +58,14 @@ module _ {H W P : Type 0} (of : Ghosts H W P) (hub : H) where
     abbrev pub CostsOpen : {T E : Type 0} → P → ℕ → ℕ → Query → Result T E → Type 0
     CostsOpen new reads reads_now q result =
         WhereOpen (λ changes. Costs (of.settings hub) changes (record { query = q; version = view.version; answered = is_ok result } ∷ []) (counted reads reads_now (of.asked pass) (of.asked new)))
+
+  -- the pass has one open
+  abbrev pub HasViewOpen : P → Type 0
+  HasViewOpen pass = HasSeen of.Stands hub pass (λ c h. IsSome (view_of (state (of.callers hub) h) c))
+
+  -- it is shut at the new pass
+  abbrev pub HasShut : P → P → Type 0
+  HasShut pass new = Extends of.Stands of.alone Never hub pass new (λ c. event.Shut c ∷ []) (λ _ _. Unit {0})
 
   -- ---- a pass that has no view open
 

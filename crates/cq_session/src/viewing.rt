@@ -2,7 +2,7 @@ ghost use Rattle.std.specs.Prelude.{◌≡◌, ◌≤◌, IfOk, OnErr};
 ghost use Rattle.cq_base.specs.Settings.{IsInRange};
 ghost use Rattle.cq_reply.specs.Written.{IsReplyText};
 ghost use Rattle.cq_work.specs.Work.{IsWorkOf};
-ghost use Rattle.cq_session.specs.Passes.{CostsOpen, HasOpen, HasReady, HasShown, HasViewedOrNot, KeepsOpen, ShowsOpen};
+ghost use Rattle.cq_session.specs.Passes.{CostsOpen, HasOpen, HasReady, HasShown, HasShut, HasViewOpen, HasViewedOrNot, KeepsOpen, ShowsOpen};
 
 use cq_answer::answer;
 use cq_ask::PassBuckets;
@@ -12,6 +12,7 @@ use cq_hub::Hub;
 use cq_io::Gate;
 use cq_reply::Reply;
 use cq_request::Query;
+use cq_shard::Indexed;
 use cq_work::Work;
 use std::alloc::Global;
 use std::sync::ledger::Ledger;
@@ -55,6 +56,22 @@ fn reply_in<L: Ledger, H: Hub<Work<L>>>(
     )
 }
 
+// Shuts the view behind what came of it, a reply or a want of memory, and hands that on.
+fn close_behind<W: Indexed, H: Hub<W>>(
+    hub: &H,
+    view: View<W>,
+    came: Result<Reply, Memory>,
+    pass: &mut H::Pass,
+) -> Result<Reply, Memory>
+    requires viewing { HasViewOpen H.Hub hub.now pass.old }
+    ensures shut { HasShut H.Hub hub.now pass.old pass.new }
+    ensures asked { H.asked pass.new ≡ H.asked pass.old }
+    ensures same { result ≡ came }
+{
+    hub.close_view(view, pass);
+    came
+}
+
 /// The reply to a query at a version that is not below `to`, up to which all changes are done. A view of it is opened
 /// for the reply, and is shut again however that ends.
 pub(crate) fn view_reply<L: Ledger, H: Hub<Work<L>>, G: Gate>(
@@ -84,8 +101,7 @@ pub(crate) fn view_reply<L: Ledger, H: Hub<Work<L>>, G: Gate>(
         Ok(view) => {
             gate.after_open(view.version);
             let reply = reply_in(alloc, settings, hub, &view, query, pass, steps);
-            hub.close_view(view, pass);
-            reply
+            close_behind(hub, view, reply, pass)
         }
     }
 }
