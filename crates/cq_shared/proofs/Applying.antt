@@ -1,6 +1,6 @@
 -- A shard applies the next change, and is right for each history that begins with what was seen.
-use Rattle.std.proofs.Common.{◌≡◌, ℕ, zero, suc, ◌+◌, ◌-◌, ◌<◌, ◌≤◌, ◌^◌, List, [], ◌∷◌, ◌++◌, length, take, drop, get_or, Result, Ok, Err, Option, Global, refl, sym, ap, ◌∙◌, subst, inl, inr, ⊎_elim, arith}
-use Rattle.std.specs.Prelude.{All, IfSome, OnOk, OnErr}
+use Rattle.std.proofs.Common.{◌≡◌, ℕ, zero, suc, ◌+◌, ◌-◌, ◌<◌, ◌≤◌, ◌^◌, List, [], ◌∷◌, ◌++◌, length, take, drop, get_or, Result, Ok, Err, Option, Some, None, option_map, Global, Bor, refl, sym, ap, ◌∙◌, subst, inl, inr, ⊎_elim, arith}
+use Rattle.std.specs.Prelude.{All, IfSome, OnOk, OnErr, option_copied}
 use Rattle.std.specs.Arc.{arc_value}
 use Rattle.std.specs.declared.sync.Arc.{Arc}
 use Rattle.std.proofs.lemmas.Bool.{cases_eq}
@@ -8,18 +8,20 @@ use Rattle.std.proofs.lemmas.List.Elements.{All-cons, All-nil, All-get_or}
 use Rattle.std.proofs.lemmas.List.Sums.{prefix_len-le-length}
 use Rattle.cq_base.specs.declared.lang.Lang.{Lang}
 use Rattle.cq_base.specs.declared.change.Change.{Change}
+use Rattle.cq_base.specs.declared.change.Change.TheVariants.{Put, Drop, Gate}
+use Rattle.cq_base.specs.declared.settings.Settings.{Settings}
 use Rattle.cq_history.specs.declared.event.Event.{Event}
 use Rattle.cq_history.specs.Changes.{change_at}
 use Rattle.cq_history.specs.State.{state, accepted, ready, is_done}
 use Rattle.cq_history.proofs.Prefixes.{accepted-append}
 use Rattle.cq_history.proofs.Numbers.{change_at-append}
 use Rattle.cq_history.proofs.Doing.{slots_number}
-use Rattle.cq_shard.specs.Shard.{Contents, StandsFor, HasItsWork, HaveTheirWorks}
+use Rattle.cq_shard.specs.Shard.{Contents, StandsFor, StandsOnWith, HasItsWork, HaveTheirWorks}
 use Rattle.cq_cells.specs.Passes.{HasReached, least}
 use Rattle.cq_chain.specs.declared.about.About.{About}
 use Rattle.cq_chain.specs.Held.{state_in}
 use Rattle.cq_chain.specs.Passes.{BoardPass, IsStep}
-use Rattle.cq_shared.specs.Advancing.{AreWorksFrom}
+use Rattle.cq_shared.specs.Advancing.{AreWorksFrom, StandsWithWorks}
 
 -- ---- one work of a list
 
@@ -58,6 +60,44 @@ module _ {W : Type 0} (keys_in : W → List ℕ) (IsWork : Lang → List ℕ →
         single : (cs : List Change) (n : ℕ) (w : Option (Arc W Global)) → HasItsWork IsOwned (change_at cs (n + 1)) w → HaveTheirWorks IsOwned cs n (w ∷ [])
         single cs n w has zero e lt = subst (λ m. HasItsWork IsOwned (change_at cs (m + 1)) w) (let e : n ≡ n + 0 = omega arith in e) has
         single cs n w has (suc i) e lt = absurd (omega (arith, lt))
+
+  -- ---- its work as the shard is lent it
+
+  lent_given : (o : Option Change) (held : Option (Arc W Global)) → HasItsWork IsOwned o held → HasItsWork IsWork o (option_map arc_value held)
+  lent_given (Some (Put project path lang text)) (Some x) is = is
+  lent_given (Some (Put project path lang text)) None is = is
+  lent_given (Some (Drop project path)) (Some x) is = is
+  lent_given (Some (Drop project path)) None is = is
+  lent_given (Some (Gate project conditions)) (Some x) is = is
+  lent_given (Some (Gate project conditions)) None is = is
+  lent_given None (Some x) is = is
+  lent_given None None is = is
+
+pub one_of : {A : Type 0} (xs : List A) (d : A) → length xs ≡ 1 → xs ≡ get_or xs 0 d ∷ []
+one_of [] d one = absurd (omega (arith, one))
+one_of (x ∷ []) d one = refl
+one_of (x ∷ y ∷ xs) d one = absurd (omega (arith, one))
+
+module _ {W : Type 0} (keys_in : W → List ℕ) where
+  abbrev FewOwned : Option (Arc W Global) → Type 0
+  FewOwned held = IfSome held (λ w. length (keys_in (arc_value w)) < 2 ^ 32)
+
+  few_in : (lent : Option (Bor W)) (held : Option (Arc W Global)) → option_copied lent ≡ option_map arc_value held → FewOwned held → IfSome lent (λ w. length (keys_in w.now) < 2 ^ 32)
+  few_in None held is few = tt
+  few_in (Some w) None is few = absurd (cc)
+  few_in (Some w) (Some x) is few = subst (λ (o : Option W). IfSome o (λ v. length (keys_in v) < 2 ^ 32)) (sym is) few
+
+  pub few_lent : (works : List (Option (Arc W Global))) (held : Option (Arc W Global)) (lent : Option (Bor W)) → works ≡ held ∷ [] → option_copied lent ≡ option_map arc_value held → All FewOwned works → IfSome lent (λ w. length (keys_in w.now) < 2 ^ 32)
+  few_lent works held lent one is few = few_in lent held is (All-get_or FewOwned (held ∷ []) 0 held (omega arith) (subst (All FewOwned) one few))
+
+module _ {W : Type 0} (keys_in : W → List ℕ) (IsWorkOf : Settings → Lang → List ℕ → W → Type 0) where
+  pub stands_lent : {E : Type 0} (works : List (Option (Arc W Global))) (held : Option (Arc W Global)) (old new : Contents) (next : ℕ) (lent : Option W) (r : Result (Unit {0}) E) → works ≡ held ∷ [] → next ≡ old.applied + 1 → lent ≡ option_map arc_value held
+      → OnOk r (StandsOnWith keys_in IsWorkOf next lent old new) → StandsWithWorks keys_in IsWorkOf old works (OnOk r) new
+  stands_lent works held old new next lent (Err e) one at is stands = λ set changes before theirs. tt
+  stands_lent works held old new next lent (Ok u) one at is stands = λ set changes before theirs.
+      let has : HasItsWork (λ lang text (w : Arc W Global). IsWorkOf set lang text (arc_value w)) (change_at changes (old.applied + 0 + 1)) held = subst (HaveTheirWorks (λ lang text (w : Arc W Global). IsWorkOf set lang text (arc_value w)) changes old.applied) one theirs 0 held (omega arith) in
+      let here : old.applied + 0 + 1 ≡ next = omega (arith, at) in
+      stands set changes before (subst (HasItsWork (IsWorkOf set) (change_at changes next)) (sym is) (lent_given keys_in (IsWorkOf set) (change_at changes next) held (subst (λ n. HasItsWork (λ lang text (w : Arc W Global). IsWorkOf set lang text (arc_value w)) (change_at changes n) held) here has)))
 
 -- ---- the step
 

@@ -31,7 +31,3 @@ abbrev pub StandsWithWorks : {W : Type 0} → (W → List ℕ) → (Settings →
 StandsWithWorks keys_in IsWorkOf old works Holds new =
     (settings : Settings) (changes : List Change) → StandsFor (HasWindow keys_in IsWorkOf settings) changes old
     → HaveTheirWorks (λ lang text w. IsWorkOf settings lang text (arc_value w)) changes old.applied works → Holds (StandsFor (HasWindow keys_in IsWorkOf settings) changes new)
-
--- it is the same shard of as many, swept as far
-abbrev pub IsSameShard : Contents → Contents → Type 0
-IsSameShard old new = (new.shard ≡ old.shard) × (new.shards ≡ old.shards) × (new.floor ≡ old.floor)

@@ -1,8 +1,9 @@
-ghost use Rattle.std.specs.Prelude.{◌≡◌, ◌+◌, ◌-◌, ◌<◌, ◌≤◌, ◌^◌, ℕ, [], length, All, IfOk, IfSome, OnOk, OnErr};
+ghost use Rattle.std.specs.Prelude.{◌≡◌, ◌+◌, ◌-◌, ◌<◌, ◌≤◌, ◌^◌, ℕ, [], length, option_copied, option_map, All, IfOk, IfSome, OnOk, OnErr};
 ghost use Rattle.std.specs.Arc.{arc_value};
 ghost use Rattle.cq_history.specs.State.{ready};
 ghost use Rattle.cq_cells.specs.Passes.{IsSameCaller, least};
-ghost use Rattle.cq_shared.specs.Advancing.{HasWorksFrom, HasPublished, StandsWithWorks, IsSameShard};
+ghost use Rattle.cq_shard.specs.Shard.{IsSameShard};
+ghost use Rattle.cq_shared.specs.Advancing.{HasWorksFrom, HasPublished, StandsWithWorks};
 ghost use Rattle.cq_shared.specs.Calls.{Calls};
 ghost use Rattle.cq_shared.specs.SharedPasses.{IsPassOf, settings_of, state_of};
 
@@ -203,5 +204,16 @@ fn apply_counted<W: Indexed, L: Ledger>(
     ensures same { OnErr result (shard.new ≡ shard.old) }
 {
     let mut steps: Steps<L> = Steps::new(blank);
-    shard.apply_all(work, &mut steps)
+    let next = shard.applied() + 1;
+    shard.apply(next, lent(&work[0]), &mut steps)
+}
+
+// The work that is owned, lent.
+fn lent<W>(work: &Option<Arc<W, Global>>) -> Option<&W>
+    ensures { option_copied result ≡ option_map arc_value work.now }
+{
+    match work {
+        Some(work) => Some(work),
+        None => None,
+    }
 }
