@@ -74,7 +74,6 @@ fn reply_in<L: Ledger>(
 ) -> Result<Reply, Memory>
     requires name { blank.name ≡ L.name }
     requires parts { blank.parts ≡ L.parts }
-    requires one { L.parts ≡ 1 }
 {
     let mut files: Vec<Arc<Held<Work<L>>, Global>> = Vec::new(alloc);
     files.push(file_of(alloc, "t", "a b c x a b c y")?)?;

@@ -15,6 +15,7 @@ mod norm;
 mod settings;
 mod steps;
 mod text;
+mod ticks;
 mod token;
 
 pub use change::{Change, Compare, Condition, Conditions, Metric};
@@ -27,6 +28,6 @@ pub use measures::{FileCounts, Measures};
 pub use memory::Memory;
 pub use norm::Norm;
 pub use settings::{Field, Settings};
-pub use steps::Steps;
+pub use steps::{Counters, Steps};
 pub use text::Text;
 pub use token::{Class, Mark, Spelled, Token};

@@ -36,7 +36,6 @@ impl Indexed for Two {
 fn applied<L: Ledger>(alloc: Global, blank: Blank) -> Result<(Vec<Entry>, Vec<Entry>, u64), Memory>
     requires name { blank.name ≡ L.name }
     requires parts { blank.parts ≡ L.parts }
-    requires one { L.parts ≡ 1 }
 {
     let mut steps: Steps<L> = Steps::new(blank);
     let mut shard = Shard::new(alloc, 1, 2);
@@ -58,7 +57,6 @@ fn reads(alloc: Global) -> Result<(Vec<Entry>, Vec<Entry>, u64), Memory> {
 fn both<L: Ledger>(alloc: Global, blank: Blank) -> Result<(Vec<Entry>, Vec<Entry>, u64), Memory>
     requires name { blank.name ≡ L.name }
     requires parts { blank.parts ≡ L.parts }
-    requires one { L.parts ≡ 1 }
 {
     let mut steps: Steps<L> = Steps::new(blank);
     let mut first = Shard::new(alloc, 0, 3);

@@ -143,7 +143,6 @@ fn published<L: Ledger>(
 ) -> Result<(Outcome, Outcome, [Vec<u64>; 3]), Memory>
     requires name { blank.name ≡ L.name }
     requires parts { blank.parts ≡ L.parts }
-    requires one { L.parts ≡ 1 }
 {
     let mut steps: Steps<L> = Steps::new(blank);
     let mut core: Core<Apart> = Core::new(alloc, &SETTINGS, 1)?;
@@ -158,7 +157,6 @@ fn published<L: Ledger>(
 fn taken<L: Ledger>(alloc: Global, blank: Blank) -> Result<(Outcome, bool, bool), Memory>
     requires name { blank.name ≡ L.name }
     requires parts { blank.parts ≡ L.parts }
-    requires one { L.parts ≡ 1 }
 {
     let mut steps: Steps<L> = Steps::new(blank);
     let mut core: Core<Apart> = Core::new(alloc, &SETTINGS, 1)?;

@@ -32,7 +32,6 @@ fn run<L: Ledger>(
     requires in_range { IsInRange settings.now }
     requires name { blank.name ≡ L.name }
     requires parts { blank.parts ≡ L.parts }
-    requires one { L.parts ≡ 1 }
 {
     let mut steps: Steps<L> = Steps::new(blank);
     let of = *settings;

@@ -55,7 +55,6 @@ fn apply_counted<W: Indexed, G: Gate, L: Ledger>(
 ) -> Result<(), Memory>
     requires name { blank.name ≡ L.name }
     requires parts { blank.parts ≡ L.parts }
-    requires one { L.parts ≡ 1 }
     requires done { to ≤ ready board.now.state }
     requires some { 0 < board.now.settings.shards }
     requires stand { AreShardsOf (HasWindow W.keys_in W.IsWorkOf board.now.settings) board.now shards.old.items }

@@ -40,7 +40,6 @@ fn listed<L: Ledger>(
     requires long { 2 ≤ min }
     requires name { blank.name ≡ L.name }
     requires parts { blank.parts ≡ L.parts }
-    requires one { L.parts ≡ 1 }
 {
     let mut files: Vec<FileTokens<L>> = Vec::new(alloc);
     for text in texts {

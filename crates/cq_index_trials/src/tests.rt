@@ -111,7 +111,6 @@ fn trials<L: Ledger>(
 ) -> Result<(u32, usize), Memory>
     requires name { blank.name ≡ L.name }
     requires parts { blank.parts ≡ L.parts }
-    requires one { L.parts ≡ 1 }
 {
     let settings = Settings {
         key_bits: bits,

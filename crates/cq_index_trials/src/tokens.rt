@@ -10,7 +10,6 @@ use std::sync::ledger::{Blank, Ledger};
 fn read_two<L: Ledger>(alloc: Global, blank: Blank) -> Result<(bool, bool), Memory>
     requires name { blank.name ≡ L.name }
     requires parts { blank.parts ≡ L.parts }
-    requires one { L.parts ≡ 1 }
 {
     let mut norms = Vec::new(alloc);
     norms.push(Norm {

@@ -27,7 +27,6 @@ fn made<L: Ledger>(
 ) -> Result<Result<(), Failed>, Memory>
     requires name { blank.name ≡ L.name }
     requires parts { blank.parts ≡ L.parts }
-    requires one { L.parts ≡ 1 }
     requires few { files ≤ 10000 }
 {
     let mut steps: Steps<L> = Steps::new(blank);

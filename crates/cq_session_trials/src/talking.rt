@@ -128,7 +128,6 @@ fn talks_over_one_hub<L: Ledger>(
     requires in_range { IsInRange settings.now }
     requires name { blank.name ≡ L.name }
     requires parts { blank.parts ≡ L.parts }
-    requires one { L.parts ≡ 1 }
 {
     let of = *settings;
     let key = Box::new(alloc, move |codes: &[u64]| plain_key(&of, codes))?;

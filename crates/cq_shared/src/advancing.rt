@@ -194,7 +194,6 @@ fn apply_counted<W: Indexed, L: Ledger>(
 ) -> Result<(), Memory>
     requires name { blank.name ≡ L.name }
     requires parts { blank.parts ≡ L.parts }
-    requires counter { L.parts ≡ 1 }
     requires one { length work.now ≡ 1 }
     requires room { shard.old.applied + 1 < 2 ^ 64 }
     requires few { All (λ work. IfSome work (λ w. length (W.keys_in (arc_value w)) < 2 ^ 32)) work.now }

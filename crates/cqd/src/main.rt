@@ -61,7 +61,6 @@ fn words_of(alloc: Global, args: env::Args) -> Result<Vec<Text>, Memory>
 fn run<L: Ledger>(rt: &HostRuntime, words: &[Text], blank: Blank) -> u8
     requires name { blank.name ≡ L.name }
     requires parts { blank.parts ≡ L.parts }
-    requires one { L.parts ≡ 1 }
 {
     let alloc = rt.alloc();
     let mut source = StdSource::new(rt.stdin());

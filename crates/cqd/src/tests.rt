@@ -27,7 +27,6 @@ fn run<L: Ledger>(
 ) -> u8
     requires name { blank.name ≡ L.name }
     requires parts { blank.parts ≡ L.parts }
-    requires one { L.parts ≡ 1 }
 {
     let mut doors = MemDoors::new(VecDeque::new(alloc), Vec::new(alloc));
     let mut steps: Steps<L> = Steps::new(blank);
