@@ -1,7 +1,6 @@
 -- `none` makes a value of no bytes, whose number is 0.
 use mathlib.Core.Path.{refl}
-use Prim.Native.Nat.{ℕ}
-use mathlib.Core.List.{List, [], ◌∷◌, ◌++◌}
+use mathlib.Core.List.{[], ◌∷◌}
 use seplogic.Ra.Ura.{Ura}
 use mir.Val.{Val, vstruct, vcons, vnil}
 use base.Logic.{SProp, ent}
@@ -9,15 +8,15 @@ use base.Fml.{Fml}
 use prog.Memory.{Memory}
 use prog.Routine.{Routine}
 use prog.Wp.{Calls, Loops, WpFn, Tables}
-use types.Logic.{Logic, sem}
+use types.Logic.{Logic}
 use contract.Monad.{Fun}
 use contract.Running.{tables, tables_of}
 use sound.WpLaws.{WpFn-mono}
 use types.Kit.{‵, raw, ◌⊛◌, ◌$◌, ◌∵◌, !, qed, move, keep, split, join, use0, suffices, done}
 use types.Run.{no_more, and_then, returns, enter}
 use types.Part.{agg}
-use types.ByLocal.{alloc_all, pass_all, free_all, look_at, get, sets, env}
-use denote.RattleType.{RattleType, owns}
+use types.ByLocal.{alloc_all, pass_all, free_all, look_at, get, sets}
+use denote.RattleType.{owns}
 use denote.Shadow.{makes_shadow}
 use denote.Signature.{types_at, type_at}
 use denote.Steps.{nothing}
@@ -26,7 +25,6 @@ use denote.Triple.Entry.{alive}
 use denote.Triple.Spec.{Meets, triple_of}
 use denote.Triple.Table.{entered}
 use denote.Triple.Walked.{says, Stays, walk_of, ends_at, walk_Meets}
-use Rattle.cq_base.specs.contracts.ticks.Ticks as ticks
 use Rattle.cq_base.specs.contracts.ticks.Ticks.none.{ended, clauses}
 use Rattle.cq_base.specs.contracts.ticks.Ticks.none.Key.{name as #self}
 use Rattle.cq_base.proofs.ticks.Ticks.none.Statement as stated
