@@ -6,21 +6,21 @@ use crate::rolling::{rolled, weight};
 use cq_base::{Keys, Memory, Norm, Settings};
 use std::alloc::Global;
 
-type Key = Box<dyn Fn(&[u64]) -> u64>;
+type Key = Box<dyn Fn(&[u64]) -> u64 + Send + Sync>;
 
 /// Gives the keys of a file's windows: that of the first by a closure, which it keeps beside the facts that it may always
 /// be called and answers each window's key, and each other from the key before.
 #[derive(Drop)]
 pub struct Keyer {
     pub settings: Settings,
-    key: Box<dyn Fn(&[u64]) -> u64>,
+    key: Box<dyn Fn(&[u64]) -> u64 + Send + Sync>,
     ghost callable: { Key.IsAlwaysCallable key },
     ghost exact: { spec.GivesKeys (Key.post key) settings },
 }
 
 impl Keyer {
     /// A keyer by a closure that may be called on any list, and answers the key of each list of `chunk` codes.
-    pub fn new(settings: &Settings, key: Box<dyn Fn(&[u64]) -> u64>) -> Keyer
+    pub fn new(settings: &Settings, key: Box<dyn Fn(&[u64]) -> u64 + Send + Sync>) -> Keyer
         requires callable { Key.IsAlwaysCallable key }
         requires exact { spec.GivesKeys (Key.post key) settings.now }
         ensures { result.settings ≡ settings.now }
