@@ -4,8 +4,9 @@ use crate::code::codes_of;
 use crate::{Keyer, plain_key};
 use cq_base::{Class, Keys, Lang, Memory, Norm, Settings, Text};
 use std::alloc::Global;
-use std::cell::Cell;
 use std::sync::Arc;
+use std::sync::atomic::AtomicU64;
+use std::sync::atomic::Ordering::SeqCst;
 
 const SETTINGS: Settings = Settings {
     chunk: 2,
@@ -49,15 +50,15 @@ fn keys_and_calls(alloc: Global, settings: &Settings, norms: &[Norm]) -> Result<
     requires some { 1 ≤ settings.now.chunk }
 {
     let of = *settings;
-    let calls = Arc::new(alloc, Cell::new(0u64))?;
+    let calls = Arc::new(alloc, AtomicU64::new(0))?;
     let counted = Arc::try_clone(&calls)?;
     let key = Box::new(alloc, move |codes: &[u64]| {
-        counted.set(counted.get().wrapping_add(1));
+        counted.fetch_add(1, SeqCst);
         plain_key(&of, codes)
     })?;
     let keyer = Keyer::new(settings, key);
     let keys = keyer.keys(alloc, norms)?;
-    Ok((keys, calls.get()))
+    Ok((keys, calls.load(SeqCst)))
 }
 
 // How many keys these tokens have, how often the closure was called, and whether each key is that of its window alone.
