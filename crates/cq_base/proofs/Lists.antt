@@ -3,7 +3,7 @@ use Rattle.std.proofs.Common.{◌≡◌, ◌⊎◌, ℕ, zero, suc, ◌<◌, Boo
 use Rattle.std.specs.Prelude.{AllPairs, All, Contains, filter}
 use Rattle.std.proofs.Math.Seq.{get_or-append_seam}
 use Rattle.std.proofs.lemmas.List.{get_or-map, length-map}
-use Rattle.std.proofs.lemmas.List.Elements.{Contains-get_or, All-append}
+use Rattle.std.proofs.lemmas.List.Elements.{Contains-get_or, Contains-append_left, All-append}
 use Rattle.std.proofs.lemmas.List.Kept.{AllPairs-cons}
 use Rattle.std.proofs.lemmas.Option.{slice_get_cases, slice_get-get_or}
 
@@ -95,6 +95,13 @@ AllPairs-append R (x ∷ xs) ys first later across =
     AllPairs-cons R x (xs ++ ys)
     (All-append (R x) xs ys (All-from_contains (R x) xs (λ z c. AllPairs-head R x z xs first c)) (All-from_contains (R x) ys (λ z c. across x z (Contains-here x xs) c)))
     (AllPairs-append R xs ys (AllPairs-tail R x xs first) later (λ a b c d. across a b (Contains-there x a xs c) d))
+
+pub AllPairs-front : {X : Type 0} (R : X → X → Type 0) (xs ys : List X) → AllPairs R (xs ++ ys) → AllPairs R xs
+AllPairs-front R [] ys pairs = AllPairs-nil R
+AllPairs-front R (x ∷ xs) ys pairs =
+    AllPairs-cons R x xs
+    (All-from_contains (R x) xs (λ z c. AllPairs-head R x z (xs ++ ys) pairs (Contains-append_left xs ys z c)))
+    (AllPairs-front R xs ys (AllPairs-tail R x (xs ++ ys) pairs))
 
 pub AllPairs-from_map : {X Y : Type 0} (R : Y → Y → Type 0) (f : X → Y) (xs : List X) → AllPairs R (map f xs) → AllPairs (λ a b. R (f a) (f b)) xs
 AllPairs-from_map R f xs pairs i j d less within =

@@ -14,17 +14,7 @@ use Rattle.cq_board.specs.Sound.{AreSound}
 use Rattle.cq_board.specs.Stands.{BoardState, Adds}
 use Rattle.cq_history.proofs.Prefixes.{changes_after}
 use Rattle.cq_history.proofs.States.{state_push, Lawful_push}
-
-pub views_after : (s : State) (e : Event) → length (after s e).views ≡ length s.views
-views_after s (Accept by change) = refl
-views_after s (Ask by) = refl
-views_after s (Took by r) = refl
-views_after s (Back by r) = refl
-views_after s (Done by r) = refl
-views_after s (Publish p) = refl
-views_after s (Open by p) = length-set s.views by _
-views_after s (Shut by) = length-set s.views by _
-views_after s (Floor f) = refl
+use Rattle.cq_history.proofs.Openings.{views_after}
 
 next_count : (n m : ℕ) → n ≡ m % 2 ^ 64 → (n + 1) % 2 ^ 64 ≡ (m + 1) % 2 ^ 64
 next_count n m is = ap (λ k. k % 2 ^ 64) (let e : n + 1 ≡ 1 + m % 2 ^ 64 = omega (arith, is) in e) ∙ add-mod-mod 1 m (2 ^ 64) ∙ ap (λ k. k % 2 ^ 64) (let e : 1 + m ≡ m + 1 = omega arith in e)

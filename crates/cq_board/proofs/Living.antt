@@ -4,6 +4,7 @@ use Rattle.std.specs.Prelude.{◌&&◌}
 use Rattle.std.specs.List.{AllByRecursion}
 use Rattle.std.specs.Str.{bytes_eq}
 use Rattle.std.proofs.lemmas.Slice.Eq.{bytes_eq-Decides}
+use Rattle.std.proofs.lemmas.Bool.{false_from_ne_true}
 use Rattle.cq_base.specs.declared.lang.Lang.{Lang}
 use Rattle.cq_base.specs.declared.change.Condition.{Condition}
 use Rattle.cq_base.specs.declared.change.Change.{Change}
@@ -55,10 +56,6 @@ and_true false b e = absurd (cc)
 and_both : (a b : Bool) → a ≡ true → b ≡ true → (a && b) ≡ true
 and_both true b e h = h
 and_both false b e h = absurd (cc)
-
-by_no : (b : Bool) → (b ≡ true → ⊥) → b ≡ false
-by_no true h = absurd (h refl)
-by_no false h = refl
 
 -- two files of one number stand at one place
 pub one_place : (changes : List Change) (q r : List ℕ) (f g : Source) → IsLastPut changes q f → IsLastPut changes r g → f.number ≡ g.number → (q ≡ r) × (f.path ≡ g.path)
@@ -120,7 +117,7 @@ module _ (changes : List Change) where
     λ either. ⊎_elim
         (λ number. (project, put, subst (λ fs. Has fs put) (sym after) (insert_has (without_file path (files_of project changes)) (place_of path (without_file path (files_of project changes))) put put (inl refl)), sym number))
         (λ ((q, f, has, number), other).
-        stays c q f r has number (by_no _ (λ named. other (named_number q project path f has named ∙ ap Some number))))
+        stays c q f r has number (false_from_ne_true _ (λ named. other (named_number q project path f has named ∙ ap Some number))))
         either,
   )
     where
@@ -139,7 +136,7 @@ module _ (changes : List Change) where
         (λ (q, f, is, number, apart). ((q, f, has_of q f is, number), λ at. true≢false (sym (other_number q project path f r is number at) ∙ apart)))
         (λ (number, q, f, put). absurd (no_put put))
         (stood c r live),
-    λ ((q, f, has, number), other). stays c q f r has number (by_no _ (λ named. other (named_number q project path f has named ∙ ap Some number))),
+    λ ((q, f, has, number), other). stays c q f r has number (false_from_ne_true _ (λ named. other (named_number q project path f has named ∙ ap Some number))),
   )
     where
       c : Change

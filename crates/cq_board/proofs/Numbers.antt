@@ -12,6 +12,7 @@ use Rattle.std.proofs.lemmas.Map.Views.{Contains-from_any}
 use Rattle.cq_shard.proofs.Entries.{any_of}
 use Rattle.std.proofs.lemmas.List.Kept.{AllPairs-from_increasing}
 use Rattle.std.proofs.lemmas.List.Quantifiers.{all_pairs_push}
+use Rattle.cq_shard.proofs.Live.{rises}
 
 pub rising-from_pairs : (xs : List ℕ) → AllPairs (λ a b. a < b) xs → IsStrictlyIncreasing xs
 rising-from_pairs xs pairs k within = pairs k (k + 1) 0 (omega arith) within
@@ -20,13 +21,6 @@ get_or_defaults : (xs : List ℕ) (i d e : ℕ) → i < length xs → get_or xs 
 get_or_defaults [] i d e lt = absurd (omega (arith, lt))
 get_or_defaults (x ∷ xs) zero d e lt = refl
 get_or_defaults (x ∷ xs) (suc i) d e lt = get_or_defaults xs i d e (omega (arith, lt))
-
-rises : (xs : List ℕ) → IsStrictlyIncreasing xs → (i j : ℕ) → i ≤ j → j < length xs → get_or xs i 0 ≤ get_or xs j 0
-rises xs rising i j le lt =
-    ⊎_elim
-    (λ less. let h = AllPairs-from_increasing xs rising i j 0 less lt in omega (arith, h))
-    (λ ge. let e : i ≡ j = omega (arith, le, ge) in let same = ap (λ k. get_or xs k 0) e in omega (arith, same))
-    (cases_lt i j)
 
 pub rising_push : (xs : List ℕ) (n : ℕ) → IsStrictlyIncreasing xs → ((r : ℕ) → Contains xs r → r < n) → IsStrictlyIncreasing (xs ++ n ∷ [])
 rising_push xs n rising above =

@@ -8,6 +8,7 @@ use Rattle.std.proofs.lemmas.List.Elements.{All-set, All-get_or}
 use Rattle.std.specs.Arc.{arc_value}
 use Rattle.std.specs.declared.sync.Arc.{Arc}
 use Rattle.std.proofs.Common.{Global}
+use Rattle.cq_base.proofs.Bools.{or-true}
 use Rattle.cq_board.specs.declared.kept.Stored.{Stored}
 use Rattle.cq_history.proofs.Bounds.{prefix_len-set-le}
 use Rattle.cq_base.specs.declared.lang.Lang.{Lang}
@@ -39,10 +40,6 @@ pub prefix_len-set_same : {X : Type 0} (p : X → Bool) (xs : List X) (i : ℕ) 
 prefix_len-set_same p [] i y d e = refl
 prefix_len-set_same p (x ∷ xs) zero y d e = ap (λ b. cond b (1 + prefix_len p xs) 0) e
 prefix_len-set_same p (x ∷ xs) (suc i) y d e = ap (λ n. cond (p x) (1 + n) 0) (prefix_len-set_same p xs i y d e)
-
-or_yes : (b : Bool) → (b || true) ≡ true
-or_yes true = refl
-or_yes false = refl
 
 free_put : (a b c : Bool) → (not (not a || b) && c) ≡ true → a ≡ true
 free_put true b c h = refl
@@ -167,7 +164,7 @@ module _ {W : Type 0} where
       not_free s e = ap (λ b. not b && is_none s.holder) e
 
   pub finished_is_done : (change : Stored) (w : Arc W Global) (holder : Option ℕ) → is_done (slot_from (let j : Kept W = record { change = change; work = Some w; holder = holder } in j)) ≡ true
-  finished_is_done change w holder = or_yes (not (is_put (change_of change)))
+  finished_is_done change w holder = or-true (not (is_put (change_of change)))
 
   pub back_state : (slots : List (Kept W)) (p f : ℕ) (views : List (Option ℕ)) (i by r : ℕ) (k : Kept W) → i < length slots → k ≡ get_or slots i k → r ≡ i + 1 →
       state_from (set slots i (record { change = k.change; work = k.work; holder = None })) p f views ≡ after (state_from slots p f views) (Back by r)

@@ -3,6 +3,7 @@ use Rattle.std.proofs.Common.{◌≡◌, ℕ, ◌%◌, ◌<◌, ◌≤◌, arith
 use Rattle.std.specs.Prelude.{All, Contains}
 use Rattle.std.proofs.lemmas.List.Elements.{All-cons, All-nil, All-contains}
 use Rattle.std.proofs.lemmas.Nat.{mod_below}
+use Rattle.std.proofs.lemmas.Bool.{false_from_ne_true}
 use Rattle.cq_base.specs.declared.lang.Lang.{Lang}
 use Rattle.cq_base.specs.declared.entry.Entry.{Entry}
 use Rattle.cq_clones.specs.Lists.{AreAllInOrder}
@@ -93,12 +94,8 @@ solo_stand window_at set c h old shards is = subst (λ s. AreShardsOf (window_at
 pub solo_applies : (window_at : Settings → Lang → List ℕ → ℕ → ℕ → Type 0) (set : Settings) (c : ℕ) (h : List Event) (old : BoardState) (shards more : List Contents) → IsSoloOf (window_at set) set c h old shards → AreShardsOf (window_at old.settings) old more → IsSoloOf (window_at set) set c h old more
 solo_applies window_at set c h old shards more is apply = solo_shards (window_at set) set c h old shards is more (subst (λ s. AreShardsOf (window_at s) old more) is.settings apply)
 
-by_false : (b : Bool) → (b ≡ true → ⊥) → b ≡ false
-by_false true no₁ = absurd (no₁ refl)
-by_false false no₁ = refl
-
 pub not_done : (s : State) (r : ℕ) → IsAccepted s r → (IsDone s r → ⊥) → IsUndone s r
-not_done s r there never = (there, by_false (is_done (slot_of s r)) (λ d. never (there, d)))
+not_done s r there never = (there, false_from_ne_true (is_done (slot_of s r)) (λ d. never (there, d)))
 
 -- a publication, which has no caller
 pub grows_published : (alone : Type 0) (c p : ℕ) (h : List Event) → Grows alone IsPublication c h (h ++ Publish p ∷ []) []

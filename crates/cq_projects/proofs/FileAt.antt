@@ -5,22 +5,20 @@ use Rattle.std.specs.List.{AllByRecursion, insert}
 use Rattle.std.specs.Str.{bytes_eq}
 use Rattle.std.proofs.lemmas.Option.{none-some}
 use Rattle.std.proofs.lemmas.Slice.Eq.{bytes_eq-Decides}
+use Rattle.std.proofs.lemmas.Bool.{cases_Bool}
 use Rattle.cq_base.proofs.Bools.{cond-same}
 use Rattle.cq_history.specs.Files.{File, is_before, with_file, without_file, place_of}
 use Rattle.cq_projects.specs.Projects.{number_at, path_of}
 use Rattle.cq_projects.specs.Ordered.{AreRising}
 use Rattle.cq_projects.proofs.Putting.{above_apart, before_apart}
-use Rattle.cq_projects.proofs.PathOrders.{before_chain, elsewhere}
+use Rattle.cq_projects.proofs.PathOrders.{elsewhere}
+use Rattle.cq_history.proofs.PathOrder.{before_chain}
 
 some_same : {X : Type 0} {x y : X} → Some x ≡ Some y → x ≡ y
 some_same e = cc e
 
 itself : (p : List ℕ) → bytes_eq p p ≡ true
 itself p = (bytes_eq-Decides p p).1 refl
-
-either : (b : Bool) → (b ≡ true) ⊎ (b ≡ false)
-either true = inl refl
-either false = inr refl
 
 module _ {X : Type 0} where
   -- the file at a path
@@ -118,10 +116,10 @@ module _ {X : Type 0} where
           before_apart x.path x.path (before_chain x.path y.path x.path above below) refl
 
       turned : bytes_eq x.path y.path ≡ false → bytes_eq y.path x.path ≡ false
-      turned a = ⊎_elim (λ here. absurd (true≢false (sym ((bytes_eq-Decides x.path y.path).1 (sym ((bytes_eq-Decides y.path x.path).0 here))) ∙ a))) (λ no. no) (either (bytes_eq y.path x.path))
+      turned a = ⊎_elim (λ here. absurd (true≢false (sym ((bytes_eq-Decides x.path y.path).1 (sym ((bytes_eq-Decides y.path x.path).0 here))) ∙ a))) (λ no. no) (cases_Bool (bytes_eq y.path x.path))
 
       paths : bytes_eq x.path y.path ≡ true
-      paths = ⊎_elim (λ yes. yes) (λ no. absurd (clash no (turned no))) (either (bytes_eq x.path y.path))
+      paths = ⊎_elim (λ yes. yes) (λ no. absurd (clash no (turned no))) (cases_Bool (bytes_eq x.path y.path))
 
       first : x ≡ y
       first = some_same (sym mine ∙ same x.path ∙ ap (λ b. cond b (Some y) (file_at x.path ys)) paths)
@@ -135,4 +133,4 @@ module _ {X : Type 0} where
           (λ (no : bytes_eq p x.path ≡ false).
           ap (λ b. cond b (Some x) (file_at p xs)) (sym no) ∙ same p
           ∙ ap (λ b. cond b (Some y) (file_at p ys)) (ap (λ (f : File X). bytes_eq p f.path) (sym first) ∙ no))
-          (either (bytes_eq p x.path))
+          (cases_Bool (bytes_eq p x.path))

@@ -15,8 +15,9 @@ use Rattle.cq_history.specs.Files.{File, is_before, with_file, without_file, pla
 use Rattle.cq_projects.specs.Drafts.{edited_at, edited_all, IsOwn, AreOwn, one_or_none, Merges}
 use Rattle.cq_projects.specs.Projects.{path_of}
 use Rattle.cq_projects.specs.Ordered.{AreBelow, AreAbove}
-use Rattle.cq_projects.proofs.PathOrders.{before_chain, all_without, all_insert}
+use Rattle.cq_projects.proofs.PathOrders.{all_without, all_insert}
 use Rattle.cq_projects.proofs.Putting.{below_apart, below_not_above, without_above, place_gap}
+use Rattle.cq_history.proofs.PathOrder.{before_chain}
 
 module _ {X : Type 0} where
   without_low : (p : List ℕ) (low files : List (File X)) → AreBelow path_of p low → without_file p (low ++ files) ≡ low ++ without_file p files

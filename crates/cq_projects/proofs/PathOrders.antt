@@ -13,20 +13,7 @@ use Rattle.cq_base.proofs.Orderings.{Less-from_is_lt}
 use Rattle.cq_history.specs.Files.{File, is_before, place_of, with_file, without_file}
 use Rattle.cq_projects.specs.Projects.{path_of}
 use Rattle.cq_projects.specs.Ordered.{AreRising}
-
-pub before_chain : (p q r : List ℕ) → is_before p q ≡ true → is_before q r ≡ true → is_before p r ≡ true
-before_chain p q r a b = ap is_lt (nat_list_cmp_total.trans p q r (Less-from_is_lt _ a) (Less-from_is_lt _ b))
-
-turned : (r s : Ordering) → s ≡ ordering_reverse r → is_lt r ≡ false → (r ≡ Equal → ⊥) → is_lt s ≡ true
-turned Less s e h n = absurd (cc)
-turned Equal s e h n = absurd (n refl)
-turned Greater s e h n = ap is_lt e
-
--- of two different paths one is before the other
-before_other : (p q : List ℕ) → is_before p q ≡ false → bytes_eq p q ≡ false → is_before q p ≡ true
-before_other p q h apart =
-    turned (slice_cmp nat_cmp p q) (slice_cmp nat_cmp q p) (nat_list_cmp_total.antisymm q p) h
-    (λ same. let equal : bytes_eq p q ≡ true = (bytes_eq-Decides p q).1 (exact_bytes p q same) in absurd (cc))
+use Rattle.cq_history.proofs.PathOrder.{before_chain, before_other}
 
 one_more : (n : ℕ) → suc n ≡ 1 + n
 one_more n = omega arith

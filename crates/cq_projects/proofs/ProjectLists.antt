@@ -3,13 +3,10 @@ use Rattle.std.proofs.Common.{◌≡◌, ℕ, zero, suc, ◌+◌, ◌<◌, Bool,
 use Rattle.std.specs.List.{AllByRecursion, position_or_len}
 use Rattle.std.specs.Str.{bytes_eq}
 use Rattle.std.proofs.lemmas.Slice.Eq.{bytes_eq-Decides}
+use Rattle.std.proofs.lemmas.Bool.{cases_Bool}
 use Rattle.cq_base.specs.declared.change.Condition.{Condition}
 use Rattle.cq_history.specs.Files.{File}
 use Rattle.cq_projects.specs.Projects.{files_in, conditions_in, position_of, ListedProject}
-
-either : (b : Bool) → (b ≡ true) ⊎ (b ≡ false)
-either true = inl refl
-either false = inr refl
 
 -- a: q is the first project's; b: q is the name; c: the name is the first project's
 swap_case : {A : Type 0} (a b c : Bool) (x y z : A) → c ≡ false → (a ≡ true → b ≡ true → c ≡ true) → cond a x (cond b y z) ≡ cond b y (cond a x z)
@@ -27,7 +24,7 @@ changed_at_name q name change old =
     ⊎_elim
     (λ (same : bytes_eq q name ≡ true). ap (λ r. cond (bytes_eq q name) (change (old r)) (old q)) (sym ((bytes_eq-Decides q name).0 same)))
     (λ (other : bytes_eq q name ≡ false). ap (λ b. cond b (change (old name)) (old q)) other ∙ ap (λ b. cond b (change (old q)) (old q)) (sym other))
-    (either (bytes_eq q name))
+    (cases_Bool (bytes_eq q name))
 
 pub position-push : {X : Type 0} (p : X → Bool) (xs : List X) (y : X) → length xs ≡ position_or_len p xs → p y ≡ true → length xs ≡ position_or_len p (xs ++ y ∷ [])
 position-push p [] y none passes = ap (λ b. cond (not b) 1 0) (sym passes)
@@ -39,7 +36,7 @@ position-push p (x ∷ xs) y none passes =
     let rest : length xs ≡ position_or_len p (xs ++ y ∷ []) = position-push p xs y (omega (arith, deeper)) passes in
     let end : length (x ∷ xs) ≡ 1 + position_or_len p (xs ++ y ∷ []) = omega (arith, rest) in
     end ∙ ap (λ b. cond (not b) (1 + position_or_len p (xs ++ y ∷ [])) 0) (sym other))
-    (either (p x))
+    (cases_Bool (p x))
 
 module _ {W V : Type 0} (part : ListedProject W → V) (none : V) where
   -- what a look-up by name finds of a project
@@ -59,7 +56,7 @@ module _ {W V : Type 0} (part : ListedProject W → V) (none : V) where
       ∙ ap (λ m. cond (bytes_eq q name) (part n) (cond (bytes_eq q m) (part p) (look ps q))) same)
       (λ (other : bytes_eq name p.name ≡ false).
       let no : zero ≡ 1 + position_of name ps = at ∙ ap (λ b. cond (not b) (1 + position_of name ps) 0) other in absurd (omega (arith, no)))
-      (either (bytes_eq name p.name))
+      (cases_Bool (bytes_eq name p.name))
   look-set name (p ∷ ps) (suc i) n at within is q =
       ⊎_elim
       (λ (here : bytes_eq name p.name ≡ true).
@@ -68,7 +65,7 @@ module _ {W V : Type 0} (part : ListedProject W → V) (none : V) where
       let deeper : suc i ≡ 1 + position_of name ps = at ∙ ap (λ b. cond (not b) (1 + position_of name ps) 0) other in
       ap (cond (bytes_eq q p.name) (part p)) (look-set name ps i n (omega (arith, deeper)) (omega (arith, within)) is q)
       ∙ swap_case (bytes_eq q p.name) (bytes_eq q name) (bytes_eq name p.name) (part p) (part n) (look ps q) other (λ a b. same_name q p.name name a b))
-      (either (bytes_eq name p.name))
+      (cases_Bool (bytes_eq name p.name))
 
   look-push : (ps : List (ListedProject W)) (n : ListedProject W) → part n ≡ none → (q : List ℕ) → look (ps ++ n ∷ []) q ≡ look ps q
   unfolding look
@@ -86,7 +83,7 @@ module _ {W V : Type 0} (part : ListedProject W → V) (none : V) where
       ⊎_elim
       (λ (here : bytes_eq q n.name ≡ true). ap (λ t. cond t (part n) (look b q)) here ∙ is ∙ sym (look-none b n.name q ((bytes_eq-Decides q n.name).0 here) high))
       (λ (other : bytes_eq q n.name ≡ false). ap (λ t. cond t (part n) (look b q)) other)
-      (either (bytes_eq q n.name))
+      (cases_Bool (bytes_eq q n.name))
   look-seam (p ∷ a) b n is low high q = ap (cond (bytes_eq q p.name) (part p)) (look-seam a b n is low.1 high q)
 
   look-at : (name : List ℕ) (ps : List (ListedProject W)) (i : ℕ) (p : ListedProject W) → i ≡ position_of name ps → i < length ps → p ≡ get_or ps i p → (p.name ≡ name) × (look ps name ≡ part p)
@@ -98,7 +95,7 @@ module _ {W V : Type 0} (part : ListedProject W → V) (none : V) where
       (ap (λ (x : ListedProject W). x.name) read ∙ sym ((bytes_eq-Decides name r.name).0 here), ap (λ b. cond b (part r) (look ps name)) here ∙ ap part (sym read)))
       (λ (other : bytes_eq name r.name ≡ false).
       let no : zero ≡ 1 + position_of name ps = at ∙ ap (λ b. cond (not b) (1 + position_of name ps) 0) other in absurd (omega (arith, no)))
-      (either (bytes_eq name r.name))
+      (cases_Bool (bytes_eq name r.name))
   look-at name (r ∷ ps) (suc i) p at within read =
       ⊎_elim
       (λ (here : bytes_eq name r.name ≡ true).
@@ -107,7 +104,7 @@ module _ {W V : Type 0} (part : ListedProject W → V) (none : V) where
       let deeper : suc i ≡ 1 + position_of name ps = at ∙ ap (λ b. cond (not b) (1 + position_of name ps) 0) other in
       let rest = look-at name ps i p (omega (arith, deeper)) (omega (arith, within)) read in
       (rest.0, ap (λ b. cond b (part r) (look ps name)) other ∙ rest.1))
-      (either (bytes_eq name r.name))
+      (cases_Bool (bytes_eq name r.name))
 
 module _ {W : Type 0} where
   files_look : (ps : List (ListedProject W)) (q : List ℕ) → files_in ps q ≡ look (λ (p : ListedProject W). p.files) [] ps q

@@ -12,6 +12,7 @@ use Rattle.std.proofs.Math.Seq.{get_or-append_seam, set-append_seam}
 use Rattle.std.proofs.lemmas.Cmp.{nat_list_cmp_total}
 use Rattle.std.proofs.lemmas.Slice.Eq.{bytes_eq-Decides}
 use Rattle.std.proofs.lemmas.List.{map-append}
+use Rattle.std.proofs.lemmas.Bool.{false_from_ne_true}
 use Rattle.cq_base.proofs.Orderings.{Less-from_is_lt, Equal-from_reverse}
 use Rattle.cq_history.specs.Files.{File, is_before, with_file, without_file, place_of}
 use Rattle.cq_projects.specs.Projects.{path_in, number_at}
@@ -22,22 +23,18 @@ not_less Less h e = absurd (cc)
 not_less Equal h e = absurd (cc)
 not_less Greater h e = absurd (cc)
 
-by_no : (b : Bool) → (b ≡ true → ⊥) → b ≡ false
-by_no true h = absurd (h refl)
-by_no false h = refl
-
 -- a path before another is not that one
 pub before_apart : (p q : List ℕ) → is_before p q ≡ true → p ≡ q → ⊥
 before_apart p q h same = not_less (slice_cmp nat_cmp p q) h (ap (slice_cmp nat_cmp p) (sym same) ∙ Equal-from_reverse (slice_cmp nat_cmp p p) (nat_list_cmp_total.antisymm p p))
 
 pub below_apart : (p q : List ℕ) → is_before q p ≡ true → bytes_eq p q ≡ false
-below_apart p q h = by_no (bytes_eq p q) (λ e. before_apart q p h (sym ((bytes_eq-Decides p q).0 e)))
+below_apart p q h = false_from_ne_true (bytes_eq p q) (λ e. before_apart q p h (sym ((bytes_eq-Decides p q).0 e)))
 
 pub above_apart : (p q : List ℕ) → is_before p q ≡ true → bytes_eq p q ≡ false
-above_apart p q h = by_no (bytes_eq p q) (λ e. before_apart p q h ((bytes_eq-Decides p q).0 e))
+above_apart p q h = false_from_ne_true (bytes_eq p q) (λ e. before_apart p q h ((bytes_eq-Decides p q).0 e))
 
 pub below_not_above : (p q : List ℕ) → is_before q p ≡ true → is_before p q ≡ false
-below_not_above p q h = by_no (is_before p q) (λ other. before_apart p p (ap is_lt (nat_list_cmp_total.trans p q p (Less-from_is_lt _ other) (Less-from_is_lt _ h))) refl)
+below_not_above p q h = false_from_ne_true (is_before p q) (λ other. before_apart p p (ap is_lt (nat_list_cmp_total.trans p q p (Less-from_is_lt _ other) (Less-from_is_lt _ h))) refl)
 
 pub insert_seam : {X : Type 0} (a b : List X) (f : X) → insert (a ++ b) (length a) f ≡ a ++ f ∷ b
 insert_seam [] b f = refl

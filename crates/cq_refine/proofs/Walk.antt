@@ -11,7 +11,7 @@ use Rattle.cq_base.specs.declared.group.Place.{Place}
 use Rattle.cq_base.specs.declared.group.Group.{Group}
 use Rattle.cq_clones.specs.Groups.{IsBefore, word_at, StandsAt, token_behind, token_ahead, token_before, AreSame, kept_of, IsGroup}
 use Rattle.cq_base.specs.Places.{first_place}
-use Rattle.cq_base.proofs.Lists.{Contains-here, Contains-cases, Contains-nil, Contains-map, Contains-from_map, Contains-filter, Contains-from_filter, AllPairs-head, AllPairs-tail, AllPairs-append, AllPairs-from_map}
+use Rattle.cq_base.proofs.Lists.{Contains-here, Contains-cases, Contains-nil, Contains-map, Contains-from_map, Contains-filter, Contains-from_filter, AllPairs-head, AllPairs-tail, AllPairs-append, AllPairs-from_map, AllPairs-front}
 use Rattle.cq_clones.proofs.GroupLaws.{within_from_standing, word_of_group}
 use Rattle.cq_refine.specs.declared.spots.Spot.{Spot}
 use Rattle.cq_refine.specs.declared.spots.Marked.{Marked}
@@ -23,13 +23,6 @@ use Rattle.cq_refine.proofs.WordSets.{part_is_word_set}
 use Rattle.cq_refine.proofs.Words.{stands_less, stands_front}
 
 -- lists in pairs
-
-pub AllPairs-front : {X : Type 0} (R : X → X → Type 0) (xs ys : List X) → AllPairs R (xs ++ ys) → AllPairs R xs
-AllPairs-front R [] ys a = λ i j d lt within. absurd (omega arith)
-AllPairs-front R (x ∷ xs) ys a =
-    AllPairs-cons R x xs
-    (λ k d lt. AllPairs-head R x _ (xs ++ ys) a (Contains-append_left xs ys _ (Contains-get_or xs k d lt)))
-    (AllPairs-front R xs ys (AllPairs-tail R x (xs ++ ys) a))
 
 pub AllPairs-last : {X : Type 0} (R : X → X → Type 0) (xs : List X) (y x : X) → AllPairs R (xs ++ y ∷ []) → Contains xs x → R x y
 AllPairs-last R [] y x a c = absurd (Contains-nil x c)

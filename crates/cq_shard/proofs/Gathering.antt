@@ -6,20 +6,13 @@ use Rattle.std.proofs.lemmas.List.Elements.{All-contains, All-push, All-head, Al
 use Rattle.std.proofs.lemmas.List.Kept.{AllPairs-cons}
 use Rattle.std.proofs.lemmas.List.Quantifiers.{all_pairs_push}
 use Rattle.cq_base.specs.declared.entry.Entry.{Entry}
-use Rattle.cq_base.proofs.Lists.{Contains-here, Contains-there, Contains-cases, Contains-nil, AllPairs-head, AllPairs-tail, AllPairs-nil, AllPairs-append, AllPairs-weaker, All-from_contains}
+use Rattle.cq_base.proofs.Lists.{Contains-here, Contains-there, Contains-cases, Contains-nil, AllPairs-head, AllPairs-tail, AllPairs-nil, AllPairs-append, AllPairs-weaker, All-from_contains, AllPairs-front}
 use Rattle.cq_clones.specs.Windows.{EntryBefore}
 use Rattle.cq_shard.specs.Shard.{is_asked}
 use Rattle.cq_shard.specs.Runs.{RowBefore, IsRun, Precedes, AreRuns, AreRunsWith, IsMerged, AreDifferent, AreAdded, entries_in}
 use Rattle.cq_shard.proofs.RowOrder.{RowBefore-different, RowBefore-same_key}
 
 -- ---- pairs of a list in two parts
-
-pairs_front : {X : Type 0} (R : X → X → Type 0) (xs ys : List X) → AllPairs R (xs ++ ys) → AllPairs R xs
-pairs_front R [] ys h = AllPairs-nil R
-pairs_front R (x ∷ xs) ys h =
-    AllPairs-cons R x xs
-    (All-from_contains (R x) xs (λ z c. AllPairs-head R x z (xs ++ ys) h (Contains-append_left xs ys z c)))
-    (pairs_front R xs ys (AllPairs-tail R x (xs ++ ys) h))
 
 pairs_across : {X : Type 0} (R : X → X → Type 0) (xs ys : List X) (x y : X) → AllPairs R (xs ++ ys) → Contains xs x → Contains ys y → R x y
 pairs_across R [] ys x y h here there = absurd (Contains-nil x here)
@@ -101,10 +94,10 @@ last_two xs a b are =
 last_merged : (xs : List (List Entry)) (a b c : List Entry) → AreRuns ((xs ++ a ∷ []) ++ b ∷ []) → IsMerged a b c → AreRuns (xs ++ c ∷ [])
 last_merged xs a b c are m =
     let front = xs ++ a ∷ [] in
-    let kept : AllPairs Precedes front = pairs_front Precedes front (b ∷ []) are.follow in
+    let kept : AllPairs Precedes front = AllPairs-front Precedes front (b ∷ []) are.follow in
     record {
       sorted = All-push IsRun xs c (All-from_contains IsRun xs (λ r h. All-contains IsRun (front ++ b ∷ []) r are.sorted (Contains-append_left front (b ∷ []) r (Contains-append_left xs (a ∷ []) r h)))) m.sorted;
-      follow = all_pairs_push Precedes xs c (pairs_front Precedes xs (a ∷ []) kept) (λ k d lt e f here there.
+      follow = all_pairs_push Precedes xs c (AllPairs-front Precedes xs (a ∷ []) kept) (λ k d lt e f here there.
           let r = get_or xs k d in
           let of : Contains xs r = Contains-get_or xs k d lt in
           ⊎_elim
