@@ -37,6 +37,10 @@ module _ {S P : Type 0} (Stands : S → P → ℕ → List Event → Type 0) whe
   abbrev pub HasSeen : S → P → (ℕ → List Event → Type 0) → Type 0
   HasSeen hub pass Holds = (c : ℕ) × (h : List Event) × Stands hub pass c h × Holds c h
 
+  -- this holds of each history that a pass of a hub stands for
+  abbrev pub WhereStands : (S → ℕ → List Event → Type 0) → Type 0
+  WhereStands Holds = (hub : S) (pass : P) (c : ℕ) (h : List Event) → Stands hub pass c h → Holds hub c h
+
   -- A call behind a history: others' events may come, what the call answers is said of the history then, and behind that
   -- one the call's own events come at once. The pass stands for all of it.
   pub record Calls (alone : Type 0) (May : Event → Type 0) (c : ℕ) (hub : S) (pass : P) (h events : List Event) (Says : List Event → Type 0) : Type 0 where

@@ -1,7 +1,8 @@
-pub mod Comings
 pub mod Hubs
 pub mod Says
-pub mod Shards
-pub mod SoloPasses
-pub mod Solos
 pub mod Views
+pub mod Answers
+pub mod Shards
+pub mod Comings
+pub mod Solos
+pub mod SoloPasses

@@ -1,10 +1,15 @@
 -- What the calls of a hub answer, said of the state of the history just before their own events.
-use Rattle.std.specs.Prelude.{◌≡◌, ◌⊎◌, ℕ, ◌+◌, ◌<◌, List, length, Option, None, Some, MatchOption}
+use Rattle.std.specs.Prelude.{◌≡◌, ◌⊎◌, ℕ, ◌+◌, ◌<◌, ◌≤◌, List, length, Option, None, Some, MatchOption}
 use Rattle.cq_base.specs.declared.settings.Settings.{Settings}
 use Rattle.cq_base.specs.declared.change.Change.{Change}
+use Rattle.cq_base.specs.declared.entry.Entry.{Entry}
+use Rattle.cq_base.specs.declared.lang.Lang.{Lang}
+use Rattle.cq_clones.specs.Lists.{AreAllInOrder}
+use Rattle.cq_clones.specs.Windows.{EntryBefore}
 use Rattle.cq_history.specs.declared.event.Event.{Event}
 use Rattle.cq_history.specs.State.{State, state, accepted, first_free, IsAccepted, IsDone, IsUndone}
 use Rattle.cq_board.specs.Answers.{refusal_of, IsJob}
+use Rattle.cq_board.specs.Entries.{IsEntryAt}
 use Rattle.cq_board.specs.Sound.{HasSoundText}
 use Rattle.cq_board.specs.declared.answers.Job.{Job}
 use Rattle.cq_board.specs.declared.answers.Refused.{Refused}
@@ -29,3 +34,11 @@ IsNoneFree s = length s.slots < first_free s
 -- the change's job where it is not done, and none where it is
 abbrev pub IsJobFor : State → ℕ → Option Job → Type 0
 IsJobFor s change job = MatchOption job (IsDone s change) (λ j. IsUndone s change × (j.change ≡ change) × IsJob s j × HasSoundText j)
+
+-- it is the last published version, and at least the one that was to be published
+abbrev pub HasPublished : State → ℕ → ℕ → Type 0
+HasPublished s to version = (version ≡ s.published) × (to ≤ version)
+
+-- the entries with the key in all files of a version of the changes, by change and place
+abbrev pub AreEntriesWith : (Lang → List ℕ → ℕ → ℕ → Type 0) → List Change → ℕ → ℕ → List Entry → Type 0
+AreEntriesWith IsWindow changes version key entries = AreAllInOrder EntryBefore (IsEntryAt IsWindow changes version key) entries

@@ -1,9 +1,10 @@
 -- The shards beside a board: each stands for the board's changes, and is as far on as its history allows.
 use Rattle.std.specs.Prelude.{◌≡◌, ℕ, ◌<◌, ◌≤◌, List, [], length, slice_index_or}
 use Rattle.cq_base.specs.declared.lang.Lang.{Lang}
+use Rattle.cq_base.specs.declared.settings.Settings.{Settings}
 use Rattle.cq_history.specs.State.{changes_in}
 use Rattle.cq_history.specs.Core.{IsReached}
-use Rattle.cq_shard.specs.Shard.{Contents, StandsFor}
+use Rattle.cq_shard.specs.Shard.{Contents, StandsFor, HasWindow}
 use Rattle.cq_board.specs.Stands.{BoardState}
 
 -- Over a relation which says of a text that it has at a place a window with a key: it is the shard of this number, and has
@@ -20,6 +21,14 @@ pub record IsShardOf (IsWindow : Lang → List ℕ → ℕ → ℕ → Type 0) (
 pub record AreShardsOf (IsWindow : Lang → List ℕ → ℕ → ℕ → Type 0) (b : BoardState) (shards : List Contents) : Type 0 where
   pub number_is : length shards ≡ b.settings.shards
   pub each : (i : ℕ) (d : Contents) → i < length shards → IsShardOf IsWindow b i (slice_index_or shards i d)
+
+-- the same over the windows of a text's work under the board's settings
+module _ {W : Type 0} (keys_in : W → List ℕ) (IsWorkOf : Settings → Lang → List ℕ → W → Type 0) (b : BoardState) where
+  abbrev pub StandsBeside : ℕ → Contents → Type 0
+  StandsBeside number c = IsShardOf (HasWindow keys_in IsWorkOf b.settings) b number c
+
+  abbrev pub StandBeside : List Contents → Type 0
+  StandBeside shards = AreShardsOf (HasWindow keys_in IsWorkOf b.settings) b shards
 
 -- shards that have applied nothing
 pub record AreFresh (number : ℕ) (shards : List Contents) : Type 0 where

@@ -1,7 +1,7 @@
 ghost use Rattle.std.specs.Prelude.{◌≡◌, ◌+◌, ◌-◌, ◌<◌, ◌≤◌, length, All, IfOk, OnOk};
 ghost use Rattle.cq_history.specs.State.{ready};
-ghost use Rattle.cq_shard.specs.Shard.{HasWindow, HaveFewKeys};
-ghost use Rattle.cq_hub.specs.Shards.{IsShardOf, AreShardsOf, AreFresh};
+ghost use Rattle.cq_shard.specs.Shard.{HaveFewKeys};
+ghost use Rattle.cq_hub.specs.Shards.{StandsBeside, StandBeside, AreFresh};
 ghost use Rattle.cq_hub.specs.Comings.{IsComing, StaysComing, AreWorksBehind};
 
 use cq_base::{Entry, Memory, Steps};
@@ -37,8 +37,8 @@ pub(crate) fn apply_up_to<W: Indexed, G: Gate>(
 ) -> Result<(), Memory>
     requires done { to ≤ ready board.now.state }
     requires some { 0 < board.now.settings.shards }
-    requires stand { AreShardsOf (HasWindow W.keys_in W.IsWorkOf board.now.settings) board.now shards.old.items }
-    ensures stand { AreShardsOf (HasWindow W.keys_in W.IsWorkOf board.now.settings) board.now shards.new.items }
+    requires stand { StandBeside W.keys_in W.IsWorkOf board.now shards.old.items }
+    ensures stand { StandBeside W.keys_in W.IsWorkOf board.now shards.new.items }
     ensures applied { OnOk result (All (λ c. to ≤ c.applied) shards.new.items) }
 {
     apply_counted::<W, G, Brand>(alloc, board, shards, to, gate, Blank::new(1))
@@ -57,8 +57,8 @@ fn apply_counted<W: Indexed, G: Gate, L: Ledger>(
     requires parts { blank.parts ≡ L.parts }
     requires done { to ≤ ready board.now.state }
     requires some { 0 < board.now.settings.shards }
-    requires stand { AreShardsOf (HasWindow W.keys_in W.IsWorkOf board.now.settings) board.now shards.old.items }
-    ensures stand { AreShardsOf (HasWindow W.keys_in W.IsWorkOf board.now.settings) board.now shards.new.items }
+    requires stand { StandBeside W.keys_in W.IsWorkOf board.now shards.old.items }
+    ensures stand { StandBeside W.keys_in W.IsWorkOf board.now shards.new.items }
     ensures applied { OnOk result (All (λ c. to ≤ c.applied) shards.new.items) }
 {
     let mut steps: Steps<L> = Steps::new(blank);
@@ -81,9 +81,9 @@ fn catch_up<W: Indexed, L: Ledger>(
     steps: &mut Steps<L>,
 ) -> Result<(), Memory>
     requires within { i < board.now.settings.shards }
-    requires shard { IsShardOf (HasWindow W.keys_in W.IsWorkOf board.now.settings) board.now i shard.old }
+    requires shard { StandsBeside W.keys_in W.IsWorkOf board.now i shard.old }
     requires coming { IsComing W.keys_in W.IsWorkOf board.now i coming.old }
-    ensures shard { IsShardOf (HasWindow W.keys_in W.IsWorkOf board.now.settings) board.now i shard.new }
+    ensures shard { StandsBeside W.keys_in W.IsWorkOf board.now i shard.new }
     ensures coming { OnOk result (IsComing W.keys_in W.IsWorkOf board.now (i + 1) coming.new) }
     ensures to { OnOk result (coming.new.to ≡ coming.old.to) }
     ensures applied { OnOk result (coming.old.to ≤ shard.new.applied) }
@@ -126,7 +126,8 @@ impl<W: Indexed> Coming<W> {
     fn turn_to(&mut self, alloc: Global, board: &Board<W>, from: u64) -> Result<(), Memory>
         requires done { self.old.to ≤ ready board.now.state }
         requires some { 0 < board.now.settings.shards }
-        ensures coming { OnOk result (StaysComing W.keys_in W.IsWorkOf board.now self.old self.new) }
+        ensures coming { OnOk result
+            (StaysComing W.keys_in W.IsWorkOf board.now self.old self.new) }
         ensures from { OnOk result (self.new.from ≡ from) }
         ensures to { OnOk result (self.new.to ≡ self.old.to) }
     {

@@ -1,9 +1,4 @@
-ghost use Rattle.std.specs.Prelude.{◌≡◌, [], ◌∷◌, ◌≤◌, IfOk, IsSome};
-ghost use Rattle.std.specs.Arc.{arc_value};
-ghost use Rattle.cq_history.specs.declared.event.Event.TheVariants as event;
-ghost use Rattle.cq_history.specs.Changes.{IsWorkFor};
-ghost use Rattle.cq_history.specs.State.{state, slot_of, view_of, IsAccepted, IsDone, IsUndone};
-ghost use Rattle.cq_hub.specs.Hubs.{Extends, HasSeen, Never};
+ghost use Rattle.std.specs.Prelude.{◌≡◌, [], ◌≤◌, IfOk};
 
 use crate::applying::{apply_up_to, shards_of};
 use crate::hub::Hub;
@@ -35,7 +30,8 @@ impl<W: Indexed> Solo<W> {
     pub fn new(alloc: Global, settings: &Settings) -> Result<(Solo<W>, SoloPass<W>), Memory>
         requires { 1 ≤ settings.now.shards }
         ensures stands { IfOk result (λ made. ⟦<Solo<W> as Hub<W>>⟧.Stands made.0 made.1 0 []) }
-        ensures settings { IfOk result (λ made. ⟦<Solo<W> as Hub<W>>⟧.settings made.0 ≡ settings.now) }
+        ensures settings { IfOk result
+            (λ made. ⟦<Solo<W> as Hub<W>>⟧.settings made.0 ≡ settings.now) }
         ensures asked { IfOk result (λ made. ⟦<Solo<W> as Hub<W>>⟧.asked made.1 ≡ 0) }
     {
         let board = Board::new(alloc, settings, 1)?;
@@ -54,15 +50,14 @@ impl<W: Indexed> Solo<W> {
 }
 
 impl<W: Indexed> Hub<W> for Solo<W> {
-    ghost use Rattle.cq_hub.specs.Solos.{solo_lawful, solo_caller, solo_sound};
-    ghost use Rattle.cq_hub.specs.SoloPasses.{settings_of, asked_by, SoloStands};
-    ghost use Rattle.cq_shard.specs.Shard.{HasWindow};
+    ghost use Rattle.cq_hub.specs.SoloPasses.{settings_of, callers_of, asked_by, SoloStands, SoloHasItsWork, SoloHasViewOpen, SoloDoes, SoloSeesDone, SoloShuts};
+    ghost use Rattle.cq_hub.specs.SoloPasses.{stands_lawful, stands_sound, stands_caller};
 
     type Pass = SoloPass<W>;
 
     ghost settings = { settings_of };
 
-    ghost callers = { λ _. 1 };
+    ghost callers = { callers_of };
 
     ghost alone = { Unit {0} };
 
@@ -70,11 +65,11 @@ impl<W: Indexed> Hub<W> for Solo<W> {
 
     ghost Stands = { SoloStands W.keys_in W.IsWorkOf };
 
-    ghost lawful = { λ hub pass c h is. solo_lawful (HasWindow W.keys_in W.IsWorkOf (settings_of hub)) (settings_of hub) c h pass.board pass.shards.items is };
+    ghost lawful = { λ hub pass c h is. stands_lawful W.keys_in W.IsWorkOf hub pass c h is };
 
-    ghost sound = { λ hub pass c h is. solo_sound (HasWindow W.keys_in W.IsWorkOf (settings_of hub)) (settings_of hub) c h pass.board pass.shards.items is };
+    ghost sound = { λ hub pass c h is. stands_sound W.keys_in W.IsWorkOf hub pass c h is };
 
-    ghost caller = { λ hub pass c h is. solo_caller (HasWindow W.keys_in W.IsWorkOf (settings_of hub)) (settings_of hub) c h pass.board pass.shards.items is };
+    ghost caller = { λ hub pass c h is. stands_caller W.keys_in W.IsWorkOf hub pass c h is };
 
     fn accept(
         &self,
@@ -113,9 +108,11 @@ impl<W: Indexed> Hub<W> for Solo<W> {
     }
 
     fn finish(&self, change: u64, work: Arc<W, Global>, pass: &mut SoloPass<W>) -> Finished
-        requires work { HasSeen (SoloStands W.keys_in W.IsWorkOf) self.now pass.old (λ _ h. IsAccepted (state 1 h) change × IsWorkFor (W.IsWorkOf (settings_of self.now)) (slot_of (state 1 h) change).change (arc_value work)) }
-        ensures done { result ≡ Finished.Done → Extends (SoloStands W.keys_in W.IsWorkOf) (Unit {0}) Never self.now pass.old pass.new (λ c. event.Done c change ∷ []) (λ _ mid. IsUndone (state 1 mid) change) }
-        ensures already { result ≡ Finished.Already → Extends (SoloStands W.keys_in W.IsWorkOf) (Unit {0}) Never self.now pass.old pass.new (λ _. []) (λ _ mid. IsDone (state 1 mid) change) }
+        requires work { SoloHasItsWork W.keys_in W.IsWorkOf self.now pass.old change work }
+        ensures done { result ≡ Finished.Done
+            → SoloDoes W.keys_in W.IsWorkOf self.now pass.old pass.new change }
+        ensures already { result ≡ Finished.Already
+            → SoloSeesDone W.keys_in W.IsWorkOf self.now pass.old pass.new change }
         ensures asked { asked_by pass.new ≡ asked_by pass.old }
     {
         match pass.board.done(0, change, work) {
@@ -160,8 +157,8 @@ impl<W: Indexed> Hub<W> for Solo<W> {
     }
 
     fn close_view(&self, _view: View<W>, pass: &mut SoloPass<W>)
-        requires viewing { HasSeen (SoloStands W.keys_in W.IsWorkOf) self.now pass.old (λ c h. IsSome (view_of (state 1 h) c)) }
-        ensures shut { Extends (SoloStands W.keys_in W.IsWorkOf) (Unit {0}) Never self.now pass.old pass.new (λ c. event.Shut c ∷ []) (λ _ _. Unit {0}) }
+        requires viewing { SoloHasViewOpen W.keys_in W.IsWorkOf self.now pass.old }
+        ensures shut { SoloShuts W.keys_in W.IsWorkOf self.now pass.old pass.new }
         ensures asked { asked_by pass.new ≡ asked_by pass.old }
     {
         pass.board.shut(0);
