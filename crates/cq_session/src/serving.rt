@@ -39,8 +39,8 @@ fn turn<L: Ledger, H: Hub<Work<L>>, K: Sink, G: Gate>(
     requires hub_settings { H.settings hub.now ≡ settings.now }
     requires short { length line.now ≤ line_limit }
     requires closed { HasAccepted H.Hub hub.now pass.old seen.old }
-    ensures turns { HasSentLine H.Hub hub.now pass.old pass.new steps.old steps.new seen.old settings.now line.now
-        (K.written sink.old) (K.written sink.new) result seen.new }
+    ensures turns { HasSentLine H.Hub hub.now pass.old pass.new steps.old steps.new
+        seen.old settings.now line.now (K.written sink.old) (K.written sink.new) result seen.new }
     ensures cause { HasCause (K.faults sink.old) (K.faults sink.new) result }
 {
     let (line, number) = told(alloc, settings, keyer, hub, line, *seen, gate, pass, steps);
@@ -77,8 +77,8 @@ pub fn session<L: Ledger, H: Hub<Work<L>>, S: Source, K: Sink, G: Gate>(
     requires settings { keyer.now.settings ≡ settings.now }
     requires hub_settings { H.settings hub.now ≡ settings.now }
     requires closed { MayLead H.Stands (H.callers hub.now) hub.now pass.old Always }
-    ensures served { HasServed H.Hub hub.now pass.old pass.new steps.old steps.new S.Source K.Sink settings.now
-        lines.old.limit source.old source.new sink.old sink.new result }
+    ensures served { HasServed H.Hub hub.now pass.old pass.new steps.old steps.new S.Source K.Sink
+        settings.now lines.old.limit source.old source.new sink.old sink.new result }
     ensures cause { HasCauseOfEnd S.Source K.Sink source.old source.new sink.old sink.new result }
 {
     let mut seen = 0u64;
