@@ -7,7 +7,7 @@ use crate::draws::Draws;
 use crate::model::Model;
 use cq_base::{Memory, Settings, Steps};
 use cq_hub::{Hub, Solo, SoloPass};
-use cq_io::{MemSink, MemSource, OpenGate};
+use cq_io::{Gate, MemSink, MemSource, OpenGate};
 use cq_key::{Keyer, plain_key};
 use cq_lines::{End, Lines};
 use cq_session::session;
@@ -16,13 +16,14 @@ use std::alloc::Global;
 use std::marker::Brand;
 use std::sync::ledger::{Blank, Ledger};
 
-// How a session ends, and what it writes for an input.
-fn written<L: Ledger, H: Hub<Work<L>>>(
+/// How a session ends, and what it writes for an input.
+pub fn written<L: Ledger, H: Hub<Work<L>>, G: Gate>(
     alloc: Global,
     settings: &Settings,
     keyer: &Keyer,
     hub: &H,
     input: &[u8],
+    gate: &G,
     pass: &mut H::Pass,
     steps: &mut Steps<L>,
 ) -> Result<(End, Vec<u8>), Memory>
@@ -45,7 +46,7 @@ fn written<L: Ledger, H: Hub<Work<L>>>(
         &mut lines,
         &mut source,
         &mut sink,
-        &OpenGate,
+        gate,
         steps,
     );
     let output = Vec::from_slice(alloc, sink.written())?;
@@ -99,7 +100,7 @@ fn talk<L: Ledger, H: Hub<Work<L>>>(
 {
     let lines = drawn_lines(alloc, count, draws, model)?;
     let input = lines.asked.as_bytes();
-    match written(alloc, settings, keyer, hub, input, pass, steps) {
+    match written(alloc, settings, keyer, hub, input, &OpenGate, pass, steps) {
         Ok((end, output)) => {
             let found = parted(end, &output, lines.told.as_bytes());
             Ok((found, lines.told))
