@@ -2,56 +2,20 @@ ghost use Rattle.std.specs.Prelude.{◌≡◌, OnOk};
 ghost use Rattle.cq_base.specs.Settings.{IsInRange};
 ghost use Rattle.cq_talk.specs.Steps.{Always, MayLead};
 
-use crate::asking::drawn_lines;
-use crate::draws::Draws;
-use crate::model::Model;
+use crate::running::written;
 use cq_base::{Memory, Settings, Steps};
+use cq_chain::Pass;
 use cq_hub::{Hub, Solo, SoloPass};
-use cq_io::{Gate, MemSink, MemSource, OpenGate};
+use cq_io::OpenGate;
 use cq_key::{Keyer, plain_key};
-use cq_lines::{End, Lines};
-use cq_session::session;
+use cq_lines::End;
+use cq_shared::Shared;
+use cq_talk_model::{Draws, Model, drawn_lines};
 use cq_work::Work;
 use std::alloc::Global;
 use std::marker::Brand;
+use std::sync::Wait;
 use std::sync::ledger::{Blank, Ledger};
-
-/// How a session ends, and what it writes for an input.
-pub fn written<L: Ledger, H: Hub<Work<L>>, G: Gate>(
-    alloc: Global,
-    settings: &Settings,
-    keyer: &Keyer,
-    hub: &H,
-    input: &[u8],
-    gate: &G,
-    pass: &mut H::Pass,
-    steps: &mut Steps<L>,
-) -> Result<(End, Vec<u8>), Memory>
-    requires in_range { IsInRange settings.now }
-    requires settings { keyer.now.settings ≡ settings.now }
-    requires hub_settings { H.settings hub.now ≡ settings.now }
-    requires closed { MayLead H.Stands (H.callers hub.now) hub.now pass.old Always }
-    ensures closed { OnOk result (MayLead H.Stands (H.callers hub.now) hub.now pass.new Always) }
-{
-    let mut lines = Lines::new(alloc, settings.byte_limit)?;
-    let bytes = Vec::from_slice(alloc, input)?;
-    let mut source = MemSource::new(bytes, 97, Vec::new(alloc));
-    let mut sink = MemSink::new(alloc, 1_048_576, 89, Vec::new(alloc))?;
-    let end = session(
-        alloc,
-        settings,
-        keyer,
-        hub,
-        pass,
-        &mut lines,
-        &mut source,
-        &mut sink,
-        gate,
-        steps,
-    );
-    let output = Vec::from_slice(alloc, sink.written())?;
-    Ok((end, output))
-}
 
 // The line, from 1, in which what was written first differs from what was to be written.
 fn difference(written: &[u8], wanted: &[u8]) -> Option<u64> {
@@ -119,7 +83,43 @@ pub struct Talks {
     pub told_then: String,
 }
 
-fn talks_over_one_hub<L: Ledger>(
+fn talks_over_one_hub<L: Ledger, H: Hub<Work<L>>>(
+    alloc: Global,
+    settings: &Settings,
+    counts: (u32, u32),
+    seed: u64,
+    hub: &H,
+    pass: &mut H::Pass,
+    blank: Blank,
+) -> Result<Talks, Memory>
+    requires in_range { IsInRange settings.now }
+    requires hub_settings { H.settings hub.now ≡ settings.now }
+    requires closed { MayLead H.Stands (H.callers hub.now) hub.now pass.old Always }
+    requires name { blank.name ≡ L.name }
+    requires parts { blank.parts ≡ L.parts }
+{
+    let of = *settings;
+    let key = Box::new(alloc, move |codes: &[u64]| plain_key(&of, codes))?;
+    let keyer = Keyer::new(settings, key);
+    let mut steps: Steps<L> = Steps::new(blank);
+    let mut draws = Draws::new(seed);
+    let mut model = Model::new(alloc, settings.change_limit, settings.text_limit);
+    let (count, count_then) = counts;
+    let (first, told) = talk(
+        alloc, settings, &keyer, hub, count, &mut draws, &mut model, pass, &mut steps,
+    )?;
+    let (second, told_then) = talk(
+        alloc, settings, &keyer, hub, count_then, &mut draws, &mut model, pass, &mut steps,
+    )?;
+    Ok(Talks {
+        first,
+        second,
+        told,
+        told_then,
+    })
+}
+
+fn talks_over_solo<L: Ledger>(
     alloc: Global,
     settings: &Settings,
     counts: (u32, u32),
@@ -130,30 +130,29 @@ fn talks_over_one_hub<L: Ledger>(
     requires name { blank.name ≡ L.name }
     requires parts { blank.parts ≡ L.parts }
 {
-    let of = *settings;
-    let key = Box::new(alloc, move |codes: &[u64]| plain_key(&of, codes))?;
-    let keyer = Keyer::new(settings, key);
-    let mut steps: Steps<L> = Steps::new(blank);
     let made: (Solo<Work<L>>, SoloPass<Work<L>>) = Solo::new(alloc, settings)?;
     let (hub, mut pass) = made;
-    let mut draws = Draws::new(seed);
-    let mut model = Model::new(alloc, settings.change_limit, settings.text_limit);
-    let (count, count_then) = counts;
-    let (first, told) = talk(
-        alloc, settings, &keyer, &hub, count, &mut draws, &mut model, &mut pass, &mut steps,
-    )?;
-    let (second, told_then) = talk(
-        alloc, settings, &keyer, &hub, count_then, &mut draws, &mut model, &mut pass, &mut steps,
-    )?;
-    Ok(Talks {
-        first,
-        second,
-        told,
-        told_then,
-    })
+    talks_over_one_hub(alloc, settings, counts, seed, &hub, &mut pass, blank)
 }
 
-/// Two talks of so many lines each, over one new hub.
+fn talks_over_shared<L: Ledger, R: Wait + Drop>(
+    rt: R,
+    alloc: Global,
+    settings: &Settings,
+    counts: (u32, u32),
+    seed: u64,
+    blank: Blank,
+) -> Result<Talks, Memory>
+    requires in_range { IsInRange settings.now }
+    requires name { blank.name ≡ L.name }
+    requires parts { blank.parts ≡ L.parts }
+{
+    let made: (Shared<Work<L>, R>, Pass<Work<L>>) = Shared::new(rt, alloc, settings, 1)?;
+    let (hub, mut pass) = made;
+    talks_over_one_hub(alloc, settings, counts, seed, &hub, &mut pass, blank)
+}
+
+/// Two talks of so many lines each, over one new hub of a single caller.
 pub fn talks_here(
     alloc: Global,
     settings: &Settings,
@@ -162,5 +161,18 @@ pub fn talks_here(
 ) -> Result<Talks, Memory>
     requires { IsInRange settings.now }
 {
-    talks_over_one_hub::<Brand>(alloc, settings, counts, seed, Blank::new(1))
+    talks_over_solo::<Brand>(alloc, settings, counts, seed, Blank::new(1))
+}
+
+/// The same over a hub whose passes may be those of several threads, by one pass.
+pub fn shared_talks_here<R: Wait + Drop>(
+    rt: R,
+    alloc: Global,
+    settings: &Settings,
+    counts: (u32, u32),
+    seed: u64,
+) -> Result<Talks, Memory>
+    requires { IsInRange settings.now }
+{
+    talks_over_shared::<Brand, R>(rt, alloc, settings, counts, seed, Blank::new(1))
 }

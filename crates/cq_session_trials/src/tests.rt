@@ -1,6 +1,7 @@
-use crate::talking::{Talks, talks_here};
+use crate::talking::{Talks, shared_talks_here, talks_here};
 use cq_base::{Memory, Settings};
 use std::alloc::Global;
+use std::sync::Wait;
 
 const SETTINGS: Settings = Settings {
     chunk: 2,
@@ -96,6 +97,21 @@ fn one_talk(alloc: Global, key_bits: u32, shards: u32, seed: u64) -> Result<Went
     two_talks(alloc, &settings, (400, 0), seed, &TOLD, &[])
 }
 
+// A talk of 400 lines, over a hub whose passes may be those of several threads.
+fn one_shared_talk<R: Wait + Drop>(
+    rt: R,
+    alloc: Global,
+    shards: u32,
+    seed: u64,
+) -> Result<Went, Memory> {
+    let settings = Settings { shards, ..SETTINGS };
+    if settings.check().is_some() {
+        return Ok(Went::OutOfRange);
+    }
+    let talks = shared_talks_here(rt, alloc, &settings, (400, 0), seed)?;
+    Ok(how_they_went(&talks, &TOLD, &[]))
+}
+
 #[test]
 fn a_talk_goes_as_told_where_all_keys_are_one(rt: HostRuntime) -> Result<(), Memory> {
     assert_eq!(rt; one_talk(rt.alloc(), 0, 1, 3)?, Went::AsTold);
@@ -141,5 +157,12 @@ fn changes_and_texts_are_limited(rt: HostRuntime) -> Result<(), Memory> {
     let told = ["\"full-text\"", "\"full-changes\""];
     let went = two_talks(rt.alloc(), &settings, (300, 50), 11, &told, &[])?;
     assert_eq!(rt; went, Went::AsTold);
+    Ok(())
+}
+
+#[test]
+fn a_talk_over_a_shared_hub_goes_as_told(rt: HostRuntime) -> Result<(), Memory> {
+    assert_eq!(rt; one_shared_talk(&rt, rt.alloc(), 1, 12)?, Went::AsTold);
+    assert_eq!(rt; one_shared_talk(&rt, rt.alloc(), 7, 13)?, Went::AsTold);
     Ok(())
 }

@@ -45,6 +45,16 @@ pub enum Change {
     },
 }
 
+impl Change {
+    /// The same as the change with this number.
+    pub fn numbered(self, number: u64) -> Change {
+        match self {
+            Change::Put(put) => Change::Put(Put { number, ..put }),
+            other => other,
+        }
+    }
+}
+
 /// What a query asks beside its name; what is left out stands for nothing.
 #[derive(Clone, Copy)]
 pub struct Query {
@@ -199,7 +209,8 @@ impl Model {
         if let Change::Put(put) = &change {
             self.room = self.room.saturating_sub(size_of(&put.words));
         }
-        self.changes.push(change)?;
+        let number = self.accepted().saturating_add(1);
+        self.changes.push(change.numbered(number))?;
         self.seen = self.accepted();
         Ok(None)
     }
