@@ -1,18 +1,16 @@
-//! cqd, a code quality server. The whole program is one call, `top`, over a source, a sink, doors, a gate and a counter
-//! that it is handed; `main` makes the real ones.
+//! cqd, a code quality server. The whole program is the call `top` of `cq_program`, over a source, a sink, doors, a gate
+//! and a counter that it is handed; `main` makes the real ones.
 #![tactic(auto)]
 
 ghost use Rattle.std.specs.Prelude.{◌≡◌, ◌≢◌, map, drop, string_bytes, IfOk};
 ghost use Rattle.std.specs.IoError.{error_kind};
 ghost use Rattle.std.specs.declared.io.ErrorKind.TheVariants.{OutOfMemory};
 ghost use Rattle.std.specs.Vec.Iter.{into_iter_items};
-ghost use Rattle.cqd.specs.Top as spec;
+ghost use Rattle.cqd.specs.Told as spec;
 
-mod program;
-
-use crate::program::top;
 use cq_base::{Memory, Steps, Text};
 use cq_io::{MemDoors, OpenGate, StdSink, StdSource};
+use cq_program::top;
 use std::alloc::Global;
 use std::collections::VecDeque;
 use std::env;
@@ -107,6 +105,3 @@ fn main(rt: HostRuntime) -> ExitCode {
     }
     ExitCode::from(status)
 }
-
-#[cfg(test)]
-mod tests;

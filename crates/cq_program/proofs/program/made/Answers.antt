@@ -1,8 +1,8 @@
 use Rattle.std.proofs.Common.{sym, ap, ◌∙◌, subst}
 use Rattle.cq_base.specs.declared.settings.Settings.{Settings}
 use Rattle.cq_make.specs.Made.{Makes}
-use Rattle.cqd.specs.Top.{status_of, end_of}
-use Rattle.cqd.proofs.program.made.Goals as goal
+use Rattle.cq_program.specs.Top.{status_of, end_of}
+use Rattle.cq_program.proofs.program.made.Goals as goal
 
 pub returns-in-Ok-Ok-clause-makes : goal.returns-in-Ok-Ok-clause-makes
 returns-in-Ok-Ok-clause-makes g c = λ other. record {

@@ -1,8 +1,8 @@
 ghost use Rattle.std.specs.Prelude.{◌≡◌, ◌≢◌, ◌↔◌, ◌≤◌, None, Some};
 ghost use Rattle.cq_base.specs.Settings.{IsInRange};
 ghost use Rattle.cq_io.specs.Causes.{Rose};
-ghost use Rattle.cqd.specs.Top.{Drives, DrivesFor, MakesFor, MakesLine, Runs, RunsFor};
-ghost use Rattle.cqd.specs.Top as spec;
+ghost use Rattle.cq_program.specs.Top.{Drives, DrivesFor, MakesFor, MakesLine, Runs, RunsFor};
+ghost use Rattle.cq_program.specs.Top as spec;
 ghost use Rattle.cq_words.specs.Command.{command_of};
 ghost use Rattle.cq_words.specs.declared.command.Command.TheVariants as command;
 ghost use Rattle.cq_words.specs.declared.command.Make.{Make};

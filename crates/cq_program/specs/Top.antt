@@ -1,5 +1,5 @@
 -- What the top call does, by its status.
-use Rattle.std.specs.Prelude.{◌≡◌, ◌≢◌, ◌==◌, ℕ, List, [], map, Option, Some, Result, Ok, Err, codes, if◌then◌else◌}
+use Rattle.std.specs.Prelude.{◌≡◌, ◌≢◌, ℕ, List, [], map, Option, Some, Result, Ok, Err}
 use Rattle.cq_base.specs.declared.settings.Settings.{Settings}
 use Rattle.cq_drive.specs.Script.{IsScript}
 use Rattle.cq_history.specs.declared.event.Event.{Event}
@@ -35,15 +35,6 @@ status_of end.Spent = 6
 abbrev pub end_of : {E : Type 0} → Result (Unit {0}) E → End
 end_of (Ok sent) = end.Finished
 end_of (Err failed) = end.WriteFault
-
--- the line on standard error that tells a status other than 0
-abbrev pub line_of : ℕ → List ℕ
-line_of status =
-    if status == 1 then codes "cqd: words refused"
-    else if status == 2 then codes "cqd: read fault"
-    else if status == 3 then codes "cqd: write fault"
-    else if status == 4 then codes "cqd: out of memory"
-    else codes "cqd: byte limit"
 
 -- One reply for each line, from nothing on, by a server to which nobody else speaks: by a history of its own events alone,
 -- where so many tokens were read before and now, and an index was asked so often; up to the first that tells want of memory,

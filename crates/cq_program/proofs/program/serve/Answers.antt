@@ -8,9 +8,9 @@ use Rattle.cq_reply.specs.Written.{line_of}
 use Rattle.cq_session.specs.Costs.{counted}
 use Rattle.cq_session.specs.Turn.{CountedTalk}
 use Rattle.cq_talk.specs.Said.{said}
-use Rattle.cqd.specs.Top.{AreAlone}
-use Rattle.cqd.proofs.Served.{serves_as}
-use Rattle.cqd.proofs.program.serve.Goals as goal
+use Rattle.cq_program.specs.Top.{AreAlone}
+use Rattle.cq_program.proofs.Served.{serves_as}
+use Rattle.cq_program.proofs.program.serve.Goals as goal
 
 pub session-end-requires-clause-closed : goal.session-end-requires-clause-closed
 session-end-requires-clause-closed g c = (0, [], c.in-Ok-made.ensures.stands, (refl, tt))

@@ -1,7 +1,7 @@
 use Rattle.std.proofs.Common.{rules, ◌≡◌, sym, subst}
 use Rattle.cq_words.specs.declared.command.Make.{Make}
-use Rattle.cqd.specs.Top.{IsMade}
-use Rattle.cqd.proofs.program.top.Goals as goal
+use Rattle.cq_program.specs.Top.{IsMade}
+use Rattle.cq_program.proofs.program.top.Goals as goal
 
 pub returns-in-Ok-Some-Make-clause-makes : goal.returns-in-Ok-Some-Make-clause-makes
 returns-in-Ok-Some-Make-clause-makes g c = λ asked is other.

@@ -1,0 +1,7 @@
+//! The whole program as one call, `top`, over words, a source, a sink, doors, a gate and a counter that it is handed. `cqd`
+//! calls it with the real ones, and `cqd_cases` with ends in memory.
+#![tactic(auto)]
+
+mod program;
+
+pub use program::top;

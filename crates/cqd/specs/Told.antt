@@ -1,0 +1,11 @@
+-- What is told of how a run ended.
+use Rattle.std.specs.Prelude.{◌==◌, ℕ, List, codes, if◌then◌else◌}
+
+-- the line on standard error that tells a status other than 0
+abbrev pub line_of : ℕ → List ℕ
+line_of status =
+    if status == 1 then codes "cqd: words refused"
+    else if status == 2 then codes "cqd: read fault"
+    else if status == 3 then codes "cqd: write fault"
+    else if status == 4 then codes "cqd: out of memory"
+    else codes "cqd: byte limit"

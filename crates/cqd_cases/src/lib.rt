@@ -1,0 +1,14 @@
+//! Trials of the whole program: `top` over ends in memory, with sessions, words, made projects and scripts whose outcomes
+//! were worked out by hand.
+#![tactic(auto)]
+
+#[cfg(test)]
+mod projects;
+#[cfg(test)]
+mod running;
+#[cfg(test)]
+mod scripts;
+#[cfg(test)]
+mod sessions;
+#[cfg(test)]
+mod words;

@@ -1,0 +1,32 @@
+use crate::running::ends_with;
+use cq_base::Memory;
+
+#[test]
+fn a_project_is_made_and_told(rt: HostRuntime) -> Result<(), Memory> {
+    let alloc = rt.alloc();
+    let line =
+        r#"{"groups":2,"measures":{"complexity":3,"duplicated_blocks":4,"duplicated_files":3,"duplicated_lines":40,"duplicated_lines_density":6666,"files":3,"lines":60,"ncloc":60},"ok":true,"tokens":300,"version":3}
+"#
+            .as_bytes();
+    let make = ["make", "7", "3"];
+    assert!(rt; ends_with(alloc, &make, b"{}\n", 4_096, (0, 0), line, 0)?);
+    assert!(rt; ends_with(alloc, &make, b"{}\n", 9, (0, 1), b"", 3)?);
+    assert!(rt; ends_with(alloc, &make, b"{}\n", 7, (0, 2), b"{\"group", 3)?);
+    Ok(())
+}
+
+#[test]
+fn each_tenth_file_is_the_same_and_none_is_told(rt: HostRuntime) -> Result<(), Memory> {
+    let alloc = rt.alloc();
+    let twenty =
+        r#"{"groups":20,"measures":{"complexity":20,"duplicated_blocks":60,"duplicated_files":20,"duplicated_lines":400,"duplicated_lines_density":10000,"files":20,"lines":400,"ncloc":400},"ok":true,"tokens":2000,"version":20}
+"#
+            .as_bytes();
+    let none =
+        r#"{"groups":0,"measures":{"complexity":0,"duplicated_blocks":0,"duplicated_files":0,"duplicated_lines":0,"duplicated_lines_density":0,"files":0,"lines":0,"ncloc":0},"ok":true,"tokens":0,"version":0}
+"#
+            .as_bytes();
+    assert!(rt; ends_with(alloc, &["make", "0", "20"], b"", 7, (0, 0), twenty, 0)?);
+    assert!(rt; ends_with(alloc, &["make", "5", "0"], b"", 7, (0, 0), none, 0)?);
+    Ok(())
+}

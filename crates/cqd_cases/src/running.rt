@@ -1,0 +1,65 @@
+ghost use Rattle.std.specs.Prelude.{◌≡◌, ◌<◌};
+
+use cq_base::{Memory, Steps, Text};
+use cq_io::{MemDoors, MemSink, MemSource, OpenGate};
+use cq_program::top;
+use std::alloc::Global;
+use std::collections::VecDeque;
+use std::marker::Brand;
+use std::sync::ledger::{Blank, Ledger};
+
+pub(crate) fn words_of(alloc: Global, all: &[&str]) -> Result<Vec<Text>, Memory> {
+    let mut words = Vec::new(alloc);
+    for word in all {
+        words.push(Text::from_bytes(alloc, word.as_bytes())?)?;
+    }
+    Ok(words)
+}
+
+fn run<L: Ledger>(
+    alloc: Global,
+    words: &[Text],
+    source: &mut MemSource,
+    sink: &mut MemSink,
+    blank: Blank,
+) -> u8
+    requires name { blank.name ≡ L.name }
+    requires parts { blank.parts ≡ L.parts }
+{
+    let mut doors = MemDoors::new(VecDeque::new(alloc), Vec::new(alloc));
+    let mut steps: Steps<L> = Steps::new(blank);
+    top(
+        alloc, words, source, sink, &mut doors, &OpenGate, &mut steps,
+    )
+}
+
+pub(crate) fn run_here(
+    alloc: Global,
+    words: &[Text],
+    source: &mut MemSource,
+    sink: &mut MemSink,
+) -> u8 {
+    run::<Brand>(alloc, words, source, sink, Blank::new(1))
+}
+
+/// Whether the program ends with a status after it has written an output, over ends of so many bytes a call, of which
+/// one call may fail.
+pub(crate) fn ends_with(
+    alloc: Global,
+    words: &[&str],
+    input: &[u8],
+    greatest: usize,
+    failing: (u64, u64),
+    output: &[u8],
+    status: u8,
+) -> Result<bool, Memory>
+    requires { 0 < greatest }
+{
+    let (failing_read, failing_write) = failing;
+    let words = words_of(alloc, words)?;
+    let bytes = Vec::from_slice(alloc, input)?;
+    let mut source = MemSource::new(bytes, greatest, vec![in alloc; failing_read]?);
+    let mut sink = MemSink::new(alloc, 65_536, greatest, vec![in alloc; failing_write]?)?;
+    let ended = run_here(alloc, &words, &mut source, &mut sink);
+    Ok(ended == status && sink.written() == output)
+}
