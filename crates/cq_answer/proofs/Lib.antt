@@ -4,5 +4,4 @@ pub mod SameReadings
 pub mod Inside
 pub mod Rows
 pub mod Listable
-pub mod OneFile
 pub mod Told

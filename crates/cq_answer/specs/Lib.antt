@@ -5,6 +5,5 @@ pub mod Reply
 pub mod Questions
 pub mod Works
 pub mod Versions
-pub mod Trial
 pub mod Refusals
 pub mod Lent

@@ -17,6 +17,3 @@ mod works;
 pub use answering::answer;
 pub use part::Part;
 pub use refusing::{cause_told, refused_as};
-
-#[cfg(test)]
-mod tests;

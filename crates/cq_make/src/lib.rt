@@ -10,6 +10,3 @@ mod putting;
 mod summary;
 
 pub use making::make;
-
-#[cfg(test)]
-mod tests;
