@@ -104,8 +104,8 @@ module _ {W : Type 0} (hs : List (Arc (File W) Global)) (p : List ℕ) where
     pub behind_within : behind ≤ length hs
     behind_within = omega (arith, whole, cut.behind_is)
 
-    pub before_within : before ≤ length hs
-    before_within = omega (arith, whole, cut.before_is)
+    pub cut_order : before ≤ behind
+    cut_order = omega (arith, cut.before_is, cut.behind_is)
 
     rest_is : (from : ℕ) → from ≤ before → drop from (map arc_value hs) ≡ drop from cut.low ++ (cut.same ++ cut.high)
     rest_is from le = ap (drop from) cut.is ∙ drop_front from cut.low (cut.same ++ cut.high) (omega (arith, le, cut.before_is))

@@ -179,3 +179,9 @@ pub finished_more : {X : Type 0} (done now : List (Arc X Global)) (p : Arc X Glo
 finished_more done now p d rest left all pushed is next was =
     ap (λ ps. map arc_value ps ++ rest) pushed ∙ ap (λ xs. xs ++ rest) (map-append arc_value done (p ∷ [])) ∙ append_assoc (map arc_value done) (arc_value p ∷ []) rest
     ∙ ap (λ e. map arc_value done ++ e ∷ rest) is ∙ ap (λ xs. map arc_value done ++ xs) (sym next) ∙ was
+
+-- ---- the drafts that are begun
+
+pub drafted_more : {X : Type 0} (done now : List X) (d : X) (p : Arc X Global) (rest left : List (Arc X Global)) (all : List X) → now ≡ done ++ d ∷ [] → d ≡ arc_value p → left ≡ p ∷ rest → done ++ map arc_value left ≡ all → now ++ map arc_value rest ≡ all
+drafted_more done now d p rest left all pushed is next was =
+    ap (λ xs. xs ++ map arc_value rest) pushed ∙ append_assoc done (d ∷ []) (map arc_value rest) ∙ ap (λ e. done ++ e ∷ map arc_value rest) is ∙ ap (λ ps. done ++ map arc_value ps) (sym next) ∙ was

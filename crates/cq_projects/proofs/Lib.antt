@@ -3,6 +3,7 @@ pub mod Editing
 pub mod FileAt
 pub mod FileLists
 pub mod Gathering
+pub mod Moving
 pub mod OneWalk
 pub mod OwnerLists
 pub mod PathOrders

@@ -1,9 +1,10 @@
 -- What the changes of a batch make of a project's files: at each path that they name stands a file, or none.
-use Rattle.std.specs.Prelude.{◌≡◌, ℕ, ◌+◌, ◌-◌, List, [], ◌∷◌, ◌++◌, length, map, take, drop, IfSome, Option, None, Some}
+use Rattle.std.specs.Prelude.{◌≡◌, ℕ, ◌+◌, List, [], ◌∷◌, ◌++◌, length, map, take, option_map, unwrap_or, IfSome, Option, None, Some}
 use Rattle.std.specs.Arc.{arc_value}
 use Rattle.std.specs.List.{AllByRecursion}
 use Rattle.std.specs.declared.sync.Arc.{Arc}
 use Rattle.std.specs.declared.alloc.Global.{Global}
+use Rattle.cq_base.specs.declared.change.Condition.{Condition}
 use Rattle.cq_history.specs.Files.{File, with_file, without_file}
 use Rattle.cq_projects.specs.declared.merging.Named.{Named}
 use Rattle.cq_projects.specs.Projects.{ListedProject, path_of}
@@ -76,6 +77,10 @@ module _ {W : Type 0} where
   abbrev pub AreCut : List (File W) → List (Arc (List ℕ) Global × Named W) → Type 0
   AreCut files entries = AllByRecursion (λ (e : Arc (List ℕ) Global × Named W). IsCut (arc_value e.0) files e.1.before e.1.behind) entries
 
-  -- behind the files that are done come those from an index on and before a path, and what stands there
-  abbrev pub Joins : ℕ → ℕ → Option (Arc (File W) Global) → List (Arc (File W) Global) → List (Arc (File W) Global) → List (Arc (File W) Global) → Type 0
-  Joins from before file files done now = map arc_value now ≡ map arc_value done ++ (map arc_value (take (before - from) (drop from files)) ++ one_or_none file)
+  -- behind the files that are done come so many of the rest, and what stands at a path
+  abbrev pub Joins : ℕ → Option (Arc (File W) Global) → List (Arc (File W) Global) → List (Arc (File W) Global) → List (Arc (File W) Global) → Type 0
+  Joins before file rest done now = map arc_value now ≡ map arc_value done ++ (map arc_value (take before rest) ++ one_or_none file)
+
+  -- the project has at the named paths what stands there, and the conditions where there are any
+  abbrev pub IsRevised : List (Arc (List ℕ) Global × Named W) → Option (Arc (List Condition) Global) → ListedProject W → ListedProject W → Type 0
+  IsRevised entries conditions old new = new ≡ record { name = old.name; files = edited_named entries old.files; conditions = unwrap_or (option_map arc_value conditions) old.conditions }

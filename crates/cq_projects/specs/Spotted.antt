@@ -24,9 +24,12 @@ module _ {W : Type 0} where
   abbrev pub IsPositionOfPath : List (File W) → List ℕ → Option ℕ → Type 0
   IsPositionOfPath files path position = (i : ℕ) → (position ≡ Some i) ↔ (slice_get (paths_of files) i ≡ Some path)
 
-  -- each file of the project was put by a change of its own
+  -- each file was put by a change of its own
+  abbrev pub AreApartIn : List (File W) → Type 0
+  AreApartIn files = AllPairs (λ a b. a ≢ b) (numbers_of files)
+
   abbrev pub AreApart : ListedProject W → Type 0
-  AreApart project = AllPairs (λ a b. a ≢ b) (numbers_of project.files)
+  AreApart project = AreApartIn project.files
 
   -- each was put by an earlier change than this one
   abbrev pub AreOlder : ℕ → List (File W) → Type 0

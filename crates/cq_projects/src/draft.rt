@@ -4,17 +4,17 @@ ghost use Rattle.std.specs.Prelude.{◌≡◌, ◌<◌, ℕ, List, All, length, 
 ghost use Rattle.std.specs.Arc.{arc_value};
 ghost use Rattle.std.specs.Ordering.{nat_cmp};
 ghost use Rattle.std.specs.Cmp.Lexicographic.{slice_cmp};
-ghost use Rattle.cq_projects.specs.Drafts.{IsOwn, IsSetAt, number_in};
-ghost use Rattle.cq_projects.specs.Spotted.{AreApart};
+ghost use Rattle.cq_projects.specs.Drafts.{IsOwn, IsSetAt, IsRevised, number_in, edited_named, files_at, AreOwn, AreCut};
+ghost use Rattle.cq_projects.specs.Spotted.{AreApart, AreApartIn};
 ghost use Rattle.cq_projects.specs.Edits.{edited_files, edited_conditions, replaced_by, EditsFiles, EditsConditions};
-ghost use Rattle.cq_projects.specs.Projects.{number_at, name_in, files_in, conditions_in, position_of};
+ghost use Rattle.cq_projects.specs.Projects.{number_at, name_in, files_in, conditions_in, position_of, owner_files};
 ghost use Rattle.cq_projects.specs.Ordered.{AreRising, IsAt, IsGap};
 
 use crate::files::{Cut, cut_at};
 use crate::held::{Held, Project};
-use crate::merging::{Named, merged};
+use crate::merging::Named;
 use crate::project_files::ProjectFiles;
-use crate::projects::ProjectEdit;
+use crate::projects::{ProjectEdit, copied};
 use cq_base::{Conditions, Memory, Text};
 use std::alloc::Global;
 use std::cmp::Ordering;
@@ -102,37 +102,65 @@ impl<W: Drop> Draft<W> {
         }
     }
 
-    // The project with what the batch makes of it: the same one where it changes nothing.
+    // The project with what the batch makes of it: the same one where it changes nothing. Where nobody else has it, it is
+    // changed in place.
     fn finished(self, alloc: Global) -> Result<Arc<Project<W>, Global>, Memory>
         requires apart { AreApart self }
         ensures { IfOk result (λ project. arc_value project ≡ self) }
     {
         let Draft {
-            project,
+            mut project,
             paths,
             conditions,
         } = self;
         if paths.is_empty() && conditions.is_none() {
             return Ok(project);
         }
-        let files = merged(alloc, project.files.items(), paths)?;
-        let files = ProjectFiles::gathered(alloc, files)?;
-        let name = Arc::try_clone(&project.name)?;
-        let conditions = match conditions {
-            Some(conditions) => Some(conditions),
-            None => match &project.conditions {
-                Some(conditions) => Some(Arc::try_clone(conditions)?),
-                None => None,
-            },
-        };
-        Ok(Arc::new(
-            alloc,
-            Project {
-                name,
-                files,
-                conditions,
-            },
-        )?)
+        revise_shared(alloc, &mut project, paths, conditions)?;
+        Ok(project)
+    }
+}
+
+// Revises a project: the files that stand at some paths, and the conditions where there are any. Where memory is refused,
+// it has no files.
+fn revise<W: Drop>(
+    alloc: Global,
+    project: &mut Project<W>,
+    paths: BTreeMap<Arc<Text, Global>, Named<W>>,
+    conditions: Option<Arc<Conditions, Global>>,
+) -> Result<(), Memory>
+    requires cut { AreCut project.old.files paths.entries }
+    requires own { AreOwn (files_at paths.entries) }
+    requires apart { AreApartIn (edited_named paths.entries project.old.files) }
+    ensures { OnOk result (IsRevised paths.entries conditions project.old project.new) }
+{
+    project.files.merge(alloc, paths)?;
+    if conditions.is_some() {
+        project.conditions = conditions;
+    }
+    Ok(())
+}
+
+// Revises a project in place where nobody else has it, else a copy that takes its place.
+fn revise_shared<W: Drop>(
+    alloc: Global,
+    project: &mut Arc<Project<W>, Global>,
+    paths: BTreeMap<Arc<Text, Global>, Named<W>>,
+    conditions: Option<Arc<Conditions, Global>>,
+) -> Result<(), Memory>
+    requires cut { AreCut (owner_files project.old) paths.entries }
+    requires own { AreOwn (files_at paths.entries) }
+    requires apart { AreApartIn (edited_named paths.entries (owner_files project.old)) }
+    ensures { OnOk result (IsRevised paths.entries conditions (arc_value project.old) (arc_value project.new)) }
+{
+    match Arc::get_mut(project) {
+        Some(own) => revise(alloc, own, paths, conditions),
+        None => {
+            let mut own = copied(alloc, project)?;
+            revise(alloc, &mut own, paths, conditions)?;
+            *project = Arc::new(alloc, own)?;
+            Ok(())
+        }
     }
 }
 
@@ -161,7 +189,22 @@ pub fn drafts_of<W: Drop>(
     Ok(drafts)
 }
 
-/// The projects with what the batch makes of them.
+/// The drafts of projects whose owners are given up, so that one that nobody else has is changed in place.
+pub fn own_drafts<W: Drop>(
+    alloc: Global,
+    projects: Vec<Arc<Project<W>, Global>>,
+) -> Result<Vec<Draft<W>>, Memory>
+    ensures { IfOk result (λ drafts. drafts.items ≡ map arc_value projects.items) }
+{
+    let mut drafts = Vec::with_capacity(alloc, projects.len())?;
+    for project in projects {
+        drafts.push(Draft::of(alloc, project))?;
+    }
+    Ok(drafts)
+}
+
+/// The projects with what the batch makes of them. One that nobody else has is changed in place: its owners of files are
+/// moved. Of one that somebody else has a list is made, with an owner more for each file.
 pub fn finished_all<W: Drop>(
     alloc: Global,
     drafts: Vec<Draft<W>>,

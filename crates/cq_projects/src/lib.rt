@@ -3,9 +3,10 @@
 //!
 //! One edit costs a search among the projects and one among its project's files, a move in that list, 8 bytes a file,
 //! and a walk over the positions of its spots, 4 bytes a file, but none where the file comes last; where somebody else
-//! has the project, a copy of both first, an owner a file. A batch costs an owner for each project, for each edit a
-//! search among the projects, one among its project's files and one among the paths of the batch, and for each project
-//! whose files changed one walk that makes its list anew, an owner a file and no search, and a sort of its spots. What a
+//! has the project, a copy of both first, an owner a file. A batch costs for each edit a search among the projects, one
+//! among its project's files and one among the paths of the batch, and for each project whose files changed one walk that
+//! moves them into a list anew, 8 bytes a file and no search, and a sort of its spots; where somebody else has the
+//! project, a copy first, an owner a file. A batch that memory is refused to is given up with its projects. What a
 //! reader looks up in a project, by path or by change, is a binary search: the spots are kept with its list of files. No
 //! text, no path and no work is copied.
 #![tactic(auto)]
@@ -18,7 +19,7 @@ mod project_files;
 mod projects;
 mod spots;
 
-pub use draft::{Draft, drafts_of, edit_draft, finished_all};
+pub use draft::{Draft, drafts_of, edit_draft, finished_all, own_drafts};
 pub use held::{Held, Project};
 pub use project_files::ProjectFiles;
 pub use projects::{ProjectEdit, edit_in, find_project};

@@ -1,14 +1,15 @@
 //! The list of a project's files with a batch of edits, made in one walk in path order.
-ghost use Rattle.std.specs.Prelude.{◌≡◌, ◌≤◌, length, map, IfOk, OnOk};
+ghost use Rattle.std.specs.Prelude.{◌≡◌, ◌≤◌, ◌++◌, ◌-◌, map, take, drop, IfOk, OnOk};
 ghost use Rattle.std.specs.Arc.{arc_value};
+ghost use Rattle.std.specs.Vec.Iter.{into_iter_items};
 ghost use Rattle.cq_projects.specs.Drafts.{edited_named, files_at, AreOwn, AreCut, Joins};
 
-use crate::files::append_shared;
 use crate::held::Held;
 use cq_base::{Memory, Text};
 use std::alloc::Global;
 use std::collections::BTreeMap;
 use std::sync::Arc;
+use std::vec::IntoIter;
 
 /// What a batch makes of a path: the file that stands there, none where its last change there drops it. It keeps how many
 /// of the project's files are before the path, and how many with the one that is there.
@@ -19,42 +20,72 @@ pub struct Named<W> {
     pub file: Option<Arc<Held<W>, Global>>,
 }
 
-// Puts the files from an index on and before a path behind those that are done, and then what stands there.
+// Moves so many of the files that are left behind those that are done.
+fn append_moved<W: Drop>(
+    done: &mut Vec<Arc<Held<W>, Global>>,
+    rest: &mut IntoIter<Arc<Held<W>, Global>, Global>,
+    count: usize,
+) -> Result<(), Memory>
+    ensures moved { OnOk result (done.new.items ≡ done.old.items ++ take count (into_iter_items rest.old)) }
+    ensures left { OnOk result (into_iter_items rest.new ≡ drop count (into_iter_items rest.old)) }
+{
+    for _step in 0..count {
+        if let Some(held) = rest.next() {
+            done.push(held)?;
+        }
+    }
+    Ok(())
+}
+
+// Lets so many of the files that are left go.
+fn let_go<W: Drop>(rest: &mut IntoIter<Arc<Held<W>, Global>, Global>, count: usize)
+    ensures { into_iter_items rest.new ≡ drop count (into_iter_items rest.old) }
+{
+    for _step in 0..count {
+        drop(rest.next());
+    }
+}
+
+// Moves the files before a path behind those that are done, and puts what stands there. Those that stood there go.
 fn merge_one<W: Drop>(
     done: &mut Vec<Arc<Held<W>, Global>>,
-    files: &[Arc<Held<W>, Global>],
-    from: usize,
+    rest: &mut IntoIter<Arc<Held<W>, Global>, Global>,
     before: usize,
+    gone: usize,
     file: Option<Arc<Held<W>, Global>>,
 ) -> Result<(), Memory>
-    requires from { from ≤ before }
-    requires within { before ≤ length files.now }
-    ensures { OnOk result (Joins from before file files.now done.old.items done.new.items) }
+    ensures joined { OnOk result (Joins before file (into_iter_items rest.old) done.old.items done.new.items) }
+    ensures left { OnOk result (into_iter_items rest.new ≡ drop gone (drop before (into_iter_items rest.old))) }
 {
-    append_shared(done, &files[from..before])?;
+    append_moved(done, rest, before)?;
+    let_go(rest, gone);
     if let Some(held) = file {
         done.push(held)?;
     }
     Ok(())
 }
 
-/// The files of a project with what stands at some paths. It costs an owner for each file.
+/// The files of a project with what stands at some paths. Each owner is moved; it makes a list anew, 8 bytes a file.
 pub fn merged<W: Drop>(
     alloc: Global,
-    files: &[Arc<Held<W>, Global>],
+    files: Vec<Arc<Held<W>, Global>>,
     mut paths: BTreeMap<Arc<Text, Global>, Named<W>>,
 ) -> Result<Vec<Arc<Held<W>, Global>>, Memory>
-    requires cut { AreCut (map arc_value files.now) paths.entries }
+    requires cut { AreCut (map arc_value files.items) paths.entries }
     requires own { AreOwn (files_at paths.entries) }
-    ensures { IfOk result (λ all. map arc_value all.items ≡ edited_named paths.entries (map arc_value files.now)) }
+    ensures { IfOk result (λ all. map arc_value all.items ≡ edited_named paths.entries (map arc_value files.items)) }
 {
-    let mut done = Vec::with_capacity(alloc, files.len().saturating_add(paths.len()))?;
+    let len = files.len();
+    let mut done = Vec::with_capacity(alloc, len.saturating_add(paths.len()))?;
+    let mut rest = files.into_iter();
     let mut from = 0;
     while let Some((_path, named)) = paths.pop_first() {
         let behind = named.behind;
-        merge_one(&mut done, files, from, named.before, named.file)?;
+        let before = named.before - from;
+        let gone = behind - named.before;
+        merge_one(&mut done, &mut rest, before, gone, named.file)?;
         from = behind;
     }
-    append_shared(&mut done, &files[from..])?;
+    append_moved(&mut done, &mut rest, len - from)?;
     Ok(done)
 }

@@ -2,17 +2,21 @@ ghost use Rattle.std.specs.Prelude.{◌≡◌, ◌≢◌, ◌<◌, List, [], len
 ghost use Rattle.std.specs.Arc.{arc_value};
 ghost use Rattle.cq_history.specs.Files.{with_file, without_file};
 ghost use Rattle.cq_order.specs.Spots.{AreSpots, IsPositionOf};
+ghost use Rattle.cq_projects.specs.Drafts.{edited_named, files_at, AreOwn, AreCut};
 ghost use Rattle.cq_projects.specs.Projects.{path_in, path_of, number_at};
 ghost use Rattle.cq_projects.specs.Ordered.{AreRising};
-ghost use Rattle.cq_projects.specs.Spotted.{AreOlder, IsPositionOfPath, numbers_of};
+ghost use Rattle.cq_projects.specs.Spotted.{AreApartIn, AreOlder, IsPositionOfPath, numbers_of};
 
 use crate::files::{find, insert_within, shared_files};
 use crate::held::Held;
+use crate::merging::{Named, merged};
 use crate::spots::spots_of;
 use cq_base::{Memory, Text};
 use cq_order::{Spot, Spots, spot_of};
 use std::alloc::Global;
+use std::collections::BTreeMap;
 use std::marker::Model;
+use std::mem;
 use std::sync::Arc;
 
 /// The files of one project at a version, in path order, with a look-up by path and one by the change that put a file.
@@ -102,7 +106,7 @@ impl<W: Drop> ProjectFiles<W> {
         items: Vec<Arc<Held<W>, Global>>,
     ) -> Result<ProjectFiles<W>, Memory>
         requires rising { AreRising path_of (map arc_value items.items) }
-        requires apart { AllPairs (λ a b. a ≢ b) (numbers_of (map arc_value items.items)) }
+        requires apart { AreApartIn (map arc_value items.items) }
         ensures { IfOk result (λ files. files ≡ map arc_value items.items) }
     {
         if items.len() > u32::MAX as usize {
@@ -110,6 +114,42 @@ impl<W: Drop> ProjectFiles<W> {
         }
         let spots = spots_of(alloc, &items)?;
         Ok(ProjectFiles { items, spots })
+    }
+
+    // These with what stands at some paths.
+    fn merged(
+        self,
+        alloc: Global,
+        paths: BTreeMap<Arc<Text, Global>, Named<W>>,
+    ) -> Result<ProjectFiles<W>, Memory>
+        requires cut { AreCut self paths.entries }
+        requires own { AreOwn (files_at paths.entries) }
+        requires apart { AreApartIn (edited_named paths.entries self) }
+        ensures { IfOk result (λ files. files ≡ edited_named paths.entries self) }
+    {
+        let ProjectFiles {
+            items,
+            spots: _spots,
+        } = self;
+        let items = merged(alloc, items, paths)?;
+        ProjectFiles::gathered(alloc, items)
+    }
+
+    /// Puts what stands at some paths, in one walk over all, and drops what is to stand there no more. It takes a list
+    /// more, 8 bytes a file, and a sort of the spots; where memory is refused, no files are left.
+    pub(crate) fn merge(
+        &mut self,
+        alloc: Global,
+        paths: BTreeMap<Arc<Text, Global>, Named<W>>,
+    ) -> Result<(), Memory>
+        requires cut { AreCut self.old paths.entries }
+        requires own { AreOwn (files_at paths.entries) }
+        requires apart { AreApartIn (edited_named paths.entries self.old) }
+        ensures { OnOk result (self.new ≡ edited_named paths.entries self.old) }
+    {
+        let old = mem::replace(self, ProjectFiles::new(alloc));
+        *self = old.merged(alloc, paths)?;
+        Ok(())
     }
 
     /// The same files, an owner more for each.

@@ -37,8 +37,8 @@ pub fn find_project<W>(projects: &[Arc<Project<W>, Global>], name: &Text) -> Res
     projects.binary_search_by(|project| compare(project, name))
 }
 
-// A copy of a project, which shares its files.
-fn copied<W: Drop>(alloc: Global, project: &Project<W>) -> Result<Project<W>, Memory>
+/// A copy of a project, which shares its files.
+pub(crate) fn copied<W: Drop>(alloc: Global, project: &Project<W>) -> Result<Project<W>, Memory>
     ensures { IfOk result (λ p. p ≡ project.now) }
 {
     let name = Arc::try_clone(&project.name)?;
