@@ -1,4 +1,4 @@
-//! Two threads that accept a change each, by passes of their own.
+//! For a test: two threads that accept a change each, by passes of their own.
 ghost use Rattle.std.specs.Prelude.{◌≡◌, ◌+◌, ◌<◌, [], ◌∷◌, ◌++◌, Option, Some, IfOk, option_to_list};
 ghost use Rattle.cq_base.specs.Changes.{IsSoundChange};
 ghost use Rattle.cq_history.specs.declared.event.Event.{Event as Happened};
@@ -18,8 +18,8 @@ use std::snapshot::Snapshot;
 use std::sync::Wait;
 use std::thread::{Threads, join};
 
-/// Accepts a change by the pass's caller, with the pass that is handed in and out.
-pub fn accept<W: Indexed, R: Wait>(
+// Accepts a change by the pass's caller, with the pass that is handed in and out.
+pub(crate) fn accept<W: Indexed, R: Wait>(
     cells: &Cells<W, R>,
     alloc: Global,
     mut pass: Pass<W>,
@@ -45,8 +45,8 @@ pub fn accept<W: Indexed, R: Wait>(
     }
 }
 
-/// Two threads accept a change each, as the next two callers. What the pass has seen then has both acceptances, each once.
-pub fn accept_both<Q: Threads, W: Indexed + Send + Sync, R: Wait + Sync>(
+// Two threads accept a change each, as the next two callers. What the pass has seen then has both acceptances, each once.
+pub(crate) fn accept_both<Q: Threads, W: Indexed + Send + Sync, R: Wait + Sync>(
     rt: &Q,
     cells: &Cells<W, R>,
     alloc: Global,

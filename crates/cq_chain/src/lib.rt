@@ -44,14 +44,14 @@
 #![tactic(auto)]
 
 mod about;
-mod both;
 mod cells;
 mod law;
 
 pub use about::About;
-pub use both::{accept, accept_both};
 pub use cells::{Cells, Pass};
 pub use law::BoardLaw;
 
+#[cfg(test)]
+mod both;
 #[cfg(test)]
 mod tests;
