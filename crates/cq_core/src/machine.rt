@@ -1,5 +1,4 @@
 ghost use Rattle.std.specs.Prelude.{◌≡◌, ◌+◌, ◌<◌, ◌≤◌, ◌↔◌, ℕ, [], IfOk, OnOk, OnErr, IfSome, IsNone, IsSome, IsTrue, All, MatchOption, length, map, replicate, option_map, Some, None};
-ghost use Rattle.std.specs.Option.{option_copied};
 ghost use Rattle.std.specs.Prelude.{List};
 ghost use Rattle.std.specs.Arc.{arc_value};
 ghost use Rattle.cq_base.specs.declared.settings.Settings.{Settings};
@@ -20,7 +19,7 @@ ghost use Rattle.cq_core.specs.declared.step.Step.TheVariants as step;
 use crate::step::{Outcome, Step};
 use cq_base::{Change, Entry, Memory, Settings, Steps};
 use cq_board::{Board, Finished, Job, Refused, View, shards_have_the_entries};
-use cq_shard::{Indexed, Shard, it_stands_at_first, it_stands_on};
+use cq_shard::{Indexed, Shard, it_stands_at_first, it_stands_on, lent};
 use std::alloc::Global;
 use std::marker::Model;
 use std::sync::Arc;
@@ -276,16 +275,6 @@ impl<W: Indexed> Core<W> {
         self.board.shut(by);
         self.views[by as usize] = None;
         Outcome::Ok
-    }
-}
-
-// The work that is owned, lent.
-fn lent<W>(work: &Option<Arc<W, Global>>) -> Option<&W>
-    ensures { option_copied result ≡ option_map arc_value work.now }
-{
-    match work {
-        Some(work) => Some(work),
-        None => None,
     }
 }
 

@@ -1,6 +1,10 @@
-ghost use Rattle.std.specs.Prelude.{◌≡◌, ◌<◌, ◌^◌, List, ℕ, length};
+ghost use Rattle.std.specs.Prelude.{◌≡◌, ◌<◌, ◌^◌, List, ℕ, length, option_copied, option_map};
+ghost use Rattle.std.specs.Arc.{arc_value};
 ghost use Rattle.cq_base.specs.declared.settings.Settings.{Settings};
 ghost use Rattle.cq_base.specs.declared.lang.Lang.{Lang};
+
+use std::alloc::Global;
+use std::sync::Arc;
 
 /// What a work shows to the index.
 pub trait Indexed: Drop {
@@ -19,4 +23,14 @@ pub trait Indexed: Drop {
 
     /// The work of a text has fewer than 2^32 keys.
     ghost few: { (settings : Settings) (lang : Lang) (text : List ℕ) (work : Self) → IsWorkOf settings lang text work → length (keys_in work) < 2 ^ 32 };
+}
+
+/// The work that is owned, lent.
+pub fn lent<W>(work: &Option<Arc<W, Global>>) -> Option<&W>
+    ensures { option_copied result ≡ option_map arc_value work.now }
+{
+    match work {
+        Some(work) => Some(work),
+        None => None,
+    }
 }

@@ -16,7 +16,7 @@ mod runs;
 mod searching;
 mod shard;
 
-pub use indexed::Indexed;
+pub use indexed::{Indexed, lent};
 pub use laws::{
     applying_adds_its_rows, it_answers_what_it_holds, it_stands_at_first, it_stands_on,
     shards_stay, sweeping_takes_out_alone,

@@ -1,4 +1,4 @@
-ghost use Rattle.std.specs.Prelude.{◌≡◌, ◌+◌, ◌-◌, ◌<◌, ◌≤◌, ◌^◌, ℕ, [], length, option_copied, option_map, All, IfOk, IfSome, OnOk, OnErr};
+ghost use Rattle.std.specs.Prelude.{◌≡◌, ◌+◌, ◌-◌, ◌<◌, ◌≤◌, ◌^◌, ℕ, [], length, All, IfOk, IfSome, OnOk, OnErr};
 ghost use Rattle.std.specs.Arc.{arc_value};
 ghost use Rattle.cq_history.specs.State.{ready};
 ghost use Rattle.cq_cells.specs.Passes.{IsSameCaller, least};
@@ -13,7 +13,7 @@ use cq_base::{Memory, Steps};
 use cq_chain::Pass;
 use cq_hub::finished_works;
 use cq_io::Gate;
-use cq_shard::{Indexed, Shard};
+use cq_shard::{Indexed, Shard, lent};
 use std::alloc::Global;
 use std::marker::Brand;
 use std::sync::ledger::{Blank, Ledger};
@@ -205,14 +205,4 @@ fn apply_counted<W: Indexed, L: Ledger>(
     let mut steps: Steps<L> = Steps::new(blank);
     let next = shard.applied() + 1;
     shard.apply(next, lent(&work[0]), &mut steps)
-}
-
-// The work that is owned, lent.
-fn lent<W>(work: &Option<Arc<W, Global>>) -> Option<&W>
-    ensures { option_copied result ≡ option_map arc_value work.now }
-{
-    match work {
-        Some(work) => Some(work),
-        None => None,
-    }
 }

@@ -1,11 +1,31 @@
 //! A hub whose passes are used from any number of threads: a board and its shards in locked cells. What is proved over
 //! any hub holds of it, with others' events between any two calls of a pass.
 //!
-//! No call holds two cells. Each takes the board for as long as it needs there: to accept, to ask, to take or give back a
-//! job, to finish a work, to open or shut a view. To read a bucket it takes one shard, for as long as the entries are
-//! copied. To advance, it takes from the board the owners of the works that are to be applied, and lets it go; then each
-//! shard applies them one by one, each in a hold of its own; and at last the board publishes. Others work between any two
-//! of these holds.
+//! # What a call does within a hold
+//!
+//! No call holds two cells, and none waits while it holds one. No text, no path and no work is copied there.
+//!
+//! - `accept`, the board: an owner for each text of the change, which is the caller's own before; a search among the places
+//!   at which files stand, a logarithm of how many there are; and a slot. The slots are moved as their list grows, so one
+//!   call may move them all, and many calls move each a few times. A change that is refused is let go there.
+//! - `ask`, the board: four numbers are read.
+//! - `take`, the board: looks at the changes from behind the last that was taken, and an owner of a text. Each change is
+//!   looked at once, but again where one before it was given back.
+//! - `job`, the board: one slot is looked at; an owner of a text.
+//! - `back`, the board: one slot is looked at.
+//! - `finish`, the board: the work goes into its slot. Where all before it is done, the changes behind it that are done are
+//!   walked over, each once for all calls. A work that comes too late is let go there.
+//! - `open_view`, the board: an owner of the listing.
+//! - `close_view`, the board: a number is cleared. The listing is let go afterwards.
+//! - `read_bucket`, the shard of the key: a search in each of its runs, and one among the view's files for each entry with
+//!   the key. Those that are there are copied out.
+//! - `advance`, the board: an owner of each work that is to be applied, and a list of them. So this hold takes memory, and
+//!   is as long as the list. Then, shard by shard, a hold of the shard for each change: a look at each key of its work, an
+//!   entry for each that is the shard's, and the merging that this brings. Between two shards the gate is called, and
+//!   nothing is held. At last, the board again: the publication, which costs what cq_board says of it.
+//!
+//! Whoever enters a shard may bring it on by one change, by the rule of the cells. So no shard takes several changes as one
+//! run, as those of the plain hub do. Each shard looks at all keys of a work, since they aren't parted beforehand.
 #![tactic(auto)]
 
 mod advancing;
