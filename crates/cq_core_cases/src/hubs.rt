@@ -12,9 +12,9 @@ use std::alloc::Global;
 use std::cell::Cell;
 use std::sync::Arc;
 
-// Its two windows have different keys, and it counts how often they are looked at.
+/// Its two windows have different keys, and it counts how often they are looked at.
 #[derive(Drop)]
-struct Counted {
+pub struct Counted {
     looks: Cell<u64>,
 }
 
@@ -92,26 +92,37 @@ fn taken(alloc: Global) -> Result<(bool, Option<u64>, bool), Refused> {
     take(alloc, &hub, &mut pass)
 }
 
-// How often the keys of two works have been looked at, once both are published over so many shards and a bucket is read.
-fn looks(alloc: Global, shards: u32) -> Result<(u64, u64), Refused>
+/// How often the keys of two works have been looked at, once both are published and a bucket is read.
+pub fn looks<H: Hub<Counted>>(
+    alloc: Global,
+    hub: &H,
+    pass: &mut H::Pass,
+) -> Result<(u64, u64), Refused>
+    requires { HasSeen H.Stands hub.now pass.old (λ c h. view_of (state (H.callers hub.now) h) c ≡ None) }
+{
+    let first = Arc::new(alloc, Counted::made())?;
+    let second = Arc::new(alloc, Counted::made())?;
+    let number = accept(alloc, b'p', hub, pass)?;
+    finish(hub, number, Arc::try_clone(&first)?, pass)?;
+    let number = accept(alloc, b'p', hub, pass)?;
+    finish(hub, number, Arc::try_clone(&second)?, pass)?;
+    read(alloc, hub, 3, pass)?;
+    Ok((first.looks.get(), second.looks.get()))
+}
+
+// The same for a new hub of so many shards.
+fn looks_over(alloc: Global, shards: u32) -> Result<(u64, u64), Refused>
     requires { 1 ≤ shards }
 {
     let settings = Settings { shards, ..SETTINGS };
     let (hub, mut pass) = Solo::<Counted>::new(alloc, &settings)?;
-    let first = Arc::new(alloc, Counted::made())?;
-    let second = Arc::new(alloc, Counted::made())?;
-    let number = accept(alloc, b'p', &hub, &mut pass)?;
-    finish(&hub, number, Arc::try_clone(&first)?, &mut pass)?;
-    let number = accept(alloc, b'p', &hub, &mut pass)?;
-    finish(&hub, number, Arc::try_clone(&second)?, &mut pass)?;
-    read(alloc, &hub, 3, &mut pass)?;
-    Ok((first.looks.get(), second.looks.get()))
+    looks(alloc, &hub, &mut pass)
 }
 
 #[test]
 fn the_keys_of_a_work_are_looked_at_once_for_all_shards(rt: HostRuntime) -> Result<(), Refused> {
-    assert_eq!(rt; looks(rt.alloc(), 1)?, (1, 1));
-    assert_eq!(rt; looks(rt.alloc(), 7)?, (1, 1));
+    assert_eq!(rt; looks_over(rt.alloc(), 1)?, (1, 1));
+    assert_eq!(rt; looks_over(rt.alloc(), 7)?, (1, 1));
     Ok(())
 }
 

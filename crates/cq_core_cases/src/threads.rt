@@ -1,9 +1,9 @@
-ghost use Rattle.std.specs.Prelude.{◌≡◌, ◌<◌, []};
+ghost use Rattle.std.specs.Prelude.{◌≡◌, ◌<◌, ◌≤◌, []};
 ghost use Rattle.cq_shared.specs.SharedPasses.{IsPassOf};
 
-use crate::hubs::read;
+use crate::hubs::{Counted, looks, read};
 use crate::made::{Apart, Made, SETTINGS, accept, finish};
-use cq_base::Memory;
+use cq_base::{Memory, Settings};
 use cq_board::{Asked, Refused};
 use cq_chain::Pass;
 use cq_shared::Shared;
@@ -59,6 +59,27 @@ fn serve_both<Q: Threads, R: Wait + Sync>(
     (one, two, hub.ask(&mut pass))
 }
 
+// How often the keys of two works are looked at, which a caller publishes that has seen nothing.
+fn looks_at_first<R: Wait>(
+    alloc: Global,
+    hub: &Shared<Counted, R>,
+    mut pass: Pass<Counted>,
+) -> Result<(u64, u64), Refused>
+    requires of { IsPassOf hub.now pass }
+    requires fresh { pass.seen ≡ [] }
+{
+    looks(alloc, hub, &mut pass)
+}
+
+// The same for a new hub of so many shards.
+fn looks_over<R: Wait + Drop>(rt: R, alloc: Global, shards: u32) -> Result<(u64, u64), Refused>
+    requires { 1 ≤ shards }
+{
+    let settings = Settings { shards, ..SETTINGS };
+    let (hub, pass) = Shared::<Counted, _>::new(rt, alloc, &settings, 1)?;
+    looks_at_first(alloc, &hub, pass)
+}
+
 // Whether each has as many entries as its version has files, and what is seen at last.
 #[test]
 fn two_threads_serve(rt: HostRuntime) -> Result<(), Refused> {
@@ -77,5 +98,12 @@ fn two_threads_serve(rt: HostRuntime) -> Result<(), Refused> {
             published: 2
         }
     );
+    Ok(())
+}
+
+#[test]
+fn each_shard_looks_at_the_keys_of_a_work_once(rt: HostRuntime) -> Result<(), Refused> {
+    assert_eq!(rt; looks_over(&rt, rt.alloc(), 1)?, (1, 1));
+    assert_eq!(rt; looks_over(&rt, rt.alloc(), 7)?, (7, 7));
     Ok(())
 }
