@@ -12,11 +12,11 @@ loop-step-preserved g c =
     let now = into_iter_items c.next.new.self in
     elim c.match-next.branch [
       | in-Some+in_ok-push w ↦ (
-          ap (λ v. v.items) w.done-is ∙ moved_some n xs rest.items c.loop-step.invariant.1 rest.len c.next.result now rest.ok.0 c.next.ensures.variant c.next.ensures.items c.args.done.now.items c.loop-step.done.items w.push.new.self.items w.in-Some.held w.in-Some.is c.loop-step.invariant.0 w.in_ok-push.ensures.items,
-          left_on n xs rest.items c.loop-step.invariant.1 rest.len c.next.result now rest.ok.0 c.next.ensures.variant c.next.ensures.items,
-        )
+        ap (λ v. v.items) w.done-is ∙ moved_some n xs rest.items c.loop-step.invariant.1 rest.len c.next.result now rest.ok.0 c.next.ensures.variant c.next.ensures.items c.args.done.now.items c.loop-step.done.items w.push.new.self.items w.in-Some.held w.in-Some.is c.loop-step.invariant.0 w.in_ok-push.ensures.items,
+        left_on n xs rest.items c.loop-step.invariant.1 rest.len c.next.result now rest.ok.0 c.next.ensures.variant c.next.ensures.items,
+      )
       | in_default w ↦ (
-          ap (λ v. v.items) w.done-is ∙ moved_none n xs rest.items c.loop-step.invariant.1 rest.len c.next.result now rest.ok.0 c.next.ensures.variant c.next.ensures.items c.args.done.now.items c.loop-step.done.items w.in_default.is c.loop-step.invariant.0,
-          left_on n xs rest.items c.loop-step.invariant.1 rest.len c.next.result now rest.ok.0 c.next.ensures.variant c.next.ensures.items,
-        )
+        ap (λ v. v.items) w.done-is ∙ moved_none n xs rest.items c.loop-step.invariant.1 rest.len c.next.result now rest.ok.0 c.next.ensures.variant c.next.ensures.items c.args.done.now.items c.loop-step.done.items w.in_default.is c.loop-step.invariant.0,
+        left_on n xs rest.items c.loop-step.invariant.1 rest.len c.next.result now rest.ok.0 c.next.ensures.variant c.next.ensures.items,
+      )
     ]
