@@ -1,6 +1,6 @@
 -- The numbers that are left of some, and what comes next behind one change more.
 use Rattle.std.specs.Arc.{arc_value}
-use Rattle.std.proofs.Common.{◌≡◌, ◌≢◌, ◌⊎◌, ◌↔◌, ℕ, zero, suc, ◌+◌, ◌<◌, ◌≤◌, nat_eq, not, true≢false, cond, List, [], ◌∷◌, ◌++◌, length, take, get_or, Option, Some, None, Ok, Err, Result, refl, sym, ap, ◌∙◌, subst, subst₂, inl, inr, ⊎_elim, arith}
+use Rattle.std.proofs.Common.{◌≡◌, ◌≢◌, ◌⊎◌, ◌↔◌, ℕ, zero, suc, ◌+◌, ◌<◌, ◌≤◌, nat_eq, not, true≢false, cond, List, [], ◌∷◌, ◌++◌, length, take, get_or, Option, Some, None, Ok, Err, Result, refl, sym, ap, ◌∙◌, subst, subst₂, inl, inr, ⊎_elim, arith, rules}
 use Rattle.std.specs.Prelude.{Contains, IfOk, OnOk, OnErr}
 use Rattle.std.specs.List.{list_any}
 use Rattle.std.specs.List.Sorted.{IsStrictlyIncreasing}
@@ -125,9 +125,9 @@ module _ {W : Type 0} (IsWork : Lang → List ℕ → W → Type 0) where
     };
   }
 
-  pub next_installed : {T E : Type 0} (r : Result T E) (changes : List Change) (base : List ℕ) (ps : List (ListedProject W)) (put gone : List ℕ) (l : Listed W) → IsNext IsWork changes base ps put gone → OnOk r (l.projects ≡ ps) → OnOk r (IsStrictlyIncreasing l.live) → OnOk r ((k : ℕ) → Contains l.live k ↔ (Contains (base ++ put) k × (Contains gone k → ⊥))) → OnOk r (IsListing IsWork changes l)
-  next_installed (Ok x) changes base ps put gone l is same rising which = next_listed changes base ps put gone l is same rising which
-  next_installed (Err e) changes base ps put gone l is same rising which = tt
+  -- the listing of no changes
+  pub no_listing : (changes : List Change) → IsListing IsWork (take 0 changes) (listed [] [])
+  no_listing changes = search rules
 
   -- a listing with the same files and conditions
   pub listing_same : (changes : List Change) (l m : Listed W) → IsListing IsWork changes l → HaveSame l.projects m.projects → AreRising name_in m.projects → m.live ≡ l.live → IsListing IsWork changes m

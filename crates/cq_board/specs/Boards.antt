@@ -10,8 +10,6 @@ use Rattle.cq_history.specs.State.{changes_in, text_bytes, is_done}
 use Rattle.cq_board.specs.declared.kept.Kept.{Kept}
 use Rattle.cq_board.specs.declared.kept.FileKey.{FileKey}
 use Rattle.cq_board.specs.Listings.{Listed, IsListing}
-use Rattle.cq_board.specs.Turnover.{IsNextListing}
-use Rattle.cq_board.specs.declared.listing.Next.{Next}
 use Rattle.std.specs.Arc.{arc_value}
 use Rattle.std.specs.declared.sync.Arc.{Arc}
 use Rattle.std.specs.declared.alloc.Global.{Global}
@@ -26,9 +24,6 @@ module _ {W : Type 0} where
   abbrev pub IsListingAt : (Lang → List ℕ → W → Type 0) → List (Kept W) → ℕ → Arc (Listed W) Global → Type 0
   IsListingAt IsWork slots version listing = IsListing IsWork (take version (changes_from slots)) (arc_value listing)
 
-  abbrev pub IsNextListingAt : (Lang → List ℕ → W → Type 0) → List (Kept W) → ℕ → List ℕ → Next W → Type 0
-  IsNextListingAt IsWork slots version base next = IsNextListing IsWork (take version (changes_from slots)) base next
-
   -- what is kept of the changes: the bytes of their texts, up to which all are done, and before which none may be taken
   pub record SlotsOk (IsWork : Lang → List ℕ → W → Type 0) (settings : Settings) (slots : List (Kept W)) (bytes done free : ℕ) : Type 0 where
     pub works : All (IsWorked IsWork) slots
@@ -38,12 +33,13 @@ module _ {W : Type 0} where
     pub ready : done ≡ prefix_len is_done (map slot_from slots)
     pub none_free : IsNoneFree slots free
 
-  pub record BoardOk (IsWork : Lang → List ℕ → W → Type 0) (settings : Settings) (slots : List (Kept W)) (there : BTreeSet FileKey) (bytes done free published : ℕ) (l : Listed W) (views : List (Option ℕ)) : Type 0 where
+  pub record BoardOk (IsWork : Lang → List ℕ → W → Type 0) (settings : Settings) (slots : List (Kept W)) (there : BTreeSet FileKey) (bytes done free published listed : ℕ) (l : Listed W) (views : List (Option ℕ)) : Type 0 where
     pub kept : SlotsOk IsWork settings slots bytes done free
     pub sound : All IsSoundChange (changes_from slots)
     pub presence : IsPresence (changes_from slots) there
     pub in_order : published ≤ done
-    -- the listing is that of the published version
-    pub listing : IsListing IsWork (take published (changes_from slots)) l
+    -- the listing is that of the published version, or of an earlier one where memory was refused
+    pub at_most : listed ≤ published
+    pub listing : IsListing IsWork (take listed (changes_from slots)) l
     -- they are counted in 32 bits
     pub few_views : length views < 2 ^ 32

@@ -7,7 +7,6 @@ use Rattle.cq_base.specs.declared.change.Change.{Change}
 use Rattle.cq_board.specs.Listings.{Listed, IsListing}
 use Rattle.cq_projects.specs.Projects.{ListedProject, projects_in}
 use Rattle.cq_board.specs.declared.live.Turnover.{Turnover}
-use Rattle.cq_board.specs.declared.listing.Next.{Next}
 use Rattle.cq_board.specs.declared.kept.Kept.{Kept}
 use Rattle.cq_board.specs.Slots.{change_of}
 use Rattle.std.specs.declared.sync.Arc.{Arc}
@@ -36,9 +35,6 @@ pub record IsNext {W : Type 0} (IsWork : Lang → List ℕ → W → Type 0) (ch
   pub rising : IsStrictlyIncreasing (base ++ put)
   pub known : (r : ℕ) → Contains (base ++ put) r → r ≤ length changes
   pub gone_known : (r : ℕ) → Contains gone r → r ≤ length changes
-
-abbrev pub IsNextListing : {W : Type 0} → (Lang → List ℕ → W → Type 0) → List Change → List ℕ → Next W → Type 0
-IsNextListing IsWork changes base next = IsNext IsWork changes base (projects_in next.projects.items) next.turnover.put.items next.turnover.gone.items
 
 module _ {W : Type 0} (IsWork : Lang → List ℕ → W → Type 0) (number : ℕ) where
   -- the projects are those of some changes, to which the one of this number is next

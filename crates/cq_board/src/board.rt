@@ -32,6 +32,8 @@ pub struct Board<W: Indexed> {
     ready: usize,
     free: usize,
     published: u64,
+    // The version that the listing is of: the published one, or 0 where memory was refused while it was changed.
+    listed: u64,
     floor: u64,
     views: Vec<Option<u64>>,
     listing: Arc<Listing<W>, Global>,
@@ -49,7 +51,7 @@ impl<W: Indexed> Model for Board<W> {
 
     ghost view = { λ b. record { settings = b.settings; state = state_from b.slots.items b.published b.floor b.views.items; events = b.events } };
 
-    ghost invariant = { λ b. BoardOk (W.IsWorkOf b.settings) b.settings b.slots.items b.there b.text_bytes b.ready b.free b.published (arc_value b.listing) b.views.items };
+    ghost invariant = { λ b. BoardOk (W.IsWorkOf b.settings) b.settings b.slots.items b.there b.text_bytes b.ready b.free b.published b.listed (arc_value b.listing) b.views.items };
 }
 
 impl<W: Indexed> Board<W> {
@@ -69,6 +71,7 @@ impl<W: Indexed> Board<W> {
             ready: 0,
             free: 0,
             published: 0,
+            listed: 0,
             floor: 0,
             views,
             listing,
@@ -282,7 +285,7 @@ impl<W: Indexed> Board<W> {
             &self.settings,
             &self.slots,
             &mut self.listing,
-            self.published,
+            &mut self.listed,
             version,
         )?;
         self.published = version;
@@ -300,6 +303,14 @@ impl<W: Indexed> Board<W> {
         ensures conditions { IfOk result (λ view. HaveFewConditions (arc_value view.listing).projects) }
         ensures err { OnErr result (self.new ≡ self.old) }
     {
+        advance_to(
+            *self.slots.allocator(),
+            &self.settings,
+            &self.slots,
+            &mut self.listing,
+            &mut self.listed,
+            self.published,
+        )?;
         let listing = Arc::try_clone(&self.listing)?;
         self.views[by as usize] = Some(self.published);
         self.events = self.events.wrapping_add(1);

@@ -4,10 +4,12 @@
 //!
 //! Accepting a change costs a slot and a search among the places at which files stand. Taking one looks at the changes
 //! from behind the last that was taken, or from the least that was given back since. Publishing costs what cq_projects
-//! takes for the edits of the changes: one alone is made in place where no view has what it changes, several make the
-//! projects anew that they change. The numbers of all files are changed in place, in one walk where many were replaced or
-//! dropped; they are copied first where a view still shows the last version. No text, no path and no work is copied: each
-//! is held once, behind an owner that slots, listings and jobs share.
+//! takes for the edits of the changes: one alone is a search and a move, several move the files of each project that they
+//! change once. Where a view still shows a list, it is copied first, an owner a file, and the numbers of all files, 8 bytes
+//! each; else both are changed in place, the numbers in one walk where many were replaced or dropped. Where memory is
+//! refused while several changes are made in place, the board keeps an empty listing, and makes that of the published
+//! version anew, from all changes, for the next view or publication. No text, no path and no work is copied: each is held
+//! once, behind an owner that slots, listings and jobs share.
 #![tactic(auto)]
 
 mod accepting;

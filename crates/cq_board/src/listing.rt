@@ -1,26 +1,26 @@
-ghost use Rattle.std.specs.Prelude.{◌≡◌, ◌+◌, ◌<◌, ◌≤◌, [], ◌++◌, IfOk, OnOk, OnErr, true, take, map, All};
-ghost use Rattle.std.specs.List.Sorted.{IsStrictlyIncreasing};
+ghost use Rattle.std.specs.Prelude.{◌≡◌, ◌+◌, ◌≤◌, [], IfOk, OnOk, OnErr, true, take, map, All};
 ghost use Rattle.std.specs.Arc.{arc_value};
 ghost use Rattle.std.specs.List.{prefix_len};
 ghost use Rattle.cq_history.specs.State.{is_done};
 ghost use Rattle.cq_board.specs.Slots.{slot_from, change_of, IsWorked};
-ghost use Rattle.cq_board.specs.Boards.{changes_from, IsListingAt, IsNextListingAt};
+ghost use Rattle.cq_board.specs.Boards.{changes_from, IsListingAt};
 ghost use Rattle.cq_board.specs.Edits.{IsEditFor, project_named, put_by};
 ghost use Rattle.cq_projects.specs.Ordered.{AreRising};
-ghost use Rattle.cq_board.specs.Listings.{IsListing, ListsTheSame, HaveSame};
+ghost use Rattle.cq_board.specs.Listings.{IsListing, ListsTheSame, HaveSame, listed};
 ghost use Rattle.cq_projects.specs.Projects.{owner_name, projects_in, files_in, conditions_in};
-ghost use Rattle.cq_board.specs.Turnover.{IsBefore, AddsKept, AddsOwned, IsListingBefore, ListsKept, TurnsOver, from_option};
+ghost use Rattle.cq_board.specs.Turnover.{IsBefore, AddsKept, AddsOwned, IsListingBefore, ListsKept, from_option};
 
 use crate::kept::{Kept, Stored};
 use crate::live::{Turnover, note, turn, turn_one};
 use cq_base::{Condition, Memory, Settings, Text};
 use cq_projects::{
     Draft, Held, Project, ProjectEdit, ProjectFiles, drafts_of, edit_draft, edit_in, find_project,
-    finished_all,
+    finished_all, own_drafts,
 };
 use cq_shard::Indexed;
 use std::alloc::Global;
 use std::marker::Model;
+use std::mem;
 use std::sync::Arc;
 
 /// The files and conditions of all projects at one version. Projects that did not change are shared with the version
@@ -198,30 +198,22 @@ fn draft_change<W: Indexed>(
     edit_draft(alloc, drafts, project_of(&kept.change), edit)
 }
 
-/// What the listing of a later version has of its own: its projects, and the numbers that come and go.
-#[derive(Drop)]
-pub struct Next<W> {
-    projects: Vec<Arc<Project<W>, Global>>,
-    turnover: Turnover,
-}
-
-/// What comes next to an earlier listing. It costs an owner for each project, and for each project that changed a copy of
-/// its list of files, which shares their paths and works.
+// The listing of a later version, from the drafts of an earlier one's projects and its live numbers.
 fn next_listing<W: Indexed>(
     alloc: Global,
     settings: &Settings,
     slots: &[Kept<W>],
-    old: &Listing<W>,
+    mut drafts: Vec<Draft<W>>,
+    mut live: Vec<u64>,
     before: u64,
     version: u64,
-) -> Result<Next<W>, Memory>
+) -> Result<Listing<W>, Memory>
     requires order { before ≤ version }
     requires done { version ≤ prefix_len is_done (map slot_from slots.now) }
     requires works { All (IsWorked (W.IsWorkOf settings.now)) slots.now }
-    requires listing { IsListing (W.IsWorkOf settings.now) (take before (changes_from slots.now)) old.now }
-    ensures { IfOk result (IsNextListingAt (W.IsWorkOf settings.now) slots.now version old.now.live) }
+    requires listing { IsListing (W.IsWorkOf settings.now) (take before (changes_from slots.now)) (listed drafts.items live.items) }
+    ensures { IfOk result (IsListing (W.IsWorkOf settings.now) (take version (changes_from slots.now))) }
 {
-    let mut drafts = drafts_of(alloc, &old.projects)?;
     let mut turnover = Turnover::new(alloc);
     for number in before..version {
         let kept = &slots[number as usize];
@@ -230,43 +222,12 @@ fn next_listing<W: Indexed>(
         note(&mut turnover.gone, replaced)?;
     }
     let projects = finished_all(alloc, drafts)?;
-    Ok(Next { projects, turnover })
-}
-
-// Makes the listing the next one. Where nobody else has it, its numbers are changed in place; else they are copied, 8
-/// bytes a file. Where memory is refused, it shows what it did.
-fn turn_to<W: Drop>(
-    alloc: Global,
-    listing: &mut Arc<Listing<W>, Global>,
-    next: Next<W>,
-) -> Result<(), Memory>
-    requires names { AreRising owner_name next.projects.items }
-    requires rising { IsStrictlyIncreasing ((arc_value listing.old).live ++ next.turnover.put.items) }
-    ensures projects { OnOk result ((arc_value listing.new).projects ≡ map arc_value next.projects.items) }
-    ensures rising { OnOk result (IsStrictlyIncreasing (arc_value listing.new).live) }
-    ensures live { OnOk result (TurnsOver next.turnover (arc_value listing.old).live (arc_value listing.new).live) }
-    ensures same { OnErr result (arc_value listing.new ≡ arc_value listing.old) }
-{
-    match Arc::get_mut(listing) {
-        Some(own) => {
-            turn(&mut own.live, next.turnover)?;
-            own.projects = next.projects;
-            Ok(())
-        }
-        None => {
-            let mut live = Vec::from_slice(alloc, &listing.live)?;
-            turn(&mut live, next.turnover)?;
-            *listing = Arc::new(
-                alloc,
-                Listing {
-                    projects: next.projects,
-                    live,
-                    no_files: ProjectFiles::new(alloc),
-                },
-            )?;
-            Ok(())
-        }
-    }
+    turn(&mut live, turnover)?;
+    Ok(Listing {
+        projects,
+        live,
+        no_files: ProjectFiles::new(alloc),
+    })
 }
 
 // The listing with one change more, which is the one with the next number and done. Nothing of it is copied that nobody
@@ -290,8 +251,74 @@ fn advance_own<W: Indexed>(
     Ok(())
 }
 
-// The listing of a later version, with an owner for each project, and for each project that changed a copy of its list of
-// files.
+// The listing of a later version, whose projects and numbers are those of an earlier one: they are given up. What of them
+// nobody else has is changed in place.
+fn advanced<W: Indexed>(
+    alloc: Global,
+    settings: &Settings,
+    slots: &[Kept<W>],
+    old: Listing<W>,
+    before: u64,
+    version: u64,
+) -> Result<Listing<W>, Memory>
+    requires order { before ≤ version }
+    requires done { version ≤ prefix_len is_done (map slot_from slots.now) }
+    requires works { All (IsWorked (W.IsWorkOf settings.now)) slots.now }
+    requires listing { IsListing (W.IsWorkOf settings.now) (take before (changes_from slots.now)) old }
+    ensures { IfOk result (IsListing (W.IsWorkOf settings.now) (take version (changes_from slots.now))) }
+{
+    let Listing {
+        projects,
+        live,
+        no_files: _no_files,
+    } = old;
+    let drafts = own_drafts(alloc, projects)?;
+    next_listing(alloc, settings, slots, drafts, live, before, version)
+}
+
+// The listing of a later version beside an earlier one that stays, with an owner more for each project, and for each
+// project that changed a copy of its list of files.
+fn advanced_copy<W: Indexed>(
+    alloc: Global,
+    settings: &Settings,
+    slots: &[Kept<W>],
+    old: &Listing<W>,
+    before: u64,
+    version: u64,
+) -> Result<Listing<W>, Memory>
+    requires order { before ≤ version }
+    requires done { version ≤ prefix_len is_done (map slot_from slots.now) }
+    requires works { All (IsWorked (W.IsWorkOf settings.now)) slots.now }
+    requires listing { IsListing (W.IsWorkOf settings.now) (take before (changes_from slots.now)) old.now }
+    ensures { IfOk result (IsListing (W.IsWorkOf settings.now) (take version (changes_from slots.now))) }
+{
+    let drafts = drafts_of(alloc, &old.projects)?;
+    let live = Vec::from_slice(alloc, &old.live)?;
+    next_listing(alloc, settings, slots, drafts, live, before, version)
+}
+
+// Makes a listing that nobody else has that of a later version. Where memory is refused, it is that of version 0.
+fn advance_all<W: Indexed>(
+    alloc: Global,
+    settings: &Settings,
+    slots: &[Kept<W>],
+    own: &mut Listing<W>,
+    before: u64,
+    version: u64,
+) -> Result<(), Memory>
+    requires order { before ≤ version }
+    requires done { version ≤ prefix_len is_done (map slot_from slots.now) }
+    requires works { All (IsWorked (W.IsWorkOf settings.now)) slots.now }
+    requires listing { IsListing (W.IsWorkOf settings.now) (take before (changes_from slots.now)) own.old }
+    ensures next { OnOk result (IsListing (W.IsWorkOf settings.now) (take version (changes_from slots.now)) own.new) }
+    ensures emptied { OnErr result (own.new ≡ listed [] []) }
+{
+    let old = mem::replace(own, Listing::new(alloc));
+    *own = advanced(alloc, settings, slots, old, before, version)?;
+    Ok(())
+}
+
+// Makes the listing that of a later version, beside the earlier one, which somebody else has.
 fn advance_copied<W: Indexed>(
     alloc: Global,
     settings: &Settings,
@@ -300,15 +327,50 @@ fn advance_copied<W: Indexed>(
     before: u64,
     version: u64,
 ) -> Result<(), Memory>
-    requires order { before < version }
+    requires order { before ≤ version }
     requires done { version ≤ prefix_len is_done (map slot_from slots.now) }
     requires works { All (IsWorked (W.IsWorkOf settings.now)) slots.now }
     requires listing { IsListingAt (W.IsWorkOf settings.now) slots.now before listing.old }
     ensures next { OnOk result (IsListingAt (W.IsWorkOf settings.now) slots.now version listing.new) }
     ensures unchanged { OnErr result (IsListingAt (W.IsWorkOf settings.now) slots.now before listing.new) }
 {
-    let next = next_listing(alloc, settings, slots, listing, before, version)?;
-    turn_to(alloc, listing, next)
+    let own = advanced_copy(alloc, settings, slots, listing, before, version)?;
+    *listing = Arc::new(alloc, own)?;
+    Ok(())
+}
+
+// Makes the listing that of a later version, in place where nobody else has it. Where memory is refused, it is that of the
+// version that is told then.
+fn advance_many<W: Indexed>(
+    alloc: Global,
+    settings: &Settings,
+    slots: &[Kept<W>],
+    listing: &mut Arc<Listing<W>, Global>,
+    at: &mut u64,
+    version: u64,
+) -> Result<(), Memory>
+    requires order { at.old ≤ version }
+    requires done { version ≤ prefix_len is_done (map slot_from slots.now) }
+    requires works { All (IsWorked (W.IsWorkOf settings.now)) slots.now }
+    requires listing { IsListingAt (W.IsWorkOf settings.now) slots.now at.old listing.old }
+    ensures listing { IsListingAt (W.IsWorkOf settings.now) slots.now at.new listing.new }
+    ensures next { OnOk result (at.new ≡ version) }
+    ensures back { OnErr result (at.new ≤ at.old) }
+{
+    match Arc::get_mut(listing) {
+        Some(own) => {
+            let before = *at;
+            *at = 0;
+            advance_all(alloc, settings, slots, own, before, version)?;
+            *at = version;
+            Ok(())
+        }
+        None => {
+            advance_copied(alloc, settings, slots, listing, *at, version)?;
+            *at = version;
+            Ok(())
+        }
+    }
 }
 
 // The listing of the next version, made in place where nobody else has it.
@@ -333,26 +395,33 @@ fn advance_one<W: Indexed>(
     }
 }
 
-/// Makes the listing that of a later version. One change alone is made in place where nobody else has what it changes.
-/// Several cost an owner for each project, and for each project that changed a copy of its list of files. Where memory is
-/// refused, it is that of the version before.
+/// Makes the listing that of a version at or past the one that it is of, and tells which it is of then. What nobody else
+/// has of it is changed in place: one change alone costs a search and a move, several move the files of each project that
+/// they change once. Of what somebody else has a copy is made first, with an owner for each project, and for each file of a
+/// project that changed. Where memory is refused, it is that of the version before, or of version 0.
 pub fn advance_to<W: Indexed>(
     alloc: Global,
     settings: &Settings,
     slots: &[Kept<W>],
     listing: &mut Arc<Listing<W>, Global>,
-    before: u64,
+    at: &mut u64,
     version: u64,
 ) -> Result<(), Memory>
-    requires order { before < version }
+    requires order { at.old ≤ version }
     requires done { version ≤ prefix_len is_done (map slot_from slots.now) }
     requires works { All (IsWorked (W.IsWorkOf settings.now)) slots.now }
-    requires listing { IsListingAt (W.IsWorkOf settings.now) slots.now before listing.old }
-    ensures next { OnOk result (IsListingAt (W.IsWorkOf settings.now) slots.now version listing.new) }
-    ensures unchanged { OnErr result (IsListingAt (W.IsWorkOf settings.now) slots.now before listing.new) }
+    requires listing { IsListingAt (W.IsWorkOf settings.now) slots.now at.old listing.old }
+    ensures listing { IsListingAt (W.IsWorkOf settings.now) slots.now at.new listing.new }
+    ensures next { OnOk result (at.new ≡ version) }
+    ensures back { OnErr result (at.new ≤ at.old) }
 {
-    if version == before + 1 {
-        return advance_one(alloc, settings, slots, listing, before, version);
+    if *at == version {
+        return Ok(());
     }
-    advance_copied(alloc, settings, slots, listing, before, version)
+    if version - *at == 1 {
+        advance_one(alloc, settings, slots, listing, *at, version)?;
+        *at = version;
+        return Ok(());
+    }
+    advance_many(alloc, settings, slots, listing, at, version)
 }

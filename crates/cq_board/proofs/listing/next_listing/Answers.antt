@@ -9,10 +9,13 @@ use Rattle.cq_base.specs.declared.change.Change.{Change}
 use Rattle.cq_history.specs.State.{Slot, no_slot, is_done}
 use Rattle.cq_board.specs.declared.kept.Kept.{Kept}
 use Rattle.cq_board.specs.Slots.{slot_from, change_of, IsWorked}
-use Rattle.cq_board.specs.Listings.{Listed}
+use Rattle.cq_board.specs.Listings.{listed}
 use Rattle.cq_board.specs.Turnover.{IsNext}
+use Rattle.cq_projects.specs.Ordered.{AreRising}
+use Rattle.cq_projects.specs.Projects.{name_in}
+use Rattle.cq_projects.proofs.OwnerLists.{rising_owners}
 use Rattle.cq_board.proofs.Newer.{all_apart}
-use Rattle.cq_board.proofs.Turning.{next_first}
+use Rattle.cq_board.proofs.Turning.{next_first, next_listed}
 use Rattle.cq_board.proofs.SlotLists.{slot_read}
 use Rattle.cq_board.proofs.Advances.{next_changes}
 use Rattle.cq_board.proofs.listing.next_listing.Goals as goal
@@ -24,10 +27,8 @@ pub loop-number-init : goal.loop-number-init
 loop-number-init g c =
     let IsWork = g.W.Indexed.IsWorkOf c.args.settings.now in
     let changes = take c.args.before (changes_from c.args.slots.now) in
-    let same : c.in_ok-drafts.drafts.items ≡ c.args.old.now.projects = c.in_ok-drafts.ensures ∙ ap (map arc_value) c.deref.ensures.value ∙ ap (λ (l : Listed g.row.W.Denot). l.projects) c.old.view_is in
-    subst (λ ps. IsNext IsWork changes c.args.old.now.live ps c.new-turnover.result.put.items c.new-turnover.result.gone.items) (sym same)
-    (subst₂ (λ put gone. IsNext IsWork changes c.args.old.now.live c.args.old.now.projects put gone) (sym c.new-turnover.ensures.put) (sym c.new-turnover.ensures.gone)
-    (next_first IsWork changes c.args.old.now c.requires.listing))
+    subst₂ (λ put gone. IsNext IsWork changes c.args.live.items c.args.drafts.items put gone) (sym c.new-turnover.ensures.put) (sym c.new-turnover.ensures.gone)
+    (next_first IsWork changes (listed c.args.drafts.items c.args.live.items) c.requires.listing)
 
 pub bounds-slots-number : goal.bounds-slots-number
 bounds-slots-number g c = within c.args.slots.now c.loop-number.number c.args.version c.loop-number-test.true c.requires.done
@@ -53,24 +54,35 @@ loop-number-preserved g c =
     let changes : List Change = changes_from c.args.slots.now in
     let few : length changes ≡ length c.args.slots.now = length-map (map slot_from c.args.slots.now) (λ (s : Slot). s.change) ∙ length-map c.args.slots.now (slot_from {W = g.row.W.Denot}) in
     let IsWork = g.W.Indexed.IsWorkOf c.args.settings.now in
-    let P : List Change → Type 0 = λ cs. IsNext IsWork cs c.args.old.now.live c.draft_change.new.drafts.items c.note.new.gone.items c.note-in-loop-number.new.gone.items in
+    let P : List Change → Type 0 = λ cs. IsNext IsWork cs c.args.live.items c.draft_change.new.drafts.items c.note.new.gone.items c.note-in-loop-number.new.gone.items in
     subst P (sym (next_changes c.args.slots.now c.loop-number.number c.index-slots-number.result lt c.index-slots-number.is))
-    (subst₂ (λ put gone. IsNext IsWork (take c.loop-number.number changes ++ change_of c.index-slots-number.result.change ∷ []) c.args.old.now.live c.draft_change.new.drafts.items put gone)
+    (subst₂ (λ put gone. IsNext IsWork (take c.loop-number.number changes ++ change_of c.index-slots-number.result.change ∷ []) c.args.live.items c.draft_change.new.drafts.items put gone)
     (sym (c.in_ok-note.ensures ∙ ap (λ xs. c.loop-number.turnover.put.items ++ xs) c.put_number.ensures)) (sym c.in_ok-note-2.ensures)
-    (c.in_ok-replaced.ensures.next (take c.loop-number.number changes) c.args.old.now.live c.loop-number.turnover.put.items c.loop-number.turnover.gone.items (ap (λ n. n + 1) (length-take-le c.loop-number.number changes (omega (arith, few, lt)))) c.loop-number.invariant))
+    (c.in_ok-replaced.ensures.next (take c.loop-number.number changes) c.args.live.items c.loop-number.turnover.put.items c.loop-number.turnover.gone.items (ap (λ n. n + 1) (length-take-le c.loop-number.number changes (omega (arith, few, lt)))) c.loop-number.invariant))
 
 pub draft_change-requires-clause-before : goal.draft_change-requires-clause-before
 draft_change-requires-clause-before g c =
     let lt = within c.args.slots.now c.loop-number.number c.args.version c.loop-number-test.true c.requires.done in
     let changes : List Change = changes_from c.args.slots.now in
     let few : length changes ≡ length c.args.slots.now = length-map (map slot_from c.args.slots.now) (λ (s : Slot). s.change) ∙ length-map c.args.slots.now (slot_from {W = g.row.W.Denot}) in
-    (take c.loop-number.number changes, c.args.old.now.live, c.loop-number.turnover.put.items, c.loop-number.turnover.gone.items, ap (λ n. n + 1) (length-take-le c.loop-number.number changes (omega (arith, few, lt))), c.loop-number.invariant)
+    (take c.loop-number.number changes, c.args.live.items, c.loop-number.turnover.put.items, c.loop-number.turnover.gone.items, ap (λ n. n + 1) (length-take-le c.loop-number.number changes (omega (arith, few, lt))), c.loop-number.invariant)
 
 pub finished_all-requires : goal.finished_all-requires
 finished_all-requires g c =
     record { apart = all_apart (g.W.Indexed.IsWorkOf c.args.settings.now) (take c.loop-number.number (changes_from c.args.slots.now)) _ c.loop-number.invariant.listing }
 
+pub turn-requires : goal.turn-requires
+turn-requires g c = c.loop-number.invariant.rising
+
+pub invariant_of-result : goal.invariant_of-result
+invariant_of-result g c =
+    (rising_owners c.in_ok-projects.projects.items (subst (AreRising name_in) (sym c.in_ok-projects.ensures) c.loop-number.invariant.listing.names), c.new.ensures)
+
 pub returns : goal.returns
 returns g c =
+    let IsWork = g.W.Indexed.IsWorkOf c.args.settings.now in
     let end : c.loop-number.number ≡ c.args.version = omega (arith, c.loop-number-test.false, c.loop-number.auto.number-end) in
-    subst₂ (λ n ps. IsNext (g.W.Indexed.IsWorkOf c.args.settings.now) (take n (changes_from c.args.slots.now)) c.args.old.now.live ps c.loop-number.turnover.put.items c.loop-number.turnover.gone.items) end (sym c.in_ok-projects.ensures) c.loop-number.invariant
+    let changes = take c.args.version (changes_from c.args.slots.now) in
+    let next = subst (λ n. IsNext IsWork (take n (changes_from c.args.slots.now)) c.args.live.items c.loop-number.drafts.items c.loop-number.turnover.put.items c.loop-number.turnover.gone.items) end c.loop-number.invariant in
+    next_listed IsWork changes c.args.live.items c.loop-number.drafts.items c.loop-number.turnover.put.items c.loop-number.turnover.gone.items (listed (map arc_value c.in_ok-projects.projects.items) c.turn.new.live.items)
+    next c.in_ok-projects.ensures c.in_ok-turn.ensures.rising c.in_ok-turn.ensures.each

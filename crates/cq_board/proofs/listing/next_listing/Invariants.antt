@@ -4,4 +4,4 @@ use Rattle.cq_board.specs.Turnover.{IsNext}
 use Rattle.cq_board.proofs.listing.next_listing.Given as goal
 
 abbrev pub invariant-loop-number : goal.invariant-loop-number
-invariant-loop-number g l = IsNext (g.W.Indexed.IsWorkOf l.settings) (take l.number (changes_from l.slots)) l.old.live l.drafts.items l.turnover.put.items l.turnover.gone.items
+invariant-loop-number g l = IsNext (g.W.Indexed.IsWorkOf l.settings) (take l.number (changes_from l.slots)) l.fn.live.items l.drafts.items l.turnover.put.items l.turnover.gone.items

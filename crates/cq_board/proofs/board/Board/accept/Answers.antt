@@ -29,8 +29,8 @@ invariant_of-self-2 g c =
     ap (λ xs. refusal_of c.self.inside.settings (state_from xs 0 0 []) (change_of k.change)) (sym c.deref.ensures.value) ∙ sym c.refusal.ensures ∙ c.in_default.is in
     let done : c.done_from-self-inside.result ≡ prefix_len is_done (map slot_from (slots ++ k ∷ [])) =
     c.done_from-self-inside.ensures.done ∙ ap (λ xs. prefix_len is_done (map (slot_from {W = g.row.W.Denot}) xs)) (c.deref-2.ensures.value ∙ items) in
-    subst (λ (xs : List (Kept g.row.W.Denot)). BoardOk (g.W.Indexed.IsWorkOf c.self.inside.settings) c.self.inside.settings xs c.note.new.there (c.self.inside.text_bytes + c.text_len-len.result) c.done_from-self-inside.result c.self.inside.free c.self.inside.published (arc_value c.self.inside.listing) c.self.inside.views.items) (sym items)
-    (board_accepted (g.W.Indexed.IsWorkOf c.self.inside.settings) c.self.inside.settings slots c.self.inside.there c.note.new.there c.self.inside.text_bytes c.self.inside.ready c.done_from-self-inside.result c.self.inside.free c.text_len-len.result c.self.inside.published (arc_value c.self.inside.listing) c.self.inside.views.items
+    subst (λ (xs : List (Kept g.row.W.Denot)). BoardOk (g.W.Indexed.IsWorkOf c.self.inside.settings) c.self.inside.settings xs c.note.new.there (c.self.inside.text_bytes + c.text_len-len.result) c.done_from-self-inside.result c.self.inside.free c.self.inside.published c.self.inside.listed (arc_value c.self.inside.listing) c.self.inside.views.items) (sym items)
+    (board_accepted (g.W.Indexed.IsWorkOf c.self.inside.settings) c.self.inside.settings slots c.self.inside.there c.note.new.there c.self.inside.text_bytes c.self.inside.ready c.done_from-self-inside.result c.self.inside.free c.text_len-len.result c.self.inside.published c.self.inside.listed (arc_value c.self.inside.listing) c.self.inside.views.items
     k refl c.self.invariant (subst IsSoundChange (sym c.in_ok-change.ensures) c.requires.sound) allowed c.text_len-len.ensures done (c.in_ok-note.ensures.more (changes_from slots) c.self.invariant.presence))
 
 pub returns-clause-adds : goal.returns-clause-adds

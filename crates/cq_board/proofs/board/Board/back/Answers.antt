@@ -23,7 +23,7 @@ invariant_of-self g c =
     let within : c.args.change - 1 < length c.self.inside.slots.items = omega (arith, c.if-change-eq0.false, c.if-change-len.false, c.len-else-change-eq0.ensures, c.self.inside.slots.ok.0) in
     let k = c.index_mut-kept.result.now in
     let j : Kept g.row.W.Denot = record { change = k.change; work = k.work; holder = None } in
-    board_with (g.W.Indexed.IsWorkOf c.self.inside.settings) c.self.inside.settings c.self.inside.slots.items (set c.self.inside.slots.items (c.args.change - 1) j) c.self.inside.there c.self.inside.text_bytes c.self.inside.ready c.self.inside.ready c.self.inside.free c.min-self-inside.result c.self.inside.published (arc_value c.self.inside.listing) c.self.inside.views.items
+    board_with (g.W.Indexed.IsWorkOf c.self.inside.settings) c.self.inside.settings c.self.inside.slots.items (set c.self.inside.slots.items (c.args.change - 1) j) c.self.inside.there c.self.inside.text_bytes c.self.inside.ready c.self.inside.ready c.self.inside.free c.min-self-inside.result c.self.inside.published c.self.inside.listed (arc_value c.self.inside.listing) c.self.inside.views.items
     c.self.invariant
     (held_ok (g.W.Indexed.IsWorkOf c.self.inside.settings) c.self.inside.settings c.self.inside.slots.items c.self.inside.text_bytes c.self.inside.ready c.self.inside.free c.min-self-inside.result (c.args.change - 1) k None within c.index_mut-kept.ensures.value
     (none_free_set c.self.inside.slots.items (c.args.change - 1) c.self.inside.free c.min-self-inside.result j c.self.invariant.kept.none_free (min_few c.self.inside.free (c.args.change - 1) (length c.self.inside.slots.items) c.min-self-inside.result c.min-self-inside.ensures within)

@@ -39,7 +39,7 @@ invariant_of-self g c =
     let yes = finished_is_done k.change c.args.work k.holder in
     let now_is = c.done_from-self-inside.ensures.done ∙ ap (λ xs. prefix_len is_done (map (slot_from {W = g.row.W.Denot}) xs)) c.deref.ensures.value in
     let grows = done_grows c.self.inside.slots.items (c.args.change - 1) k j within c.index_mut-kept.ensures.value yes in
-    board_with (g.W.Indexed.IsWorkOf c.self.inside.settings) c.self.inside.settings c.self.inside.slots.items (set c.self.inside.slots.items (c.args.change - 1) j) c.self.inside.there c.self.inside.text_bytes c.self.inside.ready c.done_from-self-inside.result c.self.inside.free c.self.inside.free c.self.inside.published (arc_value c.self.inside.listing) c.self.inside.views.items
+    board_with (g.W.Indexed.IsWorkOf c.self.inside.settings) c.self.inside.settings c.self.inside.slots.items (set c.self.inside.slots.items (c.args.change - 1) j) c.self.inside.there c.self.inside.text_bytes c.self.inside.ready c.done_from-self-inside.result c.self.inside.free c.self.inside.free c.self.inside.published c.self.inside.listed (arc_value c.self.inside.listing) c.self.inside.views.items
     c.self.invariant
     (done_ok (g.W.Indexed.IsWorkOf c.self.inside.settings) c.self.inside.settings c.self.inside.slots.items c.self.inside.text_bytes c.self.inside.ready c.done_from-self-inside.result c.self.inside.free (c.args.change - 1) k c.args.work within c.index_mut-kept.ensures.value
     (subst (λ (x : Slot). IsWorkFor (g.W.Indexed.IsWorkOf c.self.inside.settings) x.change (arc_value c.args.work)) here work) yes now_is c.self.invariant.kept)

@@ -24,6 +24,7 @@ invariant_of-self-2 g c =
       sound = c.self.invariant.sound;
       presence = c.self.invariant.presence;
       in_order = omega (arith, done, c.self.invariant.kept.ready);
-      listing = subst (λ (slots : List (Kept g.row.W.Denot)). IsListing (g.W.Indexed.IsWorkOf c.self.inside.settings) (take c.args.version (changes_from slots)) (arc_value c.advance_to.new.listing)) c.deref.ensures.value c.in_ok-advance_to.ensures.next;
+      at_most = omega (arith, c.in_ok-advance_to.ensures.next);
+      listing = subst (λ (slots : List (Kept g.row.W.Denot)). IsListing (g.W.Indexed.IsWorkOf c.self.inside.settings) (take c.advance_to.new.at (changes_from slots)) (arc_value c.advance_to.new.listing)) c.deref.ensures.value c.advance_to.ensures.listing;
       few_views = c.self.invariant.few_views;
     }
