@@ -20,14 +20,21 @@ returns-clause-adds g c =
     Adds_from c.self.inside.settings (state_from c.self.inside.slots.items c.self.inside.published c.self.inside.floor c.self.inside.views.items) _ c.self.inside.events _ c.args.self.now _ (event.Open c.args.by c.self.inside.published) c.self.view_is refl refl refl c.requires.caller
     (refl, ap (λ (b : BoardState). view_of b.state c.args.by) c.self.view_is ∙ c.requires.closed) tt
 
-pub invariant_of-self : goal.invariant_of-self
-invariant_of-self g c =
+pub invariant_of-self-2 : goal.invariant_of-self-2
+invariant_of-self-2 g c =
     let IsWork = g.W.Indexed.IsWorkOf c.self.inside.settings in
     let is = subst (λ (slots : List (Kept g.row.W.Denot)). IsListing IsWork (take c.advance_to.new.at (changes_from slots)) (arc_value c.advance_to.new.listing)) c.deref.ensures.value c.advance_to.ensures.listing in
     board_views IsWork c.self.inside.settings c.self.inside.slots.items c.self.inside.there c.self.inside.text_bytes c.self.inside.ready c.self.inside.free c.self.inside.published c.advance_to.new.at (arc_value c.advance_to.new.listing) c.self.inside.views.items _
     (board_listed IsWork c.self.inside.settings c.self.inside.slots.items c.self.inside.there c.self.inside.text_bytes c.self.inside.ready c.self.inside.free c.self.inside.published c.self.inside.listed (arc_value c.self.inside.listing) c.self.inside.views.items
     c.self.invariant c.advance_to.new.at (arc_value c.advance_to.new.listing) (omega (arith, c.in_ok-advance_to.ensures.next)) is)
     (length-set c.self.inside.views.items c.args.by (Some c.self.inside.published))
+
+pub invariant_of-self-in_err-listing : goal.invariant_of-self-in_err-listing
+invariant_of-self-in_err-listing g c =
+    let IsWork = g.W.Indexed.IsWorkOf c.self.inside.settings in
+    let is = subst (λ (slots : List (Kept g.row.W.Denot)). IsListing IsWork (take c.advance_to.new.at (changes_from slots)) (arc_value c.advance_to.new.listing)) c.deref.ensures.value c.advance_to.ensures.listing in
+    board_listed IsWork c.self.inside.settings c.self.inside.slots.items c.self.inside.there c.self.inside.text_bytes c.self.inside.ready c.self.inside.free c.self.inside.published c.self.inside.listed (arc_value c.self.inside.listing) c.self.inside.views.items
+    c.self.invariant c.advance_to.new.at (arc_value c.advance_to.new.listing) (omega (arith, c.in_ok-advance_to.ensures.next)) is
 
 pub returns-clause-conditions : goal.returns-clause-conditions
 returns-clause-conditions g c =
