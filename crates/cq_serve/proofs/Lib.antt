@@ -1,0 +1,4 @@
+pub mod Hands
+pub mod Easing
+pub mod Turning
+pub mod Labouring

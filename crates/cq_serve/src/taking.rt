@@ -1,0 +1,96 @@
+ghost use Rattle.std.specs.Prelude.{◌≡◌, [], ◌∷◌, IfOk};
+ghost use Rattle.std.specs.Arc.{arc_value};
+ghost use Rattle.cq_base.specs.Settings.{IsInRange};
+ghost use Rattle.cq_board.specs.Sound.{HasSoundText};
+ghost use Rattle.cq_hub.specs.Hubs.{IsPassOf};
+ghost use Rattle.cq_work.specs.Work.{IsWorkOf};
+ghost use Rattle.cq_serve.specs.Turns.{HasAsked, HasTurned};
+
+use crate::answers::Turn;
+use cq_base::{Memory, Settings};
+use cq_board::{Finished, Job};
+use cq_hub::Hub;
+use cq_io::Gate;
+use cq_key::Keyer;
+use cq_work::{Work, work_of};
+use std::alloc::Global;
+use std::sync::Arc;
+use std::sync::ledger::Ledger;
+
+fn made<L: Ledger>(
+    alloc: Global,
+    settings: &Settings,
+    keyer: &Keyer,
+    job: &Job,
+) -> Result<Arc<Work<L>, Global>, Memory>
+    requires in_range { IsInRange settings.now }
+    requires settings { keyer.now.settings ≡ settings.now }
+    requires sound { HasSoundText job.now }
+    ensures { IfOk result (λ work.
+        IsWorkOf settings.now job.now.lang (arc_value job.now.text) (arc_value work)) }
+{
+    let work = work_of(alloc, settings, keyer, job.lang, &job.text)?;
+    Ok(Arc::new(alloc, work)?)
+}
+
+// Publishes what is done, where there is memory for it.
+fn publish_done<L: Ledger, H: Hub<Work<L>>, G: Gate>(
+    alloc: Global,
+    hub: &H,
+    gate: &G,
+    pass: &mut H::Pass,
+)
+    requires stands { IsPassOf H.Stands hub.now pass.old }
+    ensures asks { HasAsked H.Hub hub.now pass.old pass.new }
+    ensures asked { H.asked pass.new ≡ H.asked pass.old }
+{
+    let asked = hub.ask(pass);
+    match hub.advance(alloc, asked.done, gate, pass) {
+        Ok(_version) => {}
+        Err(Memory) => {}
+    }
+}
+
+/// A worker's turn: takes the first change that is neither done nor taken, makes its work, and publishes what is done
+/// then, where there is memory for that. Where there is none to make the work, the change is given back. It costs what
+/// `work_of` does for the change's text, and what it costs to apply the works that are done.
+pub fn turn<L: Ledger, H: Hub<Work<L>>, G: Gate>(
+    alloc: Global,
+    settings: &Settings,
+    keyer: &Keyer,
+    hub: &H,
+    pass: &mut H::Pass,
+    gate: &G,
+) -> Turn
+    requires in_range { IsInRange settings.now }
+    requires settings { keyer.now.settings ≡ settings.now }
+    requires hub_settings { H.settings hub.now ≡ settings.now }
+    requires stands { IsPassOf H.Stands hub.now pass.old }
+    ensures turned { HasTurned H.Hub hub.now pass.old pass.new result }
+    ensures asked { H.asked pass.new ≡ H.asked pass.old }
+{
+    match hub.take(pass) {
+        Err(Memory) => Turn::Memory,
+        Ok(None) => Turn::Idle,
+        Ok(Some(job)) => {
+            gate.before_work(job.change);
+            match made(alloc, settings, keyer, &job) {
+                Err(Memory) => {
+                    let _given = hub.back(job.change, pass);
+                    publish_done(alloc, hub, gate, pass);
+                    Turn::GaveBack(job.change)
+                }
+                Ok(work) => match hub.finish(job.change, work, pass) {
+                    Finished::Done => {
+                        publish_done(alloc, hub, gate, pass);
+                        Turn::Worked(job.change)
+                    }
+                    Finished::Already => {
+                        publish_done(alloc, hub, gate, pass);
+                        Turn::Late(job.change)
+                    }
+                },
+            }
+        }
+    }
+}

@@ -1,0 +1,57 @@
+ghost use Rattle.std.specs.Prelude.{◌≡◌};
+ghost use Rattle.cq_base.specs.Settings.{IsInRange};
+ghost use Rattle.cq_hub.specs.Hubs.{IsPassOf};
+ghost use Rattle.cq_serve.specs.Labours.{HasLaboured};
+
+use crate::answers::Turn;
+use crate::bell::Bell;
+use crate::taking::turn;
+use cq_base::Settings;
+use cq_hub::Hub;
+use cq_io::Gate;
+use cq_key::Keyer;
+use cq_work::Work;
+use std::alloc::Global;
+use std::sync::Wait;
+use std::sync::ledger::Ledger;
+
+// Sleeps where no change could be taken, or no work made.
+fn rest<Q: Wait>(rt: &Q, bell: &Bell, heard: u64, came: Turn) {
+    match came {
+        Turn::Worked(_) => {}
+        Turn::Late(_) => {}
+        Turn::Idle => bell.sleep(rt, heard),
+        Turn::GaveBack(_) => bell.sleep(rt, heard),
+        Turn::Memory => bell.sleep(rt, heard),
+    }
+}
+
+/// A worker: takes turns until the bell's end. Where there is no change to take, or no memory, it sleeps until the bell
+/// rings.
+pub fn work<Q: Wait, L: Ledger, H: Hub<Work<L>>, G: Gate>(
+    rt: &Q,
+    alloc: Global,
+    settings: &Settings,
+    keyer: &Keyer,
+    hub: &H,
+    pass: H::Pass,
+    gate: &G,
+    bell: &Bell,
+) -> H::Pass
+    requires in_range { IsInRange settings.now }
+    requires settings { keyer.now.settings ≡ settings.now }
+    requires hub_settings { H.settings hub.now ≡ settings.now }
+    requires stands { IsPassOf H.Stands hub.now pass }
+    ensures labours { HasLaboured H.Hub hub.now pass result }
+    ensures asked { H.asked result ≡ H.asked pass }
+{
+    let mut pass = pass;
+    'turns: for _ in rt.forever() {
+        let Some(heard) = bell.heard(rt) else {
+            break;
+        };
+        let came = turn(alloc, settings, keyer, hub, &mut pass, gate);
+        rest(rt, bell, heard, came);
+    }
+    pass
+}
