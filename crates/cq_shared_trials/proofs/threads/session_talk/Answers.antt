@@ -9,4 +9,4 @@ pub written-requires-clause-closed : goal.written-requires-clause-closed
 written-requires-clause-closed g c =
     let hub = c.args.hub.now in
     let p = c.args.pass in
-    (by_of p, p.seen, record { is = c.requires.of; caller = refl; seen = refl }, subst (λ l. view_of (state_of hub l) (by_of p) ≡ None) (sym c.requires.fresh) (no_view (callers_of hub) (by_of p)), tt)
+    (by_of p, p.seen, record { is = c.requires.of; caller = refl; seen = refl }, (subst (λ l. view_of (state_of hub l) (by_of p) ≡ None) (sym c.requires.fresh) (no_view (callers_of hub) (by_of p)), tt))
