@@ -10,4 +10,5 @@ pub mod Related
 pub mod SlotLists
 pub mod Sounding
 pub mod Turning
+pub mod Undoing
 pub mod VersionEntries

@@ -26,6 +26,7 @@ use Rattle.cq_board.specs.Answers.{refusal_of}
 use Rattle.cq_board.specs.declared.kept.Kept.{Kept}
 use Rattle.cq_board.specs.Slots.{slot_from, change_of, state_from, IsWorked, IsNoneFree}
 use Rattle.cq_board.specs.Boards.{changes_from, SlotsOk, BoardOk}
+use Rattle.cq_board.specs.Undone.{AreUndone}
 
 -- what is not refused is allowed
 no_cause : (a b c : Bool) → cond a (Some Absent) (cond b (Some FullChanges) (cond c (Some FullText) None)) ≡ None → (a ≡ false) × (b ≡ false) × (c ≡ false)
@@ -59,11 +60,11 @@ module _ {W : Type 0} where
       ap (λ (xs : List Slot). let s : State = record { slots = xs; published = p; floor = f; views = views } in s)
       (map-append slot_from slots (k ∷ []) ∙ ap (λ (x : Slot). map (slot_from {W = W}) slots ++ x ∷ []) same)
 
-  pub accepted_ok : (IsWork : Lang → List ℕ → W → Type 0) (settings : Settings) (slots : List (Kept W)) (bytes done now free len : ℕ) (k : Kept W) → k.work ≡ None →
-      SlotsOk IsWork settings slots bytes done free → refusal_of settings (state_from slots 0 0 []) (change_of k.change) ≡ None → len ≡ text_len (change_of k.change) →
-      now ≡ prefix_len is_done (map slot_from (slots ++ k ∷ [])) →
-      SlotsOk IsWork settings (slots ++ k ∷ []) (bytes + len) now free
-  accepted_ok IsWork settings slots bytes done now free len k no_work ok allowed length_is done_is =
+  pub accepted_ok : (IsWork : Lang → List ℕ → W → Type 0) (settings : Settings) (slots : List (Kept W)) (old undone : BTreeSet ℕ) (bytes free len : ℕ) (k : Kept W) → k.work ≡ None →
+      SlotsOk IsWork settings slots old bytes free → refusal_of settings (state_from slots 0 0 []) (change_of k.change) ≡ None → len ≡ text_len (change_of k.change) →
+      AreUndone (map slot_from slots ++ slot_from k ∷ []) undone →
+      SlotsOk IsWork settings (slots ++ k ∷ []) undone (bytes + len) free
+  accepted_ok IsWork settings slots old undone bytes free len k no_work ok allowed length_is not_done =
       let s : State = state_from slots 0 0 [] in
       let causes = no_cause (is_absent s (change_of k.change)) (is_full settings s) (is_long settings s (change_of k.change)) allowed in
       let mapped : map slot_from (slots ++ k ∷ []) ≡ map slot_from slots ++ slot_from k ∷ [] = map-append slot_from slots (k ∷ []) in
@@ -75,7 +76,7 @@ module _ {W : Type 0} where
         text_bytes = (let e : bytes + len ≡ sum_by len_of (map slot_from (slots ++ k ∷ [])) = omega (arith, sums, ok.text_bytes, length_is) in e);
         few_bytes = omega (arith, long_fits settings s (change_of k.change) causes.2 (omega (arith, ok.text_bytes, ok.few_bytes)), ok.text_bytes, length_is);
         few_slots = omega (arith, length_push slots k, full_fits settings s causes.1, same);
-        ready = done_is;
+        not_done = subst (λ xs. AreUndone xs undone) (sym mapped) not_done;
         none_free = record {
           within = omega (arith, ok.none_free.within, length_push slots k);
           none = λ n d lt. ap (λ xs. is_free (get_or xs n d)) mapped ∙ ap is_free (get_or_append_left (map slot_from slots) (slot_from k ∷ []) d n (omega (arith, lt, ok.none_free.within, same))) ∙ ok.none_free.none n d lt;
@@ -83,30 +84,30 @@ module _ {W : Type 0} where
       }
 
   -- the board with one change more
-  pub board_accepted : (IsWork : Lang → List ℕ → W → Type 0) (settings : Settings) (slots : List (Kept W)) (old there : BTreeSet FileKey) (bytes done now free len published listed : ℕ) (l : Listed W) (views : List (Option ℕ)) (k : Kept W) → k.work ≡ None →
-      BoardOk IsWork settings slots old bytes done free published listed l views → IsSoundChange (change_of k.change) → refusal_of settings (state_from slots 0 0 []) (change_of k.change) ≡ None → len ≡ text_len (change_of k.change) →
-      now ≡ prefix_len is_done (map slot_from (slots ++ k ∷ [])) → IsPresence (changes_from slots ++ change_of k.change ∷ []) there →
-      BoardOk IsWork settings (slots ++ k ∷ []) there (bytes + len) now free published listed l views
-  board_accepted IsWork settings slots old there bytes done now free len published listed l views k no_work ok sound allowed length_is done_is noted =
+  pub board_accepted : (IsWork : Lang → List ℕ → W → Type 0) (settings : Settings) (slots : List (Kept W)) (old there : BTreeSet FileKey) (before undone : BTreeSet ℕ) (bytes free len published listed : ℕ) (l : Listed W) (views : List (Option ℕ)) (k : Kept W) → k.work ≡ None →
+      BoardOk IsWork settings slots old before bytes free published listed l views → IsSoundChange (change_of k.change) → refusal_of settings (state_from slots 0 0 []) (change_of k.change) ≡ None → len ≡ text_len (change_of k.change) →
+      AreUndone (map slot_from slots ++ slot_from k ∷ []) undone → IsPresence (changes_from slots ++ change_of k.change ∷ []) there →
+      BoardOk IsWork settings (slots ++ k ∷ []) there undone (bytes + len) free published listed l views
+  board_accepted IsWork settings slots old there before undone bytes free len published listed l views k no_work ok sound allowed length_is not_done noted =
       let same : length (map slot_from slots) ≡ length slots = length-map slots (slot_from {W = W}) in
       let more : prefix_len is_done (map slot_from slots) ≤ prefix_len is_done (map slot_from (slots ++ k ∷ [])) =
       subst (λ xs. prefix_len is_done (map slot_from slots) ≤ prefix_len is_done xs) (sym (map-append slot_from slots (k ∷ []))) (prefix_len-append-le (map slot_from slots) (slot_from k ∷ [])) in
       record {
-        kept = accepted_ok IsWork settings slots bytes done now free len k no_work ok.kept allowed length_is done_is;
+        kept = accepted_ok IsWork settings slots before undone bytes free len k no_work ok.kept allowed length_is not_done;
         sound = subst (All IsSoundChange) (sym (changes_push slots k)) (All-push IsSoundChange (changes_from slots) (change_of k.change) ok.sound sound);
         presence = subst (λ cs. IsPresence cs there) (sym (changes_push slots k)) noted;
-        in_order = omega (arith, ok.in_order, ok.kept.ready, done_is, more);
+        in_order = omega (arith, ok.in_order, more);
         at_most = ok.at_most;
         listing = subst (λ cs. IsListing IsWork cs l)
             (sym (ap (take listed) (changes_push slots k)
-            ∙ take-append-le listed (changes_from slots) _ (omega (arith, length-map (map slot_from slots) (λ (x : Slot). x.change), prefix_len-le-length is_done (map slot_from slots), ok.at_most, ok.in_order, ok.kept.ready)))) ok.listing;
+            ∙ take-append-le listed (changes_from slots) _ (omega (arith, length-map (map slot_from slots) (λ (x : Slot). x.change), prefix_len-le-length is_done (map slot_from slots), ok.at_most, ok.in_order)))) ok.listing;
         few_views = ok.few_views;
       }
 
   -- the board that looks for a free change from another index on
-  pub board_free : (IsWork : Lang → List ℕ → W → Type 0) (settings : Settings) (slots : List (Kept W)) (there : BTreeSet FileKey) (bytes done free now published listed : ℕ) (l : Listed W) (views : List (Option ℕ)) → BoardOk IsWork settings slots there bytes done free published listed l views → IsNoneFree slots now → BoardOk IsWork settings slots there bytes done now published listed l views
-  board_free IsWork settings slots there bytes done free now published listed l views ok none = record {
-    kept = record { works = ok.kept.works; text_bytes = ok.kept.text_bytes; few_bytes = ok.kept.few_bytes; few_slots = ok.kept.few_slots; ready = ok.kept.ready; none_free = none };
+  pub board_free : (IsWork : Lang → List ℕ → W → Type 0) (settings : Settings) (slots : List (Kept W)) (there : BTreeSet FileKey) (undone : BTreeSet ℕ) (bytes free now published listed : ℕ) (l : Listed W) (views : List (Option ℕ)) → BoardOk IsWork settings slots there undone bytes free published listed l views → IsNoneFree slots now → BoardOk IsWork settings slots there undone bytes now published listed l views
+  board_free IsWork settings slots there undone bytes free now published listed l views ok none = record {
+    kept = record { works = ok.kept.works; text_bytes = ok.kept.text_bytes; few_bytes = ok.kept.few_bytes; few_slots = ok.kept.few_slots; not_done = ok.kept.not_done; none_free = none };
     sound = ok.sound;
     presence = ok.presence;
     in_order = ok.in_order;
@@ -116,9 +117,10 @@ module _ {W : Type 0} where
   }
 
   -- the board with other slots of the same changes
-  pub board_with : (IsWork : Lang → List ℕ → W → Type 0) (settings : Settings) (slots more : List (Kept W)) (there : BTreeSet FileKey) (bytes done now free later published listed : ℕ) (l : Listed W) (views : List (Option ℕ)) →
-      BoardOk IsWork settings slots there bytes done free published listed l views → SlotsOk IsWork settings more bytes now later → changes_from more ≡ changes_from slots → done ≤ now → BoardOk IsWork settings more there bytes now later published listed l views
-  board_with IsWork settings slots more there bytes done now free later published listed l views ok kept same grows = record {
+  pub board_with : (IsWork : Lang → List ℕ → W → Type 0) (settings : Settings) (slots more : List (Kept W)) (there : BTreeSet FileKey) (undone now : BTreeSet ℕ) (bytes free later published listed : ℕ) (l : Listed W) (views : List (Option ℕ)) →
+      BoardOk IsWork settings slots there undone bytes free published listed l views → SlotsOk IsWork settings more now bytes later → changes_from more ≡ changes_from slots →
+      prefix_len is_done (map slot_from slots) ≤ prefix_len is_done (map slot_from more) → BoardOk IsWork settings more there now bytes later published listed l views
+  board_with IsWork settings slots more there undone now bytes free later published listed l views ok kept same grows = record {
     kept = kept;
     sound = subst (All IsSoundChange) (sym same) ok.sound;
     presence = subst (λ cs. IsPresence cs there) (sym same) ok.presence;
@@ -129,9 +131,9 @@ module _ {W : Type 0} where
   }
 
   -- the board with the listing of another version, at most the published one
-  pub board_listed : (IsWork : Lang → List ℕ → W → Type 0) (settings : Settings) (slots : List (Kept W)) (there : BTreeSet FileKey) (bytes done free published listed : ℕ) (l : Listed W) (views : List (Option ℕ)) →
-      BoardOk IsWork settings slots there bytes done free published listed l views → (at : ℕ) (now : Listed W) → at ≤ published → IsListing IsWork (take at (changes_from slots)) now → BoardOk IsWork settings slots there bytes done free published at now views
-  board_listed IsWork settings slots there bytes done free published listed l views ok at now before is = record {
+  pub board_listed : (IsWork : Lang → List ℕ → W → Type 0) (settings : Settings) (slots : List (Kept W)) (there : BTreeSet FileKey) (undone : BTreeSet ℕ) (bytes free published listed : ℕ) (l : Listed W) (views : List (Option ℕ)) →
+      BoardOk IsWork settings slots there undone bytes free published listed l views → (at : ℕ) (now : Listed W) → at ≤ published → IsListing IsWork (take at (changes_from slots)) now → BoardOk IsWork settings slots there undone bytes free published at now views
+  board_listed IsWork settings slots there undone bytes free published listed l views ok at now before is = record {
     kept = ok.kept;
     sound = ok.sound;
     presence = ok.presence;
@@ -142,9 +144,9 @@ module _ {W : Type 0} where
   }
 
   -- the board with as many views
-  pub board_views : (IsWork : Lang → List ℕ → W → Type 0) (settings : Settings) (slots : List (Kept W)) (there : BTreeSet FileKey) (bytes done free published listed : ℕ) (l : Listed W) (views now : List (Option ℕ)) →
-      BoardOk IsWork settings slots there bytes done free published listed l views → length now ≡ length views → BoardOk IsWork settings slots there bytes done free published listed l now
-  board_views IsWork settings slots there bytes done free published listed l views now ok same = record {
+  pub board_views : (IsWork : Lang → List ℕ → W → Type 0) (settings : Settings) (slots : List (Kept W)) (there : BTreeSet FileKey) (undone : BTreeSet ℕ) (bytes free published listed : ℕ) (l : Listed W) (views now : List (Option ℕ)) →
+      BoardOk IsWork settings slots there undone bytes free published listed l views → length now ≡ length views → BoardOk IsWork settings slots there undone bytes free published listed l now
+  board_views IsWork settings slots there undone bytes free published listed l views now ok same = record {
     kept = ok.kept;
     sound = ok.sound;
     presence = ok.presence;
@@ -153,8 +155,3 @@ module _ {W : Type 0} where
     listing = ok.listing;
     few_views = omega (arith, same, ok.few_views);
   }
-
-  pub still_done : (slots ys zs : List (Kept W)) (k : Kept W) (done : ℕ) → zs ≡ ys → ys ≡ slots ++ k ∷ [] → done ≡ prefix_len is_done (map slot_from slots) → done ≤ prefix_len is_done (map slot_from zs)
-  still_done slots ys zs k done read pushed is =
-      subst (λ xs. done ≤ prefix_len is_done xs) (sym (ap (map (slot_from {W = W})) (read ∙ pushed) ∙ map-append slot_from slots (k ∷ [])))
-      (omega (arith, is, prefix_len-append-le (map slot_from slots) (slot_from k ∷ [])))

@@ -1,9 +1,9 @@
 -- The slots that are kept, as the history's slots.
-use Rattle.std.proofs.Common.{◌≡◌, ℕ, ◌+◌, ◌-◌, ◌<◌, ◌≤◌, Bool, true, false, List, length, map, get_or, set, Option, Some, None, refl, sym, ap, ap₂, ◌∙◌, subst, arith, ⊎_elim, zero, suc, cond, [], ◌∷◌, sum_by, not, ◌||◌, ◌&&◌, is_none, length-set, inl, inr, ◌⊎◌, ◌≢◌}
+use Rattle.std.proofs.Common.{◌≡◌, ℕ, ◌+◌, ◌-◌, ◌<◌, ◌≤◌, Bool, true, false, List, length, map, get_or, set, Option, Some, None, refl, sym, ap, ap₂, ◌∙◌, subst, arith, ⊎_elim, cond, sum_by, not, ◌||◌, ◌&&◌, is_none, length-set, inl, inr, ◌⊎◌, ◌≢◌}
 use Rattle.std.specs.List.{prefix_len, position_or_len}
-use Rattle.std.proofs.lemmas.Bool.{cases_lt, cases_eq}
+use Rattle.std.proofs.lemmas.Bool.{cases_eq}
 use Rattle.std.proofs.lemmas.List.{get_or-map, map-set, length-map, get_or-set_same, get_or-set_other}
-use Rattle.std.proofs.lemmas.List.Sums.{prefix_len_passes, prefix_len_stops, sum_by-set, passes_at_first, fails_before_first}
+use Rattle.std.proofs.lemmas.List.Sums.{sum_by-set, passes_at_first, fails_before_first}
 use Rattle.std.proofs.lemmas.List.Elements.{All-set, All-get_or}
 use Rattle.std.specs.Arc.{arc_value}
 use Rattle.std.specs.declared.sync.Arc.{Arc}
@@ -18,28 +18,13 @@ use Rattle.cq_history.proofs.Prefixes.{map_change-set}
 use Rattle.cq_board.specs.declared.kept.Kept.{Kept}
 use Rattle.cq_board.specs.Slots.{slot_from, change_of, state_from, IsWorked, IsNoneFree}
 use Rattle.cq_board.specs.Boards.{changes_from, SlotsOk}
+use Rattle.cq_board.specs.Undone.{AreUndone}
+use Rattle.cq_board.proofs.Undoing.{undone-set_same, undone-set_done}
+use Rattle.std.specs.BTreeSet.{BTreeSet, contains}
+use Rattle.std.specs.BTreeMap.{is_at}
+use Rattle.std.specs.Ordering.{nat_cmp}
 use Rattle.cq_base.specs.declared.settings.Settings.{Settings}
 use Rattle.cq_history.specs.Changes.{text_len, is_put, IsWorkFor}
-
-pub prefix_more : {X : Type 0} (p : X → Bool) (xs : List X) (i : ℕ) (d : X) → i ≤ prefix_len p xs → i < length xs → p (get_or xs i d) ≡ true → i + 1 ≤ prefix_len p xs
-prefix_more p xs i d le within passes =
-    ⊎_elim (λ (lt : i < prefix_len p xs). omega arith)
-    (λ (ge : prefix_len p xs ≤ i).
-    let same : prefix_len p xs ≡ i = omega arith in
-    let stops : p (get_or xs i d) ≡ false = subst (λ n. p (get_or xs n d) ≡ false) same (prefix_len_stops p xs d (omega arith)) in
-    let no : true ≡ false = sym passes ∙ stops in absurd (cc))
-    (cases_lt i (prefix_len p xs))
-
-pub prefix_ends : {X : Type 0} (p : X → Bool) (xs : List X) (i : ℕ) (d : X) → i ≤ prefix_len p xs → p (get_or xs i d) ≡ false → i ≡ prefix_len p xs
-prefix_ends p xs i d le fails =
-    ⊎_elim (λ (lt : i < prefix_len p xs). let no : true ≡ false = sym (prefix_len_passes p xs i d lt) ∙ fails in absurd (cc))
-    (λ (ge : prefix_len p xs ≤ i). omega arith)
-    (cases_lt i (prefix_len p xs))
-
-pub prefix_len-set_same : {X : Type 0} (p : X → Bool) (xs : List X) (i : ℕ) (y d : X) → p y ≡ p (get_or xs i d) → prefix_len p (set xs i y) ≡ prefix_len p xs
-prefix_len-set_same p [] i y d e = refl
-prefix_len-set_same p (x ∷ xs) zero y d e = ap (λ b. cond b (1 + prefix_len p xs) 0) e
-prefix_len-set_same p (x ∷ xs) (suc i) y d e = ap (λ n. cond (p x) (1 + n) 0) (prefix_len-set_same p xs i y d e)
 
 free_put : (a b c : Bool) → (not (not a || b) && c) ≡ true → a ≡ true
 free_put true b c h = refl
@@ -93,11 +78,11 @@ module _ {W : Type 0} where
   }
 
   -- the fields of a slot but for its holder stay as they were
-  pub held_ok : (IsWork : Lang → List ℕ → W → Type 0) (settings : Settings) (slots : List (Kept W)) (bytes done free now : ℕ) (i : ℕ) (k : Kept W) (holder : Option ℕ) → i < length slots → k ≡ get_or slots i k →
+  pub held_ok : (IsWork : Lang → List ℕ → W → Type 0) (settings : Settings) (slots : List (Kept W)) (undone : BTreeSet ℕ) (bytes free now : ℕ) (i : ℕ) (k : Kept W) (holder : Option ℕ) → i < length slots → k ≡ get_or slots i k →
       IsNoneFree (set slots i (record { change = k.change; work = k.work; holder = holder })) now →
-      SlotsOk IsWork settings slots bytes done free →
-      SlotsOk IsWork settings (set slots i (record { change = k.change; work = k.work; holder = holder })) bytes done now
-  held_ok IsWork settings slots bytes done free now i k holder within read none ok =
+      SlotsOk IsWork settings slots undone bytes free →
+      SlotsOk IsWork settings (set slots i (record { change = k.change; work = k.work; holder = holder })) undone bytes now
+  held_ok IsWork settings slots undone bytes free now i k holder within read none ok =
       let j : Kept W = record { change = k.change; work = k.work; holder = holder } in
       let here : get_or (map slot_from slots) i no_slot ≡ slot_from k = slot_read slots i k within read in
       let mapped : map slot_from (set slots i j) ≡ set (map slot_from slots) i (slot_from j) = map-set slot_from slots i j in
@@ -110,7 +95,7 @@ module _ {W : Type 0} where
         text_bytes = ok.text_bytes ∙ (let e : sum_by f_len (set (map slot_from slots) i (slot_from j)) ≡ sum_by f_len (map slot_from slots) = omega (arith, sums, same_len) in sym e ∙ ap (sum_by f_len) (sym mapped));
         few_bytes = ok.few_bytes;
         few_slots = omega (arith, length-set slots i j, ok.few_slots);
-        ready = ok.ready ∙ sym (prefix_len-set_same is_done (map slot_from slots) i (slot_from j) no_slot (ap is_done (sym here))) ∙ ap (prefix_len is_done) (sym mapped);
+        not_done = subst (λ xs. AreUndone xs undone) (sym mapped) (undone-set_same (map slot_from slots) undone ok.not_done i (slot_from j) in_range (ap is_done (sym here)));
         none_free = none;
       }
 
@@ -133,16 +118,18 @@ module _ {W : Type 0} where
       (slots_set slots i _ _ (ap (λ (x : Slot). let y : Slot = record { change = x.change; finished = true; holder = x.holder } in y) (sym (slot_of_read slots p f views i k within read))))
       ∙ ap (λ n. after (state_from slots p f views) (Done by n)) (sym number)
 
-  pub done_grows : (slots : List (Kept W)) (i : ℕ) (k j : Kept W) → i < length slots → k ≡ get_or slots i k → is_done (slot_from j) ≡ true → prefix_len is_done (map slot_from slots) ≤ prefix_len is_done (map slot_from (set slots i j))
-  done_grows slots i k j within read yes_done =
-      subst (λ xs. prefix_len is_done (map slot_from slots) ≤ prefix_len is_done xs) (sym (map-set slot_from slots i j)) (prefix_len-set-le (map slot_from slots) i (slot_from j) (λ _. yes_done))
+  -- no fewer are done at the front where a slot is at least as done as it was
+  pub ready_grows : (slots : List (Kept W)) (i : ℕ) (k j : Kept W) → i < length slots → k ≡ get_or slots i k → (is_done (slot_from k) ≡ true → is_done (slot_from j) ≡ true) → prefix_len is_done (map slot_from slots) ≤ prefix_len is_done (map slot_from (set slots i j))
+  ready_grows slots i k j within read as_done =
+      subst (λ xs. prefix_len is_done (map slot_from slots) ≤ prefix_len is_done xs) (sym (map-set slot_from slots i j))
+      (prefix_len-set-le (map slot_from slots) i (slot_from j) (λ h. as_done (ap is_done (sym (slot_read slots i k within read)) ∙ h)))
 
-  pub done_ok : (IsWork : Lang → List ℕ → W → Type 0) (settings : Settings) (slots : List (Kept W)) (bytes done now free i : ℕ) (k : Kept W) (w : Arc W Global) → i < length slots → k ≡ get_or slots i k →
+  pub done_ok : (IsWork : Lang → List ℕ → W → Type 0) (settings : Settings) (slots : List (Kept W)) (undone now : BTreeSet ℕ) (bytes free i : ℕ) (k : Kept W) (w : Arc W Global) → i < length slots → k ≡ get_or slots i k →
       IsWorkFor IsWork (change_of k.change) (arc_value w) → is_done (slot_from (let j : Kept W = record { change = k.change; work = Some w; holder = k.holder } in j)) ≡ true →
-      now ≡ prefix_len is_done (map slot_from (set slots i (record { change = k.change; work = Some w; holder = k.holder }))) →
-      SlotsOk IsWork settings slots bytes done free →
-      SlotsOk IsWork settings (set slots i (record { change = k.change; work = Some w; holder = k.holder })) bytes now free
-  done_ok IsWork settings slots bytes done now free i k w within read work yes_done now_is ok =
+      ((r : ℕ) → contains nat_cmp now r ≡ cond (is_at (nat_cmp i) r) false (contains nat_cmp undone r)) →
+      SlotsOk IsWork settings slots undone bytes free →
+      SlotsOk IsWork settings (set slots i (record { change = k.change; work = Some w; holder = k.holder })) now bytes free
+  done_ok IsWork settings slots undone now bytes free i k w within read work yes_done removed ok =
       let j : Kept W = record { change = k.change; work = Some w; holder = k.holder } in
       let here : get_or (map slot_from slots) i no_slot ≡ slot_from k = slot_read slots i k within read in
       let mapped : map slot_from (set slots i j) ≡ set (map slot_from slots) i (slot_from j) = map-set slot_from slots i j in
@@ -155,7 +142,7 @@ module _ {W : Type 0} where
         text_bytes = ok.text_bytes ∙ (let e : sum_by f_len (set (map slot_from slots) i (slot_from j)) ≡ sum_by f_len (map slot_from slots) = omega (arith, sums, same_len) in sym e ∙ ap (sum_by f_len) (sym mapped));
         few_bytes = ok.few_bytes;
         few_slots = omega (arith, length-set slots i j, ok.few_slots);
-        ready = now_is;
+        not_done = subst (λ xs. AreUndone xs now) (sym mapped) (undone-set_done (map slot_from slots) undone ok.not_done i (slot_from j) now in_range yes_done removed);
         none_free = none_free_set slots i free free j ok.none_free ok.none_free.within
             (λ n lt. ⊎_elim (λ e. inl (e, not_free (slot_from j) yes_done)) (λ other. inr (other, lt)) (cases_eq n i));
       }

@@ -9,3 +9,4 @@ pub mod Slots
 pub mod Sound
 pub mod Stands
 pub mod Turnover
+pub mod Undone

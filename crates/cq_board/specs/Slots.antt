@@ -1,11 +1,11 @@
 -- The slot that is kept of a change.
-use Rattle.std.specs.Prelude.{ℕ, List, map, is_some, Option, IfSome, false, ◌<◌, ◌≤◌, ◌≡◌, length, slice_index_or}
+use Rattle.std.specs.Prelude.{ℕ, List, [], ◌∷◌, ◌++◌, map, is_some, Option, IfSome, false, ◌<◌, ◌≤◌, ◌≡◌, length, slice_index_or}
 use Rattle.std.specs.Arc.{arc_value}
 use Rattle.cq_base.specs.declared.change.Change.{Change}
 use Rattle.cq_base.specs.declared.change.Change.TheVariants as change
 use Rattle.cq_base.specs.declared.lang.Lang.{Lang}
 use Rattle.cq_history.specs.Changes.{IsWorkFor}
-use Rattle.cq_history.specs.State.{State, Slot, is_free}
+use Rattle.cq_history.specs.State.{State, Slot, new_slot, is_free}
 use Rattle.cq_board.specs.declared.kept.Stored.{Stored}
 use Rattle.cq_board.specs.declared.kept.Stored.TheVariants.{Put, Drop, Gate}
 use Rattle.cq_board.specs.declared.kept.Kept.{Kept}
@@ -18,6 +18,10 @@ change_of (Gate project conditions) = change.Gate (arc_value project) (arc_value
 module _ {W : Type 0} where
   abbrev pub slot_from : Kept W → Slot
   slot_from k = record { change = change_of k.change; finished = is_some k.work; holder = k.holder }
+
+  -- the slots, with one for a change more
+  abbrev pub slots_with : List (Kept W) → Change → List Slot
+  slots_with slots change = map slot_from slots ++ new_slot change ∷ []
 
   abbrev pub state_from : List (Kept W) → ℕ → ℕ → List (Option ℕ) → State
   state_from slots published floor views = record { slots = map slot_from slots; published = published; floor = floor; views = views }

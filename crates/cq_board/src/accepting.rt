@@ -1,13 +1,17 @@
-ghost use Rattle.std.specs.Prelude.{◌≡◌, ◌≤◌, [], IfOk};
+ghost use Rattle.std.specs.Prelude.{◌≡◌, ◌≤◌, [], List, map, IfOk, OnOk, OnErr};
+ghost use Rattle.cq_base.specs.declared.change.Change.{Change};
 ghost use Rattle.cq_history.specs.Changes.{text_len};
 ghost use Rattle.cq_history.specs.State.{text_bytes};
 ghost use Rattle.cq_board.specs.Answers.{refusal_of};
 ghost use Rattle.cq_board.specs.Boards.{changes_from};
-ghost use Rattle.cq_board.specs.Presence.{IsPresence};
-ghost use Rattle.cq_board.specs.Slots.{change_of, state_from};
+ghost use Rattle.cq_board.specs.Presence.{IsPresence, AddsPlace};
+ghost use Rattle.cq_board.specs.Slots.{change_of, slot_from, slots_with, state_from};
+ghost use Rattle.cq_board.specs.Undone.{AreUndone};
 
 use crate::Refused;
 use crate::kept::{FileKey, Kept, Stored};
+use crate::presence::note;
+use crate::undone::note_undone;
 use cq_base::{Change, Memory, Settings};
 use std::alloc::Global;
 use std::collections::BTreeSet;
@@ -90,4 +94,27 @@ pub fn refusal<W>(
         return Some(Refused::FullText);
     }
     None
+}
+
+/// The places at which a file stands, and the changes that are not done, behind one change more. Where memory is refused
+/// they are as before.
+pub fn note_both<W>(
+    slots: &[Kept<W>],
+    there: &mut BTreeSet<FileKey>,
+    undone: &mut BTreeSet<usize>,
+    change: &Stored,
+) -> Result<(), Memory>
+    requires { AreUndone (map slot_from slots.now) undone.old }
+    ensures place { OnOk result (AddsPlace (change_of change.now) there.old there.new) }
+    ensures undone { OnOk result (AreUndone (slots_with slots.now (change_of change.now)) undone.new) }
+    ensures same_places { OnErr result ((changes : List Change)
+        → IsPresence changes there.old → IsPresence changes there.new) }
+    ensures same_undone { OnErr result (AreUndone (map slot_from slots.now) undone.new) }
+{
+    note_undone(slots, undone, change)?;
+    if let Err(refused) = note(there, change) {
+        undone.remove(&slots.len());
+        return Err(refused);
+    }
+    Ok(())
 }

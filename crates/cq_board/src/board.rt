@@ -9,11 +9,11 @@ ghost use Rattle.cq_history.specs.Changes.{IsWorkFor};
 ghost use Rattle.cq_base.specs.Changes.{IsSoundChange};
 ghost use Rattle.cq_board.specs.Sound.{HasSoundText, HaveFewConditions};
 
-use crate::accepting::{refusal, stored, text_len};
+use crate::accepting::{note_both, refusal, stored, text_len};
 use crate::kept::{FileKey, Kept};
 use crate::listing::{Listing, View, advance_to};
-use crate::presence::note;
-use crate::slot_tests::{done_from, first_free, is_done, job_of};
+use crate::slot_tests::{is_done, job_of};
+use crate::undone::{first_free, ready_of};
 use crate::{Asked, Finished, Job, Refused};
 use cq_base::{Change, Memory, Settings};
 use cq_shard::Indexed;
@@ -28,8 +28,10 @@ pub struct Board<W: Indexed> {
     settings: Settings,
     slots: Vec<Kept<W>>,
     there: BTreeSet<FileKey>,
+    // The indexes of the changes that are not done.
+    undone: BTreeSet<usize>,
     text_bytes: u64,
-    ready: usize,
+    // None before this index may be taken.
     free: usize,
     published: u64,
     // The version that the listing is of: the published one, or 0 where memory was refused while it was changed.
@@ -51,7 +53,7 @@ impl<W: Indexed> Model for Board<W> {
 
     ghost view = { λ b. record { settings = b.settings; state = state_from b.slots.items b.published b.floor b.views.items; events = b.events } };
 
-    ghost invariant = { λ b. BoardOk (W.IsWorkOf b.settings) b.settings b.slots.items b.there b.text_bytes b.ready b.free b.published b.listed (arc_value b.listing) b.views.items };
+    ghost invariant = { λ b. BoardOk (W.IsWorkOf b.settings) b.settings b.slots.items b.there b.undone b.text_bytes b.free b.published b.listed (arc_value b.listing) b.views.items };
 }
 
 impl<W: Indexed> Board<W> {
@@ -67,8 +69,8 @@ impl<W: Indexed> Board<W> {
             settings: *settings,
             slots: Vec::new(alloc),
             there: BTreeSet::new(alloc),
+            undone: BTreeSet::new(alloc),
             text_bytes: 0,
-            ready: 0,
             free: 0,
             published: 0,
             listed: 0,
@@ -135,7 +137,7 @@ impl<W: Indexed> Board<W> {
     pub fn ready(&self) -> u64
         ensures { result ≡ ready self.now.state }
     {
-        self.ready as u64
+        ready_of(&self.slots, &self.undone) as u64
     }
 
     /// How many events there were, modulo 2^64.
@@ -211,14 +213,13 @@ impl<W: Indexed> Board<W> {
         }
         let len = text_len(&change);
         self.slots.reserve(1)?;
-        note(&mut self.there, &change)?;
+        note_both(&self.slots, &mut self.there, &mut self.undone, &change)?;
         self.slots.push(Kept {
             change,
             work: None,
             holder: None,
         })?;
         self.text_bytes += len;
-        self.ready = done_from(&self.slots, self.ready);
         self.events = self.events.wrapping_add(1);
         Ok(self.slots.len() as u64)
     }
@@ -232,7 +233,7 @@ impl<W: Indexed> Board<W> {
     {
         self.events = self.events.wrapping_add(1);
         let accepted = self.slots.len();
-        let done = self.ready;
+        let done = ready_of(&self.slots, &self.undone);
         let undone = if done < accepted {
             Some(done as u64 + 1)
         } else {
@@ -246,9 +247,9 @@ impl<W: Indexed> Board<W> {
         }
     }
 
-    /// Gives the caller the first change that is neither done nor taken, if there is one. It looks at each change from
-    /// behind the one that was taken last on, or from the least on that was given back since: so a change that is given back
-    /// and taken again costs a look at each that is taken behind it.
+    /// Gives the caller the first change that is neither done nor taken, if there is one. It costs a search, and a step for
+    /// each change that is taken and not done, from behind the one that was taken last on, or from the least on that was
+    /// given back since.
     pub fn take(&mut self, by: u32) -> Result<Option<Job>, Memory>
         requires { IsCaller self.old by }
         ensures taken { IfOk result (λ job. IfSome job (λ j. Adds (event.Took by j.change) self.old self.new)) }
@@ -259,7 +260,7 @@ impl<W: Indexed> Board<W> {
         ensures unchanged { IfOk result (λ job. MatchOption job (self.new ≡ self.old) (λ _. HasFree self.old.state)) }
         ensures err { OnErr result (self.new ≡ self.old) }
     {
-        let i = first_free(&self.slots, self.free);
+        let i = first_free(&self.slots, &self.undone, self.free);
         self.free = i;
         if i == self.slots.len() {
             return Ok(None);
@@ -345,7 +346,7 @@ impl<W: Indexed> Board<W> {
         }
         let kept = &mut self.slots[i];
         kept.work = Some(work);
-        self.ready = done_from(&self.slots, self.ready);
+        self.undone.remove(&i);
         self.events = self.events.wrapping_add(1);
         Finished::Done
     }

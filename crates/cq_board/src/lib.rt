@@ -2,14 +2,18 @@
 //! to every history for which the board stands, exactly where the event is lawful, or changes nothing. Callers are
 //! numbered from 0.
 //!
-//! Accepting a change costs a slot and a search among the places at which files stand. Taking one looks at the changes
-//! from behind the last that was taken, or from the least that was given back since. Publishing costs what cq_projects
-//! takes for the edits of the changes: one alone is a search and a move, several move the files of each project that they
-//! change once. Where a view still shows a list, it is copied first, an owner a file, and the numbers of all files, 8 bytes
-//! each; else both are changed in place, the numbers in one walk where many were replaced or dropped. Where memory is
-//! refused while several changes are made in place, the board keeps an empty listing, and makes that of the published
-//! version anew, from all changes, for the next view or publication. No text, no path and no work is copied: each is held
-//! once, behind an owner that slots, listings and jobs share.
+//! Accepting a change costs a slot and two searches, one among the places at which files stand and one among the changes
+//! that are not done. Finishing one costs a search among these, and so does telling up to which all are done. Taking one
+//! costs such a search and a step for each change that is taken and not done, from behind the last that was taken, or
+//! from the least that was given back since: a worker has at most one in hand, and a session none. The list of slots is
+//! moved where it grows, which is a few steps a change over all of them.
+//!
+//! Publishing costs what cq_projects takes for the edits of the changes: one alone is a search and a move, several move
+//! the files of each project that they change once. Where a view still shows a list, it is copied first, an owner a file,
+//! and the numbers of all files, 8 bytes each; else both are changed in place, the numbers in one walk where many were
+//! replaced or dropped. Where memory is refused while several changes are made in place, the board keeps an empty
+//! listing, and makes that of the published version anew, from all changes, for the next view or publication. No text, no
+//! path and no work is copied: each is held once, behind an owner that slots, listings and jobs share.
 #![tactic(auto)]
 
 mod accepting;
@@ -21,6 +25,7 @@ mod listing;
 mod live;
 mod presence;
 mod slot_tests;
+mod undone;
 
 pub use answers::{Asked, Finished, Job, Refused};
 pub use board::Board;

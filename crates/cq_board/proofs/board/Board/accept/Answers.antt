@@ -1,24 +1,16 @@
 use Rattle.std.specs.Arc.{arc_value}
-use Rattle.std.proofs.Common.{◌≡◌, ◌+◌, List, [], ◌∷◌, ◌++◌, map, sym, ap, ◌∙◌, None, refl, subst}
-use Rattle.std.specs.List.{prefix_len}
+use Rattle.std.proofs.Common.{◌≡◌, ◌+◌, List, [], ◌∷◌, ◌++◌, sym, ap, ◌∙◌, None, refl, subst}
 use Rattle.cq_history.specs.declared.event.Event.TheVariants as event
-use Rattle.cq_history.specs.State.{is_done}
+use Rattle.cq_board.specs.Undone.{AreUndone}
 use Rattle.cq_base.specs.Changes.{IsSoundChange}
 use Rattle.cq_board.proofs.Adding.{Adds_from}
 use Rattle.cq_board.specs.declared.kept.Kept.{Kept}
-use Rattle.cq_board.specs.Slots.{slot_from, change_of}
+use Rattle.cq_board.specs.Slots.{slots_with, change_of}
 use Rattle.cq_board.specs.Slots.{state_from}
 use Rattle.cq_board.specs.Answers.{refusal_of}
 use Rattle.cq_board.specs.Boards.{changes_from, BoardOk}
-use Rattle.cq_board.proofs.OneMore.{still_done, board_accepted, accepted_state, allowed_accept}
+use Rattle.cq_board.proofs.OneMore.{board_accepted, accepted_state, allowed_accept}
 use Rattle.cq_board.proofs.board.Board.accept.Goals as goal
-
-pub done_from-self-inside-requires : goal.done_from-self-inside-requires
-done_from-self-inside-requires g c =
-    let k : Kept g.row.W.Denot = record { change = c.in_ok-change.change; work = None; holder = None } in
-    let slots = c.self.inside.slots.items in
-    let items : c.push.new.self.items ≡ slots ++ k ∷ [] = c.in_ok-push.ensures.items ∙ ap (λ xs. xs ++ k ∷ []) c.in_ok-reserve.ensures.items in
-    still_done slots c.push.new.self.items c.deref-2.result.now k c.self.inside.ready c.deref-2.ensures.value items c.self.invariant.kept.ready
 
 pub invariant_of-self-2 : goal.invariant_of-self-2
 invariant_of-self-2 g c =
@@ -27,11 +19,10 @@ invariant_of-self-2 g c =
     let items : c.push.new.self.items ≡ slots ++ k ∷ [] = c.in_ok-push.ensures.items ∙ ap (λ xs. xs ++ k ∷ []) c.in_ok-reserve.ensures.items in
     let allowed : refusal_of c.self.inside.settings (state_from slots 0 0 []) (change_of k.change) ≡ None =
     ap (λ xs. refusal_of c.self.inside.settings (state_from xs 0 0 []) (change_of k.change)) (sym c.deref.ensures.value) ∙ sym c.refusal.ensures ∙ c.in_default.is in
-    let done : c.done_from-self-inside.result ≡ prefix_len is_done (map slot_from (slots ++ k ∷ [])) =
-    c.done_from-self-inside.ensures.done ∙ ap (λ xs. prefix_len is_done (map (slot_from {W = g.row.W.Denot}) xs)) (c.deref-2.ensures.value ∙ items) in
-    subst (λ (xs : List (Kept g.row.W.Denot)). BoardOk (g.W.Indexed.IsWorkOf c.self.inside.settings) c.self.inside.settings xs c.note.new.there (c.self.inside.text_bytes + c.text_len-len.result) c.done_from-self-inside.result c.self.inside.free c.self.inside.published c.self.inside.listed (arc_value c.self.inside.listing) c.self.inside.views.items) (sym items)
-    (board_accepted (g.W.Indexed.IsWorkOf c.self.inside.settings) c.self.inside.settings slots c.self.inside.there c.note.new.there c.self.inside.text_bytes c.self.inside.ready c.done_from-self-inside.result c.self.inside.free c.text_len-len.result c.self.inside.published c.self.inside.listed (arc_value c.self.inside.listing) c.self.inside.views.items
-    k refl c.self.invariant (subst IsSoundChange (sym c.in_ok-change.ensures) c.requires.sound) allowed c.text_len-len.ensures done (c.in_ok-note.ensures.more (changes_from slots) c.self.invariant.presence))
+    let not_done = subst (λ (xs : List (Kept g.row.W.Denot)). AreUndone (slots_with xs (change_of k.change)) c.note_both.new.undone) (c.deref-2.ensures.value ∙ c.in_ok-reserve.ensures.items) c.in_ok-note_both.ensures.undone in
+    subst (λ (xs : List (Kept g.row.W.Denot)). BoardOk (g.W.Indexed.IsWorkOf c.self.inside.settings) c.self.inside.settings xs c.note_both.new.there c.note_both.new.undone (c.self.inside.text_bytes + c.text_len-len.result) c.self.inside.free c.self.inside.published c.self.inside.listed (arc_value c.self.inside.listing) c.self.inside.views.items) (sym items)
+    (board_accepted (g.W.Indexed.IsWorkOf c.self.inside.settings) c.self.inside.settings slots c.self.inside.there c.note_both.new.there c.self.inside.undone c.note_both.new.undone c.self.inside.text_bytes c.self.inside.free c.text_len-len.result c.self.inside.published c.self.inside.listed (arc_value c.self.inside.listing) c.self.inside.views.items
+    k refl c.self.invariant (subst IsSoundChange (sym c.in_ok-change.ensures) c.requires.sound) allowed c.text_len-len.ensures not_done (c.in_ok-note_both.ensures.place (changes_from slots) c.self.invariant.presence))
 
 pub returns-clause-adds : goal.returns-clause-adds
 returns-clause-adds g c =

@@ -7,7 +7,7 @@ use Rattle.cq_board.specs.Stands.{BoardState}
 use Rattle.cq_board.proofs.Adding.{Adds_from}
 use Rattle.cq_board.specs.Slots.{slot_from}
 use Rattle.cq_board.specs.Slots.{state_from}
-use Rattle.cq_board.proofs.SlotLists.{slot_read, none_free_set, held_ok, changes_stay, back_state}
+use Rattle.cq_board.proofs.SlotLists.{slot_read, none_free_set, held_ok, changes_stay, ready_grows, back_state}
 use Rattle.cq_board.proofs.OneMore.{board_with}
 use Rattle.cq_board.specs.declared.kept.Kept.{Kept}
 use Rattle.cq_board.proofs.board.Board.back.Goals as goal
@@ -23,13 +23,14 @@ invariant_of-self g c =
     let within : c.args.change - 1 < length c.self.inside.slots.items = omega (arith, c.if-change-eq0.false, c.if-change-len.false, c.len-else-change-eq0.ensures, c.self.inside.slots.ok.0) in
     let k = c.index_mut-kept.result.now in
     let j : Kept g.row.W.Denot = record { change = k.change; work = k.work; holder = None } in
-    board_with (g.W.Indexed.IsWorkOf c.self.inside.settings) c.self.inside.settings c.self.inside.slots.items (set c.self.inside.slots.items (c.args.change - 1) j) c.self.inside.there c.self.inside.text_bytes c.self.inside.ready c.self.inside.ready c.self.inside.free c.min-self-inside.result c.self.inside.published c.self.inside.listed (arc_value c.self.inside.listing) c.self.inside.views.items
+    board_with (g.W.Indexed.IsWorkOf c.self.inside.settings) c.self.inside.settings c.self.inside.slots.items (set c.self.inside.slots.items (c.args.change - 1) j) c.self.inside.there c.self.inside.undone c.self.inside.undone c.self.inside.text_bytes c.self.inside.free c.min-self-inside.result c.self.inside.published c.self.inside.listed (arc_value c.self.inside.listing) c.self.inside.views.items
     c.self.invariant
-    (held_ok (g.W.Indexed.IsWorkOf c.self.inside.settings) c.self.inside.settings c.self.inside.slots.items c.self.inside.text_bytes c.self.inside.ready c.self.inside.free c.min-self-inside.result (c.args.change - 1) k None within c.index_mut-kept.ensures.value
+    (held_ok (g.W.Indexed.IsWorkOf c.self.inside.settings) c.self.inside.settings c.self.inside.slots.items c.self.inside.undone c.self.inside.text_bytes c.self.inside.free c.min-self-inside.result (c.args.change - 1) k None within c.index_mut-kept.ensures.value
     (none_free_set c.self.inside.slots.items (c.args.change - 1) c.self.inside.free c.min-self-inside.result j c.self.invariant.kept.none_free (min_few c.self.inside.free (c.args.change - 1) (length c.self.inside.slots.items) c.min-self-inside.result c.min-self-inside.ensures within)
     (λ n lt. let both = min_both c.self.inside.free (c.args.change - 1) n c.min-self-inside.result c.min-self-inside.ensures lt in inr ((λ e. omega (arith, both.1, e)), both.0)))
     c.self.invariant.kept)
-    (changes_stay c.self.inside.slots.items (c.args.change - 1) k j within c.index_mut-kept.ensures.value refl) (omega arith)
+    (changes_stay c.self.inside.slots.items (c.args.change - 1) k j within c.index_mut-kept.ensures.value refl)
+    (ready_grows c.self.inside.slots.items (c.args.change - 1) k j within c.index_mut-kept.ensures.value (λ h. h))
 
 pub returns-clause-adds : goal.returns-clause-adds
 returns-clause-adds g c =

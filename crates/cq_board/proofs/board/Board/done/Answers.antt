@@ -1,6 +1,5 @@
-use Rattle.std.proofs.Common.{◌≡◌, ◌<◌, ◌≤◌, ◌-◌, List, length, map, arith, refl, sym, ap, ◌∙◌, subst, set, Some}
+use Rattle.std.proofs.Common.{◌≡◌, ◌<◌, ◌-◌, length, arith, refl, sym, ap, ◌∙◌, subst, set, Some}
 use Rattle.std.specs.Arc.{arc_value}
-use Rattle.std.specs.List.{prefix_len}
 use Rattle.std.proofs.lemmas.List.{length-map}
 use Rattle.cq_history.specs.declared.event.Event.TheVariants as event
 use Rattle.cq_history.specs.State.{State, Slot, is_done, slot_of, IsAccepted}
@@ -10,20 +9,9 @@ use Rattle.cq_board.specs.declared.kept.Kept.{Kept}
 use Rattle.cq_board.specs.Slots.{slot_from}
 use Rattle.cq_history.specs.Changes.{IsWorkFor}
 use Rattle.cq_board.specs.Slots.{state_from}
-use Rattle.cq_board.proofs.SlotLists.{slot_read, done_state, done_grows, done_ok, changes_stay, finished_is_done}
+use Rattle.cq_board.proofs.SlotLists.{slot_read, done_state, ready_grows, done_ok, changes_stay, finished_is_done}
 use Rattle.cq_board.proofs.OneMore.{board_with}
 use Rattle.cq_board.proofs.board.Board.done.Goals as goal
-
-pub done_from-self-inside-requires : goal.done_from-self-inside-requires
-done_from-self-inside-requires g c =
-    let S : State = state_from c.self.inside.slots.items c.self.inside.published c.self.inside.floor c.self.inside.views.items in
-    let P : BoardState → Type 0 = λ b. IsAccepted b.state c.args.change in
-    let accepted : IsAccepted S c.args.change = subst P (sym c.self.view_is) c.requires.accepted in
-    let within : c.args.change - 1 < length c.self.inside.slots.items = omega (arith, accepted.0, accepted.1, length-map c.self.inside.slots.items (slot_from {W = g.row.W.Denot})) in
-    subst (λ (xs : List (Kept g.row.W.Denot)). c.self.inside.ready ≤ prefix_len is_done (map slot_from xs)) (sym c.deref.ensures.value)
-    (let grows = done_grows c.self.inside.slots.items (c.args.change - 1) c.index_mut-kept.result.now (record { change = c.index_mut-kept.result.now.change; work = Some c.args.work; holder = c.index_mut-kept.result.now.holder }) within c.index_mut-kept.ensures.value
-    (finished_is_done c.index_mut-kept.result.now.change c.args.work c.index_mut-kept.result.now.holder) in
-    omega (arith, grows, c.self.invariant.kept.ready))
 
 pub invariant_of-self : goal.invariant_of-self
 invariant_of-self g c =
@@ -37,14 +25,12 @@ invariant_of-self g c =
     let k = c.index_mut-kept.result.now in
     let j : Kept g.row.W.Denot = record { change = k.change; work = Some c.args.work; holder = k.holder } in
     let yes = finished_is_done k.change c.args.work k.holder in
-    let now_is = c.done_from-self-inside.ensures.done ∙ ap (λ xs. prefix_len is_done (map (slot_from {W = g.row.W.Denot}) xs)) c.deref.ensures.value in
-    let grows = done_grows c.self.inside.slots.items (c.args.change - 1) k j within c.index_mut-kept.ensures.value yes in
-    board_with (g.W.Indexed.IsWorkOf c.self.inside.settings) c.self.inside.settings c.self.inside.slots.items (set c.self.inside.slots.items (c.args.change - 1) j) c.self.inside.there c.self.inside.text_bytes c.self.inside.ready c.done_from-self-inside.result c.self.inside.free c.self.inside.free c.self.inside.published c.self.inside.listed (arc_value c.self.inside.listing) c.self.inside.views.items
+    board_with (g.W.Indexed.IsWorkOf c.self.inside.settings) c.self.inside.settings c.self.inside.slots.items (set c.self.inside.slots.items (c.args.change - 1) j) c.self.inside.there c.self.inside.undone c.remove.new.self c.self.inside.text_bytes c.self.inside.free c.self.inside.free c.self.inside.published c.self.inside.listed (arc_value c.self.inside.listing) c.self.inside.views.items
     c.self.invariant
-    (done_ok (g.W.Indexed.IsWorkOf c.self.inside.settings) c.self.inside.settings c.self.inside.slots.items c.self.inside.text_bytes c.self.inside.ready c.done_from-self-inside.result c.self.inside.free (c.args.change - 1) k c.args.work within c.index_mut-kept.ensures.value
-    (subst (λ (x : Slot). IsWorkFor (g.W.Indexed.IsWorkOf c.self.inside.settings) x.change (arc_value c.args.work)) here work) yes now_is c.self.invariant.kept)
+    (done_ok (g.W.Indexed.IsWorkOf c.self.inside.settings) c.self.inside.settings c.self.inside.slots.items c.self.inside.undone c.remove.new.self c.self.inside.text_bytes c.self.inside.free (c.args.change - 1) k c.args.work within c.index_mut-kept.ensures.value
+    (subst (λ (x : Slot). IsWorkFor (g.W.Indexed.IsWorkOf c.self.inside.settings) x.change (arc_value c.args.work)) here work) yes c.remove.ensures.updates.0 c.self.invariant.kept)
     (changes_stay c.self.inside.slots.items (c.args.change - 1) k j within c.index_mut-kept.ensures.value refl)
-    (omega (arith, grows, now_is, c.self.invariant.kept.ready))
+    (ready_grows c.self.inside.slots.items (c.args.change - 1) k j within c.index_mut-kept.ensures.value (λ _. yes))
 
 pub returns-clause-adds : goal.returns-clause-adds
 returns-clause-adds g c _ =

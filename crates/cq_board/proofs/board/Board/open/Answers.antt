@@ -1,4 +1,4 @@
-use Rattle.std.proofs.Common.{◌∙◌, ◌≤◌, List, refl, sym, ap, subst, take, Some, length-set, arith}
+use Rattle.std.proofs.Common.{◌∙◌, List, refl, sym, ap, subst, take, Some, length-set, arith}
 use Rattle.std.proofs.lemmas.List.Elements.{All-take}
 use Rattle.cq_base.specs.Changes.{IsSoundChange}
 use Rattle.cq_board.specs.Boards.{changes_from}
@@ -24,8 +24,8 @@ pub invariant_of-self-2 : goal.invariant_of-self-2
 invariant_of-self-2 g c =
     let IsWork = g.W.Indexed.IsWorkOf c.self.inside.settings in
     let is = subst (λ (slots : List (Kept g.row.W.Denot)). IsListing IsWork (take c.advance_to.new.at (changes_from slots)) (arc_value c.advance_to.new.listing)) c.deref.ensures.value c.advance_to.ensures.listing in
-    board_views IsWork c.self.inside.settings c.self.inside.slots.items c.self.inside.there c.self.inside.text_bytes c.self.inside.ready c.self.inside.free c.self.inside.published c.advance_to.new.at (arc_value c.advance_to.new.listing) c.self.inside.views.items _
-    (board_listed IsWork c.self.inside.settings c.self.inside.slots.items c.self.inside.there c.self.inside.text_bytes c.self.inside.ready c.self.inside.free c.self.inside.published c.self.inside.listed (arc_value c.self.inside.listing) c.self.inside.views.items
+    board_views IsWork c.self.inside.settings c.self.inside.slots.items c.self.inside.there c.self.inside.undone c.self.inside.text_bytes c.self.inside.free c.self.inside.published c.advance_to.new.at (arc_value c.advance_to.new.listing) c.self.inside.views.items _
+    (board_listed IsWork c.self.inside.settings c.self.inside.slots.items c.self.inside.there c.self.inside.undone c.self.inside.text_bytes c.self.inside.free c.self.inside.published c.self.inside.listed (arc_value c.self.inside.listing) c.self.inside.views.items
     c.self.invariant c.advance_to.new.at (arc_value c.advance_to.new.listing) (omega (arith, c.in_ok-advance_to.ensures.next)) is)
     (length-set c.self.inside.views.items c.args.by (Some c.self.inside.published))
 
@@ -33,7 +33,7 @@ pub invariant_of-self-in_err-listing : goal.invariant_of-self-in_err-listing
 invariant_of-self-in_err-listing g c =
     let IsWork = g.W.Indexed.IsWorkOf c.self.inside.settings in
     let is = subst (λ (slots : List (Kept g.row.W.Denot)). IsListing IsWork (take c.advance_to.new.at (changes_from slots)) (arc_value c.advance_to.new.listing)) c.deref.ensures.value c.advance_to.ensures.listing in
-    board_listed IsWork c.self.inside.settings c.self.inside.slots.items c.self.inside.there c.self.inside.text_bytes c.self.inside.ready c.self.inside.free c.self.inside.published c.self.inside.listed (arc_value c.self.inside.listing) c.self.inside.views.items
+    board_listed IsWork c.self.inside.settings c.self.inside.slots.items c.self.inside.there c.self.inside.undone c.self.inside.text_bytes c.self.inside.free c.self.inside.published c.self.inside.listed (arc_value c.self.inside.listing) c.self.inside.views.items
     c.self.invariant c.advance_to.new.at (arc_value c.advance_to.new.listing) (omega (arith, c.in_ok-advance_to.ensures.next)) is
 
 pub returns-clause-conditions : goal.returns-clause-conditions

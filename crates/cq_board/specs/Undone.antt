@@ -1,0 +1,13 @@
+-- Which changes are not done, by their indexes.
+use Rattle.std.specs.Prelude.{◌≡◌, ℕ, Bool, not, List, slice_index_or}
+use Rattle.std.specs.Ordering.{nat_cmp}
+use Rattle.std.specs.BTreeSet.{BTreeSet, contains}
+use Rattle.cq_history.specs.State.{Slot, no_slot, is_done}
+
+-- whether a change has the index and is not done
+abbrev pub is_undone : List Slot → ℕ → Bool
+is_undone slots i = not (is_done (slice_index_or slots i no_slot))
+
+-- the set has exactly the indexes of the changes that are not done
+abbrev pub AreUndone : List Slot → BTreeSet ℕ → Type 0
+AreUndone slots undone = (i : ℕ) → contains nat_cmp undone i ≡ is_undone slots i
