@@ -11,6 +11,7 @@ use crate::view::View;
 use atomic_table::{Refused, Seat, Table};
 use std::alloc::{AllocError, Global};
 use std::sync::Wait;
+use std::sync::atomic::{AtomicU64, Ordering};
 
 /// A token of no bytes, with which a thread steps on the cells.
 pub type Seated<I, E, K> = Seat<Option<I>, View<I, E, K>>;
@@ -20,6 +21,8 @@ pub struct Locked<I, E, K, L: CellLaw<I, E, K>, R> {
     table: Table<Option<I>, View<I, E, K>, K, CellRule<L>, Global>,
     rt: R,
     count: usize,
+    // How many wait for a cell, at least: who releases one while none waits wakes nobody.
+    waiting: AtomicU64,
     ghost sized: { (table.shared.table_id.words ≡ count) × (table.shared.table_id.slots ≡ count) × (0 < count) },
 }
 
@@ -41,12 +44,23 @@ impl<I, E, K, L: CellLaw<I, E, K>, R: Wait> Locked<I, E, K, L, R> {
                     return shared.exchange(pass, cell, None).unwrap();
                 }
             } else {
-                self.table
-                    .shared
-                    .park(&self.rt, cell, (found % (1 << 32)) as u32);
+                self.wait(cell, found);
             }
         }
         unreachable!()
+    }
+
+    // Sleeps while the word is as it was found, until a wake. It counts among those that wait before the word is looked at
+    // once more, and whoever releases the cell changes the word before it looks at the count: so one of the two sees the
+    // other.
+    fn wait(&self, cell: usize, found: u64)
+        requires { cell < self.now.count }
+    {
+        self.waiting.fetch_add(1, Ordering::SeqCst);
+        self.table
+            .shared
+            .park(&self.rt, cell, (found % (1 << 32)) as u32);
+        self.waiting.fetch_sub(1, Ordering::SeqCst);
     }
 }
 
@@ -63,7 +77,16 @@ impl<I, E, K, L: CellLaw<I, E, K>, R> Locked<I, E, K, L, R> {
         self.table.shared.load::<Note<N>>(pass, cell);
     }
 
-    /// Puts a value into the cell in hand, releases it with this count, and wakes one that waits for it.
+    // Wakes one that waits for the cell, if any waits for one.
+    fn wake(&self, cell: usize)
+        requires { cell < self.now.count }
+    {
+        if self.waiting.load(Ordering::SeqCst) > 0 {
+            self.table.shared.wake_one(cell);
+        }
+    }
+
+    /// Puts a value into the cell in hand, releases it with this count, and wakes one that waits for it, if any waits.
     pub fn release(&self, cell: usize, value: I, count: u64, pass: &mut Seated<I, E, K>)
         requires own { IsOf self.now.table.shared.table_id self.now.table.shared.key pass.old × (cell < self.now.count) }
         requires hand { (x : I) × (event : Option E) × HasEmpty pass.old cell x event }
@@ -80,7 +103,7 @@ impl<I, E, K, L: CellLaw<I, E, K>, R> Locked<I, E, K, L, R> {
             Some(_old) => unreachable!(),
         }
         self.table.shared.store::<Release>(pass, cell, 2 * count);
-        self.table.shared.wake_one(cell);
+        self.wake(cell);
     }
 
     /// The pass of the next caller, which has seen as much.
@@ -139,7 +162,13 @@ impl<I, E, K, L: CellLaw<I, E, K>, R> Locked<I, E, K, L, R> {
             Ok(made) => made,
             Err(Refused { slots: _ }) => return Err(AllocError),
         };
-        Ok((Locked { table, rt, count }, pass))
+        let locked = Locked {
+            table,
+            rt,
+            count,
+            waiting: AtomicU64::new(0),
+        };
+        Ok((locked, pass))
     }
 }
 
