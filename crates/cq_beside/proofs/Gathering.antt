@@ -1,0 +1,157 @@
+-- Workers' passes joined into that of a talk.
+use Rattle.std.proofs.Common.{◌≡◌, ◌⊎◌, ℕ, zero, suc, ◌+◌, ◌-◌, ◌<◌, ◌≤◌, List, [], ◌∷◌, ◌++◌, length, None, refl, sym, ap, ◌∙◌, subst, arith, inl, inr, ⊎_elim}
+use Rattle.std.specs.Prelude.{slice_index, flat_map}
+use Rattle.std.specs.List.{AllByRecursion}
+use Rattle.std.proofs.lemmas.Bool.{cases_eq}
+use Rattle.std.proofs.lemmas.List.Concat.{flat_map-cons}
+use mathlib.Core.List.{IsPrefix}
+use Rattle.cq_cells.specs.Callers.{Each, Among, longer}
+use Rattle.cq_cells.specs.Passes.{by_of}
+use Rattle.cq_cells.proofs.Fronts.{prefix_trans, prefix_self, left_longer, right_longer}
+use Rattle.cq_chain.specs.Passes.{BoardPass, IsOwn, HasNoneFrom}
+use Rattle.cq_history.specs.declared.event.Event.{Event}
+use Rattle.cq_history.specs.State.{state, accepted, own, view_of}
+use Rattle.cq_history.proofs.Bounds.{no_view}
+use Rattle.cq_history.proofs.Prefixes.{accepted-append, own-append}
+use Rattle.cq_hub.specs.Hubs.{Never}
+use Rattle.cq_hub.proofs.Growing.{view_grows}
+use Rattle.cq_shared.specs.declared.shared.Shared.{Shared}
+use Rattle.cq_shared.specs.SharedPasses.{IsPassOf}
+use Rattle.cq_talk.specs.Gathered.{AcceptsNone}
+use Rattle.cq_beside.specs.Besides.{Besides, Worked}
+use Rattle.cq_serve.specs.Labours.{IsOfTurn, Labour}
+
+-- ---- a worker accepts nothing
+
+turn_accepts : (c : ℕ) (events : List Event) → IsOfTurn c events → accepted events ≡ []
+turn_accepts c events of = elim of.1 [
+  | inl done ↦ ap accepted done
+  | inr (inl back) ↦ ap accepted back
+  | inr (inr late) ↦ ap accepted late
+]
+
+work_accepts : (c : ℕ) (turns : List (List Event)) → AllByRecursion (IsOfTurn c) turns → accepted (flat_map (λ (events : List Event). events) turns) ≡ []
+work_accepts c [] all = refl
+work_accepts c (events ∷ turns) all =
+    let rest = flat_map (λ (more : List Event). more) turns in
+    ap accepted (flat_map-cons (λ (more : List Event). more) events turns) ∙ accepted-append events rest
+    ∙ ap (λ cs. cs ++ accepted rest) (turn_accepts c events all.0) ∙ work_accepts c turns all.1
+
+pub labour_quiet : (alone : Type 0) (c : ℕ) (h after : List Event) → Labour alone c h after → AcceptsNone h c → AcceptsNone after c
+labour_quiet alone c h after l none =
+    ap (λ g. accepted (own c g)) l.grows.after_is ∙ ap accepted (own-append c h l.grows.more) ∙ accepted-append (own c h) (own c l.grows.more)
+    ∙ ap (λ cs. cs ++ accepted (own c l.grows.more)) none ∙ ap accepted l.grows.own_is ∙ work_accepts c l.turns l.each
+
+-- ---- whose numbers a pass has
+
+each_among : (P : ℕ → Type 0) (cs : List ℕ) (c : ℕ) → Each P cs → Among c cs → P c
+each_among P [] c all is = absurd is
+each_among P (x ∷ xs) c all is = ⊎_elim (λ (same : c ≡ x). subst P (sym same) all.0) (λ later. each_among P xs c all.1 later) is
+
+pub first_among : (cs : List ℕ) → 0 < length cs → Among (slice_index cs 0) cs
+first_among [] some = absurd (omega (arith, some))
+first_among (c ∷ cs) some = inl refl
+
+among_left : (cs ds : List ℕ) (c : ℕ) → Among c cs → Among c (cs ++ ds)
+among_left [] ds c is = absurd is
+among_left (x ∷ xs) ds c is = ⊎_elim (λ (same : c ≡ x). inl same) (λ later. inr (among_left xs ds c later)) is
+
+among_right : (cs ds : List ℕ) (c : ℕ) → Among c ds → Among c (cs ++ ds)
+among_right [] ds c is = is
+among_right (x ∷ xs) ds c is = inr (among_right xs ds c is)
+
+none_or_some : (n : ℕ) → (n ≡ 0) ⊎ (0 < n)
+none_or_some zero = inl refl
+none_or_some (suc n) = inr (omega arith)
+
+at_or_above : (n c : ℕ) → n ≤ c → (c ≡ n) ⊎ (n < c)
+at_or_above n c low = ⊎_elim (λ same. inl same) (λ other. inr (omega (arith, low, other))) (cases_eq c n)
+
+-- of two histories of which one begins with the other, the longer begins with both
+longer_begins : (xs ys : List Event) → IsPrefix xs ys ⊎ IsPrefix ys xs → IsPrefix xs (longer xs ys) × IsPrefix ys (longer xs ys)
+longer_begins xs ys (inl begins) = (left_longer xs ys ys begins (prefix_self ys), right_longer xs ys ys begins (prefix_self ys))
+longer_begins xs ys (inr begins) = (left_longer xs ys xs (prefix_self xs) begins, right_longer xs ys xs (prefix_self xs) begins)
+
+-- ---- a caller that was not made yet
+
+-- it has no view open
+pub unmade_closed : (callers c : ℕ) (h : List Event) → own c h ≡ [] → view_of (state callers h) c ≡ None
+unmade_closed callers c h none = view_grows callers ⊥ Never c [] h [] (record { more = h; after_is = refl; own_is = none; alone_is = λ never. absurd never }) tt ∙ no_view callers c
+
+module _ {W R : Type 0} (hub : Shared W R) where
+  -- there is a next number where there is room
+  pub some_next : (p : BoardPass) → IsPassOf hub p → 0 < p.room → 0 < p.next
+  some_next p of room = ⊎_elim (λ (none : p.next ≡ 0). let full = of.of.of.later none in absurd (omega (arith, room, full))) (λ (some : 0 < p.next). some) (none_or_some p.next)
+
+  module _ (Said : ℕ → List Event → List Event → ℕ → Type 0) where
+    -- a talk with no worker: one is the pass, less the talk's caller, own that caller's, and r what they are joined to
+    pub besides_none : (p one own_pass r : BoardPass) → one ≡ record p { next = p.next + 1; room = p.room - 1 } → IsPassOf hub p → 0 < p.next
+        → by_of own_pass ≡ p.next → Said p.next p.seen own_pass.seen own_pass.asked
+        → IsPassOf hub r → r.seen ≡ longer one.seen own_pass.seen → IsPrefix one.seen own_pass.seen ⊎ IsPrefix own_pass.seen one.seen
+        → r.callers ≡ one.callers ++ own_pass.callers → r.next ≡ one.next → IsOwn one r.seen → (0 < r.next → HasNoneFrom r.next r.seen)
+        → Besides hub p 0 r Said
+    besides_none p one own_pass r one_is is some by_is said of longest ordered all next own_one none_from =
+        let seen : one.seen ≡ p.seen = ap (λ (z : BoardPass). z.seen) one_is in
+        let callers : one.callers ≡ p.callers = ap (λ (z : BoardPass). z.callers) one_is in
+        let by : by_of one ≡ by_of p = ap (λ (z : BoardPass). by_of z) one_is in
+        let next_is : r.next ≡ p.next + 1 = next ∙ ap (λ (z : BoardPass). z.next) one_is in
+        let number : p.next ≡ p.next + 0 = omega arith in
+        record {
+          heard = own_pass.seen;
+          asked = own_pass.asked;
+          said = subst (λ n. Said n p.seen own_pass.seen own_pass.asked) number said;
+          front = subst (IsPrefix own_pass.seen) (sym longest) (longer_begins one.seen own_pass.seen ordered).1;
+          of = of;
+          next = omega (arith, next_is);
+          first = subst (Among (by_of p)) (sym all) (among_left one.callers own_pass.callers (by_of p) (subst (Among (by_of p)) (sym callers) (first_among p.callers is.of.of.has_caller)));
+          first_quiet = λ none.
+              ap accepted (subst (λ n. own n r.seen ≡ own n one.seen) by own_one.by) ∙ ap (λ h. accepted (own (by_of p) h)) seen ∙ none;
+          joined = λ c low high. absurd (omega (arith, low, high));
+          quiet = λ c low high. absurd (omega (arith, low, high));
+          unmade = λ c low. let from = none_from (omega (arith, next_is)) in from c (omega (arith, low, next_is));
+        }
+
+    -- one worker more
+    pub besides_one : (p one mine q back r : BoardPass) (fewer workers : ℕ) → workers ≡ fewer + 1 → one ≡ record p { next = p.next + 1; room = p.room - 1 } → by_of mine ≡ p.next → mine.seen ≡ p.seen
+        → Besides hub one fewer q Said → Worked hub mine back
+        → IsPassOf hub r → r.seen ≡ longer q.seen back.seen → IsPrefix q.seen back.seen ⊎ IsPrefix back.seen q.seen
+        → r.callers ≡ q.callers ++ back.callers → r.next ≡ q.next → IsOwn q r.seen → IsOwn back r.seen → (0 < r.next → HasNoneFrom r.next r.seen)
+        → Besides hub p workers r Said
+    besides_one p one mine q back r fewer workers more one_is by_is seen b w of longest ordered all next own_q own_back none_from =
+        let one_seen : one.seen ≡ p.seen = ap (λ (z : BoardPass). z.seen) one_is in
+        let by : by_of one ≡ by_of p = ap (λ (z : BoardPass). by_of z) one_is in
+        let one_next : one.next ≡ p.next + 1 = ap (λ (z : BoardPass). z.next) one_is in
+        let b_next = b.next in
+        let next_is : r.next ≡ p.next + (workers + 1) = omega (arith, next, one_next, b_next, more) in
+        let number : one.next + fewer ≡ p.next + workers = omega (arith, one_next, more) in
+        let back_is : by_of back ≡ p.next = w.caller ∙ by_is in
+        let back_in : Among p.next r.callers = subst (Among p.next) (sym all) (among_right q.callers back.callers p.next (subst (λ n. Among n back.callers) back_is (first_among back.callers (w.of.of.of.has_caller)))) in
+        let stays : (c : ℕ) → Among c q.callers → AcceptsNone q.seen c → AcceptsNone r.seen c =
+        λ c there none. ap accepted (each_among (λ n. own n r.seen ≡ own n q.seen) q.callers c own_q.all there) ∙ none in
+        record {
+          heard = b.heard;
+          asked = b.asked;
+          said = subst (λ h. Said (p.next + workers) h b.heard b.asked) one_seen (subst (λ n. Said n one.seen b.heard b.asked) number b.said);
+          front = prefix_trans _ _ _ b.front (subst (IsPrefix q.seen) (sym longest) (longer_begins q.seen back.seen ordered).0);
+          of = of;
+          next = next_is;
+          first = subst (Among (by_of p)) (sym all) (among_left q.callers back.callers (by_of p) (subst (λ n. Among n q.callers) by b.first));
+          first_quiet = λ none. subst (AcceptsNone r.seen) by
+              (stays (by_of one) b.first (b.first_quiet (subst (λ h. AcceptsNone h (by_of one)) (sym one_seen) (subst (AcceptsNone p.seen) (sym by) none))));
+          joined = λ c low high. ⊎_elim
+              (λ (same : c ≡ p.next). subst (λ n. Among n r.callers) (sym same) back_in)
+              (λ (above : p.next < c). subst (Among c) (sym all) (among_left q.callers back.callers c (b.joined c (omega (arith, above, one_next)) (omega (arith, high, more, one_next)))))
+              (at_or_above p.next c low);
+          quiet = λ c low high none. ⊎_elim
+              (λ (same : c ≡ p.next).
+              let c_is : c ≡ by_of mine = same ∙ sym by_is in
+              let there : AcceptsNone back.seen (by_of mine) = w.quiet (subst (λ h. AcceptsNone h (by_of mine)) (sym seen) (subst (AcceptsNone p.seen) c_is none)) in
+              let last : own (by_of mine) r.seen ≡ own (by_of mine) back.seen = subst (λ n. own n r.seen ≡ own n back.seen) w.caller own_back.by in
+              subst (AcceptsNone r.seen) (sym c_is) (ap accepted last ∙ there))
+              (λ (above : p.next < c).
+              let low' : one.next ≤ c = omega (arith, above, one_next) in
+              let high' : c < one.next + fewer = omega (arith, high, more, one_next) in
+              stays c (b.joined c low' high') (b.quiet c low' high' (subst (λ h. AcceptsNone h c) (sym one_seen) none)))
+              (at_or_above p.next c low);
+          unmade = λ c low. let from = none_from (omega (arith, next_is)) in from c (omega (arith, low, next_is));
+        }

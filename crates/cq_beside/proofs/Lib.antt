@@ -1,0 +1,3 @@
+pub mod Gathering
+pub mod Served
+pub mod OthersQuiet

@@ -1,0 +1,59 @@
+-- A session beside which no other caller accepts a change.
+use Rattle.std.proofs.Common.{◌≡◌, ◌⊎◌, ℕ, ◌+◌, ◌<◌, ◌≤◌, List, map, sym, ap, subst, arith, inl, inr, ⊎_elim, refl}
+use Rattle.std.specs.List.{AllByRecursion}
+use Rattle.std.proofs.lemmas.Bool.{cases_lt, cases_eq}
+use Rattle.cq_base.specs.declared.settings.Settings.{Settings}
+use Rattle.cq_cells.specs.Passes.{by_of}
+use Rattle.cq_chain.specs.Passes.{BoardPass}
+use Rattle.cq_history.specs.declared.event.Event.{Event}
+use Rattle.cq_history.specs.State.{accepted}
+use Rattle.cq_history.specs.Lawful.{Lawful}
+use Rattle.cq_history.proofs.States.{Lawful-prefix}
+use Rattle.cq_reply.specs.declared.reply.Reply.{Reply}
+use Rattle.cq_shared.specs.declared.shared.Shared.{Shared}
+use Rattle.cq_shared.specs.SharedPasses.{IsPassOf, settings_of, callers_of, shared_lawful}
+use Rattle.cq_talk.specs.Gathered.{AcceptsNone}
+use Rattle.cq_talk.specs.Laws.{AcceptsBy}
+use Rattle.cq_talk.specs.Said.{said}
+use Rattle.cq_talk.specs.Talk.{Talk}
+use Rattle.cq_talk.proofs.BesideRows.{all_before}
+use Rattle.cq_talk.proofs.BesideTalk.{beside_from_nothing}
+use Rattle.cq_talk.proofs.Gathering.{only_by}
+use Rattle.cq_beside.specs.Besides.{Besides, AreBeside}
+use Rattle.cq_beside.specs.Served.{IsFirst}
+use Rattle.cq_beside.proofs.Gathering.{some_next}
+
+module _ {W R : Type 0} (hub : Shared W R) (p q : BoardPass) (workers : ℕ) (Said : ℕ → List Event → List Event → ℕ → Type 0) (is : IsPassOf hub p) (room : workers < p.room) (made : IsFirst hub p) (b : Besides hub p workers q Said) where
+  law : Lawful (settings_of hub) (callers_of hub) q.seen
+  law = shared_lawful hub q (by_of q) q.seen (record { is = b.of; caller = refl; seen = refl })
+
+  one : p.next ≡ 1
+  one =
+      let some = some_next hub p is (omega (arith, room)) in
+      let all = is.of.room some in
+      let none_made = made.room in
+      omega (arith, all, none_made)
+
+  none_before : (w : ℕ) → AcceptsNone p.seen w
+  none_before w = subst (λ h. AcceptsNone h w) (sym made.none) refl
+
+  others : (w : ℕ) → (w ≡ p.next + workers) ⊎ AcceptsNone q.seen w
+  others w = ⊎_elim
+      (λ (zero_is : w < 1).
+      let first = made.first in
+      let same : by_of p ≡ w = omega (arith, zero_is, first) in
+      inr (subst (AcceptsNone q.seen) same (b.first_quiet (none_before (by_of p)))))
+      (λ (some : 1 ≤ w). ⊎_elim
+      (λ (low : w < p.next + workers). inr (b.quiet w (omega (arith, some, one)) low (none_before w)))
+      (λ (high : p.next + workers ≤ w). ⊎_elim
+      (λ (same : w ≡ p.next + workers). inl same)
+      (λ other. inr (ap accepted (b.unmade w (omega (arith, high, other)))))
+      (cases_eq w (p.next + workers)))
+      (cases_lt w (p.next + workers)))
+      (cases_lt w 1)
+
+  pub are_beside : (set : Settings) → settings_of hub ≡ set → (lines : List (List ℕ)) (replies : List Reply) → Talk set (callers_of hub) ⊥ (p.next + workers) 0 p.seen (map (said set.chunk) lines) replies b.heard → AreBeside set lines replies
+  are_beside set same lines replies talk =
+      let heard_law : Lawful set (callers_of hub) b.heard = subst (λ s. Lawful s (callers_of hub) b.heard) same (Lawful-prefix (settings_of hub) (callers_of hub) b.heard b.front.0 (subst (Lawful (settings_of hub) (callers_of hub)) (sym b.front.1) law)) in
+      beside_from_nothing set (callers_of hub) ⊥ (p.next + workers) b.heard (map (said set.chunk) lines) replies (subst (λ h. Talk set (callers_of hub) ⊥ (p.next + workers) 0 h (map (said set.chunk) lines) replies b.heard) made.none talk) heard_law
+      (all_before (AcceptsBy (p.next + workers)) b.heard b.front.0 (subst (AllByRecursion (AcceptsBy (p.next + workers))) (sym b.front.1) (only_by (p.next + workers) q.seen others)))

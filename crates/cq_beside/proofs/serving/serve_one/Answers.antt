@@ -1,0 +1,27 @@
+use Rattle.std.proofs.Common.{◌+◌, rules}
+use Rattle.cq_reply.specs.Written.{line_of}
+use Rattle.cq_shared.specs.SharedPasses.{callers_of}
+use Rattle.cq_beside.specs.Besides.{AreBeside}
+use Rattle.cq_beside.proofs.OthersQuiet.{are_beside}
+use Rattle.cq_beside.proofs.Served.{told_behind, cause_behind, lines_behind, serves_as}
+use Rattle.cq_beside.proofs.serving.serve_one.Goals as goal
+
+pub returns-clause-served : goal.returns-clause-served
+returns-clause-served g c =
+    let b = c.beside-over.ensures.besides in
+    let p = c.args.pass in
+    record {
+      heard = b.heard;
+      asked = b.asked;
+      told = told_behind g.S.Source g.K.Sink c.args.settings.now (callers_of c.args.hub.now) (p.next + c.args.workers) p.seen _ _ _ b.heard b.asked _ _ _ _ _ _ _ _ (search rules) (search rules) (search rules) b.said.0;
+    }
+
+pub returns-clause-beside : goal.returns-clause-beside
+returns-clause-beside g c =
+    let b = c.beside-over.ensures.besides in
+    let set = c.args.settings.now in
+    λ first. lines_behind g.S.Source g.K.Sink line_of (AreBeside set) _ _ _ _ _ _ _ _ (search rules) (search rules)
+    (serves_as line_of _ (AreBeside set) (λ lines replies talk. are_beside c.args.hub.now c.args.pass c.beside-over.result.1 c.args.workers _ c.requires.of c.requires.room first b set c.requires.hub_settings lines replies talk.talk) _ _ _ _ _ _ b.said.0)
+
+pub returns-clause-cause : goal.returns-clause-cause
+returns-clause-cause g c = cause_behind g.S.Source g.K.Sink _ _ _ _ _ _ _ (search rules) (search rules) c.beside-over.ensures.besides.said.1

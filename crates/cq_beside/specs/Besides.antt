@@ -1,0 +1,41 @@
+-- What is known of a pass behind a talk with workers beside it.
+use Rattle.std.specs.Prelude.{◌≡◌, ℕ, ◌+◌, ◌<◌, ◌≤◌, List, map}
+use mathlib.Core.List.{IsPrefix}
+use Rattle.cq_base.specs.declared.settings.Settings.{Settings}
+use Rattle.cq_cells.specs.Callers.{Among}
+use Rattle.cq_cells.specs.Passes.{by_of}
+use Rattle.cq_chain.specs.Passes.{BoardPass, HasNoneFrom}
+use Rattle.cq_history.specs.declared.event.Event.{Event}
+use Rattle.cq_reply.specs.declared.reply.Reply.{Reply}
+use Rattle.cq_shared.specs.declared.shared.Shared.{Shared}
+use Rattle.cq_shared.specs.SharedPasses.{IsPassOf}
+use Rattle.cq_talk.specs.Beside.{IsBeside, nothing_known}
+use Rattle.cq_talk.specs.Gathered.{AcceptsNone}
+use Rattle.cq_talk.specs.Said.{said}
+
+module _ {W R : Type 0} (hub : Shared W R) where
+  -- the pass is still that of its caller, which accepts nothing if it had accepted nothing
+  pub record Worked (p q : BoardPass) : Type 0 where
+    pub of : IsPassOf hub q
+    pub caller : by_of q ≡ by_of p
+    pub quiet : AcceptsNone p.seen (by_of p) → AcceptsNone q.seen (by_of p)
+
+  -- The talk of a caller, who was made behind so many workers, came to a history of which this holds. The callers that
+  -- were made ended in the pass, which has seen more by then: none of them but that one accepted anything, and no other
+  -- has an event.
+  pub record Besides (p : BoardPass) (workers : ℕ) (q : BoardPass) (Said : ℕ → List Event → List Event → ℕ → Type 0) : Type 0 where
+    pub heard : List Event
+    pub asked : ℕ
+    pub said : Said (p.next + workers) p.seen heard asked
+    pub front : IsPrefix heard q.seen
+    pub of : IsPassOf hub q
+    pub next : q.next ≡ p.next + (workers + 1)
+    pub first : Among (by_of p) q.callers
+    pub first_quiet : AcceptsNone p.seen (by_of p) → AcceptsNone q.seen (by_of p)
+    pub joined : (c : ℕ) → p.next ≤ c → c < p.next + workers → Among c q.callers
+    pub quiet : (c : ℕ) → p.next ≤ c → c < p.next + workers → AcceptsNone p.seen c → AcceptsNone q.seen c
+    pub unmade : HasNoneFrom (p.next + (workers + 1)) q.seen
+
+-- the replies to lines are those that a server may give with workers beside it
+abbrev pub AreBeside : Settings → List (List ℕ) → List Reply → Type 0
+AreBeside set lines replies = IsBeside set nothing_known (map (said set.chunk) lines) replies

@@ -1,0 +1,33 @@
+-- What a session with workers beside it comes to.
+use Rattle.std.specs.Prelude.{◌≡◌, ℕ, ◌+◌, List, []}
+use Rattle.cq_base.specs.declared.settings.Settings.{Settings}
+use Rattle.cq_cells.specs.Passes.{by_of}
+use Rattle.cq_chain.specs.Passes.{BoardPass}
+use Rattle.cq_history.specs.declared.event.Event.{Event}
+use Rattle.cq_io.specs.declared.sink.Sink as sink
+use Rattle.cq_io.specs.declared.source.Source as source
+use Rattle.cq_lines.specs.Serving.{ServesLines}
+use Rattle.cq_lines.specs.declared.ending.End.{End}
+use Rattle.cq_reply.specs.Written.{line_of}
+use Rattle.cq_session.specs.Costs.{counted}
+use Rattle.cq_session.specs.Turn.{CountedTalk}
+use Rattle.cq_shared.specs.declared.shared.Shared.{Shared}
+use Rattle.cq_shared.specs.SharedPasses.{callers_of}
+
+-- from a source to a sink, for a caller who had seen this history, where so many tokens were read before and now
+module _ {S K : Type 0} (from : source.Ghosts S) (onto : sink.Ghosts K) (set : Settings) (callers c : ℕ) (h : List Event) (reads reads_now : ℕ) where
+  -- the lines were served by the talk to this history, with so many questions for the windows with a key
+  abbrev pub IsTold : List Event → ℕ → ℕ → S → S → K → K → End → Type 0
+  IsTold heard asked limit read read_now written written_now by = ServesLines from onto line_of (CountedTalk set callers ⊥ c h (counted reads reads_now 0 asked) heard) limit read read_now written written_now by
+
+  -- they were by a talk to some history
+  pub record IsServed (limit : ℕ) (read read_now : S) (written written_now : K) (by : End) : Type 0 where
+    pub heard : List Event
+    pub asked : ℕ
+    pub told : IsTold heard asked limit read read_now written written_now by
+
+-- nothing has happened yet, and no other caller's pass was made
+pub record IsFirst {W R : Type 0} (hub : Shared W R) (p : BoardPass) : Type 0 where
+  pub none : p.seen ≡ []
+  pub first : by_of p ≡ 0
+  pub room : p.room + 1 ≡ callers_of hub

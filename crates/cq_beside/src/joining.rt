@@ -1,0 +1,149 @@
+ghost use Rattle.std.specs.Prelude.{◌≡◌, ℕ, ◌<◌, List, None};
+ghost use Rattle.cq_base.specs.Settings.{IsInRange};
+ghost use Rattle.cq_base.specs.declared.settings.Settings.{Settings as Told};
+ghost use Rattle.cq_cells.specs.Passes.{by_of};
+ghost use Rattle.cq_chain.specs.Passes.{HasNoneFrom};
+ghost use Rattle.cq_history.specs.declared.event.Event.{Event as Happened};
+ghost use Rattle.cq_history.specs.State.{view_of};
+ghost use Rattle.cq_shared.specs.SharedPasses.{IsPassOf, settings_of, callers_of, state_of};
+ghost use Rattle.cq_beside.specs.Besides.{Besides, Worked};
+
+use cq_base::Settings;
+use cq_chain::Pass;
+use cq_io::Gate;
+use cq_key::{Keyer, plain_key};
+use cq_serve::{Bell, work};
+use cq_shared::Shared;
+use cq_work::Work;
+use std::alloc::Global;
+use std::sync::Wait;
+use std::sync::ledger::Ledger;
+use std::thread::{Threads, join};
+
+/// What runs on the calling thread while workers run beside it.
+pub(crate) trait Talker<L: Ledger, R: Wait> {
+    type Told;
+
+    // the settings of its hub
+    ghost settings: { Self → Told };
+
+    // what it needs
+    ghost MayTalk: { Self → Type 0 };
+
+    // What it was and what it tells, by how many callers there are, its caller's number, what its pass had seen before and
+    // has seen then, and how many buckets it has asked for.
+    ghost Said: { Self → Self.Told → ℕ → ℕ → List Happened → List Happened → ℕ → Type 0 };
+
+    fn talk(self, hub: &Shared<Work<L>, R>, pass: &mut Pass<Work<L>>) -> Self::Told
+        requires may { MayTalk self }
+        requires settings { settings_of hub.now ≡ settings self }
+        requires of { IsPassOf hub.now pass.old }
+        requires closed { view_of (state_of hub.now pass.old.seen) (by_of pass.old) ≡ None }
+        requires unasked { pass.old.asked ≡ 0 }
+        ensures of { IsPassOf hub.now pass.new }
+        ensures caller { by_of pass.new ≡ by_of pass.old }
+        ensures said { Said self result (callers_of hub.now) (by_of pass.old)
+            pass.old.seen pass.new.seen pass.new.asked };
+}
+
+// A worker that keys windows by itself. Without memory for that it does nothing.
+fn labour<Q: Wait, L: Ledger, R: Wait, G: Gate>(
+    rt: &Q,
+    alloc: Global,
+    settings: &Settings,
+    hub: &Shared<Work<L>, R>,
+    pass: Pass<Work<L>>,
+    gate: &G,
+    bell: &Bell,
+) -> Pass<Work<L>>
+    requires in_range { IsInRange settings.now }
+    requires settings { settings_of hub.now ≡ settings.now }
+    requires of { IsPassOf hub.now pass }
+    ensures worked { Worked hub.now pass result }
+{
+    let of = *settings;
+    let Ok(key) = Box::new(alloc, move |codes: &[u64]| plain_key(&of, codes)) else {
+        return pass;
+    };
+    let keyer = Keyer::new(settings, key);
+    work(rt, alloc, settings, &keyer, hub, pass, gate, bell)
+}
+
+// The talk, on a pass of its own, which ends in this one. Behind it nobody sleeps on the bell.
+fn apart<Q: Wait, L: Ledger, R: Wait, T: Talker<L, R>>(
+    rt: &Q,
+    hub: &Shared<Work<L>, R>,
+    bell: &Bell,
+    talker: T,
+    pass: Pass<Work<L>>,
+) -> (T::Told, Pass<Work<L>>)
+    requires may { T.MayTalk talker }
+    requires talks { settings_of hub.now ≡ T.settings talker }
+    requires of { IsPassOf hub.now pass }
+    requires room { 0 < pass.room }
+    requires unmade { HasNoneFrom pass.next pass.seen }
+    ensures besides { Besides hub.now pass 0 result.1
+        (T.Said talker result.0 (callers_of hub.now)) }
+{
+    let mut pass = pass;
+    let mut own = hub.split_pass(&mut pass);
+    let told = talker.talk(hub, &mut own);
+    bell.end(rt);
+    hub.join_pass(&mut pass, own);
+    (told, pass)
+}
+
+/// Runs a talk on this thread with so many workers beside it, each on a thread and a pass of its own, until the talk's end.
+/// A worker for which no thread can be made runs after the talk, and ends at once.
+pub(crate) fn beside<
+    Q: Threads + Wait + Sync,
+    L: Ledger + Send + Sync,
+    R: Wait + Sync,
+    G: Gate + Sync,
+    T: Talker<L, R> + Drop,
+>(
+    rt: &Q,
+    alloc: Global,
+    settings: &Settings,
+    hub: &Shared<Work<L>, R>,
+    gate: &G,
+    bell: &Bell,
+    workers: u32,
+    talker: T,
+    pass: Pass<Work<L>>,
+) -> (T::Told, Pass<Work<L>>)
+    requires in_range { IsInRange settings.now }
+    requires settings { settings_of hub.now ≡ settings.now }
+    requires may { T.MayTalk talker }
+    requires talks { settings_of hub.now ≡ T.settings talker }
+    requires of { IsPassOf hub.now pass }
+    requires room { workers < pass.room }
+    requires unmade { HasNoneFrom pass.next pass.seen }
+    ensures besides { Besides hub.now pass workers result.1
+        (T.Said talker result.0 (callers_of hub.now)) }
+{
+    if workers == 0 {
+        return apart(rt, hub, bell, talker, pass);
+    }
+    let mut pass = pass;
+    let fewer = workers - 1;
+    let mine = hub.split_pass(&mut pass);
+    let (mine, rest) = join(
+        rt,
+        move || -> Pass<Work<L>>
+            requires { IsInRange settings.now × (settings_of hub.now ≡ settings.now)
+                × IsPassOf hub.now mine }
+            ensures { Worked hub.entry.now mine result }
+        { labour(rt, alloc, settings, hub, mine, gate, bell) },
+        move || -> (T::Told, Pass<Work<L>>)
+            requires { IsInRange settings.now × (settings_of hub.now ≡ settings.now)
+                × T.MayTalk talker × (settings_of hub.now ≡ T.settings talker)
+                × IsPassOf hub.now pass × (fewer < pass.room) × HasNoneFrom pass.next pass.seen }
+            ensures { Besides hub.entry.now pass fewer result.1
+                (T.Said talker result.0 (callers_of hub.entry.now)) }
+        { beside(rt, alloc, settings, hub, gate, bell, fewer, talker, pass) },
+    );
+    let (told, mut pass) = rest;
+    hub.join_pass(&mut pass, mine);
+    (told, pass)
+}

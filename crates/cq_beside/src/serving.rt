@@ -1,0 +1,165 @@
+ghost use Rattle.std.specs.Prelude.{◌≡◌, ◌+◌, ◌<◌};
+ghost use Rattle.cq_base.specs.Settings.{IsInRange};
+ghost use Rattle.cq_chain.specs.Passes.{HasNoneFrom};
+ghost use Rattle.cq_lines.specs.Runs.{IsFresh};
+ghost use Rattle.cq_lines.specs.Serving.{HasCauseOfEnd, ServesLines};
+ghost use Rattle.cq_reply.specs.Written.{line_of};
+ghost use Rattle.cq_shared.specs.SharedPasses.{IsPassOf, settings_of, callers_of};
+ghost use Rattle.cq_beside.specs.Besides.{AreBeside};
+ghost use Rattle.cq_beside.specs.Served.{IsServed, IsFirst};
+
+use crate::joining::{Talker, beside};
+use cq_base::{Settings, Steps};
+use cq_chain::Pass;
+use cq_io::{Gate, Sink, Source};
+use cq_key::Keyer;
+use cq_lines::{End, Lines};
+use cq_serve::{Bell, RingingGate};
+use cq_session::session;
+use cq_shared::Shared;
+use cq_work::Work;
+use std::alloc::Global;
+use std::sync::Wait;
+use std::sync::ledger::Ledger;
+use std::thread::Threads;
+
+// A session by what it borrows.
+#[derive(Drop)]
+struct Serving<'a, L: Ledger, S, K, G> {
+    alloc: Global,
+    settings: &'a Settings,
+    keyer: &'a Keyer,
+    lines: &'a mut Lines,
+    source: &'a mut S,
+    sink: &'a mut K,
+    gate: &'a G,
+    steps: &'a mut Steps<L>,
+}
+
+// What it gives back, and how it ended.
+#[derive(Drop)]
+struct Over<'a, L: Ledger, S, K> {
+    source: &'a mut S,
+    sink: &'a mut K,
+    steps: &'a mut Steps<L>,
+    end: End,
+}
+
+impl<'a, L: Ledger, R: Wait, S: Source, K: Sink, G: Gate> Talker<L, R> for Serving<'a, L, S, K, G> {
+    ghost use Rattle.std.specs.Prelude.{◌≡◌};
+    ghost use Rattle.cq_base.specs.Settings.{IsInRange};
+    ghost use Rattle.cq_lines.specs.Runs.{IsFresh};
+    ghost use Rattle.cq_lines.specs.Serving.{HasCauseOfEnd};
+    ghost use Rattle.cq_beside.specs.Served.{IsTold};
+
+    type Told = Over<'a, L, S, K>;
+
+    ghost settings = { λ t. t.settings.now };
+
+    ghost MayTalk = { λ t.
+        IsFresh t.lines.now × IsInRange t.settings.now × (t.keyer.now.settings ≡ t.settings.now) };
+
+    ghost Said = { λ t r callers c h heard asked.
+        IsTold S.Source K.Sink t.settings.now callers c h t.steps.now r.steps.now heard asked
+        t.lines.now.limit t.source.now r.source.now t.sink.now r.sink.now r.end
+        × HasCauseOfEnd S.Source K.Sink t.source.now r.source.now t.sink.now r.sink.now r.end
+        × (r.source.ghost_name ≡ t.source.ghost_name) × (r.sink.ghost_name ≡ t.sink.ghost_name)
+        × (r.steps.ghost_name ≡ t.steps.ghost_name) };
+
+    fn talk(self, hub: &Shared<Work<L>, R>, pass: &mut Pass<Work<L>>) -> Over<'a, L, S, K> {
+        let Serving {
+            alloc,
+            settings,
+            keyer,
+            lines,
+            source,
+            sink,
+            gate,
+            steps,
+        } = self;
+        let end = session(
+            alloc, settings, keyer, hub, pass, lines, source, sink, gate, steps,
+        );
+        Over {
+            source,
+            sink,
+            steps,
+            end,
+        }
+    }
+}
+
+// Does nothing: by this use of all three, the borrow checker ties them to the parameters that lent them.
+fn take_back<S, K, T>(source: &mut S, sink: &mut K, steps: &mut T)
+    ensures source { source.new ≡ source.old }
+    ensures sink { sink.new ≡ sink.old }
+    ensures steps { steps.new ≡ steps.old }
+{}
+
+/// One session on this thread, with so many workers beside it until its end. Each worker has a thread, a pass and a keyer
+/// of its own, and sleeps on a bell that rings after each accepted change. One for which no thread can be made runs after
+/// the session, and ends at once; one that finds no memory for its keyer ends, too. The passes of the session, which comes
+/// behind those of the workers, and of the workers are split from this one, and end in it: a new hub's first pass may be
+/// given. The gate is told what `session` and the workers' turns tell it, from their threads.
+pub fn serve_one<
+    Q: Threads + Wait + Sync,
+    L: Ledger + Send + Sync,
+    R: Wait + Sync,
+    S: Source,
+    K: Sink,
+    G: Gate + Sync,
+>(
+    rt: &Q,
+    alloc: Global,
+    settings: &Settings,
+    keyer: &Keyer,
+    hub: &Shared<Work<L>, R>,
+    pass: Pass<Work<L>>,
+    lines: &mut Lines,
+    source: &mut S,
+    sink: &mut K,
+    gate: &G,
+    workers: u32,
+    steps: &mut Steps<L>,
+) -> End
+    requires fresh { IsFresh lines.old }
+    requires in_range { IsInRange settings.now }
+    requires settings { keyer.now.settings ≡ settings.now }
+    requires hub_settings { settings_of hub.now ≡ settings.now }
+    requires of { IsPassOf hub.now pass }
+    requires room { workers < pass.room }
+    requires unmade { HasNoneFrom pass.next pass.seen }
+    ensures served { IsServed S.Source K.Sink settings.now (callers_of hub.now) (pass.next + workers)
+        pass.seen steps.old steps.new lines.old.limit source.old source.new sink.old sink.new result }
+    ensures beside { IsFirst hub.now pass → ServesLines S.Source K.Sink line_of (AreBeside settings.now)
+        lines.old.limit source.old source.new sink.old sink.new result }
+    ensures cause { HasCauseOfEnd S.Source K.Sink source.old source.new sink.old sink.new result }
+{
+    let bell = Bell::new();
+    let ringing = RingingGate {
+        gate,
+        bell: &bell,
+        rt,
+    };
+    let serving = Serving {
+        alloc,
+        settings,
+        keyer,
+        lines,
+        source,
+        sink,
+        gate: &ringing,
+        steps,
+    };
+    let (over, _pass) = beside(
+        rt, alloc, settings, hub, gate, &bell, workers, serving, pass,
+    );
+    let Over {
+        source,
+        sink,
+        steps,
+        end,
+    } = over;
+    take_back(source, sink, steps);
+    end
+}
