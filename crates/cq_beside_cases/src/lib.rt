@@ -1,0 +1,7 @@
+//! Trials of a session with workers beside it, on real threads.
+#![tactic(auto)]
+
+#[cfg(test)]
+mod meeting;
+#[cfg(test)]
+mod serving;

@@ -1,0 +1,134 @@
+ghost use Rattle.std.specs.Prelude.{◌≡◌, ◌≤◌, IfOk};
+ghost use Rattle.cq_base.specs.Settings.{IsInRange};
+ghost use Rattle.cq_beside.specs.Besides.{AreBeside};
+ghost use Rattle.cq_lines.specs.Serving.{ServesLines};
+ghost use Rattle.cq_reply.specs.Written.{line_of};
+
+use crate::meeting::{Begun, Meeting};
+use cq_base::{Counters, Memory, Settings, Steps};
+use cq_beside::serve_one;
+use cq_chain::Pass;
+use cq_io::{Gate, MemSink, MemSource, OpenGate, Sink, Source};
+use cq_key::{Keyer, plain_key};
+use cq_lines::{End, Lines};
+use cq_shared::Shared;
+use cq_work::Work;
+use std::alloc::Global;
+use std::marker::Brand;
+use std::sync::Wait;
+use std::sync::ledger::{Blank, Ledger};
+use std::thread::Threads;
+
+const SETTINGS: Settings = Settings {
+    chunk: 2,
+    shards: 2,
+    key_bits: 64,
+    ignore_ids: false,
+    ignore_lits: false,
+    change_limit: 262_144,
+    text_limit: 33_554_432,
+    byte_limit: 1_048_576,
+};
+
+// Two puts, and a query that waits for neither to be made by others.
+const INPUT: &str =
+    "{\"op\":\"put\",\"project\":\"p\",\"path\":\"a\",\"lang\":\"any\",\"text\":\"x y z\"}
+{\"op\":\"put\",\"project\":\"p\",\"path\":\"b\",\"lang\":\"any\",\"text\":\"x y z w\"}
+{\"op\":\"groups\",\"project\":\"p\",\"min\":3}
+{\"op\":\"state\"}
+";
+
+const OUTPUT: &str = "{\"change\":1,\"ok\":true}
+{\"change\":2,\"ok\":true}
+{\"groups\":[{\"places\":[{\"at\":0,\"first\":1,\"last\":1,\"path\":\"a\"},{\"at\":0,\"first\":1,\"last\":1,\"path\":\"b\"}],\"tokens\":3}],\"ok\":true,\"total\":1,\"version\":2}
+{\"accepted\":2,\"done\":2,\"ok\":true,\"published\":2}
+";
+
+// A session of a new hub, with so many workers beside it: what it writes is what a server with workers may write.
+fn served<Q: Threads + Wait + Sync, L: Ledger + Send + Sync, S: Source, K: Sink, G: Gate + Sync>(
+    rt: &Q,
+    alloc: Global,
+    settings: &Settings,
+    source: &mut S,
+    sink: &mut K,
+    gate: &G,
+    workers: u32,
+    blank: Blank,
+) -> Result<End, Memory>
+    requires name { blank.name ≡ L.name }
+    requires parts { blank.parts ≡ L.parts }
+    requires in_range { IsInRange settings.now }
+    requires few { workers ≤ 64 }
+    ensures beside { IfOk result (λ end. ServesLines S.Source K.Sink line_of (AreBeside settings.now)
+        settings.now.byte_limit source.old source.new sink.old sink.new end) }
+{
+    let of = *settings;
+    let key = Box::new(alloc, move |codes: &[u64]| plain_key(&of, codes))?;
+    let keyer = Keyer::new(settings, key);
+    let counters: Counters<L> = Counters::new(blank);
+    let mut steps: Steps<L> = counters.counter();
+    let made: (Shared<Work<L>, &Q>, Pass<Work<L>>) = Shared::new(rt, alloc, settings, workers + 2)?;
+    let (hub, pass) = made;
+    let mut lines = Lines::new(alloc, settings.byte_limit)?;
+    let end = serve_one(
+        rt, alloc, settings, &keyer, &hub, pass, &mut lines, source, sink, gate, workers,
+        &mut steps,
+    );
+    Ok(end)
+}
+
+// Whether it ends with the input, and writes the output.
+fn serves<Q: Threads + Wait + Sync, G: Gate + Sync>(
+    rt: &Q,
+    alloc: Global,
+    gate: &G,
+    workers: u32,
+) -> Result<bool, Memory>
+    requires few { workers ≤ 64 }
+{
+    let settings = SETTINGS;
+    if settings.check().is_some() {
+        return Ok(false);
+    }
+    let bytes = Vec::from_slice(alloc, INPUT.as_bytes())?;
+    let mut source = MemSource::new(bytes, 97, Vec::new(alloc));
+    let mut sink = MemSink::new(alloc, 65_536, 89, Vec::new(alloc))?;
+    let end = served::<Q, Brand, _, _, G>(
+        rt,
+        alloc,
+        &settings,
+        &mut source,
+        &mut sink,
+        gate,
+        workers,
+        Blank::new(1),
+    )?;
+    Ok(end == End::Finished && sink.written() == OUTPUT.as_bytes())
+}
+
+// Each work waits until the other was begun: so two threads make them at once.
+#[test]
+fn two_works(rt: HostRuntime) -> Result<(), Memory> {
+    let gate = Meeting::new(&rt);
+    assert!(rt; serves(&rt, rt.alloc(), &gate, 2)?);
+    assert_eq!(rt;
+        gate.begun(),
+        Begun {
+            first: true,
+            second: true
+        }
+    );
+    Ok(())
+}
+
+#[test]
+fn with_no_worker(rt: HostRuntime) -> Result<(), Memory> {
+    assert!(rt; serves(&rt, rt.alloc(), &OpenGate, 0)?);
+    Ok(())
+}
+
+#[test]
+fn with_eight_workers(rt: HostRuntime) -> Result<(), Memory> {
+    assert!(rt; serves(&rt, rt.alloc(), &OpenGate, 8)?);
+    Ok(())
+}
