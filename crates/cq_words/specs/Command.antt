@@ -73,8 +73,8 @@ abbrev pub command_of : List Word → Option Command
 command_of [] = None
 command_of (word ∷ words) = option_and_then (λ v. command_after v words) (verb_named word)
 
--- the settings are in their ranges, and the files are few
+-- the settings are in their ranges, and workers and files are few
 abbrev pub HasRanges : Command → Type 0
-HasRanges (command.Run run) = IsInRange run.settings
+HasRanges (command.Run run) = IsInRange run.settings × (run.workers ≤ 64)
 HasRanges (command.Drive settings) = IsInRange settings
 HasRanges (command.Make make) = make.files ≤ 10000

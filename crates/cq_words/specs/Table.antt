@@ -68,7 +68,7 @@ range_of param.KeyBits = option_range 0 64 64
 range_of param.ChangeLimit = option_range 1 262144 262144
 range_of param.TextLimit = option_range 1 67108864 33554432
 range_of param.ByteLimit = option_range 1 1152921504606846976 1152921504606846976
-range_of param.Workers = option_range 0 0 0
+range_of param.Workers = option_range 0 64 0
 range_of param.Number = positional_range 0 9999999999999999999
 range_of param.Files = positional_range 0 10000
 

@@ -4,7 +4,7 @@ use cq_base::Settings;
 #[derive(Clone, Copy, Debug, PartialEq, Eq)]
 pub struct Run {
     pub settings: Settings,
-    /// Threads that do the work of uploads, beside the session; none yet.
+    /// Threads that do the work of uploads, beside the session, 0 to 64.
     pub workers: u32,
 }
 

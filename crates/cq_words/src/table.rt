@@ -171,7 +171,7 @@ pub(crate) fn range_of(param: Param) -> Range
         Param::ChangeLimit => option_range(1, 262_144, 262_144),
         Param::TextLimit => option_range(1, 67_108_864, 33_554_432),
         Param::ByteLimit => option_range(1, 1_152_921_504_606_846_976, 1_152_921_504_606_846_976),
-        Param::Workers => option_range(0, 0, 0),
+        Param::Workers => option_range(0, 64, 0),
         Param::Number => positional_range(0, 9_999_999_999_999_999_999),
         Param::Files => positional_range(0, 10_000),
     }

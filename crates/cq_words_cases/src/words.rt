@@ -70,7 +70,7 @@ const REFUSED: [&[&str]; 76] = [
     &["run", "--byte-limit", "0"],
     &["run", "--byte-limit", "1152921504606846977"],
     &["run", "--byte-limit", "18446744073709551616"],
-    &["run", "--workers", "1"],
+    &["run", "--workers", "65"],
     &["run", "--workers=-0"],
     &["run", "--ignore-literals", "5"],
     &["run", "--chunk", "0x5"],
@@ -145,7 +145,7 @@ fn options_and_flags_are_read(rt: HostRuntime) -> Result<(), Fail> {
             text_limit: 67_108_864,
             byte_limit: 1_152_921_504_606_846_976,
         },
-        workers: 0,
+        workers: 7,
     };
     let words = [
         "run",
@@ -154,7 +154,7 @@ fn options_and_flags_are_read(rt: HostRuntime) -> Result<(), Fail> {
         "0000000000000000005",
         "--text-limit=67108864",
         "--workers",
-        "0",
+        "7",
         "--key-bits=0",
         "--byte-limit",
         "1152921504606846976",
@@ -209,6 +209,22 @@ fn the_settings_of_drive_are_read(rt: HostRuntime) -> Result<(), Fail> {
         read(alloc, words.as_slice())?,
         Some(Command::Drive(literals))
     );
+    Ok(())
+}
+
+fn workers_of(alloc: Global, words: &[&str]) -> Result<Option<u32>, Fail> {
+    match read(alloc, words)? {
+        Some(Command::Run(run)) => Ok(Some(run.workers)),
+        _ => Ok(None),
+    }
+}
+
+#[test]
+fn none_to_64_workers_are_taken(rt: HostRuntime) -> Result<(), Fail> {
+    let alloc = rt.alloc();
+    assert_eq!(rt; workers_of(alloc, &["run", "--workers", "0"])?, Some(0));
+    assert_eq!(rt; workers_of(alloc, &["run", "--workers", "1"])?, Some(1));
+    assert_eq!(rt; workers_of(alloc, &["run", "--workers=64"])?, Some(64));
     Ok(())
 }
 
