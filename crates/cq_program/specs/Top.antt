@@ -1,6 +1,7 @@
 -- What the top call does, by its status.
-use Rattle.std.specs.Prelude.{◌≡◌, ◌≢◌, ℕ, List, [], map, Option, Some, Result, Ok, Err}
+use Rattle.std.specs.Prelude.{◌≡◌, ◌≢◌, ◌==◌, ℕ, MatchBool, List, [], map, Option, Some, Result, Ok, Err}
 use Rattle.cq_base.specs.declared.settings.Settings.{Settings}
+use Rattle.cq_beside.specs.Besides.{AreBeside}
 use Rattle.cq_drive.specs.Script.{IsScript}
 use Rattle.cq_history.specs.declared.event.Event.{Event}
 use Rattle.cq_io.specs.Causes.{HasCause}
@@ -53,6 +54,13 @@ pub record IsSession (settings : Settings) (reads reads_now : ℕ) (rest rest_no
   pub serves : Serves reply_line (AreAlone settings reads reads_now) settings.byte_limit rest rest_now before written_now by
   pub cause : HasEndCause source source_now sink sink_now by
 
+-- the same with workers beside it: the replies are those that a server may give beside which works are made
+pub record IsSessionBeside (settings : Settings) (rest rest_now before written_now : Option (List ℕ)) (source source_now sink sink_now status : ℕ) : Type 0 where
+  pub by : End
+  pub status_is : status ≡ status_of by
+  pub serves : Serves reply_line (AreBeside settings) settings.byte_limit rest rest_now before written_now by
+  pub cause : HasEndCause source source_now sink sink_now by
+
 -- a whole script, stepped from nothing accepted on, whose end gives the status
 pub record IsDrive (settings : Settings) (rest rest_now before written_now : Option (List ℕ)) (source source_now sink sink_now status : ℕ) : Type 0 where
   pub by : End
@@ -75,15 +83,27 @@ module _ {S K : Type 0} (from : source.Ghosts S) (onto : sink.Ghosts K) where
   Runs settings reads reads_now read read_now written written_now status =
       status ≢ 4 → IsSession settings reads reads_now (from.rest read) (from.rest read_now) (onto.written written) (onto.written written_now) (from.faults read) (from.faults read_now) (onto.faults written) (onto.faults written_now) status
 
-  -- or of a whole script
+  -- or of one with workers beside it
+  abbrev pub RunsBeside : Settings → S → S → K → K → ℕ → Type 0
+  RunsBeside settings read read_now written written_now status =
+      status ≢ 4 → IsSessionBeside settings (from.rest read) (from.rest read_now) (onto.written written) (onto.written written_now) (from.faults read) (from.faults read_now) (onto.faults written) (onto.faults written_now) status
+
+  -- a session alone where no worker is asked for, and else one with workers beside it
+  abbrev pub RunsAsked : Run → ℕ → ℕ → S → S → K → K → ℕ → Type 0
+  RunsAsked asked reads reads_now read read_now written written_now status =
+      MatchBool (asked.workers == 0)
+      (Runs asked.settings reads reads_now read read_now written written_now status)
+      (RunsBeside asked.settings read read_now written written_now status)
+
+  -- each status but 4 is that of a whole script
   abbrev pub Drives : Settings → S → S → K → K → ℕ → Type 0
   Drives settings read read_now written written_now status =
       status ≢ 4 → IsDrive settings (from.rest read) (from.rest read_now) (onto.written written) (onto.written written_now) (from.faults read) (from.faults read_now) (onto.faults written) (onto.faults written_now) status
 
-  -- where the words ask for it
+  -- where the words ask for one
   abbrev pub RunsFor : List (List ℕ) → ℕ → ℕ → S → S → K → K → ℕ → Type 0
   RunsFor words reads reads_now read read_now written written_now status =
-      (run : Run) → command_of words ≡ Some (command.Run run) → Runs run.settings reads reads_now read read_now written written_now status
+      (asked : Run) → command_of words ≡ Some (command.Run asked) → RunsAsked asked reads reads_now read read_now written written_now status
 
   abbrev pub DrivesFor : List (List ℕ) → S → S → K → K → ℕ → Type 0
   DrivesFor words read read_now written written_now status = (settings : Settings) → command_of words ≡ Some (command.Drive settings) → Drives settings read read_now written written_now status

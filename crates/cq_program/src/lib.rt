@@ -1,7 +1,9 @@
-//! The whole program as one call, `top`, over words, a source, a sink, doors, a gate and a counter that it is handed. `cqd`
-//! calls it with the real ones, and `cqd_cases` with ends in memory.
+//! The whole program as one call, `top`, over a runtime, words, a source, a sink, doors, a gate and a counter that it is
+//! handed. `cqd` calls it with the real ones, and `cqd_cases` with ends in memory.
 #![tactic(auto)]
 
 mod program;
+mod status;
+mod workers;
 
 pub use program::top;

@@ -1,12 +1,13 @@
 ghost use Rattle.std.specs.Prelude.{◌≡◌, ◌≢◌, ◌↔◌, ◌≤◌, None, Some};
 ghost use Rattle.cq_base.specs.Settings.{IsInRange};
 ghost use Rattle.cq_io.specs.Causes.{Rose};
-ghost use Rattle.cq_program.specs.Top.{Drives, DrivesFor, MakesFor, MakesLine, Runs, RunsFor};
-ghost use Rattle.cq_program.specs.Top as spec;
+ghost use Rattle.cq_program.specs.Top.{Drives, DrivesFor, MakesFor, MakesLine, Runs, RunsAsked, RunsFor};
 ghost use Rattle.cq_words.specs.Command.{command_of};
 ghost use Rattle.cq_words.specs.declared.command.Command.TheVariants as command;
 ghost use Rattle.cq_words.specs.declared.command.Make.{Make};
 
+use crate::status::status_of;
+use crate::workers::serve_with_workers;
 use cq_base::{Memory, Settings, Steps, Text};
 use cq_drive::drive;
 use cq_hub::{Solo, SoloPass};
@@ -16,22 +17,12 @@ use cq_lines::{End, Lines};
 use cq_make::make;
 use cq_session::session;
 use cq_talk::{talks_alone, talks_beside};
-use cq_words::{Command, Make, default_settings, is_command, read_command};
+use cq_words::{Command, Make, Run, default_settings, is_command, read_command};
 use cq_work::Work;
 use std::alloc::Global;
+use std::sync::Wait;
 use std::sync::ledger::Ledger;
-
-// The status of a run that ends so.
-fn status_of(end: End) -> u8
-    ensures { result ≡ spec.status_of end }
-{
-    match end {
-        End::Finished => 0,
-        End::ReadFault => 2,
-        End::WriteFault => 3,
-        End::Spent => 6,
-    }
-}
+use std::thread::Threads;
 
 // A session with a plain hub that is made for it, and its status.
 fn serve<S: Source, K: Sink, G: Gate, L: Ledger>(
@@ -72,6 +63,36 @@ fn serve<S: Source, K: Sink, G: Gate, L: Ledger>(
             status_of(end)
         }
         Err(Memory) => 4,
+    }
+}
+
+// A session with as many workers beside it as are asked for, and its status.
+fn run_with<Q: Threads + Wait + Sync, S: Source, K: Sink, G: Gate + Sync, L: Ledger + Send + Sync>(
+    rt: &Q,
+    alloc: Global,
+    asked: Run,
+    source: &mut S,
+    sink: &mut K,
+    gate: &G,
+    steps: &mut Steps<L>,
+) -> u8
+    requires in_range { IsInRange asked.settings }
+    requires few { asked.workers ≤ 64 }
+    ensures words { result ≢ 1 }
+    ensures memory { result ≡ 4 → (source.new ≡ source.old) × (sink.new ≡ sink.old) }
+    ensures read_fault { result ≡ 2 → Rose (S.faults source.old) (S.faults source.new) }
+    ensures write_fault { result ≡ 3 → Rose (K.faults sink.old) (K.faults sink.new) }
+    ensures finished { result ≡ 0 → (S.faults source.new ≡ S.faults source.old)
+        × (K.faults sink.new ≡ K.faults sink.old) }
+    ensures spent { result ≡ 6 → (S.faults source.new ≡ S.faults source.old)
+        × (K.faults sink.new ≡ K.faults sink.old) }
+    ensures runs { RunsAsked S.Source K.Sink asked steps.old steps.new source.old source.new sink.old sink.new result }
+{
+    let Run { settings, workers } = asked;
+    if workers == 0 {
+        serve(alloc, &settings, source, sink, gate, steps)
+    } else {
+        serve_with_workers(rt, alloc, &settings, workers, source, sink, gate, steps)
     }
 }
 
@@ -135,8 +156,17 @@ fn made<K: Sink, L: Ledger>(alloc: Global, asked: Make, sink: &mut K, steps: &mu
 
 /// The whole program: what the words ask for, over these ends. Its answer is the status with which the process is to
 /// end. `run` answers the lines of the source into the sink; `drive` steps a core by them, and writes their outcomes;
-/// `make` writes one line.
-pub fn top<S: Source, K: Sink, D: Doors, G: Gate, L: Ledger>(
+/// `make` writes one line. Threads are started for the workers of `run` alone, and each is joined before this returns; the
+/// gate is then called from them too.
+pub fn top<
+    Q: Threads + Wait + Sync,
+    S: Source,
+    K: Sink,
+    D: Doors,
+    G: Gate + Sync,
+    L: Ledger + Send + Sync,
+>(
+    rt: &Q,
     alloc: Global,
     words: &[Text],
     source: &mut S,
@@ -163,7 +193,8 @@ pub fn top<S: Source, K: Sink, D: Doors, G: Gate, L: Ledger>(
     // No door is asked for.
     ensures doors { doors.new ≡ doors.old }
 
-    // Every status of `run` but 4 is that of a session over all lines of the source.
+    // Every status of `run` but 4 is that of a session over all lines of the source: alone where there is no worker, and
+    // else with workers beside it.
     ensures runs { RunsFor S.Source K.Sink words.now steps.old steps.new source.old source.new sink.old sink.new result }
 
     // Every status of `drive` but 4 is that of a script of all lines of the source.
@@ -178,7 +209,7 @@ pub fn top<S: Source, K: Sink, D: Doors, G: Gate, L: Ledger>(
         return 1;
     }
     match read_command(alloc, words) {
-        Ok(Some(Command::Run(run))) => serve(alloc, &run.settings, source, sink, gate, steps),
+        Ok(Some(Command::Run(run))) => run_with(rt, alloc, run, source, sink, gate, steps),
         Ok(Some(Command::Drive(settings))) => driven(alloc, &settings, source, sink, steps),
         Ok(Some(Command::Make(asked))) => made(alloc, asked, sink, steps),
         Ok(None) => unreachable!(),

@@ -1,0 +1,16 @@
+ghost use Rattle.std.specs.Prelude.{◌≡◌};
+ghost use Rattle.cq_program.specs.Top as spec;
+
+use cq_lines::End;
+
+/// The status of a run that ends so.
+pub(crate) fn status_of(end: End) -> u8
+    ensures { result ≡ spec.status_of end }
+{
+    match end {
+        End::Finished => 0,
+        End::ReadFault => 2,
+        End::WriteFault => 3,
+        End::Spent => 6,
+    }
+}

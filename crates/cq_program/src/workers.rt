@@ -1,0 +1,73 @@
+ghost use Rattle.std.specs.Prelude.{◌≡◌, ◌≢◌, ◌≤◌};
+ghost use Rattle.cq_base.specs.Settings.{IsInRange};
+ghost use Rattle.cq_io.specs.Causes.{Rose};
+ghost use Rattle.cq_program.specs.Top.{RunsBeside};
+
+use crate::status::status_of;
+use cq_base::{Memory, Settings, Steps};
+use cq_beside::serve_one;
+use cq_chain::Pass;
+use cq_io::{Gate, Sink, Source};
+use cq_key::{Keyer, plain_key};
+use cq_lines::Lines;
+use cq_shared::Shared;
+use cq_work::Work;
+use std::alloc::Global;
+use std::sync::Wait;
+use std::sync::ledger::Ledger;
+use std::thread::Threads;
+
+/// A session with workers beside it, over a shared hub that is made for them, and its status. The session is on this
+/// thread, and each worker on one of its own, which is joined before this returns.
+pub(crate) fn serve_with_workers<
+    Q: Threads + Wait + Sync,
+    S: Source,
+    K: Sink,
+    G: Gate + Sync,
+    L: Ledger + Send + Sync,
+>(
+    rt: &Q,
+    alloc: Global,
+    settings: &Settings,
+    workers: u32,
+    source: &mut S,
+    sink: &mut K,
+    gate: &G,
+    steps: &mut Steps<L>,
+) -> u8
+    requires in_range { IsInRange settings.now }
+    requires few { workers ≤ 64 }
+    ensures words { result ≢ 1 }
+    ensures memory { result ≡ 4 → (source.new ≡ source.old) × (sink.new ≡ sink.old) }
+    ensures read_fault { result ≡ 2 → Rose (S.faults source.old) (S.faults source.new) }
+    ensures write_fault { result ≡ 3 → Rose (K.faults sink.old) (K.faults sink.new) }
+    ensures finished { result ≡ 0 → (S.faults source.new ≡ S.faults source.old)
+        × (K.faults sink.new ≡ K.faults sink.old) }
+    ensures spent { result ≡ 6 → (S.faults source.new ≡ S.faults source.old)
+        × (K.faults sink.new ≡ K.faults sink.old) }
+    ensures runs { RunsBeside S.Source K.Sink settings.now source.old source.new sink.old sink.new result }
+{
+    let of = *settings;
+    let Ok(key) = Box::new(alloc, move |codes: &[u64]| plain_key(&of, codes)) else {
+        return 4;
+    };
+    let keyer = Keyer::new(settings, key);
+    // One caller is the first pass's, one the session's, and one each worker's.
+    let callers = workers + 2;
+    let made: Result<(Shared<Work<L>, &Q>, Pass<Work<L>>), Memory> = Shared::new(
+        rt, alloc, settings, callers,
+    );
+    let Ok((hub, pass)) = made else {
+        return 4;
+    };
+    match Lines::new(alloc, settings.byte_limit) {
+        Ok(mut lines) => {
+            let end = serve_one(
+                rt, alloc, settings, &keyer, &hub, pass, &mut lines, source, sink, gate, workers,
+                steps,
+            );
+            status_of(end)
+        }
+        Err(Memory) => 4,
+    }
+}
