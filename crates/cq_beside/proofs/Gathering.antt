@@ -16,8 +16,9 @@ use Rattle.cq_history.proofs.Prefixes.{accepted-append, own-append}
 use Rattle.cq_hub.specs.Hubs.{Never}
 use Rattle.cq_hub.proofs.Growing.{view_grows}
 use Rattle.cq_shared.specs.declared.shared.Shared.{Shared}
-use Rattle.cq_shared.specs.SharedPasses.{IsPassOf}
+use Rattle.cq_shared.specs.SharedPasses.{IsPassOf, callers_of}
 use Rattle.cq_talk.specs.Gathered.{AcceptsNone}
+use Rattle.cq_talk.specs.Steps.{IsClosed}
 use Rattle.cq_beside.specs.Besides.{Besides, Worked}
 use Rattle.cq_serve.specs.Labours.{IsOfTurn, Labour}
 
@@ -78,19 +79,38 @@ longer_begins xs ys (inr begins) = (left_longer xs ys xs (prefix_self xs) begins
 pub unmade_closed : (callers c : ℕ) (h : List Event) → own c h ≡ [] → view_of (state callers h) c ≡ None
 unmade_closed callers c h none = view_grows callers ⊥ Never c [] h [] (record { more = h; after_is = refl; own_is = none; alone_is = λ never. absurd never }) tt ∙ no_view callers c
 
+-- ---- a pass that is split off
+
+-- it, and what is left of the pass
+abbrev pub child_of : BoardPass → BoardPass
+child_of p = record p { callers = p.next ∷ []; next = 0; room = 0; asked = 0 }
+
+abbrev pub rest_of : BoardPass → BoardPass
+rest_of p = record p { next = p.next + 1; room = p.room - 1 }
+
+-- it has asked no question
+pub child_unasked : (p child : BoardPass) → child ≡ child_of p → child.asked ≡ 0
+child_unasked p child child_is = ap (λ (z : BoardPass). z.asked) child_is
+
 module _ {W R : Type 0} (hub : Shared W R) where
+  -- it has no view open
+  pub child_closed : (p child : BoardPass) → child ≡ child_of p → HasNoneFrom p.next p.seen → IsClosed (callers_of hub) (by_of child) child.seen
+  child_closed p child child_is none_from =
+      subst (λ (z : BoardPass). IsClosed (callers_of hub) (by_of z) z.seen) (sym child_is) (unmade_closed (callers_of hub) p.next p.seen (none_from p.next (omega arith)))
+
   -- there is a next number where there is room
   pub some_next : (p : BoardPass) → IsPassOf hub p → 0 < p.room → 0 < p.next
   some_next p of room = ⊎_elim (λ (none : p.next ≡ 0). let full = of.of.of.later none in absurd (omega (arith, room, full))) (λ (some : 0 < p.next). some) (none_or_some p.next)
 
   module _ (Said : ℕ → List Event → List Event → ℕ → Type 0) where
-    -- a talk with no worker: one is the pass, less the talk's caller, own that caller's, and r what they are joined to
-    pub besides_none : (p one own_pass r : BoardPass) → one ≡ record p { next = p.next + 1; room = p.room - 1 } → IsPassOf hub p → 0 < p.next
-        → by_of own_pass ≡ p.next → Said p.next p.seen own_pass.seen own_pass.asked
+    -- a talk with no worker: one is what is left of the pass, child what was split off for the talk, own what became of that,
+    -- and r what they are joined to
+    pub besides_none : (p one child own_pass r : BoardPass) → one ≡ rest_of p → child ≡ child_of p → IsPassOf hub p
+        → Said (by_of child) child.seen own_pass.seen own_pass.asked
         → IsPassOf hub r → r.seen ≡ longer one.seen own_pass.seen → IsPrefix one.seen own_pass.seen ⊎ IsPrefix own_pass.seen one.seen
         → r.callers ≡ one.callers ++ own_pass.callers → r.next ≡ one.next → IsOwn one r.seen → (0 < r.next → HasNoneFrom r.next r.seen)
         → Besides hub p 0 r Said
-    besides_none p one own_pass r one_is is some by_is said of longest ordered all next own_one none_from =
+    besides_none p one child own_pass r one_is child_is is said of longest ordered all next own_one none_from =
         let seen : one.seen ≡ p.seen = ap (λ (z : BoardPass). z.seen) one_is in
         let callers : one.callers ≡ p.callers = ap (λ (z : BoardPass). z.callers) one_is in
         let by : by_of one ≡ by_of p = ap (λ (z : BoardPass). by_of z) one_is in
@@ -99,7 +119,7 @@ module _ {W R : Type 0} (hub : Shared W R) where
         record {
           heard = own_pass.seen;
           asked = own_pass.asked;
-          said = subst (λ n. Said n p.seen own_pass.seen own_pass.asked) number said;
+          said = subst (λ n. Said n p.seen own_pass.seen own_pass.asked) number (subst (λ (z : BoardPass). Said (by_of z) z.seen own_pass.seen own_pass.asked) child_is said);
           front = subst (IsPrefix own_pass.seen) (sym longest) (longer_begins one.seen own_pass.seen ordered).1;
           of = of;
           next = omega (arith, next_is);
@@ -112,12 +132,14 @@ module _ {W R : Type 0} (hub : Shared W R) where
         }
 
     -- one worker more
-    pub besides_one : (p one mine q back r : BoardPass) (fewer workers : ℕ) → workers ≡ fewer + 1 → one ≡ record p { next = p.next + 1; room = p.room - 1 } → by_of mine ≡ p.next → mine.seen ≡ p.seen
+    pub besides_one : (p one mine q back r : BoardPass) (fewer workers : ℕ) → workers ≡ fewer + 1 → one ≡ rest_of p → mine ≡ child_of p
         → Besides hub one fewer q Said → Worked hub mine back
         → IsPassOf hub r → r.seen ≡ longer q.seen back.seen → IsPrefix q.seen back.seen ⊎ IsPrefix back.seen q.seen
         → r.callers ≡ q.callers ++ back.callers → r.next ≡ q.next → IsOwn q r.seen → IsOwn back r.seen → (0 < r.next → HasNoneFrom r.next r.seen)
         → Besides hub p workers r Said
-    besides_one p one mine q back r fewer workers more one_is by_is seen b w of longest ordered all next own_q own_back none_from =
+    besides_one p one mine q back r fewer workers more one_is mine_is b w of longest ordered all next own_q own_back none_from =
+        let by_is : by_of mine ≡ p.next = ap (λ (z : BoardPass). by_of z) mine_is in
+        let seen : mine.seen ≡ p.seen = ap (λ (z : BoardPass). z.seen) mine_is in
         let one_seen : one.seen ≡ p.seen = ap (λ (z : BoardPass). z.seen) one_is in
         let by : by_of one ≡ by_of p = ap (λ (z : BoardPass). by_of z) one_is in
         let one_next : one.next ≡ p.next + 1 = ap (λ (z : BoardPass). z.next) one_is in

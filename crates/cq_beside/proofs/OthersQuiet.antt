@@ -9,7 +9,14 @@ use Rattle.cq_history.specs.declared.event.Event.{Event}
 use Rattle.cq_history.specs.State.{accepted}
 use Rattle.cq_history.specs.Lawful.{Lawful}
 use Rattle.cq_history.proofs.States.{Lawful-prefix}
+use Rattle.cq_io.specs.declared.sink.Sink as sink
+use Rattle.cq_io.specs.declared.source.Source as source
+use Rattle.cq_lines.specs.Serving.{ServesLines}
+use Rattle.cq_lines.specs.declared.ending.End.{End}
+use Rattle.cq_reply.specs.Written.{line_of}
 use Rattle.cq_reply.specs.declared.reply.Reply.{Reply}
+use Rattle.cq_session.specs.Costs.{counted}
+use Rattle.cq_session.specs.Turn.{CountedTalk}
 use Rattle.cq_shared.specs.declared.shared.Shared.{Shared}
 use Rattle.cq_shared.specs.SharedPasses.{IsPassOf, settings_of, callers_of, shared_lawful}
 use Rattle.cq_talk.specs.Gathered.{AcceptsNone}
@@ -20,8 +27,9 @@ use Rattle.cq_talk.proofs.BesideRows.{all_before}
 use Rattle.cq_talk.proofs.BesideTalk.{beside_from_nothing}
 use Rattle.cq_talk.proofs.Gathering.{only_by}
 use Rattle.cq_beside.specs.Besides.{Besides, AreBeside}
-use Rattle.cq_beside.specs.Served.{IsFirst}
+use Rattle.cq_beside.specs.Served.{IsFirst, IsTold}
 use Rattle.cq_beside.proofs.Gathering.{some_next}
+use Rattle.cq_beside.proofs.Served.{serves_as}
 
 module _ {W R : Type 0} (hub : Shared W R) (p q : BoardPass) (workers : ℕ) (Said : ℕ → List Event → List Event → ℕ → Type 0) (is : IsPassOf hub p) (room : workers < p.room) (made : IsFirst hub p) (b : Besides hub p workers q Said) where
   law : Lawful (settings_of hub) (callers_of hub) q.seen
@@ -52,8 +60,15 @@ module _ {W R : Type 0} (hub : Shared W R) (p q : BoardPass) (workers : ℕ) (Sa
       (cases_lt w (p.next + workers)))
       (cases_lt w 1)
 
-  pub are_beside : (set : Settings) → settings_of hub ≡ set → (lines : List (List ℕ)) (replies : List Reply) → Talk set (callers_of hub) ⊥ (p.next + workers) 0 p.seen (map (said set.chunk) lines) replies b.heard → AreBeside set lines replies
+  are_beside : (set : Settings) → settings_of hub ≡ set → (lines : List (List ℕ)) (replies : List Reply) → Talk set (callers_of hub) ⊥ (p.next + workers) 0 p.seen (map (said set.chunk) lines) replies b.heard → AreBeside set lines replies
   are_beside set same lines replies talk =
       let heard_law : Lawful set (callers_of hub) b.heard = subst (λ s. Lawful s (callers_of hub) b.heard) same (Lawful-prefix (settings_of hub) (callers_of hub) b.heard b.front.0 (subst (Lawful (settings_of hub) (callers_of hub)) (sym b.front.1) law)) in
       beside_from_nothing set (callers_of hub) ⊥ (p.next + workers) b.heard (map (said set.chunk) lines) replies (subst (λ h. Talk set (callers_of hub) ⊥ (p.next + workers) 0 h (map (said set.chunk) lines) replies b.heard) made.none talk) heard_law
       (all_before (AcceptsBy (p.next + workers)) b.heard b.front.0 (subst (AllByRecursion (AcceptsBy (p.next + workers))) (sym b.front.1) (only_by (p.next + workers) q.seen others)))
+
+  -- so are the replies to the lines of a source that were served
+  pub serves_beside : {S K : Type 0} (from : source.Ghosts S) (onto : sink.Ghosts K) (set : Settings) → settings_of hub ≡ set → (reads reads_now limit : ℕ) (read read_now : S) (written written_now : K) (by : End)
+      → IsTold from onto set (callers_of hub) (p.next + workers) p.seen reads reads_now b.heard b.asked limit read read_now written written_now by → ServesLines from onto line_of (AreBeside set) limit read read_now written written_now by
+  serves_beside from onto set same reads reads_now limit read read_now written written_now by told =
+      serves_as line_of (CountedTalk set (callers_of hub) ⊥ (p.next + workers) p.seen (counted reads reads_now 0 b.asked) b.heard) (AreBeside set) (λ lines replies talk. are_beside set same lines replies talk.talk)
+      limit (from.rest read) (from.rest read_now) (onto.written written) (onto.written written_now) by told

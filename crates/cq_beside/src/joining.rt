@@ -1,6 +1,6 @@
 ghost use Rattle.std.specs.Prelude.{◌≡◌, ℕ, ◌<◌, List, None};
 ghost use Rattle.cq_base.specs.Settings.{IsInRange};
-ghost use Rattle.cq_base.specs.declared.settings.Settings.{Settings as Told};
+ghost use Rattle.cq_base.specs.declared.settings.Settings.{Settings as HubSettings};
 ghost use Rattle.cq_cells.specs.Passes.{by_of};
 ghost use Rattle.cq_chain.specs.Passes.{HasNoneFrom};
 ghost use Rattle.cq_history.specs.declared.event.Event.{Event as Happened};
@@ -25,7 +25,7 @@ pub(crate) trait Talker<L: Ledger, R: Wait> {
     type Told;
 
     // the settings of its hub
-    ghost settings: { Self → Told };
+    ghost settings: { Self → HubSettings };
 
     // what it needs
     ghost MayTalk: { Self → Type 0 };

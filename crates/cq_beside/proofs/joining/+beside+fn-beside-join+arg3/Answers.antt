@@ -1,6 +1,4 @@
-use Rattle.std.proofs.Common.{◌-◌, arith, ap}
-use Rattle.cq_cells.specs.Passes.{by_of}
-use Rattle.cq_chain.specs.Passes.{BoardPass}
+use Rattle.std.proofs.Common.{◌-◌, arith}
 use Rattle.cq_shared.specs.SharedPasses.{callers_of}
 use Rattle.cq_beside.proofs.Gathering.{besides_one}
 use Rattle.cq_beside.proofs.joining.+beside+fn-beside-join+arg3.Goals as goal
@@ -18,6 +16,5 @@ returns g t c =
     let some = c.if-workers-eq0.false in
     record {
       besides = besides_one hub (g.T.Talker.Said c.args.talker told (callers_of hub)) p c.split_pass-mine.new.pass mine q back c.join_pass.new.pass (c.args.workers - 1) c.args.workers (omega (arith, some))
-          split.same (ap (λ (z : BoardPass). by_of z) split.child) (ap (λ (z : BoardPass). z.seen) split.child)
-          c.join-mine.ensures.second c.join-mine.ensures.first joined.of joined.seen joined.one_history joined.callers joined.room.0 joined.own.0 joined.own.1 joined.unmade;
+          split.same split.child c.join-mine.ensures.second c.join-mine.ensures.first joined.of joined.seen joined.one_history joined.callers joined.room.0 joined.own.0 joined.own.1 joined.unmade;
     }

@@ -2,8 +2,8 @@ use Rattle.std.proofs.Common.{◌+◌, rules}
 use Rattle.cq_reply.specs.Written.{line_of}
 use Rattle.cq_shared.specs.SharedPasses.{callers_of}
 use Rattle.cq_beside.specs.Besides.{AreBeside}
-use Rattle.cq_beside.proofs.OthersQuiet.{are_beside}
-use Rattle.cq_beside.proofs.Served.{told_behind, cause_behind, lines_behind, serves_as}
+use Rattle.cq_beside.proofs.OthersQuiet.{serves_beside}
+use Rattle.cq_beside.proofs.Served.{told_behind, cause_behind, lines_behind}
 use Rattle.cq_beside.proofs.serving.serve_one.Goals as goal
 
 pub returns-clause-served : goal.returns-clause-served
@@ -21,7 +21,7 @@ returns-clause-beside g c =
     let b = c.beside-over.ensures.besides in
     let set = c.args.settings.now in
     λ first. lines_behind g.S.Source g.K.Sink line_of (AreBeside set) _ _ _ _ _ _ _ _ (search rules) (search rules)
-    (serves_as line_of _ (AreBeside set) (λ lines replies talk. are_beside c.args.hub.now c.args.pass c.beside-over.result.1 c.args.workers _ c.requires.of c.requires.room first b set c.requires.hub_settings lines replies talk.talk) _ _ _ _ _ _ b.said.0)
+    (serves_beside c.args.hub.now c.args.pass c.beside-over.result.1 c.args.workers _ c.requires.of c.requires.room first b g.S.Source g.K.Sink set c.requires.hub_settings _ _ _ _ _ _ _ _ b.said.0)
 
 pub returns-clause-cause : goal.returns-clause-cause
 returns-clause-cause g c = cause_behind g.S.Source g.K.Sink _ _ _ _ _ _ _ (search rules) (search rules) c.beside-over.ensures.besides.said.1
