@@ -17,7 +17,9 @@ use std::env;
 use std::io::{Error, ErrorKind};
 use std::marker::Brand;
 use std::process::ExitCode;
+use std::sync::Wait;
 use std::sync::ledger::{Blank, Ledger};
+use std::thread::Threads;
 
 const WORDS_REFUSED: u8 = 1;
 
@@ -55,8 +57,13 @@ fn words_of(alloc: Global, args: env::Args) -> Result<Vec<Text>, Memory>
     texts_of(alloc, &words)
 }
 
-// Runs on standard input and output.
-fn run<L: Ledger>(rt: &HostRuntime, words: &[Text], blank: Blank) -> u8
+// Runs on standard input and output. Only in `main` is the runtime itself a handle on threads, so that stands beside it.
+fn run<Q: Threads + Wait + Sync, L: Ledger + Send + Sync>(
+    rt: &HostRuntime,
+    threads: &Q,
+    words: &[Text],
+    blank: Blank,
+) -> u8
     requires name { blank.name ≡ L.name }
     requires parts { blank.parts ≡ L.parts }
 {
@@ -66,6 +73,7 @@ fn run<L: Ledger>(rt: &HostRuntime, words: &[Text], blank: Blank) -> u8
     let mut doors = MemDoors::new(VecDeque::new(alloc), Vec::new(alloc));
     let mut steps: Steps<L> = Steps::new(blank);
     top(
+        threads,
         alloc,
         words,
         &mut source,
@@ -87,19 +95,19 @@ fn status_without_words(error: &Error) -> u8
     }
 }
 
-fn status(rt: &HostRuntime) -> u8 {
+fn status<Q: Threads + Wait + Sync>(rt: &HostRuntime, threads: &Q) -> u8 {
     let args = match env::args(rt) {
         Ok(args) => args,
         Err(error) => return status_without_words(&error),
     };
     match words_of(rt.alloc(), args) {
-        Ok(words) => run::<Brand>(rt, &words, Blank::new(1)),
+        Ok(words) => run::<Q, Brand>(rt, threads, &words, Blank::new(1)),
         Err(Memory) => OUT_OF_MEMORY,
     }
 }
 
 fn main(rt: HostRuntime) -> ExitCode {
-    let status = status(&rt);
+    let status = status(&rt, &rt);
     if status != 0 {
         let _ = rt.eprintln(line_of(status));
     }
