@@ -9,9 +9,9 @@ fn a_project_is_made_and_told(rt: HostRuntime) -> Result<(), Memory> {
 "#
             .as_bytes();
     let make = ["make", "7", "3"];
-    assert!(rt; ends_with(alloc, &make, b"{}\n", 4_096, (0, 0), line, 0)?);
-    assert!(rt; ends_with(alloc, &make, b"{}\n", 9, (0, 1), b"", 3)?);
-    assert!(rt; ends_with(alloc, &make, b"{}\n", 7, (0, 2), b"{\"group", 3)?);
+    assert!(rt; ends_with(&rt, alloc, &make, b"{}\n", 4_096, (0, 0), line, 0)?);
+    assert!(rt; ends_with(&rt, alloc, &make, b"{}\n", 9, (0, 1), b"", 3)?);
+    assert!(rt; ends_with(&rt, alloc, &make, b"{}\n", 7, (0, 2), b"{\"group", 3)?);
     Ok(())
 }
 
@@ -26,7 +26,7 @@ fn each_tenth_file_is_the_same_and_none_is_told(rt: HostRuntime) -> Result<(), M
         r#"{"groups":0,"measures":{"complexity":0,"duplicated_blocks":0,"duplicated_files":0,"duplicated_lines":0,"duplicated_lines_density":0,"files":0,"lines":0,"ncloc":0},"ok":true,"tokens":0,"version":0}
 "#
             .as_bytes();
-    assert!(rt; ends_with(alloc, &["make", "0", "20"], b"", 7, (0, 0), twenty, 0)?);
-    assert!(rt; ends_with(alloc, &["make", "5", "0"], b"", 7, (0, 0), none, 0)?);
+    assert!(rt; ends_with(&rt, alloc, &["make", "0", "20"], b"", 7, (0, 0), twenty, 0)?);
+    assert!(rt; ends_with(&rt, alloc, &["make", "5", "0"], b"", 7, (0, 0), none, 0)?);
     Ok(())
 }

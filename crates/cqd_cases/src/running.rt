@@ -6,7 +6,9 @@ use cq_program::top;
 use std::alloc::Global;
 use std::collections::VecDeque;
 use std::marker::Brand;
+use std::sync::Wait;
 use std::sync::ledger::{Blank, Ledger};
+use std::thread::Threads;
 
 pub(crate) fn words_of(alloc: Global, all: &[&str]) -> Result<Vec<Text>, Memory> {
     let mut words = Vec::new(alloc);
@@ -16,7 +18,8 @@ pub(crate) fn words_of(alloc: Global, all: &[&str]) -> Result<Vec<Text>, Memory>
     Ok(words)
 }
 
-fn run<L: Ledger>(
+fn run<Q: Threads + Wait + Sync, L: Ledger + Send + Sync>(
+    rt: &Q,
     alloc: Global,
     words: &[Text],
     source: &mut MemSource,
@@ -29,22 +32,24 @@ fn run<L: Ledger>(
     let mut doors = MemDoors::new(VecDeque::new(alloc), Vec::new(alloc));
     let mut steps: Steps<L> = Steps::new(blank);
     top(
-        alloc, words, source, sink, &mut doors, &OpenGate, &mut steps,
+        rt, alloc, words, source, sink, &mut doors, &OpenGate, &mut steps,
     )
 }
 
-pub(crate) fn run_here(
+pub(crate) fn run_here<Q: Threads + Wait + Sync>(
+    rt: &Q,
     alloc: Global,
     words: &[Text],
     source: &mut MemSource,
     sink: &mut MemSink,
 ) -> u8 {
-    run::<Brand>(alloc, words, source, sink, Blank::new(1))
+    run::<Q, Brand>(rt, alloc, words, source, sink, Blank::new(1))
 }
 
 /// Whether the program ends with a status after it has written an output, over ends of so many bytes a call, of which
 /// one call may fail.
-pub(crate) fn ends_with(
+pub(crate) fn ends_with<Q: Threads + Wait + Sync>(
+    rt: &Q,
     alloc: Global,
     words: &[&str],
     input: &[u8],
@@ -60,6 +65,6 @@ pub(crate) fn ends_with(
     let bytes = Vec::from_slice(alloc, input)?;
     let mut source = MemSource::new(bytes, greatest, vec![in alloc; failing_read]?);
     let mut sink = MemSink::new(alloc, 65_536, greatest, vec![in alloc; failing_write]?)?;
-    let ended = run_here(alloc, &words, &mut source, &mut sink);
+    let ended = run_here(rt, alloc, &words, &mut source, &mut sink);
     Ok(ended == status && sink.written() == output)
 }

@@ -1,6 +1,8 @@
 use crate::running::ends_with;
 use cq_base::Memory;
 use std::alloc::Global;
+use std::sync::Wait;
+use std::thread::Threads;
 
 // Windows of two tokens, two shards, one key for every window, three changes, and texts of twenty bytes together.
 const DRIVE: [&str; 11] = [
@@ -26,19 +28,19 @@ const BOTH: &[u8] = b"{\"ok\":true,\"value\":0}\n{\"ok\":true,\"value\":0}\n";
 #[test]
 fn scripts_are_driven_however_they_are_cut(rt: HostRuntime) -> Result<(), Memory> {
     let alloc = rt.alloc();
-    assert!(rt; ends_with(alloc, &DRIVE, b"", 9, (0, 0), b"", 0)?);
-    assert!(rt; ends_with(alloc, &DRIVE, ASK, 1, (0, 0), BOTH, 0)?);
-    assert!(rt; ends_with(alloc, &DRIVE, &ASK[..43], 99, (0, 0), BOTH, 0)?);
+    assert!(rt; ends_with(&rt, alloc, &DRIVE, b"", 9, (0, 0), b"", 0)?);
+    assert!(rt; ends_with(&rt, alloc, &DRIVE, ASK, 1, (0, 0), BOTH, 0)?);
+    assert!(rt; ends_with(&rt, alloc, &DRIVE, &ASK[..43], 99, (0, 0), BOTH, 0)?);
     Ok(())
 }
 
 #[test]
 fn faults_and_limits_end_a_script(rt: HostRuntime) -> Result<(), Memory> {
     let alloc = rt.alloc();
-    assert!(rt; ends_with(alloc, &DRIVE, ASK, 22, (2, 0), ONE, 2)?);
-    assert!(rt; ends_with(alloc, &DRIVE, ASK, 99, (0, 2), ONE, 3)?);
+    assert!(rt; ends_with(&rt, alloc, &DRIVE, ASK, 22, (2, 0), ONE, 2)?);
+    assert!(rt; ends_with(&rt, alloc, &DRIVE, ASK, 99, (0, 2), ONE, 3)?);
     let few = ["drive", "--byte-limit", "43"];
-    assert!(rt; ends_with(alloc, &few, ASK, 99, (0, 0), ONE, 6)?);
+    assert!(rt; ends_with(&rt, alloc, &few, ASK, 99, (0, 0), ONE, 6)?);
     Ok(())
 }
 
@@ -52,7 +54,7 @@ fn long_lines_of_a_script_are_told(rt: HostRuntime) -> Result<(), Memory> {
     input.extend_from_slice(b"\n")?;
     let output =
         "{\"ok\":true,\"value\":0}\n{\"code\":13,\"error\":\"long\",\"ok\":false}\n".as_bytes();
-    assert!(rt; ends_with(alloc, &DRIVE, &input, 65_536, (0, 0), output, 0)?);
+    assert!(rt; ends_with(&rt, alloc, &DRIVE, &input, 65_536, (0, 0), output, 0)?);
     Ok(())
 }
 
@@ -77,9 +79,13 @@ fn parted(alloc: Global, table: &str) -> Result<(Vec<u8>, Vec<u8>), Memory> {
 }
 
 // Whether each line of a script has the outcome behind it.
-fn all_come_to(alloc: Global, table: &str) -> Result<bool, Memory> {
+fn all_come_to<Q: Threads + Wait + Sync>(
+    rt: &Q,
+    alloc: Global,
+    table: &str,
+) -> Result<bool, Memory> {
     let (input, output) = parted(alloc, table)?;
-    ends_with(alloc, &DRIVE, &input, 97, (0, 0), &output, 0)
+    ends_with(rt, alloc, &DRIVE, &input, 97, (0, 0), &output, 0)
 }
 
 // Each step where it is not allowed, and where it then is.
@@ -125,7 +131,7 @@ const NOT_ALLOWED: &str = r#"{"step":"took","by":3} -> {"ok":true,"value":null}
 
 #[test]
 fn a_step_that_is_not_allowed_changes_nothing(rt: HostRuntime) -> Result<(), Memory> {
-    assert!(rt; all_come_to(rt.alloc(), NOT_ALLOWED)?);
+    assert!(rt; all_come_to(&rt, rt.alloc(), NOT_ALLOWED)?);
     Ok(())
 }
 
@@ -148,7 +154,7 @@ const REFUSED: &str =
 
 #[test]
 fn refusals_are_told(rt: HostRuntime) -> Result<(), Memory> {
-    assert!(rt; all_come_to(rt.alloc(), REFUSED)?);
+    assert!(rt; all_come_to(&rt, rt.alloc(), REFUSED)?);
     Ok(())
 }
 
@@ -176,7 +182,7 @@ const TWO_VERSIONS: &str =
 
 #[test]
 fn an_open_version_is_read_on(rt: HostRuntime) -> Result<(), Memory> {
-    assert!(rt; all_come_to(rt.alloc(), TWO_VERSIONS)?);
+    assert!(rt; all_come_to(&rt, rt.alloc(), TWO_VERSIONS)?);
     Ok(())
 }
 
@@ -207,7 +213,7 @@ const REPLIES: &str =
 
 #[test]
 fn a_reply_is_that_of_the_open_version(rt: HostRuntime) -> Result<(), Memory> {
-    assert!(rt; all_come_to(rt.alloc(), REPLIES)?);
+    assert!(rt; all_come_to(&rt, rt.alloc(), REPLIES)?);
     Ok(())
 }
 
@@ -234,6 +240,6 @@ const KINDS: &str =
 
 #[test]
 fn each_kind_of_query_is_answered(rt: HostRuntime) -> Result<(), Memory> {
-    assert!(rt; all_come_to(rt.alloc(), KINDS)?);
+    assert!(rt; all_come_to(&rt, rt.alloc(), KINDS)?);
     Ok(())
 }

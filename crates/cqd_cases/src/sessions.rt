@@ -19,9 +19,9 @@ fn lines_are_served_however_they_are_cut(rt: HostRuntime) -> Result<(), Memory> 
 {"groups":[],"ok":true,"total":0,"version":1}
 "#
         .as_bytes();
-    assert!(rt; ends_with(alloc, &WORDS, b"", 9, (0, 0), b"", 0)?);
-    assert!(rt; ends_with(alloc, &WORDS, input, 1, (0, 0), output, 0)?);
-    assert!(rt; ends_with(alloc, &WORDS, input, 4_096, (0, 0), output, 0)?);
+    assert!(rt; ends_with(&rt, alloc, &WORDS, b"", 9, (0, 0), b"", 0)?);
+    assert!(rt; ends_with(&rt, alloc, &WORDS, input, 1, (0, 0), output, 0)?);
+    assert!(rt; ends_with(&rt, alloc, &WORDS, input, 4_096, (0, 0), output, 0)?);
     Ok(())
 }
 
@@ -39,7 +39,7 @@ fn long_lines_are_told(rt: HostRuntime) -> Result<(), Memory> {
 {"accepted":0,"done":0,"ok":true,"published":0}
 "#
         .as_bytes();
-    assert!(rt; ends_with(alloc, &WORDS, &input, 65_536, (0, 0), output, 0)?);
+    assert!(rt; ends_with(&rt, alloc, &WORDS, &input, 65_536, (0, 0), output, 0)?);
     Ok(())
 }
 
@@ -54,7 +54,7 @@ fn a_reply_is_written_before_the_next_line_is_read(rt: HostRuntime) -> Result<()
     let bytes = Vec::from_slice(alloc, b"{}\n{}\n")?;
     let mut source = MemSource::new(bytes, 3, Vec::new(alloc));
     let mut sink = MemSink::new(alloc, 99, 99, vec![in alloc; 1u64]?)?;
-    assert_eq!(rt; run_here(alloc, &words, &mut source, &mut sink), 3);
+    assert_eq!(rt; run_here(&rt, alloc, &words, &mut source, &mut sink), 3);
     let mut left = [0u8; 4];
     assert_eq!(rt; read_once(&mut source, &mut left), Ok(3));
     Ok(())
@@ -66,12 +66,34 @@ fn faults_and_limits_end_it(rt: HostRuntime) -> Result<(), Memory> {
     let op = "{\"code\":2,\"error\":\"op\",\"ok\":false}\n".as_bytes();
     let two =
         "{\"code\":2,\"error\":\"op\",\"ok\":false}\n{\"code\":2,\"error\":\"op\",\"ok\":false}\n".as_bytes();
-    assert!(rt; ends_with(alloc, &WORDS, b"{}\n{}\n{}\n", 90, (0, 3), two, 3)?);
-    assert!(rt; ends_with(alloc, &WORDS, b"{}\n{}\n", 3, (2, 0), op, 2)?);
+    assert!(rt; ends_with(&rt, alloc, &WORDS, b"{}\n{}\n{}\n", 90, (0, 3), two, 3)?);
+    assert!(rt; ends_with(&rt, alloc, &WORDS, b"{}\n{}\n", 3, (2, 0), op, 2)?);
     let put = r#"{"op":"put","project":"p","path":"t","lang":"any","text":"a b c x a b c y"}
 "#
         .as_bytes();
     let accepted = "{\"change\":1,\"ok\":true}\n".as_bytes();
-    assert!(rt; ends_with(alloc, &WORDS, put, 4_096, (2, 0), accepted, 2)?);
+    assert!(rt; ends_with(&rt, alloc, &WORDS, put, 4_096, (2, 0), accepted, 2)?);
+    Ok(())
+}
+
+#[test]
+fn workers_change_no_reply(rt: HostRuntime) -> Result<(), Memory> {
+    let alloc = rt.alloc();
+    let input = br#"{"op":"put","project":"p","path":"a","lang":"any","text":"x y z"}
+{"op":"put","project":"p","path":"b","lang":"any","text":"x y z w"}
+{"op":"put","project":"p","path":"c","lang":"any","text":"v x y z"}
+{"op":"groups","project":"p","min":3,"finish":true}
+"#
+        .as_slice();
+    let output = r#"{"change":1,"ok":true}
+{"change":2,"ok":true}
+{"change":3,"ok":true}
+{"groups":[{"places":[{"at":0,"first":1,"last":1,"path":"a"},{"at":0,"first":1,"last":1,"path":"b"},{"at":1,"first":1,"last":1,"path":"c"}],"tokens":3}],"ok":true,"total":1,"version":3}
+"#
+        .as_bytes();
+    for workers in ["0", "2"] {
+        let words = ["run", "--chunk", "2", "--shards", "3", "--workers", workers];
+        assert!(rt; ends_with(&rt, alloc, &words, input, 97, (0, 0), output, 0)?);
+    }
     Ok(())
 }

@@ -11,11 +11,11 @@ fn words_out_of_form_are_refused(rt: HostRuntime) -> Result<(), Memory> {
         &["run", "--"],
         &["run", "--chunk", "0"],
         &["run", "--chunk", "2", "--chunk", "3"],
-        &["run", "--workers", "1"],
+        &["run", "--workers", "65"],
         &["run", "--chunk", "2", "more"],
     ];
     for words in cases {
-        assert!(rt; ends_with(alloc, words, b"{}\n", 9, (0, 0), b"", 1)?);
+        assert!(rt; ends_with(&rt, alloc, words, b"{}\n", 9, (0, 0), b"", 1)?);
     }
     Ok(())
 }
@@ -33,6 +33,7 @@ fn options_are_the_settings(rt: HostRuntime) -> Result<(), Memory> {
         .as_bytes();
     assert!(rt;
         ends_with(
+            &rt,
             alloc,
             &["run", "--text-limit", "8"],
             input,
@@ -48,6 +49,7 @@ fn options_are_the_settings(rt: HostRuntime) -> Result<(), Memory> {
         .as_bytes();
     assert!(rt;
         ends_with(
+            &rt,
             alloc,
             &["run", "--change-limit=1"],
             input,
@@ -61,6 +63,7 @@ fn options_are_the_settings(rt: HostRuntime) -> Result<(), Memory> {
     let one = "{\"accepted\":0,\"done\":0,\"ok\":true,\"published\":0}\n".as_bytes();
     assert!(rt;
         ends_with(
+            &rt,
             alloc,
             &["run", "--byte-limit", "15"],
             state,
@@ -85,12 +88,12 @@ fn options_are_the_settings(rt: HostRuntime) -> Result<(), Memory> {
 {"groups":[{"places":[{"at":0,"first":1,"last":1,"path":"A.java"},{"at":4,"first":1,"last":1,"path":"A.java"}],"tokens":4}],"ok":true,"total":1,"version":1}
 "#
         .as_bytes();
-    assert!(rt; ends_with(alloc, &words, input, 99, (0, 0), found, 0)?);
+    assert!(rt; ends_with(&rt, alloc, &words, input, 99, (0, 0), found, 0)?);
     let words = ["run", "--ignore-literals", "--chunk=2"];
     let none = r#"{"change":1,"ok":true}
 {"groups":[],"ok":true,"total":0,"version":1}
 "#
         .as_bytes();
-    assert!(rt; ends_with(alloc, &words, input, 99, (0, 0), none, 0)?);
+    assert!(rt; ends_with(&rt, alloc, &words, input, 99, (0, 0), none, 0)?);
     Ok(())
 }
