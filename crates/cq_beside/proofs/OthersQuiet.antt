@@ -26,7 +26,8 @@ use Rattle.cq_talk.specs.Talk.{Talk}
 use Rattle.cq_talk.proofs.BesideRows.{all_before}
 use Rattle.cq_talk.proofs.BesideTalk.{beside_from_nothing}
 use Rattle.cq_talk.proofs.Gathering.{only_by}
-use Rattle.cq_beside.specs.Besides.{Besides, AreBeside}
+use Rattle.cq_beside.specs.Besides.{Besides}
+use Rattle.cq_beside.specs.Replies.{AreBeside}
 use Rattle.cq_beside.specs.Served.{IsFirst, IsTold}
 use Rattle.cq_beside.proofs.Gathering.{some_next}
 use Rattle.cq_beside.proofs.Served.{serves_as}

@@ -1,17 +1,13 @@
 -- What is known of a pass behind a talk with workers beside it.
-use Rattle.std.specs.Prelude.{◌≡◌, ℕ, ◌+◌, ◌<◌, ◌≤◌, List, map}
+use Rattle.std.specs.Prelude.{◌≡◌, ℕ, ◌+◌, ◌<◌, ◌≤◌, List}
 use mathlib.Core.List.{IsPrefix}
-use Rattle.cq_base.specs.declared.settings.Settings.{Settings}
 use Rattle.cq_cells.specs.Callers.{Among}
 use Rattle.cq_cells.specs.Passes.{by_of}
 use Rattle.cq_chain.specs.Passes.{BoardPass, HasNoneFrom}
 use Rattle.cq_history.specs.declared.event.Event.{Event}
-use Rattle.cq_reply.specs.declared.reply.Reply.{Reply}
 use Rattle.cq_shared.specs.declared.shared.Shared.{Shared}
 use Rattle.cq_shared.specs.SharedPasses.{IsPassOf}
-use Rattle.cq_talk.specs.Beside.{IsBeside, nothing_known}
 use Rattle.cq_talk.specs.Gathered.{AcceptsNone}
-use Rattle.cq_talk.specs.Said.{said}
 
 module _ {W R : Type 0} (hub : Shared W R) where
   -- the pass is still that of its caller, which accepts nothing if it had accepted nothing
@@ -35,7 +31,3 @@ module _ {W R : Type 0} (hub : Shared W R) where
     pub joined : (c : ℕ) → p.next ≤ c → c < p.next + workers → Among c q.callers
     pub quiet : (c : ℕ) → p.next ≤ c → c < p.next + workers → AcceptsNone p.seen c → AcceptsNone q.seen c
     pub unmade : HasNoneFrom (p.next + (workers + 1)) q.seen
-
--- the replies to lines are those that a server may give with workers beside it
-abbrev pub AreBeside : Settings → List (List ℕ) → List Reply → Type 0
-AreBeside set lines replies = IsBeside set nothing_known (map (said set.chunk) lines) replies

@@ -1,2 +1,3 @@
 pub mod Besides
+pub mod Replies
 pub mod Served

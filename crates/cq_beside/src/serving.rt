@@ -5,7 +5,7 @@ ghost use Rattle.cq_lines.specs.Runs.{IsFresh};
 ghost use Rattle.cq_lines.specs.Serving.{HasCauseOfEnd, ServesLines};
 ghost use Rattle.cq_reply.specs.Written.{line_of};
 ghost use Rattle.cq_shared.specs.SharedPasses.{IsPassOf, settings_of, callers_of};
-ghost use Rattle.cq_beside.specs.Besides.{AreBeside};
+ghost use Rattle.cq_beside.specs.Replies.{AreBeside};
 ghost use Rattle.cq_beside.specs.Served.{IsServed, IsFirst};
 
 use crate::joining::{Talker, beside};

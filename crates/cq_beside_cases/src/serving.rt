@@ -1,6 +1,6 @@
 ghost use Rattle.std.specs.Prelude.{◌≡◌, ◌≤◌, IfOk};
 ghost use Rattle.cq_base.specs.Settings.{IsInRange};
-ghost use Rattle.cq_beside.specs.Besides.{AreBeside};
+ghost use Rattle.cq_beside.specs.Replies.{AreBeside};
 ghost use Rattle.cq_lines.specs.Serving.{ServesLines};
 ghost use Rattle.cq_reply.specs.Written.{line_of};
 

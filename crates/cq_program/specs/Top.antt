@@ -1,7 +1,7 @@
 -- What the top call does, by its status.
 use Rattle.std.specs.Prelude.{◌≡◌, ◌≢◌, ◌==◌, ℕ, MatchBool, List, [], map, Option, Some, Result, Ok, Err}
 use Rattle.cq_base.specs.declared.settings.Settings.{Settings}
-use Rattle.cq_beside.specs.Besides.{AreBeside}
+use Rattle.cq_beside.specs.Replies.{AreBeside}
 use Rattle.cq_drive.specs.Script.{IsScript}
 use Rattle.cq_history.specs.declared.event.Event.{Event}
 use Rattle.cq_io.specs.Causes.{HasCause}

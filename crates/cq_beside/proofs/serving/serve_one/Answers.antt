@@ -1,7 +1,7 @@
 use Rattle.std.proofs.Common.{◌+◌, rules}
 use Rattle.cq_reply.specs.Written.{line_of}
 use Rattle.cq_shared.specs.SharedPasses.{callers_of}
-use Rattle.cq_beside.specs.Besides.{AreBeside}
+use Rattle.cq_beside.specs.Replies.{AreBeside}
 use Rattle.cq_beside.proofs.OthersQuiet.{serves_beside}
 use Rattle.cq_beside.proofs.Served.{told_behind, cause_behind, lines_behind}
 use Rattle.cq_beside.proofs.serving.serve_one.Goals as goal
