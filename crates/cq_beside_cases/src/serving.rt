@@ -19,7 +19,7 @@ use std::sync::Wait;
 use std::sync::ledger::{Blank, Ledger};
 use std::thread::Threads;
 
-const SETTINGS: Settings = Settings {
+pub const SETTINGS: Settings = Settings {
     chunk: 2,
     shards: 2,
     key_bits: 64,

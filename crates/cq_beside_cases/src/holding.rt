@@ -1,0 +1,327 @@
+ghost use Rattle.std.specs.Prelude.{◌≡◌, ◌+◌, ◌<◌, ◌≤◌, IfOk, OnOk};
+ghost use Rattle.cq_base.specs.Settings.{IsInRange};
+ghost use Rattle.cq_chain.specs.Passes.{HasNoneFrom};
+ghost use Rattle.cq_shared.specs.SharedPasses.{IsPassOf, settings_of};
+
+use crate::serving::SETTINGS;
+use cq_base::{Counters, Memory, Settings, Steps};
+use cq_chain::Pass;
+use cq_io::{Gate, OpenGate};
+use cq_key::{Keyer, plain_key};
+use cq_lines::End;
+use cq_serve::{Bell, RingingGate, work};
+use cq_session_trials::written;
+use cq_shared::Shared;
+use cq_work::Work;
+use std::alloc::Global;
+use std::marker::Brand;
+use std::sync::ledger::{Blank, Ledger};
+use std::sync::{Condvar, Mutex, Wait};
+use std::thread::{Threads, join};
+
+#[derive(Drop)]
+struct Stage {
+    is_begun: bool,
+    is_over: bool,
+}
+
+/// A gate that holds whoever is about to make the work of the first change until it is told to let go.
+#[derive(Drop)]
+pub struct Holding<'a, R> {
+    stage: Mutex<Stage>,
+    came: Condvar,
+    rt: &'a R,
+}
+
+impl<'a, R: Wait> Holding<'a, R> {
+    fn new(rt: &'a R) -> Holding<'a, R> {
+        Holding {
+            stage: Mutex::new(Stage {
+                is_begun: false,
+                is_over: false,
+            }),
+            came: Condvar::new(),
+            rt,
+        }
+    }
+
+    // Waits until somebody is held.
+    fn meet(&self) {
+        let stage = self.stage.lock(self.rt);
+        let stage = self
+            .came
+            .wait_while(self.rt, stage, |stage| !stage.is_begun);
+        drop(stage);
+    }
+
+    // Holds nobody from now on.
+    fn let_go(&self) {
+        let mut stage = self.stage.lock(self.rt);
+        stage.is_over = true;
+        drop(stage);
+        self.came.notify_all();
+    }
+}
+
+impl<'a, R: Wait> Gate for Holding<'a, R> {
+    fn after_accept(&self, _change: u64) {}
+
+    fn before_work(&self, change: u64) {
+        if change != 1 {
+            return;
+        }
+        let mut stage = self.stage.lock(self.rt);
+        stage.is_begun = true;
+        self.came.notify_all();
+        let stage = self.came.wait_while(self.rt, stage, |stage| !stage.is_over);
+        drop(stage);
+    }
+
+    fn after_shard(&self, _shard: u32) {}
+
+    fn after_open(&self, _version: u64) {}
+}
+
+const UPLOAD: &str =
+    "{\"op\":\"put\",\"project\":\"p\",\"path\":\"t\",\"lang\":\"any\",\"text\":\"a b c x a b c y\"}
+";
+
+const UPLOADED: &str = "{\"change\":1,\"ok\":true}
+";
+
+const QUERY: &str = "{\"op\":\"groups\",\"project\":\"p\",\"min\":3,\"finish\":false}
+{\"op\":\"state\"}
+";
+
+// While the work of the upload is not done: what is published is version 0, and a session that has named no other is
+// answered at it.
+const BESIDE: &str = "{\"groups\":[],\"ok\":true,\"total\":0,\"version\":0}
+{\"accepted\":1,\"done\":0,\"ok\":true,\"published\":0}
+";
+
+const BEHIND: &str =
+    "{\"groups\":[{\"places\":[{\"at\":0,\"first\":1,\"last\":1,\"path\":\"t\"},{\"at\":4,\"first\":1,\"last\":1,\"path\":\"t\"}],\"tokens\":3}],\"ok\":true,\"total\":1,\"version\":1}
+{\"accepted\":1,\"done\":1,\"ok\":true,\"published\":1}
+";
+
+// A session, in a pass that is split from this one and ends in it: whether it ends with the input, and writes the output.
+fn talks<L: Ledger, R: Wait, G: Gate>(
+    alloc: Global,
+    settings: &Settings,
+    hub: &Shared<Work<L>, R>,
+    counters: &Counters<L>,
+    gate: &G,
+    input: &str,
+    output: &str,
+    pass: &mut Pass<Work<L>>,
+) -> Result<bool, Memory>
+    requires in_range { IsInRange settings.now }
+    requires hub_settings { settings_of hub.now ≡ settings.now }
+    requires of { IsPassOf hub.now pass.old }
+    requires room { 0 < pass.old.room }
+    requires unmade { HasNoneFrom pass.old.next pass.old.seen }
+    ensures of { OnOk result (IsPassOf hub.now pass.new) }
+    ensures room { OnOk result (pass.new.room + 1 ≡ pass.old.room) }
+    ensures unmade { OnOk result (HasNoneFrom pass.new.next pass.new.seen) }
+{
+    let of = *settings;
+    let key = Box::new(alloc, move |codes: &[u64]| plain_key(&of, codes))?;
+    let keyer = Keyer::new(settings, key);
+    let mut steps: Steps<L> = counters.counter();
+    let mut own = hub.split_pass(pass);
+    let (end, replies) = written(
+        alloc,
+        settings,
+        &keyer,
+        hub,
+        input.as_bytes(),
+        gate,
+        &mut own,
+        &mut steps,
+    )?;
+    hub.join_pass(pass, own);
+    Ok(end == End::Finished && replies.as_slice() == output.as_bytes())
+}
+
+// A worker with a keyer of its own. Without memory for that it does nothing.
+fn labour<Q: Wait, L: Ledger, R: Wait, G: Gate>(
+    rt: &Q,
+    alloc: Global,
+    settings: &Settings,
+    hub: &Shared<Work<L>, R>,
+    pass: Pass<Work<L>>,
+    gate: &G,
+    bell: &Bell,
+) -> Pass<Work<L>>
+    requires in_range { IsInRange settings.now }
+    requires settings { settings_of hub.now ≡ settings.now }
+    requires of { IsPassOf hub.now pass }
+    ensures of { IsPassOf hub.now result }
+{
+    let of = *settings;
+    let Ok(key) = Box::new(alloc, move |codes: &[u64]| plain_key(&of, codes)) else {
+        return pass;
+    };
+    let keyer = Keyer::new(settings, key);
+    work(rt, alloc, settings, &keyer, hub, pass, gate, bell)
+}
+
+/// Whether each session was told what it is to be told.
+#[derive(Clone, Copy, Debug, PartialEq, Eq)]
+struct Told {
+    upload: bool,
+    beside: bool,
+    behind: bool,
+}
+
+// A session that uploads, and one that asks while the worker is held in the work of the upload, if it was accepted.
+fn two_sessions<L: Ledger, R: Wait, Q: Wait, G: Gate>(
+    alloc: Global,
+    settings: &Settings,
+    hub: &Shared<Work<L>, R>,
+    counters: &Counters<L>,
+    gate: &G,
+    holding: &Holding<'_, Q>,
+    pass: Pass<Work<L>>,
+) -> Result<(Told, Pass<Work<L>>), Memory>
+    requires in_range { IsInRange settings.now }
+    requires hub_settings { settings_of hub.now ≡ settings.now }
+    requires of { IsPassOf hub.now pass }
+    requires room { 3 ≤ pass.room }
+    requires unmade { HasNoneFrom pass.next pass.seen }
+    ensures of { IfOk result (λ r. IsPassOf hub.now r.1) }
+    ensures room { IfOk result (λ r. 0 < r.1.room) }
+{
+    let mut pass = pass;
+    let upload = talks(
+        alloc, settings, hub, counters, gate, UPLOAD, UPLOADED, &mut pass,
+    )?;
+    if upload {
+        holding.meet();
+    }
+    let beside = talks(
+        alloc, settings, hub, counters, gate, QUERY, BESIDE, &mut pass,
+    )?;
+    let told = Told {
+        upload,
+        beside,
+        behind: false,
+    };
+    Ok((told, pass))
+}
+
+// The same, and then the worker is let go and has its end.
+fn two_sessions_then_end<L: Ledger, R: Wait, Q: Wait>(
+    rt: &Q,
+    alloc: Global,
+    settings: &Settings,
+    hub: &Shared<Work<L>, R>,
+    counters: &Counters<L>,
+    holding: &Holding<'_, Q>,
+    bell: &Bell,
+    pass: Pass<Work<L>>,
+) -> Result<(Told, Pass<Work<L>>), Memory>
+    requires in_range { IsInRange settings.now }
+    requires hub_settings { settings_of hub.now ≡ settings.now }
+    requires of { IsPassOf hub.now pass }
+    requires room { 3 ≤ pass.room }
+    requires unmade { HasNoneFrom pass.next pass.seen }
+    ensures of { IfOk result (λ r. IsPassOf hub.now r.1) }
+    ensures room { IfOk result (λ r. 0 < r.1.room) }
+{
+    let gate = RingingGate {
+        gate: &OpenGate,
+        bell,
+        rt,
+    };
+    let came = two_sessions(alloc, settings, hub, counters, &gate, holding, pass);
+    holding.let_go();
+    bell.end(rt);
+    came
+}
+
+// Two sessions with a worker beside them, and a third one behind its end. Where no thread can be made, or no memory is
+// there for the worker, the wait for it lasts as long as the test may.
+fn three_sessions<Q: Threads + Wait + Sync, L: Ledger + Send + Sync, R: Wait + Sync>(
+    rt: &Q,
+    alloc: Global,
+    settings: &Settings,
+    hub: &Shared<Work<L>, R>,
+    counters: &Counters<L>,
+    holding: &Holding<'_, Q>,
+    bell: &Bell,
+    pass: Pass<Work<L>>,
+) -> Result<Told, Memory>
+    requires in_range { IsInRange settings.now }
+    requires hub_settings { settings_of hub.now ≡ settings.now }
+    requires of { IsPassOf hub.now pass }
+    requires room { 4 ≤ pass.room }
+    requires unmade { HasNoneFrom pass.next pass.seen }
+{
+    let mut pass = pass;
+    let mine = hub.split_pass(&mut pass);
+    let (mine, came) = join(
+        rt,
+        move || -> Pass<Work<L>>
+            requires { IsInRange settings.now × (settings_of hub.now ≡ settings.now)
+                × IsPassOf hub.now mine }
+            ensures { IsPassOf hub.entry.now result }
+        { labour(rt, alloc, settings, hub, mine, holding, bell) },
+        move || -> Result<(Told, Pass<Work<L>>), Memory>
+            requires { IsInRange settings.now × (settings_of hub.now ≡ settings.now)
+                × IsPassOf hub.now pass × (3 ≤ pass.room) × HasNoneFrom pass.next pass.seen }
+            ensures { IfOk result (λ r. IsPassOf hub.entry.now r.1 × (0 < r.1.room)) }
+        { two_sessions_then_end(rt, alloc, settings, hub, counters, holding, bell, pass) },
+    );
+    let (told, mut pass) = came?;
+    hub.join_pass(&mut pass, mine);
+    let behind = talks(
+        alloc, settings, hub, counters, &OpenGate, QUERY, BEHIND, &mut pass,
+    )?;
+    Ok(Told {
+        upload: told.upload,
+        beside: told.beside,
+        behind,
+    })
+}
+
+fn told_by_a_new_hub<Q: Threads + Wait + Sync, L: Ledger + Send + Sync>(
+    rt: &Q,
+    alloc: Global,
+    settings: &Settings,
+    blank: Blank,
+) -> Result<Told, Memory>
+    requires name { blank.name ≡ L.name }
+    requires parts { blank.parts ≡ L.parts }
+    requires in_range { IsInRange settings.now }
+{
+    let counters: Counters<L> = Counters::new(blank);
+    let made: (Shared<Work<L>, &Q>, Pass<Work<L>>) = Shared::new(rt, alloc, settings, 5)?;
+    let (hub, pass) = made;
+    let holding = Holding::new(rt);
+    let bell = Bell::new();
+    three_sessions(rt, alloc, settings, &hub, &counters, &holding, &bell, pass)
+}
+
+fn told_here<Q: Threads + Wait + Sync>(rt: &Q, alloc: Global) -> Result<Option<Told>, Memory> {
+    let settings = SETTINGS;
+    if settings.check().is_some() {
+        return Ok(None);
+    }
+    let told = told_by_a_new_hub::<Q, Brand>(rt, alloc, &settings, Blank::new(1))?;
+    Ok(Some(told))
+}
+
+// A text that takes long keeps no other session's query from an answer at the published version.
+#[test]
+fn a_work_that_lasts_holds_no_other_session(rt: HostRuntime) -> Result<(), Memory> {
+    assert_eq!(rt;
+        told_here(&rt, rt.alloc())?,
+        Some(Told {
+            upload: true,
+            beside: true,
+            behind: true
+        })
+    );
+    Ok(())
+}
