@@ -46,8 +46,9 @@
 //!
 //! # Waiting
 //!
-//! A pass that finds the cell held parks on its word until a release wakes it; each release wakes one. It may find
-//! the cell held again by one that came later, and parks again. Nothing is proved of who goes first, nor that any
+//! A pass that finds the cell held looks at its word for some microseconds, about as long as a change is applied to a
+//! shard, and then parks on it until a release wakes it; each release wakes one. It may find the cell held again by one
+//! that came later, and waits again. Nothing is proved of who goes first, nor that any
 //! does. A pass that is dropped while it holds a cell leaves the cell held, and whoever enters it then waits for
 //! ever.
 #![tactic(auto)]

@@ -10,11 +10,15 @@ use crate::rule::{Beside, CellRule, Compare, NewCaller, Note, Release, Take};
 use crate::view::View;
 use atomic_table::{Refused, Seat, Table};
 use std::alloc::{AllocError, Global};
+use std::hint::spin_loop;
 use std::sync::Wait;
 use std::sync::atomic::{AtomicU64, Ordering};
 
 /// A token of no bytes, with which a thread steps on the cells.
 pub type Seated<I, E, K> = Seat<Option<I>, View<I, E, K>>;
+
+// How often a word that is held is looked at before the thread sleeps: about as long as a change is applied to a shard.
+const LOOKS: u32 = 400;
 
 #[derive(Drop)]
 pub struct Locked<I, E, K, L: CellLaw<I, E, K>, R> {
@@ -50,12 +54,15 @@ impl<I, E, K, L: CellLaw<I, E, K>, R: Wait> Locked<I, E, K, L, R> {
         unreachable!()
     }
 
-    // Sleeps while the word is as it was found, until a wake. It counts among those that wait before the word is looked at
-    // once more, and whoever releases the cell changes the word before it looks at the count: so one of the two sees the
-    // other.
+    // Looks at the word until it is no longer as it was found, or so often in vain that a sleep costs less; then sleeps
+    // while the word is so, until a wake. It counts among those that wait before the word is looked at once more, and
+    // whoever releases the cell changes the word before it looks at the count: so one of the two sees the other.
     fn wait(&self, cell: usize, found: u64)
         requires { cell < self.now.count }
     {
+        if self.changes_soon(cell, found) {
+            return;
+        }
         self.waiting.fetch_add(1, Ordering::SeqCst);
         self.table
             .shared
@@ -65,6 +72,19 @@ impl<I, E, K, L: CellLaw<I, E, K>, R: Wait> Locked<I, E, K, L, R> {
 }
 
 impl<I, E, K, L: CellLaw<I, E, K>, R> Locked<I, E, K, L, R> {
+    // Whether the word is seen to be another than it was found.
+    fn changes_soon(&self, cell: usize, found: u64) -> bool
+        requires { cell < self.now.count }
+    {
+        for _look in 0..LOOKS {
+            if self.table.shared.peek(cell) != found {
+                return true;
+            }
+            spin_loop();
+        }
+        false
+    }
+
     /// Notes an event on the board in hand, or none. A load, whose number is ignored.
     pub fn note<N: Noting<E>>(&self, cell: usize, pass: &mut Seated<I, E, K>)
         requires own { IsOf self.now.table.shared.table_id self.now.table.shared.key pass.old × (cell < self.now.count) }
