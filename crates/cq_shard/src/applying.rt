@@ -4,6 +4,7 @@ ghost use Rattle.cq_shard.specs.Runs.{AreAdded};
 ghost use Rattle.cq_shard.specs.Gathered.{AreGathered, brought_for};
 
 use crate::indexed::Indexed;
+use crate::parting::room;
 use crate::runs::Runs;
 use cq_base::{Entry, Memory, Steps};
 use std::alloc::Global;
@@ -64,6 +65,7 @@ pub(crate) fn entries_for<W: Indexed>(
 {
     let mut entries = Vec::new(alloc);
     if let Some(work) = work {
+        entries.reserve(room(work.keys().len(), part.shards))?;
         gather(part, work.keys(), &mut entries)?;
     }
     Ok(entries)

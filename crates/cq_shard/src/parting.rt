@@ -32,6 +32,15 @@ pub fn parted<W: Indexed>(
     Ok(parts)
 }
 
+/// For how many entries a shard's list gets room, of so many keys that are spread evenly. Most lists then never grow: to grow
+/// one means to have it copied, and, where another thread had the list's memory before, to wait for that thread's.
+pub(crate) fn room(keys: usize, shards: u32) -> usize
+    requires { 0 < shards }
+{
+    let even = keys / shards as usize;
+    even.saturating_add(even / 4 + 8)
+}
+
 // So many lists without an entry.
 fn empty(alloc: Global, shards: u32) -> Result<Vec<Vec<Entry>>, Memory>
     ensures { IfOk result (λ parts. map (λ part. part.items) parts.items ≡ replicate shards []) }
