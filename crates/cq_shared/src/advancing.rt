@@ -19,6 +19,9 @@ use std::marker::Brand;
 use std::sync::ledger::{Blank, Ledger};
 use std::sync::{Arc, Wait};
 
+// 2^32 by the golden ratio.
+const GOLDEN: u32 = 2_654_435_769;
+
 impl<W: Indexed, R: Wait> Shared<W, R> {
     /// Publishes the changes up to a number, all of which are done, and answers the last published version. The board gives
     /// the owners of the works in one hold; each shard applies each further change in a hold of its own, with a look at each
@@ -65,7 +68,8 @@ impl<W: Indexed, R: Wait> Shared<W, R> {
         Ok((base, works?))
     }
 
-    // Each shard applies the changes up to one.
+    // Each shard applies the changes up to one. Callers begin at shards that stand apart: so two that bring the same changes
+    // share the shards among them, and seldom wait for each other.
     fn commit<G: Gate>(
         &self,
         base: u64,
@@ -82,7 +86,33 @@ impl<W: Indexed, R: Wait> Shared<W, R> {
         ensures seen { pass.new.seen ≡ pass.old.seen }
         ensures applied { OnOk result ((s : ℕ) → s < (settings_of self.now).shards → to ≤ least pass.new s) }
     {
-        'shards: for number in 0..self.shards {
+        let first = first_shard(pass.by(), self.shards);
+        self.commit_shards(first, self.shards, base, to, works, gate, pass)?;
+        self.commit_shards(0, first, base, to, works, gate, pass)
+    }
+
+    // The shards from one up to another apply the changes up to one.
+    fn commit_shards<G: Gate>(
+        &self,
+        from: u32,
+        until: u32,
+        base: u64,
+        to: u64,
+        works: &Vec<Option<Arc<W, Global>>>,
+        gate: &G,
+        pass: &mut Pass<W>,
+    ) -> Result<(), Memory>
+        requires of { IsPassOf self.now pass.old }
+        requires until { until ≤ (settings_of self.now).shards }
+        requires base { (base < to) × (base ≤ (state_of self.now pass.old.seen).published) }
+        requires done { to ≤ ready (state_of self.now pass.old.seen) }
+        requires works { HasWorksFrom self.now pass.old W.keys_in W.IsWorkOf base to works.now.items }
+        ensures of { IsPassOf self.now pass.new × IsSameCaller pass.old pass.new }
+        ensures seen { pass.new.seen ≡ pass.old.seen }
+        ensures more { (s : ℕ) → least pass.old s ≤ least pass.new s }
+        ensures applied { OnOk result ((s : ℕ) → from ≤ s → s < until → to ≤ least pass.new s) }
+    {
+        'shards: for number in from..until {
             self.commit_shard(number, base, to, works, pass)?;
             gate.after_shard(number);
         }
@@ -171,6 +201,15 @@ impl<W: Indexed, R: Wait> Shared<W, R> {
             }
         }
     }
+}
+
+// At which shard a caller begins. However many callers and shards there are, the first so many callers stand apart by about
+// equal parts of the shards.
+fn first_shard(caller: u32, shards: u32) -> u32
+    ensures { result ≤ shards }
+{
+    let place = u64::from(caller.wrapping_mul(GOLDEN)).saturating_mul(u64::from(shards)) >> 32;
+    place.min(u64::from(shards)) as u32
 }
 
 // The shard applies the next change, whose work this is.

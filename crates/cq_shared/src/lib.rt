@@ -24,7 +24,8 @@
 //! - `advance`, the board: an owner of each work that is to be applied, and a list of them. So this hold takes memory, and
 //!   is as long as the list. Then, shard by shard, a hold of the shard for each change: a look at each key of its work, an
 //!   entry for each that is the shard's, and the merging that this brings. Between two shards the gate is called, and
-//!   nothing is held. At last, the board again: the publication, which costs what cq_board says of it.
+//!   nothing is held. Each caller begins at a shard of its own and goes round, so that callers that bring the same changes
+//!   seldom meet. At last, the board again: the publication, which costs what cq_board says of it.
 //!
 //! Whoever enters a shard may bring it on by one change, by the rule of the cells. So no shard takes several changes as one
 //! run, as those of the plain hub do. Each shard looks at all keys of a work, since they aren't parted beforehand.
