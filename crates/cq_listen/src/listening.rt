@@ -72,14 +72,13 @@ fn serve_doors<
         (D.left doors.old) (D.left doors.new) result }
     ensures bound { D.bound doors.new ≡ D.bound doors.old }
 {
-    let mut own = own;
-    let doorway = serve_beside_workers(
+    let (doorway, own) = serve_beside_workers(
         rt,
         keyer,
         workers,
         bell,
         attendants,
-        &mut own,
+        own,
         &queue,
         Doorway {
             doors,

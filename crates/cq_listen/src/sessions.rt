@@ -82,18 +82,20 @@ fn hand_over<Q: Wait, C, A: Arrivals<C>>(rt: &Q, queue: &Queue<C>, arrivals: A) 
 fn serve_alone<Q: Wait, C, N: Attendant<C>, A: Arrivals<C>>(
     rt: &Q,
     keyer: &Keyer,
-    attendant: &mut N,
+    own: N,
     arrivals: A,
-) -> A
-    requires keyed { N.settings attendant.old ≡ keyer.now.settings }
+) -> (A, N)
+    requires keyed { N.settings own ≡ keyer.now.settings }
     requires since { A.Since arrivals arrivals }
-    ensures { A.Ended arrivals result }
+    ensures ended { A.Ended arrivals result.0 }
+    ensures own { N.settings result.1 ≡ N.settings own }
 {
+    let mut own = own;
     let mut arrivals = arrivals;
     'turns: for _ in rt.forever() {
         match arrivals.next() {
-            Some(connection) => attendant.attend(keyer, connection),
-            None => return arrivals,
+            Some(connection) => own.attend(keyer, connection),
+            None => return (arrivals, own),
         }
     }
     unreachable!()
@@ -104,23 +106,24 @@ fn serve_all<Q: Wait, C, N: Attendant<C>, A: Arrivals<C>>(
     rt: &Q,
     keyer: &Keyer,
     is_any: bool,
-    own: &mut N,
+    own: N,
     queue: &Queue<C>,
     arrivals: A,
-) -> A
-    requires keyed { N.settings own.old ≡ keyer.now.settings }
+) -> (A, N)
+    requires keyed { N.settings own ≡ keyer.now.settings }
     requires since { A.Since arrivals arrivals }
-    ensures { A.Ended arrivals result }
+    ensures ended { A.Ended arrivals result.0 }
+    ensures own { N.settings result.1 ≡ N.settings own }
 {
     if is_any {
-        hand_over(rt, queue, arrivals)
+        (hand_over(rt, queue, arrivals), own)
     } else {
         serve_alone(rt, keyer, own, arrivals)
     }
 }
 
 /// Serves what comes, by a thread for each attendant, while one can be made, or where there is none on this one, by an
-/// attendant of its own. All that came is served behind it, and no thread of a session is left.
+/// attendant of its own, which it gives back. All that came is served behind it, and no thread of a session is left.
 pub(crate) fn serve_arrivals<
     Q: Threads + Wait + Sync,
     C: Send,
@@ -130,22 +133,23 @@ pub(crate) fn serve_arrivals<
     rt: &Q,
     keyer: &Keyer,
     attendants: Vec<N>,
-    own: &mut N,
+    own: N,
     queue: &Queue<C>,
     arrivals: A,
-) -> A
+) -> (A, N)
     requires attendants { All (λ n. N.settings n ≡ keyer.now.settings) attendants.items }
-    requires own { N.settings own.old ≡ keyer.now.settings }
+    requires own { N.settings own ≡ keyer.now.settings }
     requires since { A.Since arrivals arrivals }
-    ensures { A.Ended arrivals result }
+    ensures ended { A.Ended arrivals result.0 }
+    ensures own { N.settings result.1 ≡ N.settings own }
 {
     thread::scope(
         thread::scope_env(),
         rt,
-        move |scope| -> A
+        move |scope| -> (A, N)
             requires { All (λ n. N.settings n ≡ keyer.now.settings) attendants.items
-                × (N.settings own.now ≡ keyer.now.settings) × A.Since arrivals arrivals }
-            ensures { A.Ended arrivals result }
+                × (N.settings own ≡ keyer.now.settings) × A.Since arrivals arrivals }
+            ensures { A.Ended arrivals result.0 × (N.settings result.1 ≡ N.settings own) }
         {
             let is_any = start_sessions(scope, rt, keyer, attendants, queue);
             let over = serve_all(rt, keyer, is_any, own, queue, arrivals);

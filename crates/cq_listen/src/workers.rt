@@ -56,24 +56,25 @@ pub(crate) fn serve_beside_workers<
     workers: Vec<M>,
     bell: &Bell,
     attendants: Vec<N>,
-    own: &mut N,
+    own: N,
     queue: &Queue<C>,
     arrivals: A,
-) -> A
+) -> (A, N)
     requires workers { All (λ m. M.settings m ≡ keyer.now.settings) workers.items }
     requires attendants { All (λ n. N.settings n ≡ keyer.now.settings) attendants.items }
-    requires own { N.settings own.old ≡ keyer.now.settings }
+    requires own { N.settings own ≡ keyer.now.settings }
     requires since { A.Since arrivals arrivals }
-    ensures { A.Ended arrivals result }
+    ensures ended { A.Ended arrivals result.0 }
+    ensures own { N.settings result.1 ≡ N.settings own }
 {
     thread::scope(
         thread::scope_env(),
         rt,
-        move |scope| -> A
+        move |scope| -> (A, N)
             requires { All (λ m. M.settings m ≡ keyer.now.settings) workers.items
                 × All (λ n. N.settings n ≡ keyer.now.settings) attendants.items
-                × (N.settings own.now ≡ keyer.now.settings) × A.Since arrivals arrivals }
-            ensures { A.Ended arrivals result }
+                × (N.settings own ≡ keyer.now.settings) × A.Since arrivals arrivals }
+            ensures { A.Ended arrivals result.0 × (N.settings result.1 ≡ N.settings own) }
         {
             start_workers(scope, rt, keyer, workers, bell);
             let over = serve_arrivals(rt, keyer, attendants, own, queue, arrivals);
