@@ -102,9 +102,8 @@ fn converse<L: Ledger, R: Wait, S: Source + Drop, K: Sink + Drop, G: Gate>(
     );
 }
 
-impl<'a, L: Ledger, R: Wait, S: Source + Drop, K: Sink + Drop, G: Gate>
-    Attendant<Connection<S, K>> for Seat<'a, L, R, G>
-{
+impl<'a, L: Ledger, R: Wait, S: Source + Drop, K: Sink + Drop, G: Gate> Attendant<Connection<S, K>>
+    for Seat<'a, L, R, G> {
     ghost settings = { λ s. s };
 
     fn attend(&mut self, keyer: &Keyer, connection: Connection<S, K>) {

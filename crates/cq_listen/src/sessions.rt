@@ -129,14 +129,7 @@ pub(crate) fn serve_arrivals<
     C: Send,
     N: Attendant<C> + Send + Drop,
     A: Arrivals<C> + Drop,
->(
-    rt: &Q,
-    keyer: &Keyer,
-    attendants: Vec<N>,
-    own: N,
-    queue: &Queue<C>,
-    arrivals: A,
-) -> (A, N)
+>(rt: &Q, keyer: &Keyer, attendants: Vec<N>, own: N, queue: &Queue<C>, arrivals: A) -> (A, N)
     requires attendants { All (λ n. N.settings n ≡ keyer.now.settings) attendants.items }
     requires own { N.settings own ≡ keyer.now.settings }
     requires since { A.Since arrivals arrivals }

@@ -2,10 +2,12 @@
 #![tactic(auto)]
 
 #[cfg(test)]
-mod doors;
+mod clients;
 #[cfg(test)]
 mod gates;
 #[cfg(test)]
 mod serving;
 #[cfg(test)]
 mod stage;
+#[cfg(test)]
+mod trials;

@@ -1,104 +1,91 @@
 use cq_base::Memory;
+use cq_log_doors::Log;
 use std::alloc::Global;
-use std::sync::{Condvar, Mutex, Wait};
+use std::sync::Wait;
+use std::sync::atomic::{AtomicBool, AtomicU64, Ordering};
+use std::thread;
+use std::time::{Clock, Duration};
+
+// Ten seconds at most, for what takes less than one.
+const TURNS: u32 = 10_000;
+
+const ROOM: usize = 4_096;
 
 /// What a trial waits for.
 #[derive(Clone, Copy, Debug, PartialEq, Eq)]
 pub enum Until {
     Now,
-    /// A byte was written to the connection with this number, from 0.
-    Answered(usize),
+    /// More than so many bytes, the second number, were written to a connection, the first one, from 0.
+    Told(usize, usize),
+    /// So many views were opened.
+    Opened(u64),
     /// A commit stands between two shards.
     Committing,
-}
-
-// What was written to each connection, and whether a commit has come so far.
-#[derive(Drop)]
-struct Scene {
-    written: Vec<Vec<u8>>,
-    is_committing: bool,
-}
-
-impl Scene {
-    fn has_come(&self, until: Until) -> bool {
-        match until {
-            Until::Now => true,
-            Until::Answered(number) => match self.written.get(number) {
-                Some(bytes) => !bytes.is_empty(),
-                None => false,
-            },
-            Until::Committing => self.is_committing,
-        }
-    }
-
-    fn write(&mut self, number: usize, piece: &[u8]) -> bool {
-        match self.written.get_mut(number) {
-            Some(bytes) => bytes.extend_from_slice(piece).is_ok(),
-            None => false,
-        }
-    }
 }
 
 /// What the connections and the gate of a trial share.
 #[derive(Drop)]
 pub struct Stage<'a, R> {
-    scene: Mutex<Scene>,
-    changed: Condvar,
+    pub log: Log<'a, R>,
+    opened: AtomicU64,
+    is_committing: AtomicBool,
+    is_late: AtomicBool,
     rt: &'a R,
 }
 
-impl<'a, R: Wait> Stage<'a, R> {
+impl<'a, R: Wait + Clock> Stage<'a, R> {
     /// Before so many connections.
     pub fn new(rt: &'a R, alloc: Global, connections: usize) -> Result<Stage<'a, R>, Memory> {
-        let mut written = Vec::new(alloc);
-        for _connection in 0..connections {
-            written.push(Vec::new(alloc))?;
-        }
         Ok(Stage {
-            scene: Mutex::new(Scene {
-                written,
-                is_committing: false,
-            }),
-            changed: Condvar::new(),
+            log: Log::new(rt, alloc, connections, ROOM)?,
+            opened: AtomicU64::new(0),
+            is_committing: AtomicBool::new(false),
+            is_late: AtomicBool::new(false),
             rt,
         })
     }
 
-    pub fn wait(&self, until: Until) {
-        let scene = self
-            .changed
-            .wait_while(self.rt, self.scene.lock(self.rt), |scene| {
-                !scene.has_come(until)
-            });
-        drop(scene);
+    fn has_come(&self, until: Until) -> bool {
+        match until {
+            Until::Now => true,
+            Until::Told(connection, bytes) => self.log.count(connection) > bytes,
+            Until::Opened(views) => self.opened() >= views,
+            Until::Committing => self.is_committing.load(Ordering::SeqCst),
+        }
     }
 
-    /// Adds to what was written to a connection, and says whether there was memory for it.
-    pub fn write(&self, number: usize, piece: &[u8]) -> bool {
-        let mut scene = self.scene.lock(self.rt);
-        let is_written = scene.write(number, piece);
-        drop(scene);
-        self.changed.notify_all();
-        is_written
+    /// Waits for it, for so many turns at most. Who waits in vain is told of.
+    pub fn wait(&self, until: Until) {
+        for _turn in 0..TURNS {
+            if self.has_come(until) {
+                return;
+            }
+            thread::sleep(self.rt, Duration::from_millis(1));
+        }
+        self.is_late.store(true, Ordering::SeqCst);
+    }
+
+    /// One more view was opened. It says how many were.
+    pub fn open(&self) -> u64 {
+        self.opened.fetch_add(1, Ordering::SeqCst).saturating_add(1)
+    }
+
+    pub fn opened(&self) -> u64 {
+        self.opened.load(Ordering::SeqCst)
     }
 
     /// A commit has come between two shards. It says whether that is the first time.
     pub fn commit(&self) -> bool {
-        let mut scene = self.scene.lock(self.rt);
-        let is_first = !scene.is_committing;
-        scene.is_committing = true;
-        drop(scene);
-        self.changed.notify_all();
-        is_first
+        !self.is_committing.swap(true, Ordering::SeqCst)
     }
 
-    /// What was written to each connection.
-    pub fn into_written(self) -> Vec<Vec<u8>> {
-        let Stage {
-            scene,
-            changed: _,
-            rt: _,
-        } = self;
-        scene.into_inner().written
+    /// Whether each connection was told its replies and no more, and nobody waited in vain.
+    pub fn are_told(&self, replies: &[&str]) -> bool {
+        for (number, reply) in replies.iter().enumerate() {
+            if !self.log.is_told(number, reply.as_bytes()) {
+                return false;
+            }
+        }
+        !self.is_late.load(Ordering::SeqCst)
     }
 }
