@@ -6,8 +6,8 @@ use std::sync::atomic::{AtomicBool, AtomicU64, Ordering};
 use std::thread;
 use std::time::{Clock, Duration};
 
-// Ten seconds at most, for what takes less than one.
-const TURNS: u32 = 10_000;
+// Half a minute at most, for what takes less than a second.
+const TURNS: u32 = 30_000;
 
 const ROOM: usize = 4_096;
 
