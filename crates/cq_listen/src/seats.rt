@@ -5,7 +5,7 @@ ghost use Rattle.cq_listen.specs.Seats.{IsNew};
 
 use crate::connection::Connection;
 use crate::sessions::Attendant;
-use cq_base::{Counters, Memory, Settings, Steps};
+use cq_base::{Counters, Memory, Settings};
 use cq_chain::Pass;
 use cq_io::{Gate, Sink, Source};
 use cq_key::Keyer;
@@ -18,17 +18,17 @@ use std::marker::Model;
 use std::sync::Wait;
 use std::sync::ledger::Ledger;
 
-/// What a thread of the sessions has of its own: a pass with no view open, a cutter and a counter. Contracts see it as the
+/// What a thread of the sessions has of its own: a pass with no view open, and a cutter. Contracts see it as the
 /// settings of its hub.
 #[derive(Drop)]
 pub(crate) struct Seat<'a, L: Ledger, R, G> {
     alloc: Global,
     settings: &'a Settings,
+    counters: &'a Counters<L>,
     hub: &'a Shared<Work<L>, R>,
     gate: &'a G,
     lines: Lines,
     pass: Pass<Work<L>>,
-    steps: Steps<L>,
 }
 
 impl<'a, L: Ledger, R, G> Model for Seat<'a, L, R, G> {
@@ -52,7 +52,7 @@ impl<'a, L: Ledger, R, G> Seat<'a, L, R, G> {
     pub(crate) fn new(
         alloc: Global,
         settings: &'a Settings,
-        counters: &Counters<L>,
+        counters: &'a Counters<L>,
         hub: &'a Shared<Work<L>, R>,
         gate: &'a G,
         pass: Pass<Work<L>>,
@@ -66,11 +66,11 @@ impl<'a, L: Ledger, R, G> Seat<'a, L, R, G> {
         Ok(Seat {
             alloc,
             settings,
+            counters,
             hub,
             gate,
             lines,
             pass,
-            steps: counters.counter(),
         })
     }
 }
@@ -87,6 +87,7 @@ fn converse<L: Ledger, R: Wait, S: Source + Drop, K: Sink + Drop, G: Gate>(
     let Connection { source, sink } = connection;
     let mut source = source;
     let mut sink = sink;
+    let mut steps = seat.counters.counter();
     seat.lines.restart();
     let _end = session(
         seat.alloc,
@@ -98,7 +99,7 @@ fn converse<L: Ledger, R: Wait, S: Source + Drop, K: Sink + Drop, G: Gate>(
         &mut source,
         &mut sink,
         seat.gate,
-        &mut seat.steps,
+        &mut steps,
     );
 }
 
@@ -115,7 +116,7 @@ impl<'a, L: Ledger, R: Wait, S: Source + Drop, K: Sink + Drop, G: Gate> Attendan
 pub(crate) fn seats_of<'a, L: Ledger, R, G>(
     alloc: Global,
     settings: &'a Settings,
-    counters: &Counters<L>,
+    counters: &'a Counters<L>,
     hub: &'a Shared<Work<L>, R>,
     gate: &'a G,
     pass: &mut Pass<Work<L>>,

@@ -1,4 +1,4 @@
-ghost use Rattle.std.specs.Prelude.{◌≤◌};
+ghost use Rattle.std.specs.Prelude.{◌≡◌, ◌≤◌};
 ghost use Rattle.cq_io.specs.Causes.{HasCause, Rose};
 
 use cq_io::Failed;
@@ -12,7 +12,9 @@ pub(crate) struct Calls {
 }
 
 impl Calls {
-    pub(crate) fn new(failing: Vec<u64>) -> Calls {
+    pub(crate) fn new(failing: Vec<u64>) -> Calls
+        ensures { result.faults ≡ 0 }
+    {
         Calls {
             failing,
             came: 0,
