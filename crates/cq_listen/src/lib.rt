@@ -17,3 +17,6 @@ mod sessions;
 mod workers;
 
 pub use listening::{Served, serve};
+
+#[cfg(test)]
+mod tests;
