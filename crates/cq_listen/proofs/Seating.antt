@@ -9,7 +9,7 @@ use Rattle.cq_history.specs.declared.event.Event.{Event}
 use Rattle.cq_history.specs.State.{state, view_of}
 use Rattle.cq_history.proofs.Bounds.{no_view}
 use Rattle.cq_shared.specs.declared.shared.Shared.{Shared}
-use Rattle.cq_shared.specs.SharedPasses.{IsPassOf, SharedStands, settings_of, callers_of, state_of}
+use Rattle.cq_shared.specs.SharedPasses.{IsPassOf, SharedStands, settings_of, callers_of}
 use Rattle.cq_talk.specs.Steps.{Leads}
 use Rattle.cq_listen.specs.Seats.{IsNew, IsSeated}
 
