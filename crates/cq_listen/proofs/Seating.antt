@@ -22,16 +22,11 @@ module _ (set : Settings) where
 pub rest_of : {N : Type 0} (settings : N → Settings) (set : Settings) (old rest : List N) (x : N) → old ≡ x ∷ rest → All (λ n. settings n ≡ set) old → All (λ n. settings n ≡ set) rest
 rest_of settings set old rest x same all = All-tail (λ n. settings n ≡ set) x rest (subst (All (λ n. settings n ≡ set)) same all)
 
-module _ {W R : Type 0} (hub : Shared W R) where
-  -- a pass that has seen nothing has no view open
-  pub seated_new : (set : Settings) (p : BoardPass) → IsInRange set → settings_of hub ≡ set → IsNew hub p → IsSeated set hub p
-  seated_new set p in_range same new = record {
-    in_range = in_range;
-    settings = same;
-    of = new.of;
-    closed = subst (λ (h : List Event). view_of (state (callers_of hub) h) (by_of p) ≡ None) (sym new.none) (no_view (callers_of hub) (by_of p));
-  }
+-- the room that a split leaves
+pub room_after : (p q : BoardPass) → q ≡ record p { next = p.next + 1; room = p.room - 1 } → q.room ≡ p.room - 1
+room_after p q same = ap (λ (z : BoardPass). z.room) same
 
+module _ {W R : Type 0} (hub : Shared W R) where
   -- it stands for what it has seen
   pub stands : (p : BoardPass) → IsPassOf hub p → SharedStands hub p (by_of p) p.seen
   stands p of = record { is = of; caller = refl; seen = refl }
@@ -45,9 +40,6 @@ module _ {W R : Type 0} (hub : Shared W R) where
     closed = subst₂ (λ (h : List Event) (n : ℕ). view_of (state (callers_of hub) h) n ≡ None) (sym lead.stands.seen) (sym lead.stands.caller) lead.closed;
   }
 
-  -- what a split leaves, and what it makes
+  -- what a split leaves
   pub new_after : (p q : BoardPass) → q ≡ record p { next = p.next + 1; room = p.room - 1 } → IsPassOf hub q → IsNew hub p → IsNew hub q
   new_after p q same of new = record { of = of; none = ap (λ (z : BoardPass). z.seen) same ∙ new.none }
-
-  pub new_child : (p q : BoardPass) → q ≡ record p { callers = p.next ∷ []; next = 0; room = 0; asked = 0 } → IsPassOf hub q → IsNew hub p → IsNew hub q
-  new_child p q child of new = record { of = of; none = ap (λ (z : BoardPass). z.seen) child ∙ new.none }

@@ -6,4 +6,5 @@ use Rattle.cq_io.specs.Causes.{Rose}
 -- and are: the count rose; or it is as before, and no connection is to come, where the doors tell it.
 abbrev pub HasEnded : ℕ → ℕ → Option ℕ → Option ℕ → Bool → Type 0
 HasEnded faults faults_now left left_now true = Rose faults faults_now
-HasEnded faults faults_now left left_now false = (faults_now ≡ faults) × IfSome left (λ _. left_now ≡ Some 0)
+HasEnded faults faults_now left left_now false =
+    (faults_now ≡ faults) × IfSome left (λ _. left_now ≡ Some 0)

@@ -15,8 +15,10 @@ pub(crate) trait Arrivals<C> {
     /// The next one; none where no more will come, and then it is not asked again.
     fn next(&mut self) -> Option<C>
         requires since { (first : Self) × Since first self.old }
-        ensures more { (first : Self) → Since first self.old → IfSome result (λ _. Since first self.new) }
-        ensures over { (first : Self) → Since first self.old → IfNone result (Ended first self.new) };
+        ensures more { (first : Self) → Since first self.old
+            → IfSome result (λ _. Since first self.new) }
+        ensures over { (first : Self) → Since first self.old
+            → IfNone result (Ended first self.new) };
 }
 
 /// Connections that come by doors, until a call of the doors fails.

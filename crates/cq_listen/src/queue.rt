@@ -51,7 +51,8 @@ impl<C> Waiting<C> {
 
     // Frees a place.
     fn pop(&mut self) -> Option<C>
-        ensures first { self.old.connections.items ≡ option_to_list result ++ self.new.connections.items }
+        ensures first { self.old.connections.items
+            ≡ option_to_list result ++ self.new.connections.items }
         ensures places { self.new.places ≡ self.old.places }
         ensures over { self.new.is_over ≡ self.old.is_over }
     {

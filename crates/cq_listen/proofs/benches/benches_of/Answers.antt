@@ -1,6 +1,5 @@
-use Rattle.std.proofs.Common.{arith, ap}
-use Rattle.cq_chain.specs.Passes.{BoardPass}
-use Rattle.cq_listen.proofs.Seating.{new_after, one_more_of}
+use Rattle.std.proofs.Common.{arith}
+use Rattle.cq_listen.proofs.Seating.{new_after, one_more_of, room_after}
 use Rattle.cq_listen.proofs.benches.benches_of.Goals as goal
 
 pub benches-preserved : goal.benches-preserved
@@ -8,7 +7,7 @@ benches-preserved g c =
     let i = c.benches.invariant in
     let split = c.split_pass-own.ensures in
     let below = c.benches-test.true in
-    let room = ap (λ (z : BoardPass). z.room) split.same in
+    let room = room_after c.benches.pass c.split_pass-own.new.pass split.same in
     let had = i.room in
     let most = c.requires.room in
     let len = c.in_ok-push.ensures.len in

@@ -1,6 +1,5 @@
-use Rattle.std.proofs.Common.{arith, ap}
-use Rattle.cq_chain.specs.Passes.{BoardPass}
-use Rattle.cq_listen.proofs.Seating.{new_after, one_more_of}
+use Rattle.std.proofs.Common.{arith}
+use Rattle.cq_listen.proofs.Seating.{new_after, one_more_of, room_after}
 use Rattle.cq_listen.proofs.seats.seats_of.Goals as goal
 
 pub seats-preserved : goal.seats-preserved
@@ -8,7 +7,7 @@ seats-preserved g c =
     let i = c.seats.invariant in
     let split = c.split_pass-own.ensures in
     let below = c.seats-test.true in
-    let room = ap (λ (z : BoardPass). z.room) split.same in
+    let room = room_after c.seats.pass c.split_pass-own.new.pass split.same in
     let had = i.room in
     let most = c.requires.room in
     let len = c.in_ok-push.ensures.len in
