@@ -7,7 +7,6 @@ use Rattle.cq_cells.specs.Passes.{by_of}
 use Rattle.cq_chain.specs.Passes.{BoardPass}
 use Rattle.cq_history.specs.declared.event.Event.{Event}
 use Rattle.cq_history.specs.State.{state, view_of}
-use Rattle.cq_history.proofs.Bounds.{no_view}
 use Rattle.cq_shared.specs.declared.shared.Shared.{Shared}
 use Rattle.cq_shared.specs.SharedPasses.{IsPassOf, SharedStands, settings_of, callers_of}
 use Rattle.cq_talk.specs.Steps.{Leads}
