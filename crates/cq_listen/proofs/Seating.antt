@@ -2,14 +2,12 @@
 use Rattle.std.proofs.Common.{◌≡◌, ◌+◌, ◌-◌, ℕ, List, [], ◌∷◌, ◌++◌, All, None, refl, sym, ap, subst, subst₂, ◌∙◌}
 use Rattle.std.proofs.lemmas.List.Elements.{All-push, All-tail}
 use Rattle.cq_base.specs.declared.settings.Settings.{Settings}
-use Rattle.cq_base.specs.Settings.{IsInRange}
 use Rattle.cq_cells.specs.Passes.{by_of}
 use Rattle.cq_chain.specs.Passes.{BoardPass}
 use Rattle.cq_history.specs.declared.event.Event.{Event}
 use Rattle.cq_history.specs.State.{state, view_of}
 use Rattle.cq_shared.specs.declared.shared.Shared.{Shared}
-use Rattle.cq_shared.specs.SharedPasses.{IsPassOf, SharedStands, settings_of, callers_of}
-use Rattle.cq_talk.specs.Steps.{Leads}
+use Rattle.cq_shared.specs.SharedPasses.{IsPassOf, SharedStands, callers_of}
 use Rattle.cq_listen.specs.Seats.{IsNew, IsSeated}
 
 module _ (set : Settings) where
@@ -31,12 +29,12 @@ module _ {W R : Type 0} (hub : Shared W R) where
   stands p of = record { is = of; caller = refl; seen = refl }
 
   -- a session leaves the seat as one
-  pub seated_behind : (set : Settings) (p q : BoardPass) (c : ℕ) (Holds : List Event → Type 0) → IsSeated set hub p → Leads SharedStands (callers_of hub) c hub q Holds → IsSeated set hub q
-  seated_behind set p q c Holds is lead = record {
+  pub seated_behind : (set : Settings) (p q : BoardPass) (c : ℕ) (h : List Event) → IsSeated set hub p → SharedStands hub q c h → view_of (state (callers_of hub) h) c ≡ None → IsSeated set hub q
+  seated_behind set p q c h is new closed = record {
     in_range = is.in_range;
     settings = is.settings;
-    of = lead.stands.is;
-    closed = subst₂ (λ (h : List Event) (n : ℕ). view_of (state (callers_of hub) h) n ≡ None) (sym lead.stands.seen) (sym lead.stands.caller) lead.closed;
+    of = new.is;
+    closed = subst₂ (λ (h : List Event) (n : ℕ). view_of (state (callers_of hub) h) n ≡ None) (sym new.seen) (sym new.caller) closed;
   }
 
   -- what a split leaves

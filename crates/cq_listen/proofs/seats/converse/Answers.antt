@@ -12,4 +12,5 @@ invariant_of-seat g c =
     let hub = c.seat.inside.hub.now in
     let p = c.seat.inside.pass in
     let is = c.seat.invariant in
-    seated_behind hub c.seat.inside.settings.now p c.session-end.new.pass (by_of p) _ is (c.session-end.ensures.served (by_of p) p.seen (stands hub p is.of) is.closed tt)
+    let lead = c.session-end.ensures.served (by_of p) p.seen (stands hub p is.of) is.closed tt in
+    seated_behind hub c.seat.inside.settings.now p c.session-end.new.pass (by_of p) lead.after is lead.stands lead.closed
