@@ -1,0 +1,120 @@
+ghost use Rattle.std.specs.Prelude.{◌≡◌, ◌+◌, ◌≤◌, vec_len, All, IfOk, OnOk};
+ghost use Rattle.cq_base.specs.Settings.{IsInRange};
+ghost use Rattle.cq_shared.specs.SharedPasses.{settings_of};
+ghost use Rattle.cq_listen.specs.Seats.{IsNew};
+
+use crate::workers::Worker;
+use cq_base::{Memory, Settings};
+use cq_chain::Pass;
+use cq_io::Gate;
+use cq_key::Keyer;
+use cq_serve::{Bell, work};
+use cq_shared::Shared;
+use cq_work::Work;
+use std::alloc::Global;
+use std::marker::Model;
+use std::sync::Wait;
+use std::sync::ledger::Ledger;
+
+/// What a worker's thread has of its own: a pass. Contracts see it as the settings of its hub.
+#[derive(Drop)]
+pub(crate) struct Bench<'a, L: Ledger, R, G> {
+    alloc: Global,
+    settings: &'a Settings,
+    hub: &'a Shared<Work<L>, R>,
+    gate: &'a G,
+    pass: Pass<Work<L>>,
+}
+
+impl<'a, L: Ledger, R, G> Model for Bench<'a, L, R, G> {
+    ghost use Rattle.cq_base.specs.declared.settings.Settings.{Settings as Told};
+    ghost use Rattle.cq_listen.specs.Seats.{IsSeated};
+
+    ghost Value = { Told };
+
+    ghost view = { λ b. b.settings.now };
+
+    ghost invariant = { λ b. IsSeated b.settings.now b.hub.now b.pass };
+}
+
+impl<'a, L: Ledger, R, G> Bench<'a, L, R, G> {
+    ghost use Rattle.std.specs.Prelude.{◌≡◌};
+    ghost use Rattle.cq_base.specs.Settings.{IsInRange};
+    ghost use Rattle.cq_shared.specs.SharedPasses.{settings_of};
+    ghost use Rattle.cq_listen.specs.Seats.{IsNew};
+
+    /// The bench of a pass that has seen nothing.
+    fn new(
+        alloc: Global,
+        settings: &'a Settings,
+        hub: &'a Shared<Work<L>, R>,
+        gate: &'a G,
+        pass: Pass<Work<L>>,
+    ) -> Self
+        requires in_range { IsInRange settings.now }
+        requires settings { settings_of hub.now ≡ settings.now }
+        requires new { IsNew hub.now pass }
+        ensures { result ≡ settings.now }
+    {
+        Bench {
+            alloc,
+            settings,
+            hub,
+            gate,
+            pass,
+        }
+    }
+}
+
+// Works on a bench until the bell's end. The keys are those of the keyer.
+fn work_at<Q: Wait, L: Ledger, R: Wait, G: Gate>(
+    rt: &Q,
+    keyer: &Keyer,
+    bench: Bench<'_, L, R, G>,
+    bell: &Bell,
+)
+    requires { bench ≡ keyer.now.settings }
+{
+    let Bench {
+        alloc,
+        settings,
+        hub,
+        gate,
+        pass,
+    } = bench;
+    let _pass = work(rt, alloc, settings, keyer, hub, pass, gate, bell);
+}
+
+impl<'a, L: Ledger, R: Wait, G: Gate> Worker for Bench<'a, L, R, G> {
+    ghost settings = { λ b. b };
+
+    fn work<Q: Wait>(self, rt: &Q, keyer: &Keyer, bell: &Bell) {
+        work_at(rt, keyer, self, bell);
+    }
+}
+
+/// So many benches, whose callers are the next ones of the pass.
+pub(crate) fn benches_of<'a, L: Ledger, R, G>(
+    alloc: Global,
+    settings: &'a Settings,
+    hub: &'a Shared<Work<L>, R>,
+    gate: &'a G,
+    pass: &mut Pass<Work<L>>,
+    number: u32,
+) -> Result<Vec<Bench<'a, L, R, G>>, Memory>
+    requires in_range { IsInRange settings.now }
+    requires settings { settings_of hub.now ≡ settings.now }
+    requires new { IsNew hub.now pass.old }
+    requires room { number ≤ pass.old.room }
+    ensures new { IsNew hub.now pass.new }
+    ensures room { OnOk result (pass.new.room + number ≡ pass.old.room) }
+    ensures number { IfOk result (λ benches. vec_len benches ≡ number) }
+    ensures settings { IfOk result (λ benches. All (λ bench. bench ≡ settings.now) benches.items) }
+{
+    let mut benches = Vec::with_capacity(alloc, number as usize)?;
+    'benches: for _bench in 0..number {
+        let own = hub.split_pass(pass);
+        benches.push(Bench::new(alloc, settings, hub, gate, own))?;
+    }
+    Ok(benches)
+}

@@ -1,0 +1,195 @@
+ghost use Rattle.std.specs.Prelude.{◌≡◌, ◌+◌, ◌≤◌, [], All, IsSome, IfOk, OnErr};
+ghost use Rattle.cq_base.specs.Settings.{IsInRange};
+ghost use Rattle.cq_shared.specs.SharedPasses.{SharedStands, settings_of};
+ghost use Rattle.cq_listen.specs.Endings.{HasEnded};
+
+use crate::benches::benches_of;
+use crate::connection::Connection;
+use crate::doorway::Doorway;
+use crate::queue::Queue;
+use crate::seats::{Seat, seats_of};
+use crate::sessions::Attendant;
+use crate::workers::{Worker, serve_beside_workers};
+use cq_base::{Counters, Memory, Settings};
+use cq_chain::Pass;
+use cq_io::{Doors, Gate, Sink, Source};
+use cq_key::{Keyer, plain_key};
+use cq_serve::{Bell, RingingGate};
+use cq_shared::Shared;
+use cq_work::Work;
+use std::alloc::Global;
+use std::sync::Wait;
+use std::sync::ledger::Ledger;
+use std::thread::Threads;
+
+/// How the serving of connections ended.
+#[derive(Clone, Copy, Debug, PartialEq, Eq)]
+pub struct Served {
+    /// A call of the doors failed. Where none did, no more connections will come.
+    pub failed: bool,
+}
+
+// Does nothing: by this use, the borrow checker ties the doors to the parameter that lent them.
+fn take_back<D>(doors: &mut D)
+    ensures { doors.new ≡ doors.old }
+{}
+
+// Serves what is left in a queue that no thread uses any more. Threads of sessions leave nothing there.
+fn serve_rest<C, N: Attendant<C> + Drop>(keyer: &Keyer, attendant: N, queue: Queue<C>)
+    requires { N.settings attendant ≡ keyer.now.settings }
+{
+    let mut attendant = attendant;
+    let mut rest = queue.into_waiting();
+    'rest: while let Some(connection) = rest.pop_front() {
+        attendant.attend(keyer, connection);
+    }
+    rest.destroy_empty();
+}
+
+// Serves what comes by the doors, and says whether a call of them failed.
+fn serve_doors<
+    Q: Threads + Wait + Sync,
+    S: Source + Send,
+    K: Sink + Send,
+    D: Doors<In = S, Out = K>,
+    M: Worker + Send + Drop,
+    N: Attendant<Connection<S, K>> + Send + Drop,
+>(
+    rt: &Q,
+    keyer: &Keyer,
+    workers: Vec<M>,
+    bell: &Bell,
+    attendants: Vec<N>,
+    own: N,
+    queue: Queue<Connection<S, K>>,
+    doors: &mut D,
+) -> bool
+    requires workers { All (λ m. M.settings m ≡ keyer.now.settings) workers.items }
+    requires attendants { All (λ n. N.settings n ≡ keyer.now.settings) attendants.items }
+    requires own { N.settings own ≡ keyer.now.settings }
+    requires bound { IsSome (D.bound doors.old) }
+    ensures ended { HasEnded (D.faults doors.old) (D.faults doors.new)
+        (D.left doors.old) (D.left doors.new) result }
+    ensures bound { D.bound doors.new ≡ D.bound doors.old }
+{
+    let (doorway, own) = serve_beside_workers(
+        rt,
+        keyer,
+        workers,
+        bell,
+        attendants,
+        own,
+        &queue,
+        Doorway {
+            doors,
+            failed: false,
+        },
+    );
+    let Doorway { doors, failed } = doorway;
+    take_back(doors);
+    serve_rest(keyer, own, queue);
+    failed
+}
+
+// The same with a keyer, before any other memory is taken.
+fn serve_keyed<
+    Q: Threads + Wait + Sync,
+    L: Ledger + Send + Sync,
+    R: Wait + Sync,
+    S: Source + Send + Drop,
+    K: Sink + Send + Drop,
+    D: Doors<In = S, Out = K>,
+    G: Gate + Sync,
+>(
+    rt: &Q,
+    alloc: Global,
+    settings: &Settings,
+    keyer: &Keyer,
+    counters: &Counters<L>,
+    hub: &Shared<Work<L>, R>,
+    pass: Pass<Work<L>>,
+    doors: &mut D,
+    gate: &G,
+    workers: u32,
+    sessions: u32,
+) -> Result<Served, Memory>
+    requires in_range { IsInRange settings.now }
+    requires keyed { keyer.now.settings ≡ settings.now }
+    requires settings { settings_of hub.now ≡ settings.now }
+    requires new { SharedStands hub.now pass 0 [] }
+    requires room { workers + sessions ≤ pass.room }
+    requires bound { IsSome (D.bound doors.old) }
+    ensures ended { IfOk result (λ served. HasEnded (D.faults doors.old) (D.faults doors.new)
+        (D.left doors.old) (D.left doors.new) served.failed) }
+    ensures refused { OnErr result (doors.new ≡ doors.old) }
+    ensures bound { D.bound doors.new ≡ D.bound doors.old }
+{
+    let mut pass = pass;
+    let bell = Bell::new();
+    let ringing = RingingGate {
+        gate,
+        bell: &bell,
+        rt,
+    };
+    let benches = benches_of(alloc, settings, hub, gate, &mut pass, workers)?;
+    let seats = seats_of(
+        alloc, settings, counters, hub, &ringing, &mut pass, sessions,
+    )?;
+    let own = Seat::new(alloc, settings, counters, hub, &ringing, pass)?;
+    let queue: Queue<Connection<S, K>> = Queue::new(alloc, sessions)?;
+    let failed = serve_doors(rt, keyer, benches, &bell, seats, own, queue, doors);
+    Ok(Served { failed })
+}
+
+/// Serves the connections that the doors give, each by a session over the hub, until no more will come or a call of the doors
+/// fails: then no further door is asked for, and the connections that came before are served to their ends. So many threads
+/// run the sessions, each one at a time, and so many workers make the works of accepted changes beside them. A connection's
+/// own fault ends its session alone. The gate is told what `session` and the workers' turns tell it, from their threads.
+///
+/// The calling thread alone asks the doors. It hands each connection over by a queue with as many places as there are
+/// sessions, and asks for the next one only where a place is free. So a client that sends nothing, or half a line, or never
+/// reads, keeps one thread, and nobody else. Where no thread can be made for a session, the calling thread serves each
+/// connection itself before it asks for the next one; a worker for which none can be made doesn't work.
+///
+/// Each worker, each thread of the sessions and the calling thread has a caller of the hub: the pass makes them, and is the
+/// calling thread's then. `Memory` comes before the first door alone, and the doors are as before then: it is taken for a
+/// cutter for each session and for the calling thread, for a keyer, and for the queue.
+pub fn serve<
+    Q: Threads + Wait + Sync,
+    L: Ledger + Send + Sync,
+    R: Wait + Sync,
+    S: Source + Send + Drop,
+    K: Sink + Send + Drop,
+    D: Doors<In = S, Out = K>,
+    G: Gate + Sync,
+>(
+    rt: &Q,
+    alloc: Global,
+    settings: &Settings,
+    counters: &Counters<L>,
+    hub: &Shared<Work<L>, R>,
+    pass: Pass<Work<L>>,
+    doors: &mut D,
+    gate: &G,
+    workers: u32,
+    sessions: u32,
+) -> Result<Served, Memory>
+    requires in_range { IsInRange settings.now }
+    requires settings { settings_of hub.now ≡ settings.now }
+    requires new { SharedStands hub.now pass 0 [] }
+    requires room { workers + sessions ≤ pass.room }
+    requires bound { IsSome (D.bound doors.old) }
+    requires sessions { (1 ≤ sessions) × (sessions ≤ 64) }
+    requires workers { workers ≤ 64 }
+    ensures ended { IfOk result (λ served. HasEnded (D.faults doors.old) (D.faults doors.new)
+        (D.left doors.old) (D.left doors.new) served.failed) }
+    ensures refused { OnErr result (doors.new ≡ doors.old) }
+    ensures bound { D.bound doors.new ≡ D.bound doors.old }
+{
+    let of = *settings;
+    let key = Box::new(alloc, move |codes: &[u64]| plain_key(&of, codes))?;
+    let keyer = Keyer::new(settings, key);
+    serve_keyed(
+        rt, alloc, settings, &keyer, counters, hub, pass, doors, gate, workers, sessions,
+    )
+}

@@ -1,0 +1,140 @@
+ghost use Rattle.std.specs.Prelude.{◌≡◌, ◌+◌, ◌≤◌, vec_len, All, IfOk, OnOk};
+ghost use Rattle.cq_base.specs.Settings.{IsInRange};
+ghost use Rattle.cq_shared.specs.SharedPasses.{settings_of};
+ghost use Rattle.cq_listen.specs.Seats.{IsNew};
+
+use crate::connection::Connection;
+use crate::sessions::Attendant;
+use cq_base::{Counters, Memory, Settings};
+use cq_chain::Pass;
+use cq_io::{Gate, Sink, Source};
+use cq_key::Keyer;
+use cq_lines::Lines;
+use cq_session::session;
+use cq_shared::Shared;
+use cq_work::Work;
+use std::alloc::Global;
+use std::marker::Model;
+use std::sync::Wait;
+use std::sync::ledger::Ledger;
+
+/// What a thread of the sessions has of its own: a pass with no view open, and a cutter. Contracts see it as the
+/// settings of its hub.
+#[derive(Drop)]
+pub(crate) struct Seat<'a, L: Ledger, R, G> {
+    alloc: Global,
+    settings: &'a Settings,
+    counters: &'a Counters<L>,
+    hub: &'a Shared<Work<L>, R>,
+    gate: &'a G,
+    lines: Lines,
+    pass: Pass<Work<L>>,
+}
+
+impl<'a, L: Ledger, R, G> Model for Seat<'a, L, R, G> {
+    ghost use Rattle.cq_base.specs.declared.settings.Settings.{Settings as Told};
+    ghost use Rattle.cq_listen.specs.Seats.{IsSeated};
+
+    ghost Value = { Told };
+
+    ghost view = { λ s. s.settings.now };
+
+    ghost invariant = { λ s. IsSeated s.settings.now s.hub.now s.pass };
+}
+
+impl<'a, L: Ledger, R, G> Seat<'a, L, R, G> {
+    ghost use Rattle.std.specs.Prelude.{◌≡◌, IfOk};
+    ghost use Rattle.cq_base.specs.Settings.{IsInRange};
+    ghost use Rattle.cq_shared.specs.SharedPasses.{settings_of};
+    ghost use Rattle.cq_listen.specs.Seats.{IsNew};
+
+    /// The seat of a pass that has seen nothing. It takes memory for its cutter.
+    pub(crate) fn new(
+        alloc: Global,
+        settings: &'a Settings,
+        counters: &'a Counters<L>,
+        hub: &'a Shared<Work<L>, R>,
+        gate: &'a G,
+        pass: Pass<Work<L>>,
+    ) -> Result<Self, Memory>
+        requires in_range { IsInRange settings.now }
+        requires settings { settings_of hub.now ≡ settings.now }
+        requires new { IsNew hub.now pass }
+        ensures { IfOk result (λ seat. seat ≡ settings.now) }
+    {
+        let lines = Lines::new(alloc, settings.byte_limit)?;
+        Ok(Seat {
+            alloc,
+            settings,
+            counters,
+            hub,
+            gate,
+            lines,
+            pass,
+        })
+    }
+}
+
+// Serves a connection to its end, by a session on a seat. The keys are those of the keyer.
+fn converse<L: Ledger, R: Wait, S: Source + Drop, K: Sink + Drop, G: Gate>(
+    keyer: &Keyer,
+    seat: &mut Seat<'_, L, R, G>,
+    connection: Connection<S, K>,
+)
+    requires { seat.old ≡ keyer.now.settings }
+    ensures { seat.new ≡ seat.old }
+{
+    let Connection { source, sink } = connection;
+    let mut source = source;
+    let mut sink = sink;
+    let mut steps = seat.counters.counter();
+    seat.lines.restart();
+    let _end = session(
+        seat.alloc,
+        seat.settings,
+        keyer,
+        seat.hub,
+        &mut seat.pass,
+        &mut seat.lines,
+        &mut source,
+        &mut sink,
+        seat.gate,
+        &mut steps,
+    );
+}
+
+impl<'a, L: Ledger, R: Wait, S: Source + Drop, K: Sink + Drop, G: Gate> Attendant<Connection<S, K>>
+    for Seat<'a, L, R, G> {
+    ghost settings = { λ s. s };
+
+    fn attend(&mut self, keyer: &Keyer, connection: Connection<S, K>) {
+        converse(keyer, self, connection);
+    }
+}
+
+/// So many seats, whose callers are the next ones of the pass.
+pub(crate) fn seats_of<'a, L: Ledger, R, G>(
+    alloc: Global,
+    settings: &'a Settings,
+    counters: &'a Counters<L>,
+    hub: &'a Shared<Work<L>, R>,
+    gate: &'a G,
+    pass: &mut Pass<Work<L>>,
+    number: u32,
+) -> Result<Vec<Seat<'a, L, R, G>>, Memory>
+    requires in_range { IsInRange settings.now }
+    requires settings { settings_of hub.now ≡ settings.now }
+    requires new { IsNew hub.now pass.old }
+    requires room { number ≤ pass.old.room }
+    ensures new { IsNew hub.now pass.new }
+    ensures room { OnOk result (pass.new.room + number ≡ pass.old.room) }
+    ensures number { IfOk result (λ seats. vec_len seats ≡ number) }
+    ensures settings { IfOk result (λ seats. All (λ seat. seat ≡ settings.now) seats.items) }
+{
+    let mut seats = Vec::with_capacity(alloc, number as usize)?;
+    'seats: for _seat in 0..number {
+        let own = hub.split_pass(pass);
+        seats.push(Seat::new(alloc, settings, counters, hub, gate, own)?)?;
+    }
+    Ok(seats)
+}
