@@ -81,7 +81,8 @@ pub(crate) fn listen<
     requires workers { asked.workers ≤ 64 }
     requires sessions { (1 ≤ asked.sessions) × (asked.sessions ≤ 64) }
     ensures others { (result ≢ 1) × (result ≢ 2) × (result ≢ 3) × (result ≢ 6) }
-    ensures memory { result ≡ 4 → (D.faults doors.new ≡ D.faults doors.old) × (D.left doors.new ≡ D.left doors.old) }
+    ensures memory { result ≡ 4 → (D.faults doors.new ≡ D.faults doors.old)
+        × (D.left doors.new ≡ D.left doors.old) }
     ensures doors_fault { result ≡ 5 → Rose (D.faults doors.old) (D.faults doors.new) }
     ensures finished { result ≡ 0 → D.faults doors.new ≡ D.faults doors.old }
     ensures listens { HasListened asked.address

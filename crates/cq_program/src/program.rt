@@ -182,11 +182,13 @@ pub fn top<
 ) -> u8
     // 1 exactly where the words are out of form, and nothing is read, written or asked then.
     ensures words { (result ≡ 1) ↔ (command_of words.now ≡ None) }
-    ensures refused { result ≡ 1 → (source.new ≡ source.old) × (sink.new ≡ sink.old) × (doors.new ≡ doors.old) }
+    ensures refused { result ≡ 1 → (source.new ≡ source.old) × (sink.new ≡ sink.old)
+        × (doors.new ≡ doors.old) }
 
     // 4 for want of memory before a line is read or a connection is taken.
     ensures memory { result ≡ 4 → (source.new ≡ source.old) × (sink.new ≡ sink.old) }
-    ensures unasked { result ≡ 4 → (D.faults doors.new ≡ D.faults doors.old) × (D.left doors.new ≡ D.left doors.old) }
+    ensures unasked { result ≡ 4 → (D.faults doors.new ≡ D.faults doors.old)
+        × (D.left doors.new ≡ D.left doors.old) }
 
     // 2, 3 and 5 only where the count of faults of that end rose; with 0 and 6 none rose.
     ensures read_fault { result ≡ 2 → Rose (S.faults source.old) (S.faults source.new) }
@@ -202,7 +204,8 @@ pub fn top<
     ensures closed { connections_of words.now ≡ None → doors.new ≡ doors.old }
     ensures aside { (asked : Listen) → command_of words.now ≡ Some (command.Listen asked)
         → (source.new ≡ source.old) × (sink.new ≡ sink.old) }
-    ensures listens { ListensFor words.now (D.bound doors.new) (D.left doors.old) (D.left doors.new) result }
+    ensures listens { ListensFor words.now (D.bound doors.new)
+        (D.left doors.old) (D.left doors.new) result }
 
     // Every status of `run` but 4 is that of a session over all lines of the source: alone where there is no worker, and
     // else with workers beside it.
