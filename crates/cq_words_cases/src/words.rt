@@ -362,8 +362,20 @@ fn connections_of(alloc: Global, all: &[&str]) -> Result<Option<u32>, Fail> {
 #[test]
 fn connections_are_told_of_listen_alone(rt: HostRuntime) -> Result<(), Fail> {
     let alloc = rt.alloc();
-    let greatest = Some(4_294_967_295);
-    assert_eq!(rt; connections_of(alloc, &["listen", "a"])?, greatest);
+    let words = [
+        "listen",
+        "mem",
+        "--chunk",
+        "2",
+        "--workers",
+        "0",
+        "--sessions",
+        "1",
+    ];
+    assert_eq!(rt;
+        connections_of(alloc, words.as_slice())?,
+        Some(4_294_967_295)
+    );
     let two = ["listen", "--connections=2", "a"];
     assert_eq!(rt; connections_of(alloc, &two)?, Some(2));
     let none: [&[&str]; 6] = [
