@@ -2,7 +2,6 @@ use cq_base::{Memory, Text};
 use cq_io::{Doors, Failed, Sink, Source};
 use cq_sockets::TcpDoors;
 use std::alloc::Global;
-use std::io;
 use std::io::{Read, Write};
 use std::net::{Net, TcpListener, TcpStream};
 use std::test::Fail;
@@ -45,6 +44,21 @@ fn clients_are_let_in_until_no_more_may_come(rt: HostRuntime) -> Result<(), Fail
     assert_eq!(rt; back, *b"a reply\n");
     drop(client);
     assert_eq!(rt; read_once(&mut source, &mut out), Ok(0));
+    assert!(rt; matches!(doors.next_door(), Ok(None)));
+    Ok(())
+}
+
+#[test]
+fn an_address_that_is_none_or_taken_is_a_fault(rt: HostRuntime) -> Result<(), Fail> {
+    let alloc = rt.alloc();
+    let mut doors = TcpDoors::new(&rt, 0);
+    assert_eq!(rt; doors.bind(text(alloc, "mem")?), Err(Failed));
+    let other = TcpListener::bind(&rt, "127.0.0.1:0")?;
+    let port = other.local_addr()?.port();
+    let taken = format!(in alloc; "127.0.0.1:{port}")?;
+    assert_eq!(rt; doors.bind(text(alloc, &taken)?), Err(Failed));
+    drop(other);
+    assert_eq!(rt; doors.bind(text(alloc, &taken)?), Ok(()));
     assert!(rt; matches!(doors.next_door(), Ok(None)));
     Ok(())
 }
