@@ -1,5 +1,5 @@
 -- What the top call does, by its status.
-use Rattle.std.specs.Prelude.{◌≡◌, ◌≢◌, ◌==◌, ℕ, MatchBool, List, [], map, Option, Some, Result, Ok, Err}
+use Rattle.std.specs.Prelude.{◌≡◌, ◌≢◌, ◌==◌, ◌||◌, ℕ, Bool, true, MatchBool, List, [], map, Option, Some, IfSome, Result, Ok, Err}
 use Rattle.cq_base.specs.declared.settings.Settings.{Settings}
 use Rattle.cq_beside.specs.Replies.{AreBeside}
 use Rattle.cq_drive.specs.Script.{IsScript}
@@ -22,6 +22,7 @@ use Rattle.cq_talk.specs.Beside.{IsBeside, nothing_known}
 use Rattle.cq_talk.specs.Said.{said}
 use Rattle.cq_words.specs.Command.{command_of, default_settings}
 use Rattle.cq_words.specs.declared.command.Command.TheVariants as command
+use Rattle.cq_words.specs.declared.command.Listen.{Listen}
 use Rattle.cq_words.specs.declared.command.Make.{Make}
 use Rattle.cq_words.specs.declared.command.Run.{Run}
 
@@ -116,3 +117,18 @@ module _ {K : Type 0} (onto : sink.Ghosts K) where
   -- where the words ask for it
   abbrev pub MakesFor : List (List ℕ) → K → K → ℕ → Type 0
   MakesFor words written written_now status = (asked : Make) → command_of words ≡ Some (command.Make asked) → MakesLine asked written written_now status
+
+-- ---- connections
+
+-- the statuses of `listen`: no more connections will come, memory was refused before the first, a call of the doors failed
+abbrev pub is_listen_status : ℕ → Bool
+is_listen_status status = status == 0 || (status == 4 || status == 5)
+
+-- With 0 the doors are bound to the address, and no connection is still to come, where they tell it.
+abbrev pub HasListened : List ℕ → Option (List ℕ) → Option ℕ → Option ℕ → ℕ → Type 0
+HasListened address bound_now left left_now status =
+    (is_listen_status status ≡ true) × (status ≡ 0 → (bound_now ≡ Some address) × IfSome left (λ _. left_now ≡ Some 0))
+
+-- where the words ask for it
+abbrev pub ListensFor : List (List ℕ) → Option (List ℕ) → Option ℕ → Option ℕ → ℕ → Type 0
+ListensFor words bound_now left left_now status = (asked : Listen) → command_of words ≡ Some (command.Listen asked) → HasListened asked.address bound_now left left_now status

@@ -2,6 +2,7 @@
 //! handed. `cqd` calls it with the real ones, and `cqd_cases` with ends in memory.
 #![tactic(auto)]
 
+mod clients;
 mod program;
 mod status;
 mod workers;

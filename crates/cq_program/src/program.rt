@@ -1,11 +1,13 @@
 ghost use Rattle.std.specs.Prelude.{◌≡◌, ◌≢◌, ◌↔◌, ◌≤◌, None, Some};
 ghost use Rattle.cq_base.specs.Settings.{IsInRange};
 ghost use Rattle.cq_io.specs.Causes.{Rose};
-ghost use Rattle.cq_program.specs.Top.{Drives, DrivesFor, MakesFor, MakesLine, Runs, RunsAsked, RunsFor};
-ghost use Rattle.cq_words.specs.Command.{command_of};
+ghost use Rattle.cq_program.specs.Top.{Drives, DrivesFor, ListensFor, MakesFor, MakesLine, Runs, RunsAsked, RunsFor};
+ghost use Rattle.cq_words.specs.Command.{command_of, connections_of};
 ghost use Rattle.cq_words.specs.declared.command.Command.TheVariants as command;
+ghost use Rattle.cq_words.specs.declared.command.Listen.{Listen};
 ghost use Rattle.cq_words.specs.declared.command.Make.{Make};
 
+use crate::clients::listen;
 use crate::status::status_of;
 use crate::workers::serve_with_workers;
 use cq_base::{Memory, Settings, Steps, Text};
@@ -34,7 +36,7 @@ fn serve<S: Source, K: Sink, G: Gate, L: Ledger>(
     steps: &mut Steps<L>,
 ) -> u8
     requires in_range { IsInRange settings.now }
-    ensures words { result ≢ 1 }
+    ensures others { (result ≢ 1) × (result ≢ 5) }
     ensures memory { result ≡ 4 → (source.new ≡ source.old) × (sink.new ≡ sink.old) }
     ensures read_fault { result ≡ 2 → Rose (S.faults source.old) (S.faults source.new) }
     ensures write_fault { result ≡ 3 → Rose (K.faults sink.old) (K.faults sink.new) }
@@ -78,7 +80,7 @@ fn run_with<Q: Threads + Wait + Sync, S: Source, K: Sink, G: Gate + Sync, L: Led
 ) -> u8
     requires in_range { IsInRange asked.settings }
     requires few { asked.workers ≤ 64 }
-    ensures words { result ≢ 1 }
+    ensures others { (result ≢ 1) × (result ≢ 5) }
     ensures memory { result ≡ 4 → (source.new ≡ source.old) × (sink.new ≡ sink.old) }
     ensures read_fault { result ≡ 2 → Rose (S.faults source.old) (S.faults source.new) }
     ensures write_fault { result ≡ 3 → Rose (K.faults sink.old) (K.faults sink.new) }
@@ -105,7 +107,7 @@ fn driven<S: Source, K: Sink, L: Ledger>(
     steps: &mut Steps<L>,
 ) -> u8
     requires in_range { IsInRange settings.now }
-    ensures words { result ≢ 1 }
+    ensures others { (result ≢ 1) × (result ≢ 5) }
     ensures memory { result ≡ 4 → (source.new ≡ source.old) × (sink.new ≡ sink.old) }
     ensures read_fault { result ≡ 2 → Rose (S.faults source.old) (S.faults source.new) }
     ensures write_fault { result ≡ 3 → Rose (K.faults sink.old) (K.faults sink.new) }
@@ -132,7 +134,7 @@ fn driven<S: Source, K: Sink, L: Ledger>(
 // Makes a project and writes its line, and answers the status.
 fn made<K: Sink, L: Ledger>(alloc: Global, asked: Make, sink: &mut K, steps: &mut Steps<L>) -> u8
     requires few { asked.files ≤ 10000 }
-    ensures words { result ≢ 1 }
+    ensures others { (result ≢ 1) × (result ≢ 5) }
     ensures read_fault { result ≢ 2 }
     ensures spent { result ≢ 6 }
     ensures memory { result ≡ 4 → sink.new ≡ sink.old }
@@ -155,14 +157,17 @@ fn made<K: Sink, L: Ledger>(alloc: Global, asked: Make, sink: &mut K, steps: &mu
 }
 
 /// The whole program: what the words ask for, over these ends. Its answer is the status with which the process is to
-/// end. `run` answers the lines of the source into the sink; `drive` steps a core by them, and writes their outcomes;
-/// `make` writes one line. Threads are started for the workers of `run` alone, and each is joined before this returns; the
-/// gate is then called from them too.
+/// end. `run` answers the lines of the source into the sink; `listen` the lines of each connection into it; `drive` steps a
+/// core by the lines of the source, and writes their outcomes; `make` writes one line. Threads are started for the workers of
+/// `run` and `listen` and for the sessions of `listen` alone, and each is joined before this returns; the gate is then called
+/// from them too. The reads of the sessions of `listen` are counted on a ledger of their own.
 pub fn top<
     Q: Threads + Wait + Sync,
     S: Source,
     K: Sink,
-    D: Doors,
+    I: Source + Send + Drop,
+    O: Sink + Send + Drop,
+    D: Doors<In = I, Out = O>,
     G: Gate + Sync,
     L: Ledger + Send + Sync,
 >(
@@ -175,23 +180,32 @@ pub fn top<
     gate: &G,
     steps: &mut Steps<L>,
 ) -> u8
-    // 1 exactly where the words are out of form, and nothing is read or written then.
+    // 1 exactly where the words are out of form, and nothing is read, written or asked then.
     ensures words { (result ≡ 1) ↔ (command_of words.now ≡ None) }
-    ensures refused { result ≡ 1 → (source.new ≡ source.old) × (sink.new ≡ sink.old) }
+    ensures refused { result ≡ 1 → (source.new ≡ source.old) × (sink.new ≡ sink.old)
+        × (doors.new ≡ doors.old) }
 
-    // 4 for want of memory before a line is read.
+    // 4 for want of memory before a line is read or a connection is taken.
     ensures memory { result ≡ 4 → (source.new ≡ source.old) × (sink.new ≡ sink.old) }
+    ensures unasked { result ≡ 4 → (D.faults doors.new ≡ D.faults doors.old)
+        × (D.left doors.new ≡ D.left doors.old) }
 
-    // 2 and 3 only where the count of faults of that end rose; with 0 and 6 none rose.
+    // 2, 3 and 5 only where the count of faults of that end rose; with 0 and 6 none rose.
     ensures read_fault { result ≡ 2 → Rose (S.faults source.old) (S.faults source.new) }
     ensures write_fault { result ≡ 3 → Rose (K.faults sink.old) (K.faults sink.new) }
+    ensures doors_fault { result ≡ 5 → Rose (D.faults doors.old) (D.faults doors.new) }
     ensures finished { result ≡ 0 → (S.faults source.new ≡ S.faults source.old)
-        × (K.faults sink.new ≡ K.faults sink.old) }
+        × (K.faults sink.new ≡ K.faults sink.old) × (D.faults doors.new ≡ D.faults doors.old) }
     ensures spent { result ≡ 6 → (S.faults source.new ≡ S.faults source.old)
-        × (K.faults sink.new ≡ K.faults sink.old) }
+        × (K.faults sink.new ≡ K.faults sink.old) × (D.faults doors.new ≡ D.faults doors.old) }
 
-    // No door is asked for.
-    ensures doors { doors.new ≡ doors.old }
+    // The doors are for `listen` alone, and the source and the sink are for the others. With 0 the doors of `listen` are bound
+    // to the address, and no connection is still to come, where they tell it.
+    ensures closed { connections_of words.now ≡ None → doors.new ≡ doors.old }
+    ensures aside { (asked : Listen) → command_of words.now ≡ Some (command.Listen asked)
+        → (source.new ≡ source.old) × (sink.new ≡ sink.old) }
+    ensures listens { ListensFor words.now (D.bound doors.new)
+        (D.left doors.old) (D.left doors.new) result }
 
     // Every status of `run` but 4 is that of a session over all lines of the source: alone where there is no worker, and
     // else with workers beside it.
@@ -210,6 +224,7 @@ pub fn top<
     }
     match read_command(alloc, words) {
         Ok(Some(Command::Run(run))) => run_with(rt, alloc, run, source, sink, gate, steps),
+        Ok(Some(Command::Listen(asked))) => listen(rt, alloc, asked, doors, gate),
         Ok(Some(Command::Drive(settings))) => driven(alloc, &settings, source, sink, steps),
         Ok(Some(Command::Make(asked))) => made(alloc, asked, sink, steps),
         Ok(None) => unreachable!(),

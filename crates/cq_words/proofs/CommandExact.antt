@@ -9,7 +9,7 @@ use Rattle.clap.specs.Faults.{fault_of}
 use Rattle.clap.specs.Words.{is_simple_and_free}
 use Rattle.clap.proofs.OnLiterals.{clap_on_literals}
 use Rattle.cq_words.specs.Asked.{is_asked, asked_app, command_read, settings_read, when}
-use Rattle.cq_words.specs.Command.{command_after, command_from, make_made, run_made, settings_from, settings_made}
+use Rattle.cq_words.specs.Command.{command_after, command_from, listen_made, make_made, run_made, settings_from, settings_made}
 use Rattle.cq_words.specs.Grammar.{Word, Row, Item, are_whole, has_name, items_from, items_of}
 use Rattle.cq_words.specs.Table.{flag_name, param_name, row_of, verb_name}
 use Rattle.cq_words.specs.declared.command.Command.TheVariants as command
@@ -22,31 +22,36 @@ use Rattle.cq_words.specs.declared.table.Verb.TheVariants as verb
 use Rattle.cq_words.proofs.Rules.{Places, rules_of}
 use Rattle.cq_words.proofs.Exact.{answers_asked, built_app, none_in_form}
 use Rattle.cq_words.proofs.Matching.{ArePlain, entries_of}
-use Rattle.cq_words.proofs.Values.{AreBare, AreBareIfSome, flag_is, items_bare, number_is}
+use Rattle.cq_words.proofs.Values.{Each, EachIfSome, IsBare, IsValued, address_is, flag_is, items_bare, items_valued, number_is}
 
 built_is : (v : Verb) → built (asked_app v) ≡ built_app (verb_name v) (row_of v)
 unfolding clap_on_literals
 built_is verb.Run = refl
+built_is verb.Listen = refl
 built_is verb.Drive = refl
 built_is verb.Make = refl
 
 is_bare : (v : Verb) → (asked_app v).top.no_binary_name ≡ true
 is_bare verb.Run = refl
+is_bare verb.Listen = refl
 is_bare verb.Drive = refl
 is_bare verb.Make = refl
 
 pub is_simple : (v : Verb) → is_simple_and_free (asked_app v) ≡ true
 is_simple verb.Run = refl
+is_simple verb.Listen = refl
 is_simple verb.Drive = refl
 is_simple verb.Make = refl
 
 places : (v : Verb) → Places (rules_of (row_of v)) 1 (row_of v).positionals
 places verb.Run = refl
+places verb.Listen = (refl, refl, refl)
 places verb.Drive = refl
 places verb.Make = (refl, refl, (refl, refl, refl))
 
 are_plain : (v : Verb) → ArePlain (row_of v) (row_of v).positionals
 are_plain verb.Run = tt
+are_plain verb.Listen = (refl, tt)
 are_plain verb.Drive = tt
 are_plain verb.Make = (refl, (refl, tt))
 
@@ -59,25 +64,39 @@ other_name param.ChangeLimit = refl
 other_name param.TextLimit = refl
 other_name param.ByteLimit = refl
 other_name param.Workers = refl
+other_name param.ListenWorkers = refl
+other_name param.Sessions = refl
+other_name param.Connections = refl
+other_name param.Address = refl
 other_name param.Number = refl
 other_name param.Files = refl
+
+no_flag : (v : Verb) → has_name (row_of v).flags (param_name param.Address) ≡ false
+no_flag verb.Run = refl
+no_flag verb.Listen = refl
+no_flag verb.Drive = refl
+no_flag verb.Make = refl
 
 no_option : (v : Verb) (f : Flag) → has_name (row_of v).options (flag_name f) ≡ false
 no_option verb.Run flag.IgnoreIds = refl
 no_option verb.Run flag.IgnoreLiterals = refl
+no_option verb.Listen flag.IgnoreIds = refl
+no_option verb.Listen flag.IgnoreLiterals = refl
 no_option verb.Drive flag.IgnoreIds = refl
 no_option verb.Drive flag.IgnoreLiterals = refl
 no_option verb.Make f = refl
 
 no_place : (v : Verb) (f : Flag) → has_name (row_of v).positionals (flag_name f) ≡ false
 no_place verb.Run f = refl
+no_place verb.Listen flag.IgnoreIds = refl
+no_place verb.Listen flag.IgnoreLiterals = refl
 no_place verb.Drive f = refl
 no_place verb.Make flag.IgnoreIds = refl
 no_place verb.Make flag.IgnoreLiterals = refl
 
 -- the values, from the entries and from the items
 abbrev AreAllBare : List Item → Type 0
-AreAllBare items = (f : Flag) → AreBare (flag_name f) items
+AreAllBare items = (f : Flag) → Each (IsBare (flag_name f)) items
 
 settings_are : (row : Row) (items : List Item) → ((p : Param) → has_name row.flags (param_name p) ≡ false) → ((f : Flag) → has_name row.flags (flag_name f) ≡ true) → AreAllBare items
     → settings_read (entries_of row items) ≡ settings_from items
@@ -95,32 +114,38 @@ known_flag : (f : Flag) → has_name (map flag_name (flag.IgnoreIds ∷ flag.Ign
 known_flag flag.IgnoreIds = refl
 known_flag flag.IgnoreLiterals = refl
 
-values_are : (v : Verb) (items : List Item) → AreAllBare items → command_read v (entries_of (row_of v) items) ≡ command_from v items
-values_are verb.Run items bare = λ i. option_map command.Run
+values_are : (v : Verb) (items : List Item) → AreAllBare items → Each (IsValued (param_name param.Address)) items → command_read v (entries_of (row_of v) items) ≡ command_from v items
+values_are verb.Run items bare valued = λ i. option_map command.Run
     (run_made (settings_are (row_of verb.Run) items other_name known_flag bare i) (number_is (row_of verb.Run) items param.Workers refl i))
-values_are verb.Drive items bare = λ i. option_map command.Drive (settings_are (row_of verb.Drive) items other_name known_flag bare i)
-values_are verb.Make items bare = λ i. option_map command.Make
+values_are verb.Listen items bare valued = λ i. option_map command.Listen (listen_made
+    (settings_are (row_of verb.Listen) items other_name known_flag bare i)
+    (address_is (row_of verb.Listen) items refl valued i)
+    (number_is (row_of verb.Listen) items param.ListenWorkers refl i)
+    (number_is (row_of verb.Listen) items param.Sessions refl i)
+    (number_is (row_of verb.Listen) items param.Connections refl i))
+values_are verb.Drive items bare valued = λ i. option_map command.Drive (settings_are (row_of verb.Drive) items other_name known_flag bare i)
+values_are verb.Make items bare valued = λ i. option_map command.Make
     (make_made (number_is (row_of verb.Make) items param.Number refl i) (number_is (row_of verb.Make) items param.Files refl i))
 
-bare_items : (row : Row) (x : Option (List Item)) (name : Word) → AreBareIfSome name x → AreBareIfSome name (option_and_then (λ items. cond (are_whole row items) (Some items) None) x)
-bare_items row None name bare = tt
-bare_items row (Some items) name bare = go (are_whole row items)
+each_item : (row : Row) (x : Option (List Item)) (P : Item → Type 0) → EachIfSome P x → EachIfSome P (option_and_then (λ items. cond (are_whole row items) (Some items) None) x)
+each_item row None P each = tt
+each_item row (Some items) P each = go (are_whole row items)
   where
-    go : (b : Bool) → AreBareIfSome name (cond b (Some items) None)
-    go true = bare
+    go : (b : Bool) → EachIfSome P (cond b (Some items) None)
+    go true = each
     go false = tt
 
-bare_in_form : (row : Row) (words : List Word) (name : Word) → AreBareIfSome name (items_from row words row.positionals None) → AreBareIfSome name (items_of row words)
-bare_in_form row words name bare = go (list_all is_utf8 words)
+each_in_form : (row : Row) (words : List Word) (P : Item → Type 0) → EachIfSome P (items_from row words row.positionals None) → EachIfSome P (items_of row words)
+each_in_form row words P each = go (list_all is_utf8 words)
   where
-    go : (b : Bool) → AreBareIfSome name (cond b (option_and_then (λ items. cond (are_whole row items) (Some items) None) (items_from row words row.positionals None)) None)
-    go true = bare_items row (items_from row words row.positionals None) name bare
+    go : (b : Bool) → EachIfSome P (cond b (option_and_then (λ items. cond (are_whole row items) (Some items) None) (items_from row words row.positionals None)) None)
+    go true = each_item row (items_from row words row.positionals None) P each
     go false = tt
 
-read_both : (v : Verb) (x : Option (List Item)) → ((f : Flag) → AreBareIfSome (flag_name f) x)
+read_both : (v : Verb) (x : Option (List Item)) → ((f : Flag) → EachIfSome (IsBare (flag_name f)) x) → EachIfSome (IsValued (param_name param.Address)) x
     → option_and_then (command_read v) (option_map (entries_of (row_of v)) x) ≡ option_and_then (command_from v) x
-read_both v None bare = refl
-read_both v (Some items) bare = values_are v items bare
+read_both v None bare valued = refl
+read_both v (Some items) bare valued = values_are v items bare valued
 
 pub refused : (v : Verb) (words : List Word) → list_all is_asked words ≡ false → command_after v words ≡ None
 refused v words h = ap (option_and_then (command_from v)) (none_in_form (row_of v) words h)
@@ -132,4 +157,5 @@ answered v a handed words entries app h same e =
     ap (option_and_then (command_read v)) (e ∙ (λ i. when (fault_of (app i) (same i)) (Some (matches_of (app i) (same i))))
     ∙ answers_asked (verb_name v) (row_of v) (asked_app v) (built_is v) (is_bare v) (places v) (are_plain v) words h)
     ∙ read_both v (items_of (row_of v) words)
-    (λ f. bare_in_form (row_of v) words (flag_name f) (items_bare (row_of v) (flag_name f) (no_option v f) words (row_of v).positionals None (no_place v f) tt))
+    (λ f. each_in_form (row_of v) words (IsBare (flag_name f)) (items_bare (row_of v) (flag_name f) (no_option v f) words (row_of v).positionals None (no_place v f) tt))
+    (each_in_form (row_of v) words (IsValued (param_name param.Address)) (items_valued (row_of v) (param_name param.Address) (no_flag v) words (row_of v).positionals None))

@@ -7,11 +7,12 @@ use Rattle.std.proofs.lemmas.List.Sums.{passes_at_first, fails_before_first}
 use Rattle.std.specs.Prelude.{◌&&◌, ◌⊎◌, is_some, option_map, option_and_then, unwrap_or, if◌then◌else◌}
 use Rattle.std.specs.Str.{bytes_eq, is_utf8}
 use Rattle.std.proofs.lemmas.Bool.{or_parts}
-use Rattle.cq_words.specs.Front.{is_plain, read_in, IsFront, IsFrontOf}
+use Rattle.cq_words.specs.Front.{are_places_given, is_plain, read_in, IsFront, IsFrontOf}
 use Rattle.cq_words.specs.declared.form.Left.{Left}
 use Rattle.cq_words.specs.declared.form.Front.{Front}
-use Rattle.cq_words.specs.Command.{settings_made, run_made, make_made, settings_from, command_from, command_after}
-use Rattle.cq_words.specs.Table.{row_of, options_of, positionals_of, param_name, range_of, number_or, number_from, has_flag}
+use Rattle.cq_base.specs.declared.settings.Settings.{Settings}
+use Rattle.cq_words.specs.Command.{settings_made, run_made, listen_made, make_made, settings_from, command_from, command_after}
+use Rattle.cq_words.specs.Table.{row_of, options_of, param_name, range_of, number_or, number_from, address_or, address_from, has_flag}
 use Rattle.cq_words.specs.declared.command.Command.{Command}
 use Rattle.cq_words.specs.declared.command.Command.TheVariants as command
 use Rattle.cq_words.specs.declared.table.Verb.{Verb}
@@ -136,6 +137,26 @@ no_last true true true true false f = refl
 no_last true true true true true true = refl
 no_last true true true true true false = refl
 
+place_last : (place w s k : Bool) → (place && (w && (s && k))) ≡ ((w && (s && (k && true))) && place)
+place_last true false s k = refl
+place_last true true false k = refl
+place_last true true true false = refl
+place_last true true true true = refl
+place_last false false s k = refl
+place_last false true false k = refl
+place_last false true true false = refl
+place_last false true true true = refl
+
+last_three : (a b c d e f place w s k : Bool) → ((a && (b && (c && (d && (e && f))))) && (place && (w && (s && k))))
+    ≡ ((a && (b && (c && (d && (e && (f && (w && (s && (k && true))))))))) && place)
+last_three false b c d e f place w s k = refl
+last_three true false c d e f place w s k = refl
+last_three true true false d e f place w s k = refl
+last_three true true true false e f place w s k = refl
+last_three true true true true false f place w s k = refl
+last_three true true true true true false place w s k = refl
+last_three true true true true true true place w s k = place_last place w s k
+
 abbrev pub is_there : List Item → Param → Bool
 is_there items p = is_some (number_from p items)
 
@@ -145,19 +166,29 @@ settings_there items = settings_some (number_from param.Chunk items) (number_fro
     (number_from param.ChangeLimit items) (number_from param.TextLimit items) (number_from param.ByteLimit items)
     (has_flag flag.IgnoreIds items) (has_flag flag.IgnoreLiterals items)
 
--- a command's numbers are there just where the command is
-pub all_there : (v : Verb) (items : List Item) → (list_all (is_there items) (options_of v) && list_all (is_there items) (positionals_of v)) ≡ is_some (command_from v items)
+listen_some : (settings : Option Settings) (address : Option Word) (workers sessions connections : Option ℕ) → is_some (listen_made settings address workers sessions connections)
+    ≡ (is_some settings && (is_some address && (is_some workers && (is_some sessions && is_some connections))))
+listen_some settings address workers sessions connections =
+    and_then_some _ settings _ (λ a. and_then_some _ address _ (λ b. and_then_some _ workers _ (λ c. and_then_some _ sessions _ (λ d. map_some _ connections))))
+
+-- a command's numbers and its address are there just where the command is
+pub all_there : (v : Verb) (items : List Item) → (list_all (is_there items) (options_of v) && are_places_given v items) ≡ is_some (command_from v items)
 all_there verb.Run items = sym (map_some command.Run (run_made (settings_from items) (number_from param.Workers items))
     ∙ and_then_some _ (settings_from items) _ (λ s. map_some _ (number_from param.Workers items))
     ∙ ap (λ b. b && is_there items param.Workers) (settings_there items)
     ∙ last_one (is_there items param.Chunk) (is_there items param.Shards) (is_there items param.KeyBits) (is_there items param.ChangeLimit) (is_there items param.TextLimit) (is_there items param.ByteLimit) (is_there items param.Workers))
+all_there verb.Listen items = sym (map_some command.Listen (listen_made (settings_from items) (address_from items) (number_from param.ListenWorkers items) (number_from param.Sessions items) (number_from param.Connections items))
+    ∙ listen_some (settings_from items) (address_from items) (number_from param.ListenWorkers items) (number_from param.Sessions items) (number_from param.Connections items)
+    ∙ ap (λ b. b && (is_some (address_from items) && (is_there items param.ListenWorkers && (is_there items param.Sessions && is_there items param.Connections)))) (settings_there items)
+    ∙ last_three (is_there items param.Chunk) (is_there items param.Shards) (is_there items param.KeyBits) (is_there items param.ChangeLimit) (is_there items param.TextLimit) (is_there items param.ByteLimit)
+    (is_some (address_from items)) (is_there items param.ListenWorkers) (is_there items param.Sessions) (is_there items param.Connections))
 all_there verb.Drive items = sym (map_some command.Drive (settings_from items) ∙ settings_there items
     ∙ no_last (is_there items param.Chunk) (is_there items param.Shards) (is_there items param.KeyBits) (is_there items param.ChangeLimit) (is_there items param.TextLimit) (is_there items param.ByteLimit))
 all_there verb.Make items = sym (map_some command.Make (make_made (number_from param.Number items) (number_from param.Files items))
     ∙ and_then_some _ (number_from param.Number items) _ (λ n. map_some _ (number_from param.Files items))
     ∙ ap (λ b. is_there items param.Number && b) (sym (and_all (is_there items param.Files))))
 
--- a positional's number is there only where its item is
+-- a positional's value is there only where its item is
 item_missing : (name : Word) (items : List Item) → has_item items name ≡ false → item_of name items ≡ None
 item_missing name [] none = refl
 item_missing name (item ∷ items) none =
@@ -168,6 +199,18 @@ item_missing name (item ∷ items) none =
 placed : (v : Verb) (items : List Item) → cond (list_all (has_item items) (row_of v).positionals) (command_from v items) None ≡ command_from v items
 placed verb.Run items = refl
 placed verb.Drive items = refl
+placed verb.Listen items = there (has_item items (param_name param.Address)) refl
+  where
+    from_parts : Option Settings → Option Word → Option Command
+    from_parts settings address = option_map command.Listen (listen_made settings address (number_from param.ListenWorkers items) (number_from param.Sessions items) (number_from param.Connections items))
+
+    no_address : (settings : Option Settings) → from_parts settings None ≡ None
+    no_address None = refl
+    no_address (Some s) = refl
+
+    there : (a : Bool) → has_item items (param_name param.Address) ≡ a → cond (a && true) (command_from verb.Listen items) None ≡ command_from verb.Listen items
+    there true address = refl
+    there false address = sym (ap (λ x. from_parts (settings_from items) (address_or x)) (item_missing (param_name param.Address) items address) ∙ no_address (settings_from items))
 placed verb.Make items = first (has_item items (param_name param.Number)) (has_item items (param_name param.Files)) refl refl
   where
     both : Option ℕ → Option ℕ → Option Command

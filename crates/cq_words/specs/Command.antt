@@ -1,14 +1,15 @@
 -- What the words of the command line ask for.
-use Rattle.std.specs.Prelude.{ℕ, ◌≤◌, Bool, false, List, [], ◌∷◌, Option, None, option_and_then, option_map}
+use Rattle.std.specs.Prelude.{ℕ, ◌≤◌, Bool, false, List, [], ◌∷◌, Option, Some, None, option_and_then, option_map}
 use Rattle.cq_base.specs.Settings.{IsInRange}
 use Rattle.cq_base.specs.declared.settings.Settings.{Settings}
 use Rattle.cq_words.specs.Grammar.{Word, Item, items_of}
-use Rattle.cq_words.specs.Table.{row_of, verb_named, number_from, has_flag, default_of}
+use Rattle.cq_words.specs.Table.{row_of, verb_named, number_from, address_from, has_flag, default_of}
 use Rattle.cq_words.specs.declared.table.Verb.{Verb}
 use Rattle.cq_words.specs.declared.table.Verb.TheVariants as verb
 use Rattle.cq_words.specs.declared.table.Param.TheVariants as param
 use Rattle.cq_words.specs.declared.table.Flag.TheVariants as flag
 use Rattle.cq_words.specs.declared.command.Run.{Run}
+use Rattle.cq_words.specs.declared.command.Listen.{Listen}
 use Rattle.cq_words.specs.declared.command.Make.{Make}
 use Rattle.cq_words.specs.declared.command.Command.{Command}
 use Rattle.cq_words.specs.declared.command.Command.TheVariants as command
@@ -30,6 +31,17 @@ settings_made chunk shards key_bits change_limit text_limit byte_limit ignore_id
 
 abbrev pub run_made : Option Settings → Option ℕ → Option Run
 run_made settings workers = option_and_then (λ settings. option_map (λ workers. record { settings = settings; workers = workers }) workers) settings
+
+abbrev pub listen_made : Option Settings → Option Word → Option ℕ → Option ℕ → Option ℕ → Option Listen
+listen_made settings address workers sessions connections =
+    option_and_then (λ settings. option_and_then (λ address. option_and_then (λ workers.
+    option_and_then (λ sessions. option_map (λ connections. record {
+      settings = settings;
+      address = address;
+      workers = workers;
+      sessions = sessions;
+      connections = connections;
+    }) connections) sessions) workers) address) settings
 
 abbrev pub make_made : Option ℕ → Option ℕ → Option Make
 make_made number files = option_and_then (λ number. option_map (λ files. record { number = number; files = files }) files) number
@@ -61,6 +73,12 @@ default_settings = record {
 -- what the items of a command give
 abbrev pub command_from : Verb → List Item → Option Command
 command_from verb.Run items = option_map command.Run (run_made (settings_from items) (number_from param.Workers items))
+command_from verb.Listen items = option_map command.Listen (listen_made
+    (settings_from items)
+    (address_from items)
+    (number_from param.ListenWorkers items)
+    (number_from param.Sessions items)
+    (number_from param.Connections items))
 command_from verb.Drive items = option_map command.Drive (settings_from items)
 command_from verb.Make items = option_map command.Make (make_made (number_from param.Number items) (number_from param.Files items))
 
@@ -73,8 +91,19 @@ abbrev pub command_of : List Word → Option Command
 command_of [] = None
 command_of (word ∷ words) = option_and_then (λ v. command_after v words) (verb_named word)
 
--- the settings are in their ranges, and workers and files are few
+-- after how many connections the doors are to end, where the command is `listen`
+abbrev pub connections_in : Command → Option ℕ
+connections_in (command.Run run) = None
+connections_in (command.Listen listen) = Some listen.connections
+connections_in (command.Drive settings) = None
+connections_in (command.Make make) = None
+
+abbrev pub connections_of : List Word → Option ℕ
+connections_of words = option_and_then connections_in (command_of words)
+
+-- the settings are in their ranges, workers, sessions and files are few, and there is a session
 abbrev pub HasRanges : Command → Type 0
 HasRanges (command.Run run) = IsInRange run.settings × (run.workers ≤ 64)
+HasRanges (command.Listen listen) = IsInRange listen.settings × (listen.workers ≤ 64) × (1 ≤ listen.sessions) × (listen.sessions ≤ 64)
 HasRanges (command.Drive settings) = IsInRange settings
 HasRanges (command.Make make) = make.files ≤ 10000

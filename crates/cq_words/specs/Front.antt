@@ -1,7 +1,10 @@
 -- The item at the front of words, as it is read without memory.
 use Rattle.std.specs.Prelude.{◌≡◌, ◌<◌, ◌≤◌, Bool, true, false, List, [], length, drop, Option, Some, None, option_map, unwrap_or, is_some}
+use Rattle.std.specs.List.{list_all}
 use Rattle.cq_words.specs.Grammar.{Word, Item, Look, named, dashed, plain, with_item, items_from, named_read, positional_read, word_read}
-use Rattle.cq_words.specs.Table.{row_of, number_or, range_of}
+use Rattle.cq_words.specs.Table.{row_of, positionals_of, number_or, number_from, address_or, address_from, range_of}
+use Rattle.cq_words.specs.declared.table.Verb.{Verb}
+use Rattle.cq_words.specs.declared.table.Verb.TheVariants as verb
 use Rattle.cq_words.specs.declared.table.Param.{Param}
 use Rattle.cq_words.specs.declared.form.Look.{Look as Seen}
 use Rattle.cq_words.specs.declared.form.Look.TheVariants as seen
@@ -56,3 +59,14 @@ items_in l = unwrap_or (read_in l None) []
 -- the value of an item is a number in its range
 abbrev pub is_within : Param → Option Word → Bool
 is_within p value = is_some (number_or (range_of p) (Some ([], value)))
+
+-- the value of an item is an address
+abbrev pub is_address : Option Word → Bool
+is_address value = is_some (address_or (Some ([], value)))
+
+-- the positionals are there: the address of `listen`, and numbers in their ranges
+abbrev pub are_places_given : Verb → List Item → Bool
+are_places_given verb.Listen items = is_some (address_from items)
+are_places_given verb.Run items = list_all (λ p. is_some (number_from p items)) (positionals_of verb.Run)
+are_places_given verb.Drive items = list_all (λ p. is_some (number_from p items)) (positionals_of verb.Drive)
+are_places_given verb.Make items = list_all (λ p. is_some (number_from p items)) (positionals_of verb.Make)

@@ -1,5 +1,5 @@
--- What each command takes: its options, flags and positionals, and the ranges of their numbers.
-use Rattle.std.specs.Prelude.{ℕ, Bool, List, [], ◌∷◌, map, Option, Some, None, if◌then◌else◌, option_and_then, unwrap_or, codes}
+-- What each command takes: its options, flags and positionals, and the ranges of their numbers and of an address's bytes.
+use Rattle.std.specs.Prelude.{◌&&◌, ℕ, Bool, List, [], ◌∷◌, length, map, nat_le, Option, Some, None, if◌then◌else◌, option_and_then, unwrap_or, codes}
 use Rattle.std.specs.Str.{bytes_eq}
 use Rattle.cq_words.specs.Grammar.{Word, Row, Item, item_of, has_item}
 use Rattle.cq_words.specs.Numbers.{number_within}
@@ -13,6 +13,7 @@ use Rattle.cq_words.specs.declared.table.Range.{Range}
 
 abbrev pub verb_name : Verb → Word
 verb_name verb.Run = codes "run"
+verb_name verb.Listen = codes "listen"
 verb_name verb.Drive = codes "drive"
 verb_name verb.Make = codes "make"
 
@@ -20,22 +21,28 @@ verb_name verb.Make = codes "make"
 abbrev pub verb_named : Word → Option Verb
 verb_named word =
     if bytes_eq word (codes "run") then Some verb.Run
+    else (if bytes_eq word (codes "listen") then Some verb.Listen
     else (if bytes_eq word (codes "drive") then Some verb.Drive
     else (if bytes_eq word (codes "make") then Some verb.Make
-    else None))
+    else None)))
 
 abbrev pub options_of : Verb → List Param
 options_of verb.Run = param.Chunk ∷ param.Shards ∷ param.KeyBits ∷ param.ChangeLimit ∷ param.TextLimit ∷ param.ByteLimit ∷ param.Workers ∷ []
+options_of verb.Listen =
+    param.Chunk ∷ param.Shards ∷ param.KeyBits ∷ param.ChangeLimit ∷ param.TextLimit ∷ param.ByteLimit
+    ∷ param.ListenWorkers ∷ param.Sessions ∷ param.Connections ∷ []
 options_of verb.Drive = param.Chunk ∷ param.Shards ∷ param.KeyBits ∷ param.ChangeLimit ∷ param.TextLimit ∷ param.ByteLimit ∷ []
 options_of verb.Make = []
 
 abbrev pub flags_of : Verb → List Flag
 flags_of verb.Run = flag.IgnoreIds ∷ flag.IgnoreLiterals ∷ []
+flags_of verb.Listen = flag.IgnoreIds ∷ flag.IgnoreLiterals ∷ []
 flags_of verb.Drive = flag.IgnoreIds ∷ flag.IgnoreLiterals ∷ []
 flags_of verb.Make = []
 
 abbrev pub positionals_of : Verb → List Param
 positionals_of verb.Run = []
+positionals_of verb.Listen = param.Address ∷ []
 positionals_of verb.Drive = []
 positionals_of verb.Make = param.Number ∷ param.Files ∷ []
 
@@ -47,6 +54,10 @@ param_name param.ChangeLimit = codes "change-limit"
 param_name param.TextLimit = codes "text-limit"
 param_name param.ByteLimit = codes "byte-limit"
 param_name param.Workers = codes "workers"
+param_name param.ListenWorkers = codes "workers"
+param_name param.Sessions = codes "sessions"
+param_name param.Connections = codes "connections"
+param_name param.Address = codes "address"
 param_name param.Number = codes "number"
 param_name param.Files = codes "files"
 
@@ -69,6 +80,10 @@ range_of param.ChangeLimit = option_range 1 262144 262144
 range_of param.TextLimit = option_range 1 67108864 33554432
 range_of param.ByteLimit = option_range 1 1152921504606846976 1152921504606846976
 range_of param.Workers = option_range 0 64 0
+range_of param.ListenWorkers = option_range 0 64 4
+range_of param.Sessions = option_range 1 64 8
+range_of param.Connections = option_range 1 4294967295 4294967295
+range_of param.Address = positional_range 1 255
 range_of param.Number = positional_range 0 9999999999999999999
 range_of param.Files = positional_range 0 10000
 
@@ -83,6 +98,17 @@ number_or range (Some item) = option_and_then (number_within range.low range.hig
 
 abbrev pub number_from : Param → List Item → Option ℕ
 number_from p items = number_or (range_of p) (item_of (param_name p) items)
+
+-- a text of so many bytes
+abbrev pub text_within : ℕ → ℕ → Word → Option Word
+text_within low high word = if nat_le low (length word) && nat_le (length word) high then Some word else None
+
+abbrev pub address_or : Option Item → Option Word
+address_or None = None
+address_or (Some item) = option_and_then (text_within (range_of param.Address).low (range_of param.Address).high) item.1
+
+abbrev pub address_from : List Item → Option Word
+address_from items = address_or (item_of (param_name param.Address) items)
 
 abbrev pub has_flag : Flag → List Item → Bool
 has_flag f items = has_item items (flag_name f)

@@ -1,4 +1,4 @@
-use cq_base::Settings;
+use cq_base::{Settings, Text};
 
 /// What the words of `run` give.
 #[derive(Clone, Copy, Debug, PartialEq, Eq)]
@@ -6,6 +6,20 @@ pub struct Run {
     pub settings: Settings,
     /// Threads that do the work of uploads, beside the session, 0 to 64.
     pub workers: u32,
+}
+
+/// What the words of `listen` give.
+#[derive(Debug, Drop, PartialEq, Eq)]
+pub struct Listen {
+    pub settings: Settings,
+    /// Where to listen, of 1 to 255 bytes. It is not read here.
+    pub address: Text,
+    /// Threads that do the work of uploads, beside the sessions, 0 to 64.
+    pub workers: u32,
+    /// Threads that serve a connection each, 1 to 64.
+    pub sessions: u32,
+    /// Connections after which the doors end, at least 1.
+    pub connections: u32,
 }
 
 /// What the words of `make` give.
@@ -18,10 +32,12 @@ pub struct Make {
 }
 
 /// What words in form ask for.
-#[derive(Clone, Copy, Debug, PartialEq, Eq)]
+#[derive(Debug, Drop, PartialEq, Eq)]
 pub enum Command {
     /// A session over the lines of the input.
     Run(Run),
+    /// A session over the lines of each connection to an address.
+    Listen(Listen),
     /// The core, stepped by the lines of the input.
     Drive(Settings),
     /// A project that is made, put and listed; no input is read.

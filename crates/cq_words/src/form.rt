@@ -7,7 +7,7 @@ ghost use Rattle.cq_words.specs.Grammar as grammar;
 ghost use Rattle.cq_words.specs.Command.{command_after, command_from, command_of};
 ghost use Rattle.cq_words.specs.Table as table;
 
-use crate::numbers::number_within;
+use crate::numbers::{is_count_within, number_within};
 use crate::table::{
     Flag, Param, Verb, flag_name, flags_of, options_of, param_name, positionals_of, range_of,
     verb_named,
@@ -258,23 +258,55 @@ fn is_within(value: Option<&[u8]>, param: Param) -> bool
     }
 }
 
+fn is_address(value: Option<&[u8]>) -> bool
+    ensures { result ≡ spec.is_address (option_map (λ v. v.now) value.entry) }
+{
+    let range = range_of(Param::Address);
+    match value {
+        Some(value) => is_count_within(range.low, range.high, value),
+        None => false,
+    }
+}
+
+// The first item of this name.
+fn item_named<'a>(all: Left<'a>, name: &[u8]) -> Option<Front<'a>>
+    requires { is_some (read_in all None) ≡ true }
+    ensures { option_map spec.item_in result ≡ grammar.item_of name.now (items_in all.entry) }
+{
+    let mut left = all;
+    'items: while !left.words.is_empty() {
+        let Some(front) = front_of(left) else {
+            return None;
+        };
+        if front.name == name {
+            return Some(front);
+        }
+        left = front.left;
+    }
+    None
+}
+
 // Whether the number of this name lies in its range, or may be left out and is.
 fn is_given(all: Left<'_>, param: Param) -> bool
     requires { is_some (read_in all None) ≡ true }
     ensures { result ≡ is_some (table.number_from param (items_in all.entry)) }
 {
     let name = param_name(param).as_bytes();
-    let mut left = all;
-    'items: while !left.words.is_empty() {
-        let Some(front) = front_of(left) else {
-            return false;
-        };
-        if front.name == name {
-            return is_within(front.value, param);
-        }
-        left = front.left;
+    match item_named(all, name) {
+        Some(front) => is_within(front.value, param),
+        None => range_of(param).otherwise.is_some(),
     }
-    range_of(param).otherwise.is_some()
+}
+
+// Whether the address is there and of a length that is taken.
+fn is_address_given(all: Left<'_>) -> bool
+    requires { is_some (read_in all None) ≡ true }
+    ensures { result ≡ is_some (table.address_from (items_in all.entry)) }
+{
+    match item_named(all, param_name(Param::Address).as_bytes()) {
+        Some(front) => is_address(front.value),
+        None => false,
+    }
 }
 
 // Whether each of these numbers is given so.
@@ -290,11 +322,21 @@ fn are_given(all: Left<'_>, params: &[Param]) -> bool
     true
 }
 
+fn are_places_given(all: Left<'_>) -> bool
+    requires { is_some (read_in all None) ≡ true }
+    ensures { result ≡ spec.are_places_given all.entry.verb (items_in all.entry) }
+{
+    match all.verb {
+        Verb::Listen => is_address_given(all),
+        _ => are_given(all, positionals_of(all.verb)),
+    }
+}
+
 fn are_values_within(all: Left<'_>) -> bool
     requires { is_some (read_in all None) ≡ true }
     ensures { result ≡ is_some (command_from all.entry.verb (items_in all.entry)) }
 {
-    are_given(all, options_of(all.verb)) && are_given(all, positionals_of(all.verb))
+    are_given(all, options_of(all.verb)) && are_places_given(all)
 }
 
 fn is_text(word: &Text) -> bool

@@ -1,6 +1,7 @@
-ghost use Rattle.std.specs.Prelude.{◌≡◌, true, ◌≤◌, fold, IfSome};
+ghost use Rattle.std.specs.Prelude.{◌≡◌, true, ◌≤◌, fold, is_some, option_map, IfSome};
 ghost use Rattle.std.specs.List.{list_all};
 ghost use Rattle.cq_words.specs.Numbers as spec;
+ghost use Rattle.cq_words.specs.Table as table;
 
 fn are_digits(bytes: &[u8]) -> bool
     ensures { result ≡ list_all spec.is_digit bytes.now }
@@ -49,6 +50,25 @@ pub(crate) fn number_within(low: u64, high: u64, bytes: &[u8]) -> Option<u64>
     let number = number_of(bytes)?;
     if number >= low && number <= high {
         Some(number)
+    } else {
+        None
+    }
+}
+
+/// Whether there are so many bytes.
+pub(crate) fn is_count_within(low: u64, high: u64, bytes: &[u8]) -> bool
+    ensures { result ≡ is_some (table.text_within low high bytes.now) }
+{
+    let count = bytes.len() as u64;
+    count >= low && count <= high
+}
+
+/// The text itself, where it has so many bytes.
+pub(crate) fn text_within<'a>(low: u64, high: u64, text: &'a str) -> Option<&'a str>
+    ensures { option_map (λ t. t.now) result ≡ table.text_within low high text.entry.now }
+{
+    if is_count_within(low, high, text.as_bytes()) {
+        Some(text)
     } else {
         None
     }

@@ -1,14 +1,15 @@
-ghost use Rattle.std.specs.Prelude.{◌≡◌, ◌≤◌, IfOk, IfSome, option_map};
+ghost use Rattle.std.specs.Prelude.{◌≡◌, ◌≤◌, true, is_some, IfOk, IfSome, OnErr, option_map};
 ghost use Rattle.clap.specs.Words.{first_of, found_of, rows_of};
 ghost use Rattle.cq_base.specs.Settings.{IsInRange};
 ghost use Rattle.cq_words.specs.Asked as spec;
-ghost use Rattle.cq_words.specs.Command.{command_after, command_of, default_settings, HasRanges};
+ghost use Rattle.cq_words.specs.Command.{command_after, command_of, connections_of, default_settings, HasRanges};
 ghost use Rattle.cq_words.specs.Table as table;
 ghost use Rattle.cq_words.specs.declared.table.Verb.TheVariants as verb;
 
 use crate::asked::{command_asked, matches_in, texts_of};
-use crate::command::{Command, Make, Run};
-use crate::numbers::number_within;
+use crate::command::{Command, Listen, Make, Run};
+use crate::form::is_command;
+use crate::numbers::{number_within, text_within};
 use crate::table::{Flag, Param, Verb, flag_name, param_name, range_of, verb_named};
 use clap::ArgMatches;
 use cq_base::{Memory, Settings, Text};
@@ -31,6 +32,14 @@ fn number_read(matches: &ArgMatches, param: Param) -> Option<u64>
         Some(text) => number_within(range.low, range.high, text.as_bytes()),
         None => range.otherwise,
     }
+}
+
+fn address_read<'a>(matches: &ArgMatches<'a>) -> Option<&'a str>
+    ensures { option_map (λ s. s.now) result ≡ spec.address_read (rows_of (found_of matches.now)) }
+{
+    let range = range_of(Param::Address);
+    let text = text_of(matches, param_name(Param::Address))?;
+    text_within(range.low, range.high, text)
 }
 
 fn default_of(param: Param) -> u64
@@ -99,6 +108,34 @@ fn run_read(matches: &ArgMatches) -> Option<Command>
     }))
 }
 
+fn listen_read(alloc: Global, matches: &ArgMatches) -> Result<Option<Command>, Memory>
+    ensures command { IfOk result (λ r. r ≡ spec.command_read verb.Listen (rows_of (found_of matches.now))) }
+    ensures in_range { IfOk result (λ r. IfSome r HasRanges) }
+{
+    let Some(settings) = settings_read(matches) else {
+        return Ok(None);
+    };
+    let Some(address) = address_read(matches) else {
+        return Ok(None);
+    };
+    let Some(workers) = number_read(matches, Param::ListenWorkers) else {
+        return Ok(None);
+    };
+    let Some(sessions) = number_read(matches, Param::Sessions) else {
+        return Ok(None);
+    };
+    let Some(connections) = number_read(matches, Param::Connections) else {
+        return Ok(None);
+    };
+    Ok(Some(Command::Listen(Listen {
+        settings,
+        address: Text::from_bytes(alloc, address.as_bytes())?,
+        workers: workers as u32,
+        sessions: sessions as u32,
+        connections: connections as u32,
+    })))
+}
+
 fn drive_read(matches: &ArgMatches) -> Option<Command>
     ensures command { result ≡ spec.command_read verb.Drive (rows_of (found_of matches.now)) }
     ensures in_range { IfSome result HasRanges }
@@ -119,14 +156,15 @@ fn make_read(matches: &ArgMatches) -> Option<Command>
     }))
 }
 
-fn command_read(verb: Verb, matches: &ArgMatches) -> Option<Command>
-    ensures command { result ≡ spec.command_read verb (rows_of (found_of matches.now)) }
-    ensures in_range { IfSome result HasRanges }
+fn command_read(alloc: Global, verb: Verb, matches: &ArgMatches) -> Result<Option<Command>, Memory>
+    ensures command { IfOk result (λ r. r ≡ spec.command_read verb (rows_of (found_of matches.now))) }
+    ensures in_range { IfOk result (λ r. IfSome r HasRanges) }
 {
     match verb {
-        Verb::Run => run_read(matches),
-        Verb::Drive => drive_read(matches),
-        Verb::Make => make_read(matches),
+        Verb::Run => Ok(run_read(matches)),
+        Verb::Listen => listen_read(alloc, matches),
+        Verb::Drive => Ok(drive_read(matches)),
+        Verb::Make => Ok(make_read(matches)),
     }
 }
 
@@ -142,7 +180,7 @@ fn command_after(alloc: Global, verb: Verb, words: &[Text]) -> Result<Option<Com
     let Some(matches) = matches_in(command, texts.as_slice())? else {
         return Ok(None);
     };
-    Ok(command_read(verb, &matches))
+    command_read(alloc, verb, &matches)
 }
 
 /// What the words ask for where they are in form, and None exactly where they are not.
@@ -156,5 +194,20 @@ pub fn read_command(alloc: Global, words: &[Text]) -> Result<Option<Command>, Me
     match verb_named(word.as_bytes()) {
         Some(verb) => command_after(alloc, verb, rest),
         None => Ok(None),
+    }
+}
+
+/// After how many connections the doors are to end: the number of `--connections` or its default, and None exactly where
+/// the words are not words of `listen` in form. Of words in no form that is told whatever memory there is.
+pub fn connections(alloc: Global, words: &[Text]) -> Result<Option<u32>, Memory>
+    ensures number { IfOk result (λ n. n ≡ connections_of words.now) }
+    ensures refused { OnErr result (is_some (command_of words.now) ≡ true) }
+{
+    if !is_command(words) {
+        return Ok(None);
+    }
+    match read_command(alloc, words)? {
+        Some(Command::Listen(listen)) => Ok(Some(listen.connections)),
+        _ => Ok(None),
     }
 }

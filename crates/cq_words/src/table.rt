@@ -6,11 +6,12 @@ ghost use Rattle.cq_words.specs.Table as spec;
 #[derive(Clone, Copy, Debug, PartialEq, Eq)]
 pub(crate) enum Verb {
     Run,
+    Listen,
     Drive,
     Make,
 }
 
-/// What words give as a number, by an option or as a positional.
+/// What words give by an option or as a positional: a number, or the text of an address.
 #[derive(Clone, Copy, Debug, PartialEq, Eq)]
 pub(crate) enum Param {
     Chunk,
@@ -20,6 +21,10 @@ pub(crate) enum Param {
     TextLimit,
     ByteLimit,
     Workers,
+    ListenWorkers,
+    Sessions,
+    Connections,
+    Address,
     Number,
     Files,
 }
@@ -31,8 +36,8 @@ pub(crate) enum Flag {
     IgnoreLiterals,
 }
 
-/// The least and the greatest number that is taken, and the one that stands where none is given; a positional has none
-/// and has to be there.
+/// The least and the greatest number that is taken, of an address the number of its bytes, and the one that stands where
+/// none is given; a positional has none and has to be there.
 #[derive(Clone, Copy, Debug, PartialEq, Eq)]
 pub(crate) struct Range {
     pub low: u64,
@@ -50,6 +55,18 @@ const RUN_OPTIONS: [Param; 7] = [
     Param::Workers,
 ];
 
+const LISTEN_OPTIONS: [Param; 9] = [
+    Param::Chunk,
+    Param::Shards,
+    Param::KeyBits,
+    Param::ChangeLimit,
+    Param::TextLimit,
+    Param::ByteLimit,
+    Param::ListenWorkers,
+    Param::Sessions,
+    Param::Connections,
+];
+
 const DRIVE_OPTIONS: [Param; 6] = [
     Param::Chunk,
     Param::Shards,
@@ -61,17 +78,26 @@ const DRIVE_OPTIONS: [Param; 6] = [
 
 const FLAGS: [Flag; 2] = [Flag::IgnoreIds, Flag::IgnoreLiterals];
 
+const LISTEN_POSITIONALS: [Param; 1] = [Param::Address];
+
 const MAKE_POSITIONALS: [Param; 2] = [Param::Number, Param::Files];
 
 pub(crate) fn verb_named(word: &[u8]) -> Option<Verb>
     ensures { result ≡ spec.verb_named word.now }
 {
-    match word {
-        b"run" => Some(Verb::Run),
-        b"drive" => Some(Verb::Drive),
-        b"make" => Some(Verb::Make),
-        _ => None,
+    if word == b"run".as_slice() {
+        return Some(Verb::Run);
     }
+    if word == b"listen".as_slice() {
+        return Some(Verb::Listen);
+    }
+    if word == b"drive".as_slice() {
+        return Some(Verb::Drive);
+    }
+    if word == b"make".as_slice() {
+        return Some(Verb::Make);
+    }
+    None
 }
 
 pub(crate) fn verb_name(verb: Verb) -> &'static str
@@ -79,6 +105,7 @@ pub(crate) fn verb_name(verb: Verb) -> &'static str
 {
     match verb {
         Verb::Run => "run",
+        Verb::Listen => "listen",
         Verb::Drive => "drive",
         Verb::Make => "make",
     }
@@ -89,6 +116,7 @@ pub(crate) fn options_of(verb: Verb) -> &'static [Param]
 {
     match verb {
         Verb::Run => &RUN_OPTIONS,
+        Verb::Listen => &LISTEN_OPTIONS,
         Verb::Drive => &DRIVE_OPTIONS,
         Verb::Make => &[],
     }
@@ -98,7 +126,7 @@ pub(crate) fn flags_of(verb: Verb) -> &'static [Flag]
     ensures { result.now ≡ spec.flags_of verb }
 {
     match verb {
-        Verb::Run | Verb::Drive => &FLAGS,
+        Verb::Run | Verb::Listen | Verb::Drive => &FLAGS,
         Verb::Make => &[],
     }
 }
@@ -109,6 +137,7 @@ pub(crate) fn positionals_of(verb: Verb) -> &'static [Param]
 {
     match verb {
         Verb::Run | Verb::Drive => &[],
+        Verb::Listen => &LISTEN_POSITIONALS,
         Verb::Make => &MAKE_POSITIONALS,
     }
 }
@@ -125,6 +154,10 @@ pub(crate) fn param_name(param: Param) -> &'static str
         Param::TextLimit => "text-limit",
         Param::ByteLimit => "byte-limit",
         Param::Workers => "workers",
+        Param::ListenWorkers => "workers",
+        Param::Sessions => "sessions",
+        Param::Connections => "connections",
+        Param::Address => "address",
         Param::Number => "number",
         Param::Files => "files",
     }
@@ -172,6 +205,10 @@ pub(crate) fn range_of(param: Param) -> Range
         Param::TextLimit => option_range(1, 67_108_864, 33_554_432),
         Param::ByteLimit => option_range(1, 1_152_921_504_606_846_976, 1_152_921_504_606_846_976),
         Param::Workers => option_range(0, 64, 0),
+        Param::ListenWorkers => option_range(0, 64, 4),
+        Param::Sessions => option_range(1, 64, 8),
+        Param::Connections => option_range(1, 4_294_967_295, 4_294_967_295),
+        Param::Address => positional_range(1, 255),
         Param::Number => positional_range(0, 9_999_999_999_999_999_999),
         Param::Files => positional_range(0, 10_000),
     }

@@ -1,5 +1,5 @@
 use cq_base::{Settings, Text};
-use cq_words::{Command, Make, Run, is_command, read_command};
+use cq_words::{Command, Listen, Make, Run, connections, is_command, read_command};
 use std::alloc::Global;
 use std::test::Fail;
 
@@ -22,7 +22,7 @@ fn read(alloc: Global, all: &[&str]) -> Result<Option<Command>, Fail> {
     Ok(read_command(alloc, words.as_slice())?)
 }
 
-const REFUSED: [&[&str]; 76] = [
+const REFUSED: [&[&str]; 93] = [
     &[],
     &[""],
     &["listen"],
@@ -76,6 +76,23 @@ const REFUSED: [&[&str]; 76] = [
     &["run", "--chunk", "0x5"],
     &["run", "--chunk", "5 "],
     &["walk"],
+    &["listen", ""],
+    &["listen", "-"],
+    &["listen", "--"],
+    &["listen", "--help"],
+    &["listen", "-a"],
+    &["listen", "a", "b"],
+    &["listen", "--address", "a"],
+    &["listen", "--address=a"],
+    &["listen", "a", "--workers", "65"],
+    &["listen", "a", "--sessions", "0"],
+    &["listen", "a", "--sessions", "65"],
+    &["listen", "a", "--connections", "0"],
+    &["listen", "a", "--connections", "4294967296"],
+    &["listen", "a", "--sessions", "2", "--sessions", "2"],
+    &["run", "--sessions", "2"],
+    &["run", "--connections", "2"],
+    &["listen", "--sessions", "a"],
     &["drive", "--workers", "0"],
     &["drive", "--workers=0"],
     &["drive", "x"],
@@ -269,5 +286,108 @@ fn both_ends_of_a_range_are_taken(rt: HostRuntime) -> Result<(), Fail> {
         "--byte-limit=1",
     ];
     assert_eq!(rt; chunk_and_more(alloc, &least)?, Some((20, 16, 64)));
+    Ok(())
+}
+
+// What the words of `listen` give, with an address of so many bytes `a`.
+fn listens_at_length(alloc: Global, count: usize) -> Result<bool, Fail> {
+    let mut address = Vec::new(alloc);
+    address.resize(count, b'a')?;
+    let mut words = Vec::new(alloc);
+    words.push(Text::from_bytes(alloc, b"listen")?)?;
+    words.push(Text::from_vec(address))?;
+    Ok(is_command(words.as_slice()) && read_command(alloc, words.as_slice())?.is_some())
+}
+
+#[test]
+fn an_address_has_1_to_255_bytes(rt: HostRuntime) -> Result<(), Fail> {
+    let alloc = rt.alloc();
+    assert!(rt; listens_at_length(alloc, 1)?);
+    assert!(rt; listens_at_length(alloc, 255)?);
+    assert!(rt; !listens_at_length(alloc, 256)?);
+    Ok(())
+}
+
+#[test]
+fn what_listen_is_asked_is_read(rt: HostRuntime) -> Result<(), Fail> {
+    let alloc = rt.alloc();
+    let defaults = Listen {
+        settings: DEFAULTS,
+        address: Text::from_bytes(alloc, b"here:80")?,
+        workers: 4,
+        sessions: 8,
+        connections: 4_294_967_295,
+    };
+    assert_eq!(rt;
+        read(alloc, &["listen", "here:80"])?,
+        Some(Command::Listen(defaults))
+    );
+    let asked = Listen {
+        settings: Settings {
+            chunk: 2,
+            ignore_ids: true,
+            ..DEFAULTS
+        },
+        address: Text::from_bytes(alloc, b"=")?,
+        workers: 0,
+        sessions: 64,
+        connections: 1,
+    };
+    let words = [
+        "listen",
+        "--sessions=64",
+        "--workers",
+        "0",
+        "=",
+        "--connections",
+        "1",
+        "--ignore-ids",
+        "--chunk=2",
+    ];
+    assert_eq!(rt;
+        read(alloc, words.as_slice())?,
+        Some(Command::Listen(asked))
+    );
+    Ok(())
+}
+
+fn connections_of(alloc: Global, all: &[&str]) -> Result<Option<u32>, Fail> {
+    let mut words = Vec::new(alloc);
+    for word in all {
+        words.push(Text::from_bytes(alloc, word.as_bytes())?)?;
+    }
+    Ok(connections(alloc, words.as_slice())?)
+}
+
+#[test]
+fn connections_are_told_of_listen_alone(rt: HostRuntime) -> Result<(), Fail> {
+    let alloc = rt.alloc();
+    let words = [
+        "listen",
+        "mem",
+        "--chunk",
+        "2",
+        "--workers",
+        "0",
+        "--sessions",
+        "1",
+    ];
+    assert_eq!(rt;
+        connections_of(alloc, words.as_slice())?,
+        Some(4_294_967_295)
+    );
+    let two = ["listen", "--connections=2", "a"];
+    assert_eq!(rt; connections_of(alloc, &two)?, Some(2));
+    let none: [&[&str]; 6] = [
+        &[],
+        &["run"],
+        &["make", "7", "3"],
+        &["listen"],
+        &["listen", "--help"],
+        &["listen", "a", "--connections=0"],
+    ];
+    for words in none {
+        assert_eq!(rt; connections_of(alloc, words)?, None);
+    }
     Ok(())
 }

@@ -8,4 +8,5 @@ line_of status =
     else if status == 2 then codes "cqd: read fault"
     else if status == 3 then codes "cqd: write fault"
     else if status == 4 then codes "cqd: out of memory"
+    else if status == 5 then codes "cqd: doors failed"
     else codes "cqd: byte limit"

@@ -9,13 +9,15 @@ ghost use Rattle.std.specs.Vec.Iter.{into_iter_items};
 ghost use Rattle.cqd.specs.Told as spec;
 
 use cq_base::{Memory, Steps, Text};
-use cq_io::{MemDoors, OpenGate, StdSink, StdSource};
+use cq_io::{OpenGate, StdSink, StdSource};
 use cq_program::top;
+use cq_sockets::TcpDoors;
+use cq_words::connections;
 use std::alloc::Global;
-use std::collections::VecDeque;
 use std::env;
 use std::io::{Error, ErrorKind};
 use std::marker::Brand;
+use std::net::{Net, TcpListener, TcpStream};
 use std::process::ExitCode;
 use std::sync::Wait;
 use std::sync::ledger::{Blank, Ledger};
@@ -34,6 +36,7 @@ fn line_of(status: u8) -> &'static str
         2 => "cqd: read fault",
         3 => "cqd: write fault",
         4 => "cqd: out of memory",
+        5 => "cqd: doors failed",
         _ => "cqd: byte limit",
     }
 }
@@ -57,23 +60,22 @@ fn words_of(alloc: Global, args: env::Args) -> Result<Vec<Text>, Memory>
     texts_of(alloc, &words)
 }
 
-// Runs on standard input and output. Only in `main` is the runtime itself a handle on threads, so that stands beside it.
-fn run<Q: Threads + Wait + Sync, L: Ledger + Send + Sync>(
-    rt: &HostRuntime,
-    threads: &Q,
-    words: &[Text],
-    blank: Blank,
-) -> u8
+// Runs on standard input and output, and on doors for so many connections. Only in `main` is the runtime itself a handle on
+// threads and sockets, so that stands beside it.
+fn run<
+    Q: Threads + Wait + Net<Listener = TcpListener, Stream = TcpStream> + Sync,
+    L: Ledger + Send + Sync,
+>(rt: &HostRuntime, handle: &Q, words: &[Text], connections: u32, blank: Blank) -> u8
     requires name { blank.name ≡ L.name }
     requires parts { blank.parts ≡ L.parts }
 {
     let alloc = rt.alloc();
     let mut source = StdSource::new(rt.stdin());
     let mut sink = StdSink::new(rt.stdout());
-    let mut doors = MemDoors::new(VecDeque::new(alloc), Vec::new(alloc));
+    let mut doors = TcpDoors::new(handle, connections);
     let mut steps: Steps<L> = Steps::new(blank);
     top(
-        threads,
+        handle,
         alloc,
         words,
         &mut source,
@@ -95,13 +97,19 @@ fn status_without_words(error: &Error) -> u8
     }
 }
 
-fn status<Q: Threads + Wait + Sync>(rt: &HostRuntime, threads: &Q) -> u8 {
+fn status<Q: Threads + Wait + Net<Listener = TcpListener, Stream = TcpStream> + Sync>(
+    rt: &HostRuntime,
+    handle: &Q,
+) -> u8 {
     let args = match env::args(rt) {
         Ok(args) => args,
         Err(error) => return status_without_words(&error),
     };
-    match words_of(rt.alloc(), args) {
-        Ok(words) => run::<Q, Brand>(rt, threads, &words, Blank::new(1)),
+    let Ok(words) = words_of(rt.alloc(), args) else {
+        return OUT_OF_MEMORY;
+    };
+    match connections(rt.alloc(), &words) {
+        Ok(count) => run::<Q, Brand>(rt, handle, &words, count.unwrap_or(0), Blank::new(1)),
         Err(Memory) => OUT_OF_MEMORY,
     }
 }

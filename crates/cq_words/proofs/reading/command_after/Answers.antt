@@ -1,6 +1,7 @@
 use Rattle.std.proofs.Common.{◌≡◌, ◌∙◌, ap, sym, List, Option, Some, None, cond}
 use Rattle.std.specs.Prelude.{option_map}
 use Rattle.std.specs.List.{list_all}
+use Rattle.std.proofs.lemmas.Result.{IfOk-weaker}
 use Rattle.clap.specs.Walk.{Row as Entry, texts}
 use Rattle.clap.specs.Words.{app_of, fault_of, found_of, is_simple_and_free, matches_of, rows_of}
 use Rattle.clap.specs.declared.parser.matches.ArgMatches.{ArgMatches}
@@ -40,4 +41,4 @@ returns-clause-command c =
     let rows : List Entry = rows_of (found_of c.in-Some-2.matches) in
     let found : Some rows ≡ when (fault_of (app_of c.in_ok-command.command) (texts c.as_slice.result.now)) (Some (matches_of (app_of c.in_ok-command.command) (texts c.as_slice.result.now))) =
     sym (ap entries c.in-Some-2.is) ∙ c.in_ok-matches.ensures in
-    c.command_read.ensures.command ∙ answered c.args.verb (app_of c.in_ok-command.command) (texts c.as_slice.result.now) words (Some rows) c.in_ok-command.ensures handed.0 same found
+    IfOk-weaker c.command_read.result _ _ (λ _ is. is ∙ answered c.args.verb (app_of c.in_ok-command.command) (texts c.as_slice.result.now) words (Some rows) c.in_ok-command.ensures handed.0 same found) c.command_read.ensures.command

@@ -1,0 +1,111 @@
+ghost use Rattle.std.specs.Prelude.{◌≡◌, ◌≢◌, ◌≤◌, List, ℕ, IsSome, Some};
+ghost use Rattle.cq_base.specs.Settings.{IsInRange};
+ghost use Rattle.cq_io.specs.Causes.{Rose};
+ghost use Rattle.cq_program.specs.Top.{HasListened};
+
+use cq_base::{Counters, Memory, Settings};
+use cq_chain::Pass;
+use cq_io::{Doors, Failed, Gate, Sink, Source};
+use cq_listen::serve;
+use cq_shared::Shared;
+use cq_words::Listen;
+use cq_work::Work;
+use std::alloc::Global;
+use std::marker::Brand;
+use std::sync::Wait;
+use std::sync::ledger::{Blank, Ledger};
+use std::thread::Threads;
+
+/// The status where a call of the doors failed.
+const DOORS_FAILED: u8 = 5;
+
+// Serves the connections of doors that are bound, over a shared hub that is made for them, and answers the status.
+fn serve_clients<
+    Q: Threads + Wait + Sync,
+    L: Ledger + Send + Sync,
+    I: Source + Send + Drop,
+    O: Sink + Send + Drop,
+    D: Doors<In = I, Out = O>,
+    G: Gate + Sync,
+>(
+    rt: &Q,
+    alloc: Global,
+    settings: &Settings,
+    doors: &mut D,
+    gate: &G,
+    workers: u32,
+    sessions: u32,
+    blank: Blank,
+) -> u8
+    requires name { blank.name ≡ L.name }
+    requires parts { blank.parts ≡ L.parts }
+    requires in_range { IsInRange settings.now }
+    requires bound { IsSome (D.bound doors.old) }
+    requires workers { workers ≤ 64 }
+    requires sessions { (1 ≤ sessions) × (sessions ≤ 64) }
+    ensures others { (result ≢ 1) × (result ≢ 2) × (result ≢ 3) × (result ≢ 6) }
+    ensures memory { result ≡ 4 → doors.new ≡ doors.old }
+    ensures doors_fault { result ≡ 5 → Rose (D.faults doors.old) (D.faults doors.new) }
+    ensures finished { result ≡ 0 → D.faults doors.new ≡ D.faults doors.old }
+    ensures listens { (address : List ℕ) → D.bound doors.old ≡ Some address
+        → HasListened address (D.bound doors.new) (D.left doors.old) (D.left doors.new) result }
+{
+    let counters: Counters<L> = Counters::new(blank);
+    // One caller is the calling thread's, one each session's, and one each worker's.
+    let callers = workers + sessions + 1;
+    let made: Result<(Shared<Work<L>, &Q>, Pass<Work<L>>), Memory> = Shared::new(
+        rt, alloc, settings, callers,
+    );
+    let Ok((hub, pass)) = made else {
+        return 4;
+    };
+    match serve(
+        rt, alloc, settings, &counters, &hub, pass, doors, gate, workers, sessions,
+    ) {
+        Ok(served) => { if served.failed { DOORS_FAILED } else { 0 } }
+        Err(Memory) => 4,
+    }
+}
+
+/// Listens at the address, and serves the connections that come until no more will, on as many threads as there are to be
+/// sessions, with workers beside them. The answer is the status: 5 where a call of the doors failed, which is also where the
+/// address can't be bound, and 4 for want of memory before a door is asked for.
+pub(crate) fn listen<
+    Q: Threads + Wait + Sync,
+    I: Source + Send + Drop,
+    O: Sink + Send + Drop,
+    D: Doors<In = I, Out = O>,
+    G: Gate + Sync,
+>(rt: &Q, alloc: Global, asked: Listen, doors: &mut D, gate: &G) -> u8
+    requires in_range { IsInRange asked.settings }
+    requires workers { asked.workers ≤ 64 }
+    requires sessions { (1 ≤ asked.sessions) × (asked.sessions ≤ 64) }
+    ensures others { (result ≢ 1) × (result ≢ 2) × (result ≢ 3) × (result ≢ 6) }
+    ensures memory { result ≡ 4 → (D.faults doors.new ≡ D.faults doors.old)
+        × (D.left doors.new ≡ D.left doors.old) }
+    ensures doors_fault { result ≡ 5 → Rose (D.faults doors.old) (D.faults doors.new) }
+    ensures finished { result ≡ 0 → D.faults doors.new ≡ D.faults doors.old }
+    ensures listens { HasListened asked.address
+        (D.bound doors.new) (D.left doors.old) (D.left doors.new) result }
+{
+    let Listen {
+        settings,
+        address,
+        workers,
+        sessions,
+        connections: _,
+    } = asked;
+    match doors.bind(address) {
+        Ok(()) => serve_clients::<Q, Brand, I, O, D, G>(
+            rt,
+            alloc,
+            &settings,
+            doors,
+            gate,
+            workers,
+            sessions,
+            Blank::new(1),
+        ),
+        Err(Failed) => DOORS_FAILED,
+    }
+}
