@@ -15,11 +15,13 @@ mod run;
 mod runs;
 mod searching;
 mod shard;
+mod store;
+mod table;
 
 pub use indexed::{Indexed, lent};
 pub use laws::{
     applying_adds_its_rows, it_answers_what_it_holds, it_stands_at_first, it_stands_on,
-    shards_stay, sweeping_takes_out_alone,
+    it_stands_swept, shards_stay, sweeping_takes_out_alone,
 };
 pub use parting::parted;
 pub use shard::Shard;
