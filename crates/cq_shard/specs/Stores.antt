@@ -20,6 +20,10 @@ pub record Stored : Type 0 where
 abbrev pub stored : ℕ → List ℕ → List Entry → Stored
 stored applied changes rows = record { applied = applied; entries = those_of changes rows }
 
+-- the entries of the dead changes count no more
+abbrev pub left_by : List ℕ → Stored → Stored
+left_by dead s = record { applied = s.applied; entries = without dead s.entries }
+
 -- The entries that lie there are of the changes so far. Where none of them is known to be gone, all are of changes that stand.
 pub record IsStore (applied : ℕ) (changes : List ℕ) (rows : List Entry) (gone : ℕ) : Type 0 where
   pub known : All (λ n. n ≤ applied) changes

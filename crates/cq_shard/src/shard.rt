@@ -85,7 +85,8 @@ impl Shard {
             shards: self.shards,
             change,
         };
-        add_work(self.alloc, &mut self.store, part, work, steps)
+        add_work(self.alloc, &mut self.store, part, work, steps)?;
+        Ok(())
     }
 
     /// Applies the next changes, one for each of these works, which are given exactly where the changes are puts, and of which
@@ -108,7 +109,8 @@ impl Shard {
     {
         applying_adds_its_rows::<W>();
         let applied = self.store.applied() + works.len() as u64;
-        self.store.add(self.alloc, applied, part, steps)
+        self.store.add(self.alloc, applied, part, steps)?;
+        Ok(())
     }
 
     /// The entries with the key whose change is one of `live`, by change and place. It searches each of the shard's runs,

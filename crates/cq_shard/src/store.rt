@@ -3,7 +3,7 @@ ghost use Rattle.std.specs.List.Sorted.{IsStrictlyIncreasing};
 ghost use Rattle.cq_clones.specs.Windows.{EntryBefore};
 ghost use Rattle.cq_shard.specs.Runs.{AreAdded, Precedes};
 ghost use Rattle.cq_shard.specs.Shard.{AreAsked};
-ghost use Rattle.cq_shard.specs.Stores.{without};
+ghost use Rattle.cq_shard.specs.Stores.{left_by};
 ghost use Rattle.cq_shard.specs.Tables.{AreBefore, AreNoted};
 
 use crate::runs::Runs;
@@ -77,14 +77,17 @@ impl Store {
     {
         let added = entries.len() as u64;
         let noted = self.table.len();
-        let result = put(alloc, &mut self.runs, &mut self.table, entries, steps);
-        if result.is_err() {
-            self.table.cut(noted);
-        } else {
-            self.applied = applied;
-            self.standing = self.standing.saturating_add(added);
+        match put(alloc, &mut self.runs, &mut self.table, entries, steps) {
+            Ok(()) => {
+                self.applied = applied;
+                self.standing = self.standing.saturating_add(added);
+                Ok(())
+            }
+            Err(refused) => {
+                self.table.cut(noted);
+                Err(refused)
+            }
         }
-        result
     }
 
     /// Those with the key whose change is one of `live`, by change and place. It searches each run, `live` for each entry
@@ -94,24 +97,26 @@ impl Store {
         ensures { IfOk result (λ bucket. AreAsked key live.now self.now.entries bucket.items) }
     {
         let mut bucket = self.runs.bucket(alloc, key, live)?;
-        if self.gone > 0 {
-            bucket.retain(|entry| self.table.has(entry.change));
+        if self.gone == 0 {
+            return Ok(bucket);
         }
+        bucket.retain(|entry| self.table.has(entry.change));
         Ok(bucket)
     }
 
     /// Takes the entries of the dead changes out. It takes no memory.
     pub fn sweep(&mut self, dead: &[u64])
         requires { IsStrictlyIncreasing dead.now }
-        ensures { self.new ≡ record { applied = self.old.applied; entries = without dead.now self.old.entries } }
+        ensures { self.new ≡ left_by dead.now self.old }
     {
         let taken = self.table.take_out(dead);
         self.gone = self.gone.saturating_add(taken);
         self.standing = self.standing.saturating_sub(taken);
-        if self.gone >= self.standing {
-            self.runs.keep(&self.table);
-            self.gone = 0;
+        if self.gone < self.standing {
+            return;
         }
+        self.runs.keep(&self.table);
+        self.gone = 0;
     }
 }
 

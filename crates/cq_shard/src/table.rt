@@ -96,15 +96,27 @@ fn count(changes: &mut Vec<u64>, sizes: &mut Vec<u64>, change: u64) -> Result<()
     ensures long { length changes.old.items ≤ length changes.new.items }
     ensures each { OnOk result (AreCounted change changes.old.items changes.new.items) }
 {
-    let number = changes.len();
-    if number > 0 && changes[number - 1] == change {
-        sizes[number - 1] = sizes[number - 1].saturating_add(1);
+    if is_last(changes, change) {
+        let last = changes.len() - 1;
+        sizes[last] = sizes[last].saturating_add(1);
         return Ok(());
     }
-    sizes.truncate(number);
+    sizes.truncate(changes.len());
     sizes.push(1)?;
     changes.push(change)?;
     Ok(())
+}
+
+// Whether the change, which is no earlier than any of these, is one of them.
+fn is_last(changes: &[u64], change: u64) -> bool
+    requires rising { IsStrictlyIncreasing changes.now }
+    requires low { All (λ n. n ≤ change) changes.now }
+    ensures { result ≡ is_among changes.now change }
+{
+    if changes.is_empty() {
+        return false;
+    }
+    changes[changes.len() - 1] == change
 }
 
 // Behind how many of the changes, none of which is dead, one stands that is; where none is, behind all.
@@ -117,14 +129,18 @@ fn first_among(changes: &[u64], dead: &[u64]) -> usize
     let mut i = 0;
     let mut j = 0;
     'stretches: while i < changes.len() && j < dead.len() {
-        if changes[i] == dead[j] {
+        let change = changes[i];
+        let next = dead[j];
+        if change == next {
             return i;
         }
-        if changes[i] < dead[j] {
-            i = behind(changes, i, dead[j]);
-        } else {
-            j = behind(dead, j, changes[i]);
+        if next < change {
+            let past = behind(dead, j, change);
+            j = past;
+            continue;
         }
+        let further = behind(changes, i, next);
+        i = further;
     }
     changes.len()
 }
@@ -147,11 +163,11 @@ fn close_up(changes: &mut Vec<u64>, sizes: &mut Vec<u64>, first: usize, dead: &[
         let size = sizes[i];
         if is_live(dead, change) {
             taken = taken.saturating_add(size.max(1));
-        } else {
-            changes[kept] = change;
-            sizes[kept] = size;
-            kept += 1;
+            continue;
         }
+        changes[kept] = change;
+        sizes[kept] = size;
+        kept += 1;
     }
     changes.truncate(kept);
     taken
@@ -181,8 +197,9 @@ fn stretch(numbers: &[u64], start: usize, number: u64) -> (usize, usize)
         if to - from <= doubled {
             break;
         }
-        let at = from + (doubled - 1);
-        if numbers[at] < number {
+        let at = (from + (doubled - 1)).min(to - 1);
+        let found = numbers[at];
+        if found < number {
             from = at + 1;
         } else {
             to = at;
