@@ -159,7 +159,7 @@ module _ (changes dead : List ℕ) (up : IsStrictlyIncreasing changes) (dead_up 
   none_dead : (n : ℕ) → ((m : ℕ) → m < length dead → n ≢ get_or dead m 0) → is_among dead n ≡ false
   none_dead n differ = false_from_ne_true (is_among dead n) (λ h.
       let (m, within, is) = Contains-from_any eqb-true n dead h in
-      differ m within (sym (sym (get_or_default dead m 0 n within) ∙ is)))
+      differ m within (sym is ∙ get_or_default dead m n 0 within))
 
   pub apart_front : AreOutside dead (take i changes)
   apart_front k d within =

@@ -18,4 +18,4 @@ loop-i-preserved c =
     }
 
 pub returns : goal.returns
-returns c = in_place_all (those_of c.args.changes.now) c.args.runs.now.items c.loop-i.runs.items c.loop-i.i (let number = c.loop-i.invariant.number in ?) c.loop-i.invariant.kept
+returns c = in_place_all (those_of c.args.changes.now) c.args.runs.now.items c.loop-i.runs.items c.loop-i.i (let past = c.loop-i-test.false in let most = c.loop-i.auto.i-end in let all = c.len-i-end.ensures in omega (arith, past, most, all)) c.loop-i.invariant.kept

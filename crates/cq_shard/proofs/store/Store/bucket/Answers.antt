@@ -7,17 +7,17 @@ use Rattle.cq_shard.specs.Tables.{is_among}
 use Rattle.cq_shard.proofs.Storing.{those_all, asked_those}
 use Rattle.cq_shard.proofs.store.Store.bucket.Goals as goal
 
-pub returns-then-self-gone : goal.returns-then-self-gone
-returns-then-self-gone c =
+pub returns-then-self-eq0 : goal.returns-then-self-eq0
+returns-then-self-eq0 c =
     let s = c.self.inside in
     let key = c.args.key in
     let live = c.args.live.now in
     let bucket = c.in_ok-bucket.bucket.items in
     subst (λ (v : Stored). AreAsked key live v.entries bucket) c.self.view_is
-    (subst (λ (es : List Entry). AreAsked key live es bucket) (sym (those_all s.table s.runs (c.self.invariant.whole c.if-self-gone.true))) c.in_ok-bucket.ensures)
+    (subst (λ (es : List Entry). AreAsked key live es bucket) (sym (those_all s.table s.runs (c.self.invariant.whole c.if-self-eq0.true))) c.in_ok-bucket.ensures)
 
-pub returns-in_ok-bucket : goal.returns-in_ok-bucket
-returns-in_ok-bucket c =
+pub returns : goal.returns
+returns c =
     let s = c.self.inside in
     let key = c.args.key in
     let live = c.args.live.now in
