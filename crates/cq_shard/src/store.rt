@@ -100,7 +100,7 @@ impl Store {
         if self.gone == 0 {
             return Ok(bucket);
         }
-        bucket.retain(|entry| self.table.has(entry.change));
+        self.table.keep(&mut bucket);
         Ok(bucket)
     }
 

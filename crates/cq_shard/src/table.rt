@@ -1,6 +1,7 @@
 ghost use Rattle.std.specs.Prelude.{◌≡◌, ◌+◌, ◌<◌, ◌≤◌, [], length, take, All, AllPairs, OnOk, OnErr};
 ghost use Rattle.std.specs.List.Sorted.{IsStrictlyIncreasing};
 ghost use Rattle.cq_clones.specs.Windows.{EntryBefore};
+ghost use Rattle.cq_shard.specs.Stores.{those_of};
 ghost use Rattle.cq_shard.specs.Tables.{IsReached, IsTable, is_among, outside, AreOutside, AreBefore, AreCounted, AreNoted};
 
 use crate::run::is_live;
@@ -52,6 +53,13 @@ impl Table {
         ensures { result ≡ is_among self.now change }
     {
         is_live(&self.changes, change)
+    }
+
+    /// Leaves those entries that are of the changes. It takes no memory.
+    pub fn keep(&self, entries: &mut Vec<Entry>)
+        ensures { entries.new.items ≡ those_of self.now entries.old.items }
+    {
+        entries.retain(|entry| self.has(entry.change));
     }
 
     /// The changes of these entries more, which come by change and are later than all before. Where memory is refused, some

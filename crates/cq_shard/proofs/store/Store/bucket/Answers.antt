@@ -1,9 +1,7 @@
-use Rattle.std.proofs.Common.{◌≡◌, List, rules, sym, ap, subst, ◌∙◌}
-use Rattle.std.proofs.lemmas.Fn.{filter_same}
+use Rattle.std.proofs.Common.{List, sym, subst}
 use Rattle.cq_base.specs.declared.entry.Entry.{Entry}
 use Rattle.cq_shard.specs.Shard.{AreAsked}
 use Rattle.cq_shard.specs.Stores.{Stored, those_of}
-use Rattle.cq_shard.specs.Tables.{is_among}
 use Rattle.cq_shard.proofs.Storing.{those_all, asked_those}
 use Rattle.cq_shard.proofs.store.Store.bucket.Goals as goal
 
@@ -21,7 +19,5 @@ returns c =
     let s = c.self.inside in
     let key = c.args.key in
     let live = c.args.live.now in
-    let bucket = c.in_ok-bucket.bucket.items in
-    let is = filter_same _ (λ (e : Entry). is_among s.table e.change) _ (λ e b g t. search rules) _ _ c.retain.ensures.filtered in
-    subst (λ (v : Stored). AreAsked key live v.entries c.retain.new.self.items) c.self.view_is
-    (subst (AreAsked key live (those_of s.table s.runs)) (sym is) (asked_those key live s.table s.runs bucket c.in_ok-bucket.ensures))
+    subst (λ (v : Stored). AreAsked key live v.entries c.keep.new.entries.items) c.self.view_is
+    (subst (AreAsked key live (those_of s.table s.runs)) (sym c.keep.ensures) (asked_those key live s.table s.runs c.in_ok-bucket.bucket.items c.in_ok-bucket.ensures))
