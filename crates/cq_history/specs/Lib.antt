@@ -8,3 +8,4 @@ pub mod Core
 pub mod Laws
 pub mod Standing
 pub mod Script
+pub mod Superseded

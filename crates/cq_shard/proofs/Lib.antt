@@ -5,8 +5,12 @@ pub mod RowOrder
 pub mod Merging
 pub mod Finding
 pub mod Gathering
+pub mod Reaching
+pub mod Taking
+pub mod Storing
 pub mod Standing
 pub mod Works
 pub mod Given
 pub mod Begun
 pub mod ShardLaws
+pub mod Sweeping

@@ -18,7 +18,7 @@ use Rattle.cq_shard.proofs.Standing.{AreWindows, with_applied, brought_is_shard,
 -- ---- their order
 
 module _ {W : Type 0} (keys_in : W → List ℕ) (shard shards : ℕ) where
-  brought_change : (change : ℕ) (work : Option W) (e : Entry) → Contains (brought keys_in change shard shards work) e → e.change ≡ change
+  pub brought_change : (change : ℕ) (work : Option W) (e : Entry) → Contains (brought keys_in change shard shards work) e → e.change ≡ change
   brought_change change None e c = absurd (Contains-nil e c)
   brought_change change (Some w) e c = (from_entries change shard shards 0 (keys_in w) e c).change
 

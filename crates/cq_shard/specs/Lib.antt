@@ -2,4 +2,6 @@ pub mod Laws
 pub mod Gathered
 pub mod Parts
 pub mod Runs
+pub mod Tables
+pub mod Stores
 pub mod Shard

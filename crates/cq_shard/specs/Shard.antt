@@ -14,6 +14,7 @@ use Rattle.cq_clones.specs.Windows.{EntryBefore}
 use Rattle.cq_history.specs.Changes.{IsWorkFor, change_at}
 use Rattle.cq_history.specs.Shards.{Row, ShardHolds}
 use Rattle.cq_shard.specs.Runs.{AreDifferent}
+use Rattle.cq_shard.specs.Stores.{without}
 
 -- its number, how many shards there are, how many changes it has applied, its floor, and its entries
 pub record Contents : Type 0 where
@@ -120,3 +121,9 @@ all_brought_to keys_in c works = all_brought (in_owned keys_in) c.applied c.shar
 -- by change and place, exactly those of some entries that have the key, and whose change is one of `live`
 abbrev pub AreAsked : ℕ → List ℕ → List Entry → List Entry → Type 0
 AreAsked key live entries bucket = AreAllInOrder EntryBefore (λ e. (e.key ≡ key) × Contains live e.change × Contains entries e) bucket
+
+-- ---- what sweeping leaves
+
+-- the floor is raised, and the entries of the dead changes are taken out
+abbrev pub swept : ℕ → List ℕ → Contents → Contents
+swept floor dead c = record { shard = c.shard; shards = c.shards; applied = c.applied; floor = floor; entries = without dead c.entries }

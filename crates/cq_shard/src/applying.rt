@@ -1,11 +1,11 @@
-ghost use Rattle.std.specs.Prelude.{◌≡◌, ◌+◌, ◌<◌, ◌≤◌, ◌^◌, ◌%◌, length, option_copied, All, IfOk, OnOk, OnErr, IfSome};
+ghost use Rattle.std.specs.Prelude.{◌≡◌, ◌+◌, ◌<◌, ◌≤◌, ◌^◌, ◌%◌, length, option_copied, IfOk, OnOk, OnErr, IfSome};
 ghost use Rattle.std.specs.Int.{IsPowerOfTwo};
 ghost use Rattle.cq_shard.specs.Runs.{AreAdded};
 ghost use Rattle.cq_shard.specs.Gathered.{AreGathered, brought_for};
 
 use crate::indexed::Indexed;
 use crate::parting::room;
-use crate::runs::Runs;
+use crate::store::Store;
 use cq_base::{Entry, Memory, Steps};
 use std::alloc::Global;
 use std::sync::ledger::Ledger;
@@ -74,19 +74,20 @@ pub(crate) fn entries_for<W: Indexed>(
 /// The entries that the change brings to the shard more, or none of them.
 pub(crate) fn add_work<W: Indexed, L: Ledger>(
     alloc: Global,
-    runs: &mut Runs,
+    store: &mut Store,
     part: Part,
     work: Option<&W>,
     steps: &mut Steps<L>,
 ) -> Result<(), Memory>
     requires few { IfSome work (λ w. length (W.keys_in w.now) < 2 ^ 32) }
     requires some { 0 < part.shards }
-    requires later { All (λ e. e.change < part.change) runs.old }
-    ensures added { OnOk result (AreAdded runs.old (brought_for W.keys_in part (option_copied work.entry)) runs.new) }
-    ensures same { OnErr result (runs.new ≡ runs.old) }
+    requires later { store.old.applied < part.change }
+    ensures applied { OnOk result (store.new.applied ≡ part.change) }
+    ensures added { OnOk result (AreAdded store.old.entries (brought_for W.keys_in part (option_copied work.entry)) store.new.entries) }
+    ensures same { OnErr result (store.new ≡ store.old) }
     ensures steps { OnOk result (steps.new ≡ steps.old + length (brought_for W.keys_in part (option_copied work.entry))) }
     ensures most { steps.new ≤ steps.old + length (brought_for W.keys_in part (option_copied work.entry)) }
 {
     let entries = entries_for(alloc, part, work)?;
-    runs.add(alloc, entries, steps)
+    store.add(alloc, part.change, entries, steps)
 }

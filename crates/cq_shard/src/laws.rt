@@ -34,3 +34,8 @@ pub fn applying_adds_its_rows<W: Indexed>()
 pub fn sweeping_takes_out_alone<W: Indexed>()
     ensures { (settings : Settings) → law.SweepingTakesOutAlone (HasWindow W.keys_in W.IsWorkOf settings) }
 {}
+
+/// Swept of what a change up to its new floor supersedes, a shard stands for the changes that it stood for.
+pub fn it_stands_swept<W: Indexed>()
+    ensures { (settings : Settings) → law.StandsSwept (HasWindow W.keys_in W.IsWorkOf settings) }
+{}

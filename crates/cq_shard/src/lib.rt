@@ -4,7 +4,13 @@
 //! keys, a run for some changes that follow each other. A run is merged with the one before it where that has less than twice
 //! its entries, so an entry is moved about as often as the logarithm of how many there are. A bucket costs a search in each
 //! run, which looks at a few entries side by side where keys are spread evenly and is at most a binary search and eight looks
-//! more, and one among the live changes for each entry with its key.
+//! more, and one among the live changes for each entry with its key, and for each of those that are live one among the
+//! changes with entries, as long as swept entries still lie in the runs.
+//! A sweep takes no memory. It goes through the dead changes and those that have entries here from stretch to stretch, each by
+//! a search from where the last one ended, so it costs no more than a look at each of the shorter list's and a logarithm for
+//! each way between. Where it takes some out, the later changes of the shard move up, 16 bytes for each. Their entries stay in
+//! the runs until they are as many as all others; then all runs are cleared where they stand, so each entry that goes pays for
+//! a search of two at most. A run that was cleared keeps its room until it is merged.
 #![tactic(auto)]
 
 mod applying;
@@ -15,11 +21,13 @@ mod run;
 mod runs;
 mod searching;
 mod shard;
+mod store;
+mod table;
 
 pub use indexed::{Indexed, lent};
 pub use laws::{
     applying_adds_its_rows, it_answers_what_it_holds, it_stands_at_first, it_stands_on,
-    shards_stay, sweeping_takes_out_alone,
+    it_stands_swept, shards_stay, sweeping_takes_out_alone,
 };
 pub use parting::parted;
 pub use shard::Shard;

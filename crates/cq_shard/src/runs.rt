@@ -1,10 +1,12 @@
-ghost use Rattle.std.specs.Prelude.{◌≡◌, ◌++◌, ◌∷◌, ◌+◌, ◌≤◌, [], length, take, AllPairs, IfOk, OnOk, OnErr};
+ghost use Rattle.std.specs.Prelude.{◌≡◌, ◌++◌, ◌∷◌, ◌+◌, ◌≤◌, [], length, take, map, AllPairs, IfOk, OnOk, OnErr};
 ghost use Rattle.std.specs.List.Sorted.{IsStrictlyIncreasing};
 ghost use Rattle.cq_clones.specs.Windows.{EntryBefore};
 ghost use Rattle.cq_shard.specs.Runs.{AreRuns, AreRunsWith, AreAdded, Precedes};
 ghost use Rattle.cq_shard.specs.Shard.{AreAsked};
+ghost use Rattle.cq_shard.specs.Stores.{those_of};
 
 use crate::run::Run;
+use crate::table::Table;
 use cq_base::{Entry, Memory, Steps};
 use std::alloc::Global;
 use std::marker::Model;
@@ -74,6 +76,22 @@ impl Runs {
             run.find(key, live, &mut bucket)?;
         }
         Ok(bucket)
+    }
+
+    /// The entries of these changes alone. It looks at each entry, and takes no memory.
+    pub fn keep(&mut self, changes: &Table)
+        ensures { self.new ≡ those_of changes.now self.old }
+    {
+        keep_each(&mut self.runs, changes);
+    }
+}
+
+// The entries of these changes alone, in each run.
+fn keep_each(runs: &mut Vec<Run>, changes: &Table)
+    ensures { runs.new.items ≡ map (those_of changes.now) runs.old.items }
+{
+    for i in 0..runs.len() {
+        runs[i].keep(changes);
     }
 }
 

@@ -1,11 +1,11 @@
 ghost use Rattle.std.specs.Prelude.{◌≡◌, ◌+◌, ◌<◌, ◌≤◌, ◌^◌, [], length, option_copied, IfOk, OnOk, OnErr, IfSome};
 ghost use Rattle.std.specs.List.Sorted.{IsStrictlyIncreasing};
-ghost use Rattle.cq_shard.specs.Shard.{StandsOnWith, StandsOnWithAll, IsSameShard, cost_of, all_brought_to, AreAsked};
+ghost use Rattle.cq_shard.specs.Shard.{StandsOnWith, StandsOnWithAll, IsSameShard, cost_of, all_brought_to, AreAsked, swept};
 
 use crate::applying::{Part, add_work};
 use crate::indexed::Indexed;
 use crate::laws::applying_adds_its_rows;
-use crate::runs::Runs;
+use crate::store::Store;
 use cq_base::{Entry, Memory, Steps};
 use std::alloc::Global;
 use std::marker::Model;
@@ -17,10 +17,9 @@ use std::sync::ledger::Ledger;
 pub struct Shard {
     shard: u32,
     shards: u32,
-    applied: u64,
     floor: u64,
     alloc: Global,
-    runs: Runs,
+    store: Store,
 }
 
 impl Model for Shard {
@@ -28,9 +27,9 @@ impl Model for Shard {
 
     ghost Value = { Contents };
 
-    ghost view = { λ s. record { shard = s.shard; shards = s.shards; applied = s.applied; floor = s.floor; entries = s.runs } };
+    ghost view = { λ s. record { shard = s.shard; shards = s.shards; applied = s.store.applied; floor = s.floor; entries = s.store.entries } };
 
-    ghost invariant = { λ s. IsShard (record { shard = s.shard; shards = s.shards; applied = s.applied; floor = s.floor; entries = s.runs }) };
+    ghost invariant = { λ s. IsShard (record { shard = s.shard; shards = s.shards; applied = s.store.applied; floor = s.floor; entries = s.store.entries }) };
 }
 
 impl Shard {
@@ -42,10 +41,9 @@ impl Shard {
         Shard {
             shard,
             shards,
-            applied: 0,
             floor: 0,
             alloc,
-            runs: Runs::new(alloc),
+            store: Store::new(alloc),
         }
     }
 
@@ -53,7 +51,7 @@ impl Shard {
     pub fn applied(&self) -> u64
         ensures { result ≡ self.now.applied }
     {
-        self.applied
+        self.store.applied()
     }
 
     /// What a change up to this one supersedes is no longer held.
@@ -87,8 +85,7 @@ impl Shard {
             shards: self.shards,
             change,
         };
-        add_work(self.alloc, &mut self.runs, part, work, steps)?;
-        self.applied = change;
+        add_work(self.alloc, &mut self.store, part, work, steps)?;
         Ok(())
     }
 
@@ -111,8 +108,8 @@ impl Shard {
         ensures most { steps.new ≤ steps.old + length (all_brought_to W.keys_in self.old works.now) }
     {
         applying_adds_its_rows::<W>();
-        self.runs.add(self.alloc, part, steps)?;
-        self.applied += works.len() as u64;
+        let applied = self.store.applied() + works.len() as u64;
+        self.store.add(self.alloc, applied, part, steps)?;
         Ok(())
     }
 
@@ -122,6 +119,18 @@ impl Shard {
         requires rising { IsStrictlyIncreasing live.now }
         ensures { IfOk result (λ bucket. AreAsked key live.now self.now.entries bucket.items) }
     {
-        self.runs.bucket(alloc, key, live)
+        self.store.bucket(alloc, key, live)
+    }
+
+    /// Takes the entries of the dead changes out, which are those that a change up to the new floor supersedes. It takes no
+    /// memory.
+    pub fn sweep(&mut self, floor: u64, dead: &[u64])
+        requires low { self.old.floor ≤ floor }
+        requires high { floor ≤ self.old.applied }
+        requires rising { IsStrictlyIncreasing dead.now }
+        ensures { self.new ≡ swept floor dead.now self.old }
+    {
+        self.store.sweep(dead);
+        self.floor = floor;
     }
 }

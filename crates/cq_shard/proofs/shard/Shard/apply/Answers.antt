@@ -8,24 +8,24 @@ use Rattle.cq_shard.proofs.shard.Shard.apply.Goals as goal
 pub invariant_of-self-2 : goal.invariant_of-self-2
 invariant_of-self-2 g c =
     let s = c.self.inside in
-    let own : Contents = record { shard = s.shard; shards = s.shards; applied = s.applied; floor = s.floor; entries = s.runs } in
-    let next : s.applied + 1 ≡ c.args.change = ap (λ (v : Contents). v.applied + 1) c.self.view_is ∙ sym c.requires.next in
-    let added : AreAdded s.runs (brought g.W.Indexed.keys_in (s.applied + 1) s.shard s.shards (option_copied c.args.work)) c.add_work.new.runs =
-    subst (λ (n : ℕ). AreAdded s.runs (brought g.W.Indexed.keys_in n s.shard s.shards (option_copied c.args.work)) c.add_work.new.runs) (sym next) c.in_ok-add_work.ensures.added in
-    subst (λ (a : ℕ). let v : Contents = record { shard = s.shard; shards = s.shards; applied = a; floor = s.floor; entries = c.add_work.new.runs } in IsShard v) next
-    (brought_is_shard g.W.Indexed.keys_in own (option_copied c.args.work) c.add_work.new.runs c.self.invariant added)
+    let own : Contents = record { shard = s.shard; shards = s.shards; applied = s.store.applied; floor = s.floor; entries = s.store.entries } in
+    let next : s.store.applied + 1 ≡ c.args.change = ap (λ (v : Contents). v.applied + 1) c.self.view_is ∙ sym c.requires.next in
+    let added : AreAdded s.store.entries (brought g.W.Indexed.keys_in (s.store.applied + 1) s.shard s.shards (option_copied c.args.work)) c.add_work.new.store.entries =
+    subst (λ (n : ℕ). AreAdded s.store.entries (brought g.W.Indexed.keys_in n s.shard s.shards (option_copied c.args.work)) c.add_work.new.store.entries) (sym next) c.in_ok-add_work.ensures.added in
+    subst (λ (a : ℕ). let v : Contents = record { shard = s.shard; shards = s.shards; applied = a; floor = s.floor; entries = c.add_work.new.store.entries } in IsShard v) (next ∙ sym c.in_ok-add_work.ensures.applied)
+    (brought_is_shard g.W.Indexed.keys_in own (option_copied c.args.work) c.add_work.new.store.entries c.self.invariant added)
 
 pub returns-clause-stands : goal.returns-clause-stands
 returns-clause-stands g c settings changes stands of =
     let s = c.self.inside in
-    let own : Contents = record { shard = s.shard; shards = s.shards; applied = s.applied; floor = s.floor; entries = s.runs } in
-    let next : s.applied + 1 ≡ c.args.change = ap (λ (v : Contents). v.applied + 1) c.self.view_is ∙ sym c.requires.next in
-    let added : AreAdded s.runs (brought g.W.Indexed.keys_in (s.applied + 1) s.shard s.shards (option_copied c.args.work)) c.add_work.new.runs =
-    subst (λ (n : ℕ). AreAdded s.runs (brought g.W.Indexed.keys_in n s.shard s.shards (option_copied c.args.work)) c.add_work.new.runs) (sym next) c.in_ok-add_work.ensures.added in
-    subst (λ (a : ℕ). let v : Contents = record { shard = s.shard; shards = s.shards; applied = a; floor = s.floor; entries = c.add_work.new.runs } in StandsFor (HasWindow g.W.Indexed.keys_in g.W.Indexed.IsWorkOf settings) changes v) next
-    (brought_stands (HasWindow g.W.Indexed.keys_in g.W.Indexed.IsWorkOf settings) g.W.Indexed.keys_in (g.W.Indexed.IsWorkOf settings) changes own (change_at changes (s.applied + 1)) (option_copied c.args.work) c.add_work.new.runs added
+    let own : Contents = record { shard = s.shard; shards = s.shards; applied = s.store.applied; floor = s.floor; entries = s.store.entries } in
+    let next : s.store.applied + 1 ≡ c.args.change = ap (λ (v : Contents). v.applied + 1) c.self.view_is ∙ sym c.requires.next in
+    let added : AreAdded s.store.entries (brought g.W.Indexed.keys_in (s.store.applied + 1) s.shard s.shards (option_copied c.args.work)) c.add_work.new.store.entries =
+    subst (λ (n : ℕ). AreAdded s.store.entries (brought g.W.Indexed.keys_in n s.shard s.shards (option_copied c.args.work)) c.add_work.new.store.entries) (sym next) c.in_ok-add_work.ensures.added in
+    subst (λ (a : ℕ). let v : Contents = record { shard = s.shard; shards = s.shards; applied = a; floor = s.floor; entries = c.add_work.new.store.entries } in StandsFor (HasWindow g.W.Indexed.keys_in g.W.Indexed.IsWorkOf settings) changes v) (next ∙ sym c.in_ok-add_work.ensures.applied)
+    (brought_stands (HasWindow g.W.Indexed.keys_in g.W.Indexed.IsWorkOf settings) g.W.Indexed.keys_in (g.W.Indexed.IsWorkOf settings) changes own (change_at changes (s.store.applied + 1)) (option_copied c.args.work) c.add_work.new.store.entries added
     (λ lang text w h. work_windows g.W.Indexed.keys_in g.W.Indexed.IsWorkOf settings lang text w (λ other also. g.met.W.Indexed.determined settings lang text other w also h) h)
-    (c.applying_adds_its_rows.ensures settings s.shards changes s.shard s.applied s.floor c.self.invariant.passed)
+    (c.applying_adds_its_rows.ensures settings s.shards changes s.shard s.store.applied s.floor c.self.invariant.passed)
     (subst (StandsFor (HasWindow g.W.Indexed.keys_in g.W.Indexed.IsWorkOf settings) changes) (sym c.self.view_is) stands)
     refl
     (subst (λ (n : ℕ). HasItsWork (g.W.Indexed.IsWorkOf settings) (change_at changes n) (option_copied c.args.work)) (sym next) of))

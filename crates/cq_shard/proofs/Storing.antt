@@ -1,0 +1,192 @@
+-- The entries that count, as entries come and as changes are taken out.
+use Rattle.std.proofs.Common.{◌≡◌, ◌≢◌, ◌⊎◌, ◌↔◌, Ok, Err, Result, ℕ, suc, ◌+◌, ◌<◌, ◌≤◌, Bool, true, false, cond, not, ◌&&◌, nat_eq, List, [], ◌∷◌, ◌++◌, map, filter, refl, sym, ap, ◌∙◌, subst, inl, inr, ⊎_elim, arith}
+use Rattle.std.specs.Prelude.{All, AllPairs, Contains, OnOk}
+use Rattle.std.specs.List.{list_any}
+use Rattle.std.proofs.lemmas.Bool.{eqb-true}
+use Rattle.std.proofs.lemmas.List.Elements.{All-contains, filter-append}
+use Rattle.std.proofs.lemmas.List.Kept.{AllPairs-filter}
+use Rattle.std.proofs.lemmas.Map.Views.{Contains-from_any, any-filter_same}
+use Rattle.cq_base.specs.declared.entry.Entry.{Entry}
+use Rattle.cq_base.proofs.Lists.{Contains-here, Contains-there, Contains-map, Contains-from_map, Contains-filter, Contains-from_filter, All-from_contains, AllPairs-map, AllPairs-weaker}
+use Rattle.cq_clones.specs.Lists.{AreAllInOrder}
+use Rattle.cq_clones.specs.Windows.{EntryBefore}
+use Rattle.cq_shard.specs.Runs.{RowBefore, IsRun, Precedes, AreRuns, AreDifferent, AreAdded, entries_in}
+use Rattle.cq_shard.specs.Tables.{is_among, outside, changes_of, AreNoted}
+use Rattle.cq_shard.specs.Stores.{those_of, without, Stored, stored, left_by, IsStore}
+use Rattle.cq_shard.proofs.Entries.{any_of}
+
+-- ---- what a filter by changes keeps
+
+pub from_those : (changes : List ℕ) (rows : List Entry) (e : Entry) → Contains (those_of changes rows) e → Contains rows e × Contains changes e.change
+from_those changes rows e c =
+    let found = Contains-from_filter (λ (e : Entry). is_among changes e.change) rows e c in
+    (found.0, Contains-from_any eqb-true e.change changes found.1)
+
+pub to_those : (changes : List ℕ) (rows : List Entry) (e : Entry) → Contains rows e → Contains changes e.change → Contains (those_of changes rows) e
+to_those changes rows e here of = Contains-filter (λ (e : Entry). is_among changes e.change) rows e here (any_of e.change changes of)
+
+pub those_all : (changes : List ℕ) (rows : List Entry) → ((e : Entry) → Contains rows e → Contains changes e.change) → those_of changes rows ≡ rows
+those_all changes [] of = refl
+those_all changes (e ∷ rows) of =
+    ap (λ b. cond b (e ∷ those_of changes rows) (those_of changes rows)) (any_of e.change changes (of e (Contains-here e rows)))
+    ∙ ap (λ es. e ∷ es) (those_all changes rows (λ z c. of z (Contains-there e z rows c)))
+
+pub those_again : (changes : List ℕ) (rows : List Entry) → those_of changes (those_of changes rows) ≡ those_of changes rows
+those_again changes rows = those_all changes (those_of changes rows) (λ e c. (from_those changes rows e c).1)
+
+-- ---- changes are taken out
+
+among_outside : (dead changes : List ℕ) (n : ℕ) → is_among (outside dead changes) n ≡ (not (is_among dead n) && is_among changes n)
+among_outside dead changes n = any-filter_same (nat_eq n) (λ k. not (is_among dead k)) (not (is_among dead n)) (λ k same. ap (λ m. not (is_among dead m)) (sym (eqb-true n k same))) changes
+
+step : (p q b : Bool) (e : Entry) (xs : List Entry) (dead : List ℕ) → b ≡ (not q && p) → q ≡ is_among dead e.change →
+    cond b (e ∷ without dead xs) (without dead xs) ≡ without dead (cond p (e ∷ xs) xs)
+step true true b e xs dead is same = ap (λ b. cond b (e ∷ without dead xs) (without dead xs)) is ∙ ap (λ q. cond (not q) (e ∷ without dead xs) (without dead xs)) same
+step true false b e xs dead is same = ap (λ b. cond b (e ∷ without dead xs) (without dead xs)) is ∙ ap (λ q. cond (not q) (e ∷ without dead xs) (without dead xs)) same
+step false true b e xs dead is same = ap (λ b. cond b (e ∷ without dead xs) (without dead xs)) is
+step false false b e xs dead is same = ap (λ b. cond b (e ∷ without dead xs) (without dead xs)) is
+
+pub those_outside : (dead changes : List ℕ) (rows : List Entry) → those_of (outside dead changes) rows ≡ without dead (those_of changes rows)
+those_outside dead changes [] = refl
+those_outside dead changes (e ∷ rows) =
+    ap (λ es. cond (is_among (outside dead changes) e.change) (e ∷ es) es) (those_outside dead changes rows)
+    ∙ step (is_among changes e.change) (is_among dead e.change) (is_among (outside dead changes) e.change) e (those_of changes rows) dead (among_outside dead changes e.change) refl
+
+-- ---- in runs
+
+pub entries_kept : (changes : List ℕ) (runs : List (List Entry)) → entries_in (map (those_of changes) runs) ≡ those_of changes (entries_in runs)
+entries_kept changes [] = refl
+entries_kept changes (run ∷ runs) =
+    ap (λ es. those_of changes run ++ es) (entries_kept changes runs)
+    ∙ sym (filter-append (λ (e : Entry). is_among changes e.change) run (entries_in runs))
+
+pub runs_kept : (changes : List ℕ) (runs : List (List Entry)) → AreRuns runs → AreRuns (map (those_of changes) runs)
+runs_kept changes runs are = record {
+  sorted = All-from_contains IsRun (map (those_of changes) runs) (λ run c.
+      let (old, there, is) = Contains-from_map (those_of changes) runs run c in
+      subst IsRun is (AllPairs-filter RowBefore (λ (e : Entry). is_among changes e.change) old (All-contains IsRun runs old are.sorted there)));
+  follow = AllPairs-map Precedes (those_of changes) runs
+      (AllPairs-weaker Precedes (λ a b. Precedes (those_of changes a) (those_of changes b)) runs
+      (λ a b here there before x y in_a in_b. before x y (from_those changes a x in_a).0 (from_those changes b y in_b).0)
+      are.follow);
+}
+
+-- ---- what is asked
+
+pub asked_those : (key : ℕ) (live changes : List ℕ) (rows bucket : List Entry) →
+    AreAllInOrder EntryBefore (λ e. (e.key ≡ key) × Contains live e.change × Contains rows e) bucket →
+    AreAllInOrder EntryBefore (λ e. (e.key ≡ key) × Contains live e.change × Contains (those_of changes rows) e) (those_of changes bucket)
+asked_those key live changes rows bucket are = record {
+  ordered = AllPairs-filter EntryBefore (λ (e : Entry). is_among changes e.change) bucket are.ordered;
+  each = λ e. (
+    λ h. let found = from_those changes bucket e h in
+        let asked = (are.each e).0 found.0 in
+        (asked.0, asked.1, to_those changes rows e asked.2 found.1),
+    λ (is, lives, there). let found = from_those changes rows e there in to_those changes bucket e ((are.each e).1 (is, lives, found.0)) found.1,
+  );
+}
+
+-- ---- entries come
+
+module _ (applied later : ℕ) (changes noted : List ℕ) (rows entries more : List Entry) (gone : ℕ) (is : IsStore applied changes rows gone) (further : applied ≤ later)
+    (behind : All (λ e. applied < e.change) entries) (within : All (λ e. e.change ≤ later) entries) (are : AreNoted entries changes noted) (added : AreAdded rows entries more) where
+  change_in : (e : Entry) → Contains entries e → Contains (changes_of entries) e.change
+  change_in e c = Contains-map (λ (e : Entry). e.change) entries e c
+
+  pub stored_added : AreAdded (those_of changes rows) entries (those_of noted more)
+  stored_added = record {
+    each = λ e. (
+      λ h. let found = from_those noted more e h in
+          ⊎_elim
+          (λ old. inl (to_those changes rows e old (⊎_elim
+          (λ was. was)
+          (λ new.
+          let (f, there, same) = Contains-from_map (λ (e : Entry). e.change) entries e.change new in
+          let low = All-contains (λ (e : Entry). e.change ≤ applied) rows e is.brought old in
+          let high = All-contains (λ (e : Entry). applied < e.change) entries f behind there in
+          absurd (omega (arith, low, high, same)))
+          ((are e.change).0 found.1))))
+          (λ new. inr new)
+          ((added.each e).0 found.0),
+      λ h. ⊎_elim
+          (λ old. let found = from_those changes rows e old in to_those noted more e ((added.each e).1 (inl found.0)) ((are e.change).1 (inl found.1)))
+          (λ new. to_those noted more e ((added.each e).1 (inr new)) ((are e.change).1 (inr (change_in e new))))
+          h,
+    );
+    different = λ _. AllPairs-filter (λ a b. a ≢ b) (λ (e : Entry). is_among noted e.change) more (added.different is.different);
+  }
+
+  pub store_added : IsStore later noted more gone
+  store_added = record {
+    known = All-from_contains (λ n. n ≤ later) noted (λ n c. ⊎_elim
+        (λ was. let low = All-contains (λ n. n ≤ applied) changes n is.known was in omega (arith, low, further))
+        (λ new.
+        let (e, there, same) = Contains-from_map (λ (e : Entry). e.change) entries n new in
+        let low = All-contains (λ (e : Entry). e.change ≤ later) entries e within there in
+        omega (arith, low, same))
+        ((are n).0 c));
+    brought = All-from_contains (λ (e : Entry). e.change ≤ later) more (λ e c. ⊎_elim
+        (λ old. let low = All-contains (λ (e : Entry). e.change ≤ applied) rows e is.brought old in omega (arith, low, further))
+        (λ new. All-contains (λ (e : Entry). e.change ≤ later) entries e within new)
+        ((added.each e).0 c));
+    different = added.different is.different;
+    whole = λ none e c. ⊎_elim
+        (λ old. (are e.change).1 (inl (is.whole none e old)))
+        (λ new. (are e.change).1 (inr (change_in e new)))
+        ((added.each e).0 c);
+  }
+
+-- those that come are of later changes than all before
+pub rows_precede : (applied : ℕ) (changes : List ℕ) (rows entries : List Entry) (gone : ℕ) → IsStore applied changes rows gone → All (λ e. applied < e.change) entries → Precedes rows entries
+rows_precede applied changes rows entries gone is behind a b here there =
+    let low = All-contains (λ (e : Entry). e.change ≤ applied) rows a is.brought here in
+    let high = All-contains (λ (e : Entry). applied < e.change) entries b behind there in
+    omega (arith, low, high)
+
+pub changes_precede : (applied : ℕ) (changes : List ℕ) (rows entries : List Entry) (gone : ℕ) → IsStore applied changes rows gone → All (λ e. applied < e.change) entries → (n : ℕ) (e : Entry) → Contains changes n → Contains entries e → n < e.change
+changes_precede applied changes rows entries gone is behind n e here there =
+    let low = All-contains (λ n. n ≤ applied) changes n is.known here in
+    let high = All-contains (λ (e : Entry). applied < e.change) entries e behind there in
+    omega (arith, low, high)
+
+-- ---- a sweep
+
+outside_known : (applied : ℕ) (dead changes : List ℕ) → All (λ n. n ≤ applied) changes → All (λ n. n ≤ applied) (outside dead changes)
+outside_known applied dead changes known = All-from_contains (λ n. n ≤ applied) (outside dead changes) (λ n c. All-contains (λ n. n ≤ applied) changes n known (Contains-from_filter (λ n. not (is_among dead n)) changes n c).0)
+
+-- the entries still lie there
+pub store_marked : (applied : ℕ) (dead changes : List ℕ) (rows : List Entry) (gone more : ℕ) → IsStore applied changes rows gone → (more ≡ 0 → (gone ≡ 0) × (outside dead changes ≡ changes)) → IsStore applied (outside dead changes) rows more
+store_marked applied dead changes rows gone more is none = record {
+  known = outside_known applied dead changes is.known;
+  brought = is.brought;
+  different = is.different;
+  whole = λ zero e c. let same = none zero in subst (λ ns. Contains ns e.change) (sym same.1) (is.whole same.0 e c);
+}
+
+-- or are cleared
+pub store_cleared : (applied : ℕ) (dead changes : List ℕ) (rows : List Entry) (gone : ℕ) → IsStore applied changes rows gone → IsStore applied (outside dead changes) (those_of (outside dead changes) rows) 0
+store_cleared applied dead changes rows gone is =
+    let left = outside dead changes in
+    record {
+      known = outside_known applied dead changes is.known;
+      brought = All-from_contains (λ (e : Entry). e.change ≤ applied) (those_of left rows) (λ e c. All-contains (λ (e : Entry). e.change ≤ applied) rows e is.brought (from_those left rows e c).0);
+      different = AllPairs-filter (λ a b. a ≢ b) (λ (e : Entry). is_among left e.change) rows is.different;
+      whole = λ zero e c. (from_those left rows e c).1;
+    }
+
+-- what counts then, as it was before but for the dead
+pub left_marked : (applied : ℕ) (dead changes left : List ℕ) (rows : List Entry) (old : Stored) → stored applied changes rows ≡ old → left ≡ outside dead changes → stored applied left rows ≡ left_by dead old
+left_marked applied dead changes left rows old was is =
+    ap (λ ns. stored applied ns rows) is
+    ∙ ap (λ (es : List Entry). let s : Stored = record { applied = applied; entries = es } in s) (those_outside dead changes rows)
+    ∙ ap (left_by dead) was
+
+pub left_cleared : (applied : ℕ) (dead changes left : List ℕ) (rows kept : List Entry) (old : Stored) → stored applied changes rows ≡ old → left ≡ outside dead changes → kept ≡ those_of left rows → stored applied left kept ≡ left_by dead old
+left_cleared applied dead changes left rows kept old was is cleared =
+    ap (stored applied left) cleared
+    ∙ ap (λ (es : List Entry). let s : Stored = record { applied = applied; entries = es } in s) (those_again left rows)
+    ∙ left_marked applied dead changes left rows old was is
+
+pub always_ok : {T E P : Type 0} (r : Result T E) → P → OnOk r P
+always_ok (Ok x) is = is
+always_ok (Err e) is = tt

@@ -1,0 +1,32 @@
+-- The entries that a shard stores. Those of changes that a sweep took out may lie there for a while, but count no more.
+use Rattle.std.specs.Prelude.{◌≡◌, ℕ, ◌≤◌, not, List, filter, All, Contains}
+use Rattle.cq_base.specs.declared.entry.Entry.{Entry}
+use Rattle.cq_shard.specs.Runs.{AreDifferent}
+use Rattle.cq_shard.specs.Tables.{is_among}
+
+-- the entries of these changes
+abbrev pub those_of : List ℕ → List Entry → List Entry
+those_of changes entries = filter (λ (e : Entry). is_among changes e.change) entries
+
+-- the entries of all other changes
+abbrev pub without : List ℕ → List Entry → List Entry
+without dead entries = filter (λ (e : Entry). not (is_among dead e.change)) entries
+
+-- up to which change all were added, and the entries that count
+pub record Stored : Type 0 where
+  pub applied : ℕ
+  pub entries : List Entry
+
+abbrev pub stored : ℕ → List ℕ → List Entry → Stored
+stored applied changes rows = record { applied = applied; entries = those_of changes rows }
+
+-- the entries of the dead changes count no more
+abbrev pub left_by : List ℕ → Stored → Stored
+left_by dead s = record { applied = s.applied; entries = without dead s.entries }
+
+-- The entries that lie there are of the changes so far. Where none of them is known to be gone, all are of changes that stand.
+pub record IsStore (applied : ℕ) (changes : List ℕ) (rows : List Entry) (gone : ℕ) : Type 0 where
+  pub known : All (λ n. n ≤ applied) changes
+  pub brought : All (λ e. e.change ≤ applied) rows
+  pub different : AreDifferent rows
+  pub whole : gone ≡ 0 → (e : Entry) → Contains rows e → Contains changes e.change

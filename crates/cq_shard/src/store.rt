@@ -1,0 +1,143 @@
+ghost use Rattle.std.specs.Prelude.{◌≡◌, ◌+◌, ◌<◌, ◌≤◌, [], length, take, All, AllPairs, IfOk, OnOk, OnErr};
+ghost use Rattle.std.specs.List.Sorted.{IsStrictlyIncreasing};
+ghost use Rattle.cq_clones.specs.Windows.{EntryBefore};
+ghost use Rattle.cq_shard.specs.Runs.{AreAdded, Precedes};
+ghost use Rattle.cq_shard.specs.Shard.{AreAsked};
+ghost use Rattle.cq_shard.specs.Stores.{left_by};
+ghost use Rattle.cq_shard.specs.Tables.{AreBefore, AreNoted};
+
+use crate::runs::Runs;
+use crate::table::Table;
+use cq_base::{Entry, Memory, Steps};
+use std::alloc::Global;
+use std::marker::Model;
+use std::sync::ledger::Ledger;
+
+/// The entries of a shard, and of which changes those are that no sweep took out. What a sweep takes out stays in the runs
+/// until it is as much as all others; then the runs are cleared where they stand. So sweeping takes no memory, and each
+/// entry is looked at about twice for it over its life.
+#[derive(Drop)]
+pub(crate) struct Store {
+    runs: Runs,
+    table: Table,
+    applied: u64,
+    standing: u64,
+    gone: u64,
+}
+
+impl Model for Store {
+    ghost use Rattle.cq_shard.specs.Stores.{Stored, stored, IsStore};
+
+    ghost Value = { Stored };
+
+    ghost view = { λ s. stored s.applied s.table s.runs };
+
+    ghost invariant = { λ s. IsStore s.applied s.table s.runs s.gone };
+}
+
+impl Store {
+    /// No entries. It takes no memory.
+    pub fn new(alloc: Global) -> Store
+        ensures { result ≡ record { applied = 0; entries = [] } }
+    {
+        Store {
+            runs: Runs::new(alloc),
+            table: Table::new(alloc),
+            applied: 0,
+            standing: 0,
+            gone: 0,
+        }
+    }
+
+    /// Up to which change all were added.
+    pub fn applied(&self) -> u64
+        ensures { result ≡ self.now.applied }
+    {
+        self.applied
+    }
+
+    /// The entries of the changes up to this one more, by change and place; none of them where memory is refused. Each is one
+    /// step.
+    pub fn add<L: Ledger>(
+        &mut self,
+        alloc: Global,
+        applied: u64,
+        entries: Vec<Entry>,
+        steps: &mut Steps<L>,
+    ) -> Result<(), Memory>
+        requires further { self.old.applied ≤ applied }
+        requires ordered { AllPairs EntryBefore entries.items }
+        requires later { All (λ e. self.old.applied < e.change) entries.items }
+        requires known { All (λ e. e.change ≤ applied) entries.items }
+        ensures applied { OnOk result (self.new.applied ≡ applied) }
+        ensures added { OnOk result (AreAdded self.old.entries entries.items self.new.entries) }
+        ensures same { OnErr result (self.new ≡ self.old) }
+        ensures steps { OnOk result (steps.new ≡ steps.old + length entries.items) }
+        ensures most { steps.new ≤ steps.old + length entries.items }
+    {
+        let added = entries.len() as u64;
+        let noted = self.table.len();
+        match put(alloc, &mut self.runs, &mut self.table, entries, steps) {
+            Ok(()) => {
+                self.applied = applied;
+                self.standing = self.standing.saturating_add(added);
+                Ok(())
+            }
+            Err(refused) => {
+                self.table.cut(noted);
+                Err(refused)
+            }
+        }
+    }
+
+    /// Those with the key whose change is one of `live`, by change and place. It searches each run, `live` for each entry
+    /// with the key, and the changes that stand for each of a live one, where some are gone.
+    pub fn bucket(&self, alloc: Global, key: u64, live: &[u64]) -> Result<Vec<Entry>, Memory>
+        requires { IsStrictlyIncreasing live.now }
+        ensures { IfOk result (λ bucket. AreAsked key live.now self.now.entries bucket.items) }
+    {
+        let mut bucket = self.runs.bucket(alloc, key, live)?;
+        if self.gone == 0 {
+            return Ok(bucket);
+        }
+        self.table.keep(&mut bucket);
+        Ok(bucket)
+    }
+
+    /// Takes the entries of the dead changes out. It takes no memory.
+    pub fn sweep(&mut self, dead: &[u64])
+        requires { IsStrictlyIncreasing dead.now }
+        ensures { self.new ≡ left_by dead.now self.old }
+    {
+        let taken = self.table.take_out(dead);
+        self.gone = self.gone.saturating_add(taken);
+        self.standing = self.standing.saturating_sub(taken);
+        if self.gone < self.standing {
+            return;
+        }
+        self.runs.keep(&self.table);
+        self.gone = 0;
+    }
+}
+
+// The entries more in the runs, and their changes in the table; where memory is refused, some in the table alone.
+fn put<L: Ledger>(
+    alloc: Global,
+    runs: &mut Runs,
+    table: &mut Table,
+    entries: Vec<Entry>,
+    steps: &mut Steps<L>,
+) -> Result<(), Memory>
+    requires ordered { AllPairs EntryBefore entries.items }
+    requires rows { Precedes runs.old entries.items }
+    requires changes { AreBefore table.old entries.items }
+    ensures front { take (length table.old) table.new ≡ table.old }
+    ensures noted { OnOk result (AreNoted entries.items table.old table.new) }
+    ensures added { OnOk result (AreAdded runs.old entries.items runs.new) }
+    ensures same { OnErr result (runs.new ≡ runs.old) }
+    ensures steps { OnOk result (steps.new ≡ steps.old + length entries.items) }
+    ensures most { steps.new ≤ steps.old + length entries.items }
+{
+    table.note(&entries)?;
+    runs.add(alloc, entries, steps)
+}

@@ -1,0 +1,5 @@
+//! Trials of sweeping a shard, over a work of two windows.
+#![tactic(auto)]
+
+#[cfg(test)]
+mod sweeps;

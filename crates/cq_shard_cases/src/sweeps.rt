@@ -1,0 +1,133 @@
+ghost use Rattle.std.specs.Prelude.{◌≡◌};
+
+use cq_base::{Entry, Memory, Steps};
+use cq_shard::{Indexed, Shard};
+use std::alloc::Global;
+use std::marker::Brand;
+use std::sync::ledger::{Blank, Ledger};
+
+// A work of two windows, whose keys are the two numbers that its text has.
+#[derive(Drop)]
+struct Two {
+    keys: [u64; 2],
+}
+
+impl Indexed for Two {
+    ghost use Rattle.std.specs.Prelude.{◌≡◌, length};
+    ghost use Rattle.std.proofs.Common.{◌∙◌, sym, rules};
+
+    ghost keys_in = { λ work. work.keys };
+
+    ghost IsWorkOf = { λ settings lang text work. (work.keys ≡ text) × (length text ≡ 2) };
+
+    fn keys(&self) -> &[u64] {
+        &self.keys
+    }
+
+    ghost determined = { λ settings lang text work other is also. is.0 ∙ sym also.0 };
+
+    ghost few = { Prim.search rules };
+}
+
+// Of three puts, the first of which the third replaces: the bucket of key 3 behind the sweep, of all three, and the floor.
+fn replaced<L: Ledger>(alloc: Global, blank: Blank) -> Result<(Vec<Entry>, u64), Memory>
+    requires name { blank.name ≡ L.name }
+    requires parts { blank.parts ≡ L.parts }
+{
+    let mut steps: Steps<L> = Steps::new(blank);
+    let mut shard = Shard::new(alloc, 0, 1);
+    shard.apply(1, Some(&Two { keys: [3, 5] }), &mut steps)?;
+    shard.apply(2, Some(&Two { keys: [3, 7] }), &mut steps)?;
+    shard.apply(3, Some(&Two { keys: [9, 3] }), &mut steps)?;
+    shard.sweep(3, &[1]);
+    let left = shard.bucket(alloc, 3, &[1, 2, 3])?;
+    Ok((left, shard.floor()))
+}
+
+fn once(alloc: Global) -> Result<(Vec<Entry>, u64), Memory> {
+    replaced::<Brand>(alloc, Blank::new(1))
+}
+
+// The same where all but the last are dead: swept twice up to the same floor, so that the entries are cleared.
+fn cleared<L: Ledger>(alloc: Global, blank: Blank) -> Result<(Vec<Entry>, u64), Memory>
+    requires name { blank.name ≡ L.name }
+    requires parts { blank.parts ≡ L.parts }
+{
+    let mut steps: Steps<L> = Steps::new(blank);
+    let mut shard = Shard::new(alloc, 0, 1);
+    shard.apply(1, Some(&Two { keys: [3, 5] }), &mut steps)?;
+    shard.apply(2, Some(&Two { keys: [3, 7] }), &mut steps)?;
+    shard.apply(3, Some(&Two { keys: [9, 3] }), &mut steps)?;
+    shard.sweep(3, &[1, 2]);
+    shard.sweep(3, &[1, 2]);
+    let left = shard.bucket(alloc, 3, &[1, 2, 3])?;
+    Ok((left, shard.applied()))
+}
+
+fn twice(alloc: Global) -> Result<(Vec<Entry>, u64), Memory> {
+    cleared::<Brand>(alloc, Blank::new(1))
+}
+
+// What a shard goes on with behind a sweep: another put, and a sweep of what it replaces.
+fn applied_behind<L: Ledger>(alloc: Global, blank: Blank) -> Result<(Vec<Entry>, u64), Memory>
+    requires name { blank.name ≡ L.name }
+    requires parts { blank.parts ≡ L.parts }
+{
+    let mut steps: Steps<L> = Steps::new(blank);
+    let mut shard = Shard::new(alloc, 1, 2);
+    shard.apply(1, Some(&Two { keys: [3, 5] }), &mut steps)?;
+    shard.apply(2, Some(&Two { keys: [3, 7] }), &mut steps)?;
+    shard.sweep(2, &[1]);
+    shard.apply(3, Some(&Two { keys: [4, 3] }), &mut steps)?;
+    shard.sweep(3, &[1, 2]);
+    let left = shard.bucket(alloc, 3, &[2, 3])?;
+    Ok((left, shard.floor()))
+}
+
+fn on(alloc: Global) -> Result<(Vec<Entry>, u64), Memory> {
+    applied_behind::<Brand>(alloc, Blank::new(1))
+}
+
+#[test]
+fn a_replaced_put_has_no_entries(rt: HostRuntime) -> Result<(), Memory> {
+    let (left, floor) = once(rt.alloc())?;
+    let second = Entry {
+        key: 3,
+        change: 2,
+        at: 0,
+    };
+    let third = Entry {
+        key: 3,
+        change: 3,
+        at: 1,
+    };
+    assert_eq!(rt; left.as_slice(), [second, third].as_slice());
+    assert_eq!(rt; floor, 3);
+    Ok(())
+}
+
+#[test]
+fn a_second_sweep_changes_nothing(rt: HostRuntime) -> Result<(), Memory> {
+    let (left, applied) = twice(rt.alloc())?;
+    let third = Entry {
+        key: 3,
+        change: 3,
+        at: 1,
+    };
+    assert_eq!(rt; left.as_slice(), [third].as_slice());
+    assert_eq!(rt; applied, 3);
+    Ok(())
+}
+
+#[test]
+fn a_shard_goes_on_behind_a_sweep(rt: HostRuntime) -> Result<(), Memory> {
+    let (left, floor) = on(rt.alloc())?;
+    let third = Entry {
+        key: 3,
+        change: 3,
+        at: 1,
+    };
+    assert_eq!(rt; left.as_slice(), [third].as_slice());
+    assert_eq!(rt; floor, 3);
+    Ok(())
+}
