@@ -1,6 +1,7 @@
 pub mod Changes
 pub mod Files
 pub mod State
+pub mod Superseded
 pub mod Lasts
 pub mod Lawful
 pub mod Shards
