@@ -350,7 +350,10 @@ impl<W: Indexed> Board<W> {
         ensures lawful { IsTrue result ↔ Permits self.old.settings self.old.state (event.Floor version) }
         ensures unchanged { OnFalse result (self.new ≡ self.old) }
     {
-        if version <= self.floor || version > self.greatest_floor() {
+        if version <= self.floor {
+            return false;
+        }
+        if version > least(self.published, &self.views) {
             return false;
         }
         self.floor = version;
