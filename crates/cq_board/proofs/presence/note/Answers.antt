@@ -10,7 +10,7 @@ use Rattle.cq_board.proofs.presence.note.Goals as goal
 pub returns-in_ok-replaced-in-Put-clause-more : goal.returns-in_ok-replaced-in-Put-clause-more
 returns-in_ok-replaced-in-Put-clause-more c changes next was =
     put_noted changes c.args.number next c.args.there.now _ was c.in_ok-key-in-Put.key _ _ c.in_ok-key-in-Put.ensures.project c.in_ok-key-in-Put.ensures.path c.in_ok-replaced-in-Put.replaced c.in_ok-replaced-in-Put.ensures.old
-    (c.note_superseded-in-Put.ensures ∙ ap (λ xs. xs ++ noted c.args.number c.in_ok-replaced-in-Put.replaced) c.in_ok-reserve-in-Put.ensures.items)
+    (c.note_superseded.ensures ∙ ap (λ xs. xs ++ noted c.args.number c.in_ok-replaced-in-Put.replaced) c.in_ok-reserve-in-Put.ensures.items)
     _ _ (change_of c.args.change.now) (ap change_of c.in-Put.is) c.in_ok-replaced-in-Put.ensures.updates.0
 
 pub returns-in_ok-reserve-in-Drop-clause-more : goal.returns-in_ok-reserve-in-Drop-clause-more
