@@ -1,5 +1,8 @@
 pub mod Adding
 pub mod Advances
+pub mod Dead
+pub mod FileNumbers
+pub mod Floors
 pub mod Living
 pub mod Newer
 pub mod Numbers
@@ -9,6 +12,7 @@ pub mod Reading
 pub mod Related
 pub mod SlotLists
 pub mod Sounding
+pub mod Superseding
 pub mod Turning
 pub mod Undoing
 pub mod VersionEntries

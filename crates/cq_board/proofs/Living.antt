@@ -21,7 +21,7 @@ use Rattle.cq_projects.proofs.Putting.{below_apart}
 
 -- ---- the number at a path
 
-number_found : (p : List ℕ) (files : List Source) (r : ℕ) → number_at p files ≡ Some r → (f : Source) × Has files f × (f.path ≡ p) × (f.number ≡ r)
+pub number_found : (p : List ℕ) (files : List Source) (r : ℕ) → number_at p files ≡ Some r → (f : Source) × Has files f × (f.path ≡ p) × (f.number ≡ r)
 number_found p [] r is = absurd (true≢false (sym (cc is)))
 number_found p (g ∷ files) r is = by (bytes_eq p g.path) refl is (number_found p files r)
   where
@@ -36,7 +36,7 @@ all_has : (P : Source → Type 0) (files : List Source) (f : Source) → AllByRe
 all_has P [] f all has = absurd has
 all_has P (g ∷ files) f all has = ⊎_elim (λ same. subst P same all.0) (λ later. all_has P files f all.1 later) has
 
-number_of : (files : List Source) (f : Source) → AreInPathOrder files → Has files f → number_at f.path files ≡ Some f.number
+pub number_of : (files : List Source) (f : Source) → AreInPathOrder files → Has files f → number_at f.path files ≡ Some f.number
 number_of [] f order has = absurd has
 number_of (g ∷ files) f order has =
     ⊎_elim
@@ -46,7 +46,7 @@ number_of (g ∷ files) f order has =
 
 -- ---- a change names a file
 
-same_put : (q r p s : List ℕ) (a b : Lang) (x y : List ℕ) → Some (Put q p a x) ≡ Some (Put r s b y) → (q ≡ r) × (p ≡ s)
+pub same_put : (q r p s : List ℕ) (a b : Lang) (x y : List ℕ) → Some (Put q p a x) ≡ Some (Put r s b y) → (q ≡ r) × (p ≡ s)
 same_put q r p s a b x y e = (cc e, cc e)
 
 and_true : (a b : Bool) → (a && b) ≡ true → (a ≡ true) × (b ≡ true)
@@ -63,10 +63,10 @@ one_place changes q r f g is other same =
     same_put q r f.path g.path f.lang g.lang f.body g.body (sym is.put ∙ ap (change_at changes) same ∙ other.put)
 
 module _ (changes : List Change) where
-  last_of : (q : List ℕ) (f : Source) → Has (files_of q changes) f → IsLastPut changes q f
+  pub last_of : (q : List ℕ) (f : Source) → Has (files_of q changes) f → IsLastPut changes q f
   last_of q f has = ((files_stand changes q).each f).0 has
 
-  has_of : (q : List ℕ) (f : Source) → IsLastPut changes q f → Has (files_of q changes) f
+  pub has_of : (q : List ℕ) (f : Source) → IsLastPut changes q f → Has (files_of q changes) f
   has_of q f is = ((files_stand changes q).each f).1 is
 
   -- the file that a change names is the one at its path

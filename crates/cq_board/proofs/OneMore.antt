@@ -20,7 +20,7 @@ use Rattle.cq_history.proofs.Bounds.{prefix_len-append-le}
 use Rattle.cq_board.specs.declared.answers.Refused.TheVariants.{Absent, FullChanges, FullText}
 use Rattle.cq_board.specs.Listings.{Listed, IsListing}
 use Rattle.std.specs.BTreeSet.{BTreeSet}
-use Rattle.cq_board.specs.declared.kept.FileKey.{FileKey}
+use Rattle.cq_board.specs.declared.presence.Presence.{Presence}
 use Rattle.cq_board.specs.Presence.{IsPresence}
 use Rattle.cq_board.specs.Answers.{refusal_of}
 use Rattle.cq_board.specs.declared.kept.Kept.{Kept}
@@ -53,6 +53,9 @@ module _ {W : Type 0} where
   pub changes_push : (slots : List (Kept W)) (k : Kept W) → changes_from (slots ++ k ∷ []) ≡ changes_from slots ++ change_of k.change ∷ []
   changes_push slots k = ap (map (λ (s : Slot). s.change)) (map-append slot_from slots (k ∷ [])) ∙ map-append (λ (s : Slot). s.change) (map slot_from slots) (slot_from k ∷ [])
 
+  pub changes_many : (slots : List (Kept W)) → length (changes_from slots) ≡ length slots
+  changes_many slots = length-map (map slot_from slots) (λ (s : Slot). s.change) ∙ length-map slots (slot_from {W = W})
+
   pub accepted_state : (slots : List (Kept W)) (p f : ℕ) (views : List (Option ℕ)) (k : Kept W) (by : ℕ) (change : Change) → change_of k.change ≡ change → k.work ≡ None → k.holder ≡ None →
       state_from (slots ++ k ∷ []) p f views ≡ after (state_from slots p f views) (Accept by change)
   accepted_state slots p f views k by change is no_work no_holder =
@@ -84,7 +87,7 @@ module _ {W : Type 0} where
       }
 
   -- the board with one change more
-  pub board_accepted : (IsWork : Lang → List ℕ → W → Type 0) (settings : Settings) (slots : List (Kept W)) (old there : BTreeSet FileKey) (before undone : BTreeSet ℕ) (bytes free len published listed : ℕ) (l : Listed W) (views : List (Option ℕ)) (k : Kept W) → k.work ≡ None →
+  pub board_accepted : (IsWork : Lang → List ℕ → W → Type 0) (settings : Settings) (slots : List (Kept W)) (old there : Presence) (before undone : BTreeSet ℕ) (bytes free len published listed : ℕ) (l : Listed W) (views : List (Option ℕ)) (k : Kept W) → k.work ≡ None →
       BoardOk IsWork settings slots old before bytes free published listed l views → IsSoundChange (change_of k.change) → refusal_of settings (state_from slots 0 0 []) (change_of k.change) ≡ None → len ≡ text_len (change_of k.change) →
       AreUndone (map slot_from slots ++ slot_from k ∷ []) undone → IsPresence (changes_from slots ++ change_of k.change ∷ []) there →
       BoardOk IsWork settings (slots ++ k ∷ []) there undone (bytes + len) free published listed l views
@@ -105,7 +108,7 @@ module _ {W : Type 0} where
       }
 
   -- the board that looks for a free change from another index on
-  pub board_free : (IsWork : Lang → List ℕ → W → Type 0) (settings : Settings) (slots : List (Kept W)) (there : BTreeSet FileKey) (undone : BTreeSet ℕ) (bytes free now published listed : ℕ) (l : Listed W) (views : List (Option ℕ)) → BoardOk IsWork settings slots there undone bytes free published listed l views → IsNoneFree slots now → BoardOk IsWork settings slots there undone bytes now published listed l views
+  pub board_free : (IsWork : Lang → List ℕ → W → Type 0) (settings : Settings) (slots : List (Kept W)) (there : Presence) (undone : BTreeSet ℕ) (bytes free now published listed : ℕ) (l : Listed W) (views : List (Option ℕ)) → BoardOk IsWork settings slots there undone bytes free published listed l views → IsNoneFree slots now → BoardOk IsWork settings slots there undone bytes now published listed l views
   board_free IsWork settings slots there undone bytes free now published listed l views ok none = record {
     kept = record { works = ok.kept.works; text_bytes = ok.kept.text_bytes; few_bytes = ok.kept.few_bytes; few_slots = ok.kept.few_slots; not_done = ok.kept.not_done; none_free = none };
     sound = ok.sound;
@@ -117,7 +120,7 @@ module _ {W : Type 0} where
   }
 
   -- the board with other slots of the same changes
-  pub board_with : (IsWork : Lang → List ℕ → W → Type 0) (settings : Settings) (slots more : List (Kept W)) (there : BTreeSet FileKey) (undone now : BTreeSet ℕ) (bytes free later published listed : ℕ) (l : Listed W) (views : List (Option ℕ)) →
+  pub board_with : (IsWork : Lang → List ℕ → W → Type 0) (settings : Settings) (slots more : List (Kept W)) (there : Presence) (undone now : BTreeSet ℕ) (bytes free later published listed : ℕ) (l : Listed W) (views : List (Option ℕ)) →
       BoardOk IsWork settings slots there undone bytes free published listed l views → SlotsOk IsWork settings more now bytes later → changes_from more ≡ changes_from slots →
       prefix_len is_done (map slot_from slots) ≤ prefix_len is_done (map slot_from more) → BoardOk IsWork settings more there now bytes later published listed l views
   board_with IsWork settings slots more there undone now bytes free later published listed l views ok kept same grows = record {
@@ -131,7 +134,7 @@ module _ {W : Type 0} where
   }
 
   -- the board with the listing of another version, at most the published one
-  pub board_listed : (IsWork : Lang → List ℕ → W → Type 0) (settings : Settings) (slots : List (Kept W)) (there : BTreeSet FileKey) (undone : BTreeSet ℕ) (bytes free published listed : ℕ) (l : Listed W) (views : List (Option ℕ)) →
+  pub board_listed : (IsWork : Lang → List ℕ → W → Type 0) (settings : Settings) (slots : List (Kept W)) (there : Presence) (undone : BTreeSet ℕ) (bytes free published listed : ℕ) (l : Listed W) (views : List (Option ℕ)) →
       BoardOk IsWork settings slots there undone bytes free published listed l views → (at : ℕ) (now : Listed W) → at ≤ published → IsListing IsWork (take at (changes_from slots)) now → BoardOk IsWork settings slots there undone bytes free published at now views
   board_listed IsWork settings slots there undone bytes free published listed l views ok at now before is = record {
     kept = ok.kept;
@@ -144,7 +147,7 @@ module _ {W : Type 0} where
   }
 
   -- the board with as many views
-  pub board_views : (IsWork : Lang → List ℕ → W → Type 0) (settings : Settings) (slots : List (Kept W)) (there : BTreeSet FileKey) (undone : BTreeSet ℕ) (bytes free published listed : ℕ) (l : Listed W) (views now : List (Option ℕ)) →
+  pub board_views : (IsWork : Lang → List ℕ → W → Type 0) (settings : Settings) (slots : List (Kept W)) (there : Presence) (undone : BTreeSet ℕ) (bytes free published listed : ℕ) (l : Listed W) (views now : List (Option ℕ)) →
       BoardOk IsWork settings slots there undone bytes free published listed l views → length now ≡ length views → BoardOk IsWork settings slots there undone bytes free published listed l now
   board_views IsWork settings slots there undone bytes free published listed l views now ok same = record {
     kept = ok.kept;

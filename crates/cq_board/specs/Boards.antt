@@ -8,7 +8,7 @@ use Rattle.cq_base.specs.declared.change.Change.{Change}
 use Rattle.cq_base.specs.Changes.{IsSoundChange}
 use Rattle.cq_history.specs.State.{changes_in, text_bytes, is_done}
 use Rattle.cq_board.specs.declared.kept.Kept.{Kept}
-use Rattle.cq_board.specs.declared.kept.FileKey.{FileKey}
+use Rattle.cq_board.specs.declared.presence.Presence.{Presence}
 use Rattle.cq_board.specs.Listings.{Listed, IsListing}
 use Rattle.std.specs.Arc.{arc_value}
 use Rattle.std.specs.declared.sync.Arc.{Arc}
@@ -34,7 +34,7 @@ module _ {W : Type 0} where
     pub not_done : AreUndone (map slot_from slots) undone
     pub none_free : IsNoneFree slots free
 
-  pub record BoardOk (IsWork : Lang → List ℕ → W → Type 0) (settings : Settings) (slots : List (Kept W)) (there : BTreeSet FileKey) (undone : BTreeSet ℕ) (bytes free published listed : ℕ) (l : Listed W) (views : List (Option ℕ)) : Type 0 where
+  pub record BoardOk (IsWork : Lang → List ℕ → W → Type 0) (settings : Settings) (slots : List (Kept W)) (there : Presence) (undone : BTreeSet ℕ) (bytes free published listed : ℕ) (l : Listed W) (views : List (Option ℕ)) : Type 0 where
     pub kept : SlotsOk IsWork settings slots undone bytes free
     pub sound : All IsSoundChange (changes_from slots)
     pub presence : IsPresence (changes_from slots) there

@@ -8,5 +8,6 @@ pub mod Related
 pub mod Slots
 pub mod Sound
 pub mod Stands
+pub mod Superseded
 pub mod Turnover
 pub mod Undone

@@ -1,4 +1,4 @@
-ghost use Rattle.std.specs.Prelude.{◌≡◌, ◌≤◌, [], List, map, IfOk, OnOk, OnErr};
+ghost use Rattle.std.specs.Prelude.{◌≡◌, ◌+◌, ◌≤◌, [], List, length, map, IfOk, OnOk, OnErr};
 ghost use Rattle.cq_base.specs.declared.change.Change.{Change};
 ghost use Rattle.cq_history.specs.Changes.{text_len};
 ghost use Rattle.cq_history.specs.State.{text_bytes};
@@ -10,7 +10,7 @@ ghost use Rattle.cq_board.specs.Undone.{AreUndone};
 
 use crate::Refused;
 use crate::kept::{FileKey, Kept, Stored};
-use crate::presence::note;
+use crate::presence::{Presence, note};
 use crate::undone::note_undone;
 use cq_base::{Change, Memory, Settings};
 use std::alloc::Global;
@@ -73,7 +73,7 @@ pub fn stored(alloc: Global, change: Change) -> Result<Stored, Memory>
 pub fn refusal<W>(
     settings: &Settings,
     slots: &[Kept<W>],
-    there: &BTreeSet<FileKey>,
+    there: &Presence,
     bytes: u64,
     change: &Stored,
 ) -> Option<Refused>
@@ -83,7 +83,7 @@ pub fn refusal<W>(
     ensures { result ≡ refusal_of settings.now (state_from slots.now 0 0 []) (change_of change.now) }
 {
     if let Stored::Drop { file } = change {
-        if !there.contains(file) {
+        if !there.has(file) {
             return Some(Refused::Absent);
         }
     }
@@ -100,19 +100,19 @@ pub fn refusal<W>(
 /// they are as before.
 pub fn note_both<W>(
     slots: &[Kept<W>],
-    there: &mut BTreeSet<FileKey>,
+    there: &mut Presence,
     undone: &mut BTreeSet<usize>,
     change: &Stored,
 ) -> Result<(), Memory>
     requires { AreUndone (map slot_from slots.now) undone.old }
-    ensures place { OnOk result (AddsPlace (change_of change.now) there.old there.new) }
+    ensures place { OnOk result (AddsPlace (length slots.now + 1) (change_of change.now) there.old there.new) }
     ensures undone { OnOk result (AreUndone (slots_with slots.now (change_of change.now)) undone.new) }
     ensures same_places { OnErr result ((changes : List Change)
         → IsPresence changes there.old → IsPresence changes there.new) }
     ensures same_undone { OnErr result (AreUndone (map slot_from slots.now) undone.new) }
 {
     note_undone(slots, undone, change)?;
-    if let Err(refused) = note(there, change) {
+    if let Err(refused) = note(there, slots.len() as u64 + 1, change) {
         undone.remove(&slots.len());
         return Err(refused);
     }

@@ -2,7 +2,9 @@ ghost use Rattle.std.specs.Prelude.{◌≡◌, ◌+◌, ◌<◌, ◌≤◌, [], 
 ghost use Rattle.cq_history.specs.declared.event.Event.TheVariants as event;
 ghost use Rattle.std.specs.Arc.{arc_value};
 ghost use Rattle.std.specs.Bool.{OnTrue, OnFalse};
-ghost use Rattle.cq_history.specs.State.{first_free, ready, view_of, slot_of, IsAccepted, IsDone, IsUndone, IsTakenBy};
+ghost use Rattle.cq_history.specs.Lawful.{Permits};
+ghost use Rattle.cq_history.specs.Superseded.{AreSuperseded};
+ghost use Rattle.cq_history.specs.State.{changes_in, first_free, ready, view_of, slot_of, IsAccepted, IsDone, IsUndone, IsTakenBy};
 ghost use Rattle.cq_board.specs.Stands.{BoardState, StandsFor, Adds, IsCaller};
 ghost use Rattle.cq_board.specs.Answers.{asked_of, greatest_floor, lower, IsJob, IsDonePut, IsWorkAt, HasFree, IsViewOf, TellsCause};
 ghost use Rattle.cq_history.specs.Changes.{IsWorkFor};
@@ -10,9 +12,11 @@ ghost use Rattle.cq_base.specs.Changes.{IsSoundChange};
 ghost use Rattle.cq_board.specs.Sound.{HasSoundText, HaveFewConditions};
 
 use crate::accepting::{note_both, refusal, stored, text_len};
-use crate::kept::{FileKey, Kept};
+use crate::kept::Kept;
 use crate::listing::{Listing, View, advance_to};
+use crate::presence::Presence;
 use crate::slot_tests::{is_done, job_of};
+use crate::superseded::dead_at;
 use crate::undone::{first_free, ready_of};
 use crate::{Asked, Finished, Job, Refused};
 use cq_base::{Change, Memory, Settings};
@@ -27,7 +31,7 @@ use std::sync::Arc;
 pub struct Board<W: Indexed> {
     settings: Settings,
     slots: Vec<Kept<W>>,
-    there: BTreeSet<FileKey>,
+    there: Presence,
     // The indexes of the changes that are not done.
     undone: BTreeSet<usize>,
     text_bytes: u64,
@@ -68,7 +72,7 @@ impl<W: Indexed> Board<W> {
         Ok(Board {
             settings: *settings,
             slots: Vec::new(alloc),
-            there: BTreeSet::new(alloc),
+            there: Presence::new(alloc),
             undone: BTreeSet::new(alloc),
             text_bytes: 0,
             free: 0,
@@ -167,6 +171,14 @@ impl<W: Indexed> Board<W> {
         ensures { result ≡ greatest_floor self.now.state }
     {
         least(self.published, &self.views)
+    }
+
+    /// The puts that a change of their file numbered at most a floor superseded, ascending. It costs a search, and a sort of
+    /// what it lists.
+    pub fn dead(&self, alloc: Global, floor: u64) -> Result<Vec<u64>, Memory>
+        ensures { IfOk result (λ dead. AreSuperseded (changes_in self.now.state) floor dead.items) }
+    {
+        dead_at(alloc, &self.there.superseded, floor)
     }
 
     /// Gives a taken change back, and answers whether there is this caller and had it, undone. It takes no memory.
@@ -329,6 +341,24 @@ impl<W: Indexed> Board<W> {
     {
         self.views[by as usize] = None;
         self.events = self.events.wrapping_add(1);
+    }
+
+    /// Gives versions below this one up, and answers whether it may: where it is above the last floor and at most the last
+    /// published version and each open view's. It looks at each caller's view, and takes no memory.
+    pub fn set_floor(&mut self, version: u64) -> bool
+        ensures adds { OnTrue result (Adds (event.Floor version) self.old self.new) }
+        ensures lawful { IsTrue result ↔ Permits self.old.settings self.old.state (event.Floor version) }
+        ensures unchanged { OnFalse result (self.new ≡ self.old) }
+    {
+        if version <= self.floor {
+            return false;
+        }
+        if version > least(self.published, &self.views) {
+            return false;
+        }
+        self.floor = version;
+        self.events = self.events.wrapping_add(1);
+        true
     }
 
     /// Takes the work of a change, the first time. It takes no memory.

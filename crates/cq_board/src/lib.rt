@@ -8,6 +8,9 @@
 //! from the least that was given back since: a worker has at most one in hand, and a session none. The list of slots is
 //! moved where it grows, which is a few steps a change over all of them.
 //!
+//! A put that a later change replaced or dropped is noted with that change, 16 bytes. What a floor lets go of is searched
+//! in these notes, and costs a sort of what is listed; raising the floor costs a look at each caller's view.
+//!
 //! Publishing costs what cq_projects takes for the edits of the changes: one alone is a search and a move, several move
 //! the files of each project that they change once. Where a view still shows a list, it is copied first, an owner a file,
 //! and the numbers of all files, 8 bytes each; else both are changed in place, the numbers in one walk where many were
@@ -25,6 +28,7 @@ mod listing;
 mod live;
 mod presence;
 mod slot_tests;
+mod superseded;
 mod undone;
 
 pub use answers::{Asked, Finished, Job, Refused};

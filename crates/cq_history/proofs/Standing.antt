@@ -23,7 +23,7 @@ newest_at : (cs : List Change) (c : Change) → slice_get (cs ++ c ∷ []) (leng
 newest_at [] c = refl
 newest_at (d ∷ cs) c = newest_at cs c
 
-newest : (cs : List Change) (c : Change) (k : ℕ) → k ≡ length cs + 1 → change_at (cs ++ c ∷ []) k ≡ Some c
+pub newest : (cs : List Change) (c : Change) (k : ℕ) → k ≡ length cs + 1 → change_at (cs ++ c ∷ []) k ≡ Some c
 newest cs c k is = let at : k - 1 ≡ length cs = omega (arith, is) in ap (slice_get (cs ++ c ∷ [])) at ∙ newest_at cs c
 
 no_later_at : (cs : List Change) (i : ℕ) (c : Change) → length cs ≤ i → slice_get cs i ≡ Some c → ⊥
@@ -31,7 +31,7 @@ no_later_at [] i c past is = absurd (cc)
 no_later_at (d ∷ cs) zero c past is = absurd (omega (arith, past))
 no_later_at (d ∷ cs) (suc i) c past is = no_later_at cs i c (omega (arith, past)) is
 
-no_later : (cs : List Change) (k : ℕ) (c : Change) → length cs < k → change_at cs k ≡ Some c → ⊥
+pub no_later : (cs : List Change) (k : ℕ) (c : Change) → length cs < k → change_at cs k ≡ Some c → ⊥
 no_later cs k c past is = no_later_at cs (k - 1) c (omega (arith, past)) is
 
 some_same : (c d : Change) → Some c ≡ Some d → c ≡ d

@@ -1,6 +1,7 @@
 pub mod Changes
 pub mod Files
 pub mod State
+pub mod Superseded
 pub mod Lasts
 pub mod Lawful
 pub mod Shards
@@ -8,4 +9,3 @@ pub mod Core
 pub mod Laws
 pub mod Standing
 pub mod Script
-pub mod Superseded

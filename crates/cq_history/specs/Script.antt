@@ -10,6 +10,7 @@ use Rattle.cq_history.specs.declared.event.Event.TheVariants.{Accept, Done, Publ
 use Rattle.cq_history.specs.State.{state, accepted, ready, view_of}
 use Rattle.cq_history.specs.Files.{files_at}
 use Rattle.cq_history.specs.Lawful.{Allowed, Lawful}
+use Rattle.cq_history.specs.Superseded.{AreSuperseded}
 
 abbrev pub script_settings : Settings
 script_settings = record { chunk = 2; shards = 2; key_bits = 0; ignore_ids = false; ignore_lits = false; change_limit = 262144; text_limit = 33554432; byte_limit = 2 ^ 60 }
@@ -37,3 +38,5 @@ pub record IsAsWorkedOut : Type 0 where
   pub goes_on : Lawful script_settings 2 (script ++ rest_of_script)
   pub floor : (state 2 (script ++ rest_of_script)).floor ≡ 2
   pub view_then : view_of (state 2 (script ++ rest_of_script)) 1 ≡ Some 2
+  pub kept : AreSuperseded (accepted script) 1 []
+  pub superseded : AreSuperseded (accepted script) 2 (1 ∷ [])

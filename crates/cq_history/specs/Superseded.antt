@@ -1,5 +1,4 @@
 -- Which puts a floor lets go of: those that a later change of their file, numbered at most the floor, replaced or dropped.
--- (module Rattle.cq_history.specs.Superseded, file crates/cq_history/specs/Superseded.antt; specs/Lib.antt gets 'pub mod Superseded')
 use Rattle.std.specs.Prelude.{◌≡◌, ◌↔◌, ℕ, ◌<◌, ◌≤◌, true, List, Contains, Some}
 use Rattle.std.specs.List.Sorted.{IsStrictlyIncreasing}
 use Rattle.cq_base.specs.declared.lang.Lang.{Lang}
