@@ -3,7 +3,6 @@ use Rattle.std.proofs.Common.{◌≡◌, ◌≢◌, ◌⊎◌, ◌↔◌, ℕ, �
 use Rattle.std.specs.Prelude.{AllPairs, Contains}
 use Rattle.std.proofs.lemmas.List.{take_more, drop_more, take_all, flat_map_more}
 use Rattle.std.proofs.lemmas.List.Elements.{All-contains, All-push, All-head, All-tail, Contains-get_or, Contains-append_left, Contains-append_right, Contains-append_cases, Contains-push, filter-append}
-use Rattle.std.proofs.lemmas.List.Kept.{AllPairs-cons}
 use Rattle.std.proofs.lemmas.List.Quantifiers.{all_pairs_push}
 use Rattle.cq_base.specs.declared.entry.Entry.{Entry}
 use Rattle.cq_base.proofs.Lists.{Contains-here, Contains-there, Contains-cases, Contains-nil, AllPairs-head, AllPairs-tail, AllPairs-nil, AllPairs-append, AllPairs-weaker, All-from_contains, AllPairs-front}

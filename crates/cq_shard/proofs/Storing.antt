@@ -1,7 +1,6 @@
 -- The entries that count, as entries come and as changes are taken out.
-use Rattle.std.proofs.Common.{◌≡◌, ◌≢◌, ◌⊎◌, ◌↔◌, Ok, Err, Result, ℕ, suc, ◌+◌, ◌<◌, ◌≤◌, Bool, true, false, cond, not, ◌&&◌, nat_eq, List, [], ◌∷◌, ◌++◌, map, filter, refl, sym, ap, ◌∙◌, subst, inl, inr, ⊎_elim, arith}
-use Rattle.std.specs.Prelude.{All, AllPairs, Contains, OnOk}
-use Rattle.std.specs.List.{list_any}
+use Rattle.std.proofs.Common.{◌≡◌, ◌≢◌, Ok, Err, Result, ℕ, ◌<◌, ◌≤◌, Bool, true, false, cond, not, ◌&&◌, nat_eq, List, [], ◌∷◌, ◌++◌, map, refl, sym, ap, ◌∙◌, subst, inl, inr, ⊎_elim, arith}
+use Rattle.std.specs.Prelude.{All, Contains, OnOk}
 use Rattle.std.proofs.lemmas.Bool.{eqb-true}
 use Rattle.std.proofs.lemmas.List.Elements.{All-contains, filter-append}
 use Rattle.std.proofs.lemmas.List.Kept.{AllPairs-filter}
@@ -10,7 +9,7 @@ use Rattle.cq_base.specs.declared.entry.Entry.{Entry}
 use Rattle.cq_base.proofs.Lists.{Contains-here, Contains-there, Contains-map, Contains-from_map, Contains-filter, Contains-from_filter, All-from_contains, AllPairs-map, AllPairs-weaker}
 use Rattle.cq_clones.specs.Lists.{AreAllInOrder}
 use Rattle.cq_clones.specs.Windows.{EntryBefore}
-use Rattle.cq_shard.specs.Runs.{RowBefore, IsRun, Precedes, AreRuns, AreDifferent, AreAdded, entries_in}
+use Rattle.cq_shard.specs.Runs.{RowBefore, IsRun, Precedes, AreRuns, AreAdded, entries_in}
 use Rattle.cq_shard.specs.Tables.{is_among, outside, changes_of, AreNoted}
 use Rattle.cq_shard.specs.Stores.{those_of, without, Stored, stored, left_by, IsStore}
 use Rattle.cq_shard.proofs.Entries.{any_of}

@@ -1,5 +1,5 @@
 -- What a shard stands for behind a sweep.
-use Rattle.std.proofs.Common.{◌≡◌, ◌≢◌, ℕ, ◌≤◌, true, false, not, List, Some, sym, ap, ◌∙◌, subst, true≢false}
+use Rattle.std.proofs.Common.{◌≡◌, ◌≢◌, ℕ, ◌≤◌, true, not, List, Some, sym, ap, ◌∙◌, subst, true≢false}
 use Rattle.std.specs.Prelude.{Contains}
 use Rattle.std.proofs.lemmas.Bool.{eqb-true, false_from_ne_true}
 use Rattle.std.proofs.lemmas.List.Elements.{All-filter}
@@ -7,13 +7,11 @@ use Rattle.std.proofs.lemmas.List.Kept.{AllPairs-filter}
 use Rattle.std.proofs.lemmas.Map.Views.{Contains-from_any}
 use Rattle.cq_base.specs.declared.lang.Lang.{Lang}
 use Rattle.cq_base.specs.declared.entry.Entry.{Entry}
-use Rattle.cq_base.specs.declared.change.Change.{Change}
 use Rattle.cq_base.specs.declared.change.Change.TheVariants.{Put}
 use Rattle.cq_base.proofs.Lists.{Contains-filter, Contains-from_filter}
 use Rattle.cq_history.specs.Changes.{is_of_file}
-use Rattle.cq_history.specs.Superseded.{AreSuperseded}
-use Rattle.cq_shard.specs.Laws.{Sweeps, SweepingTakesOutAlone, StandsSwept}
-use Rattle.cq_shard.specs.Shard.{Contents, IsShard, StandsFor, Holds, row_of, swept}
+use Rattle.cq_shard.specs.Laws.{StandsSwept}
+use Rattle.cq_shard.specs.Shard.{Contents, IsShard, row_of, swept}
 use Rattle.cq_shard.specs.Stores.{without}
 use Rattle.cq_shard.specs.Tables.{is_among}
 use Rattle.cq_shard.proofs.Entries.{any_of}

@@ -1,17 +1,17 @@
 -- Changes in a table: dead ones taken out where they stand, and those of more entries noted.
-use Rattle.std.proofs.Common.{◌≡◌, ℕ, suc, ◌+◌, ◌-◌, ◌<◌, ◌≤◌, Bool, true, false, cond, not, nat_eq, List, [], ◌∷◌, ◌++◌, length, take, drop, map, filter, get_or, set, refl, sym, ap, ap₂, ◌∙◌, subst, inl, inr, ⊎_elim, arith, append-nil}
+use Rattle.std.proofs.Common.{◌≡◌, ℕ, suc, ◌+◌, ◌-◌, ◌<◌, ◌≤◌, Bool, true, false, cond, not, nat_eq, List, [], ◌∷◌, ◌++◌, length, take, drop, get_or, set, refl, sym, ap, ap₂, ◌∙◌, subst, inl, inr, ⊎_elim, arith, append-nil}
 use Rattle.std.specs.Prelude.{All, AllPairs, Contains}
 use Rattle.std.specs.List.Sorted.{IsStrictlyIncreasing}
 use Rattle.std.proofs.lemmas.Bool.{eqb-true, false_from_ne_true, cases_lt, eq-eqb, false≢true}
-use Rattle.std.proofs.lemmas.List.{take_more, take_more_set, drop_more, drop-set-lt, take_all, length-set, length-take, length-append, get_or_default, get_or-take, map-append}
-use Rattle.std.proofs.lemmas.List.Elements.{All-contains, filter-append, Contains-push, Contains-push_cases, Contains-append_left, Contains-append_right, Contains-append_cases, Contains-get_or}
+use Rattle.std.proofs.lemmas.List.{take_more, take_more_set, drop_more, drop-set-lt, take_all, length-set, length-take, get_or_default, get_or-take, map-append}
+use Rattle.std.proofs.lemmas.List.Elements.{All-contains, filter-append, Contains-push, Contains-push_cases, Contains-append_left, Contains-get_or}
 use Rattle.std.proofs.lemmas.List.Kept.{AllPairs-from_increasing, IsStrictlyIncreasing-filter}
 use Rattle.std.proofs.lemmas.List.Quantifiers.{all_pairs_push}
 use Rattle.std.proofs.lemmas.Map.Views.{Contains-from_any}
 use Rattle.cq_base.specs.declared.entry.Entry.{Entry}
-use Rattle.cq_base.proofs.Lists.{Contains-nil, Contains-from_map, Contains-map, All-from_contains}
+use Rattle.cq_base.proofs.Lists.{Contains-nil, Contains-from_map, All-from_contains}
 use Rattle.cq_clones.specs.Windows.{EntryBefore}
-use Rattle.cq_shard.specs.Tables.{is_among, outside, AreOutside, IsTable, changes_of, AreBefore, AreCounted, AreNoted}
+use Rattle.cq_shard.specs.Tables.{is_among, outside, AreOutside, changes_of, AreBefore, AreCounted, AreNoted}
 use Rattle.cq_shard.proofs.Entries.{any_of}
 use Rattle.cq_shard.proofs.Live.{rises}
 

@@ -1,6 +1,5 @@
-use Rattle.std.proofs.Common.{◌≡◌, ◌<◌, List, length, get_or, set, sym, ap, ◌∙◌, arith}
+use Rattle.std.proofs.Common.{◌<◌, length, ap, ◌∙◌, arith}
 use Rattle.std.proofs.lemmas.List.{length-set}
-use Rattle.cq_base.specs.declared.entry.Entry.{Entry}
 use Rattle.cq_order.proofs.InPlace.{in_place_read, in_place_set, in_place_all}
 use Rattle.cq_shard.specs.Stores.{those_of}
 use Rattle.cq_shard.proofs.runs.keep_each.Goals as goal

@@ -1,5 +1,5 @@
-use Rattle.std.proofs.Common.{◌+◌, ◌-◌, ◌<◌, ◌≤◌, length, get_or, sym, subst, arith}
-use Rattle.cq_shard.proofs.Reaching.{AreApart, apart_first, apart_changes, apart_dead, apart_front, apart_all, reached_further}
+use Rattle.std.proofs.Common.{arith}
+use Rattle.cq_shard.proofs.Reaching.{apart_first, apart_changes, apart_dead, apart_front, apart_all}
 use Rattle.cq_shard.proofs.table.first_among.Goals as goal
 
 pub stretches-init : goal.stretches-init

@@ -1,4 +1,4 @@
-use Rattle.std.proofs.Common.{◌≡◌, ◌≤◌, ◌∙◌, ap, sym, subst}
+use Rattle.std.proofs.Common.{◌≤◌, ◌∙◌, ap, sym, subst}
 use Rattle.cq_shard.specs.Shard.{Contents, IsShard, swept}
 use Rattle.cq_shard.specs.Stores.{Stored}
 use Rattle.cq_shard.proofs.Sweeping.{swept_is_shard}
