@@ -26,7 +26,7 @@ rising_by all in_order i j d le within =
     (cases_eq i j)
 
 module _ (all : List Superseded) (count floor : ℕ) (bound : count ≤ length all) (point : IsPartitionPoint (λ (s : Superseded). nat_le s.by floor ≡ true) (λ (s : Superseded). nat_le s.by floor ≡ false) all count) where
-  puts : List ℕ
+  abbrev pub puts : List ℕ
   puts = map put_in (take count all)
 
   many : length puts ≡ count
