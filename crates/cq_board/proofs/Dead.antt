@@ -1,6 +1,6 @@
 -- The puts that are superseded at a floor, ascending.
-use Rattle.std.proofs.Common.{◌≡◌, ◌≢◌, ◌↔◌, ℕ, ◌+◌, ◌<◌, ◌≤◌, true, false, List, length, map, take, get_or, IsPermutation, refl, sym, ap, ◌∙◌, subst, ⊎_elim, arith, true≢false}
-use Rattle.std.specs.Prelude.{AllPairs, Contains, nat_le}
+use Rattle.std.proofs.Common.{◌≡◌, ◌≢◌, ◌↔◌, ℕ, ◌+◌, ◌<◌, ◌≤◌, true, false, List, length, map, take, get_or, IsPermutation, Result, Ok, Err, refl, sym, ap, ◌∙◌, subst, ⊎_elim, arith, true≢false}
+use Rattle.std.specs.Prelude.{AllPairs, Contains, IfOk, nat_le}
 use Rattle.std.specs.List.Sorted.{IsStrictlyIncreasing, IsNonDecreasingBy, IsPartitionPoint, IsSorted}
 use Rattle.std.specs.Ordering.{nat_cmp}
 use Rattle.std.proofs.lemmas.Bool.{cases_lt, cases_eq}
@@ -8,9 +8,11 @@ use Rattle.std.proofs.lemmas.Bool.Decides.{nat_tests}
 use Rattle.std.proofs.lemmas.List.{length-map, length-take-le, get_or-map, get_or-take}
 use Rattle.std.proofs.lemmas.List.Elements.{Contains-get_or}
 use Rattle.std.proofs.lemmas.List.Sorted.{Contains-permutation, IsPermutation-sym, IsNonDecreasingBy-from_sort}
+use Rattle.cq_base.specs.declared.change.Change.{Change}
+use Rattle.cq_history.specs.Superseded.{AreSuperseded}
 use Rattle.cq_order.proofs.Sorting.{pairs_permuted}
 use Rattle.cq_board.specs.declared.superseded.Superseded.{Superseded}
-use Rattle.cq_board.specs.Superseded.{IsSupersededBefore, AreOtherPuts, IsGoneAt, put_in}
+use Rattle.cq_board.specs.Superseded.{IsSupersededBefore, AreOtherPuts, IsGoneAt, AreNoted, put_in}
 
 at_most : (n m : ℕ) → nat_le n m ≡ true → n ≤ m
 at_most n m h = grind (arith, nat_tests)
@@ -26,7 +28,7 @@ rising_by all in_order i j d le within =
     (cases_eq i j)
 
 module _ (all : List Superseded) (count floor : ℕ) (bound : count ≤ length all) (point : IsPartitionPoint (λ (s : Superseded). nat_le s.by floor ≡ true) (λ (s : Superseded). nat_le s.by floor ≡ false) all count) where
-  puts : List ℕ
+  abbrev pub puts : List ℕ
   puts = map put_in (take count all)
 
   many : length puts ≡ count
@@ -63,3 +65,15 @@ module _ (all : List Superseded) (count floor : ℕ) (bound : count ≤ length a
         let others = pairs_permuted (λ a b. a ≢ b) (λ a b h e. h (sym e)) puts dead moved apart k (k + 1) 0 (omega arith) within in
         let rises = IsNonDecreasingBy-from_sort (λ x. x) dead sorted k (k + 1) 0 (omega arith) within in
         omega (arith, others, rises)
+
+-- what is listed of all that is noted are the puts that are superseded at the floor
+pub all_dead : (changes : List Change) (all : List Superseded) (floor : ℕ) (dead : List ℕ) → AreNoted changes all → IsStrictlyIncreasing dead → ((r : ℕ) → Contains dead r ↔ IsGoneAt all floor r) → AreSuperseded changes floor dead
+all_dead changes all floor dead are rising which = record {
+  rising = rising;
+  each = λ r. (λ has. (are.each floor r).0 ((which r).0 has), λ is. (which r).1 ((are.each floor r).1 is));
+}
+
+-- what two facts of an answer come to
+pub ok_from_both : {T E : Type 0} (P Q R : T → Type 0) (r : Result T E) → IfOk r P → IfOk r Q → ((x : T) → P x → Q x → R x) → IfOk r R
+ok_from_both P Q R (Ok x) p q both = both x p q
+ok_from_both P Q R (Err e) p q both = tt

@@ -107,6 +107,19 @@ module _ {W : Type 0} where
         few_views = ok.few_views;
       }
 
+  -- the board that keeps the same of its changes otherwise
+  pub board_noted : (IsWork : Lang → List ℕ → W → Type 0) (settings : Settings) (slots : List (Kept W)) (there now : Presence) (undone left : BTreeSet ℕ) (bytes free published listed : ℕ) (l : Listed W) (views : List (Option ℕ)) →
+      BoardOk IsWork settings slots there undone bytes free published listed l views → IsPresence (changes_from slots) now → AreUndone (map slot_from slots) left → BoardOk IsWork settings slots now left bytes free published listed l views
+  board_noted IsWork settings slots there now undone left bytes free published listed l views ok presence not_done = record {
+    kept = record { works = ok.kept.works; text_bytes = ok.kept.text_bytes; few_bytes = ok.kept.few_bytes; few_slots = ok.kept.few_slots; not_done = not_done; none_free = ok.kept.none_free };
+    sound = ok.sound;
+    presence = presence;
+    in_order = ok.in_order;
+    at_most = ok.at_most;
+    listing = ok.listing;
+    few_views = ok.few_views;
+  }
+
   -- the board that looks for a free change from another index on
   pub board_free : (IsWork : Lang → List ℕ → W → Type 0) (settings : Settings) (slots : List (Kept W)) (there : Presence) (undone : BTreeSet ℕ) (bytes free now published listed : ℕ) (l : Listed W) (views : List (Option ℕ)) → BoardOk IsWork settings slots there undone bytes free published listed l views → IsNoneFree slots now → BoardOk IsWork settings slots there undone bytes now published listed l views
   board_free IsWork settings slots there undone bytes free now published listed l views ok none = record {

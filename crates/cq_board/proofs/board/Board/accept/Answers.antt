@@ -1,15 +1,15 @@
 use Rattle.std.specs.Arc.{arc_value}
-use Rattle.std.proofs.Common.{◌≡◌, ◌+◌, List, [], ◌∷◌, ◌++◌, length, sym, ap, ◌∙◌, None, refl, subst}
+use Rattle.std.proofs.Common.{◌≡◌, ◌+◌, List, [], ◌∷◌, ◌++◌, length, map, sym, ap, ◌∙◌, None, refl, subst}
 use Rattle.cq_history.specs.declared.event.Event.TheVariants as event
 use Rattle.cq_board.specs.Undone.{AreUndone}
 use Rattle.cq_base.specs.Changes.{IsSoundChange}
 use Rattle.cq_board.proofs.Adding.{Adds_from}
 use Rattle.cq_board.specs.declared.kept.Kept.{Kept}
-use Rattle.cq_board.specs.Slots.{slots_with, change_of}
+use Rattle.cq_board.specs.Slots.{slot_from, slots_with, change_of}
 use Rattle.cq_board.specs.Slots.{state_from}
 use Rattle.cq_board.specs.Answers.{refusal_of}
 use Rattle.cq_board.specs.Boards.{changes_from, BoardOk}
-use Rattle.cq_board.proofs.OneMore.{board_accepted, changes_many, accepted_state, allowed_accept}
+use Rattle.cq_board.proofs.OneMore.{board_accepted, board_noted, changes_many, accepted_state, allowed_accept}
 use Rattle.cq_board.proofs.board.Board.accept.Goals as goal
 
 pub invariant_of-self-2 : goal.invariant_of-self-2
@@ -37,3 +37,11 @@ returns-clause-adds g c =
     (ap (λ (xs : List (Kept g.row.W.Denot)). state_from xs c.self.inside.published c.self.inside.floor c.self.inside.views.items) items
     ∙ accepted_state slots c.self.inside.published c.self.inside.floor c.self.inside.views.items k c.args.by c.args.change c.in_ok-change.ensures refl refl)
     c.requires.caller (allowed_accept c.self.inside.settings (state_from slots c.self.inside.published c.self.inside.floor c.self.inside.views.items) c.args.by c.args.change allowed_change) c.requires.sound
+
+pub invariant_of-self-in_err-note_both : goal.invariant_of-self-in_err-note_both
+invariant_of-self-in_err-note_both g c =
+    let slots = c.self.inside.slots.items in
+    let not_done = subst (λ (xs : List (Kept g.row.W.Denot)). AreUndone (map slot_from xs) c.note_both.new.undone) (c.deref-2.ensures.value ∙ c.in_ok-reserve.ensures.items) c.in_err-note_both.ensures.same_undone in
+    subst (λ (xs : List (Kept g.row.W.Denot)). BoardOk (g.W.Indexed.IsWorkOf c.self.inside.settings) c.self.inside.settings xs c.note_both.new.there c.note_both.new.undone c.self.inside.text_bytes c.self.inside.free c.self.inside.published c.self.inside.listed (arc_value c.self.inside.listing) c.self.inside.views.items) (sym c.in_ok-reserve.ensures.items)
+    (board_noted (g.W.Indexed.IsWorkOf c.self.inside.settings) c.self.inside.settings slots c.self.inside.there c.note_both.new.there c.self.inside.undone c.note_both.new.undone c.self.inside.text_bytes c.self.inside.free c.self.inside.published c.self.inside.listed (arc_value c.self.inside.listing) c.self.inside.views.items
+    c.self.invariant (c.in_err-note_both.ensures.same_places (changes_from slots) c.self.invariant.presence) not_done)

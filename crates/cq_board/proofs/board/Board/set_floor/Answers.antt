@@ -11,7 +11,7 @@ use Rattle.cq_board.proofs.board.Board.set_floor.Goals as goal
 pub returns-then-version-self-clause-lawful : goal.returns-then-version-self-clause-lawful
 returns-then-version-self-clause-lawful g c = (
   λ yes. absurd (true≢false (sym yes)),
-  λ permits. let same = ap (λ (b : BoardState). b.state.floor) c.self.view_is in omega (arith, permits.0, c.if-version-self.true, same),
+  λ permits. let same = ap (λ (b : BoardState). b.state.floor) c.self.view_is in absurd (omega (arith, permits.0, c.if-version-self.true, same)),
 )
 
 pub returns-then-version-least-clause-lawful : goal.returns-then-version-least-clause-lawful
@@ -20,7 +20,7 @@ returns-then-version-least-clause-lawful g c = (
   λ permits.
       let below = subst (λ (b : BoardState). c.args.version ≤ greatest_floor b.state) (sym c.self.view_is) (all_fit c.args.version _ _ permits.1 permits.2) in
       let least = c.least.ensures ∙ ap (fold lower c.self.inside.published) c.deref.ensures.value in
-      omega (arith, below, least, c.if-version-least.true),
+      absurd (omega (arith, below, least, c.if-version-least.true)),
 )
 
 pub returns-clause-lawful : goal.returns-clause-lawful
