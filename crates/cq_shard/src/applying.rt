@@ -65,8 +65,9 @@ pub(crate) fn entries_for<W: Indexed>(
 {
     let mut entries = Vec::new(alloc);
     if let Some(work) = work {
-        entries.reserve(room(work.keys().len(), part.shards))?;
-        gather(part, work.keys(), &mut entries)?;
+        let keys = work.keys();
+        entries.reserve(room(keys.len(), part.shards))?;
+        gather(part, keys, &mut entries)?;
     }
     Ok(entries)
 }
