@@ -1,9 +1,9 @@
 ghost use Rattle.std.specs.Prelude.{◌≡◌, ℕ, ◌+◌, ◌%◌, ◌^◌, ◌<◌, ◌≤◌, List, [], ◌∷◌, ◌++◌, length, Some};
 ghost use Rattle.cq_cells.specs.Callers.{own};
 ghost use Rattle.cq_cells.specs.Passes.{IsPassOf, IsFree, IsSameCaller, HasBoard, by_of, least};
-ghost use Rattle.cq_cells.specs.declared.tests.Told.{Told as Event};
+ghost use Rattle.cq_chain_cases.specs.declared.telling.Told.{Told as Event};
 
-use super::*;
+use cq_cells::{Cells, Law, Pass};
 use std::sync::Wait;
 use std::test::*;
 use std::thread;

@@ -1,6 +1,6 @@
 use Rattle.std.proofs.Common.{rules, arith, refl}
 use Rattle.cq_cells.proofs.Counting.{one_more, upper_bits}
-use Rattle.cq_cells.proofs.tests.add.Goals as goal
+use Rattle.cq_chain_cases.proofs.telling.add.Goals as goal
 
 pub leave_board-requires : goal.leave_board-requires
 leave_board-requires g c =

@@ -1,7 +1,7 @@
 use Rattle.std.proofs.Common.{rules, arith, refl, sym, subst, ◌+◌, ◌≤◌}
 use Rattle.cq_cells.specs.Counts.{least_of}
 use Rattle.cq_cells.proofs.Counting.{one_more, upper_bits}
-use Rattle.cq_cells.proofs.tests.tell_after_one.Goals as goal
+use Rattle.cq_chain_cases.proofs.telling.tell_after_one.Goals as goal
 
 pub leave_board-requires : goal.leave_board-requires
 leave_board-requires g c =

@@ -1,9 +1,9 @@
 use Rattle.std.proofs.Common.{◌≡◌, ◌++◌, ◌∷◌, [], List, ℕ, Bool, Some, cond, eq-eqb, refl, ap, ◌∙◌}
 use Rattle.std.specs.Prelude.{slice_index}
 use Rattle.cq_cells.specs.Callers.{own}
-use Rattle.cq_cells.specs.declared.tests.Told.{Told}
+use Rattle.cq_chain_cases.specs.declared.telling.Told.{Told}
 use Rattle.cq_cells.proofs.Owns.{own_append}
-use Rattle.cq_cells.proofs.tests.tell.Goals as goal
+use Rattle.cq_chain_cases.proofs.telling.tell.Goals as goal
 
 pub returns-clause-told : goal.returns-clause-told
 returns-clause-told g c =

@@ -1,6 +1,6 @@
 use Rattle.std.proofs.Common.{rules, arith, sym, subst, ◌≡◌, ◌%◌, ◌^◌, length, ap, ◌∙◌}
 use Rattle.std.proofs.lemmas.List.{append-nil}
-use Rattle.cq_cells.proofs.tests.how_often.Goals as goal
+use Rattle.cq_chain_cases.proofs.telling.how_often.Goals as goal
 
 pub leave_board-requires : goal.leave_board-requires
 leave_board-requires g c =
