@@ -1,4 +1,4 @@
--- For a test with threads: what a caller leaves that accepts a change.
+-- What a caller leaves that accepts a change.
 use Rattle.std.specs.Prelude.{◌≡◌, ℕ, List, [], ◌∷◌, ◌++◌, Result, IfOk, IfErr}
 use Rattle.cq_base.specs.declared.change.Change.{Change}
 use Rattle.cq_history.specs.declared.event.Event.{Event}

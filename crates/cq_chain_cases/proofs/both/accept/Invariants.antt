@@ -1,7 +1,7 @@
 use Rattle.std.proofs.Common.{Some, None}
 use Rattle.cq_history.specs.declared.event.Event.TheVariants as event
 use Rattle.cq_cells.specs.Passes.{by_of}
-use Rattle.cq_chain.proofs.both.accept.Given as goal
+use Rattle.cq_chain_cases.proofs.both.accept.Given as goal
 
 abbrev pub ghost-leave_board : goal.ghost-leave_board
 ghost-leave_board g a = None

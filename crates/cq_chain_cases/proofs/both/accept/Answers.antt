@@ -5,8 +5,8 @@ use Rattle.cq_history.specs.declared.event.Event.TheVariants as event
 use Rattle.cq_history.specs.State.{own}
 use Rattle.cq_cells.specs.Passes.{by_of}
 use Rattle.cq_chain.specs.Held.{IsBoard}
-use Rattle.cq_chain.proofs.Adding.{board_adds, board_same, own_then}
-use Rattle.cq_chain.proofs.both.accept.Goals as goal
+use Rattle.cq_chain_cases.proofs.Adding.{board_adds, board_same, own_then}
+use Rattle.cq_chain_cases.proofs.both.accept.Goals as goal
 
 pub leave_accepted-requires : goal.leave_accepted-requires
 leave_accepted-requires g c =

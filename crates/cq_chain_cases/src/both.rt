@@ -1,4 +1,4 @@
-//! For a test: two threads that accept a change each, by passes of their own.
+//! Two threads that accept a change each, by passes of their own.
 ghost use Rattle.std.specs.Prelude.{◌≡◌, ◌+◌, ◌<◌, [], ◌∷◌, ◌++◌, Option, Some, IfOk, option_to_list};
 ghost use Rattle.cq_base.specs.Changes.{IsSoundChange};
 ghost use Rattle.cq_history.specs.declared.event.Event.{Event as Happened};
@@ -7,11 +7,11 @@ ghost use Rattle.cq_board.specs.Stands.{BoardState};
 ghost use Rattle.cq_cells.specs.Passes.{IsFree, IsSameCaller, HasBoard, by_of};
 ghost use Rattle.cq_chain.specs.Held.{IsBoard};
 ghost use Rattle.cq_chain.specs.Passes.{IsPassOf};
-ghost use Rattle.cq_chain.specs.Accepting.{Accepts, IsBack};
+ghost use Rattle.cq_chain_cases.specs.Accepting.{Accepts, IsBack};
 
-use crate::cells::{Cells, Pass};
 use cq_base::Change;
 use cq_board::{Board, Refused};
+use cq_chain::{Cells, Pass};
 use cq_shard::Indexed;
 use std::alloc::Global;
 use std::snapshot::Snapshot;

@@ -4,10 +4,10 @@ ghost use Rattle.cq_base.specs.Changes.{IsSoundChange};
 ghost use Rattle.cq_cells.specs.Passes.{IsFree};
 ghost use Rattle.cq_chain.specs.Passes.{IsPassOf, AreFresh};
 
-use super::*;
 use crate::both::accept_both;
 use cq_base::{Change, Lang, Memory, Settings, Text};
 use cq_board::Board;
+use cq_chain::{Cells, Pass};
 use cq_shard::{Indexed, Shard};
 use std::alloc::Global;
 use std::sync::Wait;

@@ -1,6 +1,6 @@
 use Rattle.std.proofs.Common.{rules, refl}
-use Rattle.cq_chain.proofs.Adding.{board_same}
-use Rattle.cq_chain.proofs.tests.hold.Goals as goal
+use Rattle.cq_chain_cases.proofs.Adding.{board_same}
+use Rattle.cq_chain_cases.proofs.threads.hold.Goals as goal
 
 pub leave_board-requires : goal.leave_board-requires
 leave_board-requires g c =

@@ -1,7 +1,7 @@
 use Rattle.std.proofs.Common.{rules, arith, refl, sym, subst}
 use Rattle.std.specs.Prelude.{IfSome}
 use Rattle.cq_chain.specs.Passes.{BoardCells, MayAdd}
-use Rattle.cq_chain.proofs.both.leave_accepted.Goals as goal
+use Rattle.cq_chain_cases.proofs.both.leave_accepted.Goals as goal
 
 pub leave_board-requires : goal.leave_board-requires
 leave_board-requires g c =
