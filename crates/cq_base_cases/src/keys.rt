@@ -1,8 +1,7 @@
 ghost use Rattle.std.specs.Prelude.{◌≡◌, ◌≤◌, ◌<◌, ◌^◌, length, IfOk};
 
-use crate::code::codes_of;
-use crate::{Keyer, plain_key};
 use cq_base::{Class, Keys, Lang, Memory, Norm, Settings, Text};
+use cq_key::{Keyer, plain_key};
 use std::alloc::Global;
 use std::sync::Arc;
 use std::sync::atomic::AtomicU64;
@@ -61,6 +60,17 @@ fn keys_and_calls(alloc: Global, settings: &Settings, norms: &[Norm]) -> Result<
     Ok((keys, calls.load(SeqCst)))
 }
 
+// Whether this is the key of a window by itself, for which the closure is called.
+fn is_key_of(alloc: Global, settings: &Settings, window: &[Norm], key: u64) -> Result<bool, Memory>
+    requires some { 1 ≤ settings.now.chunk }
+{
+    if window.len() != settings.chunk as usize {
+        return Ok(false);
+    }
+    let (alone, calls) = keys_and_calls(alloc, settings, window)?;
+    Ok(calls == 1 && alone.as_slice() == [key].as_slice())
+}
+
 // How many keys these tokens have, how often the closure was called, and whether each key is that of its window alone.
 fn outcome(
     alloc: Global,
@@ -77,12 +87,11 @@ fn outcome(
         ..SETTINGS
     };
     let (keys, calls) = keys_and_calls(alloc, &settings, norms)?;
-    let codes = codes_of(alloc, norms)?;
     let found = keys.as_slice();
-    let same = codes
-        .windows(chunk as usize)
-        .zip(found)
-        .all(|(window, key)| plain_key(&settings, window) == *key);
+    let mut same = true;
+    for (window, key) in norms.windows(chunk as usize).zip(found) {
+        same = same && is_key_of(alloc, &settings, window, *key)?;
+    }
     Ok((found.len(), calls, same))
 }
 
