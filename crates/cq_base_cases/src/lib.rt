@@ -1,8 +1,11 @@
-//! Trials of the crates at the base: texts and settings, tokens as they are compared, ends of bytes, and lines.
+//! Trials of the crates at the base: texts and settings, tokens as they are compared, keys of windows, ends of bytes, and
+//! lines.
 #![tactic(auto)]
 
 #[cfg(test)]
 mod ends;
+#[cfg(test)]
+mod keys;
 #[cfg(test)]
 mod lines;
 #[cfg(test)]

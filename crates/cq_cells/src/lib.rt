@@ -64,6 +64,3 @@ mod view;
 pub use cells::Cells;
 pub use law::Law;
 pub use pass::Pass;
-
-#[cfg(test)]
-mod tests;

@@ -1,4 +1,3 @@
 pub mod Held
 pub mod Lasts
 pub mod Passes
-pub mod Accepting

@@ -50,8 +50,3 @@ mod law;
 pub use about::About;
 pub use cells::{Cells, Pass};
 pub use law::BoardLaw;
-
-#[cfg(test)]
-mod both;
-#[cfg(test)]
-mod tests;

@@ -13,6 +13,3 @@ mod rolling;
 pub use keyer::Keyer;
 pub use laws::files_are_keyed_by_their_windows;
 pub use plain::plain_key;
-
-#[cfg(test)]
-mod tests;

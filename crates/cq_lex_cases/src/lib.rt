@@ -10,6 +10,6 @@ mod go_texts;
 #[cfg(test)]
 mod java_texts;
 #[cfg(test)]
-mod spelling;
+mod tables;
 #[cfg(test)]
 mod works;
