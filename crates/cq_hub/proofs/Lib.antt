@@ -3,3 +3,4 @@ pub mod Growing
 pub mod ShardSteps
 pub mod Soloing
 pub mod Staying
+pub mod Sweeping

@@ -35,5 +35,6 @@ mod advancing;
 mod calls;
 mod deed;
 mod shared;
+mod sweeping;
 
 pub use shared::Shared;
