@@ -1,7 +1,7 @@
-ghost use Rattle.std.specs.Prelude.{◌≡◌, ◌<◌, OnOk, None};
+ghost use Rattle.std.specs.Prelude.{◌≡◌, ◌<◌, [], OnOk, None};
 ghost use Rattle.cq_history.specs.State.{state, view_of};
-ghost use Rattle.cq_hub.specs.Hubs.{HasSeen};
-ghost use Rattle.cq_shared.specs.SharedPasses.{IsPassOf, settings_of};
+ghost use Rattle.cq_hub.specs.Hubs.{HasSeen, IsPassOf};
+ghost use Rattle.cq_shared.specs.SharedPasses as shared;
 
 use crate::hubs::read;
 use crate::made::{Apart, Made, SETTINGS, accept, finish};
@@ -10,6 +10,7 @@ use cq_board::Refused;
 use cq_chain::Pass;
 use cq_hub::{Hub, Solo};
 use cq_io::OpenGate;
+use cq_shard::Indexed;
 use cq_shared::Shared;
 use std::alloc::Global;
 use std::sync::{Arc, Wait};
@@ -55,55 +56,61 @@ fn sweep_viewed<H: Hub<Apart>>(
     Ok((kept, entries, floor))
 }
 
-/// Two versions of one file, the first of which is viewed.
+// What comes of two versions of one file, the first of which is viewed: the floor then and what the view has of a key, the
+// floor behind it, and what a later view has.
 #[derive(Drop)]
 struct Swept {
     kept: u64,
     viewed: Vec<Entry>,
     floor: u64,
+    later: Vec<Entry>,
 }
 
 fn sweep_both<H: Hub<Apart>>(alloc: Global, hub: &H, pass: &mut H::Pass) -> Result<Swept, Refused>
     requires { HasSeen H.Stands hub.now pass.old (λ c h. view_of (state (H.callers hub.now) h) c ≡ None) }
-    ensures { OnOk result (HasSeen H.Stands hub.now pass.new (λ c h. view_of (state (H.callers hub.now) h) c ≡ None)) }
+    ensures { OnOk result (IsPassOf H.Stands hub.now pass.new) }
 {
     put_file(alloc, hub, pass)?;
     publish(alloc, hub, pass)?;
     put_file(alloc, hub, pass)?;
     let (kept, viewed, floor) = sweep_viewed(alloc, hub, pass)?;
+    let (_, later) = read(alloc, hub, 3, pass)?;
     Ok(Swept {
         kept,
         viewed,
         floor,
+        later,
     })
 }
 
-// The entry of the key 3 in a change.
-fn entry(change: u64) -> Entry {
-    Entry {
-        key: 3,
-        change,
-        at: 0,
-    }
-}
-
-fn alone(alloc: Global) -> Result<(Swept, Vec<Entry>), Refused> {
+fn sweep_alone(alloc: Global) -> Result<Swept, Refused> {
     let (hub, mut pass) = Solo::<Apart>::new(alloc, &SETTINGS)?;
-    let swept = sweep_both(alloc, &hub, &mut pass)?;
-    let (_, entries) = read(alloc, &hub, 3, &mut pass)?;
-    Ok((swept, entries))
+    sweep_both(alloc, &hub, &mut pass)
 }
 
-// The floor of a shard, and how many entries with the key 3 it has of both changes.
-fn look<R: Wait>(
+// The same by a caller of a shared hub that has seen nothing.
+fn sweep_shared<R: Wait>(
     alloc: Global,
     hub: &Shared<Apart, R>,
-    number: u32,
     pass: &mut Pass<Apart>,
+) -> Result<Swept, Refused>
+    requires of { shared.IsPassOf hub.now pass.old }
+    requires fresh { pass.old.seen ≡ [] }
+    ensures of { OnOk result (shared.IsPassOf hub.now pass.new) }
+{
+    sweep_both(alloc, hub, pass)
+}
+
+// The floor of a shard, and how many entries with the key 3 it has of the first two changes.
+fn look<W: Indexed, R: Wait>(
+    alloc: Global,
+    hub: &Shared<W, R>,
+    number: u32,
+    pass: &mut Pass<W>,
 ) -> Result<(u64, usize), Memory>
-    requires of { IsPassOf hub.now pass.old }
-    requires number { number < (settings_of hub.now).shards }
-    ensures of { IsPassOf hub.now pass.new }
+    requires of { shared.IsPassOf hub.now pass.old }
+    requires number { number < (shared.settings_of hub.now).shards }
+    ensures of { shared.IsPassOf hub.now pass.new }
 {
     let shard = hub.cells().enter_shard(number, pass);
     let floor = shard.floor();
@@ -112,24 +119,32 @@ fn look<R: Wait>(
     Ok((floor, entries?.len()))
 }
 
+// The entry with the key 3 of a change.
+fn entry(change: u64) -> Entry {
+    Entry {
+        key: 3,
+        change,
+        at: 0,
+    }
+}
+
 #[test]
-fn a_sweep_alone_keeps_what_is_viewed(rt: HostRuntime) -> Result<(), Refused> {
-    let (swept, entries) = alone(rt.alloc())?;
+fn what_is_viewed_stays_alone(rt: HostRuntime) -> Result<(), Refused> {
+    let swept = sweep_alone(rt.alloc())?;
     assert_eq!(rt; (swept.kept, swept.floor), (1, 2));
     assert_eq!(rt; swept.viewed.as_slice(), [entry(1)].as_slice());
-    assert_eq!(rt; entries.as_slice(), [entry(2)].as_slice());
+    assert_eq!(rt; swept.later.as_slice(), [entry(2)].as_slice());
     Ok(())
 }
 
 #[test]
 fn each_shared_shard_is_swept(rt: HostRuntime) -> Result<(), Refused> {
     let (hub, mut pass) = Shared::<Apart, _>::new(&rt, rt.alloc(), &SETTINGS, 1)?;
-    let swept = sweep_both(rt.alloc(), &hub, &mut pass)?;
+    let swept = sweep_shared(rt.alloc(), &hub, &mut pass)?;
     assert_eq!(rt; (swept.kept, swept.floor), (1, 2));
     assert_eq!(rt; swept.viewed.as_slice(), [entry(1)].as_slice());
+    assert_eq!(rt; swept.later.as_slice(), [entry(2)].as_slice());
     assert_eq!(rt; look(rt.alloc(), &hub, 0, &mut pass)?, (2, 0));
     assert_eq!(rt; look(rt.alloc(), &hub, 1, &mut pass)?, (2, 1));
-    let (_, entries) = read(rt.alloc(), &hub, 3, &mut pass)?;
-    assert_eq!(rt; entries.as_slice(), [entry(2)].as_slice());
     Ok(())
 }

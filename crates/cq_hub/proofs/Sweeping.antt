@@ -1,6 +1,6 @@
 -- The floor of a board is raised, and a shard is swept up to it.
-use Rattle.std.proofs.Common.{◌≡◌, ℕ, ◌<◌, ◌≤◌, Bool, true, false, inr, List, [], ◌∷◌, ◌++◌, length, get_or, Option, Some, None, refl, sym, ap, ◌∙◌, subst, ⊎_elim, arith}
-use Rattle.std.specs.Prelude.{◌↔◌, All, IsTrue}
+use Rattle.std.proofs.Common.{◌≡◌, ℕ, ◌≤◌, Bool, true, false, inl, inr, List, [], ◌∷◌, ◌++◌, length, get_or, Option, Some, None, refl, sym, ap, ◌∙◌, subst, ⊎_elim, arith}
+use Rattle.std.specs.Prelude.{◌⊎◌, ◌↔◌, All, IsTrue}
 use Rattle.std.specs.Bool.{OnTrue, OnFalse}
 use Rattle.std.proofs.lemmas.Bool.{cases_lt, OnTrue_at, OnFalse_at, iff_false}
 use Rattle.std.proofs.lemmas.List.{get_or_default}
@@ -12,14 +12,14 @@ use Rattle.cq_history.specs.State.{State, state, changes_in}
 use Rattle.cq_history.specs.Lawful.{IsBelow, Permits}
 use Rattle.cq_history.proofs.States.{state_push}
 use Rattle.cq_history.proofs.Bounds.{InOrder, in_order}
-use Rattle.cq_shard.specs.Shard.{Contents, swept}
+use Rattle.cq_shard.specs.Shard.{Contents}
 use Rattle.cq_board.specs.Answers.{greatest_floor}
 use Rattle.cq_board.specs.Stands.{BoardState, StandsFor, Adds}
 use Rattle.cq_board.specs.Sweeping.{AreSupersededBetween}
 use Rattle.cq_board.proofs.Floors.{fits_all, all_fit}
 use Rattle.cq_board.proofs.Sweeping.{stands_swept_between}
 use Rattle.cq_hub.specs.Hubs.{Grows, IsFloor}
-use Rattle.cq_hub.specs.Shards.{IsShardOf}
+use Rattle.cq_hub.specs.Shards.{IsShardOf, IsSweptBetween}
 use Rattle.cq_hub.specs.Solos.{IsSoloOf}
 use Rattle.cq_hub.proofs.Growing.{grows_none}
 use Rattle.cq_hub.proofs.Soloing.{solo_state, solo_adds}
@@ -61,6 +61,7 @@ pub record Raised (IsWindow : Lang → List ℕ → ℕ → ℕ → Type 0) (set
   pub greatest : (state 1 mid).floor ≡ greatest_floor (state 1 mid)
   pub told : floor ≡ (state 1 mid).floor
   pub is : IsSoloOf IsWindow set c mid new shards
+  pub once : (mid ≡ h) ⊎ ((f : ℕ) × (mid ≡ h ++ Floor f ∷ []))
 
 module _ (IsWindow : Lang → List ℕ → ℕ → ℕ → Type 0) (set : Settings) (c : ℕ) (h : List Event) (old : BoardState) (shards : List Contents) (is : IsSoloOf IsWindow set c h old shards) (floor : ℕ) (greatest : floor ≡ greatest_floor old.state) (new : BoardState) where
   -- the board of a plain hub was to set the greatest floor
@@ -73,6 +74,7 @@ module _ (IsWindow : Lang → List ℕ → ℕ → ℕ → Type 0) (set : Settin
         greatest = then.0;
         told = then.1;
         is = solo_adds IsWindow set c h old shards is new (Floor floor) (OnTrue_at refl adds) (λ x there. tt);
+        once = inr (floor, refl);
       }
   solo_raised false adds lawful same =
       let at : old.state ≡ state 1 h = solo_state IsWindow set c h old shards is in
@@ -83,7 +85,17 @@ module _ (IsWindow : Lang → List ℕ → ℕ → ℕ → Type 0) (set : Settin
         greatest = subst (λ (s : State). s.floor ≡ greatest_floor s) at stays;
         told = greatest ∙ sym stays ∙ ap (λ (s : State). s.floor) at;
         is = subst (λ b. IsSoloOf IsWindow set c h b shards) (sym (OnFalse_at refl same)) is;
+        once = inl refl;
       }
+
+-- whatever the shards are then, the pass stands for the same history, or one with a floor more
+pub raised_once : (IsWindow : Lang → List ℕ → ℕ → ℕ → Type 0) (set : Settings) (c : ℕ) (h : List Event) (floor : ℕ) (new : BoardState) (shards : List Contents) (raised : Raised IsWindow set c h floor new shards) {more : List Contents} → IsSoloOf IsWindow set c raised.mid new more
+    → IsSoloOf IsWindow set c h new more ⊎ ((f : ℕ) × IsSoloOf IsWindow set c (h ++ Floor f ∷ []) new more)
+raised_once IsWindow set c h floor new shards raised {more} is =
+    ⊎_elim
+    (λ same. inl (subst (λ l. IsSoloOf IsWindow set c l new more) same is))
+    (λ added. inr (added.0, subst (λ l. IsSoloOf IsWindow set c l new more) added.1 is))
+    raised.once
 
 -- the floor of a board is at most what it has published
 pub floor_published : (IsWindow : Lang → List ℕ → ℕ → ℕ → Type 0) (set : Settings) (c : ℕ) (h : List Event) (b : BoardState) (shards : List Contents) → IsSoloOf IsWindow set c h b shards → b.state.floor ≤ b.state.published
@@ -93,15 +105,15 @@ floor_published IsWindow set c h b shards is =
 
 -- ---- a shard
 
--- a shard beside a board, swept of what was superseded since it was swept up to a lower floor, stands beside it, swept up to
+-- a shard beside a board, swept of what was superseded since a floor that its own is not below, stands beside it, swept up to
 -- the board's floor
 pub shard_swept : (IsWindow : Lang → List ℕ → ℕ → ℕ → Type 0) (b : BoardState) (above : ℕ) (dead : List ℕ) → AreSupersededBetween (changes_in b.state) above b.state.floor dead → (n : ℕ) (old new : Contents) → above ≤ old.floor
-    → (old.floor < b.state.floor → new ≡ swept b.state.floor dead old) → (b.state.floor ≤ old.floor → new ≡ old) → IsShardOf IsWindow b n old → IsShardOf IsWindow b n new × (new.floor ≡ b.state.floor)
-shard_swept IsWindow b above dead are n old new low sweeps same was =
+    → IsSweptBetween above b.state.floor dead old new → IsShardOf IsWindow b n old → IsShardOf IsWindow b n new × (new.floor ≡ b.state.floor)
+shard_swept IsWindow b above dead are n old new low how was =
     ⊎_elim
-    (λ lt. subst (λ (x : Contents). IsShardOf IsWindow b n x × (x.floor ≡ b.state.floor)) (sym (sweeps lt)) (
+    (λ sweeps. subst (λ (x : Contents). IsShardOf IsWindow b n x × (x.floor ≡ b.state.floor)) (sym sweeps.2) (
       record {
-        stands = stands_swept_between IsWindow (changes_in b.state) old above b.state.floor dead low (omega (arith, lt)) are was.stands;
+        stands = stands_swept_between IsWindow (changes_in b.state) old above b.state.floor dead low (let lt = sweeps.1 in omega (arith, lt)) are was.stands;
         reached = was.reached;
         swept = omega arith;
         number_is = was.number_is;
@@ -109,5 +121,5 @@ shard_swept IsWindow b above dead are n old new low sweeps same was =
       },
       refl,
     ))
-    (λ ge. subst (λ (x : Contents). IsShardOf IsWindow b n x × (x.floor ≡ b.state.floor)) (sym (same ge)) (was, (let most = was.swept in omega (arith, ge, most))))
-    (cases_lt old.floor b.state.floor)
+    (λ stays. subst (λ (x : Contents). IsShardOf IsWindow b n x × (x.floor ≡ b.state.floor)) (sym stays.1) (was, (let most = was.swept in ⊎_elim (λ lt. absurd (omega (arith, lt, low))) (λ ge. omega (arith, ge, most)) stays.0)))
+    how

@@ -1,6 +1,6 @@
 ghost use Rattle.std.specs.Prelude.{◌≡◌, [], ◌≤◌, IfOk};
 ghost use Rattle.cq_hub.specs.Hubs.{IsPassOf};
-ghost use Rattle.cq_hub.specs.SoloPasses.{SoloStands, SoloSweeps, AreSweptTo, asked_by};
+ghost use Rattle.cq_hub.specs.SoloPasses.{SoloStands, SoloSweeps, RaisesOnce, AreSweptTo, asked_by};
 
 use crate::applying::{apply_up_to, shards_of};
 use crate::hub::Hub;
@@ -53,10 +53,11 @@ impl<W: Indexed> Solo<W> {
 
     /// Gives up the versions below the published one and the open one, sweeps each shard that was not swept so far, and answers
     /// the floor, which is then each shard's. It looks at each shard's floor. Where one is lower, it takes memory for a list of
-    /// what was superseded since; where that is refused, no shard is swept.
+    /// what was superseded since. Where that is refused, the versions are given up all the same.
     pub fn sweep(&self, alloc: Global, pass: &mut SoloPass<W>) -> Result<u64, Memory>
         requires stands { IsPassOf (SoloStands W.keys_in W.IsWorkOf) self.now pass.old }
         ensures swept { SoloSweeps W.keys_in W.IsWorkOf self.now pass.old pass.new result }
+        ensures once { RaisesOnce W.keys_in W.IsWorkOf self.now pass.old pass.new }
         ensures shards { IfOk result (AreSweptTo pass.new) }
         ensures asked { asked_by pass.new ≡ asked_by pass.old }
     {

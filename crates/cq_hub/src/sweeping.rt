@@ -1,7 +1,6 @@
-ghost use Rattle.std.specs.Prelude.{◌≡◌, ◌<◌, ◌≤◌, All, OnOk};
+ghost use Rattle.std.specs.Prelude.{◌≡◌, ◌≤◌, All, OnOk};
 ghost use Rattle.std.specs.List.Sorted.{IsStrictlyIncreasing};
-ghost use Rattle.cq_shard.specs.Shard.{swept};
-ghost use Rattle.cq_hub.specs.Shards.{StandBeside};
+ghost use Rattle.cq_hub.specs.Shards.{StandBeside, IsSweptBetween};
 
 use cq_base::Memory;
 use cq_board::Board;
@@ -9,7 +8,7 @@ use cq_shard::{Indexed, Shard};
 use std::alloc::Global;
 
 /// Each of the board's shards is swept up to the board's floor, where it was not: of what was superseded since the least of
-/// their floors. Where memory is refused for the list of that, none is. Where all are swept, it takes no memory.
+/// their floors. It takes memory for a list of that, and none where all are swept.
 pub(crate) fn sweep_shards<W: Indexed>(
     alloc: Global,
     board: &Board<W>,
@@ -27,7 +26,7 @@ pub(crate) fn sweep_shards<W: Indexed>(
     }
     let dead = board.dead_between(alloc, above, floor)?;
     'shards: for i in 0..shards.len() {
-        sweep_up_to(floor, &dead, &mut shards[i]);
+        sweep_between(above, floor, &dead, &mut shards[i]);
     }
     Ok(())
 }
@@ -44,14 +43,14 @@ fn least_floor(floor: u64, shards: &[Shard]) -> u64
     least
 }
 
-// The shard lets go of the dead changes, where its floor is lower than this one.
-fn sweep_up_to(floor: u64, dead: &[u64], shard: &mut Shard)
+/// The shard lets go of the dead changes, where its floor lies between two floors, and is swept up to the second one then.
+pub fn sweep_between(above: u64, floor: u64, dead: &[u64], shard: &mut Shard)
     requires applied { floor ≤ shard.old.applied }
     requires rising { IsStrictlyIncreasing dead.now }
-    ensures swept { shard.old.floor < floor → shard.new ≡ swept floor dead.now shard.old }
-    ensures same { floor ≤ shard.old.floor → shard.new ≡ shard.old }
+    ensures { IsSweptBetween above floor dead.now shard.old shard.new }
 {
-    if shard.floor() < floor {
+    let at = shard.floor();
+    if above <= at && at < floor {
         shard.sweep(floor, dead);
     }
 }

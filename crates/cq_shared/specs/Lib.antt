@@ -3,4 +3,3 @@ pub mod Deeds
 pub mod Calls
 pub mod Answers
 pub mod Advancing
-pub mod Sweeping

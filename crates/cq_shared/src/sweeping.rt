@@ -1,17 +1,18 @@
 ghost use Rattle.std.specs.Prelude.{◌≡◌, ◌<◌, ◌≤◌, [], IfOk};
 ghost use Rattle.cq_history.specs.State.{accepted, changes_in};
+ghost use Rattle.cq_board.specs.Answers.{greatest_floor};
 ghost use Rattle.cq_board.specs.Sweeping.{AreSupersededBetween};
 ghost use Rattle.cq_cells.specs.Passes.{IsSameCaller};
 ghost use Rattle.cq_hub.specs.Says.{HasGreatestFloor};
 ghost use Rattle.cq_shared.specs.Calls.{Calls};
 ghost use Rattle.cq_shared.specs.SharedPasses.{IsPassOf, settings_of, state_of};
-ghost use Rattle.cq_shared.specs.Sweeping.{TellsFloor};
 
 use crate::deed::Deed;
 use crate::shared::Shared;
 use cq_base::Memory;
 use cq_board::Board;
 use cq_chain::Pass;
+use cq_hub::sweep_between;
 use cq_shard::Indexed;
 use std::alloc::Global;
 use std::sync::Wait;
@@ -29,10 +30,11 @@ impl<W: Indexed, R: Wait> Shared<W, R> {
     {
         let above = self.swept.load(Ordering::SeqCst);
         let (floor, dead) = self.raise_floor(alloc, above, pass)?;
-        if above < floor {
-            self.sweep_shards(above, floor, &dead, pass);
-            self.swept.store(floor, Ordering::SeqCst);
+        if floor <= above {
+            return Ok(floor);
         }
+        self.sweep_shards(above, floor, &dead, pass);
+        self.swept.store(floor, Ordering::SeqCst);
         Ok(floor)
     }
 
@@ -45,19 +47,20 @@ impl<W: Indexed, R: Wait> Shared<W, R> {
         pass: &mut Pass<W>,
     ) -> Result<(u64, Vec<u64>), Memory>
         requires of { IsPassOf self.now pass.old }
-        ensures calls { Calls self.now pass.old pass.new [] (λ mid. TellsFloor (state_of self.now mid) result) }
+        ensures calls { Calls self.now pass.old pass.new [] (λ mid. (state_of self.now mid).floor ≡ greatest_floor (state_of self.now mid)) }
+        ensures floor { IfOk result (λ r. r.0 ≡ (state_of self.now pass.new.seen).floor) }
         ensures dead { IfOk result (λ r. above < r.0 → AreSupersededBetween (accepted pass.new.seen) above r.0 r.1.items) }
         ensures asked { pass.new.asked ≡ pass.old.asked }
     {
         let mut board = self.cells.enter_board(pass);
         let floor = board.greatest_floor();
-        let raised = board.set_floor(floor);
-        let dead = dead_above(alloc, &board, above, floor);
-        if raised {
+        if board.set_floor(floor) {
+            let dead = dead_above(alloc, &board, above, floor);
             self.leave_after(board, pass, Deed::Floor(floor));
-        } else {
-            self.leave_after(board, pass, Deed::Nothing);
+            return Ok((floor, dead?));
         }
+        let dead = dead_above(alloc, &board, above, floor);
+        self.leave_after(board, pass, Deed::Nothing);
         Ok((floor, dead?))
     }
 
@@ -85,10 +88,7 @@ impl<W: Indexed, R: Wait> Shared<W, R> {
         ensures seen { pass.new.seen ≡ pass.old.seen }
     {
         let mut shard = self.cells.enter_shard(number, pass);
-        let at = shard.floor();
-        if above <= at && at < floor {
-            shard.sweep(floor, dead);
-        }
+        sweep_between(above, floor, dead, &mut shard);
         self.cells.leave_shard(number, shard, pass);
     }
 }
