@@ -5,7 +5,7 @@ use Rattle.std.specs.List.Sorted.{IsStrictlyIncreasing, IsNonDecreasingBy, IsPar
 use Rattle.std.specs.Ordering.{nat_cmp}
 use Rattle.std.proofs.lemmas.Bool.{cases_lt, cases_eq}
 use Rattle.std.proofs.lemmas.Bool.Decides.{nat_tests}
-use Rattle.std.proofs.lemmas.List.{length-map, length-take-le, length-drop, get_or-map, get_or-take, get_or-drop, get_or_default}
+use Rattle.std.proofs.lemmas.List.{length-map, length-take-le, length-drop, get_or-map, get_or-take, get_or-drop, get_or_default, take_all}
 use Rattle.std.proofs.lemmas.List.Elements.{Contains-get_or}
 use Rattle.std.proofs.lemmas.List.Sorted.{Contains-permutation, IsPermutation-sym, IsNonDecreasingBy-from_sort}
 use Rattle.cq_base.specs.declared.change.Change.{Change}
@@ -79,6 +79,10 @@ all_dead changes all floor dead are rising which = record {
 pub pairs_behind : (R : Superseded → Superseded → Type 0) (from : ℕ) (all : List Superseded) → AllPairs R all → AllPairs R (drop from all)
 pairs_behind R from all is i j d lt below =
     subst₂ R (sym (get_or-drop from all i d)) (sym (get_or-drop from all j d)) (is (from + i) (from + j) d (omega (arith, lt)) (let n = length-drop from all in omega (arith, below, n)))
+
+-- which are all that are left
+pub all_behind : (from : ℕ) (all : List Superseded) → take (length all - from) (drop from all) ≡ drop from all
+all_behind from all = take_all (length all - from) (drop from all) (let n = length-drop from all in omega (arith, n))
 
 -- a put is noted once
 noted_once : (all : List Superseded) → AllPairs AreOtherPuts all → (above : ℕ) (s t : Superseded) → Contains all s → Contains all t → above < s.by → t.by ≤ above → s.put ≡ t.put → ⊥
