@@ -1,4 +1,4 @@
 pub mod Calling
 pub mod Reading
 pub mod Applying
-pub mod Sweeping
+pub mod SweptShards

@@ -5,7 +5,7 @@ use Rattle.cq_shard.specs.Shard.{Contents, HasWindow}
 use Rattle.cq_board.specs.Sweeping.{AreSupersededBetween}
 use Rattle.cq_hub.specs.Shards.{IsShardOf, IsSweptBetween}
 use Rattle.cq_hub.proofs.ShardSteps.{shards_set, each_more}
-use Rattle.cq_hub.proofs.Sweeping.{shard_swept}
+use Rattle.cq_hub.proofs.Raising.{shard_swept}
 use Rattle.cq_hub.proofs.sweeping.sweep_shards.Goals as goal
 
 pub returns-then-above-floor-clause-swept : goal.returns-then-above-floor-clause-swept

@@ -3,7 +3,7 @@ use Rattle.std.specs.Prelude.{All}
 use Rattle.cq_history.specs.State.{State}
 use Rattle.cq_shard.specs.Shard.{Contents, HasWindow}
 use Rattle.cq_hub.proofs.Soloing.{solo_applies, solo_nil, solo_stand, solo_state}
-use Rattle.cq_hub.proofs.Sweeping.{solo_raised, raised_once, floor_published}
+use Rattle.cq_hub.proofs.Raising.{solo_raised, raised_once, floor_published}
 use Rattle.cq_hub.proofs.solo.Solo.sweep.Goals as goal
 
 pub sweep_shards-requires : goal.sweep_shards-requires

@@ -5,11 +5,11 @@ use Rattle.cq_history.specs.State.{State, accepted}
 use Rattle.cq_history.specs.Lawful.{Permits}
 use Rattle.cq_board.specs.Answers.{greatest_floor}
 use Rattle.cq_board.specs.Sweeping.{AreSupersededBetween}
-use Rattle.cq_hub.proofs.Sweeping.{floor_stays, floor_then}
+use Rattle.cq_hub.proofs.Raising.{floor_stays, floor_then}
 use Rattle.cq_shared.specs.declared.deed.Deed.TheVariants as deed
 use Rattle.cq_shared.specs.SharedPasses.{cells_of, callers_of, state_of}
 use Rattle.cq_shared.proofs.Calling.{state_is, adds_board, same_board, called, called_nobodys}
-use Rattle.cq_shared.proofs.Sweeping.{board_changes}
+use Rattle.cq_shared.proofs.SweptShards.{board_changes}
 use Rattle.cq_shared.proofs.shared.Shared.raise_floor.Goals as goal
 
 pub returns-then-set_floor-clause-calls : goal.returns-then-set_floor-clause-calls

@@ -4,7 +4,7 @@ use Rattle.cq_history.proofs.Bounds.{in_order}
 use Rattle.cq_shard.specs.Shard.{HasWindow}
 use Rattle.cq_board.specs.Sweeping.{AreSupersededBetween}
 use Rattle.cq_shared.specs.SharedPasses.{cells_of, settings_of, state_of}
-use Rattle.cq_shared.proofs.Sweeping.{swept_step}
+use Rattle.cq_shared.proofs.SweptShards.{swept_step}
 use Rattle.cq_shared.proofs.shared.Shared.sweep_shard.Goals as goal
 
 pub sweep_between-requires : goal.sweep_between-requires
