@@ -24,14 +24,14 @@ shards-preserved g c =
     let shards = c.shards.shards.items in
     let i = c.shards.i in
     let new = c.sweep_between.new.shard in
-    let within : i < length shards = let n = inv.number in let len = c.len.ensures in let lt = c.shards-test.true in omega (arith, n, len, lt) in
+    let within : i < length shards = let n = inv.number in let len = c.len-i-end.ensures in let lt = c.shards-test.true in omega (arith, n, len, lt) in
     let floor = c.floor-floor.ensures in
     let old = c.index_mut.result.now in
     let was : IsShardOf (HasWindow g.W.Indexed.keys_in g.W.Indexed.IsWorkOf b.settings) b i old =
     subst (IsShardOf (HasWindow g.W.Indexed.keys_in g.W.Indexed.IsWorkOf b.settings) b i) (sym c.index_mut.ensures.value) (inv.stand.each i old within) in
     let low = subst (λ (x : Contents). c.least_floor-above.result ≤ x.floor) (sym c.index_mut.ensures.value) (inv.rest i old (omega arith) within) in
     let dead = subst (λ f. AreSupersededBetween (changes_in b.state) c.least_floor-above.result f c.in_ok-dead.dead.items) floor c.in_ok-dead.ensures in
-    let how = subst (λ f. IsSweptBetween c.least_floor-above.result f c.in_ok-dead.dead.items old new) floor (subst (λ xs. IsSweptBetween c.least_floor-above.result c.floor-floor.result xs old new) c.deref-2.ensures.value c.sweep_between.ensures) in
+    let how = subst (λ f. IsSweptBetween c.least_floor-above.result f c.in_ok-dead.dead.items old new) floor (subst (λ xs. IsSweptBetween c.least_floor-above.result c.floor-floor.result xs old new) c.deref-in-shards.ensures.value c.sweep_between.ensures) in
     let then = shard_swept (HasWindow g.W.Indexed.keys_in g.W.Indexed.IsWorkOf b.settings) b c.least_floor-above.result c.in_ok-dead.dead.items dead i old new low how was in
     record {
       number = length-set shards i new ∙ inv.number;

@@ -1,4 +1,4 @@
-use Rattle.std.proofs.Common.{◌≡◌, ◌≤◌, ◌∙◌, sym, ap, subst}
+use Rattle.std.proofs.Common.{◌≡◌, ◌≤◌, ◌∙◌, sym, ap, subst, rules}
 use Rattle.std.specs.Prelude.{All}
 use Rattle.cq_history.specs.State.{State}
 use Rattle.cq_shard.specs.Shard.{Contents, HasWindow}
@@ -23,7 +23,7 @@ returns-in_err-sweep_shards-clause-swept g c = λ by h is.
     record {
       mid = raised.mid;
       others = raised.others;
-      says = (raised.greatest, tt);
+      says = (raised.greatest, search rules);
       stands = solo_nil _ _ by _ _ _ (solo_applies (HasWindow g.W.Indexed.keys_in g.W.Indexed.IsWorkOf) _ by raised.mid _ _ c.sweep_shards.new.shards.items raised.is c.sweep_shards.ensures.stand);
     }
 

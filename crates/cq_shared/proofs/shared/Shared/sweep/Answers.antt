@@ -1,4 +1,4 @@
-use Rattle.std.proofs.Common.{◌≡◌, ◌<◌, ◌∙◌, refl, sym, ap, subst, arith}
+use Rattle.std.proofs.Common.{◌≡◌, ◌<◌, ◌∙◌, refl, sym, ap, subst, arith, rules}
 use Rattle.cq_history.specs.State.{State, accepted}
 use Rattle.cq_board.specs.Answers.{greatest_floor}
 use Rattle.cq_board.specs.Sweeping.{AreSupersededBetween}
@@ -11,7 +11,7 @@ returns-in_err-raise_floor-clause-swept g c =
     let hub = c.args.self.now in
     let a = c.raise_floor.new.pass in
     let one = c.raise_floor.ensures.calls in
-    calls_still hub c.args.pass.now a a _ _ one one.of (same_itself a) refl (calls_end hub c.args.pass.now a _ one, tt)
+    calls_still hub c.args.pass.now a a _ _ one one.of (same_itself a) refl (calls_end hub c.args.pass.now a _ one, search rules)
 
 pub returns-then-floor-above-clause-swept : goal.returns-then-floor-above-clause-swept
 returns-then-floor-above-clause-swept g c =
