@@ -3,7 +3,6 @@ use Rattle.std.proofs.Common.{◌≡◌, ℕ, ◌≤◌, List, ◌++◌, length,
 use Rattle.cq_base.specs.declared.lang.Lang.{Lang}
 use Rattle.cq_base.specs.declared.change.Change.{Change}
 use Rattle.cq_history.specs.declared.event.Event.{Event}
-use Rattle.cq_history.specs.Changes.{change_at}
 use Rattle.cq_history.specs.Superseded.{IsSuperseded}
 use Rattle.cq_history.specs.State.{accepted, changes_in}
 use Rattle.cq_history.proofs.Prefixes.{accepted-append, changes_in-state}
@@ -61,19 +60,14 @@ module _ (changes later : List Change) (floor : ℕ) (most : floor ≤ length ch
         same_file = s.same_file;
       }
 
-  between_stay : (above : ℕ) (dead : List ℕ) → above ≤ floor → AreSupersededBetween changes above floor dead → AreSupersededBetween (changes ++ later) above floor dead
-  between_stay above dead low are = record {
-    rising = are.rising;
-    each = λ r. (
-      λ has. let gone = (are.each r).0 has in (stays_superseded r gone.0, λ early. gone.1 (was_early r early)),
-      λ gone. (are.each r).1 (was_superseded r gone.0, λ early. gone.1 (stays_early r early)),
-    );
-  }
-    where
-      was_early : (r : ℕ) → IsSuperseded (changes ++ later) above r → IsSuperseded changes above r
-      was_early = was_superseded changes later above (omega (arith, low, most))
-      stays_early : (r : ℕ) → IsSuperseded changes above r → IsSuperseded (changes ++ later) above r
-      stays_early = stays_superseded changes later above (omega (arith, low, most))
+between_stay : (changes later : List Change) (above floor : ℕ) (dead : List ℕ) → floor ≤ length changes → above ≤ floor → AreSupersededBetween changes above floor dead → AreSupersededBetween (changes ++ later) above floor dead
+between_stay changes later above floor dead most low are = record {
+  rising = are.rising;
+  each = λ r. (
+    λ has. let gone = (are.each r).0 has in (stays_superseded changes later floor most r gone.0, λ early. gone.1 (was_superseded changes later above (omega (arith, low, most)) r early)),
+    λ gone. (are.each r).1 (was_superseded changes later floor most r gone.0, λ early. gone.1 (stays_superseded changes later above (omega (arith, low, most)) r early)),
+  );
+}
 
 -- ---- a shard
 
@@ -90,18 +84,18 @@ module _ (IsWindow : Lang → List ℕ → ℕ → ℕ → Type 0) (about : Abou
   swept_step above floor dead x y is are how =
       ⊎_elim
       (λ sweeps.
-          let low = sweeps.0 in
-          let lt = sweeps.1 in
-          let most = floor_accepted in
-          subst (IsStep IsWindow about seen x) (sym sweeps.2) (record {
-            applied = inl refl;
-            swept = inr (omega (arith, is));
-            number_is = refl;
-            shards = refl;
-            stands = λ later was.
-                stands_swept_between IsWindow (accepted (seen ++ later)) x above floor dead low (omega (arith, lt))
-                (subst (λ cs. AreSupersededBetween cs above floor dead) (sym (accepted-append seen later)) (between_stay (accepted seen) (accepted later) floor (omega (arith, is, most)) above dead (omega (arith, low, lt)) are)) was;
-          }))
+      let low = sweeps.0 in
+      let lt = sweeps.1 in
+      let most = floor_accepted in
+      subst (IsStep IsWindow about seen x) (sym sweeps.2) (record {
+        applied = inl refl;
+        swept = inr (omega (arith, is));
+        number_is = refl;
+        shards = refl;
+        stands = λ later was.
+            stands_swept_between IsWindow (accepted (seen ++ later)) x above floor dead low (omega (arith, lt))
+            (subst (λ cs. AreSupersededBetween cs above floor dead) (sym (accepted-append seen later)) (between_stay (accepted seen) (accepted later) above floor dead (omega (arith, is, most)) (omega (arith, low, lt)) are)) was;
+      }))
       (λ stays. subst (IsStep IsWindow about seen x) (sym stays.1) (same_step IsWindow about seen x))
       how
 

@@ -1,4 +1,4 @@
-use Rattle.std.proofs.Common.{◌≡◌, ◌∷◌, [], ◌++◌, ◌<◌, refl, sym, ap, ◌∙◌, subst, append-nil}
+use Rattle.std.proofs.Common.{◌≡◌, refl, sym, ap, ◌∙◌, subst, append-nil}
 use Rattle.std.proofs.lemmas.Bool.{OnTrue_at, OnFalse_at, iff_false}
 use Rattle.cq_history.specs.declared.event.Event.TheVariants as event
 use Rattle.cq_history.specs.State.{State, accepted}
@@ -53,8 +53,8 @@ returns-then-set_floor-clause-dead g c =
     let m = c.enter_board-board.new.pass in
     let b = c.enter_board-board.result in
     λ lt.
-        let now = adds_board about m.seen b c.set_floor.new.self (event.Floor c.greatest_floor-floor.result) e.board (OnTrue_at c.if-set_floor.true c.set_floor.ensures.adds) in
-        subst (λ cs. AreSupersededBetween cs c.args.above c.greatest_floor-floor.result c.in_ok-dead.field-0.items) (board_changes about _ c.set_floor.new.self now ∙ ap accepted (sym c.leave_after.ensures.seen)) (c.in_ok-dead.ensures lt)
+    let now = adds_board about m.seen b c.set_floor.new.self (event.Floor c.greatest_floor-floor.result) e.board (OnTrue_at c.if-set_floor.true c.set_floor.ensures.adds) in
+    subst (λ cs. AreSupersededBetween cs c.args.above c.greatest_floor-floor.result c.in_ok-dead.field-0.items) (board_changes about _ c.set_floor.new.self now ∙ ap accepted (sym c.leave_after.ensures.seen)) (c.in_ok-dead.ensures lt)
 
 pub returns-clause-calls : goal.returns-clause-calls
 returns-clause-calls g c =
@@ -94,5 +94,5 @@ returns-clause-dead g c =
     let m = c.enter_board-board.new.pass in
     let b = c.enter_board-board.result in
     λ lt.
-        let now = same_board about m.seen b c.set_floor.new.self e.board (OnFalse_at c.if-set_floor.false c.set_floor.ensures.unchanged) in
-        subst (λ cs. AreSupersededBetween cs c.args.above c.greatest_floor-floor.result c.in_ok-dead-2.field-0.items) (board_changes about _ c.set_floor.new.self now ∙ ap accepted (sym c.leave_after-2.ensures.seen)) (c.in_ok-dead-2.ensures lt)
+    let now = same_board about m.seen b c.set_floor.new.self e.board (OnFalse_at c.if-set_floor.false c.set_floor.ensures.unchanged) in
+    subst (λ cs. AreSupersededBetween cs c.args.above c.greatest_floor-floor.result c.in_ok-dead-2.field-0.items) (board_changes about _ c.set_floor.new.self now ∙ ap accepted (sym c.leave_after-2.ensures.seen)) (c.in_ok-dead-2.ensures lt)

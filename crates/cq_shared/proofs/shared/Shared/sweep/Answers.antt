@@ -1,5 +1,5 @@
-use Rattle.std.proofs.Common.{◌≡◌, ◌<◌, ◌∙◌, refl, sym, ap, subst, arith, rules}
-use Rattle.cq_history.specs.State.{State, accepted}
+use Rattle.std.proofs.Common.{◌≡◌, ◌<◌, refl, sym, subst, arith, rules}
+use Rattle.cq_history.specs.State.{accepted}
 use Rattle.cq_board.specs.Answers.{greatest_floor}
 use Rattle.cq_board.specs.Sweeping.{AreSupersededBetween}
 use Rattle.cq_shared.specs.SharedPasses.{state_of}

@@ -1,4 +1,4 @@
-use Rattle.std.proofs.Common.{◌≡◌, ◌≤◌, sym, ap, ◌∙◌, subst, arith}
+use Rattle.std.proofs.Common.{◌≡◌, sym, ap, ◌∙◌, subst, arith}
 use Rattle.cq_history.specs.State.{accepted}
 use Rattle.cq_history.proofs.Bounds.{in_order}
 use Rattle.cq_shard.specs.Shard.{HasWindow}
