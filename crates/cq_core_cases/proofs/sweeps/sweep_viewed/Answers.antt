@@ -1,7 +1,7 @@
-use Rattle.std.proofs.Common.{◌≡◌, ℕ, [], ◌∷◌, ◌++◌, ◌≤◌, None, refl, sym, ap, ◌∙◌, subst, append-nil, arith}
+use Rattle.std.proofs.Common.{◌≡◌, [], ◌∷◌, ◌++◌, refl, sym, ap, ◌∙◌, subst, append-nil, arith}
 use Rattle.std.specs.Prelude.{IsSome}
 use Rattle.cq_history.specs.declared.event.Event.TheVariants as event
-use Rattle.cq_history.specs.State.{state, ready, view_of}
+use Rattle.cq_history.specs.State.{state, ready}
 use Rattle.cq_board.specs.declared.answers.Asked.{Asked}
 use Rattle.cq_hub.specs.Hubs.{IsPublication, IsFloor, Never}
 use Rattle.cq_hub.proofs.Growing.{rises, grows_event}

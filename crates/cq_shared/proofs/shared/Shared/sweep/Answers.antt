@@ -6,8 +6,8 @@ use Rattle.cq_shared.specs.SharedPasses.{state_of}
 use Rattle.cq_shared.proofs.Calling.{calls_still, calls_end, same_itself}
 use Rattle.cq_shared.proofs.shared.Shared.sweep.Goals as goal
 
-pub returns-in_err-raise_floor-clause-swept : goal.returns-in_err-raise_floor-clause-swept
-returns-in_err-raise_floor-clause-swept g c =
+pub returns-in_err-floor-clause-swept : goal.returns-in_err-floor-clause-swept
+returns-in_err-floor-clause-swept g c =
     let hub = c.args.self.now in
     let a = c.raise_floor.new.pass in
     let one = c.raise_floor.ensures.calls in
