@@ -27,7 +27,7 @@ fn put_file<H: Hub<Apart>>(alloc: Global, hub: &H, pass: &mut H::Pass) -> Result
 }
 
 // All that is done is published.
-fn publish<H: Hub<Apart>>(alloc: Global, hub: &H, pass: &mut H::Pass) -> Result<(), Memory>
+fn publish<W: Indexed, H: Hub<W>>(alloc: Global, hub: &H, pass: &mut H::Pass) -> Result<(), Memory>
     requires { HasSeen H.Stands hub.now pass.old (λ c h. view_of (state (H.callers hub.now) h) c ≡ None) }
     ensures { OnOk result (HasSeen H.Stands hub.now pass.new (λ c h. view_of (state (H.callers hub.now) h) c ≡ None)) }
 {
@@ -38,7 +38,7 @@ fn publish<H: Hub<Apart>>(alloc: Global, hub: &H, pass: &mut H::Pass) -> Result<
 
 // A view of the last version is open while all that is done is published: the floor of a sweep, what the view has of a key
 // then, and the floor of a sweep behind it.
-fn sweep_viewed<H: Hub<Apart>>(
+fn sweep_viewed<W: Indexed, H: Hub<W>>(
     alloc: Global,
     hub: &H,
     pass: &mut H::Pass,
