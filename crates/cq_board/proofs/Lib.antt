@@ -13,6 +13,7 @@ pub mod Related
 pub mod SlotLists
 pub mod Sounding
 pub mod Superseding
+pub mod Sweeping
 pub mod Turning
 pub mod Undoing
 pub mod VersionEntries

@@ -9,5 +9,6 @@ pub mod Slots
 pub mod Sound
 pub mod Stands
 pub mod Superseded
+pub mod Sweeping
 pub mod Turnover
 pub mod Undone

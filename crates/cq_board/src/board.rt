@@ -6,6 +6,7 @@ ghost use Rattle.cq_history.specs.Lawful.{Permits};
 ghost use Rattle.cq_history.specs.Superseded.{AreSuperseded};
 ghost use Rattle.cq_history.specs.State.{changes_in, first_free, ready, view_of, slot_of, IsAccepted, IsDone, IsUndone, IsTakenBy};
 ghost use Rattle.cq_board.specs.Stands.{BoardState, StandsFor, Adds, IsCaller};
+ghost use Rattle.cq_board.specs.Sweeping.{AreSupersededBetween};
 ghost use Rattle.cq_board.specs.Answers.{asked_of, greatest_floor, lower, IsJob, IsDonePut, IsWorkAt, HasFree, IsViewOf, TellsCause};
 ghost use Rattle.cq_history.specs.Changes.{IsWorkFor};
 ghost use Rattle.cq_base.specs.Changes.{IsSoundChange};
@@ -16,7 +17,7 @@ use crate::kept::Kept;
 use crate::listing::{Listing, View, advance_to};
 use crate::presence::Presence;
 use crate::slot_tests::{is_done, job_of};
-use crate::superseded::dead_at;
+use crate::superseded::{dead_at, dead_between};
 use crate::undone::{first_free, ready_of};
 use crate::{Asked, Finished, Job, Refused};
 use cq_base::{Change, Memory, Settings};
@@ -179,6 +180,14 @@ impl<W: Indexed> Board<W> {
         ensures { IfOk result (λ dead. AreSuperseded (changes_in self.now.state) floor dead.items) }
     {
         dead_at(alloc, &self.there.superseded, floor)
+    }
+
+    /// The puts that a floor lets go of which a lower one keeps, ascending: those that a change of their file superseded at the
+    /// floor, and none at the lower one. It costs two searches, and a sort of what it lists, however much was superseded before.
+    pub fn dead_between(&self, alloc: Global, above: u64, floor: u64) -> Result<Vec<u64>, Memory>
+        ensures { IfOk result (λ dead. AreSupersededBetween (changes_in self.now.state) above floor dead.items) }
+    {
+        dead_between(alloc, &self.there.superseded, above, floor)
     }
 
     /// Gives a taken change back, and answers whether there is this caller and had it, undone. It takes no memory.

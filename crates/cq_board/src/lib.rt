@@ -33,5 +33,5 @@ mod undone;
 
 pub use answers::{Asked, Finished, Job, Refused};
 pub use board::Board;
-pub use laws::shards_have_the_entries;
+pub use laws::{it_stands_swept_between, shards_have_the_entries};
 pub use listing::{Listing, View};

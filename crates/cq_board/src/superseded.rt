@@ -47,3 +47,20 @@ pub fn dead_at(alloc: Global, all: &[Superseded], floor: u64) -> Result<Vec<u64>
     dead.sort_unstable();
     Ok(dead)
 }
+
+/// The puts that changes numbered above one floor and at most another superseded, ascending. It costs two searches, and a
+/// sort of what it lists.
+pub fn dead_between(
+    alloc: Global,
+    all: &[Superseded],
+    above: u64,
+    floor: u64,
+) -> Result<Vec<u64>, Memory>
+    requires in_order { AllPairs IsSupersededBefore all.now }
+    requires once { AllPairs AreOtherPuts all.now }
+    ensures rising { IfOk result (λ dead. IsStrictlyIncreasing dead.items) }
+    ensures each { IfOk result (λ dead. (number : ℕ) → Contains dead.items number ↔ (IsGoneAt all.now floor number × (IsGoneAt all.now above number → ⊥))) }
+{
+    let from = all.partition_point(|superseded| superseded.by <= above);
+    dead_at(alloc, &all[from..], floor)
+}

@@ -1,6 +1,6 @@
-ghost use Rattle.std.specs.Prelude.{◌≡◌, ◌≤◌, None};
+ghost use Rattle.std.specs.Prelude.{◌≡◌, ◌≤◌, OnOk, None};
 ghost use Rattle.cq_history.specs.State.{state, view_of};
-ghost use Rattle.cq_hub.specs.Hubs.{HasSeen};
+ghost use Rattle.cq_hub.specs.Hubs.{HasSeen, IsPassOf};
 
 use crate::made::{Alike, Apart, Made, SETTINGS, accept, finish};
 use cq_base::{Entry, Memory, Settings};
@@ -52,6 +52,7 @@ pub fn read<W: Made, H: Hub<W>>(
     pass: &mut H::Pass,
 ) -> Result<(u64, Vec<Entry>), Memory>
     requires { HasSeen H.Stands hub.now pass.old (λ c h. view_of (state (H.callers hub.now) h) c ≡ None) }
+    ensures { OnOk result (IsPassOf H.Stands hub.now pass.new) }
 {
     let asked = hub.ask(pass);
     let version = hub.advance(alloc, asked.done, &OpenGate, pass)?;

@@ -17,4 +17,6 @@ mod shards;
 #[cfg(test)]
 mod steps;
 #[cfg(test)]
+mod sweeps;
+#[cfg(test)]
 mod threads;

@@ -111,11 +111,12 @@ module _ (IsWindow : Lang → List ℕ → ℕ → ℕ → Type 0) (b : board.Bo
         (cases_eq n i);
   }
 
-pub applied_more : (to : ℕ) (shards : List Contents) (i : ℕ) (new : Contents) → i < length shards → to ≤ new.applied → ((k : ℕ) (d : Contents) → k < i → to ≤ (get_or shards k d).applied) → (k : ℕ) (d : Contents) → k < i + 1 → to ≤ (get_or (set shards i new) k d).applied
-applied_more to shards i new within here before k d lt =
+-- what is so of the first shards is so of one more
+pub each_more : (P : Contents → Type 0) (shards : List Contents) (i : ℕ) (new : Contents) → i < length shards → P new → ((k : ℕ) (d : Contents) → k < i → P (get_or shards k d)) → (k : ℕ) (d : Contents) → k < i + 1 → P (get_or (set shards i new) k d)
+each_more P shards i new within here before k d lt =
     ⊎_elim
-    (λ (same : k ≡ i). subst (λ m. to ≤ (get_or (set shards i new) m d).applied) (sym same) (subst (λ (c : Contents). to ≤ c.applied) (sym (get_or-set_same shards i new d within)) here))
-    (λ other. subst (λ (c : Contents). to ≤ c.applied) (sym (get_or-set_other shards i k new d other)) (before k d (omega (arith, lt, other))))
+    (λ (same : k ≡ i). subst (λ m. P (get_or (set shards i new) m d)) (sym same) (subst P (sym (get_or-set_same shards i new d within)) here))
+    (λ other. subst P (sym (get_or-set_other shards i k new d other)) (before k d (omega (arith, lt, other))))
     (cases_eq k i)
 
 -- ---- the work of the next change

@@ -19,8 +19,8 @@ use Rattle.cq_board.specs.declared.answers.Asked.{Asked}
 use Rattle.cq_board.specs.declared.answers.Job.{Job}
 use Rattle.cq_board.specs.declared.answers.Refused.{Refused}
 use Rattle.cq_board.specs.declared.listing.View.{View}
-use Rattle.cq_hub.specs.Hubs.{Extends, HasSeen, IsPublication, Never}
-use Rattle.cq_hub.specs.Says.{IsAcceptedAs, IsRefusedFor, IsFirstFree, IsNoneFree, IsJobFor, HasPublished, AreEntriesWith}
+use Rattle.cq_hub.specs.Hubs.{Extends, HasSeen, IsPublication, IsFloor, Never}
+use Rattle.cq_hub.specs.Says.{IsAcceptedAs, IsRefusedFor, IsFirstFree, IsNoneFree, IsJobFor, HasPublished, HasGreatestFloor, AreEntriesWith}
 use Rattle.cq_hub.specs.Views.{IsLatest, IsOpen}
 
 -- ---- what a call asks for: it holds of a history which the pass stands for
@@ -105,6 +105,10 @@ module _ {S P : Type 0} (Stands : S → P → ℕ → List Event → Type 0) (al
   abbrev pub Reads : {W : Type 0} → indexed.Ghosts W → View W → ℕ → Result (Vec Entry Global) Memory → Type 0
   Reads of view key result =
       Extends Stands alone Never hub old new (λ _. []) (λ _ mid. IfOk result (λ entries. AreEntriesWith (HasWindow of.keys_in of.IsWorkOf (settings hub)) (accepted mid) view.version key entries.items))
+
+  -- a floor came at most; it is the least of the published version and the open ones, and where there is an answer, it is that
+  abbrev pub Sweeps : Result ℕ Memory → Type 0
+  Sweeps result = Extends Stands alone IsFloor hub old new (λ _. []) (λ _ mid. HasGreatestFloor (state (callers hub) mid) result)
 
   -- the caller shut its view
   abbrev pub Shuts : Type 0

@@ -16,6 +16,17 @@ IsPublication (Open by p) = ⊥
 IsPublication (Shut by) = ⊥
 IsPublication (Floor f) = ⊥
 
+abbrev pub IsFloor : Event → Type 0
+IsFloor (Accept by change) = ⊥
+IsFloor (Ask by) = ⊥
+IsFloor (Took by r) = ⊥
+IsFloor (Back by r) = ⊥
+IsFloor (Done by r) = ⊥
+IsFloor (Publish p) = ⊥
+IsFloor (Open by p) = ⊥
+IsFloor (Shut by) = ⊥
+IsFloor (Floor f) = Unit {0}
+
 -- no event
 abbrev pub Never : Event → Type 0
 Never e = ⊥

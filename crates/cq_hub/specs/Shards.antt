@@ -1,10 +1,10 @@
 -- The shards beside a board: each stands for the board's changes, and is as far on as its history allows.
-use Rattle.std.specs.Prelude.{◌≡◌, ℕ, ◌<◌, ◌≤◌, List, [], length, slice_index_or}
+use Rattle.std.specs.Prelude.{◌≡◌, ◌⊎◌, ℕ, ◌<◌, ◌≤◌, List, [], length, slice_index_or}
 use Rattle.cq_base.specs.declared.lang.Lang.{Lang}
 use Rattle.cq_base.specs.declared.settings.Settings.{Settings}
 use Rattle.cq_history.specs.State.{changes_in}
 use Rattle.cq_history.specs.Core.{IsReached}
-use Rattle.cq_shard.specs.Shard.{Contents, StandsFor, HasWindow}
+use Rattle.cq_shard.specs.Shard.{Contents, StandsFor, HasWindow, swept}
 use Rattle.cq_board.specs.Stands.{BoardState}
 
 -- Over a relation which says of a text that it has at a place a window with a key: it is the shard of this number, and has
@@ -29,6 +29,12 @@ module _ {W : Type 0} (keys_in : W → List ℕ) (IsWorkOf : Settings → Lang �
 
   abbrev pub StandBeside : List Contents → Type 0
   StandBeside shards = AreShardsOf (HasWindow keys_in IsWorkOf b.settings) b shards
+
+-- The shard let go of the dead changes and was swept up to a floor, where its own lay between another one and that; else it
+-- is as it was.
+abbrev pub IsSweptBetween : ℕ → ℕ → List ℕ → Contents → Contents → Type 0
+IsSweptBetween above floor dead old new =
+    ((above ≤ old.floor) × (old.floor < floor) × (new ≡ swept floor dead old)) ⊎ (((old.floor < above) ⊎ (floor ≤ old.floor)) × (new ≡ old))
 
 -- shards that have applied nothing
 pub record AreFresh (number : ℕ) (shards : List Contents) : Type 0 where

@@ -1,17 +1,19 @@
 -- What a plain hub and its pass are, and for which histories the pass stands.
-use Rattle.std.specs.Prelude.{ℕ, ◌<◌, List, All}
+use Rattle.std.specs.Prelude.{◌≡◌, ◌⊎◌, ℕ, ◌<◌, List, [], ◌∷◌, ◌++◌, All, Result}
 use Rattle.std.specs.declared.alloc.Global.{Global}
 use Rattle.std.specs.declared.sync.Arc.{Arc}
 use Rattle.cq_base.specs.declared.lang.Lang.{Lang}
+use Rattle.cq_base.specs.declared.memory.Memory.{Memory}
 use Rattle.cq_base.specs.declared.settings.Settings.{Settings}
 use Rattle.cq_base.specs.Changes.{IsSoundChange}
 use Rattle.cq_history.specs.declared.event.Event.{Event}
+use Rattle.cq_history.specs.declared.event.Event.TheVariants.{Floor}
 use Rattle.cq_history.specs.State.{accepted}
 use Rattle.cq_history.specs.Lawful.{Lawful}
-use Rattle.cq_shard.specs.Shard.{HasWindow}
+use Rattle.cq_shard.specs.Shard.{Contents, HasWindow}
 use Rattle.cq_hub.specs.declared.solo.Solo.{Solo}
 use Rattle.cq_hub.specs.declared.solo.SoloPass.{SoloPass}
-use Rattle.cq_hub.specs.Answers.{HasSeenItsWork, HasViewOpen, Does, SeesDone, Shuts}
+use Rattle.cq_hub.specs.Answers.{HasSeenItsWork, HasViewOpen, Does, SeesDone, Shuts, Sweeps}
 use Rattle.cq_hub.specs.Solos.{IsSoloOf, solo_lawful, solo_sound, solo_caller}
 
 abbrev pub settings_of : {W : Type 0} → Solo W → Settings
@@ -29,6 +31,10 @@ asked_by pass = pass.asked
 abbrev pub SoloStands : {W : Type 0} → (W → List ℕ) → (Settings → Lang → List ℕ → W → Type 0) → Solo W → SoloPass W → ℕ → List Event → Type 0
 SoloStands keys_in IsWorkOf hub pass c h = IsSoloOf (HasWindow keys_in IsWorkOf (settings_of hub)) (settings_of hub) c h pass.board pass.shards.items
 
+-- this is the floor of each of its shards
+abbrev pub AreSweptTo : {W : Type 0} → SoloPass W → ℕ → Type 0
+AreSweptTo pass floor = All (λ (c : Contents). c.floor ≡ floor) pass.shards.items
+
 -- what the trait of hubs asks and says, of this one
 module _ {W : Type 0} (keys_in : W → List ℕ) (IsWorkOf : Settings → Lang → List ℕ → W → Type 0) (hub : Solo W) where
   abbrev pub SoloHasItsWork : SoloPass W → ℕ → Arc W Global → Type 0
@@ -42,6 +48,13 @@ module _ {W : Type 0} (keys_in : W → List ℕ) (IsWorkOf : Settings → Lang �
 
   abbrev pub SoloSeesDone : SoloPass W → SoloPass W → ℕ → Type 0
   SoloSeesDone old new change = SeesDone (SoloStands keys_in IsWorkOf) (Unit {0}) settings_of callers_of hub old new change
+
+  abbrev pub SoloSweeps : SoloPass W → SoloPass W → Result ℕ Memory → Type 0
+  SoloSweeps old new result = Sweeps (SoloStands keys_in IsWorkOf) (Unit {0}) settings_of callers_of hub old new result
+
+  -- the history is the same, or has one floor more
+  abbrev pub RaisesOnce : SoloPass W → SoloPass W → Type 0
+  RaisesOnce old new = (c : ℕ) (h : List Event) → SoloStands keys_in IsWorkOf hub old c h → SoloStands keys_in IsWorkOf hub new c h ⊎ ((f : ℕ) × SoloStands keys_in IsWorkOf hub new c (h ++ Floor f ∷ []))
 
   abbrev pub SoloShuts : SoloPass W → SoloPass W → Type 0
   SoloShuts old new = Shuts (SoloStands keys_in IsWorkOf) (Unit {0}) settings_of callers_of hub old new

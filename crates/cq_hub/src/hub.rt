@@ -6,7 +6,7 @@ ghost use Rattle.cq_history.specs.declared.event.Event.{Event};
 ghost use Rattle.cq_history.specs.State.{accepted};
 ghost use Rattle.cq_history.specs.Lawful.{Lawful};
 ghost use Rattle.cq_hub.specs.Hubs.{IsPassOf, WhereStands, one_more};
-ghost use Rattle.cq_hub.specs.Answers.{HasSeenChange, HasSeenItsWork, HasSeenReady, HasNoView, HasViewOpen, HasOpen, SeesMore, Accepts, Refuses, IsTold, Takes, FindsJob, GivesBack, HasNot, Does, SeesDone, Publishes, Opens, Reads, Shuts};
+ghost use Rattle.cq_hub.specs.Answers.{HasSeenChange, HasSeenItsWork, HasSeenReady, HasNoView, HasViewOpen, HasOpen, SeesMore, Accepts, Refuses, IsTold, Takes, FindsJob, GivesBack, HasNot, Does, SeesDone, Publishes, Opens, Reads, Shuts, Sweeps};
 
 use cq_base::{Change, Entry, Memory};
 use cq_board::{Asked, Finished, Job, Refused, View};
@@ -127,6 +127,13 @@ pub trait Hub<W: Indexed> {
     fn close_view(&self, view: View<W>, pass: &mut Self::Pass)
         requires viewing { HasViewOpen Stands settings callers self.now pass.old }
         ensures shut { Shuts Stands alone settings callers self.now pass.old pass.new }
+        ensures asked { asked pass.new ≡ asked pass.old };
+
+    /// Gives up the versions below the published one and each open one, lets go of what they alone need, and answers the least
+    /// that is left. Where memory is refused, they are given up, and some of it may be let go.
+    fn sweep(&self, alloc: Global, pass: &mut Self::Pass) -> Result<u64, Memory>
+        requires stands { IsPassOf Stands self.now pass.old }
+        ensures swept { Sweeps Stands alone settings callers self.now pass.old pass.new result }
         ensures asked { asked pass.new ≡ asked pass.old };
 
     ghost lawful: { WhereStands Stands (λ hub _ h. Lawful (settings hub) (callers hub) h) };

@@ -1,7 +1,10 @@
 ghost use Rattle.std.specs.Prelude.{◌≡◌, [], ◌≤◌, IfOk};
+ghost use Rattle.cq_hub.specs.Hubs.{IsPassOf};
+ghost use Rattle.cq_hub.specs.SoloPasses.{SoloStands, SoloSweeps, RaisesOnce, AreSweptTo, asked_by};
 
 use crate::applying::{apply_up_to, shards_of};
 use crate::hub::Hub;
+use crate::sweeping::sweep_shards;
 use cq_base::{Change, Entry, Memory, Settings};
 use cq_board::{Asked, Board, Finished, Job, Refused, View};
 use cq_io::Gate;
@@ -46,6 +49,22 @@ impl<W: Indexed> Solo<W> {
             asked: 0,
         };
         Ok((hub, pass))
+    }
+
+    /// Gives up the versions below the published one and the open one, sweeps each shard that was not swept so far, and answers
+    /// the floor, which is then each shard's. It looks at each shard's floor. Where one is lower, it takes memory for a list of
+    /// what was superseded since. Where that is refused, the versions are given up all the same.
+    pub fn sweep(&self, alloc: Global, pass: &mut SoloPass<W>) -> Result<u64, Memory>
+        requires stands { IsPassOf (SoloStands W.keys_in W.IsWorkOf) self.now pass.old }
+        ensures swept { SoloSweeps W.keys_in W.IsWorkOf self.now pass.old pass.new result }
+        ensures once { RaisesOnce W.keys_in W.IsWorkOf self.now pass.old pass.new }
+        ensures shards { IfOk result (AreSweptTo pass.new) }
+        ensures asked { asked_by pass.new ≡ asked_by pass.old }
+    {
+        let floor = pass.board.greatest_floor();
+        pass.board.set_floor(floor);
+        sweep_shards(alloc, &pass.board, &mut pass.shards)?;
+        Ok(floor)
     }
 }
 
@@ -162,5 +181,9 @@ impl<W: Indexed> Hub<W> for Solo<W> {
         ensures asked { asked_by pass.new ≡ asked_by pass.old }
     {
         pass.board.shut(0);
+    }
+
+    fn sweep(&self, alloc: Global, pass: &mut SoloPass<W>) -> Result<u64, Memory> {
+        self.sweep(alloc, pass)
     }
 }

@@ -7,7 +7,7 @@ use Rattle.cq_base.specs.declared.memory.Memory.{Memory}
 use Rattle.cq_base.specs.declared.change.Change.{Change}
 use Rattle.cq_base.specs.declared.settings.Settings.{Settings}
 use Rattle.cq_history.specs.declared.event.Event.{Event}
-use Rattle.cq_history.specs.declared.event.Event.TheVariants.{Accept, Ask, Took, Back, Done, Publish, Open, Shut}
+use Rattle.cq_history.specs.declared.event.Event.TheVariants.{Accept, Ask, Took, Back, Done, Publish, Open, Shut, Floor}
 use Rattle.cq_history.specs.State.{State, state, own, maker, is_by, accepted, ready, slot_of, view_of, IsAccepted, IsDone}
 use Rattle.cq_history.specs.Lawful.{Lawful}
 use Rattle.cq_history.proofs.Prefixes.{own-append, accepted-append}
@@ -54,6 +54,7 @@ may_add cells p (deed.Done r) reach = record { maker = refl; applied = reach }
 may_add cells p (deed.Publish v) reach = record { maker = tt; applied = reach }
 may_add cells p (deed.Open v) reach = record { maker = refl; applied = reach }
 may_add cells p deed.Shut reach = record { maker = refl; applied = reach }
+may_add cells p (deed.Floor f) reach = record { maker = tt; applied = reach }
 
 pub may_accept : (cells : BoardCells) (p : BoardPass) (change : Change) → MayAdd cells p (Accept (by_of p) change)
 may_accept cells p change = record { maker = refl; applied = λ s near. omega arith }
@@ -64,6 +65,10 @@ may_accept cells p change = record { maker = refl; applied = λ s near. omega ar
 own_other : (c by : ℕ) (e : Event) → c ≢ by → maker e ≡ Some by → own c (e ∷ []) ≡ []
 own_other c by e other is = ap (λ m. cond (is_by c m) (e ∷ []) []) is ∙ ap (λ b. cond b (e ∷ []) []) (ne_eqb c by other)
 
+-- nor is one that has no caller
+own_nobodys : (c : ℕ) (e : Event) → maker e ≡ None → own c (e ∷ []) ≡ []
+own_nobodys c e is = ap (λ m. cond (is_by c m) (e ∷ []) []) is
+
 own_deed : (c by : ℕ) (d : Deed) → c ≢ by → own c (option_to_list (event_of by d)) ≡ []
 own_deed c by deed.Nothing other = refl
 own_deed c by deed.Ask other = own_other c by (Ask by) other refl
@@ -73,6 +78,7 @@ own_deed c by (deed.Done r) other = own_other c by (Done by r) other refl
 own_deed c by (deed.Publish v) other = refl
 own_deed c by (deed.Open v) other = own_other c by (Open by v) other refl
 own_deed c by deed.Shut other = own_other c by (Shut by) other refl
+own_deed c by (deed.Floor f) other = refl
 
 -- of the callers but the first
 tail_all : (P Q : ℕ → Type 0) (by : ℕ) (cs : List ℕ) → ((c : ℕ) → c ≢ by → P c → Q c) → Each (λ c. by ≢ c) cs → Each P cs → AllByRecursion Q cs
@@ -149,18 +155,18 @@ module _ {W R : Type 0} (hub : Shared W R) (p m q : BoardPass) (is : IsPassOf hu
         ended = ended_after p m.seen is.of.apart owns (Accept (by_of p) change ∷ []) q.seen (λ c other. own_other c (by_of p) (Accept (by_of p) change) other refl) here;
       }
 
-  -- behind a publication, which is nobody's
-  pub called_published : (version : ℕ) (Says : List Event → Type 0) → q.seen ≡ m.seen ++ Publish version ∷ [] → Says (m.seen ++ Publish version ∷ []) → Calls hub p q [] Says
-  called_published version Says seen says = record {
-    mid = m.seen ++ Publish version ∷ [];
-    others = grows_then ⊥ (by_of p) Never p.seen m.seen (m.seen ++ Publish version ∷ []) [] [] (grows_seen p m.seen front owns) (record { more = Publish version ∷ []; after_is = refl; own_is = refl; alone_is = λ never. absurd never });
+  -- behind an event that is nobody's, as a publication and a floor are
+  pub called_nobodys : (e : Event) (Says : List Event → Type 0) → maker e ≡ None → q.seen ≡ m.seen ++ e ∷ [] → Says (m.seen ++ e ∷ []) → Calls hub p q [] Says
+  called_nobodys e Says nobodys seen says = record {
+    mid = m.seen ++ e ∷ [];
+    others = grows_then ⊥ (by_of p) Never p.seen m.seen (m.seen ++ e ∷ []) [] [] (grows_seen p m.seen front owns) (record { more = e ∷ []; after_is = refl; own_is = own_nobodys (by_of p) e nobodys; alone_is = λ never. absurd never });
     says = says;
-    seen = seen ∙ sym (append-nil (m.seen ++ Publish version ∷ []));
+    seen = seen ∙ sym (append-nil (m.seen ++ e ∷ []));
     of = pass_of;
     callers = then.callers ∙ same.callers;
     next = then.next ∙ same.next;
     room = then.room ∙ same.room;
-    ended = ended_after p m.seen is.of.apart owns (Publish version ∷ []) q.seen (λ c other. refl) seen;
+    ended = ended_after p m.seen is.of.apart owns (e ∷ []) q.seen (λ c other. own_nobodys c e nobodys) seen;
   }
 
 all_same : (h : List Event) (cs : List ℕ) → AllByRecursion (λ (c : ℕ). own c h ≡ own c h) cs
@@ -207,6 +213,10 @@ module _ {W R : Type 0} (hub : Shared W R) where
   -- the same with nothing seen since
   pub calls_still : (p a b : BoardPass) (Says After : List Event → Type 0) → Calls hub p a [] Says → IsPassOf hub b → IsSameCaller a b → b.seen ≡ a.seen → After b.seen → Calls hub p b [] After
   calls_still p a b Says After one of same seen after = calls_join p a b b Says After one same seen (stays b b After of refl refl refl refl after)
+
+  -- what is said of the history then is said of what was seen at last
+  pub calls_end : (p q : BoardPass) (Says : List Event → Type 0) → Calls hub p q [] Says → Says q.seen
+  calls_end p q Says call = subst Says (sym (append-nil call.mid) ∙ sym call.seen) call.says
 
   pub calls_front : (p q : BoardPass) (Says : List Event → Type 0) → Calls hub p q [] Says → IsPrefix p.seen q.seen
   calls_front p q Says call = (call.others.more, sym call.others.after_is ∙ sym (append-nil call.mid) ∙ sym call.seen)

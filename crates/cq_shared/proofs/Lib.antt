@@ -1,3 +1,4 @@
 pub mod Calling
 pub mod Reading
 pub mod Applying
+pub mod SweptShards

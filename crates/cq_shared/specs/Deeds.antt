@@ -6,7 +6,7 @@ use Rattle.cq_history.specs.declared.event.Event.TheVariants as event
 use Rattle.cq_cells.specs.Passes.{by_of}
 use Rattle.cq_chain.specs.Passes.{BoardPass}
 use Rattle.cq_shared.specs.declared.deed.Deed.{Deed}
-use Rattle.cq_shared.specs.declared.deed.Deed.TheVariants.{Nothing, Ask, Took, Back, Done, Publish, Open, Shut}
+use Rattle.cq_shared.specs.declared.deed.Deed.TheVariants.{Nothing, Ask, Took, Back, Done, Publish, Open, Shut, Floor}
 
 abbrev pub event_of : ℕ → Deed → Option Event
 event_of by Nothing = None
@@ -17,6 +17,7 @@ event_of by (Done r) = Some (event.Done by r)
 event_of by (Publish p) = Some (event.Publish p)
 event_of by (Open p) = Some (event.Open by p)
 event_of by Shut = Some (event.Shut by)
+event_of by (Floor f) = Some (event.Floor f)
 
 -- how many changes each shard must have applied before it
 abbrev pub asks_of : Deed → ℕ
@@ -28,6 +29,7 @@ asks_of (Done r) = 0
 asks_of (Publish p) = p
 asks_of (Open p) = 0
 asks_of Shut = 0
+asks_of (Floor f) = 0
 
 abbrev pub acceptance : BoardPass → Change → List Event
 acceptance p change = event.Accept (by_of p) change ∷ []

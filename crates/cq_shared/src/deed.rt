@@ -9,4 +9,5 @@ pub(crate) enum Deed {
     Publish(u64),
     Open(u64),
     Shut,
+    Floor(u64),
 }

@@ -26,6 +26,10 @@
 //!   entry for each that is the shard's, and the merging that this brings. Between two shards the gate is called, and
 //!   nothing is held. Each caller begins at a shard of its own and goes round, so that callers that bring the same changes
 //!   seldom meet. At last, the board again: the publication, which costs what cq_board says of it.
+//! - `sweep`, the board: a look at each caller's view. Where some shard was not swept up to that floor, also two searches
+//!   among what was superseded, and a list of what was since all shards were swept last, which is sorted. So this hold
+//!   takes memory then, and is as long as the list. Then, shard by shard, a hold of the shard for what cq_shard says of a
+//!   sweep. Where all shards were swept up to that floor, as a word beside the cells tells, none is taken.
 //!
 //! Whoever enters a shard may bring it on by one change, by the rule of the cells. So no shard takes several changes as one
 //! run, as those of the plain hub do. Each shard looks at all keys of a work, since they aren't parted beforehand.
@@ -35,5 +39,6 @@ mod advancing;
 mod calls;
 mod deed;
 mod shared;
+mod sweeping;
 
 pub use shared::Shared;

@@ -7,7 +7,7 @@ ghost use Rattle.cq_history.specs.declared.event.Event.TheVariants as event;
 ghost use Rattle.cq_history.specs.State.{view_of};
 ghost use Rattle.cq_hub.specs.Hubs.{Extends, HasSeen, Never};
 ghost use Rattle.cq_shared.specs.Answers.{HasSeenItsWork, ExtendsByDone, ExtendsWhereDone};
-ghost use Rattle.cq_shared.specs.SharedPasses.{IsPassOf, SharedStands, settings_of, callers_of, state_of, asked_by};
+ghost use Rattle.cq_shared.specs.SharedPasses.{IsPassOf, SharedStands, cells_of, settings_of, callers_of, state_of, asked_by};
 
 use cq_base::{Change, Entry, Memory, Settings};
 use cq_board::{Asked, Board, Finished, Job, Refused, View};
@@ -16,6 +16,7 @@ use cq_hub::{Hub, shards_of};
 use cq_io::Gate;
 use cq_shard::Indexed;
 use std::alloc::Global;
+use std::sync::atomic::AtomicU64;
 use std::sync::{Arc, Wait};
 
 /// A board and its shards, shared by the passes of any number of threads.
@@ -23,6 +24,8 @@ use std::sync::{Arc, Wait};
 pub struct Shared<W: Indexed, R> {
     pub(crate) cells: Cells<W, R>,
     pub(crate) shards: u32,
+    // A floor up to which each shard was swept, as whoever swept them last has left it. It only spares work.
+    pub(crate) swept: AtomicU64,
 }
 
 impl<W: Indexed, R> Shared<W, R> {
@@ -51,8 +54,16 @@ impl<W: Indexed, R> Shared<W, R> {
         let hub = Shared {
             cells,
             shards: settings.shards,
+            swept: AtomicU64::new(0),
         };
         Ok((hub, pass))
+    }
+
+    /// The cells of the board and its shards, for whoever looks into them.
+    pub fn cells(&self) -> &Cells<W, R>
+        ensures { result.now ≡ cells_of self.now }
+    {
+        &self.cells
     }
 
     /// The pass of the next caller, which has seen what this one has, and has asked for no bucket. It takes no memory.
@@ -163,5 +174,9 @@ impl<W: Indexed, R: Wait> Hub<W> for Shared<W, R> {
         ensures asked { asked_by pass.new ≡ asked_by pass.old }
     {
         self.close_view(view, pass)
+    }
+
+    fn sweep(&self, alloc: Global, pass: &mut Pass<W>) -> Result<u64, Memory> {
+        self.sweep(alloc, pass)
     }
 }

@@ -37,3 +37,13 @@ close_view-requires g c =
     let h = opened.mid ++ event.Open r.0 c.in_ok-view.view.version ∷ [] in
     let reads = c.read_bucket.ensures.reads r.0 h opened.stands in
     record { viewing = (r.0, reads.mid, subst (g.H.Hub.Stands c.args.hub.now c.read_bucket.new.pass r.0) (append-nil reads.mid) reads.stands, viewing_stays callers g.H.Hub.alone Never r.0 h reads.mid reads.others (subst IsSome (sym (opened_then callers r.0 opened.mid c.in_ok-view.view.version there)) refl)) }
+
+pub returns : goal.returns
+returns g c =
+    let r = c.requires in
+    let asked = c.ask-asked.ensures.asks r.0 r.1 r.2 in
+    let moved = c.advance.ensures.published r.0 _ asked.stands in
+    let opened = c.in_ok-view.ensures.opened r.0 _ moved.stands in
+    let reads = c.read_bucket.ensures.reads r.0 _ opened.stands in
+    let shut = c.close_view.ensures.shut r.0 _ reads.stands in
+    (r.0, _, shut.stands)

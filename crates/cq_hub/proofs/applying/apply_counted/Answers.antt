@@ -3,7 +3,7 @@ use Rattle.std.proofs.lemmas.List.{length-set}
 use Rattle.cq_base.specs.declared.settings.Settings.{Settings}
 use Rattle.cq_shard.specs.Shard.{HasWindow}
 use Rattle.cq_hub.specs.Shards.{IsShardOf}
-use Rattle.cq_hub.proofs.ShardSteps.{shards_set, applied_more}
+use Rattle.cq_hub.proofs.ShardSteps.{shards_set, each_more}
 use Rattle.cq_hub.proofs.applying.apply_counted.Goals as goal
 
 pub catch_up-requires-clause-within : goal.catch_up-requires-clause-within
@@ -31,5 +31,5 @@ shards-preserved g c =
       stand = shards_set (HasWindow g.W.Indexed.keys_in g.W.Indexed.IsWorkOf b.settings) b c.shards.shards.items c.shards.number c.catch_up.new.shard within c.catch_up.ensures.shard c.shards.invariant.stand;
       coming = c.in_ok-catch_up.ensures.coming;
       to = c.in_ok-catch_up.ensures.to ∙ to;
-      applied = applied_more c.args.to c.shards.shards.items c.shards.number c.catch_up.new.shard within (subst (λ n. n ≤ c.catch_up.new.shard.applied) to c.in_ok-catch_up.ensures.applied) c.shards.invariant.applied;
+      applied = each_more (λ x. c.args.to ≤ x.applied) c.shards.shards.items c.shards.number c.catch_up.new.shard within (subst (λ n. n ≤ c.catch_up.new.shard.applied) to c.in_ok-catch_up.ensures.applied) c.shards.invariant.applied;
     }

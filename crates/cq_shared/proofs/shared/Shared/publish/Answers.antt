@@ -1,10 +1,10 @@
-use Rattle.std.proofs.Common.{◌≤◌, sym, ap, ◌∙◌, subst, arith}
+use Rattle.std.proofs.Common.{◌≤◌, refl, sym, ap, ◌∙◌, subst, arith}
 use Rattle.cq_history.specs.declared.event.Event.TheVariants as event
 use Rattle.cq_history.specs.State.{State, ready}
 use Rattle.cq_history.proofs.States.{state_push}
 use Rattle.cq_shared.specs.declared.deed.Deed.TheVariants as deed
 use Rattle.cq_shared.specs.SharedPasses.{cells_of, callers_of, settings_of}
-use Rattle.cq_shared.proofs.Calling.{state_is, called, called_published, ready_seen}
+use Rattle.cq_shared.proofs.Calling.{state_is, called, called_nobodys, ready_seen}
 use Rattle.cq_shared.proofs.shared.Shared.publish.Goals as goal
 
 pub publish-requires : goal.publish-requires
@@ -31,7 +31,7 @@ returns-in-Ok-clause-published g c =
     let m = c.enter_board-board.new.pass in
     let hub = c.args.self.now in
     let leave = c.leave_after-in-Ok in
-    called_published hub c.args.pass.now m leave.new.pass c.requires.of e.seen e.own e.same leave.ensures.of leave.ensures.free leave.ensures.same c.args.to _ leave.ensures.seen
+    called_nobodys hub c.args.pass.now m leave.new.pass c.requires.of e.seen e.own e.same leave.ensures.of leave.ensures.free leave.ensures.same (event.Publish c.args.to) _ refl leave.ensures.seen
     (sym (ap (λ (s : State). s.published) (state_push (callers_of hub) m.seen (event.Publish c.args.to))), omega arith)
 
 pub returns-in-Err-clause-published : goal.returns-in-Err-clause-published

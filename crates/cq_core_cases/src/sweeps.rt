@@ -1,0 +1,150 @@
+ghost use Rattle.std.specs.Prelude.{◌≡◌, ◌<◌, [], OnOk, None};
+ghost use Rattle.cq_history.specs.State.{state, view_of};
+ghost use Rattle.cq_hub.specs.Hubs.{HasSeen, IsPassOf};
+ghost use Rattle.cq_shared.specs.SharedPasses as shared;
+
+use crate::hubs::read;
+use crate::made::{Apart, Made, SETTINGS, accept, finish};
+use cq_base::{Entry, Memory};
+use cq_board::Refused;
+use cq_chain::Pass;
+use cq_hub::{Hub, Solo};
+use cq_io::OpenGate;
+use cq_shard::Indexed;
+use cq_shared::Shared;
+use std::alloc::Global;
+use std::sync::{Arc, Wait};
+
+// A put of one file is accepted, and its work finished.
+fn put_file<H: Hub<Apart>>(alloc: Global, hub: &H, pass: &mut H::Pass) -> Result<(), Refused>
+    requires { HasSeen H.Stands hub.now pass.old (λ c h. view_of (state (H.callers hub.now) h) c ≡ None) }
+    ensures { OnOk result (HasSeen H.Stands hub.now pass.new (λ c h. view_of (state (H.callers hub.now) h) c ≡ None)) }
+{
+    let number = accept(alloc, b'p', hub, pass)?;
+    let work = Arc::new(alloc, Apart::made())?;
+    finish(hub, number, work, pass)?;
+    Ok(())
+}
+
+// All that is done is published.
+fn publish<W: Indexed, H: Hub<W>>(alloc: Global, hub: &H, pass: &mut H::Pass) -> Result<(), Memory>
+    requires { HasSeen H.Stands hub.now pass.old (λ c h. view_of (state (H.callers hub.now) h) c ≡ None) }
+    ensures { OnOk result (HasSeen H.Stands hub.now pass.new (λ c h. view_of (state (H.callers hub.now) h) c ≡ None)) }
+{
+    let asked = hub.ask(pass);
+    hub.advance(alloc, asked.done, &OpenGate, pass)?;
+    Ok(())
+}
+
+// A view of the last version is open while all that is done is published: the floor of a sweep, what the view has of a key
+// then, and the floor of a sweep behind it.
+fn sweep_viewed<W: Indexed, H: Hub<W>>(
+    alloc: Global,
+    hub: &H,
+    pass: &mut H::Pass,
+) -> Result<(u64, Vec<Entry>, u64), Memory>
+    requires { HasSeen H.Stands hub.now pass.old (λ c h. view_of (state (H.callers hub.now) h) c ≡ None) }
+    ensures { OnOk result (HasSeen H.Stands hub.now pass.new (λ c h. view_of (state (H.callers hub.now) h) c ≡ None)) }
+{
+    let asked = hub.ask(pass);
+    let view = hub.open_view(pass)?;
+    hub.advance(alloc, asked.done, &OpenGate, pass)?;
+    let kept = hub.sweep(alloc, pass)?;
+    let entries = hub.read_bucket(alloc, &view, 3, pass)?;
+    hub.close_view(view, pass);
+    let floor = hub.sweep(alloc, pass)?;
+    Ok((kept, entries, floor))
+}
+
+// What comes of two versions of one file, the first of which is viewed: the floor then and what the view has of a key, the
+// floor behind it, and what a later view has.
+#[derive(Drop)]
+struct Swept {
+    kept: u64,
+    viewed: Vec<Entry>,
+    floor: u64,
+    later: Vec<Entry>,
+}
+
+fn sweep_both<H: Hub<Apart>>(alloc: Global, hub: &H, pass: &mut H::Pass) -> Result<Swept, Refused>
+    requires { HasSeen H.Stands hub.now pass.old (λ c h. view_of (state (H.callers hub.now) h) c ≡ None) }
+    ensures { OnOk result (IsPassOf H.Stands hub.now pass.new) }
+{
+    put_file(alloc, hub, pass)?;
+    publish(alloc, hub, pass)?;
+    put_file(alloc, hub, pass)?;
+    let (kept, viewed, floor) = sweep_viewed(alloc, hub, pass)?;
+    let (_, later) = read(alloc, hub, 3, pass)?;
+    Ok(Swept {
+        kept,
+        viewed,
+        floor,
+        later,
+    })
+}
+
+fn sweep_alone(alloc: Global) -> Result<Swept, Refused> {
+    let (hub, mut pass) = Solo::<Apart>::new(alloc, &SETTINGS)?;
+    sweep_both(alloc, &hub, &mut pass)
+}
+
+// The same by a caller of a shared hub that has seen nothing.
+fn sweep_shared<R: Wait>(
+    alloc: Global,
+    hub: &Shared<Apart, R>,
+    pass: &mut Pass<Apart>,
+) -> Result<Swept, Refused>
+    requires of { shared.IsPassOf hub.now pass.old }
+    requires fresh { pass.old.seen ≡ [] }
+    ensures of { OnOk result (shared.IsPassOf hub.now pass.new) }
+{
+    sweep_both(alloc, hub, pass)
+}
+
+// The floor of a shard, and how many entries with the key 3 it has of the first two changes.
+fn look<W: Indexed, R: Wait>(
+    alloc: Global,
+    hub: &Shared<W, R>,
+    number: u32,
+    pass: &mut Pass<W>,
+) -> Result<(u64, usize), Memory>
+    requires of { shared.IsPassOf hub.now pass.old }
+    requires number { number < (shared.settings_of hub.now).shards }
+    ensures of { shared.IsPassOf hub.now pass.new }
+{
+    let shard = hub.cells().enter_shard(number, pass);
+    let floor = shard.floor();
+    let entries = shard.bucket(alloc, 3, &[1, 2]);
+    hub.cells().leave_shard(number, shard, pass);
+    Ok((floor, entries?.len()))
+}
+
+// The entry with the key 3 of a change.
+fn entry(change: u64) -> Entry {
+    Entry {
+        key: 3,
+        change,
+        at: 0,
+    }
+}
+
+#[test]
+fn what_is_viewed_stays_alone(rt: HostRuntime) -> Result<(), Refused> {
+    let swept = sweep_alone(rt.alloc())?;
+    assert_eq!(rt; (swept.kept, swept.floor), (1, 2));
+    assert_eq!(rt; swept.viewed.as_slice(), [entry(1)].as_slice());
+    assert_eq!(rt; swept.later.as_slice(), [entry(2)].as_slice());
+    Ok(())
+}
+
+#[test]
+fn each_shared_shard_is_swept(rt: HostRuntime) -> Result<(), Refused> {
+    let (hub, mut pass) = Shared::<Apart, _>::new(&rt, rt.alloc(), &SETTINGS, 1)?;
+    let swept = sweep_shared(rt.alloc(), &hub, &mut pass)?;
+    assert_eq!(rt; (swept.kept, swept.floor), (1, 2));
+    assert_eq!(rt; swept.viewed.as_slice(), [entry(1)].as_slice());
+    assert_eq!(rt; swept.later.as_slice(), [entry(2)].as_slice());
+    assert_eq!(rt; look(rt.alloc(), &hub, 0, &mut pass)?, (2, 0));
+    assert_eq!(rt; look(rt.alloc(), &hub, 1, &mut pass)?, (2, 1));
+    Ok(())
+}
