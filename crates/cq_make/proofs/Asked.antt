@@ -1,34 +1,27 @@
 -- A question that may finish works, put to a hub that is alone: the reply is by all changes.
-use Rattle.std.proofs.Common.{◌≡◌, ℕ, ◌+◌, ◌≤◌, max, true, false, List, [], ◌∷◌, ◌++◌, length, ap, ◌∙◌, subst, inl, inr, append-nil, arith}
+use Rattle.std.proofs.Common.{◌≡◌, ℕ, ◌≤◌, max, true, false, List, length, Some, ap, ◌∙◌, subst, inl, inr, arith}
 use Rattle.std.proofs.Math.Nat.{le-max_right}
 use Rattle.cq_answer.specs.Reply.{IsReply}
 use Rattle.cq_base.specs.declared.settings.Settings.{Settings}
 use Rattle.cq_history.specs.State.{state, accepted}
 use Rattle.cq_history.specs.declared.event.Event.{Event}
-use Rattle.cq_history.specs.declared.event.Event.TheVariants.{Ask, Open, Shut}
 use Rattle.cq_history.proofs.Doing.{slots_number}
-use Rattle.cq_history.proofs.Prefixes.{accepted-append}
 use Rattle.cq_reply.specs.declared.reply.Reply.{Reply}
 use Rattle.cq_request.specs.declared.request.Kind.{Kind}
 use Rattle.cq_request.specs.declared.request.Query.{Query}
-use Rattle.cq_talk.specs.Talk.{Asks, IsAnswered, IsShown}
-use Rattle.cq_talk.proofs.AloneRows.{alone_exact, alone_same, none_accepted, quiet_works}
+use Rattle.cq_talk.specs.Talk.{IsAnswered, IsShown}
+use Rattle.cq_talk.proofs.AloneRows.{alone_same}
+use Rattle.cq_talk.proofs.Served.{served_accept_none, served_grows}
+use Rattle.cq_talk.proofs.Unmade.{none_accepted}
 use Rattle.cq_make.specs.Generator.{puts_to}
 use Rattle.cq_make.specs.Summary.{question, IsAnsweredByAll}
 use Rattle.cq_make.proofs.Puts.{puts_many}
-
-asked_same : (c : ℕ) (h later : List Event) (asks : Asks (Unit {0}) c h later) → accepted later ≡ accepted h
-asked_same c h later asks =
-    ap accepted asks.asks ∙ (accepted-append asks.mid (Ask c ∷ []) ∙ (append-nil (accepted asks.mid) ∙ ap accepted (alone_same c h asks.mid asks.waits)))
 
 shown_all : (set : Settings) (c : ℕ) (h : List Event) (k : Kind) (reply : Reply) (later : List Event) → IsShown set 1 (Unit {0}) c 0 h (question k) reply later → IsAnsweredByAll set k h reply later
 shown_all set c h k reply later is =
     let served = is.served in
     let mid = served.asks.mid in
-    let exact : later ≡ served.helped ++ Open c is.version ∷ Shut c ∷ [] = alone_exact c served.helped later _ served.views in
-    let viewed : accepted later ≡ accepted served.helped = ap accepted exact ∙ (accepted-append served.helped (Open c is.version ∷ Shut c ∷ []) ∙ append-nil (accepted served.helped)) in
-    let helped : accepted served.helped ≡ accepted served.asked = none_accepted c served.asked served.helped _ served.helps (quiet_works c served.finished) in
-    let all : accepted later ≡ accepted h = viewed ∙ (helped ∙ asked_same c h served.asked served.asks) in
+    let all : accepted later ≡ accepted h = none_accepted c h later _ (served_grows set 1 (Unit {0}) c 0 (question k) h later (Some is.version) served) (served_accept_none c served.finished (Some is.version)) in
     let many : length (state 1 mid).slots ≡ length (accepted h) = slots_number 1 mid ∙ ap (λ g. length (accepted g)) (alone_same c h mid served.asks.waits) in
     let recent : max 0 (length (state 1 mid).slots) ≤ is.version = served.recent in
     let above : length (state 1 mid).slots ≤ max 0 (length (state 1 mid).slots) = le-max_right 0 (length (state 1 mid).slots) in

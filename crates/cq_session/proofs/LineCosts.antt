@@ -14,8 +14,8 @@ use Rattle.cq_history.specs.declared.event.Event.{Event}
 use Rattle.cq_history.specs.declared.event.Event.TheVariants.{Accept, Ask, Done}
 use Rattle.cq_history.specs.Files.{conditions_at}
 use Rattle.cq_history.specs.State.{accepted}
-use Rattle.cq_hub.specs.Hubs.{Grows, IsPublication, Never}
-use Rattle.cq_hub.proofs.Growing.{grows_then, grows_event, grows_may}
+use Rattle.cq_hub.specs.Hubs.{Grows, Never}
+use Rattle.cq_hub.proofs.Growing.{grows_event}
 use Rattle.cq_reply.specs.declared.reply.Reply.{Reply}
 use Rattle.cq_reply.specs.declared.reply.Reply.TheVariants as reply
 use Rattle.cq_request.specs.declared.request.Kind.{Kind}
@@ -26,6 +26,8 @@ use Rattle.cq_lines.specs.Pieces.{line_limit}
 use Rattle.cq_talk.specs.Said.{Said, said, TooLong, Read}
 use Rattle.cq_talk.specs.Talk.{Asks, IsChanged, IsServed, IsShown, Waits, viewed}
 use Rattle.cq_talk.proofs.Saying.{said_long}
+use Rattle.cq_talk.proofs.Served.{asks_grow, served_grows}
+use Rattle.cq_talk.proofs.Unmade.{IsUnmade}
 use Rattle.cq_session.specs.Costs.{Viewing, AreViewings, shown_in, answered_in, given_up_in, opened_by, Counts, counted, Costs, Spends}
 use Rattle.cq_session.proofs.Spending.{IsWithin, costs_none, costs_untold, spends_none}
 
@@ -70,15 +72,12 @@ module _ (set : Settings) (alone : Type 0) (c : ℕ) where
     costs = costs;
   }
 
-  asks_grow : (h later : List Event) → Asks alone c h later → Grows alone Never c h later (Ask c ∷ [])
-  asks_grow h later asks = subst (λ g. Grows alone Never c h g (Ask c ∷ [])) (sym asks.asks) (grows_event alone c Never h asks.mid (Ask c) refl asks.waits)
-
   module _ (reads asked asked_now : ℕ) (same : asked_now ≡ asked) (Are : List Viewing → Type 0) (none : Are []) (h later : List Event) where
     pub spends_waiting : Waits alone c h later → Spends Are set c h (counted reads reads asked asked_now) later
     spends_waiting waits = spends_grown Are Never h later [] [] _ waits none refl tt (costs_none set (accepted later) reads asked asked_now same)
 
     pub spends_asking : Asks alone c h later → Spends Are set c h (counted reads reads asked asked_now) later
-    spends_asking asks = spends_grown Are Never h later (Ask c ∷ []) [] _ (asks_grow h later asks) none refl tt (costs_none set (accepted later) reads asked asked_now same)
+    spends_asking asks = spends_grown Are Never h later (Ask c ∷ []) [] _ (asks_grow alone c h later asks) none refl tt (costs_none set (accepted later) reads asked asked_now same)
 
     pub spends_changing : (callers : ℕ) (change : Change) (r : Reply) → IsChanged set callers alone c h change r later → Spends Are set c h (counted reads reads asked asked_now) later
     spends_changing callers change r (inl is) =
@@ -87,22 +86,17 @@ module _ (set : Settings) (alone : Type 0) (c : ℕ) where
     spends_changing callers change r (inr is) = spends_waiting is.waits
 
 module _ (set : Settings) (callers : ℕ) (alone : Type 0) (c seen : ℕ) (q : Query) (h later : List Event) where
-  served_grows : (view : Option ℕ) → (is : IsServed set callers alone c seen q h later view) → Grows alone IsPublication c h later (Ask c ∷ (map (λ r. Done c r) is.finished ++ viewed c view))
-  served_grows view is =
-      grows_then alone c IsPublication h is.asked later (Ask c ∷ []) (map (λ r. Done c r) is.finished ++ viewed c view) (grows_may alone c IsPublication h is.asked _ (asks_grow set alone c h is.asked is.asks))
-      (grows_then alone c IsPublication is.asked is.helped later (map (λ r. Done c r) is.finished) (viewed c view) is.helps (grows_may alone c IsPublication is.helped later _ is.views))
-
   -- a query that was answered by a view
   pub spends_shown : (r : Reply) (n : Counts) → (is : IsShown set callers alone c seen h q r later) → Costs set (accepted later) (answered_in q (Some is.version)) n → Spends (AreViewings (Read (Ok (request.Query q))) r) set c h n later
   spends_shown r n is costs =
-      spends_grown set alone c _ IsPublication h later _ (answered_in q (Some is.version)) n (served_grows (Some is.version) is.served) (inl (ap (answered_in q) (sym (shown_at set (accepted later) is.version q r is.shows))))
+      spends_grown set alone c _ IsUnmade h later _ (answered_in q (Some is.version)) n (served_grows set callers alone c seen q h later (Some is.version) is.served) (inl (ap (answered_in q) (sym (shown_at set (accepted later) is.version q r is.shows))))
       (opened_after c is.served.finished (Some is.version)) (is.within, tt) costs
 
   -- and one that was given up
   pub spends_given_up : (view : Option ℕ) (n : Counts) → IsServed set callers alone c seen q h later view → IfSome view (λ v. v ≤ length (accepted later)) → Costs set (accepted later) (given_up_in q view) n
       → Spends (AreViewings (Read (Ok (request.Query q))) reply.Memory) set c h n later
   spends_given_up view n is within costs =
-      spends_grown set alone c _ IsPublication h later _ (given_up_in q view) n (served_grows view is) (inr (refl, view, refl)) (opened_after c is.finished view ∙ opened_given_up c q view) (all_given_up later q view within) costs
+      spends_grown set alone c _ IsUnmade h later _ (given_up_in q view) n (served_grows set callers alone c seen q h later view is) (inr (refl, view, refl)) (opened_after c is.finished view ∙ opened_given_up c q view) (all_given_up later q view within) costs
 
 -- where memory was refused, no view may have been opened
 pub none_given_up : (l : Said) → AreViewings l reply.Memory []

@@ -92,13 +92,14 @@ module _ {S P : Type 0} (Stands : S → P → ℕ → List Event → Type 0) (se
         pub all_ready : r.accepted ≤ ready (state callers helped.after)
         all_ready = helped.holds.so facts.at_most
 
-        pub worked_shown : (three : P) (reply : Reply) (reads reads_now asked asked_mid asked_now : ℕ) → asked_mid ≡ asked → Leads Stands callers c hub three (ShowsAt set alone c r.accepted q (counted reads reads_now asked_mid asked_now) reply helped.after)
+        pub worked_shown : (three : P) (reply : Reply) (reads reads_now asked asked_mid asked_now : ℕ) → asked_mid ≡ asked → Leads Stands callers c hub three (ShowsAt set callers alone c r.accepted q (counted reads reads_now asked_mid asked_now) reply helped.after)
             → Leads Stands callers c hub three (AtCost set c (Read (Ok (request.Query q))) reply (counted reads reads_now asked asked_now) h (IsAnswered set callers alone c seen h q reply))
         worked_shown three reply reads reads_now asked asked_mid asked_now same led = lead_weaker Stands callers c hub three _ _ led (λ later shown. shown_at_cost reply _ later (record {
           version = shown.version;
           served = worked set callers alone c seen q h call.mid call.others slots_within works facts.named r.accepted facts.accepted_is _ helped.after later (Some shown.version) helped.holds shown.views;
           within = shown.within;
           shows = shown.shows;
+          swept = shown.swept;
         }) (costs_same set (accepted later) _ reads reads_now asked_mid asked_now asked asked_now (sym same) refl shown.costs))
 
         pub worked_given_up : (three : P) (reads reads_now asked asked_mid asked_now : ℕ) → asked_mid ≡ asked → Leads Stands callers c hub three (ViewsOrNot set alone c r.accepted q (counted reads reads_now asked_mid asked_now) helped.after)
@@ -115,13 +116,14 @@ module _ {S P : Type 0} (Stands : S → P → ℕ → List Event → Type 0) (se
       ready_least : r.done ≤ ready (state callers call.mid)
       ready_least = let is = facts.done_is in omega (arith, is)
 
-      pub waited_shown : (reply : Reply) (reads reads_now asked asked_mid asked_now : ℕ) → asked_mid ≡ asked → Leads Stands callers c hub three (ShowsAt set alone c r.done q (counted reads reads_now asked_mid asked_now) reply then)
+      pub waited_shown : (reply : Reply) (reads reads_now asked asked_mid asked_now : ℕ) → asked_mid ≡ asked → Leads Stands callers c hub three (ShowsAt set callers alone c r.done q (counted reads reads_now asked_mid asked_now) reply then)
           → Leads Stands callers c hub three (AtCost set c (Read (Ok (request.Query q))) reply (counted reads reads_now asked asked_now) h (IsAnswered set callers alone c seen h q reply))
       waited_shown reply reads reads_now asked asked_mid asked_now same led = lead_weaker Stands callers c hub three _ _ led (λ later shown. shown_at_cost reply _ later (record {
         version = shown.version;
         served = waited set callers alone c seen q h call.mid call.others slots_within waits r.done least ready_least later (Some shown.version) shown.views;
         within = shown.within;
         shows = shown.shows;
+        swept = shown.swept;
       }) (costs_same set (accepted later) _ reads reads_now asked_mid asked_now asked asked_now (sym same) refl shown.costs))
 
       pub waited_given_up : (reads reads_now asked asked_mid asked_now : ℕ) → asked_mid ≡ asked → Leads Stands callers c hub three (ViewsOrNot set alone c r.done q (counted reads reads_now asked_mid asked_now) then)

@@ -10,7 +10,7 @@ use Rattle.cq_board.specs.declared.listing.View.{View}
 use Rattle.cq_history.specs.declared.event.Event.{Event}
 use Rattle.cq_history.specs.declared.event.Event.TheVariants as event
 use Rattle.cq_history.specs.State.{state, accepted, ready, view_of, IsAccepted, IsDone}
-use Rattle.cq_hub.specs.Hubs.{Extends, HasSeen, Never}
+use Rattle.cq_hub.specs.Hubs.{Extends, HasSeen, IsFloor, Never}
 use Rattle.cq_hub.specs.Views.{IsOpen}
 use Rattle.cq_hub.specs.declared.hub.Hub.{Ghosts}
 use Rattle.cq_io.specs.declared.sink.Sink as sink
@@ -29,7 +29,7 @@ use Rattle.cq_request.specs.declared.request.Request.{Request}
 use Rattle.cq_request.specs.declared.request.Request.TheVariants as request
 use Rattle.cq_talk.specs.Said.{Read}
 use Rattle.cq_talk.specs.Steps.{Always, Helps, Led, MayLead}
-use Rattle.cq_talk.specs.Talk.{IsAnswer, IsAnswered, IsChanged, IsGivenUp, Tells, Waits}
+use Rattle.cq_talk.specs.Talk.{IsAnswer, IsAnswered, IsChanged, IsGivenUp, IsSwept, Tells, Waits}
 use Rattle.cq_session.specs.Costs.{AtCost, Costs, Counts, counted}
 use Rattle.cq_session.specs.Turn as turn
 use Rattle.cq_session.specs.Viewing.{InView, ShowsAt, ViewsOrNot}
@@ -66,6 +66,10 @@ module _ {H W P : Type 0} (of : Ghosts H W P) (hub : H) where
   -- it is shut at the new pass
   abbrev pub HasShut : P → P → Type 0
   HasShut pass new = Extends of.Stands of.alone Never hub pass new (λ c. event.Shut c ∷ []) (λ _ _. Unit {0})
+
+  -- the floor was raised up to the least of the published version and the open ones
+  abbrev pub HasSwept : P → P → Type 0
+  HasSwept pass new = Extends of.Stands of.alone IsFloor hub pass new (λ _. []) (λ _ mid. IsSwept (state (of.callers hub) mid))
 
   -- ---- a pass that has no view open
 
@@ -123,9 +127,9 @@ module _ {H W P : Type 0} (of : Ghosts H W P) (hub : H) where
       abbrev spent : Counts
       spent = counted reads reads_now (of.asked old) (of.asked new)
 
-      -- a view of a version not below this one was opened and shut, and the reply is by it
+      -- a view of a version not below this one was opened, shut and swept behind, and the reply is by it
       abbrev pub HasShown : ℕ → Query → Reply → Type 0
-      HasShown to q r = Led of.Stands (of.callers hub) hub old new Always (λ c h. ShowsAt (of.settings hub) of.alone c to q spent r h)
+      HasShown to q r = Led of.Stands (of.callers hub) hub old new Always (λ c h. ShowsAt (of.settings hub) (of.callers hub) of.alone c to q spent r h)
 
       -- one was opened and shut, or none was
       abbrev pub HasViewedOrNot : ℕ → Query → Type 0

@@ -60,8 +60,8 @@ fn state_reply<W: Indexed, H: Hub<W>>(hub: &H, pass: &mut H::Pass) -> Reply
     }
 }
 
-/// The reply to a query whose floor is at least `seen`. Where memory is refused, what was done is a beginning of what
-/// the query does.
+/// The reply to a query whose floor is at least `seen`. Behind an answer by a view the hub is swept. Where memory is
+/// refused, what was done is a beginning of what the query does.
 pub fn query_reply<L: Ledger, H: Hub<Work<L>>, G: Gate>(
     alloc: Global,
     settings: &Settings,

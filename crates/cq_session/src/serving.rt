@@ -58,7 +58,8 @@ fn turn_long<K: Sink>(sink: &mut K) -> Result<(), Failed>
 
 /// Answers the lines of a source one by one by calls of a hub, whose pass has no view open. Windows have the keys of
 /// `keyer`. Each whole reply is handed to the sink before the next line is cut. Afterwards the pass stands for the
-/// history to which the talk came, with no view open. The gate is told of each accepted change, of each work before it is
+/// history to which the talk came, with no view open. Behind each answer by a view, and before it is written, the hub is
+/// swept; want of memory there is let go. The gate is told of each accepted change, of each work before it is
 /// made, of each shard that was brought up and of each view that was opened.
 pub fn session<L: Ledger, H: Hub<Work<L>>, S: Source, K: Sink, G: Gate>(
     alloc: Global,

@@ -1,8 +1,9 @@
 ghost use Rattle.std.specs.Prelude.{◌≡◌, ◌≤◌, IfOk, OnErr};
 ghost use Rattle.cq_base.specs.Settings.{IsInRange};
+ghost use Rattle.cq_hub.specs.Hubs.{IsPassOf};
 ghost use Rattle.cq_reply.specs.Written.{IsReplyText};
 ghost use Rattle.cq_work.specs.Work.{IsWorkOf};
-ghost use Rattle.cq_session.specs.Passes.{CostsOpen, HasOpen, HasReady, HasShown, HasShut, HasViewOpen, HasViewedOrNot, KeepsOpen, ShowsOpen};
+ghost use Rattle.cq_session.specs.Passes.{CostsOpen, HasOpen, HasReady, HasShown, HasShut, HasSwept, HasViewOpen, HasViewedOrNot, KeepsOpen, ShowsOpen};
 
 use cq_answer::answer;
 use cq_ask::PassBuckets;
@@ -72,8 +73,18 @@ fn close_behind<W: Indexed, H: Hub<W>>(
     came
 }
 
+// Raises the floor to the least version that may still be looked at. Want of memory is let go: the floor stands, and what of
+// the index wasn't swept waits for the next sweep.
+fn sweep_behind<W: Indexed, H: Hub<W>>(alloc: Global, hub: &H, pass: &mut H::Pass)
+    requires stands { IsPassOf H.Stands hub.now pass.old }
+    ensures swept { HasSwept H.Hub hub.now pass.old pass.new }
+    ensures asked { H.asked pass.new ≡ H.asked pass.old }
+{
+    let _floor = hub.sweep(alloc, pass);
+}
+
 /// The reply to a query at a version that is not below `to`, up to which all changes are done. A view of it is opened
-/// for the reply, and is shut again however that ends.
+/// for the reply, and is shut again however that ends. Behind a reply the hub is swept.
 pub(crate) fn view_reply<L: Ledger, H: Hub<Work<L>>, G: Gate>(
     alloc: Global,
     settings: &Settings,
@@ -101,7 +112,13 @@ pub(crate) fn view_reply<L: Ledger, H: Hub<Work<L>>, G: Gate>(
         Ok(view) => {
             gate.after_open(view.version);
             let reply = reply_in(alloc, settings, hub, &view, query, pass, steps);
-            close_behind(hub, view, reply, pass)
+            match close_behind(hub, view, reply, pass) {
+                Ok(reply) => {
+                    sweep_behind(alloc, hub, pass);
+                    Ok(reply)
+                }
+                Err(Memory) => Err(Memory),
+            }
         }
     }
 }

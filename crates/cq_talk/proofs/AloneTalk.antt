@@ -1,18 +1,18 @@
 -- A talk with a hub that is alone, walked.
-use Rattle.std.proofs.Common.{◌≡◌, ℕ, ◌+◌, ◌≤◌, cond, List, [], ◌∷◌, ◌++◌, length, max, Some, None, Ok, Err, refl, sym, ap, ◌∙◌, subst, inl, inr, arith, length-append, append-nil, append_assoc}
+use Rattle.std.proofs.Common.{◌≡◌, ℕ, ◌+◌, ◌≤◌, cond, List, [], ◌∷◌, ◌++◌, length, max, Some, None, Ok, Err, refl, sym, ap, ◌∙◌, subst, inl, inr, arith, length-append}
 use Rattle.std.proofs.Math.Nat.{le-max_left, le-max_right}
 use Rattle.std.proofs.lemmas.List.{length-map}
 use Rattle.std.proofs.lemmas.List.Sums.{prefix_len-le-length}
 use Rattle.cq_base.specs.declared.settings.Settings.{Settings}
 use Rattle.cq_base.specs.declared.change.Change.{Change}
 use Rattle.cq_history.specs.declared.event.Event.{Event}
-use Rattle.cq_history.specs.declared.event.Event.TheVariants.{Accept, Ask, Open, Shut}
+use Rattle.cq_history.specs.declared.event.Event.TheVariants.{Accept, Ask}
 use Rattle.cq_history.specs.State.{State, Slot, new_slot, after, state, accepted, changes_in, ready, is_done}
 use Rattle.cq_history.specs.Lawful.{Lawful}
-use Rattle.cq_history.proofs.States.{state_push, Lawful-prefix, Lawful_last}
+use Rattle.cq_history.proofs.States.{state_push, Lawful-prefix}
 use Rattle.cq_history.proofs.Bounds.{in_order}
 use Rattle.cq_history.proofs.Doing.{slots_number}
-use Rattle.cq_history.proofs.Prefixes.{changes_after, changes_in-state, accepted-append}
+use Rattle.cq_history.proofs.Prefixes.{changes_after, changes_in-state}
 use Rattle.cq_request.specs.declared.request.Query.{Query}
 use Rattle.cq_request.specs.declared.request.Request.TheVariants as request
 use Rattle.cq_reply.specs.declared.reply.Reply.{Reply}
@@ -26,8 +26,11 @@ use Rattle.cq_talk.specs.Alone.{Walk, changed, IsReplyAlone, IsAloneUpToMemory, 
 use Rattle.cq_talk.proofs.Causing.{cause_is}
 use Rattle.cq_talk.proofs.GoingOn.{talk_goes_on, talk_many}
 use Rattle.cq_talk.proofs.OneMore.{ready_with}
-use Rattle.cq_talk.proofs.AloneRows.{alone_exact, alone_same, none_accepted, quiet_works}
+use Rattle.cq_talk.proofs.AloneRows.{alone_same}
+use Rattle.cq_talk.proofs.Served.{served_accept_none, served_grows, served_published}
 use Rattle.cq_talk.proofs.Shown.{shown_named}
+use Rattle.cq_talk.proofs.Talking.{published_few}
+use Rattle.cq_talk.proofs.Unmade.{none_accepted}
 
 -- what was named before is at most the floor
 pub floor_seen : (n : ℕ) (q : Query) (s : State) → n ≤ floor_of n q s
@@ -109,19 +112,11 @@ module _ (set : Settings) (callers c seen : ℕ) (h : List Event) (k : Walk) (m 
   at_end : (q : Query) (version : ℕ) (later : List Event) → Lawful set callers later → IsServed set callers (Unit {0}) c seen q h later (Some version) → version ≤ length (accepted later) →
       (accepted later ≡ accepted h) × (version ≡ length (accepted h)) × ((state callers later).published ≡ version)
   at_end q version later law is within =
-      let same = asks_same is.asked is.asks in
-      let helped : accepted is.helped ≡ accepted is.asked = none_accepted c is.asked is.helped _ is.helps (quiet_works c is.finished) in
-      let exact : later ≡ is.helped ++ Open c version ∷ Shut c ∷ [] = alone_exact c is.helped later _ is.views in
-      let viewing : accepted later ≡ accepted is.helped = ap accepted exact ∙ (accepted-append is.helped (Open c version ∷ Shut c ∷ []) ∙ append-nil (accepted is.helped)) in
-      let asked_is : accepted is.asked ≡ accepted h = sym (changes_in-state callers is.asked) ∙ (ap changes_in same.1 ∙ changes_in-state callers h) in
-      let all : accepted later ≡ accepted h = viewing ∙ (helped ∙ asked_is) in
-      let recent : floor_of seen q (state callers is.asks.mid) ≤ version = is.recent in
+      let all : accepted later ≡ accepted h = none_accepted c h later _ (served_grows set callers (Unit {0}) c seen q h later (Some version) is) (served_accept_none c is.finished (Some version)) in
       let long : length (accepted later) ≡ length (accepted h) = ap length all in
-      let split : later ≡ (is.helped ++ Open c version ∷ []) ++ Shut c ∷ [] = exact ∙ sym (append_assoc is.helped (Open c version ∷ []) (Shut c ∷ [])) in
-      let opened = Lawful_last set callers is.helped (Open c version) (Lawful-prefix set callers (is.helped ++ Open c version ∷ []) (Shut c ∷ []) (subst (Lawful set callers) split law)) in
-      let published : (state callers later).published ≡ (state callers is.helped).published =
-      ap (λ g. (state callers g).published) split ∙ (ap (λ (t : State). t.published) (state_push callers (is.helped ++ Open c version ∷ []) (Shut c)) ∙ ap (λ (t : State). t.published) (state_push callers is.helped (Open c version))) in
-      (all, omega (arith, floor_seen seen q (state callers is.asks.mid), recent, within, long, few, slots_number callers h), published ∙ sym opened.1.0)
+      let recent : floor_of seen q (state callers is.asks.mid) ≤ version = is.recent in
+      let is_all : version ≡ length (accepted h) = omega (arith, floor_seen seen q (state callers is.asks.mid), recent, within, long, few, slots_number callers h) in
+      (all, is_all, omega (arith, served_published set callers (Unit {0}) c seen q h later version is law, published_few set callers later law, long, is_all))
 
   shown_alone : (q : Query) (r : Reply) (later : List Event) → Lawful set callers later → IsShown set callers (Unit {0}) c seen h q r later → Turn set k (Read (Ok (request.Query q))) r seen (state callers later)
   shown_alone q r later law is =

@@ -6,8 +6,8 @@ use Rattle.std.proofs.lemmas.List.Sums.{prefix_len-le-length}
 use Rattle.cq_base.specs.declared.settings.Settings.{Settings}
 use Rattle.cq_base.specs.declared.change.Change.{Change}
 use Rattle.cq_history.specs.declared.event.Event.{Event}
-use Rattle.cq_history.specs.declared.event.Event.TheVariants.{Accept, Ask, Took, Back, Done, Publish, Open, Shut, Floor}
-use Rattle.cq_history.specs.State.{State, state, accepted, maker, is_done, ready}
+use Rattle.cq_history.specs.declared.event.Event.TheVariants.{Accept, Ask}
+use Rattle.cq_history.specs.State.{State, state, accepted, is_done, ready}
 use Rattle.cq_history.specs.Lawful.{Lawful}
 use Rattle.cq_history.proofs.States.{state_push}
 use Rattle.cq_history.proofs.Bounds.{in_order}
@@ -23,18 +23,19 @@ use Rattle.cq_reply.specs.declared.reply.Reply.{Reply}
 use Rattle.cq_reply.specs.declared.reply.Reply.TheVariants as reply
 use Rattle.cq_answer.specs.Refusals.{refused_as, cause_told}
 use Rattle.cq_answer.specs.Reply.{IsReply}
-use Rattle.cq_hub.specs.Hubs.{IsPublication}
 use Rattle.cq_talk.specs.Said.{Said, TooLong, Read, WasRead}
 use Rattle.cq_talk.specs.Replies.{named, version_in}
 use Rattle.cq_talk.specs.Causes.{cause, change_told}
 use Rattle.cq_talk.specs.Talk.{Talk, Answers, IsAnswered, IsShown, IsChanged, IsGivenUp, Tells}
 use Rattle.cq_talk.specs.Beside.{Known, nothing_known, known_then, changes_then, with_told, IsReplyBeside, IsBeside}
 use Rattle.cq_talk.specs.Laws.{AcceptsBy}
-use Rattle.cq_talk.proofs.GoingOn.{by_growing, by_publishing, by_one, talk_goes_on}
-use Rattle.cq_talk.proofs.BesideRows.{Fair, Keeps, fair_before, keeps, keeps_asking, keeps_to_ask, keeps_serving, keeps_giving_up, opened_published, undone_put}
+use Rattle.cq_talk.proofs.GoingOn.{by_one, by_unmade, talk_goes_on}
+use Rattle.cq_talk.proofs.BesideRows.{Fair, Keeps, fair_before, keeps, keeps_asking, keeps_to_ask, keeps_serving, keeps_giving_up, undone_put}
 use Rattle.cq_talk.proofs.Causing.{cause_is}
 use Rattle.cq_talk.proofs.AloneTalk.{floor_seen, given_read}
+use Rattle.cq_talk.proofs.Served.{asked_grows, served_published}
 use Rattle.cq_talk.proofs.Shown.{shown_version}
+use Rattle.cq_talk.proofs.Unmade.{accepts_all}
 
 -- what the user knows fits the history: each accepted change's number was named, and what was named is published
 pub record Fits (callers : ℕ) (k : Known) (seen : ℕ) (h : List Event) : Type 0 where
@@ -139,15 +140,14 @@ module _ (set : Settings) (callers : ℕ) (alone : Type 0) (c seen : ℕ) (h : L
   shown q r later fair is =
       let served = is.served in
       let kept = keeps_serving set callers alone c seen q h later (Some is.version) served fair in
-      let helped = fair_before set callers alone c served.helped later (by_growing alone c served.helped later _ served.views) fair in
-      let asked = fair_before set callers alone c served.asked served.helped (by_publishing alone c served.asked served.helped _ served.helps) helped in
+      let asked = fair_before set callers alone c served.asked later (by_unmade alone c served.asked later _ (asked_grows set callers alone c seen q h later (Some is.version) served)) fair in
       let ask = keeps_to_ask set callers alone c h served.asked served.asks asked in
       let many = same_many served.asks.mid ask.1 in
       let now : accepted later ≡ k.changes = kept.accepted_is ∙ fits.changes in
       let all : length (accepted later) ≡ length k.changes = ap length now in
       let version : is.version ≡ length k.changes = omega (arith, floor_seen seen q (state callers served.asks.mid), served.recent, is.within, fits.few, all) in
       let names = shown_version set (accepted later) is.version q r is.shows in
-      let published = opened_published set callers alone c served.helped later is.version served.views fair in
+      let published = served_published set callers alone c seen q h later is.version served fair.law in
       record {
         is = inr (inr (inr (omega (arith, served.goes_on.0, many), subst (λ v. IsReply set k.changes v q r) version (subst (λ cs. IsReply set cs is.version q r) now is.shows))));
         fits = named_more later (Read (Ok (request.Query q))) r refl kept (omega (arith, names, published));
@@ -208,22 +208,6 @@ module _ (set : Settings) (callers : ℕ) (alone : Type 0) (c : ℕ) where
   beside_from_nothing later lines replies talk law accepts = walked 0 [] later nothing_known lines replies (record { law = law; accepts = accepts }) (record { changes = refl; version = omega arith; few = omega arith }) talk
 
 -- ---- a hub that is alone
-
-accepts_one : (c : ℕ) (e : Event) → (maker e ≡ Some c) ⊎ IsPublication e → AcceptsBy c e
-accepts_one c (Accept by change) (inl own) = cc (own)
-accepts_one c (Accept by change) (inr never) = absurd never
-accepts_one c (Ask by) is = tt
-accepts_one c (Took by r) is = tt
-accepts_one c (Back by r) is = tt
-accepts_one c (Done by r) is = tt
-accepts_one c (Publish p) is = tt
-accepts_one c (Open by p) is = tt
-accepts_one c (Shut by) is = tt
-accepts_one c (Floor f) is = tt
-
-accepts_all : (c : ℕ) (more : List Event) → AllByRecursion (λ (e : Event). (maker e ≡ Some c) ⊎ IsPublication e) more → AllByRecursion (AcceptsBy c) more
-accepts_all c [] all = tt
-accepts_all c (e ∷ more) all = (accepts_one c e all.0, accepts_all c more all.1)
 
 pub beside_alone : (set : Settings) (callers c : ℕ) (later : List Event) (lines : List Said) (replies : List Reply) → Talk set callers (Unit {0}) c 0 [] lines replies later → Lawful set callers later → IsBeside set nothing_known lines replies
 beside_alone set callers c later lines replies talk law =

@@ -4,22 +4,24 @@ use Rattle.std.specs.List.{AllByRecursion}
 use Rattle.cq_base.specs.declared.settings.Settings.{Settings}
 use Rattle.cq_base.specs.declared.change.Change.{Change}
 use Rattle.cq_history.specs.declared.event.Event.{Event}
-use Rattle.cq_history.specs.declared.event.Event.TheVariants.{Accept, Ask}
+use Rattle.cq_history.specs.declared.event.Event.TheVariants.{Accept}
 use Rattle.cq_history.specs.State.{maker}
 use Rattle.cq_request.specs.declared.request.Query.{Query}
 use Rattle.cq_request.specs.declared.request.Request.TheVariants as request
 use Rattle.cq_reply.specs.declared.reply.Reply.{Reply}
-use Rattle.cq_hub.specs.Hubs.{Grows, IsPublication, Never}
+use Rattle.cq_hub.specs.Hubs.{Grows, Never}
 use Rattle.cq_hub.proofs.Growing.{all-append, grows_may}
 use Rattle.cq_talk.specs.Said.{Said, TooLong, Read}
 use Rattle.cq_talk.specs.Replies.{named}
 use Rattle.cq_talk.specs.Talk.{Talk, Answers, IsAnswer, IsAnswered, IsChanged, IsServed, IsGivenUp, Asks}
+use Rattle.cq_talk.proofs.Served.{asks_grow, served_grows}
+use Rattle.cq_talk.proofs.Unmade.{IsUnmade}
 
--- The second history goes on from the first. Where the caller is alone, all that came is its own or a publication.
+-- The second history goes on from the first. Where the caller is alone, all that came is its own or nobody's.
 pub record GoesOnTo (alone : Type 0) (c : ℕ) (h later : List Event) : Type 0 where
   pub more : List Event
   pub later_is : later ≡ h ++ more
-  pub alone_is : alone → AllByRecursion (λ (e : Event). (maker e ≡ Some c) ⊎ IsPublication e) more
+  pub alone_is : alone → AllByRecursion (λ (e : Event). (maker e ≡ Some c) ⊎ IsUnmade e) more
 
 module _ (alone : Type 0) (c : ℕ) where
   pub goes_further : (h mid later : List Event) → GoesOnTo alone c h mid → GoesOnTo alone c mid later → GoesOnTo alone c h later
@@ -29,22 +31,21 @@ module _ (alone : Type 0) (c : ℕ) where
     alone_is = λ a. all-append _ one.more two.more (one.alone_is a) (two.alone_is a);
   }
 
-  pub by_publishing : (h later es : List Event) → Grows alone IsPublication c h later es → GoesOnTo alone c h later
-  by_publishing h later es grows = record { more = grows.more; later_is = grows.after_is; alone_is = grows.alone_is }
+  pub by_unmade : (h later es : List Event) → Grows alone IsUnmade c h later es → GoesOnTo alone c h later
+  by_unmade h later es grows = record { more = grows.more; later_is = grows.after_is; alone_is = grows.alone_is }
 
   pub by_growing : (h later es : List Event) → Grows alone Never c h later es → GoesOnTo alone c h later
-  by_growing h later es grows = by_publishing h later es (grows_may alone c IsPublication h later es grows)
+  by_growing h later es grows = by_unmade h later es (grows_may alone c IsUnmade h later es grows)
 
   pub by_one : (h later : List Event) (e : Event) → maker e ≡ Some c → later ≡ h ++ e ∷ [] → GoesOnTo alone c h later
   by_one h later e own is = record { more = e ∷ []; later_is = is; alone_is = λ a. (inl own, tt) }
 
   pub by_asking : (h later : List Event) → Asks alone c h later → GoesOnTo alone c h later
-  by_asking h later asks = goes_further h asks.mid later (by_growing h asks.mid [] asks.waits) (by_one asks.mid later (Ask c) refl asks.asks)
+  by_asking h later asks = by_growing h later _ (asks_grow alone c h later asks)
 
 module _ (set : Settings) (callers : ℕ) (alone : Type 0) (c : ℕ) where
   pub by_serving : (seen : ℕ) (q : Query) (h later : List Event) (view : Option ℕ) → IsServed set callers alone c seen q h later view → GoesOnTo alone c h later
-  by_serving seen q h later view is =
-      goes_further alone c h is.asked later (by_asking alone c h is.asked is.asks) (goes_further alone c is.asked is.helped later (by_publishing alone c is.asked is.helped _ is.helps) (by_growing alone c is.helped later _ is.views))
+  by_serving seen q h later view is = by_unmade alone c h later _ (served_grows set callers alone c seen q h later view is)
 
   by_changing : (h later : List Event) (change : Change) (r : Reply) → IsChanged set callers alone c h change r later → GoesOnTo alone c h later
   by_changing h later change r (inl is) = goes_further alone c h is.mid later (by_growing alone c h is.mid [] is.waits) (by_one alone c is.mid later (Accept c change) refl is.accepts)

@@ -3,6 +3,8 @@ pub mod Shown
 pub mod Leading
 pub mod Changing
 pub mod Queries
+pub mod Unmade
+pub mod Served
 pub mod Talking
 pub mod GoingOn
 pub mod Causing

@@ -42,6 +42,10 @@ all_least : (m n : ℕ) (rs : List ℕ) → m ≤ n → AllByRecursion (λ (r : 
 all_least m n [] le all = tt
 all_least m n (r ∷ rs) le all = (omega (arith, all.0, le), all_least m n rs le all.1)
 
+-- no view was opened
+pub views_none : (alone : Type 0) (c to : ℕ) (h helped later : List Event) → Grows alone IsPublication c h helped [] → Grows alone Never c helped later [] → Views alone c to h None later
+views_none alone c to h helped later helps waits = record { helped = helped; helps = helps; shut = later; views = waits; recent = tt; sweeps = grows_none alone c Never later }
+
 module _ (set : Settings) (callers : ℕ) (alone : Type 0) (c seen : ℕ) (q : Query) (h mid : List Event) (waits : Grows alone Never c h mid []) (within : q.at ≤ length (state callers mid).slots) where
   -- works were done, and a version viewed that is not below all changes
   pub worked : q.finish ≡ true → seen ≤ length (state callers mid).slots → (to : ℕ) → to ≡ length (state callers mid).slots → (Holds : List Event → Type 0) (then later : List Event) (view : Option ℕ) →
@@ -58,15 +62,17 @@ module _ (set : Settings) (callers : ℕ) (alone : Type 0) (c seen : ℕ) (q : Q
         helped = views.helped;
         helps = grows_as alone c IsPublication (mid ++ Ask c ∷ []) views.helped _ _ (append-nil (map (λ r. Done c r) helps.finished))
             (grows_then alone c IsPublication (mid ++ Ask c ∷ []) then views.helped _ [] (grows_may alone c IsPublication (mid ++ Ask c ∷ []) then _ helps.grows) views.helps);
+        shut = views.shut;
         views = views.views;
         recent = some_least view (floor_of seen q (state callers mid)) to (omega (arith, floor, is)) views.recent;
+        sweeps = views.sweeps;
       }
 
   -- its works alone, where memory was refused
   pub worked_alone : q.finish ≡ true → seen ≤ length (state callers mid).slots → (to : ℕ) → to ≡ length (state callers mid).slots → (Holds : List Event → Type 0) (later : List Event) →
       Helps alone c to (mid ++ Ask c ∷ []) Holds later → IsServed set callers alone c seen q h later None
   worked_alone works named to is Holds later helps =
-      worked works named to is Holds later later None helps (record { helped = later; helps = grows_none alone c IsPublication later; views = grows_none alone c Never later; recent = tt })
+      worked works named to is Holds later later None helps (views_none alone c to later later later (grows_none alone c IsPublication later) (grows_none alone c Never later))
 
   -- no works were to be done, and a version viewed that is not below the floor
   pub waited : q.finish ≡ false → (to : ℕ) → max seen q.at ≤ to → to ≤ ready (state callers mid) → (later : List Event) (view : Option ℕ) →
@@ -82,8 +88,10 @@ module _ (set : Settings) (callers : ℕ) (alone : Type 0) (c seen : ℕ) (q : Q
         may_work = λ same. refl;
         helped = views.helped;
         helps = views.helps;
+        shut = views.shut;
         views = views.views;
         recent = some_least view (floor_of seen q (state callers mid)) to (omega (arith, floor, least)) views.recent;
+        sweeps = views.sweeps;
       }
 
 -- what a question tells

@@ -1,5 +1,5 @@
 -- One more line, and what its reply names.
-use Rattle.std.proofs.Common.{◌≡◌, ℕ, ◌+◌, ◌≤◌, List, [], ◌∷◌, ◌++◌, length, max, Option, Some, Ok, Err, refl, ap, ◌∙◌, subst, inl, inr, arith, length-append}
+use Rattle.std.proofs.Common.{◌≡◌, ℕ, ◌+◌, ◌≤◌, List, [], ◌∷◌, ◌++◌, length, max, Option, Some, Ok, Err, refl, ap, ◌∙◌, subst, inl, inr, arith, append-nil}
 use Rattle.std.proofs.Math.Nat.{max-le}
 use Rattle.std.proofs.lemmas.List.Sums.{prefix_len-le-length}
 use Rattle.cq_base.specs.declared.settings.Settings.{Settings}
@@ -19,19 +19,18 @@ use Rattle.cq_request.specs.declared.request.Request.TheVariants as request
 use Rattle.cq_request.specs.declared.request.Refusal.{Refusal}
 use Rattle.cq_request.specs.declared.request.Refusal.TheVariants as refusal
 use Rattle.cq_reply.specs.declared.reply.Reply.{Reply}
-use Rattle.cq_hub.specs.Hubs.{IsPublication, Never}
+use Rattle.cq_hub.specs.Hubs.{Never}
 use Rattle.cq_hub.proofs.Growing.{no_fewer, accepted_more}
 use Rattle.cq_answer.specs.Refusals.{refused_as, cause_told}
 use Rattle.cq_talk.specs.Said.{Said, TooLong, Read}
 use Rattle.cq_talk.specs.Replies.{named, seen_after}
 use Rattle.cq_talk.specs.Talk.{Talk, Answers, IsAnswer, IsAnswered, IsChanged, IsGivenUp, IsServed, Tells, Asks, Waits}
+use Rattle.cq_talk.proofs.Served.{asks_grow, served_grows}
 use Rattle.cq_talk.proofs.Shown.{shown_named}
+use Rattle.cq_talk.proofs.Unmade.{IsUnmade}
 
 pub published_few : (set : Settings) (callers : ℕ) (h : List Event) → Lawful set callers h → (state callers h).published ≤ length (accepted h)
 published_few set callers h law = omega (arith, (in_order set callers h law).published, prefix_len-le-length is_done (state callers h).slots, slots_number callers h)
-
-asked_few : (c : ℕ) (h : List Event) → length (accepted h) ≤ length (accepted (h ++ Ask c ∷ []))
-asked_few c h = let more = ap length (accepted-append h (Ask c ∷ [])) in omega (arith, more, length-append (accepted h) (accepted (Ask c ∷ [])))
 
 none_named : (why : Refusal) → named (refused_as why) ≡ 0
 none_named refusal.Json = refl
@@ -59,11 +58,10 @@ module _ (set : Settings) (callers : ℕ) (alone : Type 0) (c : ℕ) where
   waits_few h later waits = no_fewer callers alone Never c h later [] waits
 
   asks_few : (h later : List Event) → Asks alone c h later → length (accepted h) ≤ length (accepted later)
-  asks_few h later asks = let same = ap (λ g. length (accepted g)) asks.asks in omega (arith, waits_few h asks.mid asks.waits, asked_few c asks.mid, same)
+  asks_few h later asks = no_fewer callers alone Never c h later _ (asks_grow alone c h later asks)
 
   served_few : (seen : ℕ) (q : Query) (h later : List Event) (view : Option ℕ) → IsServed set callers alone c seen q h later view → length (accepted h) ≤ length (accepted later)
-  served_few seen q h later view is =
-      omega (arith, asks_few h is.asked is.asks, no_fewer callers alone IsPublication c is.asked is.helped _ is.helps, no_fewer callers alone Never c is.helped later _ is.views)
+  served_few seen q h later view is = no_fewer callers alone IsUnmade c h later _ (served_grows set callers alone c seen q h later view is)
 
   -- a reply that names nothing
   silent : (h later : List Event) (r : Reply) → length (accepted h) ≤ length (accepted later) → named r ≡ 0 → Few h later r
@@ -85,9 +83,9 @@ module _ (set : Settings) (callers : ℕ) (alone : Type 0) (c : ℕ) where
   told_few : (h later : List Event) (r : Reply) → Lawful set callers later → Tells set callers alone c h r later → Few h later r
   told_few h later r law is =
       let few = published_few set callers is.asks.mid (Lawful-prefix set callers is.asks.mid (Ask c ∷ []) (subst (Lawful set callers) is.asks.asks law)) in
-      let same = ap (λ g. length (accepted g)) is.asks.asks in
+      let same : length (accepted later) ≡ length (accepted is.asks.mid) = ap (λ g. length (accepted g)) is.asks.asks ∙ ap length (accepted-append is.asks.mid (Ask c ∷ []) ∙ append-nil (accepted is.asks.mid)) in
       let name : named r ≡ (state callers is.asks.mid).published = ap named is.reply_is in
-      record { more = asks_few h later is.asks; name = omega (arith, few, asked_few c is.asks.mid, same, name) }
+      record { more = asks_few h later is.asks; name = omega (arith, few, same, name) }
 
   answer_few : (seen : ℕ) (h later : List Event) (l : Said) (r : Reply) → Lawful set callers later → IsAnswer set callers alone c seen h l r later → Few h later r
   answer_few seen h later TooLong r law is = silent h later r (waits_few h later is.1) (ap named is.0)

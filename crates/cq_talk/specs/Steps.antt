@@ -5,7 +5,7 @@ use Rattle.cq_history.specs.declared.event.Event.{Event}
 use Rattle.cq_history.specs.declared.event.Event.TheVariants as event
 use Rattle.cq_history.specs.State.{state, view_of}
 use Rattle.cq_hub.specs.Hubs.{Grows, HasSeen, IsPublication, Never}
-use Rattle.cq_talk.specs.Talk.{viewed}
+use Rattle.cq_talk.specs.Talk.{MayFollow, viewed}
 
 -- the caller has no view open
 abbrev pub IsClosed : ℕ → ℕ → List Event → Type 0
@@ -39,9 +39,11 @@ pub record Helps (alone : Type 0) (c to : ℕ) (h : List Event) (Holds : List Ev
   pub grows : Grows alone Never c h after (map (λ r. event.Done c r) finished)
   pub so : Holds after
 
--- a version was published, and a view of one that is not below it opened and shut, or neither
+-- a version was published, and a view of one that is not below it opened, shut and swept behind, or neither
 pub record Views (alone : Type 0) (c to : ℕ) (h : List Event) (view : Option ℕ) (after : List Event) : Type 0 where
   pub helped : List Event
   pub helps : Grows alone IsPublication c h helped []
-  pub views : Grows alone Never c helped after (viewed c view)
+  pub shut : List Event
+  pub views : Grows alone Never c helped shut (viewed c view)
   pub recent : IfSome view (λ v. to ≤ v)
+  pub sweeps : Grows alone (MayFollow view) c shut after []

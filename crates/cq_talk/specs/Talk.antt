@@ -6,7 +6,7 @@ use Rattle.cq_base.specs.declared.change.Change.{Change}
 use Rattle.cq_history.specs.declared.event.Event.{Event}
 use Rattle.cq_history.specs.declared.event.Event.TheVariants as event
 use Rattle.cq_history.specs.State.{State, state, accepted, ready}
-use Rattle.cq_board.specs.Answers.{refusal_of}
+use Rattle.cq_board.specs.Answers.{greatest_floor, refusal_of}
 use Rattle.cq_board.specs.declared.answers.Refused.{Refused}
 use Rattle.cq_request.specs.declared.request.Query.{Query}
 use Rattle.cq_request.specs.declared.request.Request.TheVariants as request
@@ -14,7 +14,7 @@ use Rattle.cq_reply.specs.declared.reply.Reply.{Reply}
 use Rattle.cq_reply.specs.declared.reply.Reply.TheVariants as reply
 use Rattle.cq_answer.specs.Refusals.{refused_as, cause_told}
 use Rattle.cq_answer.specs.Reply.{IsReply}
-use Rattle.cq_hub.specs.Hubs.{Grows, IsPublication, Never}
+use Rattle.cq_hub.specs.Hubs.{Grows, IsFloor, IsPublication, Never}
 use Rattle.cq_talk.specs.Said.{Said, TooLong, Read}
 use Rattle.cq_talk.specs.Replies.{named}
 
@@ -31,6 +31,15 @@ GoesOn seen q s = (q.at ≤ length s.slots) × (q.finish ≡ false → floor_of 
 abbrev pub viewed : ℕ → Option ℕ → List Event
 viewed c None = []
 viewed c (Some v) = event.Open c v ∷ event.Shut c ∷ []
+
+-- nobody's events that may come behind a view that was shut: floors; where no view was opened, none
+abbrev pub MayFollow : Option ℕ → Event → Type 0
+MayFollow None = Never
+MayFollow (Some v) = IsFloor
+
+-- the last floor is the least of the last published version and the open ones
+abbrev pub IsSwept : State → Type 0
+IsSwept s = s.floor ≡ greatest_floor s
 
 -- over whether nobody else adds an event, and the caller's number
 module _ (alone : Type 0) (c : ℕ) where
@@ -91,7 +100,7 @@ module _ (set : Settings) (callers : ℕ) (alone : Type 0) (c : ℕ) where
     pub reply_is : r ≡ reply.Pending (ready (state callers asks.mid) + 1)
 
   -- What a query does that is not refused, as far as it came: its question; the works that it did, of changes up to its
-  -- floor; and a view of a version that is not below its floor, which is shut again.
+  -- floor; a view of a version that is not below its floor, which is shut again; and a sweep behind that.
   pub record IsServed (seen : ℕ) (q : Query) (h after : List Event) (view : Option ℕ) : Type 0 where
     pub asked : List Event
     pub asks : Asks alone c h asked
@@ -101,15 +110,19 @@ module _ (set : Settings) (callers : ℕ) (alone : Type 0) (c : ℕ) where
     pub may_work : q.finish ≡ false → finished ≡ []
     pub helped : List Event
     pub helps : Grows alone IsPublication c asked helped (map (λ r. event.Done c r) finished)
-    pub views : Grows alone Never c helped after (viewed c view)
+    pub shut : List Event
+    pub views : Grows alone Never c helped shut (viewed c view)
     pub recent : IfSome view (λ v. floor_of seen q (state callers asks.mid) ≤ v)
+    pub sweeps : Grows alone (MayFollow view) c shut after []
 
-  -- it is answered by the changes up to the version of its view
+  -- It is answered by the changes up to the version of its view. Behind the view, and before the caller's next event, the
+  -- floor stands at the least of the published version and the open ones.
   pub record IsShown (seen : ℕ) (h : List Event) (q : Query) (r : Reply) (after : List Event) : Type 0 where
     pub version : ℕ
     pub served : IsServed seen q h after (Some version)
     pub within : version ≤ length (accepted after)
     pub shows : IsReply set (accepted after) version q r
+    pub swept : IsSwept (state callers after)
 
   abbrev pub IsAnswered : ℕ → List Event → Query → Reply → List Event → Type 0
   IsAnswered seen h q r after = IsFuture h q r after ⊎ (IsPending seen h q r after ⊎ IsShown seen h q r after)

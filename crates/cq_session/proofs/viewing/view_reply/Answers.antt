@@ -1,10 +1,11 @@
-use Rattle.std.proofs.Common.{Bool, [], ◌∷◌, ◌++◌, sym, ◌∙◌}
-use Rattle.cq_history.specs.declared.event.Event.TheVariants.{Open}
+use Rattle.std.proofs.Common.{[], ◌∷◌, ◌++◌, Result, sym, ◌∙◌, subst}
+use Rattle.cq_base.specs.declared.memory.Memory.{Memory}
+use Rattle.cq_history.specs.declared.event.Event.TheVariants.{Open, Shut}
 use Rattle.cq_talk.proofs.Leading.{stands_mid}
 use Rattle.cq_work.specs.Work.{IsWorkOf}
-use Rattle.cq_session.specs.Costs.{counted, Costs}
-use Rattle.cq_session.specs.Viewing.{InView}
-use Rattle.cq_session.proofs.Answered.{ok_with, err_with, ok_same, err_same}
+use Rattle.cq_reply.specs.declared.reply.Reply.{Reply}
+use Rattle.cq_session.specs.Passes.{CostsOpen}
+use Rattle.cq_session.proofs.Answered.{ok_same}
 use Rattle.cq_session.proofs.Spending.{costs_same}
 use Rattle.cq_session.proofs.OneView.{not_advanced, still_closed, not_viewed, is_open, viewing, was_shown, was_given_up}
 use Rattle.cq_session.proofs.viewing.view_reply.Goals as goal
@@ -52,22 +53,40 @@ close_behind-requires g c =
     let moved = c.reply_in-reply.ensures.moves r.0 (opened.mid ++ Open r.0 c.in-Ok-open_view.view.version ∷ []) opened.stands there in
     record { viewing = (r.0, moved.after, moved.stands, viewing g.H.Hub.Stands (g.H.Hub.settings c.args.hub.now) (g.H.Hub.callers c.args.hub.now) g.H.Hub.alone c.args.hub.now (IsWorkOf {L = g.row.L.Denot} (g.H.Hub.settings c.args.hub.now)) (λ p c h s. g.met.H.Hub.lawful _ p c h s) (λ p c h s. g.met.H.Hub.caller _ p c h s) r.0 c.args.to r.1 c.in-Ok._published _ advanced c.in-Ok-open_view.view _ opened _ moved) }
 
-pub returns-in-Ok-open_view-clause-shown : goal.returns-in-Ok-open_view-clause-shown
-returns-in-Ok-open_view-clause-shown g c = ok_same c.reply_in-reply.result c.close_behind.result _ c.close_behind.ensures.same (ok_with c.reply_in-reply.result _ _ (λ (answered : Bool). InView g.H.Hub.Stands (g.H.Hub.callers c.args.hub.now) (IsWorkOf {L = g.row.L.Denot} (g.H.Hub.settings c.args.hub.now)) c.args.hub.now c.in-Ok-open_view.view c.open_view.new.pass
-    (λ changes. Costs (g.H.Hub.settings c.args.hub.now) changes (record { query = c.args.query.now; version = c.in-Ok-open_view.view.version; answered = answered } ∷ []) (counted c.args.steps.now c.reply_in-reply.new.steps (g.H.Hub.asked c.open_view.new.pass) (g.H.Hub.asked c.reply_in-reply.new.pass)))) (λ reply is costs by h stands closed always.
-    let advanced = c.in-Ok.ensures.published by h stands in
-    let opened = c.in-Ok-open_view.ensures.opened by advanced.mid (stands_mid _ _ (g.H.Hub.callers c.args.hub.now) by _ _ _ h _ advanced) in
-    let there = is_open g.H.Hub.Stands (g.H.Hub.settings c.args.hub.now) (g.H.Hub.callers c.args.hub.now) g.H.Hub.alone c.args.hub.now (IsWorkOf {L = g.row.L.Denot} (g.H.Hub.settings c.args.hub.now)) (λ p c h s. g.met.H.Hub.lawful _ p c h s) (λ p c h s. g.met.H.Hub.caller _ p c h s) by c.args.to h c.in-Ok._published _ advanced c.in-Ok-open_view.view _ opened in
-    let moved = c.reply_in-reply.ensures.moves by (opened.mid ++ Open by c.in-Ok-open_view.view.version ∷ []) opened.stands there in
-    was_shown g.H.Hub.Stands (g.H.Hub.settings c.args.hub.now) (g.H.Hub.callers c.args.hub.now) g.H.Hub.alone c.args.hub.now (IsWorkOf {L = g.row.L.Denot} (g.H.Hub.settings c.args.hub.now)) (λ p c h s. g.met.H.Hub.lawful _ p c h s) (λ p c h s. g.met.H.Hub.caller _ p c h s) by c.args.to h c.in-Ok._published _ advanced c.in-Ok-open_view.view _ opened _ moved _ _ (c.close_behind.ensures.shut by moved.after moved.stands) c.args.query.now reply _ (is by (opened.mid ++ Open by c.in-Ok-open_view.view.version ∷ []) opened.stands there)
-    (costs_same (g.H.Hub.settings c.args.hub.now) _ _ _ _ _ _ _ _ (sym (c.in-Ok-open_view.ensures.asked ∙ c.in-Ok.ensures.asked)) c.close_behind.ensures.asked (costs by (opened.mid ++ Open by c.in-Ok-open_view.view.version ∷ []) opened.stands there))) c.reply_in-reply.ensures.reply c.reply_in-reply.ensures.costs)
+pub sweep_behind-requires : goal.sweep_behind-requires
+sweep_behind-requires g c =
+    let r = c.requires.ready in
+    let advanced = c.in-Ok.ensures.published r.0 r.1 r.2 in
+    let opened = c.in-Ok-open_view.ensures.opened r.0 advanced.mid (stands_mid _ _ (g.H.Hub.callers c.args.hub.now) r.0 _ _ _ r.1 _ advanced) in
+    let there = is_open g.H.Hub.Stands (g.H.Hub.settings c.args.hub.now) (g.H.Hub.callers c.args.hub.now) g.H.Hub.alone c.args.hub.now (IsWorkOf {L = g.row.L.Denot} (g.H.Hub.settings c.args.hub.now)) (λ p c h s. g.met.H.Hub.lawful _ p c h s) (λ p c h s. g.met.H.Hub.caller _ p c h s) r.0 c.args.to r.1 c.in-Ok._published _ advanced c.in-Ok-open_view.view _ opened in
+    let moved = c.reply_in-reply.ensures.moves r.0 (opened.mid ++ Open r.0 c.in-Ok-open_view.view.version ∷ []) opened.stands there in
+    let shut = c.in-Ok-close_behind.ensures.shut r.0 moved.after moved.stands in
+    record { stands = (r.0, shut.mid ++ Shut r.0 ∷ [], shut.stands) }
 
-pub returns-in-Ok-open_view-clause-refused : goal.returns-in-Ok-open_view-clause-refused
-returns-in-Ok-open_view-clause-refused g c = err_same c.reply_in-reply.result c.close_behind.result _ c.close_behind.ensures.same (err_with c.reply_in-reply.result _ (λ (answered : Bool). InView g.H.Hub.Stands (g.H.Hub.callers c.args.hub.now) (IsWorkOf {L = g.row.L.Denot} (g.H.Hub.settings c.args.hub.now)) c.args.hub.now c.in-Ok-open_view.view c.open_view.new.pass
-    (λ changes. Costs (g.H.Hub.settings c.args.hub.now) changes (record { query = c.args.query.now; version = c.in-Ok-open_view.view.version; answered = answered } ∷ []) (counted c.args.steps.now c.reply_in-reply.new.steps (g.H.Hub.asked c.open_view.new.pass) (g.H.Hub.asked c.reply_in-reply.new.pass)))) (λ costs by h stands closed always.
+pub returns-in-Ok-close_behind-clause-shown : goal.returns-in-Ok-close_behind-clause-shown
+returns-in-Ok-close_behind-clause-shown g c =
+    let same = c.in-Ok-close_behind.ensures.same in
+    let shows = ok_same _ _ _ same c.reply_in-reply.ensures.reply in
+    let costs = subst (λ (r : Result Reply Memory). CostsOpen g.H.Hub c.args.hub.now (IsWorkOf {L = g.row.L.Denot}) c.in-Ok-open_view.view c.open_view.new.pass c.reply_in-reply.new.pass c.args.steps.now c.reply_in-reply.new.steps c.args.query.now r) (sym same) c.reply_in-reply.ensures.costs in
+    λ by h stands closed always.
     let advanced = c.in-Ok.ensures.published by h stands in
     let opened = c.in-Ok-open_view.ensures.opened by advanced.mid (stands_mid _ _ (g.H.Hub.callers c.args.hub.now) by _ _ _ h _ advanced) in
     let there = is_open g.H.Hub.Stands (g.H.Hub.settings c.args.hub.now) (g.H.Hub.callers c.args.hub.now) g.H.Hub.alone c.args.hub.now (IsWorkOf {L = g.row.L.Denot} (g.H.Hub.settings c.args.hub.now)) (λ p c h s. g.met.H.Hub.lawful _ p c h s) (λ p c h s. g.met.H.Hub.caller _ p c h s) by c.args.to h c.in-Ok._published _ advanced c.in-Ok-open_view.view _ opened in
     let moved = c.reply_in-reply.ensures.moves by (opened.mid ++ Open by c.in-Ok-open_view.view.version ∷ []) opened.stands there in
-    was_given_up g.H.Hub.Stands (g.H.Hub.settings c.args.hub.now) (g.H.Hub.callers c.args.hub.now) g.H.Hub.alone c.args.hub.now (IsWorkOf {L = g.row.L.Denot} (g.H.Hub.settings c.args.hub.now)) (λ p c h s. g.met.H.Hub.lawful _ p c h s) (λ p c h s. g.met.H.Hub.caller _ p c h s) by c.args.to h c.in-Ok._published _ advanced c.in-Ok-open_view.view _ opened _ moved _ _ (c.close_behind.ensures.shut by moved.after moved.stands) c.args.query.now _
-    (costs_same (g.H.Hub.settings c.args.hub.now) _ _ _ _ _ _ _ _ (sym (c.in-Ok-open_view.ensures.asked ∙ c.in-Ok.ensures.asked)) c.close_behind.ensures.asked (costs by (opened.mid ++ Open by c.in-Ok-open_view.view.version ∷ []) opened.stands there))) c.reply_in-reply.ensures.costs)
+    let shut = c.in-Ok-close_behind.ensures.shut by moved.after moved.stands in
+    was_shown g.H.Hub.Stands (g.H.Hub.settings c.args.hub.now) (g.H.Hub.callers c.args.hub.now) g.H.Hub.alone c.args.hub.now (IsWorkOf {L = g.row.L.Denot} (g.H.Hub.settings c.args.hub.now)) (λ p c h s. g.met.H.Hub.lawful _ p c h s) (λ p c h s. g.met.H.Hub.caller _ p c h s) by c.args.to h c.in-Ok._published _ advanced c.in-Ok-open_view.view _ opened _ moved _ _ shut _ (c.sweep_behind.ensures.swept by (shut.mid ++ Shut by ∷ []) shut.stands) c.args.query.now c.in-Ok-close_behind.reply _ (shows by (opened.mid ++ Open by c.in-Ok-open_view.view.version ∷ []) opened.stands there)
+    (costs_same (g.H.Hub.settings c.args.hub.now) _ _ _ _ _ _ _ _ (sym (c.in-Ok-open_view.ensures.asked ∙ c.in-Ok.ensures.asked)) (c.sweep_behind.ensures.asked ∙ c.in-Ok-close_behind.ensures.asked) (costs by (opened.mid ++ Open by c.in-Ok-open_view.view.version ∷ []) opened.stands there))
+
+pub returns-in-Ok-close_behind-clause-text : goal.returns-in-Ok-close_behind-clause-text
+returns-in-Ok-close_behind-clause-text g c = ok_same _ _ _ c.in-Ok-close_behind.ensures.same c.reply_in-reply.ensures.text
+
+pub returns-in-Err-close_behind-clause-refused : goal.returns-in-Err-close_behind-clause-refused
+returns-in-Err-close_behind-clause-refused g c =
+    let costs = subst (λ (r : Result Reply Memory). CostsOpen g.H.Hub c.args.hub.now (IsWorkOf {L = g.row.L.Denot}) c.in-Ok-open_view.view c.open_view.new.pass c.reply_in-reply.new.pass c.args.steps.now c.reply_in-reply.new.steps c.args.query.now r) (sym c.in-Err-close_behind.ensures.same) c.reply_in-reply.ensures.costs in
+    λ by h stands closed always.
+    let advanced = c.in-Ok.ensures.published by h stands in
+    let opened = c.in-Ok-open_view.ensures.opened by advanced.mid (stands_mid _ _ (g.H.Hub.callers c.args.hub.now) by _ _ _ h _ advanced) in
+    let there = is_open g.H.Hub.Stands (g.H.Hub.settings c.args.hub.now) (g.H.Hub.callers c.args.hub.now) g.H.Hub.alone c.args.hub.now (IsWorkOf {L = g.row.L.Denot} (g.H.Hub.settings c.args.hub.now)) (λ p c h s. g.met.H.Hub.lawful _ p c h s) (λ p c h s. g.met.H.Hub.caller _ p c h s) by c.args.to h c.in-Ok._published _ advanced c.in-Ok-open_view.view _ opened in
+    let moved = c.reply_in-reply.ensures.moves by (opened.mid ++ Open by c.in-Ok-open_view.view.version ∷ []) opened.stands there in
+    was_given_up g.H.Hub.Stands (g.H.Hub.settings c.args.hub.now) (g.H.Hub.callers c.args.hub.now) g.H.Hub.alone c.args.hub.now (IsWorkOf {L = g.row.L.Denot} (g.H.Hub.settings c.args.hub.now)) (λ p c h s. g.met.H.Hub.lawful _ p c h s) (λ p c h s. g.met.H.Hub.caller _ p c h s) by c.args.to h c.in-Ok._published _ advanced c.in-Ok-open_view.view _ opened _ moved _ _ (c.in-Err-close_behind.ensures.shut by moved.after moved.stands) c.args.query.now _
+    (costs_same (g.H.Hub.settings c.args.hub.now) _ _ _ _ _ _ _ _ (sym (c.in-Ok-open_view.ensures.asked ∙ c.in-Ok.ensures.asked)) c.in-Err-close_behind.ensures.asked (costs by (opened.mid ++ Open by c.in-Ok-open_view.view.version ∷ []) opened.stands there))

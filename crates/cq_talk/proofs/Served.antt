@@ -1,0 +1,76 @@
+-- What a question, and a query that is served, add to a history.
+use Rattle.std.proofs.Common.{◌≡◌, ℕ, ◌≤◌, Bool, true, false, cond, List, [], ◌∷◌, ◌++◌, map, Option, Some, None, refl, sym, ap, ap₂, ◌∙◌, subst, arith, append-nil, append_assoc}
+use Rattle.cq_base.specs.declared.settings.Settings.{Settings}
+use Rattle.cq_history.specs.declared.event.Event.{Event}
+use Rattle.cq_history.specs.declared.event.Event.TheVariants.{Ask, Done, Open, Shut}
+use Rattle.cq_history.specs.State.{state, accepted, own, maker, is_by}
+use Rattle.cq_history.specs.Lawful.{Lawful}
+use Rattle.cq_history.proofs.States.{Lawful-prefix, Lawful_last}
+use Rattle.cq_history.proofs.Prefixes.{accepted-append}
+use Rattle.cq_history.proofs.Falling.{never_falls}
+use Rattle.cq_request.specs.declared.request.Query.{Query}
+use Rattle.cq_hub.specs.Hubs.{Grows, IsPublication, Never}
+use Rattle.cq_hub.proofs.Growing.{grows_as, grows_event, grows_may, grows_then}
+use Rattle.cq_talk.specs.Talk.{Asks, IsServed, MayFollow, viewed}
+use Rattle.cq_talk.proofs.Unmade.{IsUnmade, published_unmade, following_unmade, grows_unmade}
+
+pub asks_grow : (alone : Type 0) (c : ℕ) (h later : List Event) → Asks alone c h later → Grows alone Never c h later (Ask c ∷ [])
+asks_grow alone c h later asks = subst (λ g. Grows alone Never c h g (Ask c ∷ [])) (sym asks.asks) (grows_event alone c Never h asks.mid (Ask c) refl asks.waits)
+
+-- ---- the caller's own events behind its question
+
+abbrev pub works_and_view : ℕ → List ℕ → Option ℕ → List Event
+works_and_view c rs view = map (λ r. Done c r) rs ++ viewed c view
+
+works_accept_none : (c : ℕ) (rs : List ℕ) → accepted (map (λ r. Done c r) rs) ≡ []
+works_accept_none c [] = refl
+works_accept_none c (r ∷ rs) = works_accept_none c rs
+
+view_accepts_none : (c : ℕ) (view : Option ℕ) → accepted (viewed c view) ≡ []
+view_accepts_none c None = refl
+view_accepts_none c (Some v) = refl
+
+-- with its question
+pub served_accept_none : (c : ℕ) (rs : List ℕ) (view : Option ℕ) → accepted (Ask c ∷ works_and_view c rs view) ≡ []
+served_accept_none c rs view = accepted-append (map (λ r. Done c r) rs) (viewed c view) ∙ ap₂ (λ xs ys. xs ++ ys) (works_accept_none c rs) (view_accepts_none c view)
+
+module _ (set : Settings) (callers : ℕ) (alone : Type 0) (c seen : ℕ) (q : Query) (h later : List Event) (view : Option ℕ) (is : IsServed set callers alone c seen q h later view) where
+  -- behind the question
+  pub asked_grows : Grows alone IsUnmade c is.asked later (works_and_view c is.finished view)
+  asked_grows =
+      grows_as alone c IsUnmade is.asked later _ _ (ap (λ es. map (λ r. Done c r) is.finished ++ es) (append-nil (viewed c view)))
+      (grows_then alone c IsUnmade is.asked is.helped later (map (λ r. Done c r) is.finished) (viewed c view ++ []) (grows_unmade alone c IsPublication is.asked is.helped _ published_unmade is.helps)
+      (grows_then alone c IsUnmade is.helped is.shut later (viewed c view) [] (grows_may alone c IsUnmade is.helped is.shut _ is.views) (grows_unmade alone c (MayFollow view) is.shut later [] (following_unmade view) is.sweeps)))
+
+  pub served_grows : Grows alone IsUnmade c h later (Ask c ∷ works_and_view c is.finished view)
+  served_grows = grows_then alone c IsUnmade h is.asked later (Ask c ∷ []) _ (grows_may alone c IsUnmade h is.asked _ (asks_grow alone c h is.asked is.asks)) asked_grows
+
+-- ---- where the caller's first event stands
+
+pub record Split (more : List Event) (e : Event) : Type 0 where
+  pub before : List Event
+  pub behind : List Event
+  pub is : more ≡ before ++ e ∷ behind
+
+split_step : (c : ℕ) (x e : Event) (xs es : List Event) (b : Bool) → (own c xs ≡ e ∷ es → Split xs e) → cond b (x ∷ own c xs) (own c xs) ≡ e ∷ es → Split (x ∷ xs) e
+split_step c x e xs es true so is = let same : x ≡ e = cc (is) in record { before = []; behind = xs; is = ap (λ y. y ∷ xs) same }
+split_step c x e xs es false so is = let rest = so is in record { before = x ∷ rest.before; behind = rest.behind; is = ap (λ ys. x ∷ ys) rest.is }
+
+split_own : (c : ℕ) (more : List Event) (e : Event) (es : List Event) → own c more ≡ e ∷ es → Split more e
+split_own c [] e es is = absurd (cc (is))
+split_own c (x ∷ xs) e es is = split_step c x e xs es (is_by c (maker x)) (split_own c xs e es) is
+
+-- the version of its view was published, and is not taken back
+pub served_published : (set : Settings) (callers : ℕ) (alone : Type 0) (c seen : ℕ) (q : Query) (h later : List Event) (v : ℕ) → IsServed set callers alone c seen q h later (Some v) → Lawful set callers later → v ≤ (state callers later).published
+served_published set callers alone c seen q h later v is law =
+    let split = split_own c is.views.more (Open c v) (Shut c ∷ []) is.views.own_is in
+    let before = is.helped ++ split.before in
+    let rest = split.behind ++ is.sweeps.more in
+    let shut : is.shut ≡ before ++ Open c v ∷ split.behind = is.views.after_is ∙ (ap (λ more. is.helped ++ more) split.is ∙ sym (append_assoc is.helped split.before (Open c v ∷ split.behind))) in
+    let to : later ≡ before ++ Open c v ∷ rest = is.sweeps.after_is ∙ (ap (λ g. g ++ is.sweeps.more) shut ∙ append_assoc before (Open c v ∷ split.behind) is.sweeps.more) in
+    let to_open : later ≡ (before ++ Open c v ∷ []) ++ rest = to ∙ sym (append_assoc before (Open c v ∷ []) rest) in
+    let opened = Lawful_last set callers before (Open c v) (Lawful-prefix set callers (before ++ Open c v ∷ []) rest (subst (Lawful set callers) to_open law)) in
+    let at_open = opened.1.0 in
+    let same : (state callers later).published ≡ (state callers (before ++ Open c v ∷ rest)).published = ap (λ g. (state callers g).published) to in
+    let rises = (never_falls set callers before (Open c v ∷ rest) (subst (Lawful set callers) to law)).1 in
+    omega (arith, at_open, rises, same)
