@@ -1,10 +1,9 @@
 -- A shard of a core that applies the next change.
-use Rattle.std.proofs.Common.{◌≡◌, ◌↔◌, ℕ, zero, suc, ◌+◌, ◌%◌, ◌<◌, ◌≤◌, Bool, true, false, cond, List, [], ◌∷◌, ◌++◌, length, map, get_or, set, Option, Some, None, Global, refl, sym, ap, ◌∙◌, subst, subst₂, ⊎_elim, arith}
+use Rattle.std.proofs.Common.{◌≡◌, ◌↔◌, ℕ, zero, suc, ◌+◌, ◌%◌, ◌<◌, ◌≤◌, Bool, true, false, cond, List, [], ◌∷◌, ◌++◌, length, map, get_or, set, Option, Some, None, Global, refl, sym, ap, ◌∙◌, subst, subst₂, arith}
 use Rattle.std.specs.Prelude.{IfSome, IsSome, option_map, slice_index, count_by, ◌==◌}
 use Rattle.std.specs.Arc.{arc_value}
 use Rattle.std.specs.declared.sync.Arc.{Arc}
-use Rattle.std.proofs.lemmas.Bool.{cases_eq}
-use Rattle.std.proofs.lemmas.List.{length-map, length-set, map-set, set-get_or, get_or-map, get_or-set_same, get_or-set_other}
+use Rattle.std.proofs.lemmas.List.{length-map, map-set, set-get_or, get_or-map}
 use Rattle.std.proofs.lemmas.List.Elements.{All-set}
 use Rattle.std.proofs.lemmas.List.Sums.{sum_by-cons}
 use Rattle.cq_base.specs.declared.lang.Lang.{Lang}
@@ -24,6 +23,7 @@ use Rattle.cq_board.specs.Answers.{IsDonePut}
 use Rattle.cq_board.specs.Stands as board
 use Rattle.cq_core.specs.Cores.{StandsFor, AreNumbered, applied_of, floor_of}
 use Rattle.cq_core.specs.Steps.{Takes, HasSoMany, HasNext}
+use Rattle.cq_core.proofs.Numbering.{numbered_set}
 use Rattle.cq_core.proofs.Stepping.{core}
 
 -- ---- what the change brings
@@ -65,7 +65,7 @@ module _ {W : Type 0} (keys_in : W → List ℕ) (IsWorkOf : Settings → Lang �
       }
 
 -- what is read of a shard, twice
-shard_read : (shards : List Contents) (i : ℕ) (a b : Contents) → i < length shards → a ≡ get_or shards i a → b ≡ get_or shards i b → a ≡ b
+pub shard_read : (shards : List Contents) (i : ℕ) (a b : Contents) → i < length shards → a ≡ get_or shards i a → b ≡ get_or shards i b → a ≡ b
 shard_read shards i a b within p q = p ∙ same_default_both shards i a b within ∙ sym q
   where
     same_default_both : (xs : List Contents) (k : ℕ) (d e : Contents) → k < length xs → get_or xs k d ≡ get_or xs k e
@@ -127,23 +127,8 @@ module _ (IsWindow : Lang → List ℕ → ℕ → ℕ → Type 0) (b : board.Bo
       floors = floors_set ∙ is.floors;
       sound = step_is_sound b.settings (length b.state.views) k (Applies i) is.sound may;
       shards = All-set (shard.StandsFor IsWindow (changes_in b.state)) shards i new (has.stands (subst (shard.StandsFor IsWindow (changes_in b.state)) (sym has.read) (is.shards i old has.within))) is.shards;
-      numbered = record {
-        number_is = length-set shards i new ∙ is.numbered.number_is;
-        each = λ n d lt.
-            let there : n < length shards = omega (arith, lt, length-set shards i new) in
-            ⊎_elim
-            (λ (same : n ≡ i).
-            let here : get_or (set shards i new) n d ≡ new = ap (λ m. get_or (set shards i new) m d) same ∙ get_or-set_same shards i new d has.within in
-            let was = is.numbered.each i old has.within in
-            (ap (λ (c : Contents). c.shard) here ∙ has.number ∙ ap (λ (c : Contents). c.shard) has.read ∙ was.0 ∙ sym same, ap (λ (c : Contents). c.shards) here ∙ has.numbers ∙ ap (λ (c : Contents). c.shards) has.read ∙ was.1))
-            (λ other.
-            let here : get_or (set shards i new) n d ≡ get_or shards n d = get_or-set_other shards i n new d other in
-            let was = is.numbered.each n d there in
-            (ap (λ (c : Contents). c.shard) here ∙ was.0, ap (λ (c : Contents). c.shards) here ∙ was.1))
-            (cases_eq n i);
-        passed = All-set (λ (c : Contents). c.floor ≤ c.applied) shards i new
-            (let low = is.numbered.passed i old has.within in let f = ap floor_of has.read in let a = ap applied_of has.read in omega (arith, low, f, a, has.floor, has.applied)) is.numbered.passed;
-      };
+      numbered = numbered_set b.settings.shards shards i old new is.numbered has.within has.read has.number has.numbers
+          (let low = is.numbered.passed i old has.within in let f = ap floor_of has.read in let a = ap applied_of has.read in omega (arith, low, f, a, has.floor, has.applied));
     }
 
   pub takes_applied : Takes IsWindow (Applies i) (core b shards) (core b (set shards i new))

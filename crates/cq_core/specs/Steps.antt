@@ -10,12 +10,13 @@ use Rattle.cq_history.specs.declared.event.Event.TheVariants as event
 use Rattle.cq_history.specs.Changes.{change_at, IsWorkFor}
 use Rattle.cq_history.specs.State.{changes_in, first_free, ready, view_of, slot_of, IsAccepted, IsUndone, IsTakenBy}
 use Rattle.cq_history.specs.Core as history
+use Rattle.cq_history.specs.Lawful.{IsBelow}
 use Rattle.cq_shard.specs.Shard.{HasWindow}
 use Rattle.cq_board.specs.Answers.{refusal_of}
 use Rattle.cq_board.specs.declared.answers.Refused.{Refused}
 use Rattle.cq_core.specs.Cores.{CoreState, StandsFor, IsCaller, IsShard, applied_of, applied_at}
 use Rattle.cq_core.specs.declared.step.Step.{Step}
-use Rattle.cq_core.specs.declared.step.Step.TheVariants.{Accept, Ask, Took, Back, Done, Apply, Publish, Open, Shut}
+use Rattle.cq_core.specs.declared.step.Step.TheVariants.{Accept, Ask, Took, Back, Done, Apply, Publish, Open, Shut, Floor, Sweep}
 use Rattle.cq_core.specs.declared.step.Outcome.{Outcome}
 use Rattle.cq_core.specs.declared.step.Outcome.TheVariants as outcome
 
@@ -27,6 +28,10 @@ pub record Takes (IsWindow : Lang → List ℕ → ℕ → ℕ → Type 0) (step
 -- a version may be published: it is above the last one, every change up to it is done, and every shard has applied it
 abbrev pub MayPublish : CoreState → ℕ → Type 0
 MayPublish c version = (c.board.state.published < version) × (version ≤ ready c.board.state) × All (λ a. version ≤ a) (map applied_of c.shards)
+
+-- versions below one may be given up: it is above the last floor, and at most the last published version and each open one
+abbrev pub MaySetFloor : CoreState → ℕ → Type 0
+MaySetFloor c version = (c.board.state.floor < version) × (version ≤ c.board.state.published) × All (IsBelow version) c.board.state.views
 
 -- the outcome where the step is done, and the one where it is not, each exactly where it is so
 abbrev pub Done-if : Type 0 → Outcome → Outcome → Outcome → Type 0
@@ -44,6 +49,8 @@ module _ {W : Type 0} where
   IsNamed c (Publish version) = Unit {0}
   IsNamed c (Open by) = IsCaller c by
   IsNamed c (Shut by) = IsCaller c by
+  IsNamed c (Floor version) = Unit {0}
+  IsNamed c (Sweep shard) = IsShard c shard
 
   -- a change that it brings is sound
   abbrev pub IsSoundStep : Step W → Type 0
@@ -56,6 +63,8 @@ module _ {W : Type 0} where
   IsSoundStep (Publish version) = Unit {0}
   IsSoundStep (Open by) = Unit {0}
   IsSoundStep (Shut by) = Unit {0}
+  IsSoundStep (Floor version) = Unit {0}
+  IsSoundStep (Sweep shard) = Unit {0}
 
   -- the work of a put that is not done is that of its text
   abbrev pub HasWork : (Lang → List ℕ → W → Type 0) → CoreState → Step W → Type 0
@@ -68,6 +77,8 @@ module _ {W : Type 0} where
   HasWork IsWork c (Publish version) = Unit {0}
   HasWork IsWork c (Open by) = Unit {0}
   HasWork IsWork c (Shut by) = Unit {0}
+  HasWork IsWork c (Floor version) = Unit {0}
+  HasWork IsWork c (Sweep shard) = Unit {0}
 
   -- what the step is to the history
   abbrev pub step_of : CoreState → Step W → history.Step
@@ -80,6 +91,8 @@ module _ {W : Type 0} where
   step_of c (Publish version) = history.Step.Adds (event.Publish version)
   step_of c (Open by) = history.Step.Adds (event.Open by c.board.state.published)
   step_of c (Shut by) = history.Step.Adds (event.Shut by)
+  step_of c (Floor version) = history.Step.Adds (event.Floor version)
+  step_of c (Sweep shard) = history.Step.Sweeps shard c.board.state.floor
 
   abbrev pub IsOutcome : CoreState → CoreState → Step W → Outcome → Type 0
   IsOutcome old new (Accept by change) o =
@@ -92,6 +105,8 @@ module _ {W : Type 0} where
   IsOutcome old new (Publish version) o = Done-if (MayPublish old version) outcome.Ok outcome.No o
   IsOutcome old new (Open by) o = Done-if (IsNone (view_of old.board.state by)) (outcome.Value old.board.state.published) outcome.No o
   IsOutcome old new (Shut by) o = Done-if (IsSome (view_of old.board.state by)) outcome.Ok outcome.No o
+  IsOutcome old new (Floor version) o = Done-if (MaySetFloor old version) outcome.Ok outcome.No o
+  IsOutcome old new (Sweep shard) o = o ≡ outcome.Ok
 
 -- the step was done
 abbrev pub IsDone : Outcome → Type 0
@@ -136,6 +151,8 @@ module _ {W : Type 0} (keys_in : W → List ℕ) (IsWorkOf : Settings → Lang �
   Counts old (Publish version) o before now = now ≡ before
   Counts old (Open by) o before now = now ≡ before
   Counts old (Shut by) o before now = now ≡ before
+  Counts old (Floor version) o before now = now ≡ before
+  Counts old (Sweep shard) o before now = now ≡ before
 
   -- one that is refused for want of memory may have counted some of them
   abbrev pub CountsSome : CoreState → Step W → ℕ → ℕ → Type 0
@@ -148,3 +165,5 @@ module _ {W : Type 0} (keys_in : W → List ℕ) (IsWorkOf : Settings → Lang �
   CountsSome old (Publish version) before now = now ≡ before
   CountsSome old (Open by) before now = now ≡ before
   CountsSome old (Shut by) before now = now ≡ before
+  CountsSome old (Floor version) before now = now ≡ before
+  CountsSome old (Sweep shard) before now = now ≡ before

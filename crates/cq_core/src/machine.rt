@@ -19,7 +19,7 @@ ghost use Rattle.cq_core.specs.declared.step.Step.TheVariants as step;
 use crate::step::{Outcome, Step};
 use cq_base::{Change, Entry, Memory, Settings, Steps};
 use cq_board::{Board, Finished, Job, Refused, View, shards_have_the_entries};
-use cq_shard::{Indexed, Shard, it_stands_at_first, it_stands_on, lent};
+use cq_shard::{Indexed, Shard, it_stands_at_first, it_stands_on, it_stands_swept, lent};
 use std::alloc::Global;
 use std::marker::Model;
 use std::sync::Arc;
@@ -141,6 +141,8 @@ impl<W: Indexed> Core<W> {
             Step::Publish { version } => self.publish(alloc, version),
             Step::Open { by } => self.open(by),
             Step::Shut { by } => Ok(self.shut(by)),
+            Step::Floor { version } => Ok(self.set_floor(version)),
+            Step::Sweep { shard } => self.sweep(alloc, shard),
         }
     }
 
@@ -275,6 +277,38 @@ impl<W: Indexed> Core<W> {
         self.board.shut(by);
         self.views[by as usize] = None;
         Outcome::Ok
+    }
+
+    fn set_floor(&mut self, version: u64) -> Outcome
+        ensures outcome { IsOutcome {W = W} self.old self.new (step.Floor version) result }
+        ensures steps { DoesStep W.keys_in W.IsWorkOf self.old self.new (step.Floor version) result }
+    {
+        it_stands_on::<W>();
+        if self.board.set_floor(version) {
+            Outcome::Ok
+        } else {
+            Outcome::No
+        }
+    }
+
+    // A shard that was swept so far before costs nothing.
+    fn sweep(&mut self, alloc: Global, shard: u32) -> Result<Outcome, Memory>
+        requires { IsShard self.old shard }
+        ensures outcome { IfOk result (IsOutcome {W = W} self.old self.new (step.Sweep shard)) }
+        ensures steps { IfOk result (DoesStep W.keys_in W.IsWorkOf self.old self.new (step.Sweep shard)) }
+        ensures err { OnErr result (self.new ≡ self.old) }
+    {
+        it_stands_swept::<W>();
+        let i = shard as usize;
+        let floor = self.board.floor();
+        let reached = self.shards[i].floor();
+        if reached >= floor {
+            return Ok(Outcome::Ok);
+        }
+        let dead = self.board.dead(alloc, floor)?;
+        let shard = &mut self.shards[i];
+        shard.sweep(floor, &dead);
+        Ok(Outcome::Ok)
     }
 }
 

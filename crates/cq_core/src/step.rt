@@ -46,6 +46,16 @@ pub enum Step<W> {
     Shut {
         by: u32,
     },
+    /// Versions below this one are given up, where it is above the last floor and at most the last published version and
+    /// each open view's.
+    Floor {
+        version: u64,
+    },
+    /// The shard is swept to the last floor: the entries of puts that a change of their file up to it replaced or dropped
+    /// are taken out.
+    Sweep {
+        shard: u32,
+    },
 }
 
 /// What a step came to.

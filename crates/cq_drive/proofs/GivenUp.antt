@@ -35,6 +35,8 @@ module _ (set : Settings) (k : Core) (o : ScriptOutcome) (later : Core) (needs :
   step_stays (script.Read by shard key) is = is.1
   step_stays (script.Reply by query) is = is.1
   step_stays (script.Shut by) is = stays _ k (Adds (event.Shut by)) _ _ o later (λ n. n) needs is
+  step_stays (script.Floor version) is = stays _ k (Adds (event.Floor version)) _ _ o later (λ n. n) needs is
+  step_stays (script.Sweep shard) is = absurd (subst NeedsMemory is.0 needs)
 
   pub said_stays : (says : Result ScriptStep Refusal) → SaidComesTo set k says o later → later ≡ k
   said_stays (Ok step) is = step_stays step is

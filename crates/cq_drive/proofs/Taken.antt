@@ -13,6 +13,7 @@ use Rattle.cq_core.specs.declared.step.Step.TheVariants as core_step
 use Rattle.cq_history.proofs.Doing.{slots_number}
 use Rattle.cq_history.proofs.Prefixes.{accepted-append}
 use Rattle.cq_history.specs.Core as history
+use Rattle.cq_history.specs.Lawful.{IsBelow}
 use Rattle.cq_history.specs.State.{State, state, accepted, first_free, ready, view_of, IsAccepted, IsTakenBy, IsUndone}
 use Rattle.cq_history.specs.declared.event.Event.TheVariants as event
 use Rattle.cq_outcome.specs.declared.outcome.ScriptOutcome.TheVariants as outcome
@@ -22,7 +23,7 @@ use Rattle.cq_step.specs.declared.step.ScriptStep.TheVariants as script
 use Rattle.cq_work.specs.Work.{IsWorkOf}
 use Rattle.cq_work.specs.declared.work.Work.{Work}
 use Rattle.cq_drive.specs.Cores.{IsDriven, keys_of, Stands, Leads, Led, StepLed, told, script_step}
-use Rattle.cq_drive.specs.Script.{now, callers, StepsWhere, StepComesTo}
+use Rattle.cq_drive.specs.Script.{now, callers, Steps, StepsWhere, StepComesTo}
 
 -- the caller and the shard of a step that was read are there
 pub is_named : {W : Type 0} (L : Type 0) (set : Settings) (c : CoreState) (step : Step W) → IsDriven L set c → IsSound set (script_step step) → IsNamed c step
@@ -35,6 +36,8 @@ is_named L set c (core_step.Apply shard) driven sound = subst (λ (st : Settings
 is_named L set c (core_step.Publish version) driven sound = tt
 is_named L set c (core_step.Open by) driven sound = subst (λ n. by < n) (sym driven.callers) sound
 is_named L set c (core_step.Shut by) driven sound = subst (λ n. by < n) (sym driven.callers) sound
+is_named L set c (core_step.Floor version) driven sound = tt
+is_named L set c (core_step.Sweep shard) driven sound = subst (λ (st : Settings). shard < st.shards) (sym driven.settings) sound
 
 -- and so is its change
 pub is_sound : {W : Type 0} (set : Settings) (step : Step W) → IsSound set (script_step step) → IsSoundStep step
@@ -47,6 +50,8 @@ is_sound set (core_step.Apply shard) sound = tt
 is_sound set (core_step.Publish version) sound = tt
 is_sound set (core_step.Open by) sound = tt
 is_sound set (core_step.Shut by) sound = tt
+is_sound set (core_step.Floor version) sound = tt
+is_sound set (core_step.Sweep shard) sound = tt
 
 module _ (L : Type 0) (set : Settings) where
   -- what it is in is what the history leaves
@@ -119,6 +124,14 @@ module _ (L : Type 0) (set : Settings) where
         holds = (ap told said ∙ ap (λ n. outcome.Value n) counted, refl);
       }
 
+      sweeps : (shard : ℕ) → IsStepped (HasWindow (keys_of {L = L}) IsWorkOf set) (history.Step.Sweeps shard old.board.state.floor) old new o → o ≡ core_outcome.Ok → Leads L set new (λ later. StepComesTo set k (script.Sweep shard) (told o) later)
+      sweeps shard is said =
+          subst (λ (s : State). Leads L set new (λ later. Steps k (history.Step.Sweeps shard s.floor) outcome.Done (told o) later)) (state_is old k driven stands) (record {
+            after = history.stepped k (history.Step.Sweeps shard old.board.state.floor);
+            stands = (is.done (subst IsDone (sym said) tt)).core k stands;
+            holds = (ap told said, refl);
+          })
+
       leads : (step : Step (Work L)) → IsStepped (HasWindow (keys_of {L = L}) IsWorkOf set) (step_of old step) old new o → IsOutcome old new step o → Leads L set new (λ later. StepComesTo set k (script_step step) (told o) later)
       leads (core_step.Accept by change) is said = accepts by change is said
       leads (core_step.Ask by) is said = asks by is said
@@ -129,6 +142,8 @@ module _ (L : Type 0) (set : Settings) where
       leads (core_step.Publish version) is said = allowed (λ s a. (s.published < version) × (version ≤ ready s) × All (λ n. version ≤ n) a) (λ s. history.Step.Adds (event.Publish version)) (λ s a. core_outcome.Ok) core_outcome.No (λ s a. tt) (λ d. d) is said
       leads (core_step.Open by) is said = allowed (λ s a. IsNone (view_of s by)) (λ s. history.Step.Adds (event.Open by s.published)) (λ s a. core_outcome.Value s.published) core_outcome.No (λ s a. tt) (λ d. d) is said
       leads (core_step.Shut by) is said = allowed (λ s a. IsSome (view_of s by)) (λ s. history.Step.Adds (event.Shut by)) (λ s a. core_outcome.Ok) core_outcome.No (λ s a. tt) (λ d. d) is said
+      leads (core_step.Floor version) is said = allowed (λ s a. (s.floor < version) × (version ≤ s.published) × All (IsBelow version) s.views) (λ s. history.Step.Adds (event.Floor version)) (λ s a. core_outcome.Ok) core_outcome.No (λ s a. tt) (λ d. d) is said
+      leads (core_step.Sweep shard) is said = sweeps shard is said
 
     -- the core took the step, so the script did
     pub step_led : (step : Step (Work L)) → IsOutcome old new step o → DoesStep (keys_of {L = L}) IsWorkOf old new step o → StepLed L set old new (script_step step) (told o)

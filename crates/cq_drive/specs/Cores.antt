@@ -108,3 +108,5 @@ script_step (core_step.Apply shard) = script.Apply shard
 script_step (core_step.Publish version) = script.Publish version
 script_step (core_step.Open by) = script.Open by
 script_step (core_step.Shut by) = script.Shut by
+script_step (core_step.Floor version) = script.Floor version
+script_step (core_step.Sweep shard) = script.Sweep shard

@@ -9,7 +9,8 @@ use Rattle.cq_board.specs.Answers.{refusal_of}
 use Rattle.cq_board.specs.Entries.{AreEntriesAt}
 use Rattle.cq_board.specs.declared.answers.Refused.{Refused}
 use Rattle.cq_history.specs.Core.{Core, Step, core_state, first_core, stepped}
-use Rattle.cq_history.specs.Core.Step.{Adds, Applies}
+use Rattle.cq_history.specs.Core.Step.{Adds, Applies, Sweeps}
+use Rattle.cq_history.specs.Lawful.{IsBelow}
 use Rattle.cq_history.specs.State.{State, accepted, first_free, ready, view_of, IsAccepted, IsTakenBy, IsUndone}
 use Rattle.cq_history.specs.declared.event.Event.TheVariants as event
 use Rattle.cq_lines.specs.Pieces.{line_limit}
@@ -20,7 +21,7 @@ use Rattle.cq_reply.specs.declared.reply.Reply.TheVariants as reply
 use Rattle.cq_request.specs.declared.request.Refusal.{Refusal}
 use Rattle.cq_step.specs.Reading.{step_read}
 use Rattle.cq_step.specs.declared.step.ScriptStep.{ScriptStep}
-use Rattle.cq_step.specs.declared.step.ScriptStep.TheVariants.{Accept, Ask, Took, Back, Done, Apply, Publish, Open, Read, Reply as Answer, Shut}
+use Rattle.cq_step.specs.declared.step.ScriptStep.TheVariants.{Accept, Ask, Took, Back, Done, Apply, Publish, Open, Read, Reply as Answer, Shut, Floor, Sweep}
 use Rattle.cq_drive.specs.Windows.{HasKeyAt}
 
 -- how many callers a script has
@@ -54,6 +55,10 @@ StepsWhere May k step told other o later = (May × Steps k step told o later) �
 abbrev pub MayPublish : Core → ℕ → Type 0
 MayPublish k version = ((now k).published < version) × (version ≤ ready (now k)) × All (λ a. version ≤ a) k.applied
 
+-- Versions below one may be given up that is above the last floor, and at most the last published version and each open one.
+abbrev pub MaySetFloor : Core → ℕ → Type 0
+MaySetFloor k version = ((now k).floor < version) × (version ≤ (now k).published) × All (IsBelow version) (now k).views
+
 -- what is told of the version that the caller has open; without one the step is not allowed
 abbrev pub IsOfView : Core → ℕ → (ℕ → ScriptOutcome → Type 0) → ScriptOutcome → Type 0
 IsOfView k by Of o = ((version : ℕ) × (view_of (now k) by ≡ Some version) × Of version o) ⊎ ((view_of (now k) by ≡ None) × (o ≡ outcome.No))
@@ -82,6 +87,8 @@ StepComesTo set k (Read by shard key) o later = IsOfView k by (IsRead set k shar
 StepComesTo set k (Answer by query) o later =
     IsOfView k by (λ version p. (r : Reply) × IsReply set (accepted k.history) version query r × (p ≡ outcome.Reply r)) o × (later ≡ k)
 StepComesTo set k (Shut by) o later = StepsWhere (IsSome (view_of (now k) by)) k (Adds (event.Shut by)) outcome.Done outcome.No o later
+StepComesTo set k (Floor version) o later = StepsWhere (MaySetFloor k version) k (Adds (event.Floor version)) outcome.Done outcome.No o later
+StepComesTo set k (Sweep shard) o later = Steps k (Sweeps shard (now k).floor) outcome.Done o later
 
 -- ---- lines
 

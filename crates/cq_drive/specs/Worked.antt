@@ -1,7 +1,8 @@
--- Steps that were worked out by hand: a put is done and applied by one shard of two, and then by the other.
+-- Steps that were worked out by hand: a put is done and applied by one shard of two, and then by the other; the floor behind
+-- two versions of one file, and a sweep.
 use Rattle.std.specs.Prelude.{[], ◌∷◌, ◌++◌, codes}
 use Rattle.cq_history.specs.Core.{Core}
-use Rattle.cq_history.specs.Script.{script_settings, text_put}
+use Rattle.cq_history.specs.Script.{script, script_settings, text_put}
 use Rattle.cq_history.specs.declared.event.Event.{Event}
 use Rattle.cq_history.specs.declared.event.Event.TheVariants as event
 use Rattle.cq_outcome.specs.declared.outcome.ScriptOutcome.TheVariants as outcome
@@ -20,6 +21,18 @@ applied = record { history = lagging.history; applied = 1 ∷ 1 ∷ []; floors =
 abbrev pub then : Event → Core
 then e = record { history = applied.history ++ e ∷ []; applied = applied.applied; floors = applied.floors }
 
+-- two versions of the file are published, and a view of the first one is open
+abbrev pub viewed : Core
+viewed = record { history = script; applied = 2 ∷ 2 ∷ []; floors = 0 ∷ 0 ∷ [] }
+
+-- that view is shut
+abbrev pub unseen : Core
+unseen = record { history = script ++ event.Shut 1 ∷ []; applied = viewed.applied; floors = viewed.floors }
+
+-- the first version is given up
+abbrev pub given_up : Core
+given_up = record { history = script ++ event.Shut 1 ∷ event.Floor 2 ∷ []; applied = viewed.applied; floors = viewed.floors }
+
 pub record AreAsWorkedOut : Type 0 where
   pub publish_waits : StepComesTo script_settings lagging (step.Publish 1) outcome.No lagging
   pub applies : StepComesTo script_settings lagging (step.Apply 1) (outcome.Value 1) applied
@@ -31,3 +44,8 @@ pub record AreAsWorkedOut : Type 0 where
   pub not_again : StepComesTo script_settings applied (step.Done 0 1) outcome.No applied
   pub not_open : StepComesTo script_settings applied (step.Read 2 0 0) outcome.No applied
   pub absent : StepComesTo script_settings applied (step.Accept 5 (change.Drop (codes "p") (codes "u"))) (outcome.Reply reply.Absent) applied
+  pub floor_waits : StepComesTo script_settings viewed (step.Floor 2) outcome.No viewed
+  pub sets_floor : StepComesTo script_settings unseen (step.Floor 2) outcome.Done given_up
+  pub not_below : StepComesTo script_settings given_up (step.Floor 1) outcome.No given_up
+  pub not_above : StepComesTo script_settings unseen (step.Floor 3) outcome.No unseen
+  pub sweeps : StepComesTo script_settings given_up (step.Sweep 0) outcome.Done (record { history = given_up.history; applied = given_up.applied; floors = 2 ∷ 0 ∷ [] })

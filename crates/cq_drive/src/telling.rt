@@ -57,6 +57,12 @@ fn outcome_of<L: Ledger>(
         ScriptStep::Read { by, shard, key } => read(alloc, settings, core, by, shard, key),
         ScriptStep::Reply { by, query } => reply(alloc, settings, core, by, &query, steps),
         ScriptStep::Shut { by } => stepped(alloc, settings, core, Step::Shut { by }, steps),
+        ScriptStep::Floor { version } => {
+            stepped(alloc, settings, core, Step::Floor { version }, steps)
+        }
+        ScriptStep::Sweep { shard } => {
+            stepped(alloc, settings, core, Step::Sweep { shard }, steps)
+        }
     }
 }
 

@@ -1,28 +1,14 @@
 use crate::draws::Draws;
 use crate::files::{Put, drawn_text, write_text};
-use crate::keys::{Window, windows_at};
+use crate::lines::{Lines, ask_plainly, drawn_change, drawn_project};
+use crate::looking::ask_look;
 use crate::measures::NAMES;
 use crate::model::{Change, Condition, Model, Taken};
 use crate::refused::{ask_badly, ask_in_a_long_line, ask_with_a_long_text};
-use crate::replies::{Asked, Query, tell_reply};
-use crate::telling::{
-    path_name, project_name, tell_bucket, tell_change, tell_done, tell_taken, tell_value,
-    tell_value_or_no,
-};
+use crate::telling::{path_name, project_name, tell_change, tell_done, tell_taken, tell_value};
 use cq_base::{Memory, Settings};
 use std::alloc::Global;
 use std::fmt::Write;
-
-/// The lines of a script as they are drawn, and what is to be written for them.
-#[derive(Drop)]
-pub struct Lines {
-    pub asked: String,
-    pub told: String,
-}
-
-fn drawn_project(draws: &mut Draws) -> u32 {
-    if draws.below(5) == 0 { 1 } else { 0 }
-}
 
 // A few callers come often, and the others now and then.
 fn drawn_caller(draws: &mut Draws) -> u32 {
@@ -31,11 +17,6 @@ fn drawn_caller(draws: &mut Draws) -> u32 {
     } else {
         draws.below(3)
     }
-}
-
-// A number up to the next one.
-fn drawn_change(draws: &mut Draws, model: &Model) -> u64 {
-    u64::from(draws.below(512)) % model.accepted().saturating_add(2)
 }
 
 // Mostly the first that is not done.
@@ -150,12 +131,6 @@ fn ask_gate(
     tell_change(refusal, model.accepted(), &mut lines.told)
 }
 
-// A step that has but its caller, by its name.
-fn ask_plainly(step: &str, by: u32, asked: &mut String) -> Result<(), Memory> {
-    write!(asked, "{{\"step\":\"{step}\",\"by\":{by}}}\n")?;
-    Ok(())
-}
-
 fn ask_took(by: u32, model: &mut Model, lines: &mut Lines) -> Result<(), Memory> {
     ask_plainly("took", by, &mut lines.asked)?;
     let taken = model.take(by)?;
@@ -200,153 +175,6 @@ fn ask_done(
     tell_done(is_allowed, &mut lines.told)
 }
 
-fn ask_apply(draws: &mut Draws, model: &mut Model, lines: &mut Lines) -> Result<(), Memory> {
-    let shard = draws.below(2);
-    write!(lines.asked, "{{\"step\":\"apply\",\"shard\":{shard}}}\n")?;
-    let applied = model.apply(shard)?;
-    tell_value_or_no(applied, &mut lines.told)
-}
-
-// Mostly one of the next versions.
-fn ask_publish(draws: &mut Draws, model: &mut Model, lines: &mut Lines) -> Result<(), Memory> {
-    let version = if draws.below(4) == 0 {
-        drawn_change(draws, model)
-    } else {
-        let on = u64::from(draws.below(3));
-        model.published.saturating_add(on).saturating_add(1)
-    };
-    write!(
-        lines.asked,
-        "{{\"step\":\"publish\",\"version\":{version}}}\n"
-    )?;
-    tell_done(model.publish(version), &mut lines.told)
-}
-
-fn ask_open(by: u32, model: &mut Model, lines: &mut Lines) -> Result<(), Memory> {
-    ask_plainly("open", by, &mut lines.asked)?;
-    let opened = model.open(by)?;
-    tell_value_or_no(opened, &mut lines.told)
-}
-
-fn ask_shut(by: u32, model: &mut Model, lines: &mut Lines) -> Result<(), Memory> {
-    ask_plainly("shut", by, &mut lines.asked)?;
-    tell_done(model.shut(by), &mut lines.told)
-}
-
-// Mostly the key of one of these windows.
-fn drawn_key(draws: &mut Draws, windows: &[Window]) -> u64 {
-    let i = draws.below(64) as usize;
-    match windows.get(i % windows.len().max(1)) {
-        Some(window) if i < 56 => window.key,
-        _ => u64::from(draws.below(9)),
-    }
-}
-
-// The windows of the version that a caller has open, or else those of all changes.
-fn windows_for(
-    alloc: Global,
-    settings: &Settings,
-    by: u32,
-    model: &Model,
-) -> Result<Vec<Window>, Memory> {
-    let version = model.opened(by).unwrap_or(model.accepted());
-    windows_at(alloc, &model.changes, version, settings.key_bits)
-}
-
-fn ask_read(
-    alloc: Global,
-    settings: &Settings,
-    by: u32,
-    draws: &mut Draws,
-    model: &Model,
-    lines: &mut Lines,
-) -> Result<(), Memory> {
-    let windows = windows_for(alloc, settings, by, model)?;
-    let key = drawn_key(draws, &windows);
-    let of = key % 2;
-    let shard = if draws.below(5) == 0 {
-        u64::from(draws.below(2))
-    } else {
-        of
-    };
-    write!(
-        lines.asked,
-        "{{\"step\":\"read\",\"by\":{by},\"shard\":{shard},\"key\":{key}}}\n"
-    )?;
-    let has_view = model.opened(by).is_some();
-    if !has_view {
-        return tell_done(false, &mut lines.told);
-    }
-    let held = if shard == of { windows.as_slice() } else { &[] };
-    tell_bucket(held, key, &mut lines.told)
-}
-
-fn drawn_query(draws: &mut Draws) -> Query {
-    let project = drawn_project(draws);
-    let min = match draws.below(8) {
-        0 => None,
-        n => Some(2 + n % 3),
-    };
-    let path = match draws.below(9) {
-        path @ 0..=2 => Some(path),
-        _ => None,
-    };
-    let (asked, min, path) = match draws.below(8) {
-        0..=1 => (Asked::Files, None, None),
-        2..=3 => (Asked::Verdict, min, None),
-        4 => (Asked::Measures, min, path),
-        _ => (Asked::Groups, min, path),
-    };
-    Query {
-        asked,
-        project,
-        min,
-        path,
-    }
-}
-
-// What is left out is not written. A version that is asked for, and whether work is to be finished, stand for nothing.
-fn write_query(query: &Query, is_at: bool, asked: &mut String) -> Result<(), Memory> {
-    let op = match query.asked {
-        Asked::Files => "files",
-        Asked::Groups => "groups",
-        Asked::Measures => "measures",
-        Asked::Verdict => "verdict",
-    };
-    let project = project_name(query.project);
-    write!(asked, "{{\"op\":\"{op}\",\"project\":\"{project}\"")?;
-    if let Some(min) = query.min {
-        write!(asked, ",\"min\":{min}")?;
-    }
-    if let Some(path) = query.path {
-        let path = path_name(path);
-        write!(asked, ",\"path\":\"{path}\"")?;
-    }
-    if is_at {
-        asked.push_str(",\"at\":99,\"finish\":false")?;
-    }
-    asked.push_str("}")?;
-    Ok(())
-}
-
-fn ask_reply(
-    alloc: Global,
-    by: u32,
-    draws: &mut Draws,
-    model: &Model,
-    lines: &mut Lines,
-) -> Result<(), Memory> {
-    let query = drawn_query(draws);
-    let is_at = draws.below(3) == 0;
-    write!(lines.asked, "{{\"step\":\"reply\",\"by\":{by},\"request\":")?;
-    write_query(&query, is_at, &mut lines.asked)?;
-    lines.asked.push_str("}\n")?;
-    match model.opened(by) {
-        Some(version) => tell_reply(alloc, &model.changes, version, &query, &mut lines.told),
-        None => tell_done(false, &mut lines.told),
-    }
-}
-
 // Draws a step that changes what is accepted or done.
 fn ask_change(
     alloc: Global,
@@ -366,25 +194,6 @@ fn ask_change(
             ask_plainly("ask", by, &mut lines.asked)?;
             tell_value(model.accepted(), &mut lines.told)
         }
-    }
-}
-
-// Draws a step that leads to what is read, or reads it.
-fn ask_look(
-    alloc: Global,
-    settings: &Settings,
-    by: u32,
-    draws: &mut Draws,
-    model: &mut Model,
-    lines: &mut Lines,
-) -> Result<(), Memory> {
-    match draws.below(24) {
-        0..=7 => ask_apply(draws, model, lines),
-        8..=10 => ask_publish(draws, model, lines),
-        11..=12 => ask_open(by, model, lines),
-        13..=14 => ask_shut(by, model, lines),
-        15..=17 => ask_read(alloc, settings, by, draws, model, lines),
-        _ => ask_reply(alloc, by, draws, model, lines),
     }
 }
 
@@ -414,7 +223,7 @@ fn ask(
     }
 }
 
-/// So many steps of a script, and what the model tells of them.
+/// The lines of so many draws, mostly a step each, and what the model tells of them.
 pub fn drawn_lines(
     alloc: Global,
     settings: &Settings,

@@ -1,7 +1,8 @@
 //! Trials of whole scripts: what `drive` writes for steps that are drawn at random, against a plain model that rests on
 //! docs/PROTOCOL.md alone. The model is a list of changes, with lists of what was done, taken, applied and opened, and
-//! each question is a scan over these; it shares no code with what it tries. It writes each line and its outcome itself,
-//! goes through all files for a bucket, and finds groups by comparing each place with each other one.
+//! the floor, and each question is a scan over these; it shares no code with what it tries. A sweep changes nothing of
+//! it, and the same is read before and behind each. It writes each line and its outcome itself, goes through all files
+//! for a bucket, and finds groups by comparing each place with each other one.
 #![tactic(auto)]
 
 #[cfg(test)]
@@ -14,6 +15,10 @@ mod files;
 mod groups;
 #[cfg(test)]
 mod keys;
+#[cfg(test)]
+mod lines;
+#[cfg(test)]
+mod looking;
 #[cfg(test)]
 mod measures;
 #[cfg(test)]

@@ -46,7 +46,8 @@ pub struct Opened {
     pub version: u64,
 }
 
-/// The plain model: what was accepted, done, taken, applied and opened.
+/// The plain model: what was accepted, done, taken, applied, opened and given up. A sweep changes nothing that is read, so it
+/// has none.
 #[derive(Drop)]
 pub struct Model {
     pub changes: Vec<Change>,
@@ -60,6 +61,7 @@ pub struct Model {
     // The shard of each application.
     applied: Vec<u32>,
     pub published: u64,
+    floor: u64,
     opened: Vec<Opened>,
 }
 
@@ -126,6 +128,7 @@ impl Model {
             taken: Vec::new(alloc),
             applied: Vec::new(alloc),
             published: 0,
+            floor: 0,
             opened: Vec::new(alloc),
         }
     }
@@ -296,6 +299,29 @@ impl Model {
     pub fn shut(&mut self, by: u32) -> bool {
         let is_allowed = self.opened(by).is_some();
         self.opened.retain(|opened| opened.by != by);
+        is_allowed
+    }
+
+    /// Who has opened a version first of those that have one open.
+    pub fn first_viewer(&self) -> Option<u32> {
+        self.opened.first().map(|opened| opened.by)
+    }
+
+    /// The least version that is open, or the published one where that is less.
+    pub fn least_seen(&self) -> u64 {
+        let mut least = self.published;
+        for opened in &self.opened {
+            least = least.min(opened.version);
+        }
+        least
+    }
+
+    /// Gives the versions below one up, where it is allowed.
+    pub fn set_floor(&mut self, version: u64) -> bool {
+        let is_allowed = self.floor < version && version <= self.least_seen();
+        if is_allowed {
+            self.floor = version;
+        }
         is_allowed
     }
 }

@@ -1,4 +1,4 @@
-use crate::asking::Lines;
+use crate::lines::Lines;
 use cq_base::Memory;
 
 // Lines that are no steps, and steps whose request is refused, each with its outcome behind a tab.

@@ -1,4 +1,5 @@
-use crate::asking::{Lines, drawn_lines};
+use crate::asking::drawn_lines;
+use crate::lines::Lines;
 use crate::running::written_here;
 use cq_base::{Memory, Settings};
 use cq_lines::End;
@@ -48,34 +49,37 @@ fn difference(written: &[u8], wanted: &[u8]) -> Option<u64> {
 }
 
 // The kinds of outcomes: a step, a piece of its outcome, and how often it comes in the three scripts together, which
-// have 900 lines. An outcome is of the first kind that it fits; a refusal is counted whatever its line is.
-const KINDS: &str = r#""accept" | "value": | 96
-"ask" | "value": | 22
-"took" | null | 3
-"took" | "value": | 34
-"back" | "ok":true | 12
+// have 986 lines. An outcome is of the first kind that it fits; a refusal is counted whatever its line is.
+const KINDS: &str = r#""accept" | "value": | 92
+"ask" | "value": | 13
+"took" | null | 13
+"took" | "value": | 24
+"back" | "ok":true | 5
 "back" | {"ok":false} | 28
 "done" | "ok":true | 50
-"done" | {"ok":false} | 17
-"apply" | "value": | 111
-"apply" | {"ok":false} | 48
-"publish" | "ok":true | 18
-"publish" | {"ok":false} | 30
-"open" | "value": | 26
-"open" | {"ok":false} | 6
-"read" | "value":[] | 8
-"read" | "value":[[ | 11
-"read" | {"ok":false} | 39
-"reply" | "files":[] | 6
-"reply" | "files":[{ | 5
-"reply" | "groups":[] | 6
-"reply" | "groups":[{ | 9
-"reply" | "measures": | 6
-"reply" | "OK" | 5
+"done" | {"ok":false} | 40
+"apply" | "value": | 121
+"apply" | {"ok":false} | 26
+"publish" | "ok":true | 24
+"publish" | {"ok":false} | 36
+"floor" | "ok":true | 7
+"floor" | {"ok":false} | 27
+"sweep" | "ok":true | 43
+"open" | "value": | 23
+"open" | {"ok":false} | 5
+"read" | "value":[] | 37
+"read" | "value":[[ | 30
+"read" | {"ok":false} | 76
+"reply" | "files":[] | 7
+"reply" | "files":[{ | 4
+"reply" | "groups":[] | 8
+"reply" | "groups":[{ | 3
+"reply" | "measures": | 3
+"reply" | "OK" | 8
 "reply" | "ERROR" | 2
-"reply" | {"ok":false} | 96
-"shut" | "ok":true | 15
-"shut" | {"ok":false} | 34
+"reply" | {"ok":false} | 68
+"shut" | "ok":true | 19
+"shut" | {"ok":false} | 19
  | "code":1, | 15
  | "code":2, | 12
  | "code":3, | 39
@@ -83,9 +87,9 @@ const KINDS: &str = r#""accept" | "value": | 96
  | "code":5, | 6
  | "code":6, | 3
  | "code":7, | 6
- | "code":9, | 18
- | "code":10, | 24
- | "code":11, | 25
+ | "code":9, | 8
+ | "code":10, | 18
+ | "code":11, | 9
  | "code":13, | 3
 "#;
 
@@ -133,7 +137,7 @@ fn first_otherwise(kinds: &[Option<usize>]) -> Option<(usize, usize)> {
     None
 }
 
-// A script of 300 lines, whose kinds are added to those that came.
+// A script of 300 draws, whose lines' kinds are added to those that came.
 fn script_goes(
     alloc: Global,
     key_bits: u32,
@@ -164,10 +168,10 @@ fn script_goes(
 fn scripts_go_as_told(rt: HostRuntime) -> Result<(), Memory> {
     let alloc = rt.alloc();
     let mut kinds = Vec::new(alloc);
-    assert_eq!(rt; script_goes(alloc, 0, 8, &mut kinds)?, Went::AsTold);
-    assert_eq!(rt; script_goes(alloc, 3, 10, &mut kinds)?, Went::AsTold);
-    assert_eq!(rt; script_goes(alloc, 64, 12, &mut kinds)?, Went::AsTold);
-    assert_eq!(rt; kinds.len(), 900);
+    assert_eq!(rt; script_goes(alloc, 0, 33, &mut kinds)?, Went::AsTold);
+    assert_eq!(rt; script_goes(alloc, 3, 22, &mut kinds)?, Went::AsTold);
+    assert_eq!(rt; script_goes(alloc, 64, 32, &mut kinds)?, Went::AsTold);
+    assert_eq!(rt; kinds.len(), 986);
     assert_eq!(rt; first_otherwise(&kinds), None);
     Ok(())
 }

@@ -60,6 +60,8 @@ step_of s kind.Open d = Ok (step.Open (by_of d))
 step_of s kind.Read d = Ok (step.Read (by_of d) (shard_of s.shards d) (number_or (codes "key") d))
 step_of s kind.Reply d = reply_of (by_of d) (value_says s.chunk (request_in d))
 step_of s kind.Shut d = Ok (step.Shut (by_of d))
+step_of s kind.Floor d = Ok (step.Floor (number_or (codes "version") d))
+step_of s kind.Sweep d = Ok (step.Sweep (shard_of s.shards d))
 
 -- ---- values and lines
 

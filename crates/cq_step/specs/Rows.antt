@@ -25,6 +25,8 @@ row_of shards kind.Open = field.By ∷ []
 row_of shards kind.Read = field.By ∷ field.Shard shards ∷ field.Key ∷ []
 row_of shards kind.Reply = field.By ∷ field.QueryRequest ∷ []
 row_of shards kind.Shut = field.By ∷ []
+row_of shards kind.Floor = field.Version ∷ []
+row_of shards kind.Sweep = field.Shard shards ∷ []
 
 -- the whole number that a value is, where it is below a bound
 abbrev pub below : ℕ → Data → Option ℕ
@@ -100,7 +102,9 @@ kind_named word =
     else (if bytes_eq word (codes "read") then Some kind.Read
     else (if bytes_eq word (codes "reply") then Some kind.Reply
     else (if bytes_eq word (codes "shut") then Some kind.Shut
-    else None))))))))))
+    else (if bytes_eq word (codes "floor") then Some kind.Floor
+    else (if bytes_eq word (codes "sweep") then Some kind.Sweep
+    else None))))))))))))
 
 -- what an object tells to do, if it names a step
 abbrev pub kind_of : Data → Option StepKind

@@ -18,3 +18,5 @@ IsSoundStep s (step.Open by) = by < 16
 IsSoundStep s (step.Read by shard key) = (by < 16) × (shard < s.shards)
 IsSoundStep s (step.Reply by query) = (by < 16) × IsSoundQuery s.chunk query
 IsSoundStep s (step.Shut by) = by < 16
+IsSoundStep s (step.Floor version) = ⊤
+IsSoundStep s (step.Sweep shard) = shard < s.shards

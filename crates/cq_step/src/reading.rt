@@ -126,6 +126,12 @@ fn step_of(
         }),
         StepKind::Reply => reply_of(alloc, settings, value),
         StepKind::Shut => Ok(ScriptStep::Shut { by: by_of(&value) }),
+        StepKind::Floor => Ok(ScriptStep::Floor {
+            version: number_or(&value, "version"),
+        }),
+        StepKind::Sweep => Ok(ScriptStep::Sweep {
+            shard: shard_of(settings, &value),
+        }),
     }
 }
 

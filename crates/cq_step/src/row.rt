@@ -23,6 +23,8 @@ pub(crate) enum StepKind {
     Read,
     Reply,
     Shut,
+    Floor,
+    Sweep,
 }
 
 /// The fields that steps have.
@@ -55,6 +57,8 @@ fn kind_named(word: &str) -> Option<StepKind>
         "read" => Some(StepKind::Read),
         "reply" => Some(StepKind::Reply),
         "shut" => Some(StepKind::Shut),
+        "floor" => Some(StepKind::Floor),
+        "sweep" => Some(StepKind::Sweep),
         _ => None,
     }
 }
@@ -158,5 +162,7 @@ pub(crate) fn fault_of<'v>(settings: &Settings, kind: StepKind, value: &'v Value
         StepKind::Read => fault_in("step", &[Field::By, shard, Field::Key], value),
         StepKind::Reply => fault_in("step", &[Field::By, Field::QueryRequest], value),
         StepKind::Shut => fault_in("step", &[Field::By], value),
+        StepKind::Floor => fault_in("step", &[Field::Version], value),
+        StepKind::Sweep => fault_in("step", &[shard], value),
     }
 }

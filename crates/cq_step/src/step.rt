@@ -26,4 +26,8 @@ pub enum ScriptStep {
     Reply { by: u32, query: Query },
     /// The opened version is shut.
     Shut { by: u32 },
+    /// Versions below this one are given up.
+    Floor { version: u64 },
+    /// A shard is swept to the last floor.
+    Sweep { shard: u32 },
 }

@@ -13,7 +13,6 @@ json {"step":"\ud800"}
 json {"step":"accept","by":1,"request":{"op":}}
 "#;
 
-// `floor` and `sweep` are none yet.
 const NO_STEP: &str = r#"op {}
 op {"by":1}
 op {"op":"ask","by":1}
@@ -26,8 +25,8 @@ op {"step":1,"by":1}
 op {"step":null,"by":1}
 op {"step":["ask"],"by":1}
 op {"step":"put","project":"p"}
-op {"step":"floor","version":1}
-op {"step":"sweep","shard":0}
+op {"step":"Floor","version":1}
+op {"step":"sweeps","shard":0}
 "#;
 
 const MISSING: &str = r#"field:by {"step":"accept"}
@@ -47,6 +46,8 @@ field:key {"step":"read","by":1,"shard":1}
 field:by {"step":"reply"}
 field:request {"step":"reply","by":1}
 field:by {"step":"shut"}
+field:version {"step":"floor"}
+field:shard {"step":"sweep"}
 "#;
 
 const NO_CALLER: &str = r#"field:by {"step":"ask","by":16}
@@ -80,6 +81,8 @@ field:shard {"step":"apply","shard":0.0}
 field:shard {"step":"apply","shard":"0"}
 field:shard {"step":"apply","shard":null}
 field:shard {"step":"read","by":1,"shard":3,"key":1}
+field:shard {"step":"sweep","shard":3}
+field:shard {"step":"sweep","shard":"0"}
 "#;
 
 const NO_NUMBER: &str = r#"field:change {"step":"back","by":1,"change":18446744073709551616}
@@ -91,6 +94,9 @@ field:version {"step":"publish","version":18446744073709551616}
 field:version {"step":"publish","version":-0}
 field:version {"step":"publish","version":1e2}
 field:version {"step":"publish","version":"1"}
+field:version {"step":"floor","version":18446744073709551616}
+field:version {"step":"floor","version":-1}
+field:version {"step":"floor","version":null}
 field:key {"step":"read","by":1,"shard":1,"key":18446744073709551616}
 field:key {"step":"read","by":1,"shard":1,"key":-1}
 field:key {"step":"read","by":1,"shard":1,"key":[]}
@@ -108,8 +114,12 @@ field:x {"step":"open","by":1,"x":1}
 field:x {"step":"read","by":1,"shard":1,"key":1,"x":1}
 field:x {"step":"reply","by":1,"request":{"op":"files","project":"p"},"x":1}
 field:x {"step":"shut","by":1,"x":1}
+field:x {"step":"floor","version":1,"x":1}
+field:x {"step":"sweep","shard":1,"x":1}
 field:by {"step":"apply","shard":1,"by":1}
 field:by {"step":"publish","version":1,"by":1}
+field:by {"step":"floor","version":1,"by":1}
+field:version {"step":"sweep","shard":1,"version":1}
 field:change {"step":"ask","by":1,"change":1}
 field:change {"step":"took","by":1,"change":1}
 field:key {"step":"apply","shard":1,"key":1}
@@ -136,6 +146,8 @@ field:key {"step":"read","by":1,"shard":1,"key":-1,"a":1}
 field:change {"step":"back","by":1,"change":-1,"a":1}
 field:change {"step":"done","by":1,"a":1}
 field:version {"step":"publish","version":-1,"by":1}
+field:version {"step":"floor","version":-1,"by":1}
+field:shard {"step":"sweep","shard":3,"by":1}
 field:by {"step":"accept","by":16,"request":7,"x":1}
 field:by {"step":"accept","by":16,"request":{"op":"put"}}
 field:request {"step":"accept","by":1,"request":{"op":"files"},"a":1}

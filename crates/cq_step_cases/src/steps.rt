@@ -24,6 +24,9 @@ reply:9:groups {"step":"reply","by":9,"request":{"op":"groups","project":"p"}}
 reply:10:measures {"step":"reply","by":10,"request":{"op":"measures","project":"p"}}
 reply:11:verdict {"step":"reply","by":11,"request":{"op":"verdict","project":"p"}}
 shut:12 {"step":"shut","by":12}
+floor:6 {"step":"floor","version":6}
+sweep:0 {"step":"sweep","shard":0}
+sweep:2 {"step":"sweep","shard":2}
 "#;
 
 // The fields stand in any order, and of two of one name the last counts.
@@ -42,6 +45,8 @@ back:0:18446744073709551615 {"step":"back","by":0,"change":18446744073709551615}
 done:0:18446744073709551615 {"step":"done","by":0,"change":18446744073709551615}
 publish:0 {"step":"publish","version":0}
 publish:18446744073709551615 {"step":"publish","version":18446744073709551615}
+floor:0 {"step":"floor","version":0}
+floor:18446744073709551615 {"step":"floor","version":18446744073709551615}
 read:0:0:0 {"step":"read","by":0,"shard":0,"key":0}
 read:15:2:18446744073709551615 {"step":"read","by":15,"shard":2,"key":18446744073709551615}
 "#;

@@ -52,6 +52,8 @@ fn step_word(alloc: Global, step: &ScriptStep) -> Result<String, Memory> {
             Ok(format!(in alloc; "reply:{by}:{request}")?)
         }
         ScriptStep::Shut { by } => Ok(format!(in alloc; "shut:{by}")?),
+        ScriptStep::Floor { version } => Ok(format!(in alloc; "floor:{version}")?),
+        ScriptStep::Sweep { shard } => Ok(format!(in alloc; "sweep:{shard}")?),
     }
 }
 

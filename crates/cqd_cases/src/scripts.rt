@@ -97,6 +97,9 @@ const NOT_ALLOWED: &str = r#"{"step":"took","by":3} -> {"ok":true,"value":null}
 {"step":"apply","shard":0} -> {"ok":false}
 {"step":"publish","version":0} -> {"ok":false}
 {"step":"publish","version":1} -> {"ok":false}
+{"step":"floor","version":0} -> {"ok":false}
+{"step":"floor","version":1} -> {"ok":false}
+{"step":"sweep","shard":1} -> {"ok":true}
 {"step":"shut","by":3} -> {"ok":false}
 {"step":"read","by":3,"shard":0,"key":0} -> {"ok":false}
 {"step":"reply","by":3,"request":{"op":"files","project":"p"}} -> {"ok":false}
@@ -123,6 +126,12 @@ const NOT_ALLOWED: &str = r#"{"step":"took","by":3} -> {"ok":true,"value":null}
 {"step":"publish","version":1} -> {"ok":false}
 {"step":"open","by":3} -> {"ok":true,"value":1}
 {"step":"open","by":3} -> {"ok":false}
+{"step":"floor","version":2} -> {"ok":false}
+{"step":"floor","version":1} -> {"ok":true}
+{"step":"floor","version":1} -> {"ok":false}
+{"step":"floor","version":0} -> {"ok":false}
+{"step":"sweep","shard":0} -> {"ok":true}
+{"step":"sweep","shard":0} -> {"ok":true}
 {"step":"shut","by":4} -> {"ok":false}
 {"step":"shut","by":3} -> {"ok":true}
 {"step":"shut","by":3} -> {"ok":false}
@@ -147,6 +156,8 @@ const REFUSED: &str =
 {"step":"accept","by":1,"request":{"op":"drop","project":"p","path":"t"}} -> {"code":9,"error":"absent","ok":false}
 {"step":"reply","by":1,"request":{"op":"groups","project":"p","min":1}} -> {"code":7,"error":"min","ok":false}
 {"step":"accept","by":16,"request":{"op":"gate","project":"p","conditions":[]}} -> {"code":3,"error":"field","name":"by","ok":false}
+{"step":"floor","by":0} -> {"code":3,"error":"field","name":"version","ok":false}
+{"step":"sweep","shard":2} -> {"code":3,"error":"field","name":"shard","ok":false}
 {"step":"fly"} -> {"code":2,"error":"op","ok":false}
 [1] -> {"code":1,"error":"json","ok":false}
 {"step":"ask","by":0} -> {"ok":true,"value":3}
@@ -158,7 +169,8 @@ fn refusals_are_told(rt: HostRuntime) -> Result<(), Memory> {
     Ok(())
 }
 
-// A file is put twice; the first version is read while the second is applied and published.
+// A file is put twice; the first version is read while the second is applied and published. It can't be given up before that
+// view is shut; then a shard is swept of its entries.
 const TWO_VERSIONS: &str =
     r#"{"step":"accept","by":0,"request":{"op":"put","project":"p","path":"t","lang":"any","text":"a b c"}} -> {"ok":true,"value":1}
 {"step":"done","by":0,"change":1} -> {"ok":true}
@@ -174,8 +186,12 @@ const TWO_VERSIONS: &str =
 {"step":"publish","version":2} -> {"ok":false}
 {"step":"apply","shard":1} -> {"ok":true,"value":2}
 {"step":"publish","version":2} -> {"ok":true}
+{"step":"floor","version":2} -> {"ok":false}
+{"step":"sweep","shard":0} -> {"ok":true}
 {"step":"read","by":1,"shard":0,"key":0} -> {"ok":true,"value":[[1,0],[1,1]]}
 {"step":"shut","by":1} -> {"ok":true}
+{"step":"floor","version":2} -> {"ok":true}
+{"step":"sweep","shard":0} -> {"ok":true}
 {"step":"open","by":1} -> {"ok":true,"value":2}
 {"step":"read","by":1,"shard":0,"key":0} -> {"ok":true,"value":[[2,0]]}
 "#;

@@ -1,6 +1,7 @@
-use Rattle.std.proofs.Common.{◌≡◌, ◌≤◌, true, false, [], ◌∷◌, refl, inl, inr, arith, true≢false}
-use Rattle.std.proofs.lemmas.List.Elements.{All-cons, All-nil}
+use Rattle.std.proofs.Common.{◌≡◌, ◌≤◌, true, false, [], ◌∷◌, None, refl, inl, inr, arith, true≢false}
+use Rattle.std.proofs.lemmas.List.Elements.{All-cons, All-nil, All-replicate}
 use Rattle.cq_board.specs.declared.answers.Refused.TheVariants as refused
+use Rattle.cq_history.specs.Lawful.{IsBelow}
 use Rattle.cq_drive.proofs.laws.the_steps_are_as_worked_out.Goals as goal
 
 pub returns : goal.returns
@@ -15,4 +16,9 @@ returns c = record {
   not_again = inr (λ may. let done : true ≡ false = may.1 in absurd (true≢false done), (refl, refl));
   not_open = (inr (refl, refl), refl);
   absent = inr (refused.Absent, refl, (refl, refl));
+  floor_waits = inr (λ may. let low : 2 ≤ 1 = may.2 1 None (omega arith) in omega (arith, low), (refl, refl));
+  sets_floor = inl ((omega arith, omega arith, All-replicate (IsBelow 2) 16 None tt), (refl, refl));
+  not_below = inr (λ may. let low : 3 ≤ 1 = may.0 in omega (arith, low), (refl, refl));
+  not_above = inr (λ may. let low : 3 ≤ 2 = may.1.0 in omega (arith, low), (refl, refl));
+  sweeps = (refl, refl);
 }
