@@ -19,7 +19,7 @@ returns-then-reached-floor-clause-steps g c =
     let mine : c.args.shard < b.settings.shards = subst (λ (x : CoreState). c.args.shard < x.board.settings.shards) (sym c.self.view_is) c.requires in
     let within : c.args.shard < length shards = omega (arith, mine, c.self.invariant.0.1.numbered.number_is) in
     let takes = takes_there (HasWindow g.W.Indexed.keys_in g.W.Indexed.IsWorkOf b.settings) b shards c.args.shard c.index.result.now within c.index.ensures (omega (arith, c.if-reached-floor.true, c.floor-floor.ensures, c.floor-reached.ensures)) in
-    subst (λ (x : CoreState). IsStepped (HasWindow g.W.Indexed.keys_in g.W.Indexed.IsWorkOf x.board.settings) (Sweeps c.args.shard x.board.state.floor) x (core b shards) outcome.Ok) c.self.view_is
+    subst (λ (x : CoreState). IsStepped (HasWindow g.W.Indexed.keys_in g.W.Indexed.IsWorkOf x.board.settings) (Sweeps c.args.shard x.board.state.floor) x x outcome.Ok) c.self.view_is
     (record { settings = refl; callers = refl; done = λ _. takes; not_done = λ not. absurd (not tt) })
 
 pub sweep-requires : goal.sweep-requires
@@ -35,8 +35,8 @@ sweep-requires g c =
       rising = subst IsStrictlyIncreasing (sym c.deref.ensures.value) c.in_ok-dead.ensures.rising;
     }
 
-pub invariant_of-self-2 : goal.invariant_of-self-2
-invariant_of-self-2 g c =
+pub invariant_of-self : goal.invariant_of-self
+invariant_of-self g c =
     let b = c.self.inside.board in
     let shards = c.self.inside.shards.items in
     let mine : c.args.shard < b.settings.shards = subst (λ (x : CoreState). c.args.shard < x.board.settings.shards) (sym c.self.view_is) c.requires in
