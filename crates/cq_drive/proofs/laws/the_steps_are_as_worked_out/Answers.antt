@@ -19,6 +19,6 @@ returns c = record {
   floor_waits = inr (λ may. let low : 2 ≤ 1 = may.2 1 None (omega arith) in omega (arith, low), (refl, refl));
   sets_floor = inl ((omega arith, omega arith, All-replicate (IsBelow 2) 16 None tt), (refl, refl));
   not_below = inr (λ may. let low : 3 ≤ 1 = may.0 in omega (arith, low), (refl, refl));
-  not_above = inr (λ may. let low : 3 ≤ 2 = may.1.0 in omega (arith, low), (refl, refl));
+  not_above = inr (λ may. let low : 3 ≤ 2 = may.1 in omega (arith, low), (refl, refl));
   sweeps = (refl, refl);
 }
