@@ -91,7 +91,7 @@ struct Left {
 }
 
 // A third session publishes a later version, and then the hub is swept.
-fn left<Q: Threads + Wait + Sync, L: Ledger + Send + Sync>(
+fn faulted<Q: Threads + Wait + Sync, L: Ledger + Send + Sync>(
     rt: &Q,
     alloc: Global,
     settings: &Settings,
@@ -122,19 +122,19 @@ fn left<Q: Threads + Wait + Sync, L: Ledger + Send + Sync>(
     })
 }
 
-fn left_here<Q: Threads + Wait + Sync>(rt: &Q, alloc: Global) -> Result<Option<Left>, Memory> {
+fn faulted_here<Q: Threads + Wait + Sync>(rt: &Q, alloc: Global) -> Result<Option<Left>, Memory> {
     let settings = SETTINGS;
     if settings.check().is_some() {
         return Ok(None);
     }
-    Ok(Some(left::<Q, Brand>(rt, alloc, &settings, Blank::new(1))?))
+    Ok(Some(faulted::<Q, Brand>(rt, alloc, &settings, Blank::new(1))?))
 }
 
 // A view that the session whose read failed had left open would hold the floor at its version.
 #[test]
 fn a_read_that_fails_leaves_no_view_open(rt: HostRuntime) -> Result<(), Memory> {
     assert_eq!(rt;
-        left_here(&rt, rt.alloc())?,
+        faulted_here(&rt, rt.alloc())?,
         Some(Left {
             broken: End::ReadFault,
             whole: End::Finished,

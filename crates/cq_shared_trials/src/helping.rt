@@ -128,7 +128,7 @@ fn two_sessions<Q: Threads + Sync, L: Ledger + Send + Sync, R: Wait + Sync, G: G
     Ok(are_alike(one?, two?))
 }
 
-fn helped<Q: Threads + Clock + Wait + Sync, L: Ledger + Send + Sync>(
+fn two_help<Q: Threads + Clock + Wait + Sync, L: Ledger + Send + Sync>(
     rt: &Q,
     alloc: Global,
     settings: &Settings,
@@ -158,7 +158,7 @@ fn helped<Q: Threads + Clock + Wait + Sync, L: Ledger + Send + Sync>(
     })
 }
 
-fn helped_here<Q: Threads + Clock + Wait + Sync>(
+fn two_help_here<Q: Threads + Clock + Wait + Sync>(
     rt: &Q,
     alloc: Global,
 ) -> Result<Option<Helped>, Memory> {
@@ -166,7 +166,7 @@ fn helped_here<Q: Threads + Clock + Wait + Sync>(
     if settings.check().is_some() {
         return Ok(None);
     }
-    Ok(Some(helped::<Q, Brand>(rt, alloc, &settings, Blank::new(1))?))
+    Ok(Some(two_help::<Q, Brand>(rt, alloc, &settings, Blank::new(1))?))
 }
 
 // Each of two sessions has an upload, and makes the works of both at the same time as the other: of each work one is taken,
@@ -174,7 +174,7 @@ fn helped_here<Q: Threads + Clock + Wait + Sync>(
 #[test]
 fn queries_that_make_the_same_works_are_told_the_same(rt: HostRuntime) -> Result<(), Memory> {
     assert_eq!(rt;
-        helped_here(&rt, rt.alloc())?,
+        two_help_here(&rt, rt.alloc())?,
         Some(Helped {
             alike: true,
             first: 2,

@@ -10,34 +10,24 @@ const RUN: [&str; 5] = ["run", "--chunk", "2", "--shards", "1"];
 
 const DRIVE: [&str; 5] = ["drive", "--chunk", "2", "--shards", "1"];
 
-// An upload, queries that wait for its work and don't, and lines that are no requests.
+// An upload, and queries of which the second has its work made and the others don't.
 const ASKED: &[u8] = br#"{"op":"put","project":"p","path":"t","lang":"any","text":"a b c x a b c y"}
 {"op":"groups","project":"p","min":3,"finish":false}
-{"op":
-
 {"op":"groups","project":"p","min":3}
 {"op":"groups","project":"p","min":3,"finish":false}
-{"op":"fly"}
 "#;
 
 const TOLD: &[u8] = br#"{"change":1,"ok":true}
 {"code":12,"error":"pending","number":1,"ok":false}
-{"code":1,"error":"json","ok":false}
-{"code":1,"error":"json","ok":false}
 {"groups":[{"places":[{"at":0,"first":1,"last":1,"path":"t"},{"at":4,"first":1,"last":1,"path":"t"}],"tokens":3}],"ok":true,"total":1,"version":1}
 {"groups":[{"places":[{"at":0,"first":1,"last":1,"path":"t"},{"at":4,"first":1,"last":1,"path":"t"}],"tokens":3}],"ok":true,"total":1,"version":1}
-{"code":2,"error":"op","ok":false}
 "#;
 
-const STEPS: &[u8] = br#"{"step":"ask","by":0}
-{"step":"took","by":1}
-{"step":"shut","by":1}
+const STEPS: &[u8] = br#"{"step":"took","by":1}
 {}
 "#;
 
-const OUTCOMES: &[u8] = br#"{"ok":true,"value":0}
-{"ok":true,"value":null}
-{"ok":false}
+const OUTCOMES: &[u8] = br#"{"ok":true,"value":null}
 {"code":2,"error":"op","ok":false}
 "#;
 
