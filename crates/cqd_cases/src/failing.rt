@@ -60,7 +60,7 @@ fn first_read<Q: Threads + Wait + Sync>(
     input: &[u8],
     output: &[u8],
 ) -> Result<Option<usize>, Memory> {
-    for at in 0..=input.len() {
+    for at in 0..input.len() + 1 {
         let told = first_lines(output, feeds(&input[..at]));
         let failing = (at as u64).saturating_add(1);
         if !ends_with(rt, alloc, words, input, 1, (failing, 0), told, 2)? {
@@ -142,7 +142,7 @@ fn told_up_to(alloc: Global, input: &[u8], output: &[u8], at: usize) -> Result<V
 #[test]
 fn the_input_may_end_anywhere(rt: HostRuntime) -> Result<(), Memory> {
     let alloc = rt.alloc();
-    for at in 0..=THREE.len() {
+    for at in 0..THREE.len() + 1 {
         let told = told_up_to(alloc, THREE, OF_THREE, at)?;
         assert!(rt; ends_with(&rt, alloc, &RUN, &THREE[..at], 31, (0, 0), &told, 0)?);
     }
