@@ -37,7 +37,7 @@ import time
 from pathlib import Path
 
 from load import Connection, free_address, must
-from model import Change, File, History
+from model import Change, History
 
 ROOT = Path(__file__).resolve().parent.parent
 PROGRAM = str(Path(os.environ.get("CQD", ROOT / "cqd")).resolve())
@@ -73,8 +73,8 @@ STATE_X = b'{"op":"state","x":'
 BROKEN = [
     (b"\n", JSON), (b"[1]\n", JSON), (b'{"op":"files",\n', JSON), (b'{"op":"state"}}\n', JSON),
     (b"\xff\n", JSON), (b'{"op":"state","x":"\xff"}\n', JSON), (b'{"op":"files","project":"\xc3"}\n', JSON),
-    (nested(127), JSON), (nested(128), JSON), (nested(126, STATE_X), refusal(3, "field", name="x")), (nested(127, STATE_X), JSON),
-    (nested(128, STATE_X), JSON), (b"[" * 100_000 + b"\n", JSON),
+    (nested(127), JSON), (nested(128), JSON), (nested(126, STATE_X), refusal(3, "field", name="x")),
+    (nested(127, STATE_X), JSON), (nested(128, STATE_X), JSON), (b"[" * 100_000 + b"\n", JSON),
     (b'{"op":"fly"}\n', refusal(2, "op")), (b"{}\n", refusal(2, "op")), (b'{"op":"files"}\n', refusal(3, "field", name="project")),
     (b'{"op":"put","project":"p","path":"a","lang":"rust","text":""}\n', refusal(4, "lang")),
     (b'{"op":"put","project":"p","path":"a//b","lang":"any","text":""}\n', refusal(5, "path")),
@@ -89,8 +89,8 @@ LARGE = {
     "no UTF-8": (lambda: b'"' + b"\xff" * (LINE_LIMIT - 2) + b'"\n', JSON),
     "text": (lambda: json.dumps(put("p", "a", "any", " " * (LINE_LIMIT - 100))).encode() + b"\n", refusal(6, "text")),
 }
-KINDS = {"put": 3, "drop": 1, "gate": 1, "files": 8, "groups": 16, "path": 12, "measures": 10, "verdict": 6, "pending": 10, "state": 6,
-         "future": 2, "full-text": 2, "broken": 14, "large": 0.5}
+KINDS = {"put": 3, "drop": 1, "gate": 1, "files": 8, "groups": 16, "path": 12, "measures": 10, "verdict": 6, "pending": 10,
+         "state": 6, "future": 2, "full-text": 2, "broken": 14, "large": 0.5}
 ENDS = ["cut", "cut in 8 MiB", "half", "whole", "plain"]
 
 
@@ -248,7 +248,8 @@ class Client:
             self.log.sent += 1
             connection.send(left, json.dumps(put(HALF, "h", "any", "a b c")).encode()[:-1])
         elif how == "cut in 8 MiB":
-            connection.send(b'{"op":"put","project":"half","path":"h","lang":"any","text":"' + b"a " * self.drawn.randrange(LINE_LIMIT // 2))
+            front = b'{"op":"put","project":"half","path":"h","lang":"any","text":"'
+            connection.send(front + b"a " * self.drawn.randrange(LINE_LIMIT // 2))
         elif how in ("half", "whole"):
             line = json.dumps({"op": "groups", "project": self.project, "min": 2}).encode()
             connection.send(line[:-1] if how == "half" else line)
@@ -374,11 +375,12 @@ def soak(minutes, clients, workers, changes, pause):
         server.process.kill()
     counted = sum((it.counted for it in logs), collections.Counter())
     replies = sum(count for kind, count in counted.items() if not kind.startswith("end: "))
-    print(f"{seconds / 60:.1f} minutes, {clients} clients, {workers} workers, {clients * parts + 1} connections: {replies} replies, each checked;"
-          f" {shared} of the shared project")
+    print(f"{seconds / 60:.1f} minutes, {clients} clients, {workers} workers, {clients * parts + 1} connections:"
+          f" {replies} replies, each checked; {shared} of the shared project")
     print(f"  {accepted} changes of {changes} at most; {sum(len(it.pending) for it in logs)} told pending; ended with 0")
     print("  " + ", ".join(f"{kind} {count}" for kind, count in sorted(counted.items())))
-    print(f"  memory: {early:.0f} MiB in the minute before a quarter of the time, {late:.0f} MiB in the last, {greatest:.0f} MiB at most")
+    print(f"  memory: {early:.0f} MiB in the minute before a quarter of the time, {late:.0f} MiB in the last,"
+          f" {greatest:.0f} MiB at most")
     must(late <= early * 1.1, "memory", f"{late:.0f} MiB is more than a tenth above {early:.0f} MiB")
 
 
