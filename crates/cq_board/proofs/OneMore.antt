@@ -1,5 +1,5 @@
 -- One change more.
-use Rattle.std.proofs.Common.{◌≡◌, ℕ, ◌+◌, ◌<◌, ◌≤◌, Bool, true, false, cond, List, [], ◌∷◌, ◌++◌, length, map, take, get_or, sum_by, Option, Some, None, refl, sym, ap, ◌∙◌, subst, arith}
+use Rattle.std.proofs.Common.{◌≡◌, ℕ, ◌+◌, ◌<◌, ◌≤◌, Bool, true, false, cond, List, [], ◌∷◌, ◌++◌, length, map, take, sum_by, Option, Some, None, refl, sym, ap, ◌∙◌, subst, arith}
 use Rattle.std.specs.List.{prefix_len}
 use Rattle.std.specs.Arc.{arc_value}
 use Rattle.std.proofs.lemmas.List.{map-append, length-map, length_push, take-append-le}
@@ -101,7 +101,7 @@ module _ {W : Type 0} where
         sound = subst (All IsSoundChange) (sym (changes_push slots k)) (All-push IsSoundChange (changes_from slots) (change_of k.change) ok.sound sound);
         presence = subst (λ cs. IsPresence cs there) (sym (changes_push slots k)) noted;
         in_order = omega (arith, ok.in_order, more);
-          listing = subst (λ cs. IsListing IsWork cs l)
+        listing = subst (λ cs. IsListing IsWork cs l)
             (sym (ap (take published) (changes_push slots k)
             ∙ take-append-le published (changes_from slots) _ (omega (arith, length-map (map slot_from slots) (λ (x : Slot). x.change), prefix_len-le-length is_done (map slot_from slots), ok.in_order)))) ok.listing;
         few_views = ok.few_views;

@@ -1,9 +1,8 @@
 -- The slots that are kept, as the history's slots.
-use Rattle.std.proofs.Common.{◌≡◌, ℕ, ◌+◌, ◌-◌, ◌<◌, ◌≤◌, Bool, true, false, List, length, map, get_or, set, Option, Some, None, refl, sym, ap, ap₂, ◌∙◌, subst, arith, ⊎_elim, cond, sum_by, not, ◌||◌, ◌&&◌, is_none, length-set, inl, inr, ◌⊎◌, ◌≢◌}
+use Rattle.std.proofs.Common.{◌≡◌, ℕ, ◌+◌, ◌-◌, ◌<◌, ◌≤◌, Bool, true, false, List, length, map, get_or, set, Option, Some, None, refl, sym, ap, ap₂, ◌∙◌, subst, arith, cond, sum_by, not, ◌||◌, ◌&&◌, is_none, length-set}
 use Rattle.std.specs.List.{prefix_len, position_or_len}
-use Rattle.std.proofs.lemmas.Bool.{cases_eq}
-use Rattle.std.proofs.lemmas.List.{get_or-map, map-set, length-map, get_or-set_same, get_or-set_other}
-use Rattle.std.proofs.lemmas.List.Sums.{sum_by-set, passes_at_first, fails_before_first}
+use Rattle.std.proofs.lemmas.List.{get_or-map, map-set, length-map}
+use Rattle.std.proofs.lemmas.List.Sums.{sum_by-set, passes_at_first}
 use Rattle.std.proofs.lemmas.List.Elements.{All-set, All-get_or}
 use Rattle.std.specs.Arc.{arc_value}
 use Rattle.std.specs.declared.sync.Arc.{Arc}

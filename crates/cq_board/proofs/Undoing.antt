@@ -10,11 +10,11 @@ use Rattle.std.specs.declared.ops.Bound.TheVariants.{Included, Unbounded}
 use Rattle.std.specs.BTreeMap.{is_at}
 use Rattle.std.specs.BTreeMap.Range.{range_contains}
 use Rattle.std.specs.BTreeSet.{BTreeSet, contains, keys_between, IsOrdered, IsLowerBound}
-use Rattle.std.proofs.lemmas.Bool.{cases_lt, cases_eq, or_cases, or_left, or_right, and_parts, and_from, not-true, not-false, eqb-true, eq-eqb, ne_eqb, cond-true, cond-false, false_from_ne_true, both_ways, not_from_true}
+use Rattle.std.proofs.lemmas.Bool.{cases_lt, cases_eq, or_cases, or_left, and_parts, and_from, not-true, not-false, eqb-true, eq-eqb, ne_eqb, cond-true, cond-false, false_from_ne_true, both_ways, not_from_true}
 use Rattle.std.proofs.lemmas.Bool.Decides.{nat_tests}
 use Rattle.std.proofs.lemmas.List.{nil_from_length, get_or_past, get_or-set_same, get_or-set_other}
 use Rattle.std.proofs.lemmas.List.Sums.{prefix_len_is, position_or_len_is}
-use Rattle.std.proofs.lemmas.Map.Keys.{sorted_head, sorted_tail, le_from_not_gt}
+use Rattle.std.proofs.lemmas.Map.Keys.{sorted_head, le_from_not_gt}
 use Rattle.std.proofs.lemmas.Map.Views.{any-filter_same}
 use Rattle.std.proofs.lemmas.List.Kept.{IsStrictlySortedBy-filter}
 use Rattle.cq_history.specs.State.{Slot, no_slot, is_done, is_free}

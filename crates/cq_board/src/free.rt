@@ -37,11 +37,7 @@ impl FreeChanges {
 
 /// The index of the first change that is neither done nor taken, or how many there are. It costs a search, and another one
 /// for each change that was given back and is done since, which is then forgotten.
-pub fn first_free<W>(
-    slots: &[Kept<W>],
-    undone: &BTreeSet<usize>,
-    free: &mut FreeChanges,
-) -> usize
+pub fn first_free<W>(slots: &[Kept<W>], undone: &BTreeSet<usize>, free: &mut FreeChanges) -> usize
     requires undone { AreUndone (map slot_from slots.now) undone.now }
     requires free { AreFree (map slot_from slots.now) free.old }
     ensures first { result ≡ position_or_len is_free (map slot_from slots.now) }

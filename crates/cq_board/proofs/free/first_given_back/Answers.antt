@@ -28,6 +28,7 @@ loop-given-preserved g c =
     let x = c.in-Some.given.now in
     let some : 0 < length (heap_items c.loop-given.free.given_back) = omega (arith, c.in-Some.ensures.variant.0 refl, c.loop-given.free.given_back.data.ok.0) in
     let below = top_below slots c.loop-given.free are x c.in-Some.ensures.lookup some in
-    let done = slot_at c.args.slots.now x.0 c.loop-given.free.untaken c.index-slots-i.result c.is_free.result _ below (omega (arith, are.within, length-map c.args.slots.now (slot_from {W = g.row.W.Denot}))) c.index-slots-i.is c.is_free.ensures c.if-is_free.false in
-    (top_forgotten slots c.loop-given.free are _ x c.in-Some.ensures.lookup some done refl c.pop.result (c.pop.ensures.variant.1 (c.in-Some.ensures.variant.0 refl)) c.pop.ensures.top c.pop.ensures.permutation c.pop.ensures.heap_order c.pop.ensures.len,
-    c.pop.ensures.capacity ∙ c.loop-given.invariant.1)
+    let done = slot_at c.args.slots.now x.0 c.loop-given.free.untaken c.index-slots-i.result c.is_free.result _ below (omega (arith, are.within, length-map c.args.slots.now (slot_from {W = g.row.W.Denot}))) c.index-slots-i.is c.is_free.ensures c.if-is_free.false in (
+      top_forgotten slots c.loop-given.free are _ x c.in-Some.ensures.lookup some done refl c.pop.result (c.pop.ensures.variant.1 (c.in-Some.ensures.variant.0 refl)) c.pop.ensures.top c.pop.ensures.permutation c.pop.ensures.heap_order c.pop.ensures.len,
+      c.pop.ensures.capacity ∙ c.loop-given.invariant.1,
+    )

@@ -1,4 +1,4 @@
-use Rattle.std.proofs.Common.{◌≡◌, List, ◌∷◌, [], length, map, sym, ◌∙◌, subst, ap}
+use Rattle.std.proofs.Common.{List, map, sym, ◌∙◌, subst}
 use Rattle.std.proofs.lemmas.List.{length-map}
 use Rattle.cq_history.specs.State.{Slot}
 use Rattle.cq_board.specs.Slots.{slot_from}

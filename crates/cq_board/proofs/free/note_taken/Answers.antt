@@ -1,10 +1,9 @@
-use Rattle.std.proofs.Common.{◌≡◌, ◌≤◌, ◌<◌, [], true, refl, sym, ap, ◌∙◌, arith, is_none, get_or}
+use Rattle.std.proofs.Common.{◌≡◌, [], refl, ap, ◌∙◌, arith, get_or}
 use Rattle.std.proofs.lemmas.Bool.{both_ways}
 use Rattle.std.proofs.lemmas.List.{nil_from_length}
-use Rattle.std.proofs.lemmas.List.Sums.{passes_at_first}
 use Rattle.std.specs.List.{list_any}
 use Rattle.std.specs.BinaryHeap.{heap_items}
-use Rattle.cq_history.specs.State.{Slot, no_slot, is_free}
+use Rattle.cq_history.specs.State.{no_slot}
 use Rattle.cq_board.specs.Free.{is_index, was_given}
 use Rattle.cq_board.proofs.Freeing.{first_can, taken_given, taken_first, free_has_no_holder}
 use Rattle.cq_board.proofs.free.note_taken.Goals as goal

@@ -1,5 +1,5 @@
 use Rattle.std.specs.Arc.{arc_value}
-use Rattle.std.proofs.Common.{sym, set, inl, inr, ⊎_elim, ◌≡◌, ◌+◌, ◌<◌, ◌≤◌, ℕ, length, map, List, arith, ap, ◌∙◌, Option, Some, refl, subst}
+use Rattle.std.proofs.Common.{sym, set, ◌≡◌, ◌+◌, ◌<◌, ◌≤◌, ℕ, length, map, List, arith, ap, ◌∙◌, Option, Some, refl, subst}
 use Rattle.std.proofs.lemmas.List.{length-map, set-get_or}
 use Rattle.std.specs.List.{position_or_len}
 use Rattle.cq_history.specs.declared.event.Event.TheVariants as event
@@ -12,7 +12,7 @@ use Rattle.cq_board.specs.Slots.{slot_from, change_of}
 use Rattle.cq_board.specs.Slots.{state_from}
 use Rattle.cq_board.proofs.SlotLists.{took_state, held_ok, changes_stay, ready_grows, first_is_free, free_is_put}
 use Rattle.cq_board.proofs.OneMore.{board_with, board_free}
-use Rattle.cq_board.specs.Free.{AreFree, room_of}
+use Rattle.cq_board.specs.Free.{AreFree}
 use Rattle.cq_board.proofs.Sounding.{kept_sound, job_text}
 use Rattle.cq_board.proofs.board.Board.take.Goals as goal
 
