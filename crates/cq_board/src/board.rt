@@ -61,7 +61,7 @@ impl<W: Indexed> Model for Board<W> {
 
 impl<W: Indexed> Board<W> {
     /// A board for so many callers, before any event. It takes memory for their views, for an empty listing, and for all
-    /// changes that may be accepted, 72 bytes each, which are not touched before one is.
+    /// changes that may be accepted, a slot and 24 bytes each.
     pub fn new(alloc: Global, settings: &Settings, callers: u32) -> Result<Board<W>, Memory>
         ensures stands { IfOk result (StandsFor []) }
         ensures settings { IfOk result (λ b. b.settings ≡ settings.now) }

@@ -2,7 +2,7 @@
 //! to every history for which the board stands, exactly where the event is lawful, or changes nothing. Callers are
 //! numbered from 0.
 //!
-//! Room for all changes that may be accepted is made with the board, 72 bytes each, so that nothing moves as changes come.
+//! Room for all changes that may be accepted is made with the board, a slot and 24 bytes each, so that nothing moves then.
 //! Accepting a change costs an owner for each of its texts and two searches, one among the places at which files stand and
 //! one among the changes that are not done. Finishing one costs a search among these, and so does telling up to which all
 //! are done. Taking one costs a search among the changes that were given back or one among those that are not done; one that
