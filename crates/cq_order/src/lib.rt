@@ -5,6 +5,7 @@
 //! time.
 #![tactic(auto)]
 
+mod counting;
 mod entries;
 mod groups;
 mod keeping;

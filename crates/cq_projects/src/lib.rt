@@ -13,6 +13,7 @@
 
 mod draft;
 mod files;
+mod guesses;
 mod held;
 mod merging;
 mod project_files;
