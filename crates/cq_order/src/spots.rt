@@ -254,8 +254,8 @@ fn sorted(alloc: Global, changes: &[u64]) -> Result<Spots, Memory>
     apart(alloc, &spots)
 }
 
-/// The spots of different changes. It costs a sort of them, and where the greatest number is at most some times how many
-/// there are, a walk over the numbers up to it in its place.
+/// The spots of different changes. It costs a sort of them, and where the greatest is less than four times how many there
+/// are, in its place a walk over the numbers up to it.
 pub fn spots_of(alloc: Global, changes: &[u64]) -> Result<Spots, Memory>
     requires few { length changes.now < 2 ^ 32 }
     requires apart { AllPairs (λ a b. a ≢ b) changes.now }

@@ -2,9 +2,14 @@
 use Rattle.std.proofs.Common.{◌≡◌, ℕ, zero, suc, ◌+◌, ◌-◌, ◌<◌, ◌≤◌, true, List, [], ◌∷◌, ◌++◌, length, get_or, take, drop, refl, sym, ap, ap₂, ◌∙◌, subst, arith}
 use Rattle.std.specs.List.{AllByRecursion}
 use Rattle.std.proofs.lemmas.List.{append_assoc, length-append, length-take-le, take-append-drop, drop-drop}
+use Rattle.std.specs.Ordering.{nat_cmp, is_lt, is_gt}
+use Rattle.std.specs.declared.cmp.Ordering.{Ordering}
+use Rattle.std.specs.declared.cmp.Ordering.TheVariants.{Less, Equal, Greater}
+use Rattle.std.specs.Cmp.Lexicographic.{slice_cmp}
 use Rattle.cq_history.specs.Files.{is_before}
 use Rattle.cq_history.proofs.PathOrder.{before_chain}
 use Rattle.cq_projects.specs.Ordered.{AreRising, AreBelow, AreAbove, IsAt, IsGap}
+use Rattle.cq_projects.proofs.Searching.{before_greater}
 
 module _ {X : Type 0} where
   all_take : (P : X → Type 0) (n : ℕ) (xs : List X) → AllByRecursion P xs → AllByRecursion P (take n xs)
@@ -20,6 +25,11 @@ module _ {X : Type 0} where
   each_at P [] i d all lt = absurd (omega (arith, lt))
   each_at P (x ∷ xs) zero d all lt = all.0
   each_at P (x ∷ xs) (suc i) d all lt = each_at P xs i d all.1 (omega (arith, lt))
+
+greater : (r : Ordering) → is_gt r ≡ true → r ≡ Greater
+greater Less h = absurd (cc)
+greater Equal h = absurd (cc)
+greater Greater h = refl
 
 module _ {X : Type 0} (text : X → List ℕ) where
   pub rising_take : (n : ℕ) (xs : List X) → AreRising text xs → AreRising text (take n xs)
@@ -49,14 +59,18 @@ module _ {X : Type 0} (text : X → List ℕ) where
   above_at p (x ∷ xs) zero d rising lt before = (before, all_above p (text x) xs before rising.0)
   above_at p (x ∷ xs) (suc i) d rising lt before = above_at p xs i d rising.1 (omega (arith, lt)) before
 
-  pub below_none : (p : List ℕ) (xs : List X) (from : ℕ) → from ≡ 0 → AreBelow text p (take from xs)
-  below_none p xs from none = subst (λ n. AreBelow text p (take n xs)) (sym none) tt
+  -- the same of the one before a place
+  pub below_last : (p : List ℕ) (xs : List X) (place : ℕ) (d : X) → AreRising text xs → 0 < place → place ≤ length xs → is_before (text (get_or xs (place - 1) d)) p ≡ true → AreBelow text p (take place xs)
+  below_last p xs place d rising some within before =
+      let e : suc (place - 1) ≡ place = omega (arith, some) in
+      subst (λ n. AreBelow text p (take n xs)) e (below_at p xs (place - 1) d rising (omega (arith, some, within)) before)
 
-  pub above_none : (p : List ℕ) (xs : List X) (to : ℕ) → length xs ≤ to → AreAbove text p (drop to xs)
-  above_none p [] zero past = tt
-  above_none p [] (suc to) past = tt
-  above_none p (x ∷ xs) zero past = absurd (omega (arith, past))
-  above_none p (x ∷ xs) (suc to) past = above_none p xs to (omega (arith, past))
+  -- what compares as less is before, and what compares as greater behind, also by another name
+  pub behind_is_lt : (p : List ℕ) (x y : X) → x ≡ y → is_lt (slice_cmp nat_cmp (text x) p) ≡ true → is_before (text y) p ≡ true
+  behind_is_lt p x y same lt = subst (λ z. is_before (text z) p ≡ true) same lt
+
+  pub before_is_gt : (p : List ℕ) (x y : X) → x ≡ y → is_gt (slice_cmp nat_cmp (text x) p) ≡ true → is_before p (text y) ≡ true
+  before_is_gt p x y same gt = subst (λ z. is_before p (text z) ≡ true) same (before_greater p (text x) (greater _ gt))
 
   -- the list in its three parts
   parts : (xs : List X) (from to : ℕ) → from ≤ to → take from xs ++ (take (to - from) (drop from xs) ++ drop to xs) ≡ xs

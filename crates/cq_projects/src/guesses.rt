@@ -138,7 +138,10 @@ fn shared_by_all<W>(files: &[Arc<Held<W>, Global>]) -> usize {
     if files.is_empty() {
         return 0;
     }
-    shared(files[0].path.as_bytes(), files[files.len() - 1].path.as_bytes())
+    shared(
+        files[0].path.as_bytes(),
+        files[files.len() - 1].path.as_bytes(),
+    )
 }
 
 // With how many bytes two texts begin.

@@ -98,6 +98,7 @@ impl<W> ProjectFiles<W> {
     pub(crate) fn cut_at(&self, path: &Text) -> Cut
         ensures cut { IsCut path.now self.now result.before result.behind }
         ensures change { result.change ≡ number_at path.now self.now }
+        ensures rising { AreRising path_of self.now }
     {
         let (from, to) = self.guesses.reach(path, self.items.len());
         cut_at(&self.items, path, from, to)
@@ -171,7 +172,7 @@ impl<W: Drop> ProjectFiles<W> {
     }
 
     /// Puts what stands at some paths, in one walk over all, and drops what is to stand there no more. It takes a list
-    /// more, 8 bytes a file, and a sort of the spots; where memory is refused, no files are left.
+    /// more, 8 bytes a file, one of their spots, and one of a word a file; where memory is refused, no files are left.
     pub(crate) fn merge(
         &mut self,
         alloc: Global,
