@@ -1,9 +1,12 @@
 -- The element of a table, from the longest spellings of its rows.
 use Rattle.std.proofs.Common.{subst, ap, ◌≡◌, ℕ, ◌<◌, ◌≤◌, Option, Some, None, Bool, true, false, cond, ltb, List, [], ◌∷◌, ◌++◌, ◌⊎◌, inl, inr, ⊎_elim, length, take, refl, sym, ◌∙◌, arith}
 use Rattle.std.specs.Prelude.{IfSome}
+use Rattle.std.proofs.lemmas.List.{take-map}
 use Rattle.std.proofs.lemmas.Bool.{ltb-true, ltb-false, MatchBool-at_true, MatchBool-at_false}
 use Rattle.cq_base.proofs.Bools.{MatchBool-from_true, MatchBool-from_false}
+use Rattle.cq_munch.specs.Characters.{characters}
 use Rattle.cq_munch.specs.Longest.{IsLongest, LongestAt}
+use Rattle.cq_munch.specs.declared.unit.Unit.{Unit}
 use Rattle.cq_munch.specs.declared.element.Found.{Found}
 use Rattle.cq_munch.specs.declared.element.Spell.{Spell}
 use Rattle.cq_munch.specs.Language.{Language, Takes}
@@ -181,6 +184,13 @@ module _ (rows : List Row) (set : List ℕ → Type 0) (in_set : (spell : Spell)
     row,
     refl,
   )
+
+-- the same of units, of which the row's kind was told
+pub named : (rows : List Row) (set : List ℕ → Type 0) → ((spell : Spell) (s : List ℕ) → InTable rows spell s → set s) → (at mode : ℕ) (units : List Unit) (spell : Spell) (len : ℕ) (own : Option Found) → own ≡ found_of spell mode (Some len)
+    → IsLongest set (characters units) len → InTable rows spell (characters (take len units)) → Takes (table rows) at mode (characters units) own
+named rows set in_set at mode units spell len own is longest row =
+    subst (Takes (table rows) at mode (characters units)) (sym is)
+    (one_in_set rows set in_set at mode (characters units) spell len longest (subst (InTable rows spell) (sym (take-map (λ (u : Unit). u.ch) len units)) row))
 
 -- an element of a language that keeps the mode keeps it
 pub mode_kept : (lang : Language) (at mode : ℕ) (text : List ℕ) (r : Option Found) → ((spell : Spell) (s : List ℕ) → lang.mode_behind mode spell s ≡ mode) → mode ≤ 3 → Takes lang at mode text r → IfSome r (λ f. f.mode ≤ 3)

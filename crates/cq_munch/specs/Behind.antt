@@ -103,6 +103,16 @@ abbrev pub class_in : {K : Type 0} → List (List Range × K) → K → ℕ → 
 class_in [] other c = other
 class_in (row ∷ rows) other c = if in_ranges row.0 c then row.1 else class_in rows other c
 
+-- the states behind the characters of a table: that of the first row that has the character, or none
+abbrev pub led : {S : Type 0} → List (List Range × S) → ℕ → Option S
+led [] c = None
+led (row ∷ rows) c = if in_ranges row.0 c then Some row.1 else led rows c
+
+-- each character of a text
+abbrev pub each_of : List ℕ → List Range
+each_of [] = []
+each_of (c ∷ cs) = (c, c) ∷ each_of cs
+
 -- every range ends before 128
 abbrev pub ascii_ranges : List Range → Bool
 ascii_ranges [] = true
