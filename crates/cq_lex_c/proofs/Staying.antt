@@ -33,34 +33,35 @@ not_second true false g h = h
 not_second false f g h = refl
 
 both_or_not : {A : Type 0} (a b : Bool) → (a ≡ true → b ≡ true → A) → ((a && b) ≡ false → A) → A
-both_or_not true true yes no = yes refl refl
-both_or_not true false yes no = no refl
-both_or_not false b yes no = no refl
+both_or_not true true both none = both refl refl
+both_or_not true false both none = none refl
+both_or_not false b both none = none refl
 
 all_or_not : {A : Type 0} (a b c : Bool) → (a ≡ true → b ≡ true → c ≡ true → A) → ((a && (b && c)) ≡ false → A) → A
-all_or_not true true true yes no = yes refl refl refl
-all_or_not true true false yes no = no refl
-all_or_not true false c yes no = no refl
-all_or_not false b c yes no = no refl
+all_or_not true true true all none = all refl refl refl
+all_or_not true true false all none = none refl
+all_or_not true false c all none = none refl
+all_or_not false b c all none = none refl
 
 -- ---- how long a splice is
 
-len_none_by : (slash feed return more : Bool) → (slash && (feed || (return && more))) ≡ false → (if slash && feed then 2 else (if slash && (return && more) then 3 else 0)) ≡ 0
-len_none_by false feed return more h = refl
-len_none_by true true return more h = absurd (cc)
-len_none_by true false true true h = absurd (cc)
-len_none_by true false true false h = refl
-len_none_by true false false more h = refl
+none_by : (slash feed return more : Bool) (two three none : ℕ) → (slash && (feed || (return && more))) ≡ false → (if slash && feed then two else (if slash && (return && more) then three else none)) ≡ none
+none_by false feed return more two three none h = refl
+none_by true true return more two three none h = absurd (cc)
+none_by true false true true two three none h = absurd (cc)
+none_by true false true false two three none h = refl
+none_by true false false more two three none h = refl
 
 len_none : (u : Unit) (us : List Unit) → ((u.ch == 92) && begins_with_line_end us) ≡ false → splice_len (u ∷ us) ≡ 0
 len_none u [] h = refl
-len_none u (v ∷ us) h = len_none_by (u.ch == 92) (v.ch == 10) (v.ch == 13) (begins_with_lf us) h
+len_none u (v ∷ us) h = none_by (u.ch == 92) (v.ch == 10) (v.ch == 13) (begins_with_lf us) 2 3 0 h
 
-len_two : (slash feed other : Bool) → slash ≡ true → feed ≡ true → (if slash && feed then 2 else (if slash && other then 3 else 0)) ≡ 2
-len_two slash feed other s f = then_taken (slash && feed) 2 _ (and_from _ _ s f)
+two_by : (slash feed other : Bool) (two three none : ℕ) → slash ≡ true → feed ≡ true → (if slash && feed then two else (if slash && other then three else none)) ≡ two
+two_by slash feed other two three none s f = then_taken (slash && feed) two (if slash && other then three else none) (and_from _ _ s f)
 
-len_three : (slash feed other : Bool) → slash ≡ true → feed ≡ false → other ≡ true → (if slash && feed then 2 else (if slash && other then 3 else 0)) ≡ 3
-len_three slash feed other s f o = else_taken (slash && feed) 2 _ (and_right slash feed f) ∙ then_taken (slash && other) 3 0 (and_from _ _ s o)
+three_by : (slash feed other : Bool) (two three none : ℕ) → slash ≡ true → feed ≡ false → other ≡ true → (if slash && feed then two else (if slash && other then three else none)) ≡ three
+three_by slash feed other two three none s f o =
+    else_taken (slash && feed) two (if slash && other then three else none) (and_right slash feed f) ∙ then_taken (slash && other) three none (and_from _ _ s o)
 
 two_gone : (u v : Unit) (us : List Unit) → splice_len (u ∷ v ∷ us) ≡ 2 → spliced 0 (u ∷ v ∷ us) ≡ spliced 0 us
 unfolding spliced
@@ -91,7 +92,7 @@ two_step two one u v us slash feed rest =
       feed = and_right (u.ch == 92) ((v.ch == 13) && begins_with_lf us) (ap (λ c. (c == 13) && begins_with_lf us) is);
     } in
     let both = and_from _ _ slash (or_left (v.ch == 10) ((v.ch == 13) && begins_with_lf us) feed) in
-    two_gone u v us (len_two (u.ch == 92) (v.ch == 10) ((v.ch == 13) && begins_with_lf us) slash feed) ∙ rest next
+    two_gone u v us (two_by (u.ch == 92) (v.ch == 10) ((v.ch == 13) && begins_with_lf us) 2 3 0 slash feed) ∙ rest next
     ∙ sym (then_taken (is_in_splice one u.ch (v ∷ us)) (staying u.ch v.ch us) (v ∷ staying u.ch v.ch us) (or_right _ _ (or_left _ _ both)))
     ∙ sym (then_taken (is_in_splice two one (u ∷ v ∷ us)) (staying one u.ch (v ∷ us)) (u ∷ staying one u.ch (v ∷ us)) (or_left _ _ both))
 
@@ -106,7 +107,7 @@ three_step two one u v w us slash return feed rest =
     } in
     let line = and_from _ _ return feed in
     let both = and_from _ _ slash (or_right (v.ch == 10) ((v.ch == 13) && (w.ch == 10)) line) in
-    three_gone u v w us (len_three (u.ch == 92) (v.ch == 10) ((v.ch == 13) && (w.ch == 10)) slash (ap (λ c. c == 10) is) line) ∙ rest next
+    three_gone u v w us (three_by (u.ch == 92) (v.ch == 10) ((v.ch == 13) && (w.ch == 10)) 2 3 0 slash (ap (λ c. c == 10) is) line) ∙ rest next
     ∙ sym (then_taken (is_in_splice u.ch v.ch (w ∷ us)) (staying v.ch w.ch us) (w ∷ staying v.ch w.ch us) (or_right _ _ (or_right _ _ (and_from _ _ slash line))))
     ∙ sym (then_taken (is_in_splice one u.ch (v ∷ w ∷ us)) (staying u.ch v.ch (w ∷ us)) (v ∷ staying u.ch v.ch (w ∷ us)) (or_right _ _ (or_left _ _ both)))
     ∙ sym (then_taken (is_in_splice two one (u ∷ v ∷ w ∷ us)) (staying one u.ch (v ∷ w ∷ us)) (u ∷ staying one u.ch (v ∷ w ∷ us)) (or_left _ _ both))

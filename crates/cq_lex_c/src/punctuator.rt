@@ -3,6 +3,7 @@ ghost use Rattle.cq_munch.specs.Characters.{characters};
 ghost use Rattle.cq_munch.specs.Behind.{led};
 ghost use Rattle.cq_munch.specs.Longest.{LongestAt, IsAmong};
 ghost use Rattle.cq_lex_c.specs.Punctuators.{punctuators};
+ghost use Rattle.cq_lex_c.specs.declared.punctuator.Punctuator.TheVariants.{Start};
 ghost use Rattle.cq_lex_c.specs.PunctuatorStates.{steps, may_end, punctuator_rest};
 
 use cq_munch::{Machine, Unit, longest_spelling};
@@ -30,25 +31,33 @@ enum Punctuator {
     Done,
 }
 
+// The state behind the first character.
+fn begun(ch: char) -> Option<Punctuator>
+    ensures { result ≡ led (steps Start) ch }
+{
+    match ch {
+        '+' => Some(Punctuator::Plus),
+        '-' => Some(Punctuator::Minus),
+        '&' => Some(Punctuator::And),
+        '|' => Some(Punctuator::Or),
+        '<' => Some(Punctuator::Less),
+        '>' => Some(Punctuator::Greater),
+        ':' => Some(Punctuator::Colon),
+        '%' => Some(Punctuator::Percent),
+        '#' => Some(Punctuator::Hash),
+        '.' => Some(Punctuator::Dot),
+        '=' | '*' | '/' | '!' | '^' => Some(Punctuator::OrEquals),
+        '[' | ']' | '(' | ')' | '{' | '}' | '~' | '?' | ';' | ',' => Some(Punctuator::Done),
+        _ => None,
+    }
+}
+
 // The state behind a character.
 fn next_of(state: Punctuator, ch: char) -> Option<Punctuator>
     ensures { result ≡ led (steps state) ch }
 {
     match (state, ch) {
-        (Punctuator::Start, '+') => Some(Punctuator::Plus),
-        (Punctuator::Start, '-') => Some(Punctuator::Minus),
-        (Punctuator::Start, '&') => Some(Punctuator::And),
-        (Punctuator::Start, '|') => Some(Punctuator::Or),
-        (Punctuator::Start, '<') => Some(Punctuator::Less),
-        (Punctuator::Start, '>') => Some(Punctuator::Greater),
-        (Punctuator::Start, ':') => Some(Punctuator::Colon),
-        (Punctuator::Start, '%') => Some(Punctuator::Percent),
-        (Punctuator::Start, '#') => Some(Punctuator::Hash),
-        (Punctuator::Start, '.') => Some(Punctuator::Dot),
-        (Punctuator::Start, '=' | '*' | '/' | '!' | '^') => Some(Punctuator::OrEquals),
-        (Punctuator::Start, '[' | ']' | '(' | ')' | '{' | '}' | '~' | '?' | ';' | ',') => Some(
-            Punctuator::Done,
-        ),
+        (Punctuator::Start, _) => begun(ch),
         (Punctuator::Plus, '+' | '=') => Some(Punctuator::Done),
         (Punctuator::Minus, '-' | '=' | '>') => Some(Punctuator::Done),
         (Punctuator::And, '&' | '=') => Some(Punctuator::Done),

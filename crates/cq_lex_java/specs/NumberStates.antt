@@ -1,5 +1,5 @@
 -- The scan of numbers.
-use Rattle.std.specs.Prelude.{ℕ, Bool, true, false, Option, Some, None, List, [], ◌∷◌}
+use Rattle.std.specs.Prelude.{ℕ, Bool, true, false, Option, Some, None, List, [], ◌∷◌, codes}
 use Rattle.cq_munch.specs.Pattern.{Range, Pattern}
 use Rattle.cq_munch.specs.Behind.{after, class_in, led, each_of}
 use Rattle.cq_munch.specs.Digits.{decimal_digits, octal_digits, binary_digits, hex_digits}

@@ -3,6 +3,7 @@ ghost use Rattle.cq_munch.specs.Characters.{characters};
 ghost use Rattle.cq_munch.specs.Behind.{led};
 ghost use Rattle.cq_munch.specs.Longest.{LongestAt, IsAmong};
 ghost use Rattle.cq_lex_java.specs.Operators.{operators};
+ghost use Rattle.cq_lex_java.specs.declared.operator.Operator.TheVariants.{Start};
 ghost use Rattle.cq_lex_java.specs.OperatorStates.{steps, may_end, operator_rest};
 
 use cq_munch::{Machine, Unit, longest_spelling};
@@ -28,23 +29,31 @@ enum Operator {
     Done,
 }
 
+// The state behind the first character.
+fn begun(ch: char) -> Option<Operator>
+    ensures { result ≡ led (steps Start) ch }
+{
+    match ch {
+        '+' => Some(Operator::Plus),
+        '-' => Some(Operator::Minus),
+        '&' => Some(Operator::And),
+        '|' => Some(Operator::Or),
+        '<' => Some(Operator::Less),
+        '>' => Some(Operator::Greater),
+        '=' | '*' | '/' | '!' | '^' | '%' => Some(Operator::OrEquals),
+        ':' => Some(Operator::Colon),
+        '.' => Some(Operator::Dot),
+        '(' | ')' | '{' | '}' | '[' | ']' | ';' | ',' | '@' | '~' | '?' => Some(Operator::Done),
+        _ => None,
+    }
+}
+
 // The state behind a character.
 fn next_of(state: Operator, ch: char) -> Option<Operator>
     ensures { result ≡ led (steps state) ch }
 {
     match (state, ch) {
-        (Operator::Start, '+') => Some(Operator::Plus),
-        (Operator::Start, '-') => Some(Operator::Minus),
-        (Operator::Start, '&') => Some(Operator::And),
-        (Operator::Start, '|') => Some(Operator::Or),
-        (Operator::Start, '<') => Some(Operator::Less),
-        (Operator::Start, '>') => Some(Operator::Greater),
-        (Operator::Start, '=' | '*' | '/' | '!' | '^' | '%') => Some(Operator::OrEquals),
-        (Operator::Start, ':') => Some(Operator::Colon),
-        (Operator::Start, '.') => Some(Operator::Dot),
-        (Operator::Start, '(' | ')' | '{' | '}' | '[' | ']' | ';' | ',' | '@' | '~' | '?') => Some(
-            Operator::Done,
-        ),
+        (Operator::Start, _) => begun(ch),
         (Operator::Plus, '+' | '=') => Some(Operator::Done),
         (Operator::Minus, '-' | '>' | '=') => Some(Operator::Done),
         (Operator::And, '&' | '=') => Some(Operator::Done),

@@ -40,14 +40,14 @@ returns-in-Quote c = λ at.
     let is = told_front front_of c.args.units.now c.requires.some _ _ c.front_of.ensures c.in-Quote.is in
     not_at_slash at c.args.mode _ (as_many _ 0 c.requires.some) _ fronts.Quote is refl
     (row_more at c.args.mode _ texts (others ∷ []) _ _ _ _ c.found_of-in-Quote.ensures c.better-in-Quote.ensures c.requires.text
-    (one_row_taken at c.args.mode _ others (Some 1) _ c.found_of-alone.ensures (one_other _ (as_many _ 0 c.requires.some) (other_char fronts.Quote _ is refl))))
+    (one_row_taken at c.args.mode _ others (Some 1) _ c.found_of-alone.ensures (one_other _ (as_many _ 0 c.requires.some) (other_char fronts.Quote (get_or (characters c.args.units.now) 0 0) is refl))))
 
 pub returns-in-Backslash : goal.returns-in-Backslash
 returns-in-Backslash c = λ at.
     let is = told_front front_of c.args.units.now c.requires.some _ _ c.front_of.ensures c.in-Backslash.is in
     not_at_slash at c.args.mode _ (as_many _ 0 c.requires.some) _ fronts.Backslash is refl
     (joined at c.args.mode _ (identifiers ∷ reserved ∷ []) (others ∷ []) _ _ _ c.better-in-Backslash.ensures (c.name-in-Backslash.ensures at)
-    (one_row_taken at c.args.mode _ others (Some 1) _ c.found_of-alone.ensures (one_other _ (as_many _ 0 c.requires.some) (other_char fronts.Backslash _ is refl))))
+    (one_row_taken at c.args.mode _ others (Some 1) _ c.found_of-alone.ensures (one_other _ (as_many _ 0 c.requires.some) (other_char fronts.Backslash (get_or (characters c.args.units.now) 0 0) is refl))))
 
 pub returns-in-Other : goal.returns-in-Other
 returns-in-Other c = λ at.
@@ -55,10 +55,10 @@ returns-in-Other c = λ at.
     (c.punctuator-in-Other.ensures at)
 
 pub punctuator-requires-clause-other : goal.punctuator-requires-clause-other
-punctuator-requires-clause-other c = other_char fronts.Point _ (told_front front_of c.args.units.now c.requires.some _ _ c.front_of.ensures c.in-Point.is) refl
+punctuator-requires-clause-other c = other_char fronts.Point (get_or (characters c.args.units.now) 0 0) (told_front front_of c.args.units.now c.requires.some _ _ c.front_of.ensures c.in-Point.is) refl
 
 pub punctuator-requires-in-Other-clause-other : goal.punctuator-requires-in-Other-clause-other
-punctuator-requires-in-Other-clause-other c = other_char fronts.Other _ (told_front front_of c.args.units.now c.requires.some _ _ c.front_of.ensures c.in-Other.is) refl
+punctuator-requires-in-Other-clause-other c = other_char fronts.Other (get_or (characters c.args.units.now) 0 0) (told_front front_of c.args.units.now c.requires.some _ _ c.front_of.ensures c.in-Other.is) refl
 
 pub behind_slash-requires-clause-slash : goal.behind_slash-requires-clause-slash
 behind_slash-requires-clause-slash c = only_char known at_slash 47 refl refl refl _ (ap at_slash (told_front front_of c.args.units.now c.requires.some _ _ c.front_of.ensures c.in-Slash.is))
