@@ -1,8 +1,7 @@
 -- The scan of numbers.
-use Rattle.std.specs.Prelude.{ℕ, Bool, true, false, Option, Some, None, List, [], ◌∷◌, codes}
+use Rattle.std.specs.Prelude.{ℕ, Bool, true, false, ◌||◌, ◌==◌, if◌then◌else◌, Option, Some, None, List, [], ◌∷◌}
 use Rattle.cq_munch.specs.Pattern.{Range, Pattern}
-use Rattle.cq_munch.specs.Behind.{after, class_in, led, each_of}
-use Rattle.cq_munch.specs.Digits.{decimal_digits, octal_digits, binary_digits, hex_digits}
+use Rattle.cq_munch.specs.Behind.{after, class_in}
 use Rattle.cq_lex_java.specs.Numbers.{number}
 use Rattle.cq_lex_java.specs.declared.number.Kind.{Kind}
 use Rattle.cq_lex_java.specs.declared.number.Kind.TheVariants as kinds
@@ -46,59 +45,81 @@ sample kinds.Dot = 46
 sample kinds.Sign = 43
 sample kinds.Other = 128
 
--- the characters that lead on from a state, each to the state behind it
-abbrev pub steps : Number → List (List Range × Number)
-steps states.Start = (each_of (codes "0"), states.Zero) ∷ ((49, 57) ∷ [], states.Whole) ∷ (each_of (codes "."), states.Point) ∷ []
+-- one of the kinds
+abbrev pub is_kind_of : {K : Type 0} → (K → ℕ) → List K → K → Bool
+is_kind_of sample [] k = false
+is_kind_of sample (j ∷ js) k = (sample k == sample j) || is_kind_of sample js k
+
+-- the state behind a kind: that of the first row that has it, or none
+abbrev pub led_by : {K S : Type 0} → (K → ℕ) → List (List K × S) → K → Option S
+led_by sample [] k = None
+led_by sample (row ∷ rows) k = if is_kind_of sample row.0 k then Some row.1 else led_by sample rows k
+
+-- the digits of each base
+abbrev pub binary : List Kind
+binary = kinds.Zero ∷ kinds.One ∷ []
+
+abbrev pub octal : List Kind
+octal = kinds.Zero ∷ kinds.One ∷ kinds.Octal ∷ []
+
+abbrev pub decimal : List Kind
+decimal = kinds.Zero ∷ kinds.One ∷ kinds.Octal ∷ kinds.Decimal ∷ []
+
+abbrev pub hex : List Kind
+hex = kinds.Zero ∷ kinds.One ∷ kinds.Octal ∷ kinds.Decimal ∷ kinds.B ∷ kinds.E ∷ kinds.Hex ∷ kinds.Suffix ∷ []
+
+-- the kinds that lead on from a state, each to the state behind it
+abbrev pub steps : Number → List (List Kind × Number)
+steps states.Start =
+    (kinds.Zero ∷ [], states.Zero) ∷ (kinds.One ∷ kinds.Octal ∷ kinds.Decimal ∷ [], states.Whole) ∷ (kinds.Dot ∷ [], states.Point) ∷ []
 steps states.Zero =
-    (octal_digits, states.Zeros) ∷ (each_of (codes "89"), states.NotOctal) ∷ (each_of (codes "bB"), states.BinaryMark)
-    ∷ (each_of (codes "eE"), states.Exponent) ∷ (each_of (codes "dDfFlL"), states.Done) ∷ (each_of (codes "xX"), states.HexMark)
-    ∷ (each_of (codes "_"), states.ZeroGap) ∷ (each_of (codes "."), states.WholePoint) ∷ []
+    (octal, states.Zeros) ∷ (kinds.Decimal ∷ [], states.NotOctal) ∷ (kinds.B ∷ [], states.BinaryMark)
+    ∷ (kinds.E ∷ [], states.Exponent) ∷ (kinds.Suffix ∷ kinds.L ∷ [], states.Done) ∷ (kinds.X ∷ [], states.HexMark)
+    ∷ (kinds.Underscore ∷ [], states.ZeroGap) ∷ (kinds.Dot ∷ [], states.WholePoint) ∷ []
 steps states.Whole =
-    (decimal_digits, states.Wholes) ∷ (each_of (codes "eE"), states.Exponent) ∷ (each_of (codes "dDfFlL"), states.Done)
-    ∷ (each_of (codes "_"), states.WholeGap) ∷ (each_of (codes "."), states.WholePoint) ∷ []
-steps states.Point = (decimal_digits, states.Fraction) ∷ []
+    (decimal, states.Wholes) ∷ (kinds.E ∷ [], states.Exponent) ∷ (kinds.Suffix ∷ kinds.L ∷ [], states.Done)
+    ∷ (kinds.Underscore ∷ [], states.WholeGap) ∷ (kinds.Dot ∷ [], states.WholePoint) ∷ []
+steps states.Point = (decimal, states.Fraction) ∷ []
 steps states.Zeros =
-    (octal_digits, states.Zeros) ∷ (each_of (codes "89"), states.NotOctal) ∷ (each_of (codes "eE"), states.Exponent)
-    ∷ (each_of (codes "dDfFlL"), states.Done) ∷ (each_of (codes "_"), states.ZerosGap) ∷ (each_of (codes "."), states.WholePoint) ∷ []
+    (octal, states.Zeros) ∷ (kinds.Decimal ∷ [], states.NotOctal) ∷ (kinds.E ∷ [], states.Exponent)
+    ∷ (kinds.Suffix ∷ kinds.L ∷ [], states.Done) ∷ (kinds.Underscore ∷ [], states.ZerosGap) ∷ (kinds.Dot ∷ [], states.WholePoint) ∷ []
 steps states.NotOctal =
-    (decimal_digits, states.NotOctal) ∷ (each_of (codes "eE"), states.Exponent) ∷ (each_of (codes "dDfF"), states.Done)
-    ∷ (each_of (codes "_"), states.NotOctalGap) ∷ (each_of (codes "."), states.WholePoint) ∷ []
-steps states.BinaryMark = (binary_digits, states.Binary) ∷ []
-steps states.Exponent = (decimal_digits, states.ExponentDigits) ∷ (each_of (codes "+-"), states.ExponentSign) ∷ []
+    (decimal, states.NotOctal) ∷ (kinds.E ∷ [], states.Exponent) ∷ (kinds.Suffix ∷ [], states.Done)
+    ∷ (kinds.Underscore ∷ [], states.NotOctalGap) ∷ (kinds.Dot ∷ [], states.WholePoint) ∷ []
+steps states.BinaryMark = (binary, states.Binary) ∷ []
+steps states.Exponent = (decimal, states.ExponentDigits) ∷ (kinds.Sign ∷ [], states.ExponentSign) ∷ []
 steps states.Done = []
-steps states.HexMark = (hex_digits, states.HexDigits) ∷ (each_of (codes "."), states.HexPoint) ∷ []
-steps states.ZeroGap = (octal_digits, states.Zeros) ∷ (each_of (codes "89"), states.NotOctal) ∷ (each_of (codes "_"), states.ZeroGap) ∷ []
-steps states.WholePoint = (decimal_digits, states.Fraction) ∷ (each_of (codes "eE"), states.Exponent) ∷ (each_of (codes "dDfF"), states.Done) ∷ []
+steps states.HexMark = (hex, states.HexDigits) ∷ (kinds.Dot ∷ [], states.HexPoint) ∷ []
+steps states.ZeroGap = (octal, states.Zeros) ∷ (kinds.Decimal ∷ [], states.NotOctal) ∷ (kinds.Underscore ∷ [], states.ZeroGap) ∷ []
+steps states.WholePoint = (decimal, states.Fraction) ∷ (kinds.E ∷ [], states.Exponent) ∷ (kinds.Suffix ∷ [], states.Done) ∷ []
 steps states.Wholes =
-    (decimal_digits, states.Wholes) ∷ (each_of (codes "eE"), states.Exponent) ∷ (each_of (codes "dDfFlL"), states.Done)
-    ∷ (each_of (codes "_"), states.WholesGap) ∷ (each_of (codes "."), states.WholePoint) ∷ []
-steps states.WholeGap = (decimal_digits, states.Wholes) ∷ (each_of (codes "_"), states.WholeGap) ∷ []
+    (decimal, states.Wholes) ∷ (kinds.E ∷ [], states.Exponent) ∷ (kinds.Suffix ∷ kinds.L ∷ [], states.Done)
+    ∷ (kinds.Underscore ∷ [], states.WholesGap) ∷ (kinds.Dot ∷ [], states.WholePoint) ∷ []
+steps states.WholeGap = (decimal, states.Wholes) ∷ (kinds.Underscore ∷ [], states.WholeGap) ∷ []
 steps states.Fraction =
-    (decimal_digits, states.Fraction) ∷ (each_of (codes "eE"), states.Exponent) ∷ (each_of (codes "dDfF"), states.Done)
-    ∷ (each_of (codes "_"), states.FractionGap) ∷ []
-steps states.ZerosGap = (octal_digits, states.Zeros) ∷ (each_of (codes "89"), states.NotOctal) ∷ (each_of (codes "_"), states.ZerosGap) ∷ []
-steps states.NotOctalGap = (decimal_digits, states.NotOctal) ∷ (each_of (codes "_"), states.NotOctalGap) ∷ []
-steps states.Binary = (binary_digits, states.Binary) ∷ (each_of (codes "lL"), states.Done) ∷ (each_of (codes "_"), states.BinaryGap) ∷ []
-steps states.ExponentDigits =
-    (decimal_digits, states.ExponentDigits) ∷ (each_of (codes "dDfF"), states.Done) ∷ (each_of (codes "_"), states.ExponentGap) ∷ []
-steps states.ExponentSign = (decimal_digits, states.ExponentDigits) ∷ []
+    (decimal, states.Fraction) ∷ (kinds.E ∷ [], states.Exponent) ∷ (kinds.Suffix ∷ [], states.Done)
+    ∷ (kinds.Underscore ∷ [], states.FractionGap) ∷ []
+steps states.ZerosGap = (octal, states.Zeros) ∷ (kinds.Decimal ∷ [], states.NotOctal) ∷ (kinds.Underscore ∷ [], states.ZerosGap) ∷ []
+steps states.NotOctalGap = (decimal, states.NotOctal) ∷ (kinds.Underscore ∷ [], states.NotOctalGap) ∷ []
+steps states.Binary = (binary, states.Binary) ∷ (kinds.L ∷ [], states.Done) ∷ (kinds.Underscore ∷ [], states.BinaryGap) ∷ []
+steps states.ExponentDigits = (decimal, states.ExponentDigits) ∷ (kinds.Suffix ∷ [], states.Done) ∷ (kinds.Underscore ∷ [], states.ExponentGap) ∷ []
+steps states.ExponentSign = (decimal, states.ExponentDigits) ∷ []
 steps states.HexDigits =
-    (hex_digits, states.HexDigits) ∷ (each_of (codes "lL"), states.Done) ∷ (each_of (codes "pP"), states.HexExponent)
-    ∷ (each_of (codes "_"), states.HexGap) ∷ (each_of (codes "."), states.HexWholePoint) ∷ []
-steps states.HexPoint = (hex_digits, states.HexFraction) ∷ []
-steps states.WholesGap = (decimal_digits, states.Wholes) ∷ (each_of (codes "_"), states.WholesGap) ∷ []
-steps states.FractionGap = (decimal_digits, states.Fraction) ∷ (each_of (codes "_"), states.FractionGap) ∷ []
-steps states.BinaryGap = (binary_digits, states.Binary) ∷ (each_of (codes "_"), states.BinaryGap) ∷ []
-steps states.ExponentGap = (decimal_digits, states.ExponentDigits) ∷ (each_of (codes "_"), states.ExponentGap) ∷ []
-steps states.HexExponent = (decimal_digits, states.ExponentDigits) ∷ (each_of (codes "+-"), states.ExponentSign) ∷ []
-steps states.HexGap = (hex_digits, states.HexDigits) ∷ (each_of (codes "_"), states.HexGap) ∷ []
-steps states.HexWholePoint = (hex_digits, states.HexFraction) ∷ (each_of (codes "pP"), states.HexExponent) ∷ []
-steps states.HexFraction =
-    (hex_digits, states.HexFraction) ∷ (each_of (codes "pP"), states.HexExponent) ∷ (each_of (codes "_"), states.HexFractionGap) ∷ []
-steps states.HexFractionGap = (hex_digits, states.HexFraction) ∷ (each_of (codes "_"), states.HexFractionGap) ∷ []
+    (hex, states.HexDigits) ∷ (kinds.L ∷ [], states.Done) ∷ (kinds.P ∷ [], states.HexExponent)
+    ∷ (kinds.Underscore ∷ [], states.HexGap) ∷ (kinds.Dot ∷ [], states.HexWholePoint) ∷ []
+steps states.HexPoint = (hex, states.HexFraction) ∷ []
+steps states.WholesGap = (decimal, states.Wholes) ∷ (kinds.Underscore ∷ [], states.WholesGap) ∷ []
+steps states.FractionGap = (decimal, states.Fraction) ∷ (kinds.Underscore ∷ [], states.FractionGap) ∷ []
+steps states.BinaryGap = (binary, states.Binary) ∷ (kinds.Underscore ∷ [], states.BinaryGap) ∷ []
+steps states.ExponentGap = (decimal, states.ExponentDigits) ∷ (kinds.Underscore ∷ [], states.ExponentGap) ∷ []
+steps states.HexExponent = (decimal, states.ExponentDigits) ∷ (kinds.Sign ∷ [], states.ExponentSign) ∷ []
+steps states.HexGap = (hex, states.HexDigits) ∷ (kinds.Underscore ∷ [], states.HexGap) ∷ []
+steps states.HexWholePoint = (hex, states.HexFraction) ∷ (kinds.P ∷ [], states.HexExponent) ∷ []
+steps states.HexFraction = (hex, states.HexFraction) ∷ (kinds.P ∷ [], states.HexExponent) ∷ (kinds.Underscore ∷ [], states.HexFractionGap) ∷ []
+steps states.HexFractionGap = (hex, states.HexFraction) ∷ (kinds.Underscore ∷ [], states.HexFractionGap) ∷ []
 
 abbrev pub next_of : Number → Kind → Option Number
-next_of state kind = led (steps state) (sample kind)
+next_of state kind = led_by sample (steps state) kind
 
 abbrev pub may_end : Number → Bool
 may_end states.Zero = true
