@@ -1,8 +1,7 @@
 -- The scan of a number: its states, and what they mean.
-use Rattle.std.specs.Prelude.{ℕ, Bool, true, false, Option, Some, None, List, [], ◌∷◌, codes}
+use Rattle.std.specs.Prelude.{ℕ, Bool, true, false, Option, List, [], ◌∷◌, codes}
 use Rattle.cq_munch.specs.Pattern.{Range, Pattern}
-use Rattle.cq_munch.specs.Behind.{after, class_in, led, each_of}
-use Rattle.cq_munch.specs.Digits.{decimal_digits, octal_digits, binary_digits, hex_digits}
+use Rattle.cq_munch.specs.Behind.{after, class_in, led_by}
 use Rattle.cq_lex_go.specs.Numbers.{number}
 use Rattle.cq_lex_go.specs.declared.number.Kind.{Kind}
 use Rattle.cq_lex_go.specs.declared.number.Kind.TheVariants as kinds
@@ -49,55 +48,68 @@ sample kinds.Dot = 46
 sample kinds.Sign = 43
 sample kinds.Other = 128
 
--- the characters that lead on from a state, each to the state behind it
-abbrev pub steps : Number → List (List Range × Number)
-steps states.Start = (each_of (codes "0"), states.Zero) ∷ ((49, 57) ∷ [], states.Whole) ∷ (each_of (codes "."), states.Point) ∷ []
+-- the digits of each base
+abbrev pub binary : List Kind
+binary = kinds.Zero ∷ kinds.One ∷ []
+
+abbrev pub octal : List Kind
+octal = kinds.Zero ∷ kinds.One ∷ kinds.Octal ∷ []
+
+abbrev pub decimal : List Kind
+decimal = kinds.Zero ∷ kinds.One ∷ kinds.Octal ∷ kinds.Decimal ∷ []
+
+abbrev pub hex : List Kind
+hex = kinds.Zero ∷ kinds.One ∷ kinds.Octal ∷ kinds.Decimal ∷ kinds.B ∷ kinds.E ∷ kinds.Hex ∷ []
+
+-- the kinds that lead on from a state, each to the state behind it
+abbrev pub steps : Number → List (List Kind × Number)
+steps states.Start =
+    (kinds.Zero ∷ [], states.Zero) ∷ (kinds.One ∷ kinds.Octal ∷ kinds.Decimal ∷ [], states.Whole) ∷ (kinds.Dot ∷ [], states.Point) ∷ []
 steps states.Zero =
-    (octal_digits, states.Zeros) ∷ (each_of (codes "89"), states.NotOctal) ∷ (each_of (codes "bB"), states.BinaryMark)
-    ∷ (each_of (codes "eE"), states.Exponent) ∷ (each_of (codes "oO"), states.OctalMark) ∷ (each_of (codes "xX"), states.HexMark)
-    ∷ (each_of (codes "i"), states.Imaginary) ∷ (each_of (codes "_"), states.ZerosGap) ∷ (each_of (codes "."), states.WholePoint) ∷ []
+    (octal, states.Zeros) ∷ (kinds.Decimal ∷ [], states.NotOctal) ∷ (kinds.B ∷ [], states.BinaryMark)
+    ∷ (kinds.E ∷ [], states.Exponent) ∷ (kinds.O ∷ [], states.OctalMark) ∷ (kinds.X ∷ [], states.HexMark)
+    ∷ (kinds.I ∷ [], states.Imaginary) ∷ (kinds.Underscore ∷ [], states.ZerosGap) ∷ (kinds.Dot ∷ [], states.WholePoint) ∷ []
 steps states.Whole =
-    (decimal_digits, states.Wholes) ∷ (each_of (codes "eE"), states.Exponent) ∷ (each_of (codes "i"), states.Imaginary)
-    ∷ (each_of (codes "_"), states.WholesGap) ∷ (each_of (codes "."), states.WholePoint) ∷ []
-steps states.Point = (decimal_digits, states.Fraction) ∷ []
+    (decimal, states.Wholes) ∷ (kinds.E ∷ [], states.Exponent) ∷ (kinds.I ∷ [], states.Imaginary)
+    ∷ (kinds.Underscore ∷ [], states.WholesGap) ∷ (kinds.Dot ∷ [], states.WholePoint) ∷ []
+steps states.Point = (decimal, states.Fraction) ∷ []
 steps states.Zeros =
-    (octal_digits, states.Zeros) ∷ (each_of (codes "89"), states.NotOctal) ∷ (each_of (codes "eE"), states.Exponent)
-    ∷ (each_of (codes "i"), states.Imaginary) ∷ (each_of (codes "_"), states.ZerosGap) ∷ (each_of (codes "."), states.WholePoint) ∷ []
+    (octal, states.Zeros) ∷ (kinds.Decimal ∷ [], states.NotOctal) ∷ (kinds.E ∷ [], states.Exponent)
+    ∷ (kinds.I ∷ [], states.Imaginary) ∷ (kinds.Underscore ∷ [], states.ZerosGap) ∷ (kinds.Dot ∷ [], states.WholePoint) ∷ []
 steps states.NotOctal =
-    (decimal_digits, states.NotOctal) ∷ (each_of (codes "eE"), states.Exponent) ∷ (each_of (codes "i"), states.Imaginary)
-    ∷ (each_of (codes "_"), states.NotOctalGap) ∷ (each_of (codes "."), states.WholePoint) ∷ []
-steps states.BinaryMark = (binary_digits, states.Binary) ∷ (each_of (codes "_"), states.BinaryGap) ∷ []
-steps states.Exponent = (decimal_digits, states.ExponentDigits) ∷ (each_of (codes "+-"), states.ExponentGap) ∷ []
-steps states.OctalMark = (octal_digits, states.OctalDigits) ∷ (each_of (codes "_"), states.OctalGap) ∷ []
-steps states.HexMark = (hex_digits, states.HexDigits) ∷ (each_of (codes "_"), states.HexGap) ∷ (each_of (codes "."), states.HexPoint) ∷ []
+    (decimal, states.NotOctal) ∷ (kinds.E ∷ [], states.Exponent) ∷ (kinds.I ∷ [], states.Imaginary)
+    ∷ (kinds.Underscore ∷ [], states.NotOctalGap) ∷ (kinds.Dot ∷ [], states.WholePoint) ∷ []
+steps states.BinaryMark = (binary, states.Binary) ∷ (kinds.Underscore ∷ [], states.BinaryGap) ∷ []
+steps states.Exponent = (decimal, states.ExponentDigits) ∷ (kinds.Sign ∷ [], states.ExponentGap) ∷ []
+steps states.OctalMark = (octal, states.OctalDigits) ∷ (kinds.Underscore ∷ [], states.OctalGap) ∷ []
+steps states.HexMark = (hex, states.HexDigits) ∷ (kinds.Underscore ∷ [], states.HexGap) ∷ (kinds.Dot ∷ [], states.HexPoint) ∷ []
 steps states.Imaginary = []
-steps states.ZerosGap = (octal_digits, states.Zeros) ∷ (each_of (codes "89"), states.NotOctal) ∷ []
-steps states.WholePoint = (decimal_digits, states.Fraction) ∷ (each_of (codes "eE"), states.Exponent) ∷ (each_of (codes "i"), states.Imaginary) ∷ []
+steps states.ZerosGap = (octal, states.Zeros) ∷ (kinds.Decimal ∷ [], states.NotOctal) ∷ []
+steps states.WholePoint = (decimal, states.Fraction) ∷ (kinds.E ∷ [], states.Exponent) ∷ (kinds.I ∷ [], states.Imaginary) ∷ []
 steps states.Wholes =
-    (decimal_digits, states.Wholes) ∷ (each_of (codes "eE"), states.Exponent) ∷ (each_of (codes "i"), states.Imaginary)
-    ∷ (each_of (codes "_"), states.WholesGap) ∷ (each_of (codes "."), states.WholePoint) ∷ []
-steps states.WholesGap = (decimal_digits, states.Wholes) ∷ []
+    (decimal, states.Wholes) ∷ (kinds.E ∷ [], states.Exponent) ∷ (kinds.I ∷ [], states.Imaginary)
+    ∷ (kinds.Underscore ∷ [], states.WholesGap) ∷ (kinds.Dot ∷ [], states.WholePoint) ∷ []
+steps states.WholesGap = (decimal, states.Wholes) ∷ []
 steps states.Fraction =
-    (decimal_digits, states.Fraction) ∷ (each_of (codes "eE"), states.Exponent) ∷ (each_of (codes "i"), states.Imaginary)
-    ∷ (each_of (codes "_"), states.Point) ∷ []
-steps states.NotOctalGap = (decimal_digits, states.NotOctal) ∷ []
-steps states.Binary = (binary_digits, states.Binary) ∷ (each_of (codes "i"), states.Imaginary) ∷ (each_of (codes "_"), states.BinaryGap) ∷ []
-steps states.BinaryGap = (binary_digits, states.Binary) ∷ []
-steps states.ExponentDigits =
-    (decimal_digits, states.ExponentDigits) ∷ (each_of (codes "i"), states.Imaginary) ∷ (each_of (codes "_"), states.ExponentGap) ∷ []
-steps states.ExponentGap = (decimal_digits, states.ExponentDigits) ∷ []
-steps states.OctalDigits = (octal_digits, states.OctalDigits) ∷ (each_of (codes "i"), states.Imaginary) ∷ (each_of (codes "_"), states.OctalGap) ∷ []
-steps states.OctalGap = (octal_digits, states.OctalDigits) ∷ []
+    (decimal, states.Fraction) ∷ (kinds.E ∷ [], states.Exponent) ∷ (kinds.I ∷ [], states.Imaginary)
+    ∷ (kinds.Underscore ∷ [], states.Point) ∷ []
+steps states.NotOctalGap = (decimal, states.NotOctal) ∷ []
+steps states.Binary = (binary, states.Binary) ∷ (kinds.I ∷ [], states.Imaginary) ∷ (kinds.Underscore ∷ [], states.BinaryGap) ∷ []
+steps states.BinaryGap = (binary, states.Binary) ∷ []
+steps states.ExponentDigits = (decimal, states.ExponentDigits) ∷ (kinds.I ∷ [], states.Imaginary) ∷ (kinds.Underscore ∷ [], states.ExponentGap) ∷ []
+steps states.ExponentGap = (decimal, states.ExponentDigits) ∷ []
+steps states.OctalDigits = (octal, states.OctalDigits) ∷ (kinds.I ∷ [], states.Imaginary) ∷ (kinds.Underscore ∷ [], states.OctalGap) ∷ []
+steps states.OctalGap = (octal, states.OctalDigits) ∷ []
 steps states.HexDigits =
-    (hex_digits, states.HexDigits) ∷ (each_of (codes "pP"), states.Exponent) ∷ (each_of (codes "i"), states.Imaginary)
-    ∷ (each_of (codes "_"), states.HexGap) ∷ (each_of (codes "."), states.HexWholePoint) ∷ []
-steps states.HexGap = (hex_digits, states.HexDigits) ∷ []
-steps states.HexPoint = (hex_digits, states.HexFraction) ∷ []
-steps states.HexWholePoint = (hex_digits, states.HexFraction) ∷ (each_of (codes "pP"), states.Exponent) ∷ []
-steps states.HexFraction = (hex_digits, states.HexFraction) ∷ (each_of (codes "pP"), states.Exponent) ∷ (each_of (codes "_"), states.HexPoint) ∷ []
+    (hex, states.HexDigits) ∷ (kinds.P ∷ [], states.Exponent) ∷ (kinds.I ∷ [], states.Imaginary)
+    ∷ (kinds.Underscore ∷ [], states.HexGap) ∷ (kinds.Dot ∷ [], states.HexWholePoint) ∷ []
+steps states.HexGap = (hex, states.HexDigits) ∷ []
+steps states.HexPoint = (hex, states.HexFraction) ∷ []
+steps states.HexWholePoint = (hex, states.HexFraction) ∷ (kinds.P ∷ [], states.Exponent) ∷ []
+steps states.HexFraction = (hex, states.HexFraction) ∷ (kinds.P ∷ [], states.Exponent) ∷ (kinds.Underscore ∷ [], states.HexPoint) ∷ []
 
 abbrev pub next_of : Number → Kind → Option Number
-next_of state kind = led (steps state) (sample kind)
+next_of state kind = led_by sample (steps state) kind
 
 abbrev pub may_end : Number → Bool
 may_end states.Zero = true

@@ -1,7 +1,7 @@
 -- The scan of numbers.
-use Rattle.std.specs.Prelude.{ℕ, Bool, true, false, ◌||◌, ◌==◌, if◌then◌else◌, Option, Some, None, List, [], ◌∷◌}
+use Rattle.std.specs.Prelude.{ℕ, Bool, true, false, Option, Some, None, List, [], ◌∷◌}
 use Rattle.cq_munch.specs.Pattern.{Range, Pattern}
-use Rattle.cq_munch.specs.Behind.{after, class_in}
+use Rattle.cq_munch.specs.Behind.{after, class_in, led_by}
 use Rattle.cq_lex_java.specs.Numbers.{number}
 use Rattle.cq_lex_java.specs.declared.number.Kind.{Kind}
 use Rattle.cq_lex_java.specs.declared.number.Kind.TheVariants as kinds
@@ -44,16 +44,6 @@ sample kinds.Underscore = 95
 sample kinds.Dot = 46
 sample kinds.Sign = 43
 sample kinds.Other = 128
-
--- one of the kinds
-abbrev pub is_kind_of : {K : Type 0} → (K → ℕ) → List K → K → Bool
-is_kind_of sample [] k = false
-is_kind_of sample (j ∷ js) k = (sample k == sample j) || is_kind_of sample js k
-
--- the state behind a kind: that of the first row that has it, or none
-abbrev pub led_by : {K S : Type 0} → (K → ℕ) → List (List K × S) → K → Option S
-led_by sample [] k = None
-led_by sample (row ∷ rows) k = if is_kind_of sample row.0 k then Some row.1 else led_by sample rows k
 
 -- the digits of each base
 abbrev pub binary : List Kind

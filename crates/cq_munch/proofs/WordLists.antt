@@ -1,6 +1,6 @@
 -- A scan of a list of words: what may follow a character is again a list of words, and that it is the list of the next
 -- state is tested by computing.
-use Rattle.std.proofs.Common.{◌≡◌, ◌⊎◌, ℕ, zero, suc, ◌<◌, ◌≤◌, Option, Some, None, Bool, true, false, ◌&&◌, ◌||◌, ◌==◌, not, nat_lt, nat_le, All, List, [], ◌∷◌, ◌↔◌, length, get_or, drop, refl, sym, subst, ap, ap₂, ◌∙◌, inl, inr, ⊎_elim, arith}
+use Rattle.std.proofs.Common.{◌≡◌, ◌⊎◌, ℕ, zero, suc, ◌<◌, ◌≤◌, Option, Some, None, Bool, true, false, ◌&&◌, ◌||◌, ◌==◌, nat_lt, nat_le, All, List, [], ◌∷◌, ◌↔◌, length, get_or, drop, refl, sym, subst, ap, ap₂, ◌∙◌, inl, inr, ⊎_elim, arith}
 use Rattle.std.proofs.lemmas.Bool.{ltb-true, leb-true, eqb-true, eq-eqb, ne_eqb, cases_lt, and_parts, or_cases}
 use Rattle.std.specs.Bool.{beq}
 use Rattle.std.specs.List.{list_all, AllByRecursion}

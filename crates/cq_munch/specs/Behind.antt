@@ -108,6 +108,15 @@ abbrev pub led : {S : Type 0} → List (List Range × S) → ℕ → Option S
 led [] c = None
 led (row ∷ rows) c = if in_ranges row.0 c then Some row.1 else led rows c
 
+-- the same by kinds, which a character of each tells apart
+abbrev pub is_kind_of : {K : Type 0} → (K → ℕ) → List K → K → Bool
+is_kind_of sample [] k = false
+is_kind_of sample (j ∷ js) k = (sample k == sample j) || is_kind_of sample js k
+
+abbrev pub led_by : {K S : Type 0} → (K → ℕ) → List (List K × S) → K → Option S
+led_by sample [] k = None
+led_by sample (row ∷ rows) k = if is_kind_of sample row.0 k then Some row.1 else led_by sample rows k
+
 -- each character of a text
 abbrev pub each_of : List ℕ → List Range
 each_of [] = []

@@ -1,31 +1,19 @@
 -- Digits, and the marks between them.
-use Rattle.std.specs.Prelude.{List, [], ◌∷◌}
-use Rattle.cq_munch.specs.Pattern.{Range, Pattern, among, only, one_of}
+use Rattle.std.specs.Prelude.{[], ◌∷◌}
+use Rattle.cq_munch.specs.Pattern.{Pattern, among, only, one_of}
 
 -- the digits of each base
-abbrev pub decimal_digits : List Range
-decimal_digits = (48, 57) ∷ []
-
 abbrev pub decimal_digit : Pattern
-decimal_digit = among decimal_digits
-
-abbrev pub octal_digits : List Range
-octal_digits = (48, 55) ∷ []
+decimal_digit = among ((48, 57) ∷ [])
 
 abbrev pub octal_digit : Pattern
-octal_digit = among octal_digits
-
-abbrev pub binary_digits : List Range
-binary_digits = (48, 49) ∷ []
+octal_digit = among ((48, 55) ∷ [])
 
 abbrev pub binary_digit : Pattern
-binary_digit = among binary_digits
-
-abbrev pub hex_digits : List Range
-hex_digits = (48, 57) ∷ (65, 70) ∷ (97, 102) ∷ []
+binary_digit = among ((48, 49) ∷ [])
 
 abbrev pub hex_digit : Pattern
-hex_digit = among hex_digits
+hex_digit = among ((48, 57) ∷ (65, 70) ∷ (97, 102) ∷ [])
 
 abbrev pub zero_digit : Pattern
 zero_digit = only 48

@@ -1,5 +1,4 @@
-use Rattle.std.proofs.Common.{◌≡◌, Some, get_or, [], ◌∷◌, ap, refl, sym, ◌∙◌}
-use Rattle.cq_munch.specs.Characters.{characters}
+use Rattle.std.proofs.Common.{Some, [], ◌∷◌, ap, refl}
 use Rattle.cq_munch.proofs.Front.{as_many, told_front}
 use Rattle.cq_munch.proofs.Joining.{row_more, one_row_taken}
 use Rattle.cq_munch.proofs.Dispatch.{only_char, one_of}

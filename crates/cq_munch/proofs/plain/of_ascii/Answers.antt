@@ -1,6 +1,6 @@
 use Rattle.std.proofs.Common.{◌++◌, ap, ◌∙◌}
 use Rattle.cq_munch.specs.Lexed.{placed}
-use Rattle.cq_munch.proofs.Decoding.{ascii_none, ascii_more, ascii_all, ascii_in_order, ascii_short}
+use Rattle.cq_munch.proofs.Decoding.{ascii_none, ascii_all, ascii_in_order}
 use Rattle.cq_munch.proofs.plain.of_ascii.Goals as goal
 
 pub loop-i-init : goal.loop-i-init
