@@ -1,5 +1,5 @@
 -- The scan of numbers.
-use Rattle.std.specs.Prelude.{ℕ, Bool, true, false, Option, Some, None, List, [], ◌∷◌}
+use Rattle.std.specs.Prelude.{ℕ, Bool, true, false, Option, List, [], ◌∷◌}
 use Rattle.cq_munch.specs.Pattern.{Range, Pattern}
 use Rattle.cq_munch.specs.Behind.{after, class_in, led_by}
 use Rattle.cq_lex_java.specs.Numbers.{number}
