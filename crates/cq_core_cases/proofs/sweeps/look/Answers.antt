@@ -25,9 +25,9 @@ leave_shard-requires g c =
 pub returns : goal.returns
 returns g c =
     let l = c.leave_shard.ensures in
-    record { of = subst (λ (k : BoardCells). chain.IsPassOf k c.leave_shard.new.pass) c.cells-2.ensures l.of; free = l.free; shards = c.requires.of.shards; some_shard = c.requires.of.some_shard }
+    record { of = record { of = subst (λ (k : BoardCells). chain.IsPassOf k c.leave_shard.new.pass) c.cells-2.ensures l.of; free = l.free; shards = c.requires.of.shards; some_shard = c.requires.of.some_shard } }
 
 pub returns-in_err-entries : goal.returns-in_err-entries
 returns-in_err-entries g c =
     let l = c.leave_shard.ensures in
-    record { of = subst (λ (k : BoardCells). chain.IsPassOf k c.leave_shard.new.pass) c.cells-2.ensures l.of; free = l.free; shards = c.requires.of.shards; some_shard = c.requires.of.some_shard }
+    record { of = record { of = subst (λ (k : BoardCells). chain.IsPassOf k c.leave_shard.new.pass) c.cells-2.ensures l.of; free = l.free; shards = c.requires.of.shards; some_shard = c.requires.of.some_shard } }
