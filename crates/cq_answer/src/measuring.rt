@@ -13,6 +13,7 @@ use cq_work::Work;
 use std::alloc::Global;
 use std::sync::Arc;
 use std::sync::ledger::Ledger;
+use std::thread::Threads;
 
 const NO_MEASURES: Measures = Measures {
     lines: 0,
@@ -45,7 +46,8 @@ fn lines_of<'a, L: Ledger>(
 }
 
 /// The measures of a part of some files, by the groups that it lists.
-pub(crate) fn measures_of<L: Ledger>(
+pub(crate) fn measures_of<R: Threads + Sync, L: Ledger>(
+    rt: &R,
     alloc: Global,
     files: &[Arc<Held<Work<L>>, Global>],
     part: Part,
@@ -57,7 +59,7 @@ pub(crate) fn measures_of<L: Ledger>(
 {
     let lines = lines_of(alloc, files)?;
     match part {
-        Part::Whole => project_measures(alloc, &lines, groups),
+        Part::Whole => project_measures(rt, alloc, &lines, groups),
         Part::File(file) => file_measures(alloc, &lines, file, groups),
         Part::Nothing => Ok(NO_MEASURES),
     }

@@ -7,7 +7,9 @@ mod counting;
 mod decisions;
 mod extent;
 mod measuring;
+mod parting;
 mod placing;
+mod tallying;
 
 pub use counting::ncloc;
 pub use decisions::complexity;

@@ -5,9 +5,12 @@ ghost use Rattle.cq_measures.specs.Counts.{IsTallyOf};
 
 use crate::counting::{Tally, count_up};
 use crate::extent::FileLines;
+use crate::parting::{count_places, parted};
 use crate::placing::{extents_of, keep_file};
+use crate::tallying::{added, least_files, tallies_of};
 use cq_base::{FileCounts, Group, Measures, Memory};
 use std::alloc::Global;
+use std::thread::Threads;
 
 fn density(duplicated: u64, lines: u64) -> u64
     requires { duplicated ≤ 2 ^ 50 }
@@ -56,8 +59,11 @@ fn measures_of(files: u64, counts: FileCounts, tally: Tally) -> Measures
     }
 }
 
-/// The measures of a project of these files, with the places that groups of their tokens have.
-pub fn project_measures(
+/// The measures of a project of these files, with the places that groups of their tokens have. The places are parted among
+/// the files in one walk, and each file's are counted by itself, in threads where they are many: the result is the same
+/// whatever their number. Want of memory in a thread is want of memory of the call.
+pub fn project_measures<R: Threads + Sync>(
+    rt: &R,
     alloc: Global,
     files: &[FileLines],
     groups: &[Group],
@@ -65,7 +71,10 @@ pub fn project_measures(
     requires { spec.IsMeasurable (spec.counts_of files.now) (spec.spans_of files.now) groups.now }
     ensures { IfOk result (λ m. m ≡ spec.measures_of_project files.now groups.now) }
 {
-    let tally = count_up(extents_of(alloc, files, groups)?);
+    let parts = parted(alloc, files.len(), groups)?;
+    let least = least_files(files.len(), count_places(groups));
+    let tallies = tallies_of(rt, alloc, files, &parts, least)?;
+    let tally = added(&tallies)?;
     Ok(measures_of(files.len() as u64, total(files), tally))
 }
 
