@@ -1,5 +1,5 @@
 -- What a closure gave at each of the first numbers, where all of it was Ok.
-use Rattle.std.proofs.Common.{◌≡◌, ℕ, zero, suc, ◌+◌, ◌<◌, List, [], ◌∷◌, length, map, get_or, Global, Contains, refl, sym, ap, ◌∙◌, subst, arith}
+use Rattle.std.proofs.Common.{◌≡◌, ℕ, zero, suc, ◌+◌, ◌<◌, List, [], ◌∷◌, length, map, get_or, Global, Contains, refl, sym, subst, arith}
 use Rattle.std.specs.Prelude.{Ok, Err, IfOk, MatchResult, Vec}
 use Rattle.std.specs.List.{AllZip, range_with_len}
 use Rattle.std.specs.declared.result.Result.{Result}

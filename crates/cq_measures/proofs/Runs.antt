@@ -1,29 +1,21 @@
 -- The places of groups, parted among the files: the lists as they grow, and the extents of a file's runs.
-use Rattle.std.proofs.Common.{◌≡◌, ℕ, zero, suc, ◌+◌, ◌-◌, ◌<◌, ◌≤◌, ◌^◌, cond, Bool, true, false, ◌||◌, ◌⊎◌, ⊎_elim, List, [], ◌∷◌, ◌++◌, length, map, filter, get_or, set, take, Contains, refl, sym, ap, ap₂, ◌∙◌, subst, arith, append-nil, append_assoc}
-use Rattle.std.proofs.lemmas.Bool.{cases_eq, eq-eqb, ne_eqb, cases_Bool}
-use Rattle.std.specs.Prelude.{◌==◌, All, Vec, slice_index_or}
-use Rattle.std.specs.List.{flat_map, list_any}
+use Rattle.std.proofs.Common.{◌≡◌, ℕ, zero, suc, ◌+◌, ◌<◌, ◌≤◌, cond, Bool, true, false, ◌||◌, ⊎_elim, List, [], ◌∷◌, ◌++◌, length, map, filter, get_or, set, Contains, refl, sym, ap, ap₂, ◌∙◌, subst, arith, append-nil, append_assoc}
+use Rattle.std.proofs.lemmas.Bool.{cases_eq, eq-eqb, ne_eqb}
+use Rattle.std.specs.Prelude.{◌==◌, All, slice_index_or}
 use Rattle.std.specs.Set.{is_member, unique_keys, distinct_count}
-use Rattle.std.proofs.lemmas.List.{length-set, get_or-set_same, get_or-set_other, length-replicate, get_or-replicate, length-map, get_or-map, take_more, map-append}
-use Rattle.std.proofs.lemmas.List.Elements.{All-nil, All-head, All-tail, All-cons, All-append, All-map, All-filter, All-weaker, All-contains_itself, All-get_or, Contains-append_right, filter-append}
-use Rattle.std.proofs.lemmas.Grind.{flat_map-append}
+use Rattle.std.proofs.lemmas.List.{length-set, get_or-set_same, get_or-set_other, map-append}
+use Rattle.std.proofs.lemmas.List.Elements.{All-nil, All-head, All-tail, All-cons, All-append, All-map, All-weaker, All-contains_itself, Contains-append_right, filter-append}
 use Rattle.cq_base.specs.declared.token.Token.{Token}
 use Rattle.cq_base.specs.declared.group.Place.{Place}
 use Rattle.cq_base.specs.declared.group.Group.{Group}
 use Rattle.cq_measures.specs.declared.extent.Extent.{Extent}
 use Rattle.cq_measures.specs.declared.parting.Run.{Run}
 use Rattle.cq_measures.specs.Extents.{files_touched}
-use Rattle.cq_measures.specs.Measures.{span_at, extent_of, group_extents, extents_of, IsInside, IsGroupInside, AreGroupsInside}
+use Rattle.cq_measures.specs.Measures.{extent_of, group_extents, extents_of, IsInside, AreGroupsInside}
 use Rattle.cq_measures.specs.Parted.{group_runs, runs_in, AreLonger, extent_of_run, IsRunInside, AreRunsInside, ArePlacesBelow, AreAllBelow}
 use Rattle.cq_measures.specs.Sorted.{AreIn, AreBelow}
 
 -- ---- the lists as they grow
-
-pub none_longer : (tokens : ℕ) (old : List (List Run)) → AreLonger (λ i. group_runs i tokens []) old old
-none_longer tokens old = record {
-  as_many = refl;
-  each = λ i d lt. sym (append-nil (get_or old i d));
-}
 
 abbrev run : ℕ → Place → Run
 run tokens p = record { at = p.at; tokens = tokens }
@@ -68,11 +60,6 @@ place_longer tokens places p old parts more within is are =
     any_default d [] i lt = absurd (omega arith)
     any_default d (x ∷ xs) zero lt = refl
     any_default d (x ∷ xs) (suc i) lt = any_default d xs i (omega (arith, lt))
-
--- ---- groups
-
-pub runs_more : (i : ℕ) (groups : List Group) (g : Group) → runs_in i (groups ++ g ∷ []) ≡ runs_in i groups ++ group_runs i g.tokens g.places
-runs_more i groups g = flat_map-append (λ g. group_runs i g.tokens g.places) groups (g ∷ []) ∙ ap (λ l. runs_in i groups ++ l) (append-nil (group_runs i g.tokens g.places))
 
 -- ---- the extents of a file's runs
 

@@ -1,5 +1,5 @@
 -- The places of groups, parted among the files, and what those of each file come to.
-use Rattle.std.specs.Prelude.{◌≡◌, ℕ, ◌+◌, ◌-◌, ◌<◌, ◌≤◌, ◌==◌, ◌^◌, List, [], ◌++◌, length, map, filter, Vec, slice_index_or, All, Contains}
+use Rattle.std.specs.Prelude.{◌≡◌, ℕ, ◌+◌, ◌-◌, ◌<◌, ◌≤◌, ◌==◌, ◌^◌, List, [], ◌++◌, length, map, filter, Vec, slice_index_or, All}
 use Rattle.std.specs.List.{flat_map}
 use Rattle.std.specs.declared.alloc.Global.{Global}
 use Rattle.cq_base.specs.declared.group.Place.{Place}
@@ -22,6 +22,10 @@ runs_in file groups = flat_map (λ g. group_runs file g.tokens g.places) groups
 
 abbrev pub part_at : List (Vec Run Global) → ℕ → List Run
 part_at parts i = slice_index_or (map (λ part. part.items) parts) i []
+
+-- those of one more group stand behind the old ones
+abbrev pub AddsRuns : ℕ → Group → List Run → List Run → Type 0
+AddsRuns file g old new = new ≡ old ++ group_runs file g.tokens g.places
 
 -- a list for each file
 pub record AreParted (files : ℕ) (groups : List Group) (parts : List (Vec Run Global)) : Type 0 where

@@ -8,7 +8,6 @@ mod decisions;
 mod extent;
 mod measuring;
 mod parting;
-mod placing;
 mod tallying;
 
 pub use counting::ncloc;

@@ -2,12 +2,12 @@ ghost use Rattle.std.specs.Prelude.{◌≡◌, ◌≤◌, ◌<◌, ◌^◌, List
 ghost use Rattle.cq_measures.specs.Measures as spec;
 ghost use Rattle.cq_measures.specs.declared.extent.Extent.{Extent};
 ghost use Rattle.cq_measures.specs.Counts.{IsTallyOf};
+ghost use Rattle.cq_measures.specs.Parted.{AreRunsInside, runs_in};
 
-use crate::counting::{Tally, count_up};
+use crate::counting::Tally;
 use crate::extent::FileLines;
-use crate::parting::{count_places, parted};
-use crate::placing::{extents_of, keep_file};
-use crate::tallying::{added, least_files, tallies_of};
+use crate::parting::{count_places, parted, runs_of};
+use crate::tallying::{added, file_tally, least_files, tallies_of};
 use cq_base::{FileCounts, Group, Measures, Memory};
 use std::alloc::Global;
 use std::thread::Threads;
@@ -78,18 +78,19 @@ pub fn project_measures<R: Threads + Sync>(
     Ok(measures_of(files.len() as u64, total(files), tally))
 }
 
-/// The measures of one of the files, with the places that groups of all the files' tokens have in it.
+/// The measures of the file with this number, with the places that groups of all files' tokens have in it. Nothing of the
+/// other files is looked at but the groups' places in them.
 pub fn file_measures(
     alloc: Global,
-    files: &[FileLines],
     file: u32,
+    lines: &FileLines,
     groups: &[Group],
 ) -> Result<Measures, Memory>
-    requires measurable { spec.IsMeasurable (spec.counts_of files.now) (spec.spans_of files.now) groups.now }
-    requires inside { file < length files.now }
-    ensures { IfOk result (λ m. m ≡ spec.measures_of_file files.now file groups.now) }
+    requires few { file < 262144 }
+    requires inside { AreRunsInside lines.now.spans.now (runs_in file groups.now) }
+    ensures { IfOk result (spec.AreOfFile lines.now file groups.now) }
 {
-    let mut extents = extents_of(alloc, files, groups)?;
-    keep_file(&mut extents, file);
-    Ok(measures_of(1, files[file as usize].counts, count_up(extents)))
+    let runs = runs_of(alloc, file, groups)?;
+    let tally = file_tally(alloc, file, lines.spans, &runs)?;
+    Ok(measures_of(1, lines.counts, tally))
 }

@@ -52,6 +52,32 @@ pub(crate) fn parted(
     Ok(parts)
 }
 
+// Puts each place of a group that is in the file behind others.
+fn add_runs(group: &Group, file: u32, runs: &mut Vec<Run>) -> Result<(), Memory>
+    ensures { OnOk result (spec.AddsRuns file group.now runs.old.items runs.new.items) }
+{
+    for place in group.places.as_slice() {
+        if place.file == file {
+            runs.push(Run {
+                at: place.at,
+                tokens: group.tokens,
+            })?;
+        }
+    }
+    Ok(())
+}
+
+/// The places of the groups that are in one file.
+pub(crate) fn runs_of(alloc: Global, file: u32, groups: &[Group]) -> Result<Vec<Run>, Memory>
+    ensures { IfOk result (λ v. v.items ≡ spec.runs_in file groups.now) }
+{
+    let mut runs = Vec::new(alloc);
+    for group in groups {
+        add_runs(group, file, &mut runs)?;
+    }
+    Ok(runs)
+}
+
 /// How many places the groups have, or `usize::MAX` where they are more.
 pub(crate) fn count_places(groups: &[Group]) -> usize {
     let mut places: usize = 0;

@@ -46,8 +46,8 @@ fn extents_of_runs(alloc: Global, file: u32, spans: &[Token], runs: &[Run]) -> R
     Ok(extents)
 }
 
-// What the runs of one file come to.
-fn file_tally(alloc: Global, file: u32, spans: &[Token], runs: &[Run]) -> Result<Tally, Memory>
+/// What the runs of the file with this number come to.
+pub(crate) fn file_tally(alloc: Global, file: u32, spans: &[Token], runs: &[Run]) -> Result<Tally, Memory>
     requires few { file < 262144 }
     requires inside { spec.AreRunsInside spans.now runs.now }
     ensures tally { IfOk result (IsTallyOf (map (spec.extent_of_run spans.now file) runs.now)) }

@@ -134,7 +134,7 @@ fn of_file(
     if !is_measurable(files, groups) || files.len() <= file as usize {
         return Err(Memory);
     }
-    file_measures(alloc, files, file, groups)
+    file_measures(alloc, file, &files[file as usize], groups)
 }
 
 // The lines, blocks and files that are duplicated, all lines and files, and the density.

@@ -1,6 +1,5 @@
-use Rattle.std.proofs.Common.{◌≡◌, [], map, get_or, sym, ap, ◌∙◌, subst, arith}
+use Rattle.std.proofs.Common.{[], ap, ◌∙◌}
 use Rattle.std.proofs.lemmas.List.{take_all}
-use Rattle.std.proofs.lemmas.List.{length-map}
 use Rattle.cq_measures.specs.Parted.{runs_in}
 use Rattle.cq_measures.proofs.parting.parted.Goals as goal
 

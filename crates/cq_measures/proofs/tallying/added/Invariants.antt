@@ -1,4 +1,4 @@
-use Rattle.std.proofs.Common.{ℕ, List, ◌≤◌, ◌*◌, ◌^◌, length}
+use Rattle.std.proofs.Common.{List, ◌≤◌, ◌*◌, ◌^◌}
 use Rattle.cq_measures.specs.declared.extent.Extent.{Extent}
 use Rattle.cq_measures.specs.Counts.{IsTallyOf}
 use Rattle.cq_measures.specs.Parted.{AreTallies}
