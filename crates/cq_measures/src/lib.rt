@@ -7,7 +7,8 @@ mod counting;
 mod decisions;
 mod extent;
 mod measuring;
-mod placing;
+mod parting;
+mod tallying;
 
 pub use counting::ncloc;
 pub use decisions::complexity;
