@@ -113,6 +113,20 @@ LINES = [
 STEPS = (ROOT / "examples" / "versions.jsonl").read_bytes().splitlines(keepends=True)
 
 
+def accept(text):
+    request = {"op": "put", "project": "p", "path": "t", "lang": "any", "text": text}
+    return line(step="accept", by=0, request=request)
+
+
+# The first version is read while the second one is done, and applied to one of two shards.
+VERSIONS = [
+    accept("a b c"), line(step="done", by=0, change=1), line(step="apply", shard=0), line(step="apply", shard=1),
+    line(step="publish", version=1), accept("d e"), line(step="done", by=0, change=2), line(step="apply", shard=0),
+    line(step="open", by=1), line(step="read", by=1, shard=0, key=0), line(step="read", by=1, shard=1, key=0),
+    line(step="publish", version=2),
+]
+
+
 class Refusing:
     """Runs of the program in which some allocations are refused."""
 
@@ -186,8 +200,11 @@ class Case(NamedTuple):
     has_workers: bool = False
 
 
-SETTINGS = ["--chunk", "2", "--shards", "3"]
+FIRST, SETTINGS = ["--chunk", "2", "--shards", "1"], ["--chunk", "2", "--shards", "3"]
 CASES = {
+    "upload and list": Case(["run", *FIRST], LINES[:2]),
+    "upload and list with workers": Case(["run", *FIRST, "--workers", "2"], LINES[:2], has_workers=True),
+    "two versions": Case(["drive", "--chunk", "2", "--shards", "2", "--key-bits", "0"], VERSIONS),
     "run": Case(["run", *SETTINGS], LINES),
     "run with workers": Case(["run", *SETTINGS, "--workers", "2"], LINES, has_workers=True),
     "drive": Case(["drive", "--chunk", "2", "--shards", "1", "--key-bits", "0"], STEPS),
@@ -261,7 +278,7 @@ def main():
     parser.add_argument("--every", type=int, default=1, help="each so many allocations alone")
     parser.add_argument("--and-behind", action="store_true", help="refuse all allocations from that one on")
     given = parser.parse_args()
-    is_broken = False
+    is_broken, total = False, 0
     with tempfile.TemporaryDirectory() as folder:
         refusing = Refusing(Path(folder))
         for name in [given.only] if given.only else CASES:
@@ -270,7 +287,8 @@ def main():
             print(f"{name}: {allocations} allocations; {sum(counted.values())} runs with one refused: {told}", flush=True)
             for fault in faults[:5]:
                 print(f"  {fault}")
-            is_broken = is_broken or bool(faults)
+            is_broken, total = is_broken or bool(faults), total + sum(counted.values())
+    print(f"{total} runs with one refused in all")
     return 1 if is_broken else 0
 
 

@@ -3,8 +3,10 @@
 #![tactic(auto)]
 
 mod clients;
+mod laws;
 mod program;
 mod status;
 mod workers;
 
+pub use laws::a_command_that_nothing_fails_is_done;
 pub use program::top;

@@ -2,12 +2,11 @@ ghost use Rattle.std.specs.Prelude.{◌≡◌, ◌<◌, []};
 ghost use Rattle.cq_base.specs.Settings.{IsInRange};
 ghost use Rattle.cq_shared.specs.SharedPasses.{IsPassOf, settings_of};
 
-use cq_base::{Counters, Memory, Settings, Steps};
+use crate::talking::ended;
+use cq_base::{Counters, Memory, Settings};
 use cq_chain::Pass;
 use cq_io::Gate;
-use cq_key::{Keyer, plain_key};
 use cq_lines::End;
-use cq_session_trials::written;
 use cq_shared::Shared;
 use cq_talk_model::{
     Plan, Talk, first_change, first_fault, first_fault_at_end, history_of, planned_lines,
@@ -22,7 +21,7 @@ use std::thread;
 use std::thread::{Threads, join};
 use std::time::{Clock, Duration};
 
-const SETTINGS: Settings = Settings {
+pub(crate) const SETTINGS: Settings = Settings {
     chunk: 2,
     shards: 7,
     key_bits: 64,
@@ -92,27 +91,23 @@ fn session_talk<L: Ledger, R: Wait, G: Gate>(
     counters: &Counters<L>,
     gate: &G,
     plan: Plan,
-    mut pass: Pass<Work<L>>,
+    pass: Pass<Work<L>>,
 ) -> Result<Talk, Memory>
     requires in_range { IsInRange settings.now }
     requires hub_settings { settings_of hub.now ≡ settings.now }
     requires of { IsPassOf hub.now pass }
     requires fresh { pass.seen ≡ [] }
 {
-    let of = *settings;
-    let key = Box::new(alloc, move |codes: &[u64]| plain_key(&of, codes))?;
-    let keyer = Keyer::new(settings, key);
     let asked = planned_lines(alloc, &plan)?;
-    let mut steps: Steps<L> = counters.counter();
-    let (end, output) = written(
+    let (end, output) = ended(
         alloc,
         settings,
-        &keyer,
         hub,
-        asked.as_bytes(),
+        counters,
         gate,
-        &mut pass,
-        &mut steps,
+        asked.as_bytes(),
+        0,
+        pass,
     )?;
     let replies = match (end, String::from_utf8(output)) {
         (End::Finished, Ok(replies)) => replies,
@@ -276,9 +271,13 @@ fn four_threads<Q: Threads + Clock + Wait + Sync, L: Ledger + Send + Sync>(
 fn four_threads_here<Q: Threads + Clock + Wait + Sync>(
     rt: &Q,
     alloc: Global,
+    key_bits: u32,
     seed: u64,
 ) -> Result<Went, Memory> {
-    let settings = SETTINGS;
+    let settings = Settings {
+        key_bits,
+        ..SETTINGS
+    };
     if settings.check().is_some() {
         return Ok(Went::OutOfRange);
     }
@@ -287,6 +286,19 @@ fn four_threads_here<Q: Threads + Clock + Wait + Sync>(
 
 #[test]
 fn one_history_has_what_four_threads_are_told(rt: HostRuntime) -> Result<(), Memory> {
-    assert_eq!(rt; four_threads_here(&rt, rt.alloc(), 77)?, Went::ByOneHistory);
+    assert_eq!(rt;
+        four_threads_here(&rt, rt.alloc(), 64, 77)?,
+        Went::ByOneHistory
+    );
+    Ok(())
+}
+
+// All windows of all projects have one key, so each bucket is all that was ever uploaded and not swept.
+#[test]
+fn one_history_has_it_where_all_keys_are_one(rt: HostRuntime) -> Result<(), Memory> {
+    assert_eq!(rt;
+        four_threads_here(&rt, rt.alloc(), 0, 78)?,
+        Went::ByOneHistory
+    );
     Ok(())
 }

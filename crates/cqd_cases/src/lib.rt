@@ -5,6 +5,8 @@
 #[cfg(test)]
 mod clients;
 #[cfg(test)]
+mod failing;
+#[cfg(test)]
 mod projects;
 #[cfg(test)]
 mod running;

@@ -82,10 +82,11 @@ fn parted(alloc: Global, table: &str) -> Result<(Vec<u8>, Vec<u8>), Memory> {
 fn all_come_to<Q: Threads + Wait + Sync>(
     rt: &Q,
     alloc: Global,
+    words: &[&str],
     table: &str,
 ) -> Result<bool, Memory> {
     let (input, output) = parted(alloc, table)?;
-    ends_with(rt, alloc, &DRIVE, &input, 97, (0, 0), &output, 0)
+    ends_with(rt, alloc, words, &input, 97, (0, 0), &output, 0)
 }
 
 // Each step where it is not allowed, and where it then is.
@@ -140,7 +141,7 @@ const NOT_ALLOWED: &str = r#"{"step":"took","by":3} -> {"ok":true,"value":null}
 
 #[test]
 fn a_step_that_is_not_allowed_changes_nothing(rt: HostRuntime) -> Result<(), Memory> {
-    assert!(rt; all_come_to(&rt, rt.alloc(), NOT_ALLOWED)?);
+    assert!(rt; all_come_to(&rt, rt.alloc(), &DRIVE, NOT_ALLOWED)?);
     Ok(())
 }
 
@@ -165,7 +166,7 @@ const REFUSED: &str =
 
 #[test]
 fn refusals_are_told(rt: HostRuntime) -> Result<(), Memory> {
-    assert!(rt; all_come_to(&rt, rt.alloc(), REFUSED)?);
+    assert!(rt; all_come_to(&rt, rt.alloc(), &DRIVE, REFUSED)?);
     Ok(())
 }
 
@@ -198,7 +199,7 @@ const TWO_VERSIONS: &str =
 
 #[test]
 fn an_open_version_is_read_on(rt: HostRuntime) -> Result<(), Memory> {
-    assert!(rt; all_come_to(&rt, rt.alloc(), TWO_VERSIONS)?);
+    assert!(rt; all_come_to(&rt, rt.alloc(), &DRIVE, TWO_VERSIONS)?);
     Ok(())
 }
 
@@ -229,7 +230,7 @@ const REPLIES: &str =
 
 #[test]
 fn a_reply_is_that_of_the_open_version(rt: HostRuntime) -> Result<(), Memory> {
-    assert!(rt; all_come_to(&rt, rt.alloc(), REPLIES)?);
+    assert!(rt; all_come_to(&rt, rt.alloc(), &DRIVE, REPLIES)?);
     Ok(())
 }
 
@@ -256,6 +257,47 @@ const KINDS: &str =
 
 #[test]
 fn each_kind_of_query_is_answered(rt: HostRuntime) -> Result<(), Memory> {
-    assert!(rt; all_come_to(&rt, rt.alloc(), KINDS)?);
+    assert!(rt; all_come_to(&rt, rt.alloc(), &DRIVE, KINDS)?);
+    Ok(())
+}
+
+const ONE_SHARD: [&str; 7] = ["drive", "--chunk", "2", "--shards", "1", "--key-bits", "0"];
+
+// A change is given back only by who has taken it, and is done by whoever comes first: then by nobody else.
+const GIVEN_BACK: &str =
+    r#"{"step":"accept","by":0,"request":{"op":"put","project":"p","path":"t","lang":"any","text":"a b"}} -> {"ok":true,"value":1}
+{"step":"took","by":0} -> {"ok":true,"value":1}
+{"step":"took","by":1} -> {"ok":true,"value":null}
+{"step":"back","by":1,"change":1} -> {"ok":false}
+{"step":"back","by":0,"change":1} -> {"ok":true}
+{"step":"took","by":1} -> {"ok":true,"value":1}
+{"step":"done","by":2,"change":1} -> {"ok":true}
+{"step":"back","by":1,"change":1} -> {"ok":false}
+{"step":"done","by":1,"change":1} -> {"ok":false}
+"#;
+
+// A view that was opened before any version sees nothing of a file that came and went, and holds the floor down.
+const CAME_AND_WENT: &str =
+    r#"{"step":"accept","by":0,"request":{"op":"put","project":"p","path":"t","lang":"any","text":"a b"}} -> {"ok":true,"value":1}
+{"step":"accept","by":0,"request":{"op":"drop","project":"p","path":"t"}} -> {"ok":true,"value":2}
+{"step":"open","by":1} -> {"ok":true,"value":0}
+{"step":"done","by":0,"change":1} -> {"ok":true}
+{"step":"apply","shard":0} -> {"ok":true,"value":1}
+{"step":"publish","version":2} -> {"ok":false}
+{"step":"apply","shard":0} -> {"ok":true,"value":2}
+{"step":"publish","version":2} -> {"ok":true}
+{"step":"read","by":1,"shard":0,"key":0} -> {"ok":true,"value":[]}
+{"step":"floor","version":1} -> {"ok":false}
+{"step":"shut","by":1} -> {"ok":true}
+{"step":"floor","version":2} -> {"ok":true}
+{"step":"sweep","shard":0} -> {"ok":true}
+{"step":"open","by":1} -> {"ok":true,"value":2}
+{"step":"read","by":1,"shard":0,"key":0} -> {"ok":true,"value":[]}
+"#;
+
+#[test]
+fn callers_come_between_each_other(rt: HostRuntime) -> Result<(), Memory> {
+    assert!(rt; all_come_to(&rt, rt.alloc(), &ONE_SHARD, GIVEN_BACK)?);
+    assert!(rt; all_come_to(&rt, rt.alloc(), &ONE_SHARD, CAME_AND_WENT)?);
     Ok(())
 }

@@ -1,0 +1,160 @@
+"""What the files of a version come to, worked out plainly from small texts of words.
+
+A text is words with a blank or a line feed between them, each a token of any language that it is uploaded in. The replies are
+worked out from all pairs of places, as docs/PROTOCOL.md says what they are; nothing here knows an index.
+"""
+import itertools
+from typing import NamedTuple
+
+DECISIONS = {"any": (), "c": ("if", "for", "while"), "java": ("if", "for", "while")}
+NAMES = ["complexity", "duplicated_blocks", "duplicated_files", "duplicated_lines", "duplicated_lines_density", "files", "lines",
+         "ncloc"]
+
+
+class File(NamedTuple):
+    path: str
+    change: int
+    lang: str
+    text: str
+
+
+class Change(NamedTuple):
+    """A put of a text, a drop, whose text is None, or a gate, which has conditions."""
+    project: str
+    path: str | None
+    lang: str | None = None
+    text: str | None = None
+    conditions: list | None = None
+
+
+class History:
+    """The changes of some projects by their numbers; there may be others between them."""
+
+    def __init__(self, changes=()):
+        self.changes, self.listed = {}, {}
+        for number, change in changes:
+            self.add(number, change)
+
+    def add(self, number, change):
+        self.changes.setdefault(change.project, []).append((number, change))
+
+    def files(self, project, version):
+        """The files of a project at a version, in the order of their paths."""
+        upto = sum(number <= version for number, _ in self.changes.get(project, []))
+        if (project, upto) not in self.listed:
+            files = {}
+            for number, change in self.changes.get(project, [])[:upto]:
+                if change.conditions is None:
+                    files.pop(change.path, None)
+                    if change.text is not None:
+                        files[change.path] = File(change.path, number, change.lang, change.text)
+            self.listed[project, upto] = tuple(files[path] for path in sorted(files, key=str.encode))
+        return self.listed[project, upto]
+
+    def conditions(self, project, version):
+        gates = [it.conditions for number, it in self.changes.get(project, []) if number <= version and it.conditions is not None]
+        return gates[-1] if gates else []
+
+    def has(self, project, version, path):
+        return any(it.path == path for it in self.files(project, version))
+
+    def reply(self, query, version):
+        """The reply to a query at a version."""
+        files = self.files(query["project"], version)
+        if query["op"] == "files":
+            return {"files": [listed(it) for it in files], "ok": True, "version": version}
+        if query["op"] == "groups":
+            found = [it for it in groups(files, query["min"]) if "path" not in query or query["path"] in paths(it)]
+            return {"groups": found, "ok": True, "total": len(found), "version": version}
+        told = measures(files, query["min"], query.get("path"))
+        if query["op"] == "measures":
+            return {"measures": told, "ok": True, "version": version}
+        conditions = enumerate(self.conditions(query["project"], version))
+        failed = [at for at, it in conditions if is_met(told[it["metric"]], it)]
+        return {"failed": failed, "ok": True, "verdict": "ERROR" if failed else "OK", "version": version}
+
+
+def is_met(measure, condition):
+    return measure > condition["error"] if condition["op"] == "GT" else measure < condition["error"]
+
+
+def paths(group):
+    return [it["path"] for it in group["places"]]
+
+
+def lines(text):
+    return text.count("\n") + (text != "" and not text.endswith("\n"))
+
+
+def tokens(file):
+    """The words of a text, each with its language, and the line of each, from 1."""
+    told = [((file.lang, word), number) for number, line in enumerate(file.text.split("\n"), 1) for word in line.split()]
+    return [it for it, _ in told], [number for _, number in told]
+
+
+def listed(file):
+    return {"change": file.change, "lang": file.lang, "lines": lines(file.text), "path": file.path, "state": "ok",
+            "tokens": len(tokens(file)[0])}
+
+
+def common(one, at, two, there):
+    """How many tokens are the same from these places on."""
+    size = 0
+    while at + size < len(one) and there + size < len(two) and one[at + size] == two[there + size]:
+        size += 1
+    return size
+
+
+def words_at(texts, least):
+    """Each word that can't be made longer at some two places, with all the places at which it stands."""
+    spots = {}
+    for file, text in enumerate(texts):
+        for at, token in enumerate(text):
+            spots.setdefault(token, []).append((file, at))
+    found = set()
+    for places in spots.values():
+        for (i, at), (j, there) in itertools.combinations(places, 2):
+            if not (at and there and texts[i][at - 1] == texts[j][there - 1]):
+                size = common(texts[i], at, texts[j], there)
+                if size >= least:
+                    found.add(tuple(texts[i][at:at + size]))
+    return {word: [(i, at) for i, at in spots[word[0]] if tuple(texts[i][at:at + len(word)]) == word] for word in found}
+
+
+def kept(places, size):
+    """Of each file the places that begin behind the end of the last one that was kept there."""
+    ends, told = {}, []
+    for file, at in places:
+        if at >= ends.get(file, 0):
+            ends[file] = at + size
+            told.append((file, at))
+    return told
+
+
+def groups(files, least):
+    read = [tokens(it) for it in files]
+    found = []
+    for word, places in words_at([it for it, _ in read], least).items():
+        told = kept(places, len(word))
+        if len(told) > 1:
+            found.append((*told[0], -len(word), told))
+    return [{"places": [place(files[i].path, read[i][1], at, -size) for i, at in told], "tokens": -size}
+            for _, _, size, told in sorted(found)]
+
+
+def place(path, numbers, at, size):
+    return {"at": at, "first": numbers[at], "last": numbers[at + size - 1], "path": path}
+
+
+def measures(files, least, path=None):
+    """The measures of all files, or of the one at a path, with the groups of all."""
+    blocks = {(it["path"], it["first"], it["last"]) for group in groups(files, least) for it in group["places"]}
+    blocks = {it for it in blocks if path in (None, it[0])}
+    counted = [it for it in files if path in (None, it.path)]
+    covered = {(file, line) for file, first, last in blocks for line in range(first, last + 1)}
+    total = sum(lines(it.text) for it in counted)
+    decided = sum(1 + sum(word in DECISIONS[it.lang] for _, word in tokens(it)[0]) for it in counted)
+    filled = sum(len(set(tokens(it)[1])) for it in counted)
+    told = [decided, len(blocks), len({it[0] for it in blocks}), len(covered), len(covered) * 10_000 // total if total else 0,
+            len(counted), total, filled]
+    return dict(zip(NAMES, told))

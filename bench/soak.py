@@ -1,0 +1,399 @@
+#!/usr/bin/env python3
+"""Runs `cqd listen` under clients that mean it ill, for as long as is asked for, and checks each reply.
+
+usage: bench/soak.py [--minutes N] [--clients N] [--workers N] [--changes N] [--pause SECONDS]
+
+Each client, in a process of its own, uploads, drops, gates and asks all that can be asked, in a project of its own and in one
+that all share, with small texts. Among these it sends lines of 8 MiB, those that are a byte too long, bytes that aren't UTF-8,
+126 to 128 nested brackets, and requests that are refused in each way. Its connections end in the middle of a line, with or
+without replies that nobody reads, in the middle of a line of 8 MiB, and with a last line that lacks its line feed.
+
+Each reply is checked. What needs no other client is, as it comes: refusals are those of their lines, versions and numbers never
+fall, and replies of the client's own project are what bench/model.py works out from its texts. The others are checked behind
+all clients, by one history of all changes that were told: they are numbered once each and without a gap, each reply of the
+shared project is that of its version, each drop that was accepted had its file and one that was refused lacked it at some
+version in between, a change that was told as pending is a put, and after the first client was told that no more changes are
+taken there were none. Lines that broke off left nothing, and `state` adds up. Then the server has to end with 0, behind the
+last of its connections, and its memory in the last minute may be a tenth above that of the minute before minute 5, or before a
+quarter of the minutes, where others are asked for; memory is VmRSS, looked at once a second, and the middle of a minute's.
+
+Changes and texts are never given back, so --changes is how many the server takes: behind these clients are told so. Printed
+are how many replies of each kind there were, connections, changes and memory. Ends with 1 where anything was otherwise.
+
+The program is ./cqd, or what the variable CQD names.
+"""
+import argparse
+import collections
+import json
+import multiprocessing
+import os
+import random
+import socket
+import statistics
+import subprocess
+import sys
+import threading
+import time
+from pathlib import Path
+
+from load import Connection, free_address, must
+from model import Change, History
+
+ROOT = Path(__file__).resolve().parent.parent
+PROGRAM = str(Path(os.environ.get("CQD", ROOT / "cqd")).resolve())
+LINE_LIMIT = 8_388_608
+TEXT_LIMIT = 1_000_000
+PART = 15.0
+AT_ONCE = 4
+SHARED, LEFT, HALF = "shared", "left", "half"
+WORDS = [f"w{number}" for number in range(9)] + ["if", "for", "begin"]
+METRICS = ["complexity", "duplicated_blocks", "duplicated_lines_density", "files", "lines", "ncloc"]
+
+
+def refusal(code, error, **more):
+    return {"code": code, "error": error, "ok": False, **more}
+
+
+JSON, LONG = refusal(1, "json"), refusal(13, "long")
+FULL_CHANGES, FULL_TEXT = refusal(10, "full-changes"), refusal(11, "full-text")
+
+
+def put(project, path, lang, text):
+    return {"op": "put", "project": project, "path": path, "lang": lang, "text": text}
+
+
+def nested(depth, behind=b""):
+    """Brackets, as a line of their own or behind a field that a request doesn't have."""
+    brackets = b"[" * depth + b"]" * depth
+    return behind + brackets + (b"}\n" if behind else b"\n")
+
+
+STATE_X = b'{"op":"state","x":'
+# Lines whose replies are known whatever was accepted.
+BROKEN = [
+    (b"\n", JSON), (b"[1]\n", JSON), (b'{"op":"files",\n', JSON), (b'{"op":"state"}}\n', JSON),
+    (b"\xff\n", JSON), (b'{"op":"state","x":"\xff"}\n', JSON), (b'{"op":"files","project":"\xc3"}\n', JSON),
+    (nested(127), JSON), (nested(128), JSON), (nested(126, STATE_X), refusal(3, "field", name="x")),
+    (nested(127, STATE_X), JSON), (nested(128, STATE_X), JSON), (b"[" * 100_000 + b"\n", JSON),
+    (b'{"op":"fly"}\n', refusal(2, "op")), (b"{}\n", refusal(2, "op")), (b'{"op":"files"}\n', refusal(3, "field", name="project")),
+    (b'{"op":"put","project":"p","path":"a","lang":"rust","text":""}\n', refusal(4, "lang")),
+    (b'{"op":"put","project":"p","path":"a//b","lang":"any","text":""}\n', refusal(5, "path")),
+    (b'{"op":"groups","project":"p","min":1}\n', refusal(7, "min")),
+]
+# The same for lines of 8 MiB, by what makes them.
+LARGE = {
+    "at the limit": (lambda: b'{"op":"files"}'.ljust(LINE_LIMIT) + b"\n", refusal(3, "field", name="project")),
+    "too long": (lambda: b'{"op":"files"}'.ljust(LINE_LIMIT + 1) + b"\n", LONG),
+    "much too long": (lambda: b"\xff" * (2 * LINE_LIMIT) + b"\n", LONG),
+    "no JSON": (lambda: b"[" * LINE_LIMIT + b"\n", JSON),
+    "no UTF-8": (lambda: b'"' + b"\xff" * (LINE_LIMIT - 2) + b'"\n', JSON),
+    "text": (lambda: json.dumps(put("p", "a", "any", " " * (LINE_LIMIT - 100))).encode() + b"\n", refusal(6, "text")),
+}
+KINDS = {"put": 3, "drop": 1, "gate": 1, "files": 8, "groups": 16, "path": 12, "measures": 10, "verdict": 6, "pending": 10,
+         "state": 6, "future": 2, "full-text": 2, "broken": 14, "large": 0.5}
+ENDS = ["cut", "cut in 8 MiB", "half", "whole", "plain"]
+
+
+class Log:
+    """What a client was told that only all clients together can decide."""
+
+    def __init__(self):
+        self.changes, self.replies, self.absent, self.pending, self.sent = [], [], [], [], 0
+        self.counted = collections.Counter()
+
+
+class Client:
+    def __init__(self, address, number, start, parts, limit, pause):
+        self.address, self.number, self.start, self.parts = address, number, start, parts
+        self.limit, self.pause = limit, pause
+        self.project, self.drawn, self.log, self.history = f"p{number}", random.Random(number), Log(), History()
+        # The greatest number that was told in this session, the greatest version, and the greatest number of all.
+        self.seen = self.shown = self.told = 0
+        self.is_full = False
+
+    # ---- requests, each with a check of its reply
+
+    def ask(self, kind):
+        draw = self.drawn
+        project = draw.choice([self.project, SHARED])
+        path = f"d/f{draw.randrange(6)}"
+        query = {"op": kind, "project": project}
+        least = {"min": draw.randrange(2, 7)}
+        if kind == "put":
+            lang, text = draw.choice(["any", "any", "c", "java"]), self.text()
+            return put(project, path, lang, text), lambda it: self.change(it, Change(project, path, lang, text))
+        if kind == "drop":
+            return {**query, "path": path}, lambda it: self.change(it, Change(project, path))
+        if kind == "gate":
+            conditions = [{"metric": draw.choice(METRICS), "op": draw.choice(["GT", "LT"]), "error": draw.randrange(30)}
+                          for _ in range(draw.randrange(4))]
+            return {**query, "conditions": conditions}, lambda it: self.change(it, Change(project, None, conditions=conditions))
+        if kind == "files":
+            return query, lambda it: self.answer(query, it)
+        if kind in ("measures", "verdict", "groups"):
+            return {**query, **least}, lambda it: self.answer({**query, **least}, it)
+        if kind == "path":
+            query = {**query, "op": draw.choice(["groups", "measures"]), "path": path, **least}
+            return query, lambda it: self.answer(query, it)
+        if kind == "pending":
+            at = draw.randrange(self.told + 1)
+            query = {**query, "op": draw.choice(["groups", "measures", "verdict"]), **least, "at": at, "finish": False}
+            return query, lambda it: self.perhaps(query, it)
+        return self.ask_else(kind)
+
+    def ask_else(self, kind):
+        if kind == "state":
+            return {"op": "state"}, self.state
+        if kind == "future":
+            return {"op": "files", "project": SHARED, "at": 2**63}, self.future
+        if kind == "full-text":
+            return put(SHARED, "a", "any", " " * 1_048_576), self.full_text
+        line, wanted = self.drawn.choice(BROKEN)
+        if kind == "large":
+            make, wanted = self.drawn.choice(list(LARGE.values()))
+            line = make()
+        return line, lambda it: must(it == wanted, line[:99], it)
+
+    def text(self):
+        words = [self.drawn.choice(WORDS) for _ in range(self.drawn.randrange(4, 20))]
+        return "".join(word + self.drawn.choice("   \n") for word in words)
+
+    # ---- replies
+
+    def name(self, number):
+        self.seen, self.told = max(self.seen, number), max(self.told, number)
+
+    def change(self, reply, change):
+        if reply == FULL_CHANGES:
+            self.is_full = True
+            self.name_limit(reply)
+        elif reply == refusal(9, "absent"):
+            must(change.text is None and change.conditions is None, change, reply)
+            must(change.project == SHARED or not self.history.has(self.project, self.told, change.path), change, reply)
+            self.log.absent.append((self.told, len(self.log.changes), change))
+        else:
+            number = reply.get("change", 0)
+            must(reply == {"change": number, "ok": True} and self.told < number <= self.limit and not self.is_full, change, reply)
+            self.log.changes.append((number, change))
+            if change.project == self.project:
+                self.history.add(number, change)
+            self.name(number)
+
+    def name_limit(self, reply):
+        must(self.told <= self.limit, "full", reply)
+        self.told = self.limit
+
+    def full_text(self, reply):
+        must(reply in (FULL_TEXT, FULL_CHANGES) and (reply == FULL_CHANGES or not self.is_full), "a text that never fits", reply)
+        if reply == FULL_CHANGES:
+            self.is_full = True
+            self.name_limit(reply)
+
+    def future(self, reply):
+        count = reply.get("count", -1)
+        must(reply == refusal(8, "future", count=count) and self.told <= count <= self.limit, "future", reply)
+        self.told = count
+
+    def state(self, reply):
+        accepted, done, published = (reply.get(it, -1) for it in ("accepted", "done", "published"))
+        must(reply == {"accepted": accepted, "done": done, "ok": True, "published": published}, "state", reply)
+        must(self.shown <= published <= done <= accepted and self.told <= accepted <= self.limit, (self.shown, self.told), reply)
+        self.shown, self.told = published, accepted
+        self.seen = max(self.seen, published)
+
+    def perhaps(self, query, reply):
+        """The reply to a query that waits for no work."""
+        floor = max(self.seen, query["at"])
+        number = reply.get("number", 0)
+        if reply == refusal(12, "pending", number=number):
+            must(self.shown < number <= floor, (query, self.shown, floor), reply)
+            self.log.pending.append(number)
+        else:
+            must(floor <= reply.get("version", -1), (query, floor), reply)
+            self.view(query, reply)
+
+    def answer(self, query, reply):
+        must(self.told <= reply.get("version", -1), (query, self.told), reply)
+        self.view(query, reply)
+
+    def view(self, query, reply):
+        version = reply["version"]
+        must(self.shown <= version <= self.limit, (query, self.shown), reply)
+        self.shown = version
+        self.name(version)
+        if query["project"] == SHARED:
+            self.log.replies.append((query, reply))
+        else:
+            must(reply == self.history.reply(query, version), query, reply)
+
+    # ---- connections
+
+    def talk(self, connection):
+        """Sends a few requests at once, and checks their replies."""
+        drawn = self.drawn.choices(list(KINDS), list(KINDS.values()), k=self.drawn.randrange(AT_ONCE) + 1)
+        # Behind an upload comes a query that doesn't wait for its work.
+        kinds = [kind for it in drawn for kind in ([it, "pending"] if it == "put" else [it])]
+        asked = [self.ask(it) for it in kinds]
+        connection.send(*(request for request, _ in asked))
+        for kind, (_, check) in zip(kinds, asked):
+            check(connection.receive())
+            self.log.counted[kind] += 1
+        time.sleep(self.drawn.random() * 2 * self.pause)
+
+    def end(self, connection, how):
+        """Ends a connection. What was sent of a line that broke off is never a request."""
+        self.log.counted[f"end: {how}"] += 1
+        if how == "cut":
+            left = put(LEFT, f"{self.number}/{self.log.sent}", "any", "a b c")
+            self.log.sent += 1
+            connection.send(left, json.dumps(put(HALF, "h", "any", "a b c")).encode()[:-1])
+        elif how == "cut in 8 MiB":
+            front = b'{"op":"put","project":"half","path":"h","lang":"any","text":"'
+            connection.send(front + b"a " * self.drawn.randrange(LINE_LIMIT // 2))
+        elif how in ("half", "whole"):
+            line = json.dumps({"op": "groups", "project": self.project, "min": 2}).encode()
+            connection.send(line[:-1] if how == "half" else line)
+            connection.socket.shutdown(socket.SHUT_WR)
+            if how == "half":
+                must(connection.receive() == JSON, "half a line", "another reply")
+            else:
+                self.answer(json.loads(line), connection.receive())
+            must(connection.replies.read() == b"", "the end of the input", "more than its replies")
+        connection.close()
+
+    def run(self):
+        for part in range(self.parts):
+            connection = Connection(self.address)
+            self.seen = 0
+            while time.monotonic() < self.start + (part + 1) * PART:
+                self.talk(connection)
+            self.end(connection, self.drawn.choice(ENDS))
+        return self.log
+
+
+def run_client(given):
+    return Client(*given).run()
+
+
+# ---- behind all clients
+
+
+def is_absent(history, path, first, last):
+    return any(not history.has(SHARED, version, path) for version in range(first, last + 1))
+
+
+def check_log(given):
+    """Holds what a client was told of the shared project to the history of all changes."""
+    numbered, log, accepted = given
+    history, puts = History(sorted(numbered.items())), {number for number, it in numbered.items() if it.text is not None}
+    for query, reply in log.replies:
+        must(reply == history.reply(query, reply["version"]), query, reply)
+    for number in log.pending:
+        must(number in puts, "pending", number)
+    for number, change in log.changes:
+        if change.text is None and change.conditions is None:
+            must(history.has(change.project, number - 1, change.path), change, number)
+    for first, behind, change in log.absent:
+        last = log.changes[behind][0] - 1 if behind < len(log.changes) else accepted
+        must(change.project != SHARED or is_absent(history, change.path, first, last), change, (first, last))
+    return len(log.replies)
+
+
+def left_changes(connection, sent):
+    """The changes that were accepted of lines whose replies nobody read, by their numbers."""
+    reply = connection.ask({"op": "files", "project": LEFT})
+    told = {it["change"]: Change(LEFT, it["path"], "any", "a b c") for it in reply["files"]}
+    must({it.path for it in told.values()} <= sent and len(told) == len(reply["files"]), "left", reply)
+    history = History(sorted(told.items()))
+    must(reply == history.reply({"op": "files", "project": LEFT}, reply["version"]), "left", reply)
+    half = connection.ask({"op": "files", "project": HALF})
+    must(half == {"files": [], "ok": True, "version": half["version"]}, "half", half)
+    return told
+
+
+def one_history(connection, logs, limit):
+    """All changes by their numbers, from 1 on without a gap, and how many there are."""
+    sent = {f"{number}/{at}" for number, log in enumerate(logs) for at in range(log.sent)}
+    numbered = left_changes(connection, sent)
+    for log in logs:
+        for number, change in log.changes:
+            must(number not in numbered, change, f"{number}, as {numbered.get(number)} was")
+            numbered[number] = change
+    state = connection.ask({"op": "state"})
+    accepted = len(numbered)
+    must(sorted(numbered) == list(range(1, accepted + 1)), "numbers", accepted)
+    must(state == {"ok": True, "accepted": accepted, "done": accepted, "published": accepted}, accepted, state)
+    return numbered, accepted
+
+
+class Server:
+    """A server that ends behind so many connections, and whose memory is looked at once a second."""
+
+    def __init__(self, connections, workers, sessions, changes):
+        self.address = free_address()
+        words = ["listen", self.address, "--workers", workers, "--sessions", sessions, "--connections", connections, "--chunk", 2,
+                 "--change-limit", changes, "--text-limit", TEXT_LIMIT]
+        self.process = subprocess.Popen([PROGRAM, *map(str, words)])
+        self.start, self.memory = time.monotonic(), []
+        threading.Thread(target=self.look, daemon=True).start()
+
+    def status(self, name):
+        for line in Path(f"/proc/{self.process.pid}/status").read_text().splitlines():
+            if line.startswith(name):
+                return int(line.split()[1]) / 1024
+        return 0.0
+
+    def look(self):
+        while self.process.poll() is None:
+            try:
+                self.memory.append((time.monotonic() - self.start, self.status("VmRSS:")))
+            except OSError:
+                return
+            time.sleep(1)
+
+    def memory_before(self, seconds):
+        return statistics.median(mib for at, mib in self.memory if mib and seconds - 60 <= at <= seconds)
+
+
+def soak(minutes, clients, workers, changes, pause):
+    parts = max(1, round(minutes * 60 / PART))
+    server = Server(clients * parts + 1, workers, clients, changes)
+    try:
+        with multiprocessing.Pool(clients) as pool:
+            given = [(server.address, number, time.monotonic(), parts, changes, pause) for number in range(clients)]
+            logs = pool.map(run_client, given, chunksize=1)
+            seconds = time.monotonic() - server.start
+            early, late = server.memory_before(seconds / 4), server.memory_before(seconds)
+            greatest = server.status("VmHWM:")
+            connection = Connection(server.address)
+            numbered, accepted = one_history(connection, logs, changes)
+            must(server.process.poll() is None, "before the last connection", "the server ended")
+            connection.close()
+            must(server.process.wait(60) == 0, "behind the last connection", f"it ended with {server.process.returncode}")
+            shared = sum(pool.map(check_log, [(numbered, it, accepted) for it in logs], chunksize=1))
+    finally:
+        server.process.kill()
+    counted = sum((it.counted for it in logs), collections.Counter())
+    replies = sum(count for kind, count in counted.items() if not kind.startswith("end: "))
+    print(f"{seconds / 60:.1f} minutes, {clients} clients, {workers} workers, {clients * parts + 1} connections:"
+          f" {replies} replies, each checked; {shared} of the shared project")
+    print(f"  {accepted} changes of {changes} at most; {sum(len(it.pending) for it in logs)} told pending; ended with 0")
+    print("  " + ", ".join(f"{kind} {count}" for kind, count in sorted(counted.items())))
+    print(f"  memory: {early:.0f} MiB in the minute before a quarter of the time, {late:.0f} MiB in the last,"
+          f" {greatest:.0f} MiB at most")
+    must(late <= early * 1.1, "memory", f"{late:.0f} MiB is more than a tenth above {early:.0f} MiB")
+
+
+def main():
+    parser = argparse.ArgumentParser(description=__doc__, formatter_class=argparse.RawDescriptionHelpFormatter)
+    parser.add_argument("--minutes", type=float, default=20)
+    parser.add_argument("--clients", type=int, default=16)
+    parser.add_argument("--workers", type=int, default=4)
+    parser.add_argument("--changes", type=int, default=8000, help="as many changes are taken, of clients together")
+    parser.add_argument("--pause", type=float, default=0.2, help="seconds between the requests of a client, in the middle")
+    given = parser.parse_args()
+    soak(given.minutes, given.clients, given.workers, given.changes, given.pause)
+
+
+if __name__ == "__main__":
+    main()

@@ -1,0 +1,68 @@
+-- A command that no end failed is done, unless memory was refused.
+use Rattle.std.proofs.Common.{◌≡◌, ◌≢◌, ◌⊎◌, ◌<◌, ◌||◌, ℕ, Bool, true, false, List, length, Option, Some, None, Result, Ok, Err, refl, sym, ap, ◌∙◌, subst, inl, inr, ⊎_elim, absurd, arith, length-append}
+use Rattle.std.proofs.lemmas.Bool.{eqb-true}
+use Rattle.std.specs.Io.KnownBytes.{Consumes}
+use Rattle.cq_io.specs.Causes.{Rose, HasCause}
+use Rattle.cq_io.specs.declared.source.Failed.{Failed}
+use Rattle.cq_drive.specs.Script.{IsScript}
+use Rattle.cq_beside.specs.Replies.{AreBeside}
+use Rattle.cq_lines.specs.Serving.{Serves, HasEndCause}
+use Rattle.cq_lines.specs.declared.ending.End.{End}
+use Rattle.cq_lines.specs.declared.ending.End.TheVariants as end
+use Rattle.cq_outcome.specs.Outcomes.{line_of as outcome_line}
+use Rattle.cq_reply.specs.Written.{line_of as reply_line}
+use Rattle.cq_program.specs.Top.{status_of, end_of, AreAlone}
+use Rattle.cq_program.specs.Complete.{IsQuiet, HasFewer, SessionsComplete, SessionsBesideComplete, ScriptsComplete, MadeComplete, ListensComplete}
+
+not_rose : (before now : ℕ) → IsQuiet before now → Rose before now → ⊥
+not_rose before now quiet (inl less) = omega (arith, less, quiet.0)
+not_rose before now quiet (inr last) = omega (arith, last, quiet.1)
+
+not_spent_of : (bytes : List ℕ) (limit : ℕ) (rest_now : Option (List ℕ)) (got : List ℕ) → Consumes (Some bytes) rest_now got → length got ≡ limit → length bytes < limit → ⊥
+not_spent_of bytes limit None got none all fewer = none
+not_spent_of bytes limit (Some ys) got same all fewer = omega (arith, ap length same, length-append got ys, all, fewer)
+
+not_spent : (limit : ℕ) (rest rest_now : Option (List ℕ)) (got : List ℕ) → Consumes rest rest_now got → length got ≡ limit → HasFewer limit rest → ⊥
+not_spent limit rest rest_now got bytes all few = not_spent_of few.0 limit rest_now got (subst (λ (r : Option (List ℕ)). Consumes r rest_now got) few.1 bytes) all few.2
+
+module _ {R : Type 0} (line_of : R → List ℕ) (Are : List (List ℕ) → List R → Type 0) where
+  done_by : (limit : ℕ) (rest rest_now before written_now : Option (List ℕ)) (source source_now sink sink_now : ℕ) (by : End) → Serves line_of Are limit rest rest_now before written_now by → HasEndCause source source_now sink sink_now by → IsQuiet source source_now → IsQuiet sink sink_now → HasFewer limit rest → status_of by ≡ 0
+  done_by limit rest rest_now before written_now source source_now sink sink_now end.Finished serves cause read written few = refl
+  done_by limit rest rest_now before written_now source source_now sink sink_now end.Spent serves cause read written few = absurd (not_spent limit rest rest_now serves.got serves.bytes serves.served.0 few)
+  done_by limit rest rest_now before written_now source source_now sink sink_now end.ReadFault serves cause read written few = absurd (not_rose source source_now read cause.0)
+  done_by limit rest rest_now before written_now source source_now sink sink_now end.WriteFault serves cause read written few = absurd (not_rose sink sink_now written cause.0)
+
+made_by : (sink sink_now : ℕ) (by : Result (Unit {0}) Failed) → HasCause sink sink_now by → IsQuiet sink sink_now → status_of (end_of by) ≡ 0
+made_by sink sink_now (Ok sent) cause written = refl
+made_by sink sink_now (Err failed) cause written = absurd (not_rose sink sink_now written cause.failed)
+
+either : (a b c : Bool) → (a || (b || c)) ≡ true → (a ≡ true) ⊎ ((b ≡ true) ⊎ (c ≡ true))
+either true b c is = inl refl
+either false true c is = inr (inl refl)
+either false false c is = inr (inr is)
+
+pub sessions_complete : SessionsComplete
+sessions_complete set reads reads_now rest rest_now before written_now source source_now sink sink_now status is read written few other =
+    let s = is other in
+    s.status_is ∙ done_by reply_line (AreAlone set reads reads_now) set.byte_limit rest rest_now before written_now source source_now sink sink_now s.by s.serves s.cause read written few
+
+pub sessions_beside_complete : SessionsBesideComplete
+sessions_beside_complete set rest rest_now before written_now source source_now sink sink_now status is read written few other =
+    let s = is other in
+    s.status_is ∙ done_by reply_line (AreBeside set) set.byte_limit rest rest_now before written_now source source_now sink sink_now s.by s.serves s.cause read written few
+
+pub scripts_complete : ScriptsComplete
+scripts_complete set rest rest_now before written_now source source_now sink sink_now status is read written few other =
+    let s = is other in
+    s.status_is ∙ done_by outcome_line (IsScript set) set.byte_limit rest rest_now before written_now source source_now sink sink_now s.by s.serves s.cause read written few
+
+pub made_complete : MadeComplete
+made_complete number files before written_now sink sink_now status is written other =
+    let m = is other in
+    m.status_is ∙ made_by sink sink_now m.by m.cause written
+
+pub listens_complete : ListensComplete
+listens_complete address bound_now left left_now doors doors_now status listened rose quiet other =
+    ⊎_elim (λ zero. eqb-true status 0 zero)
+    (λ more. ⊎_elim (λ four. absurd (other (eqb-true status 4 four))) (λ five. absurd (not_rose doors doors_now quiet (rose (eqb-true status 5 five)))) more)
+    (either _ _ _ listened.0)

@@ -1,0 +1,47 @@
+-- What the clauses of the top call come to where nothing fails: a command is done, unless memory was refused.
+use Rattle.std.specs.Prelude.{◌≡◌, ◌≢◌, ◌<◌, ◌-◌, ◌^◌, ℕ, List, length, Option, Some}
+use Rattle.cq_base.specs.declared.settings.Settings.{Settings}
+use Rattle.cq_io.specs.Causes.{Rose}
+use Rattle.cq_program.specs.Top.{IsSession, IsSessionBeside, IsDrive, IsMade, HasListened}
+
+-- the count of faults is as it was, and below the last value of a counter of 64 bits
+abbrev pub IsQuiet : ℕ → ℕ → Type 0
+IsQuiet before now = (now ≡ before) × (now < 2 ^ 64 - 1)
+
+-- what is left to read is told, and is less than may be read
+abbrev pub HasFewer : ℕ → Option (List ℕ) → Type 0
+HasFewer limit rest = (bytes : List ℕ) × (rest ≡ Some bytes) × (length bytes < limit)
+
+-- every status but that of want of memory is 0
+abbrev pub IsDone : ℕ → Type 0
+IsDone status = status ≢ 4 → status ≡ 0
+
+-- a session of whose ends none failed has answered the lines to the end, where fewer bytes came than may be read
+abbrev pub SessionsComplete : Type 0
+SessionsComplete = (set : Settings) (reads reads_now : ℕ) (rest rest_now before written_now : Option (List ℕ)) (source source_now sink sink_now status : ℕ) →
+    (status ≢ 4 → IsSession set reads reads_now rest rest_now before written_now source source_now sink sink_now status) →
+    IsQuiet source source_now → IsQuiet sink sink_now → HasFewer set.byte_limit rest → IsDone status
+
+-- and so has one with workers beside it
+abbrev pub SessionsBesideComplete : Type 0
+SessionsBesideComplete = (set : Settings) (rest rest_now before written_now : Option (List ℕ)) (source source_now sink sink_now status : ℕ) →
+    (status ≢ 4 → IsSessionBeside set rest rest_now before written_now source source_now sink sink_now status) →
+    IsQuiet source source_now → IsQuiet sink sink_now → HasFewer set.byte_limit rest → IsDone status
+
+-- and a script
+abbrev pub ScriptsComplete : Type 0
+ScriptsComplete = (set : Settings) (rest rest_now before written_now : Option (List ℕ)) (source source_now sink sink_now status : ℕ) →
+    (status ≢ 4 → IsDrive set rest rest_now before written_now source source_now sink sink_now status) →
+    IsQuiet source source_now → IsQuiet sink sink_now → HasFewer set.byte_limit rest → IsDone status
+
+-- a made project is told where the sink did not fail
+abbrev pub MadeComplete : Type 0
+MadeComplete = (number files : ℕ) (before written_now : Option (List ℕ)) (sink sink_now status : ℕ) →
+    (status ≢ 4 → IsMade number files before written_now sink sink_now status) →
+    IsQuiet sink sink_now → IsDone status
+
+-- no connection is left to come where the doors did not fail
+abbrev pub ListensComplete : Type 0
+ListensComplete = (address : List ℕ) (bound_now : Option (List ℕ)) (left left_now : Option ℕ) (doors doors_now status : ℕ) →
+    HasListened address bound_now left left_now status → (status ≡ 5 → Rose doors doors_now) →
+    IsQuiet doors doors_now → IsDone status
