@@ -25,7 +25,8 @@ use std::thread::Threads;
 
 // A session by what it borrows.
 #[derive(Drop)]
-struct Serving<'a, L: Ledger, S, K, G> {
+struct Serving<'a, Q, L: Ledger, S, K, G> {
+    rt: &'a Q,
     alloc: Global,
     settings: &'a Settings,
     keyer: &'a Keyer,
@@ -45,7 +46,8 @@ struct Over<'a, L: Ledger, S, K> {
     end: End,
 }
 
-impl<'a, L: Ledger, R: Wait, S: Source, K: Sink, G: Gate> Talker<L, R> for Serving<'a, L, S, K, G> {
+impl<'a, Q: Threads + Sync, L: Ledger, R: Wait, S: Source, K: Sink, G: Gate> Talker<L, R>
+    for Serving<'a, Q, L, S, K, G> {
     ghost use Rattle.std.specs.Prelude.{◌≡◌};
     ghost use Rattle.cq_base.specs.Settings.{IsInRange};
     ghost use Rattle.cq_lines.specs.Runs.{IsFresh};
@@ -68,6 +70,7 @@ impl<'a, L: Ledger, R: Wait, S: Source, K: Sink, G: Gate> Talker<L, R> for Servi
 
     fn talk(self, hub: &Shared<Work<L>, R>, pass: &mut Pass<Work<L>>) -> Over<'a, L, S, K> {
         let Serving {
+            rt,
             alloc,
             settings,
             keyer,
@@ -78,7 +81,7 @@ impl<'a, L: Ledger, R: Wait, S: Source, K: Sink, G: Gate> Talker<L, R> for Servi
             steps,
         } = self;
         let end = session(
-            alloc, settings, keyer, hub, pass, lines, source, sink, gate, steps,
+            rt, alloc, settings, keyer, hub, pass, lines, source, sink, gate, steps,
         );
         Over {
             source,
@@ -142,6 +145,7 @@ pub fn serve_one<
         rt,
     };
     let serving = Serving {
+        rt,
         alloc,
         settings,
         keyer,

@@ -133,9 +133,9 @@ fn serve_keyed<
     };
     let benches = benches_of(alloc, settings, hub, gate, &mut pass, workers)?;
     let seats = seats_of(
-        alloc, settings, counters, hub, &ringing, &mut pass, sessions,
+        rt, alloc, settings, counters, hub, &ringing, &mut pass, sessions,
     )?;
-    let own = Seat::new(alloc, settings, counters, hub, &ringing, pass)?;
+    let own = Seat::new(rt, alloc, settings, counters, hub, &ringing, pass)?;
     let queue: Queue<Connection<S, K>> = Queue::new(alloc, sessions)?;
     let failed = serve_doors(rt, keyer, benches, &bell, seats, own, queue, doors);
     Ok(Served { failed })

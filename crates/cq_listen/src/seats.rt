@@ -17,11 +17,13 @@ use std::alloc::Global;
 use std::marker::Model;
 use std::sync::Wait;
 use std::sync::ledger::Ledger;
+use std::thread::Threads;
 
 /// What a thread of the sessions has of its own: a pass with no view open, and a cutter. Contracts see it as the
 /// settings of its hub.
 #[derive(Drop)]
-pub(crate) struct Seat<'a, L: Ledger, R, G> {
+pub(crate) struct Seat<'a, Q, L: Ledger, R, G> {
+    rt: &'a Q,
     alloc: Global,
     settings: &'a Settings,
     counters: &'a Counters<L>,
@@ -31,7 +33,7 @@ pub(crate) struct Seat<'a, L: Ledger, R, G> {
     pass: Pass<Work<L>>,
 }
 
-impl<'a, L: Ledger, R, G> Model for Seat<'a, L, R, G> {
+impl<'a, Q, L: Ledger, R, G> Model for Seat<'a, Q, L, R, G> {
     ghost use Rattle.cq_base.specs.declared.settings.Settings.{Settings as Told};
     ghost use Rattle.cq_listen.specs.Seats.{IsSeated};
 
@@ -42,7 +44,7 @@ impl<'a, L: Ledger, R, G> Model for Seat<'a, L, R, G> {
     ghost invariant = { λ s. IsSeated s.settings.now s.hub.now s.pass };
 }
 
-impl<'a, L: Ledger, R, G> Seat<'a, L, R, G> {
+impl<'a, Q, L: Ledger, R, G> Seat<'a, Q, L, R, G> {
     ghost use Rattle.std.specs.Prelude.{◌≡◌, IfOk};
     ghost use Rattle.cq_base.specs.Settings.{IsInRange};
     ghost use Rattle.cq_shared.specs.SharedPasses.{settings_of};
@@ -50,6 +52,7 @@ impl<'a, L: Ledger, R, G> Seat<'a, L, R, G> {
 
     /// The seat of a pass that has seen nothing. It takes memory for its cutter.
     pub(crate) fn new(
+        rt: &'a Q,
         alloc: Global,
         settings: &'a Settings,
         counters: &'a Counters<L>,
@@ -64,6 +67,7 @@ impl<'a, L: Ledger, R, G> Seat<'a, L, R, G> {
     {
         let lines = Lines::new(alloc, settings.byte_limit)?;
         Ok(Seat {
+            rt,
             alloc,
             settings,
             counters,
@@ -76,9 +80,9 @@ impl<'a, L: Ledger, R, G> Seat<'a, L, R, G> {
 }
 
 // Serves a connection to its end, by a session on a seat. The keys are those of the keyer.
-fn converse<L: Ledger, R: Wait, S: Source + Drop, K: Sink + Drop, G: Gate>(
+fn converse<Q: Threads + Sync, L: Ledger, R: Wait, S: Source + Drop, K: Sink + Drop, G: Gate>(
     keyer: &Keyer,
-    seat: &mut Seat<'_, L, R, G>,
+    seat: &mut Seat<'_, Q, L, R, G>,
     connection: Connection<S, K>,
 )
     requires { seat.old ≡ keyer.now.settings }
@@ -90,6 +94,7 @@ fn converse<L: Ledger, R: Wait, S: Source + Drop, K: Sink + Drop, G: Gate>(
     let mut steps = seat.counters.counter();
     seat.lines.restart();
     let _end = session(
+        seat.rt,
         seat.alloc,
         seat.settings,
         keyer,
@@ -103,8 +108,15 @@ fn converse<L: Ledger, R: Wait, S: Source + Drop, K: Sink + Drop, G: Gate>(
     );
 }
 
-impl<'a, L: Ledger, R: Wait, S: Source + Drop, K: Sink + Drop, G: Gate> Attendant<Connection<S, K>>
-    for Seat<'a, L, R, G> {
+impl<
+    'a,
+    Q: Threads + Sync,
+    L: Ledger,
+    R: Wait,
+    S: Source + Drop,
+    K: Sink + Drop,
+    G: Gate,
+> Attendant<Connection<S, K>> for Seat<'a, Q, L, R, G> {
     ghost settings = { λ s. s };
 
     fn attend(&mut self, keyer: &Keyer, connection: Connection<S, K>) {
@@ -113,7 +125,8 @@ impl<'a, L: Ledger, R: Wait, S: Source + Drop, K: Sink + Drop, G: Gate> Attendan
 }
 
 /// So many seats, whose callers are the next ones of the pass.
-pub(crate) fn seats_of<'a, L: Ledger, R, G>(
+pub(crate) fn seats_of<'a, Q, L: Ledger, R, G>(
+    rt: &'a Q,
     alloc: Global,
     settings: &'a Settings,
     counters: &'a Counters<L>,
@@ -121,7 +134,7 @@ pub(crate) fn seats_of<'a, L: Ledger, R, G>(
     gate: &'a G,
     pass: &mut Pass<Work<L>>,
     number: u32,
-) -> Result<Vec<Seat<'a, L, R, G>>, Memory>
+) -> Result<Vec<Seat<'a, Q, L, R, G>>, Memory>
     requires in_range { IsInRange settings.now }
     requires settings { settings_of hub.now ≡ settings.now }
     requires new { IsNew hub.now pass.old }
@@ -134,7 +147,7 @@ pub(crate) fn seats_of<'a, L: Ledger, R, G>(
     let mut seats = Vec::with_capacity(alloc, number as usize)?;
     'seats: for _seat in 0..number {
         let own = hub.split_pass(pass);
-        seats.push(Seat::new(alloc, settings, counters, hub, gate, own)?)?;
+        seats.push(Seat::new(rt, alloc, settings, counters, hub, gate, own)?)?;
     }
     Ok(seats)
 }
