@@ -1,5 +1,5 @@
 -- The puts that are superseded at a floor, ascending.
-use Rattle.std.proofs.Common.{◌≡◌, ◌≢◌, ◌↔◌, ℕ, ◌+◌, ◌-◌, ◌<◌, ◌≤◌, true, false, List, length, map, take, drop, get_or, IsPermutation, Result, Ok, Err, refl, sym, ap, ◌∙◌, subst, subst₂, ⊎_elim, arith, true≢false}
+use Rattle.std.proofs.Common.{◌≡◌, ◌≢◌, ◌↔◌, ℕ, ◌+◌, ◌-◌, ◌<◌, ◌≤◌, true, false, List, length, map, take, drop, get_or, IsPermutation, Result, Ok, Err, sym, ap, ◌∙◌, subst, subst₂, ⊎_elim, arith, true≢false}
 use Rattle.std.specs.Prelude.{AllPairs, Contains, IfOk, nat_le}
 use Rattle.std.specs.List.Sorted.{IsStrictlyIncreasing, IsNonDecreasingBy, IsPartitionPoint, IsSorted}
 use Rattle.std.specs.Ordering.{nat_cmp}

@@ -3,6 +3,7 @@ pub mod Advances
 pub mod Dead
 pub mod FileNumbers
 pub mod Floors
+pub mod Freeing
 pub mod Living
 pub mod Newer
 pub mod Numbers

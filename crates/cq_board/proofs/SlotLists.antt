@@ -1,9 +1,8 @@
 -- The slots that are kept, as the history's slots.
-use Rattle.std.proofs.Common.{◌≡◌, ℕ, ◌+◌, ◌-◌, ◌<◌, ◌≤◌, Bool, true, false, List, length, map, get_or, set, Option, Some, None, refl, sym, ap, ap₂, ◌∙◌, subst, arith, ⊎_elim, cond, sum_by, not, ◌||◌, ◌&&◌, is_none, length-set, inl, inr, ◌⊎◌, ◌≢◌}
+use Rattle.std.proofs.Common.{◌≡◌, ℕ, ◌+◌, ◌-◌, ◌<◌, ◌≤◌, Bool, true, false, List, length, map, get_or, set, Option, Some, None, refl, sym, ap, ap₂, ◌∙◌, subst, arith, cond, sum_by, not, ◌||◌, ◌&&◌, is_none, length-set}
 use Rattle.std.specs.List.{prefix_len, position_or_len}
-use Rattle.std.proofs.lemmas.Bool.{cases_eq}
-use Rattle.std.proofs.lemmas.List.{get_or-map, map-set, length-map, get_or-set_same, get_or-set_other}
-use Rattle.std.proofs.lemmas.List.Sums.{sum_by-set, passes_at_first, fails_before_first}
+use Rattle.std.proofs.lemmas.List.{get_or-map, map-set, length-map}
+use Rattle.std.proofs.lemmas.List.Sums.{sum_by-set, passes_at_first}
 use Rattle.std.proofs.lemmas.List.Elements.{All-set, All-get_or}
 use Rattle.std.specs.Arc.{arc_value}
 use Rattle.std.specs.declared.sync.Arc.{Arc}
@@ -16,10 +15,13 @@ use Rattle.cq_history.specs.declared.event.Event.TheVariants.{Took, Back, Done}
 use Rattle.cq_history.specs.State.{State, Slot, no_slot, slot_of, after, is_free, is_done}
 use Rattle.cq_history.proofs.Prefixes.{map_change-set}
 use Rattle.cq_board.specs.declared.kept.Kept.{Kept}
-use Rattle.cq_board.specs.Slots.{slot_from, change_of, state_from, IsWorked, IsNoneFree}
+use Rattle.cq_board.specs.Slots.{slot_from, change_of, state_from, IsWorked}
 use Rattle.cq_board.specs.Boards.{changes_from, SlotsOk}
 use Rattle.cq_board.specs.Undone.{AreUndone}
 use Rattle.cq_board.proofs.Undoing.{undone-set_same, undone-set_done}
+use Rattle.cq_board.specs.Free.{AreFree, room_of}
+use Rattle.cq_board.specs.declared.free.FreeChanges.{FreeChanges}
+use Rattle.cq_board.proofs.Freeing.{done_free}
 use Rattle.std.specs.BTreeSet.{BTreeSet, contains}
 use Rattle.std.specs.BTreeMap.{is_at}
 use Rattle.std.specs.Ordering.{nat_cmp}
@@ -29,13 +31,6 @@ use Rattle.cq_history.specs.Changes.{text_len, is_put, IsWorkFor}
 free_put : (a b c : Bool) → (not (not a || b) && c) ≡ true → a ≡ true
 free_put true b c h = refl
 free_put false b c h = h
-
-pub held_not_free : (slot : Slot) → is_none slot.holder ≡ false → is_free slot ≡ false
-held_not_free slot e = ap (λ b. not (is_done slot) && b) e ∙ and_no (not (is_done slot))
-  where
-    and_no : (b : Bool) → (b && false) ≡ false
-    and_no true = refl
-    and_no false = refl
 
 pub free_is_put : (slot : Slot) → is_free slot ≡ true → is_put slot.change ≡ true
 free_is_put slot h = free_put (is_put slot.change) slot.finished (is_none slot.holder) h
@@ -58,31 +53,12 @@ module _ {W : Type 0} where
       (slots_set slots i _ _ (ap (λ (x : Slot). let y : Slot = record { change = x.change; finished = x.finished; holder = Some by } in y) (sym (slot_of_read slots p f views i k within read))))
       ∙ ap (λ n. after (state_from slots p f views) (Took by n)) (sym number)
 
-  -- none before the index is free where those before it are as they were
-  pub none_free_set : (slots : List (Kept W)) (i free now : ℕ) (j : Kept W) → IsNoneFree slots free → now ≤ length slots → ((k : ℕ) → k < now → ((k ≡ i) × (is_free (slot_from j) ≡ false)) ⊎ ((k ≢ i) × (k < free))) → IsNoneFree (set slots i j) now
-  none_free_set slots i free now j none few each = record {
-    within = omega (arith, few, length-set slots i j);
-    none = λ k d lt.
-        ap (λ xs. is_free (get_or xs k d)) (map-set slot_from slots i j)
-        ∙ ⊎_elim
-        (λ (same, not_free). ap (λ n. is_free (get_or (set (map slot_from slots) i (slot_from j)) n d)) same ∙ ap is_free (get_or-set_same (map slot_from slots) i (slot_from j) d (omega (arith, same, lt, few, length-map slots (slot_from {W = W})))) ∙ not_free)
-        (λ (other, below). ap is_free (get_or-set_other (map slot_from slots) i k (slot_from j) d other) ∙ none.none k d below)
-        (each k lt);
-  }
-
-  -- none before the first free one is free
-  pub none_before : (slots : List (Kept W)) (i : ℕ) → i ≤ length slots → i ≡ position_or_len is_free (map slot_from slots) → IsNoneFree slots i
-  none_before slots i within first = record {
-    within = within;
-    none = λ k d lt. fails_before_first is_free (map slot_from slots) k d (omega (arith, lt, first));
-  }
-
   -- the fields of a slot but for its holder stay as they were
-  pub held_ok : (IsWork : Lang → List ℕ → W → Type 0) (settings : Settings) (slots : List (Kept W)) (undone : BTreeSet ℕ) (bytes free now : ℕ) (i : ℕ) (k : Kept W) (holder : Option ℕ) → i < length slots → k ≡ get_or slots i k →
-      IsNoneFree (set slots i (record { change = k.change; work = k.work; holder = holder })) now →
+  pub held_ok : (IsWork : Lang → List ℕ → W → Type 0) (settings : Settings) (slots : List (Kept W)) (undone : BTreeSet ℕ) (bytes : ℕ) (free now : FreeChanges) (i : ℕ) (k : Kept W) (holder : Option ℕ) → i < length slots → k ≡ get_or slots i k →
+      AreFree (set (map slot_from slots) i (slot_from (let j : Kept W = record { change = k.change; work = k.work; holder = holder } in j))) now → room_of free ≤ room_of now →
       SlotsOk IsWork settings slots undone bytes free →
       SlotsOk IsWork settings (set slots i (record { change = k.change; work = k.work; holder = holder })) undone bytes now
-  held_ok IsWork settings slots undone bytes free now i k holder within read none ok =
+  held_ok IsWork settings slots undone bytes free now i k holder within read can room ok =
       let j : Kept W = record { change = k.change; work = k.work; holder = holder } in
       let here : get_or (map slot_from slots) i no_slot ≡ slot_from k = slot_read slots i k within read in
       let mapped : map slot_from (set slots i j) ≡ set (map slot_from slots) i (slot_from j) = map-set slot_from slots i j in
@@ -96,7 +72,8 @@ module _ {W : Type 0} where
         few_bytes = ok.few_bytes;
         few_slots = omega (arith, length-set slots i j, ok.few_slots);
         not_done = subst (λ xs. AreUndone xs undone) (sym mapped) (undone-set_same (map slot_from slots) undone ok.not_done i (slot_from j) in_range (ap is_done (sym here)));
-        none_free = none;
+        may_take = subst (λ xs. AreFree xs now) (sym mapped) can;
+        room = omega (arith, ok.room, room);
       }
 
   -- the changes are as they were where a slot's is
@@ -124,7 +101,7 @@ module _ {W : Type 0} where
       subst (λ xs. prefix_len is_done (map slot_from slots) ≤ prefix_len is_done xs) (sym (map-set slot_from slots i j))
       (prefix_len-set-le (map slot_from slots) i (slot_from j) (λ h. as_done (ap is_done (sym (slot_read slots i k within read)) ∙ h)))
 
-  pub done_ok : (IsWork : Lang → List ℕ → W → Type 0) (settings : Settings) (slots : List (Kept W)) (undone now : BTreeSet ℕ) (bytes free i : ℕ) (k : Kept W) (w : Arc W Global) → i < length slots → k ≡ get_or slots i k →
+  pub done_ok : (IsWork : Lang → List ℕ → W → Type 0) (settings : Settings) (slots : List (Kept W)) (undone now : BTreeSet ℕ) (bytes : ℕ) (free : FreeChanges) (i : ℕ) (k : Kept W) (w : Arc W Global) → i < length slots → k ≡ get_or slots i k →
       IsWorkFor IsWork (change_of k.change) (arc_value w) → is_done (slot_from (let j : Kept W = record { change = k.change; work = Some w; holder = k.holder } in j)) ≡ true →
       ((r : ℕ) → contains nat_cmp now r ≡ cond (is_at (nat_cmp i) r) false (contains nat_cmp undone r)) →
       SlotsOk IsWork settings slots undone bytes free →
@@ -143,8 +120,8 @@ module _ {W : Type 0} where
         few_bytes = ok.few_bytes;
         few_slots = omega (arith, length-set slots i j, ok.few_slots);
         not_done = subst (λ xs. AreUndone xs now) (sym mapped) (undone-set_done (map slot_from slots) undone ok.not_done i (slot_from j) now in_range yes_done removed);
-        none_free = none_free_set slots i free free j ok.none_free ok.none_free.within
-            (λ n lt. ⊎_elim (λ e. inl (e, not_free (slot_from j) yes_done)) (λ other. inr (other, lt)) (cases_eq n i));
+        may_take = subst (λ xs. AreFree xs free) (sym mapped) (done_free (map slot_from slots) free ok.may_take i (slot_from j) in_range (ap (λ (s : Slot). is_none s.holder) (sym here)) (not_free (slot_from j) yes_done));
+        room = ok.room;
       }
     where
       not_free : (s : Slot) → is_done s ≡ true → is_free s ≡ false

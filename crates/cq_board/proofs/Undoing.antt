@@ -10,11 +10,11 @@ use Rattle.std.specs.declared.ops.Bound.TheVariants.{Included, Unbounded}
 use Rattle.std.specs.BTreeMap.{is_at}
 use Rattle.std.specs.BTreeMap.Range.{range_contains}
 use Rattle.std.specs.BTreeSet.{BTreeSet, contains, keys_between, IsOrdered, IsLowerBound}
-use Rattle.std.proofs.lemmas.Bool.{cases_lt, cases_eq, or_cases, or_left, or_right, and_parts, and_from, not-true, not-false, eqb-true, eq-eqb, ne_eqb, cond-true, cond-false, false_from_ne_true, both_ways, not_from_true}
+use Rattle.std.proofs.lemmas.Bool.{cases_lt, cases_eq, or_cases, or_left, and_parts, and_from, not-true, not-false, eqb-true, eq-eqb, ne_eqb, cond-true, cond-false, false_from_ne_true, both_ways, not_from_true}
 use Rattle.std.proofs.lemmas.Bool.Decides.{nat_tests}
 use Rattle.std.proofs.lemmas.List.{nil_from_length, get_or_past, get_or-set_same, get_or-set_other}
 use Rattle.std.proofs.lemmas.List.Sums.{prefix_len_is, position_or_len_is}
-use Rattle.std.proofs.lemmas.Map.Keys.{sorted_head, sorted_tail, le_from_not_gt}
+use Rattle.std.proofs.lemmas.Map.Keys.{sorted_head, le_from_not_gt}
 use Rattle.std.proofs.lemmas.Map.Views.{any-filter_same}
 use Rattle.std.proofs.lemmas.List.Kept.{IsStrictlySortedBy-filter}
 use Rattle.cq_history.specs.State.{Slot, no_slot, is_done, is_free}
@@ -82,7 +82,7 @@ pub record IsLeft (slots : List Slot) (rest : List ℕ) : Type 0 where
 from_start : (start i : ℕ) → start ≤ i → range_contains nat_cmp (Included start) Unbounded i ≡ true
 from_start start i le = grind (arith, nat_tests)
 
-same_index : (i k : ℕ) → is_at (nat_cmp i) k ≡ true → i ≡ k
+pub same_index : (i k : ℕ) → is_at (nat_cmp i) k ≡ true → i ≡ k
 same_index i k at = eqb-true i k (sym (unsigned_tied i k) ∙ at)
 
 below_from_Less : (i k : ℕ) → nat_cmp i k ≡ Less → i < k
@@ -95,6 +95,18 @@ all_above i k (x ∷ rest) less h =
     (λ at. subst (λ n. i < n) (sym (same_index k x at)) (below_from_Less i x less.0))
     (λ later. all_above i k rest less.1 later)
     (or_cases (is_at (nat_cmp k) x) (list_any (is_at (nat_cmp k)) rest) h)
+
+in_range : (start i : ℕ) → range_contains nat_cmp (Included start) Unbounded i ≡ true → start ≤ i
+in_range start i h = grind (arith, nat_tests)
+
+-- a walk from an index on is over indexes from there on
+from_walk : (undone : BTreeSet ℕ) (start i : ℕ) (rest : List ℕ) → keys_between nat_cmp (Included start) Unbounded undone ≡ i ∷ rest → start ≤ i
+from_walk undone start i rest is =
+    let inside : ℕ → Bool = range_contains nat_cmp (Included start) Unbounded in
+    let same = any-filter_same (is_at (nat_cmp i)) inside (inside i) (λ k at. ap inside (sym (same_index i k at))) undone.keys in
+    let there : list_any (is_at (nat_cmp i)) (keys_between nat_cmp (Included start) Unbounded undone) ≡ true =
+    ap (list_any (is_at (nat_cmp i))) is ∙ or_left (is_at (nat_cmp i) i) (list_any (is_at (nat_cmp i)) rest) (unsigned_tied i i ∙ eq-eqb i i refl) in
+    in_range start i (and_parts (inside i) (contains nat_cmp undone i) (sym same ∙ there)).0
 
 module _ (slots : List Slot) where
   pub walk_begins : (undone : BTreeSet ℕ) (start : ℕ) → AreUndone slots undone → IsOrdered nat_cmp undone → ((i : ℕ) → i < start → is_free (get_or slots i no_slot) ≡ false) → IsLeft slots (keys_between nat_cmp (Included start) Unbounded undone)
@@ -126,17 +138,13 @@ module _ (slots : List Slot) where
         (or_cases _ _ (left.free k before))))
         (λ _. and_from _ _ next_undone no_holder))
 
-    pub walk_goes_on : is_none (get_or slots i no_slot).holder ≡ false → IsLeft slots rest
-    walk_goes_on held = record {
-      rising = sorted_tail nat_cmp i rest left.rising;
-      undone = λ k h. left.undone k (or_right _ _ h);
-      free = λ k free.
-          ⊎_elim
-          (λ at. absurd (both_ways _ held (subst (λ n. is_none (get_or slots n no_slot).holder ≡ true) (same_index k i at) (and_parts _ _ free).1)))
-          (λ later. later)
-          (or_cases _ _ (left.free k free));
-    }
-
   pub walk_ends : IsLeft slots [] → length slots ≡ position_or_len is_free slots
   walk_ends left =
       sym (position_or_len_is is_free slots (length slots) no_slot (omega arith) (λ k _. false_from_ne_true _ (λ free. absurd (both_ways false refl (left.free k free)))) (λ past. absurd (omega (arith, past))))
+
+  -- the first one from an index on, from which nobody has any
+  pub next_is_first_untaken : (undone : BTreeSet ℕ) (start : ℕ) → AreUndone slots undone → IsOrdered nat_cmp undone → ((i : ℕ) → i < start → is_free (get_or slots i no_slot) ≡ false) → ((i : ℕ) → start ≤ i → is_none (get_or slots i no_slot).holder ≡ true) →
+      (i : ℕ) (rest : List ℕ) → keys_between nat_cmp (Included start) Unbounded undone ≡ i ∷ rest → i ≡ position_or_len is_free slots
+  next_is_first_untaken undone start are ordered none nobody i rest is =
+      let left : IsLeft slots (i ∷ rest) = subst (IsLeft slots) is (walk_begins undone start are ordered none) in
+      next_is_first i rest left (nobody i (from_walk undone start i rest is))

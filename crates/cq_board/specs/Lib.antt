@@ -2,6 +2,7 @@ pub mod Answers
 pub mod Boards
 pub mod Edits
 pub mod Entries
+pub mod Free
 pub mod Listings
 pub mod Presence
 pub mod Related

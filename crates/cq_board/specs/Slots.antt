@@ -1,11 +1,11 @@
 -- The slot that is kept of a change.
-use Rattle.std.specs.Prelude.{ℕ, List, [], ◌∷◌, ◌++◌, map, is_some, Option, IfSome, false, ◌<◌, ◌≤◌, ◌≡◌, length, slice_index_or}
+use Rattle.std.specs.Prelude.{ℕ, List, [], ◌∷◌, ◌++◌, map, is_some, Option, IfSome}
 use Rattle.std.specs.Arc.{arc_value}
 use Rattle.cq_base.specs.declared.change.Change.{Change}
 use Rattle.cq_base.specs.declared.change.Change.TheVariants as change
 use Rattle.cq_base.specs.declared.lang.Lang.{Lang}
 use Rattle.cq_history.specs.Changes.{IsWorkFor}
-use Rattle.cq_history.specs.State.{State, Slot, new_slot, is_free}
+use Rattle.cq_history.specs.State.{State, Slot, new_slot}
 use Rattle.cq_board.specs.declared.kept.Stored.{Stored}
 use Rattle.cq_board.specs.declared.kept.Stored.TheVariants.{Put, Drop, Gate}
 use Rattle.cq_board.specs.declared.kept.Kept.{Kept}
@@ -28,8 +28,3 @@ module _ {W : Type 0} where
 
   abbrev pub IsWorked : (Lang → List ℕ → W → Type 0) → Kept W → Type 0
   IsWorked IsWork k = IfSome k.work (λ work. IsWorkFor IsWork (change_of k.change) (arc_value work))
-
-  -- no change before the index may be taken
-  pub record IsNoneFree (slots : List (Kept W)) (i : ℕ) : Type 0 where
-    pub within : i ≤ length slots
-    pub none : (k : ℕ) (d : Slot) → k < i → is_free (slice_index_or (map slot_from slots) k d) ≡ false

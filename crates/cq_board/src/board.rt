@@ -13,12 +13,13 @@ ghost use Rattle.cq_base.specs.Changes.{IsSoundChange};
 ghost use Rattle.cq_board.specs.Sound.{HasSoundText, HaveFewConditions};
 
 use crate::accepting::{note_both, refusal, stored, text_len};
+use crate::free::{FreeChanges, first_free, note_given_back, note_taken};
 use crate::kept::Kept;
 use crate::listing::{Listing, View, advance_to};
 use crate::presence::Presence;
 use crate::slot_tests::{is_done, job_of};
 use crate::superseded::{dead_at, dead_between};
-use crate::undone::{first_free, ready_of};
+use crate::undone::ready_of;
 use crate::{Asked, Finished, Job, Refused};
 use cq_base::{Change, Memory, Settings};
 use cq_shard::Indexed;
@@ -36,11 +37,8 @@ pub struct Board<W: Indexed> {
     // The indexes of the changes that are not done.
     undone: BTreeSet<usize>,
     text_bytes: u64,
-    // None before this index may be taken.
-    free: usize,
+    free: FreeChanges,
     published: u64,
-    // The version that the listing is of: the published one, or 0 where memory was refused while it was changed.
-    listed: u64,
     floor: u64,
     views: Vec<Option<u64>>,
     listing: Arc<Listing<W>, Global>,
@@ -58,11 +56,12 @@ impl<W: Indexed> Model for Board<W> {
 
     ghost view = { λ b. record { settings = b.settings; state = state_from b.slots.items b.published b.floor b.views.items; events = b.events } };
 
-    ghost invariant = { λ b. BoardOk (W.IsWorkOf b.settings) b.settings b.slots.items b.there b.undone b.text_bytes b.free b.published b.listed (arc_value b.listing) b.views.items };
+    ghost invariant = { λ b. BoardOk (W.IsWorkOf b.settings) b.settings b.slots.items b.there b.undone b.text_bytes b.free b.published (arc_value b.listing) b.views.items };
 }
 
 impl<W: Indexed> Board<W> {
-    /// A board for so many callers, before any event. It takes memory for their views and for an empty listing.
+    /// A board for so many callers, before any event. It takes memory for their views, for an empty listing, and for all
+    /// changes that may be accepted, a slot and 24 bytes each.
     pub fn new(alloc: Global, settings: &Settings, callers: u32) -> Result<Board<W>, Memory>
         ensures stands { IfOk result (StandsFor []) }
         ensures settings { IfOk result (λ b. b.settings ≡ settings.now) }
@@ -70,15 +69,18 @@ impl<W: Indexed> Board<W> {
     {
         let views = no_views(alloc, callers)?;
         let listing = Arc::new(alloc, Listing::new(alloc))?;
+        let most = settings.change_limit as usize;
+        let slots = Vec::with_capacity(alloc, most)?;
+        let there = Presence::new(alloc, most)?;
+        let free = FreeChanges::new(alloc, most)?;
         Ok(Board {
             settings: *settings,
-            slots: Vec::new(alloc),
-            there: Presence::new(alloc),
+            slots,
+            there,
             undone: BTreeSet::new(alloc),
             text_bytes: 0,
-            free: 0,
+            free,
             published: 0,
-            listed: 0,
             floor: 0,
             views,
             listing,
@@ -190,7 +192,8 @@ impl<W: Indexed> Board<W> {
         dead_between(alloc, &self.there.superseded, above, floor)
     }
 
-    /// Gives a taken change back, and answers whether there is this caller and had it, undone. It takes no memory.
+    /// Gives a taken change back, and answers whether there is this caller and had it, undone. It takes no memory, and costs
+    /// a search among those that were given back.
     pub fn back(&mut self, by: u32, change: u64) -> bool
         ensures adds { OnTrue result (Adds (event.Back by change) self.old self.new) }
         ensures taken { IsTrue result ↔ (IsCaller self.old by × IsTakenBy self.old.state change by) }
@@ -208,7 +211,7 @@ impl<W: Indexed> Board<W> {
         }
         let kept = &mut self.slots[i];
         kept.holder = None;
-        self.free = self.free.min(i);
+        note_given_back(&mut self.free, i);
         self.events = self.events.wrapping_add(1);
         true
     }
@@ -268,9 +271,9 @@ impl<W: Indexed> Board<W> {
         }
     }
 
-    /// Gives the caller the first change that is neither done nor taken, if there is one. It costs a search, and a step for
-    /// each change that is taken and not done, from behind the one that was taken last on, or from the least on that was
-    /// given back since.
+    /// Gives the caller the first change that is neither done nor taken, if there is one. It costs a search among those that
+    /// were given back or one among those that are not done, and another one for each that was given back and is done since,
+    /// once.
     pub fn take(&mut self, by: u32) -> Result<Option<Job>, Memory>
         requires { IsCaller self.old by }
         ensures taken { IfOk result (λ job. IfSome job (λ j. Adds (event.Took by j.change) self.old self.new)) }
@@ -281,15 +284,14 @@ impl<W: Indexed> Board<W> {
         ensures unchanged { IfOk result (λ job. MatchOption job (self.new ≡ self.old) (λ _. HasFree self.old.state)) }
         ensures err { OnErr result (self.new ≡ self.old) }
     {
-        let i = first_free(&self.slots, &self.undone, self.free);
-        self.free = i;
+        let i = first_free(&self.slots, &self.undone, &mut self.free);
         if i == self.slots.len() {
             return Ok(None);
         }
         let kept = &mut self.slots[i];
         let job = job_of(i as u64 + 1, &kept.change)?;
         kept.holder = Some(by);
-        self.free = i + 1;
+        note_taken(&mut self.free, i);
         self.events = self.events.wrapping_add(1);
         Ok(Some(job))
     }
@@ -307,7 +309,7 @@ impl<W: Indexed> Board<W> {
             &self.settings,
             &self.slots,
             &mut self.listing,
-            &mut self.listed,
+            self.published,
             version,
         )?;
         self.published = version;
@@ -315,7 +317,7 @@ impl<W: Indexed> Board<W> {
         Ok(())
     }
 
-    /// Opens a view of the last published version.
+    /// Opens a view of the last published version, which costs an owner of its listing.
     pub fn open(&mut self, by: u32) -> Result<View<W>, Memory>
         requires caller { IsCaller self.old by }
         requires closed { view_of self.old.state by ≡ None }
@@ -325,14 +327,6 @@ impl<W: Indexed> Board<W> {
         ensures conditions { IfOk result (λ view. HaveFewConditions (arc_value view.listing).projects) }
         ensures err { OnErr result (self.new ≡ self.old) }
     {
-        advance_to(
-            *self.slots.allocator(),
-            &self.settings,
-            &self.slots,
-            &mut self.listing,
-            &mut self.listed,
-            self.published,
-        )?;
         let listing = Arc::try_clone(&self.listing)?;
         self.views[by as usize] = Some(self.published);
         self.events = self.events.wrapping_add(1);

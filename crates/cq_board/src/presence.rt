@@ -1,4 +1,4 @@
-ghost use Rattle.std.specs.Prelude.{◌≡◌, [], List, OnOk, OnErr};
+ghost use Rattle.std.specs.Prelude.{◌≡◌, [], List, IfOk, OnOk, OnErr};
 ghost use Rattle.cq_base.specs.declared.change.Change.{Change};
 ghost use Rattle.cq_board.specs.Slots.{change_of};
 ghost use Rattle.cq_board.specs.Presence.{IsPresence, AddsPlace, is_there};
@@ -18,14 +18,14 @@ pub struct Presence {
 }
 
 impl Presence {
-    /// No files. It takes no memory.
-    pub fn new(alloc: Global) -> Presence
-        ensures { IsPresence [] result }
+    /// No files, with room for as many notes of what was superseded.
+    pub fn new(alloc: Global, most: usize) -> Result<Presence, Memory>
+        ensures { IfOk result (IsPresence []) }
     {
-        Presence {
+        Ok(Presence {
             puts: BTreeMap::new(alloc),
-            superseded: Vec::new(alloc),
-        }
+            superseded: Vec::with_capacity(alloc, most)?,
+        })
     }
 
     /// Whether a file stands at a place.

@@ -1,6 +1,6 @@
 ghost use Rattle.std.specs.Prelude.{◌≡◌, IfOk, true};
 ghost use Rattle.cq_history.specs.Changes.{is_put};
-ghost use Rattle.cq_history.specs.State.{is_done};
+ghost use Rattle.cq_history.specs.State.{is_done, is_free};
 ghost use Rattle.cq_board.specs.Slots.{slot_from, change_of};
 ghost use Rattle.cq_board.specs.Answers.{IsJobOf};
 
@@ -18,6 +18,13 @@ pub fn is_done<W>(kept: &Kept<W>) -> bool
         Stored::Drop { .. } => true,
         Stored::Gate { .. } => true,
     }
+}
+
+/// Whether the change is neither done nor taken.
+pub fn is_free<W>(kept: &Kept<W>) -> bool
+    ensures { result ≡ is_free (slot_from kept.now) }
+{
+    !is_done(kept) && kept.holder.is_none()
 }
 
 /// The job of a put.

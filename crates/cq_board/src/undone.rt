@@ -1,7 +1,7 @@
 ghost use Rattle.std.specs.Prelude.{◌≡◌, ◌≤◌, length, map, OnOk, OnErr};
-ghost use Rattle.std.specs.List.{prefix_len, position_or_len};
-ghost use Rattle.cq_history.specs.State.{is_done, is_free};
-ghost use Rattle.cq_board.specs.Slots.{slot_from, slots_with, change_of, IsNoneFree};
+ghost use Rattle.std.specs.List.{prefix_len};
+ghost use Rattle.cq_history.specs.State.{is_done};
+ghost use Rattle.cq_board.specs.Slots.{slot_from, slots_with, change_of};
 ghost use Rattle.cq_board.specs.Undone.{AreUndone};
 
 use crate::kept::{Kept, Stored};
@@ -18,22 +18,6 @@ pub fn ready_of<W>(slots: &[Kept<W>], undone: &BTreeSet<usize>) -> usize
         Some(i) => *i,
         None => slots.len(),
     }
-}
-
-/// The index of the first change that is neither done nor taken, or how many there are. None before `start` is. It is a
-/// search, and a step for each change from there on that is taken and not done.
-pub fn first_free<W>(slots: &[Kept<W>], undone: &BTreeSet<usize>, start: usize) -> usize
-    requires undone { AreUndone (map slot_from slots.now) undone.now }
-    requires before { IsNoneFree slots.now start }
-    ensures first { result ≡ position_or_len is_free (map slot_from slots.now) }
-    ensures within { result ≤ length slots.now }
-{
-    for i in undone.range(start..) {
-        if slots[*i].holder.is_none() {
-            return *i;
-        }
-    }
-    slots.len()
 }
 
 /// Those of one change more, which is not done where it is a put. Where memory is refused they are as before.

@@ -6,18 +6,17 @@
 //! No call holds two cells, and none waits while it holds one. No text, no path and no work is copied there.
 //!
 //! - `accept`, the board: an owner for each text of the change, which is the caller's own before; two searches, each a
-//!   logarithm, one among the places at which files stand and one among the changes that are not done; and a slot. The
-//!   slots are moved as their list grows, so one call may move them all, and many calls move each a few times. A change
-//!   that is refused is let go there.
+//!   logarithm, one among the places at which files stand and one among the changes that are not done; and a slot, for
+//!   which there was room from the first on. A change that is refused is let go there.
 //! - `ask`, the board: three numbers are read, and the first of the changes that are not done is looked for, a logarithm.
-//! - `take`, the board: a search among the changes that are not done, a logarithm, with a step for each that another has
-//!   taken and not done, of which each worker has one at most and each session none; and an owner of a text.
+//! - `take`, the board: a search among the changes that were given back or among those that are not done, a logarithm; and
+//!   an owner of a text. What was given back and is done by another since is passed over by the next call, a logarithm for
+//!   each: over all calls that is one for each `back` at most.
 //! - `job`, the board: one slot is looked at; an owner of a text.
-//! - `back`, the board: one slot is looked at.
+//! - `back`, the board: one slot is looked at, and the change goes among those that were given back, a logarithm.
 //! - `finish`, the board: the work goes into its slot, and the change is looked for among those that are not done, a
 //!   logarithm. A work that comes too late is let go there.
-//! - `open_view`, the board: an owner of the listing. Where memory was refused in the middle of the last publication, the
-//!   listing may have to be made anew first, which takes the time of all changes once.
+//! - `open_view`, the board: an owner of the listing.
 //! - `close_view`, the board: a number is cleared. The listing is let go afterwards.
 //! - `read_bucket`, the shard of the key: a search in each of its runs, and one among the view's files for each entry with
 //!   the key. Those that are there are copied out.

@@ -1,6 +1,5 @@
 use Rattle.std.proofs.Common.{[], ◌∷◌, ◌++◌, refl, sym, ap, ◌∙◌, subst}
 use Rattle.cq_board.specs.declared.kept.Stored.{Stored}
-use Rattle.cq_board.specs.declared.superseded.Superseded.{Superseded}
 use Rattle.cq_board.specs.Slots.{change_of}
 use Rattle.cq_board.specs.Superseded.{noted}
 use Rattle.cq_board.specs.Presence.{IsPresence}

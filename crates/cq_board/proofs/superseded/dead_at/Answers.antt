@@ -1,6 +1,5 @@
-use Rattle.std.proofs.Common.{◌≡◌, ◌∙◌, map, take, nat_le, sym, ap, subst, rules, IsPermutation}
+use Rattle.std.proofs.Common.{nat_le, subst, rules, IsPermutation}
 use Rattle.std.proofs.lemmas.List.Sorted.{IsPartitionedBy-leb, IsPartitionPoint-from_clause}
-use Rattle.cq_board.specs.Superseded.{put_in}
 use Rattle.cq_board.specs.declared.superseded.Superseded.{Superseded}
 use Rattle.cq_board.proofs.Dead.{rising_by, dead_each, dead_rising}
 use Rattle.cq_board.proofs.superseded.dead_at.Goals as goal

@@ -22,5 +22,5 @@ returns-clause-each c =
     let from = c.partition_point-from.result in
     let point = IsPartitionPoint-from_clause (λ (s : Superseded). nat_le s.by c.args.above) all from c.partition_point-from.ensures.partitioned (IsPartitionedBy-leb (λ (s : Superseded). s.by) all c.args.above (rising_by all c.requires.in_order)) (λ a r q called. search rules) in
     IfOk-weaker c.dead_at.result _ _ (λ dead which r.
-        let gone = subst (λ xs. IsGoneAt xs c.args.floor r ↔ (IsGoneAt all c.args.floor r × (IsGoneAt all c.args.above r → ⊥))) (sym (all_behind from all)) (gone_between all from c.args.above point c.requires.once c.args.floor r) in
-        (λ has. gone.0 ((which r).0 has), λ is. (which r).1 (gone.1 is))) c.dead_at.ensures.each
+    let gone = subst (λ xs. IsGoneAt xs c.args.floor r ↔ (IsGoneAt all c.args.floor r × (IsGoneAt all c.args.above r → ⊥))) (sym (all_behind from all)) (gone_between all from c.args.above point c.requires.once c.args.floor r) in
+    (λ has. gone.0 ((which r).0 has), λ is. (which r).1 (gone.1 is))) c.dead_at.ensures.each

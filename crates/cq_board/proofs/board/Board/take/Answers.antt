@@ -1,5 +1,5 @@
 use Rattle.std.specs.Arc.{arc_value}
-use Rattle.std.proofs.Common.{sym, set, inl, inr, ⊎_elim, ◌≡◌, ◌+◌, ◌<◌, ◌≤◌, ℕ, length, map, List, arith, ap, ◌∙◌, Option, Some, refl, subst}
+use Rattle.std.proofs.Common.{sym, set, ◌≡◌, ◌+◌, ◌<◌, ◌≤◌, ℕ, length, map, List, arith, ap, ◌∙◌, Option, Some, refl, subst}
 use Rattle.std.proofs.lemmas.List.{length-map, set-get_or}
 use Rattle.std.specs.List.{position_or_len}
 use Rattle.cq_history.specs.declared.event.Event.TheVariants as event
@@ -10,9 +10,9 @@ use Rattle.cq_board.specs.declared.kept.Kept.{Kept}
 use Rattle.cq_board.specs.Boards.{BoardOk}
 use Rattle.cq_board.specs.Slots.{slot_from, change_of}
 use Rattle.cq_board.specs.Slots.{state_from}
-use Rattle.cq_board.proofs.SlotLists.{took_state, held_ok, none_free_set, none_before, held_not_free, changes_stay, ready_grows, first_is_free, free_is_put}
+use Rattle.cq_board.proofs.SlotLists.{took_state, held_ok, changes_stay, ready_grows, first_is_free, free_is_put}
 use Rattle.cq_board.proofs.OneMore.{board_with, board_free}
-use Rattle.std.proofs.lemmas.Bool.{cases_eq}
+use Rattle.cq_board.specs.Free.{AreFree}
 use Rattle.cq_board.proofs.Sounding.{kept_sound, job_text}
 use Rattle.cq_board.proofs.board.Board.take.Goals as goal
 
@@ -35,18 +35,20 @@ job_of-requires g c =
 pub invariant_of-self-2 : goal.invariant_of-self-2
 invariant_of-self-2 g c =
     let within = below_end c.first_free-i.result c.len.result _ c.deref.result.now c.self.inside.slots.items c.first_free-i.ensures.within c.if-i-len.false c.len.ensures c.deref.ensures.len c.deref.ensures.value in
+    let slots = c.self.inside.slots.items in
     let first = c.first_free-i.ensures.first ∙ ap (λ xs. position_or_len is_free (map (slot_from {W = g.row.W.Denot}) xs)) c.deref.ensures.value in
+    let can = subst (λ (xs : List (Kept g.row.W.Denot)). AreFree (map slot_from xs) c.first_free-i.new.free) c.deref.ensures.value c.first_free-i.ensures.free in
     let i = c.first_free-i.result in
     let k = c.index_mut-kept.result.now in
     let j : Kept g.row.W.Denot = record { change = k.change; work = k.work; holder = Some c.args.by } in
-    board_with (g.W.Indexed.IsWorkOf c.self.inside.settings) c.self.inside.settings c.self.inside.slots.items (set c.self.inside.slots.items i j) c.self.inside.there c.self.inside.undone c.self.inside.undone c.self.inside.text_bytes c.self.inside.free (i + 1) c.self.inside.published c.self.inside.listed (arc_value c.self.inside.listing) c.self.inside.views.items
+    board_with (g.W.Indexed.IsWorkOf c.self.inside.settings) c.self.inside.settings slots (set slots i j) c.self.inside.there c.self.inside.undone c.self.inside.undone c.self.inside.text_bytes c.self.inside.free c.note_taken.new.free c.self.inside.published (arc_value c.self.inside.listing) c.self.inside.views.items
     c.self.invariant
-    (held_ok (g.W.Indexed.IsWorkOf c.self.inside.settings) c.self.inside.settings c.self.inside.slots.items c.self.inside.undone c.self.inside.text_bytes c.self.inside.free (i + 1) i k (Some c.args.by) within c.index_mut-kept.ensures.value
-    (none_free_set c.self.inside.slots.items i i (i + 1) j (none_before c.self.inside.slots.items i (omega (arith, within)) first) (omega (arith, within))
-    (λ n lt. ⊎_elim (λ e. inl (e, held_not_free (slot_from j) refl)) (λ other. inr (other, omega (arith, other, lt))) (cases_eq n i)))
+    (held_ok (g.W.Indexed.IsWorkOf c.self.inside.settings) c.self.inside.settings slots c.self.inside.undone c.self.inside.text_bytes c.self.inside.free c.note_taken.new.free i k (Some c.args.by) within c.index_mut-kept.ensures.value
+    (c.note_taken.ensures.taken (map slot_from slots) (slot_from j) can first (omega (arith, within, length-map slots (slot_from {W = g.row.W.Denot}))) refl)
+    (omega (arith, c.first_free-i.ensures.room, c.note_taken.ensures.room))
     c.self.invariant.kept)
-    (changes_stay c.self.inside.slots.items i k j within c.index_mut-kept.ensures.value refl)
-    (ready_grows c.self.inside.slots.items i k j within c.index_mut-kept.ensures.value (λ h. h))
+    (changes_stay slots i k j within c.index_mut-kept.ensures.value refl)
+    (ready_grows slots i k j within c.index_mut-kept.ensures.value (λ h. h))
 
 -- the number of the free slot
 is_next : {W : Type 0} (slots : List (Kept W)) (p f : ℕ) (views : List (Option ℕ)) (i r : ℕ) → i ≡ position_or_len is_free (map slot_from slots) → i < length slots → r ≡ i + 1 → (r ≡ first_free (state_from slots p f views)) × IsAccepted (state_from slots p f views) r
@@ -80,19 +82,19 @@ returns-clause-unchanged g c =
 pub invariant_of-self : goal.invariant_of-self
 invariant_of-self g c =
     let slots = c.self.inside.slots.items in
-    let first = c.first_free-i.ensures.first ∙ ap (λ xs. position_or_len is_free (map (slot_from {W = g.row.W.Denot}) xs)) c.deref.ensures.value in
-    board_free (g.W.Indexed.IsWorkOf c.self.inside.settings) c.self.inside.settings slots c.self.inside.there c.self.inside.undone c.self.inside.text_bytes c.self.inside.free c.first_free-i.result c.self.inside.published c.self.inside.listed (arc_value c.self.inside.listing) c.self.inside.views.items c.self.invariant
-    (none_before slots c.first_free-i.result (omega (arith, c.first_free-i.ensures.within, ap length c.deref.ensures.value)) first)
+    board_free (g.W.Indexed.IsWorkOf c.self.inside.settings) c.self.inside.settings slots c.self.inside.there c.self.inside.undone c.self.inside.text_bytes c.self.inside.free c.first_free-i.new.free c.self.inside.published (arc_value c.self.inside.listing) c.self.inside.views.items c.self.invariant
+    (subst (λ (xs : List (Kept g.row.W.Denot)). AreFree (map slot_from xs) c.first_free-i.new.free) c.deref.ensures.value c.first_free-i.ensures.free)
+    (omega (arith, c.first_free-i.ensures.room))
 
 pub invariant_of-self-in_err-job : goal.invariant_of-self-in_err-job
 invariant_of-self-in_err-job g c =
     let slots = c.self.inside.slots.items in
     let k = c.index_mut-kept.result.now in
-    let first = c.first_free-i.ensures.first ∙ ap (λ xs. position_or_len is_free (map (slot_from {W = g.row.W.Denot}) xs)) c.deref.ensures.value in
     let same : set slots c.first_free-i.result k ≡ slots = ap (set slots c.first_free-i.result) c.index_mut-kept.ensures.value ∙ set-get_or slots c.first_free-i.result k in
-    subst (λ (xs : List (Kept g.row.W.Denot)). BoardOk (g.W.Indexed.IsWorkOf c.self.inside.settings) c.self.inside.settings xs c.self.inside.there c.self.inside.undone c.self.inside.text_bytes c.first_free-i.result c.self.inside.published c.self.inside.listed (arc_value c.self.inside.listing) c.self.inside.views.items) (sym same)
-    (board_free (g.W.Indexed.IsWorkOf c.self.inside.settings) c.self.inside.settings slots c.self.inside.there c.self.inside.undone c.self.inside.text_bytes c.self.inside.free c.first_free-i.result c.self.inside.published c.self.inside.listed (arc_value c.self.inside.listing) c.self.inside.views.items c.self.invariant
-    (none_before slots c.first_free-i.result (omega (arith, c.first_free-i.ensures.within, ap length c.deref.ensures.value)) first))
+    subst (λ (xs : List (Kept g.row.W.Denot)). BoardOk (g.W.Indexed.IsWorkOf c.self.inside.settings) c.self.inside.settings xs c.self.inside.there c.self.inside.undone c.self.inside.text_bytes c.first_free-i.new.free c.self.inside.published (arc_value c.self.inside.listing) c.self.inside.views.items) (sym same)
+    (board_free (g.W.Indexed.IsWorkOf c.self.inside.settings) c.self.inside.settings slots c.self.inside.there c.self.inside.undone c.self.inside.text_bytes c.self.inside.free c.first_free-i.new.free c.self.inside.published (arc_value c.self.inside.listing) c.self.inside.views.items c.self.invariant
+    (subst (λ (xs : List (Kept g.row.W.Denot)). AreFree (map slot_from xs) c.first_free-i.new.free) c.deref.ensures.value c.first_free-i.ensures.free)
+    (omega (arith, c.first_free-i.ensures.room)))
 
 pub returns-clause-text : goal.returns-clause-text
 returns-clause-text g c =
