@@ -60,7 +60,7 @@ runs_pairs R inside across (r ∷ rs) are =
 earlier_differs : (a b : Entry) → a.change < b.change → a ≢ b
 earlier_differs a b lt same = let at : a.change ≡ b.change = ap (λ (e : Entry). e.change) same in omega (arith, lt, at)
 
-runs_different : (runs : List (List Entry)) → AreRuns runs → AreDifferent (entries_in runs)
+pub runs_different : (runs : List (List Entry)) → AreRuns runs → AreDifferent (entries_in runs)
 runs_different runs are = runs_pairs (λ a b. a ≢ b) RowBefore-different earlier_differs runs are
 
 -- the entries of one key come by change and place

@@ -8,6 +8,7 @@ pub mod Gathering
 pub mod Reaching
 pub mod Taking
 pub mod Storing
+pub mod Lasting
 pub mod Standing
 pub mod Works
 pub mod Given

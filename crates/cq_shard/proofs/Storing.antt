@@ -9,7 +9,7 @@ use Rattle.cq_base.specs.declared.entry.Entry.{Entry}
 use Rattle.cq_base.proofs.Lists.{Contains-here, Contains-there, Contains-map, Contains-from_map, Contains-filter, Contains-from_filter, All-from_contains, AllPairs-map, AllPairs-weaker}
 use Rattle.cq_clones.specs.Lists.{AreAllInOrder}
 use Rattle.cq_clones.specs.Windows.{EntryBefore}
-use Rattle.cq_shard.specs.Runs.{RowBefore, IsRun, Precedes, AreRuns, AreAdded, entries_in}
+use Rattle.cq_shard.specs.Runs.{RowBefore, IsRun, Precedes, AreRuns, AreAdded, AreDifferent, entries_in}
 use Rattle.cq_shard.specs.Tables.{is_among, outside, changes_of, AreNoted}
 use Rattle.cq_shard.specs.Stores.{those_of, without, Stored, stored, left_by, IsStore}
 use Rattle.cq_shard.proofs.Entries.{any_of}
@@ -134,6 +134,15 @@ module _ (applied later : ℕ) (changes noted : List ℕ) (rows entries more : L
         (λ new. (are e.change).1 (inr (change_in e new)))
         ((added.each e).0 c);
   }
+
+-- some that a sweep took out were cleared
+pub store_less : (applied : ℕ) (changes : List ℕ) (rows less : List Entry) (gone left : ℕ) → IsStore applied changes rows gone → ((e : Entry) → Contains less e → Contains rows e) → AreDifferent less → (left ≡ 0 → gone ≡ 0) → IsStore applied changes less left
+store_less applied changes rows less gone left is fewer different none = record {
+  known = is.known;
+  brought = All-from_contains (λ (e : Entry). e.change ≤ applied) less (λ e c. All-contains (λ (e : Entry). e.change ≤ applied) rows e is.brought (fewer e c));
+  different = different;
+  whole = λ zero e c. is.whole (none zero) e (fewer e c);
+}
 
 -- those that come are of later changes than all before
 pub rows_precede : (applied : ℕ) (changes : List ℕ) (rows entries : List Entry) (gone : ℕ) → IsStore applied changes rows gone → All (λ e. applied < e.change) entries → Precedes rows entries

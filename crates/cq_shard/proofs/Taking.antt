@@ -1,15 +1,17 @@
 -- Changes in a table: dead ones taken out where they stand, and those of more entries noted.
-use Rattle.std.proofs.Common.{◌≡◌, ℕ, suc, ◌+◌, ◌-◌, ◌<◌, ◌≤◌, Bool, true, false, cond, not, nat_eq, List, [], ◌∷◌, ◌++◌, length, take, drop, get_or, set, refl, sym, ap, ap₂, ◌∙◌, subst, inl, inr, ⊎_elim, arith, append-nil}
+use Rattle.std.proofs.Common.{◌≡◌, ℕ, zero, suc, ◌+◌, ◌-◌, ◌<◌, ◌≤◌, Bool, true, false, cond, not, ◌||◌, nat_eq, List, [], ◌∷◌, ◌++◌, length, take, drop, get_or, set, refl, sym, ap, ap₂, ◌∙◌, subst, inl, inr, ⊎_elim, arith, append-nil}
 use Rattle.std.specs.Prelude.{All, AllPairs, Contains}
+use Rattle.std.specs.List.{remove}
 use Rattle.std.specs.List.Sorted.{IsStrictlyIncreasing}
 use Rattle.std.proofs.lemmas.Bool.{eqb-true, false_from_ne_true, cases_lt, eq-eqb, false≢true}
 use Rattle.std.proofs.lemmas.List.{take_more, take_more_set, drop_more, drop-set-lt, take_all, length-set, length-take, get_or_default, get_or-take, map-append}
 use Rattle.std.proofs.lemmas.List.Elements.{All-contains, filter-append, Contains-push, Contains-push_cases, Contains-append_left, Contains-get_or}
+use Rattle.std.proofs.lemmas.List.Folds.{list_any-append}
 use Rattle.std.proofs.lemmas.List.Kept.{AllPairs-from_increasing, IsStrictlyIncreasing-filter}
 use Rattle.std.proofs.lemmas.List.Quantifiers.{all_pairs_push}
 use Rattle.std.proofs.lemmas.Map.Views.{Contains-from_any}
 use Rattle.cq_base.specs.declared.entry.Entry.{Entry}
-use Rattle.cq_base.proofs.Lists.{Contains-nil, Contains-from_map, All-from_contains}
+use Rattle.cq_base.proofs.Lists.{Contains-nil, Contains-here, Contains-cases, Contains-from_map, All-from_contains, AllPairs-head, AllPairs-tail}
 use Rattle.cq_clones.specs.Windows.{EntryBefore}
 use Rattle.cq_shard.specs.Tables.{is_among, outside, AreOutside, changes_of, AreBefore, AreCounted, AreNoted}
 use Rattle.cq_shard.proofs.Entries.{any_of}
@@ -96,6 +98,63 @@ module _ (dead old now : List ℕ) (i kept d : ℕ) (closing : IsClosing dead ol
 
 pub closing_last : (dead old now : List ℕ) (i kept : ℕ) → length old ≤ i → IsClosing dead old now i kept → take kept now ≡ outside dead old
 closing_last dead old now i kept past closing = closing.made ∙ ap (outside dead) (take_all i old past)
+
+-- ---- a few are taken out one by one
+
+-- a number that rising ones don't have
+module _ (xs : List ℕ) (x i : ℕ) (up : IsStrictlyIncreasing xs) (below : (k : ℕ) → k < i → k < length xs → get_or xs k 0 < x) (above : (k : ℕ) → i ≤ k → k < length xs → x ≤ get_or xs k 0)
+    (other : i < length xs → get_or xs i 0 ≡ x → ⊥) where
+  pub absent : Contains xs x → ⊥
+  absent (k, within, is) =
+      let same : get_or xs k 0 ≡ x = get_or_default xs k 0 x within ∙ is in
+      ⊎_elim
+      (λ (low : k < i). let h = below k low within in omega (arith, h, same))
+      (λ (high : i ≤ k). ⊎_elim
+      (λ (behind : i < k). let first = above i (omega arith) (omega (arith, behind, within)) in let h = AllPairs-from_increasing xs up i k 0 behind within in omega (arith, first, h, same))
+      (λ (here : k ≤ i). let e : k ≡ i = omega (arith, here, high) in other (subst (λ j. j < length xs) e within) (subst (λ j. get_or xs j 0 ≡ x) e same))
+      (cases_lt i k))
+      (cases_lt k i)
+
+among_one : (n x : ℕ) → is_among (x ∷ []) n ≡ true → x ≡ n
+among_one n x is = ⊎_elim (λ h. h) (λ none. absurd (Contains-nil n none)) (Contains-cases x n [] (Contains-from_any eqb-true n (x ∷ []) is))
+
+pub outside_absent : (x : ℕ) (xs : List ℕ) → (Contains xs x → ⊥) → outside (x ∷ []) xs ≡ xs
+outside_absent x xs free = outside_same (x ∷ []) xs (λ n c. false_from_ne_true (is_among (x ∷ []) n) (λ h. free (subst (Contains xs) (sym (among_one n x h)) c)))
+
+outside_pairs : (x : ℕ) (xs : List ℕ) (i : ℕ) → AllPairs (λ a b. a < b) xs → i < length xs → get_or xs i 0 ≡ x → remove xs i ≡ outside (x ∷ []) xs
+outside_pairs x [] i up within is = absurd (omega (arith, within))
+outside_pairs x (y ∷ ys) zero up within is =
+    let free : Contains ys x → ⊥ = λ c. (let h = AllPairs-head (λ a b. a < b) y x ys up c in omega (arith, h, is)) in
+    let there : is_among (x ∷ []) y ≡ true = any_of y (x ∷ []) (subst (λ z. Contains (z ∷ []) y) is (Contains-here y [])) in
+    sym (ap (λ b. cond (not b) (y ∷ outside (x ∷ []) ys) (outside (x ∷ []) ys)) there ∙ outside_absent x ys free)
+outside_pairs x (y ∷ ys) (suc i) up within is =
+    let lt : y < x = (let h = up 0 (suc i) 0 (omega arith) within in omega (arith, h, is)) in
+    let free : is_among (x ∷ []) y ≡ false = false_from_ne_true (is_among (x ∷ []) y) (λ h. let e = among_one y x h in omega (arith, e, lt)) in
+    ap (λ ns. y ∷ ns) (outside_pairs x ys i (AllPairs-tail (λ a b. a < b) y ys up) (omega (arith, within)) is)
+    ∙ sym (ap (λ b. cond (not b) (y ∷ outside (x ∷ []) ys) (outside (x ∷ []) ys)) free)
+
+pub outside_at : (x : ℕ) (xs : List ℕ) (i d : ℕ) → IsStrictlyIncreasing xs → i < length xs → get_or xs i d ≡ x → remove xs i ≡ outside (x ∷ []) xs
+outside_at x xs i d up within is = outside_pairs x xs i (AllPairs-from_increasing xs up) within (get_or_default xs i 0 d within ∙ is)
+
+outside_both : (ds : List ℕ) (x n : ℕ) (xs : List ℕ) (a b c : Bool) → c ≡ (a || b) → is_among (x ∷ []) n ≡ b →
+    outside (x ∷ []) (cond (not a) (n ∷ outside ds xs) (outside ds xs)) ≡ cond (not c) (n ∷ outside (x ∷ []) (outside ds xs)) (outside (x ∷ []) (outside ds xs))
+outside_both ds x n xs true b c e is = ap (λ c. cond (not c) (n ∷ outside (x ∷ []) (outside ds xs)) (outside (x ∷ []) (outside ds xs))) (sym e)
+outside_both ds x n xs false true c e is =
+    ap (λ b. cond (not b) (n ∷ outside (x ∷ []) (outside ds xs)) (outside (x ∷ []) (outside ds xs))) is
+    ∙ ap (λ c. cond (not c) (n ∷ outside (x ∷ []) (outside ds xs)) (outside (x ∷ []) (outside ds xs))) (sym e)
+outside_both ds x n xs false false c e is =
+    ap (λ b. cond (not b) (n ∷ outside (x ∷ []) (outside ds xs)) (outside (x ∷ []) (outside ds xs))) is
+    ∙ ap (λ c. cond (not c) (n ∷ outside (x ∷ []) (outside ds xs)) (outside (x ∷ []) (outside ds xs))) (sym e)
+
+pub outside_twice : (ds : List ℕ) (x : ℕ) (xs : List ℕ) → outside (x ∷ []) (outside ds xs) ≡ outside (ds ++ x ∷ []) xs
+outside_twice ds x [] = refl
+outside_twice ds x (n ∷ xs) =
+    outside_both ds x n xs (is_among ds n) (is_among (x ∷ []) n) (is_among (ds ++ x ∷ []) n) (list_any-append (nat_eq n) ds (x ∷ [])) refl
+    ∙ ap (λ ns. cond (not (is_among (ds ++ x ∷ []) n)) (n ∷ ns) ns) (outside_twice ds x xs)
+
+pub outside_more : (dead : List ℕ) (i d : ℕ) (xs now new : List ℕ) → i < length dead → now ≡ outside (take i dead) xs → new ≡ outside (get_or dead i d ∷ []) now → new ≡ outside (take (i + 1) dead) xs
+outside_more dead i d xs now new within was is =
+    is ∙ ap (outside (get_or dead i d ∷ [])) was ∙ outside_twice (take i dead) (get_or dead i d) xs ∙ ap (λ ds. outside ds xs) (sym (take_more dead i d within))
 
 -- ---- what is noted
 

@@ -1,5 +1,5 @@
 -- The entries that a shard stores. Those of changes that a sweep took out may lie there for a while, but count no more.
-use Rattle.std.specs.Prelude.{◌≡◌, ℕ, ◌≤◌, not, List, filter, All, Contains}
+use Rattle.std.specs.Prelude.{◌≡◌, ◌⊎◌, ℕ, ◌<◌, ◌≤◌, not, List, [], length, get_or, filter, All, Contains}
 use Rattle.cq_base.specs.declared.entry.Entry.{Entry}
 use Rattle.cq_shard.specs.Runs.{AreDifferent}
 use Rattle.cq_shard.specs.Tables.{is_among}
@@ -11,6 +11,15 @@ those_of changes entries = filter (λ (e : Entry). is_among changes e.change) en
 -- the entries of all other changes
 abbrev pub without : List ℕ → List Entry → List Entry
 without dead entries = filter (λ (e : Entry). not (is_among dead e.change)) entries
+
+-- a run as it was, or its entries of these changes alone
+abbrev pub IsLeft : List ℕ → List Entry → List Entry → Type 0
+IsLeft changes old new = (new ≡ old) ⊎ (new ≡ those_of changes old)
+
+-- each of the runs is so
+pub record AreLeft (changes : List ℕ) (old new : List (List Entry)) : Type 0 where
+  pub number : length new ≡ length old
+  pub each : (i : ℕ) → i < length old → IsLeft changes (get_or old i []) (get_or new i [])
 
 -- up to which change all were added, and the entries that count
 pub record Stored : Type 0 where

@@ -1,9 +1,10 @@
-ghost use Rattle.std.specs.Prelude.{◌≡◌, ◌++◌, ◌∷◌, ◌+◌, ◌≤◌, [], length, take, map, AllPairs, IfOk, OnOk, OnErr};
+ghost use Rattle.std.specs.Prelude.{◌≡◌, ◌++◌, ◌∷◌, ◌+◌, ◌≤◌, [], length, take, map, AllPairs, Contains, IfOk, OnOk, OnErr};
 ghost use Rattle.std.specs.List.Sorted.{IsStrictlyIncreasing};
+ghost use Rattle.cq_base.specs.declared.entry.Entry.{Entry};
 ghost use Rattle.cq_clones.specs.Windows.{EntryBefore};
-ghost use Rattle.cq_shard.specs.Runs.{AreRuns, AreRunsWith, AreAdded, Precedes};
+ghost use Rattle.cq_shard.specs.Runs.{AreRuns, AreRunsWith, AreAdded, AreDifferent, Precedes};
 ghost use Rattle.cq_shard.specs.Shard.{AreAsked};
-ghost use Rattle.cq_shard.specs.Stores.{those_of};
+ghost use Rattle.cq_shard.specs.Stores.{those_of, AreLeft};
 
 use crate::run::Run;
 use crate::table::Table;
@@ -84,6 +85,16 @@ impl Runs {
     {
         keep_each(&mut self.runs, changes);
     }
+
+    /// The entries of these changes alone in those runs with which as many entries more will be merged, and how many went. It
+    /// looks at no more entries than are merged then, and takes no memory.
+    pub fn keep_last(&mut self, changes: &Table, added: usize) -> u64
+        ensures those { those_of changes.now self.new ≡ those_of changes.now self.old }
+        ensures fewer { (e : Entry) → Contains self.new e → Contains self.old e }
+        ensures different { AreDifferent self.new }
+    {
+        keep_last(&mut self.runs, changes, added)
+    }
 }
 
 // The entries of these changes alone, in each run.
@@ -93,6 +104,24 @@ fn keep_each(runs: &mut Vec<Run>, changes: &Table)
     for i in 0..runs.len() {
         runs[i].keep(changes);
     }
+}
+
+// The entries of these changes alone in each run with which a run of so many entries will be merged, and how many went.
+fn keep_last(runs: &mut Vec<Run>, changes: &Table, added: usize) -> u64
+    ensures { AreLeft changes.now runs.old.items runs.new.items }
+{
+    let mut kept = runs.len();
+    let mut together = added;
+    let mut taken = 0u64;
+    'runs: while kept > 0 && runs[kept - 1].len() / 2 < together {
+        kept -= 1;
+        let before = runs[kept].len();
+        runs[kept].keep(changes);
+        let left = runs[kept].len();
+        together = together.saturating_add(left);
+        taken = taken.saturating_add(before.saturating_sub(left) as u64);
+    }
+    taken
 }
 
 // The run merged with those before it that it has half as many entries as, or more: how many runs stay, and the run

@@ -1,9 +1,10 @@
-ghost use Rattle.std.specs.Prelude.{◌≡◌, ◌+◌, ◌<◌, ◌≤◌, [], length, take, All, AllPairs, IfOk, OnOk, OnErr};
+ghost use Rattle.std.specs.Prelude.{◌≡◌, ◌+◌, ◌<◌, ◌≤◌, [], length, take, All, AllPairs, Contains, IfOk, OnOk, OnErr};
 ghost use Rattle.std.specs.List.Sorted.{IsStrictlyIncreasing};
+ghost use Rattle.cq_base.specs.declared.entry.Entry.{Entry};
 ghost use Rattle.cq_clones.specs.Windows.{EntryBefore};
-ghost use Rattle.cq_shard.specs.Runs.{AreAdded, Precedes};
+ghost use Rattle.cq_shard.specs.Runs.{AreAdded, AreDifferent, Precedes};
 ghost use Rattle.cq_shard.specs.Shard.{AreAsked};
-ghost use Rattle.cq_shard.specs.Stores.{left_by};
+ghost use Rattle.cq_shard.specs.Stores.{left_by, those_of};
 ghost use Rattle.cq_shard.specs.Tables.{AreBefore, AreNoted};
 
 use crate::runs::Runs;
@@ -13,9 +14,9 @@ use std::alloc::Global;
 use std::marker::Model;
 use std::sync::ledger::Ledger;
 
-/// The entries of a shard, and of which changes those are that no sweep took out. What a sweep takes out stays in the runs
-/// until it is as much as all others; then the runs are cleared where they stand. So sweeping takes no memory, and each
-/// entry is looked at about twice for it over its life.
+/// The entries of a shard, and of which changes those are that no sweep took out. What a sweep takes out stays in its run
+/// until that is merged with another, or until all that stays so is as much as what stands; then the runs are cleared where
+/// they stand. So sweeping takes no memory, and a run has what was taken out since it was made, and nothing older.
 #[derive(Drop)]
 pub(crate) struct Store {
     runs: Runs,
@@ -77,6 +78,7 @@ impl Store {
     {
         let added = entries.len() as u64;
         let noted = self.table.len();
+        self.gone = cleared(&mut self.runs, &self.table, entries.len(), self.gone);
         match put(alloc, &mut self.runs, &mut self.table, entries, steps) {
             Ok(()) => {
                 self.applied = applied;
@@ -118,6 +120,21 @@ impl Store {
         self.runs.keep(&self.table);
         self.gone = 0;
     }
+}
+
+// Clears the runs with which so many entries more will be merged of what a sweep took out, where there is any, and tells how
+// much is still there. It is counted as one where all of it may have gone.
+fn cleared(runs: &mut Runs, table: &Table, added: usize, gone: u64) -> u64
+    ensures those { those_of table.now runs.new ≡ those_of table.now runs.old }
+    ensures fewer { (e : Entry) → Contains runs.new e → Contains runs.old e }
+    ensures different { AreDifferent runs.old → AreDifferent runs.new }
+    ensures none { result ≡ 0 → gone ≡ 0 }
+{
+    if gone == 0 {
+        return 0;
+    }
+    let taken = runs.keep_last(table, added);
+    gone.saturating_sub(taken).max(1)
 }
 
 // The entries more in the runs, and their changes in the table; where memory is refused, some in the table alone.

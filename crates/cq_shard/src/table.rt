@@ -1,4 +1,4 @@
-ghost use Rattle.std.specs.Prelude.{◌≡◌, ◌+◌, ◌<◌, ◌≤◌, [], length, take, All, AllPairs, OnOk, OnErr};
+ghost use Rattle.std.specs.Prelude.{◌≡◌, ◌∷◌, ◌+◌, ◌<◌, ◌≤◌, [], length, take, All, AllPairs, OnOk, OnErr};
 ghost use Rattle.std.specs.List.Sorted.{IsStrictlyIncreasing};
 ghost use Rattle.cq_clones.specs.Windows.{EntryBefore};
 ghost use Rattle.cq_shard.specs.Stores.{those_of};
@@ -8,6 +8,9 @@ use crate::run::is_live;
 use cq_base::{Entry, Memory};
 use std::alloc::Global;
 use std::marker::Model;
+
+// Up to so many dead changes are taken out one by one.
+const FEW: usize = 16;
 
 // How often steps are doubled, at most, before the rest is searched by halves.
 const STEPS: u32 = 48;
@@ -83,13 +86,17 @@ impl Table {
         self.changes.truncate(number);
     }
 
-    /// Takes the changes out that are dead, and tells how many entries they had, 0 only where none was taken out. Both lists
-    /// are searched from stretch to stretch for the first; those behind it move up.
+    /// Takes the changes out that are dead, and tells how many entries they had, 0 only where none was taken out. A few are
+    /// each searched, and those behind move up at once. For many, both lists are searched from stretch to stretch for the
+    /// first, and those behind it move up one by one.
     pub fn take_out(&mut self, dead: &[u64]) -> u64
         requires { IsStrictlyIncreasing dead.now }
         ensures left { self.new ≡ outside dead.now self.old }
         ensures none { result ≡ 0 → self.new ≡ self.old }
     {
+        if dead.len() <= FEW {
+            return take_each(&mut self.changes, &mut self.sizes, dead);
+        }
         let first = first_among(&self.changes, dead);
         close_up(&mut self.changes, &mut self.sizes, first, dead)
     }
@@ -125,6 +132,37 @@ fn is_last(changes: &[u64], change: u64) -> bool
         return false;
     }
     changes[changes.len() - 1] == change
+}
+
+// Takes out each of the dead changes, and tells how many entries they had, or one where that is unknown.
+fn take_each(changes: &mut Vec<u64>, sizes: &mut Vec<u64>, dead: &[u64]) -> u64
+    requires table { IsTable changes.old.items sizes.old.items }
+    ensures table { IsTable changes.new.items sizes.new.items }
+    ensures left { changes.new.items ≡ outside dead.now changes.old.items }
+    ensures none { result ≡ 0 → changes.new.items ≡ changes.old.items }
+{
+    let mut taken = 0u64;
+    for change in dead {
+        let size = take_one(changes, sizes, *change);
+        taken = taken.saturating_add(size);
+    }
+    taken
+}
+
+// Takes the change out, where it is there, and tells how many entries it had, or one where that is unknown.
+fn take_one(changes: &mut Vec<u64>, sizes: &mut Vec<u64>, change: u64) -> u64
+    requires table { IsTable changes.old.items sizes.old.items }
+    ensures table { IsTable changes.new.items sizes.new.items }
+    ensures left { changes.new.items ≡ outside (change ∷ []) changes.old.items }
+    ensures none { result ≡ 0 → changes.new.items ≡ changes.old.items }
+{
+    let at = behind(changes, 0, change);
+    if at < changes.len() && changes[at] == change {
+        changes.remove(at);
+        let size = sizes.remove(at);
+        return size.max(1);
+    }
+    0
 }
 
 // Behind how many of the changes, none of which is dead, one stands that is; where none is, behind all.
