@@ -1,4 +1,4 @@
-ghost use Rattle.std.specs.Prelude.{◌≡◌, ◌+◌, ◌-◌, ◌<◌, ◌≤◌, ◌^◌, ℕ, [], length, All, IfOk, IfSome, OnOk, OnErr};
+ghost use Rattle.std.specs.Prelude.{◌≡◌, ◌+◌, ◌-◌, ◌<◌, ◌≤◌, ◌^◌, ℕ, true, [], length, All, IfOk, IfSome, OnOk, OnErr};
 ghost use Rattle.std.specs.Arc.{arc_value};
 ghost use Rattle.cq_history.specs.State.{ready};
 ghost use Rattle.cq_cells.specs.Passes.{IsSameCaller, least};
@@ -119,7 +119,7 @@ impl<W: Indexed, R: Wait> Shared<W, R> {
         Ok(())
     }
 
-    // One shard applies the changes up to one, one by one.
+    // One shard applies the changes up to one, one by one, as long as no other caller has brought it so far.
     fn commit_shard(
         &self,
         number: u32,
@@ -139,12 +139,14 @@ impl<W: Indexed, R: Wait> Shared<W, R> {
         ensures applied { OnOk result (to ≤ least pass.new number) }
     {
         'changes: for _change in base..to {
-            self.apply_one(number, base, to, works, pass)?;
+            if self.apply_one(number, base, to, works, pass)? {
+                return Ok(());
+            }
         }
         Ok(())
     }
 
-    // The shard applies the next change, unless it has applied so many.
+    // The shard applies the next change, unless it has applied so many; and whether it has applied so many then.
     fn apply_one(
         &self,
         number: u32,
@@ -152,7 +154,7 @@ impl<W: Indexed, R: Wait> Shared<W, R> {
         to: u64,
         works: &Vec<Option<Arc<W, Global>>>,
         pass: &mut Pass<W>,
-    ) -> Result<(), Memory>
+    ) -> Result<bool, Memory>
         requires of { IsPassOf self.now pass.old }
         requires number { number < (settings_of self.now).shards }
         requires base { (base < to) × (base ≤ (state_of self.now pass.old.seen).published) }
@@ -161,6 +163,7 @@ impl<W: Indexed, R: Wait> Shared<W, R> {
         ensures of { IsPassOf self.now pass.new × IsSameCaller pass.old pass.new }
         ensures seen { pass.new.seen ≡ pass.old.seen }
         ensures more { (s : ℕ) → least pass.old s ≤ least pass.new s }
+        ensures all { IfOk result (λ all. all ≡ true → to ≤ least pass.new number) }
         ensures first { OnOk result (base + 1 ≤ least pass.new number) }
         ensures next { OnOk result ((n : ℕ) → n ≤ least pass.old number → n < to → n + 1 ≤ least pass.new number) }
     {
@@ -168,12 +171,13 @@ impl<W: Indexed, R: Wait> Shared<W, R> {
         let applied = shard.applied();
         if applied >= to {
             self.cells.leave_shard(number, shard, pass);
-            return Ok(());
+            return Ok(true);
         }
         let at = (applied - base) as usize;
         let done = apply_next(&mut shard, &works[at..at + 1]);
         self.cells.leave_shard(number, shard, pass);
-        done
+        done?;
+        Ok(applied + 1 >= to)
     }
 
     // Publishes the changes up to one, where another has not published as many.
