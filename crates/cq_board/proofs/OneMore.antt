@@ -88,11 +88,11 @@ module _ {W : Type 0} where
       }
 
   -- the board with one change more
-  pub board_accepted : (IsWork : Lang → List ℕ → W → Type 0) (settings : Settings) (slots : List (Kept W)) (old there : Presence) (before undone : BTreeSet ℕ) (bytes : ℕ) (free : FreeChanges) (len published : ℕ) (l : Listed W) (views : List (Option ℕ)) (k : Kept W) → k.work ≡ None → k.holder ≡ None →
-      BoardOk IsWork settings slots old before bytes free published l views → IsSoundChange (change_of k.change) → refusal_of settings (state_from slots 0 0 []) (change_of k.change) ≡ None → len ≡ text_len (change_of k.change) →
+  pub board_accepted : (IsWork : Lang → List ℕ → W → Type 0) (settings : Settings) (slots : List (Kept W)) (old there : Presence) (before undone : BTreeSet ℕ) (bytes : ℕ) (free : FreeChanges) (len published listed : ℕ) (l : Listed W) (views : List (Option ℕ)) (k : Kept W) → k.work ≡ None → k.holder ≡ None →
+      BoardOk IsWork settings slots old before bytes free published listed l views → IsSoundChange (change_of k.change) → refusal_of settings (state_from slots 0 0 []) (change_of k.change) ≡ None → len ≡ text_len (change_of k.change) →
       AreUndone (map slot_from slots ++ slot_from k ∷ []) undone → IsPresence (changes_from slots ++ change_of k.change ∷ []) there →
-      BoardOk IsWork settings (slots ++ k ∷ []) there undone (bytes + len) free published l views
-  board_accepted IsWork settings slots old there before undone bytes free len published l views k no_work no_holder ok sound allowed length_is not_done noted =
+      BoardOk IsWork settings (slots ++ k ∷ []) there undone (bytes + len) free published listed l views
+  board_accepted IsWork settings slots old there before undone bytes free len published listed l views k no_work no_holder ok sound allowed length_is not_done noted =
       let same : length (map slot_from slots) ≡ length slots = length-map slots (slot_from {W = W}) in
       let more : prefix_len is_done (map slot_from slots) ≤ prefix_len is_done (map slot_from (slots ++ k ∷ [])) =
       subst (λ xs. prefix_len is_done (map slot_from slots) ≤ prefix_len is_done xs) (sym (map-append slot_from slots (k ∷ []))) (prefix_len-append-le (map slot_from slots) (slot_from k ∷ [])) in
@@ -101,68 +101,74 @@ module _ {W : Type 0} where
         sound = subst (All IsSoundChange) (sym (changes_push slots k)) (All-push IsSoundChange (changes_from slots) (change_of k.change) ok.sound sound);
         presence = subst (λ cs. IsPresence cs there) (sym (changes_push slots k)) noted;
         in_order = omega (arith, ok.in_order, more);
+        at_most = ok.at_most;
         listing = subst (λ cs. IsListing IsWork cs l)
-            (sym (ap (take published) (changes_push slots k)
-            ∙ take-append-le published (changes_from slots) _ (omega (arith, length-map (map slot_from slots) (λ (x : Slot). x.change), prefix_len-le-length is_done (map slot_from slots), ok.in_order)))) ok.listing;
+            (sym (ap (take listed) (changes_push slots k)
+            ∙ take-append-le listed (changes_from slots) _ (omega (arith, length-map (map slot_from slots) (λ (x : Slot). x.change), prefix_len-le-length is_done (map slot_from slots), ok.at_most, ok.in_order)))) ok.listing;
         few_views = ok.few_views;
       }
 
   -- the board that keeps the same of its changes otherwise
-  pub board_noted : (IsWork : Lang → List ℕ → W → Type 0) (settings : Settings) (slots : List (Kept W)) (there now : Presence) (undone left : BTreeSet ℕ) (bytes : ℕ) (free : FreeChanges) (published : ℕ) (l : Listed W) (views : List (Option ℕ)) →
-      BoardOk IsWork settings slots there undone bytes free published l views → IsPresence (changes_from slots) now → AreUndone (map slot_from slots) left → BoardOk IsWork settings slots now left bytes free published l views
-  board_noted IsWork settings slots there now undone left bytes free published l views ok presence not_done = record {
+  pub board_noted : (IsWork : Lang → List ℕ → W → Type 0) (settings : Settings) (slots : List (Kept W)) (there now : Presence) (undone left : BTreeSet ℕ) (bytes : ℕ) (free : FreeChanges) (published listed : ℕ) (l : Listed W) (views : List (Option ℕ)) →
+      BoardOk IsWork settings slots there undone bytes free published listed l views → IsPresence (changes_from slots) now → AreUndone (map slot_from slots) left → BoardOk IsWork settings slots now left bytes free published listed l views
+  board_noted IsWork settings slots there now undone left bytes free published listed l views ok presence not_done = record {
     kept = record { works = ok.kept.works; text_bytes = ok.kept.text_bytes; few_bytes = ok.kept.few_bytes; few_slots = ok.kept.few_slots; not_done = not_done; may_take = ok.kept.may_take; room = ok.kept.room };
     sound = ok.sound;
     presence = presence;
     in_order = ok.in_order;
+    at_most = ok.at_most;
     listing = ok.listing;
     few_views = ok.few_views;
   }
 
   -- the board that looks for a free change among others
-  pub board_free : (IsWork : Lang → List ℕ → W → Type 0) (settings : Settings) (slots : List (Kept W)) (there : Presence) (undone : BTreeSet ℕ) (bytes : ℕ) (free now : FreeChanges) (published : ℕ) (l : Listed W) (views : List (Option ℕ)) → BoardOk IsWork settings slots there undone bytes free published l views → AreFree (map slot_from slots) now → room_of free ≤ room_of now → BoardOk IsWork settings slots there undone bytes now published l views
-  board_free IsWork settings slots there undone bytes free now published l views ok can room = record {
+  pub board_free : (IsWork : Lang → List ℕ → W → Type 0) (settings : Settings) (slots : List (Kept W)) (there : Presence) (undone : BTreeSet ℕ) (bytes : ℕ) (free now : FreeChanges) (published listed : ℕ) (l : Listed W) (views : List (Option ℕ)) → BoardOk IsWork settings slots there undone bytes free published listed l views → AreFree (map slot_from slots) now → room_of free ≤ room_of now → BoardOk IsWork settings slots there undone bytes now published listed l views
+  board_free IsWork settings slots there undone bytes free now published listed l views ok can room = record {
     kept = record { works = ok.kept.works; text_bytes = ok.kept.text_bytes; few_bytes = ok.kept.few_bytes; few_slots = ok.kept.few_slots; not_done = ok.kept.not_done; may_take = can; room = omega (arith, ok.kept.room, room) };
     sound = ok.sound;
     presence = ok.presence;
     in_order = ok.in_order;
+    at_most = ok.at_most;
     listing = ok.listing;
     few_views = ok.few_views;
   }
 
   -- the board with other slots of the same changes
-  pub board_with : (IsWork : Lang → List ℕ → W → Type 0) (settings : Settings) (slots more : List (Kept W)) (there : Presence) (undone now : BTreeSet ℕ) (bytes : ℕ) (free later : FreeChanges) (published : ℕ) (l : Listed W) (views : List (Option ℕ)) →
-      BoardOk IsWork settings slots there undone bytes free published l views → SlotsOk IsWork settings more now bytes later → changes_from more ≡ changes_from slots →
-      prefix_len is_done (map slot_from slots) ≤ prefix_len is_done (map slot_from more) → BoardOk IsWork settings more there now bytes later published l views
-  board_with IsWork settings slots more there undone now bytes free later published l views ok kept same grows = record {
+  pub board_with : (IsWork : Lang → List ℕ → W → Type 0) (settings : Settings) (slots more : List (Kept W)) (there : Presence) (undone now : BTreeSet ℕ) (bytes : ℕ) (free later : FreeChanges) (published listed : ℕ) (l : Listed W) (views : List (Option ℕ)) →
+      BoardOk IsWork settings slots there undone bytes free published listed l views → SlotsOk IsWork settings more now bytes later → changes_from more ≡ changes_from slots →
+      prefix_len is_done (map slot_from slots) ≤ prefix_len is_done (map slot_from more) → BoardOk IsWork settings more there now bytes later published listed l views
+  board_with IsWork settings slots more there undone now bytes free later published listed l views ok kept same grows = record {
     kept = kept;
     sound = subst (All IsSoundChange) (sym same) ok.sound;
     presence = subst (λ cs. IsPresence cs there) (sym same) ok.presence;
     in_order = omega (arith, ok.in_order, grows);
-    listing = subst (λ cs. IsListing IsWork (take published cs) l) (sym same) ok.listing;
+    at_most = ok.at_most;
+    listing = subst (λ cs. IsListing IsWork (take listed cs) l) (sym same) ok.listing;
     few_views = ok.few_views;
   }
 
-  -- the board with another listing of the published version
-  pub board_listed : (IsWork : Lang → List ℕ → W → Type 0) (settings : Settings) (slots : List (Kept W)) (there : Presence) (undone : BTreeSet ℕ) (bytes : ℕ) (free : FreeChanges) (published : ℕ) (l now : Listed W) (views : List (Option ℕ)) →
-      BoardOk IsWork settings slots there undone bytes free published l views → IsListing IsWork (take published (changes_from slots)) now → BoardOk IsWork settings slots there undone bytes free published now views
-  board_listed IsWork settings slots there undone bytes free published l now views ok is = record {
+  -- the board with the listing of another version, at most the published one
+  pub board_listed : (IsWork : Lang → List ℕ → W → Type 0) (settings : Settings) (slots : List (Kept W)) (there : Presence) (undone : BTreeSet ℕ) (bytes : ℕ) (free : FreeChanges) (published listed : ℕ) (l : Listed W) (views : List (Option ℕ)) →
+      BoardOk IsWork settings slots there undone bytes free published listed l views → (at : ℕ) (now : Listed W) → at ≤ published → IsListing IsWork (take at (changes_from slots)) now → BoardOk IsWork settings slots there undone bytes free published at now views
+  board_listed IsWork settings slots there undone bytes free published listed l views ok at now before is = record {
     kept = ok.kept;
     sound = ok.sound;
     presence = ok.presence;
     in_order = ok.in_order;
+    at_most = before;
     listing = is;
     few_views = ok.few_views;
   }
 
   -- the board with as many views
-  pub board_views : (IsWork : Lang → List ℕ → W → Type 0) (settings : Settings) (slots : List (Kept W)) (there : Presence) (undone : BTreeSet ℕ) (bytes : ℕ) (free : FreeChanges) (published : ℕ) (l : Listed W) (views now : List (Option ℕ)) →
-      BoardOk IsWork settings slots there undone bytes free published l views → length now ≡ length views → BoardOk IsWork settings slots there undone bytes free published l now
-  board_views IsWork settings slots there undone bytes free published l views now ok same = record {
+  pub board_views : (IsWork : Lang → List ℕ → W → Type 0) (settings : Settings) (slots : List (Kept W)) (there : Presence) (undone : BTreeSet ℕ) (bytes : ℕ) (free : FreeChanges) (published listed : ℕ) (l : Listed W) (views now : List (Option ℕ)) →
+      BoardOk IsWork settings slots there undone bytes free published listed l views → length now ≡ length views → BoardOk IsWork settings slots there undone bytes free published listed l now
+  board_views IsWork settings slots there undone bytes free published listed l views now ok same = record {
     kept = ok.kept;
     sound = ok.sound;
     presence = ok.presence;
     in_order = ok.in_order;
+    at_most = ok.at_most;
     listing = ok.listing;
     few_views = omega (arith, same, ok.few_views);
   }

@@ -38,11 +38,13 @@ module _ {W : Type 0} where
     -- each change may be given back with no memory taken
     pub room : settings.change_limit ≤ room_of free
 
-  pub record BoardOk (IsWork : Lang → List ℕ → W → Type 0) (settings : Settings) (slots : List (Kept W)) (there : Presence) (undone : BTreeSet ℕ) (bytes : ℕ) (free : FreeChanges) (published : ℕ) (l : Listed W) (views : List (Option ℕ)) : Type 0 where
+  pub record BoardOk (IsWork : Lang → List ℕ → W → Type 0) (settings : Settings) (slots : List (Kept W)) (there : Presence) (undone : BTreeSet ℕ) (bytes : ℕ) (free : FreeChanges) (published listed : ℕ) (l : Listed W) (views : List (Option ℕ)) : Type 0 where
     pub kept : SlotsOk IsWork settings slots undone bytes free
     pub sound : All IsSoundChange (changes_from slots)
     pub presence : IsPresence (changes_from slots) there
     pub in_order : published ≤ prefix_len is_done (map slot_from slots)
-    pub listing : IsListing IsWork (take published (changes_from slots)) l
+    -- the listing is that of the published version, or of an earlier one where memory was refused
+    pub at_most : listed ≤ published
+    pub listing : IsListing IsWork (take listed (changes_from slots)) l
     -- they are counted in 32 bits
     pub few_views : length views < 2 ^ 32

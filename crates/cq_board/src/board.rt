@@ -39,6 +39,8 @@ pub struct Board<W: Indexed> {
     text_bytes: u64,
     free: FreeChanges,
     published: u64,
+    // The version that the listing is of: the published one, or 0 where memory was refused while it was changed.
+    listed: u64,
     floor: u64,
     views: Vec<Option<u64>>,
     listing: Arc<Listing<W>, Global>,
@@ -56,7 +58,7 @@ impl<W: Indexed> Model for Board<W> {
 
     ghost view = { λ b. record { settings = b.settings; state = state_from b.slots.items b.published b.floor b.views.items; events = b.events } };
 
-    ghost invariant = { λ b. BoardOk (W.IsWorkOf b.settings) b.settings b.slots.items b.there b.undone b.text_bytes b.free b.published (arc_value b.listing) b.views.items };
+    ghost invariant = { λ b. BoardOk (W.IsWorkOf b.settings) b.settings b.slots.items b.there b.undone b.text_bytes b.free b.published b.listed (arc_value b.listing) b.views.items };
 }
 
 impl<W: Indexed> Board<W> {
@@ -81,6 +83,7 @@ impl<W: Indexed> Board<W> {
             text_bytes: 0,
             free,
             published: 0,
+            listed: 0,
             floor: 0,
             views,
             listing,
@@ -309,7 +312,7 @@ impl<W: Indexed> Board<W> {
             &self.settings,
             &self.slots,
             &mut self.listing,
-            self.published,
+            &mut self.listed,
             version,
         )?;
         self.published = version;
@@ -317,7 +320,8 @@ impl<W: Indexed> Board<W> {
         Ok(())
     }
 
-    /// Opens a view of the last published version, which costs an owner of its listing.
+    /// Opens a view of the last published version, which costs an owner of its listing, and the listing itself where memory
+    /// was refused in the middle of the last publication.
     pub fn open(&mut self, by: u32) -> Result<View<W>, Memory>
         requires caller { IsCaller self.old by }
         requires closed { view_of self.old.state by ≡ None }
@@ -327,6 +331,14 @@ impl<W: Indexed> Board<W> {
         ensures conditions { IfOk result (λ view. HaveFewConditions (arc_value view.listing).projects) }
         ensures err { OnErr result (self.new ≡ self.old) }
     {
+        advance_to(
+            *self.slots.allocator(),
+            &self.settings,
+            &self.slots,
+            &mut self.listing,
+            &mut self.listed,
+            self.published,
+        )?;
         let listing = Arc::try_clone(&self.listing)?;
         self.views[by as usize] = Some(self.published);
         self.events = self.events.wrapping_add(1);

@@ -8,17 +8,17 @@
 //! are done. Taking one costs a search among the changes that were given back or one among those that are not done; one that
 //! was given back and is done by another since is passed over at the next taking, once, by a search of its own. So a taking
 //! costs a logarithm and, for each giving back before it that another's work overtook, at most one logarithm more in all.
-//! Opening a view costs an owner of the listing, and shutting one a number.
+//! Opening a view costs an owner of the listing, but for what is said of refused memory below, and shutting one a number.
 //!
 //! A put that a later change replaced or dropped is noted with that change, 16 bytes. What a floor lets go of is searched
 //! in these notes, and costs a sort of what is listed; raising the floor costs a look at each caller's view.
 //!
-//! Publishing costs what cq_projects takes for the edits of the changes. One alone is a search and a move, made in place,
-//! but for a list that a view still shows, which is copied first. Several are made in a copy: an owner for each project and
-//! the numbers of all files, 8 bytes each, and for each project that they change one walk over its files, with an owner for
-//! each; in it many numbers that were replaced or dropped go in one walk. So where memory is refused, the listing of the
-//! published version stands, and no view waits for it. No text, no path and no work is copied: each is held once, behind an
-//! owner that slots, listings and jobs share.
+//! Publishing costs what cq_projects takes for the edits of the changes: one alone is a search and a move, several move
+//! the files of each project that they change once. Where a view still shows a list, it is copied first, an owner a file,
+//! and the numbers of all files, 8 bytes each; else both are changed in place, the numbers in one walk where many were
+//! replaced or dropped. Where memory is refused while several changes are made in place, the board keeps an empty
+//! listing, and makes that of the published version anew, from all changes, for the next view or publication. No text, no
+//! path and no work is copied: each is held once, behind an owner that slots, listings and jobs share.
 #![tactic(auto)]
 
 mod accepting;

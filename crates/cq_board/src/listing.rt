@@ -15,11 +15,12 @@ use crate::live::{Turnover, note, turn, turn_one};
 use cq_base::{Condition, Memory, Settings, Text};
 use cq_projects::{
     Draft, Held, Project, ProjectEdit, ProjectFiles, drafts_of, edit_draft, edit_in, find_project,
-    finished_all,
+    finished_all, own_drafts,
 };
 use cq_shard::Indexed;
 use std::alloc::Global;
 use std::marker::Model;
+use std::mem;
 use std::sync::Arc;
 
 /// The files and conditions of all projects at one version. Projects that did not change are shared with the version
@@ -250,6 +251,31 @@ fn advance_own<W: Indexed>(
     Ok(())
 }
 
+// The listing of a later version, whose projects and numbers are those of an earlier one: they are given up. What of them
+// nobody else has is changed in place.
+fn advanced<W: Indexed>(
+    alloc: Global,
+    settings: &Settings,
+    slots: &[Kept<W>],
+    old: Listing<W>,
+    before: u64,
+    version: u64,
+) -> Result<Listing<W>, Memory>
+    requires order { before ≤ version }
+    requires done { version ≤ prefix_len is_done (map slot_from slots.now) }
+    requires works { All (IsWorked (W.IsWorkOf settings.now)) slots.now }
+    requires listing { IsListing (W.IsWorkOf settings.now) (take before (changes_from slots.now)) old }
+    ensures { IfOk result (IsListing (W.IsWorkOf settings.now) (take version (changes_from slots.now))) }
+{
+    let Listing {
+        projects,
+        live,
+        no_files: _no_files,
+    } = old;
+    let drafts = own_drafts(alloc, projects)?;
+    next_listing(alloc, settings, slots, drafts, live, before, version)
+}
+
 // The listing of a later version beside an earlier one that stays, with an owner more for each project, and for each
 // project that changed a copy of its list of files.
 fn advanced_copy<W: Indexed>(
@@ -271,7 +297,28 @@ fn advanced_copy<W: Indexed>(
     next_listing(alloc, settings, slots, drafts, live, before, version)
 }
 
-// Makes the listing that of a later version, beside the earlier one, which stays where memory is refused.
+// Makes a listing that nobody else has that of a later version. Where memory is refused, it is that of version 0.
+fn advance_all<W: Indexed>(
+    alloc: Global,
+    settings: &Settings,
+    slots: &[Kept<W>],
+    own: &mut Listing<W>,
+    before: u64,
+    version: u64,
+) -> Result<(), Memory>
+    requires order { before ≤ version }
+    requires done { version ≤ prefix_len is_done (map slot_from slots.now) }
+    requires works { All (IsWorked (W.IsWorkOf settings.now)) slots.now }
+    requires listing { IsListing (W.IsWorkOf settings.now) (take before (changes_from slots.now)) own.old }
+    ensures next { OnOk result (IsListing (W.IsWorkOf settings.now) (take version (changes_from slots.now)) own.new) }
+    ensures emptied { OnErr result (own.new ≡ listed [] []) }
+{
+    let old = mem::replace(own, Listing::new(alloc));
+    *own = advanced(alloc, settings, slots, old, before, version)?;
+    Ok(())
+}
+
+// Makes the listing that of a later version, beside the earlier one, which somebody else has.
 fn advance_copied<W: Indexed>(
     alloc: Global,
     settings: &Settings,
@@ -290,6 +337,40 @@ fn advance_copied<W: Indexed>(
     let own = advanced_copy(alloc, settings, slots, listing, before, version)?;
     *listing = Arc::new(alloc, own)?;
     Ok(())
+}
+
+// Makes the listing that of a later version, in place where nobody else has it. Where memory is refused, it is that of the
+// version that is told then.
+fn advance_many<W: Indexed>(
+    alloc: Global,
+    settings: &Settings,
+    slots: &[Kept<W>],
+    listing: &mut Arc<Listing<W>, Global>,
+    at: &mut u64,
+    version: u64,
+) -> Result<(), Memory>
+    requires order { at.old ≤ version }
+    requires done { version ≤ prefix_len is_done (map slot_from slots.now) }
+    requires works { All (IsWorked (W.IsWorkOf settings.now)) slots.now }
+    requires listing { IsListingAt (W.IsWorkOf settings.now) slots.now at.old listing.old }
+    ensures listing { IsListingAt (W.IsWorkOf settings.now) slots.now at.new listing.new }
+    ensures next { OnOk result (at.new ≡ version) }
+    ensures back { OnErr result (at.new ≤ at.old) }
+{
+    match Arc::get_mut(listing) {
+        Some(own) => {
+            let before = *at;
+            *at = 0;
+            advance_all(alloc, settings, slots, own, before, version)?;
+            *at = version;
+            Ok(())
+        }
+        None => {
+            advance_copied(alloc, settings, slots, listing, *at, version)?;
+            *at = version;
+            Ok(())
+        }
+    }
 }
 
 // The listing of the next version, made in place where nobody else has it.
@@ -314,28 +395,33 @@ fn advance_one<W: Indexed>(
     }
 }
 
-/// Makes the listing that of a version at or past the one that it is of. One change alone is made in place in what nobody
-/// else has of it, and costs a search and a move. Of what several change, and of what somebody else has, a copy is made
-/// first, with an owner for each project, and for each file of a project that changed; so the files of each project that they
-/// change are moved once. Where memory is refused, it is that of the version before.
+/// Makes the listing that of a version at or past the one that it is of, and tells which it is of then. What nobody else
+/// has of it is changed in place: one change alone costs a search and a move, several move the files of each project that
+/// they change once. Of what somebody else has a copy is made first, with an owner for each project, and for each file of a
+/// project that changed. Where memory is refused, it is that of the version before, or of version 0.
 pub fn advance_to<W: Indexed>(
     alloc: Global,
     settings: &Settings,
     slots: &[Kept<W>],
     listing: &mut Arc<Listing<W>, Global>,
-    before: u64,
+    at: &mut u64,
     version: u64,
 ) -> Result<(), Memory>
-    requires order { before ≤ version }
+    requires order { at.old ≤ version }
     requires done { version ≤ prefix_len is_done (map slot_from slots.now) }
     requires works { All (IsWorked (W.IsWorkOf settings.now)) slots.now }
-    requires listing { IsListingAt (W.IsWorkOf settings.now) slots.now before listing.old }
-    ensures next { OnOk result (IsListingAt (W.IsWorkOf settings.now) slots.now version listing.new) }
-    ensures unchanged { OnErr result (IsListingAt (W.IsWorkOf settings.now) slots.now before listing.new) }
+    requires listing { IsListingAt (W.IsWorkOf settings.now) slots.now at.old listing.old }
+    ensures listing { IsListingAt (W.IsWorkOf settings.now) slots.now at.new listing.new }
+    ensures next { OnOk result (at.new ≡ version) }
+    ensures back { OnErr result (at.new ≤ at.old) }
 {
-    if version - before == 1 {
-        advance_one(alloc, settings, slots, listing, before, version)
-    } else {
-        advance_copied(alloc, settings, slots, listing, before, version)
+    if *at == version {
+        return Ok(());
     }
+    if version - *at == 1 {
+        advance_one(alloc, settings, slots, listing, *at, version)?;
+        *at = version;
+        return Ok(());
+    }
+    advance_many(alloc, settings, slots, listing, at, version)
 }

@@ -16,7 +16,8 @@
 //! - `back`, the board: one slot is looked at, and the change goes among those that were given back, a logarithm.
 //! - `finish`, the board: the work goes into its slot, and the change is looked for among those that are not done, a
 //!   logarithm. A work that comes too late is let go there.
-//! - `open_view`, the board: an owner of the listing.
+//! - `open_view`, the board: an owner of the listing. Where memory was refused in the middle of the last publication, the
+//!   listing may have to be made anew first, which takes the time of all changes once.
 //! - `close_view`, the board: a number is cleared. The listing is let go afterwards.
 //! - `read_bucket`, the shard of the key: a search in each of its runs, and one among the view's files for each entry with
 //!   the key. Those that are there are copied out.

@@ -20,8 +20,8 @@ invariant_of-self-2 g c =
     let allowed : refusal_of c.self.inside.settings (state_from slots 0 0 []) (change_of k.change) ≡ None =
     ap (λ xs. refusal_of c.self.inside.settings (state_from xs 0 0 []) (change_of k.change)) (sym c.deref.ensures.value) ∙ sym c.refusal.ensures ∙ c.in_default.is in
     let not_done = subst (λ (xs : List (Kept g.row.W.Denot)). AreUndone (slots_with xs (change_of k.change)) c.note_both.new.undone) (c.deref-2.ensures.value ∙ c.in_ok-reserve.ensures.items) c.in_ok-note_both.ensures.undone in
-    subst (λ (xs : List (Kept g.row.W.Denot)). BoardOk (g.W.Indexed.IsWorkOf c.self.inside.settings) c.self.inside.settings xs c.note_both.new.there c.note_both.new.undone (c.self.inside.text_bytes + c.text_len-len.result) c.self.inside.free c.self.inside.published (arc_value c.self.inside.listing) c.self.inside.views.items) (sym items)
-    (board_accepted (g.W.Indexed.IsWorkOf c.self.inside.settings) c.self.inside.settings slots c.self.inside.there c.note_both.new.there c.self.inside.undone c.note_both.new.undone c.self.inside.text_bytes c.self.inside.free c.text_len-len.result c.self.inside.published (arc_value c.self.inside.listing) c.self.inside.views.items
+    subst (λ (xs : List (Kept g.row.W.Denot)). BoardOk (g.W.Indexed.IsWorkOf c.self.inside.settings) c.self.inside.settings xs c.note_both.new.there c.note_both.new.undone (c.self.inside.text_bytes + c.text_len-len.result) c.self.inside.free c.self.inside.published c.self.inside.listed (arc_value c.self.inside.listing) c.self.inside.views.items) (sym items)
+    (board_accepted (g.W.Indexed.IsWorkOf c.self.inside.settings) c.self.inside.settings slots c.self.inside.there c.note_both.new.there c.self.inside.undone c.note_both.new.undone c.self.inside.text_bytes c.self.inside.free c.text_len-len.result c.self.inside.published c.self.inside.listed (arc_value c.self.inside.listing) c.self.inside.views.items
     k refl refl c.self.invariant (subst IsSoundChange (sym c.in_ok-change.ensures) c.requires.sound) allowed c.text_len-len.ensures not_done (c.in_ok-note_both.ensures.place (changes_from slots) (ap (λ n. n + 1) (changes_many slots ∙ ap length (sym (c.deref-2.ensures.value ∙ c.in_ok-reserve.ensures.items)))) c.self.invariant.presence))
 
 pub returns-clause-adds : goal.returns-clause-adds
@@ -42,6 +42,6 @@ pub invariant_of-self-in_err-note_both : goal.invariant_of-self-in_err-note_both
 invariant_of-self-in_err-note_both g c =
     let slots = c.self.inside.slots.items in
     let not_done = subst (λ (xs : List (Kept g.row.W.Denot)). AreUndone (map slot_from xs) c.note_both.new.undone) (c.deref-2.ensures.value ∙ c.in_ok-reserve.ensures.items) c.in_err-note_both.ensures.same_undone in
-    subst (λ (xs : List (Kept g.row.W.Denot)). BoardOk (g.W.Indexed.IsWorkOf c.self.inside.settings) c.self.inside.settings xs c.note_both.new.there c.note_both.new.undone c.self.inside.text_bytes c.self.inside.free c.self.inside.published (arc_value c.self.inside.listing) c.self.inside.views.items) (sym c.in_ok-reserve.ensures.items)
-    (board_noted (g.W.Indexed.IsWorkOf c.self.inside.settings) c.self.inside.settings slots c.self.inside.there c.note_both.new.there c.self.inside.undone c.note_both.new.undone c.self.inside.text_bytes c.self.inside.free c.self.inside.published (arc_value c.self.inside.listing) c.self.inside.views.items
+    subst (λ (xs : List (Kept g.row.W.Denot)). BoardOk (g.W.Indexed.IsWorkOf c.self.inside.settings) c.self.inside.settings xs c.note_both.new.there c.note_both.new.undone c.self.inside.text_bytes c.self.inside.free c.self.inside.published c.self.inside.listed (arc_value c.self.inside.listing) c.self.inside.views.items) (sym c.in_ok-reserve.ensures.items)
+    (board_noted (g.W.Indexed.IsWorkOf c.self.inside.settings) c.self.inside.settings slots c.self.inside.there c.note_both.new.there c.self.inside.undone c.note_both.new.undone c.self.inside.text_bytes c.self.inside.free c.self.inside.published c.self.inside.listed (arc_value c.self.inside.listing) c.self.inside.views.items
     c.self.invariant (c.in_err-note_both.ensures.same_places (changes_from slots) c.self.invariant.presence) not_done)

@@ -30,7 +30,7 @@ invariant_of-self g c =
     let taken = ap (λ (s : Slot). is_none s.holder) (slot_read slots (c.args.change - 1) c.index-else-is_done.result.now within c.index-else-is_done.ensures) ∙ ap is_none holder in
     let k = c.index_mut-kept.result.now in
     let j : Kept g.row.W.Denot = record { change = k.change; work = k.work; holder = None } in
-    board_with (g.W.Indexed.IsWorkOf c.self.inside.settings) c.self.inside.settings slots (set slots (c.args.change - 1) j) c.self.inside.there c.self.inside.undone c.self.inside.undone c.self.inside.text_bytes c.self.inside.free c.note_given_back.new.free c.self.inside.published (arc_value c.self.inside.listing) c.self.inside.views.items
+    board_with (g.W.Indexed.IsWorkOf c.self.inside.settings) c.self.inside.settings slots (set slots (c.args.change - 1) j) c.self.inside.there c.self.inside.undone c.self.inside.undone c.self.inside.text_bytes c.self.inside.free c.note_given_back.new.free c.self.inside.published c.self.inside.listed (arc_value c.self.inside.listing) c.self.inside.views.items
     c.self.invariant
     (held_ok (g.W.Indexed.IsWorkOf c.self.inside.settings) c.self.inside.settings slots c.self.inside.undone c.self.inside.text_bytes c.self.inside.free c.note_given_back.new.free (c.args.change - 1) k None within c.index_mut-kept.ensures.value
     (c.note_given_back.ensures.given (map slot_from slots) (slot_from j) c.self.invariant.kept.may_take (omega (arith, within, length-map slots (slot_from {W = g.row.W.Denot}))) taken refl)

@@ -25,7 +25,7 @@ invariant_of-self g c =
     let k = c.index_mut-kept.result.now in
     let j : Kept g.row.W.Denot = record { change = k.change; work = Some c.args.work; holder = k.holder } in
     let yes = finished_is_done k.change c.args.work k.holder in
-    board_with (g.W.Indexed.IsWorkOf c.self.inside.settings) c.self.inside.settings c.self.inside.slots.items (set c.self.inside.slots.items (c.args.change - 1) j) c.self.inside.there c.self.inside.undone c.remove.new.self c.self.inside.text_bytes c.self.inside.free c.self.inside.free c.self.inside.published (arc_value c.self.inside.listing) c.self.inside.views.items
+    board_with (g.W.Indexed.IsWorkOf c.self.inside.settings) c.self.inside.settings c.self.inside.slots.items (set c.self.inside.slots.items (c.args.change - 1) j) c.self.inside.there c.self.inside.undone c.remove.new.self c.self.inside.text_bytes c.self.inside.free c.self.inside.free c.self.inside.published c.self.inside.listed (arc_value c.self.inside.listing) c.self.inside.views.items
     c.self.invariant
     (done_ok (g.W.Indexed.IsWorkOf c.self.inside.settings) c.self.inside.settings c.self.inside.slots.items c.self.inside.undone c.remove.new.self c.self.inside.text_bytes c.self.inside.free (c.args.change - 1) k c.args.work within c.index_mut-kept.ensures.value
     (subst (λ (x : Slot). IsWorkFor (g.W.Indexed.IsWorkOf c.self.inside.settings) x.change (arc_value c.args.work)) here work) yes c.remove.ensures.updates.0 c.self.invariant.kept)

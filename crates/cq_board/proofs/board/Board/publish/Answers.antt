@@ -1,4 +1,4 @@
-use Rattle.std.proofs.Common.{◌<◌, ◌≤◌, List, take, refl, sym, subst}
+use Rattle.std.proofs.Common.{◌<◌, ◌≤◌, List, take, refl, sym, subst, arith}
 use Rattle.std.specs.Arc.{arc_value}
 use Rattle.cq_history.specs.declared.event.Event.TheVariants as event
 use Rattle.cq_history.specs.State.{ready}
@@ -7,7 +7,6 @@ use Rattle.cq_board.specs.Listings.{IsListing}
 use Rattle.cq_board.specs.declared.kept.Kept.{Kept}
 use Rattle.cq_board.specs.Stands.{BoardState}
 use Rattle.cq_board.proofs.Adding.{Adds_from}
-use Rattle.cq_board.proofs.OneMore.{board_listed}
 use Rattle.cq_board.specs.Slots.{state_from}
 use Rattle.cq_board.proofs.board.Board.publish.Goals as goal
 
@@ -25,13 +24,7 @@ invariant_of-self-2 g c =
       sound = c.self.invariant.sound;
       presence = c.self.invariant.presence;
       in_order = done;
-      listing = subst (λ (slots : List (Kept g.row.W.Denot)). IsListing (g.W.Indexed.IsWorkOf c.self.inside.settings) (take c.args.version (changes_from slots)) (arc_value c.advance_to.new.listing)) c.deref.ensures.value c.in_ok-advance_to.ensures.next;
+      at_most = omega (arith, c.in_ok-advance_to.ensures.next);
+      listing = subst (λ (slots : List (Kept g.row.W.Denot)). IsListing (g.W.Indexed.IsWorkOf c.self.inside.settings) (take c.advance_to.new.at (changes_from slots)) (arc_value c.advance_to.new.listing)) c.deref.ensures.value c.advance_to.ensures.listing;
       few_views = c.self.invariant.few_views;
     }
-
-pub invariant_of-self : goal.invariant_of-self
-invariant_of-self g c =
-    let IsWork = g.W.Indexed.IsWorkOf c.self.inside.settings in
-    board_listed IsWork c.self.inside.settings c.self.inside.slots.items c.self.inside.there c.self.inside.undone c.self.inside.text_bytes c.self.inside.free c.self.inside.published (arc_value c.self.inside.listing) (arc_value c.advance_to.new.listing) c.self.inside.views.items
-    c.self.invariant
-    (subst (λ (slots : List (Kept g.row.W.Denot)). IsListing IsWork (take c.self.inside.published (changes_from slots)) (arc_value c.advance_to.new.listing)) c.deref.ensures.value c.in_err-advance_to.ensures.unchanged)

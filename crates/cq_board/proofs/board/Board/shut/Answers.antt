@@ -17,5 +17,5 @@ returns g c =
 
 pub invariant_of-self : goal.invariant_of-self
 invariant_of-self g c =
-    board_views (g.W.Indexed.IsWorkOf c.self.inside.settings) c.self.inside.settings c.self.inside.slots.items c.self.inside.there c.self.inside.undone c.self.inside.text_bytes c.self.inside.free c.self.inside.published (arc_value c.self.inside.listing) c.self.inside.views.items _
+    board_views (g.W.Indexed.IsWorkOf c.self.inside.settings) c.self.inside.settings c.self.inside.slots.items c.self.inside.there c.self.inside.undone c.self.inside.text_bytes c.self.inside.free c.self.inside.published c.self.inside.listed (arc_value c.self.inside.listing) c.self.inside.views.items _
     c.self.invariant (length-set c.self.inside.views.items c.args.by None)

@@ -41,7 +41,7 @@ invariant_of-self-2 g c =
     let i = c.first_free-i.result in
     let k = c.index_mut-kept.result.now in
     let j : Kept g.row.W.Denot = record { change = k.change; work = k.work; holder = Some c.args.by } in
-    board_with (g.W.Indexed.IsWorkOf c.self.inside.settings) c.self.inside.settings slots (set slots i j) c.self.inside.there c.self.inside.undone c.self.inside.undone c.self.inside.text_bytes c.self.inside.free c.note_taken.new.free c.self.inside.published (arc_value c.self.inside.listing) c.self.inside.views.items
+    board_with (g.W.Indexed.IsWorkOf c.self.inside.settings) c.self.inside.settings slots (set slots i j) c.self.inside.there c.self.inside.undone c.self.inside.undone c.self.inside.text_bytes c.self.inside.free c.note_taken.new.free c.self.inside.published c.self.inside.listed (arc_value c.self.inside.listing) c.self.inside.views.items
     c.self.invariant
     (held_ok (g.W.Indexed.IsWorkOf c.self.inside.settings) c.self.inside.settings slots c.self.inside.undone c.self.inside.text_bytes c.self.inside.free c.note_taken.new.free i k (Some c.args.by) within c.index_mut-kept.ensures.value
     (c.note_taken.ensures.taken (map slot_from slots) (slot_from j) can first (omega (arith, within, length-map slots (slot_from {W = g.row.W.Denot}))) refl)
@@ -82,7 +82,7 @@ returns-clause-unchanged g c =
 pub invariant_of-self : goal.invariant_of-self
 invariant_of-self g c =
     let slots = c.self.inside.slots.items in
-    board_free (g.W.Indexed.IsWorkOf c.self.inside.settings) c.self.inside.settings slots c.self.inside.there c.self.inside.undone c.self.inside.text_bytes c.self.inside.free c.first_free-i.new.free c.self.inside.published (arc_value c.self.inside.listing) c.self.inside.views.items c.self.invariant
+    board_free (g.W.Indexed.IsWorkOf c.self.inside.settings) c.self.inside.settings slots c.self.inside.there c.self.inside.undone c.self.inside.text_bytes c.self.inside.free c.first_free-i.new.free c.self.inside.published c.self.inside.listed (arc_value c.self.inside.listing) c.self.inside.views.items c.self.invariant
     (subst (λ (xs : List (Kept g.row.W.Denot)). AreFree (map slot_from xs) c.first_free-i.new.free) c.deref.ensures.value c.first_free-i.ensures.free)
     (omega (arith, c.first_free-i.ensures.room))
 
@@ -91,8 +91,8 @@ invariant_of-self-in_err-job g c =
     let slots = c.self.inside.slots.items in
     let k = c.index_mut-kept.result.now in
     let same : set slots c.first_free-i.result k ≡ slots = ap (set slots c.first_free-i.result) c.index_mut-kept.ensures.value ∙ set-get_or slots c.first_free-i.result k in
-    subst (λ (xs : List (Kept g.row.W.Denot)). BoardOk (g.W.Indexed.IsWorkOf c.self.inside.settings) c.self.inside.settings xs c.self.inside.there c.self.inside.undone c.self.inside.text_bytes c.first_free-i.new.free c.self.inside.published (arc_value c.self.inside.listing) c.self.inside.views.items) (sym same)
-    (board_free (g.W.Indexed.IsWorkOf c.self.inside.settings) c.self.inside.settings slots c.self.inside.there c.self.inside.undone c.self.inside.text_bytes c.self.inside.free c.first_free-i.new.free c.self.inside.published (arc_value c.self.inside.listing) c.self.inside.views.items c.self.invariant
+    subst (λ (xs : List (Kept g.row.W.Denot)). BoardOk (g.W.Indexed.IsWorkOf c.self.inside.settings) c.self.inside.settings xs c.self.inside.there c.self.inside.undone c.self.inside.text_bytes c.first_free-i.new.free c.self.inside.published c.self.inside.listed (arc_value c.self.inside.listing) c.self.inside.views.items) (sym same)
+    (board_free (g.W.Indexed.IsWorkOf c.self.inside.settings) c.self.inside.settings slots c.self.inside.there c.self.inside.undone c.self.inside.text_bytes c.self.inside.free c.first_free-i.new.free c.self.inside.published c.self.inside.listed (arc_value c.self.inside.listing) c.self.inside.views.items c.self.invariant
     (subst (λ (xs : List (Kept g.row.W.Denot)). AreFree (map slot_from xs) c.first_free-i.new.free) c.deref.ensures.value c.first_free-i.ensures.free)
     (omega (arith, c.first_free-i.ensures.room)))
 
