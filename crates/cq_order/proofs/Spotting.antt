@@ -32,7 +32,7 @@ spot_none (s ∷ spots) change other =
     let later = spot_none spots change (λ k d within. other (suc k) d (omega (arith, within))) in
     grind (arith, nat_tests, first, later)
 
-spot_is : (a b : Spot) → a.change ≡ b.change → a.file ≡ b.file → a ≡ b
+pub spot_is : (a b : Spot) → a.change ≡ b.change → a.file ≡ b.file → a ≡ b
 spot_is a b change file = ap₂ (λ (x y : ℕ). let made : Spot = record { change = x; file = y } in made) change file
 
 -- what is found is there

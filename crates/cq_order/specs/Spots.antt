@@ -1,5 +1,5 @@
 -- Where each change of a list stands.
-use Rattle.std.specs.Prelude.{◌≡◌, ◌↔◌, ◌<◌, ◌==◌, ℕ, ◌+◌, ◌-◌, Bool, nat_lt, List, [], ◌∷◌, length, map, slice_get, slice_set, insert, remove, Option, Some, None, All, AllPairs, if◌then◌else◌}
+use Rattle.std.specs.Prelude.{◌≡◌, ◌↔◌, ◌<◌, ◌==◌, ℕ, ◌+◌, ◌-◌, Bool, nat_lt, List, [], ◌∷◌, length, map, get_or, slice_get, slice_set, insert, remove, Option, Some, None, All, AllPairs, if◌then◌else◌}
 use Rattle.cq_order.specs.declared.spots.Spot.{Spot}
 
 -- by change
@@ -29,6 +29,16 @@ is_spot_before a b = nat_lt a.change b.change
 abbrev pub with_positions : ℕ → List ℕ → List Spot
 with_positions file [] = []
 with_positions file (change ∷ changes) = record { change = change; file = file } ∷ with_positions (file + 1) changes
+
+-- By change, from 0, each has its position in the list, where that is one of so many at the front.
+abbrev pub AreTheirPositions : ℕ → List ℕ → List (Option ℕ) → Type 0
+AreTheirPositions n changes positions = (change file : ℕ) → (get_or positions change None ≡ Some file) ↔ ((file < n) × (slice_get changes file ≡ Some change))
+
+-- the spots that positions by change are, of which the first is that of this change
+abbrev pub spots_by_change : ℕ → List (Option ℕ) → List Spot
+spots_by_change change [] = []
+spots_by_change change (None ∷ positions) = spots_by_change (change + 1) positions
+spots_by_change change (Some file ∷ positions) = record { change = change; file = file } ∷ spots_by_change (change + 1) positions
 
 -- changes with their positions, where both are kept apart
 abbrev pub paired : List ℕ → List ℕ → List Spot

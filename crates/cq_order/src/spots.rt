@@ -3,11 +3,15 @@ ghost use Rattle.std.specs.Ordering.{is_lt};
 ghost use Rattle.cq_order.specs.Order.{IsOrderOf};
 ghost use Rattle.cq_order.specs.Spots.{AreSpots, IsPositionOf, SpotBefore, spot_of, is_spot_before, with_positions, changes_of, Replaces, Inserts, Removes, opened, closed};
 
+use crate::counting::{counted, greatest};
 use crate::rising::reach;
 use cq_base::Memory;
 use std::alloc::Global;
 use std::cmp::Ordering;
 use std::marker::Model;
+
+// A walk over so many numbers a file costs less than a sort.
+const NUMBERS_A_FILE: u64 = 4;
 
 /// Where the file that a change put stands among the files of its project: its position, from 0.
 #[derive(Clone, Copy, Debug, PartialEq, Eq)]
@@ -56,8 +60,8 @@ impl Spots {
         Ok(Spots { changes, files })
     }
 
-    // One more, behind all others.
-    fn push(&mut self, spot: Spot) -> Result<(), Memory>
+    /// One more, behind all others.
+    pub(crate) fn push(&mut self, spot: Spot) -> Result<(), Memory>
         ensures pushed { OnOk result (self.new ≡ self.old ++ spot ∷ []) }
         ensures unchanged { OnErr result (self.new ≡ self.old) }
     {
@@ -239,8 +243,8 @@ fn apart(alloc: Global, spots: &[Spot]) -> Result<Spots, Memory>
     Ok(all)
 }
 
-/// The spots of different changes. It costs a sort of them.
-pub fn spots_of(alloc: Global, changes: &[u64]) -> Result<Spots, Memory>
+// The spots of different changes, by a sort.
+fn sorted(alloc: Global, changes: &[u64]) -> Result<Spots, Memory>
     requires few { length changes.now < 2 ^ 32 }
     requires apart { AllPairs (λ a b. a ≢ b) changes.now }
     ensures { IfOk result (λ spots. AreSpots changes.now spots) }
@@ -248,4 +252,18 @@ pub fn spots_of(alloc: Global, changes: &[u64]) -> Result<Spots, Memory>
     let mut spots = unsorted(alloc, changes)?;
     sort_spots(&mut spots);
     apart(alloc, &spots)
+}
+
+/// The spots of different changes. It costs a sort of them, and where the greatest is less than four times how many there
+/// are, in its place a walk over the numbers up to it.
+pub fn spots_of(alloc: Global, changes: &[u64]) -> Result<Spots, Memory>
+    requires few { length changes.now < 2 ^ 32 }
+    requires apart { AllPairs (λ a b. a ≢ b) changes.now }
+    ensures { IfOk result (λ spots. AreSpots changes.now spots) }
+{
+    let most = greatest(changes);
+    if most < changes.len() as u64 * NUMBERS_A_FILE {
+        return counted(alloc, changes, most as usize + 1);
+    }
+    sorted(alloc, changes)
 }

@@ -4,6 +4,7 @@ pub mod FileAt
 pub mod FileLists
 pub mod Gathering
 pub mod Moving
+pub mod Narrowing
 pub mod OneWalk
 pub mod OwnerLists
 pub mod PathOrders

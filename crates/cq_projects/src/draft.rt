@@ -10,7 +10,7 @@ ghost use Rattle.cq_projects.specs.Edits.{edited_files, edited_conditions, repla
 ghost use Rattle.cq_projects.specs.Projects.{number_at, name_in, files_in, conditions_in, position_of, owner_files};
 ghost use Rattle.cq_projects.specs.Ordered.{AreRising, IsAt, IsGap};
 
-use crate::files::{Cut, cut_at};
+use crate::files::Cut;
 use crate::held::{Held, Project};
 use crate::merging::Named;
 use crate::project_files::ProjectFiles;
@@ -70,7 +70,7 @@ impl<W: Drop> Draft<W> {
             before,
             behind,
             change,
-        } = cut_at(self.project.files.items(), &path);
+        } = self.project.files.cut_at(&path);
         let named = Named {
             before,
             behind,

@@ -1,9 +1,9 @@
-ghost use Rattle.std.specs.Prelude.{◌≡◌, ◌<◌, ◌≤◌, ◌++◌, IfOk, IfErr, OnOk, insert, map};
+ghost use Rattle.std.specs.Prelude.{◌≡◌, ◌<◌, ◌≤◌, ◌++◌, IfOk, IfErr, OnOk, IsTrue, insert, map, length, take, drop};
 ghost use Rattle.std.specs.Arc.{arc_value};
 ghost use Rattle.std.specs.Vec.{vec_len, vec_capacity};
 ghost use Rattle.std.specs.Ordering.{nat_cmp};
 ghost use Rattle.std.specs.Cmp.Lexicographic.{slice_cmp};
-ghost use Rattle.cq_projects.specs.Ordered.{AreRising, IsAt, IsGap};
+ghost use Rattle.cq_projects.specs.Ordered.{AreRising, AreBelow, AreAbove, IsAt, IsGap};
 ghost use Rattle.cq_projects.specs.Drafts.{IsCut};
 ghost use Rattle.cq_projects.specs.Projects.{path_in, path_of, number_at};
 
@@ -29,6 +29,46 @@ pub fn find<W>(files: &[Arc<Held<W>, Global>], path: &Text) -> Result<usize, usi
     files.binary_search_by(|f| compare(f, path))
 }
 
+// Whether a path is behind all before a place.
+fn is_behind<W>(files: &[Arc<Held<W>, Global>], path: &Text, place: usize) -> bool
+    requires rising { AreRising path_in files.now }
+    requires within { place ≤ length files.now }
+    ensures { IsTrue result → AreBelow path_in path.now (take place files.now) }
+{
+    place == 0 || compare(&files[place - 1], path).is_lt()
+}
+
+// Whether a path is before all from a place on.
+fn is_ahead<W>(files: &[Arc<Held<W>, Global>], path: &Text, place: usize) -> bool
+    requires rising { AreRising path_in files.now }
+    requires within { place ≤ length files.now }
+    ensures { IsTrue result → AreAbove path_in path.now (drop place files.now) }
+{
+    place == files.len() || compare(&files[place], path).is_gt()
+}
+
+/// Where the path is among files in path order, or where it belongs: looked for from one place up to another, and among
+/// all files where it can't be there.
+pub fn find_between<W>(
+    files: &[Arc<Held<W>, Global>],
+    path: &Text,
+    from: usize,
+    to: usize,
+) -> Result<usize, usize>
+    requires rising { AreRising path_in files.now }
+    requires bound { (from ≤ to) × (to ≤ length files.now) }
+    ensures found { IfOk result (IsAt path_in path.now files.now) }
+    ensures gap { IfErr result (IsGap path_in path.now files.now) }
+{
+    if is_behind(files, path, from) && is_ahead(files, path, to) {
+        return match find(&files[from..to], path) {
+            Ok(i) => Ok(from + i),
+            Err(i) => Err(from + i),
+        };
+    }
+    find(files, path)
+}
+
 /// Puts a file in at an index, where there is room for it. It takes no memory.
 pub fn insert_within<W: Drop>(
     files: &mut Vec<Arc<Held<W>, Global>>,
@@ -52,13 +92,14 @@ pub struct Cut {
     pub change: Option<u64>,
 }
 
-/// Cuts files at a path. It is a binary search.
-pub fn cut_at<W>(files: &[Arc<Held<W>, Global>], path: &Text) -> Cut
-    requires { AreRising path_of (map arc_value files.now) }
+/// Cuts files at a path, which is looked for from one place up to another, and among all files where it can't be there.
+pub fn cut_at<W>(files: &[Arc<Held<W>, Global>], path: &Text, from: usize, to: usize) -> Cut
+    requires rising { AreRising path_of (map arc_value files.now) }
+    requires bound { (from ≤ to) × (to ≤ length files.now) }
     ensures cut { IsCut path.now (map arc_value files.now) result.before result.behind }
     ensures change { result.change ≡ number_at path.now (map arc_value files.now) }
 {
-    match find(files, path) {
+    match find_between(files, path, from, to) {
         Ok(i) => Cut {
             before: i,
             behind: i + 1,

@@ -5,14 +5,16 @@
 //! and a walk over the positions of its spots, 4 bytes a file, but none where the file comes last; where somebody else
 //! has the project, a copy of both first, an owner a file. A batch costs for each edit a search among the projects, one
 //! among its project's files and one among the paths of the batch, and for each project whose files changed one walk that
-//! moves them into a list anew, 8 bytes a file and no search, and a sort of its spots; where somebody else has the
-//! project, a copy first, an owner a file. A batch that memory is refused to is given up with its projects. What a
-//! reader looks up in a project, by path or by change, is a binary search: the spots are kept with its list of files. No
-//! text, no path and no work is copied.
+//! moves them into a list anew, 8 bytes a file and no search, and the spots of its changes; where somebody else has the
+//! project, a copy first, an owner a file. A project in which a batch named many files keeps a word of each path, 8 bytes
+//! a file, so that the searches of later batches look at few files. A batch that memory is refused to is given up with
+//! its projects. What a reader looks up in a project, by path or by change, is a binary search: the spots are kept with
+//! its list of files. No text, no path and no work is copied.
 #![tactic(auto)]
 
 mod draft;
 mod files;
+mod guesses;
 mod held;
 mod merging;
 mod project_files;

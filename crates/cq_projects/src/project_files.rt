@@ -2,12 +2,13 @@ ghost use Rattle.std.specs.Prelude.{◌≡◌, ◌≢◌, ◌<◌, List, [], len
 ghost use Rattle.std.specs.Arc.{arc_value};
 ghost use Rattle.cq_history.specs.Files.{with_file, without_file};
 ghost use Rattle.cq_order.specs.Spots.{AreSpots, IsPositionOf};
-ghost use Rattle.cq_projects.specs.Drafts.{edited_named, files_at, AreOwn, AreCut};
+ghost use Rattle.cq_projects.specs.Drafts.{IsCut, edited_named, files_at, AreOwn, AreCut};
 ghost use Rattle.cq_projects.specs.Projects.{path_in, path_of, number_at};
 ghost use Rattle.cq_projects.specs.Ordered.{AreRising};
 ghost use Rattle.cq_projects.specs.Spotted.{AreApartIn, AreOlder, IsPositionOfPath, numbers_of};
 
-use crate::files::{find, insert_within, shared_files};
+use crate::files::{Cut, cut_at, find, insert_within, shared_files};
+use crate::guesses::Guesses;
 use crate::held::Held;
 use crate::merging::{Named, merged};
 use crate::spots::spots_of;
@@ -25,6 +26,7 @@ use std::sync::Arc;
 pub struct ProjectFiles<W> {
     items: Vec<Arc<Held<W>, Global>>,
     spots: Spots,
+    guesses: Guesses,
 }
 
 impl<W> Model for ProjectFiles<W> {
@@ -48,6 +50,7 @@ impl<W> ProjectFiles<W> {
         ProjectFiles {
             items: Vec::new(alloc),
             spots: Spots::new(alloc),
+            guesses: Guesses::new(alloc),
         }
     }
 
@@ -91,6 +94,16 @@ impl<W> ProjectFiles<W> {
         }
     }
 
+    /// Cuts them at a path. It is a binary search, from where the path is likely to stand.
+    pub(crate) fn cut_at(&self, path: &Text) -> Cut
+        ensures cut { IsCut path.now self.now result.before result.behind }
+        ensures change { result.change ≡ number_at path.now self.now }
+        ensures rising { AreRising path_of self.now }
+    {
+        let (from, to) = self.guesses.reach(path, self.items.len());
+        cut_at(&self.items, path, from, to)
+    }
+
     /// The position of the file that a change put, if it is there. It is a binary search.
     pub fn position_of_change(&self, change: u64) -> Option<u32>
         ensures { IsPositionOf (numbers_of self.now) change result }
@@ -109,11 +122,31 @@ impl<W: Drop> ProjectFiles<W> {
         requires apart { AreApartIn (map arc_value items.items) }
         ensures { IfOk result (λ files. files ≡ map arc_value items.items) }
     {
+        let named = items.len();
+        ProjectFiles::guessed(alloc, items, Guesses::new(alloc), named)
+    }
+
+    // The same with guesses that may fit them, of which a batch named so many.
+    fn guessed(
+        alloc: Global,
+        items: Vec<Arc<Held<W>, Global>>,
+        guesses: Guesses,
+        named: usize,
+    ) -> Result<ProjectFiles<W>, Memory>
+        requires rising { AreRising path_of (map arc_value items.items) }
+        requires apart { AreApartIn (map arc_value items.items) }
+        ensures { IfOk result (λ files. files ≡ map arc_value items.items) }
+    {
         if items.len() > u32::MAX as usize {
             return Err(Memory);
         }
         let spots = spots_of(alloc, &items)?;
-        Ok(ProjectFiles { items, spots })
+        let guesses = guesses.fitted(alloc, &items, named)?;
+        Ok(ProjectFiles {
+            items,
+            spots,
+            guesses,
+        })
     }
 
     // These with what stands at some paths.
@@ -130,13 +163,16 @@ impl<W: Drop> ProjectFiles<W> {
         let ProjectFiles {
             items,
             spots: _spots,
+            guesses,
         } = self;
+        let named = paths.len();
+        let guesses = guesses.merged(alloc, &paths)?;
         let items = merged(alloc, items, paths)?;
-        ProjectFiles::gathered(alloc, items)
+        ProjectFiles::guessed(alloc, items, guesses, named)
     }
 
     /// Puts what stands at some paths, in one walk over all, and drops what is to stand there no more. It takes a list
-    /// more, 8 bytes a file, and a sort of the spots; where memory is refused, no files are left.
+    /// more, 8 bytes a file, one of their spots, and one of a word a file; where memory is refused, no files are left.
     pub(crate) fn merge(
         &mut self,
         alloc: Global,
@@ -158,7 +194,12 @@ impl<W: Drop> ProjectFiles<W> {
     {
         let items = shared_files(alloc, &self.items)?;
         let spots = self.spots.copied(alloc)?;
-        Ok(ProjectFiles { items, spots })
+        let guesses = self.guesses.copied(alloc)?;
+        Ok(ProjectFiles {
+            items,
+            spots,
+            guesses,
+        })
     }
 
     /// Takes out the file at the path, and answers the change that put it, if there is one. It costs a search and a

@@ -21,7 +21,7 @@ fn changes_of<W>(alloc: Global, files: &[Arc<Held<W>, Global>]) -> Result<Vec<u6
     Ok(changes)
 }
 
-/// The spots of files that were each put by a change of its own. It costs a sort.
+/// The spots of files that were each put by a change of its own. It costs what cq_order takes for those of the changes.
 pub fn spots_of<W>(alloc: Global, files: &[Arc<Held<W>, Global>]) -> Result<Spots, Memory>
     requires few { length files.now < 2 ^ 32 }
     requires apart { AllPairs (λ a b. a ≢ b) (numbers_of (map arc_value files.now)) }

@@ -5,8 +5,8 @@ use Rattle.cq_projects.proofs.Putting.{number_at_index, no_number_at}
 use Rattle.cq_projects.proofs.Cutting.{cut_at as cut_found, cut_gap}
 use Rattle.cq_projects.proofs.files.cut_at.Goals as goal
 
-pub find-requires : goal.find-requires
-find-requires g c = rising_held c.args.files.now c.requires
+pub find_between-requires-clause-rising : goal.find_between-requires-clause-rising
+find_between-requires-clause-rising g c = rising_held c.args.files.now c.requires.rising
 
 pub returns-in-Ok-clause-cut : goal.returns-in-Ok-clause-cut
 returns-in-Ok-clause-cut g c = cut_found c.args.files.now c.args.path.now c.in-Ok.i c.in-Ok.ensures.found

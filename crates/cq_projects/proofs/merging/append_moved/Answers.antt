@@ -1,4 +1,4 @@
-use Rattle.std.proofs.Common.{List, ap, ◌∙◌}
+use Rattle.std.proofs.Common.{ap, ◌∙◌}
 use Rattle.std.specs.Vec.Iter.{into_iter_items}
 use Rattle.cq_projects.proofs.Moving.{left_on, moved_some, moved_none}
 use Rattle.cq_projects.proofs.merging.append_moved.Goals as goal

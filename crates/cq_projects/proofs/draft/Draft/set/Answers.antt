@@ -1,4 +1,4 @@
-use Rattle.std.proofs.Common.{◌≡◌, List, Some, None, sym, ap, ap₂, ◌∙◌, subst, subst₂}
+use Rattle.std.proofs.Common.{◌≡◌, List, Some, None, refl, sym, ap, ap₂, ◌∙◌, subst, subst₂}
 use Rattle.std.specs.Prelude.{option_map}
 use Rattle.std.specs.Arc.{arc_value}
 use Rattle.std.specs.Map.{lookup}
@@ -17,7 +17,7 @@ invariant_of-self-2 g c =
     let es = c.self.inside.paths.entries in
     let files = (arc_value c.self.inside.project).files in
     let named : Named g.row.W.Denot = record { before = c.cut_at-before.result.before; behind = c.cut_at-before.result.behind; file = c.args.file } in
-    let cut = subst₂ (λ p (fs : List (File g.row.W.Denot)). IsCut p fs named.before named.behind) c.deref-2.ensures (c.items.ensures.files ∙ ap (λ (p : ListedProject g.row.W.Denot). p.files) (c.behind-self.view_is ∙ c.deref.ensures)) c.cut_at-before.ensures.cut in
+    let cut = subst₂ (λ p (fs : List (File g.row.W.Denot)). IsCut p fs named.before named.behind) c.deref-2.ensures (ap (λ (p : ListedProject g.row.W.Denot). p.files) (c.behind-self.view_is ∙ c.deref.ensures)) c.cut_at-before.ensures.cut in
     let made = ap files_at c.in_ok-replaced.ensures.entries ∙ files_insert es c.args.path named in (
       subst (AreCut files) (sym c.in_ok-replaced.ensures.entries) (cut_insert files es c.args.path named cut c.self.invariant.0),
       subst AreOwn (sym made) (own_insert (files_at es) c.args.path c.args.file c.requires c.self.invariant.1),
@@ -28,7 +28,7 @@ returns-clause-set g c =
     let es = c.self.inside.paths.entries in
     let files = (arc_value c.self.inside.project).files in
     let named : Named g.row.W.Denot = record { before = c.cut_at-before.result.before; behind = c.cut_at-before.result.behind; file = c.args.file } in
-    let rising : AreRising path_of files = subst (λ (p : ListedProject g.row.W.Denot). AreRising path_of p.files) (c.behind-self.view_is ∙ c.deref.ensures) c.items.ensures.rising in
+    let rising : AreRising path_of files = subst (λ (p : ListedProject g.row.W.Denot). AreRising path_of p.files) (c.behind-self.view_is ∙ c.deref.ensures) c.cut_at-before.ensures.rising in
     let name = ap name_in c.self.view_is in
     let made = ap (λ xs. edited_all xs files) (ap files_at c.in_ok-replaced.ensures.entries ∙ files_insert es c.args.path named)
     ∙ set_files (files_at es) c.args.path c.args.file files c.requires c.self.invariant.1 rising
@@ -51,7 +51,7 @@ returns-clause-number g c =
       | in-None w ↦
           let none : None ≡ lookup (is_at (text_cmp c.args.path)) (files_at es) = ap (option_map (λ (n : Named g.row.W.Denot). n.file)) (sym w.in-None.is ∙ c.in_ok-replaced.ensures.old) ∙ sym (files_lookup c.args.path es) in
           rw w.result-is
-          (c.cut_at-before.ensures.change ∙ ap₂ (λ p (fs : List (File g.row.W.Denot)). number_at p fs) c.deref-2.ensures c.items.ensures.files
+          (c.cut_at-before.ensures.change ∙ ap₂ (λ p (fs : List (File g.row.W.Denot)). number_at p fs) c.deref-2.ensures refl
           ∙ ap (λ (p : ListedProject g.row.W.Denot). number_at (arc_value c.args.path) p.files) (c.behind-self.view_is ∙ c.deref.ensures)
           ∙ number_before (files_at es) c.args.path files c.self.invariant.1 none ∙ seen)
     ]

@@ -3,7 +3,7 @@ use Rattle.std.proofs.lemmas.Result.{IfOk-weaker}
 use Rattle.cq_order.specs.declared.spots.Spot.{Spot}
 use Rattle.cq_order.specs.Spots.{AreSpots}
 use Rattle.cq_order.proofs.Spotting.{sorted_spots}
-use Rattle.cq_order.proofs.spots.spots_of.Goals as goal
+use Rattle.cq_order.proofs.spots.sorted.Goals as goal
 
 pub returns : goal.returns
 returns c =
