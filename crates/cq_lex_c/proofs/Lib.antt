@@ -1,4 +1,5 @@
 pub mod Leaving
+pub mod Staying
 pub mod NoSplices
 pub mod Splicing
 pub mod Fitting

@@ -1,5 +1,6 @@
 pub mod Characters
 pub mod Splices
+pub mod Staying
 pub mod Identifiers
 pub mod Numbers
 pub mod Texts

@@ -21,3 +21,4 @@ mod text;
 
 pub use faults::only_open_comments_are_faults;
 pub use language::C;
+pub use splice::only_splices_are_left_out;

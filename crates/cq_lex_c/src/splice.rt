@@ -1,5 +1,6 @@
 ghost use Rattle.std.specs.Prelude.{◌≡◌, ◌==◌, ◌&&◌, ◌||◌, IfOk, IsFalse};
 ghost use Rattle.cq_lex_c.specs.Splices.{splice_len, spliced};
+ghost use Rattle.cq_lex_c.specs.Staying.{OnlySplicesAreLeftOut};
 
 use cq_base::Memory;
 use cq_munch::Unit;
@@ -78,3 +79,8 @@ pub(crate) fn unspliced(alloc: Global, units: Vec<Unit>) -> Result<Vec<Unit>, Me
     }
     Ok(units)
 }
+
+/// Of a text exactly the backslashes with a line end directly behind them, and these line ends, are left out.
+pub fn only_splices_are_left_out()
+    ensures { OnlySplicesAreLeftOut }
+{}

@@ -1,7 +1,7 @@
 -- The scan of a number: its states, and what they mean.
-use Rattle.std.specs.Prelude.{ℕ, Bool, true, false, Option, Some, None, List, [], ◌∷◌, codes}
+use Rattle.std.specs.Prelude.{ℕ, Bool, true, false, Option, List, [], ◌∷◌, codes}
 use Rattle.cq_munch.specs.Pattern.{Range, Pattern}
-use Rattle.cq_munch.specs.Behind.{after, class_in}
+use Rattle.cq_munch.specs.Behind.{after, class_in, led_by}
 use Rattle.cq_lex_go.specs.Numbers.{number}
 use Rattle.cq_lex_go.specs.declared.number.Kind.{Kind}
 use Rattle.cq_lex_go.specs.declared.number.Kind.TheVariants as kinds
@@ -48,172 +48,68 @@ sample kinds.Dot = 46
 sample kinds.Sign = 43
 sample kinds.Other = 128
 
+-- the digits of each base
+abbrev pub binary : List Kind
+binary = kinds.Zero ∷ kinds.One ∷ []
+
+abbrev pub octal : List Kind
+octal = kinds.Zero ∷ kinds.One ∷ kinds.Octal ∷ []
+
+abbrev pub decimal : List Kind
+decimal = kinds.Zero ∷ kinds.One ∷ kinds.Octal ∷ kinds.Decimal ∷ []
+
+abbrev pub hex : List Kind
+hex = kinds.Zero ∷ kinds.One ∷ kinds.Octal ∷ kinds.Decimal ∷ kinds.B ∷ kinds.E ∷ kinds.Hex ∷ []
+
+-- the kinds that lead on from a state, each to the state behind it
+abbrev pub steps : Number → List (List Kind × Number)
+steps states.Start =
+    (kinds.Zero ∷ [], states.Zero) ∷ (kinds.One ∷ kinds.Octal ∷ kinds.Decimal ∷ [], states.Whole) ∷ (kinds.Dot ∷ [], states.Point) ∷ []
+steps states.Zero =
+    (octal, states.Zeros) ∷ (kinds.Decimal ∷ [], states.NotOctal) ∷ (kinds.B ∷ [], states.BinaryMark)
+    ∷ (kinds.E ∷ [], states.Exponent) ∷ (kinds.O ∷ [], states.OctalMark) ∷ (kinds.X ∷ [], states.HexMark)
+    ∷ (kinds.I ∷ [], states.Imaginary) ∷ (kinds.Underscore ∷ [], states.ZerosGap) ∷ (kinds.Dot ∷ [], states.WholePoint) ∷ []
+steps states.Whole =
+    (decimal, states.Wholes) ∷ (kinds.E ∷ [], states.Exponent) ∷ (kinds.I ∷ [], states.Imaginary)
+    ∷ (kinds.Underscore ∷ [], states.WholesGap) ∷ (kinds.Dot ∷ [], states.WholePoint) ∷ []
+steps states.Point = (decimal, states.Fraction) ∷ []
+steps states.Zeros =
+    (octal, states.Zeros) ∷ (kinds.Decimal ∷ [], states.NotOctal) ∷ (kinds.E ∷ [], states.Exponent)
+    ∷ (kinds.I ∷ [], states.Imaginary) ∷ (kinds.Underscore ∷ [], states.ZerosGap) ∷ (kinds.Dot ∷ [], states.WholePoint) ∷ []
+steps states.NotOctal =
+    (decimal, states.NotOctal) ∷ (kinds.E ∷ [], states.Exponent) ∷ (kinds.I ∷ [], states.Imaginary)
+    ∷ (kinds.Underscore ∷ [], states.NotOctalGap) ∷ (kinds.Dot ∷ [], states.WholePoint) ∷ []
+steps states.BinaryMark = (binary, states.Binary) ∷ (kinds.Underscore ∷ [], states.BinaryGap) ∷ []
+steps states.Exponent = (decimal, states.ExponentDigits) ∷ (kinds.Sign ∷ [], states.ExponentGap) ∷ []
+steps states.OctalMark = (octal, states.OctalDigits) ∷ (kinds.Underscore ∷ [], states.OctalGap) ∷ []
+steps states.HexMark = (hex, states.HexDigits) ∷ (kinds.Underscore ∷ [], states.HexGap) ∷ (kinds.Dot ∷ [], states.HexPoint) ∷ []
+steps states.Imaginary = []
+steps states.ZerosGap = (octal, states.Zeros) ∷ (kinds.Decimal ∷ [], states.NotOctal) ∷ []
+steps states.WholePoint = (decimal, states.Fraction) ∷ (kinds.E ∷ [], states.Exponent) ∷ (kinds.I ∷ [], states.Imaginary) ∷ []
+steps states.Wholes =
+    (decimal, states.Wholes) ∷ (kinds.E ∷ [], states.Exponent) ∷ (kinds.I ∷ [], states.Imaginary)
+    ∷ (kinds.Underscore ∷ [], states.WholesGap) ∷ (kinds.Dot ∷ [], states.WholePoint) ∷ []
+steps states.WholesGap = (decimal, states.Wholes) ∷ []
+steps states.Fraction =
+    (decimal, states.Fraction) ∷ (kinds.E ∷ [], states.Exponent) ∷ (kinds.I ∷ [], states.Imaginary)
+    ∷ (kinds.Underscore ∷ [], states.Point) ∷ []
+steps states.NotOctalGap = (decimal, states.NotOctal) ∷ []
+steps states.Binary = (binary, states.Binary) ∷ (kinds.I ∷ [], states.Imaginary) ∷ (kinds.Underscore ∷ [], states.BinaryGap) ∷ []
+steps states.BinaryGap = (binary, states.Binary) ∷ []
+steps states.ExponentDigits = (decimal, states.ExponentDigits) ∷ (kinds.I ∷ [], states.Imaginary) ∷ (kinds.Underscore ∷ [], states.ExponentGap) ∷ []
+steps states.ExponentGap = (decimal, states.ExponentDigits) ∷ []
+steps states.OctalDigits = (octal, states.OctalDigits) ∷ (kinds.I ∷ [], states.Imaginary) ∷ (kinds.Underscore ∷ [], states.OctalGap) ∷ []
+steps states.OctalGap = (octal, states.OctalDigits) ∷ []
+steps states.HexDigits =
+    (hex, states.HexDigits) ∷ (kinds.P ∷ [], states.Exponent) ∷ (kinds.I ∷ [], states.Imaginary)
+    ∷ (kinds.Underscore ∷ [], states.HexGap) ∷ (kinds.Dot ∷ [], states.HexWholePoint) ∷ []
+steps states.HexGap = (hex, states.HexDigits) ∷ []
+steps states.HexPoint = (hex, states.HexFraction) ∷ []
+steps states.HexWholePoint = (hex, states.HexFraction) ∷ (kinds.P ∷ [], states.Exponent) ∷ []
+steps states.HexFraction = (hex, states.HexFraction) ∷ (kinds.P ∷ [], states.Exponent) ∷ (kinds.Underscore ∷ [], states.HexPoint) ∷ []
+
 abbrev pub next_of : Number → Kind → Option Number
-next_of states.Start kinds.Zero = Some states.Zero
-next_of states.Start kinds.One = Some states.Whole
-next_of states.Start kinds.Octal = Some states.Whole
-next_of states.Start kinds.Decimal = Some states.Whole
-next_of states.Start kinds.Dot = Some states.Point
-next_of states.Zero kinds.Zero = Some states.Zeros
-next_of states.Zero kinds.One = Some states.Zeros
-next_of states.Zero kinds.Octal = Some states.Zeros
-next_of states.Zero kinds.Decimal = Some states.NotOctal
-next_of states.Zero kinds.B = Some states.BinaryMark
-next_of states.Zero kinds.E = Some states.Exponent
-next_of states.Zero kinds.O = Some states.OctalMark
-next_of states.Zero kinds.X = Some states.HexMark
-next_of states.Zero kinds.I = Some states.Imaginary
-next_of states.Zero kinds.Underscore = Some states.ZerosGap
-next_of states.Zero kinds.Dot = Some states.WholePoint
-next_of states.Whole kinds.Zero = Some states.Wholes
-next_of states.Whole kinds.One = Some states.Wholes
-next_of states.Whole kinds.Octal = Some states.Wholes
-next_of states.Whole kinds.Decimal = Some states.Wholes
-next_of states.Whole kinds.E = Some states.Exponent
-next_of states.Whole kinds.I = Some states.Imaginary
-next_of states.Whole kinds.Underscore = Some states.WholesGap
-next_of states.Whole kinds.Dot = Some states.WholePoint
-next_of states.Point kinds.Zero = Some states.Fraction
-next_of states.Point kinds.One = Some states.Fraction
-next_of states.Point kinds.Octal = Some states.Fraction
-next_of states.Point kinds.Decimal = Some states.Fraction
-next_of states.Zeros kinds.Zero = Some states.Zeros
-next_of states.Zeros kinds.One = Some states.Zeros
-next_of states.Zeros kinds.Octal = Some states.Zeros
-next_of states.Zeros kinds.Decimal = Some states.NotOctal
-next_of states.Zeros kinds.E = Some states.Exponent
-next_of states.Zeros kinds.I = Some states.Imaginary
-next_of states.Zeros kinds.Underscore = Some states.ZerosGap
-next_of states.Zeros kinds.Dot = Some states.WholePoint
-next_of states.NotOctal kinds.Zero = Some states.NotOctal
-next_of states.NotOctal kinds.One = Some states.NotOctal
-next_of states.NotOctal kinds.Octal = Some states.NotOctal
-next_of states.NotOctal kinds.Decimal = Some states.NotOctal
-next_of states.NotOctal kinds.E = Some states.Exponent
-next_of states.NotOctal kinds.I = Some states.Imaginary
-next_of states.NotOctal kinds.Underscore = Some states.NotOctalGap
-next_of states.NotOctal kinds.Dot = Some states.WholePoint
-next_of states.BinaryMark kinds.Zero = Some states.Binary
-next_of states.BinaryMark kinds.One = Some states.Binary
-next_of states.BinaryMark kinds.Underscore = Some states.BinaryGap
-next_of states.Exponent kinds.Zero = Some states.ExponentDigits
-next_of states.Exponent kinds.One = Some states.ExponentDigits
-next_of states.Exponent kinds.Octal = Some states.ExponentDigits
-next_of states.Exponent kinds.Decimal = Some states.ExponentDigits
-next_of states.Exponent kinds.Sign = Some states.ExponentGap
-next_of states.OctalMark kinds.Zero = Some states.OctalDigits
-next_of states.OctalMark kinds.One = Some states.OctalDigits
-next_of states.OctalMark kinds.Octal = Some states.OctalDigits
-next_of states.OctalMark kinds.Underscore = Some states.OctalGap
-next_of states.HexMark kinds.Zero = Some states.HexDigits
-next_of states.HexMark kinds.One = Some states.HexDigits
-next_of states.HexMark kinds.Octal = Some states.HexDigits
-next_of states.HexMark kinds.Decimal = Some states.HexDigits
-next_of states.HexMark kinds.B = Some states.HexDigits
-next_of states.HexMark kinds.E = Some states.HexDigits
-next_of states.HexMark kinds.Hex = Some states.HexDigits
-next_of states.HexMark kinds.Underscore = Some states.HexGap
-next_of states.HexMark kinds.Dot = Some states.HexPoint
-next_of states.ZerosGap kinds.Zero = Some states.Zeros
-next_of states.ZerosGap kinds.One = Some states.Zeros
-next_of states.ZerosGap kinds.Octal = Some states.Zeros
-next_of states.ZerosGap kinds.Decimal = Some states.NotOctal
-next_of states.WholePoint kinds.Zero = Some states.Fraction
-next_of states.WholePoint kinds.One = Some states.Fraction
-next_of states.WholePoint kinds.Octal = Some states.Fraction
-next_of states.WholePoint kinds.Decimal = Some states.Fraction
-next_of states.WholePoint kinds.E = Some states.Exponent
-next_of states.WholePoint kinds.I = Some states.Imaginary
-next_of states.Wholes kinds.Zero = Some states.Wholes
-next_of states.Wholes kinds.One = Some states.Wholes
-next_of states.Wholes kinds.Octal = Some states.Wholes
-next_of states.Wholes kinds.Decimal = Some states.Wholes
-next_of states.Wholes kinds.E = Some states.Exponent
-next_of states.Wholes kinds.I = Some states.Imaginary
-next_of states.Wholes kinds.Underscore = Some states.WholesGap
-next_of states.Wholes kinds.Dot = Some states.WholePoint
-next_of states.WholesGap kinds.Zero = Some states.Wholes
-next_of states.WholesGap kinds.One = Some states.Wholes
-next_of states.WholesGap kinds.Octal = Some states.Wholes
-next_of states.WholesGap kinds.Decimal = Some states.Wholes
-next_of states.Fraction kinds.Zero = Some states.Fraction
-next_of states.Fraction kinds.One = Some states.Fraction
-next_of states.Fraction kinds.Octal = Some states.Fraction
-next_of states.Fraction kinds.Decimal = Some states.Fraction
-next_of states.Fraction kinds.E = Some states.Exponent
-next_of states.Fraction kinds.I = Some states.Imaginary
-next_of states.Fraction kinds.Underscore = Some states.Point
-next_of states.NotOctalGap kinds.Zero = Some states.NotOctal
-next_of states.NotOctalGap kinds.One = Some states.NotOctal
-next_of states.NotOctalGap kinds.Octal = Some states.NotOctal
-next_of states.NotOctalGap kinds.Decimal = Some states.NotOctal
-next_of states.Binary kinds.Zero = Some states.Binary
-next_of states.Binary kinds.One = Some states.Binary
-next_of states.Binary kinds.I = Some states.Imaginary
-next_of states.Binary kinds.Underscore = Some states.BinaryGap
-next_of states.BinaryGap kinds.Zero = Some states.Binary
-next_of states.BinaryGap kinds.One = Some states.Binary
-next_of states.ExponentDigits kinds.Zero = Some states.ExponentDigits
-next_of states.ExponentDigits kinds.One = Some states.ExponentDigits
-next_of states.ExponentDigits kinds.Octal = Some states.ExponentDigits
-next_of states.ExponentDigits kinds.Decimal = Some states.ExponentDigits
-next_of states.ExponentDigits kinds.I = Some states.Imaginary
-next_of states.ExponentDigits kinds.Underscore = Some states.ExponentGap
-next_of states.ExponentGap kinds.Zero = Some states.ExponentDigits
-next_of states.ExponentGap kinds.One = Some states.ExponentDigits
-next_of states.ExponentGap kinds.Octal = Some states.ExponentDigits
-next_of states.ExponentGap kinds.Decimal = Some states.ExponentDigits
-next_of states.OctalDigits kinds.Zero = Some states.OctalDigits
-next_of states.OctalDigits kinds.One = Some states.OctalDigits
-next_of states.OctalDigits kinds.Octal = Some states.OctalDigits
-next_of states.OctalDigits kinds.I = Some states.Imaginary
-next_of states.OctalDigits kinds.Underscore = Some states.OctalGap
-next_of states.OctalGap kinds.Zero = Some states.OctalDigits
-next_of states.OctalGap kinds.One = Some states.OctalDigits
-next_of states.OctalGap kinds.Octal = Some states.OctalDigits
-next_of states.HexDigits kinds.Zero = Some states.HexDigits
-next_of states.HexDigits kinds.One = Some states.HexDigits
-next_of states.HexDigits kinds.Octal = Some states.HexDigits
-next_of states.HexDigits kinds.Decimal = Some states.HexDigits
-next_of states.HexDigits kinds.B = Some states.HexDigits
-next_of states.HexDigits kinds.E = Some states.HexDigits
-next_of states.HexDigits kinds.Hex = Some states.HexDigits
-next_of states.HexDigits kinds.P = Some states.Exponent
-next_of states.HexDigits kinds.I = Some states.Imaginary
-next_of states.HexDigits kinds.Underscore = Some states.HexGap
-next_of states.HexDigits kinds.Dot = Some states.HexWholePoint
-next_of states.HexGap kinds.Zero = Some states.HexDigits
-next_of states.HexGap kinds.One = Some states.HexDigits
-next_of states.HexGap kinds.Octal = Some states.HexDigits
-next_of states.HexGap kinds.Decimal = Some states.HexDigits
-next_of states.HexGap kinds.B = Some states.HexDigits
-next_of states.HexGap kinds.E = Some states.HexDigits
-next_of states.HexGap kinds.Hex = Some states.HexDigits
-next_of states.HexPoint kinds.Zero = Some states.HexFraction
-next_of states.HexPoint kinds.One = Some states.HexFraction
-next_of states.HexPoint kinds.Octal = Some states.HexFraction
-next_of states.HexPoint kinds.Decimal = Some states.HexFraction
-next_of states.HexPoint kinds.B = Some states.HexFraction
-next_of states.HexPoint kinds.E = Some states.HexFraction
-next_of states.HexPoint kinds.Hex = Some states.HexFraction
-next_of states.HexWholePoint kinds.Zero = Some states.HexFraction
-next_of states.HexWholePoint kinds.One = Some states.HexFraction
-next_of states.HexWholePoint kinds.Octal = Some states.HexFraction
-next_of states.HexWholePoint kinds.Decimal = Some states.HexFraction
-next_of states.HexWholePoint kinds.B = Some states.HexFraction
-next_of states.HexWholePoint kinds.E = Some states.HexFraction
-next_of states.HexWholePoint kinds.Hex = Some states.HexFraction
-next_of states.HexWholePoint kinds.P = Some states.Exponent
-next_of states.HexFraction kinds.Zero = Some states.HexFraction
-next_of states.HexFraction kinds.One = Some states.HexFraction
-next_of states.HexFraction kinds.Octal = Some states.HexFraction
-next_of states.HexFraction kinds.Decimal = Some states.HexFraction
-next_of states.HexFraction kinds.B = Some states.HexFraction
-next_of states.HexFraction kinds.E = Some states.HexFraction
-next_of states.HexFraction kinds.Hex = Some states.HexFraction
-next_of states.HexFraction kinds.P = Some states.Exponent
-next_of states.HexFraction kinds.Underscore = Some states.HexPoint
-next_of _ _ = None
+next_of state kind = led_by sample (steps state) kind
 
 abbrev pub may_end : Number → Bool
 may_end states.Zero = true

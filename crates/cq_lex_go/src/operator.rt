@@ -1,28 +1,11 @@
 ghost use Rattle.std.specs.Prelude.{◌≡◌, map};
+ghost use Rattle.cq_munch.specs.Behind.{led};
 ghost use Rattle.cq_munch.specs.Longest.{LongestAt, IsAmong};
 ghost use Rattle.cq_lex_go.specs.Words.{punctuation};
-ghost use Rattle.cq_lex_go.specs.OperatorStates.{glyph_of, next_of, may_end, operator_rest};
+ghost use Rattle.cq_lex_go.specs.declared.operator.Operator.TheVariants.{Start};
+ghost use Rattle.cq_lex_go.specs.OperatorStates.{steps, may_end, operator_rest};
 
 use cq_munch::{Machine, Unit, longest_spelling};
-
-/// What operators and punctuation tell apart.
-#[derive(Clone, Copy)]
-enum Glyph {
-    Plus,
-    Minus,
-    And,
-    Or,
-    Less,
-    Greater,
-    Caret,
-    Equals,
-    Dot,
-    /// One behind which an equals sign may stand.
-    Mark,
-    /// One that stands alone.
-    Single,
-    Other,
-}
 
 /// How far an operator has come.
 #[derive(Clone, Copy)]
@@ -42,51 +25,42 @@ enum Operator {
     Done,
 }
 
-fn glyph_of(ch: char) -> Glyph
-    ensures { result ≡ glyph_of ch }
+// The state behind the first character.
+fn begun(ch: char) -> Option<Operator>
+    ensures { result ≡ led (steps Start) ch }
 {
     match ch {
-        '+' => Glyph::Plus,
-        '-' => Glyph::Minus,
-        '&' => Glyph::And,
-        '|' => Glyph::Or,
-        '<' => Glyph::Less,
-        '>' => Glyph::Greater,
-        '^' => Glyph::Caret,
-        '=' => Glyph::Equals,
-        '.' => Glyph::Dot,
-        '*' | '/' | '%' | '!' | ':' => Glyph::Mark,
-        '(' | ')' | '[' | ']' | '{' | '}' | ',' | ';' | '~' => Glyph::Single,
-        _ => Glyph::Other,
+        '+' => Some(Operator::Plus),
+        '-' => Some(Operator::Minus),
+        '&' => Some(Operator::And),
+        '|' => Some(Operator::Or),
+        '<' => Some(Operator::Less),
+        '>' => Some(Operator::Greater),
+        '.' => Some(Operator::Dot),
+        '^' | '=' | '*' | '/' | '%' | '!' | ':' => Some(Operator::OrEquals),
+        '(' | ')' | '[' | ']' | '{' | '}' | ',' | ';' | '~' => Some(Operator::Done),
+        _ => None,
     }
 }
 
-// The state behind a character of a kind.
-fn next_of(state: Operator, glyph: Glyph) -> Option<Operator>
-    ensures { result ≡ next_of state glyph }
+// The state behind a character.
+fn next_of(state: Operator, ch: char) -> Option<Operator>
+    ensures { result ≡ led (steps state) ch }
 {
-    match (state, glyph) {
-        (Operator::Start, Glyph::Plus) => Some(Operator::Plus),
-        (Operator::Start, Glyph::Minus) => Some(Operator::Minus),
-        (Operator::Start, Glyph::And) => Some(Operator::And),
-        (Operator::Start, Glyph::Or) => Some(Operator::Or),
-        (Operator::Start, Glyph::Less) => Some(Operator::Less),
-        (Operator::Start, Glyph::Greater) => Some(Operator::Greater),
-        (Operator::Start, Glyph::Dot) => Some(Operator::Dot),
-        (Operator::Start, Glyph::Caret | Glyph::Equals | Glyph::Mark) => Some(Operator::OrEquals),
-        (Operator::Start, Glyph::Single) => Some(Operator::Done),
-        (Operator::Plus, Glyph::Plus | Glyph::Equals) => Some(Operator::Done),
-        (Operator::Minus, Glyph::Minus | Glyph::Equals) => Some(Operator::Done),
-        (Operator::And, Glyph::And | Glyph::Equals) => Some(Operator::Done),
-        (Operator::And, Glyph::Caret) => Some(Operator::OrEquals),
-        (Operator::Or, Glyph::Or | Glyph::Equals) => Some(Operator::Done),
-        (Operator::Less, Glyph::Minus | Glyph::Equals) => Some(Operator::Done),
-        (Operator::Less, Glyph::Less) => Some(Operator::OrEquals),
-        (Operator::Greater, Glyph::Equals) => Some(Operator::Done),
-        (Operator::Greater, Glyph::Greater) => Some(Operator::OrEquals),
-        (Operator::OrEquals, Glyph::Equals) => Some(Operator::Done),
-        (Operator::Dot, Glyph::Dot) => Some(Operator::DotDot),
-        (Operator::DotDot, Glyph::Dot) => Some(Operator::Done),
+    match (state, ch) {
+        (Operator::Start, _) => begun(ch),
+        (Operator::Plus, '+' | '=') => Some(Operator::Done),
+        (Operator::Minus, '-' | '=') => Some(Operator::Done),
+        (Operator::And, '&' | '=') => Some(Operator::Done),
+        (Operator::And, '^') => Some(Operator::OrEquals),
+        (Operator::Or, '|' | '=') => Some(Operator::Done),
+        (Operator::Less, '-' | '=') => Some(Operator::Done),
+        (Operator::Less, '<') => Some(Operator::OrEquals),
+        (Operator::Greater, '=') => Some(Operator::Done),
+        (Operator::Greater, '>') => Some(Operator::OrEquals),
+        (Operator::OrEquals, '=') => Some(Operator::Done),
+        (Operator::Dot, '.') => Some(Operator::DotDot),
+        (Operator::DotDot, '.') => Some(Operator::Done),
         _ => None,
     }
 }
@@ -101,7 +75,7 @@ impl Machine for Operator {
     ghost rest = { operator_rest };
 
     fn step(self, ch: char) -> Option<Self> {
-        next_of(self, glyph_of(ch))
+        next_of(self, ch)
     }
 
     fn accepts(self) -> bool {

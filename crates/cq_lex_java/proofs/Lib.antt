@@ -5,3 +5,4 @@ pub mod Spans
 pub mod Translating
 pub mod NoEscapes
 pub mod Dispatch
+pub mod Counting

@@ -1,13 +1,12 @@
 -- The steps of the scan of operators are right: each is tested by computing, at each ASCII character.
 use Rattle.std.proofs.Common.{◌≡◌, true, refl}
 use Rattle.cq_munch.proofs.WordLists.{put, behind_words, same_word, has_word, includes, heads_below, words_after, word_step_ok, word_state_ok}
-use Rattle.cq_lex_java.specs.OperatorStates.{glyph_rows, next_of, may_end, words_of}
-use Rattle.cq_lex_java.specs.declared.operator.Glyph.TheVariants as glyphs
+use Rattle.cq_lex_java.specs.OperatorStates.{steps, may_end, words_of}
 use Rattle.cq_lex_java.specs.declared.operator.Operator.{Operator}
 use Rattle.cq_lex_java.specs.declared.operator.Operator.TheVariants as states
 
 -- the test of all states
-pub right : (s : Operator) → word_state_ok words_of may_end glyph_rows glyphs.Other next_of s ≡ true
+pub right : (s : Operator) → word_state_ok words_of may_end steps s ≡ true
 unfolding word_state_ok word_step_ok words_after includes has_word same_word behind_words put heads_below
 right states.Start = refl
 right states.Plus = refl

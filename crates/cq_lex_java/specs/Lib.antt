@@ -1,6 +1,7 @@
 pub mod Words
 pub mod Escapes
 pub mod Translation
+pub mod Eligible
 pub mod NameStates
 pub mod Numbers
 pub mod NumberStates

@@ -15,3 +15,4 @@ mod translation;
 mod words;
 
 pub use language::Java;
+pub use translation::escapes_go_by_count;

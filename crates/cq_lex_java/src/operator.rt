@@ -1,29 +1,12 @@
 ghost use Rattle.std.specs.Prelude.{◌≡◌};
 ghost use Rattle.cq_munch.specs.Characters.{characters};
+ghost use Rattle.cq_munch.specs.Behind.{led};
 ghost use Rattle.cq_munch.specs.Longest.{LongestAt, IsAmong};
 ghost use Rattle.cq_lex_java.specs.Operators.{operators};
-ghost use Rattle.cq_lex_java.specs.OperatorStates.{glyph_of, next_of, may_end, operator_rest};
+ghost use Rattle.cq_lex_java.specs.declared.operator.Operator.TheVariants.{Start};
+ghost use Rattle.cq_lex_java.specs.OperatorStates.{steps, may_end, operator_rest};
 
 use cq_munch::{Machine, Unit, longest_spelling};
-
-/// What separators and operators tell apart.
-#[derive(Clone, Copy, Debug, PartialEq, Eq)]
-enum Glyph {
-    Plus,
-    Minus,
-    And,
-    Or,
-    Less,
-    Greater,
-    Equals,
-    Colon,
-    Dot,
-    /// One behind which an equals sign may stand.
-    Mark,
-    /// One that stands alone.
-    Single,
-    Other,
-}
 
 /// How far a separator or operator has come.
 #[derive(Clone, Copy, Debug, PartialEq, Eq)]
@@ -46,55 +29,46 @@ enum Operator {
     Done,
 }
 
-fn glyph_of(ch: char) -> Glyph
-    ensures { result ≡ glyph_of ch }
+// The state behind the first character.
+fn begun(ch: char) -> Option<Operator>
+    ensures { result ≡ led (steps Start) ch }
 {
     match ch {
-        '+' => Glyph::Plus,
-        '-' => Glyph::Minus,
-        '&' => Glyph::And,
-        '|' => Glyph::Or,
-        '<' => Glyph::Less,
-        '>' => Glyph::Greater,
-        '=' => Glyph::Equals,
-        ':' => Glyph::Colon,
-        '.' => Glyph::Dot,
-        '*' | '/' | '!' | '^' | '%' => Glyph::Mark,
-        '(' | ')' | '{' | '}' | '[' | ']' | ';' | ',' | '@' | '~' | '?' => Glyph::Single,
-        _ => Glyph::Other,
+        '+' => Some(Operator::Plus),
+        '-' => Some(Operator::Minus),
+        '&' => Some(Operator::And),
+        '|' => Some(Operator::Or),
+        '<' => Some(Operator::Less),
+        '>' => Some(Operator::Greater),
+        '=' | '*' | '/' | '!' | '^' | '%' => Some(Operator::OrEquals),
+        ':' => Some(Operator::Colon),
+        '.' => Some(Operator::Dot),
+        '(' | ')' | '{' | '}' | '[' | ']' | ';' | ',' | '@' | '~' | '?' => Some(Operator::Done),
+        _ => None,
     }
 }
 
-// The state behind a character of a kind.
-fn next_of(state: Operator, glyph: Glyph) -> Option<Operator>
-    ensures { result ≡ next_of state glyph }
+// The state behind a character.
+fn next_of(state: Operator, ch: char) -> Option<Operator>
+    ensures { result ≡ led (steps state) ch }
 {
-    match (state, glyph) {
-        (Operator::Start, Glyph::Plus) => Some(Operator::Plus),
-        (Operator::Start, Glyph::Minus) => Some(Operator::Minus),
-        (Operator::Start, Glyph::And) => Some(Operator::And),
-        (Operator::Start, Glyph::Or) => Some(Operator::Or),
-        (Operator::Start, Glyph::Less) => Some(Operator::Less),
-        (Operator::Start, Glyph::Greater) => Some(Operator::Greater),
-        (Operator::Start, Glyph::Equals | Glyph::Mark) => Some(Operator::OrEquals),
-        (Operator::Start, Glyph::Colon) => Some(Operator::Colon),
-        (Operator::Start, Glyph::Dot) => Some(Operator::Dot),
-        (Operator::Start, Glyph::Single) => Some(Operator::Done),
-        (Operator::Plus, Glyph::Plus | Glyph::Equals) => Some(Operator::Done),
-        (Operator::Minus, Glyph::Minus | Glyph::Greater | Glyph::Equals) => Some(Operator::Done),
-        (Operator::And, Glyph::And | Glyph::Equals) => Some(Operator::Done),
-        (Operator::Or, Glyph::Or | Glyph::Equals) => Some(Operator::Done),
-        (Operator::Less, Glyph::Less) => Some(Operator::OrEquals),
-        (Operator::Less, Glyph::Equals) => Some(Operator::Done),
-        (Operator::Greater, Glyph::Greater) => Some(Operator::TwoGreater),
-        (Operator::Greater, Glyph::Equals) => Some(Operator::Done),
-        (Operator::TwoGreater, Glyph::Greater) => Some(Operator::ThreeGreater),
-        (Operator::TwoGreater, Glyph::Equals) => Some(Operator::Done),
-        (Operator::ThreeGreater, Glyph::Equals) => Some(Operator::Done),
-        (Operator::Colon, Glyph::Colon) => Some(Operator::Done),
-        (Operator::Dot, Glyph::Dot) => Some(Operator::DotDot),
-        (Operator::DotDot, Glyph::Dot) => Some(Operator::Done),
-        (Operator::OrEquals, Glyph::Equals) => Some(Operator::Done),
+    match (state, ch) {
+        (Operator::Start, _) => begun(ch),
+        (Operator::Plus, '+' | '=') => Some(Operator::Done),
+        (Operator::Minus, '-' | '>' | '=') => Some(Operator::Done),
+        (Operator::And, '&' | '=') => Some(Operator::Done),
+        (Operator::Or, '|' | '=') => Some(Operator::Done),
+        (Operator::Less, '<') => Some(Operator::OrEquals),
+        (Operator::Less, '=') => Some(Operator::Done),
+        (Operator::Greater, '>') => Some(Operator::TwoGreater),
+        (Operator::Greater, '=') => Some(Operator::Done),
+        (Operator::TwoGreater, '>') => Some(Operator::ThreeGreater),
+        (Operator::TwoGreater, '=') => Some(Operator::Done),
+        (Operator::ThreeGreater, '=') => Some(Operator::Done),
+        (Operator::Colon, ':') => Some(Operator::Done),
+        (Operator::Dot, '.') => Some(Operator::DotDot),
+        (Operator::DotDot, '.') => Some(Operator::Done),
+        (Operator::OrEquals, '=') => Some(Operator::Done),
         _ => None,
     }
 }
@@ -112,7 +86,7 @@ impl Machine for Operator {
     ghost rest = { operator_rest };
 
     fn step(self, ch: char) -> Option<Self> {
-        next_of(self, glyph_of(ch))
+        next_of(self, ch)
     }
 
     fn accepts(self) -> bool {

@@ -1,6 +1,7 @@
 ghost use Rattle.std.specs.Prelude.{◌≡◌, ◌≤◌, ◌==◌, ◌&&◌, not, false, Ok, length, IfOk, IsFalse};
 ghost use Rattle.cq_munch.specs.Lexed.{InOrder, translation};
 ghost use Rattle.cq_lex_java.specs.Translation.{spanning, read_at, translated};
+ghost use Rattle.cq_lex_java.specs.Eligible.{EscapesGoByCount};
 ghost use Rattle.cq_lex_java.specs.Escapes.{IsStepWithin};
 
 use crate::escape::{Step, step_at};
@@ -108,3 +109,8 @@ pub(crate) fn unescaped(alloc: Global, units: Vec<Unit>) -> Result<Translated, M
     }
     Ok(Translated::Units(units))
 }
+
+/// A backslash begins a Unicode escape only where an even number of backslashes of the text stands directly before it.
+pub fn escapes_go_by_count()
+    ensures { EscapesGoByCount }
+{}

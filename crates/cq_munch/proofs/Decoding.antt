@@ -1,10 +1,10 @@
 -- A text's characters as units, one after the other.
-use Rattle.std.proofs.Common.{◌≡◌, ℕ, ◌+◌, ◌≤◌, List, [], ◌∷◌, ◌++◌, length, IsUtf8, refl, sym, ap, subst, ◌∙◌, append_assoc, arith, length-append}
-use Rattle.std.proofs.lemmas.List.{append-nil, nil_from_length}
-use Rattle.std.proofs.lemmas.Str.{chars-nil, chars_past_char, IsUtf8-past_char, length-encode, length-le-encodes, encodes-chars, len_utf8_bounds}
+use Rattle.std.proofs.Common.{◌≡◌, ℕ, ◌+◌, ◌<◌, ◌≤◌, List, [], ◌∷◌, ◌++◌, length, drop, get_or, IsUtf8, refl, sym, ap, subst, ◌∙◌, append_assoc, arith, length-append}
+use Rattle.std.proofs.lemmas.List.{append-nil, nil_from_length, drop_more, drop_all}
+use Rattle.std.proofs.lemmas.Str.{chars-nil, chars_past_char, IsUtf8-past_char, length-encode, length-le-encodes, encodes-chars, len_utf8_bounds, len_utf8_ascii, chars-IsAscii, IsUtf8-from_ascii}
 use Rattle.std.specs.Prelude.{encode_utf8}
 use Rattle.std.specs.Char.{len_utf8}
-use Rattle.std.specs.Str.{chars, encode_utf8_all}
+use Rattle.std.specs.Str.{chars, encode_utf8_all, IsAscii}
 use Rattle.cq_munch.specs.declared.unit.Unit.{Unit}
 use Rattle.cq_munch.specs.Lexed.{placed, units_of, InOrder}
 use Rattle.cq_munch.proofs.Orders.{InOrder-to}
@@ -68,3 +68,27 @@ pub decoded_pushed : (text : List ℕ) (units more : List Unit) (start size : �
 decoded_pushed text units more start size rest after c so_far is size_is more_is =
     subst (λ v. Decoded text v (start + size) after) (sym more_is)
     (subst (λ (v : ℕ). Decoded text (units ++ record { ch = c; start = start; len = v } ∷ []) (start + v) after) (sym size_is) (decoded_more text units start rest after c so_far is))
+
+-- a text of ASCII, of which each byte is a character
+module _ (bytes : List ℕ) (ascii : IsAscii bytes) where
+  pub ascii_none : placed 0 bytes ≡ units_of bytes
+  ascii_none = ap (placed 0) (sym (chars-IsAscii bytes ascii))
+
+  pub ascii_more : (units more : List Unit) (i : ℕ) → i < length bytes → units ++ placed i (drop i bytes) ≡ units_of bytes → more ≡ units ++ record { ch = get_or bytes i 0; start = i; len = 1 } ∷ []
+      → more ++ placed (i + 1) (drop (i + 1) bytes) ≡ units_of bytes
+  ascii_more units more i inside so_far is =
+      let c = get_or bytes i 0 in
+      let one : len_utf8 c ≡ 1 = len_utf8_ascii c (ascii i) in
+      ap (λ v. v ++ placed (i + 1) (drop (i + 1) bytes)) is
+      ∙ append_assoc units (record { ch = c; start = i; len = 1 } ∷ []) (placed (i + 1) (drop (i + 1) bytes))
+      ∙ ap (λ (n : ℕ). units ++ record { ch = c; start = i; len = n } ∷ placed (i + n) (drop (i + 1) bytes)) (sym one)
+      ∙ ap (λ v. units ++ placed i v) (sym (drop_more bytes i 0 inside)) ∙ so_far
+
+  pub ascii_all : (units : List Unit) (i : ℕ) → length bytes ≤ i → units ++ placed i (drop i bytes) ≡ units_of bytes → units ≡ units_of bytes
+  ascii_all units i end so_far = sym (append-nil units) ∙ ap (λ v. units ++ placed i v) (sym (drop_all i bytes end)) ∙ so_far
+
+  pub ascii_in_order : (units : List Unit) → units ≡ units_of bytes → InOrder 0 units (length bytes)
+  ascii_in_order units is = subst (λ v. InOrder 0 v (length bytes)) (sym is) (units_of-InOrder bytes (IsUtf8-from_ascii bytes ascii))
+
+  pub ascii_short : (units : List Unit) → units ≡ units_of bytes → length units ≤ length bytes
+  ascii_short units is = subst (λ v. length v ≤ length bytes) (sym is) (length-units_of bytes (IsUtf8-from_ascii bytes ascii))

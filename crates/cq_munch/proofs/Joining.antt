@@ -1,13 +1,37 @@
 -- The element of a table, from the longest spellings of its rows.
 use Rattle.std.proofs.Common.{subst, ap, ◌≡◌, ℕ, ◌<◌, ◌≤◌, Option, Some, None, Bool, true, false, cond, ltb, List, [], ◌∷◌, ◌++◌, ◌⊎◌, inl, inr, ⊎_elim, length, take, refl, sym, ◌∙◌, arith}
 use Rattle.std.specs.Prelude.{IfSome}
+use Rattle.std.proofs.lemmas.List.{take-map}
 use Rattle.std.proofs.lemmas.Bool.{ltb-true, ltb-false, MatchBool-at_true, MatchBool-at_false}
 use Rattle.cq_base.proofs.Bools.{MatchBool-from_true, MatchBool-from_false}
+use Rattle.cq_munch.specs.Characters.{characters}
 use Rattle.cq_munch.specs.Longest.{IsLongest, LongestAt}
+use Rattle.cq_munch.specs.declared.unit.Unit.{Unit}
 use Rattle.cq_munch.specs.declared.element.Found.{Found}
 use Rattle.cq_munch.specs.declared.element.Spell.{Spell}
 use Rattle.cq_munch.specs.Language.{Language, Takes}
 use Rattle.cq_munch.specs.Table.{Row, InTable, table, first, better, found_of}
+
+-- what one language takes, another takes that has it, and nothing longer
+module _ (lang other : Language) (at mode : ℕ) (text : List ℕ) (up : (spell : Spell) (s : List ℕ) → lang.tried at mode text spell s → other.tried at mode text spell s)
+    (same : (spell : Spell) (s : List ℕ) → other.mode_behind mode spell s ≡ lang.mode_behind mode spell s) where
+  pub carried_some : (f : Found) → ((spell : Spell) (m : ℕ) → f.units < m → m ≤ length text → other.tried at mode text spell (take m text) → lang.tried at mode text spell (take m text))
+      → Takes lang at mode text (Some f) → Takes other at mode text (Some f)
+  carried_some f down h = (
+    record {
+      some = h.0.some;
+      within = h.0.within;
+      spelled = (f.spell, up f.spell (take f.units text) h.1);
+      longest = λ m more within x. h.0.longest m more within (x.0, down x.0 m more within x.1);
+    },
+    up f.spell (take f.units text) h.1,
+    h.2 ∙ sym (same f.spell (take f.units text)),
+  )
+
+  pub carried : ((spell : Spell) (m : ℕ) → 0 < m → m ≤ length text → other.tried at mode text spell (take m text) → lang.tried at mode text spell (take m text)) → (r : Option Found)
+      → Takes lang at mode text r → Takes other at mode text r
+  carried down None h = λ m some within x. h m some within (x.0, down x.0 m some within x.1)
+  carried down (Some f) h = carried_some f (λ spell m more within x. down spell m (omega arith) within x) h
 
 module _ (at mode : ℕ) (text : List ℕ) where
   pub no_rows : Takes (table []) at mode text None
@@ -34,16 +58,9 @@ module _ (at mode : ℕ) (text : List ℕ) where
     -- another row's
     from_rows : (f : Found) → Takes (table rows) at mode text (Some f) → ((m : ℕ) → f.units < m → m ≤ length text → row.set (take m text) → ⊥)
         → Takes (table (row ∷ rows)) at mode text (Some f)
-    from_rows f h none = (
-      record {
-        some = h.0.some;
-        within = h.0.within;
-        spelled = (f.spell, inr h.1);
-        longest = λ m more within k. ⊎_elim (λ own. none m more within own.1) (λ other. h.0.longest m more within (k.0, other)) k.1;
-      },
-      inr h.1,
-      h.2,
-    )
+    from_rows f h none =
+        carried_some (table rows) (table (row ∷ rows)) at mode text (λ spell s x. inr x) (λ spell s. refl) f
+        (λ spell m more within x. ⊎_elim (λ own. absurd (none m more within own.1)) (λ other. other) x) h
 
     by_length : (n : ℕ) (f : Found) (b : Bool) → ltb n f.units ≡ b → IsLongest row.set text n → Takes (table rows) at mode text (Some f)
         → Takes (table (row ∷ rows)) at mode text (cond b (Some f) (Some (record { spell = row.spell; units = n; mode = mode })))
@@ -63,30 +80,14 @@ module _ (at mode : ℕ) (text : List ℕ) where
 -- where the test passes, the first rows alone
 module _ (test : ℕ → ℕ → List ℕ → Bool) (rows : List Row) (lang : Language) (at mode : ℕ) (text : List ℕ) where
   pub takes_first : test at mode text ≡ true → (r : Option Found) → Takes (table rows) at mode text r → ((spell : Spell) (s : List ℕ) → lang.mode_behind mode spell s ≡ mode) → Takes (first test rows lang) at mode text r
-  takes_first h None taken same = λ m some within x. taken m some within (x.0, MatchBool-at_true (InTable rows x.0 (take m text)) (lang.tried at mode text x.0 (take m text)) h x.1)
-  takes_first h (Some f) taken same = (
-    record {
-      some = taken.0.some;
-      within = taken.0.within;
-      spelled = (f.spell, MatchBool-from_true (test at mode text) (InTable rows f.spell (take f.units text)) (lang.tried at mode text f.spell (take f.units text)) h taken.1);
-      longest = λ m more within x. taken.0.longest m more within (x.0, MatchBool-at_true (InTable rows x.0 (take m text)) (lang.tried at mode text x.0 (take m text)) h x.1);
-    },
-    MatchBool-from_true (test at mode text) (InTable rows f.spell (take f.units text)) (lang.tried at mode text f.spell (take f.units text)) h taken.1,
-    taken.2 ∙ sym (same f.spell (take f.units text)),
-  )
+  takes_first h r taken same =
+      carried (table rows) (first test rows lang) at mode text (λ spell s x. MatchBool-from_true (test at mode text) (InTable rows spell s) (lang.tried at mode text spell s) h x) same
+      (λ spell m some within x. MatchBool-at_true (InTable rows spell (take m text)) (lang.tried at mode text spell (take m text)) h x) r taken
 
   pub takes_rest : test at mode text ≡ false → (r : Option Found) → Takes lang at mode text r → Takes (first test rows lang) at mode text r
-  takes_rest h None taken = λ m some within x. taken m some within (x.0, MatchBool-at_false (InTable rows x.0 (take m text)) (lang.tried at mode text x.0 (take m text)) h x.1)
-  takes_rest h (Some f) taken = (
-    record {
-      some = taken.0.some;
-      within = taken.0.within;
-      spelled = (f.spell, MatchBool-from_false (test at mode text) (InTable rows f.spell (take f.units text)) (lang.tried at mode text f.spell (take f.units text)) h taken.1);
-      longest = λ m more within x. taken.0.longest m more within (x.0, MatchBool-at_false (InTable rows x.0 (take m text)) (lang.tried at mode text x.0 (take m text)) h x.1);
-    },
-    MatchBool-from_false (test at mode text) (InTable rows f.spell (take f.units text)) (lang.tried at mode text f.spell (take f.units text)) h taken.1,
-    taken.2,
-  )
+  takes_rest h r taken =
+      carried lang (first test rows lang) at mode text (λ spell s x. MatchBool-from_false (test at mode text) (InTable rows spell s) (lang.tried at mode text spell s) h x) (λ spell s. refl)
+      (λ spell m some within x. MatchBool-at_false (InTable rows spell (take m text)) (lang.tried at mode text spell (take m text)) h x) r taken
 
 -- two tables, one behind the other
 in_append : (xs ys : List Row) (spell : Spell) (s : List ℕ) → InTable xs spell s ⊎ InTable ys spell s → InTable (xs ++ ys) spell s
@@ -101,28 +102,14 @@ append_in (x ∷ xs) ys spell s h =
 
 module _ (at mode : ℕ) (text : List ℕ) (xs ys : List Row) where
   left : (f : Found) → Takes (table xs) at mode text (Some f) → ((m : ℕ) → f.units < m → m ≤ length text → (spell : Spell) → InTable ys spell (take m text) → ⊥) → Takes (table (xs ++ ys)) at mode text (Some f)
-  left f h none = (
-    record {
-      some = h.0.some;
-      within = h.0.within;
-      spelled = (f.spell, in_append xs ys f.spell _ (inl h.1));
-      longest = λ m more within k. ⊎_elim (λ a. h.0.longest m more within (k.0, a)) (λ b. none m more within k.0 b) (append_in xs ys k.0 _ k.1);
-    },
-    in_append xs ys f.spell _ (inl h.1),
-    h.2,
-  )
+  left f h none =
+      carried_some (table xs) (table (xs ++ ys)) at mode text (λ spell s x. in_append xs ys spell s (inl x)) (λ spell s. refl) f
+      (λ spell m more within x. ⊎_elim (λ a. a) (λ b. absurd (none m more within spell b)) (append_in xs ys spell (take m text) x)) h
 
   right : (f : Found) → Takes (table ys) at mode text (Some f) → ((m : ℕ) → f.units < m → m ≤ length text → (spell : Spell) → InTable xs spell (take m text) → ⊥) → Takes (table (xs ++ ys)) at mode text (Some f)
-  right f h none = (
-    record {
-      some = h.0.some;
-      within = h.0.within;
-      spelled = (f.spell, in_append xs ys f.spell _ (inr h.1));
-      longest = λ m more within k. ⊎_elim (λ a. none m more within k.0 a) (λ b. h.0.longest m more within (k.0, b)) (append_in xs ys k.0 _ k.1);
-    },
-    in_append xs ys f.spell _ (inr h.1),
-    h.2,
-  )
+  right f h none =
+      carried_some (table ys) (table (xs ++ ys)) at mode text (λ spell s x. in_append xs ys spell s (inr x)) (λ spell s. refl) f
+      (λ spell m more within x. ⊎_elim (λ a. absurd (none m more within spell a)) (λ b. b) (append_in xs ys spell (take m text) x)) h
 
   by_units : (f g : Found) (b : Bool) → ltb f.units g.units ≡ b → Takes (table xs) at mode text (Some f) → Takes (table ys) at mode text (Some g) → Takes (table (xs ++ ys)) at mode text (cond b (Some g) (Some f))
   by_units f g true is h k =
@@ -145,17 +132,7 @@ row_more at mode text row rows len own r all own_is all_is h k =
 -- fewer rows, where the others have no spelling at the front
 pub narrowed : (at mode : ℕ) (text : List ℕ) (rows few : List Row) → ((spell : Spell) (m : ℕ) → 0 < m → m ≤ length text → InTable rows spell (take m text) → InTable few spell (take m text))
     → ((spell : Spell) (s : List ℕ) → InTable few spell s → InTable rows spell s) → (r : Option Found) → Takes (table few) at mode text r → Takes (table rows) at mode text r
-narrowed at mode text rows few down up None h = λ m some within x. h m some within (x.0, down x.0 m some within x.1)
-narrowed at mode text rows few down up (Some f) h = (
-  record {
-    some = h.0.some;
-    within = h.0.within;
-    spelled = (f.spell, up f.spell (take f.units text) h.1);
-    longest = λ m more within x. h.0.longest m more within (x.0, down x.0 m (let some = h.0.some in omega arith) within x.1);
-  },
-  up f.spell (take f.units text) h.1,
-  h.2,
-)
+narrowed at mode text rows few down up r h = carried (table few) (table rows) at mode text up (λ spell s. refl) down r h
 
 better_none : (a : Option Found) → better a None ≡ a
 better_none None = refl
@@ -181,6 +158,13 @@ module _ (rows : List Row) (set : List ℕ → Type 0) (in_set : (spell : Spell)
     row,
     refl,
   )
+
+-- the same of units, of which the row's kind was told
+pub named : (rows : List Row) (set : List ℕ → Type 0) → ((spell : Spell) (s : List ℕ) → InTable rows spell s → set s) → (at mode : ℕ) (units : List Unit) (spell : Spell) (len : ℕ) (own : Option Found) → own ≡ found_of spell mode (Some len)
+    → IsLongest set (characters units) len → InTable rows spell (characters (take len units)) → Takes (table rows) at mode (characters units) own
+named rows set in_set at mode units spell len own is longest row =
+    subst (Takes (table rows) at mode (characters units)) (sym is)
+    (one_in_set rows set in_set at mode (characters units) spell len longest (subst (InTable rows spell) (sym (take-map (λ (u : Unit). u.ch) len units)) row))
 
 -- an element of a language that keeps the mode keeps it
 pub mode_kept : (lang : Language) (at mode : ℕ) (text : List ℕ) (r : Option Found) → ((spell : Spell) (s : List ℕ) → lang.mode_behind mode spell s ≡ mode) → mode ≤ 3 → Takes lang at mode text r → IfSome r (λ f. f.mode ≤ 3)

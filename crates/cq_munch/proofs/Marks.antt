@@ -1,32 +1,17 @@
 -- A byte order mark, and places where none is.
-use Rattle.std.proofs.Common.{◌≡◌, ℕ, zero, suc, Option, Some, None, true, false, List, [], ◌∷◌, length, take, refl, sym, ap, ◌∙◌, arith, length-take-le}
+use Rattle.std.proofs.Common.{◌≡◌, ℕ, zero, suc, Option, Some, true, false, List, [], ◌∷◌, length, take, refl, sym, ap, ◌∙◌, arith, length-take-le}
 use Rattle.std.proofs.lemmas.Bool.{eqb-true, MatchBool-at_true, MatchBool-at_false}
 use Rattle.cq_base.proofs.Bools.{MatchBool-from_true, MatchBool-from_false}
 use Rattle.cq_munch.specs.declared.element.Found.{Found}
-use Rattle.cq_munch.specs.declared.element.Spell.{Spell}
 use Rattle.cq_munch.specs.declared.element.Spell.TheVariants.{Blank}
-use Rattle.cq_munch.specs.Language.{Language, Takes, Allows, marked, has_mark}
+use Rattle.cq_munch.specs.Language.{Language, Takes, marked, has_mark}
+use Rattle.cq_munch.proofs.Joining.{carried}
 
 -- where there is no mark, the language's own rows are tried
-module _ (lang : Language) (at mode : ℕ) (text : List ℕ) (h : has_mark at text ≡ false) where
-  own : (s : List ℕ) → Allows (marked lang) at mode text s → Allows lang at mode text s
-  own s row = (row.0, MatchBool-at_false ((row.0 ≡ Blank) × (s ≡ 65279 ∷ [])) (lang.tried at mode text row.0 s) h row.1)
-
-  tried : (spell : Spell) (s : List ℕ) → lang.tried at mode text spell s → (marked lang).tried at mode text spell s
-  tried spell s row = MatchBool-from_false (has_mark at text) ((spell ≡ Blank) × (s ≡ 65279 ∷ [])) (lang.tried at mode text spell s) h row
-
-  pub takes_unmarked : (r : Option Found) → Takes lang at mode text r → Takes (marked lang) at mode text r
-  takes_unmarked None taken = λ m some within spelled. taken m some within (own _ spelled)
-  takes_unmarked (Some f) taken = (
-    record {
-      some = taken.0.some;
-      within = taken.0.within;
-      spelled = (f.spell, tried f.spell _ taken.1);
-      longest = λ m more within spelled. taken.0.longest m more within (own _ spelled);
-    },
-    tried f.spell _ taken.1,
-    taken.2,
-  )
+pub takes_unmarked : (lang : Language) (at mode : ℕ) (text : List ℕ) → has_mark at text ≡ false → (r : Option Found) → Takes lang at mode text r → Takes (marked lang) at mode text r
+takes_unmarked lang at mode text h r taken =
+    carried lang (marked lang) at mode text (λ spell s x. MatchBool-from_false (has_mark at text) ((spell ≡ Blank) × (s ≡ 65279 ∷ [])) (lang.tried at mode text spell s) h x) (λ spell s. refl)
+    (λ spell m some within x. MatchBool-at_false ((spell ≡ Blank) × (take m text ≡ 65279 ∷ [])) (lang.tried at mode text spell (take m text)) h x) r taken
 
 -- the mark itself
 pub takes_mark : (lang : Language) (mode : ℕ) (text : List ℕ) → has_mark 0 text ≡ true → lang.mode_behind mode Blank (65279 ∷ []) ≡ mode

@@ -1,15 +1,17 @@
 -- Words in lists by their length.
-use Rattle.std.proofs.Common.{◌≡◌, ℕ, zero, suc, ◌↔◌, Bool, true, false, ◌||◌, Bor, List, [], ◌∷◌, length, map, get_or, bytes_eq, Decides, refl, sym, ap, ◌∙◌}
+use Rattle.std.proofs.Common.{◌≡◌, ℕ, zero, suc, ◌≤◌, ◌↔◌, Bool, true, false, ◌||◌, Bor, List, [], ◌∷◌, length, map, get_or, bytes_eq, Decides, refl, sym, ap, ◌∙◌, arith}
 use Rattle.std.specs.List.{list_all, list_any}
 use Rattle.std.specs.Slice.{IsItemAt}
 use Rattle.std.specs.Prelude.{Some}
 use Rattle.std.proofs.lemmas.Bool.{and_parts}
 use Rattle.std.proofs.lemmas.Bool.Decides.{Decides-or, Decides-like}
-use Rattle.std.proofs.lemmas.List.{get_or-map}
+use Rattle.std.proofs.lemmas.List.{get_or-map, length-map}
 use Rattle.std.proofs.lemmas.Slice.Eq.{bytes_eq-Decides}
 use Rattle.cq_munch.specs.ByLength.{words_of_length}
+use Rattle.cq_munch.specs.Characters.{characters, AreAscii}
 use Rattle.cq_munch.specs.Longest.{IsAmong}
-use Rattle.cq_munch.proofs.WordLists.{among_passes}
+use Rattle.cq_munch.specs.declared.unit.Unit.{Unit}
+use Rattle.cq_munch.proofs.WordLists.{among_passes, short_word, among_short}
 
 -- a test that computes
 abbrev pub has : List (List ℕ) → List ℕ → Bool
@@ -51,3 +53,9 @@ by_length_among words rows all each s = (
   λ h. (has-among words s).0 (among_passes (get_or rows (length s) []) (has words) s (at_each (has words) rows (length s) all) h),
   λ among. (has-among (get_or rows (length s) []) s).0 (among_passes words (λ v. has (get_or rows (length v) []) v) s each among),
 )
+
+-- the characters of a word that is among some fit where the longest of these does
+pub fits_room : (ws : List (List ℕ)) (most : ℕ) → list_all (short_word most) ws ≡ true → (units : List Unit) → IsAmong ws (characters units) → (length units ≤ most) × AreAscii units
+fits_room ws most all units among =
+    let short = among_short ws most all (characters units) among in
+    let many = length-map units (λ (u : Unit). u.ch) in (omega (arith, short.0), short.1)

@@ -1,12 +1,12 @@
 -- A scan by a table: its entries are tested at one character of each class, by computing.
-use Rattle.std.proofs.Common.{◌≡◌, ℕ, zero, suc, ◌<◌, ◌≤◌, Option, Some, None, Bool, true, false, cond, ◌&&◌, ◌||◌, List, [], ◌∷◌, ◌++◌, ◌↔◌, inl, ⊎_elim, refl, sym, ap, subst, ◌∙◌, arith, length, get_or}
+use Rattle.std.proofs.Common.{◌≡◌, ℕ, zero, suc, ◌<◌, ◌≤◌, Option, Some, None, Bool, true, false, cond, ◌&&◌, ◌||◌, List, [], ◌∷◌, ◌++◌, ◌↔◌, inl, ⊎_elim, refl, sym, ap, subst, ◌∙◌, arith}
 use Rattle.std.specs.Bool.{beq}
 use Rattle.std.specs.List.{list_all}
 use Rattle.std.specs.Option.{option_map, IfNone, IfSome}
 use Rattle.std.proofs.lemmas.Bool.{ltb-true, cases_lt, and_parts, and_from}
 use Rattle.std.proofs.lemmas.Grind.{common_steps}
 use Rattle.cq_munch.specs.Pattern.{Range, in_range, in_ranges, Pattern, never, empty, among, except, ◌▸◌, ◌∣◌, many, Spells}
-use Rattle.cq_munch.specs.Behind.{takes_empty, SpellsAny, joined, joined_each, behind, behind_each, has, distinct, after, any_takes_empty, agree, agree_each, entry_ok, class_in, ascii_ranges, ascii_rows, ascii, each_below}
+use Rattle.cq_munch.specs.Behind.{takes_empty, SpellsAny, joined, joined_each, behind, behind_each, has, distinct, after, any_takes_empty, agree, agree_each, entry_ok, class_in, led, ascii_ranges, ascii_rows, ascii, each_below}
 use Rattle.cq_munch.specs.Longest.{LongestAt}
 use Rattle.cq_munch.proofs.Front.{LongestAt-same}
 use Rattle.cq_munch.proofs.Steps.{beq-is, beq-same, any_takes_empty-if, any_takes_empty-then, covers-spells, behind_each-if, behind_each-then, agree-behind_each}
@@ -104,6 +104,12 @@ class_past (row ∷ rows) other c h k =
     let both = and_parts _ _ h in
     ap (λ v. cond v row.1 (class_in rows other c)) (in_ranges_past row.0 c both.0 k) ∙ class_past rows other c both.1 k
 
+pub led_past : {S : Type 0} (rows : List (List Range × S)) (c : ℕ) → ascii_rows rows ≡ true → 128 ≤ c → led rows c ≡ None
+led_past [] c h k = refl
+led_past (row ∷ rows) c h k =
+    let both = and_parts _ _ h in
+    ap (λ v. cond v (Some row.1) (led rows c)) (in_ranges_past row.0 c both.0 k) ∙ led_past rows c both.1 k
+
 pub agree_past : (p : Pattern) (c d : ℕ) → ascii p ≡ true → 128 ≤ c → 128 ≤ d → agree c d p ≡ true
 agree_past never c d h k l = refl
 agree_past empty c d h k l = refl
@@ -115,17 +121,26 @@ agree_past (p ∣ q) c d h k l =
     let both = and_parts _ _ h in and_from _ _ (agree_past p c d both.0 k l) (agree_past q c d both.1 k l)
 agree_past (many p) c d h k l = agree_past p c d h k l
 
--- a test of all holds at each place
-pub all_at : {K : Type 0} (test : K → Bool) (ks : List K) → list_all test ks ≡ true → (i : ℕ) (d : K) → i < length ks → test (get_or ks i d) ≡ true
-all_at test [] h i d l = absurd (omega arith)
-all_at test (k ∷ ks) h zero d l = (and_parts _ _ h).0
-all_at test (k ∷ ks) h (suc i) d l = all_at test ks (and_parts _ _ h).1 i d (omega arith)
+-- a test of all classes holds of each character's
+chosen_class : {K : Type 0} (test : K → Bool) (b : Bool) (k l : K) → test k ≡ true → test l ≡ true → test (cond b k l) ≡ true
+chosen_class test true k l h i = h
+chosen_class test false k l h i = i
+
+pub each_class : {K : Type 0} (rows : List (List Range × K)) (other : K) (test : K → Bool) → (test other && list_all (λ (row : List Range × K). test row.1) rows) ≡ true → (c : ℕ) → test (class_in rows other c) ≡ true
+each_class [] other test h c = (and_parts _ _ h).0
+each_class (row ∷ rows) other test h c =
+    let both = and_parts (test other) _ h in
+    let here = and_parts (test row.1) _ both.1 in
+    chosen_class test (in_ranges row.0 c) row.1 (class_in rows other c) here.0 (each_class rows other test (and_from _ _ both.0 here.1) c)
 
 -- A scan whose states were tested at one character of each kind: what its two functions say.
-module _ {S K : Type 0} (rest_of : S → List Pattern) (may_end : S → Bool) (sample : K → ℕ) (next : S → K → Option S) (kinds : List K) where
+module _ {S K : Type 0} (rest_of : S → List Pattern) (may_end : S → Bool) (sample : K → ℕ) (next : S → K → Option S) (rows : List (List Range × K)) (other : K) where
+  abbrev pub step_ok : S → K → Bool
+  step_ok s k = entry_ok (rest_of s) (sample k) (option_map rest_of (next s k))
+
   -- the test of a state
   unfoldable pub state_ok : S → Bool
-  state_ok s = list_all (λ k. entry_ok (rest_of s) (sample k) (option_map rest_of (next s k))) kinds && beq (may_end s) (any_takes_empty (rest_of s))
+  state_ok s = (step_ok s other && list_all (λ (row : List Range × K). step_ok s row.1) rows) && beq (may_end s) (any_takes_empty (rest_of s))
 
   module _ (right : (s : S) → state_ok s ≡ true) where
     pub ends : (s : S) (b : Bool) → b ≡ may_end s → (b ≡ true) ↔ SpellsAny (rest_of s) []
@@ -134,23 +149,22 @@ module _ {S K : Type 0} (rest_of : S → List Pattern) (may_end : S → Bool) (s
         let same = is ∙ beq-is _ _ (and_parts _ _ (right s)).1 in
         (λ h. any_takes_empty-then (rest_of s) (sym same ∙ h), λ h. same ∙ any_takes_empty-if (rest_of s) h)
 
-    module _ (kind_of : ℕ → K) (agrees : (s : S) (c : ℕ) → agree_each c (sample (kind_of c)) (rest_of s) ≡ true)
-        (each_kind : (test : K → Bool) → list_all test kinds ≡ true → (k : K) → test k ≡ true) where
-      step_right : (s : S) (k : K) → entry_ok (rest_of s) (sample k) (option_map rest_of (next s k)) ≡ true
+    module _ (agrees : (s : S) (c : ℕ) → agree_each c (sample (class_in rows other c)) (rest_of s) ≡ true) where
+      step_right : (s : S) (c : ℕ) → step_ok s (class_in rows other c) ≡ true
       unfolding state_ok
-      step_right s k = each_kind (λ v. entry_ok (rest_of s) (sample v) (option_map rest_of (next s v))) (and_parts _ _ (right s)).0 k
+      step_right s c = each_class rows other (step_ok s) (and_parts _ _ (right s)).0 c
 
-      pub step_none : (s : S) (c : ℕ) (r : Option S) → next s (kind_of c) ≡ r → IfNone r ((t : List ℕ) → SpellsAny (rest_of s) (c ∷ t) → ⊥)
+      pub step_none : (s : S) (c : ℕ) (r : Option S) → next s (class_in rows other c) ≡ r → IfNone r ((t : List ℕ) → SpellsAny (rest_of s) (c ∷ t) → ⊥)
       step_none s c (Some n) is = tt
       step_none s c None is =
-          entry_none (rest_of s) c (sample (kind_of c)) (agrees s c)
-          (subst (λ v. entry_ok (rest_of s) (sample (kind_of c)) (option_map rest_of v) ≡ true) is (step_right s (kind_of c)))
+          let kind = class_in rows other c in
+          entry_none (rest_of s) c (sample kind) (agrees s c) (subst (λ v. entry_ok (rest_of s) (sample kind) (option_map rest_of v) ≡ true) is (step_right s c))
 
-      pub step_next : (s : S) (c : ℕ) (r : Option S) → next s (kind_of c) ≡ r → IfSome r (λ n. (t : List ℕ) → SpellsAny (rest_of s) (c ∷ t) ↔ SpellsAny (rest_of n) t)
+      pub step_next : (s : S) (c : ℕ) (r : Option S) → next s (class_in rows other c) ≡ r → IfSome r (λ n. (t : List ℕ) → SpellsAny (rest_of s) (c ∷ t) ↔ SpellsAny (rest_of n) t)
       step_next s c None is = tt
       step_next s c (Some n) is =
-          entry_some (rest_of s) (rest_of n) c (sample (kind_of c)) (agrees s c)
-          (subst (λ v. entry_ok (rest_of s) (sample (kind_of c)) (option_map rest_of v) ≡ true) is (step_right s (kind_of c)))
+          let kind = class_in rows other c in
+          entry_some (rest_of s) (rest_of n) c (sample kind) (agrees s c) (subst (λ v. entry_ok (rest_of s) (sample kind) (option_map rest_of v) ≡ true) is (step_right s c))
 
 -- the test of the classes, below 128 by computing and past it by the ranges' ends
 pub agrees_everywhere : {K : Type 0} (p : Pattern) (rows : List (List Range × K)) (other : K) (sample : K → ℕ)

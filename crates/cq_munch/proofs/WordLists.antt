@@ -1,16 +1,16 @@
 -- A scan of a list of words: what may follow a character is again a list of words, and that it is the list of the next
 -- state is tested by computing.
-use Rattle.std.proofs.Common.{◌≡◌, ◌⊎◌, ℕ, zero, suc, ◌<◌, ◌≤◌, Option, Some, None, Bool, true, false, ◌&&◌, ◌||◌, ◌==◌, not, nat_lt, nat_le, All, List, [], ◌∷◌, ◌↔◌, length, get_or, drop, refl, sym, subst, ap, ap₂, ◌∙◌, inl, inr, ⊎_elim, arith}
+use Rattle.std.proofs.Common.{◌≡◌, ◌⊎◌, ℕ, zero, suc, ◌<◌, ◌≤◌, Option, Some, None, Bool, true, false, ◌&&◌, ◌||◌, ◌==◌, nat_lt, nat_le, All, List, [], ◌∷◌, ◌↔◌, length, get_or, drop, refl, sym, subst, ap, ap₂, ◌∙◌, inl, inr, ⊎_elim, arith}
 use Rattle.std.proofs.lemmas.Bool.{ltb-true, leb-true, eqb-true, eq-eqb, ne_eqb, cases_lt, and_parts, or_cases}
 use Rattle.std.specs.Bool.{beq}
 use Rattle.std.specs.List.{list_all, AllByRecursion}
 use Rattle.std.specs.Prelude.{IsTrue}
-use Rattle.std.specs.Option.{IfNone, IfSome, is_some}
-use Rattle.cq_munch.specs.Behind.{class_in, ascii_rows, each_below}
+use Rattle.std.specs.Option.{IfNone, IfSome}
+use Rattle.cq_munch.specs.Behind.{led, ascii_rows, each_below}
 use Rattle.cq_munch.specs.Pattern.{Range}
 use Rattle.cq_munch.specs.Longest.{IsAmong}
 use Rattle.cq_munch.proofs.Steps.{beq-is}
-use Rattle.cq_munch.proofs.Tables.{below_each, class_past}
+use Rattle.cq_munch.proofs.Tables.{below_each, led_past}
 
 -- the words that begin with a character, without it
 unfoldable pub put : Bool → List ℕ → List (List ℕ) → List (List ℕ)
@@ -122,41 +122,34 @@ unfoldable pub words_after : {S : Type 0} → (S → List (List ℕ)) → Option
 words_after words_of None = []
 words_after words_of (Some s) = words_of s
 
--- A machine whose states are lists of words, by a table of the characters of ASCII that it tells apart: each state is
--- tested at each of these; past them no state goes on, and no word has one.
-module _ {S G : Type 0} (words_of : S → List (List ℕ)) (may_end : S → Bool) (rows : List (List Range × G)) (other : G) (next_of : S → G → Option S) where
-  abbrev pub next_at : S → ℕ → Option S
-  next_at s c = next_of s (class_in rows other c)
-
+-- A machine whose states are lists of words, by a table of the characters that lead on from each: each state is tested at
+-- each character of ASCII; past them no state goes on, and no word has one.
+module _ {S : Type 0} (words_of : S → List (List ℕ)) (may_end : S → Bool) (steps : S → List (List Range × S)) where
   unfoldable pub word_step_ok : S → ℕ → Bool
   word_step_ok s c =
-      includes (behind_words c (words_of s)) (words_after words_of (next_at s c)) && includes (words_after words_of (next_at s c)) (behind_words c (words_of s))
+      includes (behind_words c (words_of s)) (words_after words_of (led (steps s) c)) && includes (words_after words_of (led (steps s) c)) (behind_words c (words_of s))
 
   -- the test of a state
   unfoldable pub word_state_ok : S → Bool
-  word_state_ok s = each_below 128 (word_step_ok s) && (heads_below (words_of s) && (not (is_some (next_of s other)) && beq (may_end s) (has_word [] (words_of s))))
+  word_state_ok s = each_below 128 (word_step_ok s) && (heads_below (words_of s) && (ascii_rows (steps s) && beq (may_end s) (has_word [] (words_of s))))
 
-  module _ (right : (s : S) → word_state_ok s ≡ true) (rows_low : ascii_rows rows ≡ true) where
-    low_step : (s : S) (c : ℕ) (t : List ℕ) → word_step_ok s c ≡ true → IsAmong (words_of s) (c ∷ t) ↔ IsAmong (words_after words_of (next_at s c)) t
+  module _ (right : (s : S) → word_state_ok s ≡ true) where
+    low_step : (s : S) (c : ℕ) (t : List ℕ) → word_step_ok s c ≡ true → IsAmong (words_of s) (c ∷ t) ↔ IsAmong (words_after words_of (led (steps s) c)) t
     unfolding word_step_ok
     low_step s c t ok =
         let own = behind_words c (words_of s) in
-        let behind = words_after words_of (next_at s c) in
+        let behind = words_after words_of (led (steps s) c) in
         let both = and_parts (includes own behind) (includes behind own) ok in (
           λ h. includes-among own behind t both.0 (behind_if (words_of s) c t h),
           λ h. behind_then (words_of s) c t (includes-among behind own t both.1 h),
         )
 
-    nothing : (r : Option S) → not (is_some r) ≡ true → r ≡ None
-    nothing None h = refl
-    nothing (Some s) h = absurd (cc)
-
-    stops : (s : S) (c : ℕ) → 128 ≤ c → next_at s c ≡ None
+    stops : (s : S) (c : ℕ) → 128 ≤ c → led (steps s) c ≡ None
     unfolding word_state_ok
     stops s c high =
-        ap (next_of s) (class_past rows other c rows_low high) ∙ nothing (next_of s other) (and_parts _ _ (and_parts (heads_below (words_of s)) _ (and_parts (each_below 128 (word_step_ok s)) _ (right s)).1).1).0
+        led_past (steps s) c (and_parts _ _ (and_parts (heads_below (words_of s)) _ (and_parts (each_below 128 (word_step_ok s)) _ (right s)).1).1).0 high
 
-    high_step : (s : S) (c : ℕ) (t : List ℕ) → 128 ≤ c → IsAmong (words_of s) (c ∷ t) ↔ IsAmong (words_after words_of (next_at s c)) t
+    high_step : (s : S) (c : ℕ) (t : List ℕ) → 128 ≤ c → IsAmong (words_of s) (c ∷ t) ↔ IsAmong (words_after words_of (led (steps s) c)) t
     unfolding words_after word_state_ok
     high_step s c t high = (
       λ h.
@@ -165,17 +158,17 @@ module _ {S G : Type 0} (words_of : S → List (List ℕ)) (may_end : S → Bool
       λ h. absurd (subst (λ v. IsAmong (words_after words_of v) t) (stops s c high) h),
     )
 
-    words_behind : (s : S) (c : ℕ) (t : List ℕ) → IsAmong (words_of s) (c ∷ t) ↔ IsAmong (words_after words_of (next_at s c)) t
+    words_behind : (s : S) (c : ℕ) (t : List ℕ) → IsAmong (words_of s) (c ∷ t) ↔ IsAmong (words_after words_of (led (steps s) c)) t
     unfolding word_state_ok
     words_behind s c t =
         ⊎_elim (λ low. low_step s c t (below_each 128 (word_step_ok s) (and_parts _ _ (right s)).0 c low)) (λ high. high_step s c t high) (cases_lt c 128)
 
-    pub word_none : (s : S) (c : ℕ) (r : Option S) → r ≡ next_at s c → IfNone r ((t : List ℕ) → IsAmong (words_of s) (c ∷ t) → ⊥)
+    pub word_none : (s : S) (c : ℕ) (r : Option S) → r ≡ led (steps s) c → IfNone r ((t : List ℕ) → IsAmong (words_of s) (c ∷ t) → ⊥)
     unfolding words_after
     word_none s c None is = λ t h. subst (λ v. IsAmong (words_after words_of v) t) (sym is) ((words_behind s c t).0 h)
     word_none s c (Some n) is = tt
 
-    pub word_next : (s : S) (c : ℕ) (r : Option S) → r ≡ next_at s c → IfSome r (λ n. (t : List ℕ) → IsAmong (words_of s) (c ∷ t) ↔ IsAmong (words_of n) t)
+    pub word_next : (s : S) (c : ℕ) (r : Option S) → r ≡ led (steps s) c → IfSome r (λ n. (t : List ℕ) → IsAmong (words_of s) (c ∷ t) ↔ IsAmong (words_of n) t)
     unfolding words_after
     word_next s c None is = tt
     word_next s c (Some n) is = λ t. subst (λ v. IsAmong (words_of s) (c ∷ t) ↔ IsAmong (words_after words_of v) t) (sym is) (words_behind s c t)

@@ -1,4 +1,5 @@
 ghost use Rattle.std.specs.Prelude.{◌≡◌, ◌≤◌, length, IfOk, IsUtf8};
+ghost use Rattle.std.specs.Str.{IsAscii};
 ghost use Rattle.cq_munch.specs.Lexed.{units_of, InOrder};
 
 use crate::unit::Unit;
@@ -14,7 +15,30 @@ pub fn plain_units(alloc: Global, text: &Text) -> Result<Vec<Unit>, Memory>
     ensures in_order { IfOk result (λ v. InOrder 0 v.items (length text.now)) }
     ensures short { IfOk result (λ v. length v.items ≤ length text.now) }
 {
-    of_str(alloc, str::from_utf8(text.as_bytes()).unwrap())
+    let bytes = text.as_bytes();
+    if bytes.is_ascii() {
+        return of_ascii(alloc, bytes);
+    }
+    of_str(alloc, str::from_utf8(bytes).unwrap())
+}
+
+// The units of a text of ASCII, of which each byte is a character.
+fn of_ascii(alloc: Global, bytes: &[u8]) -> Result<Vec<Unit>, Memory>
+    requires ascii { IsAscii bytes.now }
+    requires short { length bytes.now ≤ 1048576 }
+    ensures units { IfOk result (λ v. v.items ≡ units_of bytes.now) }
+    ensures in_order { IfOk result (λ v. InOrder 0 v.items (length bytes.now)) }
+    ensures short { IfOk result (λ v. length v.items ≤ length bytes.now) }
+{
+    let mut units = Vec::with_capacity(alloc, bytes.len())?;
+    for (i, byte) in bytes.iter().enumerate() {
+        units.push_reserved(Unit {
+            ch: char::from(*byte),
+            start: i as u32,
+            len: 1,
+        });
+    }
+    Ok(units)
 }
 
 fn of_str(alloc: Global, text: &str) -> Result<Vec<Unit>, Memory>

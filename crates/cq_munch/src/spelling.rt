@@ -11,6 +11,20 @@ use std::alloc::Global;
 fn of_units(alloc: Global, units: &[Unit]) -> Result<Text, Memory>
     ensures { IfOk result (λ t. t ≡ utf8_of units.now) }
 {
+    let mut bytes = Vec::with_capacity(alloc, units.len())?;
+    for unit in units {
+        if !unit.ch.is_ascii() {
+            return of_any(alloc, units);
+        }
+        bytes.push_reserved(unit.ch as u8);
+    }
+    Ok(Text::from_vec(bytes))
+}
+
+// The same, where they are not all ASCII.
+fn of_any(alloc: Global, units: &[Unit]) -> Result<Text, Memory>
+    ensures { IfOk result (λ t. t ≡ utf8_of units.now) }
+{
     let mut text = String::with_capacity(alloc, units.len())?;
     for unit in units {
         text.push(unit.ch)?;

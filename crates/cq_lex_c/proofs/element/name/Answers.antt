@@ -1,27 +1,16 @@
-use Rattle.std.proofs.Common.{◌≡◌, [], ◌∷◌, sym, subst, take}
-use Rattle.std.proofs.lemmas.List.{take-map}
-use Rattle.cq_munch.specs.Characters.{characters}
-use Rattle.cq_munch.specs.Language.{Takes}
-use Rattle.cq_munch.specs.Table.{table, InTable}
-use Rattle.cq_munch.specs.declared.element.Spell.TheVariants.{Token}
-use Rattle.cq_munch.specs.declared.unit.Unit.{Unit}
+use Rattle.std.proofs.Common.{[], ◌∷◌}
+use Rattle.cq_munch.proofs.Joining.{none_in_set, named}
+use Rattle.cq_munch.proofs.Texts.{front_units}
 use Rattle.cq_lex_c.specs.C.{identifiers, reserved}
 use Rattle.cq_lex_c.specs.Identifiers.{IsIdentifier}
 use Rattle.cq_lex_c.proofs.Elements.{name_of_row}
-use Rattle.cq_munch.proofs.Joining.{none_in_set, one_in_set}
 use Rattle.cq_lex_c.proofs.element.name.Goals as goal
 
 pub class_of-class-requires : goal.class_of-class-requires
-class_of-class-requires c =
-    let front : take c.in-Some.len (characters c.args.units.now) ≡ characters (take c.in-Some.len c.args.units.now) = take-map (λ (u : Unit). u.ch) c.in-Some.len c.args.units.now in
-    subst IsIdentifier front c.in-Some.ensures.spelled
+class_of-class-requires c = front_units IsIdentifier c.in-Some.len c.args.units.now c.in-Some.ensures.spelled
 
 pub returns-in-None : goal.returns-in-None
-returns-in-None c = λ at. none_in_set (identifiers ∷ reserved ∷ []) IsIdentifier name_of_row at c.args.mode (characters c.args.units.now) c.in-None.ensures
+returns-in-None c = λ at. none_in_set (identifiers ∷ reserved ∷ []) IsIdentifier name_of_row at c.args.mode _ c.in-None.ensures
 
 pub returns-in-Some : goal.returns-in-Some
-returns-in-Some c = λ at.
-    let front : take c.in-Some.len (characters c.args.units.now) ≡ characters (take c.in-Some.len c.args.units.now) = take-map (λ (u : Unit). u.ch) c.in-Some.len c.args.units.now in
-    let row = subst (InTable (identifiers ∷ reserved ∷ []) (Token c.class_of-class.result)) (sym front) c.class_of-class.ensures in
-    subst (Takes (table (identifiers ∷ reserved ∷ [])) at c.args.mode (characters c.args.units.now)) (sym c.found_of.ensures)
-    (one_in_set (identifiers ∷ reserved ∷ []) IsIdentifier name_of_row at c.args.mode (characters c.args.units.now) (Token c.class_of-class.result) c.in-Some.len c.in-Some.ensures row)
+returns-in-Some c = λ at. named (identifiers ∷ reserved ∷ []) IsIdentifier name_of_row at c.args.mode c.args.units.now _ c.in-Some.len _ c.found_of.ensures c.in-Some.ensures c.class_of-class.ensures

@@ -1,7 +1,11 @@
-use Rattle.std.proofs.Common.{◌≡◌, take}
-use Rattle.std.specs.String.{string_bytes}
+use Rattle.std.proofs.Common.{◌≡◌, ◌≤◌, take, length}
+use Rattle.std.specs.Prelude.{vec_len, vec_capacity}
 use Rattle.cq_munch.specs.Characters.{utf8_of}
 use Rattle.cq_munch.proofs.spelling.of_units.Given as goal
 
 abbrev pub invariant-loop-unit : goal.invariant-loop-unit
-invariant-loop-unit l = string_bytes l.text ≡ utf8_of (take l.unit-index l.units)
+invariant-loop-unit l = record {
+  bytes : l.bytes.items ≡ utf8_of (take l.unit-index l.units);
+  counted : vec_len l.bytes ≡ l.unit-index;
+  room : length l.units ≤ vec_capacity l.bytes;
+}

@@ -1,14 +1,10 @@
-use Rattle.std.proofs.Common.{refl, ap, ◌∙◌}
 use Rattle.cq_munch.proofs.WordLists.{word_none, word_next}
-use Rattle.cq_lex_c.specs.PunctuatorStates.{glyph_rows, next_of, may_end, words_of}
-use Rattle.cq_lex_c.specs.declared.punctuator.Glyph.TheVariants.{Other}
+use Rattle.cq_lex_c.specs.PunctuatorStates.{steps, may_end, words_of}
 use Rattle.cq_lex_c.proofs.PunctuatorSteps.{right}
 use Rattle.cq_lex_c.proofs.punctuator.PunctuatorMachine.step.Goals as goal
 
 pub returns-clause-none : goal.returns-clause-none
-returns-clause-none c =
-    word_none words_of may_end glyph_rows Other next_of right refl c.args.self c.args.ch c.next_of.result (c.next_of.ensures ∙ ap (next_of c.args.self) c.glyph_of.ensures)
+returns-clause-none c = word_none words_of may_end steps right c.args.self c.args.ch c.next_of.result c.next_of.ensures
 
 pub returns-clause-next : goal.returns-clause-next
-returns-clause-next c =
-    word_next words_of may_end glyph_rows Other next_of right refl c.args.self c.args.ch c.next_of.result (c.next_of.ensures ∙ ap (next_of c.args.self) c.glyph_of.ensures)
+returns-clause-next c = word_next words_of may_end steps right c.args.self c.args.ch c.next_of.result c.next_of.ensures
