@@ -6,7 +6,6 @@ use crate::talking::ended;
 use crate::threads::SETTINGS;
 use cq_base::{Counters, Memory, Settings};
 use cq_chain::Pass;
-use cq_hub::Hub;
 use cq_io::OpenGate;
 use cq_lines::End;
 use cq_shared::Shared;
