@@ -96,5 +96,7 @@ pub fn answer<R: Threads + Sync, B: Buckets, L: Ledger>(
     let part = part_of(files, query);
     let groups = groups_of(alloc, settings, files, part, query.min, buckets, steps)?;
     let items = files.items();
-    reply_of(rt, alloc, items, conditions, query.kind, part, version, &groups)
+    reply_of(
+        rt, alloc, items, conditions, query.kind, part, version, &groups,
+    )
 }

@@ -37,11 +37,7 @@ fn part(group: &Group, parts: &mut Vec<Vec<Run>>) -> Result<(), Memory>
 }
 
 /// The places of the groups, parted among the files, in one walk.
-pub(crate) fn parted(
-    alloc: Global,
-    files: usize,
-    groups: &[Group],
-) -> Result<Vec<Vec<Run>>, Memory>
+pub(crate) fn parted(alloc: Global, files: usize, groups: &[Group]) -> Result<Vec<Vec<Run>>, Memory>
     requires { spec.AreAllBelow files groups.now }
     ensures { IfOk result (λ parts. spec.AreParted files groups.now parts.items) }
 {

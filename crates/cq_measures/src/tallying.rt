@@ -35,7 +35,12 @@ fn extent_of_run(file: u32, spans: &[Token], run: Run) -> Extent
     }
 }
 
-fn extents_of_runs(alloc: Global, file: u32, spans: &[Token], runs: &[Run]) -> Result<Vec<Extent>, Memory>
+fn extents_of_runs(
+    alloc: Global,
+    file: u32,
+    spans: &[Token],
+    runs: &[Run],
+) -> Result<Vec<Extent>, Memory>
     requires { spec.AreRunsInside spans.now runs.now }
     ensures { IfOk result (λ v. v.items ≡ map (spec.extent_of_run spans.now file) runs.now) }
 {
@@ -47,7 +52,12 @@ fn extents_of_runs(alloc: Global, file: u32, spans: &[Token], runs: &[Run]) -> R
 }
 
 /// What the runs of the file with this number come to.
-pub(crate) fn file_tally(alloc: Global, file: u32, spans: &[Token], runs: &[Run]) -> Result<Tally, Memory>
+pub(crate) fn file_tally(
+    alloc: Global,
+    file: u32,
+    spans: &[Token],
+    runs: &[Run],
+) -> Result<Tally, Memory>
     requires few { file < 262144 }
     requires inside { spec.AreRunsInside spans.now runs.now }
     ensures tally { IfOk result (IsTallyOf (map (spec.extent_of_run spans.now file) runs.now)) }

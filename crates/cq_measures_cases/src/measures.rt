@@ -118,7 +118,12 @@ fn is_measurable(files: &[FileLines], groups: &[Group]) -> bool
 }
 
 // The measures of the project; an error where it isn't measurable.
-fn of_project<R: Threads + Sync>(rt: &R, alloc: Global, files: &[FileLines], groups: &[Group]) -> Result<Measures, Memory> {
+fn of_project<R: Threads + Sync>(
+    rt: &R,
+    alloc: Global,
+    files: &[FileLines],
+    groups: &[Group],
+) -> Result<Measures, Memory> {
     if !is_measurable(files, groups) {
         return Err(Memory);
     }
@@ -292,7 +297,12 @@ fn a_project_without_files_has_zeros(rt: HostRuntime) -> Result<(), Memory> {
 }
 
 // The density of two places with as many lines as these, of all lines.
-fn density<R: Threads + Sync>(rt: &R, alloc: Global, duplicated: u32, lines: u64) -> Result<u64, Memory> {
+fn density<R: Threads + Sync>(
+    rt: &R,
+    alloc: Global,
+    duplicated: u32,
+    lines: u64,
+) -> Result<u64, Memory> {
     let spans = line_tokens(alloc, duplicated)?;
     let file = FileLines {
         counts: counts(lines),

@@ -27,10 +27,10 @@ returns g c =
     let each : (i : ℕ) → i < n → IsPartTally files c.deref.result.now i (tally_at c.in_ok-tallies.tallies.items i) = c.in_ok-tallies.ensures.each in
     let number : length c.deref-2.result.now ≡ n = ap length c.deref-2.ensures.value ∙ c.in_ok-tallies.ensures.number in
     let are : AreTallies es c.deref-2.result.now = λ i lt.
-        let inside : i < n = omega (arith, lt, number) in
-        let parts : part_at c.deref.result.now i ≡ runs_in i groups = ap (λ ps. part_at ps i) c.deref.ensures.value ∙ c.in_ok-parts.ensures.each i inside in
-        let here : map (extent_of_run (spans_at files i) i) (part_at c.deref.result.now i) ≡ filter (λ e. e.file == i) es = ap (map (extent_of_run (spans_at files i) i)) parts ∙ runs_are_extents (spans_of files) i groups in
-        subst (λ ts. IsTallyOf (filter (λ e. e.file == i) es) (tally_at ts i)) (sym c.deref-2.ensures.value) (subst (λ xs. IsTallyOf xs (tally_at c.in_ok-tallies.tallies.items i)) here (each i inside).tally) in
+    let inside : i < n = omega (arith, lt, number) in
+    let parts : part_at c.deref.result.now i ≡ runs_in i groups = ap (λ ps. part_at ps i) c.deref.ensures.value ∙ c.in_ok-parts.ensures.each i inside in
+    let here : map (extent_of_run (spans_at files i) i) (part_at c.deref.result.now i) ≡ filter (λ e. e.file == i) es = ap (map (extent_of_run (spans_at files i) i)) parts ∙ runs_are_extents (spans_of files) i groups in
+    subst (λ ts. IsTallyOf (filter (λ e. e.file == i) es) (tally_at ts i)) (sym c.deref-2.ensures.value) (subst (λ xs. IsTallyOf xs (tally_at c.in_ok-tallies.tallies.items i)) here (each i inside).tally) in
     let below : AreBelow (length c.deref-2.result.now) es = subst (λ k. AreBelow k es) (sym number) (extents_of_files n files groups (omega arith) c.requires.inside) in
     let tally = c.in_ok-tally.ensures.sums es below are in
     let as_many = length-map files (λ f. f.counts) in
