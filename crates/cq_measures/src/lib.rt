@@ -10,6 +10,6 @@ mod measuring;
 mod placing;
 
 pub use counting::ncloc;
-pub use decisions::complexity;
+pub use decisions::{complexity, is_decision};
 pub use extent::FileLines;
 pub use measuring::{file_measures, project_measures};
