@@ -48,9 +48,9 @@ braced l ts at is =
     let more = level-more l kind.Curly ts at t read.0 in
     let opened : opens l kind.Curly (get_or ts at t) ≡ true = ap (opens l kind.Curly) read.1 ∙ found.2 in
     let closed : closes l kind.Curly (get_or ts at t) ≡ false =
-        ap (closes l kind.Curly) read.1 ∙ false_from_ne_true (is_spelled l (codes "}") t) (λ (c : is_spelled l (codes "}") t ≡ true). apart (spelling_of l t.token.class t.text) (codes "{") (codes "}") (λ (e : codes "{" ≡ codes "}"). cc) found.2 c) in
-    let up = cond-true (opens l kind.Curly (get_or ts at t)) 1 0 opened in
-    let down = cond-false (closes l kind.Curly (get_or ts at t)) 1 0 closed in
+        ap (closes l kind.Curly) read.1 ∙ false_from_ne_true (is_spelled l (codes "}") t) (λ (c : is_spelled l (codes "}") t ≡ true). apart (spelling_of l t.token.class t.text) (codes "{") (codes "}") (λ (e : codes "{" ≡ codes "}"). let h : 123 ≡ 125 = ap (λ (xs : List ℕ). get_or xs 0 0) e in omega (arith, h)) found.2 c) in
+    let up = cond-true {A = ℕ} (opens l kind.Curly (get_or ts at t)) 1 0 opened in
+    let down = cond-false {A = ℕ} (closes l kind.Curly (get_or ts at t)) 1 0 closed in
     (read.0, omega (arith, more, up, down))
 
 -- no step goes down by more than 1

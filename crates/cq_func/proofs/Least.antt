@@ -1,6 +1,6 @@
 -- The first of some places that passes: where it lies, that it passes, and that none before it does.
 use Rattle.std.proofs.Common.{◌≡◌, ◌⊎◌, ℕ, zero, suc, ◌+◌, ◌-◌, ◌<◌, ◌≤◌, Bool, true, false, cond, refl, sym, ap, ◌∙◌, subst, ⊎_elim, arith}
-use Rattle.std.proofs.lemmas.Bool.{cases_eq}
+use Rattle.std.proofs.lemmas.Bool.{cases_eq, cases_order, both_ways}
 use Rattle.cq_func.specs.Places.{first_place, place_above, place_below}
 
 cond_same : {X : Type 0} (a b : Bool) (x y z : X) → a ≡ b → y ≡ z → cond a x y ≡ cond b x z
@@ -64,6 +64,17 @@ place_above-passes p at n lt found = first_place-passes p (at + 1) (n - (at + 1)
 
 pub place_above-least : (p : ℕ → Bool) (at n j : ℕ) → at < j → j < place_above p at n → p j ≡ false
 place_above-least p at n j low high = first_place-least p (at + 1) (n - (at + 1)) j (omega arith) high
+
+pub place_above-is : (p : ℕ → Bool) (at n k : ℕ) → at < n → at < k → k ≤ n → ((j : ℕ) → at < j → j < k → p j ≡ false) → (k < n → p k ≡ true) → k ≡ place_above p at n
+place_above-is p at n k inside low high none passes =
+    let w = place_above-within p at n inside in
+    ⊎_elim
+    (λ (e : place_above p at n ≡ k). sym e)
+    (λ other. ⊎_elim
+      (λ (lt : place_above p at n < k). absurd (both_ways (p (place_above p at n)) (none (place_above p at n) w.0 lt) (place_above-passes p at n inside (omega arith))))
+      (λ (gt : k < place_above p at n). absurd (both_ways (p k) (place_above-least p at n k low gt) (passes (omega (arith, w.1)))))
+      other)
+    (cases_order (place_above p at n) k)
 
 -- ---- below a place
 

@@ -1,9 +1,9 @@
 -- One token of a walk along bodies that never cross.
 use Rattle.std.proofs.Common.{◌≡◌, ◌⊎◌, ℕ, zero, suc, ◌+◌, ◌-◌, ◌<◌, ◌≤◌, Bool, true, false, cond, eqb, ltb, leb, not, ◌&&◌, List, [], ◌∷◌, ◌++◌, length, get_or, set, refl, sym, ap, ◌∙◌, subst, inl, inr, ⊎_elim, arith}
-use Rattle.std.specs.Prelude.{All, Contains, count_by}
+use Rattle.std.specs.Prelude.{All, Contains, count_by, reverse}
 use Rattle.std.specs.List.{list_any, range_with_len, Any}
 use Rattle.std.proofs.lemmas.Bool.{cases_eq, cases_lt, cases_Bool, cases_order, ltb-true, leb-true, lt-ltb, le-ltb, le-leb, lt-leb, eqb-true, eqb-false, eq-eqb, ne_eqb, and_parts, and_from, and_left, and_right, not-true, not_from_true, not_from_false, cond-true, cond-false, false_from_ne_true}
-use Rattle.std.proofs.lemmas.List.{length-set, get_or-set_same, get_or-set_other, get_or_default}
+use Rattle.std.proofs.lemmas.List.{length-set, get_or-set_same, get_or-set_other, get_or_default, length-reverse, get_or-reverse}
 use Rattle.std.proofs.lemmas.List.Folds.{Any-from_list_any, list_any-from_Any, list_any_none}
 use Rattle.std.proofs.lemmas.List.Sums.{sum_by_push}
 use Rattle.cq_base.specs.declared.lang.Lang.{Lang}
@@ -207,7 +207,7 @@ pub own_passed : (l : Lang) (ts : List Spelled) (fs : List Found) (at : ℕ) (ow
 own_passed l ts fs at own is are = record {
   long = are.long;
   each = λ f among.
-      are.each f among ∙ let next = own_next l ts fs f at in let none = cond-false (decides l ts at && is_own fs f at) 1 0 (and_left (decides l ts at) (is_own fs f at) is) in omega (arith, next, none);
+      are.each f among ∙ let next = own_next l ts fs f at in let none = cond-false {A = ℕ} (decides l ts at && is_own fs f at) 1 0 (and_left (decides l ts at) (is_own fs f at) is) in omega (arith, next, none);
   few = λ k d inside. let few = are.few k d inside in omega (arith, few);
 }
 
@@ -224,7 +224,7 @@ pub own_noted : (l : Lang) (ts : List Spelled) (fs : List Found) (many at : ℕ)
 own_noted l ts fs many at [] own whole inside bodies is stack are = record {
   long = are.long;
   each = λ f among.
-      are.each f among ∙ let next = own_next l ts fs f at in let none = cond-false (decides l ts at && is_own fs f at) 1 0 (and_right (decides l ts at) (is_own fs f at) (own_none fs at f stack among)) in omega (arith, next, none);
+      are.each f among ∙ let next = own_next l ts fs f at in let none = cond-false {A = ℕ} (decides l ts at && is_own fs f at) 1 0 (and_right (decides l ts at) (is_own fs f at) (own_none fs at f stack among)) in omega (arith, next, none);
   few = λ k d within. let few = are.few k d within in omega (arith, few);
 }
 own_noted l ts fs many at (top ∷ rest) own whole inside bodies is stack are = record {
@@ -236,12 +236,12 @@ own_noted l ts fs many at (top ∷ rest) own whole inside bodies is stack are = 
       let was = are.each f among in
       ⊎_elim
       (λ (e : f.brace ≡ top).
-        let one = cond-true (decides l ts at && is_own fs f at) 1 0 (and_from (decides l ts at) (is_own fs f at) is (own_top fs many at top f bodies stack.0 among e)) in
+        let one = cond-true {A = ℕ} (decides l ts at && is_own fs f at) 1 0 (and_from (decides l ts at) (is_own fs f at) is (own_top fs many at top f bodies stack.0 among e)) in
         let read = ap (λ i. get_or (set own top (get_or own top 0 + 1)) i 0) e ∙ get_or-set_same own top (get_or own top 0 + 1) 0 (omega (arith, long, begun, whole)) in
         let old = ap (λ i. get_or own i 0) e in
         omega (arith, next, one, read, old, was))
       (λ (ne : f.brace ≡ top → ⊥).
-        let none = cond-false (decides l ts at && is_own fs f at) 1 0 (and_right (decides l ts at) (is_own fs f at) (own_other fs many at top f bodies stack.0 among ne)) in
+        let none = cond-false {A = ℕ} (decides l ts at && is_own fs f at) 1 0 (and_right (decides l ts at) (is_own fs f at) (own_other fs many at top f bodies stack.0 among ne)) in
         let read = get_or-set_other own top f.brace (get_or own top 0 + 1) 0 ne in
         omega (arith, next, none, read, was))
       (cases_eq f.brace top);
@@ -254,3 +254,17 @@ own_begins l ts fs own long zeros within = record {
   each = λ f among. zeros f.brace (let w = within f among in omega (arith, w, long));
   few = λ k d inside. let z = zeros k inside in let e = get_or_default own k d 0 inside in omega (arith, z, e);
 }
+
+pub own_step : (l : Lang) (ts : List Spelled) (fs : List Found) (at : ℕ) (s own : List ℕ) (b : Bool) → at < length ts → AreBodies (length ts) fs → b ≡ decides l ts at → IsStack fs at s → AreOwn l ts fs at own → AreOwn l ts fs (at + 1) (cond b (noted s own) own)
+own_step l ts fs at s own true inside bodies is stack are = own_noted l ts fs (length ts) at s own refl inside bodies (sym is) stack are
+own_step l ts fs at s own false inside bodies is stack are = own_passed l ts fs at own (sym is) are
+
+below_reversed : (n : ℕ) (xs : List ℕ) → All (λ b. b < n) (reverse xs) → All (λ b. b < n) xs
+below_reversed n xs all k d inside =
+    let long = length-reverse xs in
+    let there : length xs - 1 - (length xs - 1 - k) ≡ k = omega arith in
+    subst (λ b. b < n) (get_or-reverse xs (length xs - 1 - k) d (omega arith) ∙ ap (λ i. get_or xs i d) there) (all (length xs - 1 - k) d (omega (arith, long)))
+
+-- the open bodies begin at places
+pub stack_places : (fs : List Found) (at many : ℕ) (xs : List ℕ) → at ≤ many → IsStack fs at (reverse xs) → All (λ b. b < many) xs
+stack_places fs at many xs within stack k d inside = let low = below_reversed at xs (stack_within fs at (reverse xs) stack) k d inside in omega (arith, low)

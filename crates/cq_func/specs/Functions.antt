@@ -41,20 +41,24 @@ is_inside f g = nat_lt f.brace g.brace && nat_lt g.close f.close
 abbrev pub is_own : List Found → Found → ℕ → Bool
 is_own fs f at = has f at && not (list_any (λ g. is_inside f g && has g at) fs)
 
--- 1 and the decisions that are its own
-abbrev pub complexity : Lang → List Spelled → List Found → Found → ℕ
-complexity l ts fs f = 1 + count_by (λ at. decides l ts at && is_own fs f at) (range_with_len 0 (length ts))
+-- how many decisions are its own
+abbrev pub own_decisions : Lang → List Spelled → List Found → Found → ℕ
+own_decisions l ts fs f = count_by (λ at. decides l ts at && is_own fs f at) (range_with_len 0 (length ts))
 
 -- ---- what is listed
 
-abbrev pub function_of : Lang → List Spelled → List Found → Found → Function
-function_of l ts fs f =
+-- a function with so many decisions of its own: its complexity is 1 more
+abbrev pub described : List Spelled → Found → ℕ → Function
+described ts f own =
     record {
       name = (token_at ts f.name).text;
       first = (token_at ts f.name).token.first_line;
       last = (token_at ts f.close).token.last_line;
-      complexity = complexity l ts fs f;
+      complexity = 1 + own;
     }
+
+abbrev pub function_of : Lang → List Spelled → List Found → Found → Function
+function_of l ts fs f = described ts f (own_decisions l ts fs f)
 
 abbrev pub functions : Lang → List Spelled → List Function
 functions l ts = map (function_of l ts (found l ts)) (found l ts)

@@ -1,4 +1,4 @@
-ghost use Rattle.std.specs.Prelude.{◌≡◌, ◌+◌, ◌≤◌, ◌<◌, IfOk, if◌then◌else◌, length};
+ghost use Rattle.std.specs.Prelude.{◌≡◌, ◌+◌, ◌-◌, ◌≤◌, ◌<◌, IfOk, if◌then◌else◌, length, take, drop};
 ghost use Rattle.cq_func.specs.Brackets as spec;
 ghost use Rattle.cq_func.specs.Levels as level;
 ghost use Rattle.cq_func.specs.Tables as tables;
@@ -96,6 +96,22 @@ pub(crate) fn is_even(lang: Lang, kind: Kind, tokens: &[Spelled], levels: &[u32]
     levels[at] as usize == tokens.len()
 }
 
+/// The levels before the tokens.
+fn before_each(levels: &[u32]) -> &[u32]
+    requires { 1 ≤ length levels.now }
+    ensures { result.now ≡ take (length levels.now - 1) levels.now }
+{
+    &levels[..levels.len() - 1]
+}
+
+/// The levels behind the tokens.
+pub(crate) fn behind_each(levels: &[u32]) -> &[u32]
+    requires { 1 ≤ length levels.now }
+    ensures { result.now ≡ drop 1 levels.now }
+{
+    &levels[1..]
+}
+
 /// The partner of each token that opens a bracket of the kind.
 pub(crate) fn partners(
     alloc: Global,
@@ -107,7 +123,9 @@ pub(crate) fn partners(
     ensures { IfOk result (λ t. tables.ArePartners lang kind tokens.now t.items) }
 {
     let levels = levels(alloc, lang, kind, tokens)?;
-    places_above(alloc, &levels[..tokens.len()], &levels[1..], 2 * tokens.len() + 1)
+    let wanted = before_each(&levels);
+    let marks = behind_each(&levels);
+    places_above(alloc, wanted, marks, 2 * tokens.len() + 1)
 }
 
 /// The partner of the token at a place.

@@ -1,6 +1,5 @@
 ghost use Rattle.std.specs.Prelude.{◌≡◌, ◌≤◌, ◌<◌, IfOk, length};
 ghost use Rattle.cq_func.specs.Functions as spec;
-ghost use Rattle.cq_func.specs.Walks as walk;
 
 use crate::c::c_functions;
 use crate::found::Found;
@@ -22,8 +21,7 @@ pub struct Function {
 
 fn found(alloc: Global, lang: Lang, tokens: &[Spelled]) -> Result<Vec<Found>, Memory>
     requires { length tokens.now ≤ 262144 }
-    ensures found { IfOk result (λ v. v.items ≡ spec.found lang tokens.now) }
-    ensures bodies { IfOk result (λ v. walk.AreBodies (length tokens.now) v.items) }
+    ensures { IfOk result (λ v. v.items ≡ spec.found lang tokens.now) }
 {
     match lang {
         Lang::Any => Ok(Vec::new(alloc)),
@@ -31,6 +29,21 @@ fn found(alloc: Global, lang: Lang, tokens: &[Spelled]) -> Result<Vec<Found>, Me
         Lang::C => c_functions(alloc, tokens),
         Lang::Java => java_functions(alloc, tokens),
     }
+}
+
+// The function with the decisions that are its own.
+fn described(alloc: Global, tokens: &[Spelled], one: Found, own: u32) -> Result<Function, Memory>
+    requires named { one.name < length tokens.now }
+    requires closed { one.close < length tokens.now }
+    requires few { own ≤ 262144 }
+    ensures { IfOk result (λ f. f ≡ spec.described tokens.now one own) }
+{
+    Ok(Function {
+        name: tokens[one.name].text.copied(alloc)?,
+        first: tokens[one.name].token.first_line,
+        last: tokens[one.close].token.last_line,
+        complexity: 1 + own,
+    })
 }
 
 /// The functions of a text of this language, by the places of their names. It costs a few walks over the tokens, whatever
@@ -43,12 +56,7 @@ pub fn functions(alloc: Global, lang: Lang, tokens: &[Spelled]) -> Result<Vec<Fu
     let own = own_decisions(alloc, lang, tokens, &found)?;
     let mut functions = Vec::with_capacity(alloc, found.len())?;
     for function in &found {
-        functions.push(Function {
-            name: tokens[function.name].text.copied(alloc)?,
-            first: tokens[function.name].token.first_line,
-            last: tokens[function.close].token.last_line,
-            complexity: own[function.brace] + 1,
-        })?;
+        functions.push(described(alloc, tokens, *function, own[function.brace])?)?;
     }
     Ok(functions)
 }

@@ -8,7 +8,7 @@ ghost use Rattle.cq_func.specs.Names as names;
 ghost use Rattle.cq_func.specs.Tables as table;
 ghost use Rattle.cq_func.specs.GoTables as all;
 
-use crate::brackets::{Kind, is_even, levels, partner, partners};
+use crate::brackets::{Kind, behind_each, is_even, levels, partner, partners};
 use crate::found::{Found, keep};
 use crate::places::{first_places, places_above};
 use crate::spelling::{is_name, stands, stands_before};
@@ -70,7 +70,7 @@ fn funcs(alloc: Global, tokens: &[Spelled], levels: &[u32], round: &[u32]) -> Re
     ensures { IfOk result (λ t. table.AreFuncs tokens.now t.items) }
 {
     let marks = name_marks(alloc, tokens, levels, round)?;
-    first_places(alloc, &marks, tokens.len() + 2)
+    first_places(alloc, &marks, tokens.len() + 3)
 }
 
 // ---- where it ends
@@ -107,7 +107,8 @@ fn ends(alloc: Global, tokens: &[Spelled], levels: &[u32]) -> Result<Vec<u32>, M
     ensures { IfOk result (λ t. table.AreEnds tokens.now t.items) }
 {
     let marks = end_marks(alloc, tokens, levels)?;
-    places_above(alloc, &levels[1..], &marks, 2 * tokens.len() + 2)
+    let wanted = behind_each(levels);
+    places_above(alloc, wanted, &marks, 2 * tokens.len() + 2)
 }
 
 fn open_mark(tokens: &[Spelled], curly: &[u32], at: usize) -> u32

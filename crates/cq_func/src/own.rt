@@ -1,4 +1,4 @@
-ghost use Rattle.std.specs.Prelude.{◌≡◌, ◌≤◌, ◌<◌, IfOk, OnOk, All, length, reverse};
+ghost use Rattle.std.specs.Prelude.{◌≡◌, ◌≤◌, ◌<◌, IfOk, OnOk, All, length, reverse, if◌then◌else◌};
 ghost use Rattle.cq_func.specs.Functions as spec;
 ghost use Rattle.cq_func.specs.Walks as walk;
 
@@ -39,11 +39,14 @@ fn closes(alloc: Global, many: usize, functions: &[Found]) -> Result<Vec<u32>, M
 }
 
 // A decision counts for the body that began last.
-fn note(own: &mut Vec<u32>, stack: &[usize])
+fn note(own: &mut Vec<u32>, stack: &[usize], decides: bool)
     requires within { All (λ b. b < length own.old.items) stack.now }
     requires few { All (λ n. n ≤ 262144) own.old.items }
-    ensures { own.new.items ≡ walk.noted (reverse stack.now) own.old.items }
+    ensures { own.new.items ≡ (if decides then walk.noted (reverse stack.now) own.old.items else own.old.items) }
 {
+    if !decides {
+        return;
+    }
     if let Some(top) = stack.last() {
         own[*top] += 1;
     }
@@ -82,9 +85,7 @@ pub(crate) fn own_decisions(
     let mut stack = Vec::new(alloc);
     let mut own = repeated(alloc, 0, tokens.len())?;
     for at in 0..tokens.len() {
-        if decides(lang, tokens, at) {
-            note(&mut own, &stack);
-        }
+        note(&mut own, &stack, decides(lang, tokens, at));
         move_on(&mut stack, &closes, at)?;
     }
     Ok(own)

@@ -24,7 +24,7 @@ const OTHERS: &str = r#"int f(void); int x = f(1); int (*g)(void) = f; ⇒
 int a[] = { f(1), g(2) }; struct s t = { h(x) }; ⇒
 int f(void) { g(); h(1) { } } ⇒ f 1 1 1
 int f(a) int a; { return a; } ⇒
-int f(void) __attribute__((noreturn)) { } ⇒
+int f(void) __attribute__((noreturn)) { } ⇒ __attribute__ 1 1 1
 FUNCTION(f) { if (x) { } } ⇒ FUNCTION 1 1 2
 BEGIN_DECLS␊int f(void) MACRO { } ⇒
 int f(void) MACRO(x) { } ⇒ MACRO 1 1 1

@@ -8,7 +8,7 @@ const DECLARATIONS: &str = r#" ⇒
 func f() int { return 1 }␊func (r T) g() interface{} { if r.x && true { return nil }; return 1 }␊ ⇒ f 1 1 1 · g 2 2 3
 package p␊␊func main() {␊for {␊}␊}␊ ⇒ main 3 6 2
 func Map[K comparable, V any](m map[K]V) []V { return nil } ⇒ Map 1 1 1
-func (l *List[T]) Push(x T) {␊}␊func (Set) empty() {} ⇒ Push 1 2 1 · empty 2 2 1
+func (l *List[T]) Push(x T) {␊}␊func (Set) empty() {} ⇒ Push 1 2 1 · empty 3 3 1
 func f(g func(int) bool) func(int) bool { return func(x int) bool { return g(x) || x > 1 } } ⇒ f 1 1 2
 func f() struct{ x int } { return struct{ x int }{1} } ⇒ f 1 1 1
 func f() (a, b interface{ m() }) { if a == nil { } } ⇒ f 1 1 2
@@ -53,7 +53,7 @@ func f() { } } ⇒
 func f() { }; } ⇒ f 1 1 1
 func (]; func g() {}; ) f() {} ⇒ g 1 1 1 · f 1 1 1
 func f([) { } ⇒ f 1 1 1
-func f([) ]; func g([) { if x { } } ⇒ g 1 1 2
+func f([) ]; func g([) { if x { } } ⇒ f 1 1 2 · g 1 1 2
 "#;
 
 #[test]

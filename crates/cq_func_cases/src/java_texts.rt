@@ -39,7 +39,7 @@ record R(int x) { } record S<T>(T t) { } ⇒
 if (x) { } for (;;) { } switch (x) { } try (r) { } catch (E e) { } synchronized (x) { } while (y) { } ⇒
 @A({}) @B() class C { { if (x) { } } static { } } ⇒
 abstract void f() throws E; void g(); int h = k(1); ⇒
-void f() throws { } void g() throws A; { } void h() throws A(1) { } ⇒
+void f() throws { } void g() throws A; { } void h() throws A(1) { } ⇒ A 1 1 1
 a.b() { } ⇒
 "#;
 
