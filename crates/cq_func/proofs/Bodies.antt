@@ -48,7 +48,7 @@ braced l ts at is =
     let more = level-more l kind.Curly ts at t read.0 in
     let opened : opens l kind.Curly (get_or ts at t) ≡ true = ap (opens l kind.Curly) read.1 ∙ found.2 in
     let closed : closes l kind.Curly (get_or ts at t) ≡ false =
-        ap (closes l kind.Curly) read.1 ∙ false_from_ne_true (is_spelled l (codes "}") t) (λ (c : is_spelled l (codes "}") t ≡ true). apart (spelling_of l t.token.class t.text) (codes "{") (codes "}") (λ (e : codes "{" ≡ codes "}"). let h : 123 ≡ 125 = ap (λ (xs : List ℕ). get_or xs 0 0) e in omega (arith, h)) found.2 c) in
+    ap (closes l kind.Curly) read.1 ∙ false_from_ne_true (is_spelled l (codes "}") t) (λ (c : is_spelled l (codes "}") t ≡ true). apart (spelling_of l t.token.class t.text) (codes "{") (codes "}") (λ (e : codes "{" ≡ codes "}"). let h : 123 ≡ 125 = ap (λ (xs : List ℕ). get_or xs 0 0) e in omega (arith, h)) found.2 c) in
     let up = cond-true {A = ℕ} (opens l kind.Curly (get_or ts at t)) 1 0 opened in
     let down = cond-false {A = ℕ} (closes l kind.Curly (get_or ts at t)) 1 0 closed in
     (read.0, omega (arith, more, up, down))
@@ -120,13 +120,13 @@ nested_pairs l ts d a x b y outer inner less begins =
     ⊎_elim
     (λ (e : y ≡ x). let e' = ap (λ k. level l kind.Curly ts (k + 1)) e in absurd (omega (arith, up, outer_end, inner_end, e')))
     (λ other. ⊎_elim (λ (lt : y < x). lt)
-      (λ (gt : x < y).
-        ⊎_elim
-        (λ (e : b ≡ x). let e' = ap (λ k. level l kind.Curly ts (k + 1)) e in let e'' = ap (level l kind.Curly ts) e in absurd (omega (arith, up, outer_end, opened, e', e'')))
-        (λ rest. ⊎_elim
-          (λ (lt : b < x). let high = above l ts d b y (x + 1) inner (omega arith) (omega arith) in absurd (omega (arith, up, outer_end, high)))
-          (λ (gt' : x < b). absurd (omega arith)) rest)
-        (cases_order b x)) other)
+    (λ (gt : x < y).
+    ⊎_elim
+    (λ (e : b ≡ x). let e' = ap (λ k. level l kind.Curly ts (k + 1)) e in let e'' = ap (level l kind.Curly ts) e in absurd (omega (arith, up, outer_end, opened, e', e'')))
+    (λ rest. ⊎_elim
+    (λ (lt : b < x). let high = above l ts d b y (x + 1) inner (omega arith) (omega arith) in absurd (omega (arith, up, outer_end, high)))
+    (λ (gt' : x < b). absurd (omega arith)) rest)
+    (cases_order b x)) other)
     (cases_order y x)
 
 -- ---- what is found

@@ -31,8 +31,8 @@ closed_more fs far many closes f inside is bodies before =
           ⊎_elim
           (λ (e : g.brace ≡ f.brace). ap (λ i. get_or (set closes f.brace f.close) i 0) e ∙ get_or-set_same closes f.brace f.close 0 (omega (arith, low, long)) ∙ bodies.same f g among there (sym e))
           (λ (ne : g.brace ≡ f.brace → ⊥).
-            let other : k ≡ far → ⊥ = λ (e : k ≡ far). ne (ap (λ (h : Found). h.brace) (sym at ∙ same_read fs k far g f e within ∙ is)) in
-            get_or-set_other closes f.brace g.brace f.close 0 ne ∙ before.each k g (omega (arith, far_enough, other)) within at)
+          let other : k ≡ far → ⊥ = λ (e : k ≡ far). ne (ap (λ (h : Found). h.brace) (sym at ∙ same_read fs k far g f e within ∙ is)) in
+          get_or-set_other closes f.brace g.brace f.close 0 ne ∙ before.each k g (omega (arith, far_enough, other)) within at)
           (cases_eq g.brace f.brace);
       only = λ at below small.
           ⊎_elim

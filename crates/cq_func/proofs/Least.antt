@@ -71,9 +71,9 @@ place_above-is p at n k inside low high none passes =
     ⊎_elim
     (λ (e : place_above p at n ≡ k). sym e)
     (λ other. ⊎_elim
-      (λ (lt : place_above p at n < k). absurd (both_ways (p (place_above p at n)) (none (place_above p at n) w.0 lt) (place_above-passes p at n inside (omega arith))))
-      (λ (gt : k < place_above p at n). absurd (both_ways (p k) (place_above-least p at n k low gt) (passes (omega (arith, w.1)))))
-      other)
+    (λ (lt : place_above p at n < k). absurd (both_ways (p (place_above p at n)) (none (place_above p at n) w.0 lt) (place_above-passes p at n inside (omega arith))))
+    (λ (gt : k < place_above p at n). absurd (both_ways (p k) (place_above-least p at n k low gt) (passes (omega (arith, w.1)))))
+    other)
     (cases_order (place_above p at n) k)
 
 -- ---- below a place

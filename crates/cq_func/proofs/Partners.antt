@@ -113,9 +113,10 @@ go_end-within ts close below = place_above-within (λ q. stands lang.Go ts q (co
 before_read : (levels xs : List ℕ) (n : ℕ) → length levels ≡ n + 1 → xs ≡ take (length levels - 1) levels → (length xs ≡ n) × ((j : ℕ) → j < n → get_or xs j 0 ≡ get_or levels j 0)
 before_read levels xs n long is =
     let size = ap length is in
-    let whole = length-take-le (length levels - 1) levels (omega arith) in
-    (omega (arith, size, whole, long),
-    λ j below. ap (λ ys. get_or ys j 0) is ∙ get_or-take (length levels - 1) levels j 0 (omega (arith, long)))
+    let whole = length-take-le (length levels - 1) levels (omega arith) in (
+      omega (arith, size, whole, long),
+      λ j below. ap (λ ys. get_or ys j 0) is ∙ get_or-take (length levels - 1) levels j 0 (omega (arith, long)),
+    )
 
 behind_read : (levels xs : List ℕ) (n : ℕ) → length levels ≡ n + 1 → xs ≡ drop 1 levels → (length xs ≡ n) × ((j : ℕ) → get_or xs j 0 ≡ get_or levels (1 + j) 0)
 behind_read levels xs n long is =

@@ -24,36 +24,41 @@ stack_same fs a b (top ∷ rest) same stack =
     let t = stack.0 in
     let here = t.here in
     let begun = t.begun in
-    let w = (same t.body t.among).0 (omega (arith, here, begun)) t.still in
-    (record {
-      body = t.body;
-      among = t.among;
-      here = t.here;
-      begun = omega (arith, w.0, here);
-      still = w.1;
-      last = λ f among begun still. let v = (same f among).1 begun still in t.last f among v.0 v.1;
-    }, stack.1)
+    let w = (same t.body t.among).0 (omega (arith, here, begun)) t.still in (
+      record {
+        body = t.body;
+        among = t.among;
+        here = t.here;
+        begun = omega (arith, w.0, here);
+        still = w.1;
+        last = λ f among begun still. let v = (same f among).1 begun still in t.last f among v.0 v.1;
+      },
+      stack.1,
+    )
 
 -- a body begins
 stack_begun : (fs : List Found) (many at : ℕ) (s : List ℕ) (f : Found) → AreBodies many fs → Contains fs f → f.brace ≡ at → IsStack fs at s → IsStack fs (at + 1) (at ∷ s)
 stack_begun fs many at s f bodies among here stack =
-    let long = bodies.ordered f among in
-    (record {
-      body = f;
-      among = among;
-      here = here;
-      begun = omega arith;
-      still = omega (arith, long, here);
-      last = λ g gs begun still. omega (arith, begun);
-    }, stack)
+    let long = bodies.ordered f among in (
+      record {
+        body = f;
+        among = among;
+        here = here;
+        begun = omega arith;
+        still = omega (arith, long, here);
+        last = λ g gs begun still. omega (arith, begun);
+      },
+      stack,
+    )
 
 -- no body begins, and none of the open ones ends
 stack_stays : (fs : List Found) (at : ℕ) (s : List ℕ) → ((f : Found) → Contains fs f → f.brace ≡ at → ⊥) → ((f : Found) → Contains fs f → f.brace < at → f.close ≡ at → ⊥) → IsStack fs at s → IsStack fs (at + 1) s
 stack_stays fs at s no_begin no_end stack =
     stack_same fs at (at + 1) s
-    (λ f among.
-      ((λ begun still. ⊎_elim (λ (e : f.close ≡ at). absurd (no_end f among begun e)) (λ (ne : f.close ≡ at → ⊥). (omega arith, omega arith)) (cases_eq f.close at)),
-      (λ begun still. ⊎_elim (λ (e : f.brace ≡ at). absurd (no_begin f among e)) (λ (ne : f.brace ≡ at → ⊥). (omega arith, omega arith)) (cases_eq f.brace at))))
+    (λ f among. (
+      (λ begun still. ⊎_elim (λ (e : f.close ≡ at). absurd (no_end f among begun e)) (λ (ne : f.close ≡ at → ⊥). (omega arith, omega arith)) (cases_eq f.close at)),
+      (λ begun still. ⊎_elim (λ (e : f.brace ≡ at). absurd (no_begin f among e)) (λ (ne : f.brace ≡ at → ⊥). (omega arith, omega arith)) (cases_eq f.brace at)),
+    ))
     stack
 
 -- the body on top ends
@@ -62,15 +67,16 @@ stack_ended fs many at top rest bodies no_begin t ends below =
     let here = t.here in
     let begun = t.begun in
     stack_same fs top (at + 1) rest
-    (λ f among.
-      ((λ before still.
-        let inside = bodies.nested f t.body among t.among (omega (arith, before, here)) (omega (arith, still, here)) in
-        (omega (arith, before, begun), omega (arith, inside, ends))),
+    (λ f among. (
       (λ before still.
-        let late : f.brace < at = ⊎_elim (λ (e : f.brace ≡ at). absurd (no_begin f among e)) (λ (ne : f.brace ≡ at → ⊥). omega arith) (cases_eq f.brace at) in
-        let last = t.last f among late (omega arith) in
-        let other : f.brace ≡ top → ⊥ = λ (e : f.brace ≡ top). let same = bodies.same f t.body among t.among (e ∙ sym here) in omega (arith, same, ends) in
-        (omega (arith, last, other), omega (arith, begun)))))
+          let inside = bodies.nested f t.body among t.among (omega (arith, before, here)) (omega (arith, still, here)) in
+          (omega (arith, before, begun), omega (arith, inside, ends))),
+      (λ before still.
+          let late : f.brace < at = ⊎_elim (λ (e : f.brace ≡ at). absurd (no_begin f among e)) (λ (ne : f.brace ≡ at → ⊥). omega arith) (cases_eq f.brace at) in
+          let last = t.last f among late (omega arith) in
+          let other : f.brace ≡ top → ⊥ = λ (e : f.brace ≡ top). let same = bodies.same f t.body among t.among (e ∙ sym here) in omega (arith, same, ends) in
+          (omega (arith, last, other), omega (arith, begun))),
+    ))
     below
 
 -- of the open bodies only the one on top can end
@@ -83,8 +89,8 @@ only_top fs many at top f bodies t stays among begun ends =
     ⊎_elim
     (λ (e : f.brace ≡ top). let same = bodies.same f t.body among t.among (e ∙ sym here) in stays (sym same ∙ ends))
     (λ (ne : f.brace ≡ top → ⊥).
-      let inside = bodies.nested f t.body among t.among (omega (arith, last, ne, here)) (omega (arith, started, here, ends)) in
-      absurd (omega (arith, inside, still, ends)))
+    let inside = bodies.nested f t.body among t.among (omega (arith, last, ne, here)) (omega (arith, started, here, ends)) in
+    absurd (omega (arith, inside, still, ends)))
     (cases_eq f.brace top)
 
 stack_popped : (fs : List Found) (many at : ℕ) (closes s : List ℕ) → AreBodies many fs → AreCloses fs many closes → ((f : Found) → Contains fs f → f.brace ≡ at → ⊥) → IsStack fs at s → IsStack fs (at + 1) (popped closes at s)
@@ -94,11 +100,11 @@ stack_popped fs many at closes (top ∷ rest) bodies are no_begin stack =
     let read : get_or closes top 0 ≡ t.body.close = ap (λ i. get_or closes i 0) (sym t.here) ∙ are.each t.body t.among in
     ⊎_elim
     (λ (e : t.body.close ≡ at).
-      subst (IsStack fs (at + 1)) (sym (cond-true (eqb (get_or closes top 0) at) rest (top ∷ rest) (eq-eqb _ _ (read ∙ e))))
-      (stack_ended fs many at top rest bodies no_begin t e stack.1))
+    subst (IsStack fs (at + 1)) (sym (cond-true (eqb (get_or closes top 0) at) rest (top ∷ rest) (eq-eqb _ _ (read ∙ e))))
+    (stack_ended fs many at top rest bodies no_begin t e stack.1))
     (λ (ne : t.body.close ≡ at → ⊥).
-      subst (IsStack fs (at + 1)) (sym (cond-false (eqb (get_or closes top 0) at) rest (top ∷ rest) (ne_eqb _ _ (λ (e : get_or closes top 0 ≡ at). ne (sym read ∙ e)))))
-      (stack_stays fs at (top ∷ rest) no_begin (λ f among begun ends. only_top fs many at top f bodies t ne among begun ends) stack))
+    subst (IsStack fs (at + 1)) (sym (cond-false (eqb (get_or closes top 0) at) rest (top ∷ rest) (ne_eqb _ _ (λ (e : get_or closes top 0 ≡ at). ne (sym read ∙ e)))))
+    (stack_stays fs at (top ∷ rest) no_begin (λ f among begun ends. only_top fs many at top f bodies t ne among begun ends) stack))
     (cases_eq t.body.close at)
 
 pub stack_moved : (fs : List Found) (many at : ℕ) (closes s : List ℕ) → at < many → AreBodies many fs → AreCloses fs many closes → IsStack fs at s → IsStack fs (at + 1) (moved closes at s)
@@ -106,14 +112,14 @@ stack_moved fs many at closes s inside bodies are stack =
     let long = are.long in
     ⊎_elim
     (λ (lt : get_or closes at 0 < length closes).
-      let one = are.only at inside (omega (arith, long, lt)) in
-      subst (IsStack fs (at + 1)) (sym (cond-true (ltb (get_or closes at 0) (length closes)) (at ∷ s) (popped closes at s) (lt-ltb _ _ lt)))
-      (stack_begun fs many at s one.0 bodies one.1 one.2 stack))
+    let one = are.only at inside (omega (arith, long, lt)) in
+    subst (IsStack fs (at + 1)) (sym (cond-true (ltb (get_or closes at 0) (length closes)) (at ∷ s) (popped closes at s) (lt-ltb _ _ lt)))
+    (stack_begun fs many at s one.0 bodies one.1 one.2 stack))
     (λ (ge : length closes ≤ get_or closes at 0).
-      let no_begin : (f : Found) → Contains fs f → f.brace ≡ at → ⊥ =
-          λ f among e. let read : get_or closes at 0 ≡ f.close = ap (λ i. get_or closes i 0) (sym e) ∙ are.each f among in let within = (bodies.within f among).2 in omega (arith, read, within, long, ge) in
-      subst (IsStack fs (at + 1)) (sym (cond-false (ltb (get_or closes at 0) (length closes)) (at ∷ s) (popped closes at s) (le-ltb _ _ ge)))
-      (stack_popped fs many at closes s bodies are no_begin stack))
+    let no_begin : (f : Found) → Contains fs f → f.brace ≡ at → ⊥ =
+    λ f among e. let read : get_or closes at 0 ≡ f.close = ap (λ i. get_or closes i 0) (sym e) ∙ are.each f among in let within = (bodies.within f among).2 in omega (arith, read, within, long, ge) in
+    subst (IsStack fs (at + 1)) (sym (cond-false (ltb (get_or closes at 0) (length closes)) (at ∷ s) (popped closes at s) (le-ltb _ _ ge)))
+    (stack_popped fs many at closes s bodies are no_begin stack))
     (cases_lt (get_or closes at 0) (length closes))
 
 -- every open body begins at a place
@@ -153,15 +159,15 @@ own_top fs many at top f bodies t among e =
     (has_true f at (omega (arith, begun, e)) (omega (arith, still, same)))
     (not_from_false (list_any (λ g. is_inside f g && has g at) fs)
     (list_any_none (λ g. is_inside f g && has g at) fs (λ k d inside.
-      let g = get_or fs k d in
-      let is_there : Contains fs g = (k, inside, get_or_same fs k d inside) in
-      false_from_ne_true (is_inside f g && has g at) (λ (is : (is_inside f g && has g at) ≡ true).
-        let parts = and_parts (is_inside f g) (has g at) is in
-        let in_f = and_parts (ltb f.brace g.brace) (ltb g.close f.close) parts.0 in
-        let w = has_parts g at parts.1 in
-        let last = t.last g is_there w.0 w.1 in
-        let above = ltb-true f.brace g.brace in_f.0 in
-        omega (arith, last, above, e)))))
+    let g = get_or fs k d in
+    let is_there : Contains fs g = (k, inside, get_or_same fs k d inside) in
+    false_from_ne_true (is_inside f g && has g at) (λ (is : (is_inside f g && has g at) ≡ true).
+    let parts = and_parts (is_inside f g) (has g at) is in
+    let in_f = and_parts (ltb f.brace g.brace) (ltb g.close f.close) parts.0 in
+    let w = has_parts g at parts.1 in
+    let last = t.last g is_there w.0 w.1 in
+    let above = ltb-true f.brace g.brace in_f.0 in
+    omega (arith, last, above, e)))))
   where
     get_or_same : (xs : List Found) (k : ℕ) (d : Found) → k < length xs → get_or xs k (get_or xs k d) ≡ get_or xs k d
     get_or_same [] k d inside = absurd (omega arith)
@@ -176,15 +182,15 @@ own_other fs many at top f bodies t among ne =
     let still = t.still in
     ⊎_elim
     (λ (is : has f at ≡ true).
-      let w = has_parts f at is in
-      let last = t.last f among w.0 w.1 in
-      let above : f.brace < t.body.brace = omega (arith, last, ne, here) in
-      let inside = bodies.nested f t.body among t.among above (omega (arith, here, begun, w.1)) in
-      and_right (has f at) (not (list_any (λ g. is_inside f g && has g at) fs))
-      (not_from_true (list_any (λ g. is_inside f g && has g at) fs)
-      (any_from (λ g. is_inside f g && has g at) fs t.body t.among
-      (and_from (is_inside f t.body) (has t.body at) (and_from (ltb f.brace t.body.brace) (ltb t.body.close f.close) (lt-ltb _ _ above) (lt-ltb _ _ inside))
-      (has_true t.body at (omega (arith, here, begun)) still)))))
+    let w = has_parts f at is in
+    let last = t.last f among w.0 w.1 in
+    let above : f.brace < t.body.brace = omega (arith, last, ne, here) in
+    let inside = bodies.nested f t.body among t.among above (omega (arith, here, begun, w.1)) in
+    and_right (has f at) (not (list_any (λ g. is_inside f g && has g at) fs))
+    (not_from_true (list_any (λ g. is_inside f g && has g at) fs)
+    (any_from (λ g. is_inside f g && has g at) fs t.body t.among
+    (and_from (is_inside f t.body) (has t.body at) (and_from (ltb f.brace t.body.brace) (ltb t.body.close f.close) (lt-ltb _ _ above) (lt-ltb _ _ inside))
+    (has_true t.body at (omega (arith, here, begun)) still)))))
     (λ (is : has f at ≡ false). and_left (has f at) (not (list_any (λ g. is_inside f g && has g at) fs)) is)
     (cases_Bool (has f at))
 
@@ -236,14 +242,14 @@ own_noted l ts fs many at (top ∷ rest) own whole inside bodies is stack are = 
       let was = are.each f among in
       ⊎_elim
       (λ (e : f.brace ≡ top).
-        let one = cond-true {A = ℕ} (decides l ts at && is_own fs f at) 1 0 (and_from (decides l ts at) (is_own fs f at) is (own_top fs many at top f bodies stack.0 among e)) in
-        let read = ap (λ i. get_or (set own top (get_or own top 0 + 1)) i 0) e ∙ get_or-set_same own top (get_or own top 0 + 1) 0 (omega (arith, long, begun, whole)) in
-        let old = ap (λ i. get_or own i 0) e in
-        omega (arith, next, one, read, old, was))
+      let one = cond-true {A = ℕ} (decides l ts at && is_own fs f at) 1 0 (and_from (decides l ts at) (is_own fs f at) is (own_top fs many at top f bodies stack.0 among e)) in
+      let read = ap (λ i. get_or (set own top (get_or own top 0 + 1)) i 0) e ∙ get_or-set_same own top (get_or own top 0 + 1) 0 (omega (arith, long, begun, whole)) in
+      let old = ap (λ i. get_or own i 0) e in
+      omega (arith, next, one, read, old, was))
       (λ (ne : f.brace ≡ top → ⊥).
-        let none = cond-false {A = ℕ} (decides l ts at && is_own fs f at) 1 0 (and_right (decides l ts at) (is_own fs f at) (own_other fs many at top f bodies stack.0 among ne)) in
-        let read = get_or-set_other own top f.brace (get_or own top 0 + 1) 0 ne in
-        omega (arith, next, none, read, was))
+      let none = cond-false {A = ℕ} (decides l ts at && is_own fs f at) 1 0 (and_right (decides l ts at) (is_own fs f at) (own_other fs many at top f bodies stack.0 among ne)) in
+      let read = get_or-set_other own top f.brace (get_or own top 0 + 1) 0 ne in
+      omega (arith, next, none, read, was))
       (cases_eq f.brace top);
   few = let long = are.long in let begun = stack.0.begun in few_set own top at (omega (arith, long, begun, whole)) are.few;
 }

@@ -44,7 +44,10 @@ pub(crate) fn c_functions(alloc: Global, tokens: &[Spelled]) -> Result<Vec<Found
     let levels = levels(alloc, Lang::C, Kind::Curly, tokens)?;
     let mut found = Vec::new(alloc);
     for name in 0..tokens.len() {
-        keep(&mut found, c_function(tokens, &round, &curly, &levels, name))?;
+        keep(
+            &mut found,
+            c_function(tokens, &round, &curly, &levels, name),
+        )?;
     }
     Ok(found)
 }

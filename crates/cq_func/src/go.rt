@@ -49,7 +49,12 @@ fn go_name(tokens: &[Spelled], levels: &[u32], round: &[u32], at: usize) -> usiz
     }
 }
 
-fn name_marks(alloc: Global, tokens: &[Spelled], levels: &[u32], round: &[u32]) -> Result<Vec<u32>, Memory>
+fn name_marks(
+    alloc: Global,
+    tokens: &[Spelled],
+    levels: &[u32],
+    round: &[u32],
+) -> Result<Vec<u32>, Memory>
     requires counted { level.AreLevels lang.Go kind.All tokens.now levels.now }
     requires rounds { table.ArePartners lang.Go kind.Round tokens.now round.now }
     requires few { length tokens.now ≤ 262144 }
@@ -63,7 +68,12 @@ fn name_marks(alloc: Global, tokens: &[Spelled], levels: &[u32], round: &[u32]) 
 }
 
 // The `func` of each name.
-fn funcs(alloc: Global, tokens: &[Spelled], levels: &[u32], round: &[u32]) -> Result<Vec<u32>, Memory>
+fn funcs(
+    alloc: Global,
+    tokens: &[Spelled],
+    levels: &[u32],
+    round: &[u32],
+) -> Result<Vec<u32>, Memory>
     requires counted { level.AreLevels lang.Go kind.All tokens.now levels.now }
     requires rounds { table.ArePartners lang.Go kind.Round tokens.now round.now }
     requires few { length tokens.now ≤ 262144 }
@@ -170,7 +180,13 @@ fn look_up(alloc: Global, tokens: &[Spelled]) -> Result<Tables, Memory>
     let funcs = funcs(alloc, tokens, &levels, &round)?;
     let ends = ends(alloc, tokens, &levels)?;
     let opens = opens(alloc, tokens, &curly)?;
-    Ok(Tables { round, square, funcs, ends, opens })
+    Ok(Tables {
+        round,
+        square,
+        funcs,
+        ends,
+        opens,
+    })
 }
 
 fn is_type(tokens: &[Spelled], brace: usize) -> bool
@@ -191,7 +207,11 @@ fn go_body(tokens: &[Spelled], tables: &Tables, name: usize, close: usize) -> Op
     }
     let brace = tables.opens[end - 1] as usize;
     if close < brace && brace < tokens.len() && !is_type(tokens, brace) {
-        Some(Found { name, brace, close: end - 1 })
+        Some(Found {
+            name,
+            brace,
+            close: end - 1,
+        })
     } else {
         None
     }
@@ -222,7 +242,11 @@ fn go_function(tokens: &[Spelled], tables: &Tables, name: usize) -> Option<Found
         return None;
     }
     let close = partner(Lang::Go, Kind::Round, tokens, &tables.round, first);
-    if close < tokens.len() { go_body(tokens, tables, name, close) } else { None }
+    if close < tokens.len() {
+        go_body(tokens, tables, name, close)
+    } else {
+        None
+    }
 }
 
 /// The functions of a text of Go.

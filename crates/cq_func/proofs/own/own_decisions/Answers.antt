@@ -7,14 +7,12 @@ use Rattle.cq_func.proofs.own.own_decisions.Goals as goal
 pub note-requires-clause-within : goal.note-requires-clause-within
 note-requires-clause-within c =
     let long = c.loop-at.invariant.1.long in
-    let all = stack_places c.args.functions.now c.loop-at.at (length c.loop-at.own.items) c.loop-at.stack.items (omega (arith, long)) c.loop-at.invariant.0 in
-    search (rules, all)
+    rw c.deref.ensures.value (stack_places c.args.functions.now c.loop-at.at (length c.loop-at.own.items) c.loop-at.stack.items (omega (arith, long)) c.loop-at.invariant.0)
 
 pub move_on-requires-clause-within : goal.move_on-requires-clause-within
 move_on-requires-clause-within c =
     let long = c.in_ok-closes.ensures.long in
-    let all = stack_places c.args.functions.now c.loop-at.at (length c.in_ok-closes.closes.items) c.loop-at.stack.items (omega (arith, long)) c.loop-at.invariant.0 in
-    search (rules, all)
+    stack_places c.args.functions.now c.loop-at.at _ c.loop-at.stack.items (grind (arith, long)) c.loop-at.invariant.0
 
 pub loop-at-preserved : goal.loop-at-preserved
 loop-at-preserved c =
@@ -25,6 +23,7 @@ loop-at-preserved c =
     let own = c.loop-at.own.items in
     let closes = c.in_ok-closes.closes.items in
     let is_moved : reverse c.move_on.new.stack.items ≡ moved closes at s = search rules in
-    let is_noted : c.note.new.own.items ≡ cond c.decides.result (noted s own) own = search rules in
-    (subst (IsStack fs (at + 1)) (sym is_moved) (stack_moved fs (length ts) at closes s (omega arith) c.requires.bodies c.in_ok-closes.ensures c.loop-at.invariant.0),
-    subst (AreOwn c.args.lang ts fs (at + 1)) (sym is_noted) (own_step c.args.lang ts fs at s own c.decides.result (omega arith) c.requires.bodies c.decides.ensures c.loop-at.invariant.0 c.loop-at.invariant.1))
+    let is_noted : c.note.new.own.items ≡ cond c.decides.result (noted s own) own = search rules in (
+      subst (IsStack fs (at + 1)) (sym is_moved) (stack_moved fs (length ts) at closes s (omega arith) c.requires.bodies c.in_ok-closes.ensures c.loop-at.invariant.0),
+      subst (AreOwn c.args.lang ts fs (at + 1)) (sym is_noted) (own_step c.args.lang ts fs at s own c.decides.result (omega arith) c.requires.bodies c.decides.ensures c.loop-at.invariant.0 c.loop-at.invariant.1),
+    )
