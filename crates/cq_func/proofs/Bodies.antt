@@ -1,10 +1,10 @@
 -- What is found has bodies that never cross.
-use Rattle.std.proofs.Common.{◌≡◌, ◌⊎◌, ℕ, zero, suc, ◌+◌, ◌-◌, ◌<◌, ◌≤◌, Bool, true, false, cond, eqb, ltb, not, ◌&&◌, ◌||◌, Option, Some, None, List, [], ◌∷◌, ◌++◌, length, get_or, slice_get, codes, refl, sym, ap, ◌∙◌, subst, inl, inr, ⊎_elim, arith}
+use Rattle.std.proofs.Common.{◌≡◌, ℕ, zero, suc, ◌+◌, ◌-◌, ◌<◌, ◌≤◌, Bool, true, false, cond, eqb, ltb, not, ◌&&◌, Option, Some, None, List, [], ◌∷◌, ◌++◌, length, get_or, slice_get, codes, refl, sym, ap, ◌∙◌, subst, ⊎_elim, arith}
 use Rattle.std.specs.Prelude.{Contains}
 use Rattle.std.specs.Option.{option_to_list}
 use Rattle.std.specs.List.{flat_map, range_with_len}
 use Rattle.std.specs.Str.{bytes_eq}
-use Rattle.std.proofs.lemmas.Bool.{cases_Bool, cases_order, ltb-true, eqb-true, eqb-false, eq-eqb, and_parts, both_ways, cond-true, cond-false, false_from_ne_true}
+use Rattle.std.proofs.lemmas.Bool.{cases_order, ltb-true, eqb-true, eq-eqb, and_parts, both_ways, cond-true, cond-false, false_from_ne_true}
 use Rattle.std.proofs.lemmas.List.{flat_map_more}
 use Rattle.std.proofs.lemmas.List.Elements.{Contains-append_cases}
 use Rattle.std.proofs.lemmas.Slice.Eq.{bytes_eq-Decides}
@@ -13,15 +13,13 @@ use Rattle.cq_base.specs.declared.lang.Lang.TheVariants as lang
 use Rattle.cq_base.specs.declared.token.Spelled.{Spelled}
 use Rattle.cq_func.specs.declared.brackets.Kind.TheVariants as kind
 use Rattle.cq_func.specs.declared.found.Found.{Found}
-use Rattle.cq_func.specs.Places.{place_above, place_below}
 use Rattle.cq_func.specs.Brackets.{spelling_of, is_spelled, holds, stands, opens, closes, are_even, from_to, partner}
 use Rattle.cq_func.specs.Levels.{level}
-use Rattle.cq_func.specs.Names.{is_name, is_called, with_body, is_no_method, java_open, java_function, c_function, go_parameters, go_is_named, go_end, go_open, is_type, go_body, go_function, function_at}
+use Rattle.cq_func.specs.Names.{is_called, with_body, is_no_method, java_function, c_function, go_parameters, go_end, go_open, is_type, go_body, go_function, function_at}
 use Rattle.cq_func.specs.Functions.{found}
 use Rattle.cq_func.specs.Walks.{AreBodies}
 use Rattle.cq_func.proofs.Least.{place_above-within, place_above-passes, place_above-least, place_below-passes}
 use Rattle.cq_func.proofs.Counted.{level-tells, level-more}
-use Rattle.cq_func.proofs.Partners.{partner-within}
 use Rattle.cq_func.proofs.Walked.{range_next}
 
 -- ---- between a bracket and its partner

@@ -1,9 +1,9 @@
 -- A walk from the last place to the first, with the nearest place of each mark.
-use Rattle.std.proofs.Common.{◌≡◌, ◌⊎◌, ℕ, suc, ◌+◌, ◌-◌, ◌<◌, ◌≤◌, Bool, true, false, cond, eqb, List, length, get_or, set, replicate, refl, sym, ap, ◌∙◌, subst, ⊎_elim, arith}
+use Rattle.std.proofs.Common.{◌≡◌, ℕ, ◌+◌, ◌-◌, ◌<◌, ◌≤◌, Bool, cond, eqb, List, length, get_or, set, replicate, sym, ap, ◌∙◌, subst, ⊎_elim, arith}
 use Rattle.std.proofs.lemmas.Bool.{cases_eq, eq-eqb, ne_eqb, cond-true, cond-false}
 use Rattle.std.proofs.lemmas.List.{length-set, length-replicate, get_or-replicate, get_or-set_same, get_or-set_other}
-use Rattle.cq_func.specs.Places.{first_place, place_above, place_below}
-use Rattle.cq_func.specs.Tables.{Tells, AreAbove, AreFirst}
+use Rattle.cq_func.specs.Places.{first_place, place_above}
+use Rattle.cq_func.specs.Tables.{AreAbove, AreFirst}
 use Rattle.cq_func.proofs.Least.{first_place-step, first_place-none}
 
 -- for each mark the first place from `at` on that has it

@@ -1,5 +1,5 @@
 -- The functions of a file, with their lines and their complexity.
-use Rattle.std.specs.Prelude.{ℕ, ◌+◌, ◌-◌, ◌&&◌, not, nat_lt, nat_le, Bool, List, [], ◌∷◌, length, map, count_by, slice_index_or}
+use Rattle.std.specs.Prelude.{ℕ, ◌+◌, ◌&&◌, not, nat_lt, nat_le, Bool, List, [], ◌∷◌, length, map, count_by, slice_index_or}
 use Rattle.std.specs.Option.{option_to_list}
 use Rattle.std.specs.List.{flat_map, list_any, range_with_len}
 use Rattle.cq_base.specs.declared.lang.Lang.{Lang}

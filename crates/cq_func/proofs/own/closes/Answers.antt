@@ -1,5 +1,5 @@
 use Rattle.std.proofs.Common.{◌<◌, length, arith, rules}
-use Rattle.std.specs.Prelude.{Contains, slice_index_or}
+use Rattle.std.specs.Prelude.{slice_index_or}
 use Rattle.cq_base.proofs.Lists.{same_default}
 use Rattle.cq_func.specs.declared.found.Found.{Found}
 use Rattle.cq_func.proofs.Closes.{closed_more}

@@ -1,4 +1,3 @@
-use Rattle.std.proofs.Common.{◌≤◌, length}
 use Rattle.std.specs.Prelude.{reverse}
 use Rattle.cq_func.specs.Walks.{IsStack, AreOwn}
 use Rattle.cq_func.proofs.own.own_decisions.Given as goal
