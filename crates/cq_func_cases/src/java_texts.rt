@@ -9,6 +9,7 @@ void f() throws IOException, a.b.C { if (x) { } } ⇒ f 1 1 2
 @Override @A(x = 1) public void f(@B("c") final int... a) { } ⇒ f 1 1 1
 @A(f(1)) int[] g(int[] a) { for (int x : a) { switch (x) { case 1: case 2 -> { } } } return a; } ⇒ g 1 1 5
 void record(int x) { } record R(int x) { R { } int y() { return x; } } ⇒ record 1 1 1 · y 1 1 1
+package shop;␊␊/** Orders of shop 00. */␊public class Shop00 {␊    private static final int LIMIT = 1000;␊␊    public int sum(int[] xs) {␊        int total = 0;␊        for (int i = 0; i < xs.length; i++) {␊            if (xs[i] > 0 && xs[i] < LIMIT) {␊                total += xs[i];␊            } else {␊                total -= 1;␊            }␊        }␊        return total > LIMIT ? LIMIT : total;␊    }␊␊    public boolean isFull(int n) {␊        while (n > LIMIT || n < 0) {␊            n = n / 2;␊        }␊        return n == LIMIT;␊    }␊}␊ ⇒ sum 7 17 5 · isFull 19 24 3
 void throwing() throws A, @B C { } ⇒ throwing 1 1 1
 interface I { default void f() { } void g(); int h() default 1; } ⇒ f 1 1 1
 "#;
