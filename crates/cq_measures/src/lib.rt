@@ -12,6 +12,6 @@ mod parting;
 mod tallying;
 
 pub use counting::ncloc;
-pub use decisions::complexity;
+pub use decisions::{complexity, is_decision};
 pub use extent::FileLines;
 pub use measuring::{file_measures, project_measures};
