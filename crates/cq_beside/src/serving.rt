@@ -25,8 +25,7 @@ use std::thread::Threads;
 
 // A session by what it borrows.
 #[derive(Drop)]
-struct Serving<'a, Q, L: Ledger, S, K, G> {
-    rt: &'a Q,
+struct Serving<'a, L: Ledger, S, K, G> {
     alloc: Global,
     settings: &'a Settings,
     keyer: &'a Keyer,
@@ -46,8 +45,7 @@ struct Over<'a, L: Ledger, S, K> {
     end: End,
 }
 
-impl<'a, Q: Threads + Sync, L: Ledger, R: Wait, S: Source, K: Sink, G: Gate> Talker<L, R>
-    for Serving<'a, Q, L, S, K, G> {
+impl<'a, L: Ledger, R: Wait, S: Source, K: Sink, G: Gate> Talker<L, R> for Serving<'a, L, S, K, G> {
     ghost use Rattle.std.specs.Prelude.{◌≡◌};
     ghost use Rattle.cq_base.specs.Settings.{IsInRange};
     ghost use Rattle.cq_lines.specs.Runs.{IsFresh};
@@ -68,9 +66,13 @@ impl<'a, Q: Threads + Sync, L: Ledger, R: Wait, S: Source, K: Sink, G: Gate> Tal
         × (r.source.ghost_name ≡ t.source.ghost_name) × (r.sink.ghost_name ≡ t.sink.ghost_name)
         × (r.steps.ghost_name ≡ t.steps.ghost_name) };
 
-    fn talk(self, hub: &Shared<Work<L>, R>, pass: &mut Pass<Work<L>>) -> Over<'a, L, S, K> {
+    fn talk<Q: Threads + Sync>(
+        self,
+        rt: &Q,
+        hub: &Shared<Work<L>, R>,
+        pass: &mut Pass<Work<L>>,
+    ) -> Over<'a, L, S, K> {
         let Serving {
-            rt,
             alloc,
             settings,
             keyer,
@@ -145,7 +147,6 @@ pub fn serve_one<
         rt,
     };
     let serving = Serving {
-        rt,
         alloc,
         settings,
         keyer,

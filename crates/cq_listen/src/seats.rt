@@ -22,8 +22,7 @@ use std::thread::Threads;
 /// What a thread of the sessions has of its own: a pass with no view open, and a cutter. Contracts see it as the
 /// settings of its hub.
 #[derive(Drop)]
-pub(crate) struct Seat<'a, Q, L: Ledger, R, G> {
-    rt: &'a Q,
+pub(crate) struct Seat<'a, L: Ledger, R, G> {
     alloc: Global,
     settings: &'a Settings,
     counters: &'a Counters<L>,
@@ -33,7 +32,7 @@ pub(crate) struct Seat<'a, Q, L: Ledger, R, G> {
     pass: Pass<Work<L>>,
 }
 
-impl<'a, Q, L: Ledger, R, G> Model for Seat<'a, Q, L, R, G> {
+impl<'a, L: Ledger, R, G> Model for Seat<'a, L, R, G> {
     ghost use Rattle.cq_base.specs.declared.settings.Settings.{Settings as Told};
     ghost use Rattle.cq_listen.specs.Seats.{IsSeated};
 
@@ -44,7 +43,7 @@ impl<'a, Q, L: Ledger, R, G> Model for Seat<'a, Q, L, R, G> {
     ghost invariant = { λ s. IsSeated s.settings.now s.hub.now s.pass };
 }
 
-impl<'a, Q, L: Ledger, R, G> Seat<'a, Q, L, R, G> {
+impl<'a, L: Ledger, R, G> Seat<'a, L, R, G> {
     ghost use Rattle.std.specs.Prelude.{◌≡◌, IfOk};
     ghost use Rattle.cq_base.specs.Settings.{IsInRange};
     ghost use Rattle.cq_shared.specs.SharedPasses.{settings_of};
@@ -52,7 +51,6 @@ impl<'a, Q, L: Ledger, R, G> Seat<'a, Q, L, R, G> {
 
     /// The seat of a pass that has seen nothing. It takes memory for its cutter.
     pub(crate) fn new(
-        rt: &'a Q,
         alloc: Global,
         settings: &'a Settings,
         counters: &'a Counters<L>,
@@ -67,7 +65,6 @@ impl<'a, Q, L: Ledger, R, G> Seat<'a, Q, L, R, G> {
     {
         let lines = Lines::new(alloc, settings.byte_limit)?;
         Ok(Seat {
-            rt,
             alloc,
             settings,
             counters,
@@ -81,8 +78,9 @@ impl<'a, Q, L: Ledger, R, G> Seat<'a, Q, L, R, G> {
 
 // Serves a connection to its end, by a session on a seat. The keys are those of the keyer.
 fn converse<Q: Threads + Sync, L: Ledger, R: Wait, S: Source + Drop, K: Sink + Drop, G: Gate>(
+    rt: &Q,
     keyer: &Keyer,
-    seat: &mut Seat<'_, Q, L, R, G>,
+    seat: &mut Seat<'_, L, R, G>,
     connection: Connection<S, K>,
 )
     requires { seat.old ≡ keyer.now.settings }
@@ -94,7 +92,7 @@ fn converse<Q: Threads + Sync, L: Ledger, R: Wait, S: Source + Drop, K: Sink + D
     let mut steps = seat.counters.counter();
     seat.lines.restart();
     let _end = session(
-        seat.rt,
+        rt,
         seat.alloc,
         seat.settings,
         keyer,
@@ -108,25 +106,17 @@ fn converse<Q: Threads + Sync, L: Ledger, R: Wait, S: Source + Drop, K: Sink + D
     );
 }
 
-impl<
-    'a,
-    Q: Threads + Sync,
-    L: Ledger,
-    R: Wait,
-    S: Source + Drop,
-    K: Sink + Drop,
-    G: Gate,
-> Attendant<Connection<S, K>> for Seat<'a, Q, L, R, G> {
+impl<'a, L: Ledger, R: Wait, S: Source + Drop, K: Sink + Drop, G: Gate> Attendant<Connection<S, K>>
+    for Seat<'a, L, R, G> {
     ghost settings = { λ s. s };
 
-    fn attend(&mut self, keyer: &Keyer, connection: Connection<S, K>) {
-        converse(keyer, self, connection);
+    fn attend<Q: Threads + Sync>(&mut self, rt: &Q, keyer: &Keyer, connection: Connection<S, K>) {
+        converse(rt, keyer, self, connection);
     }
 }
 
 /// So many seats, whose callers are the next ones of the pass.
-pub(crate) fn seats_of<'a, Q, L: Ledger, R, G>(
-    rt: &'a Q,
+pub(crate) fn seats_of<'a, L: Ledger, R, G>(
     alloc: Global,
     settings: &'a Settings,
     counters: &'a Counters<L>,
@@ -134,7 +124,7 @@ pub(crate) fn seats_of<'a, Q, L: Ledger, R, G>(
     gate: &'a G,
     pass: &mut Pass<Work<L>>,
     number: u32,
-) -> Result<Vec<Seat<'a, Q, L, R, G>>, Memory>
+) -> Result<Vec<Seat<'a, L, R, G>>, Memory>
     requires in_range { IsInRange settings.now }
     requires settings { settings_of hub.now ≡ settings.now }
     requires new { IsNew hub.now pass.old }
@@ -147,7 +137,7 @@ pub(crate) fn seats_of<'a, Q, L: Ledger, R, G>(
     let mut seats = Vec::with_capacity(alloc, number as usize)?;
     'seats: for _seat in 0..number {
         let own = hub.split_pass(pass);
-        seats.push(Seat::new(rt, alloc, settings, counters, hub, gate, own)?)?;
+        seats.push(Seat::new(alloc, settings, counters, hub, gate, own)?)?;
     }
     Ok(seats)
 }

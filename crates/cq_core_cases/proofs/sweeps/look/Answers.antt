@@ -5,8 +5,8 @@ use Rattle.cq_chain.specs.Passes.{BoardCells}
 use Rattle.cq_shared.proofs.Applying.{same_step}
 use Rattle.cq_core_cases.proofs.sweeps.look.Goals as goal
 
-pub enter_shard-requires : goal.enter_shard-requires
-enter_shard-requires g c = record {
+pub enter_shard-shard-requires : goal.enter_shard-shard-requires
+enter_shard-shard-requires g c = record {
   of = subst (λ (k : BoardCells). chain.IsPassOf k c.args.pass.now) (sym c.cells.ensures) c.requires.of.of;
   free = c.requires.of.free;
   shard = subst (λ (k : BoardCells). c.args.number < k.about.settings.shards) (sym c.cells.ensures) c.requires.number;
@@ -22,12 +22,12 @@ leave_shard-requires g c =
       step = record { was = c.enter_shard-shard.result; hand = e.hand; step = same_step (HasWindow g.W.Indexed.keys_in g.W.Indexed.IsWorkOf cells.about.settings) cells.about c.enter_shard-shard.new.pass.seen c.enter_shard-shard.result };
     }
 
-pub returns-clause-of : goal.returns-clause-of
-returns-clause-of g c =
+pub returns : goal.returns
+returns g c =
     let l = c.leave_shard.ensures in
     record { of = subst (λ (k : BoardCells). chain.IsPassOf k c.leave_shard.new.pass) c.cells-2.ensures l.of; free = l.free; shards = c.requires.of.shards; some_shard = c.requires.of.some_shard }
 
-pub returns-in_err-entries-clause-of : goal.returns-in_err-entries-clause-of
-returns-in_err-entries-clause-of g c =
+pub returns-in_err-entries : goal.returns-in_err-entries
+returns-in_err-entries g c =
     let l = c.leave_shard.ensures in
     record { of = subst (λ (k : BoardCells). chain.IsPassOf k c.leave_shard.new.pass) c.cells-2.ensures l.of; free = l.free; shards = c.requires.of.shards; some_shard = c.requires.of.some_shard }

@@ -13,7 +13,7 @@ sweep_both-requires g c =
     (by_of p, p.seen, record { is = c.requires.of; caller = refl; seen = refl }, subst (λ l. view_of (state_of hub l) (by_of p) ≡ None) (sym c.requires.fresh) (no_view (callers_of hub) (by_of p)))
 
 pub returns : goal.returns
-returns g c = ok_weaker c.sweep_both.result _ _ (λ is. is.2.is) c.sweep_both.ensures
+returns g c κs within = ok_weaker c.sweep_both.result _ _ (λ is. is.2.is) c.sweep_both.ensures
   where
     ok_weaker : {V E : Type 0} (r : Result V E) (P Q : Type 0) → (P → Q) → OnOk r P → OnOk r Q
     ok_weaker (Ok v) P Q to p = to p
