@@ -21,9 +21,11 @@ use cq_work::Work;
 use std::alloc::Global;
 use std::sync::Arc;
 use std::sync::ledger::Ledger;
+use std::thread::Threads;
 
 // The reply to a query of this kind, from the groups that it lists.
-fn reply_of<L: Ledger>(
+fn reply_of<R: Threads + Sync, L: Ledger>(
+    rt: &R,
     alloc: Global,
     files: &[Arc<Held<Work<L>>, Global>],
     conditions: &[Condition],
@@ -47,11 +49,11 @@ fn reply_of<L: Ledger>(
             version,
         }),
         Kind::Measures => Ok(Reply::Measures {
-            measures: measures_of(alloc, files, part, groups)?,
+            measures: measures_of(rt, alloc, files, part, groups)?,
             version,
         }),
         Kind::Verdict => {
-            let measures = measures_of(alloc, files, part, groups)?;
+            let measures = measures_of(rt, alloc, files, part, groups)?;
             Ok(Reply::Verdict {
                 verdict: verdict(alloc, conditions, &measures)?,
                 version,
@@ -62,8 +64,10 @@ fn reply_of<L: Ledger>(
 
 /// The reply to a query at a version, of which these are the project's files and conditions. Want of memory leaves the
 /// buckets fit for the next question. With a path that is there, the index is asked for the keys of that file's windows
-/// alone; for the list of files, and for a path that is not there, it is not asked and no token is read.
-pub fn answer<B: Buckets, L: Ledger>(
+/// alone; for the list of files, and for a path that is not there, it is not asked and no token is read. The measures of a
+/// whole project of many places are counted in threads; all else is done on the caller's.
+pub fn answer<R: Threads + Sync, B: Buckets, L: Ledger>(
+    rt: &R,
     alloc: Global,
     settings: &Settings,
     files: &ProjectFiles<Work<L>>,
@@ -92,5 +96,7 @@ pub fn answer<B: Buckets, L: Ledger>(
     let part = part_of(files, query);
     let groups = groups_of(alloc, settings, files, part, query.min, buckets, steps)?;
     let items = files.items();
-    reply_of(alloc, items, conditions, query.kind, part, version, &groups)
+    reply_of(
+        rt, alloc, items, conditions, query.kind, part, version, &groups,
+    )
 }

@@ -2,7 +2,7 @@ ghost use Rattle.std.specs.Prelude.{◌≡◌, length, IfOk};
 ghost use Rattle.cq_measures.specs.Measures.{counts_of, spans_of};
 ghost use Rattle.cq_answer.specs.Parts.{IsWithin};
 ghost use Rattle.cq_answer.specs.Rows as spec;
-ghost use Rattle.cq_answer.specs.Works.{works_in, facts_in};
+ghost use Rattle.cq_answer.specs.Works.{works_in, work_in, facts_in};
 
 use crate::file::work_of;
 use crate::part::Part;
@@ -13,6 +13,7 @@ use cq_work::Work;
 use std::alloc::Global;
 use std::sync::Arc;
 use std::sync::ledger::Ledger;
+use std::thread::Threads;
 
 const NO_MEASURES: Measures = Measures {
     lines: 0,
@@ -35,17 +36,26 @@ fn lines_of<'a, L: Ledger>(
 {
     let mut all = Vec::new(alloc);
     for file in files {
-        let work = work_of(file);
-        all.push(FileLines {
-            counts: work.counts,
-            spans: &work.spans,
-        })?;
+        all.push(lines_in(file))?;
     }
     Ok(all)
 }
 
+// The same of one file.
+fn lines_in<'a, L: Ledger>(file: &'a Arc<Held<Work<L>>, Global>) -> FileLines<'a>
+    ensures counts { result.counts ≡ (work_in file.now).body.counts }
+    ensures spans { result.spans.now ≡ (work_in file.now).body.spans.items }
+{
+    let work = work_of(file);
+    FileLines {
+        counts: work.counts,
+        spans: &work.spans,
+    }
+}
+
 /// The measures of a part of some files, by the groups that it lists.
-pub(crate) fn measures_of<L: Ledger>(
+pub(crate) fn measures_of<R: Threads + Sync, L: Ledger>(
+    rt: &R,
     alloc: Global,
     files: &[Arc<Held<Work<L>>, Global>],
     part: Part,
@@ -55,10 +65,9 @@ pub(crate) fn measures_of<L: Ledger>(
     requires measurable { spec.AreShowable (facts_in (works_in files.now)) groups.now }
     ensures { IfOk result (λ m. m ≡ spec.measures_of (facts_in (works_in files.now)) groups.now part) }
 {
-    let lines = lines_of(alloc, files)?;
     match part {
-        Part::Whole => project_measures(alloc, &lines, groups),
-        Part::File(file) => file_measures(alloc, &lines, file, groups),
+        Part::Whole => project_measures(rt, alloc, &lines_of(alloc, files)?, groups),
+        Part::File(file) => file_measures(alloc, file, &lines_in(&files[file as usize]), groups),
         Part::Nothing => Ok(NO_MEASURES),
     }
 }

@@ -1,4 +1,5 @@
 ghost use Rattle.std.specs.Prelude.{◌≡◌, ℕ, ◌<◌, List, None};
+ghost use Rattle.std.specs.Thread.{IsSync};
 ghost use Rattle.cq_base.specs.Settings.{IsInRange};
 ghost use Rattle.cq_base.specs.declared.settings.Settings.{Settings as HubSettings};
 ghost use Rattle.cq_cells.specs.Passes.{by_of};
@@ -34,7 +35,13 @@ pub(crate) trait Talker<L: Ledger, R: Wait> {
     // has seen then, and how many buckets it has asked for.
     ghost Said: { Self → Self.Told → ℕ → ℕ → List Happened → List Happened → ℕ → Type 0 };
 
-    fn talk(self, hub: &Shared<Work<L>, R>, pass: &mut Pass<Work<L>>) -> Self::Told
+    fn talk<Q: Threads + Sync>(
+        self,
+        rt: &Q,
+        hub: &Shared<Work<L>, R>,
+        pass: &mut Pass<Work<L>>,
+    ) -> Self::Told
+        requires crosses { IsSync Q.row }
         requires may { MayTalk self }
         requires settings { settings_of hub.now ≡ settings self }
         requires of { IsPassOf hub.now pass.old }
@@ -70,7 +77,7 @@ fn labour<Q: Wait, L: Ledger, R: Wait, G: Gate>(
 }
 
 // The talk, on a pass of its own, which ends in this one. Behind it nobody sleeps on the bell.
-fn apart<Q: Wait, L: Ledger, R: Wait, T: Talker<L, R>>(
+fn apart<Q: Threads + Wait + Sync, L: Ledger, R: Wait, T: Talker<L, R>>(
     rt: &Q,
     hub: &Shared<Work<L>, R>,
     bell: &Bell,
@@ -87,7 +94,7 @@ fn apart<Q: Wait, L: Ledger, R: Wait, T: Talker<L, R>>(
 {
     let mut pass = pass;
     let mut own = hub.split_pass(&mut pass);
-    let told = talker.talk(hub, &mut own);
+    let told = talker.talk(rt, hub, &mut own);
     bell.end(rt);
     hub.join_pass(&mut pass, own);
     (told, pass)

@@ -66,7 +66,12 @@ impl<'a, L: Ledger, R: Wait, S: Source, K: Sink, G: Gate> Talker<L, R> for Servi
         × (r.source.ghost_name ≡ t.source.ghost_name) × (r.sink.ghost_name ≡ t.sink.ghost_name)
         × (r.steps.ghost_name ≡ t.steps.ghost_name) };
 
-    fn talk(self, hub: &Shared<Work<L>, R>, pass: &mut Pass<Work<L>>) -> Over<'a, L, S, K> {
+    fn talk<Q: Threads + Sync>(
+        self,
+        rt: &Q,
+        hub: &Shared<Work<L>, R>,
+        pass: &mut Pass<Work<L>>,
+    ) -> Over<'a, L, S, K> {
         let Serving {
             alloc,
             settings,
@@ -78,7 +83,7 @@ impl<'a, L: Ledger, R: Wait, S: Source, K: Sink, G: Gate> Talker<L, R> for Servi
             steps,
         } = self;
         let end = session(
-            alloc, settings, keyer, hub, pass, lines, source, sink, gate, steps,
+            rt, alloc, settings, keyer, hub, pass, lines, source, sink, gate, steps,
         );
         Over {
             source,

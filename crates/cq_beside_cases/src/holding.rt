@@ -105,7 +105,8 @@ const BEHIND: &str =
 ";
 
 // A session, in a pass that is split from this one and ends in it: whether it ends with the input, and writes the output.
-fn talks<L: Ledger, R: Wait, G: Gate>(
+fn talks<Q: Threads + Sync, L: Ledger, R: Wait, G: Gate>(
+    rt: &Q,
     alloc: Global,
     settings: &Settings,
     hub: &Shared<Work<L>, R>,
@@ -130,6 +131,7 @@ fn talks<L: Ledger, R: Wait, G: Gate>(
     let mut steps: Steps<L> = counters.counter();
     let mut own = hub.split_pass(pass);
     let (end, replies) = written(
+        rt,
         alloc,
         settings,
         &keyer,
@@ -175,7 +177,8 @@ struct Told {
 }
 
 // A session that uploads, and one that asks while the worker is held in the work of the upload, if it was accepted.
-fn two_sessions<L: Ledger, R: Wait, Q: Wait, G: Gate>(
+fn two_sessions<L: Ledger, R: Wait, Q: Threads + Wait + Sync, G: Gate>(
+    rt: &Q,
     alloc: Global,
     settings: &Settings,
     hub: &Shared<Work<L>, R>,
@@ -194,13 +197,13 @@ fn two_sessions<L: Ledger, R: Wait, Q: Wait, G: Gate>(
 {
     let mut pass = pass;
     let upload = talks(
-        alloc, settings, hub, counters, gate, UPLOAD, UPLOADED, &mut pass,
+        rt, alloc, settings, hub, counters, gate, UPLOAD, UPLOADED, &mut pass,
     )?;
     if upload {
         holding.meet();
     }
     let beside = talks(
-        alloc, settings, hub, counters, gate, QUERY, BESIDE, &mut pass,
+        rt, alloc, settings, hub, counters, gate, QUERY, BESIDE, &mut pass,
     )?;
     let told = Told {
         upload,
@@ -211,7 +214,7 @@ fn two_sessions<L: Ledger, R: Wait, Q: Wait, G: Gate>(
 }
 
 // The same, and then the worker is let go and has its end.
-fn two_sessions_then_end<L: Ledger, R: Wait, Q: Wait>(
+fn two_sessions_then_end<L: Ledger, R: Wait, Q: Threads + Wait + Sync>(
     rt: &Q,
     alloc: Global,
     settings: &Settings,
@@ -234,7 +237,7 @@ fn two_sessions_then_end<L: Ledger, R: Wait, Q: Wait>(
         bell,
         rt,
     };
-    let came = two_sessions(alloc, settings, hub, counters, &gate, holding, pass);
+    let came = two_sessions(rt, alloc, settings, hub, counters, &gate, holding, pass);
     holding.let_go();
     bell.end(rt);
     came
@@ -276,7 +279,7 @@ fn three_sessions<Q: Threads + Wait + Sync, L: Ledger + Send + Sync, R: Wait + S
     let (told, mut pass) = came?;
     hub.join_pass(&mut pass, mine);
     let behind = talks(
-        alloc, settings, hub, counters, &OpenGate, QUERY, BEHIND, &mut pass,
+        rt, alloc, settings, hub, counters, &OpenGate, QUERY, BEHIND, &mut pass,
     )?;
     Ok(Told {
         upload: told.upload,

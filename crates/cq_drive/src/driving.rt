@@ -19,12 +19,14 @@ use cq_reply::{Short, fixed};
 use cq_work::Work;
 use std::alloc::Global;
 use std::sync::ledger::Ledger;
+use std::thread::Threads;
 
 /// How many callers a script has.
 const CALLERS: u32 = 16;
 
 // Writes the outcome of a line, which is not too long.
-fn turn<L: Ledger, K: Sink>(
+fn turn<R: Threads + Sync, L: Ledger, K: Sink>(
+    rt: &R,
     alloc: Global,
     settings: &Settings,
     keyer: &Keyer,
@@ -40,7 +42,7 @@ fn turn<L: Ledger, K: Sink>(
     ensures sent { LineSent L settings.now core.old core.new line.now (K.written sink.old) (K.written sink.new) result }
     ensures cause { HasCause (K.faults sink.old) (K.faults sink.new) result }
 {
-    let told = outcome_line(alloc, settings, keyer, core, line, steps);
+    let told = outcome_line(rt, alloc, settings, keyer, core, line, steps);
     send(sink, told.as_bytes())
 }
 
@@ -53,7 +55,8 @@ fn turn_long<K: Sink>(sink: &mut K) -> Result<(), Failed>
 }
 
 // Steps a core by the lines of a source.
-fn run<L: Ledger, S: Source, K: Sink>(
+fn run<R: Threads + Sync, L: Ledger, S: Source, K: Sink>(
+    rt: &R,
     alloc: Global,
     settings: &Settings,
     keyer: &Keyer,
@@ -72,7 +75,7 @@ fn run<L: Ledger, S: Source, K: Sink>(
 {
     'lines: loop {
         match lines.next(source) {
-            Cut::Line(line) => match turn(alloc, settings, keyer, core, line, sink, steps) {
+            Cut::Line(line) => match turn(rt, alloc, settings, keyer, core, line, sink, steps) {
                 Ok(()) => {}
                 Err(Failed) => return End::WriteFault,
             },
@@ -90,7 +93,8 @@ fn run<L: Ledger, S: Source, K: Sink>(
 /// Steps a core of sixteen callers by the lines of a source, from nothing accepted on. Windows have the keys of `keyer`.
 /// Each whole outcome is handed to the sink before the next line is cut. Memory is answered before the first line alone,
 /// and then nothing was read or written.
-pub fn drive<L: Ledger, S: Source, K: Sink>(
+pub fn drive<R: Threads + Sync, L: Ledger, S: Source, K: Sink>(
+    rt: &R,
     alloc: Global,
     settings: &Settings,
     keyer: &Keyer,
@@ -110,6 +114,6 @@ pub fn drive<L: Ledger, S: Source, K: Sink>(
 {
     let mut core: Core<Work<L>> = Core::new(alloc, settings, CALLERS)?;
     Ok(run(
-        alloc, settings, keyer, &mut core, lines, source, sink, steps,
+        rt, alloc, settings, keyer, &mut core, lines, source, sink, steps,
     ))
 }

@@ -17,9 +17,11 @@ use cq_step::{ScriptStep, read_step};
 use cq_work::Work;
 use std::alloc::Global;
 use std::sync::ledger::Ledger;
+use std::thread::Threads;
 
 // The outcome of a step that was read. Where memory is refused, nothing has changed.
-fn outcome_of<L: Ledger>(
+fn outcome_of<R: Threads + Sync, L: Ledger>(
+    rt: &R,
     alloc: Global,
     settings: &Settings,
     keyer: &Keyer,
@@ -55,7 +57,7 @@ fn outcome_of<L: Ledger>(
         }
         ScriptStep::Open { by } => stepped(alloc, settings, core, Step::Open { by }, steps),
         ScriptStep::Read { by, shard, key } => read(alloc, settings, core, by, shard, key),
-        ScriptStep::Reply { by, query } => reply(alloc, settings, core, by, &query, steps),
+        ScriptStep::Reply { by, query } => reply(rt, alloc, settings, core, by, &query, steps),
         ScriptStep::Shut { by } => stepped(alloc, settings, core, Step::Shut { by }, steps),
         ScriptStep::Floor { version } => {
             stepped(alloc, settings, core, Step::Floor { version }, steps)
@@ -67,7 +69,8 @@ fn outcome_of<L: Ledger>(
 }
 
 // The outcome of a line that is not too long. Where memory is refused, nothing has changed.
-fn said<L: Ledger>(
+fn said<R: Threads + Sync, L: Ledger>(
+    rt: &R,
     alloc: Global,
     settings: &Settings,
     keyer: &Keyer,
@@ -83,7 +86,7 @@ fn said<L: Ledger>(
     ensures err { OnErr result (core.new ≡ core.old) }
 {
     match read_step(alloc, settings, line) {
-        Ok(step) => outcome_of(alloc, settings, keyer, core, step, steps),
+        Ok(step) => outcome_of(rt, alloc, settings, keyer, core, step, steps),
         Err(refusal) => Ok(ScriptOutcome::Reply(refused_as(refusal)?)),
     }
 }
@@ -100,7 +103,8 @@ fn line_or_memory(alloc: Global, told: &ScriptOutcome) -> Line
 }
 
 /// The line of the outcome of a line that is not too long.
-pub(crate) fn outcome_line<L: Ledger>(
+pub(crate) fn outcome_line<R: Threads + Sync, L: Ledger>(
+    rt: &R,
     alloc: Global,
     settings: &Settings,
     keyer: &Keyer,
@@ -113,7 +117,7 @@ pub(crate) fn outcome_line<L: Ledger>(
     requires driven { IsDriven L settings.now core.old }
     ensures { LineLed L settings.now core.old core.new line.now (bytes_of result) }
 {
-    match said(alloc, settings, keyer, core, line, steps) {
+    match said(rt, alloc, settings, keyer, core, line, steps) {
         Ok(outcome) => line_or_memory(alloc, &outcome),
         Err(Memory) => Line::Short(fixed(Short::Memory)),
     }

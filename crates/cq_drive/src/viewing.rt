@@ -20,6 +20,7 @@ use cq_request::Query;
 use cq_work::Work;
 use std::alloc::Global;
 use std::sync::ledger::Ledger;
+use std::thread::Threads;
 
 /// The entries of a shard with a key in the caller's view.
 pub(crate) fn read<L: Ledger>(
@@ -43,7 +44,8 @@ pub(crate) fn read<L: Ledger>(
 }
 
 // The reply to a query at the version of a view, which the caller has open.
-fn answered<L: Ledger>(
+fn answered<R: Threads + Sync, L: Ledger>(
+    rt: &R,
     alloc: Global,
     settings: &Settings,
     core: &Core<Work<L>>,
@@ -72,6 +74,7 @@ fn answered<L: Ledger>(
         asked: 0,
     };
     let reply = answer(
+        rt,
         alloc,
         settings,
         files,
@@ -85,7 +88,8 @@ fn answered<L: Ledger>(
 }
 
 /// The reply to a query at the version of the caller's view.
-pub(crate) fn reply<L: Ledger>(
+pub(crate) fn reply<R: Threads + Sync, L: Ledger>(
+    rt: &R,
     alloc: Global,
     settings: &Settings,
     core: &Core<Work<L>>,
@@ -101,7 +105,7 @@ pub(crate) fn reply<L: Ledger>(
     ensures text { IfOk result IsOutcomeText }
 {
     match core.view(by) {
-        Some(view) => answered(alloc, settings, core, by, view, query, steps),
+        Some(view) => answered(rt, alloc, settings, core, by, view, query, steps),
         None => Ok(ScriptOutcome::No),
     }
 }

@@ -9,9 +9,11 @@ use cq_lines::{End, Lines};
 use std::alloc::Global;
 use std::marker::Brand;
 use std::sync::ledger::{Blank, Ledger};
+use std::thread::Threads;
 
 // How a script ends, and what is written for it.
-fn written<L: Ledger>(
+fn written<R: Threads + Sync, L: Ledger>(
+    rt: &R,
     alloc: Global,
     settings: &Settings,
     script: &[u8],
@@ -30,6 +32,7 @@ fn written<L: Ledger>(
     let mut sink = MemSink::new(alloc, 1_048_576, 89, Vec::new(alloc))?;
     let mut steps: Steps<L> = Steps::new(blank);
     let end = drive(
+        rt,
         alloc,
         settings,
         &keyer,
@@ -42,12 +45,13 @@ fn written<L: Ledger>(
 }
 
 /// How a script ends, and what is written for it.
-pub fn written_here(
+pub fn written_here<R: Threads + Sync>(
+    rt: &R,
     alloc: Global,
     settings: &Settings,
     script: &[u8],
 ) -> Result<(End, Vec<u8>), Memory>
     requires { IsInRange settings.now }
 {
-    written::<Brand>(alloc, settings, script, Blank::new(1))
+    written::<R, Brand>(rt, alloc, settings, script, Blank::new(1))
 }

@@ -4,6 +4,7 @@ use crate::running::written_here;
 use cq_base::{Memory, Settings};
 use cq_lines::End;
 use std::alloc::Global;
+use std::thread::Threads;
 
 const SETTINGS: Settings = Settings {
     chunk: 2,
@@ -138,7 +139,8 @@ fn first_otherwise(kinds: &[Option<usize>]) -> Option<(usize, usize)> {
 }
 
 // A script of 300 draws, whose lines' kinds are added to those that came.
-fn script_goes(
+fn script_goes<R: Threads + Sync>(
+    rt: &R,
     alloc: Global,
     key_bits: u32,
     seed: u64,
@@ -153,7 +155,7 @@ fn script_goes(
     }
     let lines = drawn_lines(alloc, &settings, 300, seed)?;
     add_kinds(&lines, kinds)?;
-    let (end, output) = written_here(alloc, &settings, lines.asked.as_bytes())?;
+    let (end, output) = written_here(rt, alloc, &settings, lines.asked.as_bytes())?;
     if end != End::Finished {
         return Ok(Went::Unfinished);
     }
@@ -168,9 +170,9 @@ fn script_goes(
 fn scripts_go_as_told(rt: HostRuntime) -> Result<(), Memory> {
     let alloc = rt.alloc();
     let mut kinds = Vec::new(alloc);
-    assert_eq!(rt; script_goes(alloc, 0, 33, &mut kinds)?, Went::AsTold);
-    assert_eq!(rt; script_goes(alloc, 3, 22, &mut kinds)?, Went::AsTold);
-    assert_eq!(rt; script_goes(alloc, 64, 32, &mut kinds)?, Went::AsTold);
+    assert_eq!(rt; script_goes(&rt, alloc, 0, 33, &mut kinds)?, Went::AsTold);
+    assert_eq!(rt; script_goes(&rt, alloc, 3, 22, &mut kinds)?, Went::AsTold);
+    assert_eq!(rt; script_goes(&rt, alloc, 64, 32, &mut kinds)?, Went::AsTold);
     assert_eq!(rt; kinds.len(), 986);
     assert_eq!(rt; first_otherwise(&kinds), None);
     Ok(())

@@ -35,13 +35,18 @@ fn take_back<D>(doors: &mut D)
 {}
 
 // Serves what is left in a queue that no thread uses any more. Threads of sessions leave nothing there.
-fn serve_rest<C, N: Attendant<C> + Drop>(keyer: &Keyer, attendant: N, queue: Queue<C>)
+fn serve_rest<Q: Threads + Sync, C, N: Attendant<C> + Drop>(
+    rt: &Q,
+    keyer: &Keyer,
+    attendant: N,
+    queue: Queue<C>,
+)
     requires { N.settings attendant ≡ keyer.now.settings }
 {
     let mut attendant = attendant;
     let mut rest = queue.into_waiting();
     'rest: while let Some(connection) = rest.pop_front() {
-        attendant.attend(keyer, connection);
+        attendant.attend(rt, keyer, connection);
     }
     rest.destroy_empty();
 }
@@ -87,7 +92,7 @@ fn serve_doors<
     );
     let Doorway { doors, failed } = doorway;
     take_back(doors);
-    serve_rest(keyer, own, queue);
+    serve_rest(rt, keyer, own, queue);
     failed
 }
 

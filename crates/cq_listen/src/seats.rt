@@ -17,6 +17,7 @@ use std::alloc::Global;
 use std::marker::Model;
 use std::sync::Wait;
 use std::sync::ledger::Ledger;
+use std::thread::Threads;
 
 /// What a thread of the sessions has of its own: a pass with no view open, and a cutter. Contracts see it as the
 /// settings of its hub.
@@ -76,7 +77,8 @@ impl<'a, L: Ledger, R, G> Seat<'a, L, R, G> {
 }
 
 // Serves a connection to its end, by a session on a seat. The keys are those of the keyer.
-fn converse<L: Ledger, R: Wait, S: Source + Drop, K: Sink + Drop, G: Gate>(
+fn converse<Q: Threads + Sync, L: Ledger, R: Wait, S: Source + Drop, K: Sink + Drop, G: Gate>(
+    rt: &Q,
     keyer: &Keyer,
     seat: &mut Seat<'_, L, R, G>,
     connection: Connection<S, K>,
@@ -90,6 +92,7 @@ fn converse<L: Ledger, R: Wait, S: Source + Drop, K: Sink + Drop, G: Gate>(
     let mut steps = seat.counters.counter();
     seat.lines.restart();
     let _end = session(
+        rt,
         seat.alloc,
         seat.settings,
         keyer,
@@ -107,8 +110,8 @@ impl<'a, L: Ledger, R: Wait, S: Source + Drop, K: Sink + Drop, G: Gate> Attendan
     for Seat<'a, L, R, G> {
     ghost settings = { λ s. s };
 
-    fn attend(&mut self, keyer: &Keyer, connection: Connection<S, K>) {
-        converse(keyer, self, connection);
+    fn attend<Q: Threads + Sync>(&mut self, rt: &Q, keyer: &Keyer, connection: Connection<S, K>) {
+        converse(rt, keyer, self, connection);
     }
 }
 

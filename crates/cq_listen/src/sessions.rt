@@ -1,4 +1,5 @@
 ghost use Rattle.std.specs.Prelude.{◌≡◌, All};
+ghost use Rattle.std.specs.Thread.{IsSync};
 ghost use Rattle.cq_base.specs.declared.settings.Settings.{Settings as Told};
 
 use crate::doorway::Arrivals;
@@ -14,13 +15,14 @@ pub(crate) trait Attendant<C> {
     ghost settings: { Self → Told };
 
     /// Serves a connection. The keys are those of the keyer.
-    fn attend(&mut self, keyer: &Keyer, connection: C)
-        requires { settings self.old ≡ keyer.now.settings }
+    fn attend<Q: Threads + Sync>(&mut self, rt: &Q, keyer: &Keyer, connection: C)
+        requires crosses { IsSync Q.row }
+        requires of { settings self.old ≡ keyer.now.settings }
         ensures { settings self.new ≡ settings self.old };
 }
 
 // Serves what comes into the queue, until no more will.
-fn serve_queue<Q: Wait, C, N: Attendant<C> + Drop>(
+fn serve_queue<Q: Threads + Wait + Sync, C, N: Attendant<C> + Drop>(
     rt: &Q,
     keyer: &Keyer,
     attendant: N,
@@ -31,14 +33,20 @@ fn serve_queue<Q: Wait, C, N: Attendant<C> + Drop>(
     let mut attendant = attendant;
     'turns: for _ in rt.forever() {
         match queue.pop(rt) {
-            Some(connection) => attendant.attend(keyer, connection),
+            Some(connection) => attendant.attend(rt, keyer, connection),
             None => break,
         }
     }
 }
 
 // Starts a thread for each attendant, while one can be made, and says whether there is any.
-fn start_sessions<'s, E: 's, Q: Wait + Sync, C: Send + 's, N: Attendant<C> + Send + Drop + 's>(
+fn start_sessions<
+    's,
+    E: 's,
+    Q: Threads + Wait + Sync,
+    C: Send + 's,
+    N: Attendant<C> + Send + Drop + 's,
+>(
     scope: &Scope<'s, E>,
     rt: &'s Q,
     keyer: &'s Keyer,
@@ -79,7 +87,7 @@ fn hand_over<Q: Wait, C, A: Arrivals<C>>(rt: &Q, queue: &Queue<C>, arrivals: A) 
 }
 
 // Serves what comes on this thread, each connection before the next one is asked for.
-fn serve_alone<Q: Wait, C, N: Attendant<C>, A: Arrivals<C>>(
+fn serve_alone<Q: Threads + Wait + Sync, C, N: Attendant<C>, A: Arrivals<C>>(
     rt: &Q,
     keyer: &Keyer,
     own: N,
@@ -94,7 +102,7 @@ fn serve_alone<Q: Wait, C, N: Attendant<C>, A: Arrivals<C>>(
     let mut arrivals = arrivals;
     'turns: for _ in rt.forever() {
         match arrivals.next() {
-            Some(connection) => own.attend(keyer, connection),
+            Some(connection) => own.attend(rt, keyer, connection),
             None => return (arrivals, own),
         }
     }
@@ -102,7 +110,7 @@ fn serve_alone<Q: Wait, C, N: Attendant<C>, A: Arrivals<C>>(
 }
 
 // Serves what comes by other threads, or where there are none on this one.
-fn serve_all<Q: Wait, C, N: Attendant<C>, A: Arrivals<C>>(
+fn serve_all<Q: Threads + Wait + Sync, C, N: Attendant<C>, A: Arrivals<C>>(
     rt: &Q,
     keyer: &Keyer,
     is_any: bool,

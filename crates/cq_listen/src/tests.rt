@@ -3,6 +3,7 @@ use crate::queue::Queue;
 use crate::sessions::{Attendant, serve_arrivals};
 use cq_base::{Memory, Settings};
 use cq_key::{Keyer, plain_key};
+use std::thread::Threads;
 
 const SETTINGS: Settings = Settings {
     chunk: 2,
@@ -25,7 +26,7 @@ struct Noting {
 impl Attendant<u64> for Noting {
     ghost settings = { λ n. n.settings };
 
-    fn attend(&mut self, _keyer: &Keyer, connection: u64) {
+    fn attend<Q: Threads + Sync>(&mut self, _rt: &Q, _keyer: &Keyer, connection: u64) {
         self.noted = self.noted.saturating_mul(10).saturating_add(connection);
     }
 }

@@ -15,6 +15,7 @@ use cq_session::query_reply;
 use cq_work::Work;
 use std::alloc::Global;
 use std::sync::ledger::Ledger;
+use std::thread::Threads;
 
 const LEAST_TOKENS: u32 = 50;
 
@@ -32,7 +33,8 @@ fn question(alloc: Global, kind: Kind) -> Result<Query, Memory>
 }
 
 /// The reply to a question about the project, by all changes that are accepted.
-pub(crate) fn reply_of<L: Ledger>(
+pub(crate) fn reply_of<R: Threads + Sync, L: Ledger>(
+    rt: &R,
     alloc: Global,
     settings: &Settings,
     keyer: &Keyer,
@@ -50,6 +52,6 @@ pub(crate) fn reply_of<L: Ledger>(
 {
     let query = question(alloc, kind)?;
     query_reply(
-        alloc, settings, keyer, hub, &query, 0, &OpenGate, pass, steps,
+        rt, alloc, settings, keyer, hub, &query, 0, &OpenGate, pass, steps,
     )
 }

@@ -23,6 +23,7 @@ use cq_request::Kind;
 use cq_work::Work;
 use std::alloc::Global;
 use std::sync::ledger::Ledger;
+use std::thread::Threads;
 
 fn group_count(reply: &Reply) -> u64
     requires { ShowsGroups reply.now }
@@ -76,7 +77,8 @@ fn line_told(
 }
 
 // The line of the project, which a hub of its own has told.
-fn line_made<L: Ledger>(
+fn line_made<R: Threads + Sync, L: Ledger>(
+    rt: &R,
     alloc: Global,
     settings: &Settings,
     number: u64,
@@ -96,6 +98,7 @@ fn line_made<L: Ledger>(
     let (hub, mut pass) = made;
     put_all(alloc, &hub, number, files, &mut pass)?;
     let groups = reply_of(
+        rt,
         alloc,
         settings,
         &keyer,
@@ -105,6 +108,7 @@ fn line_made<L: Ledger>(
         steps,
     )?;
     let measures = reply_of(
+        rt,
         alloc,
         settings,
         &keyer,
@@ -113,13 +117,23 @@ fn line_made<L: Ledger>(
         &mut pass,
         steps,
     )?;
-    let rows = reply_of(alloc, settings, &keyer, &hub, Kind::Files, &mut pass, steps)?;
+    let rows = reply_of(
+        rt,
+        alloc,
+        settings,
+        &keyer,
+        &hub,
+        Kind::Files,
+        &mut pass,
+        steps,
+    )?;
     line_told(alloc, settings, number, files, &groups, &measures, &rows)
 }
 
 /// Makes the project of a number, of so many files, and writes the one line that tells of it: how many groups it has of at
 /// least 50 tokens, its measures, the tokens of its files and its version. Memory is wanted only before a byte is written.
-pub fn make<K: Sink, L: Ledger>(
+pub fn make<R: Threads + Sync, K: Sink, L: Ledger>(
+    rt: &R,
     alloc: Global,
     settings: &Settings,
     number: u64,
@@ -135,6 +149,6 @@ pub fn make<K: Sink, L: Ledger>(
     ensures cause { IfOk result (HasCause (K.faults sink.old) (K.faults sink.new)) }
     ensures memory { OnErr result (sink.new ≡ sink.old) }
 {
-    let line = line_made(alloc, settings, number, files, steps)?;
+    let line = line_made(rt, alloc, settings, number, files, steps)?;
     Ok(send(sink, line.as_bytes()))
 }

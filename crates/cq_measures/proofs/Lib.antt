@@ -5,4 +5,7 @@ pub mod Counted
 pub mod Same
 pub mod CodeLines
 pub mod Placed
+pub mod Divided
+pub mod Runs
+pub mod Collected
 pub mod Totals

@@ -9,7 +9,7 @@ use Rattle.std.specs.List.{AllByRecursion, IsDistinct, flat_map, list_any}
 use Rattle.std.specs.declared.cmp.Ordering.TheVariants.{Less}
 use Rattle.cq_measures.specs.declared.extent.Extent.{Extent}
 use Rattle.cq_measures.specs.Extents.{same_extent, lines_of, covered_lines, different_extents, files_touched}
-use Rattle.cq_measures.specs.Sorted.{extent_cmp, AreInOrder, AreBelow, IsOneOfEach}
+use Rattle.cq_measures.specs.Sorted.{extent_cmp, AreInOrder, AreBelow, AreIn, IsOneOfEach}
 use Rattle.cq_measures.proofs.Lines.{covers, member-flat_map}
 use Rattle.cq_measures.proofs.Order.{same_extent-laws}
 use Rattle.cq_measures.proofs.Sweep.{new_count-is, new_count-of, new_files-is, new_files-of}
@@ -48,6 +48,9 @@ distinct_in_order (e ∷ es) o = IsDistinct-cons same_extent e es (others e es (
 
 pub below_same : (n : ℕ) (xs ys : List Extent) → IsOneOfEach xs ys → AreBelow n xs → AreBelow n ys
 below_same n xs ys once below = All-weaker (λ e. Contains ys e) (λ e. e.file < n) (λ e here. All-contains (λ f. f.file < n) xs e below ((once.each e).0 here)) ys (All-contains_itself ys)
+
+pub alone_same : (file : ℕ) (xs ys : List Extent) → IsOneOfEach xs ys → AreIn file xs → AreIn file ys
+alone_same file xs ys once are = All-weaker (λ e. Contains ys e) (λ e. e.file ≡ file) (λ e here. All-contains (λ f. f.file ≡ file) xs e are ((once.each e).0 here)) ys (All-contains_itself ys)
 
 pub lines_same : (xs ys : List Extent) → IsOneOfEach xs ys → covered_lines ys ≡ covered_lines xs
 lines_same xs ys once = sym (new_count-is ys once.ordered) ∙ new_count-of ys once.ordered (flat_map lines_of xs) (λ q. member-flat_map xs q ∙ sym (any_same (covers q) xs ys once.each))

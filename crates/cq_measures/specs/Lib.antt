@@ -2,4 +2,5 @@ pub mod Counts
 pub mod Decisions
 pub mod Extents
 pub mod Measures
+pub mod Parted
 pub mod Sorted

@@ -1,5 +1,5 @@
 -- The measures of a project, and of one file of it.
-use Rattle.std.specs.Prelude.{◌≡◌, ℕ, ◌+◌, ◌-◌, ◌*◌, ◌/◌, ◌^◌, ◌<◌, ◌≤◌, ◌==◌, if◌then◌else◌, List, [], ◌++◌, length, map, filter, slice_index_or, All, Contains}
+use Rattle.std.specs.Prelude.{◌≡◌, ℕ, ◌+◌, ◌-◌, ◌*◌, ◌/◌, ◌^◌, ◌<◌, ◌≤◌, ◌==◌, if◌then◌else◌, List, [], length, map, filter, slice_index_or, All, Contains}
 use Rattle.std.specs.List.{flat_map, sum_by}
 use Rattle.cq_base.specs.declared.group.Place.{Place}
 use Rattle.cq_base.specs.declared.group.Group.{Group}
@@ -30,10 +30,6 @@ extent_of spans n p =
 -- those of the places of a group
 abbrev pub group_extents : List (List Token) → Group → List Extent
 group_extents spans g = map (extent_of spans g.tokens) g.places
-
--- they stand behind the old ones
-abbrev pub AddsExtents : List FileLines → Group → List Extent → List Extent → Type 0
-AddsExtents files g old new = new ≡ old ++ group_extents (spans_of files) g
 
 -- those of all places of all groups
 abbrev pub extents_of : List (List Token) → List Group → List Extent
@@ -74,12 +70,17 @@ abbrev pub file_measures : List FileCounts → List (List Token) → ℕ → Lis
 file_measures counts spans file groups =
     measures_of 1 (slice_index_or counts file no_counts) (filter (λ e. e.file == file) (extents_of spans groups))
 
--- both, of files as they are lent
+-- those of files as they are lent
 abbrev pub measures_of_project : List FileLines → List Group → Measures
 measures_of_project files groups = project_measures (counts_of files) (spans_of files) groups
 
-abbrev pub measures_of_file : List FileLines → ℕ → List Group → Measures
-measures_of_file files file groups = file_measures (counts_of files) (spans_of files) file groups
+-- the file with this number, where all files have these counts and spans
+abbrev pub IsFileAt : List FileCounts → List (List Token) → ℕ → FileLines → Type 0
+IsFileAt counts spans file f = (slice_index_or counts file no_counts ≡ f.counts) × (slice_index_or spans file [] ≡ f.spans.now)
+
+-- they are those of the file, whatever the others have
+abbrev pub AreOfFile : FileLines → ℕ → List Group → Measures → Type 0
+AreOfFile f file groups m = (counts : List FileCounts) (spans : List (List Token)) → IsFileAt counts spans file f → m ≡ file_measures counts spans file groups
 
 -- ---- what can be measured: each place lies with all its tokens in its file, and the counts are of texts
 

@@ -1,5 +1,5 @@
 -- Extents in order.
-use Rattle.std.specs.Prelude.{◌↔◌, ℕ, ◌+◌, ◌-◌, ◌<◌, ◌==◌, nat_lt, nat_le, if◌then◌else◌, List, [], ◌∷◌, All, Contains}
+use Rattle.std.specs.Prelude.{◌≡◌, ◌↔◌, ℕ, ◌+◌, ◌-◌, ◌<◌, ◌==◌, nat_lt, nat_le, if◌then◌else◌, List, [], ◌∷◌, All, Contains}
 use Rattle.std.specs.List.Sorted.{IsStrictlySortedBy}
 use Rattle.std.specs.declared.cmp.Ordering.{Ordering}
 use Rattle.std.specs.Ordering.{nat_cmp, ordering_then}
@@ -20,6 +20,10 @@ pub record IsOneOfEach (xs ys : List Extent) : Type 0 where
 -- all are in files below one
 abbrev pub AreBelow : ℕ → List Extent → Type 0
 AreBelow n extents = All (λ e. e.file < n) extents
+
+-- all are in one file
+abbrev pub AreIn : ℕ → List Extent → Type 0
+AreIn file extents = All (λ e. e.file ≡ file) extents
 
 -- ---- a count along extents in order
 

@@ -32,6 +32,7 @@ pub(crate) fn covered_lines(extents: &[Extent]) -> u64
     requires few { sorted.AreBelow 262144 extents.now }
     ensures count { result ≡ spec.covered_lines extents.now }
     ensures within { (n : ℕ) → sorted.AreBelow n extents.now → result ≤ n * 2 ^ 32 }
+    ensures alone { (file : ℕ) → sorted.AreIn file extents.now → result ≤ 2 ^ 32 }
 {
     let mut lines = 0;
     let mut file = 0;
@@ -81,6 +82,7 @@ pub(crate) fn count_up(extents: Vec<Extent>) -> Tally
     ensures extents { result.extents ≡ spec.different_extents extents.items }
     ensures files { result.files ≡ spec.files_touched extents.items }
     ensures within { (n : ℕ) → sorted.AreBelow n extents.items → result.lines ≤ n * 2 ^ 32 }
+    ensures alone { (file : ℕ) → sorted.AreIn file extents.items → result.lines ≤ 2 ^ 32 }
 {
     let mut extents = extents;
     sort_once(&mut extents);

@@ -26,7 +26,8 @@ fn is_java_decision(before: &[u8], text: &[u8]) -> bool
     }
 }
 
-fn is_decision(lang: Lang, before: &[u8], text: &[u8]) -> bool
+/// Whether a token that has this spelling decides, `before` being the spelling directly before it, or empty.
+pub fn is_decision(lang: Lang, before: &[u8], text: &[u8]) -> bool
     ensures { result ≡ spec.is_decision lang before.now text.now }
 {
     match lang {

@@ -1,15 +1,17 @@
 //! Measures: lines of code and decisions of a file, and the eight measures of a project or of one of its files. Where
-//! places of groups overlap, each line, each extent of lines and each file counts once. With n places, measures cost
-//! n log n comparisons and the memory of n extents; no walk goes over the lines of a place.
+//! places of groups overlap, each line, each extent of lines and each file counts once. A project's places are parted among
+//! the files in one walk, and counted file by file, in threads where they are many: n places in a file cost n log n
+//! comparisons and the memory of n extents. No walk goes over the lines of a place.
 #![tactic(auto)]
 
 mod counting;
 mod decisions;
 mod extent;
 mod measuring;
-mod placing;
+mod parting;
+mod tallying;
 
 pub use counting::ncloc;
-pub use decisions::complexity;
+pub use decisions::{complexity, is_decision};
 pub use extent::FileLines;
 pub use measuring::{file_measures, project_measures};

@@ -2,12 +2,15 @@ ghost use Rattle.std.specs.Prelude.{◌≡◌, ◌≤◌, ◌<◌, ◌^◌, List
 ghost use Rattle.cq_measures.specs.Measures as spec;
 ghost use Rattle.cq_measures.specs.declared.extent.Extent.{Extent};
 ghost use Rattle.cq_measures.specs.Counts.{IsTallyOf};
+ghost use Rattle.cq_measures.specs.Parted.{AreRunsInside, runs_in};
 
-use crate::counting::{Tally, count_up};
+use crate::counting::Tally;
 use crate::extent::FileLines;
-use crate::placing::{extents_of, keep_file};
+use crate::parting::{count_places, parted, runs_of};
+use crate::tallying::{added, file_tally, least_files, tallies_of};
 use cq_base::{FileCounts, Group, Measures, Memory};
 use std::alloc::Global;
+use std::thread::Threads;
 
 fn density(duplicated: u64, lines: u64) -> u64
     requires { duplicated ≤ 2 ^ 50 }
@@ -56,8 +59,11 @@ fn measures_of(files: u64, counts: FileCounts, tally: Tally) -> Measures
     }
 }
 
-/// The measures of a project of these files, with the places that groups of their tokens have.
-pub fn project_measures(
+/// The measures of a project of these files, with the places that groups of their tokens have. The places are parted among
+/// the files in one walk, and each file's are counted by itself, in threads where they are many: the result is the same
+/// whatever their number. Want of memory in a thread is want of memory of the call.
+pub fn project_measures<R: Threads + Sync>(
+    rt: &R,
     alloc: Global,
     files: &[FileLines],
     groups: &[Group],
@@ -65,22 +71,26 @@ pub fn project_measures(
     requires { spec.IsMeasurable (spec.counts_of files.now) (spec.spans_of files.now) groups.now }
     ensures { IfOk result (λ m. m ≡ spec.measures_of_project files.now groups.now) }
 {
-    let tally = count_up(extents_of(alloc, files, groups)?);
+    let parts = parted(alloc, files.len(), groups)?;
+    let least = least_files(files.len(), count_places(groups));
+    let tallies = tallies_of(rt, alloc, files, &parts, least)?;
+    let tally = added(&tallies)?;
     Ok(measures_of(files.len() as u64, total(files), tally))
 }
 
-/// The measures of one of the files, with the places that groups of all the files' tokens have in it.
+/// The measures of the file with this number, with the places that groups of all files' tokens have in it. Nothing of the
+/// other files is looked at but the groups' places in them.
 pub fn file_measures(
     alloc: Global,
-    files: &[FileLines],
     file: u32,
+    lines: &FileLines,
     groups: &[Group],
 ) -> Result<Measures, Memory>
-    requires measurable { spec.IsMeasurable (spec.counts_of files.now) (spec.spans_of files.now) groups.now }
-    requires inside { file < length files.now }
-    ensures { IfOk result (λ m. m ≡ spec.measures_of_file files.now file groups.now) }
+    requires few { file < 262144 }
+    requires inside { AreRunsInside lines.now.spans.now (runs_in file groups.now) }
+    ensures { IfOk result (spec.AreOfFile lines.now file groups.now) }
 {
-    let mut extents = extents_of(alloc, files, groups)?;
-    keep_file(&mut extents, file);
-    Ok(measures_of(1, files[file as usize].counts, count_up(extents)))
+    let runs = runs_of(alloc, file, groups)?;
+    let tally = file_tally(alloc, file, lines.spans, &runs)?;
+    Ok(measures_of(1, lines.counts, tally))
 }

@@ -6,6 +6,7 @@ use cq_base::{
 };
 use cq_measures::{FileLines, complexity, file_measures, ncloc, project_measures};
 use std::alloc::Global;
+use std::thread::Threads;
 
 fn token(first_line: u32, last_line: u32) -> Token {
     Token {
@@ -117,11 +118,16 @@ fn is_measurable(files: &[FileLines], groups: &[Group]) -> bool
 }
 
 // The measures of the project; an error where it isn't measurable.
-fn of_project(alloc: Global, files: &[FileLines], groups: &[Group]) -> Result<Measures, Memory> {
+fn of_project<R: Threads + Sync>(
+    rt: &R,
+    alloc: Global,
+    files: &[FileLines],
+    groups: &[Group],
+) -> Result<Measures, Memory> {
     if !is_measurable(files, groups) {
         return Err(Memory);
     }
-    project_measures(alloc, files, groups)
+    project_measures(rt, alloc, files, groups)
 }
 
 fn of_file(
@@ -133,7 +139,7 @@ fn of_file(
     if !is_measurable(files, groups) || files.len() <= file as usize {
         return Err(Memory);
     }
-    file_measures(alloc, files, file, groups)
+    file_measures(alloc, file, &files[file as usize], groups)
 }
 
 // The lines, blocks and files that are duplicated, all lines and files, and the density.
@@ -207,12 +213,65 @@ fn each_line_and_each_block_counts_once(rt: HostRuntime) -> Result<(), Memory> {
         (4, &[(0, 2), (1, 2)]),
     ];
     let groups = groups(alloc, &all)?;
-    let project = of_project(alloc, &files, &groups)?;
+    let project = of_project(&rt, alloc, &files, &groups)?;
     assert_eq!(rt; told(project), [21, 6, 2, 200, 2, 1_050]);
     let first = of_file(alloc, &files, 0, &groups)?;
     assert_eq!(rt; told(first), [17, 5, 1, 100, 1, 1_700]);
     let second = of_file(alloc, &files, 1, &groups)?;
     assert_eq!(rt; told(second), [4, 1, 1, 100, 1, 400]);
+    Ok(())
+}
+
+// Each two tokens side by side of each file, twice over.
+fn pairs(alloc: Global, files: u32, tokens: u32) -> Result<Vec<Group>, Memory> {
+    let mut groups = Vec::new(alloc);
+    for at in 0..tokens.saturating_sub(1) {
+        let mut places = Vec::new(alloc);
+        for file in 0..files {
+            places.push(Place { file, at })?;
+            places.push(Place { file, at })?;
+        }
+        groups.push(Group {
+            tokens: 2,
+            places: Places::from_vec(places),
+        })?;
+    }
+    Ok(groups)
+}
+
+// So many places that files are counted in threads, where there is more than one processor.
+#[test]
+fn many_places_are_counted_as_few_are(rt: HostRuntime) -> Result<(), Memory> {
+    let alloc = rt.alloc();
+    let spans = line_tokens(alloc, 5_000)?;
+    let file = FileLines {
+        counts: counts(5_000),
+        spans: &spans,
+    };
+    let files = [file; 5];
+    let groups = pairs(alloc, 4, 2_000)?;
+    let project = of_project(&rt, alloc, &files, &groups)?;
+    assert_eq!(rt; told(project), [8_000, 7_996, 4, 25_000, 5, 3_200]);
+    let third = of_file(alloc, &files, 2, &groups)?;
+    assert_eq!(rt; told(third), [2_000, 1_999, 1, 5_000, 1, 4_000]);
+    let last = of_file(alloc, &files, 4, &groups)?;
+    assert_eq!(rt; told(last), [0, 0, 0, 5_000, 1, 0]);
+    Ok(())
+}
+
+// All places in the last of some files.
+#[test]
+fn one_file_may_have_all_places(rt: HostRuntime) -> Result<(), Memory> {
+    let alloc = rt.alloc();
+    let spans = line_tokens(alloc, 9)?;
+    let file = FileLines {
+        counts: counts(9),
+        spans: &spans,
+    };
+    let files = [file; 3];
+    let groups = groups(alloc, &[(2, &[(2, 0), (2, 7)]), (3, &[(2, 6), (2, 1)])])?;
+    let project = of_project(&rt, alloc, &files, &groups)?;
+    assert_eq!(rt; told(project), [7, 4, 1, 27, 3, 2_592]);
     Ok(())
 }
 
@@ -225,27 +284,32 @@ fn a_place_covers_the_lines_of_its_tokens(rt: HostRuntime) -> Result<(), Memory>
         spans: &spans,
     };
     let groups = groups(alloc, &[(2, &[(0, 0), (0, 2)])])?;
-    let measures = of_project(alloc, &[file], &groups)?;
+    let measures = of_project(&rt, alloc, &[file], &groups)?;
     assert_eq!(rt; told(measures), [51, 2, 1, 60, 1, 8_500]);
     Ok(())
 }
 
 #[test]
 fn a_project_without_files_has_zeros(rt: HostRuntime) -> Result<(), Memory> {
-    let measures = of_project(rt.alloc(), &[], &[])?;
+    let measures = of_project(&rt, rt.alloc(), &[], &[])?;
     assert_eq!(rt; told(measures), [0; 6]);
     Ok(())
 }
 
 // The density of two places with as many lines as these, of all lines.
-fn density(alloc: Global, duplicated: u32, lines: u64) -> Result<u64, Memory> {
+fn density<R: Threads + Sync>(
+    rt: &R,
+    alloc: Global,
+    duplicated: u32,
+    lines: u64,
+) -> Result<u64, Memory> {
     let spans = line_tokens(alloc, duplicated)?;
     let file = FileLines {
         counts: counts(lines),
         spans: &spans,
     };
     let groups = groups(alloc, &[(1, &[(0, 0)]), (duplicated, &[(0, 0)])])?;
-    Ok(of_project(alloc, &[file], &groups)?.density)
+    Ok(of_project(rt, alloc, &[file], &groups)?.density)
 }
 
 // Lines that two places share, all lines, and the density; among them 99.995, 0.995 and 0.0049 percent of more than ten
@@ -263,7 +327,7 @@ const DENSITIES: [(u32, u64, u64); 7] = [
 #[test]
 fn density_is_rounded_down(rt: HostRuntime) -> Result<(), Memory> {
     for (duplicated, lines, want) in DENSITIES {
-        assert_eq!(rt; density(rt.alloc(), duplicated, lines)?, want);
+        assert_eq!(rt; density(&rt, rt.alloc(), duplicated, lines)?, want);
     }
     Ok(())
 }

@@ -4,4 +4,4 @@
 
 mod normal;
 
-pub use normal::normalise;
+pub use normal::{meaning, normalise};

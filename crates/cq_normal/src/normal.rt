@@ -4,8 +4,8 @@ ghost use Rattle.cq_normal.specs.Normal as spec;
 use cq_base::{Class, Lang, Memory, Norm, Settings, Spelled, Text};
 use std::alloc::Global;
 
-// What a digraph stands for, if the spelling is one.
-fn meaning(spelling: &[u8]) -> Option<&'static str>
+/// What a digraph of C stands for, if the spelling is one.
+pub fn meaning(spelling: &[u8]) -> Option<&'static str>
     ensures { unwrap_or (option_map (λ s. s.now) result) spelling.now ≡ spec.undigraphed spelling.now }
 {
     match spelling {

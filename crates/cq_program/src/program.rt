@@ -27,7 +27,8 @@ use std::sync::ledger::Ledger;
 use std::thread::Threads;
 
 // A session with a plain hub that is made for it, and its status.
-fn serve<S: Source, K: Sink, G: Gate, L: Ledger>(
+fn serve<R: Threads + Sync, S: Source, K: Sink, G: Gate, L: Ledger>(
+    rt: &R,
     alloc: Global,
     settings: &Settings,
     source: &mut S,
@@ -60,7 +61,7 @@ fn serve<S: Source, K: Sink, G: Gate, L: Ledger>(
             talks_alone();
             talks_beside();
             let end = session(
-                alloc, settings, &keyer, &hub, &mut pass, &mut lines, source, sink, gate, steps,
+                rt, alloc, settings, &keyer, &hub, &mut pass, &mut lines, source, sink, gate, steps,
             );
             status_of(end)
         }
@@ -92,14 +93,15 @@ fn run_with<Q: Threads + Wait + Sync, S: Source, K: Sink, G: Gate + Sync, L: Led
 {
     let Run { settings, workers } = asked;
     if workers == 0 {
-        serve(alloc, &settings, source, sink, gate, steps)
+        serve(rt, alloc, &settings, source, sink, gate, steps)
     } else {
         serve_with_workers(rt, alloc, &settings, workers, source, sink, gate, steps)
     }
 }
 
 // A core stepped by the lines of the source, and the status.
-fn driven<S: Source, K: Sink, L: Ledger>(
+fn driven<R: Threads + Sync, S: Source, K: Sink, L: Ledger>(
+    rt: &R,
     alloc: Global,
     settings: &Settings,
     source: &mut S,
@@ -125,14 +127,20 @@ fn driven<S: Source, K: Sink, L: Ledger>(
     let Ok(mut lines) = Lines::new(alloc, settings.byte_limit) else {
         return 4;
     };
-    match drive(alloc, settings, &keyer, &mut lines, source, sink, steps) {
+    match drive(rt, alloc, settings, &keyer, &mut lines, source, sink, steps) {
         Ok(end) => status_of(end),
         Err(Memory) => 4,
     }
 }
 
 // Makes a project and writes its line, and answers the status.
-fn made<K: Sink, L: Ledger>(alloc: Global, asked: Make, sink: &mut K, steps: &mut Steps<L>) -> u8
+fn made<R: Threads + Sync, K: Sink, L: Ledger>(
+    rt: &R,
+    alloc: Global,
+    asked: Make,
+    sink: &mut K,
+    steps: &mut Steps<L>,
+) -> u8
     requires few { asked.files ≤ 10000 }
     ensures others { (result ≢ 1) × (result ≢ 5) }
     ensures read_fault { result ≢ 2 }
@@ -143,6 +151,7 @@ fn made<K: Sink, L: Ledger>(alloc: Global, asked: Make, sink: &mut K, steps: &mu
     ensures makes { MakesLine K.Sink asked sink.old sink.new result }
 {
     match make(
+        rt,
         alloc,
         &default_settings(),
         asked.number,
@@ -225,8 +234,8 @@ pub fn top<
     match read_command(alloc, words) {
         Ok(Some(Command::Run(run))) => run_with(rt, alloc, run, source, sink, gate, steps),
         Ok(Some(Command::Listen(asked))) => listen(rt, alloc, asked, doors, gate),
-        Ok(Some(Command::Drive(settings))) => driven(alloc, &settings, source, sink, steps),
-        Ok(Some(Command::Make(asked))) => made(alloc, asked, sink, steps),
+        Ok(Some(Command::Drive(settings))) => driven(rt, alloc, &settings, source, sink, steps),
+        Ok(Some(Command::Make(asked))) => made(rt, alloc, asked, sink, steps),
         Ok(None) => unreachable!(),
         Err(Memory) => 4,
     }

@@ -19,6 +19,7 @@ use cq_shard::Indexed;
 use cq_work::Work;
 use std::alloc::Global;
 use std::sync::ledger::Ledger;
+use std::thread::Threads;
 
 fn change_reply<W: Indexed, H: Hub<W>, G: Gate>(
     alloc: Global,
@@ -62,7 +63,8 @@ fn state_reply<W: Indexed, H: Hub<W>>(hub: &H, pass: &mut H::Pass) -> Reply
 
 /// The reply to a query whose floor is at least `seen`. Behind an answer by a view the hub is swept. Where memory is
 /// refused, what was done is a beginning of what the query does.
-pub fn query_reply<L: Ledger, H: Hub<Work<L>>, G: Gate>(
+pub fn query_reply<R: Threads + Sync, L: Ledger, H: Hub<Work<L>>, G: Gate>(
+    rt: &R,
     alloc: Global,
     settings: &Settings,
     keyer: &Keyer,
@@ -98,6 +100,7 @@ pub fn query_reply<L: Ledger, H: Hub<Work<L>>, G: Gate>(
             pass,
         ) {
             Ok(()) => view_reply(
+                rt,
                 alloc,
                 settings,
                 hub,
@@ -113,11 +116,14 @@ pub fn query_reply<L: Ledger, H: Hub<Work<L>>, G: Gate>(
     if seen.max(query.at) > asked.done {
         return Ok(Reply::Pending(asked.done + 1));
     }
-    view_reply(alloc, settings, hub, query, asked.done, gate, pass, steps)
+    view_reply(
+        rt, alloc, settings, hub, query, asked.done, gate, pass, steps,
+    )
 }
 
 /// The reply to what a line says. Where memory is refused, what was done is a beginning of what the line does.
-pub(crate) fn reply_to<L: Ledger, H: Hub<Work<L>>, G: Gate>(
+pub(crate) fn reply_to<R: Threads + Sync, L: Ledger, H: Hub<Work<L>>, G: Gate>(
+    rt: &R,
     alloc: Global,
     settings: &Settings,
     keyer: &Keyer,
@@ -139,7 +145,9 @@ pub(crate) fn reply_to<L: Ledger, H: Hub<Work<L>>, G: Gate>(
     match read_request(alloc, settings, line) {
         Ok(Request::Change(change)) => change_reply(alloc, hub, change, gate, pass),
         Ok(Request::Query(query)) => {
-            query_reply(alloc, settings, keyer, hub, &query, seen, gate, pass, steps)
+            query_reply(
+                rt, alloc, settings, keyer, hub, &query, seen, gate, pass, steps,
+            )
         }
         Ok(Request::State) => Ok(state_reply(hub, pass)),
         Err(refusal) => refused_as(refusal),

@@ -20,9 +20,11 @@ use cq_reply::{Short, fixed};
 use cq_work::Work;
 use std::alloc::Global;
 use std::sync::ledger::Ledger;
+use std::thread::Threads;
 
 // Writes the reply to a line, which is not too long. What the reply names is seen from then on.
-fn turn<L: Ledger, H: Hub<Work<L>>, K: Sink, G: Gate>(
+fn turn<R: Threads + Sync, L: Ledger, H: Hub<Work<L>>, K: Sink, G: Gate>(
+    rt: &R,
     alloc: Global,
     settings: &Settings,
     keyer: &Keyer,
@@ -43,7 +45,9 @@ fn turn<L: Ledger, H: Hub<Work<L>>, K: Sink, G: Gate>(
         seen.old settings.now line.now (K.written sink.old) (K.written sink.new) result seen.new }
     ensures cause { HasCause (K.faults sink.old) (K.faults sink.new) result }
 {
-    let (line, number) = told(alloc, settings, keyer, hub, line, *seen, gate, pass, steps);
+    let (line, number) = told(
+        rt, alloc, settings, keyer, hub, line, *seen, gate, pass, steps,
+    );
     *seen = (*seen).max(number);
     send(sink, line.as_bytes())
 }
@@ -61,7 +65,8 @@ fn turn_long<K: Sink>(sink: &mut K) -> Result<(), Failed>
 /// history to which the talk came, with no view open. Behind each answer by a view, and before it is written, the hub is
 /// swept; want of memory there is let go. The gate is told of each accepted change, of each work before it is
 /// made, of each shard that was brought up and of each view that was opened.
-pub fn session<L: Ledger, H: Hub<Work<L>>, S: Source, K: Sink, G: Gate>(
+pub fn session<R: Threads + Sync, L: Ledger, H: Hub<Work<L>>, S: Source, K: Sink, G: Gate>(
+    rt: &R,
     alloc: Global,
     settings: &Settings,
     keyer: &Keyer,
@@ -87,7 +92,7 @@ pub fn session<L: Ledger, H: Hub<Work<L>>, S: Source, K: Sink, G: Gate>(
         match lines.next(source) {
             Cut::Line(line) => {
                 match turn(
-                    alloc, settings, keyer, hub, line, &mut seen, pass, sink, gate, steps,
+                    rt, alloc, settings, keyer, hub, line, &mut seen, pass, sink, gate, steps,
                 ) {
                     Ok(()) => {}
                     Err(Failed) => return End::WriteFault,

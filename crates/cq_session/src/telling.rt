@@ -12,6 +12,7 @@ use cq_reply::{Line, Reply, Short, fixed, line_of};
 use cq_work::Work;
 use std::alloc::Global;
 use std::sync::ledger::Ledger;
+use std::thread::Threads;
 
 // The number that a reply names as change, version or published, and 0 where it names none.
 fn named(reply: &Reply) -> u64
@@ -29,7 +30,8 @@ fn named(reply: &Reply) -> u64
 }
 
 /// The line that tells the reply to a line, and the number that the reply names.
-pub(crate) fn told<L: Ledger, H: Hub<Work<L>>, G: Gate>(
+pub(crate) fn told<R: Threads + Sync, L: Ledger, H: Hub<Work<L>>, G: Gate>(
+    rt: &R,
     alloc: Global,
     settings: &Settings,
     keyer: &Keyer,
@@ -46,7 +48,9 @@ pub(crate) fn told<L: Ledger, H: Hub<Work<L>>, G: Gate>(
     requires closed { HasAccepted H.Hub hub.now pass.old seen }
     ensures { HasLine H.Hub hub.now pass.old pass.new steps.old steps.new seen settings.now line.now result }
 {
-    match reply_to(alloc, settings, keyer, hub, line, seen, gate, pass, steps) {
+    match reply_to(
+        rt, alloc, settings, keyer, hub, line, seen, gate, pass, steps,
+    ) {
         Ok(reply) => match line_of(alloc, &reply) {
             Ok(line) => (line, named(&reply)),
             Err(Memory) => (Line::Short(fixed(Short::Memory)), 0),

@@ -17,9 +17,11 @@ use cq_shard::Indexed;
 use cq_work::Work;
 use std::alloc::Global;
 use std::sync::ledger::Ledger;
+use std::thread::Threads;
 
 // The reply to a query in a view that the pass has open.
-fn reply_in<L: Ledger, H: Hub<Work<L>>>(
+fn reply_in<R: Threads + Sync, L: Ledger, H: Hub<Work<L>>>(
+    rt: &R,
     alloc: Global,
     settings: &Settings,
     hub: &H,
@@ -46,6 +48,7 @@ fn reply_in<L: Ledger, H: Hub<Work<L>>>(
         pass,
     };
     answer(
+        rt,
         alloc,
         settings,
         files,
@@ -85,7 +88,8 @@ fn sweep_behind<W: Indexed, H: Hub<W>>(alloc: Global, hub: &H, pass: &mut H::Pas
 
 /// The reply to a query at a version that is not below `to`, up to which all changes are done. A view of it is opened
 /// for the reply, and is shut again however that ends. Behind a reply the hub is swept.
-pub(crate) fn view_reply<L: Ledger, H: Hub<Work<L>>, G: Gate>(
+pub(crate) fn view_reply<R: Threads + Sync, L: Ledger, H: Hub<Work<L>>, G: Gate>(
+    rt: &R,
     alloc: Global,
     settings: &Settings,
     hub: &H,
@@ -111,7 +115,7 @@ pub(crate) fn view_reply<L: Ledger, H: Hub<Work<L>>, G: Gate>(
         Err(Memory) => Err(Memory),
         Ok(view) => {
             gate.after_open(view.version);
-            let reply = reply_in(alloc, settings, hub, &view, query, pass, steps);
+            let reply = reply_in(rt, alloc, settings, hub, &view, query, pass, steps);
             match close_behind(hub, view, reply, pass) {
                 Ok(reply) => {
                     sweep_behind(alloc, hub, pass);

@@ -13,6 +13,7 @@ use std::cell::RefCell;
 use std::fmt::Write;
 use std::marker::Brand;
 use std::sync::ledger::{Blank, Ledger};
+use std::thread::Threads;
 
 const SETTINGS: Settings = Settings {
     chunk: 2,
@@ -88,7 +89,8 @@ impl Gate for Noting {
 }
 
 // The end of a session over a new plain hub, and what its gate was called for.
-fn noted<L: Ledger>(
+fn noted<R: Threads + Sync, L: Ledger>(
+    rt: &R,
     alloc: Global,
     settings: &Settings,
     input: &[u8],
@@ -108,13 +110,14 @@ fn noted<L: Ledger>(
         calls: RefCell::new(String::new(alloc)),
     };
     let (end, _) = written(
-        alloc, settings, &keyer, &hub, input, &gate, &mut pass, &mut steps,
+        rt, alloc, settings, &keyer, &hub, input, &gate, &mut pass, &mut steps,
     )?;
     Ok((end, gate.calls.into_inner()))
 }
 
 // The same, unless a setting is out of its range.
-fn noted_here(
+fn noted_here<R: Threads + Sync>(
+    rt: &R,
     alloc: Global,
     settings: &Settings,
     input: &[u8],
@@ -122,7 +125,7 @@ fn noted_here(
     if settings.check().is_some() {
         return Ok(None);
     }
-    Ok(Some(noted::<Brand>(alloc, settings, input, Blank::new(1))?))
+    Ok(Some(noted::<R, Brand>(rt, alloc, settings, input, Blank::new(1))?))
 }
 
 // The lines and the calls of `TALK`.
@@ -142,7 +145,7 @@ fn parted(alloc: Global) -> Result<(String, String), Memory> {
 #[test]
 fn the_gate_is_called_where_a_talk_gets_on(rt: HostRuntime) -> Result<(), Memory> {
     let (asked, calls) = parted(rt.alloc())?;
-    let noted = noted_here(rt.alloc(), &SETTINGS, asked.as_bytes())?;
+    let noted = noted_here(&rt, rt.alloc(), &SETTINGS, asked.as_bytes())?;
     assert_eq!(rt; noted, Some((End::Finished, calls)));
     Ok(())
 }

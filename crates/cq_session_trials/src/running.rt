@@ -11,9 +11,11 @@ use cq_session::session;
 use cq_work::Work;
 use std::alloc::Global;
 use std::sync::ledger::Ledger;
+use std::thread::Threads;
 
 /// How a session ends, and what it writes for an input.
-pub fn written<L: Ledger, H: Hub<Work<L>>, G: Gate>(
+pub fn written<R: Threads + Sync, L: Ledger, H: Hub<Work<L>>, G: Gate>(
+    rt: &R,
     alloc: Global,
     settings: &Settings,
     keyer: &Keyer,
@@ -34,6 +36,7 @@ pub fn written<L: Ledger, H: Hub<Work<L>>, G: Gate>(
     let mut source = MemSource::new(bytes, 97, Vec::new(alloc));
     let mut sink = MemSink::new(alloc, 1_048_576, 89, Vec::new(alloc))?;
     let end = session(
+        rt,
         alloc,
         settings,
         keyer,

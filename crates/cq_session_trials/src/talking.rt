@@ -16,6 +16,7 @@ use std::alloc::Global;
 use std::marker::Brand;
 use std::sync::Wait;
 use std::sync::ledger::{Blank, Ledger};
+use std::thread::Threads;
 
 // The line, from 1, in which what was written first differs from what was to be written.
 fn difference(written: &[u8], wanted: &[u8]) -> Option<u64> {
@@ -45,7 +46,8 @@ fn parted(end: End, written: &[u8], wanted: &[u8]) -> Option<u64> {
 }
 
 // A talk of so many lines that are drawn: the line in which it differs from the model, and what the model tells.
-fn talk<L: Ledger, H: Hub<Work<L>>>(
+fn talk<R: Threads + Sync, L: Ledger, H: Hub<Work<L>>>(
+    rt: &R,
     alloc: Global,
     settings: &Settings,
     keyer: &Keyer,
@@ -64,7 +66,9 @@ fn talk<L: Ledger, H: Hub<Work<L>>>(
 {
     let lines = drawn_lines(alloc, count, draws, model)?;
     let input = lines.asked.as_bytes();
-    match written(alloc, settings, keyer, hub, input, &OpenGate, pass, steps) {
+    match written(
+        rt, alloc, settings, keyer, hub, input, &OpenGate, pass, steps,
+    ) {
         Ok((end, output)) => {
             let found = parted(end, &output, lines.told.as_bytes());
             Ok((found, lines.told))
@@ -83,7 +87,8 @@ pub struct Talks {
     pub told_then: String,
 }
 
-fn talks_over_one_hub<L: Ledger, H: Hub<Work<L>>>(
+fn talks_over_one_hub<R: Threads + Sync, L: Ledger, H: Hub<Work<L>>>(
+    rt: &R,
     alloc: Global,
     settings: &Settings,
     counts: (u32, u32),
@@ -106,10 +111,10 @@ fn talks_over_one_hub<L: Ledger, H: Hub<Work<L>>>(
     let mut model = Model::new(alloc, settings.change_limit, settings.text_limit);
     let (count, count_then) = counts;
     let (first, told) = talk(
-        alloc, settings, &keyer, hub, count, &mut draws, &mut model, pass, &mut steps,
+        rt, alloc, settings, &keyer, hub, count, &mut draws, &mut model, pass, &mut steps,
     )?;
     let (second, told_then) = talk(
-        alloc, settings, &keyer, hub, count_then, &mut draws, &mut model, pass, &mut steps,
+        rt, alloc, settings, &keyer, hub, count_then, &mut draws, &mut model, pass, &mut steps,
     )?;
     Ok(Talks {
         first,
@@ -119,7 +124,8 @@ fn talks_over_one_hub<L: Ledger, H: Hub<Work<L>>>(
     })
 }
 
-fn talks_over_solo<L: Ledger>(
+fn talks_over_solo<R: Threads + Sync, L: Ledger>(
+    rt: &R,
     alloc: Global,
     settings: &Settings,
     counts: (u32, u32),
@@ -132,11 +138,11 @@ fn talks_over_solo<L: Ledger>(
 {
     let made: (Solo<Work<L>>, SoloPass<Work<L>>) = Solo::new(alloc, settings)?;
     let (hub, mut pass) = made;
-    talks_over_one_hub(alloc, settings, counts, seed, &hub, &mut pass, blank)
+    talks_over_one_hub(rt, alloc, settings, counts, seed, &hub, &mut pass, blank)
 }
 
-fn talks_over_shared<L: Ledger, R: Wait + Drop>(
-    rt: R,
+fn talks_over_shared<R: Threads + Wait + Sync, L: Ledger>(
+    rt: &R,
     alloc: Global,
     settings: &Settings,
     counts: (u32, u32),
@@ -147,13 +153,14 @@ fn talks_over_shared<L: Ledger, R: Wait + Drop>(
     requires name { blank.name ≡ L.name }
     requires parts { blank.parts ≡ L.parts }
 {
-    let made: (Shared<Work<L>, R>, Pass<Work<L>>) = Shared::new(rt, alloc, settings, 1)?;
+    let made: (Shared<Work<L>, &R>, Pass<Work<L>>) = Shared::new(rt, alloc, settings, 1)?;
     let (hub, mut pass) = made;
-    talks_over_one_hub(alloc, settings, counts, seed, &hub, &mut pass, blank)
+    talks_over_one_hub(rt, alloc, settings, counts, seed, &hub, &mut pass, blank)
 }
 
 /// Two talks of so many lines each, over one new hub of a single caller.
-pub fn talks_here(
+pub fn talks_here<R: Threads + Sync>(
+    rt: &R,
     alloc: Global,
     settings: &Settings,
     counts: (u32, u32),
@@ -161,12 +168,12 @@ pub fn talks_here(
 ) -> Result<Talks, Memory>
     requires { IsInRange settings.now }
 {
-    talks_over_solo::<Brand>(alloc, settings, counts, seed, Blank::new(1))
+    talks_over_solo::<R, Brand>(rt, alloc, settings, counts, seed, Blank::new(1))
 }
 
 /// The same over a hub whose passes may be those of several threads, by one pass.
-pub fn shared_talks_here<R: Wait + Drop>(
-    rt: R,
+pub fn shared_talks_here<R: Threads + Wait + Sync>(
+    rt: &R,
     alloc: Global,
     settings: &Settings,
     counts: (u32, u32),
@@ -174,5 +181,5 @@ pub fn shared_talks_here<R: Wait + Drop>(
 ) -> Result<Talks, Memory>
     requires { IsInRange settings.now }
 {
-    talks_over_shared::<Brand, R>(rt, alloc, settings, counts, seed, Blank::new(1))
+    talks_over_shared::<R, Brand>(rt, alloc, settings, counts, seed, Blank::new(1))
 }

@@ -2,6 +2,7 @@ use crate::talking::{Talks, shared_talks_here, talks_here};
 use cq_base::{Memory, Settings};
 use std::alloc::Global;
 use std::sync::Wait;
+use std::thread::Threads;
 
 const SETTINGS: Settings = Settings {
     chunk: 2,
@@ -72,7 +73,8 @@ fn how_they_went(talks: &Talks, told: &[&str], told_then: &[&str]) -> Went {
 }
 
 // Two talks of so many lines, of which the model tells all of these pieces.
-fn two_talks(
+fn two_talks<R: Threads + Sync>(
+    rt: &R,
     alloc: Global,
     settings: &Settings,
     counts: (u32, u32),
@@ -83,23 +85,29 @@ fn two_talks(
     if settings.check().is_some() {
         return Ok(Went::OutOfRange);
     }
-    let talks = talks_here(alloc, settings, counts, seed)?;
+    let talks = talks_here(rt, alloc, settings, counts, seed)?;
     Ok(how_they_went(&talks, told, told_then))
 }
 
 // A talk of 400 lines.
-fn one_talk(alloc: Global, key_bits: u32, shards: u32, seed: u64) -> Result<Went, Memory> {
+fn one_talk<R: Threads + Sync>(
+    rt: &R,
+    alloc: Global,
+    key_bits: u32,
+    shards: u32,
+    seed: u64,
+) -> Result<Went, Memory> {
     let settings = Settings {
         key_bits,
         shards,
         ..SETTINGS
     };
-    two_talks(alloc, &settings, (400, 0), seed, &TOLD, &[])
+    two_talks(rt, alloc, &settings, (400, 0), seed, &TOLD, &[])
 }
 
 // A talk of 400 lines, over a hub whose passes may be those of several threads.
-fn one_shared_talk<R: Wait + Drop>(
-    rt: R,
+fn one_shared_talk<R: Threads + Wait + Sync>(
+    rt: &R,
     alloc: Global,
     shards: u32,
     seed: u64,
@@ -114,22 +122,22 @@ fn one_shared_talk<R: Wait + Drop>(
 
 #[test]
 fn a_talk_goes_as_told_where_all_keys_are_one(rt: HostRuntime) -> Result<(), Memory> {
-    assert_eq!(rt; one_talk(rt.alloc(), 0, 1, 3)?, Went::AsTold);
-    assert_eq!(rt; one_talk(rt.alloc(), 0, 7, 5)?, Went::AsTold);
+    assert_eq!(rt; one_talk(&rt, rt.alloc(), 0, 1, 3)?, Went::AsTold);
+    assert_eq!(rt; one_talk(&rt, rt.alloc(), 0, 7, 5)?, Went::AsTold);
     Ok(())
 }
 
 #[test]
 fn a_talk_goes_as_told_where_keys_are_few(rt: HostRuntime) -> Result<(), Memory> {
-    assert_eq!(rt; one_talk(rt.alloc(), 3, 1, 3)?, Went::AsTold);
-    assert_eq!(rt; one_talk(rt.alloc(), 3, 7, 4)?, Went::AsTold);
+    assert_eq!(rt; one_talk(&rt, rt.alloc(), 3, 1, 3)?, Went::AsTold);
+    assert_eq!(rt; one_talk(&rt, rt.alloc(), 3, 7, 4)?, Went::AsTold);
     Ok(())
 }
 
 #[test]
 fn a_talk_goes_as_told_where_keys_are_whole(rt: HostRuntime) -> Result<(), Memory> {
-    assert_eq!(rt; one_talk(rt.alloc(), 64, 1, 5)?, Went::AsTold);
-    assert_eq!(rt; one_talk(rt.alloc(), 64, 7, 6)?, Went::AsTold);
+    assert_eq!(rt; one_talk(&rt, rt.alloc(), 64, 1, 5)?, Went::AsTold);
+    assert_eq!(rt; one_talk(&rt, rt.alloc(), 64, 7, 6)?, Went::AsTold);
     Ok(())
 }
 
@@ -137,11 +145,19 @@ fn a_talk_goes_as_told_where_keys_are_whole(rt: HostRuntime) -> Result<(), Memor
 #[test]
 fn a_second_talk_goes_on(rt: HostRuntime) -> Result<(), Memory> {
     for seed in 7..10u64 {
-        let went = two_talks(rt.alloc(), &SETTINGS, (200, 200), seed, &[], &TOLD_THEN)?;
+        let went = two_talks(
+            &rt,
+            rt.alloc(),
+            &SETTINGS,
+            (200, 200),
+            seed,
+            &[],
+            &TOLD_THEN,
+        )?;
         assert_eq!(rt; went, Went::AsTold);
     }
     for seed in 10..40u64 {
-        let went = two_talks(rt.alloc(), &SETTINGS, (12, 12), seed, &[], &[])?;
+        let went = two_talks(&rt, rt.alloc(), &SETTINGS, (12, 12), seed, &[], &[])?;
         assert_eq!(rt; went, Went::AsTold);
     }
     Ok(())
@@ -155,7 +171,7 @@ fn changes_and_texts_are_limited(rt: HostRuntime) -> Result<(), Memory> {
         ..SETTINGS
     };
     let told = ["\"full-text\"", "\"full-changes\""];
-    let went = two_talks(rt.alloc(), &settings, (300, 50), 11, &told, &[])?;
+    let went = two_talks(&rt, rt.alloc(), &settings, (300, 50), 11, &told, &[])?;
     assert_eq!(rt; went, Went::AsTold);
     Ok(())
 }

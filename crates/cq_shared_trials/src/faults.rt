@@ -46,6 +46,7 @@ fn two_sessions<Q: Threads + Sync, L: Ledger + Send + Sync, R: Wait + Sync>(
             requires { IsInRange settings.now × (settings_of hub.now ≡ settings.now) × IsPassOf hub.now one × (one.seen ≡ []) }
         {
             ended(
+                rt,
                 alloc,
                 settings,
                 hub,
@@ -60,6 +61,7 @@ fn two_sessions<Q: Threads + Sync, L: Ledger + Send + Sync, R: Wait + Sync>(
             requires { IsInRange settings.now × (settings_of hub.now ≡ settings.now) × IsPassOf hub.now two × (two.seen ≡ []) }
         {
             ended(
+                rt,
                 alloc,
                 settings,
                 hub,
@@ -108,7 +110,9 @@ fn faulted<Q: Threads + Wait + Sync, L: Ledger + Send + Sync>(
     let three = hub.split_pass(&mut pass);
     let (broken, whole, told) = two_sessions(rt, alloc, settings, &hub, &counters, one, two)?;
     let input = WHOLE.as_bytes();
-    let (later, _) = ended(alloc, settings, &hub, &counters, &OpenGate, input, 0, three)?;
+    let (later, _) = ended(
+        rt, alloc, settings, &hub, &counters, &OpenGate, input, 0, three,
+    )?;
     let floor = hub.sweep(alloc, &mut pass)?;
     let asked = hub.ask(&mut pass);
     Ok(Left {

@@ -120,10 +120,34 @@ fn two_sessions<Q: Threads + Sync, L: Ledger + Send + Sync, R: Wait + Sync, G: G
         rt,
         move || -> Result<(End, Vec<u8>), Memory>
             requires { IsInRange settings.now × (settings_of hub.now ≡ settings.now) × IsPassOf hub.now one × (one.seen ≡ []) }
-        { ended(alloc, settings, hub, counters, gate, ONE.as_bytes(), 0, one) },
+        {
+            ended(
+                rt,
+                alloc,
+                settings,
+                hub,
+                counters,
+                gate,
+                ONE.as_bytes(),
+                0,
+                one,
+            )
+        },
         move || -> Result<(End, Vec<u8>), Memory>
             requires { IsInRange settings.now × (settings_of hub.now ≡ settings.now) × IsPassOf hub.now two × (two.seen ≡ []) }
-        { ended(alloc, settings, hub, counters, gate, TWO.as_bytes(), 0, two) },
+        {
+            ended(
+                rt,
+                alloc,
+                settings,
+                hub,
+                counters,
+                gate,
+                TWO.as_bytes(),
+                0,
+                two,
+            )
+        },
     );
     Ok(are_alike(one?, two?))
 }

@@ -13,10 +13,12 @@ use cq_work::Work;
 use std::alloc::Global;
 use std::sync::Wait;
 use std::sync::ledger::Ledger;
+use std::thread::Threads;
 
 /// How the session of a caller who has seen nothing ends, and what it writes. The reads of its input, of 97 bytes each, are
 /// counted from 1, and the one with the number `failing` fails.
-pub(crate) fn ended<L: Ledger, R: Wait, G: Gate>(
+pub(crate) fn ended<Q: Threads + Sync, L: Ledger, R: Wait, G: Gate>(
+    rt: &Q,
     alloc: Global,
     settings: &Settings,
     hub: &Shared<Work<L>, R>,
@@ -40,6 +42,7 @@ pub(crate) fn ended<L: Ledger, R: Wait, G: Gate>(
     let mut sink = MemSink::new(alloc, 1_048_576, 89, Vec::new(alloc))?;
     let mut steps: Steps<L> = counters.counter();
     let end = session(
+        rt,
         alloc,
         settings,
         &keyer,

@@ -84,7 +84,8 @@ impl<'a, C: Clock> Gate for Resting<'a, C> {
 }
 
 // The talk of a session whose caller has seen nothing. One that does not finish has no replies.
-fn session_talk<L: Ledger, R: Wait, G: Gate>(
+fn session_talk<Q: Threads + Sync, L: Ledger, R: Wait, G: Gate>(
+    rt: &Q,
     alloc: Global,
     settings: &Settings,
     hub: &Shared<Work<L>, R>,
@@ -100,6 +101,7 @@ fn session_talk<L: Ledger, R: Wait, G: Gate>(
 {
     let asked = planned_lines(alloc, &plan)?;
     let (end, output) = ended(
+        rt,
         alloc,
         settings,
         hub,
@@ -142,10 +144,10 @@ fn two_talks<Q: Threads + Sync, L: Ledger + Send + Sync, R: Wait + Sync, G: Gate
         rt,
         move || -> Result<Talk, Memory>
             requires { IsInRange settings.now × (settings_of hub.now ≡ settings.now) × IsPassOf hub.now one × (one.seen ≡ []) }
-        { session_talk(alloc, settings, hub, counters, gate, plan, one) },
+        { session_talk(rt, alloc, settings, hub, counters, gate, plan, one) },
         move || -> Result<Talk, Memory>
             requires { IsInRange settings.now × (settings_of hub.now ≡ settings.now) × IsPassOf hub.now two × (two.seen ≡ []) }
-        { session_talk(alloc, settings, hub, counters, gate, plan_two, two) },
+        { session_talk(rt, alloc, settings, hub, counters, gate, plan_two, two) },
     )
 }
 
@@ -264,7 +266,7 @@ fn four_threads<Q: Threads + Clock + Wait + Sync, L: Ledger + Send + Sync>(
     talks.push(first.1?)?;
     talks.push(second.0?)?;
     talks.push(second.1?)?;
-    let last = session_talk(alloc, settings, &hub, &counters, &gate, Plan::All, pass)?;
+    let last = session_talk(rt, alloc, settings, &hub, &counters, &gate, Plan::All, pass)?;
     how_they_went(alloc, &talks, &last)
 }
 

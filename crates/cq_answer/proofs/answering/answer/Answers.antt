@@ -13,7 +13,7 @@ use Rattle.cq_answer.proofs.answering.answer.Goals as goal
 
 -- as many owners as files
 pub reply_of-requires-clause-within : goal.reply_of-requires-clause-within
-reply_of-requires-clause-within g c =
+reply_of-requires-clause-within g c κs lives =
     subst (λ n. IsWithin n c.part_of-part.result) (sym (ap length c.items-items.ensures.files) ∙ length-map c.items-items.result.now work_in) c.part_of-part.ensures.within
 
 pub groups_of-requires-clause-listable : goal.groups_of-requires-clause-listable
@@ -30,10 +30,10 @@ returns-in_err-groups-clause-reads g c = λ n on.
     c.groups_of.ensures.reads n (most_read c.args.settings.now on.changes c.args.version c.args.query.now c.args.files.now c.part_of-part.result n on.files_are c.part_of-part.ensures.part on.most)
 
 pub reply_of-requires-clause-few : goal.reply_of-requires-clause-few
-reply_of-requires-clause-few g c = conditions_few c.args.settings.now c.args.version c.args.query.now.project c.args.files.now c.args.conditions.now c.requires.of_version
+reply_of-requires-clause-few g c κs lives = conditions_few c.args.settings.now c.args.version c.args.query.now.project c.args.files.now c.args.conditions.now c.requires.of_version
 
 pub reply_of-requires-clause-measurable : goal.reply_of-requires-clause-measurable
-reply_of-requires-clause-measurable g c =
+reply_of-requires-clause-measurable g c κs lives =
     let have = c.requires.of_version in
     let files = listable c.args.settings.now have.changes c.args.version c.args.query.now.project c.args.files.now c.args.conditions.now have.are c.requires.settings have.few in
     let some : 1 ≤ c.args.query.now.min = omega (arith, c.requires.settings.chunk, c.requires.long) in

@@ -3,7 +3,7 @@ use Rattle.cq_beside.proofs.Gathering.{besides_none, child_closed, child_unasked
 use Rattle.cq_beside.proofs.joining.apart.Goals as goal
 
 pub talk-told-requires : goal.talk-told-requires
-talk-told-requires g c =
+talk-told-requires g c κs within =
     let split = c.split_pass-own.ensures in
     record {
       may = c.requires.may;

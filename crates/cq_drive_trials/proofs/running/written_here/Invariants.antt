@@ -1,4 +1,4 @@
 use Rattle.cq_drive_trials.proofs.running.written_here.Given as goal
 
 abbrev pub ghosts-written : goal.ghosts-written
-ghosts-written a = record { name = a.blank.name; parts = a.blank.parts }
+ghosts-written g a = record { name = a.blank.name; parts = a.blank.parts }

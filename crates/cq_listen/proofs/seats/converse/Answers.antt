@@ -3,7 +3,7 @@ use Rattle.cq_listen.proofs.Seating.{stands, seated_behind}
 use Rattle.cq_listen.proofs.seats.converse.Goals as goal
 
 pub session-end-requires-clause-closed : goal.session-end-requires-clause-closed
-session-end-requires-clause-closed g c =
+session-end-requires-clause-closed g c κs lives =
     let p = c.seat.inside.pass in
     let is = c.seat.invariant in (by_of p, p.seen, stands c.seat.inside.hub.now p is.of, (is.closed, tt))
 

@@ -13,7 +13,7 @@ use Rattle.cq_program.proofs.Served.{serves_as}
 use Rattle.cq_program.proofs.program.serve.Goals as goal
 
 pub session-end-requires-clause-closed : goal.session-end-requires-clause-closed
-session-end-requires-clause-closed g c = (0, [], c.in-Ok-made.ensures.stands, (refl, tt))
+session-end-requires-clause-closed g c κs lives = (0, [], c.in-Ok-made.ensures.stands, (refl, tt))
 
 pub returns-in-Ok-new-clause-runs : goal.returns-in-Ok-new-clause-runs
 returns-in-Ok-new-clause-runs g c = λ other.

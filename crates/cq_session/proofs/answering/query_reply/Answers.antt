@@ -14,7 +14,7 @@ help-requires-clause-accepted g c =
     (r.0, led.after, led.stands, (led.closed, led.holds))
 
 pub view_reply-requires-clause-ready : goal.view_reply-requires-clause-ready
-view_reply-requires-clause-ready g c =
+view_reply-requires-clause-ready g c κs lives =
     let r = c.requires.closed in
     let call = c.ask-asked.ensures.asks r.0 r.1 r.2 in
     let led = asked_led _ (g.H.Hub.settings c.args.hub.now) _ _ _ r.0 c.args.seen c.args.query.now r.1 _ c.ask-asked.result call r.3.0 r.3.1 in
@@ -48,7 +48,7 @@ returns-then-max-asked-clause-replies g c = λ by h stands closed named.
     is_pending _ _ _ _ _ by c.args.seen c.args.query.now h _ c.ask-asked.result (c.ask-asked.ensures.asks by h stands) closed named (let x = c.if-query-asked.false in omega (arith, x)) c.if-query.false (let x = c.if-max-asked.true in let y = c.max.ensures in omega (arith, x, y)) _ _ _ c.ask-asked.ensures.asked
 
 pub view_reply-requires-2-clause-ready : goal.view_reply-requires-2-clause-ready
-view_reply-requires-2-clause-ready g c =
+view_reply-requires-2-clause-ready g c κs lives =
     let r = c.requires.closed in
     let led = asked_led _ (g.H.Hub.settings c.args.hub.now) _ _ _ r.0 c.args.seen c.args.query.now r.1 _ c.ask-asked.result (c.ask-asked.ensures.asks r.0 r.1 r.2) r.3.0 r.3.1 in
     (r.0, led.after, led.stands, (led.closed, led.holds.0))

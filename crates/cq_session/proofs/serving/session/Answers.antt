@@ -33,7 +33,7 @@ lines-smaller-in-Ok g c =
     fewer _ c.lines.lines c.next.follows.lender-at-none _ _ cuts.taken cuts.within cuts.limit cuts.finds.1
 
 pub turn-requires-clause-closed : goal.turn-requires-clause-closed
-turn-requires-clause-closed g c =
+turn-requires-clause-closed g c κs lives =
     let r = c.requires.closed in
     let led = c.lines.invariant.goes r.0 r.1 r.2 r.3.0 tt in
     (r.0, led.after, led.stands, (led.closed, led.holds.within))

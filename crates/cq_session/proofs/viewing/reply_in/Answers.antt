@@ -15,7 +15,7 @@ use Rattle.cq_session.proofs.InView.{of_version, have_version}
 use Rattle.cq_session.proofs.viewing.reply_in.Goals as goal
 
 pub answer-requires-clause-of_version : goal.answer-requires-clause-of_version
-answer-requires-clause-of_version g c =
+answer-requires-clause-of_version g c κs lives =
     let r = c.requires.viewing in
     have_version (g.H.Hub.settings c.args.hub.now) c.args.settings.now c.requires.hub_settings (g.H.Hub.callers c.args.hub.now) r.0 r.1 c.args.view.now c.args.query.now.project c.project-files.result.now c.conditions-conditions.result.now r.3
     (c.project-files.ensures ∙ ap (λ (l : Listed (Work g.row.L.Denot)). files_in l.projects c.args.query.now.project) c.deref.ensures)
@@ -23,7 +23,7 @@ answer-requires-clause-of_version g c =
     (g.met.H.Hub.lawful _ _ r.0 r.1 r.2) (g.met.H.Hub.sound _ _ r.0 r.1 r.2)
 
 pub answer-requires-clause-ready : goal.answer-requires-clause-ready
-answer-requires-clause-ready g c =
+answer-requires-clause-ready g c κs lives =
     let r = c.requires.viewing in
     record {
       caller = r.0;

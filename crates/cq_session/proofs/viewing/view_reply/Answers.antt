@@ -34,7 +34,7 @@ returns-in-Err-open_view-clause-refused g c = λ by h stands closed always.
     not_viewed g.H.Hub.Stands (g.H.Hub.settings c.args.hub.now) (g.H.Hub.callers c.args.hub.now) g.H.Hub.alone c.args.hub.now (IsWorkOf {L = g.row.L.Denot} (g.H.Hub.settings c.args.hub.now)) (λ p c h s. g.met.H.Hub.lawful _ p c h s) (λ p c h s. g.met.H.Hub.caller _ p c h s) by c.args.to h c.in-Ok._published _ advanced _ _ opened closed c.args.query.now _ _ _ (c.in-Err-open_view.ensures.asked ∙ c.in-Ok.ensures.asked)
 
 pub reply_in-reply-requires-clause-viewing : goal.reply_in-reply-requires-clause-viewing
-reply_in-reply-requires-clause-viewing g c =
+reply_in-reply-requires-clause-viewing g c κs lives =
     let r = c.requires.ready in
     let advanced = c.in-Ok.ensures.published r.0 r.1 r.2 in
     let opened = c.in-Ok-open_view.ensures.opened r.0 advanced.mid (stands_mid _ _ (g.H.Hub.callers c.args.hub.now) r.0 _ _ _ r.1 _ advanced) in (

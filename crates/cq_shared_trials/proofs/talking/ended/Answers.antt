@@ -6,7 +6,7 @@ use Rattle.cq_shared.specs.SharedPasses.{callers_of, state_of}
 use Rattle.cq_shared_trials.proofs.talking.ended.Goals as goal
 
 pub session-end-requires-clause-closed : goal.session-end-requires-clause-closed
-session-end-requires-clause-closed g c =
+session-end-requires-clause-closed g c κs lives =
     let hub = c.args.hub.now in
     let p = c.args.pass in
     (by_of p, p.seen, record { is = c.requires.of; caller = refl; seen = refl }, (subst (λ l. view_of (state_of hub l) (by_of p) ≡ None) (sym c.requires.fresh) (no_view (callers_of hub) (by_of p)), tt))

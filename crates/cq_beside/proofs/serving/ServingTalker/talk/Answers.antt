@@ -5,7 +5,7 @@ use Rattle.cq_beside.proofs.Served.{told_as}
 use Rattle.cq_beside.proofs.serving.ServingTalker.talk.Goals as goal
 
 pub session-end-requires-clause-closed : goal.session-end-requires-clause-closed
-session-end-requires-clause-closed g c = let p = c.args.pass.now in (by_of p, p.seen, record { is = c.requires.of; caller = refl; seen = refl }, (c.requires.closed, tt))
+session-end-requires-clause-closed g c κs lives = let p = c.args.pass.now in (by_of p, p.seen, record { is = c.requires.of; caller = refl; seen = refl }, (c.requires.closed, tt))
 
 pub returns-clause-of : goal.returns-clause-of
 returns-clause-of g c =

@@ -1,0 +1,222 @@
+-- What is found has bodies that never cross.
+use Rattle.std.proofs.Common.{◌≡◌, ℕ, zero, suc, ◌+◌, ◌-◌, ◌<◌, ◌≤◌, Bool, true, false, cond, eqb, ltb, not, ◌&&◌, Option, Some, None, List, [], ◌∷◌, ◌++◌, length, get_or, slice_get, codes, refl, sym, ap, ◌∙◌, subst, ⊎_elim, arith}
+use Rattle.std.specs.Prelude.{Contains}
+use Rattle.std.specs.Option.{option_to_list}
+use Rattle.std.specs.List.{flat_map, range_with_len}
+use Rattle.std.specs.Str.{bytes_eq}
+use Rattle.std.proofs.lemmas.Bool.{cases_order, ltb-true, eqb-true, eq-eqb, and_parts, both_ways, cond-true, cond-false, false_from_ne_true}
+use Rattle.std.proofs.lemmas.List.{flat_map_more}
+use Rattle.std.proofs.lemmas.List.Elements.{Contains-append_cases}
+use Rattle.std.proofs.lemmas.Slice.Eq.{bytes_eq-Decides}
+use Rattle.cq_base.specs.declared.lang.Lang.{Lang}
+use Rattle.cq_base.specs.declared.lang.Lang.TheVariants as lang
+use Rattle.cq_base.specs.declared.token.Spelled.{Spelled}
+use Rattle.cq_func.specs.declared.brackets.Kind.TheVariants as kind
+use Rattle.cq_func.specs.declared.found.Found.{Found}
+use Rattle.cq_func.specs.Brackets.{spelling_of, is_spelled, holds, stands, opens, closes, are_even, from_to, partner}
+use Rattle.cq_func.specs.Levels.{level}
+use Rattle.cq_func.specs.Names.{is_called, with_body, is_no_method, java_function, c_function, go_parameters, go_end, go_open, is_type, go_body, go_function, function_at}
+use Rattle.cq_func.specs.Functions.{found}
+use Rattle.cq_func.specs.Walks.{AreBodies}
+use Rattle.cq_func.proofs.Least.{place_above-within, place_above-passes, place_above-least, place_below-passes}
+use Rattle.cq_func.proofs.Counted.{level-tells, level-more}
+use Rattle.cq_func.proofs.Walked.{range_next}
+
+-- ---- between a bracket and its partner
+
+-- a token is no bracket of both sorts
+apart : (text a b : List ℕ) → (a ≡ b → ⊥) → bytes_eq text a ≡ true → bytes_eq text b ≡ true → ⊥
+apart text a b ne x y = ne (sym ((bytes_eq-Decides text a).0 x) ∙ (bytes_eq-Decides text b).0 y)
+
+opening_token : (l : Lang) (o : Option Spelled) (word : List ℕ) → holds (is_spelled l word) o ≡ true → (t : Spelled) × (o ≡ Some t) × (is_spelled l word t ≡ true)
+opening_token l None word is = absurd (cc)
+opening_token l (Some t) word is = (t, refl, is)
+
+read_token : (ts : List Spelled) (at : ℕ) (t : Spelled) → slice_get ts at ≡ Some t → (at < length ts) × (get_or ts at t ≡ t)
+read_token [] at t is = absurd (cc)
+read_token (x ∷ xs) zero t is = let e : x ≡ t = cc in (omega arith, e)
+read_token (x ∷ xs) (suc at) t is = let r = read_token xs at t is in (omega (arith, r.0), r.1)
+
+-- a brace that opens, as the levels see it
+braced : (l : Lang) (ts : List Spelled) (at : ℕ) → stands l ts at (codes "{") ≡ true → (at < length ts) × (level l kind.Curly ts (at + 1) ≡ level l kind.Curly ts at + 1)
+braced l ts at is =
+    let found = opening_token l (slice_get ts at) (codes "{") is in
+    let t = found.0 in
+    let read = read_token ts at t found.1 in
+    let more = level-more l kind.Curly ts at t read.0 in
+    let opened : opens l kind.Curly (get_or ts at t) ≡ true = ap (opens l kind.Curly) read.1 ∙ found.2 in
+    let closed : closes l kind.Curly (get_or ts at t) ≡ false =
+    ap (closes l kind.Curly) read.1 ∙ false_from_ne_true (is_spelled l (codes "}") t) (λ (c : is_spelled l (codes "}") t ≡ true). apart (spelling_of l t.token.class t.text) (codes "{") (codes "}") (λ (e : codes "{" ≡ codes "}"). let h : 123 ≡ 125 = ap (λ (xs : List ℕ). get_or xs 0 0) e in omega (arith, h)) found.2 c) in
+    let up = cond-true {A = ℕ} (opens l kind.Curly (get_or ts at t)) 1 0 opened in
+    let down = cond-false {A = ℕ} (closes l kind.Curly (get_or ts at t)) 1 0 closed in
+    (read.0, omega (arith, more, up, down))
+
+-- no step goes down by more than 1
+falls_slowly : (b : Bool) → cond b 1 0 ≤ 1
+falls_slowly true = omega arith
+falls_slowly false = omega arith
+
+level_step : (l : Lang) (ts : List Spelled) (at : ℕ) (d : Spelled) → at < length ts → level l kind.Curly ts at ≤ level l kind.Curly ts (at + 1) + 1
+level_step l ts at d lt =
+    let more = level-more l kind.Curly ts at d lt in
+    let slow = falls_slowly (closes l kind.Curly (get_or ts at d)) in
+    omega (arith, more, slow)
+
+-- a brace with its partner
+pub record IsPair (l : Lang) (ts : List Spelled) (brace close : ℕ) : Type 0 where
+  pub opens : stands l ts brace (codes "{") ≡ true
+  pub closes : partner l kind.Curly ts brace ≡ close
+  pub within : close < length ts
+
+same_level : (l : Lang) (ts : List Spelled) (brace close : ℕ) → IsPair l ts brace close → (brace < close) × (level l kind.Curly ts (close + 1) ≡ level l kind.Curly ts brace)
+unfolding partner
+same_level l ts brace close pair =
+    let inside = (braced l ts brace pair.opens).0 in
+    let is = pair.closes in
+    let w = place_above-within (λ j. are_even l kind.Curly (from_to ts brace j)) brace (length ts) inside in
+    let low : brace < close = omega (arith, is, w.0) in
+    let small = pair.within in
+    let passes = place_above-passes (λ j. are_even l kind.Curly (from_to ts brace j)) brace (length ts) inside (omega (arith, is, small)) in
+    let even : are_even l kind.Curly (from_to ts brace close) ≡ true = subst (λ c. are_even l kind.Curly (from_to ts brace c) ≡ true) is passes in
+    (low, eqb-true _ _ (level-tells l kind.Curly ts brace (close + 1) (omega arith) (omega arith) ∙ even))
+
+other_level : (l : Lang) (ts : List Spelled) (brace close at : ℕ) → IsPair l ts brace close → brace < at → at < close → level l kind.Curly ts (at + 1) ≡ level l kind.Curly ts brace → ⊥
+unfolding partner
+other_level l ts brace close at pair low high e =
+    let is = pair.closes in
+    let small = pair.within in
+    both_ways (are_even l kind.Curly (from_to ts brace at))
+    (place_above-least (λ j. are_even l kind.Curly (from_to ts brace j)) brace (length ts) at low (omega (arith, is, high)))
+    (sym (level-tells l kind.Curly ts brace (at + 1) (omega arith) (omega arith)) ∙ eq-eqb _ _ e)
+
+-- behind the brace and up to its partner the level is above that before it
+higher : (l : Lang) (ts : List Spelled) (d : Spelled) (brace close more : ℕ) → IsPair l ts brace close → brace + 1 + more ≤ close → level l kind.Curly ts brace < level l kind.Curly ts (brace + 1 + more)
+higher l ts d brace close zero pair le =
+    let up = (braced l ts brace pair.opens).1 in
+    let e = ap (level l kind.Curly ts) (let e : brace + 1 + 0 ≡ brace + 1 = omega arith in e) in
+    omega (arith, up, e)
+higher l ts d brace close (suc more) pair le =
+    let before = higher l ts d brace close more pair (omega arith) in
+    let small = pair.within in
+    let step = level_step l ts (brace + 1 + more) d (omega arith) in
+    let ne = other_level l ts brace close (brace + 1 + more) pair (omega arith) (omega arith) in
+    let e = ap (level l kind.Curly ts) (let e : brace + 1 + suc more ≡ brace + 1 + more + 1 = omega arith in e) in
+    omega (arith, before, step, ne, e)
+
+above : (l : Lang) (ts : List Spelled) (d : Spelled) (brace close at : ℕ) → IsPair l ts brace close → brace < at → at ≤ close → level l kind.Curly ts brace < level l kind.Curly ts at
+above l ts d brace close at pair low high =
+    let e : brace + 1 + (at - (brace + 1)) ≡ at = omega arith in
+    subst (λ k. level l kind.Curly ts brace < level l kind.Curly ts k) e (higher l ts d brace close (at - (brace + 1)) pair (omega arith))
+
+-- of two pairs one is inside the other, or they are apart
+nested_pairs : (l : Lang) (ts : List Spelled) (d : Spelled) (a x b y : ℕ) → IsPair l ts a x → IsPair l ts b y → a < b → b ≤ x → y < x
+nested_pairs l ts d a x b y outer inner less begins =
+    let up = above l ts d a x b outer less begins in
+    let outer_end = (same_level l ts a x outer).1 in
+    let inner_end = (same_level l ts b y inner).1 in
+    let opened = (braced l ts b inner.opens).1 in
+    ⊎_elim
+    (λ (e : y ≡ x). let e' = ap (λ k. level l kind.Curly ts (k + 1)) e in absurd (omega (arith, up, outer_end, inner_end, e')))
+    (λ other. ⊎_elim (λ (lt : y < x). lt)
+    (λ (gt : x < y).
+    ⊎_elim
+    (λ (e : b ≡ x). let e' = ap (λ k. level l kind.Curly ts (k + 1)) e in let e'' = ap (level l kind.Curly ts) e in absurd (omega (arith, up, outer_end, opened, e', e'')))
+    (λ rest. ⊎_elim
+    (λ (lt : b < x). let high = above l ts d b y (x + 1) inner (omega arith) (omega arith) in absurd (omega (arith, up, outer_end, high)))
+    (λ (gt' : x < b). absurd (omega arith)) rest)
+    (cases_order b x)) other)
+    (cases_order y x)
+
+-- ---- what is found
+
+pub record IsFound (l : Lang) (ts : List Spelled) (f : Found) : Type 0 where
+  pub named : f.name < length ts
+  pub pair : IsPair l ts f.brace f.close
+
+cond_some : {X : Type 0} (b : Bool) (x : Option X) (y : X) → cond b x None ≡ Some y → (b ≡ true) × (x ≡ Some y)
+cond_some true x y is = (refl, is)
+cond_some false x y is = absurd (cc)
+
+some_is : {X : Type 0} (x y : X) → Some x ≡ Some y → x ≡ y
+some_is x y is = cc
+
+with_body-found : (l : Lang) (ts : List Spelled) (name brace : ℕ) (f : Found) → name < length ts → with_body l ts name brace ≡ Some f → IsFound l ts f
+with_body-found l ts name brace f inside is =
+    let c = cond_some (stands l ts brace (codes "{") && ltb (partner l kind.Curly ts brace) (length ts)) _ f is in
+    let parts = and_parts (stands l ts brace (codes "{")) (ltb (partner l kind.Curly ts brace) (length ts)) c.0 in
+    let e = some_is _ f c.1 in
+    subst (IsFound l ts) e (record {
+      named = inside;
+      pair = record { opens = parts.0; closes = refl; within = ltb-true _ _ parts.1 };
+    })
+
+java-found : (ts : List Spelled) (name : ℕ) (f : Found) → name < length ts → java_function ts name ≡ Some f → IsFound lang.Java ts f
+java-found ts name f inside is = let c = cond_some (is_called lang.Java ts name && not (is_no_method ts name)) _ f is in with_body-found lang.Java ts name _ f inside c.1
+
+c-found : (ts : List Spelled) (name : ℕ) (f : Found) → name < length ts → c_function ts name ≡ Some f → IsFound lang.C ts f
+c-found ts name f inside is = let c = cond_some _ (with_body lang.C ts name (partner lang.C kind.Round ts (name + 1) + 1)) f is in with_body-found lang.C ts name _ f inside c.1
+
+go_open-pair : (ts : List Spelled) (close : ℕ) → close < length ts → go_open ts close < length ts → IsPair lang.Go ts (go_open ts close) close
+unfolding go_open
+go_open-pair ts close inside found =
+    let passes = place_below-passes (λ b. stands lang.Go ts b (codes "{") && eqb (partner lang.Go kind.Curly ts b) close) (length ts) found in
+    let parts = and_parts _ _ passes in
+    record { opens = parts.0; closes = eqb-true _ _ parts.1; within = inside }
+
+go_body-found : (ts : List Spelled) (name close : ℕ) (f : Found) → name < length ts → go_body ts name close ≡ Some f → IsFound lang.Go ts f
+go_body-found ts name close f inside is =
+    let end = go_end ts close in
+    let brace = go_open ts (end - 1) in
+    let c = cond_some (ltb end (length ts) && (ltb close brace && (ltb brace (length ts) && not (is_type ts brace)))) _ f is in
+    let first = and_parts _ _ c.0 in
+    let second = and_parts _ _ first.1 in
+    let third = and_parts _ _ second.1 in
+    let within = ltb-true end (length ts) first.0 in
+    let e = some_is _ f c.1 in
+    subst (IsFound lang.Go ts) e (record {
+      named = inside;
+      pair = go_open-pair ts (end - 1) (omega arith) (ltb-true brace (length ts) third.0);
+    })
+
+go-found : (ts : List Spelled) (name : ℕ) (f : Found) → name < length ts → go_function ts name ≡ Some f → IsFound lang.Go ts f
+go-found ts name f inside is =
+    let c = cond_some _ (go_body ts name (partner lang.Go kind.Round ts (go_parameters ts name))) f is in
+    go_body-found ts name _ f inside c.1
+
+at-found : (l : Lang) (ts : List Spelled) (name : ℕ) (f : Found) → name < length ts → function_at l ts name ≡ Some f → IsFound l ts f
+at-found lang.Any ts name f inside is = absurd (cc)
+at-found lang.Go ts name f inside is = go-found ts name f inside is
+at-found lang.C ts name f inside is = c-found ts name f inside is
+at-found lang.Java ts name f inside is = java-found ts name f inside is
+
+-- ---- the list of them
+
+one_of : {X : Type 0} (o : Option X) (x : X) → Contains (option_to_list o) x → o ≡ Some x
+one_of None x (k, within, is) = absurd (omega arith)
+one_of (Some y) x (zero, within, is) = ap Some is
+one_of (Some y) x (suc k, within, is) = absurd (omega arith)
+
+from_range : (f : ℕ → Option Found) (a n : ℕ) (x : Found) → Contains (flat_map (λ at. option_to_list (f at)) (range_with_len a n)) x → (at : ℕ) × (at < a + n) × (f at ≡ Some x)
+from_range f a zero x (k, within, is) = absurd (omega arith)
+from_range f a (suc n) x among =
+    ⊎_elim
+    (λ here. (a, omega arith, one_of (f a) x here))
+    (λ there. let later = from_range f (a + 1) n x there in let below = later.1 in (later.0, omega (arith, below), later.2))
+    (Contains-append_cases (option_to_list (f a)) (flat_map (λ at. option_to_list (f at)) (range_with_len (a + 1) n)) x among)
+
+pub found-are : (l : Lang) (ts : List Spelled) (f : Found) → Contains (found l ts) f → IsFound l ts f
+found-are l ts f among = let at = from_range (function_at l ts) 0 (length ts) f among in let below = at.1 in at-found l ts at.0 f (omega (arith, below)) at.2
+
+pub bodies : (l : Lang) (ts : List Spelled) (d : Spelled) → AreBodies (length ts) (found l ts)
+bodies l ts d = record {
+  within = λ f among. let i = found-are l ts f among in let low = (same_level l ts f.brace f.close i.pair).0 in let high = i.pair.within in (i.named, omega (arith, low, high), high);
+  ordered = λ f among. (same_level l ts f.brace f.close (found-are l ts f among).pair).0;
+  same = λ f g fs gs e. sym (found-are l ts f fs).pair.closes ∙ ap (partner l kind.Curly ts) e ∙ (found-are l ts g gs).pair.closes;
+  nested = λ f g fs gs less begins. nested_pairs l ts d f.brace f.close g.brace g.close (found-are l ts f fs).pair (found-are l ts g gs).pair less begins;
+}
+
+-- one place more
+pub found_next : (f : ℕ → Option Found) (n : ℕ) → flat_map (λ at. option_to_list (f at)) (range_with_len 0 (n + 1)) ≡ flat_map (λ at. option_to_list (f at)) (range_with_len 0 n) ++ option_to_list (f n)
+found_next f n =
+    ap (flat_map (λ at. option_to_list (f at))) (range_next n)
+    ∙ sym (flat_map_more (λ at. option_to_list (f at)) [] (range_with_len 0 n) n)

@@ -1,0 +1,9 @@
+pub mod Least
+pub mod Search
+pub mod Counted
+pub mod Marks
+pub mod Partners
+pub mod Walked
+pub mod Bodies
+pub mod Closes
+pub mod Listed

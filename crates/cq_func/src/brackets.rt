@@ -1,0 +1,145 @@
+ghost use Rattle.std.specs.Prelude.{◌≡◌, ◌+◌, ◌-◌, ◌≤◌, ◌<◌, IfOk, if◌then◌else◌, length, take, drop};
+ghost use Rattle.cq_func.specs.Brackets as spec;
+ghost use Rattle.cq_func.specs.Levels as level;
+ghost use Rattle.cq_func.specs.Tables as tables;
+
+use crate::places::places_above;
+use crate::spelling::is_spelled;
+use cq_base::{Lang, Memory, Spelled};
+use std::alloc::Global;
+
+/// Which brackets are counted.
+#[derive(Clone, Copy, Debug, PartialEq, Eq)]
+pub(crate) enum Kind {
+    /// `(` and `)`.
+    Round,
+    /// `[` and `]`.
+    Square,
+    /// `{` and `}`.
+    Curly,
+    /// All three together.
+    All,
+}
+
+fn opens(lang: Lang, kind: Kind, token: &Spelled) -> bool
+    ensures { result ≡ spec.opens lang kind token.now }
+{
+    match kind {
+        Kind::Round => is_spelled(lang, b"(", token),
+        Kind::Square => is_spelled(lang, b"[", token),
+        Kind::Curly => is_spelled(lang, b"{", token),
+        Kind::All => {
+            is_spelled(lang, b"(", token)
+                || is_spelled(lang, b"[", token)
+                || is_spelled(lang, b"{", token)
+        }
+    }
+}
+
+fn closes(lang: Lang, kind: Kind, token: &Spelled) -> bool
+    ensures { result ≡ spec.closes lang kind token.now }
+{
+    match kind {
+        Kind::Round => is_spelled(lang, b")", token),
+        Kind::Square => is_spelled(lang, b"]", token),
+        Kind::Curly => is_spelled(lang, b"}", token),
+        Kind::All => {
+            is_spelled(lang, b")", token)
+                || is_spelled(lang, b"]", token)
+                || is_spelled(lang, b"}", token)
+        }
+    }
+}
+
+fn one_if(holds: bool) -> u32
+    ensures { result ≡ (if holds then 1 else 0) }
+{
+    if holds { 1 } else { 0 }
+}
+
+// The level behind a token.
+fn next_level(lang: Lang, kind: Kind, token: &Spelled, level: u32) -> u32
+    requires high { level ≤ 1000000 }
+    requires low { (if spec.closes lang kind token.now then 1 else 0) ≤ level + (if spec.opens lang kind token.now then 1 else 0) }
+    ensures { result + (if spec.closes lang kind token.now then 1 else 0) ≡ level + (if spec.opens lang kind token.now then 1 else 0) }
+{
+    level + one_if(opens(lang, kind, token)) - one_if(closes(lang, kind, token))
+}
+
+/// The level before each token, and behind the last: the number of tokens, and the openings less the closings before it.
+pub(crate) fn levels(
+    alloc: Global,
+    lang: Lang,
+    kind: Kind,
+    tokens: &[Spelled],
+) -> Result<Vec<u32>, Memory>
+    requires { length tokens.now ≤ 262144 }
+    ensures { IfOk result (λ v. level.AreLevels lang kind tokens.now v.items) }
+{
+    let mut levels = Vec::with_capacity(alloc, tokens.len() + 1)?;
+    let mut level = tokens.len() as u32;
+    levels.push(level)?;
+    for token in tokens {
+        level = next_level(lang, kind, token, level);
+        levels.push(level)?;
+    }
+    Ok(levels)
+}
+
+/// Whether the tokens before a place hold as many openings as closings.
+pub(crate) fn is_even(lang: Lang, kind: Kind, tokens: &[Spelled], levels: &[u32], at: usize) -> bool
+    requires counted { level.AreLevels lang kind tokens.now levels.now }
+    requires within { at ≤ length tokens.now }
+    requires few { length tokens.now ≤ 262144 }
+    ensures { result ≡ spec.are_even lang kind (spec.before tokens.now at) }
+{
+    levels[at] as usize == tokens.len()
+}
+
+/// The levels before the tokens.
+fn before_each(levels: &[u32]) -> &[u32]
+    requires { 1 ≤ length levels.now }
+    ensures { result.now ≡ take (length levels.now - 1) levels.now }
+{
+    &levels[..levels.len() - 1]
+}
+
+/// The levels behind the tokens.
+pub(crate) fn behind_each(levels: &[u32]) -> &[u32]
+    requires { 1 ≤ length levels.now }
+    ensures { result.now ≡ drop 1 levels.now }
+{
+    &levels[1..]
+}
+
+/// The partner of each token that opens a bracket of the kind.
+pub(crate) fn partners(
+    alloc: Global,
+    lang: Lang,
+    kind: Kind,
+    tokens: &[Spelled],
+) -> Result<Vec<u32>, Memory>
+    requires { length tokens.now ≤ 262144 }
+    ensures { IfOk result (λ t. tables.ArePartners lang kind tokens.now t.items) }
+{
+    let levels = levels(alloc, lang, kind, tokens)?;
+    let wanted = before_each(&levels);
+    let marks = behind_each(&levels);
+    places_above(alloc, wanted, marks, 2 * tokens.len() + 1)
+}
+
+/// The partner of the token at a place.
+pub(crate) fn partner(
+    lang: Lang,
+    kind: Kind,
+    tokens: &[Spelled],
+    partners: &[u32],
+    at: usize,
+) -> usize
+    requires table { tables.ArePartners lang kind tokens.now partners.now }
+    requires within { at < length tokens.now }
+    ensures is { result ≡ spec.partner lang kind tokens.now at }
+    ensures bound { result ≤ length tokens.now }
+{
+    partners[at] as usize
+}

@@ -1,6 +1,0 @@
-use Rattle.std.proofs.Common.{◌≡◌, ◌++◌, map, take}
-use Rattle.cq_measures.specs.Measures as spec
-use Rattle.cq_measures.proofs.placing.add_extents.Given as goal
-
-abbrev pub invariant-loop-place : goal.invariant-loop-place
-invariant-loop-place l = l.extents.items ≡ l.initial.extents.items ++ map (spec.extent_of (spec.spans_of l.files) l.group.tokens) (take l.place-index l.group.places)
