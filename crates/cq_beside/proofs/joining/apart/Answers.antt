@@ -1,11 +1,13 @@
+use Rattle.std.proofs.Common.{rules}
 use Rattle.cq_shared.specs.SharedPasses.{callers_of}
 use Rattle.cq_beside.proofs.Gathering.{besides_none, child_closed, child_unasked}
 use Rattle.cq_beside.proofs.joining.apart.Goals as goal
 
 pub talk-told-requires : goal.talk-told-requires
-talk-told-requires g c κs within =
+talk-told-requires g c =
     let split = c.split_pass-own.ensures in
     record {
+      crosses = search rules;
       may = c.requires.may;
       settings = c.requires.talks;
       of = split.of.1;
