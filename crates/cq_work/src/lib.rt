@@ -4,6 +4,7 @@
 #![tactic(auto)]
 
 mod counting;
+mod finding;
 mod lexing;
 mod shown;
 mod work;
