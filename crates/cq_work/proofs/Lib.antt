@@ -1,2 +1,1 @@
 mod Spellings
-pub mod Texts

@@ -1,7 +1,5 @@
 -- What a text is lexed to, by its language.
 use Rattle.std.specs.Prelude.{ℕ, Ok, List, [], length, map, sum_by, false}
-use Rattle.std.specs.List.{AllByRecursion}
-use Rattle.std.specs.Str.{IsUtf8}
 use Rattle.cq_base.specs.declared.lang.Lang.{Lang}
 use Rattle.cq_base.specs.declared.lang.Lang.TheVariants as lang
 use Rattle.cq_base.specs.declared.token.Token.{Token}
@@ -44,7 +42,3 @@ spelled_bytes tokens = sum_by (λ s. length s.text) tokens
 -- where tokens stand
 abbrev pub spans_of : List Spelled → List Token
 spans_of tokens = map (λ s. s.token) tokens
-
--- each is UTF-8
-abbrev pub AreTexts : List Spelled → Type 0
-AreTexts tokens = AllByRecursion (λ (s : Spelled). IsUtf8 s.text) tokens

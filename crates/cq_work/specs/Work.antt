@@ -1,12 +1,9 @@
 -- The work of a text.
 use Rattle.std.specs.Prelude.{◌≡◌, ◌≤◌, ℕ, List, length}
 use Rattle.std.specs.Arc.{arc_value}
-use Rattle.std.specs.List.{AllByRecursion}
-use Rattle.std.specs.Str.{IsUtf8}
 use Rattle.cq_base.specs.declared.settings.Settings.{Settings}
 use Rattle.cq_base.specs.declared.lang.Lang.{Lang}
 use Rattle.cq_func.specs.Functions.{functions}
-use Rattle.cq_func.specs.declared.function.Function.{Function}
 use Rattle.cq_key.specs.Keys.{window_keys}
 use Rattle.cq_measures.specs.Measures.{AreSmall}
 use Rattle.cq_munch.specs.declared.munching.Lexed.{Lexed}
@@ -14,10 +11,6 @@ use Rattle.cq_normal.specs.Normal.{normal}
 use Rattle.cq_work.specs.declared.work.Work.{Work}
 use Rattle.cq_work.specs.Counts.{counts_of}
 use Rattle.cq_work.specs.Lexing.{LexesTo, tokens_in, state_of, spans_of}
-
--- their names are UTF-8
-abbrev pub AreNamed : List Function → Type 0
-AreNamed functions = AllByRecursion (λ (f : Function). IsUtf8 f.name) functions
 
 -- the work shows what the text is lexed to, and what is counted of it
 pub record Shows {L : Type 0} (settings : Settings) (lang : Lang) (text : List ℕ) (answer : Lexed) (w : Work L) : Type 0 where
@@ -28,7 +21,6 @@ pub record Shows {L : Type 0} (settings : Settings) (lang : Lang) (text : List �
   pub keys_are : arc_value w.keys ≡ window_keys settings (normal settings lang (tokens_in answer))
   pub counts_are : w.counts ≡ counts_of lang text (state_of answer) (tokens_in answer)
   pub functions_are : w.functions.items ≡ functions lang (tokens_in answer)
-  pub named : AreNamed w.functions.items
   pub small : AreSmall w.counts
   pub few : length (tokens_in answer) ≤ 262144
 

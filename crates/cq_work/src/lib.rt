@@ -4,7 +4,6 @@
 #![tactic(auto)]
 
 mod counting;
-mod finding;
 mod lexing;
 mod shown;
 mod work;

@@ -2,10 +2,9 @@ ghost use Rattle.std.specs.Prelude.{◌≡◌, ◌≤◌, length, IfOk, IsUtf8};
 ghost use Rattle.cq_work.specs.Work.{IsWorkOf};
 
 use crate::counting::counts_of;
-use crate::finding::functions_of;
 use crate::lexing::{lexed, spans_of, state_of, tokens_in};
 use cq_base::{FileCounts, Keys, Lang, Memory, Settings, Text, Token};
-use cq_func::Function;
+use cq_func::{Function, functions};
 use cq_key::Keyer;
 use cq_normal::normalise;
 use cq_tokens::Tokens;
@@ -56,7 +55,7 @@ pub fn work_of<L: Ledger>(
     let found = tokens_in(alloc, answer);
     let spans = spans_of(alloc, &found)?;
     let counts = counts_of(alloc, lang, text, state, &found, &spans)?;
-    let functions = functions_of(alloc, lang, &found)?;
+    let functions = functions(alloc, lang, &found)?;
     let norms = normalise(alloc, settings, lang, found)?;
     let keys = Arc::new(alloc, keyer.keys(alloc, &norms)?)?;
     let tokens = Arc::new(alloc, Tokens::new(alloc, &norms)?)?;
