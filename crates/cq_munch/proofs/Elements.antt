@@ -134,7 +134,7 @@ too_many {lang} {bytes} {units} {tokens} {marks} {at} {mode} {end} {line} so_far
   let is = ap length so_far.tokens_are in let more = tokens-more bytes units 0 so_far.elements rest.0 in omega arith,
 )
 
-further : (at n : ℕ) (units : List Unit) → drop n (drop at units) ≡ drop (at + n) units
+pub further : (at n : ℕ) (units : List Unit) → drop n (drop at units) ≡ drop (at + n) units
 further at n units = drop-drop n at units ∙ ap (λ k. drop k units) (omega arith)
 
 -- an element that is no token

@@ -1,5 +1,5 @@
 -- How a walk finds the last of the two words.
-use Rattle.std.proofs.Common.{◌≡◌, ℕ, zero, suc, ◌+◌, ◌-◌, ◌<◌, ◌≤◌, ◌==◌, ◌&&◌, Bool, true, false, if◌then◌else◌, Option, Some, None, List, [], ◌∷◌, length, take, drop, map, get_or, codes, refl, sym, ap, ap₂, subst, ◌∙◌, arith}
+use Rattle.std.proofs.Common.{◌≡◌, ℕ, zero, suc, ◌+◌, ◌-◌, ◌<◌, ◌≤◌, ◌==◌, ◌&&◌, Bool, true, false, if◌then◌else◌, Option, Some, None, List, [], ◌∷◌, length, take, drop, get_or, codes, refl, sym, ap, ap₂, ◌∙◌, arith}
 use Rattle.std.proofs.lemmas.Bool.{eq-eqb, ne_eqb}
 use Rattle.std.proofs.lemmas.List.{drop_more, drop_all, length-map}
 use Rattle.std.specs.Option.{option_or}
@@ -35,10 +35,6 @@ module _ (word : List ℕ) (units : List Unit) (i : ℕ) (so_far : begins word (
   word_same inside within same =
       let test : (get_or (characters units) i 0 == get_or word i 0) ≡ true = eq-eqb (get_or (characters units) i 0) (get_or word i 0) (ch_at units i within ∙ same) in
       so_far ∙ begins_at word (characters units) i inside (as_many units i within) ∙ ap (λ b. b && begins (drop (i + 1) word) (drop (i + 1) (characters units))) test
-
-  -- no character of the word is left
-  pub word_whole : length word ≤ i → true ≡ begins word (characters units)
-  word_whole all = sym (so_far ∙ ap (λ w. begins w (drop i (characters units))) (drop_all i word all))
 
 -- ---- the last word
 

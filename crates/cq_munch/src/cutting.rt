@@ -12,7 +12,8 @@ use std::alloc::Global;
 
 pub(crate) const MOST_TOKENS: usize = 262_144;
 
-/// The tokens of a translated text and the marks of its comments, or the byte where nothing is taken, or that it has more than 262,144 tokens.
+/// The tokens of a translated text and the marks of its comments, or the byte where nothing is taken, or that it has more
+/// than 262,144 tokens.
 #[derive(Debug, Drop)]
 pub(crate) enum Cut {
     Tokens(Vec<Spelled>, Vec<Mark>),

@@ -1,5 +1,5 @@
 -- Which tokens of a text are listed, by the marks in its comments.
-use Rattle.std.specs.Prelude.{ℕ, ◌≤◌, Bool, true, nat_lt, if◌then◌else◌, List, [], ◌∷◌, filter, map}
+use Rattle.std.specs.Prelude.{ℕ, Bool, true, nat_lt, if◌then◌else◌, List, [], ◌∷◌, filter, map}
 use Rattle.cq_base.specs.declared.token.Mark.{Mark}
 use Rattle.cq_base.specs.declared.token.Spelled.{Spelled}
 use Rattle.cq_base.specs.declared.token.Token.{Token}

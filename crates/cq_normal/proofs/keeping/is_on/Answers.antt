@@ -1,4 +1,4 @@
-use Rattle.std.proofs.Common.{◌≡◌, ◌<◌, nat_lt, true, arith, rules}
+use Rattle.std.proofs.Common.{◌<◌, nat_lt, true, arith, rules}
 use Rattle.std.proofs.lemmas.List.Sorted.{IsPartitionPoint-from_clause, IsPartitionedBy-ltb}
 use Rattle.cq_base.specs.declared.token.Mark.{Mark}
 use Rattle.cq_normal.proofs.Marked.{none_tells, search_tells}
