@@ -15,7 +15,7 @@ use Rattle.cq_measures.specs.Measures.{AreSmall}
 use Rattle.cq_normal.specs.Normal.{norm_of}
 use Rattle.cq_reply.specs.declared.reply.FileRow.{FileRow}
 use Rattle.cq_work.specs.Counts.{counts_of}
-use Rattle.cq_work.specs.Lexing.{tokens_in, state_of}
+use Rattle.cq_work.specs.Lexing.{tokens_in, kept_in, state_of}
 use Rattle.cq_work.specs.Work.{IsWorkOf}
 use Rattle.cq_work.specs.declared.work.State.{State}
 use Rattle.cq_work.specs.declared.work.State.TheVariants as state
@@ -52,7 +52,7 @@ row_same set x f same =
     let lang = sym same.lang in
     let lines = ap (λ (c : FileCounts). c.lines) is.shows.counts_are ∙ lines_counted x.lang x.body r (state_of is.answer) in
     let shown = ap shown_in is.shows.state_is in
-    let tokens = ap length is.shows.tokens_are ∙ length-map (tokens_in is.answer) (norm_of set x.lang) in
+    let tokens = ap length is.shows.tokens_are ∙ length-map (kept_in is.answer) (norm_of set x.lang) in
     λ i. record { path = path i; change = number i; lang = lang i; lines = lines i; shown = shown i; tokens = tokens i }
 
 pub reads : {L : Type 0} (set : Settings) (sources : List Source) (files : List (File (Work L))) → AreSameFiles (IsWorkOf set) sources files → Reads set sources files
@@ -78,5 +78,5 @@ reads set (x ∷ sources) (f ∷ files) same =
 -- as many spans as tokens
 pub as_many : (set : Settings) (readings : List Reading) (i : ℕ) → length (get_or (corpus_read set readings) i []) ≡ length (get_or (spans_read readings) i [])
 as_many set [] i = refl
-as_many set (r ∷ readings) zero = length-map (tokens_in r.answer) (norm_of set r.file.lang) ∙ sym (length-map (tokens_in r.answer) (λ s. s.token))
+as_many set (r ∷ readings) zero = length-map (kept_in r.answer) (norm_of set r.file.lang) ∙ sym (length-map (kept_in r.answer) (λ s. s.token))
 as_many set (r ∷ readings) (suc i) = as_many set readings i

@@ -14,7 +14,7 @@ use Rattle.cq_reply.specs.declared.reply.Shown.{Shown}
 use Rattle.cq_reply.specs.declared.reply.Shown.TheVariants as shown
 use Rattle.cq_work.specs.declared.work.State.{State}
 use Rattle.cq_work.specs.declared.work.State.TheVariants as state
-use Rattle.cq_work.specs.Lexing.{tokens_in, state_of}
+use Rattle.cq_work.specs.Lexing.{kept_in, state_of}
 use Rattle.cq_answer.specs.Readings.{Reading, paths_read, spans_read, counts_read}
 use Rattle.cq_answer.specs.declared.part.Part.{Part}
 use Rattle.cq_answer.specs.declared.part.Part.TheVariants as part
@@ -24,11 +24,11 @@ shown_in state.Ok = shown.Ok
 shown_in (state.Fault at) = shown.Fault at
 shown_in state.Large = shown.Large
 
--- a file: its change, its language, the lines of its text, and how many tokens it has
+-- a file: its change, its language, the lines of its text, and how many of its tokens are listed
 abbrev pub file_row : Reading → FileRow
-file_row r = record { path = r.file.path; change = r.file.number; lang = r.file.lang; lines = lines_of r.file.body; shown = shown_in (state_of r.answer); tokens = length (tokens_in r.answer) }
+file_row r = record { path = r.file.path; change = r.file.number; lang = r.file.lang; lines = lines_of r.file.body; shown = shown_in (state_of r.answer); tokens = length (kept_in r.answer) }
 
--- what a reply shows of some files: their rows, and of each its path, where its tokens stand, and what is counted of it
+-- what a reply shows of some files: their rows, and of each its path, where its listed tokens stand, and what is counted of it
 pub record Facts : Type 0 where
   pub rows : List FileRow
   pub paths : List (List ℕ)

@@ -51,6 +51,8 @@ fn texts_are_worked_by_their_language(rt: HostRuntime) -> Result<(), Memory> {
     assert!(rt; works(alloc, Lang::Go, "\"a", State::Fault(0), 0, 0)?);
     assert!(rt; works(alloc, Lang::C, "x <a b.h>", State::Ok, 7, 6)?);
     assert!(rt; works(alloc, Lang::Java, "a>>=b", State::Ok, 3, 2)?);
+    assert!(rt; works(alloc, Lang::Go, "x/*CPD-OFF*/\ny\n", State::Ok, 2, 1)?);
+    assert!(rt; works(alloc, Lang::Any, "x/*CPD-OFF*/y", State::Ok, 9, 8)?);
     assert!(rt; works(alloc, Lang::Java, "int a; /* b", State::Fault(7), 0, 0)?);
     Ok(())
 }

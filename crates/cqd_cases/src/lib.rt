@@ -7,6 +7,8 @@ mod clients;
 #[cfg(test)]
 mod failing;
 #[cfg(test)]
+mod marks;
+#[cfg(test)]
 mod projects;
 #[cfg(test)]
 mod running;
