@@ -1,4 +1,5 @@
 pub mod VersionFiles
+pub mod FunctionLists
 pub mod WorkReadings
 pub mod SameReadings
 pub mod Inside

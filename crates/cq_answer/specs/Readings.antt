@@ -5,6 +5,8 @@ use Rattle.cq_base.specs.declared.change.Change.{Change}
 use Rattle.cq_base.specs.declared.measures.FileCounts.{FileCounts}
 use Rattle.cq_base.specs.declared.norm.Norm.{Norm}
 use Rattle.cq_base.specs.declared.token.Token.{Token}
+use Rattle.cq_func.specs.Functions.{functions}
+use Rattle.cq_func.specs.declared.function.Function.{Function}
 use Rattle.cq_history.specs.Files.{Source, files_at}
 use Rattle.cq_key.specs.Keys.{window_keys}
 use Rattle.cq_munch.specs.declared.munching.Lexed.{Lexed}
@@ -43,3 +45,7 @@ spans_read readings = map (λ (r : Reading). spans_of (kept_in r.answer)) readin
 
 abbrev pub counts_read : List Reading → List FileCounts
 counts_read readings = map (λ (r : Reading). counts_of r.file.lang r.file.body (state_of r.answer) (tokens_in r.answer)) readings
+
+-- the functions of each, also of what is not listed
+abbrev pub functions_read : List Reading → List (List Function)
+functions_read readings = map (λ (r : Reading). functions r.file.lang (tokens_in r.answer)) readings
