@@ -19,6 +19,7 @@ use Rattle.cq_answer.specs.declared.part.Part.TheVariants as part
 each_group : (corpus : List (List Norm)) (min : ℕ) (p : Part) (groups : List Group) → AreGroupsOf corpus min p groups → (g : Group) → Contains groups g → IsGroup corpus min g
 each_group corpus min part.Whole groups are g c = (are.each g).0 c
 each_group corpus min (part.File i) groups are g c = ((are.each g).0 c).0
+each_group corpus min (part.Alone i) groups are g c = absurd (Contains-nil g (subst (λ gs. Contains gs g) are c))
 each_group corpus min part.Nothing groups are g c = absurd (Contains-nil g (subst (λ gs. Contains gs g) are c))
 
 group_inside : (corpus : List (List Norm)) (spans : List (List Token)) (min : ℕ) → 1 ≤ min → ((i : ℕ) → length (file_at corpus i) ≡ length (get_or spans i [])) → (g : Group) → IsGroup corpus min g → IsGroupInside spans g

@@ -29,7 +29,7 @@ use Rattle.cq_answer.specs.Parts.{part_of, AreGroupsOf, AreKeysOf, AreMostReads}
 use Rattle.cq_answer.specs.Questions.{AreAsked, IsMostRead}
 use Rattle.cq_answer.specs.Readings.{paths_read, corpus_read, keys_read}
 use Rattle.cq_answer.specs.Reply.{IsReply, part_read, reply_of}
-use Rattle.cq_answer.specs.Rows.{Facts, facts_read, place_row, group_row, AreShowable}
+use Rattle.cq_answer.specs.Rows.{Facts, facts_read, place_row, group_row, AreShowable, AreFewFunctions}
 use Rattle.cq_answer.specs.Versions.{AreOfVersion, HaveVersion, AreListable}
 use Rattle.cq_answer.specs.Works.{paths_in, norms_in, keys_in, spans_in, row_of, facts_in}
 use Rattle.cq_answer.proofs.VersionFiles.{numbers_apart, few_files, paths_are_texts, few_conditions}
@@ -70,10 +70,13 @@ module _ {L : Type 0} (set : Settings) (changes : List Change) (version : ℕ) (
     inside = inside min p groups some are_groups;
   }
 
+  pub few_functions : AreFewFunctions (facts_in files)
+  few_functions = found.few_functions
+
   -- ---- the reply
 
   facts_same : facts_in files ≡ facts_read found.readings
-  facts_same = λ i. record { rows = found.rows i; paths = found.paths i; spans = found.spans i; counts = found.counts i }
+  facts_same = λ i. record { rows = found.rows i; paths = found.paths i; spans = found.spans i; counts = found.counts i; functions = found.functions i }
 
   replies_same : (k : Kind) (p : Part) (groups : List Group) → reply_of (facts_in files) conditions version k p groups ≡ reply_of (facts_read found.readings) (conditions_at changes version project) version k p groups
   replies_same k p groups = ap₂ (λ (facts : Facts) (all : List Condition). reply_of facts all version k p groups) facts_same are.conditions_are
@@ -158,6 +161,7 @@ reply_texts {L} files conditions version kind.Groups p groups texts inside =
     group_texts (facts_in files) groups texts (length-map files (λ (f : File (Work L)). f.body.spans.items) ∙ sym (length-map files (λ (f : File (Work L)). f.path))) inside
 reply_texts files conditions version kind.Measures p groups texts inside = tt
 reply_texts files conditions version kind.Verdict p groups texts inside = tt
+reply_texts files conditions version kind.Functions p groups texts inside = tt
 
 pub texts_are : {L : Type 0} (set : Settings) (version : ℕ) (project : List ℕ) (files : List (File (Work L))) (conditions : List Condition) (k : Kind) (min : ℕ) (p : Part) (groups : List Group) (r : Reply)
     → HaveVersion set version project files conditions → 1 ≤ min → AreGroupsOf (norms_in files) min p groups → r ≡ reply_of (facts_in files) conditions version k p groups → IsReplyText r

@@ -5,14 +5,14 @@ use Rattle.cq_base.specs.declared.settings.Settings.{Settings}
 use Rattle.cq_history.specs.Files.{Source}
 use Rattle.cq_key.specs.Keys.{window_keys}
 use Rattle.cq_normal.specs.Normal.{normal}
-use Rattle.cq_work.specs.Lexing.{LexesTo, tokens_in}
-use Rattle.cq_work.specs.Shown.{same_lexing}
+use Rattle.cq_work.specs.Lexing.{LexesTo, kept_in}
+use Rattle.cq_work.specs.Shown.{same_kept}
 use Rattle.cq_answer.specs.Readings.{Reading, paths_read, norms_read, corpus_read, keys_read}
 
 norms_same : (set : Settings) (r s : Reading) → r.file ≡ s.file → norms_read set r ≡ norms_read set s
 norms_same set r s same =
     let lexes : LexesTo s.file.lang s.file.body r.answer = subst (λ (f : Source). LexesTo f.lang f.body r.answer) same r.lexes in
-    ap (λ (f : Source). normal set f.lang (tokens_in r.answer)) same ∙ ap (normal set s.file.lang) (same_lexing s.file.lang s.file.body r.answer s.answer lexes s.lexes)
+    ap (λ (f : Source). normal set f.lang (kept_in r.answer)) same ∙ ap (normal set s.file.lang) (same_kept s.file.lang s.file.body r.answer s.answer lexes s.lexes)
 
 pub same_paths : (rs ss : List Reading) → map (λ (r : Reading). r.file) rs ≡ map (λ (r : Reading). r.file) ss → paths_read rs ≡ paths_read ss
 same_paths [] [] same = refl

@@ -1,5 +1,5 @@
 -- The part of a project that a query lists, with its groups, its windows and their keys.
-use Rattle.std.specs.Prelude.{◌≡◌, ℕ, ◌+◌, ◌*◌, ◌<◌, ◌≤◌, List, [], length, Option, Some, None}
+use Rattle.std.specs.Prelude.{◌≡◌, ℕ, ◌+◌, ◌*◌, ◌<◌, ◌≤◌, List, [], length, Option, Some, None, IsSome, ⊤}
 use Rattle.std.specs.List.{position}
 use Rattle.std.specs.Str.{bytes_eq}
 use Rattle.cq_base.specs.declared.group.Group.{Group}
@@ -22,35 +22,55 @@ abbrev pub part_at : List (List ℕ) → Option (List ℕ) → Part
 part_at paths None = part.Whole
 part_at paths (Some path) = file_part (position (λ (p : List ℕ). bytes_eq p path) paths)
 
--- a query for the files lists no groups, and one for a verdict those of the whole project
+-- the same without its groups
+abbrev pub alone : Part → Part
+alone part.Whole = part.Nothing
+alone (part.File i) = part.Alone i
+alone (part.Alone i) = part.Alone i
+alone part.Nothing = part.Nothing
+
+-- a query for the files or for the functions of one lists no groups, and one for a verdict those of the whole project
 abbrev pub part_of : List (List ℕ) → Kind → Option (List ℕ) → Part
 part_of paths kind.Files path = part.Nothing
 part_of paths kind.Groups path = part_at paths path
 part_of paths kind.Measures path = part_at paths path
 part_of paths kind.Verdict path = part.Whole
+part_of paths kind.Functions path = alone (part_at paths path)
+
+-- a query for functions is for those of one file
+abbrev pub HasPath : Kind → Option (List ℕ) → Type 0
+HasPath kind.Files path = ⊤
+HasPath kind.Groups path = ⊤
+HasPath kind.Measures path = ⊤
+HasPath kind.Verdict path = ⊤
+HasPath kind.Functions path = IsSome path
 
 -- a file of the part is one of so many
 abbrev pub IsWithin : ℕ → Part → Type 0
 IsWithin files part.Whole = Unit {0}
 IsWithin files (part.File i) = i < files
+IsWithin files (part.Alone i) = i < files
 IsWithin files part.Nothing = Unit {0}
 
 -- all groups of the corpus, or those of them with a place in the file
 abbrev pub AreGroupsOf : List (List Norm) → ℕ → Part → List Group → Type 0
 AreGroupsOf corpus min part.Whole groups = AreGroups corpus min groups
 AreGroupsOf corpus min (part.File i) groups = AreGroupsIn corpus min i groups
+AreGroupsOf corpus min (part.Alone i) groups = groups ≡ []
 AreGroupsOf corpus min part.Nothing groups = groups ≡ []
 
 -- the different keys of its windows
 abbrev pub AreKeysOf : List (List ℕ) → Part → List ℕ → Type 0
 AreKeysOf keys part.Whole ks = AreAllRising (IsKey keys) ks
 AreKeysOf keys (part.File i) ks = AreAllRising (IsKeyIn keys i) ks
+AreKeysOf keys (part.Alone i) ks = ks ≡ []
 AreKeysOf keys part.Nothing ks = ks ≡ []
 
 -- the windows of the corpus with one of these keys, in order
 abbrev pub AreWindowsOf : List (List ℕ) → Part → List Place → Type 0
 AreWindowsOf keys part.Whole windows = AreWindows keys windows
 AreWindowsOf keys (part.File i) windows = AreReached keys i windows
+AreWindowsOf keys (part.Alone i) windows = windows ≡ []
 AreWindowsOf keys part.Nothing windows = windows ≡ []
 
 -- so many reads of tokens: for each of these windows as many as the longest repeat has tokens, and two
@@ -65,6 +85,7 @@ pub record AreReadsOf (corpus : List (List Norm)) (keys : List (List ℕ)) (p : 
 abbrev pub AreMostReads : List (List Norm) → List (List ℕ) → Part → ℕ → Type 0
 AreMostReads corpus keys part.Whole reads = AreReadsOf corpus keys part.Whole reads
 AreMostReads corpus keys (part.File i) reads = AreReadsOf corpus keys (part.File i) reads
+AreMostReads corpus keys (part.Alone i) reads = reads ≡ 0
 AreMostReads corpus keys part.Nothing reads = reads ≡ 0
 
 -- ---- from one count to another

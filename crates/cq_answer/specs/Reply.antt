@@ -14,15 +14,16 @@ use Rattle.cq_request.specs.declared.request.Query.{Query}
 use Rattle.cq_answer.specs.declared.part.Part.{Part}
 use Rattle.cq_answer.specs.Readings.{Reading, AreRead, paths_read, corpus_read}
 use Rattle.cq_answer.specs.Parts.{part_of, AreGroupsOf}
-use Rattle.cq_answer.specs.Rows.{Facts, facts_read, group_row, measures_of}
+use Rattle.cq_answer.specs.Rows.{Facts, facts_read, group_row, measures_of, functions_of, worst_of}
 
 -- by the kind of the query: a row for each file, in path order; the groups, each place with its path and lines; the
--- measures; or what the project's conditions say of them
+-- measures; what the project's conditions say of them; or the functions of a file and which is the worst
 abbrev pub reply_of : Facts → List Condition → ℕ → Kind → Part → List Group → Reply
 reply_of facts conditions version kind.Files p groups = reply.Files facts.rows version
 reply_of facts conditions version kind.Groups p groups = reply.Groups (map (group_row facts) groups) version
 reply_of facts conditions version kind.Measures p groups = reply.Measures (measures_of facts groups p) version
 reply_of facts conditions version kind.Verdict p groups = reply.Verdict (verdict_of conditions (measures_of facts groups p)) version
+reply_of facts conditions version kind.Functions p groups = reply.Functions (functions_of facts p) version (worst_of (functions_of facts p))
 
 -- the part of the project that the query lists
 abbrev pub part_read : List Reading → Query → Part

@@ -1,11 +1,13 @@
 -- Files and groups as a reply shows them, and the measures of a part of a project.
-use Rattle.std.specs.Prelude.{ℕ, List, [], length, map, slice_index_or}
+use Rattle.std.specs.Prelude.{ℕ, ◌≤◌, ◌==◌, max, Option, List, [], ◌∷◌, length, map, slice_index_or, All}
+use Rattle.std.specs.List.{position}
 use Rattle.cq_base.specs.Lines.{lines_of}
 use Rattle.cq_base.specs.declared.group.Group.{Group}
 use Rattle.cq_base.specs.declared.group.Place.{Place}
 use Rattle.cq_base.specs.declared.measures.FileCounts.{FileCounts}
 use Rattle.cq_base.specs.declared.measures.Measures.{Measures}
 use Rattle.cq_base.specs.declared.token.Token.{Token}
+use Rattle.cq_func.specs.declared.function.Function.{Function}
 use Rattle.cq_measures.specs.Measures.{extent_of, project_measures, file_measures, IsMeasurable}
 use Rattle.cq_reply.specs.declared.reply.FileRow.{FileRow}
 use Rattle.cq_reply.specs.declared.reply.GroupRow.{GroupRow}
@@ -14,8 +16,8 @@ use Rattle.cq_reply.specs.declared.reply.Shown.{Shown}
 use Rattle.cq_reply.specs.declared.reply.Shown.TheVariants as shown
 use Rattle.cq_work.specs.declared.work.State.{State}
 use Rattle.cq_work.specs.declared.work.State.TheVariants as state
-use Rattle.cq_work.specs.Lexing.{tokens_in, state_of}
-use Rattle.cq_answer.specs.Readings.{Reading, paths_read, spans_read, counts_read}
+use Rattle.cq_work.specs.Lexing.{kept_in, state_of}
+use Rattle.cq_answer.specs.Readings.{Reading, paths_read, spans_read, counts_read, functions_read}
 use Rattle.cq_answer.specs.declared.part.Part.{Part}
 use Rattle.cq_answer.specs.declared.part.Part.TheVariants as part
 
@@ -24,19 +26,21 @@ shown_in state.Ok = shown.Ok
 shown_in (state.Fault at) = shown.Fault at
 shown_in state.Large = shown.Large
 
--- a file: its change, its language, the lines of its text, and how many tokens it has
+-- a file: its change, its language, the lines of its text, and how many of its tokens are listed
 abbrev pub file_row : Reading → FileRow
-file_row r = record { path = r.file.path; change = r.file.number; lang = r.file.lang; lines = lines_of r.file.body; shown = shown_in (state_of r.answer); tokens = length (tokens_in r.answer) }
+file_row r = record { path = r.file.path; change = r.file.number; lang = r.file.lang; lines = lines_of r.file.body; shown = shown_in (state_of r.answer); tokens = length (kept_in r.answer) }
 
--- what a reply shows of some files: their rows, and of each its path, where its tokens stand, and what is counted of it
+-- what a reply shows of some files: their rows, and of each its path, where its listed tokens stand, what is counted of it,
+-- and its functions
 pub record Facts : Type 0 where
   pub rows : List FileRow
   pub paths : List (List ℕ)
   pub spans : List (List Token)
   pub counts : List FileCounts
+  pub functions : List (List Function)
 
 abbrev pub facts_read : List Reading → Facts
-facts_read readings = record { rows = map file_row readings; paths = paths_read readings; spans = spans_read readings; counts = counts_read readings }
+facts_read readings = record { rows = map file_row readings; paths = paths_read readings; spans = spans_read readings; counts = counts_read readings; functions = functions_read readings }
 
 -- a place of a word of `n` tokens: the path of its file, its first token, and the lines that it covers
 abbrev pub place_row : Facts → ℕ → Place → PlaceRow
@@ -52,8 +56,32 @@ no_measures = record { lines = 0; ncloc = 0; files = 0; complexity = 0; dup_line
 abbrev pub measures_of : Facts → List Group → Part → Measures
 measures_of facts groups part.Whole = project_measures facts.counts facts.spans groups
 measures_of facts groups (part.File i) = file_measures facts.counts facts.spans i groups
+measures_of facts groups (part.Alone i) = no_measures
 measures_of facts groups part.Nothing = no_measures
+
+-- ---- functions
+
+-- those of the file that stands alone
+abbrev pub functions_of : Facts → Part → List Function
+functions_of facts part.Whole = []
+functions_of facts (part.File i) = []
+functions_of facts (part.Alone i) = slice_index_or facts.functions i []
+functions_of facts part.Nothing = []
+
+abbrev pub greatest_complexity : List Function → ℕ
+greatest_complexity [] = 0
+greatest_complexity (f ∷ fs) = max f.complexity (greatest_complexity fs)
+
+-- the position of the first function of greatest complexity
+abbrev pub worst_of : List Function → Option ℕ
+worst_of fs = position (λ f. f.complexity == greatest_complexity fs) fs
+
+-- ---- what can be shown
 
 -- what of the groups can be shown and measured
 abbrev pub AreShowable : Facts → List Group → Type 0
 AreShowable facts groups = IsMeasurable facts.counts facts.spans groups
+
+-- no file has more functions than it may have tokens
+abbrev pub AreFewFunctions : Facts → Type 0
+AreFewFunctions facts = All (λ fs. length fs ≤ 262144) facts.functions

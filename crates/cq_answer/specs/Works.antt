@@ -6,6 +6,7 @@ use Rattle.std.specs.declared.alloc.Global.{Global}
 use Rattle.cq_base.specs.declared.measures.FileCounts.{FileCounts}
 use Rattle.cq_base.specs.declared.norm.Norm.{Norm}
 use Rattle.cq_base.specs.declared.token.Token.{Token}
+use Rattle.cq_func.specs.declared.function.Function.{Function}
 use Rattle.cq_history.specs.Files.{File}
 use Rattle.cq_reply.specs.declared.reply.FileRow.{FileRow}
 use Rattle.cq_work.specs.declared.work.Work.{Work}
@@ -40,9 +41,12 @@ module _ {L : Type 0} where
   abbrev pub counts_in : List (File (Work L)) → List FileCounts
   counts_in files = map (λ (f : File (Work L)). f.body.counts) files
 
+  abbrev pub functions_in : List (File (Work L)) → List (List Function)
+  functions_in files = map (λ (f : File (Work L)). f.body.functions.items) files
+
   -- the row that shows a file
   abbrev pub row_of : File (Work L) → FileRow
   row_of f = record { path = f.path; change = f.number; lang = f.lang; lines = f.body.counts.lines; shown = shown_in f.body.state; tokens = length (arc_value f.body.tokens) }
 
   abbrev pub facts_in : List (File (Work L)) → Facts
-  facts_in files = record { rows = map row_of files; paths = paths_in files; spans = spans_in files; counts = counts_in files }
+  facts_in files = record { rows = map row_of files; paths = paths_in files; spans = spans_in files; counts = counts_in files; functions = functions_in files }

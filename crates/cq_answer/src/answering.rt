@@ -1,11 +1,12 @@
 ghost use Rattle.std.specs.Prelude.{◌≡◌, ◌≤◌, length, IfOk, OnOk};
 ghost use Rattle.cq_base.specs.Settings.{IsInRange};
 ghost use Rattle.cq_reply.specs.Written.{IsReplyText};
-ghost use Rattle.cq_answer.specs.Parts.{IsWithin};
-ghost use Rattle.cq_answer.specs.Rows.{AreShowable};
+ghost use Rattle.cq_answer.specs.Parts.{HasPath, IsWithin};
+ghost use Rattle.cq_answer.specs.Rows.{AreShowable, AreFewFunctions};
 ghost use Rattle.cq_answer.specs.Versions.{HaveVersion, IsReplyOn, ShowsGroups, AsksOn, AsksAtMostOn, ReadsOn};
 ghost use Rattle.cq_answer.specs.Works.{works_in, keys_in, numbers_in, facts_in};
 
+use crate::functions::functions_in;
 use crate::listing::groups_of;
 use crate::measuring::measures_of;
 use crate::part::{Part, part_of};
@@ -37,6 +38,7 @@ fn reply_of<R: Threads + Sync, L: Ledger>(
     requires few { length conditions.now ≤ 32 }
     requires within { IsWithin (length files.now) part }
     requires measurable { AreShowable (facts_in (works_in files.now)) groups.now }
+    requires few_functions { AreFewFunctions (facts_in (works_in files.now)) }
     ensures { IfOk result (ShowsGroups files.now conditions.now version kind part groups.now) }
 {
     match kind {
@@ -59,12 +61,20 @@ fn reply_of<R: Threads + Sync, L: Ledger>(
                 version,
             })
         }
+        Kind::Functions => {
+            let (functions, worst) = functions_in(alloc, files, part)?;
+            Ok(Reply::Functions {
+                functions,
+                version,
+                worst,
+            })
+        }
     }
 }
 
 /// The reply to a query at a version, of which these are the project's files and conditions. Want of memory leaves the
 /// buckets fit for the next question. With a path that is there, the index is asked for the keys of that file's windows
-/// alone; for the list of files, and for a path that is not there, it is not asked and no token is read. The measures of a
+/// alone; for the list of files, for functions, and for a path that is not there, it is not asked and no token is read. The measures of a
 /// whole project of many places are counted in threads; all else is done on the caller's.
 pub fn answer<R: Threads + Sync, B: Buckets, L: Ledger>(
     rt: &R,
@@ -80,6 +90,7 @@ pub fn answer<R: Threads + Sync, B: Buckets, L: Ledger>(
     requires settings { IsInRange settings.now }
     requires of_version { HaveVersion settings.now version query.now.project files.now conditions.now }
     requires long { settings.now.chunk ≤ query.now.min }
+    requires path { HasPath query.now.kind query.now.path }
     requires for_changes { B.file_changes buckets.old ≡ numbers_in files.now }
     requires for_keys { B.file_keys buckets.old ≡ keys_in files.now }
     requires ready { B.ready buckets.old }

@@ -39,15 +39,12 @@ pub(crate) fn groups_of<B: Buckets, L: Ledger>(
     ensures moved { B.moved buckets.old buckets.new }
     ensures reads { ReadsPart (norms_in files.now) (keys_in files.now) part steps.old steps.new }
 {
-    if part == Part::Nothing {
-        return Ok(Vec::new(alloc));
-    }
     let works = WorkFiles { files };
     let corpus = Corpus::new(settings.chunk, &works);
     let index = Index::new(corpus, files.spots());
     match part {
         Part::Whole => list_all(alloc, &index, min, buckets, steps),
         Part::File(file) => list_file(alloc, &index, file, min, buckets, steps),
-        Part::Nothing => Ok(Vec::new(alloc)),
+        Part::Alone(_) | Part::Nothing => Ok(Vec::new(alloc)),
     }
 }

@@ -68,6 +68,6 @@ pub(crate) fn measures_of<R: Threads + Sync, L: Ledger>(
     match part {
         Part::Whole => project_measures(rt, alloc, &lines_of(alloc, files)?, groups),
         Part::File(file) => file_measures(alloc, file, &lines_in(&files[file as usize]), groups),
-        Part::Nothing => Ok(NO_MEASURES),
+        Part::Alone(_) | Part::Nothing => Ok(NO_MEASURES),
     }
 }

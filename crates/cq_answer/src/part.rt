@@ -1,4 +1,4 @@
-ghost use Rattle.std.specs.Prelude.{◌≡◌, length};
+ghost use Rattle.std.specs.Prelude.{◌≡◌, ℕ, length};
 ghost use Rattle.cq_answer.specs.Parts as spec;
 ghost use Rattle.cq_answer.specs.Works.{paths_in};
 
@@ -15,6 +15,8 @@ pub enum Part {
     Whole,
     /// The file at this position.
     File(u32),
+    /// The file at this position, of which no groups are shown.
+    Alone(u32),
     /// No file: the query shows no groups, or its path is not there.
     Nothing,
 }
@@ -32,6 +34,17 @@ fn part_at<L: Ledger>(files: &ProjectFiles<Work<L>>, path: &Option<Text>) -> Par
     }
 }
 
+fn alone(part: Part) -> Part
+    ensures part { result ≡ spec.alone part }
+    ensures within { (n : ℕ) → spec.IsWithin n part → spec.IsWithin n result }
+{
+    match part {
+        Part::File(file) => Part::Alone(file),
+        Part::Alone(file) => Part::Alone(file),
+        Part::Whole | Part::Nothing => Part::Nothing,
+    }
+}
+
 /// What a query lists of some files. It costs a binary search where it has a path.
 pub(crate) fn part_of<L: Ledger>(files: &ProjectFiles<Work<L>>, query: &Query) -> Part
     ensures part { result ≡ spec.part_of (paths_in files.now) query.now.kind query.now.path }
@@ -41,5 +54,6 @@ pub(crate) fn part_of<L: Ledger>(files: &ProjectFiles<Work<L>>, query: &Query) -
         Kind::Files => Part::Nothing,
         Kind::Groups | Kind::Measures => part_at(files, &query.path),
         Kind::Verdict => Part::Whole,
+        Kind::Functions => alone(part_at(files, &query.path)),
     }
 }

@@ -45,8 +45,8 @@ fn compares(
     text: &str,
 ) -> Result<bool, Memory> {
     let tokens = vec![in alloc; token(alloc, class, spelling)?]?;
-    let norms = normalise(alloc, settings, lang, tokens)?;
-    Ok(is_norm(&norms, lang, class, text))
+    let normal = normalise(alloc, settings, lang, tokens, &[])?;
+    Ok(is_norm(&normal.norms, lang, class, text))
 }
 
 #[test]

@@ -17,7 +17,7 @@ use Rattle.cq_normal.specs.Normal.{normal}
 use Rattle.cq_outcome.specs.declared.outcome.ScriptOutcome.TheVariants as outcome
 use Rattle.cq_shard.specs.Shard.{HasWindow}
 use Rattle.cq_step.specs.declared.step.ScriptStep.TheVariants as script
-use Rattle.cq_work.specs.Shown.{same_lexing}
+use Rattle.cq_work.specs.Shown.{same_kept}
 use Rattle.cq_work.specs.Work.{IsWorkOf}
 use Rattle.cq_work.specs.declared.work.Work.{Work}
 use Rattle.cq_drive.specs.Cores.{IsDriven, keys_of, StepLed}
@@ -41,7 +41,7 @@ module _ (L : Type 0) (set : Settings) where
   -- and the other way round, where the text has a work
   work_of_key : (lang : Lang) (text : List ℕ) (at key : ℕ) (work : Work L) → IsWorkOf set lang text work → HasKeyAt set lang text at key → HasWindow (keys_of {L = L}) IsWorkOf set lang text at key
   work_of_key lang text at key work is has =
-      let same = same_lexing lang text is.answer has.answer is.lexes has.lexes in
+      let same = same_kept lang text is.answer has.answer is.lexes has.lexes in
       (work, is, ap (λ ks. slice_get ks at) (is.shows.keys_are ∙ ap (λ ts. window_keys set (normal set lang ts)) same) ∙ has.is_key)
 
   module _ (changes : List Change) (version : ℕ) (worked : (project : List ℕ) (file : Source) → Has (files_at changes version project) file → (work : Work L) × IsWorkOf set file.lang file.body work) where

@@ -53,7 +53,7 @@ fn have(alloc: Global, lang: Lang, tokens: &[Spelled], want: &str) -> Result<boo
 fn is_right<X: Lexis>(alloc: Global, lang: Lang, line: &str) -> Result<bool, Memory> {
     match line.split_once(" ⇒") {
         Some((source, want)) => match lexed::<X>(alloc, source)? {
-            Lexed::Tokens(tokens) => have(alloc, lang, &tokens, want),
+            Lexed::Tokens(tokens, _) => have(alloc, lang, &tokens, want),
             Lexed::Fault(_) | Lexed::Large => Ok(false),
         },
         None => Ok(false),

@@ -10,6 +10,8 @@ mod go_texts;
 #[cfg(test)]
 mod java_texts;
 #[cfg(test)]
+mod marks;
+#[cfg(test)]
 mod tables;
 #[cfg(test)]
 mod works;

@@ -1,5 +1,5 @@
 //! A table has a text a line, and behind an arrow what it is lexed to. A control character stands there as its picture.
-use cq_base::{Class, Memory, Spelled, Text};
+use cq_base::{Class, Mark, Memory, Spelled, Text};
 use cq_munch::{Lexed, Lexis, munch};
 use std::alloc::Global;
 use std::fmt::Write;
@@ -71,6 +71,18 @@ fn placed(alloc: Global, tokens: &[Spelled]) -> Result<String, Memory> {
     Ok(line)
 }
 
+// Each mark as on or off, and its byte.
+fn marked(alloc: Global, marks: &[Mark]) -> Result<String, Memory> {
+    let mut line = String::new(alloc);
+    for (i, mark) in marks.iter().enumerate() {
+        line.push_str(gap(i))?;
+        line.push_str(if mark.on { "on " } else { "off " })?;
+        let at = mark.at;
+        write!(line, "{at}")?;
+    }
+    Ok(line)
+}
+
 fn are_spelled(alloc: Global, tokens: &[Spelled], want: &str) -> Result<bool, Memory> {
     Ok(spelled(alloc, tokens)?.as_slice() == want.as_bytes())
 }
@@ -87,7 +99,7 @@ fn is_fault(at: u32, want: &str) -> bool {
 fn is_lexed<X: Lexis>(alloc: Global, line: &str) -> Result<bool, Memory> {
     match line.split_once(" ⇒") {
         Some((source, want)) => match lexed::<X>(alloc, source)? {
-            Lexed::Tokens(tokens) => are_spelled(alloc, &tokens, want),
+            Lexed::Tokens(tokens, _) => are_spelled(alloc, &tokens, want),
             Lexed::Fault(at) => Ok(is_fault(at, want)),
             Lexed::Large => Ok(false),
         },
@@ -99,7 +111,18 @@ fn is_lexed<X: Lexis>(alloc: Global, line: &str) -> Result<bool, Memory> {
 fn is_placed<X: Lexis>(alloc: Global, line: &str) -> Result<bool, Memory> {
     match line.split_once(" ⇒") {
         Some((source, want)) => match lexed::<X>(alloc, source)? {
-            Lexed::Tokens(tokens) => Ok(placed(alloc, &tokens)?.as_str() == want),
+            Lexed::Tokens(tokens, _) => Ok(placed(alloc, &tokens)?.as_str() == want),
+            _ => Ok(false),
+        },
+        None => Ok(false),
+    }
+}
+
+// A line is right about the marks of its text.
+fn is_marked<X: Lexis>(alloc: Global, line: &str) -> Result<bool, Memory> {
+    match line.split_once(" ⇒") {
+        Some((source, want)) => match lexed::<X>(alloc, source)? {
+            Lexed::Tokens(_, marks) => Ok(marked(alloc, &marks)?.as_str() == want),
             _ => Ok(false),
         },
         None => Ok(false),
@@ -126,6 +149,18 @@ pub(crate) fn first_elsewhere<X: Lexis>(alloc: Global, table: &str) -> Result<Op
     for line in table.lines() {
         number = number.saturating_add(1);
         if !is_placed::<X>(alloc, &without_pictures(alloc, line)?)? {
+            return Ok(Some(number));
+        }
+    }
+    Ok(None)
+}
+
+/// The first line, from 1, whose text has other marks: each is written as `on` or `off`, and its byte.
+pub(crate) fn first_marked<X: Lexis>(alloc: Global, table: &str) -> Result<Option<u64>, Memory> {
+    let mut number = 0u64;
+    for line in table.lines() {
+        number = number.saturating_add(1);
+        if !is_marked::<X>(alloc, &without_pictures(alloc, line)?)? {
             return Ok(Some(number));
         }
     }

@@ -1,8 +1,10 @@
 -- One element more.
-use Rattle.std.proofs.Common.{◌≡◌, ℕ, ◌+◌, ◌<◌, ◌≤◌, Some, List, [], ◌∷◌, ◌++◌, length, take, drop, refl, sym, ap, subst, ◌∙◌, append_assoc, zero-le, ◌-◌, arith, length-append, length-drop, length-take-le}
+use Rattle.std.proofs.Common.{◌≡◌, ℕ, ◌+◌, ◌<◌, ◌≤◌, Option, Some, None, List, [], ◌∷◌, ◌++◌, length, take, drop, refl, sym, ap, subst, ◌∙◌, append_assoc, zero-le, ◌-◌, arith, length-append, length-drop, length-take-le}
 use Rattle.std.proofs.lemmas.List.{append-nil, length-map, drop-drop}
+use Rattle.std.specs.List.{cons_option}
 use Rattle.cq_base.specs.Lines.{line_at}
 use Rattle.cq_base.specs.declared.token.Class.{Class}
+use Rattle.cq_base.specs.declared.token.Mark.{Mark}
 use Rattle.cq_base.specs.declared.token.Spelled.{Spelled}
 use Rattle.cq_munch.specs.declared.unit.Unit.{Unit}
 use Rattle.cq_munch.specs.declared.element.Found.{Found}
@@ -11,7 +13,7 @@ use Rattle.cq_munch.specs.declared.element.Spell.{Spell}
 use Rattle.cq_munch.specs.declared.element.Spell.TheVariants.{Blank, Comment, Token as TokenOf}
 use Rattle.cq_munch.specs.Language.{Language, Takes}
 use Rattle.cq_munch.specs.Characters.{characters}
-use Rattle.cq_munch.specs.Lexed.{Follow, EndsAt, StopsFrom, GoesToEnd, IsCut, InOrder, TokensFollow, spelled_of, token_of, tokens_of, unit_at, end_of}
+use Rattle.cq_munch.specs.Lexed.{Follow, EndsAt, StopsFrom, GoesToEnd, IsCut, InOrder, TokensFollow, spelled_of, token_of, tokens_of, mark_of, marks_of, unit_at, end_of}
 use Rattle.cq_munch.proofs.Orders.{InOrder-drop, InOrder-behind, InOrder-ends, InOrder-take}
 
 Follow-push : (lang : Language) (text : List ℕ) (a m : ℕ) (fs : List Found) (at mode : ℕ) (f : Found) → Follow lang text a m fs at mode → Takes lang at mode (drop at text) (Some f)
@@ -29,6 +31,26 @@ tokens-push lang text bytes units a m (g ∷ fs) at mode f follow =
     ap (λ v. token_of bytes g.spell (take g.units (drop a units)) ++ v) (tokens-push lang text bytes units (a + g.units) g.mode fs at mode f follow.1)
     ∙ sym (append_assoc (token_of bytes g.spell (take g.units (drop a units))) (tokens_of bytes units (a + g.units) fs) (token_of bytes f.spell (take f.units (drop at units))))
 
+cons-append : {A : Type 0} (x : Option A) (xs ys : List A) → cons_option x (xs ++ ys) ≡ cons_option x xs ++ ys
+cons-append None xs ys = refl
+cons-append (Some x) xs ys = refl
+
+marks-push : (lang : Language) (text : List ℕ) (units : List Unit) (a m : ℕ) (fs : List Found) (at mode : ℕ) (f : Found) → Follow lang text a m fs at mode
+    → marks_of units a (fs ++ f ∷ []) ≡ marks_of units a fs ++ cons_option (mark_of f.spell (take f.units (drop at units))) []
+marks-push lang text units a m [] at mode f follow = ap (λ v. cons_option (mark_of f.spell (take f.units (drop v units))) []) follow.0
+marks-push lang text units a m (g ∷ fs) at mode f follow =
+    ap (cons_option (mark_of g.spell (take g.units (drop a units)))) (marks-push lang text units (a + g.units) g.mode fs at mode f follow.1)
+    ∙ cons-append (mark_of g.spell (take g.units (drop a units))) (marks_of units (a + g.units) fs) (cons_option (mark_of f.spell (take f.units (drop at units))) [])
+
+-- `&units[at..at + n]` is the element that was found
+marks-more : (lang : Language) (text : List ℕ) (units : List Unit) (fs : List Found) (at mode : ℕ) (f : Found) (old new : List Mark) → Follow lang text 0 0 fs at mode → old ≡ marks_of units 0 fs
+    → new ≡ old ++ cons_option (mark_of f.spell (take (at + f.units - at) (drop at units))) [] → new ≡ marks_of units 0 (fs ++ f ∷ [])
+marks-more lang text units fs at mode f old new follow old_is new_is =
+    let n : at + f.units - at ≡ f.units = omega arith in
+    new_is ∙ ap (λ v. v ++ cons_option (mark_of f.spell (take (at + f.units - at) (drop at units))) []) old_is
+    ∙ ap (λ k. marks_of units 0 fs ++ cons_option (mark_of f.spell (take k (drop at units))) []) n
+    ∙ sym (marks-push lang text units 0 0 fs at mode f follow)
+
 TokensFollow-push : (from : ℕ) (ts : List Spelled) (mid to : ℕ) (t : Spelled) → TokensFollow from ts mid → mid ≤ t.token.start → 0 < t.token.len → t.token.start + t.token.len ≡ to → TokensFollow from (ts ++ t ∷ []) to
 TokensFollow-push from [] mid to t follow le some ends = (omega arith, some, omega arith)
 TokensFollow-push from (s ∷ ts) mid to t follow le some ends = (follow.0, follow.1, TokensFollow-push (s.token.start + s.token.len) ts mid to t follow.2 le some ends)
@@ -37,19 +59,21 @@ pub TokensFollow-to : (from : ℕ) (ts : List Spelled) (to more : ℕ) → to �
 TokensFollow-to from [] to more le follow = omega arith
 TokensFollow-to from (s ∷ ts) to more le follow = (follow.0, follow.1, TokensFollow-to (s.token.start + s.token.len) ts to more le follow.2)
 
--- The elements so far, and their tokens, of which the last ends at a byte; the byte before that one stands on a line.
-pub record SoFar (lang : Language) (bytes : List ℕ) (units : List Unit) (tokens : List Spelled) (at mode end line : ℕ) : Type 0 where
+-- The elements so far, and their marks and tokens, of which the last ends at a byte; the byte before that one stands on a
+-- line.
+pub record SoFar (lang : Language) (bytes : List ℕ) (units : List Unit) (tokens : List Spelled) (marks : List Mark) (at mode end line : ℕ) : Type 0 where
   pub elements : List Found
   pub follow : Follow lang (characters units) 0 0 elements at mode
   pub tokens_are : tokens ≡ tokens_of bytes units 0 elements
+  pub marks_are : marks ≡ marks_of units 0 elements
   pub inside : at ≤ length units
   pub known : mode ≤ 3
   pub behind : InOrder end (drop at units) (length bytes)
   pub line_is : line ≡ line_at bytes (end - 1)
   pub ordered : TokensFollow 0 tokens end
 
-pub none_so_far : (lang : Language) (bytes : List ℕ) (units : List Unit) → InOrder 0 units (length bytes) → SoFar lang bytes units [] 0 0 0 1
-none_so_far lang bytes units order = record { elements = []; follow = (refl, refl); tokens_are = refl; inside = zero-le; known = zero-le; behind = order; line_is = refl; ordered = zero-le }
+pub none_so_far : (lang : Language) (bytes : List ℕ) (units : List Unit) → InOrder 0 units (length bytes) → SoFar lang bytes units [] [] 0 0 0 1
+none_so_far lang bytes units order = record { elements = []; follow = (refl, refl); tokens_are = refl; marks_are = refl; inside = zero-le; known = zero-le; behind = order; line_is = refl; ordered = zero-le }
 
 -- elements behind elements
 Follow-append : (lang : Language) (text : List ℕ) (a m : ℕ) (fs : List Found) (at mode : ℕ) (gs : List Found) (end last : ℕ) → Follow lang text a m fs at mode → Follow lang text at mode gs end last
@@ -92,8 +116,8 @@ all_gone {lang} {units} {from} {there} {at} {mode} gone end =
     (gone.elements, mode, subst (λ v. Follow lang (characters units) from there gone.elements v mode) whole gone.follow)
 
 -- a text with a fault behind its first tokens, or with too many
-pub faulty : {lang : Language} {bytes : List ℕ} {units : List Unit} {tokens : List Spelled} {at mode end line : ℕ} → SoFar lang bytes units tokens at mode end line → (byte : ℕ) → StopsFrom lang units at mode byte → EndsAt lang units byte
-faulty {lang} {bytes} {units} {tokens} {at} {mode} {end} {line} so_far byte stops = record {
+pub faulty : {lang : Language} {bytes : List ℕ} {units : List Unit} {tokens : List Spelled} {marks : List Mark} {at mode end line : ℕ} → SoFar lang bytes units tokens marks at mode end line → (byte : ℕ) → StopsFrom lang units at mode byte → EndsAt lang units byte
+faulty {lang} {bytes} {units} {tokens} {marks} {at} {mode} {end} {line} so_far byte stops = record {
   elements = so_far.elements ++ stops.elements;
   at = stops.at;
   mode = stops.mode;
@@ -103,23 +127,25 @@ faulty {lang} {bytes} {units} {tokens} {at} {mode} {end} {line} so_far byte stop
   byte_is = stops.byte_is;
 }
 
-pub too_many : {lang : Language} {bytes : List ℕ} {units : List Unit} {tokens : List Spelled} {at mode end line : ℕ} → SoFar lang bytes units tokens at mode end line → 262144 < length tokens → GoesToEnd lang units at mode → IsCut lang bytes units cuts.Large
-too_many {lang} {bytes} {units} {tokens} {at} {mode} {end} {line} so_far many rest = (
+pub too_many : {lang : Language} {bytes : List ℕ} {units : List Unit} {tokens : List Spelled} {marks : List Mark} {at mode end line : ℕ} → SoFar lang bytes units tokens marks at mode end line → 262144 < length tokens → GoesToEnd lang units at mode → IsCut lang bytes units cuts.Large
+too_many {lang} {bytes} {units} {tokens} {marks} {at} {mode} {end} {line} so_far many rest = (
   so_far.elements ++ rest.0,
   (rest.1, Follow-append lang (characters units) 0 0 so_far.elements at mode rest.0 (length units) rest.1 so_far.follow rest.2),
   let is = ap length so_far.tokens_are in let more = tokens-more bytes units 0 so_far.elements rest.0 in omega arith,
 )
 
-further : (at n : ℕ) (units : List Unit) → drop n (drop at units) ≡ drop (at + n) units
+pub further : (at n : ℕ) (units : List Unit) → drop n (drop at units) ≡ drop (at + n) units
 further at n units = drop-drop n at units ∙ ap (λ k. drop k units) (omega arith)
 
 -- an element that is no token
-pub one_blank : {lang : Language} {bytes : List ℕ} {units : List Unit} {tokens : List Spelled} {at mode end line : ℕ} → SoFar lang bytes units tokens at mode end line → (f : Found) → Takes lang at mode (drop at (characters units)) (Some f)
-    → at + f.units ≤ length units → f.mode ≤ 3 → tokens ≡ tokens ++ token_of bytes f.spell (take f.units (drop at units)) → SoFar lang bytes units tokens (at + f.units) f.mode end line
-one_blank {lang} {bytes} {units} {tokens} {at} {mode} {end} {line} so_far f takes inside known none = record {
+pub one_blank : {lang : Language} {bytes : List ℕ} {units : List Unit} {tokens : List Spelled} {marks : List Mark} {at mode end line : ℕ} → SoFar lang bytes units tokens marks at mode end line → (f : Found) → Takes lang at mode (drop at (characters units)) (Some f)
+    → at + f.units ≤ length units → f.mode ≤ 3 → tokens ≡ tokens ++ token_of bytes f.spell (take f.units (drop at units)) → (marked : List Mark) → marked ≡ marks ++ cons_option (mark_of f.spell (take (at + f.units - at) (drop at units))) []
+    → SoFar lang bytes units tokens marked (at + f.units) f.mode end line
+one_blank {lang} {bytes} {units} {tokens} {marks} {at} {mode} {end} {line} so_far f takes inside known none marked marked_is = record {
   elements = so_far.elements ++ f ∷ [];
   follow = Follow-push lang (characters units) 0 0 so_far.elements at mode f so_far.follow takes;
   tokens_are = none ∙ ap (λ v. v ++ token_of bytes f.spell (take f.units (drop at units))) so_far.tokens_are ∙ sym (tokens-push lang (characters units) bytes units 0 0 so_far.elements at mode f so_far.follow);
+  marks_are = marks-more lang (characters units) units so_far.elements at mode f marks marked so_far.follow so_far.marks_are marked_is;
   inside = inside;
   known = known;
   behind = subst (λ us. InOrder end us (length bytes)) (further at f.units units) (InOrder-drop f.units end (drop at units) (length bytes) so_far.behind);
@@ -128,10 +154,10 @@ one_blank {lang} {bytes} {units} {tokens} {at} {mode} {end} {line} so_far f take
 }
 
 -- an element that is a token
-pub one_token : {lang : Language} {bytes : List ℕ} {units : List Unit} {tokens : List Spelled} {at mode end line : ℕ} → SoFar lang bytes units tokens at mode end line → (f : Found) → Takes lang at mode (drop at (characters units)) (Some f)
-    → at + f.units ≤ length units → f.mode ≤ 3 → (class : Class) (s : Spelled) (more : List Spelled) → f.spell ≡ TokenOf class → s ≡ spelled_of bytes class (take (at + f.units - at) (drop at units)) → more ≡ tokens ++ s ∷ []
-    → SoFar lang bytes units more (at + f.units) f.mode (s.token.start + s.token.len) s.token.last_line
-one_token {lang} {bytes} {units} {tokens} {at} {mode} {end} {line} so_far f takes inside known class s more spell s_is more_is =
+pub one_token : {lang : Language} {bytes : List ℕ} {units : List Unit} {tokens : List Spelled} {marks : List Mark} {at mode end line : ℕ} → SoFar lang bytes units tokens marks at mode end line → (f : Found) → Takes lang at mode (drop at (characters units)) (Some f)
+    → at + f.units ≤ length units → f.mode ≤ 3 → (class : Class) (s : Spelled) (more : List Spelled) → f.spell ≡ TokenOf class → s ≡ spelled_of bytes class (take (at + f.units - at) (drop at units)) → more ≡ tokens ++ s ∷ [] → (marked : List Mark) → marked ≡ marks ++ cons_option (mark_of f.spell (take (at + f.units - at) (drop at units))) []
+    → SoFar lang bytes units more marked (at + f.units) f.mode (s.token.start + s.token.len) s.token.last_line
+one_token {lang} {bytes} {units} {tokens} {marks} {at} {mode} {end} {line} so_far f takes inside known class s more spell s_is more_is marked marked_is =
     let n : at + f.units - at ≡ f.units = omega arith in
     let here : List Unit = take f.units (drop at units) in
     let is : s ≡ spelled_of bytes class here = s_is ∙ ap (λ k. spelled_of bytes class (take k (drop at units))) n in
@@ -149,6 +175,7 @@ one_token {lang} {bytes} {units} {tokens} {at} {mode} {end} {line} so_far f take
       follow = Follow-push lang (characters units) 0 0 so_far.elements at mode f so_far.follow takes;
       tokens_are = more_is ∙ ap (λ v. tokens ++ v ∷ []) is ∙ ap (λ v. tokens ++ token_of bytes v here) (sym spell)
           ∙ ap (λ v. v ++ token_of bytes f.spell here) so_far.tokens_are ∙ sym (tokens-push lang (characters units) bytes units 0 0 so_far.elements at mode f so_far.follow);
+      marks_are = marks-more lang (characters units) units so_far.elements at mode f marks marked so_far.follow so_far.marks_are marked_is;
       inside = inside;
       known = known;
       behind = subst (λ us. InOrder (s.token.start + s.token.len) us (length bytes)) (further at f.units units)

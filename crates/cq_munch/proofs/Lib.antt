@@ -13,3 +13,5 @@ pub mod Joining
 pub mod Dispatch
 pub mod OneKind
 pub mod Marks
+pub mod MarkWords
+pub mod MarkOrder

@@ -1,10 +1,13 @@
 -- What a text is lexed to.
-use Rattle.std.specs.Prelude.{◌≡◌, ℕ, ◌+◌, ◌-◌, ◌<◌, ◌≤◌, Some, None, Result, Ok, Err, List, [], ◌∷◌, ◌++◌, length, take, drop, slice_index_or, MatchResult, IsOkAnd, IfOk, ⊤}
+use Rattle.std.specs.Prelude.{◌≡◌, ℕ, ◌+◌, ◌-◌, ◌<◌, ◌≤◌, Option, Some, None, option_map, Result, Ok, Err, List, [], ◌∷◌, ◌++◌, length, take, drop, slice_index_or, MatchResult, IsOkAnd, IfOk, ⊤}
 use Rattle.std.specs.Char.{len_utf8}
+use Rattle.std.specs.List.{cons_option}
+use Rattle.std.specs.List.Sorted.{IsNonDecreasingBy}
 use Rattle.std.specs.Str.{chars}
 use Rattle.cq_base.specs.Lines.{line_at}
 use Rattle.cq_munch.specs.declared.unit.Unit.{Unit}
 use Rattle.cq_base.specs.declared.token.Class.{Class}
+use Rattle.cq_base.specs.declared.token.Mark.{Mark}
 use Rattle.cq_munch.specs.declared.element.Spell.{Spell}
 use Rattle.cq_munch.specs.declared.element.Spell.TheVariants.{Blank, Comment, Token as TokenOf}
 use Rattle.cq_munch.specs.declared.element.Found.{Found}
@@ -17,6 +20,7 @@ use Rattle.cq_munch.specs.declared.lexis.Translated.{Translated}
 use Rattle.cq_munch.specs.declared.lexis.Translated.TheVariants.{Units, Fault}
 use Rattle.cq_munch.specs.Characters.{characters, utf8_of}
 use Rattle.cq_munch.specs.Language.{Language, Takes}
+use Rattle.cq_munch.specs.ListingMarks.{said}
 
 -- the characters with their places, the first at a byte
 abbrev pub placed : ℕ → List ℕ → List Unit
@@ -72,6 +76,17 @@ abbrev pub tokens_of : List ℕ → List Unit → ℕ → List Found → List Sp
 tokens_of bytes units at [] = []
 tokens_of bytes units at (f ∷ fs) = token_of bytes f.spell (take f.units (drop at units)) ++ tokens_of bytes units (at + f.units) fs
 
+-- A comment in which one of the two words stands is a mark, at its first byte. The last such word tells whether it is on.
+abbrev pub mark_of : Spell → List Unit → Option Mark
+mark_of Blank units = None
+mark_of Comment units = option_map (λ on. record { at = (unit_at units 0).start; on = on }) (said (characters units))
+mark_of (TokenOf class) units = None
+
+-- the marks of elements that stand one behind the other from a unit on
+abbrev pub marks_of : List Unit → ℕ → List Found → List Mark
+marks_of units at [] = []
+marks_of units at (f ∷ fs) = cons_option (mark_of f.spell (take f.units (drop at units))) (marks_of units (at + f.units) fs)
+
 -- tokens stand one behind the other, each of at least one byte, from a byte to another
 abbrev pub TokensFollow : ℕ → List Spelled → ℕ → Type 0
 TokensFollow from [] to = from ≤ to
@@ -117,28 +132,39 @@ GoesToEnd lang units from mode_there =
     (fs : List Found) × (last : ℕ) × Follow lang (characters units) from mode_there fs (length units) last
 
 abbrev pub IsCut : Language → List ℕ → List Unit → Cut → Type 0
-IsCut lang bytes units (cuts.Tokens v) = (fs : List Found) × IsWhole lang units fs × (v.items ≡ tokens_of bytes units 0 fs)
+IsCut lang bytes units (cuts.Tokens v marks) =
+    (fs : List Found) × IsWhole lang units fs × (v.items ≡ tokens_of bytes units 0 fs) × (marks.items ≡ marks_of units 0 fs)
 IsCut lang bytes units (cuts.Fault byte) = EndsAt lang units byte
 IsCut lang bytes units cuts.Large = (fs : List Found) × IsWhole lang units fs × (262144 < length (tokens_of bytes units 0 fs))
 
+-- no mark begins before one that stands before it
+abbrev pub AreInOrder : List Mark → Type 0
+AreInOrder marks = IsNonDecreasingBy (λ (m : Mark). m.at) marks
+
 abbrev pub AreCutInOrder : ℕ → Cut → Type 0
-AreCutInOrder to (cuts.Tokens v) = TokensFollow 0 v.items to
+AreCutInOrder to (cuts.Tokens v marks) = TokensFollow 0 v.items to × AreInOrder marks.items
 AreCutInOrder to (cuts.Fault byte) = ⊤
 AreCutInOrder to cuts.Large = ⊤
 
 -- A fault of the translation is the answer. Otherwise it is the first place where nothing is taken. Otherwise the
--- text is large where it has more tokens than 262,144, and else these tokens are the answer.
+-- text is large where it has more tokens than 262,144, and else these tokens are the answer, with the marks of its comments.
 abbrev pub IsLexed : Language → (List Unit → Result (List Unit) ℕ) → (List ℕ → List Spelled → List Spelled) → List ℕ → Lexed → Type 0
 IsLexed lang translated completed bytes (lexed.Fault byte) =
     MatchResult (translated (units_of bytes)) (λ units. EndsAt lang units byte) (λ at. byte ≡ at)
 IsLexed lang translated completed bytes lexed.Large =
     IsOkAnd (translated (units_of bytes)) (λ units. (fs : List Found) × IsWhole lang units fs × (262144 < length (completed bytes (tokens_of bytes units 0 fs))))
-IsLexed lang translated completed bytes (lexed.Tokens v) =
-    IsOkAnd (translated (units_of bytes)) (λ units. (fs : List Found) × IsWhole lang units fs × (v.items ≡ completed bytes (tokens_of bytes units 0 fs)) × (length v.items ≤ 262144))
+IsLexed lang translated completed bytes (lexed.Tokens v marks) =
+    IsOkAnd (translated (units_of bytes)) (λ units. (fs : List Found) × IsWhole lang units fs × (v.items ≡ completed bytes (tokens_of bytes units 0 fs)) × (length v.items ≤ 262144) × (marks.items ≡ marks_of units 0 fs))
 
--- the answers are alike: where tokens lie in memory doesn't matter
+-- the marks of an answer are in order
+abbrev pub AreMarkedInOrder : Lexed → Type 0
+AreMarkedInOrder (lexed.Tokens v marks) = AreInOrder marks.items
+AreMarkedInOrder (lexed.Fault byte) = ⊤
+AreMarkedInOrder lexed.Large = ⊤
+
+-- the answers are alike: where tokens and marks lie in memory doesn't matter
 abbrev pub Alike : Lexed → Lexed → Type 0
-Alike (lexed.Tokens v) (lexed.Tokens w) = v.items ≡ w.items
+Alike (lexed.Tokens v marks) (lexed.Tokens w others) = (v.items ≡ w.items) × (marks.items ≡ others.items)
 Alike (lexed.Fault a) (lexed.Fault b) = a ≡ b
 Alike lexed.Large lexed.Large = ⊤
 Alike _ _ = ⊥

@@ -13,5 +13,7 @@ pub mod Language
 pub mod Table
 pub mod Commented
 pub mod Fronts
+pub mod ListingMarks
 pub mod Lexed
 pub mod OneAnswer
+pub mod LastWord

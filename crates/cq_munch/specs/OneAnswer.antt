@@ -10,7 +10,7 @@ use Rattle.cq_munch.specs.declared.munching.Lexed.{Lexed}
 use Rattle.cq_munch.specs.declared.munching.Lexed.TheVariants as lexed
 use Rattle.cq_munch.specs.Characters.{characters}
 use Rattle.cq_munch.specs.Language.{Language, Takes, Allows, HasOneKind}
-use Rattle.cq_munch.specs.Lexed.{Follow, IsWhole, EndsAt, IsLexed, Alike, HasOneAnswer, tokens_of, units_of, unit_at}
+use Rattle.cq_munch.specs.Lexed.{Follow, IsWhole, EndsAt, IsLexed, Alike, HasOneAnswer, tokens_of, marks_of, units_of, unit_at}
 
 one_length : (set : List ℕ → Type 0) (text : List ℕ) (m n : ℕ) → IsLongest set text m → IsLongest set text n → m ≡ n
 one_length set text m n h k =
@@ -78,30 +78,31 @@ module _ (lang : Language) (one_kind : HasOneKind lang) where
     -- by what the translation gives
     by_translation : (bytes : List ℕ) (r : Result (List Unit) ℕ) → translated (units_of bytes) ≡ r → (a b : Lexed) → IsLexed lang (λ _. r) completed bytes a → IsLexed lang (λ _. r) completed bytes b → Alike a b
     by_translation bytes (Err e) is (lexed.Fault a) (lexed.Fault b) h k = h ∙ sym k
-    by_translation bytes (Err e) is (lexed.Tokens v) b h k = absurd h
+    by_translation bytes (Err e) is (lexed.Tokens v marks) b h k = absurd h
     by_translation bytes (Err e) is lexed.Large b h k = absurd h
-    by_translation bytes (Err e) is a (lexed.Tokens w) h k = absurd k
+    by_translation bytes (Err e) is a (lexed.Tokens w others) h k = absurd k
     by_translation bytes (Err e) is a lexed.Large h k = absurd k
     by_translation bytes (Ok units) is (lexed.Fault a) (lexed.Fault b) h k = one_fault units a b h k
-    by_translation bytes (Ok units) is (lexed.Fault a) (lexed.Tokens w) h k = no_both units a k.0 h k.1
+    by_translation bytes (Ok units) is (lexed.Fault a) (lexed.Tokens w others) h k = no_both units a k.0 h k.1
     by_translation bytes (Ok units) is (lexed.Fault a) lexed.Large h k = no_both units a k.0 h k.1
-    by_translation bytes (Ok units) is (lexed.Tokens v) (lexed.Fault b) h k = no_both units b h.0 k h.1
+    by_translation bytes (Ok units) is (lexed.Tokens v marks) (lexed.Fault b) h k = no_both units b h.0 k h.1
     by_translation bytes (Ok units) is lexed.Large (lexed.Fault b) h k = no_both units b h.0 k h.1
-    by_translation bytes (Ok units) is (lexed.Tokens v) (lexed.Tokens w) h k =
-        h.2 ∙ ap (λ fs. completed bytes (tokens_of bytes units 0 fs)) (one_whole units h.0 k.0 h.1 k.1) ∙ sym k.2
+    by_translation bytes (Ok units) is (lexed.Tokens v marks) (lexed.Tokens w others) h k =
+        let same = one_whole units h.0 k.0 h.1 k.1 in
+        (h.2 ∙ ap (λ fs. completed bytes (tokens_of bytes units 0 fs)) same ∙ sym k.2, h.4 ∙ ap (marks_of units 0) same ∙ sym k.4)
     by_translation bytes (Ok units) is lexed.Large lexed.Large h k = tt
-    by_translation bytes (Ok units) is (lexed.Tokens v) lexed.Large h k =
+    by_translation bytes (Ok units) is (lexed.Tokens v marks) lexed.Large h k =
         let same = ap (λ fs. length (completed bytes (tokens_of bytes units 0 fs))) (one_whole units h.0 k.0 h.1 k.1) in
         let count = ap length h.2 in
         absurd (omega (arith, h.3, k.2))
-    by_translation bytes (Ok units) is lexed.Large (lexed.Tokens w) h k =
+    by_translation bytes (Ok units) is lexed.Large (lexed.Tokens w others) h k =
         let same = ap (λ fs. length (completed bytes (tokens_of bytes units 0 fs))) (one_whole units h.0 k.0 h.1 k.1) in
         let count = ap length k.2 in
         absurd (omega (arith, k.3, h.2))
 
     told : (bytes : List ℕ) (a : Lexed) → IsLexed lang translated completed bytes a → IsLexed lang (λ _. translated (units_of bytes)) completed bytes a
     told bytes (lexed.Fault a) h = h
-    told bytes (lexed.Tokens v) h = h
+    told bytes (lexed.Tokens v marks) h = h
     told bytes lexed.Large h = h
 
     pub one_answer : HasOneAnswer lang translated completed

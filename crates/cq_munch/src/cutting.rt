@@ -4,17 +4,19 @@ ghost use Rattle.cq_munch.specs.Lexed.{InOrder, IsCut, AreCutInOrder, StopsFrom,
 
 use crate::element::Spell;
 use crate::lexis::Lexis;
+use crate::marking::add_mark;
 use crate::spelling::spell_out;
 use crate::unit::Unit;
-use cq_base::{Memory, Spelled, Text};
+use cq_base::{Mark, Memory, Spelled, Text};
 use std::alloc::Global;
 
 pub(crate) const MOST_TOKENS: usize = 262_144;
 
-/// The tokens of a translated text, or the byte where nothing is taken, or that it has more than 262,144 tokens.
+/// The tokens of a translated text and the marks of its comments, or the byte where nothing is taken, or that it has more
+/// than 262,144 tokens.
 #[derive(Debug, Drop)]
 pub(crate) enum Cut {
-    Tokens(Vec<Spelled>),
+    Tokens(Vec<Spelled>, Vec<Mark>),
     Fault(u32),
     Large,
 }
@@ -51,6 +53,7 @@ pub(crate) fn cut_up<X: Lexis>(alloc: Global, text: &Text, units: &[Unit]) -> Re
 {
     let mut lexis = X::new();
     let mut tokens = Vec::new(alloc);
+    let mut marks = Vec::new(alloc);
     let mut at = 0;
     let mut mode = 0;
     let mut end = 0;
@@ -66,6 +69,7 @@ pub(crate) fn cut_up<X: Lexis>(alloc: Global, text: &Text, units: &[Unit]) -> Re
             return Ok(Cut::Fault(units[at].start));
         };
         let behind = at + found.units as usize;
+        add_mark(&mut marks, found.spell, &units[at..behind])?;
         if let Spell::Token(class) = found.spell {
             let spelled = spell_out(alloc, text, class, &units[at..behind], end, line)?;
             end = spelled.token.start + spelled.token.len;
@@ -75,5 +79,5 @@ pub(crate) fn cut_up<X: Lexis>(alloc: Global, text: &Text, units: &[Unit]) -> Re
         at = behind;
         mode = found.mode;
     }
-    Ok(Cut::Tokens(tokens))
+    Ok(Cut::Tokens(tokens, marks))
 }

@@ -1,7 +1,10 @@
-//! Tokens as they are compared: language, class and spelling, with the spelling left out where its class is ignored.
-//! It costs one move of each token; a digraph of C is spelled anew, in a byte or two.
+//! Tokens as they are compared: those that the marks in comments leave in, each as language, class and spelling, with the
+//! spelling left out where its class is ignored. It costs one move of each token and a search among the marks; a digraph
+//! of C is spelled anew, in a byte or two.
 #![tactic(auto)]
 
+mod keeping;
 mod normal;
 
-pub use normal::{meaning, normalise};
+pub use keeping::spans_of;
+pub use normal::{Normal, meaning, normalise};

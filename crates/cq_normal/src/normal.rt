@@ -1,8 +1,18 @@
-ghost use Rattle.std.specs.Prelude.{◌≡◌, IfOk, map, option_map, unwrap_or};
+ghost use Rattle.std.specs.Prelude.{◌≡◌, ◌≤◌, IfOk, length, map, option_map, unwrap_or};
+ghost use Rattle.std.specs.List.Sorted.{IsNonDecreasingBy};
+ghost use Rattle.cq_normal.specs.Kept.{kept, spans_of};
 ghost use Rattle.cq_normal.specs.Normal as spec;
 
-use cq_base::{Class, Lang, Memory, Norm, Settings, Spelled, Text};
+use crate::keeping::{kept, spans_of};
+use cq_base::{Class, Lang, Mark, Memory, Norm, Settings, Spelled, Text, Token};
 use std::alloc::Global;
+
+/// The tokens of a text that are compared, one for one with where they stand.
+#[derive(Debug, Drop)]
+pub struct Normal {
+    pub norms: Vec<Norm>,
+    pub spans: Vec<Token>,
+}
 
 /// What a digraph of C stands for, if the spelling is one.
 pub fn meaning(spelling: &[u8]) -> Option<&'static str>
@@ -71,8 +81,8 @@ fn norm_of(alloc: Global, settings: &Settings, lang: Lang, spelled: Spelled) -> 
     Ok(Norm { lang, class, text })
 }
 
-/// The tokens of a text of this language as they are compared, one for one. Their spellings are moved.
-pub fn normalise(
+// The tokens of a text of this language as they are compared, one for one. Their spellings are moved.
+fn norms_of(
     alloc: Global,
     settings: &Settings,
     lang: Lang,
@@ -86,4 +96,25 @@ pub fn normalise(
         norms.push(norm_of(alloc, settings, lang, spelled)?)?;
     }
     Ok(norms)
+}
+
+/// The tokens of a text of this language as they are compared, without those that its marks leave out. Spellings are
+/// moved. It costs a search among the marks for each token.
+pub fn normalise(
+    alloc: Global,
+    settings: &Settings,
+    lang: Lang,
+    tokens: Vec<Spelled>,
+    marks: &[Mark],
+) -> Result<Normal, Memory>
+    requires ascending { IsNonDecreasingBy (λ m. m.at) marks.now }
+    ensures norms { IfOk result (λ n. n.norms.items ≡ spec.normal settings.now lang (kept marks.now tokens.items)) }
+    ensures spans { IfOk result (λ n. n.spans.items ≡ spans_of (kept marks.now tokens.items)) }
+    ensures no_more { IfOk result (λ n. length n.norms.items ≤ length tokens.items) }
+    ensures no_longer { IfOk result (λ n. spec.AreNoLonger tokens.items n.norms.items) }
+{
+    let tokens = kept(marks, tokens);
+    let spans = spans_of(alloc, &tokens)?;
+    let norms = norms_of(alloc, settings, lang, tokens)?;
+    Ok(Normal { norms, spans })
 }

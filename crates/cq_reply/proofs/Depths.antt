@@ -1,5 +1,5 @@
 -- A reply nests no deeper than the reader goes.
-use Rattle.std.proofs.Common.{ℕ, ◌≤◌, List, [], ◌∷◌, map, arith}
+use Rattle.std.proofs.Common.{ℕ, ◌≤◌, List, [], ◌∷◌, map, Option, Some, None, arith}
 use Rattle.serde_json.specs.Data.{Data, depth, items_depth}
 use Rattle.serde_json.specs.Read.{max_depth}
 use Rattle.serde_json.specs.View.{items_of}
@@ -11,7 +11,7 @@ use Rattle.cq_reply.specs.declared.reply.Shown.{Shown}
 use Rattle.cq_reply.specs.declared.reply.Shown.TheVariants as shown
 use Rattle.cq_reply.specs.declared.reply.Reply.{Reply}
 use Rattle.cq_reply.specs.declared.reply.Reply.TheVariants as reply
-use Rattle.cq_reply.specs.Written.{shown_data, file_data, place_data, group_data, count, verdict_data, reply_data}
+use Rattle.cq_reply.specs.Written.{shown_data, file_data, place_data, group_data, count, verdict_data, function_data, position_data, reply_data}
 
 -- a list whose values nest no deeper than n
 rows_depth : {X : Type 0} (n : ℕ) (data_of : X → Data) (rows : List X) → ((x : X) → depth (data_of x) ≤ n) → items_depth (items_of (map data_of rows)) ≤ n
@@ -30,12 +30,17 @@ verdict_depth : (v : Verdict) (version : ℕ) → depth (verdict_data v version)
 verdict_depth verdict.Ok version = omega arith
 verdict_depth (verdict.Error failed) version = let positions = rows_depth 1 count failed (λ n. omega arith) in omega (arith, positions)
 
+position_depth : (o : Option ℕ) → depth (position_data o) ≤ 0
+position_depth None = omega arith
+position_depth (Some n) = omega arith
+
 pub reply_depth : (r : Reply) → depth (reply_data r) ≤ max_depth
 reply_depth (reply.Change n) = omega arith
 reply_depth (reply.Files files version) = let rows = rows_depth 1 file_data files (λ row. shown_depth row row.shown) in omega (arith, rows)
 reply_depth (reply.Groups groups version) = let rows = rows_depth 3 group_data groups group_depth in omega (arith, rows)
 reply_depth (reply.Measures measures version) = omega arith
 reply_depth (reply.Verdict verdict version) = let depth_of = verdict_depth verdict version in omega (arith, depth_of)
+reply_depth (reply.Functions functions version worst) = let rows = rows_depth 1 function_data functions (λ f. omega arith) in let position = position_depth worst in omega (arith, rows, position)
 reply_depth (reply.State accepted done published) = omega arith
 reply_depth reply.Json = omega arith
 reply_depth reply.Op = omega arith

@@ -1,6 +1,7 @@
 ghost use Rattle.std.specs.Prelude.{◌≡◌};
 
 use cq_base::{Lang, Measures, Text};
+use cq_func::Function;
 use cq_gate::Verdict;
 use std::marker::Model;
 
@@ -129,6 +130,35 @@ impl FileRows {
     }
 }
 
+/// Functions, which contracts see as a list.
+#[derive(Drop)]
+pub struct FunctionRows {
+    rows: Vec<Function>,
+}
+
+impl Model for FunctionRows {
+    ghost use Rattle.std.specs.Prelude.{List};
+    ghost use Rattle.cq_func.specs.declared.function.Function.{Function};
+
+    ghost Value = { List Function };
+
+    ghost view = { λ f. f.rows.items };
+}
+
+impl FunctionRows {
+    pub fn from_vec(rows: Vec<Function>) -> FunctionRows
+        ensures { result ≡ rows.items }
+    {
+        FunctionRows { rows }
+    }
+
+    pub fn as_slice(&self) -> &[Function]
+        ensures { result.now ≡ self.now }
+    {
+        self.rows.as_slice()
+    }
+}
+
 /// What a line is answered with.
 #[derive(Drop)]
 pub enum Reply {
@@ -153,6 +183,12 @@ pub enum Reply {
     Verdict {
         verdict: Verdict,
         version: u64,
+    },
+    /// The functions of a file at a version, and the position, from 0, of the first of greatest complexity.
+    Functions {
+        functions: FunctionRows,
+        version: u64,
+        worst: Option<u32>,
     },
     /// How many changes are accepted, up to which one all are done, and which version is published.
     State {

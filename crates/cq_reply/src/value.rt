@@ -4,10 +4,11 @@ ghost use Rattle.std.specs.Str.{IsUtf8};
 ghost use Rattle.serde_json.specs.Data.{array, object};
 ghost use Rattle.serde_json.specs.View.{view};
 ghost use Rattle.cq_reply.specs.declared.reply.Shown.TheVariants.{Fault};
-ghost use Rattle.cq_reply.specs.Written.{word_of, file_members, shown_data, file_data, files_data, place_data, group_data, groups_data, count, measures_members, measures_data, failed_data, verdict_data, change_data, state_data, refusal, future_data, field_data, pending_data, reply_data, IsFileText, IsPlaceText, IsGroupText, IsReplyText};
+ghost use Rattle.cq_reply.specs.Written.{word_of, position_data, name_text, function_data, functions_data, file_members, shown_data, file_data, files_data, place_data, group_data, groups_data, count, measures_members, measures_data, failed_data, verdict_data, change_data, state_data, refusal, future_data, field_data, pending_data, reply_data, IsFileText, IsPlaceText, IsGroupText, IsReplyText};
 
 use crate::reply::{FileRow, GroupRow, PlaceRow, Reply, Shown};
 use cq_base::{Lang, Measures, Text};
+use cq_func::Function;
 use cq_gate::Verdict;
 use serde_json::{Value, json};
 use std::alloc::{AllocError, Global};
@@ -193,6 +194,54 @@ fn state_value(alloc: Global, accepted: u64, done: u64, published: u64) -> Resul
     json!(in alloc; {"accepted": accepted, "done": done, "ok": true, "published": published})
 }
 
+fn name_of(function: &Function) -> &str
+    ensures { result.now ≡ name_text function.now.name }
+{
+    match str::from_utf8(function.name.as_bytes()) {
+        Ok(name) => name,
+        Err(_) => "",
+    }
+}
+
+fn function_value(alloc: Global, function: &Function) -> Result<Value, AllocError>
+    ensures { IfOk result (λ v. view v ≡ function_data function.now) }
+{
+    let name = name_of(function);
+    json!(in alloc; {"complexity": function.complexity, "first": function.first, "last": function.last, "name": name})
+}
+
+fn function_values(alloc: Global, functions: &[Function]) -> Result<Vec<Value>, AllocError>
+    ensures { IfOk result (λ v. map view v.items ≡ map function_data functions.now) }
+{
+    let mut values = Vec::new(alloc);
+    for function in functions {
+        serde_json::push(&mut values, function_value(alloc, function)?)?;
+    }
+    Ok(values)
+}
+
+fn position_value(position: Option<u32>) -> Value
+    ensures { view result ≡ position_data position }
+{
+    match position {
+        Some(position) => Value::from(position),
+        None => Value::Null,
+    }
+}
+
+fn functions_value(
+    alloc: Global,
+    functions: &[Function],
+    version: u64,
+    worst: Option<u32>,
+) -> Result<Value, AllocError>
+    ensures { IfOk result (λ v. view v ≡ functions_data functions.now version worst) }
+{
+    let functions = Value::Array(function_values(alloc, functions)?);
+    let worst = position_value(worst);
+    json!(in alloc; {"functions": functions, "ok": true, "version": version, "worst": worst})
+}
+
 fn future_value(alloc: Global, count: u64) -> Result<Value, AllocError>
     ensures { IfOk result (λ v. view v ≡ future_data count) }
 {
@@ -224,6 +273,11 @@ pub(crate) fn reply_value(alloc: Global, reply: &Reply) -> Result<Value, AllocEr
         Reply::Groups { groups, version } => groups_value(alloc, groups.as_slice(), *version),
         Reply::Measures { measures, version } => measures_value(alloc, measures, *version),
         Reply::Verdict { verdict, version } => verdict_value(alloc, verdict, *version),
+        Reply::Functions {
+            functions,
+            version,
+            worst,
+        } => functions_value(alloc, functions.as_slice(), *version, *worst),
         Reply::State {
             accepted,
             done,

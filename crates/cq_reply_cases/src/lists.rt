@@ -3,7 +3,10 @@ ghost use Rattle.cq_reply.specs.Written.{IsFileText, IsPlaceText};
 
 use crate::writing::is_written;
 use cq_base::{Lang, Memory, Text};
-use cq_reply::{FileRow, FileRows, GroupRow, GroupRows, PlaceRow, PlaceRows, Reply, Shown};
+use cq_func::Function;
+use cq_reply::{
+    FileRow, FileRows, FunctionRows, GroupRow, GroupRows, PlaceRow, PlaceRows, Reply, Shown,
+};
 use std::alloc::Global;
 
 fn file_row(alloc: Global, lang: Lang, shown: Shown) -> Result<FileRow, Memory>
@@ -63,6 +66,13 @@ fn empty_lists_are_written(rt: HostRuntime) -> Result<(), Memory> {
     };
     let want = r#"{"groups":[],"ok":true,"total":0,"version":9}"#;
     assert!(rt; is_written(alloc, &groups, want)?);
+    let functions = Reply::Functions {
+        functions: FunctionRows::from_vec(Vec::new(alloc)),
+        version: 4,
+        worst: None,
+    };
+    let want = r#"{"functions":[],"ok":true,"version":4,"worst":null}"#;
+    assert!(rt; is_written(alloc, &functions, want)?);
     Ok(())
 }
 
@@ -92,5 +102,38 @@ fn groups_are_written(rt: HostRuntime) -> Result<(), Memory> {
     let want =
         r#"{"groups":[{"places":[{"at":0,"first":1,"last":2,"path":"é"},{"at":4,"first":1,"last":2,"path":"t"}],"tokens":3}],"ok":true,"total":1,"version":9}"#;
     assert!(rt; is_written(alloc, &one, want)?);
+    Ok(())
+}
+
+fn function(alloc: Global, name: &[u8], first: u32, complexity: u32) -> Result<Function, Memory> {
+    Ok(Function {
+        name: Text::from_bytes(alloc, name)?,
+        first,
+        last: first.saturating_add(1),
+        complexity,
+    })
+}
+
+// The last name is no UTF-8.
+fn some_functions(alloc: Global) -> Result<Vec<Function>, Memory> {
+    let mut functions = Vec::new(alloc);
+    functions.push(function(alloc, "é".as_bytes(), 1, 2)?)?;
+    functions.push(function(alloc, b"main", 4, u32::MAX)?)?;
+    functions.push(function(alloc, b"a\xff", 7, 1)?)?;
+    Ok(functions)
+}
+
+const FUNCTIONS: &str =
+    r#"{"functions":[{"complexity":2,"first":1,"last":2,"name":"é"},{"complexity":4294967295,"first":4,"last":5,"name":"main"},{"complexity":1,"first":7,"last":8,"name":""}],"ok":true,"version":3,"worst":1}"#;
+
+#[test]
+fn functions_are_written(rt: HostRuntime) -> Result<(), Memory> {
+    let alloc = rt.alloc();
+    let functions = Reply::Functions {
+        functions: FunctionRows::from_vec(some_functions(alloc)?),
+        version: 3,
+        worst: Some(1),
+    };
+    assert!(rt; is_written(alloc, &functions, FUNCTIONS)?);
     Ok(())
 }

@@ -1,4 +1,4 @@
--- What an object lacks in which no other key was found.
+-- What an object lacks in which no other key was found, and the path of each kind of query.
 use Rattle.std.proofs.Common.{◌≡◌, ℕ, List, Bool, true, false, cond, Option, Some, None, Ordering, Less, Equal, Greater, nat_cmp, refl, sym, ap, ◌∙◌}
 use Rattle.std.specs.Prelude.{not, option_and_then, codes}
 use Rattle.std.specs.Ordering.{match_ordering}
@@ -15,7 +15,7 @@ use Rattle.cq_request.specs.Rows.{rules_of, fault_of}
 use Rattle.cq_request.specs.Sound.{IsPathOf}
 use Rattle.cq_request.specs.Reading.{value_refused, why_refused, op_asking}
 use Rattle.cq_request.proofs.Listed.{get_of_object}
-use Rattle.cq_request.proofs.Passing.{none_named, second_none}
+use Rattle.cq_request.proofs.Passing.{none_named, second_none, path_there}
 
 not_here : (b : Bool) (k : List ℕ) (o : Option (List ℕ)) → cond b (Some k) o ≡ None → (b ≡ false) × (o ≡ None)
 not_here true k o none = absurd (cc)
@@ -50,3 +50,4 @@ path_of_kind chunk kind.Files d accepted = path_lacks chunk kind.Files d accepte
 path_of_kind chunk kind.Groups d accepted = tt
 path_of_kind chunk kind.Measures d accepted = tt
 path_of_kind chunk kind.Verdict d accepted = path_lacks chunk kind.Verdict d accepted refl
+path_of_kind chunk kind.Functions d accepted = path_there chunk d accepted

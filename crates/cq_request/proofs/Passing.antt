@@ -1,18 +1,18 @@
 -- What an object has that is not refused.
 use Rattle.std.proofs.Common.{◌≡◌, ℕ, ◌≤◌, ◌+◌, List, [], ◌∷◌, length, Bool, true, false, cond, Option, Some, None, option_map, refl, arith}
-use Rattle.std.specs.Prelude.{unwrap_or, option_and_then, is_some, codes}
+use Rattle.std.specs.Prelude.{unwrap_or, option_and_then, is_some, IsSome, codes}
 use Rattle.std.specs.Option.{option_or}
 use Rattle.std.specs.List.{filter_map, cons_option}
 use Rattle.std.proofs.lemmas.Grind.{common_steps}
 use Rattle.serde_json.specs.Data.{Data, Items}
-use Rattle.serde_json.specs.Find.{get, as_array}
+use Rattle.serde_json.specs.Find.{get, as_array, as_str}
 use Rattle.cq_request.specs.declared.row.Op.{Op}
 use Rattle.cq_request.specs.declared.row.Op.TheVariants as op
 use Rattle.cq_request.specs.declared.row.Name.TheVariants as name
 use Rattle.cq_request.specs.declared.request.Refusal.{Refusal}
 use Rattle.cq_request.specs.declared.request.Refusal.TheVariants as refusal
 use Rattle.cq_request.specs.Text.{is_path, is_short}
-use Rattle.cq_request.specs.Members.{items_in}
+use Rattle.cq_request.specs.Members.{items_in, text_at}
 use Rattle.cq_request.specs.Conditions.{condition_of, are_conditions}
 use Rattle.cq_request.specs.Tables.{is_good, bad_field}
 use Rattle.cq_request.specs.Rows.{needed, rule_of, rules_of, fault_of}
@@ -45,10 +45,10 @@ second_none None b none = none
 second_none (Some x) b none = absurd (cc)
 
 -- of two fields the second is good where none is bad
-second_good : (a b : Bool) (k l : List ℕ) → cond a (cond b None (Some l)) (Some k) ≡ None → b ≡ true
-second_good true true k l none = refl
-second_good true false k l none = absurd (cc)
-second_good false b k l none = absurd (cc)
+second_good : (a b : Bool) (k l : List ℕ) (later : Option (List ℕ)) → cond a (cond b later (Some l)) (Some k) ≡ None → b ≡ true
+second_good true true k l later none = refl
+second_good true false k l later none = absurd (cc)
+second_good false b k l later none = absurd (cc)
 
 fewer_one : {Y : Type 0} (o : Option Y) (ys : List Y) (n : ℕ) → length ys ≤ n → length (cons_option o ys) ≤ n + 1
 fewer_one None ys n less = omega (arith, less)
@@ -75,4 +75,15 @@ there (Some d) are = listed (as_array d) are
 pub few_conditions : (chunk : ℕ) (d : Data) → why_refused chunk op.Gate d ≡ None → length (conditions_or d) ≤ 32
 few_conditions chunk d accepted =
     let none = first_none (bad_field (rules_of op.Gate) d) _ (none_named (fault_of op.Gate d) (value_refused chunk d) accepted).0 in
-    there (get (codes "conditions") d) (second_good _ _ _ _ none)
+    there (get (codes "conditions") d) (second_good _ _ _ _ _ none)
+
+-- ---- the path of a file
+
+has_path : (o : Option Data) → is_good (rule_of (needed name.Path)) o ≡ true → IsSome (option_and_then as_str o)
+has_path None are = absurd (cc)
+has_path (Some d) are = are
+
+pub path_there : (chunk : ℕ) (d : Data) → why_refused chunk op.Functions d ≡ None → IsSome (text_at (codes "path") d)
+path_there chunk d accepted =
+    let none = first_none (bad_field (rules_of op.Functions) d) _ (none_named (fault_of op.Functions d) (value_refused chunk d) accepted).0 in
+    has_path (get (codes "path") d) (second_good _ _ _ _ _ none)

@@ -27,6 +27,7 @@ row_of op.Files = needed name.Project ∷ optional name.At ∷ optional name.Fin
 row_of op.Groups = needed name.Project ∷ optional name.Min ∷ optional name.Path ∷ optional name.At ∷ optional name.Finish ∷ []
 row_of op.Measures = needed name.Project ∷ optional name.Min ∷ optional name.Path ∷ optional name.At ∷ optional name.Finish ∷ []
 row_of op.Verdict = needed name.Project ∷ optional name.Min ∷ optional name.At ∷ optional name.Finish ∷ []
+row_of op.Functions = needed name.Project ∷ needed name.Path ∷ optional name.At ∷ optional name.Finish ∷ []
 row_of op.State = []
 
 -- the form of each field
@@ -49,8 +50,9 @@ op_named word =
     else (if bytes_eq word (codes "groups") then Some op.Groups
     else (if bytes_eq word (codes "measures") then Some op.Measures
     else (if bytes_eq word (codes "verdict") then Some op.Verdict
+    else (if bytes_eq word (codes "functions") then Some op.Functions
     else (if bytes_eq word (codes "state") then Some op.State
-    else None)))))))
+    else None))))))))
 
 -- what an object asks for, if it names a request
 abbrev pub op_of : Data → Option Op

@@ -1,6 +1,6 @@
 -- What a request that was read has: a sound change, or texts that are UTF-8, a least length no shorter than a window,
--- and a path only where a part of a project is shown.
-use Rattle.std.specs.Prelude.{◌≡◌, ◌≤◌, ℕ, List, Option, None, IfSome, ⊤}
+-- a path only where a part of a project is shown, and one where the functions of a file are.
+use Rattle.std.specs.Prelude.{◌≡◌, ◌≤◌, ℕ, List, Option, None, IfSome, IsSome, ⊤}
 use Rattle.std.specs.Str.{IsUtf8}
 use Rattle.cq_base.specs.Changes.{IsSoundChange}
 use Rattle.cq_request.specs.declared.request.Kind.{Kind}
@@ -11,12 +11,13 @@ use Rattle.cq_request.specs.declared.request.Request.TheVariants as request
 use Rattle.cq_request.specs.declared.request.Refusal.{Refusal}
 use Rattle.cq_request.specs.declared.request.Refusal.TheVariants as refusal
 
--- the list of files and the verdict are of a whole project
+-- the list of files and the verdict are of a whole project, functions of one file
 abbrev pub IsPathOf : Kind → Option (List ℕ) → Type 0
 IsPathOf kind.Files path = path ≡ None
 IsPathOf kind.Groups path = ⊤
 IsPathOf kind.Measures path = ⊤
 IsPathOf kind.Verdict path = path ≡ None
+IsPathOf kind.Functions path = IsSome path
 
 abbrev pub IsSoundQuery : ℕ → Query → Type 0
 IsSoundQuery chunk q = IsUtf8 q.project × IfSome q.path IsUtf8 × (chunk ≤ q.min) × IsPathOf q.kind q.path

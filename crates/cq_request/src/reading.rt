@@ -217,6 +217,7 @@ fn request_of(alloc: Global, settings: &Settings, op: Op, value: Value) -> Resul
         Op::Groups => Ok(Request::Query(query_of(alloc, settings, Kind::Groups, &value)?)),
         Op::Measures => Ok(Request::Query(query_of(alloc, settings, Kind::Measures, &value)?)),
         Op::Verdict => Ok(Request::Query(query_of(alloc, settings, Kind::Verdict, &value)?)),
+        Op::Functions => Ok(Request::Query(query_of(alloc, settings, Kind::Functions, &value)?)),
         Op::State => Ok(Request::State),
     }
 }

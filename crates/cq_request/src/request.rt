@@ -9,6 +9,7 @@ pub enum Kind {
     Groups,
     Measures,
     Verdict,
+    Functions,
 }
 
 /// A question about one project.
@@ -16,7 +17,7 @@ pub enum Kind {
 pub struct Query {
     pub kind: Kind,
     pub project: Text,
-    /// The file that is asked about; the whole project where there is none.
+    /// The file that is asked about; the whole project where there is none. Functions are always asked of a file.
     pub path: Option<Text>,
     /// The least number of tokens of a run.
     pub min: u32,

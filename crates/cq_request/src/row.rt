@@ -19,6 +19,7 @@ pub enum Op {
     Groups,
     Measures,
     Verdict,
+    Functions,
     State,
 }
 
@@ -101,6 +102,8 @@ const GROUPS: [Field; 5] = [PROJECT, MAYBE_MIN, MAYBE_PATH, MAYBE_AT, MAYBE_FINI
 
 const VERDICT: [Field; 4] = [PROJECT, MAYBE_MIN, MAYBE_AT, MAYBE_FINISH];
 
+const FUNCTIONS: [Field; 4] = [PROJECT, PATH, MAYBE_AT, MAYBE_FINISH];
+
 /// The fields of a request, in the order in which they are checked.
 fn row_of(op: Op) -> &'static [Field]
     ensures { result.now ≡ rows.row_of op }
@@ -113,6 +116,7 @@ fn row_of(op: Op) -> &'static [Field]
         Op::Groups => &GROUPS,
         Op::Measures => &GROUPS,
         Op::Verdict => &VERDICT,
+        Op::Functions => &FUNCTIONS,
         Op::State => &[],
     }
 }
@@ -128,6 +132,7 @@ fn op_named(word: &str) -> Option<Op>
         "groups" => Some(Op::Groups),
         "measures" => Some(Op::Measures),
         "verdict" => Some(Op::Verdict),
+        "functions" => Some(Op::Functions),
         "state" => Some(Op::State),
         _ => None,
     }

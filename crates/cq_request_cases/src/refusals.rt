@@ -19,6 +19,7 @@ op {"op":"Put"}
 op {"op":1}
 op {"op":null}
 op {"op":"Measures","project":"p"}
+op {"op":"Functions","project":"p","path":"t"}
 ok {"op":"fly","op":"state"}
 op {"op":"state","op":"fly"}
 "#;
@@ -45,6 +46,11 @@ field:at {"op":"groups","project":"p","finish":"true","at":"1"}
 field:path {"op":"groups","project":"p","at":true,"path":5}
 field:min {"op":"groups","project":"p","path":5,"min":null}
 field:project {"op":"groups","project":"p","project":7}
+field:project {"op":"functions"}
+field:path {"op":"functions","project":"p"}
+field:path {"op":"functions","project":"p","path":["t"]}
+field:at {"op":"functions","project":"p","path":"t","at":-1}
+field:finish {"op":"functions","project":"p","path":"t","finish":1}
 ok {"op":"groups","project":7,"project":"p"}
 "#;
 
@@ -58,6 +64,7 @@ field:min {"op":"files","project":"p","min":3}
 field:more {"op":"files","project":"p","at":0,"path":"t","more":1}
 field:project {"op":"files","a":1}
 field:Op {"op":"drop","project":"p","path":"t","Op":1}
+field:min {"op":"functions","project":"p","path":"..","min":20,"name":"f"}
 field:x {"op":"put","project":"p","path":"..","lang":"ada","text":"","x":1}
 "#;
 
@@ -83,6 +90,8 @@ ok {"op":"put","project":"p","path":"t","lang":"c","text":""}
 ok {"op":"put","project":"p","path":"t","lang":"java","text":""}
 path {"op":"put","project":"p","path":"..","lang":"any","text":""}
 path {"op":"groups","project":"p","path":"..","min":1}
+path {"op":"functions","project":"p","path":".."}
+ok {"op":"functions","project":"p","path":"t"}
 path {"op":"drop","project":"p","path":""}
 path {"op":"drop","project":"p","path":"."}
 path {"op":"drop","project":"p","path":"/t"}

@@ -151,6 +151,8 @@ const GROUPS: &str =
 
 const MEASURES: &str = r#"{"op":"measures","project":"p","path":"t","finish":false}"#;
 
+const FUNCTIONS: &str = r#"{"finish":false,"at":3,"path":"t","project":"p","op":"functions"}"#;
+
 #[test]
 fn queries_are_read(rt: HostRuntime) -> Result<(), Refusal> {
     let alloc = rt.alloc();
@@ -166,6 +168,12 @@ fn queries_are_read(rt: HostRuntime) -> Result<(), Refusal> {
         numbers: (100, 0, false),
     };
     assert!(rt; reads_query(alloc, &SETTINGS, MEASURES, measures)?);
+    let functions = Asked {
+        kind: Kind::Functions,
+        path: "t",
+        numbers: (100, 3, false),
+    };
+    assert!(rt; reads_query(alloc, &SETTINGS, FUNCTIONS, functions)?);
     Ok(())
 }
 

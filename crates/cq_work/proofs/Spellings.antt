@@ -8,6 +8,7 @@ use Rattle.std.specs.Prelude.{encode_utf8}
 use Rattle.std.specs.Str.{encode_utf8_all}
 use Rattle.cq_base.specs.declared.lang.Lang.{Lang}
 use Rattle.cq_base.specs.declared.lang.Lang.TheVariants as lang
+use Rattle.cq_base.specs.declared.token.Mark.{Mark}
 use Rattle.cq_base.specs.declared.token.Spelled.{Spelled}
 use Rattle.cq_base.specs.declared.token.Token.{Token}
 use Rattle.cq_munch.specs.declared.element.Found.{Found}
@@ -18,7 +19,7 @@ use Rattle.cq_munch.specs.declared.munching.Lexed.TheVariants as lexed
 use Rattle.cq_munch.specs.declared.unit.Unit.{Unit}
 use Rattle.cq_munch.specs.Characters.{characters}
 use Rattle.cq_munch.specs.Language.{Language}
-use Rattle.cq_munch.specs.Lexed.{IsLexed, IsWhole, Follow, tokens_of, token_of, spelled_of, units_of}
+use Rattle.cq_munch.specs.Lexed.{IsLexed, IsWhole, Follow, tokens_of, token_of, marks_of, spelled_of, units_of}
 use Rattle.cq_munch.proofs.Decoding.{length-units_of}
 use Rattle.cq_lex_any.specs.Any.{any}
 use Rattle.cq_lex_go.specs.Go.{go}
@@ -70,11 +71,11 @@ tokens-short lang text bytes units at mode (f ∷ fs) end last follow =
 -- ---- what a text is lexed to, where a translation gives no more units than the text has bytes, and what is inserted has a byte each
 
 module _ (lang : Language) (text : List ℕ) (added : List ℕ → List Spelled → List Spelled) (inserted : (tokens : List Spelled) → spelled_bytes (added text tokens) ≤ spelled_bytes tokens + length (added text tokens)) where
-  found-short : (units : Result (List Unit) ℕ) (found : List Spelled) → IfOk units (λ us. length us ≤ length text)
-      → IsOkAnd units (λ us. (fs : List Found) × IsWhole lang us fs × (found ≡ added text (tokens_of text us 0 fs)) × (length found ≤ 262144))
+  found-short : (units : Result (List Unit) ℕ) (found : List Spelled) (marks : List Mark) → IfOk units (λ us. length us ≤ length text)
+      → IsOkAnd units (λ us. (fs : List Found) × IsWhole lang us fs × (found ≡ added text (tokens_of text us 0 fs)) × (length found ≤ 262144) × (marks ≡ marks_of us 0 fs))
       → spelled_bytes found ≤ 4 * length text + 262144
-  found-short (Err at) found short is = absurd is
-  found-short (Ok us) found short is =
+  found-short (Err at) found marks short is = absurd is
+  found-short (Ok us) found marks short is =
       let tokens = tokens_of text us 0 is.0 in
       let all = tokens-short lang (characters us) text us 0 0 is.0 (length us) is.1.0 is.1.1 in
       let more = inserted tokens in
@@ -85,7 +86,7 @@ module _ (lang : Language) (text : List ℕ) (added : List ℕ → List Spelled 
 
   lexed-short : (translation : List Unit → Result (List Unit) ℕ) (a : Lexed) → IfOk (translation (units_of text)) (λ us. length us ≤ length text) → IsLexed lang translation added text a
       → spelled_bytes (tokens_in a) ≤ 4 * length text + 262144
-  lexed-short translation (lexed.Tokens v) short is = found-short (translation (units_of text)) v.items short is
+  lexed-short translation (lexed.Tokens v marks) short is = found-short (translation (units_of text)) v.items marks.items short is
   lexed-short translation (lexed.Fault at) short is = omega arith
   lexed-short translation lexed.Large short is = omega arith
 

@@ -1,9 +1,10 @@
 ghost use Rattle.std.specs.Prelude.{◌≡◌, ◌+◌, ◌*◌, ◌≤◌, IfOk, IsUtf8, length};
+ghost use Rattle.cq_munch.specs.Lexed.{AreInOrder, AreMarkedInOrder};
 ghost use Rattle.cq_work.specs.Lexing as spec;
 ghost use Rattle.cq_work.specs.Lexing.{LexesTo};
 
 use crate::work::State;
-use cq_base::{Lang, Memory, Spelled, Text, Token};
+use cq_base::{Lang, Mark, Memory, Spelled, Text};
 use cq_lex_any::Any;
 use cq_lex_c::C;
 use cq_lex_go::Go;
@@ -16,6 +17,7 @@ fn lexed_by(alloc: Global, lang: Lang, text: &Text) -> Result<Lexed, Memory>
     requires utf8 { IsUtf8 text.now }
     requires short { length text.now ≤ 1048576 }
     ensures lexes { IfOk result (LexesTo lang text.now) }
+    ensures in_order { IfOk result AreMarkedInOrder }
     ensures few { IfOk result (λ a. length (spec.tokens_in a) ≤ 262144) }
 {
     match lang {
@@ -32,6 +34,7 @@ pub(crate) fn lexed(alloc: Global, lang: Lang, text: &Text) -> Result<Lexed, Mem
     requires utf8 { IsUtf8 text.now }
     requires short { length text.now ≤ 1048576 }
     ensures lexes { IfOk result (LexesTo lang text.now) }
+    ensures in_order { IfOk result AreMarkedInOrder }
     ensures few { IfOk result (λ a. length (spec.tokens_in a) ≤ 262144) }
     ensures short { IfOk result (λ a. spec.spelled_bytes (spec.tokens_in a) ≤ 4 * length text.now + 262144) }
 {
@@ -43,26 +46,22 @@ pub(crate) fn state_of(lexed: &Lexed) -> State
     ensures { result ≡ spec.state_of lexed.now }
 {
     match lexed {
-        Lexed::Tokens(_) => State::Ok,
+        Lexed::Tokens(_, _) => State::Ok,
         Lexed::Fault(at) => State::Fault(*at),
         Lexed::Large => State::Large,
     }
 }
 
-/// The tokens; none of a fault, or of a text with too many.
-pub(crate) fn tokens_in(alloc: Global, lexed: Lexed) -> Vec<Spelled>
-    ensures { result.items ≡ spec.tokens_in lexed }
+/// The tokens and the marks; none of a fault, or of a text with too many.
+pub(crate) fn parts_of(alloc: Global, lexed: Lexed) -> (Vec<Spelled>, Vec<Mark>)
+    requires in_order { AreMarkedInOrder lexed }
+    ensures tokens { result.0.items ≡ spec.tokens_in lexed }
+    ensures marks { result.1.items ≡ spec.marks_in lexed }
+    ensures in_order { AreInOrder result.1.items }
 {
     match lexed {
-        Lexed::Tokens(tokens) => tokens,
-        Lexed::Fault(_) => Vec::new(alloc),
-        Lexed::Large => Vec::new(alloc),
+        Lexed::Tokens(tokens, marks) => (tokens, marks),
+        Lexed::Fault(_) => (Vec::new(alloc), Vec::new(alloc)),
+        Lexed::Large => (Vec::new(alloc), Vec::new(alloc)),
     }
-}
-
-/// Where the tokens stand.
-pub(crate) fn spans_of(alloc: Global, tokens: &[Spelled]) -> Result<Vec<Token>, Memory>
-    ensures { IfOk result (λ v. v.items ≡ spec.spans_of tokens.now) }
-{
-    Ok(tokens.iter().map(|s| s.token).collect(alloc)?)
 }

@@ -2,10 +2,11 @@ ghost use Rattle.std.specs.Prelude.{◌≡◌, ◌≤◌, length, IfOk, IsUtf8};
 ghost use Rattle.cq_work.specs.Work.{IsWorkOf};
 
 use crate::counting::counts_of;
-use crate::lexing::{lexed, spans_of, state_of, tokens_in};
+use crate::lexing::{lexed, parts_of, state_of};
 use cq_base::{FileCounts, Keys, Lang, Memory, Settings, Text, Token};
+use cq_func::{Function, functions};
 use cq_key::Keyer;
-use cq_normal::normalise;
+use cq_normal::{Normal, normalise};
 use cq_tokens::Tokens;
 use std::alloc::Global;
 use std::sync::Arc;
@@ -22,8 +23,8 @@ pub enum State {
     Large,
 }
 
-/// The work of a text: where its tokens stand, what they are as they are compared, the keys of their windows, and what is
-/// counted of it.
+/// The work of a text: where its tokens stand that are listed, what they are as they are compared, the keys of their
+/// windows, what is counted of all its tokens, and the functions that these make.
 #[derive(Drop)]
 pub struct Work<L: Ledger> {
     pub lang: Lang,
@@ -32,6 +33,7 @@ pub struct Work<L: Ledger> {
     pub tokens: Arc<Tokens<L>>,
     pub keys: Arc<Keys>,
     pub counts: FileCounts,
+    pub functions: Vec<Function>,
 }
 
 /// The work of a text.
@@ -50,10 +52,10 @@ pub fn work_of<L: Ledger>(
 {
     let answer = lexed(alloc, lang, text)?;
     let state = state_of(&answer);
-    let found = tokens_in(alloc, answer);
-    let spans = spans_of(alloc, &found)?;
-    let counts = counts_of(alloc, lang, text, state, &found, &spans)?;
-    let norms = normalise(alloc, settings, lang, found)?;
+    let (found, marks) = parts_of(alloc, answer);
+    let counts = counts_of(alloc, lang, text, state, &found)?;
+    let functions = functions(alloc, lang, &found)?;
+    let Normal { norms, spans } = normalise(alloc, settings, lang, found, &marks)?;
     let keys = Arc::new(alloc, keyer.keys(alloc, &norms)?)?;
     let tokens = Arc::new(alloc, Tokens::new(alloc, &norms)?)?;
     Ok(Work {
@@ -63,5 +65,6 @@ pub fn work_of<L: Ledger>(
         tokens,
         keys,
         counts,
+        functions,
     })
 }

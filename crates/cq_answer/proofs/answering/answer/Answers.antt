@@ -6,9 +6,9 @@ use Rattle.cq_history.specs.Files.{File}
 use Rattle.cq_work.specs.declared.work.Work.{Work}
 use Rattle.cq_answer.specs.Parts.{AreGroupsOf, IsWithin}
 use Rattle.cq_answer.specs.Reply.{reply_of}
-use Rattle.cq_answer.specs.Rows.{AreShowable}
+use Rattle.cq_answer.specs.Rows.{AreShowable, AreFewFunctions}
 use Rattle.cq_answer.specs.Works.{work_in, facts_in, norms_in}
-use Rattle.cq_answer.proofs.Listable.{listable, measurable, replied, keys_asked, most_read, texts_are, conditions_few}
+use Rattle.cq_answer.proofs.Listable.{listable, measurable, few_functions, replied, keys_asked, most_read, texts_are, conditions_few}
 use Rattle.cq_answer.proofs.answering.answer.Goals as goal
 
 -- as many owners as files
@@ -40,6 +40,12 @@ reply_of-requires-clause-measurable g c κs lives =
     let groups : AreGroupsOf (norms_in c.args.files.now) c.args.query.now.min c.part_of-part.result c.deref.result.now = subst (λ gs. AreGroupsOf (norms_in c.args.files.now) c.args.query.now.min c.part_of-part.result gs) (sym c.deref.ensures.value) c.in_ok-groups.ensures.groups in
     subst (λ (fs : List (File (Work g.row.L.Denot))). AreShowable (facts_in fs) c.deref.result.now) (sym c.items-items.ensures.files)
     (measurable c.args.settings.now have.changes c.args.version c.args.query.now.project c.args.files.now c.args.conditions.now have.are c.args.query.now.min c.part_of-part.result c.deref.result.now some files.few groups)
+
+pub reply_of-requires-clause-few_functions : goal.reply_of-requires-clause-few_functions
+reply_of-requires-clause-few_functions g c κs lives =
+    let have = c.requires.of_version in
+    subst (λ (fs : List (File (Work g.row.L.Denot))). AreFewFunctions (facts_in fs)) (sym c.items-items.ensures.files)
+    (few_functions c.args.settings.now have.changes c.args.version c.args.query.now.project c.args.files.now c.args.conditions.now have.are)
 
 pub returns-clause-reply : goal.returns-clause-reply
 returns-clause-reply g c =

@@ -2,6 +2,7 @@ use Rattle.std.proofs.Common.{◌<◌, length, sym, subst, arith, IfOk}
 use Rattle.cq_munch.specs.Lexed.{IsCut}
 use Rattle.cq_munch.proofs.Orders.{InOrder-take, InOrder-end}
 use Rattle.cq_munch.proofs.Elements.{one_token, one_blank, stays_inside, not_pushed, TokensFollow-to, faulty, too_many}
+use Rattle.cq_munch.proofs.MarkOrder.{marks_in_order}
 use Rattle.cq_munch.proofs.cutting.cut_up.Goals as goal
 use Rattle.cq_munch.proofs.cutting.cut_up.Goals.{in-Some, in-None}
 
@@ -10,7 +11,7 @@ loop-at-preserved-in_ok-push g c =
     let taken = c.in-Some-longest.ensures.taken in
     record {
       so_far = one_token c.loop-at.invariant.so_far c.in-Some-longest.found taken (stays_inside c.args.units.now c.loop-at.at _ c.loop-at-test.true taken.0.within) c.in-Some-longest.ensures.known c.in-Token.class _ _
-          c.in-Token.is c.in_ok-spelled.ensures.spelled c.in_ok-push.ensures.items;
+          c.in-Token.is c.in_ok-spelled.ensures.spelled c.in_ok-push.ensures.items _ c.in_ok-add_mark.ensures;
       remembered = c.longest.ensures.remembered;
     }
 
@@ -19,7 +20,7 @@ loop-at-preserved g c =
     let taken = c.in-Some-longest.ensures.taken in
     record {
       so_far = one_blank c.loop-at.invariant.so_far c.in-Some-longest.found taken (stays_inside c.args.units.now c.loop-at.at _ c.loop-at-test.true taken.0.within) c.in-Some-longest.ensures.known
-          (not_pushed c.args.text.now _ _ _ c.in_default-spell.not-Token);
+          (not_pushed c.args.text.now _ _ _ c.in_default-spell.not-Token) _ c.in_ok-add_mark.ensures;
       remembered = c.longest.ensures.remembered;
     }
 
@@ -27,8 +28,10 @@ pub spell_out-requires-clause-in_order : goal.spell_out-requires-clause-in_order
 spell_out-requires-clause-in_order g c = InOrder-take _ c.loop-at.end _ (length c.args.text.now) c.loop-at.invariant.so_far.behind
 
 pub returns-clause-in_order : goal.returns-clause-in_order
-returns-clause-in_order g c =
-    TokensFollow-to 0 c.loop-at.tokens.items c.loop-at.end (length c.args.text.now) (InOrder-end c.loop-at.end _ (length c.args.text.now) c.loop-at.invariant.so_far.behind) c.loop-at.invariant.so_far.ordered
+returns-clause-in_order g c = (
+  TokensFollow-to 0 c.loop-at.tokens.items c.loop-at.end (length c.args.text.now) (InOrder-end c.loop-at.end _ (length c.args.text.now) c.loop-at.invariant.so_far.behind) c.loop-at.invariant.so_far.ordered,
+  marks_in_order g.X.Lexis.language c.args.units.now c.loop-at.invariant.so_far.elements c.loop-at.at c.loop-at.mode (length c.args.text.now) c.loop-at.marks.items c.loop-at.invariant.so_far.follow c.requires.in_order c.loop-at.invariant.so_far.marks_are,
+)
 
 pub returns-then-len-gt-MOST_TOKENS-clause-cut : goal.returns-then-len-gt-MOST_TOKENS-clause-cut
 returns-then-len-gt-MOST_TOKENS-clause-cut g c =

@@ -1,0 +1,95 @@
+ghost use Rattle.std.specs.Prelude.{◌≡◌, ◌<◌, ◌++◌, [], length, IfOk};
+ghost use Rattle.std.specs.List.{cons_option};
+ghost use Rattle.std.specs.Option.{option_or};
+ghost use Rattle.cq_munch.specs.Characters.{characters};
+ghost use Rattle.cq_munch.specs.LastWord.{TheLastWordCounts};
+ghost use Rattle.cq_munch.specs.Lexed as spec;
+ghost use Rattle.cq_munch.specs.ListingMarks.{said, said_at};
+ghost use Rattle.cq_munch.specs.Table.{begins};
+
+use crate::element::Spell;
+use crate::unit::Unit;
+use cq_base::{Mark, Memory};
+
+// Whether the characters begin with this word of ASCII.
+fn begins_with(units: &[Unit], word: &[u8]) -> bool
+    ensures { result ≡ begins word.now (characters units.now) }
+{
+    for i in 0..word.len() {
+        if i >= units.len() {
+            return false;
+        }
+        if units[i].ch != char::from(word[i]) {
+            return false;
+        }
+    }
+    true
+}
+
+// Whether the characters at the front switch the listing on, if they are one of the two words.
+fn said_at(units: &[Unit]) -> Option<bool>
+    ensures { result ≡ said_at (characters units.now) }
+{
+    if begins_with(units, b"CPD-OFF") {
+        return Some(false);
+    }
+    if begins_with(units, b"CPD-ON") {
+        return Some(true);
+    }
+    None
+}
+
+// The same, or what was said before. Both words begin with a letter that most characters are not.
+fn said_here(units: &[Unit], before: Option<bool>) -> Option<bool>
+    requires { 0 < length units.now }
+    ensures { result ≡ option_or (said_at (characters units.now)) before }
+{
+    if units[0].ch != 'C' {
+        return before;
+    }
+    said_at(units).or(before)
+}
+
+// What the last of the two words says, if one stands there. It is one walk, with a few looks more where a `C` stands.
+fn said(units: &[Unit]) -> Option<bool>
+    ensures { result ≡ said (characters units.now) }
+{
+    let mut last = None;
+    for i in 0..units.len() {
+        last = said_here(&units[i..], last);
+    }
+    last
+}
+
+// The mark that an element is, if it is a comment with one of the two words.
+fn mark_of(spell: Spell, units: &[Unit]) -> Option<Mark>
+    requires { 0 < length units.now }
+    ensures { result ≡ spec.mark_of spell units.now }
+{
+    match spell {
+        Spell::Comment => match said(units) {
+            Some(on) => Some(Mark {
+                at: units[0].start,
+                on,
+            }),
+            None => None,
+        },
+        Spell::Blank | Spell::Token(_) => None,
+    }
+}
+
+/// Adds the mark that an element is, if it is one.
+pub(crate) fn add_mark(marks: &mut Vec<Mark>, spell: Spell, units: &[Unit]) -> Result<(), Memory>
+    requires { 0 < length units.now }
+    ensures { IfOk result (λ _. marks.new.items ≡ marks.old.items ++ cons_option (spec.mark_of spell units.now) []) }
+{
+    if let Some(mark) = mark_of(spell, units) {
+        marks.push(mark)?;
+    }
+    Ok(())
+}
+
+/// Of the words in a comment the last one counts, wherever it stands: the definition says just that.
+pub fn the_last_word_counts()
+    ensures { TheLastWordCounts }
+{}
