@@ -30,24 +30,28 @@ spread_next row all i before now inside is so_far =
     ∙ so_far
 
 module _ {X : Type 0} (passes : X → Bool) (xs : List X) where
-  pub passed_next : (row all : List Bool) (i : ℕ) (before now : Bool) (x : X) → i < length xs → i < length row → x ≡ get_or xs i x → now ≡ (get_or row i false && passes x)
+  -- the place before the element at n, where the row has a place for each element and one more
+  pub passed_next : (row all : List Bool) (i n : ℕ) (before now : Bool) (x : X) → i ≡ n → n < length xs → length xs < length row → x ≡ get_or xs n x → now ≡ (get_or row i false && passes x)
       → take i row ++ passed passes before (drop i row) (drop i xs) ≡ all
       → take (i + 1) (set row i before) ++ passed passes now (drop (i + 1) (set row i before)) (drop (i + 1) xs) ≡ all
-  passed_next row all i before now x within inside here is so_far =
+  passed_next row all i n before now x same within room here is so_far =
       let left = drop (i + 1) xs in
+      let inside : i < length row = omega (arith, same, within, room) in
+      let at : x ≡ get_or xs i x = here ∙ ap (λ k. get_or xs k x) (sym same) in
       ap (λ v. take (i + 1) (set row i before) ++ passed passes now v left) (drop-set-lt (i + 1) row i before (omega arith))
       ∙ put_next row i before (passed passes now (drop (i + 1) row) left) inside
       ∙ ap (λ b. take i row ++ before ∷ passed passes b (drop (i + 1) row) left) is
-      ∙ ap (λ v. take i row ++ passed passes before (get_or row i false ∷ drop (i + 1) row) (v ∷ left)) here
-      ∙ sym (ap (λ v. take i row ++ passed passes before (get_or row i false ∷ drop (i + 1) row) v) (drop_more xs i x within))
+      ∙ ap (λ v. take i row ++ passed passes before (get_or row i false ∷ drop (i + 1) row) (v ∷ left)) at
+      ∙ sym (ap (λ v. take i row ++ passed passes before (get_or row i false ∷ drop (i + 1) row) v) (drop_more xs i x (omega (arith, same, within))))
       ∙ sym (ap (λ v. take i row ++ passed passes before v (drop i xs)) (drop_more row i false inside))
       ∙ so_far
 
-  pub passed_last : (row all : List Bool) (i : ℕ) (before : Bool) → length xs ≤ i → i < length row → take i row ++ passed passes before (drop i row) (drop i xs) ≡ all → set row i before ≡ all
-  passed_last row all i before end inside so_far =
+  pub passed_last : (row all : List Bool) (i n : ℕ) (before : Bool) → i ≡ n → n ≡ length xs → length xs < length row → take i row ++ passed passes before (drop i row) (drop i xs) ≡ all → set row i before ≡ all
+  passed_last row all i n before same end room so_far =
       let next : suc i ≡ i + 1 = omega arith in
+      let inside : i < length row = omega (arith, same, end, room) in
       set_split row i before inside
       ∙ ap (λ n. take i row ++ before ∷ drop n row) next
       ∙ sym (ap (λ v. take i row ++ passed passes before v []) (drop_more row i false inside))
-      ∙ sym (ap (λ v. take i row ++ passed passes before (drop i row) v) (drop_all i xs end))
+      ∙ sym (ap (λ v. take i row ++ passed passes before (drop i row) v) (drop_all i xs (omega (arith, same, end))))
       ∙ so_far

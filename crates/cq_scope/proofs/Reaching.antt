@@ -118,20 +118,22 @@ module _ {S X : Type 0} (fit : List S → List X → Bool) (star : S → Bool) (
       let same = ap length is ∙ length-begun true was in
       ap (λ v. reached (fit symbols) v xs) is ∙ begun_reached (fit symbols) was xs (omega (arith, room, same))
 
-  pub walk_on : (symbols : List S) (n : ℕ) (s : S) (row was : List Bool) (xs : List X) (b : Bool) → n < length symbols → s ≡ get_or symbols n s → length xs < length was
-      → row ≡ advanced (star s) (one s) was xs → reached (fit (drop n symbols)) was xs ≡ b → reached (fit (drop (n + 1) symbols)) row xs ≡ b
-  walk_on symbols n s row was xs b inside is room next so_far =
+  pub walk_on : (symbols : List S) (n more : ℕ) (s : S) (row was : List Bool) (xs : List X) (b : Bool) → more ≡ n + 1 → n < length symbols → s ≡ get_or symbols n s → length xs < length was
+      → row ≡ advanced (star s) (one s) was xs → reached (fit (drop n symbols)) was xs ≡ b → reached (fit (drop more symbols)) row xs ≡ b
+  walk_on symbols n more s row was xs b next inside is room moved so_far =
       let rest = drop (n + 1) symbols in
-      ap (λ v. reached (fit rest) v xs) next
+      ap (λ k. reached (fit (drop k symbols)) row xs) next
+      ∙ ap (λ v. reached (fit rest) v xs) moved
       ∙ sym (advanced_reached (one s) (fit rest) (star s) was xs room)
       ∙ sym (ap (λ f. reached f was xs) (at s rest))
       ∙ ap (λ v. reached (fit (v ∷ rest)) was xs) is
       ∙ sym (ap (λ v. reached (fit v) was xs) (drop_more symbols n s inside))
       ∙ so_far
 
-  pub walk_ended : (symbols : List S) (n : ℕ) (row : List Bool) (xs : List X) (b : Bool) → length symbols ≡ n → length xs < length row → reached (fit (drop n symbols)) row xs ≡ b → get_or row (length xs) false ≡ b
-  walk_ended symbols n row xs b end room so_far =
-      sym (all_reached row xs room)
+  pub walk_ended : (symbols : List S) (n count : ℕ) (row : List Bool) (xs : List X) (b : Bool) → n ≡ length symbols → count ≡ length xs → length xs < length row → reached (fit (drop n symbols)) row xs ≡ b → get_or row count false ≡ b
+  walk_ended symbols n count row xs b end counted room so_far =
+      ap (λ k. get_or row k false) counted
+      ∙ sym (all_reached row xs room)
       ∙ sym (ap (λ f. reached f row xs) at_end)
       ∙ sym (ap (λ v. reached (fit v) row xs) (drop_all n symbols (omega (arith, end))))
       ∙ so_far

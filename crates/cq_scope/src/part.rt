@@ -29,7 +29,7 @@ fn pass(row: &mut [bool], symbol: char, name: &str)
     let mut was_set = false;
     let mut at = 0;
     for c in name.chars() {
-        let is_set = row[at] && one_fits(symbol, c);
+        let is_set = row[at] & one_fits(symbol, c);
         row[at] = was_set;
         was_set = is_set;
         at += 1;

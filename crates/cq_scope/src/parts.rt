@@ -1,4 +1,4 @@
-ghost use Rattle.std.specs.Prelude.{◌≡◌, ◌<◌, length, false, codes};
+ghost use Rattle.std.specs.Prelude.{◌≡◌, ◌<◌, ◌&&◌, length, false, codes};
 ghost use Rattle.std.specs.Str.{bytes_eq};
 ghost use Rattle.cq_scope.specs.Fits as spec;
 ghost use Rattle.cq_scope.specs.Paths.{parts};
@@ -17,6 +17,18 @@ fn part_count(path: &str) -> usize
     count
 }
 
+// Whether a place is set and the part of the path behind it fits, which is asked only then.
+fn goes_on(is_set: bool, part: &str, name: &str, places: &mut [bool]) -> bool
+    requires { length name.now < length places.old }
+    ensures passed { result ≡ (is_set && spec.name_fits part.now name.now) }
+    ensures same_room { length places.new ≡ length places.old }
+{
+    if !is_set {
+        return false;
+    }
+    part_fits(part, name, places)
+}
+
 // Moves each place that is set on by one part of the path, where that fits the part of the pattern.
 fn pass(row: &mut [bool], part: &str, path: &str, places: &mut [bool])
     requires room { length (parts path.now) < length row.old }
@@ -27,7 +39,7 @@ fn pass(row: &mut [bool], part: &str, path: &str, places: &mut [bool])
     let mut was_set = false;
     let mut at = 0;
     for name in path.split('/') {
-        let is_set = row[at] && part_fits(part, name, places);
+        let is_set = goes_on(row[at], part, name, places);
         row[at] = was_set;
         was_set = is_set;
         at += 1;

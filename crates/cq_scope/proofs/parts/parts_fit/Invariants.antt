@@ -6,8 +6,6 @@ use Rattle.cq_scope.proofs.parts.parts_fit.Given as goal
 
 abbrev pub invariant-loop-part : goal.invariant-loop-part
 invariant-loop-part l = record {
-  can : (goal.iterator-loop-part).can_next l.part-iterator;
-  finite : (goal.iterator-loop-part).is_finite l.part-iterator;
   counted : l.count ≡ length (parts l.path);
   room : length l.row ≡ l.count + 1;
   places : length l.path < length l.places;

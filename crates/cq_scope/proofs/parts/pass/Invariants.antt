@@ -6,8 +6,6 @@ use Rattle.cq_scope.proofs.parts.pass.Given as goal
 
 abbrev pub invariant-loop-name : goal.invariant-loop-name
 invariant-loop-name l = record {
-  can : (goal.iterator-loop-name).can_next l.name-iterator;
-  finite : (goal.iterator-loop-name).is_finite l.name-iterator;
   counted : l.at ≡ length l.yielded;
   room : length (parts l.path) < length l.row;
   places : length l.places ≡ length l.initial.places;

@@ -4,8 +4,4 @@ use Rattle.cq_scope.specs.Paths.{parts, is_part}
 use Rattle.cq_scope.proofs.path.are_parts.Given as goal
 
 abbrev pub invariant-loop-part : goal.invariant-loop-part
-invariant-loop-part l = record {
-  can : (goal.iterator-loop-part).can_next l.part-iterator;
-  finite : (goal.iterator-loop-part).is_finite l.part-iterator;
-  so_far : list_all is_part (drop (length l.yielded) (parts l.text)) ≡ list_all is_part (parts l.text);
-}
+invariant-loop-part l = list_all is_part (drop (length l.yielded) (parts l.text)) ≡ list_all is_part (parts l.text)

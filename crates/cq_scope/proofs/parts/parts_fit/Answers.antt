@@ -1,0 +1,27 @@
+use Rattle.std.proofs.Common.{◌≡◌, ◌<◌, length, codes, refl, arith, lit<, rules}
+use Rattle.std.proofs.lemmas.Iterator.Consumers.{YieldsList-turn, YieldsList-end}
+use Rattle.std.proofs.lemmas.Iterator.Splits.{YieldsList-from_str_split}
+use Rattle.std.proofs.lemmas.List.{length_push}
+use Rattle.std.specs.Str.{bytes_eq}
+use Rattle.cq_scope.specs.Fits.{name_fits, parts_fit}
+use Rattle.cq_scope.specs.Paths.{parts}
+use Rattle.cq_scope.proofs.Reaching.{walk_begun, walk_on, walk_ended, length-begun, length-advanced}
+use Rattle.cq_scope.proofs.parts.parts_fit.Goals as goal
+
+pub loop-part-preserved : goal.loop-part-preserved
+loop-part-preserved c =
+    let t = YieldsList-turn (YieldsList-from_str_split 47 c.args.pattern.now (lit< tt) c.split.ensures.text c.split.ensures.has_more c.split.ensures.pattern) c.loop-part.yielded _ c.loop-part.yielded_by _ _ c.in-Some.part c.in-Some.is c.next.ensures.steps in
+    let room : length (parts c.args.path.now) < length c.loop-part.row = omega (arith, c.loop-part.invariant.counted, c.loop-part.invariant.room) in
+    record {
+      counted = c.loop-part.invariant.counted;
+      room = ?;
+      places = omega (arith, c.advance.ensures.same_room, c.loop-part.invariant.places);
+      so_far = walk_on parts_fit (λ s. bytes_eq s (codes "**")) name_fits refl (λ s ss. refl) (parts c.args.pattern.now) (length c.loop-part.yielded) _ c.in-Some.part.now _ c.loop-part.row (parts c.args.path.now) _
+        (length_push c.loop-part.yielded c.in-Some.part) t.0 t.1 room c.advance.ensures.advanced c.loop-part.invariant.so_far;
+    }
+
+pub returns : goal.returns
+returns c =
+    let t = YieldsList-end (YieldsList-from_str_split 47 c.args.pattern.now (lit< tt) c.split.ensures.text c.split.ensures.has_more c.split.ensures.pattern) c.loop-part.yielded _ c.loop-part.yielded_by _ _ c.in-None.is c.next.ensures.steps in
+    let room : length (parts c.args.path.now) < length c.loop-part.row = omega (arith, c.loop-part.invariant.counted, c.loop-part.invariant.room) in
+    walk_ended parts_fit (λ s. bytes_eq s (codes "**")) name_fits refl (λ s ss. refl) (parts c.args.pattern.now) (length c.loop-part.yielded) _ c.loop-part.row (parts c.args.path.now) _ t.1 c.loop-part.invariant.counted room c.loop-part.invariant.so_far
