@@ -1,4 +1,4 @@
-use Rattle.std.proofs.Common.{◌≡◌, ◌<◌, ◌==◌, length, refl, arith, rules}
+use Rattle.std.proofs.Common.{◌≡◌, ◌<◌, ◌==◌, length, refl, ap, ◌∙◌, arith, rules}
 use Rattle.std.proofs.lemmas.Iterator.{YieldsList-from_chars}
 use Rattle.std.proofs.lemmas.Iterator.Consumers.{YieldsList-turn, YieldsList-end}
 use Rattle.std.proofs.lemmas.List.{length_push}
@@ -27,9 +27,9 @@ loop-symbol-preserved c =
     let room : length (chars c.args.name.now) < length c.loop-symbol.row = omega (arith, c.loop-symbol.invariant.counted, c.loop-symbol.invariant.room) in
     record {
       counted = c.loop-symbol.invariant.counted;
-      room = ?;
+      room = ap length c.advance.ensures ∙ length-advanced (c.in-Some.symbol == 42) (one_fits c.in-Some.symbol) c.loop-symbol.row (chars c.args.name.now) ∙ c.loop-symbol.invariant.room;
       so_far = walk_on part_fits (λ s. s == 42) one_fits refl (λ s ss. refl) (chars c.args.part.now) (length c.loop-symbol.yielded) _ c.in-Some.symbol _ c.loop-symbol.row (chars c.args.name.now) _
-        (length_push c.loop-symbol.yielded c.in-Some.symbol) t.0 t.1 room c.advance.ensures c.loop-symbol.invariant.so_far;
+          (length_push c.loop-symbol.yielded c.in-Some.symbol) t.0 t.1 room c.advance.ensures c.loop-symbol.invariant.so_far;
     }
 
 pub returns-clause-fits : goal.returns-clause-fits

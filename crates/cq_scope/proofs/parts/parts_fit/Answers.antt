@@ -1,4 +1,4 @@
-use Rattle.std.proofs.Common.{◌≡◌, ◌<◌, length, codes, refl, arith, lit<, rules}
+use Rattle.std.proofs.Common.{◌≡◌, ◌<◌, length, codes, refl, ap, ◌∙◌, arith, lit<, rules}
 use Rattle.std.proofs.lemmas.Iterator.Consumers.{YieldsList-turn, YieldsList-end}
 use Rattle.std.proofs.lemmas.Iterator.Splits.{YieldsList-from_str_split}
 use Rattle.std.proofs.lemmas.List.{length_push}
@@ -14,10 +14,10 @@ loop-part-preserved c =
     let room : length (parts c.args.path.now) < length c.loop-part.row = omega (arith, c.loop-part.invariant.counted, c.loop-part.invariant.room) in
     record {
       counted = c.loop-part.invariant.counted;
-      room = ?;
+      room = ap length c.advance.ensures.advanced ∙ length-advanced (bytes_eq c.in-Some.part.now (codes "**")) (name_fits c.in-Some.part.now) c.loop-part.row (parts c.args.path.now) ∙ c.loop-part.invariant.room;
       places = omega (arith, c.advance.ensures.same_room, c.loop-part.invariant.places);
       so_far = walk_on parts_fit (λ s. bytes_eq s (codes "**")) name_fits refl (λ s ss. refl) (parts c.args.pattern.now) (length c.loop-part.yielded) _ c.in-Some.part.now _ c.loop-part.row (parts c.args.path.now) _
-        (length_push c.loop-part.yielded c.in-Some.part) t.0 t.1 room c.advance.ensures.advanced c.loop-part.invariant.so_far;
+          (length_push c.loop-part.yielded c.in-Some.part) t.0 t.1 room c.advance.ensures.advanced c.loop-part.invariant.so_far;
     }
 
 pub returns : goal.returns
