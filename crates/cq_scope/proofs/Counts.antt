@@ -1,17 +1,26 @@
 -- How many characters and parts a text has, and how long they are.
-use Rattle.std.proofs.Common.{◌≡◌, ℕ, zero, suc, ◌+◌, ◌<◌, ◌≤◌, List, [], ◌∷◌, length, drop, get_or, Bool, true, false, cond, ◌&&◌, IsUtf8, refl, sym, ap, ◌∙◌, arith}
+use Rattle.std.proofs.Common.{◌≡◌, ℕ, zero, suc, ◌+◌, ◌<◌, ◌≤◌, List, [], ◌∷◌, length, drop, get_or, Bool, true, false, cond, ◌&&◌, IsUtf8, lit<, refl, sym, ap, ◌∙◌, arith}
 use Rattle.std.specs.Prelude.{◌==◌, nat_le}
 use Rattle.std.proofs.lemmas.List.{drop_more, drop_all}
 use Rattle.std.proofs.lemmas.Bool.{and_parts, leb-true}
-use Rattle.std.proofs.lemmas.Str.{length-le-encodes, encodes-chars, IsUtf8-from_is_utf8}
+use Rattle.std.proofs.lemmas.Iterator.{YieldsList}
+use Rattle.std.proofs.lemmas.Iterator.Splits.{YieldsList-from_str_split}
+use Rattle.std.proofs.lemmas.Str.{length-le-encodes, encodes-chars, IsUtf8-from_is_utf8, is_utf8-from_IsUtf8}
 use Rattle.std.proofs.lemmas.List.Sums.{count_by-le-length}
 use Rattle.std.proofs.lemmas.List.Splits.{length-slice_split}
 use Rattle.std.specs.List.{list_all, onto_first}
 use Rattle.std.specs.Str.{chars, is_utf8}
+use Rattle.std.specs.declared.str.Split.{Split}
+use Rattle.std.specs.Str.Iter.{split_steps, split_text, split_has_more, split_pattern}
+use Rattle.std.specs.Str.Pattern.{FindsChar}
 use Rattle.cq_scope.specs.Paths.{parts, is_part, is_path_byte, is_path_text, is_path}
 
 pub few_chars : (text : List ℕ) → IsUtf8 text → length (chars text) ≤ length text
 few_chars text utf8 = let all = ap length (encodes-chars text utf8) in omega (arith, length-le-encodes (chars text))
+
+-- a walk over what a text is split into at `/` goes over its parts
+pub yields_parts : {s t : Split ℕ} (text : List ℕ) → t ≡ s → split_text s ≡ text → split_has_more s ≡ true → split_pattern s ≡ 47 → YieldsList (split_steps FindsChar (λ a b. b ≡ a)) (λ x. x.now) t (parts text)
+yields_parts text is has more pattern = YieldsList-from_str_split 47 text (lit< tt) (ap split_text is ∙ has) (ap split_has_more is ∙ more) (ap split_pattern is ∙ pattern)
 
 pub some_parts : (text : List ℕ) → length (parts text) ≤ length text + 1
 some_parts text = omega (arith, length-slice_split (λ b. b == 47) text, count_by-le-length (λ b. b == 47) text)
@@ -51,6 +60,17 @@ few_parts (b ∷ bs) good = cut_few (b == 47) b bs (parts bs) (some_parts bs) go
 
 pub path_utf8 : (path : List ℕ) → is_path path ≡ true → IsUtf8 path
 path_utf8 path good = IsUtf8-from_is_utf8 path (and_parts (is_utf8 path) (is_path_text path) good).0
+
+-- what is spelled in UTF-8 is a path where the text is one, and nothing else is
+pub path_spelled : (bytes text : List ℕ) (r : Bool) → (text ≡ bytes) × IsUtf8 bytes → r ≡ is_path_text text → r ≡ is_path bytes
+path_spelled bytes text r good is = is ∙ ap is_path_text good.0 ∙ sym (ap (λ b. b && is_path_text bytes) (is_utf8-from_IsUtf8 bytes good.1))
+
+pub path_broken : (bytes : List ℕ) → (IsUtf8 bytes → ⊥) → false ≡ is_path bytes
+path_broken bytes broken = by (is_utf8 bytes) refl
+  where
+    by : (b : Bool) → is_utf8 bytes ≡ b → false ≡ (b && is_path_text bytes)
+    by true is = absurd (broken (IsUtf8-from_is_utf8 bytes is))
+    by false is = refl
 
 second_and_last : (a b c d : Bool) → (a && b && c && d) ≡ true → (b ≡ true) × (d ≡ true)
 second_and_last true true true true all = (refl, refl)

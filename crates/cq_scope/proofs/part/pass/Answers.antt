@@ -12,6 +12,11 @@ bounds-row-at c =
     let t = YieldsList-turn (YieldsList-from_chars c.args.name.now c.utf8.name cc) c.loop-c.yielded _ c.loop-c.yielded_by _ _ c.in-Some.c c.in-Some.is c.next.ensures.steps in
     omega (arith, t.0, c.loop-c.invariant.counted, c.loop-c.invariant.room)
 
+pub bounds-row-at-in-loop-c : goal.bounds-row-at-in-loop-c
+bounds-row-at-in-loop-c c =
+    let t = YieldsList-turn (YieldsList-from_chars c.args.name.now c.utf8.name cc) c.loop-c.yielded _ c.loop-c.yielded_by _ _ c.in-Some.c c.in-Some.is c.next.ensures.steps in
+    omega (arith, t.0, c.loop-c.invariant.counted, c.loop-c.invariant.room)
+
 pub loop-c-preserved : goal.loop-c-preserved
 loop-c-preserved c =
     let t = YieldsList-turn (YieldsList-from_chars c.args.name.now c.utf8.name cc) c.loop-c.yielded _ c.loop-c.yielded_by _ _ c.in-Some.c c.in-Some.is c.next.ensures.steps in
