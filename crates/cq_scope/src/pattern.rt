@@ -42,7 +42,7 @@ impl Pattern {
     }
 }
 
-/// Whether a path fits a pattern. It costs at most the product of both lengths, each with one place more.
+/// Whether a path fits a pattern. What it costs grows with the product of both lengths at most.
 pub fn fits(pattern: &Pattern, path: &Text) -> bool
     requires { IsTrue (is_path path.now) }
     ensures { result ≡ spec.fits pattern.now path.now }
