@@ -63,8 +63,28 @@ fn texts_are_worked_by_their_language(rt: HostRuntime) -> Result<(), Memory> {
 fn functions_are_of_all_tokens(rt: HostRuntime) -> Result<(), Memory> {
     let alloc = rt.alloc();
     assert!(rt; works(alloc, Lang::C, "int f() { }", State::Ok, 6, 5, 1)?);
-    assert!(rt; works(alloc, Lang::C, "/*CPD-OFF*/ int f() { }", State::Ok, 0, 0, 1)?);
-    assert!(rt; works(alloc, Lang::Go, "func f() { }\n\"", State::Fault(13), 0, 0, 0)?);
+    assert!(rt;
+        works(
+            alloc,
+            Lang::C,
+            "/*CPD-OFF*/ int f() { }",
+            State::Ok,
+            0,
+            0,
+            1
+        )?
+    );
+    assert!(rt;
+        works(
+            alloc,
+            Lang::Go,
+            "func f() { }\n\"",
+            State::Fault(13),
+            0,
+            0,
+            0
+        )?
+    );
     Ok(())
 }
 

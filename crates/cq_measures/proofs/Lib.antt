@@ -9,3 +9,4 @@ pub mod Divided
 pub mod Runs
 pub mod Collected
 pub mod Totals
+pub mod Chosen

@@ -9,7 +9,7 @@ use Rattle.cq_measures.specs.declared.extent.FileLines.{FileLines}
 use Rattle.cq_measures.specs.Measures.{extent_of, extents_of, spans_of, IsInside, IsGroupInside}
 use Rattle.cq_measures.specs.Sorted.{AreBelow}
 
-extents_below : (n : ℕ) (spans : List (List Token)) (groups : List Group) → length spans ≤ n → ((g : Group) → Contains groups g → IsGroupInside spans g) → AreBelow n (extents_of spans groups)
+pub extents_below : (n : ℕ) (spans : List (List Token)) (groups : List Group) → length spans ≤ n → ((g : Group) → Contains groups g → IsGroupInside spans g) → AreBelow n (extents_of spans groups)
 extents_below n spans [] few inside = All-nil (λ e. e.file < n)
 extents_below n spans (g ∷ groups) few inside =
     All-append (λ e. e.file < n) (map (extent_of spans g.tokens) g.places) (extents_of spans groups)

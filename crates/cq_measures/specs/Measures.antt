@@ -1,6 +1,6 @@
 -- The measures of a project, and of one file of it.
-use Rattle.std.specs.Prelude.{◌≡◌, ℕ, ◌+◌, ◌-◌, ◌*◌, ◌/◌, ◌^◌, ◌<◌, ◌≤◌, ◌==◌, if◌then◌else◌, List, [], length, map, filter, slice_index_or, All, Contains}
-use Rattle.std.specs.List.{flat_map, sum_by}
+use Rattle.std.specs.Prelude.{◌≡◌, ℕ, ◌+◌, ◌-◌, ◌*◌, ◌/◌, ◌^◌, ◌<◌, ◌≤◌, ◌==◌, nat_eq, if◌then◌else◌, Bool, List, [], ◌∷◌, ◌++◌, length, map, filter, slice_index_or, All, Contains}
+use Rattle.std.specs.List.{flat_map, list_any, range_with_len, sum_by}
 use Rattle.cq_base.specs.declared.group.Place.{Place}
 use Rattle.cq_base.specs.declared.group.Group.{Group}
 use Rattle.cq_base.specs.declared.token.Class.TheVariants.{Punct}
@@ -82,6 +82,32 @@ IsFileAt counts spans file f = (slice_index_or counts file no_counts ≡ f.count
 abbrev pub AreOfFile : FileLines → ℕ → List Group → Measures → Type 0
 AreOfFile f file groups m = (counts : List FileCounts) (spans : List (List Token)) → IsFileAt counts spans file f → m ≡ file_measures counts spans file groups
 
+-- what is counted of the files with these numbers
+abbrev pub counts_at : List FileCounts → List ℕ → List FileCounts
+counts_at counts chosen = map (λ file. slice_index_or counts file no_counts) chosen
+
+-- the extent is in one of these files
+abbrev pub is_in_chosen : List ℕ → Extent → Bool
+is_in_chosen chosen e = list_any (nat_eq e.file) chosen
+
+-- those of the groups' places in these files
+abbrev pub chosen_extents : List ℕ → List (List Token) → List Group → List Extent
+chosen_extents chosen spans groups = filter (is_in_chosen chosen) (extents_of spans groups)
+
+-- those of some of the files alone, with the places that groups of all files have in them
+abbrev pub chosen_measures : List FileCounts → List (List Token) → List ℕ → List Group → Measures
+chosen_measures counts spans chosen groups = measures_of (length chosen) (total (counts_at counts chosen)) (chosen_extents chosen spans groups)
+
+abbrev pub measures_of_chosen : List FileLines → List ℕ → List Group → Measures
+measures_of_chosen files chosen groups = chosen_measures (counts_of files) (spans_of files) chosen groups
+
+-- the extent of a place, or of a group's places, stands behind others, where the file is chosen
+abbrev pub AddsPlace : List FileLines → List ℕ → ℕ → Place → List Extent → List Extent → Type 0
+AddsPlace files chosen n p old new = new ≡ old ++ filter (is_in_chosen chosen) (extent_of (spans_of files) n p ∷ [])
+
+abbrev pub AddsPlaces : List FileLines → List ℕ → Group → List Extent → List Extent → Type 0
+AddsPlaces files chosen g old new = new ≡ old ++ filter (is_in_chosen chosen) (group_extents (spans_of files) g)
+
 -- ---- what can be measured: each place lies with all its tokens in its file, and the counts are of texts
 
 abbrev pub IsInside : List (List Token) → ℕ → Place → Type 0
@@ -101,3 +127,14 @@ pub record IsMeasurable (counts : List FileCounts) (spans : List (List Token)) (
   pub few : length counts ≤ 262144
   pub small : All AreSmall counts
   pub inside : AreGroupsInside spans groups
+
+-- ---- of a project whose groups lie inside its files
+
+-- where all files are chosen, the measures are those of the project
+abbrev pub AllChosenAreTheProject : Type 0
+AllChosenAreTheProject = (counts : List FileCounts) (spans : List (List Token)) (groups : List Group) → length spans ≡ length counts → AreGroupsInside spans groups
+    → chosen_measures counts spans (range_with_len 0 (length counts)) groups ≡ project_measures counts spans groups
+
+-- where one file is chosen, they are those of that file
+abbrev pub OneChosenIsTheFile : Type 0
+OneChosenIsTheFile = (counts : List FileCounts) (spans : List (List Token)) (file : ℕ) (groups : List Group) → chosen_measures counts spans (file ∷ []) groups ≡ file_measures counts spans file groups

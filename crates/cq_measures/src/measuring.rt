@@ -1,10 +1,12 @@
 ghost use Rattle.std.specs.Prelude.{◌≡◌, ◌≤◌, ◌<◌, ◌^◌, List, length, All, IfOk};
+ghost use Rattle.std.specs.List.Sorted.{IsStrictlyIncreasing};
 ghost use Rattle.cq_measures.specs.Measures as spec;
 ghost use Rattle.cq_measures.specs.declared.extent.Extent.{Extent};
 ghost use Rattle.cq_measures.specs.Counts.{IsTallyOf};
 ghost use Rattle.cq_measures.specs.Parted.{AreRunsInside, runs_in};
 
-use crate::counting::Tally;
+use crate::choosing::{chosen_extents, chosen_files};
+use crate::counting::{Tally, count_up};
 use crate::extent::FileLines;
 use crate::parting::{count_places, parted, runs_of};
 use crate::tallying::{added, file_tally, least_files, tallies_of};
@@ -93,4 +95,23 @@ pub fn file_measures(
     let runs = runs_of(alloc, file, groups)?;
     let tally = file_tally(alloc, file, lines.spans, &runs)?;
     Ok(measures_of(1, lines.counts, tally))
+}
+
+/// The measures of some of the files alone, which are told by their numbers, ascending, with the places that groups of all
+/// files' tokens have in them. Nothing of the other files is looked at but the groups' places in them; of each place it is
+/// found by halving whether its file is chosen.
+pub fn chosen_measures(
+    alloc: Global,
+    files: &[FileLines],
+    chosen: &[u32],
+    groups: &[Group],
+) -> Result<Measures, Memory>
+    requires measurable { spec.IsMeasurable (spec.counts_of files.now) (spec.spans_of files.now) groups.now }
+    requires ascending { IsStrictlyIncreasing chosen.now }
+    requires inside { All (λ file. file < length files.now) chosen.now }
+    ensures { IfOk result (λ m. m ≡ spec.measures_of_chosen files.now chosen.now groups.now) }
+{
+    let lines = chosen_files(alloc, files, chosen)?;
+    let tally = count_up(chosen_extents(alloc, files, chosen, groups)?);
+    Ok(measures_of(chosen.len() as u64, total(&lines), tally))
 }

@@ -4,7 +4,7 @@ ghost use Rattle.cq_measures.specs.Measures.{counts_of, spans_of, IsInside, IsGr
 use cq_base::{
     Class, FileCounts, Group, Lang, Measures, Memory, Place, Places, Spelled, Text, Token,
 };
-use cq_measures::{FileLines, complexity, file_measures, ncloc, project_measures};
+use cq_measures::{FileLines, chosen_measures, complexity, file_measures, ncloc, project_measures};
 use std::alloc::Global;
 use std::thread::Threads;
 
@@ -142,6 +142,20 @@ fn of_file(
     file_measures(alloc, file, &files[file as usize], groups)
 }
 
+// The measures of two of the files alone; an error where the project isn't measurable.
+fn of_two(
+    alloc: Global,
+    files: &[FileLines],
+    first: u32,
+    second: u32,
+    groups: &[Group],
+) -> Result<Measures, Memory> {
+    if !is_measurable(files, groups) || files.len() <= second as usize || second <= first {
+        return Err(Memory);
+    }
+    chosen_measures(alloc, files, &[first, second], groups)
+}
+
 // The lines, blocks and files that are duplicated, all lines and files, and the density.
 fn told(measures: Measures) -> [u64; 6] {
     [
@@ -219,6 +233,30 @@ fn each_line_and_each_block_counts_once(rt: HostRuntime) -> Result<(), Memory> {
     assert_eq!(rt; told(first), [17, 5, 1, 100, 1, 1_700]);
     let second = of_file(alloc, &files, 1, &groups)?;
     assert_eq!(rt; told(second), [4, 1, 1, 100, 1, 400]);
+    Ok(())
+}
+
+// A chosen file keeps what it shares with one that isn't.
+#[test]
+fn groups_are_those_of_all_files(rt: HostRuntime) -> Result<(), Memory> {
+    let alloc = rt.alloc();
+    let spans = line_tokens(alloc, 2)?;
+    let short = FileLines {
+        counts: counts(2),
+        spans: &spans,
+    };
+    let long = FileLines {
+        counts: counts(8),
+        spans: &spans,
+    };
+    let files = [short, short, long];
+    let shared = groups(alloc, &[(2, &[(0, 0), (1, 0), (2, 0)])])?;
+    assert_eq!(rt; told(of_two(alloc, &files, 1, 2, &shared)?), [4, 2, 2, 10, 2, 4_000]);
+    assert_eq!(rt; told(of_two(alloc, &files, 0, 1, &shared)?), [4, 2, 2, 4, 2, 10_000]);
+    let outside = groups(alloc, &[(1, &[(0, 0), (1, 1)])])?;
+    assert_eq!(rt; told(of_two(alloc, &files, 1, 2, &outside)?), [1, 1, 1, 10, 2, 1_000]);
+    let nothing = of_two(alloc, &files, 1, 2, &[])?;
+    assert_eq!(rt; told(nothing), [0, 0, 0, 10, 2, 0]);
     Ok(())
 }
 

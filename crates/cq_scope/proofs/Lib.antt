@@ -1,0 +1,5 @@
+pub mod Reaching
+pub mod InRow
+pub mod Counts
+pub mod Positions
+pub mod Fronts

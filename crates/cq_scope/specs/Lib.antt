@@ -1,0 +1,5 @@
+pub mod Paths
+pub mod Fits
+pub mod Rows
+pub mod Chosen
+pub mod Laws
