@@ -18,6 +18,8 @@ has it.
 """
 import argparse
 import collections
+import functools
+import itertools
 import json
 import os
 import re
@@ -204,14 +206,18 @@ class OfC:
     """What is special about a function of C that only one of the two has, as far as the tokens around it tell."""
 
     def __init__(self, text):
-        self.tokens = list(tokens_of(text))
+        self.source = text
+
+    @functools.cached_property
+    def tokens(self):
+        return list(tokens_of(self.source))
 
     def text(self, at):
-        return self.tokens[at].text if at < len(self.tokens) else ""
+        return self.tokens[at].text if 0 <= at < len(self.tokens) else ""
 
     def place(self, name, line):
         places = [at for at, token in enumerate(self.tokens) if token.line == line and token.text == name.lstrip("~")]
-        return next((at for at in places if self.text(at + 1) == "("), places[0])
+        return next((at for at in places if self.text(at + 1) == "("), places[0] if places else None)
 
     def behind_parameters(self, at):
         level = 0
@@ -223,13 +229,15 @@ class OfC:
 
     def around(self, token):
         """Where braces are open before a token."""
-        brace = token.open[0] if token.open else 0
-        if self.text(brace - 1) == '"C"':
+        before = [self.text(token.open[0] - back) for back in range(1, 8)] if token.open else []
+        if '"C"' in before[:1]:
             return 'inside extern "C"'
-        return "inside a class of C++" if "class" in (self.text(brace - back) for back in range(1, 8)) else "behind uneven braces"
+        return "inside a class of C++" if "class" in before else "behind uneven braces"
 
     def there(self, kind, name, first, _):
         at = self.place(name, first)
+        if at is None:
+            return kind
         if self.tokens[at].level:
             return f"{kind} {self.around(self.tokens[at])}"
         behind = self.behind_parameters(at)
@@ -237,7 +245,7 @@ class OfC:
             return f"{kind} with uneven braces"
         if behind[:1] == [")"]:
             return f"{kind} whose result is a pointer to a function"
-        if ";" in behind[:behind.index("{")]:
+        if ";" in itertools.takewhile(lambda text: text != "{", behind):
             return f"{kind} with parameters in the old style"
         return f"{kind} with something between parameters and body"
 
