@@ -32,7 +32,7 @@ returns-in-Ok-Change-clause-refused g c =
     (is, spends_waiting _ g.H.Hub.alone by _ _ _ c.change_reply.ensures.asked (AreViewings (Read (Ok (request.Change c.in-Ok-Change.change))) reply.Memory) refl h later is))) c.change_reply.ensures.refused
 
 pub query_reply-requires-clause-path : goal.query_reply-requires-clause-path
-query_reply-requires-clause-path g c =
+query_reply-requires-clause-path g c κs lives =
     let sound : IsSound c.args.settings.now.chunk (request.Query c.in-Ok-Query.query) = subst (IsSound c.args.settings.now.chunk) c.in-Ok-Query.field-0-is c.in-Ok-Query.ensures.sound in
     path_asked c.in-Ok-Query.query.kind c.in-Ok-Query.query.path sound.3
 
