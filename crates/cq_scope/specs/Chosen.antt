@@ -22,6 +22,9 @@ is_chosen_at scope since files i = unwrap_or (option_map (is_chosen scope since)
 abbrev pub chosen : {W : Type 0} → Option (List ℕ) → ℕ → List (File W) → List ℕ
 chosen scope since files = filter (is_chosen_at scope since files) (range_with_len 0 (length files))
 
--- each file's path is one
+-- the path of a file is one, and that of each file
+abbrev pub HasPath : {W : Type 0} → File W → Type 0
+HasPath f = IsTrue (is_path f.path)
+
 abbrev pub HavePaths : {W : Type 0} → List (File W) → Type 0
-HavePaths files = All (λ f. IsTrue (is_path f.path)) files
+HavePaths files = All HasPath files

@@ -23,7 +23,7 @@ fn is_in_scope(scope: Option<&Pattern>, path: &Text) -> bool
 
 // Whether the file is chosen. Its path is looked at only where it changed.
 fn is_chosen<W>(scope: Option<&Pattern>, since: u64, file: &Arc<Held<W>, Global>) -> bool
-    requires { IsTrue (is_path (arc_value file.now).path) }
+    requires { spec.HasPath (arc_value file.now) }
     ensures { result ≡ spec.is_chosen (option_map (λ p. p.now) scope.entry) since (arc_value file.now) }
 {
     since < file.change && is_in_scope(scope, &file.path)
