@@ -5,6 +5,7 @@ ghost use Rattle.cq_munch.specs.Characters.{characters};
 ghost use Rattle.cq_munch.specs.LastWord.{TheLastWordCounts};
 ghost use Rattle.cq_munch.specs.Lexed as spec;
 ghost use Rattle.cq_munch.specs.ListingMarks.{said, said_at};
+ghost use Rattle.cq_munch.specs.declared.element.Spell.TheVariants.{Comment};
 ghost use Rattle.cq_munch.specs.Table.{begins};
 
 use crate::element::Spell;
@@ -61,32 +62,27 @@ fn said(units: &[Unit]) -> Option<bool>
     last
 }
 
-// The mark that an element is, if it is a comment with one of the two words.
-fn mark_of(spell: Spell, units: &[Unit]) -> Option<Mark>
+// Adds the mark that a comment is, if one of the two words stands in it.
+fn add_said(marks: &mut Vec<Mark>, units: &[Unit]) -> Result<(), Memory>
     requires { 0 < length units.now }
-    ensures { result ≡ spec.mark_of spell units.now }
+    ensures { IfOk result (λ _. marks.new.items ≡ marks.old.items ++ cons_option (spec.mark_of Comment units.now) []) }
 {
-    match spell {
-        Spell::Comment => match said(units) {
-            Some(on) => Some(Mark {
-                at: units[0].start,
-                on,
-            }),
-            None => None,
-        },
-        Spell::Blank | Spell::Token(_) => None,
+    if let Some(on) = said(units) {
+        let at = units[0].start;
+        marks.push(Mark { at, on })?;
     }
+    Ok(())
 }
 
-/// Adds the mark that an element is, if it is one.
+/// Adds the mark that an element is, if it is one. Only comments are looked through.
 pub(crate) fn add_mark(marks: &mut Vec<Mark>, spell: Spell, units: &[Unit]) -> Result<(), Memory>
     requires { 0 < length units.now }
     ensures { IfOk result (λ _. marks.new.items ≡ marks.old.items ++ cons_option (spec.mark_of spell units.now) []) }
 {
-    if let Some(mark) = mark_of(spell, units) {
-        marks.push(mark)?;
+    match spell {
+        Spell::Comment => add_said(marks, units),
+        Spell::Blank | Spell::Token(_) => Ok(()),
     }
-    Ok(())
 }
 
 /// Of the words in a comment the last one counts, wherever it stands: the definition says just that.
