@@ -1,6 +1,6 @@
-ghost use Rattle.std.specs.Prelude.{◌≡◌, true, IsTrue, IfOk, All};
+ghost use Rattle.std.specs.Prelude.{◌≡◌, true, IfOk, All};
 ghost use Rattle.std.specs.Arc.{arc_value};
-ghost use Rattle.cq_scope.specs.Paths.{is_path};
+ghost use Rattle.cq_scope.specs.Chosen.{HasPath};
 
 use cq_base::{Lang, Memory, Text};
 use cq_projects::Held;
@@ -35,13 +35,13 @@ fn files_at(alloc: Global, paths: &str) -> Result<Vec<Arc<Held<Bare>, Global>>, 
 }
 
 fn has_path(alloc: Global, file: &Arc<Held<Bare>, Global>) -> Result<bool, Memory>
-    ensures { IfOk result (λ b. b ≡ true → IsTrue (is_path (arc_value file.now).path)) }
+    ensures { IfOk result (λ b. b ≡ true → HasPath (arc_value file.now)) }
 {
     Ok(Pattern::read(alloc, &file.path)?.is_some())
 }
 
 fn have_paths(alloc: Global, files: &[Arc<Held<Bare>, Global>]) -> Result<bool, Memory>
-    ensures { IfOk result (λ b. b ≡ true → All (λ o. IsTrue (is_path (arc_value o).path)) files.now) }
+    ensures { IfOk result (λ b. b ≡ true → All (λ o. HasPath (arc_value o)) files.now) }
 {
     for file in files {
         if !has_path(alloc, file)? {
