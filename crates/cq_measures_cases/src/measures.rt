@@ -251,10 +251,19 @@ fn groups_are_those_of_all_files(rt: HostRuntime) -> Result<(), Memory> {
     };
     let files = [short, short, long];
     let shared = groups(alloc, &[(2, &[(0, 0), (1, 0), (2, 0)])])?;
-    assert_eq!(rt; told(of_two(alloc, &files, 1, 2, &shared)?), [4, 2, 2, 10, 2, 4_000]);
-    assert_eq!(rt; told(of_two(alloc, &files, 0, 1, &shared)?), [4, 2, 2, 4, 2, 10_000]);
+    assert_eq!(rt;
+        told(of_two(alloc, &files, 1, 2, &shared)?),
+        [4, 2, 2, 10, 2, 4_000]
+    );
+    assert_eq!(rt;
+        told(of_two(alloc, &files, 0, 1, &shared)?),
+        [4, 2, 2, 4, 2, 10_000]
+    );
     let outside = groups(alloc, &[(1, &[(0, 0), (1, 1)])])?;
-    assert_eq!(rt; told(of_two(alloc, &files, 1, 2, &outside)?), [1, 1, 1, 10, 2, 1_000]);
+    assert_eq!(rt;
+        told(of_two(alloc, &files, 1, 2, &outside)?),
+        [1, 1, 1, 10, 2, 1_000]
+    );
     let nothing = of_two(alloc, &files, 1, 2, &[])?;
     assert_eq!(rt; told(nothing), [0, 0, 0, 10, 2, 0]);
     Ok(())
