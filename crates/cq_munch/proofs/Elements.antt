@@ -194,8 +194,12 @@ stays_inside units at n inside within =
     let left = length-drop at (characters units) in
     omega arith
 
--- no token
-pub not_pushed : (bytes : List ℕ) (old : List Spelled) (spell : Spell) (units : List Unit) → ((class : Class) → spell ≡ TokenOf class → ⊥) → old ≡ old ++ token_of bytes spell units
-not_pushed bytes old Blank units none = sym (append-nil old)
-not_pushed bytes old Comment units none = sym (append-nil old)
-not_pushed bytes old (TokenOf class) units none = absurd (none class refl)
+-- an element of a kind that has no token, no mark, or the mark of that kind
+pub unspelled : (bytes : List ℕ) (old : List Spelled) (spell kind : Spell) (units : List Unit) → spell ≡ kind → token_of bytes kind units ≡ [] → old ≡ old ++ token_of bytes spell units
+unspelled bytes old spell kind units is none = sym (ap (λ k. old ++ token_of bytes k units) is ∙ ap (λ ts. old ++ ts) none ∙ append-nil old)
+
+pub unmarked : (old : List Mark) (spell kind : Spell) (units : List Unit) → spell ≡ kind → mark_of kind units ≡ None → old ≡ old ++ cons_option (mark_of spell units) []
+unmarked old spell kind units is none = sym (ap (λ k. old ++ cons_option (mark_of k units) []) is ∙ ap (λ m. old ++ cons_option m []) none ∙ append-nil old)
+
+pub marked : (old new : List Mark) (spell kind : Spell) (units : List Unit) → spell ≡ kind → new ≡ old ++ cons_option (mark_of kind units) [] → new ≡ old ++ cons_option (mark_of spell units) []
+marked old new spell kind units is new_is = new_is ∙ ap (λ k. old ++ cons_option (mark_of k units) []) (sym is)

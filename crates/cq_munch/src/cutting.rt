@@ -69,12 +69,15 @@ pub(crate) fn cut_up<X: Lexis>(alloc: Global, text: &Text, units: &[Unit]) -> Re
             return Ok(Cut::Fault(units[at].start));
         };
         let behind = at + found.units as usize;
-        add_mark(&mut marks, found.spell, &units[at..behind])?;
-        if let Spell::Token(class) = found.spell {
-            let spelled = spell_out(alloc, text, class, &units[at..behind], end, line)?;
-            end = spelled.token.start + spelled.token.len;
-            line = spelled.token.last_line;
-            tokens.push(spelled)?;
+        match found.spell {
+            Spell::Token(class) => {
+                let spelled = spell_out(alloc, text, class, &units[at..behind], end, line)?;
+                end = spelled.token.start + spelled.token.len;
+                line = spelled.token.last_line;
+                tokens.push(spelled)?;
+            }
+            Spell::Comment => add_mark(&mut marks, &units[at..behind])?,
+            Spell::Blank => {}
         }
         at = behind;
         mode = found.mode;

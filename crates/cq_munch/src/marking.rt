@@ -8,7 +8,6 @@ ghost use Rattle.cq_munch.specs.ListingMarks.{said, said_at};
 ghost use Rattle.cq_munch.specs.declared.element.Spell.TheVariants.{Comment};
 ghost use Rattle.cq_munch.specs.Table.{begins};
 
-use crate::element::Spell;
 use crate::unit::Unit;
 use cq_base::{Mark, Memory};
 
@@ -62,8 +61,8 @@ fn said(units: &[Unit]) -> Option<bool>
     last
 }
 
-// Adds the mark that a comment is, if one of the two words stands in it.
-fn add_said(marks: &mut Vec<Mark>, units: &[Unit]) -> Result<(), Memory>
+/// Adds the mark that a comment is, if one of the two words stands in it.
+pub(crate) fn add_mark(marks: &mut Vec<Mark>, units: &[Unit]) -> Result<(), Memory>
     requires { 0 < length units.now }
     ensures { IfOk result (λ _. marks.new.items ≡ marks.old.items ++ cons_option (spec.mark_of Comment units.now) []) }
 {
@@ -72,17 +71,6 @@ fn add_said(marks: &mut Vec<Mark>, units: &[Unit]) -> Result<(), Memory>
         marks.push(Mark { at, on })?;
     }
     Ok(())
-}
-
-/// Adds the mark that an element is, if it is one. Only comments are looked through.
-pub(crate) fn add_mark(marks: &mut Vec<Mark>, spell: Spell, units: &[Unit]) -> Result<(), Memory>
-    requires { 0 < length units.now }
-    ensures { IfOk result (λ _. marks.new.items ≡ marks.old.items ++ cons_option (spec.mark_of spell units.now) []) }
-{
-    match spell {
-        Spell::Comment => add_said(marks, units),
-        Spell::Blank | Spell::Token(_) => Ok(()),
-    }
 }
 
 /// Of the words in a comment the last one counts, wherever it stands: the definition says just that.

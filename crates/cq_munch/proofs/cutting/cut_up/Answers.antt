@@ -1,17 +1,26 @@
-use Rattle.std.proofs.Common.{◌<◌, length, sym, subst, arith, IfOk}
+use Rattle.std.proofs.Common.{◌<◌, length, refl, sym, subst, arith, IfOk}
 use Rattle.cq_munch.specs.Lexed.{IsCut}
 use Rattle.cq_munch.proofs.Orders.{InOrder-take, InOrder-end}
-use Rattle.cq_munch.proofs.Elements.{one_token, one_blank, stays_inside, not_pushed, TokensFollow-to, faulty, too_many}
+use Rattle.cq_munch.proofs.Elements.{one_token, one_blank, stays_inside, unspelled, unmarked, marked, TokensFollow-to, faulty, too_many}
 use Rattle.cq_munch.proofs.MarkOrder.{marks_in_order}
 use Rattle.cq_munch.proofs.cutting.cut_up.Goals as goal
 use Rattle.cq_munch.proofs.cutting.cut_up.Goals.{in-Some, in-None}
 
-pub loop-at-preserved-in_ok-push : goal.loop-at-preserved-in_ok-push
-loop-at-preserved-in_ok-push g c =
+pub loop-at-preserved-in_ok-push-in-Token : goal.loop-at-preserved-in_ok-push-in-Token
+loop-at-preserved-in_ok-push-in-Token g c =
     let taken = c.in-Some-longest.ensures.taken in
     record {
       so_far = one_token c.loop-at.invariant.so_far c.in-Some-longest.found taken (stays_inside c.args.units.now c.loop-at.at _ c.loop-at-test.true taken.0.within) c.in-Some-longest.ensures.known c.in-Token.class _ _
-          c.in-Token.is c.in_ok-spelled.ensures.spelled c.in_ok-push.ensures.items _ c.in_ok-add_mark.ensures;
+          c.in-Token.is c.in_ok-spelled-in-Token.ensures.spelled c.in_ok-push-in-Token.ensures.items _ (unmarked _ _ _ _ c.in-Token.is refl);
+      remembered = c.longest.ensures.remembered;
+    }
+
+pub loop-at-preserved-in_ok-add_mark-in-Comment : goal.loop-at-preserved-in_ok-add_mark-in-Comment
+loop-at-preserved-in_ok-add_mark-in-Comment g c =
+    let taken = c.in-Some-longest.ensures.taken in
+    record {
+      so_far = one_blank c.loop-at.invariant.so_far c.in-Some-longest.found taken (stays_inside c.args.units.now c.loop-at.at _ c.loop-at-test.true taken.0.within) c.in-Some-longest.ensures.known
+          (unspelled c.args.text.now _ _ _ _ c.in-Comment.is refl) _ (marked _ _ _ _ _ c.in-Comment.is c.in_ok-add_mark-in-Comment.ensures);
       remembered = c.longest.ensures.remembered;
     }
 
@@ -20,7 +29,7 @@ loop-at-preserved g c =
     let taken = c.in-Some-longest.ensures.taken in
     record {
       so_far = one_blank c.loop-at.invariant.so_far c.in-Some-longest.found taken (stays_inside c.args.units.now c.loop-at.at _ c.loop-at-test.true taken.0.within) c.in-Some-longest.ensures.known
-          (not_pushed c.args.text.now _ _ _ c.in_default-spell.not-Token) _ c.in_ok-add_mark.ensures;
+          (unspelled c.args.text.now _ _ _ _ c.in-Blank.is refl) _ (unmarked _ _ _ _ c.in-Blank.is refl);
       remembered = c.longest.ensures.remembered;
     }
 
