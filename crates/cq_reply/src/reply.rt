@@ -90,7 +90,7 @@ pub enum Shown {
     Large,
 }
 
-/// A file of a project: the change that put it, its language, its lines, and how many tokens it has.
+/// A file of a project: the change that put it, its language, its lines, and how many tokens of it are listed.
 #[derive(Drop)]
 pub struct FileRow {
     pub path: Text,
