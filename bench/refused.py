@@ -180,7 +180,7 @@ def talk(address, process, given):
     while connection is None and process.poll() is None:
         try:
             connection = socket.create_connection(address)
-        except ConnectionRefusedError:
+        except ConnectionError:  # nobody listens yet, or no longer
             time.sleep(0.002)
     if connection is None:
         return b""
