@@ -1,0 +1,4 @@
+mod Fields
+mod Records
+mod Counted
+mod Appended

@@ -1,0 +1,15 @@
+//! The parts of a token file, byte by byte, in both directions: numbers, texts, conditions, tokens and functions. What is
+//! read is spelled so, what is spelled so is read, and no spelling begins another. A reader goes once over the bytes that
+//! it takes, and takes no more memory than these, whatever lengths they claim.
+#![tactic(auto)]
+
+mod conditions;
+mod functions;
+mod numbers;
+mod tokens;
+mod unread;
+
+pub use conditions::{put_condition, read_condition};
+pub use functions::{put_function, read_function, read_functions};
+pub use tokens::{put_token, read_token, read_tokens};
+pub use unread::Unread;
