@@ -33,7 +33,7 @@ GREATEST_NUMBER = 18_446_744_073_709_551_615
 TEXT_LIMIT = 67_108_864
 MOST_CONDITIONS = 32
 
-# So many requests are on their way at a time. Their replies are short, so they fit in what a pipe holds.
+# So many requests are on their way at a time. Either they or their replies are short, so these fit in what a pipe holds.
 AHEAD = 32
 # So often in a call a request is made again that the server could not serve yet, each time behind a pause.
 PAUSES = 50
@@ -46,6 +46,8 @@ SOURCES_SHOWN = 4
 NAMES_SHOWN = 100
 LINES_SHOWN = 200
 CHARACTERS_SHOWN = 300
+# What a report shows at most: the functions of greatest complexity of the files that the call put.
+FUNCTIONS_SHOWN = 10
 
 FINE, IS_ERROR, NOT_DONE, WORDS_REFUSED = 0, 1, 2, 3
 STATUSES = "exit status: 0 fine, 1 the verdict is ERROR, 2 it could not be done or files were left out, 3 words refused"
@@ -389,11 +391,15 @@ class State:
 class Upload(NamedTuple):
     """What an upload did, and the texts that stand in the project behind it, by path."""
     texts: dict[str, str]
-    unchanged: int
+    unchanged: set[str]
     dropped: int
 
+    def changed(self) -> list[str]:
+        """The files that were put, in the order of their paths."""
+        return sorted(self.texts.keys() - self.unchanged)
+
     def summary(self, left_out: int) -> str:
-        return (f"{len(self.texts) - self.unchanged:,} put, {self.unchanged:,} unchanged, {self.dropped:,} dropped, "
+        return (f"{len(self.changed()):,} put, {len(self.unchanged):,} unchanged, {self.dropped:,} dropped, "
                 f"{left_out:,} left out")
 
 
@@ -445,7 +451,7 @@ def upload(server: Server, project: str, requests: Iterable[dict[str, Any]], sta
         notes.clear()
         if state:
             state.keep()
-    return Upload(texts, len(unchanged), dropped)
+    return Upload(texts, unchanged, dropped)
 
 
 def faults(files: dict[str, dict[str, Any]], texts: dict[str, str]) -> list[str]:
@@ -498,6 +504,12 @@ class Group(NamedTuple):
         return f"{counted(self.tokens, 'token')}, {counted(len(self.places), 'place')}"
 
 
+class Function(NamedTuple):
+    name: str
+    place: Place
+    complexity: int
+
+
 def value_text(metric: str, value: int) -> str:
     return f"{value // 100}.{value % 100:02}%" if metric == DENSITY else str(value)
 
@@ -512,6 +524,13 @@ def groups_of(reply: Reply) -> list[Group]:
 def measures_of(reply: Reply) -> dict[str, int]:
     measures = member(reply.members, "measures", dict)
     return {name: member(measures, name, int) for name in sorted(measures)}
+
+
+def functions_of(reply: Reply, path: str) -> list[Function]:
+    return [Function(member(function, "name", str),
+                     Place(path, member(function, "first", int), member(function, "last", int)),
+                     member(function, "complexity", int))
+            for function in member(reply.members, "functions", list)]
 
 
 def failed_of(reply: Reply) -> list[int] | None:
@@ -627,6 +646,12 @@ class Page:
         for number, group in enumerate(largest[:GROUPS_SHOWN], 1):
             self.group(number, group)
 
+    def functions(self, functions: list[Function]) -> None:
+        if functions:
+            self.add("<h2>Functions of greatest complexity</h2>\n",
+                     '<p class="faint">Of the files that were put for this page.</p>\n')
+            self.table((function.name, str(function.place), str(function.complexity)) for function in functions)
+
     def verdict(self, failed: list[int] | None, conditions: list[Condition], measures: dict[str, int]) -> None:
         style, word = ("good", "OK") if failed is None else ("bad", "ERROR")
         self.add(f'<h2>Gate: <span class="{style}">{word}</span></h2>\n')
@@ -699,7 +724,7 @@ def parser() -> Words:
         ("groups", "list what is duplicated: each run of tokens with its places"),
         ("measures", "tell size, complexity and duplication"),
         ("verdict", "tell whether the project passes its gate"),
-        ("report", "write a page with measures, verdict and groups"),
+        ("report", "write a page with measures, verdict, functions and groups"),
     ):
         one = commands.add_parser(command, help=help_text, description=help_text, epilog=STATUSES, allow_abbrev=False)
         if command == "report":
@@ -835,6 +860,27 @@ def measures_beside(answer: Reply, verdict: Reply) -> dict[str, int]:
     return measures_of(answer) if answer.members.get("version") == verdict.members.get("version") else {}
 
 
+def most_complex(server: Server, project: str, paths: Iterable[str]) -> list[Function]:
+    """The functions of greatest complexity in these files, the greatest first; of equal ones, by path and then line."""
+    functions: list[Function] = []
+    requests = ({"op": "functions", "project": project, "path": path, "finish": True} for path in paths)
+    for request, reply in server.ask_each(requests):
+        if not reply.is_ok():
+            raise Fault(f"functions: {reply.refusal()}")
+        functions += functions_of(reply, request["path"])
+        functions.sort(key=lambda function: (-function.complexity, function.place))
+        del functions[FUNCTIONS_SHOWN:]
+    return functions
+
+
+def tell_functions(functions: list[Function]) -> None:
+    if functions:
+        print("functions of greatest complexity")
+    width = max((len(str(function.complexity)) for function in functions), default=0)
+    for function in functions:
+        print(f"  {function.complexity:>{width}}  {shown(function.name)}  {function.place}")
+
+
 def tell_answer(server: Server, options: argparse.Namespace) -> int:
     """Asks what the command is called, and tells the answer."""
     if options.command == "verdict":
@@ -856,7 +902,7 @@ def tell_answer(server: Server, options: argparse.Namespace) -> int:
     return FINE if failed is None else IS_ERROR
 
 
-def write_report(server: Server, options: argparse.Namespace, texts: dict[str, str], told: list[str], notes: Notes) -> int:
+def write_report(server: Server, options: argparse.Namespace, put: Upload, told: list[str], notes: Notes) -> int:
     set_gate(server, options)
     asked = ["measures", "groups"] + (["verdict"] if options.gate else [])
     answers = {op: server.answer(query(options, op)) for op in asked}
@@ -864,15 +910,18 @@ def write_report(server: Server, options: argparse.Namespace, texts: dict[str, s
     failed = failed_of(answers["verdict"]) if options.gate else None
     least = options.min or (None if options.addr else max(100, options.chunk or 0))
     runs = f"at least {counted(least, 'token')}" if least else "at least the server's default length"
-    page = Page(texts)
+    functions = most_complex(server, options.project, put.changed())
+    page = Page(put.texts)
     page.add(f"<h1>Duplicates in {escaped(options.project)}</h1>\n",
              f'<p class="faint">Runs of {runs}; {", ".join(versions)}.</p>\n')
     if options.gate:
         measures = measures_beside(answers["measures"], answers["verdict"])
         page.verdict(failed, options.gate, measures)
         tell_verdict(failed, options.gate, measures)
+    tell_functions(functions)
     page.add("<h2>Measures</h2>\n")
     page.table((name, value_text(name, value)) for name, value in measures_of(answers["measures"]).items())
+    page.functions(functions)
     page.notes(f"{counted(len(notes.left_out), 'file')} left out", [f"{path}: {why}" for path, why in notes.left_out.items()])
     page.notes(f"{counted(len(told), 'file')} without tokens", told)
     page.groups(groups_of(answers["groups"]))
@@ -887,10 +936,9 @@ def run(options: argparse.Namespace, notes: Notes) -> int:
     if options.folder and not options.folder.is_dir():
         raise Fault(f"{options.folder} is no folder")
     with server_of(options) as server:
-        texts: dict[str, str] = {}
+        put = Upload({}, set(), 0)
         if options.folder:
             put = put_folder(server, options, notes)
-            texts = put.texts
             if options.command == "put":
                 print(put.summary(len(notes.left_out)))
         files = server.files(options.project)
@@ -898,15 +946,15 @@ def run(options: argparse.Namespace, notes: Notes) -> int:
             raise Fault(f"project {options.project} has no file")
         if getattr(options, "path", None) and options.path not in files:
             raise Fault(f"no file stands at {options.path} in project {options.project}")
-        told = faults(files, texts)
+        told = faults(files, put.texts)
         for line in told:
             notes.tell(line)
-        others = len(files.keys() - texts.keys())
+        others = len(files.keys() - put.texts.keys())
         if options.folder and others:
             notes.tell(f"{counted(others, 'file')} of project {options.project} that this folder did not put")
         status = FINE
         if options.command == "report":
-            status = write_report(server, options, texts, told, notes)
+            status = write_report(server, options, put, told, notes)
         elif options.command != "put":
             status = tell_answer(server, options)
     if notes.left_out:

@@ -1,6 +1,5 @@
--- How many functions a text has, and which of them is the worst.
-use Rattle.std.proofs.Common.{◌≡◌, ℕ, ◌+◌, ◌<◌, ◌≤◌, Option, Some, None, List, [], ◌∷◌, length, drop, get_or, refl, sym, ap, ◌∙◌, arith, length-append}
-use Rattle.std.specs.Prelude.{max}
+-- How many functions a text has.
+use Rattle.std.proofs.Common.{◌≤◌, Option, Some, None, List, [], ◌∷◌, length, arith, length-append}
 use Rattle.std.specs.Option.{option_to_list}
 use Rattle.std.specs.List.{flat_map, range_with_len}
 use Rattle.std.proofs.lemmas.List.{length-map}
@@ -9,8 +8,6 @@ use Rattle.cq_base.specs.declared.lang.Lang.{Lang}
 use Rattle.cq_base.specs.declared.token.Spelled.{Spelled}
 use Rattle.cq_func.specs.Functions.{found, functions, function_of}
 use Rattle.cq_func.specs.Names.{function_at}
-use Rattle.cq_func.specs.declared.function.Function.{Function}
-use Rattle.cq_answer.specs.Rows.{greatest_complexity}
 
 one_most : {X : Type 0} (o : Option X) → length (option_to_list o) ≤ 1
 one_most None = omega arith

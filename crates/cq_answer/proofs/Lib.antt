@@ -6,3 +6,4 @@ pub mod Inside
 pub mod Rows
 pub mod Listable
 pub mod Told
+pub mod Asked

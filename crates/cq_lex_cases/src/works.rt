@@ -17,7 +17,7 @@ const SETTINGS: Settings = Settings {
     byte_limit: 65_536,
 };
 
-// Whether the work of a text has this state, and so many tokens and keys.
+// Whether the work of a text has this state, and so many tokens, keys and functions.
 fn works(
     alloc: Global,
     lang: Lang,
@@ -25,6 +25,7 @@ fn works(
     state: State,
     tokens: usize,
     keys: usize,
+    functions: usize,
 ) -> Result<bool, Memory> {
     if text.len() > 100 {
         return Ok(false);
@@ -38,22 +39,52 @@ fn works(
             && work.state == state
             && work.spans.len() == tokens
             && work.tokens.len() as usize == tokens
-            && work.keys.as_slice().len() == keys,
+            && work.keys.as_slice().len() == keys
+            && work.functions.len() == functions,
     )
 }
 
 #[test]
 fn texts_are_worked_by_their_language(rt: HostRuntime) -> Result<(), Memory> {
     let alloc = rt.alloc();
-    assert!(rt; works(alloc, Lang::Any, "a b", State::Ok, 2, 1)?);
-    assert!(rt; works(alloc, Lang::Any, "a", State::Ok, 1, 0)?);
-    assert!(rt; works(alloc, Lang::Go, "return\nx\n", State::Ok, 4, 3)?);
-    assert!(rt; works(alloc, Lang::Go, "\"a", State::Fault(0), 0, 0)?);
-    assert!(rt; works(alloc, Lang::C, "x <a b.h>", State::Ok, 7, 6)?);
-    assert!(rt; works(alloc, Lang::Java, "a>>=b", State::Ok, 3, 2)?);
-    assert!(rt; works(alloc, Lang::Go, "x/*CPD-OFF*/\ny\n", State::Ok, 2, 1)?);
-    assert!(rt; works(alloc, Lang::Any, "x/*CPD-OFF*/y", State::Ok, 9, 8)?);
-    assert!(rt; works(alloc, Lang::Java, "int a; /* b", State::Fault(7), 0, 0)?);
+    assert!(rt; works(alloc, Lang::Any, "a b", State::Ok, 2, 1, 0)?);
+    assert!(rt; works(alloc, Lang::Any, "a", State::Ok, 1, 0, 0)?);
+    assert!(rt; works(alloc, Lang::Go, "return\nx\n", State::Ok, 4, 3, 0)?);
+    assert!(rt; works(alloc, Lang::Go, "\"a", State::Fault(0), 0, 0, 0)?);
+    assert!(rt; works(alloc, Lang::C, "x <a b.h>", State::Ok, 7, 6, 0)?);
+    assert!(rt; works(alloc, Lang::Java, "a>>=b", State::Ok, 3, 2, 0)?);
+    assert!(rt; works(alloc, Lang::Go, "x/*CPD-OFF*/\ny\n", State::Ok, 2, 1, 0)?);
+    assert!(rt; works(alloc, Lang::Any, "x/*CPD-OFF*/y", State::Ok, 9, 8, 0)?);
+    assert!(rt; works(alloc, Lang::Java, "int a; /* b", State::Fault(7), 0, 0, 0)?);
+    Ok(())
+}
+
+#[test]
+fn functions_are_of_all_tokens(rt: HostRuntime) -> Result<(), Memory> {
+    let alloc = rt.alloc();
+    assert!(rt; works(alloc, Lang::C, "int f() { }", State::Ok, 6, 5, 1)?);
+    assert!(rt;
+        works(
+            alloc,
+            Lang::C,
+            "/*CPD-OFF*/ int f() { }",
+            State::Ok,
+            0,
+            0,
+            1
+        )?
+    );
+    assert!(rt;
+        works(
+            alloc,
+            Lang::Go,
+            "func f() { }\n\"",
+            State::Fault(13),
+            0,
+            0,
+            0
+        )?
+    );
     Ok(())
 }
 

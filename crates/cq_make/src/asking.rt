@@ -1,4 +1,5 @@
-ghost use Rattle.std.specs.Prelude.{◌≡◌, ◌≤◌, IfOk};
+ghost use Rattle.std.specs.Prelude.{◌≡◌, ◌≤◌, None, IfOk};
+ghost use Rattle.cq_answer.specs.Parts.{HasPath};
 ghost use Rattle.cq_base.specs.Settings.{IsInRange};
 ghost use Rattle.cq_talk.specs.Steps.{Always, MayLead};
 ghost use Rattle.cq_make.specs.Made.{Answers};
@@ -45,6 +46,7 @@ pub(crate) fn reply_of<R: Threads + Sync, L: Ledger>(
 ) -> Result<Reply, Memory>
     requires in_range { IsInRange settings.now }
     requires short { settings.now.chunk ≤ 50 }
+    requires path { HasPath kind None }
     requires settings { keyer.now.settings ≡ settings.now }
     requires hub_settings { ⟦<Solo<Work<L>> as Hub<Work<L>>>⟧.settings hub.now ≡ settings.now }
     requires closed { MayLead ⟦<Solo<Work<L>> as Hub<Work<L>>>⟧.Stands 1 hub.now pass.old Always }

@@ -10,7 +10,9 @@ mod value;
 mod write;
 
 pub use line::{Fixed, Line};
-pub use reply::{FileRow, FileRows, FunctionRows, GroupRow, GroupRows, PlaceRow, PlaceRows, Reply, Shown};
+pub use reply::{
+    FileRow, FileRows, FunctionRows, GroupRow, GroupRows, PlaceRow, PlaceRows, Reply, Shown,
+};
 pub use short::{Short, fixed};
 pub use value::measures_members;
 pub use write::{line_of, write_reply};

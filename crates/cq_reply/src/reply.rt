@@ -184,7 +184,7 @@ pub enum Reply {
         verdict: Verdict,
         version: u64,
     },
-    /// The functions of a file at a version, and which of them, from 0, is the worst to understand, if there is one.
+    /// The functions of a file at a version, and the position, from 0, of the first of greatest complexity.
     Functions {
         functions: FunctionRows,
         version: u64,

@@ -4,7 +4,9 @@ ghost use Rattle.cq_reply.specs.Written.{IsFileText, IsPlaceText};
 use crate::writing::is_written;
 use cq_base::{Lang, Memory, Text};
 use cq_func::Function;
-use cq_reply::{FileRow, FileRows, FunctionRows, GroupRow, GroupRows, PlaceRow, PlaceRows, Reply, Shown};
+use cq_reply::{
+    FileRow, FileRows, FunctionRows, GroupRow, GroupRows, PlaceRow, PlaceRows, Reply, Shown,
+};
 use std::alloc::Global;
 
 fn file_row(alloc: Global, lang: Lang, shown: Shown) -> Result<FileRow, Memory>

@@ -28,6 +28,7 @@ shown_in (reply.Files rows version) = Some version
 shown_in (reply.Groups rows version) = Some version
 shown_in (reply.Measures measures version) = Some version
 shown_in (reply.Verdict verdict version) = Some version
+shown_in (reply.Functions functions version worst) = Some version
 shown_in _ = None
 
 abbrev pub answered_in : Query → Option ℕ → List Viewing

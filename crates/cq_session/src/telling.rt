@@ -24,6 +24,7 @@ fn named(reply: &Reply) -> u64
         Reply::Groups { version, .. } => *version,
         Reply::Measures { version, .. } => *version,
         Reply::Verdict { version, .. } => *version,
+        Reply::Functions { version, .. } => *version,
         Reply::State { published, .. } => *published,
         _ => 0,
     }

@@ -40,6 +40,7 @@ is_change op.Files = false
 is_change op.Groups = false
 is_change op.Measures = false
 is_change op.Verdict = false
+is_change op.Functions = false
 is_change op.State = false
 
 abbrev pub is_query : Op → Bool
@@ -50,6 +51,7 @@ is_query op.Files = true
 is_query op.Groups = true
 is_query op.Measures = true
 is_query op.Verdict = true
+is_query op.Functions = true
 is_query op.State = false
 
 -- an object that asks for a change, and one that asks for a query

@@ -92,7 +92,10 @@ fn is_change(op: Op) -> bool
 fn is_query(op: Op) -> bool
     ensures { result ≡ rows.is_query op }
 {
-    matches!(op, Op::Files | Op::Groups | Op::Measures | Op::Verdict)
+    matches!(
+        op,
+        Op::Files | Op::Groups | Op::Measures | Op::Verdict | Op::Functions
+    )
 }
 
 fn is_change_request(value: &Value) -> bool

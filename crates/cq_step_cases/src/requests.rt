@@ -16,6 +16,7 @@ field:request {"step":"accept","by":1,"request":{"op":"files","project":"p"}}
 field:request {"step":"accept","by":1,"request":{"op":"groups","project":"p"}}
 field:request {"step":"accept","by":1,"request":{"op":"measures","project":"p"}}
 field:request {"step":"accept","by":1,"request":{"op":"verdict","project":"p"}}
+field:request {"step":"accept","by":1,"request":{"op":"functions","project":"p","path":"t"}}
 field:request {"step":"accept","by":1,"request":{"op":"state"}}
 field:request {"step":"accept","by":1,"request":{"step":"ask","by":1}}
 "#;
@@ -55,6 +56,8 @@ field:min {"step":"reply","by":1,"request":{"op":"files","project":"p","min":100
 field:min {"step":"reply","by":1,"request":{"op":"groups","project":"p","min":"100"}}
 field:path {"step":"reply","by":1,"request":{"op":"files","project":"p","path":"t"}}
 field:path {"step":"reply","by":1,"request":{"op":"verdict","project":"p","path":"t"}}
+field:path {"step":"reply","by":1,"request":{"op":"functions","project":"p"}}
+reply:1:functions {"step":"reply","by":1,"request":{"op":"functions","project":"p","path":"t"}}
 path {"step":"reply","by":1,"request":{"op":"groups","project":"p","path":"..","min":19}}
 min {"step":"reply","by":1,"request":{"op":"groups","project":"p","min":19}}
 reply:1:groups {"step":"reply","by":1,"request":{"op":"groups","project":"p","min":20}}

@@ -29,6 +29,7 @@ fn query_word(kind: Kind) -> &'static str {
         Kind::Groups => "groups",
         Kind::Measures => "measures",
         Kind::Verdict => "verdict",
+        Kind::Functions => "functions",
     }
 }
 

@@ -25,18 +25,21 @@ module _ (facts : Facts) (conditions : List Condition) (version : ℕ) (p : Part
   kind_named kind.Groups = refl
   kind_named kind.Measures = refl
   kind_named kind.Verdict = refl
+  kind_named kind.Functions = refl
 
   kind_version : (k : Kind) → version_in (reply_of facts conditions version k p groups) ≡ version
   kind_version kind.Files = refl
   kind_version kind.Groups = refl
   kind_version kind.Measures = refl
   kind_version kind.Verdict = refl
+  kind_version kind.Functions = refl
 
   kind_no_pending : (k : Kind) (n : ℕ) → reply.Pending n ≡ reply_of facts conditions version k p groups → ⊥
   kind_no_pending kind.Files n same = absurd (cc (same))
   kind_no_pending kind.Groups n same = absurd (cc (same))
   kind_no_pending kind.Measures n same = absurd (cc (same))
   kind_no_pending kind.Verdict n same = absurd (cc (same))
+  kind_no_pending kind.Functions n same = absurd (cc (same))
 
 module _ (set : Settings) (changes : List Change) (version : ℕ) (q : Query) (r : Reply) (is : IsReply set changes version q r) where
   pub shown_named : named r ≡ version

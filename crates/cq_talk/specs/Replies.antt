@@ -9,6 +9,7 @@ version_in (reply.Files rows version) = version
 version_in (reply.Groups rows version) = version
 version_in (reply.Measures measures version) = version
 version_in (reply.Verdict verdict version) = version
+version_in (reply.Functions functions version worst) = version
 version_in (reply.State accepted done published) = published
 version_in _ = 0
 
@@ -19,6 +20,7 @@ named (reply.Files rows version) = version
 named (reply.Groups rows version) = version
 named (reply.Measures measures version) = version
 named (reply.Verdict verdict version) = version
+named (reply.Functions functions version worst) = version
 named (reply.State accepted done published) = published
 named _ = 0
 

@@ -7,6 +7,8 @@ mod clients;
 #[cfg(test)]
 mod failing;
 #[cfg(test)]
+mod functions;
+#[cfg(test)]
 mod marks;
 #[cfg(test)]
 mod projects;

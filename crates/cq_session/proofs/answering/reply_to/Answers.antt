@@ -1,10 +1,12 @@
-use Rattle.std.proofs.Common.{◌≡◌, Ok, Err, refl, ap, ◌∙◌}
+use Rattle.std.proofs.Common.{◌≡◌, Ok, Err, refl, ap, subst, ◌∙◌}
 use Rattle.std.proofs.lemmas.Result.{IfOk-weaker, on_err_weaker}
+use Rattle.cq_answer.proofs.Asked.{path_asked}
 use Rattle.cq_answer.proofs.Told.{refusal_said}
 use Rattle.cq_hub.specs.Hubs.{Never}
 use Rattle.cq_hub.proofs.Growing.{grows_none}
 use Rattle.cq_reply.specs.declared.reply.Reply.TheVariants as reply
 use Rattle.cq_request.specs.Reading.{line_says}
+use Rattle.cq_request.specs.Sound.{IsSound}
 use Rattle.cq_request.specs.declared.request.Request.TheVariants as request
 use Rattle.cq_talk.specs.Said.{Read}
 use Rattle.cq_talk.proofs.Leading.{lead_weaker}
@@ -28,6 +30,11 @@ returns-in-Ok-Change-clause-refused g c =
     on_err_weaker c.change_reply.result (λ led by h stands closed named. lead_weaker _ _ by _ _ _ _ (led by h stands closed tt)
     (λ later is. given_up_as (g.H.Hub.settings c.args.hub.now) (g.H.Hub.callers c.args.hub.now) g.H.Hub.alone by c.args.seen h later _ _ _ says
     (is, spends_waiting _ g.H.Hub.alone by _ _ _ c.change_reply.ensures.asked (AreViewings (Read (Ok (request.Change c.in-Ok-Change.change))) reply.Memory) refl h later is))) c.change_reply.ensures.refused
+
+pub query_reply-requires-clause-path : goal.query_reply-requires-clause-path
+query_reply-requires-clause-path g c =
+    let sound : IsSound c.args.settings.now.chunk (request.Query c.in-Ok-Query.query) = subst (IsSound c.args.settings.now.chunk) c.in-Ok-Query.field-0-is c.in-Ok-Query.ensures.sound in
+    path_asked c.in-Ok-Query.query.kind c.in-Ok-Query.query.path sound.3
 
 pub returns-in-Ok-Query-clause-replies : goal.returns-in-Ok-Query-clause-replies
 returns-in-Ok-Query-clause-replies g c =
