@@ -23,10 +23,10 @@ use Rattle.cq_tokfile.proofs.Fields.{IsBytes, IsReader, Takes, Takes-then, bind_
 -- ---- bytes that stand for a name
 
 -- a byte that is none of a chain's
-other : (b k : ℕ) → k < b → eqb b k ≡ false
+pub other : (b k : ℕ) → k < b → eqb b k ≡ false
 other b k lt = ne_eqb b k (λ e. omega (arith, lt, e))
 
-none_is : {A : Type 0} (x : A) → None ≡ Some x → ⊥
+pub none_is : {A : Type 0} (x : A) → None ≡ Some x → ⊥
 none_is x e = absurd cc
 
 class_again : (c : Class) → class_of (class_code c) ≡ Some c
@@ -144,11 +144,11 @@ place_again t rest short =
     let regrouped : place t ++ rest ≡ class_code t.class ∷ (to_be_bytes w32 t.start ++ (to_be_bytes w32 t.len ++ (to_be_bytes w32 t.first_line ++ (to_be_bytes w32 t.last_line ++ rest)))) = refl in
     ap place_at regrouped ∙ rw (class_again t.class, number32.again t.start (to_be_bytes w32 t.len ++ (to_be_bytes w32 t.first_line ++ (to_be_bytes w32 t.last_line ++ rest))) short.start, number32.again t.len (to_be_bytes w32 t.first_line ++ (to_be_bytes w32 t.last_line ++ rest)) short.len, number32.again t.first_line (to_be_bytes w32 t.last_line ++ rest) short.first, number32.again t.last_line rest short.last) refl
 
-both : (a b : Bool) → (a && b) ≡ true → (a ≡ true) × (b ≡ true)
+pub both : (a b : Bool) → (a && b) ≡ true → (a ≡ true) × (b ≡ true)
 both true b e = (refl, e)
 both false b e = absurd cc
 
-with_both : (a b : Bool) → a ≡ true → b ≡ true → (a && b) ≡ true
+pub with_both : (a b : Bool) → a ≡ true → b ≡ true → (a && b) ≡ true
 with_both true b e f = f
 with_both false b e f = absurd cc
 

@@ -5,11 +5,16 @@
 
 mod conditions;
 mod functions;
+mod laws;
 mod numbers;
 mod tokens;
 mod unread;
 
 pub use conditions::{put_condition, read_condition};
 pub use functions::{put_function, read_function, read_functions};
+pub use laws::{conditions_have_one_form, functions_have_one_form, tokens_have_one_form};
 pub use tokens::{put_token, read_token, read_tokens};
 pub use unread::Unread;
+
+#[cfg(test)]
+mod tests;

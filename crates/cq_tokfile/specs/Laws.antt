@@ -1,0 +1,18 @@
+-- What holds of the forms themselves.
+use Rattle.std.specs.Prelude.{◌≡◌, ◌<◌, ◌^◌, ℕ, List, ◌++◌}
+use Rattle.cq_base.specs.declared.settings.Settings.{Settings}
+use Rattle.cq_tokfile.specs.Spelling.{condition, token, function, counted}
+use Rattle.cq_tokfile.specs.Sound.{IsSoundCondition, IsSoundToken, IsSoundFunction, AreCounted}
+
+-- Each sound value has one form, and no form begins another's, whatever follows.
+abbrev pub HasOneForm : {A : Type 0} → (A → List ℕ) → (A → Type 0) → Type 0
+HasOneForm {A = A} spell IsSound = (a b : A) (x y : List ℕ) → IsSound a → IsSound b → spell a ++ x ≡ spell b ++ y → (a ≡ b) × (x ≡ y)
+
+abbrev pub ConditionsHaveOneForm : Type 0
+ConditionsHaveOneForm = HasOneForm condition IsSoundCondition
+
+abbrev pub TokensHaveOneForm : Type 0
+TokensHaveOneForm = (settings : Settings) (lines : ℕ) → HasOneForm (counted token) (AreCounted (IsSoundToken settings lines))
+
+abbrev pub FunctionsHaveOneForm : Type 0
+FunctionsHaveOneForm = (lines : ℕ) → HasOneForm (counted function) (AreCounted (IsSoundFunction lines))

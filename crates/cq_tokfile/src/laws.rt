@@ -1,0 +1,16 @@
+ghost use Rattle.cq_tokfile.specs.Laws as law;
+
+/// Each condition has one form, and no form begins another's.
+pub fn conditions_have_one_form()
+    ensures { law.ConditionsHaveOneForm }
+{}
+
+/// Each list of tokens of one file has one form, and no form begins another's.
+pub fn tokens_have_one_form()
+    ensures { law.TokensHaveOneForm }
+{}
+
+/// Each list of functions of one file has one form, and no form begins another's.
+pub fn functions_have_one_form()
+    ensures { law.FunctionsHaveOneForm }
+{}
