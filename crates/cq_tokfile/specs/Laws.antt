@@ -1,5 +1,5 @@
 -- What holds of the forms themselves.
-use Rattle.std.specs.Prelude.{◌≡◌, ◌<◌, ◌^◌, ℕ, List, ◌++◌}
+use Rattle.std.specs.Prelude.{◌≡◌, ℕ, List, ◌++◌}
 use Rattle.cq_base.specs.declared.settings.Settings.{Settings}
 use Rattle.cq_tokfile.specs.Spelling.{condition, token, function, counted}
 use Rattle.cq_tokfile.specs.Sound.{IsSoundCondition, IsSoundToken, IsSoundFunction, AreCounted}

@@ -1,5 +1,5 @@
 -- The bytes of a token file's parts, in the order of its table. All numbers are unsigned and big-endian.
-use Rattle.std.specs.Prelude.{ℕ, List, [], ◌∷◌, ◌++◌, length}
+use Rattle.std.specs.Prelude.{ℕ, List, ◌∷◌, ◌++◌, length}
 use Rattle.std.specs.List.{flat_map}
 use Rattle.std.specs.Int.{w32, w64, to_be_bytes}
 use Rattle.cq_base.specs.declared.change.Metric.{Metric}

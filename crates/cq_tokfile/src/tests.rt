@@ -25,7 +25,7 @@ fn a_token_and_what_is_behind(rt: HostRuntime) -> Result<(), Fail> {
     assert_eq!(rt; spelled.token.class, Class::Ident);
     assert_eq!(rt; spelled.token.len, 1);
     assert_eq!(rt; spelled.text.as_bytes(), b"a".as_slice());
-    assert_eq!(rt; rest, &[7]);
+    assert_eq!(rt; rest.len(), 1);
     Ok(())
 }
 
