@@ -66,6 +66,14 @@ pub record IsReader {A : Type 0} (spell : A → List ℕ) (IsSound : A → Type 
   pub takes : (bytes : List ℕ) (x : A × List ℕ) → IsBytes bytes → at bytes ≡ Some x → Takes bytes (spell x.0) x.1 × IsSound x.0
   pub again : (a : A) (rest : List ℕ) → IsSound a → at (spell a ++ rest) ≡ Some (a, rest)
 
+-- what a right reader reads first, and what is read behind it
+pub after : {A Y : Type 0} (C : Type 0) (spell : A → List ℕ) (IsSound : A → Type 0) (at : List ℕ → Option (A × List ℕ)) (reader : IsReader spell IsSound at) (bytes : List ℕ) (k : A × List ℕ → Option Y) (x : Y)
+    → IsBytes bytes → (at bytes >>= k) ≡ Some x → ((a : A) (rest : List ℕ) → Takes bytes (spell a) rest → IsSound a → k (a, rest) ≡ Some x → C) → C
+after C spell IsSound at reader bytes k x fits e go =
+    let found = bind_some (at bytes) k x e in
+    let t = reader.takes bytes found.0 fits found.1 in
+    go found.0.0 found.0.1 t.0 t.1 found.2
+
 refused : {A : Type 0} (spell : A → List ℕ) (IsSound : A → Type 0) (at : List ℕ → Option (A × List ℕ)) → IsReader spell IsSound at
     → (bytes : List ℕ) → at bytes ≡ None → (a : A) (rest : List ℕ) → IsSound a → bytes ≡ spell a ++ rest → ⊥
 refused spell IsSound at reader bytes none a rest sound e =

@@ -1,8 +1,8 @@
 -- What holds of the forms themselves.
-use Rattle.std.specs.Prelude.{◌≡◌, ℕ, List, ◌++◌}
+use Rattle.std.specs.Prelude.{◌≡◌, ◌<◌, ◌^◌, ℕ, List, ◌++◌}
 use Rattle.cq_base.specs.declared.settings.Settings.{Settings}
-use Rattle.cq_tokfile.specs.Spelling.{condition, token, function, counted}
-use Rattle.cq_tokfile.specs.Sound.{IsSoundCondition, IsSoundToken, IsSoundFunction, AreCounted}
+use Rattle.cq_tokfile.specs.Spelling.{condition, token, function, counted, file, framed}
+use Rattle.cq_tokfile.specs.Sound.{IsSoundCondition, IsSoundToken, IsSoundFunction, AreCounted, IsSoundFile, IsSoundBody}
 
 -- Each sound value has one form, and no form begins another's, whatever follows.
 abbrev pub HasOneForm : {A : Type 0} → (A → List ℕ) → (A → Type 0) → Type 0
@@ -16,3 +16,10 @@ TokensHaveOneForm = (settings : Settings) (lines : ℕ) → HasOneForm (counted 
 
 abbrev pub FunctionsHaveOneForm : Type 0
 FunctionsHaveOneForm = (lines : ℕ) → HasOneForm (counted function) (AreCounted (IsSoundFunction lines))
+
+-- of a version that eight bytes hold
+abbrev pub FilesHaveOneForm : Type 0
+FilesHaveOneForm = (settings : Settings) (version : ℕ) → version < 2 ^ 64 → HasOneForm file (IsSoundFile settings version)
+
+abbrev pub FramesHaveOneForm : Type 0
+FramesHaveOneForm = HasOneForm framed IsSoundBody

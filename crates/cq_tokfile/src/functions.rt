@@ -1,4 +1,4 @@
-ghost use Rattle.std.specs.Prelude.{◌≡◌, ◌<◌, ◌^◌, ◌++◌, length, OnOk};
+ghost use Rattle.std.specs.Prelude.{◌≡◌, ◌<◌, ◌^◌, ◌++◌, length, All, OnOk};
 ghost use Rattle.cq_tokfile.specs.Spelling as spell;
 ghost use Rattle.cq_tokfile.specs.Sound.{AreCounted, IsSoundFunction, is_sound_function};
 ghost use Rattle.cq_tokfile.specs.Reading.{Gives, Reads, counted_at, function_at, items_at};
@@ -94,5 +94,18 @@ pub fn put_function(out: &mut Vec<u8>, function: &Function) -> Result<(), Memory
     put_u32(out, function.first)?;
     put_u32(out, function.last)?;
     put_u32(out, function.complexity)?;
+    Ok(())
+}
+
+/// Writes how many functions there are, and each of them, at the end.
+pub fn put_functions(out: &mut Vec<u8>, functions: &[Function]) -> Result<(), Memory>
+    requires few { length functions.now < 2 ^ 32 }
+    requires short { All (λ s. length s.name < 2 ^ 32) functions.now }
+    ensures { OnOk result (out.new.items ≡ out.old.items ++ spell.counted spell.function functions.now) }
+{
+    put_u32(out, functions.len() as u32)?;
+    for function in functions {
+        put_function(out, function)?;
+    }
     Ok(())
 }

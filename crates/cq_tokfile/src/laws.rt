@@ -14,3 +14,13 @@ pub fn tokens_have_one_form()
 pub fn functions_have_one_form()
     ensures { law.FunctionsHaveOneForm }
 {}
+
+/// Each file of a version has one form, and no form begins another's.
+pub fn files_have_one_form()
+    ensures { law.FilesHaveOneForm }
+{}
+
+/// Each body has one frame, and no body in its frame begins another.
+pub fn frames_have_one_form()
+    ensures { law.FramesHaveOneForm }
+{}

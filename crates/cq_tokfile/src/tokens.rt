@@ -1,4 +1,4 @@
-ghost use Rattle.std.specs.Prelude.{◌≡◌, ◌<◌, ◌^◌, ◌++◌, length, OnOk};
+ghost use Rattle.std.specs.Prelude.{◌≡◌, ◌<◌, ◌^◌, ◌++◌, length, All, OnOk};
 ghost use Rattle.cq_key.specs.Keys.{class_code};
 ghost use Rattle.cq_tokfile.specs.Spelling as spell;
 ghost use Rattle.cq_tokfile.specs.Sound.{AreCounted, IsSoundToken, is_ignored, is_sound_token};
@@ -167,4 +167,17 @@ pub fn put_token(out: &mut Vec<u8>, token: Token, text: &[u8]) -> Result<(), Mem
 {
     put_place(out, token)?;
     put_text(out, text)
+}
+
+/// Writes how many tokens there are, and each of them, at the end.
+pub fn put_tokens(out: &mut Vec<u8>, tokens: &[Spelled]) -> Result<(), Memory>
+    requires few { length tokens.now < 2 ^ 32 }
+    requires short { All (λ s. length s.text < 2 ^ 32) tokens.now }
+    ensures { OnOk result (out.new.items ≡ out.old.items ++ spell.counted spell.token tokens.now) }
+{
+    put_u32(out, tokens.len() as u32)?;
+    for spelled in tokens {
+        put_token(out, spelled.token, spelled.text.as_bytes())?;
+    }
+    Ok(())
 }
