@@ -2,6 +2,6 @@ mod Fields
 mod Records
 mod Counted
 mod Appended
-mod Files
+mod FileForms
 mod Framed
 mod Heads

@@ -1,8 +1,8 @@
 -- What holds of the forms themselves.
 use Rattle.std.specs.Prelude.{◌≡◌, ◌<◌, ◌^◌, ℕ, List, ◌++◌}
 use Rattle.cq_base.specs.declared.settings.Settings.{Settings}
-use Rattle.cq_tokfile.specs.Spelling.{condition, token, function, counted, file, framed}
-use Rattle.cq_tokfile.specs.Sound.{IsSoundCondition, IsSoundToken, IsSoundFunction, AreCounted, IsSoundFile, IsSoundBody}
+use Rattle.cq_tokfile.specs.Spelling.{head, condition, token, function, counted, file, framed}
+use Rattle.cq_tokfile.specs.Sound.{IsSoundCondition, IsSoundToken, IsSoundFunction, AreCounted, IsSoundFile, IsSoundBody, IsSoundHead}
 
 -- Each sound value has one form, and no form begins another's, whatever follows.
 abbrev pub HasOneForm : {A : Type 0} → (A → List ℕ) → (A → Type 0) → Type 0
@@ -23,3 +23,6 @@ FilesHaveOneForm = (settings : Settings) (version : ℕ) → version < 2 ^ 64 �
 
 abbrev pub FramesHaveOneForm : Type 0
 FramesHaveOneForm = HasOneForm framed IsSoundBody
+
+abbrev pub HeadsHaveOneForm : Type 0
+HeadsHaveOneForm = (settings : Settings) → HasOneForm (head settings) (IsSoundHead settings)

@@ -1,11 +1,12 @@
-ghost use Rattle.std.specs.Prelude.{◌≡◌, ◌++◌, OnOk};
+ghost use Rattle.std.specs.Prelude.{◌≡◌, ◌<◌, ◌^◌, ◌++◌, length, OnOk};
 ghost use Rattle.cq_tokfile.specs.Spelling as spell;
-ghost use Rattle.cq_tokfile.specs.Sound.{IsSoundCondition};
-ghost use Rattle.cq_tokfile.specs.Reading.{Gives, Reads, metric_of, compare_of, condition_at};
+ghost use Rattle.cq_tokfile.specs.Sound.{AreCounted, IsSoundCondition};
+ghost use Rattle.cq_tokfile.specs.Reading.{Gives, Reads, metric_of, compare_of, condition_at, counted_at, items_at};
 
-use crate::numbers::{u8_at, u64_at};
+use crate::numbers::{put_u32, u8_at, u32_at, u64_at};
 use crate::unread::Unread;
 use cq_base::{Compare, Condition, Memory, Metric};
+use std::alloc::Global;
 
 fn metric_of(byte: u8) -> Option<Metric>
     ensures { result ≡ metric_of byte }
@@ -83,5 +84,46 @@ pub fn put_condition(out: &mut Vec<u8>, condition: &Condition) -> Result<(), Mem
     out.push(metric_byte(condition.metric))?;
     out.push(compare_byte(condition.op))?;
     out.extend_from_slice(&condition.error.to_be_bytes())?;
+    Ok(())
+}
+
+// So many conditions, one behind the other. No memory is taken ahead of them.
+fn conditions_at(alloc: Global, count: u32, bytes: &[u8]) -> Result<(Vec<Condition>, &[u8]), Unread>
+    ensures { Gives (λ x. (x.0.items, x.1.now)) result (items_at condition_at count bytes.now) }
+{
+    let mut conditions = Vec::new(alloc);
+    let mut rest = bytes;
+    for _ in 0..count {
+        let (condition, after) = condition_of(rest)?;
+        conditions.push(condition)?;
+        rest = after;
+    }
+    Ok((conditions, rest))
+}
+
+#[tactic(auto, unfolding(crate::specs::Reading::counted_at))]
+fn conditions_of(alloc: Global, bytes: &[u8]) -> Result<(Vec<Condition>, &[u8]), Unread>
+    ensures { Gives (λ x. (x.0.items, x.1.now)) result (counted_at condition_at bytes.now) }
+{
+    let (count, rest) = u32_at(bytes)?;
+    conditions_at(alloc, count, rest)
+}
+
+/// The list of conditions at the front, and the bytes behind it.
+pub fn read_conditions(alloc: Global, bytes: &[u8]) -> Result<(Vec<Condition>, &[u8]), Unread>
+    ensures reads { Reads (spell.counted spell.condition) (AreCounted IsSoundCondition) (λ x. (x.0.items, x.1.now)) bytes.now result }
+{
+    conditions_of(alloc, bytes)
+}
+
+/// Writes how many conditions there are, and each of them, at the end.
+pub fn put_conditions(out: &mut Vec<u8>, conditions: &[Condition]) -> Result<(), Memory>
+    requires { length conditions.now < 2 ^ 32 }
+    ensures { OnOk result (out.new.items ≡ out.old.items ++ spell.counted spell.condition conditions.now) }
+{
+    put_u32(out, conditions.len() as u32)?;
+    for condition in conditions {
+        put_condition(out, condition)?;
+    }
     Ok(())
 }

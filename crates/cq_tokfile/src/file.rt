@@ -104,7 +104,7 @@ fn is_sound(version: u64, file: &FileRecord) -> bool
 }
 
 #[tactic(auto, unfolding(crate::specs::Reading::file_at))]
-fn file_of<'a>(
+pub(crate) fn file_of<'a>(
     alloc: Global,
     settings: &Settings,
     version: u64,

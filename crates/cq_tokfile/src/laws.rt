@@ -24,3 +24,8 @@ pub fn files_have_one_form()
 pub fn frames_have_one_form()
     ensures { law.FramesHaveOneForm }
 {}
+
+/// Each head has one form under given settings, and no form begins another's.
+pub fn heads_have_one_form()
+    ensures { law.HeadsHaveOneForm }
+{}

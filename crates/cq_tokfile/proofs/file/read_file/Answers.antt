@@ -3,7 +3,7 @@ use Rattle.cq_tokfile.specs.Spelling.{file, recorded}
 use Rattle.cq_tokfile.specs.Sound.{IsSoundFile}
 use Rattle.cq_tokfile.specs.Reading.{file_at}
 use Rattle.cq_tokfile.proofs.Fields.{reads}
-use Rattle.cq_tokfile.proofs.Files.{files}
+use Rattle.cq_tokfile.proofs.FileForms.{files}
 use Rattle.cq_tokfile.proofs.file.read_file.Goals as goal
 
 pub returns : goal.returns
