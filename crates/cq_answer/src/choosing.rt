@@ -2,7 +2,7 @@ ghost use Rattle.std.specs.Prelude.{◌≡◌, ◌≤◌, ◌<◌, length, All, 
 ghost use Rattle.std.specs.List.Sorted.{IsStrictlyIncreasing};
 ghost use Rattle.cq_answer.specs.Parts.{IsPattern, chooses_all};
 ghost use Rattle.cq_answer.specs.Works.{works_in, chosen_in};
-ghost use Rattle.cq_scope.specs.Chosen.{chosen};
+ghost use Rattle.cq_scope.specs.Chosen as spec;
 
 use cq_base::{Memory, Text};
 use cq_projects::Held;
@@ -57,7 +57,7 @@ pub(crate) fn chosen_by<L: Ledger>(
 ) -> Result<Vec<u32>, Memory>
     requires few { length files.now ≤ 262144 }
     requires scope { IsPattern query.now.scope }
-    ensures chosen { IfOk result (λ v. v.items ≡ chosen query.now.scope query.now.since (works_in files.now)) }
+    ensures chosen { IfOk result (λ v. v.items ≡ spec.chosen query.now.scope query.now.since (works_in files.now)) }
     ensures ascending { IfOk result (λ v. IsStrictlyIncreasing v.items) }
     ensures inside { IfOk result (λ v. All (λ i. i < length files.now) v.items) }
 {

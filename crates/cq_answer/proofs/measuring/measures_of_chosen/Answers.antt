@@ -1,4 +1,5 @@
 use Rattle.std.proofs.Common.{◌≡◌, ◌<◌, ◌∙◌, ℕ, List, length, All, sym, ap, ap₂, subst, arith}
+use Rattle.std.specs.List.Sorted.{IsStrictlyIncreasing}
 use Rattle.std.proofs.lemmas.List.{length-map}
 use Rattle.std.proofs.lemmas.Result.{IfOk-weaker}
 use Rattle.cq_base.specs.declared.measures.FileCounts.{FileCounts}
@@ -9,8 +10,8 @@ use Rattle.cq_answer.proofs.Chosen.{chosen_numbers}
 use Rattle.cq_answer.proofs.Rows.{told_many}
 use Rattle.cq_answer.proofs.measuring.measures_of_chosen.Goals as goal
 
-pub chosen_by-chosen-requires-clause-few : goal.chosen_by-chosen-requires-clause-few
-chosen_by-chosen-requires-clause-few g c =
+pub chosen_by-requires-clause-few : goal.chosen_by-requires-clause-few
+chosen_by-requires-clause-few g c =
     let many = told_many (λ f. f.body.counts) c.args.files.now in
     omega (arith, many, c.requires.measurable.few)
 
@@ -20,6 +21,9 @@ chosen_measures-requires-clause-measurable g c =
     let spans = ap spans_of c.deref.ensures.value ∙ c.in_ok-lines_of.ensures.spans in
     subst (λ (cs : List FileCounts). IsMeasurable cs (spans_of c.deref.result.now) c.args.groups.now) (sym counts)
     (subst (λ (ss : List (List Token)). IsMeasurable (facts_in (works_in c.args.files.now)).counts ss c.args.groups.now) (sym spans) c.requires.measurable)
+
+pub chosen_measures-requires-clause-ascending : goal.chosen_measures-requires-clause-ascending
+chosen_measures-requires-clause-ascending g c = subst IsStrictlyIncreasing (sym c.deref-2.ensures.value) c.in_ok-chosen.ensures.ascending
 
 pub chosen_measures-requires-clause-inside : goal.chosen_measures-requires-clause-inside
 chosen_measures-requires-clause-inside g c =
