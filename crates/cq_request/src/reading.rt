@@ -66,6 +66,24 @@ fn min_passes(settings: &Settings, value: &Value) -> bool
     }
 }
 
+fn has_path(value: &Value) -> bool
+    ensures { result ≡ is_some (members.text_at (codes "path") (view value.now)) }
+{
+    match text_at(value, "path") {
+        Some(_) => true,
+        None => false,
+    }
+}
+
+fn scope_passes(value: &Value) -> bool
+    ensures { result ≡ spec.scope_passes (view value.now) }
+{
+    match text_at(value, "scope") {
+        Some(scope) => is_path(scope) && !has_path(value),
+        None => true,
+    }
+}
+
 fn value_refused(settings: &Settings, value: &Value) -> Option<Refusal>
     ensures refused { result ≡ spec.value_refused settings.now.chunk (view value.now) }
     ensures named { IfSome result IsSoundRefusal }
@@ -81,6 +99,9 @@ fn value_refused(settings: &Settings, value: &Value) -> Option<Refusal>
     }
     if !min_passes(settings, value) {
         return Some(Refusal::Min);
+    }
+    if !scope_passes(value) {
+        return Some(Refusal::Scope);
     }
     None
 }
@@ -113,12 +134,12 @@ fn text_or(alloc: Global, value: &Value, key: &str) -> Result<Text, Memory>
     }
 }
 
-fn path_at(alloc: Global, value: &Value) -> Result<Option<Text>, Memory>
-    ensures path { IfOk result (λ p. p ≡ members.text_at (codes "path") (view value.now)) }
-    ensures utf8 { IfOk result (λ p. IfSome p IsUtf8) }
+fn copied_at(alloc: Global, value: &Value, key: &str) -> Result<Option<Text>, Memory>
+    ensures text { IfOk result (λ t. t ≡ members.text_at key.now (view value.now)) }
+    ensures utf8 { IfOk result (λ t. IfSome t IsUtf8) }
 {
-    match text_at(value, "path") {
-        Some(path) => Ok(Some(Text::from_bytes(alloc, path.as_bytes())?)),
+    match text_at(value, key) {
+        Some(text) => Ok(Some(Text::from_bytes(alloc, text.as_bytes())?)),
         None => Ok(None),
     }
 }
@@ -160,10 +181,12 @@ fn query_of(alloc: Global, settings: &Settings, kind: Kind, value: &Value) -> Re
     Ok(Query {
         kind,
         project: text_or(alloc, value, "project")?,
-        path: path_at(alloc, value)?,
+        path: copied_at(alloc, value, "path")?,
         min: min_or(settings, value),
         at: number_at(value, "at").unwrap_or(0),
         finish: flag_at(value, "finish").unwrap_or(true),
+        scope: copied_at(alloc, value, "scope")?,
+        since: number_at(value, "since").unwrap_or(0),
     })
 }
 
