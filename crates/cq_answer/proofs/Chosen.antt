@@ -39,14 +39,16 @@ chosen_numbers {L} files q = ap (λ n. filter (chosen_in files q) (range_with_le
 put_later : (since number : ℕ) → since ≡ 0 → 0 < number → (nat_lt since number && true) ≡ true
 put_later since number first put = ap (λ (b : Bool). b && true) (lt-ltb since number (omega (arith, first, put)))
 
+-- without a scope, and from 0 on
+each_put : {X : Type 0} (since : ℕ) → since ≡ 0 → (files : List (File X)) (i : ℕ) → All (λ n. 0 < n) (map (λ (f : File X). f.number) files) → i < length files → is_chosen_at None since files i ≡ true
+each_put since first [] i numbered within = absurd (omega (arith, within))
+each_put {X} since first (f ∷ files) zero numbered within = put_later since f.number first (All-head (λ n. 0 < n) f.number (map (λ (g : File X). g.number) files) numbered)
+each_put {X} since first (f ∷ files) (suc i) numbered within = each_put since first files i (All-tail (λ n. 0 < n) f.number (map (λ (g : File X). g.number) files) numbered) (omega (arith, within))
+
 each_chosen : {X : Type 0} (scope : Option (List ℕ)) (since : ℕ) → chooses_all scope since ≡ true → (files : List (File X)) (i : ℕ) → All (λ n. 0 < n) (map (λ (f : File X). f.number) files) → i < length files
     → is_chosen_at scope since files i ≡ true
 each_chosen (Some s) since all files i numbered within = let bad : false ≡ true = all in absurd (cc)
-each_chosen None since all [] i numbered within = absurd (omega (arith, within))
-each_chosen {X} None since all (f ∷ files) zero numbered within =
-    put_later since f.number (same_number since 0 all) (All-head (λ n. 0 < n) f.number (map (λ (g : File X). g.number) files) numbered)
-each_chosen {X} None since all (f ∷ files) (suc i) numbered within =
-    each_chosen None since all files i (All-tail (λ n. 0 < n) f.number (map (λ (g : File X). g.number) files) numbered) (omega (arith, within))
+each_chosen None since all files i numbered within = each_put since (same_number since 0 all) files i numbered within
 
 all_kept : (is : ℕ → Bool) (xs : List ℕ) → All (λ x. is x ≡ true) xs → filter is xs ≡ xs
 all_kept is [] pass = refl

@@ -3,7 +3,7 @@ ghost use Rattle.cq_measures.specs.Measures.{counts_of, spans_of, project_measur
 ghost use Rattle.cq_answer.specs.Parts.{IsPattern, IsWithin};
 ghost use Rattle.cq_answer.specs.Rows as spec;
 ghost use Rattle.cq_answer.specs.Works.{works_in, work_in, facts_in, chosen_in, AreNumbered};
-ghost use Rattle.cq_answer.specs.declared.part.Part.TheVariants as parts;
+ghost use Rattle.cq_answer.specs.declared.part.Part.TheVariants as variant;
 
 use crate::choosing::{chosen_by, is_counted, is_of_all};
 use crate::file::work_of;
@@ -78,7 +78,7 @@ fn measures_of_chosen<L: Ledger>(
 ) -> Result<Measures, Memory>
     requires scope { IsPattern query.now.scope }
     requires measurable { spec.AreShowable (facts_in (works_in files.now)) groups.now }
-    ensures { IfOk result (λ m. m ≡ spec.measures_of (facts_in (works_in files.now)) groups.now (chosen_in (works_in files.now) query.now) parts.Whole) }
+    ensures { IfOk result (λ m. m ≡ spec.measures_of (facts_in (works_in files.now)) groups.now (chosen_in (works_in files.now) query.now) variant.Whole) }
 {
     let chosen = chosen_by(alloc, files, query)?;
     chosen_measures(alloc, &lines_of(alloc, files)?, &chosen, groups)
@@ -95,7 +95,7 @@ fn measures_of_whole<R: Threads + Sync, L: Ledger>(
     requires scope { IsPattern query.now.scope }
     requires numbered { AreNumbered (works_in files.now) }
     requires measurable { spec.AreShowable (facts_in (works_in files.now)) groups.now }
-    ensures { IfOk result (λ m. m ≡ spec.measures_of (facts_in (works_in files.now)) groups.now (chosen_in (works_in files.now) query.now) parts.Whole) }
+    ensures { IfOk result (λ m. m ≡ spec.measures_of (facts_in (works_in files.now)) groups.now (chosen_in (works_in files.now) query.now) variant.Whole) }
 {
     if is_of_all(query) {
         measures_of_all(rt, alloc, files, groups)
@@ -129,7 +129,7 @@ fn measures_of_file<L: Ledger>(
     requires within { file < length files.now }
     requires scope { IsPattern query.now.scope }
     requires measurable { spec.AreShowable (facts_in (works_in files.now)) groups.now }
-    ensures { IfOk result (λ m. m ≡ spec.measures_of (facts_in (works_in files.now)) groups.now (chosen_in (works_in files.now) query.now) (parts.File file)) }
+    ensures { IfOk result (λ m. m ≡ spec.measures_of (facts_in (works_in files.now)) groups.now (chosen_in (works_in files.now) query.now) (variant.File file)) }
 {
     let is_chosen = is_counted(alloc, files, query, file)?;
     if is_chosen {

@@ -1,4 +1,4 @@
-ghost use Rattle.std.specs.Prelude.{◌≡◌, ◌≤◌, Some, IfOk, IfErr, IfSome, true, codes, length, None, is_some};
+ghost use Rattle.std.specs.Prelude.{◌≡◌, ◌≤◌, ◌&&◌, Some, IfOk, IfErr, IfSome, true, not, codes, length, None, is_some};
 ghost use Rattle.std.specs.Str.{IsUtf8};
 ghost use Rattle.serde_json.specs.View.{view};
 ghost use Rattle.cq_request.specs.Members as members;
@@ -75,11 +75,18 @@ fn has_path(value: &Value) -> bool
     }
 }
 
+// Whether a scope is a path, and stands beside none.
+fn is_lone_path(scope: &str, value: &Value) -> bool
+    ensures { result ≡ (text.is_path scope.now && not (is_some (members.text_at (codes "path") (view value.now)))) }
+{
+    is_path(scope) && !has_path(value)
+}
+
 fn scope_passes(value: &Value) -> bool
     ensures { result ≡ spec.scope_passes (view value.now) }
 {
     match text_at(value, "scope") {
-        Some(scope) => is_path(scope) && !has_path(value),
+        Some(scope) => is_lone_path(scope, value),
         None => true,
     }
 }
@@ -178,14 +185,16 @@ fn query_of(alloc: Global, settings: &Settings, kind: Kind, value: &Value) -> Re
     ensures query { IfOk result (λ q. q ≡ spec.query_of settings.now.chunk kind (view value.now)) }
     ensures sound { IfOk result (IsSoundQuery settings.now.chunk) }
 {
+    let path = copied_at(alloc, value, "path")?;
+    let scope = copied_at(alloc, value, "scope")?;
     Ok(Query {
         kind,
         project: text_or(alloc, value, "project")?,
-        path: copied_at(alloc, value, "path")?,
+        path,
         min: min_or(settings, value),
         at: number_at(value, "at").unwrap_or(0),
         finish: flag_at(value, "finish").unwrap_or(true),
-        scope: copied_at(alloc, value, "scope")?,
+        scope,
         since: number_at(value, "since").unwrap_or(0),
     })
 }
