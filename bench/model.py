@@ -66,12 +66,34 @@ class History:
         if query["op"] == "groups":
             found = [it for it in groups(files, query["min"]) if "path" not in query or query["path"] in paths(it)]
             return {"groups": found, "ok": True, "total": len(found), "version": version}
-        told = measures(files, query["min"], query.get("path"))
+        told = measures(files, query["min"], {it.path for it in files if is_chosen(query, it)})
         if query["op"] == "measures":
             return {"measures": told, "ok": True, "version": version}
         conditions = enumerate(self.conditions(query["project"], version))
         failed = [at for at, it in conditions if is_met(told[it["metric"]], it)]
         return {"failed": failed, "ok": True, "verdict": "ERROR" if failed else "OK", "version": version}
+
+
+def is_chosen(query, file):
+    """Whether a file's measures are asked for: it stands at the path, fits the scope, and was put behind `since`."""
+    return query.get("path") in (None, file.path) and file.change > query.get("since", 0) and (
+        "scope" not in query or fits(query["scope"], file.path))
+
+
+def fits(pattern, path):
+    """Whether a path fits a pattern, part by part, and a part of it a part of that, character by character."""
+    def part_fits(part, name):
+        return follows(part, name, lambda symbol: symbol == "*", lambda symbol, c: symbol in ("?", c))
+    return follows(pattern.split("/"), path.split("/"), lambda part: part == "**", part_fits)
+
+
+def follows(wanted, given, is_star, is_one):
+    """What is wanted stands in a list: a star for any of its elements, anything else for one."""
+    if not wanted:
+        return not given
+    if is_star(wanted[0]):
+        return any(follows(wanted[1:], given[at:], is_star, is_one) for at in range(len(given) + 1))
+    return bool(given) and is_one(wanted[0], given[0]) and follows(wanted[1:], given[1:], is_star, is_one)
 
 
 def is_met(measure, condition):
@@ -146,11 +168,11 @@ def place(path, numbers, at, size):
     return {"at": at, "first": numbers[at], "last": numbers[at + size - 1], "path": path}
 
 
-def measures(files, least, path=None):
-    """The measures of all files, or of the one at a path, with the groups of all."""
+def measures(files, least, chosen):
+    """The measures of the files at the chosen paths, with the groups of all."""
     blocks = {(it["path"], it["first"], it["last"]) for group in groups(files, least) for it in group["places"]}
-    blocks = {it for it in blocks if path in (None, it[0])}
-    counted = [it for it in files if path in (None, it.path)]
+    blocks = {it for it in blocks if it[0] in chosen}
+    counted = [it for it in files if it.path in chosen]
     covered = {(file, line) for file, first, last in blocks for line in range(first, last + 1)}
     total = sum(lines(it.text) for it in counted)
     decided = sum(1 + sum(word in DECISIONS[it.lang] for _, word in tokens(it)[0]) for it in counted)

@@ -47,6 +47,7 @@ PART = 15.0
 AT_ONCE = 4
 SHARED, LEFT, HALF = "shared", "left", "half"
 WORDS = [f"w{number}" for number in range(9)] + ["if", "for", "begin"]
+SCOPES = ["**", "d/*", "d/f?", "**/f1", "*/f*2", "d/**/f3", "d", "none/**"]
 METRICS = ["complexity", "duplicated_blocks", "duplicated_lines_density", "files", "lines", "ncloc"]
 
 
@@ -79,6 +80,8 @@ BROKEN = [
     (b'{"op":"put","project":"p","path":"a","lang":"rust","text":""}\n', refusal(4, "lang")),
     (b'{"op":"put","project":"p","path":"a//b","lang":"any","text":""}\n', refusal(5, "path")),
     (b'{"op":"groups","project":"p","min":1}\n', refusal(7, "min")),
+    (b'{"op":"verdict","project":"p","scope":"a//b"}\n', refusal(15, "scope")),
+    (b'{"op":"measures","project":"p","path":"a","scope":"a"}\n', refusal(15, "scope")),
 ]
 # The same for lines of 8 MiB, by what makes them.
 LARGE = {
@@ -113,6 +116,10 @@ class Client:
 
     # ---- requests, each with a check of its reply
 
+    def since(self):
+        """Mostly nothing, and else a version, one of the last ones."""
+        return self.drawn.choice([{}, {}, {"since": max(0, self.told - self.drawn.randrange(40))}])
+
     def ask(self, kind):
         draw = self.drawn
         project = draw.choice([self.project, SHARED])
@@ -130,10 +137,14 @@ class Client:
             return {**query, "conditions": conditions}, lambda it: self.change(it, Change(project, None, conditions=conditions))
         if kind == "files":
             return query, lambda it: self.answer(query, it)
-        if kind in ("measures", "verdict", "groups"):
+        if kind == "groups":
             return {**query, **least}, lambda it: self.answer({**query, **least}, it)
+        if kind in ("measures", "verdict"):
+            query = {**query, **least, **draw.choice([{}, {}, {"scope": draw.choice(SCOPES)}]), **self.since()}
+            return query, lambda it: self.answer(query, it)
         if kind == "path":
-            query = {**query, "op": draw.choice(["groups", "measures"]), "path": path, **least}
+            op = draw.choice(["groups", "measures"])
+            query = {**query, "op": op, "path": path, **least, **(self.since() if op == "measures" else {})}
             return query, lambda it: self.answer(query, it)
         if kind == "pending":
             at = draw.randrange(self.told + 1)

@@ -65,6 +65,7 @@ REFUSALS = {
     "min": "--min is below the server's --chunk, or above 100,000",
     "path": "its path is none that the server takes",
     "pending": "the server still has uploads to read",
+    "scope": "--scope has not the form of a path",
 }
 
 
@@ -356,14 +357,19 @@ def puts(folder: Path, project: str, choice: Choice, notes: Notes) -> Iterator[d
 
 class State:
     """What the calls before put in one project of one server: of each path the hash of its text, and the change that put
-    it. It stands in a file with that of other projects and servers."""
+    it; and by scope, or "" where there was none, the version of the last verdict that was OK. It stands in a file with that
+    of other projects and servers."""
 
     def __init__(self, file: Path, server: str, project: str, notes: Notes) -> None:
         self.file = file
         try:
             everything = json.loads(file.read_text(encoding="utf-8"))
             self.files = everything.setdefault(server, {}).setdefault(project, {})
+            # no server is called so: its name has a colon
+            self.passed = everything.setdefault("passed", {}).setdefault(server, {}).setdefault(project, {})
             if not all(isinstance(entry["hash"], str) and isinstance(entry["change"], int) for entry in self.files.values()):
+                raise ValueError
+            if not all(isinstance(version, int) and version >= 0 for version in self.passed.values()):
                 raise ValueError
             self.everything = everything
         except FileNotFoundError:
@@ -376,7 +382,8 @@ class State:
 
     def reset(self, server: str, project: str) -> None:
         self.files: dict[str, dict[str, Any]] = {}
-        self.everything = {server: {project: self.files}}
+        self.passed: dict[str, int] = {}
+        self.everything = {server: {project: self.files}, "passed": {server: {project: self.passed}}}
 
     def keep(self) -> None:
         """Writes the file anew. A call that is ended meanwhile leaves the one before."""
@@ -393,6 +400,7 @@ class Upload(NamedTuple):
     texts: dict[str, str]
     unchanged: set[str]
     dropped: int
+    state: State | None
 
     def changed(self) -> list[str]:
         """The files that were put, in the order of their paths."""
@@ -451,7 +459,7 @@ def upload(server: Server, project: str, requests: Iterable[dict[str, Any]], sta
         notes.clear()
         if state:
             state.keep()
-    return Upload(texts, unchanged, dropped)
+    return Upload(texts, unchanged, dropped, state)
 
 
 def faults(files: dict[str, dict[str, Any]], texts: dict[str, str]) -> list[str]:
@@ -740,6 +748,13 @@ def parser() -> Words:
         if command in ("verdict", "report"):
             one.add_argument("--gate", metavar="CONDITION", type=condition, action="append", default=[],
                              help=f"what makes the verdict ERROR, as '{DENSITY}>3' (in percent) or 'lines>5000'; repeatable")
+        if command in ("measures", "verdict"):
+            one.add_argument("--scope", metavar="PATTERN", help="of the files alone whose path fits, as 'src/**/*.java'")
+            one.add_argument("--since", metavar="N", type=number_up_to(GREATEST_NUMBER),
+                             help="of the files alone that a change above N put")
+        if command == "verdict":
+            one.add_argument("--new", action="store_true",
+                             help="of the files alone that were put since the last verdict with this state that was OK")
         if command in ("groups", "measures", "verdict"):
             one.add_argument("--json", action="store_true", help="print the reply's line as it came")
         add_folder_words(one)
@@ -787,6 +802,13 @@ def check(words: Words, options: argparse.Namespace) -> None:
             words.error("a --gate is needed where no server is named by --addr")
         if options.chunk and least and least < options.chunk:
             words.error("--min is below --chunk")
+    if getattr(options, "scope", None) is not None and getattr(options, "path", None):
+        words.error("--scope and --path don't go together")
+    if getattr(options, "new", False):
+        if not options.addr or not options.folder:
+            words.error("--new goes with DIR and --addr")
+        if options.since:
+            words.error("--new and --since don't go together")
     if len(getattr(options, "gate", [])) > MOST_CONDITIONS:
         words.error(f"a gate has at most {MOST_CONDITIONS} conditions")
 
@@ -823,7 +845,30 @@ def query(options: argparse.Namespace, op: str) -> dict[str, Any]:
         request["min"] = options.min
     if getattr(options, "path", None):
         request["path"] = options.path
+    if getattr(options, "scope", None) is not None:
+        request["scope"] = options.scope
+    if getattr(options, "since", None):
+        request["since"] = options.since
     return request
+
+
+def fits(scope: str, path: str) -> bool:
+    """Whether a path fits a pattern as the server has it: `**` stands for any parts, `*` for any characters of one."""
+    def form(part: str) -> str:
+        symbols = {"*": "[^/]*", "?": "[^/]"}
+        return "(?:[^/]+/)*" if part == "**" else "".join(symbols.get(c) or re.escape(c) for c in part) + "/"
+    return re.fullmatch("".join(map(form, scope.split("/"))), path + "/", re.DOTALL) is not None
+
+
+def last_passed(server: Server, put: Upload, options: argparse.Namespace, notes: Notes) -> int:
+    """The version of the last verdict of this scope that was OK, and 0 where there is none. Where no file stands any more as
+    the state has it, or there is no such version, the server may have begun anew, and all that it has is new."""
+    version = put.state.passed.get(options.scope or "", 0) if put.state and put.unchanged else 0
+    if version > member(server.answer({"op": "state"}).members, "accepted", int):
+        version = 0
+    if not version:
+        notes.tell("no verdict before this one is known to be OK, so all files are judged")
+    return version
 
 
 def set_gate(server: Server, options: argparse.Namespace) -> None:
@@ -881,10 +926,13 @@ def tell_functions(functions: list[Function]) -> None:
         print(f"  {function.complexity:>{width}}  {shown(function.name)}  {function.place}")
 
 
-def tell_answer(server: Server, options: argparse.Namespace) -> int:
-    """Asks what the command is called, and tells the answer."""
+def tell_answer(server: Server, options: argparse.Namespace, put: Upload, notes: Notes) -> int:
+    """Asks what the command is called, and tells the answer. A verdict that is OK is kept in the state, but for one that
+    --since names the version of."""
     if options.command == "verdict":
         set_gate(server, options)
+        if options.new:
+            options.since = last_passed(server, put, options, notes)
     reply = server.ask(query(options, options.command))
     if options.json:
         sys.stdout.write(reply.line.decode("utf-8"))
@@ -899,6 +947,9 @@ def tell_answer(server: Server, options: argparse.Namespace) -> int:
         else:
             measures = measures_beside(server.answer(query(options, "measures")), reply) if failed else {}
             tell_verdict(failed, options.gate, measures)
+    if options.command == "verdict" and failed is None and put.state and not notes.left_out and (options.new or not options.since):
+        put.state.passed[options.scope or ""] = member(reply.members, "version", int)
+        put.state.keep()
     return FINE if failed is None else IS_ERROR
 
 
@@ -936,7 +987,7 @@ def run(options: argparse.Namespace, notes: Notes) -> int:
     if options.folder and not options.folder.is_dir():
         raise Fault(f"{options.folder} is no folder")
     with server_of(options) as server:
-        put = Upload({}, set(), 0)
+        put = Upload({}, set(), 0, None)
         if options.folder:
             put = put_folder(server, options, notes)
             if options.command == "put":
@@ -946,6 +997,8 @@ def run(options: argparse.Namespace, notes: Notes) -> int:
             raise Fault(f"project {options.project} has no file")
         if getattr(options, "path", None) and options.path not in files:
             raise Fault(f"no file stands at {options.path} in project {options.project}")
+        if getattr(options, "scope", None) and not any(fits(options.scope, path) for path in files):
+            raise Fault(f"no file of project {options.project} fits {options.scope}")
         told = faults(files, put.texts)
         for line in told:
             notes.tell(line)
@@ -956,7 +1009,7 @@ def run(options: argparse.Namespace, notes: Notes) -> int:
         if options.command == "report":
             status = write_report(server, options, put, told, notes)
         elif options.command != "put":
-            status = tell_answer(server, options)
+            status = tell_answer(server, options, put, notes)
     if notes.left_out:
         notes.tell(f"{counted(len(notes.left_out), 'file')} left out, so this is not of the whole folder")
         return NOT_DONE

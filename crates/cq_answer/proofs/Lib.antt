@@ -3,6 +3,7 @@ pub mod FunctionLists
 pub mod WorkReadings
 pub mod SameReadings
 pub mod Inside
+pub mod Chosen
 pub mod Rows
 pub mod Listable
 pub mod Told

@@ -1,6 +1,6 @@
 -- What a query's reply rests on: files and conditions that are those of a version.
-use Rattle.std.proofs.Common.{◌≡◌, ℕ, zero, suc, ◌<◌, ◌≤◌, Option, List, [], ◌∷◌, length, get_or, map, refl, sym, ap, ap₂, ◌∙◌, subst, subst₂, arith}
-use Rattle.std.specs.Prelude.{◌≢◌, AllPairs, Contains}
+use Rattle.std.proofs.Common.{◌≡◌, ℕ, zero, suc, ◌<◌, ◌≤◌, Bool, Option, List, [], ◌∷◌, length, get_or, map, refl, sym, ap, ap₂, ◌∙◌, subst, subst₂, arith}
+use Rattle.std.specs.Prelude.{◌≢◌, All, AllPairs, Contains}
 use Rattle.std.specs.List.{AllByRecursion}
 use Rattle.std.specs.Str.{IsUtf8}
 use Rattle.std.proofs.lemmas.List.{length-map}
@@ -22,20 +22,22 @@ use Rattle.cq_reply.specs.Written.{IsFileText, IsPlaceText, IsGroupText, IsReply
 use Rattle.cq_request.specs.declared.request.Kind.{Kind}
 use Rattle.cq_request.specs.declared.request.Kind.TheVariants as kind
 use Rattle.cq_request.specs.declared.request.Query.{Query}
+use Rattle.cq_scope.specs.Chosen.{is_chosen_at}
 use Rattle.cq_work.specs.Work.{IsWorkOf}
 use Rattle.cq_work.specs.declared.work.Work.{Work}
 use Rattle.cq_answer.specs.declared.part.Part.{Part}
 use Rattle.cq_answer.specs.Parts.{part_of, AreGroupsOf, AreKeysOf, AreMostReads}
 use Rattle.cq_answer.specs.Questions.{AreAsked, IsMostRead}
 use Rattle.cq_answer.specs.Readings.{paths_read, corpus_read, keys_read}
-use Rattle.cq_answer.specs.Reply.{IsReply, part_read, reply_of}
+use Rattle.cq_answer.specs.Reply.{IsReply, part_read, chosen_read, reply_of}
 use Rattle.cq_answer.specs.Rows.{Facts, facts_read, place_row, group_row, AreShowable, AreFewFunctions}
 use Rattle.cq_answer.specs.Versions.{AreOfVersion, HaveVersion, AreListable}
-use Rattle.cq_answer.specs.Works.{paths_in, norms_in, keys_in, spans_in, row_of, facts_in}
-use Rattle.cq_answer.proofs.VersionFiles.{numbers_apart, few_files, paths_are_texts, few_conditions}
+use Rattle.cq_answer.specs.Works.{paths_in, norms_in, keys_in, spans_in, row_of, facts_in, chosen_in, AreNumbered}
+use Rattle.cq_answer.proofs.VersionFiles.{numbers_apart, numbers_positive, few_files, paths_are_texts, few_conditions}
 use Rattle.cq_answer.proofs.WorkReadings.{Reads, reads, as_many}
 use Rattle.cq_answer.proofs.SameReadings.{same_paths, same_corpus, same_keys}
 use Rattle.cq_answer.proofs.Inside.{groups_inside}
+use Rattle.cq_answer.proofs.Chosen.{same_choice}
 
 as_many_works : {L : Type 0} (set : Settings) (sources : List Source) (files : List (File (Work L))) → AreSameFiles (IsWorkOf set) sources files → length files ≡ length sources
 as_many_works set [] [] same = refl
@@ -73,13 +75,24 @@ module _ {L : Type 0} (set : Settings) (changes : List Change) (version : ℕ) (
   pub few_functions : AreFewFunctions (facts_in files)
   few_functions = found.few_functions
 
+  pub numbered : AreNumbered files
+  numbered = subst (All (λ n. 0 < n)) (sym found.numbers) (numbers_positive changes version project)
+
   -- ---- the reply
 
   facts_same : facts_in files ≡ facts_read found.readings
   facts_same = λ i. record { rows = found.rows i; paths = found.paths i; spans = found.spans i; counts = found.counts i; functions = found.functions i }
 
-  replies_same : (k : Kind) (p : Part) (groups : List Group) → reply_of (facts_in files) conditions version k p groups ≡ reply_of (facts_read found.readings) (conditions_at changes version project) version k p groups
-  replies_same k p groups = ap₂ (λ (facts : Facts) (all : List Condition). reply_of facts all version k p groups) facts_same are.conditions_are
+  choices_same : (q : Query) → chosen_in files q ≡ chosen_read found.readings q
+  choices_same q =
+      let same : chosen_in files q ≡ is_chosen_at q.scope q.since (files_at changes version project) = λ i n. same_choice (IsWorkOf set) q.scope q.since (files_at changes version project) files are.files_are n i in
+      same ∙ ap (λ (sources : List Source). is_chosen_at q.scope q.since sources) (sym found.are)
+
+  replies_same : (q : Query) (p : Part) (groups : List Group)
+      → reply_of (facts_in files) conditions version q.kind p (chosen_in files q) groups ≡ reply_of (facts_read found.readings) (conditions_at changes version project) version q.kind p (chosen_read found.readings q) groups
+  replies_same q p groups =
+      ap₂ (λ (facts : Facts) (all : List Condition). reply_of facts all version q.kind p (chosen_in files q) groups) facts_same are.conditions_are
+      ∙ ap (λ (is_chosen : ℕ → Bool). reply_of (facts_read found.readings) (conditions_at changes version project) version q.kind p is_chosen groups) (choices_same q)
 
   part_same : (k : Kind) (path : Option (List ℕ)) (p : Part) → p ≡ part_of (paths_in files) k path → p ≡ part_of (paths_read found.readings) k path
   part_same k path p is = is ∙ ap (λ ps. part_of ps k path) found.paths
@@ -87,7 +100,7 @@ module _ {L : Type 0} (set : Settings) (changes : List Change) (version : ℕ) (
 -- the reply from the works is that of the changes
 pub replied : {L : Type 0} (set : Settings) (changes : List Change) (version : ℕ) (q : Query) (files : List (File (Work L))) (conditions : List Condition) (p : Part) (groups : List Group) (r : Reply)
     → AreOfVersion set changes version q.project files conditions → p ≡ part_of (paths_in files) q.kind q.path → AreGroupsOf (norms_in files) q.min p groups
-    → r ≡ reply_of (facts_in files) conditions version q.kind p groups → IsReply set changes version q r
+    → r ≡ reply_of (facts_in files) conditions version q.kind p (chosen_in files q) groups → IsReply set changes version q r
 replied set changes version q files conditions p groups r are part_is are_groups reply_is =
     let here = found set changes version q.project files conditions are in
     let same = part_same set changes version q.project files conditions are q.kind q.path p part_is in
@@ -96,7 +109,7 @@ replied set changes version q files conditions p groups r are part_is are_groups
       are_read = here.are;
       groups = groups;
       are_groups = subst₂ (λ (corpus : List (List Norm)) (at : Part). AreGroupsOf corpus q.min at groups) here.norms same are_groups;
-      reply_is = reply_is ∙ replies_same set changes version q.project files conditions are q.kind p groups ∙ ap (λ (at : Part). reply_of (facts_read here.readings) (conditions_at changes version q.project) version q.kind at groups) same;
+      reply_is = reply_is ∙ replies_same set changes version q.project files conditions are q p groups ∙ ap (λ (at : Part). reply_of (facts_read here.readings) (conditions_at changes version q.project) version q.kind at (chosen_read here.readings q) groups) same;
     }
 
 -- ---- what is asked and read
@@ -155,19 +168,19 @@ group_texts facts (g ∷ groups) texts many inside = (
   group_texts facts groups texts many (λ h c. inside h (Contains-there g h groups c)),
 )
 
-reply_texts : {L : Type 0} (files : List (File (Work L))) (conditions : List Condition) (version : ℕ) (k : Kind) (p : Part) (groups : List Group) → AllByRecursion IsUtf8 (paths_in files) → AreGroupsInside (spans_in files) groups → IsReplyText (reply_of (facts_in files) conditions version k p groups)
-reply_texts files conditions version kind.Files p groups texts inside = file_texts files texts
-reply_texts {L} files conditions version kind.Groups p groups texts inside =
+reply_texts : {L : Type 0} (files : List (File (Work L))) (conditions : List Condition) (version : ℕ) (k : Kind) (p : Part) (is_chosen : ℕ → Bool) (groups : List Group) → AllByRecursion IsUtf8 (paths_in files) → AreGroupsInside (spans_in files) groups → IsReplyText (reply_of (facts_in files) conditions version k p is_chosen groups)
+reply_texts files conditions version kind.Files p is_chosen groups texts inside = file_texts files texts
+reply_texts {L} files conditions version kind.Groups p is_chosen groups texts inside =
     group_texts (facts_in files) groups texts (length-map files (λ (f : File (Work L)). f.body.spans.items) ∙ sym (length-map files (λ (f : File (Work L)). f.path))) inside
-reply_texts files conditions version kind.Measures p groups texts inside = tt
-reply_texts files conditions version kind.Verdict p groups texts inside = tt
-reply_texts files conditions version kind.Functions p groups texts inside = tt
+reply_texts files conditions version kind.Measures p is_chosen groups texts inside = tt
+reply_texts files conditions version kind.Verdict p is_chosen groups texts inside = tt
+reply_texts files conditions version kind.Functions p is_chosen groups texts inside = tt
 
-pub texts_are : {L : Type 0} (set : Settings) (version : ℕ) (project : List ℕ) (files : List (File (Work L))) (conditions : List Condition) (k : Kind) (min : ℕ) (p : Part) (groups : List Group) (r : Reply)
-    → HaveVersion set version project files conditions → 1 ≤ min → AreGroupsOf (norms_in files) min p groups → r ≡ reply_of (facts_in files) conditions version k p groups → IsReplyText r
-texts_are set version project files conditions k min p groups r have some are_groups is =
+pub texts_are : {L : Type 0} (set : Settings) (version : ℕ) (project : List ℕ) (files : List (File (Work L))) (conditions : List Condition) (k : Kind) (min : ℕ) (p : Part) (is_chosen : ℕ → Bool) (groups : List Group) (r : Reply)
+    → HaveVersion set version project files conditions → 1 ≤ min → AreGroupsOf (norms_in files) min p groups → r ≡ reply_of (facts_in files) conditions version k p is_chosen groups → IsReplyText r
+texts_are set version project files conditions k min p is_chosen groups r have some are_groups is =
     let paths = texts_of_works set (files_at have.changes version project) files have.are.files_are (paths_are_texts have.changes version project have.sound) in
-    subst IsReplyText (sym is) (reply_texts files conditions version k p groups paths (inside set have.changes version project files conditions have.are min p groups some are_groups))
+    subst IsReplyText (sym is) (reply_texts files conditions version k p is_chosen groups paths (inside set have.changes version project files conditions have.are min p groups some are_groups))
 
 pub conditions_few : {L : Type 0} (set : Settings) (version : ℕ) (project : List ℕ) (files : List (File (Work L))) (conditions : List Condition) → HaveVersion set version project files conditions → length conditions ≤ 32
 conditions_few set version project files conditions have =

@@ -14,4 +14,5 @@ refusal_said refusal.Lang says told is = is
 refusal_said refusal.Path says told is = is
 refusal_said refusal.TooMuchText says told is = is
 refusal_said refusal.Min says told is = is
+refusal_said refusal.Scope says told is = is
 refusal_said refusal.Memory says told is = absurd told

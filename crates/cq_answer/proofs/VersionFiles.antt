@@ -1,5 +1,5 @@
 -- What the files and the conditions of a project after some changes have.
-use Rattle.std.proofs.Common.{◌≡◌, ℕ, zero, suc, ◌+◌, ◌-◌, ◌≤◌, Bool, true, false, cond, Some, List, [], ◌∷◌, length, take, drop, map, slice_get, refl, sym, ap, ◌∙◌, subst, inl, inr, arith, length-append}
+use Rattle.std.proofs.Common.{◌≡◌, ℕ, zero, suc, ◌+◌, ◌-◌, ◌<◌, ◌≤◌, Bool, true, false, cond, Some, List, [], ◌∷◌, length, take, drop, map, slice_get, refl, sym, ap, ◌∙◌, subst, inl, inr, arith, length-append}
 use Rattle.std.specs.Prelude.{◌≢◌, All, AllPairs, not, filter, insert}
 use Rattle.std.specs.List.{AllByRecursion}
 use Rattle.std.specs.Str.{bytes_eq, IsUtf8}
@@ -51,6 +51,17 @@ pub numbers_apart : (changes : List Change) (version : ℕ) (q : List ℕ) → A
 numbers_apart changes version q =
     let stand = files_stand (take version changes) q in
     numbers_differ (take version changes) q (files_at changes version q) stand.ordered (λ f there. (stand.each f).0 there)
+
+-- each number is that of a change
+positive : (changes : List Change) (q : List ℕ) (files : List Source) → ((f : Source) → Has files f → IsLastPut changes q f) → All (λ n. 0 < n) (map (λ (f : Source). f.number) files)
+positive changes q [] each = All-nil (λ n. 0 < n)
+positive changes q (f ∷ files) each =
+    All-cons (λ n. 0 < n) f.number (map (λ (g : Source). g.number) files) (each f (inl refl)).accepted.0 (positive changes q files (λ g there. each g (inr there)))
+
+pub numbers_positive : (changes : List Change) (version : ℕ) (q : List ℕ) → All (λ n. 0 < n) (map (λ (f : Source). f.number) (files_at changes version q))
+numbers_positive changes version q =
+    let stand = files_stand (take version changes) q in
+    positive (take version changes) q (files_at changes version q) (λ f there. (stand.each f).0 there)
 
 -- ---- they are no more than the changes
 

@@ -1,5 +1,5 @@
 -- The part of a project that a query lists, with its groups, its windows and their keys.
-use Rattle.std.specs.Prelude.{◌≡◌, ℕ, ◌+◌, ◌*◌, ◌<◌, ◌≤◌, List, [], length, Option, Some, None, IsSome, ⊤}
+use Rattle.std.specs.Prelude.{◌≡◌, ℕ, ◌+◌, ◌*◌, ◌<◌, ◌≤◌, ◌==◌, Bool, false, List, [], length, Option, Some, None, IsSome, IfSome, IsTrue, ⊤}
 use Rattle.std.specs.List.{position}
 use Rattle.std.specs.Str.{bytes_eq}
 use Rattle.cq_base.specs.declared.group.Group.{Group}
@@ -10,6 +10,7 @@ use Rattle.cq_groups.specs.Listing.{IsKey, IsKeyIn, AreAllRising, AreWindows, Ar
 use Rattle.cq_refine.specs.Sets.{IsLongest}
 use Rattle.cq_request.specs.declared.request.Kind.{Kind}
 use Rattle.cq_request.specs.declared.request.Kind.TheVariants as kind
+use Rattle.cq_scope.specs.Paths.{is_path}
 use Rattle.cq_answer.specs.declared.part.Part.{Part}
 use Rattle.cq_answer.specs.declared.part.Part.TheVariants as part
 
@@ -44,6 +45,19 @@ HasPath kind.Groups path = ⊤
 HasPath kind.Measures path = ⊤
 HasPath kind.Verdict path = ⊤
 HasPath kind.Functions path = IsSome path
+
+-- a scope is a pattern, which has the form of a path
+abbrev pub IsPattern : Option (List ℕ) → Type 0
+IsPattern scope = IfSome scope (λ s. IsTrue (is_path s))
+
+-- it is one, and stands beside no path
+abbrev pub HasScope : Option (List ℕ) → Option (List ℕ) → Type 0
+HasScope path scope = IsPattern scope × IfSome scope (λ s. path ≡ None)
+
+-- without a scope, and with 0 as `since`, every file is chosen
+abbrev pub chooses_all : Option (List ℕ) → ℕ → Bool
+chooses_all None since = since == 0
+chooses_all (Some s) since = false
 
 -- a file of the part is one of so many
 abbrev pub IsWithin : ℕ → Part → Type 0

@@ -15,6 +15,7 @@ refused_as refusal.Lang = reply.Lang
 refused_as refusal.Path = reply.Path
 refused_as refusal.TooMuchText = reply.TooMuchText
 refused_as refusal.Min = reply.Min
+refused_as refusal.Scope = reply.Scope
 refused_as refusal.Memory = reply.Memory
 
 -- the line itself is refused, and not for want of memory
@@ -26,6 +27,7 @@ IsTold refusal.Lang = Unit {0}
 IsTold refusal.Path = Unit {0}
 IsTold refusal.TooMuchText = Unit {0}
 IsTold refusal.Min = Unit {0}
+IsTold refusal.Scope = Unit {0}
 IsTold refusal.Memory = ⊥
 
 -- the reply to a change that is not accepted for this cause

@@ -1,6 +1,6 @@
 -- Files and groups as a reply shows them, and the measures of a part of a project.
-use Rattle.std.specs.Prelude.{ℕ, ◌≤◌, ◌==◌, max, Option, List, [], ◌∷◌, length, map, slice_index_or, All}
-use Rattle.std.specs.List.{position}
+use Rattle.std.specs.Prelude.{ℕ, ◌≤◌, ◌==◌, max, Bool, if◌then◌else◌, Option, List, [], ◌∷◌, length, map, filter, slice_index_or, All}
+use Rattle.std.specs.List.{position, range_with_len}
 use Rattle.cq_base.specs.Lines.{lines_of}
 use Rattle.cq_base.specs.declared.group.Group.{Group}
 use Rattle.cq_base.specs.declared.group.Place.{Place}
@@ -8,7 +8,7 @@ use Rattle.cq_base.specs.declared.measures.FileCounts.{FileCounts}
 use Rattle.cq_base.specs.declared.measures.Measures.{Measures}
 use Rattle.cq_base.specs.declared.token.Token.{Token}
 use Rattle.cq_func.specs.declared.function.Function.{Function}
-use Rattle.cq_measures.specs.Measures.{extent_of, project_measures, file_measures, IsMeasurable}
+use Rattle.cq_measures.specs.Measures.{extent_of, chosen_measures, file_measures, IsMeasurable}
 use Rattle.cq_reply.specs.declared.reply.FileRow.{FileRow}
 use Rattle.cq_reply.specs.declared.reply.GroupRow.{GroupRow}
 use Rattle.cq_reply.specs.declared.reply.PlaceRow.{PlaceRow}
@@ -52,12 +52,17 @@ group_row facts g = record { tokens = g.tokens; places = map (place_row facts g.
 abbrev pub no_measures : Measures
 no_measures = record { lines = 0; ncloc = 0; files = 0; complexity = 0; dup_lines = 0; dup_blocks = 0; dup_files = 0; density = 0 }
 
--- those of the whole project, or those of one file with the places that the groups have in it; of nothing all are 0
-abbrev pub measures_of : Facts → List Group → Part → Measures
-measures_of facts groups part.Whole = project_measures facts.counts facts.spans groups
-measures_of facts groups (part.File i) = file_measures facts.counts facts.spans i groups
-measures_of facts groups (part.Alone i) = no_measures
-measures_of facts groups part.Nothing = no_measures
+-- the positions of the chosen files, ascending
+abbrev pub chosen_of : Facts → (ℕ → Bool) → List ℕ
+chosen_of facts is_chosen = filter is_chosen (range_with_len 0 (length facts.counts))
+
+-- those of the chosen files of the whole, or those of one file where it is chosen, with the places that the groups of all
+-- files have in them; of nothing all are 0
+abbrev pub measures_of : Facts → List Group → (ℕ → Bool) → Part → Measures
+measures_of facts groups is_chosen part.Whole = chosen_measures facts.counts facts.spans (chosen_of facts is_chosen) groups
+measures_of facts groups is_chosen (part.File i) = if is_chosen i then file_measures facts.counts facts.spans i groups else no_measures
+measures_of facts groups is_chosen (part.Alone i) = no_measures
+measures_of facts groups is_chosen part.Nothing = no_measures
 
 -- ---- functions
 

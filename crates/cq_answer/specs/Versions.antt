@@ -11,13 +11,12 @@ use Rattle.cq_groups.specs.Listing.{Rises, RisesAtMost}
 use Rattle.cq_groups.specs.declared.buckets.Buckets as buckets
 use Rattle.cq_history.specs.Files.{File, files_at, conditions_at}
 use Rattle.cq_reply.specs.declared.reply.Reply.{Reply}
-use Rattle.cq_request.specs.declared.request.Kind.{Kind}
 use Rattle.cq_request.specs.declared.request.Query.{Query}
 use Rattle.cq_work.specs.Work.{IsWorkOf}
 use Rattle.cq_work.specs.declared.work.Work.{Work}
 use Rattle.cq_answer.specs.Questions.{AreAsked, IsMostRead}
 use Rattle.cq_answer.specs.Reply.{IsReply, reply_of}
-use Rattle.cq_answer.specs.Works.{Owner, works_in, facts_in, numbers_in, norms_in, keys_in}
+use Rattle.cq_answer.specs.Works.{Owner, works_in, facts_in, chosen_in, numbers_in, norms_in, keys_in}
 use Rattle.cq_answer.specs.declared.part.Part.{Part}
 
 -- they are those of the project at this version of the changes, each file with the work of its text
@@ -72,5 +71,5 @@ ReadsOn set version q files old new = (reads : ℕ) → IsMostReadOn set version
 -- ---- for a private clause
 
 -- the reply shows the files, or what their groups give
-abbrev pub ShowsGroups : {L : Type 0} → List (Owner L) → List Condition → ℕ → Kind → Part → List Group → Reply → Type 0
-ShowsGroups files conditions version kind part groups reply = reply ≡ reply_of (facts_in (works_in files)) conditions version kind part groups
+abbrev pub ShowsGroups : {L : Type 0} → List (Owner L) → List Condition → ℕ → Query → Part → List Group → Reply → Type 0
+ShowsGroups files conditions version q part groups reply = reply ≡ reply_of (facts_in (works_in files)) conditions version q.kind part (chosen_in (works_in files) q) groups

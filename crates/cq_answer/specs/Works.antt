@@ -1,5 +1,5 @@
 -- The files of a listing, each with its work.
-use Rattle.std.specs.Prelude.{ℕ, List, length, map}
+use Rattle.std.specs.Prelude.{ℕ, ◌<◌, Bool, List, length, map, All}
 use Rattle.std.specs.Arc.{arc_value}
 use Rattle.std.specs.declared.sync.Arc.{Arc}
 use Rattle.std.specs.declared.alloc.Global.{Global}
@@ -9,6 +9,8 @@ use Rattle.cq_base.specs.declared.token.Token.{Token}
 use Rattle.cq_func.specs.declared.function.Function.{Function}
 use Rattle.cq_history.specs.Files.{File}
 use Rattle.cq_reply.specs.declared.reply.FileRow.{FileRow}
+use Rattle.cq_request.specs.declared.request.Query.{Query}
+use Rattle.cq_scope.specs.Chosen.{is_chosen_at}
 use Rattle.cq_work.specs.declared.work.Work.{Work}
 use Rattle.cq_answer.specs.Rows.{Facts, shown_in}
 
@@ -43,6 +45,14 @@ module _ {L : Type 0} where
 
   abbrev pub functions_in : List (File (Work L)) → List (List Function)
   functions_in files = map (λ (f : File (Work L)). f.body.functions.items) files
+
+  -- whether a query chooses the file at a position
+  abbrev pub chosen_in : List (File (Work L)) → Query → ℕ → Bool
+  chosen_in files q = is_chosen_at q.scope q.since files
+
+  -- each was put by a change from 1 on
+  abbrev pub AreNumbered : List (File (Work L)) → Type 0
+  AreNumbered files = All (λ n. 0 < n) (numbers_in files)
 
   -- the row that shows a file
   abbrev pub row_of : File (Work L) → FileRow

@@ -1,10 +1,10 @@
 ghost use Rattle.std.specs.Prelude.{◌≡◌, ◌≤◌, length, IfOk, OnOk};
 ghost use Rattle.cq_base.specs.Settings.{IsInRange};
 ghost use Rattle.cq_reply.specs.Written.{IsReplyText};
-ghost use Rattle.cq_answer.specs.Parts.{HasPath, IsWithin};
+ghost use Rattle.cq_answer.specs.Parts.{HasPath, HasScope, IsPattern, IsWithin};
 ghost use Rattle.cq_answer.specs.Rows.{AreShowable, AreFewFunctions};
 ghost use Rattle.cq_answer.specs.Versions.{HaveVersion, IsReplyOn, ShowsGroups, AsksOn, AsksAtMostOn, ReadsOn};
-ghost use Rattle.cq_answer.specs.Works.{works_in, keys_in, numbers_in, facts_in};
+ghost use Rattle.cq_answer.specs.Works.{works_in, keys_in, numbers_in, facts_in, AreNumbered};
 
 use crate::functions::functions_in;
 use crate::listing::groups_of;
@@ -24,24 +24,26 @@ use std::sync::Arc;
 use std::sync::ledger::Ledger;
 use std::thread::Threads;
 
-// The reply to a query of this kind, from the groups that it lists.
+// The reply to a query, from the groups that it lists.
 fn reply_of<R: Threads + Sync, L: Ledger>(
     rt: &R,
     alloc: Global,
     files: &[Arc<Held<Work<L>>, Global>],
     conditions: &[Condition],
-    kind: Kind,
+    query: &Query,
     part: Part,
     version: u64,
     groups: &[Group],
 ) -> Result<Reply, Memory>
     requires few { length conditions.now ≤ 32 }
     requires within { IsWithin (length files.now) part }
+    requires scope { IsPattern query.now.scope }
+    requires numbered { AreNumbered (works_in files.now) }
     requires measurable { AreShowable (facts_in (works_in files.now)) groups.now }
     requires few_functions { AreFewFunctions (facts_in (works_in files.now)) }
-    ensures { IfOk result (ShowsGroups files.now conditions.now version kind part groups.now) }
+    ensures { IfOk result (ShowsGroups files.now conditions.now version query.now part groups.now) }
 {
-    match kind {
+    match query.kind {
         Kind::Files => Ok(Reply::Files {
             files: file_rows(alloc, files)?,
             version,
@@ -51,11 +53,11 @@ fn reply_of<R: Threads + Sync, L: Ledger>(
             version,
         }),
         Kind::Measures => Ok(Reply::Measures {
-            measures: measures_of(rt, alloc, files, part, groups)?,
+            measures: measures_of(rt, alloc, files, query, part, groups)?,
             version,
         }),
         Kind::Verdict => {
-            let measures = measures_of(rt, alloc, files, part, groups)?;
+            let measures = measures_of(rt, alloc, files, query, part, groups)?;
             Ok(Reply::Verdict {
                 verdict: verdict(alloc, conditions, &measures)?,
                 version,
@@ -74,8 +76,10 @@ fn reply_of<R: Threads + Sync, L: Ledger>(
 
 /// The reply to a query at a version, of which these are the project's files and conditions. Want of memory leaves the
 /// buckets fit for the next question. With a path that is there, the index is asked for the keys of that file's windows
-/// alone; for the list of files, for functions, and for a path that is not there, it is not asked and no token is read. The measures of a
-/// whole project of many places are counted in threads; all else is done on the caller's.
+/// alone; for the list of files, for functions, and for a path that is not there, it is not asked and no token is read.
+/// Measures of chosen files are by the groups of the whole project, and cost one look for each file, the comparison of its
+/// path where it changed, and a search among the chosen ones for each place. The measures of a whole project of many places
+/// are counted in threads; all else is done on the caller's.
 pub fn answer<R: Threads + Sync, B: Buckets, L: Ledger>(
     rt: &R,
     alloc: Global,
@@ -91,6 +95,7 @@ pub fn answer<R: Threads + Sync, B: Buckets, L: Ledger>(
     requires of_version { HaveVersion settings.now version query.now.project files.now conditions.now }
     requires long { settings.now.chunk ≤ query.now.min }
     requires path { HasPath query.now.kind query.now.path }
+    requires scope { HasScope query.now.path query.now.scope }
     requires for_changes { B.file_changes buckets.old ≡ numbers_in files.now }
     requires for_keys { B.file_keys buckets.old ≡ keys_in files.now }
     requires ready { B.ready buckets.old }
@@ -107,7 +112,5 @@ pub fn answer<R: Threads + Sync, B: Buckets, L: Ledger>(
     let part = part_of(files, query);
     let groups = groups_of(alloc, settings, files, part, query.min, buckets, steps)?;
     let items = files.items();
-    reply_of(
-        rt, alloc, items, conditions, query.kind, part, version, &groups,
-    )
+    reply_of(rt, alloc, items, conditions, query, part, version, &groups)
 }

@@ -1,10 +1,12 @@
 //! A query's reply on the files of one version, over any index of their windows. The reply is defined by the accepted
 //! changes up to the version and by the query alone; `answer` gives it from the files' works and reads no text. It asks
 //! the index once for each different key among the windows of what the query lists: of all files, or of the one file at
-//! its path; for a list of files, or for functions, it asks nothing. Tokens are read as `cq_groups` says; each row copies a path.
+//! its path; for a list of files, or for functions, it asks nothing. What is measured of chosen files is by the groups of
+//! the whole project. Tokens are read as `cq_groups` says; each row copies a path.
 #![tactic(auto)]
 
 mod answering;
+mod choosing;
 mod file;
 mod functions;
 mod listing;

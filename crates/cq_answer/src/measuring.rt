@@ -1,14 +1,17 @@
-ghost use Rattle.std.specs.Prelude.{◌≡◌, length, IfOk};
-ghost use Rattle.cq_measures.specs.Measures.{counts_of, spans_of};
-ghost use Rattle.cq_answer.specs.Parts.{IsWithin};
+ghost use Rattle.std.specs.Prelude.{◌≡◌, ◌<◌, length, IfOk};
+ghost use Rattle.cq_measures.specs.Measures.{counts_of, spans_of, project_measures, file_measures};
+ghost use Rattle.cq_answer.specs.Parts.{IsPattern, IsWithin};
 ghost use Rattle.cq_answer.specs.Rows as spec;
-ghost use Rattle.cq_answer.specs.Works.{works_in, work_in, facts_in};
+ghost use Rattle.cq_answer.specs.Works.{works_in, work_in, facts_in, chosen_in, AreNumbered};
+ghost use Rattle.cq_answer.specs.declared.part.Part.TheVariants as variant;
 
+use crate::choosing::{chosen_by, is_counted, is_of_all};
 use crate::file::work_of;
 use crate::part::Part;
 use cq_base::{Group, Measures, Memory};
-use cq_measures::{FileLines, file_measures, project_measures};
+use cq_measures::{FileLines, chosen_measures, file_measures, project_measures};
 use cq_projects::Held;
+use cq_request::Query;
 use cq_work::Work;
 use std::alloc::Global;
 use std::sync::Arc;
@@ -53,21 +56,107 @@ fn lines_in<'a, L: Ledger>(file: &'a Arc<Held<Work<L>>, Global>) -> FileLines<'a
     }
 }
 
-/// The measures of a part of some files, by the groups that it lists.
+// Those of all the files.
+fn measures_of_all<R: Threads + Sync, L: Ledger>(
+    rt: &R,
+    alloc: Global,
+    files: &[Arc<Held<Work<L>>, Global>],
+    groups: &[Group],
+) -> Result<Measures, Memory>
+    requires { spec.AreShowable (facts_in (works_in files.now)) groups.now }
+    ensures { IfOk result (λ m. m ≡ project_measures (facts_in (works_in files.now)).counts (facts_in (works_in files.now)).spans groups.now) }
+{
+    project_measures(rt, alloc, &lines_of(alloc, files)?, groups)
+}
+
+// Those of the files that a query chooses.
+fn measures_of_chosen<L: Ledger>(
+    alloc: Global,
+    files: &[Arc<Held<Work<L>>, Global>],
+    query: &Query,
+    groups: &[Group],
+) -> Result<Measures, Memory>
+    requires scope { IsPattern query.now.scope }
+    requires measurable { spec.AreShowable (facts_in (works_in files.now)) groups.now }
+    ensures { IfOk result (λ m. m ≡ spec.measures_of (facts_in (works_in files.now)) groups.now (chosen_in (works_in files.now) query.now) variant.Whole) }
+{
+    let chosen = chosen_by(alloc, files, query)?;
+    chosen_measures(alloc, &lines_of(alloc, files)?, &chosen, groups)
+}
+
+// Those of the whole project: in threads where every file is chosen.
+fn measures_of_whole<R: Threads + Sync, L: Ledger>(
+    rt: &R,
+    alloc: Global,
+    files: &[Arc<Held<Work<L>>, Global>],
+    query: &Query,
+    groups: &[Group],
+) -> Result<Measures, Memory>
+    requires scope { IsPattern query.now.scope }
+    requires numbered { AreNumbered (works_in files.now) }
+    requires measurable { spec.AreShowable (facts_in (works_in files.now)) groups.now }
+    ensures { IfOk result (λ m. m ≡ spec.measures_of (facts_in (works_in files.now)) groups.now (chosen_in (works_in files.now) query.now) variant.Whole) }
+{
+    if is_of_all(query) {
+        measures_of_all(rt, alloc, files, groups)
+    } else {
+        measures_of_chosen(alloc, files, query, groups)
+    }
+}
+
+// Those of one file.
+fn measures_at<L: Ledger>(
+    alloc: Global,
+    files: &[Arc<Held<Work<L>>, Global>],
+    file: u32,
+    groups: &[Group],
+) -> Result<Measures, Memory>
+    requires within { file < length files.now }
+    requires measurable { spec.AreShowable (facts_in (works_in files.now)) groups.now }
+    ensures { IfOk result (λ m. m ≡ file_measures (facts_in (works_in files.now)).counts (facts_in (works_in files.now)).spans file groups.now) }
+{
+    file_measures(alloc, file, &lines_in(&files[file as usize]), groups)
+}
+
+// Those of one file where the query chooses it.
+fn measures_of_file<L: Ledger>(
+    alloc: Global,
+    files: &[Arc<Held<Work<L>>, Global>],
+    query: &Query,
+    file: u32,
+    groups: &[Group],
+) -> Result<Measures, Memory>
+    requires within { file < length files.now }
+    requires scope { IsPattern query.now.scope }
+    requires measurable { spec.AreShowable (facts_in (works_in files.now)) groups.now }
+    ensures { IfOk result (λ m. m ≡ spec.measures_of (facts_in (works_in files.now)) groups.now (chosen_in (works_in files.now) query.now) (variant.File file)) }
+{
+    let is_chosen = is_counted(alloc, files, query, file)?;
+    if is_chosen {
+        measures_at(alloc, files, file, groups)
+    } else {
+        Ok(NO_MEASURES)
+    }
+}
+
+/// The measures of a part of some files, by the groups that it lists, over the files that the query chooses.
 pub(crate) fn measures_of<R: Threads + Sync, L: Ledger>(
     rt: &R,
     alloc: Global,
     files: &[Arc<Held<Work<L>>, Global>],
+    query: &Query,
     part: Part,
     groups: &[Group],
 ) -> Result<Measures, Memory>
     requires within { IsWithin (length files.now) part }
+    requires scope { IsPattern query.now.scope }
+    requires numbered { AreNumbered (works_in files.now) }
     requires measurable { spec.AreShowable (facts_in (works_in files.now)) groups.now }
-    ensures { IfOk result (λ m. m ≡ spec.measures_of (facts_in (works_in files.now)) groups.now part) }
+    ensures { IfOk result (λ m. m ≡ spec.measures_of (facts_in (works_in files.now)) groups.now (chosen_in (works_in files.now) query.now) part) }
 {
     match part {
-        Part::Whole => project_measures(rt, alloc, &lines_of(alloc, files)?, groups),
-        Part::File(file) => file_measures(alloc, file, &lines_in(&files[file as usize]), groups),
+        Part::Whole => measures_of_whole(rt, alloc, files, query, groups),
+        Part::File(file) => measures_of_file(alloc, files, query, file, groups),
         Part::Alone(_) | Part::Nothing => Ok(NO_MEASURES),
     }
 }

@@ -26,6 +26,7 @@ pub fn refused_as(why: Refusal) -> Result<Reply, Memory>
         Refusal::Path => Ok(Reply::Path),
         Refusal::TooMuchText => Ok(Reply::TooMuchText),
         Refusal::Min => Ok(Reply::Min),
+        Refusal::Scope => Ok(Reply::Scope),
         Refusal::Memory => Err(Memory),
     }
 }

@@ -1,6 +1,6 @@
 ghost use Rattle.std.specs.Prelude.{◌≡◌, ◌<◌, ◌≤◌, IfOk, Some};
 ghost use Rattle.std.specs.Arc.{arc_value};
-ghost use Rattle.cq_answer.specs.Parts.{HasPath};
+ghost use Rattle.cq_answer.specs.Parts.{HasPath, HasScope};
 ghost use Rattle.cq_base.specs.Settings.{IsInRange};
 ghost use Rattle.cq_board.specs.Sound.{HaveFewConditions};
 ghost use Rattle.cq_core.specs.Views.{IsView};
@@ -60,6 +60,7 @@ fn answered<R: Threads + Sync, L: Ledger>(
     requires caller { by < callers }
     requires long { settings.now.chunk ≤ query.now.min }
     requires path { HasPath query.now.kind query.now.path }
+    requires scope { HasScope query.now.path query.now.scope }
     requires opened { view_of core.now.board.state by ≡ Some view.now.version }
     requires listing { IsView (IsWorkOf core.now.board.settings) core.now.board.state view.now }
     requires few { HaveFewConditions (arc_value view.now.listing).projects }
@@ -104,6 +105,7 @@ pub(crate) fn reply<R: Threads + Sync, L: Ledger>(
     requires caller { by < callers }
     requires long { settings.now.chunk ≤ query.now.min }
     requires path { HasPath query.now.kind query.now.path }
+    requires scope { HasScope query.now.path query.now.scope }
     ensures led { IfOk result (StepLed L settings.now core.now core.now (script.Reply by query.now)) }
     ensures text { IfOk result IsOutcomeText }
 {

@@ -30,6 +30,8 @@ mod replies;
 #[cfg(test)]
 mod running;
 #[cfg(test)]
+mod scopes;
+#[cfg(test)]
 mod telling;
 #[cfg(test)]
 mod tests;

@@ -3,6 +3,7 @@ use crate::keys::{Window, windows_at};
 use crate::lines::{Lines, ask_plainly, drawn_change, drawn_project};
 use crate::model::Model;
 use crate::replies::{Asked, Query, tell_reply};
+use crate::scopes::scope_name;
 use crate::telling::{path_name, project_name, tell_bucket, tell_done, tell_value_or_no};
 use cq_base::{Memory, Settings};
 use std::alloc::Global;
@@ -143,28 +144,67 @@ fn ask_sweep(read: &Read, model: &Model, lines: &mut Lines) -> Result<(), Memory
     ask_read(read, model, lines)
 }
 
+// Of what a query is: a path, a scope, a version above which files were put, or all files.
+fn drawn_part(draws: &mut Draws) -> (Option<u32>, Option<u32>, Option<u64>) {
+    match draws.below(9) {
+        path @ 0..=2 => (Some(path), None, None),
+        3 => (None, Some(0), None),
+        4 => (None, Some(1), None),
+        5 => (None, Some(2), Some(5)),
+        6 => (None, Some(3), Some(6)),
+        7 => (None, None, Some(7)),
+        _ => (None, None, None),
+    }
+}
+
 fn drawn_query(draws: &mut Draws) -> Query {
     let project = drawn_project(draws);
     let min = match draws.below(8) {
         0 => None,
         n => Some(2 + n % 3),
     };
-    let path = match draws.below(9) {
-        path @ 0..=2 => Some(path),
-        _ => None,
-    };
-    let (asked, min, path) = match draws.below(8) {
-        0..=1 => (Asked::Files, None, None),
-        2..=3 => (Asked::Verdict, min, None),
-        4 => (Asked::Measures, min, path),
-        _ => (Asked::Groups, min, path),
-    };
-    Query {
-        asked,
+    let (path, scope, since) = drawn_part(draws);
+    let all = Query {
+        asked: Asked::Files,
         project,
         min,
-        path,
+        path: None,
+        scope: None,
+        since: None,
+    };
+    match draws.below(8) {
+        0..=1 => Query { min: None, ..all },
+        2..=3 => Query {
+            asked: Asked::Verdict,
+            scope,
+            since,
+            ..all
+        },
+        4 => Query {
+            asked: Asked::Measures,
+            path,
+            scope,
+            since,
+            ..all
+        },
+        _ => Query {
+            asked: Asked::Groups,
+            path,
+            ..all
+        },
     }
+}
+
+// Which files are chosen.
+fn write_choice(query: &Query, asked: &mut String) -> Result<(), Memory> {
+    if let Some(scope) = query.scope {
+        let scope = scope_name(scope);
+        write!(asked, ",\"scope\":\"{scope}\"")?;
+    }
+    if let Some(since) = query.since {
+        write!(asked, ",\"since\":{since}")?;
+    }
+    Ok(())
 }
 
 // What is left out is not written. A version that is asked for, and whether work is to be finished, stand for nothing.
@@ -184,6 +224,7 @@ fn write_query(query: &Query, is_at: bool, asked: &mut String) -> Result<(), Mem
         let path = path_name(path);
         write!(asked, ",\"path\":\"{path}\"")?;
     }
+    write_choice(query, asked)?;
     if is_at {
         asked.push_str(",\"at\":99,\"finish\":false")?;
     }

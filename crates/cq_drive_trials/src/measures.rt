@@ -125,11 +125,11 @@ fn add_file(file: usize, put: &Put, tokens: &[Token], blocks: &[Block], measures
     add_lines(file, put.lines(), tokens, blocks, measures);
 }
 
-/// What is measured in all files, or in the one with a path, of a project that has these groups.
+/// What is measured in the files that are chosen, of a project that has these groups.
 pub fn measures_of(
     alloc: Global,
     files: &[&Put],
-    path: Option<u32>,
+    are_chosen: &[bool],
     tokens: &[Token],
     groups: &[Group],
 ) -> Result<Measures, Memory> {
@@ -147,7 +147,7 @@ pub fn measures_of(
         code_lines: 0,
     };
     for (file, put) in files.iter().enumerate() {
-        if path.is_none() || path == Some(put.path) {
+        if are_chosen.get(file) == Some(&true) {
             add_file(file, put, tokens, &blocks, &mut measures);
         }
     }

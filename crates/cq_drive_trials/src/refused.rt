@@ -17,6 +17,7 @@ const REFUSED: &str = "\
 {\"step\":\"accept\",\"by\":0,\"request\":{\"op\":\"put\",\"project\":\"p\",\"path\":\"a\",\"lang\":\"cobol\",\"text\":\"\"}}\t{\"code\":4,\"error\":\"lang\",\"ok\":false}
 {\"step\":\"accept\",\"by\":0,\"request\":{\"op\":\"drop\",\"project\":\"p\",\"path\":\"a/../b\"}}\t{\"code\":5,\"error\":\"path\",\"ok\":false}
 {\"step\":\"reply\",\"by\":0,\"request\":{\"op\":\"groups\",\"project\":\"p\",\"min\":1}}\t{\"code\":7,\"error\":\"min\",\"ok\":false}
+{\"step\":\"reply\",\"by\":0,\"request\":{\"op\":\"verdict\",\"project\":\"p\",\"scope\":\"a//b\"}}\t{\"code\":15,\"error\":\"scope\",\"ok\":false}
 ";
 
 fn push_blanks(count: u32, out: &mut String) -> Result<(), Memory> {
@@ -28,7 +29,7 @@ fn push_blanks(count: u32, out: &mut String) -> Result<(), Memory> {
 
 /// The line of the table with this position, from the first again behind the last.
 pub fn ask_badly(i: u32, lines: &mut Lines) -> Result<(), Memory> {
-    if let Some(line) = REFUSED.lines().nth((i % 14) as usize) {
+    if let Some(line) = REFUSED.lines().nth((i % 15) as usize) {
         if let Some((asked, told)) = line.split_once('\t') {
             lines.asked.push_str(asked)?;
             lines.asked.push_str("\n")?;

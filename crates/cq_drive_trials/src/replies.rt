@@ -2,6 +2,7 @@ use crate::files::{Put, Token, tokens_of};
 use crate::groups::{Group, groups_of};
 use crate::measures::{Measures, NAMES, ends_of, measures_of};
 use crate::model::{Change, Condition, conditions_at, files_at};
+use crate::scopes::is_in_scope;
 use crate::telling::{path_name, tell_comma};
 use cq_base::Memory;
 use std::alloc::Global;
@@ -23,6 +24,24 @@ pub struct Query {
     pub project: u32,
     pub min: Option<u32>,
     pub path: Option<u32>,
+    pub scope: Option<u32>,
+    pub since: Option<u64>,
+}
+
+impl Query {
+    // Whether it is of the file: it stands at its path, fits its scope and was put behind its version, as far as it has
+    // these.
+    fn is_of(&self, put: &Put) -> bool {
+        let is_at_path = match self.path {
+            Some(path) => path == put.path,
+            None => true,
+        };
+        let is_fit = match self.scope {
+            Some(scope) => is_in_scope(scope, put.path),
+            None => true,
+        };
+        is_at_path && is_fit && put.number > self.since.unwrap_or(0)
+    }
 }
 
 fn tell_file(put: &Put, tokens: usize, out: &mut String) -> Result<(), Memory> {
@@ -164,7 +183,11 @@ pub fn tell_reply(
     let files = files_at(alloc, changes, version, query.project)?;
     let tokens = tokens_of(alloc, &files)?;
     let groups = groups_of(alloc, &tokens, query.min.unwrap_or(100) as usize)?;
-    let measures = measures_of(alloc, &files, query.path, &tokens, &groups)?;
+    let mut are_chosen = Vec::new(alloc);
+    for put in &files {
+        are_chosen.push(query.is_of(put))?;
+    }
+    let measures = measures_of(alloc, &files, &are_chosen, &tokens, &groups)?;
     match query.asked {
         Asked::Files => tell_files(&files, &tokens, out)?,
         Asked::Groups => tell_groups(&files, query.path, &tokens, &groups, out)?,

@@ -81,7 +81,7 @@ const KINDS: &str = r#""accept" | "value": | 92
 "reply" | {"ok":false} | 68
 "shut" | "ok":true | 19
 "shut" | {"ok":false} | 19
- | "code":1, | 15
+ | "code":1, | 9
  | "code":2, | 12
  | "code":3, | 39
  | "code":4, | 6
@@ -92,6 +92,7 @@ const KINDS: &str = r#""accept" | "value": | 92
  | "code":10, | 18
  | "code":11, | 9
  | "code":13, | 3
+ | "code":15, | 6
 "#;
 
 // A kind: its step, its piece, and how often it comes.

@@ -3,7 +3,7 @@ use Rattle.std.proofs.Common.{◌≡◌, ℕ, ◌≤◌, List, length, map, ap, 
 use Rattle.std.proofs.lemmas.List.{length-map}
 use Rattle.cq_answer.proofs.VersionFiles.{few_files}
 use Rattle.cq_answer.specs.Readings.{Reading}
-use Rattle.cq_answer.specs.Reply.{IsReply, part_read}
+use Rattle.cq_answer.specs.Reply.{IsReply, part_read, chosen_read}
 use Rattle.cq_answer.specs.Rows.{facts_read, file_row, group_row, measures_of}
 use Rattle.cq_base.specs.declared.measures.Measures.{Measures}
 use Rattle.cq_base.specs.declared.settings.Settings.{Settings}
@@ -22,7 +22,7 @@ module _ (set : Settings) (number files : ℕ) where
   groups_shown r is = map (group_row (facts_read is.readings)) is.groups
 
   abbrev pub measures_shown : (r : Reply) → IsReply set (puts_to number files) files (question kind.Measures) r → Measures
-  measures_shown r is = measures_of (facts_read is.readings) is.groups (part_read is.readings (question kind.Measures))
+  measures_shown r is = measures_of (facts_read is.readings) is.groups (chosen_read is.readings (question kind.Measures)) (part_read is.readings (question kind.Measures))
 
   abbrev pub rows_shown : (r : Reply) → IsReply set (puts_to number files) files (question kind.Files) r → List FileRow
   rows_shown r is = (facts_read is.readings).rows

@@ -19,7 +19,7 @@ use Rattle.cq_make.specs.Generator.{project, puts_to}
 
 -- what is asked of the whole project; a run has at least 50 tokens
 abbrev pub question : Kind → Query
-question k = record { kind = k; project = project; path = None; min = 50; at = 0; finish = true }
+question k = record { kind = k; project = project; path = None; min = 50; at = 0; finish = true; scope = None; since = 0 }
 
 abbrev pub token_count : List FileRow → ℕ
 token_count rows = sum_by (λ (row : FileRow). row.tokens) rows

@@ -30,6 +30,8 @@ fn question(alloc: Global, kind: Kind) -> Result<Query, Memory>
         min: LEAST_TOKENS,
         at: 0,
         finish: true,
+        scope: None,
+        since: 0,
     })
 }
 

@@ -49,6 +49,7 @@ reply_depth reply.Lang = omega arith
 reply_depth reply.Path = omega arith
 reply_depth reply.TooMuchText = omega arith
 reply_depth reply.Min = omega arith
+reply_depth reply.Scope = omega arith
 reply_depth (reply.Future n) = omega arith
 reply_depth reply.Absent = omega arith
 reply_depth reply.FullChanges = omega arith

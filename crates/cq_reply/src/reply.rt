@@ -210,6 +210,8 @@ pub enum Reply {
     TooMuchText,
     /// The least length is out of its range.
     Min,
+    /// The scope is no path, or stands beside a path.
+    Scope,
     /// The version that is asked for is above this count of accepted changes.
     Future(u64),
     /// There is no file to drop.

@@ -290,6 +290,7 @@ pub(crate) fn reply_value(alloc: Global, reply: &Reply) -> Result<Value, AllocEr
         Reply::Path => refusal_value(alloc, 5, "path"),
         Reply::TooMuchText => refusal_value(alloc, 6, "text"),
         Reply::Min => refusal_value(alloc, 7, "min"),
+        Reply::Scope => refusal_value(alloc, 15, "scope"),
         Reply::Future(count) => future_value(alloc, *count),
         Reply::Absent => refusal_value(alloc, 9, "absent"),
         Reply::FullChanges => refusal_value(alloc, 10, "full-changes"),

@@ -35,7 +35,7 @@ fn reply_of(code: u64) -> Reply
         12 => Reply::Pending(4),
         13 => Reply::Long,
         14 => Reply::Memory,
-        15 => Reply::Change(7),
+        15 => Reply::Scope,
         16 => Reply::State {
             accepted: 3,
             done: 2,
@@ -45,6 +45,7 @@ fn reply_of(code: u64) -> Reply
             measures: MEASURES,
             version: 8,
         },
+        18 => Reply::Change(7),
         _ => Reply::Verdict {
             verdict: Verdict::Ok,
             version: 0,
@@ -65,6 +66,7 @@ fn refusals_of_a_line_are_written(rt: HostRuntime) -> Result<(), Memory> {
     assert!(rt; writes(alloc, 5, r#"{"code":5,"error":"path","ok":false}"#)?);
     assert!(rt; writes(alloc, 6, r#"{"code":6,"error":"text","ok":false}"#)?);
     assert!(rt; writes(alloc, 7, r#"{"code":7,"error":"min","ok":false}"#)?);
+    assert!(rt; writes(alloc, 15, r#"{"code":15,"error":"scope","ok":false}"#)?);
     Ok(())
 }
 
@@ -105,7 +107,7 @@ const MEASURED: &str =
 #[test]
 fn answers_are_written(rt: HostRuntime) -> Result<(), Memory> {
     let alloc = rt.alloc();
-    assert!(rt; writes(alloc, 15, r#"{"change":7,"ok":true}"#)?);
+    assert!(rt; writes(alloc, 18, r#"{"change":7,"ok":true}"#)?);
     assert!(rt;
         writes(
             alloc,
@@ -117,7 +119,7 @@ fn answers_are_written(rt: HostRuntime) -> Result<(), Memory> {
     assert!(rt;
         writes(
             alloc,
-            18,
+            19,
             r#"{"failed":[],"ok":true,"verdict":"OK","version":0}"#
         )?
     );

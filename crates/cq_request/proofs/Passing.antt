@@ -1,8 +1,10 @@
 -- What an object has that is not refused.
-use Rattle.std.proofs.Common.{◌≡◌, ℕ, ◌≤◌, ◌+◌, List, [], ◌∷◌, length, Bool, true, false, cond, Option, Some, None, option_map, refl, arith}
-use Rattle.std.specs.Prelude.{unwrap_or, option_and_then, is_some, IsSome, codes}
+use Rattle.std.proofs.Common.{◌≡◌, ℕ, ◌≤◌, ◌+◌, List, [], ◌∷◌, length, Bool, true, false, cond, ◌&&◌, Option, Some, None, option_map, refl, arith}
+use Rattle.std.specs.Prelude.{unwrap_or, option_and_then, is_some, not, IsSome, IfSome, codes}
 use Rattle.std.specs.Option.{option_or}
 use Rattle.std.specs.List.{filter_map, cons_option}
+use Rattle.std.specs.Str.{IsUtf8}
+use Rattle.std.proofs.lemmas.Bool.{and_parts}
 use Rattle.std.proofs.lemmas.Grind.{common_steps}
 use Rattle.serde_json.specs.Data.{Data, Items}
 use Rattle.serde_json.specs.Find.{get, as_array, as_str}
@@ -16,23 +18,38 @@ use Rattle.cq_request.specs.Members.{items_in, text_at}
 use Rattle.cq_request.specs.Conditions.{condition_of, are_conditions}
 use Rattle.cq_request.specs.Tables.{is_good, bad_field}
 use Rattle.cq_request.specs.Rows.{needed, rule_of, rules_of, fault_of}
-use Rattle.cq_request.specs.Reading.{unless, field_or, lang_named, text_passes, min_passes, value_refused, why_refused, conditions_or}
+use Rattle.cq_request.specs.Sound.{IsScopeBeside}
+use Rattle.cq_request.specs.Reading.{unless, field_or, lang_named, text_passes, min_passes, scope_passes, value_refused, why_refused, conditions_or}
 
--- the last of four tests behind which nothing is refused has passed
-all_passed : (a b c d : Bool) → unless a refusal.Lang (unless b refusal.Path (unless c refusal.TooMuchText (unless d refusal.Min None))) ≡ None → d ≡ true
-all_passed true true true true none = refl
-all_passed true true true false none = absurd (cc)
-all_passed true true false d none = absurd (cc)
-all_passed true false c d none = absurd (cc)
-all_passed false b c d none = absurd (cc)
+-- the last two of five tests behind which nothing is refused have passed
+all_passed : (a b c d e : Bool) → unless a refusal.Lang (unless b refusal.Path (unless c refusal.TooMuchText (unless d refusal.Min (unless e refusal.Scope None)))) ≡ None → (d ≡ true) × (e ≡ true)
+all_passed true true true true true none = (refl, refl)
+all_passed true true true true false none = absurd (cc)
+all_passed true true true false e none = absurd (cc)
+all_passed true true false d e none = absurd (cc)
+all_passed true false c d e none = absurd (cc)
+all_passed false b c d e none = absurd (cc)
 
 pub none_named : (o : Option (List ℕ)) (later : Option Refusal) → field_or o later ≡ None → (o ≡ None) × (later ≡ None)
 none_named None later none = (refl, none)
 none_named (Some n) later none = absurd (cc)
 
+passed : (chunk : ℕ) (o : Op) (d : Data) → why_refused chunk o d ≡ None → (min_passes chunk d ≡ true) × (scope_passes d ≡ true)
+passed chunk o d accepted =
+    all_passed (text_passes (λ name. is_some (lang_named name)) (codes "lang") d) (text_passes is_path (codes "path") d) (text_passes is_short (codes "text") d) (min_passes chunk d) (scope_passes d) (none_named (fault_of o d) (value_refused chunk d) accepted).1
+
 pub min_passed : (chunk : ℕ) (o : Op) (d : Data) → why_refused chunk o d ≡ None → min_passes chunk d ≡ true
-min_passed chunk o d accepted =
-    all_passed (text_passes (λ name. is_some (lang_named name)) (codes "lang") d) (text_passes is_path (codes "path") d) (text_passes is_short (codes "text") d) (min_passes chunk d) (none_named (fault_of o d) (value_refused chunk d) accepted).1
+min_passed chunk o d accepted = (passed chunk o d accepted).0
+
+-- ---- a scope
+
+sound_scope : (scope path : Option (List ℕ)) → unwrap_or (option_map (λ s. is_path s && not (is_some path)) scope) true ≡ true → IfSome scope IsUtf8 → IfSome scope (IsScopeBeside path)
+sound_scope None path passes utf8 = tt
+sound_scope (Some s) None passes utf8 = (utf8, (and_parts (is_path s) true passes).0, refl)
+sound_scope (Some s) (Some p) passes utf8 = let bad : false ≡ true = (and_parts (is_path s) false passes).1 in absurd (cc)
+
+pub scope_is_sound : (chunk : ℕ) (o : Op) (d : Data) → why_refused chunk o d ≡ None → IfSome (text_at (codes "scope") d) IsUtf8 → IfSome (text_at (codes "scope") d) (IsScopeBeside (text_at (codes "path") d))
+scope_is_sound chunk o d accepted utf8 = sound_scope (text_at (codes "scope") d) (text_at (codes "path") d) (passed chunk o d accepted).1 utf8
 
 -- ---- the conditions of a gate
 

@@ -25,8 +25,8 @@ row_of op.Drop = needed name.Project ∷ needed name.Path ∷ []
 row_of op.Gate = needed name.Project ∷ needed name.Conditions ∷ []
 row_of op.Files = needed name.Project ∷ optional name.At ∷ optional name.Finish ∷ []
 row_of op.Groups = needed name.Project ∷ optional name.Min ∷ optional name.Path ∷ optional name.At ∷ optional name.Finish ∷ []
-row_of op.Measures = needed name.Project ∷ optional name.Min ∷ optional name.Path ∷ optional name.At ∷ optional name.Finish ∷ []
-row_of op.Verdict = needed name.Project ∷ optional name.Min ∷ optional name.At ∷ optional name.Finish ∷ []
+row_of op.Measures = needed name.Project ∷ optional name.Min ∷ optional name.Path ∷ optional name.At ∷ optional name.Finish ∷ optional name.Scope ∷ optional name.Since ∷ []
+row_of op.Verdict = needed name.Project ∷ optional name.Min ∷ optional name.At ∷ optional name.Finish ∷ optional name.Scope ∷ optional name.Since ∷ []
 row_of op.Functions = needed name.Project ∷ needed name.Path ∷ optional name.At ∷ optional name.Finish ∷ []
 row_of op.State = []
 
@@ -40,6 +40,8 @@ is_of_form name.Conditions d = is_condition_list d
 is_of_form name.Min d = is_some (number_of d)
 is_of_form name.At d = is_some (number_of d)
 is_of_form name.Finish d = is_some (as_bool d)
+is_of_form name.Scope d = is_some (as_str d)
+is_of_form name.Since d = is_some (number_of d)
 
 abbrev pub op_named : List ℕ → Option Op
 op_named word =
@@ -67,6 +69,8 @@ key_of name.Conditions = codes "conditions"
 key_of name.Min = codes "min"
 key_of name.At = codes "at"
 key_of name.Finish = codes "finish"
+key_of name.Scope = codes "scope"
+key_of name.Since = codes "since"
 
 -- what a field asks of an object
 abbrev pub rule_of : Field → Rule

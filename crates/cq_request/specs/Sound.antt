@@ -1,6 +1,7 @@
 -- What a request that was read has: a sound change, or texts that are UTF-8, a least length no shorter than a window,
--- a path only where a part of a project is shown, and one where the functions of a file are.
-use Rattle.std.specs.Prelude.{◌≡◌, ◌≤◌, ℕ, List, Option, None, IfSome, IsSome, ⊤}
+-- a path only where a part of a project is shown, and one where the functions of a file are; a scope that is a path, and
+-- only where no path is.
+use Rattle.std.specs.Prelude.{◌≡◌, ◌≤◌, ℕ, List, Option, None, IfSome, IsSome, IsTrue, ⊤}
 use Rattle.std.specs.Str.{IsUtf8}
 use Rattle.cq_base.specs.Changes.{IsSoundChange}
 use Rattle.cq_request.specs.declared.request.Kind.{Kind}
@@ -10,6 +11,7 @@ use Rattle.cq_request.specs.declared.request.Request.{Request}
 use Rattle.cq_request.specs.declared.request.Request.TheVariants as request
 use Rattle.cq_request.specs.declared.request.Refusal.{Refusal}
 use Rattle.cq_request.specs.declared.request.Refusal.TheVariants as refusal
+use Rattle.cq_request.specs.Text.{is_path}
 
 -- the list of files and the verdict are of a whole project, functions of one file
 abbrev pub IsPathOf : Kind → Option (List ℕ) → Type 0
@@ -19,8 +21,12 @@ IsPathOf kind.Measures path = ⊤
 IsPathOf kind.Verdict path = path ≡ None
 IsPathOf kind.Functions path = IsSome path
 
+-- a scope is a path in UTF-8, and stands beside no path
+abbrev pub IsScopeBeside : Option (List ℕ) → List ℕ → Type 0
+IsScopeBeside path scope = IsUtf8 scope × IsTrue (is_path scope) × (path ≡ None)
+
 abbrev pub IsSoundQuery : ℕ → Query → Type 0
-IsSoundQuery chunk q = IsUtf8 q.project × IfSome q.path IsUtf8 × (chunk ≤ q.min) × IsPathOf q.kind q.path
+IsSoundQuery chunk q = IsUtf8 q.project × IfSome q.path IsUtf8 × (chunk ≤ q.min) × IsPathOf q.kind q.path × IfSome q.scope (IsScopeBeside q.path)
 
 abbrev pub IsSound : ℕ → Request → Type 0
 IsSound chunk (request.Change c) = IsSoundChange c
@@ -36,4 +42,5 @@ IsSoundRefusal refusal.Lang = ⊤
 IsSoundRefusal refusal.Path = ⊤
 IsSoundRefusal refusal.TooMuchText = ⊤
 IsSoundRefusal refusal.Min = ⊤
+IsSoundRefusal refusal.Scope = ⊤
 IsSoundRefusal refusal.Memory = ⊤

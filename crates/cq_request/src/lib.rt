@@ -17,3 +17,4 @@ pub use reading::{parsed, read_request, read_value};
 pub use request::{Kind, Query, Refusal, Request};
 pub use row::{Op, op_of};
 pub use table::{Ruled, fault_in};
+pub use text::is_path;

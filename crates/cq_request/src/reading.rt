@@ -1,4 +1,4 @@
-ghost use Rattle.std.specs.Prelude.{◌≡◌, ◌≤◌, Some, IfOk, IfErr, IfSome, true, codes, length, None, is_some};
+ghost use Rattle.std.specs.Prelude.{◌≡◌, ◌≤◌, ◌&&◌, Some, IfOk, IfErr, IfSome, true, not, codes, length, None, is_some};
 ghost use Rattle.std.specs.Str.{IsUtf8};
 ghost use Rattle.serde_json.specs.View.{view};
 ghost use Rattle.cq_request.specs.Members as members;
@@ -66,6 +66,31 @@ fn min_passes(settings: &Settings, value: &Value) -> bool
     }
 }
 
+fn has_path(value: &Value) -> bool
+    ensures { result ≡ is_some (members.text_at (codes "path") (view value.now)) }
+{
+    match text_at(value, "path") {
+        Some(_) => true,
+        None => false,
+    }
+}
+
+// Whether a scope is a path, and stands beside none.
+fn is_lone_path(scope: &str, value: &Value) -> bool
+    ensures { result ≡ (text.is_path scope.now && not (is_some (members.text_at (codes "path") (view value.now)))) }
+{
+    is_path(scope) && !has_path(value)
+}
+
+fn scope_passes(value: &Value) -> bool
+    ensures { result ≡ spec.scope_passes (view value.now) }
+{
+    match text_at(value, "scope") {
+        Some(scope) => is_lone_path(scope, value),
+        None => true,
+    }
+}
+
 fn value_refused(settings: &Settings, value: &Value) -> Option<Refusal>
     ensures refused { result ≡ spec.value_refused settings.now.chunk (view value.now) }
     ensures named { IfSome result IsSoundRefusal }
@@ -81,6 +106,9 @@ fn value_refused(settings: &Settings, value: &Value) -> Option<Refusal>
     }
     if !min_passes(settings, value) {
         return Some(Refusal::Min);
+    }
+    if !scope_passes(value) {
+        return Some(Refusal::Scope);
     }
     None
 }
@@ -113,12 +141,12 @@ fn text_or(alloc: Global, value: &Value, key: &str) -> Result<Text, Memory>
     }
 }
 
-fn path_at(alloc: Global, value: &Value) -> Result<Option<Text>, Memory>
-    ensures path { IfOk result (λ p. p ≡ members.text_at (codes "path") (view value.now)) }
-    ensures utf8 { IfOk result (λ p. IfSome p IsUtf8) }
+fn copied_at(alloc: Global, value: &Value, key: &str) -> Result<Option<Text>, Memory>
+    ensures text { IfOk result (λ t. t ≡ members.text_at key.now (view value.now)) }
+    ensures utf8 { IfOk result (λ t. IfSome t IsUtf8) }
 {
-    match text_at(value, "path") {
-        Some(path) => Ok(Some(Text::from_bytes(alloc, path.as_bytes())?)),
+    match text_at(value, key) {
+        Some(text) => Ok(Some(Text::from_bytes(alloc, text.as_bytes())?)),
         None => Ok(None),
     }
 }
@@ -157,13 +185,17 @@ fn query_of(alloc: Global, settings: &Settings, kind: Kind, value: &Value) -> Re
     ensures query { IfOk result (λ q. q ≡ spec.query_of settings.now.chunk kind (view value.now)) }
     ensures sound { IfOk result (IsSoundQuery settings.now.chunk) }
 {
+    let path = copied_at(alloc, value, "path")?;
+    let scope = copied_at(alloc, value, "scope")?;
     Ok(Query {
         kind,
         project: text_or(alloc, value, "project")?,
-        path: path_at(alloc, value)?,
+        path,
         min: min_or(settings, value),
         at: number_at(value, "at").unwrap_or(0),
         finish: flag_at(value, "finish").unwrap_or(true),
+        scope,
+        since: number_at(value, "since").unwrap_or(0),
     })
 }
 

@@ -25,6 +25,11 @@ pub struct Query {
     pub at: u64,
     /// Whether work that is left is to be done first.
     pub finish: bool,
+    /// The pattern that a file's path has to fit to be measured; all files where there is none. It is a path, and stands
+    /// beside no path.
+    pub scope: Option<Text>,
+    /// The version above which a file's change has to be for the file to be measured.
+    pub since: u64,
 }
 
 /// What a line asks for.
@@ -53,6 +58,8 @@ pub enum Refusal {
     TooMuchText,
     /// The least length is out of its range.
     Min,
+    /// The scope is no path, or stands beside a path.
+    Scope,
     /// Memory was refused.
     Memory,
 }

@@ -34,6 +34,8 @@ pub(crate) enum Name {
     Min,
     At,
     Finish,
+    Scope,
+    Since,
 }
 
 /// A field of a request, and whether it has to be there.
@@ -90,6 +92,16 @@ const MAYBE_FINISH: Field = Field {
     is_needed: false,
 };
 
+const MAYBE_SCOPE: Field = Field {
+    name: Name::Scope,
+    is_needed: false,
+};
+
+const MAYBE_SINCE: Field = Field {
+    name: Name::Since,
+    is_needed: false,
+};
+
 const PUT: [Field; 4] = [PROJECT, PATH, LANG, TEXT];
 
 const DROP: [Field; 2] = [PROJECT, PATH];
@@ -100,7 +112,24 @@ const FILES: [Field; 3] = [PROJECT, MAYBE_AT, MAYBE_FINISH];
 
 const GROUPS: [Field; 5] = [PROJECT, MAYBE_MIN, MAYBE_PATH, MAYBE_AT, MAYBE_FINISH];
 
-const VERDICT: [Field; 4] = [PROJECT, MAYBE_MIN, MAYBE_AT, MAYBE_FINISH];
+const MEASURES: [Field; 7] = [
+    PROJECT,
+    MAYBE_MIN,
+    MAYBE_PATH,
+    MAYBE_AT,
+    MAYBE_FINISH,
+    MAYBE_SCOPE,
+    MAYBE_SINCE,
+];
+
+const VERDICT: [Field; 6] = [
+    PROJECT,
+    MAYBE_MIN,
+    MAYBE_AT,
+    MAYBE_FINISH,
+    MAYBE_SCOPE,
+    MAYBE_SINCE,
+];
 
 const FUNCTIONS: [Field; 4] = [PROJECT, PATH, MAYBE_AT, MAYBE_FINISH];
 
@@ -114,7 +143,7 @@ fn row_of(op: Op) -> &'static [Field]
         Op::Gate => &GATE,
         Op::Files => &FILES,
         Op::Groups => &GROUPS,
-        Op::Measures => &GROUPS,
+        Op::Measures => &MEASURES,
         Op::Verdict => &VERDICT,
         Op::Functions => &FUNCTIONS,
         Op::State => &[],
@@ -157,6 +186,8 @@ fn key_of(name: Name) -> &'static str
         Name::Min => "min",
         Name::At => "at",
         Name::Finish => "finish",
+        Name::Scope => "scope",
+        Name::Since => "since",
     }
 }
 
@@ -174,9 +205,9 @@ fn is_of_form(name: Name, value: &Value) -> bool
 {
     match name {
         Name::Project => is_project_value(value),
-        Name::Path | Name::Lang | Name::Text => value.is_string(),
+        Name::Path | Name::Lang | Name::Text | Name::Scope => value.is_string(),
         Name::Conditions => is_condition_list(value),
-        Name::Min | Name::At => value.is_u64(),
+        Name::Min | Name::At | Name::Since => value.is_u64(),
         Name::Finish => value.is_boolean(),
     }
 }

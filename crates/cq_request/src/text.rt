@@ -56,7 +56,7 @@ fn are_parts(bytes: &[u8]) -> bool
 }
 
 /// Whether it is the path of a file.
-pub(crate) fn is_path(path: &str) -> bool
+pub fn is_path(path: &str) -> bool
     ensures { result ≡ text.is_path path.now }
 {
     let bytes = path.as_bytes();

@@ -49,6 +49,12 @@ const ACCENTED_PATH: Long = Long {
     back: "\"}",
 };
 
+const SCOPE: Long = Long {
+    front: r#"{"op":"verdict","project":"p","scope":""#,
+    part: "*",
+    back: "\"}",
+};
+
 const TEXT: Long = Long {
     front: r#"{"op":"put","project":"p","path":"t","lang":"any","text":"0123456789abcdef"#,
     part: "0123456789abcdef",
@@ -83,6 +89,12 @@ fn paths_have_512_bytes_at_most(rt: HostRuntime) -> Result<(), Memory> {
 #[test]
 fn letters_of_a_path_count_as_bytes(rt: HostRuntime) -> Result<(), Memory> {
     assert!(rt; ACCENTED_PATH.has_limit(rt.alloc(), 256, "path")?);
+    Ok(())
+}
+
+#[test]
+fn scopes_have_512_bytes_at_most(rt: HostRuntime) -> Result<(), Memory> {
+    assert!(rt; SCOPE.has_limit(rt.alloc(), 512, "scope")?);
     Ok(())
 }
 

@@ -66,6 +66,10 @@ field:project {"op":"files","a":1}
 field:Op {"op":"drop","project":"p","path":"t","Op":1}
 field:min {"op":"functions","project":"p","path":"..","min":20,"name":"f"}
 field:x {"op":"put","project":"p","path":"..","lang":"ada","text":"","x":1}
+field:scope {"op":"groups","project":"p","scope":"src"}
+field:since {"op":"files","project":"p","since":1}
+field:since {"op":"functions","project":"p","path":"t","since":1}
+field:path {"op":"verdict","project":"p","scope":"src","path":"t"}
 "#;
 
 const NUMBERS: &str = r#"ok {"op":"files","project":"p","at":0}
@@ -106,6 +110,28 @@ ok {"op":"drop","project":"p","path":"..."}
 ok {"op":"drop","project":"p","path":".a/ b/é\\"}
 "#;
 
+// Only measures and verdicts have them. Each is looked at behind the other fields, and a scope that is none behind all.
+const SCOPES: &str = r#"ok {"op":"measures","project":"p","scope":"src/**"}
+ok {"op":"verdict","project":"p","scope":"*","since":18446744073709551615}
+ok {"op":"measures","project":"p","path":"t","since":1}
+ok {"op":"verdict","project":"p","since":0}
+field:scope {"op":"measures","project":"p","scope":7}
+field:scope {"op":"verdict","project":"p","scope":null,"since":-1}
+field:since {"op":"measures","project":"p","scope":"a//b","since":-1}
+field:since {"op":"verdict","project":"p","since":"1"}
+field:finish {"op":"measures","project":"p","finish":1,"scope":1}
+field:more {"op":"measures","project":"p","scope":"a//b","more":1}
+scope {"op":"measures","project":"p","scope":"a//b"}
+scope {"op":"verdict","project":"p","scope":""}
+scope {"op":"verdict","project":"p","scope":"src/../**"}
+scope {"op":"measures","project":"p","scope":"a\u0000"}
+scope {"op":"measures","project":"p","scope":"src","path":"t"}
+scope {"op":"measures","project":"p","scope":"src","path":"src"}
+path {"op":"measures","project":"p","scope":"src","path":".."}
+min {"op":"measures","project":"p","scope":"a//b","min":19}
+min {"op":"verdict","project":"p","scope":"/","min":100001}
+"#;
+
 const CONDITIONS: &str = r#"field:conditions {"op":"gate","project":"p","conditions":{}}
 field:conditions {"op":"gate","project":"p","conditions":[1]}
 field:conditions {"op":"gate","project":"p","conditions":[{"metric":"lines","op":"GT"}]}
@@ -130,5 +156,6 @@ fn lines_are_told(rt: HostRuntime) {
     assert!(rt; all_tell(alloc, OTHER_MEMBER));
     assert!(rt; all_tell(alloc, NUMBERS));
     assert!(rt; all_tell(alloc, VALUES));
+    assert!(rt; all_tell(alloc, SCOPES));
     assert!(rt; all_tell(alloc, CONDITIONS));
 }

@@ -55,6 +55,10 @@ fn is_query(query: &Query, kind: Kind, path: &str, numbers: (u32, u64, bool)) ->
         && (query.min, query.at, query.finish) == numbers
 }
 
+fn is_choice(query: &Query, scope: &str, since: u64) -> bool {
+    is_path(&query.scope, scope) && query.since == since
+}
+
 fn reads_put(alloc: Global, line: &str, lang: Lang, text: &str) -> Result<bool, Refusal> {
     match read_request(alloc, &SETTINGS, line.as_bytes())? {
         Request::Change(change) => Ok(is_put(&change, lang, text)),
@@ -99,6 +103,14 @@ fn reads_query(
 ) -> Result<bool, Refusal> {
     match read_request(alloc, settings, line.as_bytes())? {
         Request::Query(query) => Ok(is_query(&query, want.kind, want.path, want.numbers)),
+        _ => Ok(false),
+    }
+}
+
+// Whether a query chooses files by this scope, and by this version.
+fn reads_choice(alloc: Global, line: &str, scope: &str, since: u64) -> Result<bool, Refusal> {
+    match read_request(alloc, &SETTINGS, line.as_bytes())? {
+        Request::Query(query) => Ok(is_choice(&query, scope, since)),
         _ => Ok(false),
     }
 }
@@ -174,6 +186,22 @@ fn queries_are_read(rt: HostRuntime) -> Result<(), Refusal> {
         numbers: (100, 3, false),
     };
     assert!(rt; reads_query(alloc, &SETTINGS, FUNCTIONS, functions)?);
+    Ok(())
+}
+
+const CHOSEN: &str = r#"{"op":"measures","project":"p","scope":"src/**/*.txt","since":7}"#;
+
+const JUDGED: &str = r#"{"since":18446744073709551615,"scope":"?","op":"verdict","project":"p"}"#;
+
+const SINCE: &str = r#"{"op":"measures","project":"p","path":"t","since":3}"#;
+
+#[test]
+fn scopes_are_read(rt: HostRuntime) -> Result<(), Refusal> {
+    let alloc = rt.alloc();
+    assert!(rt; reads_choice(alloc, CHOSEN, "src/**/*.txt", 7)?);
+    assert!(rt; reads_choice(alloc, JUDGED, "?", u64::MAX)?);
+    assert!(rt; reads_choice(alloc, SINCE, "", 3)?);
+    assert!(rt; reads_choice(alloc, MEASURES, "", 0)?);
     Ok(())
 }
 

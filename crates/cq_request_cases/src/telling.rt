@@ -31,6 +31,7 @@ fn is_refusal(refusal: &Refusal, word: &str) -> bool {
         Refusal::Path => word == "path",
         Refusal::TooMuchText => word == "text",
         Refusal::Min => word == "min",
+        Refusal::Scope => word == "scope",
         Refusal::Memory => false,
     }
 }

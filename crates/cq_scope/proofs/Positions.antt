@@ -1,19 +1,18 @@
 -- The positions of chosen files, as they are gathered from 0 on.
 use Rattle.std.proofs.Common.{◌≡◌, ℕ, ◌+◌, ◌<◌, ◌≤◌, Bool, true, false, cond, List, [], ◌∷◌, ◌++◌, length, get_or, take, map, filter, Option, sym, ap, ◌∙◌, subst, arith}
-use Rattle.std.specs.Prelude.{All, IsTrue, option_map, unwrap_or}
+use Rattle.std.specs.Prelude.{All, option_map, unwrap_or}
 use Rattle.std.specs.Arc.{arc_value}
 use Rattle.std.specs.List.{range_with_len}
 use Rattle.std.specs.List.Sorted.{IsStrictlyIncreasing}
 use Rattle.std.specs.declared.sync.Arc.{Arc}
 use Rattle.std.specs.declared.alloc.Global.{Global}
-use Rattle.std.proofs.lemmas.List.{append-nil, get_or-map, length-map, take_all}
-use Rattle.std.proofs.lemmas.List.Elements.{All-filter, All-get_or, filter_more}
+use Rattle.std.proofs.lemmas.List.{append-nil, take_all}
+use Rattle.std.proofs.lemmas.List.Elements.{All-filter, filter_more}
 use Rattle.std.proofs.lemmas.List.FromFn.{get_or-range_with_len, length-range_with_len}
 use Rattle.std.proofs.lemmas.List.Kept.{IsStrictlyIncreasing-filter}
 use Rattle.std.proofs.lemmas.Option.{slice_get-get_or, slice_get-map}
 use Rattle.cq_history.specs.Files.{File}
-use Rattle.cq_scope.specs.Chosen.{is_chosen, is_chosen_at, HavePaths}
-use Rattle.cq_scope.specs.Paths.{is_path}
+use Rattle.cq_scope.specs.Chosen.{is_chosen, is_chosen_at}
 
 module _ (is : ℕ → Bool) (n : ℕ) where
   next_position : (i : ℕ) → i < n → filter is (take (i + 1) (range_with_len 0 n)) ≡ filter is (take i (range_with_len 0 n)) ++ cond (is i) (i ∷ []) []
@@ -64,9 +63,3 @@ module _ {W : Type 0} where
   chosen_there scope since owners i x b within at is =
       ap (λ f. unwrap_or (option_map (is_chosen scope since) f) false) (slice_get-map arc_value owners i ∙ ap (option_map arc_value) (slice_get-get_or owners i x within))
       ∙ sym (is ∙ ap (λ (o : Arc (File W) Global). is_chosen scope since (arc_value o)) at)
-
-  pub path_there : (owners : List (Arc (File W) Global)) (i : ℕ) (x : Arc (File W) Global) → HavePaths (map arc_value owners) → i < length owners → x ≡ get_or owners i x → IsTrue (is_path (arc_value x).path)
-  path_there owners i x paths within at =
-      let as_many = length-map owners arc_value in
-      subst (λ (f : File W). IsTrue (is_path f.path)) (get_or-map arc_value owners i x (arc_value x) within ∙ sym (ap arc_value at))
-      (All-get_or (λ (f : File W). IsTrue (is_path f.path)) (map arc_value owners) i (arc_value x) (omega (arith, as_many, within)) paths)

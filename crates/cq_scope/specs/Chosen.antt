@@ -1,14 +1,14 @@
--- Which files of a version are chosen: those whose path fits, and that were put after a change.
-use Rattle.std.specs.Prelude.{◌&&◌, ℕ, nat_lt, List, length, filter, slice_get, Bool, true, false, Option, Some, None, option_map, unwrap_or, IsTrue, All}
+-- Which files of a version are chosen: those whose path fits, and that a change above a number put.
+use Rattle.std.specs.Prelude.{◌&&◌, ℕ, nat_lt, List, length, filter, slice_get, Bool, true, false, Option, Some, None, option_map, unwrap_or}
 use Rattle.std.specs.List.{range_with_len}
 use Rattle.cq_history.specs.Files.{File}
 use Rattle.cq_scope.specs.Fits.{fits}
 use Rattle.cq_scope.specs.Paths.{is_path}
 
--- the path fits the pattern; without one every path does
+-- it is a path and fits the pattern; without one every path does
 abbrev pub is_in_scope : Option (List ℕ) → List ℕ → Bool
 is_in_scope None path = true
-is_in_scope (Some pattern) path = fits pattern path
+is_in_scope (Some pattern) path = is_path path && fits pattern path
 
 -- its path fits, and the change that put it is above `since`
 abbrev pub is_chosen : {W : Type 0} → Option (List ℕ) → ℕ → File W → Bool
@@ -21,10 +21,3 @@ is_chosen_at scope since files i = unwrap_or (option_map (is_chosen scope since)
 -- the positions of the chosen files, from 0, in their order
 abbrev pub chosen : {W : Type 0} → Option (List ℕ) → ℕ → List (File W) → List ℕ
 chosen scope since files = filter (is_chosen_at scope since files) (range_with_len 0 (length files))
-
--- the path of a file is one, and that of each file
-abbrev pub HasPath : {W : Type 0} → File W → Type 0
-HasPath f = IsTrue (is_path f.path)
-
-abbrev pub HavePaths : {W : Type 0} → List (File W) → Type 0
-HavePaths files = All HasPath files

@@ -12,6 +12,6 @@ mod path;
 mod pattern;
 mod row;
 
-pub use choosing::choose;
+pub use choosing::{choose, is_chosen};
 pub use laws::{a_star_takes_any_front, two_stars_take_any_parts};
 pub use pattern::{Pattern, fits};

@@ -1,7 +1,3 @@
-ghost use Rattle.std.specs.Prelude.{◌≡◌, true, IfOk, All};
-ghost use Rattle.std.specs.Arc.{arc_value};
-ghost use Rattle.cq_scope.specs.Chosen.{HasPath};
-
 use cq_base::{Lang, Memory, Text};
 use cq_projects::Held;
 use cq_scope::{Pattern, choose};
@@ -34,24 +30,7 @@ fn files_at(alloc: Global, paths: &str) -> Result<Vec<Arc<Held<Bare>, Global>>, 
     Ok(all)
 }
 
-fn has_path(alloc: Global, file: &Arc<Held<Bare>, Global>) -> Result<bool, Memory>
-    ensures { IfOk result (λ b. b ≡ true → HasPath (arc_value file.now)) }
-{
-    Ok(Pattern::read(alloc, &file.path)?.is_some())
-}
-
-fn have_paths(alloc: Global, files: &[Arc<Held<Bare>, Global>]) -> Result<bool, Memory>
-    ensures { IfOk result (λ b. b ≡ true → All (λ o. HasPath (arc_value o)) files.now) }
-{
-    for file in files {
-        if !has_path(alloc, file)? {
-            return Ok(false);
-        }
-    }
-    Ok(true)
-}
-
-// The positions that are chosen of files at these paths; an error where one is none, or the pattern isn't one.
+// The positions that are chosen of files at these paths; an error where the pattern is none.
 fn chosen(
     alloc: Global,
     paths: &str,
@@ -59,7 +38,7 @@ fn chosen(
     since: u64,
 ) -> Result<Vec<u32>, Memory> {
     let files = files_at(alloc, paths)?;
-    if files.len() > 9 || !have_paths(alloc, &files)? {
+    if files.len() > 9 {
         return Err(Memory);
     }
     let Some(pattern) = pattern else {
@@ -80,6 +59,17 @@ fn files_are_chosen_by_their_paths(rt: HostRuntime) -> Result<(), Memory> {
     assert!(rt; chosen(alloc, PATHS, Some("**/x.*"), 0)?.as_slice() == [0, 2].as_slice());
     assert!(rt; chosen(alloc, PATHS, Some("*/x.txt"), 0)?.as_slice() == [2].as_slice());
     assert!(rt; chosen(alloc, PATHS, Some("none/*"), 0)?.is_empty());
+    Ok(())
+}
+
+// What is no path fits no pattern.
+const BROKEN: &str = "a//b\na/b\n../a\n";
+
+#[test]
+fn paths_alone_fit_patterns(rt: HostRuntime) -> Result<(), Memory> {
+    let alloc = rt.alloc();
+    assert!(rt; chosen(alloc, BROKEN, Some("**"), 0)?.as_slice() == [1].as_slice());
+    assert!(rt; chosen(alloc, BROKEN, None, 0)?.as_slice() == [0, 1, 2].as_slice());
     Ok(())
 }
 

@@ -1,10 +1,10 @@
 -- What the views cost that were opened for one line, by the row of its answer.
-use Rattle.std.proofs.Common.{◌≡◌, ℕ, ◌<◌, ◌≤◌, List, [], ◌∷◌, ◌++◌, length, map, Option, Some, None, Ok, Err, refl, sym, ap, ◌∙◌, subst, inl, inr}
+use Rattle.std.proofs.Common.{◌≡◌, ℕ, ◌<◌, ◌≤◌, Bool, List, [], ◌∷◌, ◌++◌, length, map, Option, Some, None, Ok, Err, refl, sym, ap, ◌∙◌, subst, inl, inr}
 use Rattle.std.specs.Prelude.{filter_map, IfSome}
 use Rattle.std.specs.List.{AllByRecursion}
 use Rattle.std.proofs.lemmas.List.Elements.{filter_map-append}
 use Rattle.cq_answer.specs.declared.part.Part.{Part}
-use Rattle.cq_answer.specs.Reply.{IsReply, reply_of, part_read}
+use Rattle.cq_answer.specs.Reply.{IsReply, reply_of, part_read, chosen_read}
 use Rattle.cq_answer.specs.Rows.{Facts, facts_read}
 use Rattle.cq_base.specs.declared.change.Change.{Change}
 use Rattle.cq_base.specs.declared.change.Condition.{Condition}
@@ -32,8 +32,8 @@ use Rattle.cq_session.specs.Costs.{Viewing, AreViewings, shown_in, answered_in, 
 use Rattle.cq_session.proofs.Spending.{IsWithin, costs_none, costs_untold, spends_none}
 
 -- a reply by a version shows it
-module _ (facts : Facts) (conditions : List Condition) (version : ℕ) (p : Part) (groups : List Group) where
-  kind_shown : (k : Kind) → shown_in (reply_of facts conditions version k p groups) ≡ Some version
+module _ (facts : Facts) (conditions : List Condition) (version : ℕ) (p : Part) (is_chosen : ℕ → Bool) (groups : List Group) where
+  kind_shown : (k : Kind) → shown_in (reply_of facts conditions version k p is_chosen groups) ≡ Some version
   kind_shown kind.Files = refl
   kind_shown kind.Groups = refl
   kind_shown kind.Measures = refl
@@ -41,7 +41,7 @@ module _ (facts : Facts) (conditions : List Condition) (version : ℕ) (p : Part
   kind_shown kind.Functions = refl
 
 shown_at : (set : Settings) (changes : List Change) (version : ℕ) (q : Query) (r : Reply) → IsReply set changes version q r → shown_in r ≡ Some version
-shown_at set changes version q r is = ap shown_in is.reply_is ∙ kind_shown (facts_read is.readings) (conditions_at changes version q.project) version (part_read is.readings q) is.groups q.kind
+shown_at set changes version q r is = ap shown_in is.reply_is ∙ kind_shown (facts_read is.readings) (conditions_at changes version q.project) version (part_read is.readings q) (chosen_read is.readings q) is.groups q.kind
 
 -- works that are done open no view
 dones_open_none : (c : ℕ) (rs : List ℕ) → filter_map opened_by (map (λ r. Done c r) rs) ≡ []

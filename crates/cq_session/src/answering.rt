@@ -1,5 +1,5 @@
 ghost use Rattle.std.specs.Prelude.{◌≡◌, ◌≤◌, IfOk, OnErr};
-ghost use Rattle.cq_answer.specs.Parts.{HasPath};
+ghost use Rattle.cq_answer.specs.Parts.{HasPath, HasScope};
 ghost use Rattle.cq_base.specs.Changes.{IsSoundChange};
 ghost use Rattle.cq_base.specs.Settings.{IsInRange};
 ghost use Rattle.cq_hub.specs.Hubs.{IsPassOf};
@@ -81,6 +81,7 @@ pub fn query_reply<R: Threads + Sync, L: Ledger, H: Hub<Work<L>>, G: Gate>(
     requires hub_settings { H.settings hub.now ≡ settings.now }
     requires long { settings.now.chunk ≤ query.now.min }
     requires path { HasPath query.now.kind query.now.path }
+    requires scope { HasScope query.now.path query.now.scope }
     requires closed { HasAccepted H.Hub hub.now pass.old seen }
     ensures replies { IfOk result (HasAnswered H.Hub hub.now pass.old pass.new steps.old steps.new seen query.now) }
     ensures text { IfOk result IsReplyText }

@@ -1,5 +1,5 @@
 ghost use Rattle.std.specs.Prelude.{◌≡◌, ◌≤◌, IfOk, OnErr};
-ghost use Rattle.cq_answer.specs.Parts.{HasPath};
+ghost use Rattle.cq_answer.specs.Parts.{HasPath, HasScope};
 ghost use Rattle.cq_base.specs.Settings.{IsInRange};
 ghost use Rattle.cq_hub.specs.Hubs.{IsPassOf};
 ghost use Rattle.cq_reply.specs.Written.{IsReplyText};
@@ -35,6 +35,7 @@ fn reply_in<R: Threads + Sync, L: Ledger, H: Hub<Work<L>>>(
     requires hub_settings { H.settings hub.now ≡ settings.now }
     requires long { settings.now.chunk ≤ query.now.min }
     requires path { HasPath query.now.kind query.now.path }
+    requires scope { HasScope query.now.path query.now.scope }
     requires viewing { HasOpen H.Hub hub.now IsWorkOf view.now pass.old }
     ensures reply { IfOk result (ShowsOpen H.Hub hub.now IsWorkOf view.now pass.old query.now) }
     ensures text { IfOk result IsReplyText }
@@ -105,6 +106,7 @@ pub(crate) fn view_reply<R: Threads + Sync, L: Ledger, H: Hub<Work<L>>, G: Gate>
     requires hub_settings { H.settings hub.now ≡ settings.now }
     requires long { settings.now.chunk ≤ query.now.min }
     requires path { HasPath query.now.kind query.now.path }
+    requires scope { HasScope query.now.path query.now.scope }
     requires ready { HasReady H.Hub hub.now pass.old to }
     ensures shown { IfOk result (HasShown H.Hub hub.now pass.old pass.new steps.old steps.new to query.now) }
     ensures text { IfOk result IsReplyText }

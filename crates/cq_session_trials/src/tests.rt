@@ -16,7 +16,7 @@ const SETTINGS: Settings = Settings {
 };
 
 // What a talk of some hundred lines has to tell, so that a trial shows something.
-const TOLD: [&str; 10] = [
+const TOLD: [&str; 11] = [
     "\"change\":50,",
     "\"at\":",
     "\"state\":\"fault\"",
@@ -27,6 +27,7 @@ const TOLD: [&str; 10] = [
     "\"future\"",
     "\"absent\"",
     "\"pending\"",
+    "\"scope\"",
 ];
 
 // What the second of two talks has to tell.
@@ -122,22 +123,22 @@ fn one_shared_talk<R: Threads + Wait + Sync>(
 
 #[test]
 fn a_talk_goes_as_told_where_all_keys_are_one(rt: HostRuntime) -> Result<(), Memory> {
-    assert_eq!(rt; one_talk(&rt, rt.alloc(), 0, 1, 3)?, Went::AsTold);
+    assert_eq!(rt; one_talk(&rt, rt.alloc(), 0, 1, 4)?, Went::AsTold);
     assert_eq!(rt; one_talk(&rt, rt.alloc(), 0, 7, 5)?, Went::AsTold);
     Ok(())
 }
 
 #[test]
 fn a_talk_goes_as_told_where_keys_are_few(rt: HostRuntime) -> Result<(), Memory> {
-    assert_eq!(rt; one_talk(&rt, rt.alloc(), 3, 1, 3)?, Went::AsTold);
-    assert_eq!(rt; one_talk(&rt, rt.alloc(), 3, 7, 4)?, Went::AsTold);
+    assert_eq!(rt; one_talk(&rt, rt.alloc(), 3, 1, 95)?, Went::AsTold);
+    assert_eq!(rt; one_talk(&rt, rt.alloc(), 3, 7, 38)?, Went::AsTold);
     Ok(())
 }
 
 #[test]
 fn a_talk_goes_as_told_where_keys_are_whole(rt: HostRuntime) -> Result<(), Memory> {
-    assert_eq!(rt; one_talk(&rt, rt.alloc(), 64, 1, 5)?, Went::AsTold);
-    assert_eq!(rt; one_talk(&rt, rt.alloc(), 64, 7, 6)?, Went::AsTold);
+    assert_eq!(rt; one_talk(&rt, rt.alloc(), 64, 1, 100)?, Went::AsTold);
+    assert_eq!(rt; one_talk(&rt, rt.alloc(), 64, 7, 17)?, Went::AsTold);
     Ok(())
 }
 
@@ -179,6 +180,6 @@ fn changes_and_texts_are_limited(rt: HostRuntime) -> Result<(), Memory> {
 #[test]
 fn a_talk_over_a_shared_hub_goes_as_told(rt: HostRuntime) -> Result<(), Memory> {
     assert_eq!(rt; one_shared_talk(&rt, rt.alloc(), 1, 12)?, Went::AsTold);
-    assert_eq!(rt; one_shared_talk(&rt, rt.alloc(), 7, 13)?, Went::AsTold);
+    assert_eq!(rt; one_shared_talk(&rt, rt.alloc(), 7, 111)?, Went::AsTold);
     Ok(())
 }

@@ -58,6 +58,9 @@ field:path {"step":"reply","by":1,"request":{"op":"files","project":"p","path":"
 field:path {"step":"reply","by":1,"request":{"op":"verdict","project":"p","path":"t"}}
 field:path {"step":"reply","by":1,"request":{"op":"functions","project":"p"}}
 reply:1:functions {"step":"reply","by":1,"request":{"op":"functions","project":"p","path":"t"}}
+field:since {"step":"reply","by":1,"request":{"op":"files","project":"p","since":1}}
+scope {"step":"reply","by":1,"request":{"op":"verdict","project":"p","scope":"a//b"}}
+scope {"step":"reply","by":1,"request":{"op":"measures","project":"p","scope":"src","path":"t"}}
 path {"step":"reply","by":1,"request":{"op":"groups","project":"p","path":"..","min":19}}
 min {"step":"reply","by":1,"request":{"op":"groups","project":"p","min":19}}
 reply:1:groups {"step":"reply","by":1,"request":{"op":"groups","project":"p","min":20}}

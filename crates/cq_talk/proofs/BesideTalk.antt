@@ -57,6 +57,7 @@ no_version refusal.Lang = refl
 no_version refusal.Path = refl
 no_version refusal.TooMuchText = refl
 no_version refusal.Min = refl
+no_version refusal.Scope = refl
 no_version refusal.Memory = refl
 
 pub none_told : (changes : List Change) (change : Change) (why : Refused) → (with_told changes change (cause_told why) ≡ changes) × (version_in (cause_told why) ≡ 0)

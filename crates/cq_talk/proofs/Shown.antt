@@ -1,5 +1,5 @@
 -- An answer names its version, and depends on no change behind that.
-use Rattle.std.proofs.Common.{◌≡◌, ℕ, ◌≤◌, List, ◌++◌, length, refl, sym, ap, ◌∙◌, subst}
+use Rattle.std.proofs.Common.{◌≡◌, ℕ, ◌≤◌, Bool, List, ◌++◌, length, refl, sym, ap, ◌∙◌, subst}
 use Rattle.cq_base.specs.declared.settings.Settings.{Settings}
 use Rattle.cq_base.specs.declared.change.Change.{Change}
 use Rattle.cq_base.specs.declared.change.Condition.{Condition}
@@ -14,27 +14,27 @@ use Rattle.cq_request.specs.declared.request.Query.{Query}
 use Rattle.cq_reply.specs.declared.reply.Reply.{Reply}
 use Rattle.cq_reply.specs.declared.reply.Reply.TheVariants as reply
 use Rattle.cq_answer.specs.declared.part.Part.{Part}
-use Rattle.cq_answer.specs.Reply.{IsReply, reply_of, part_read}
+use Rattle.cq_answer.specs.Reply.{IsReply, reply_of, part_read, chosen_read}
 use Rattle.cq_answer.specs.Rows.{Facts, facts_read}
 use Rattle.cq_hub.specs.Hubs.{Grows}
 use Rattle.cq_talk.specs.Replies.{named, version_in}
 
-module _ (facts : Facts) (conditions : List Condition) (version : ℕ) (p : Part) (groups : List Group) where
-  kind_named : (k : Kind) → named (reply_of facts conditions version k p groups) ≡ version
+module _ (facts : Facts) (conditions : List Condition) (version : ℕ) (p : Part) (is_chosen : ℕ → Bool) (groups : List Group) where
+  kind_named : (k : Kind) → named (reply_of facts conditions version k p is_chosen groups) ≡ version
   kind_named kind.Files = refl
   kind_named kind.Groups = refl
   kind_named kind.Measures = refl
   kind_named kind.Verdict = refl
   kind_named kind.Functions = refl
 
-  kind_version : (k : Kind) → version_in (reply_of facts conditions version k p groups) ≡ version
+  kind_version : (k : Kind) → version_in (reply_of facts conditions version k p is_chosen groups) ≡ version
   kind_version kind.Files = refl
   kind_version kind.Groups = refl
   kind_version kind.Measures = refl
   kind_version kind.Verdict = refl
   kind_version kind.Functions = refl
 
-  kind_no_pending : (k : Kind) (n : ℕ) → reply.Pending n ≡ reply_of facts conditions version k p groups → ⊥
+  kind_no_pending : (k : Kind) (n : ℕ) → reply.Pending n ≡ reply_of facts conditions version k p is_chosen groups → ⊥
   kind_no_pending kind.Files n same = absurd (cc (same))
   kind_no_pending kind.Groups n same = absurd (cc (same))
   kind_no_pending kind.Measures n same = absurd (cc (same))
@@ -43,14 +43,14 @@ module _ (facts : Facts) (conditions : List Condition) (version : ℕ) (p : Part
 
 module _ (set : Settings) (changes : List Change) (version : ℕ) (q : Query) (r : Reply) (is : IsReply set changes version q r) where
   pub shown_named : named r ≡ version
-  shown_named = ap named is.reply_is ∙ kind_named (facts_read is.readings) (conditions_at changes version q.project) version (part_read is.readings q) is.groups q.kind
+  shown_named = ap named is.reply_is ∙ kind_named (facts_read is.readings) (conditions_at changes version q.project) version (part_read is.readings q) (chosen_read is.readings q) is.groups q.kind
 
   pub shown_version : version_in r ≡ version
-  shown_version = ap version_in is.reply_is ∙ kind_version (facts_read is.readings) (conditions_at changes version q.project) version (part_read is.readings q) is.groups q.kind
+  shown_version = ap version_in is.reply_is ∙ kind_version (facts_read is.readings) (conditions_at changes version q.project) version (part_read is.readings q) (chosen_read is.readings q) is.groups q.kind
 
   -- it tells of no change that isn't done
   pub shown_no_pending : (n : ℕ) → r ≡ reply.Pending n → ⊥
-  shown_no_pending n same = kind_no_pending (facts_read is.readings) (conditions_at changes version q.project) version (part_read is.readings q) is.groups q.kind n (sym same ∙ is.reply_is)
+  shown_no_pending n same = kind_no_pending (facts_read is.readings) (conditions_at changes version q.project) version (part_read is.readings q) (chosen_read is.readings q) is.groups q.kind n (sym same ∙ is.reply_is)
 
   -- other changes with the same files and conditions at the version have the same answer
   pub shown_as : (others : List Change) → files_at others version q.project ≡ files_at changes version q.project → conditions_at others version q.project ≡ conditions_at changes version q.project → IsReply set others version q r
@@ -59,7 +59,7 @@ module _ (set : Settings) (changes : List Change) (version : ℕ) (q : Query) (r
     are_read = is.are_read ∙ sym files;
     groups = is.groups;
     are_groups = is.are_groups;
-    reply_is = is.reply_is ∙ ap (λ cs. reply_of (facts_read is.readings) cs version q.kind (part_read is.readings q) is.groups) (sym conditions);
+    reply_is = is.reply_is ∙ ap (λ cs. reply_of (facts_read is.readings) cs version q.kind (part_read is.readings q) (chosen_read is.readings q) is.groups) (sym conditions);
   }
 
 module _ (set : Settings) (h later : List Event) (version : ℕ) (q : Query) (r : Reply) (within : version ≤ length (accepted h)) where

@@ -40,6 +40,7 @@ none_named refusal.Lang = refl
 none_named refusal.Path = refl
 none_named refusal.TooMuchText = refl
 none_named refusal.Min = refl
+none_named refusal.Scope = refl
 none_named refusal.Memory = refl
 
 no_number : (why : Refused) → named (cause_told why) ≡ 0

@@ -41,9 +41,9 @@ fn tell_answer(
     let runs = runs_of(alloc, &tokens, query.min.unwrap_or(100) as usize)?;
     match kind {
         Kind::Groups => tell_runs(files, query.path, &tokens, &runs, told),
-        Kind::Measures => tell_counts(&counts_of(alloc, files, query.path, &tokens, &runs)?, told),
+        Kind::Measures => tell_counts(&counts_of(alloc, files, query, &tokens, &runs)?, told),
         _ => tell_verdict(
-            &counts_of(alloc, files, None, &tokens, &runs)?,
+            &counts_of(alloc, files, query, &tokens, &runs)?,
             conditions,
             told,
         ),

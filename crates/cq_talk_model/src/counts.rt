@@ -1,5 +1,6 @@
 use crate::groups::{Run, Token};
-use crate::model::{Condition, Put};
+use crate::model::{Condition, Put, Query};
+use crate::scopes::is_in_scope;
 use crate::texts::{Spelling, lines_of};
 use cq_base::Memory;
 use std::alloc::Global;
@@ -166,18 +167,32 @@ fn counts_of_file(file: usize, put: &Put, tokens: &[Token], blocks: &[Block]) ->
     counts
 }
 
-/// What is measured in all files, or in the one with a path, of a project that has these groups.
+// Whether a query is of the file: it stands at its path, fits its scope and was put behind its version, as far as it has
+// these.
+fn is_asked_for(query: &Query, put: &Put) -> bool {
+    let is_at_path = match query.path {
+        Some(path) => path == put.path,
+        None => true,
+    };
+    let is_fit = match query.scope {
+        Some(scope) => is_in_scope(scope, put.path),
+        None => true,
+    };
+    is_at_path && is_fit && put.number > query.since.unwrap_or(0)
+}
+
+/// What is measured in the files that a query is of, of a project that has these groups.
 pub fn counts_of(
     alloc: Global,
     files: &[&Put],
-    path: Option<u32>,
+    query: &Query,
     tokens: &[Token],
     runs: &[Run],
 ) -> Result<Counts, Memory> {
     let blocks = blocks_of(alloc, tokens, runs)?;
     let mut counts = NONE;
     for (file, put) in files.iter().enumerate() {
-        if path.is_none() || path == Some(put.path) {
+        if is_asked_for(query, put) {
             counts.add(&counts_of_file(file, put, tokens, &blocks));
         }
     }

@@ -11,6 +11,7 @@ mod groups;
 mod model;
 mod replies;
 mod requests;
+mod scopes;
 mod telling;
 mod texts;
 

@@ -63,6 +63,8 @@ pub struct Query {
     pub path: Option<u32>,
     pub at: Option<u64>,
     pub finish: Option<bool>,
+    pub scope: Option<u32>,
+    pub since: Option<u64>,
 }
 
 /// Why a line that is of its form is refused.

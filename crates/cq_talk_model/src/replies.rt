@@ -29,6 +29,8 @@ fn query_of(project: u32) -> Query {
         path: None,
         at: None,
         finish: None,
+        scope: None,
+        since: None,
     }
 }
 

@@ -1,5 +1,6 @@
 use crate::draws::Draws;
 use crate::model::{Change, Condition, Put, Query};
+use crate::scopes::scope_name;
 use crate::telling::path_name;
 use crate::texts::{drawn_words, write_words};
 use cq_base::Memory;
@@ -20,6 +21,8 @@ const REFUSED: &str = "\
 {\"op\":\"drop\",\"project\":\"p\",\"path\":\"src//b\"}\t{\"code\":5,\"error\":\"path\",\"ok\":false}
 {\"op\":\"groups\",\"project\":\"p\",\"min\":1}\t{\"code\":7,\"error\":\"min\",\"ok\":false}
 {\"op\":\"state\",\"at\":0}\t{\"code\":3,\"error\":\"field\",\"name\":\"at\",\"ok\":false}
+{\"op\":\"measures\",\"project\":\"p\",\"scope\":\"src//b\"}\t{\"code\":15,\"error\":\"scope\",\"ok\":false}
+{\"op\":\"measures\",\"project\":\"p\",\"path\":\"src/b\",\"scope\":\"src/b\"}\t{\"code\":15,\"error\":\"scope\",\"ok\":false}
 ";
 
 /// What a query is of.
@@ -121,6 +124,15 @@ fn drawn_at(draws: &mut Draws, accepted: u64) -> Option<u64> {
     }
 }
 
+// A version, mostly none, now and then an early one or one of the last.
+fn drawn_since(draws: &mut Draws, accepted: u64) -> Option<u64> {
+    match draws.below(6) {
+        0 => Some(accepted.saturating_sub(u64::from(draws.below(6)))),
+        1 => Some(u64::from(draws.below(4))),
+        _ => None,
+    }
+}
+
 fn drawn_query(draws: &mut Draws, accepted: u64) -> Query {
     Query {
         project: drawn_project(draws),
@@ -138,6 +150,11 @@ fn drawn_query(draws: &mut Draws, accepted: u64) -> Query {
             1 => Some(true),
             _ => Some(false),
         },
+        scope: match draws.below(12) {
+            scope @ 0..=5 => Some(scope),
+            _ => None,
+        },
+        since: drawn_since(draws, accepted),
     }
 }
 
@@ -149,6 +166,8 @@ fn drawn_of_a_kind(draws: &mut Draws, accepted: u64) -> Request {
             let query = Query {
                 min: None,
                 path: None,
+                scope: None,
+                since: None,
                 ..query
             };
             Request::Query(Kind::Files, query)
@@ -160,8 +179,21 @@ fn drawn_of_a_kind(draws: &mut Draws, accepted: u64) -> Request {
             };
             Request::Query(Kind::Verdict, query)
         }
-        3..=4 => Request::Query(Kind::Measures, query),
-        _ => Request::Query(Kind::Groups, query),
+        3..=4 => {
+            let scope = match query.path {
+                Some(_) => None,
+                None => query.scope,
+            };
+            Request::Query(Kind::Measures, Query { scope, ..query })
+        }
+        _ => {
+            let query = Query {
+                scope: None,
+                since: None,
+                ..query
+            };
+            Request::Query(Kind::Groups, query)
+        }
     }
 }
 
@@ -172,7 +204,7 @@ pub fn drawn_request(alloc: Global, draws: &mut Draws, accepted: u64) -> Result<
         6..=7 => Ok(Request::Change(drawn_drop(draws))),
         8 => Ok(Request::Change(drawn_gate(alloc, draws)?)),
         9 => Ok(Request::State),
-        10 => Ok(Request::Bad(draws.below(12))),
+        10 => Ok(Request::Bad(draws.below(14))),
         _ => Ok(drawn_of_a_kind(draws, accepted)),
     }
 }
@@ -226,6 +258,18 @@ fn write_gate(project: u32, conditions: &[Condition], asked: &mut String) -> Res
     Ok(())
 }
 
+// Which files are chosen.
+fn write_choice(query: &Query, asked: &mut String) -> Result<(), Memory> {
+    if let Some(scope) = query.scope {
+        let scope = scope_name(scope);
+        write!(asked, ",\"scope\":\"{scope}\"")?;
+    }
+    if let Some(since) = query.since {
+        write!(asked, ",\"since\":{since}")?;
+    }
+    Ok(())
+}
+
 // What is left out is not written.
 fn write_query(kind: Kind, query: &Query, asked: &mut String) -> Result<(), Memory> {
     let op = kind.as_str();
@@ -244,6 +288,7 @@ fn write_query(kind: Kind, query: &Query, asked: &mut String) -> Result<(), Memo
     if let Some(finish) = query.finish {
         write!(asked, ",\"finish\":{finish}")?;
     }
+    write_choice(query, asked)?;
     asked.push_str("}\n")?;
     Ok(())
 }

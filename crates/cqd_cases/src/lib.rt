@@ -15,6 +15,8 @@ mod projects;
 #[cfg(test)]
 mod running;
 #[cfg(test)]
+mod scopes;
+#[cfg(test)]
 mod scripts;
 #[cfg(test)]
 mod sessions;

@@ -7,8 +7,8 @@ use Rattle.cq_work.specs.declared.work.Work.{Work}
 use Rattle.cq_answer.specs.Parts.{AreGroupsOf, IsWithin}
 use Rattle.cq_answer.specs.Reply.{reply_of}
 use Rattle.cq_answer.specs.Rows.{AreShowable, AreFewFunctions}
-use Rattle.cq_answer.specs.Works.{work_in, facts_in, norms_in}
-use Rattle.cq_answer.proofs.Listable.{listable, measurable, few_functions, replied, keys_asked, most_read, texts_are, conditions_few}
+use Rattle.cq_answer.specs.Works.{work_in, facts_in, norms_in, chosen_in, AreNumbered}
+use Rattle.cq_answer.proofs.Listable.{listable, measurable, few_functions, numbered, replied, keys_asked, most_read, texts_are, conditions_few}
 use Rattle.cq_answer.proofs.answering.answer.Goals as goal
 
 -- as many owners as files
@@ -41,6 +41,15 @@ reply_of-requires-clause-measurable g c κs lives =
     subst (λ (fs : List (File (Work g.row.L.Denot))). AreShowable (facts_in fs) c.deref.result.now) (sym c.items-items.ensures.files)
     (measurable c.args.settings.now have.changes c.args.version c.args.query.now.project c.args.files.now c.args.conditions.now have.are c.args.query.now.min c.part_of-part.result c.deref.result.now some files.few groups)
 
+pub reply_of-requires-clause-scope : goal.reply_of-requires-clause-scope
+reply_of-requires-clause-scope g c κs lives = c.requires.scope.0
+
+pub reply_of-requires-clause-numbered : goal.reply_of-requires-clause-numbered
+reply_of-requires-clause-numbered g c κs lives =
+    let have = c.requires.of_version in
+    subst (λ (fs : List (File (Work g.row.L.Denot))). AreNumbered fs) (sym c.items-items.ensures.files)
+    (numbered c.args.settings.now have.changes c.args.version c.args.query.now.project c.args.files.now c.args.conditions.now have.are)
+
 pub reply_of-requires-clause-few_functions : goal.reply_of-requires-clause-few_functions
 reply_of-requires-clause-few_functions g c κs lives =
     let have = c.requires.of_version in
@@ -51,14 +60,14 @@ pub returns-clause-reply : goal.returns-clause-reply
 returns-clause-reply g c =
     let groups : AreGroupsOf (norms_in c.args.files.now) c.args.query.now.min c.part_of-part.result c.deref.result.now = subst (λ gs. AreGroupsOf (norms_in c.args.files.now) c.args.query.now.min c.part_of-part.result gs) (sym c.deref.ensures.value) c.in_ok-groups.ensures.groups in
     IfOk-weaker c.reply_of.result _ _ (λ r is changes are.
-    replied c.args.settings.now changes c.args.version c.args.query.now c.args.files.now c.args.conditions.now c.part_of-part.result c.deref.result.now r are c.part_of-part.ensures.part groups (is ∙ ap (λ (fs : List (File (Work g.row.L.Denot))). reply_of (facts_in fs) c.args.conditions.now c.args.version c.args.query.now.kind c.part_of-part.result c.deref.result.now) c.items-items.ensures.files)) c.reply_of.ensures
+    replied c.args.settings.now changes c.args.version c.args.query.now c.args.files.now c.args.conditions.now c.part_of-part.result c.deref.result.now r are c.part_of-part.ensures.part groups (is ∙ ap (λ (fs : List (File (Work g.row.L.Denot))). reply_of (facts_in fs) c.args.conditions.now c.args.version c.args.query.now.kind c.part_of-part.result (chosen_in fs c.args.query.now) c.deref.result.now) c.items-items.ensures.files)) c.reply_of.ensures
 
 pub returns-clause-texts : goal.returns-clause-texts
 returns-clause-texts g c =
     let some : 1 ≤ c.args.query.now.min = omega (arith, c.requires.settings.chunk, c.requires.long) in
     let groups : AreGroupsOf (norms_in c.args.files.now) c.args.query.now.min c.part_of-part.result c.deref.result.now = subst (λ gs. AreGroupsOf (norms_in c.args.files.now) c.args.query.now.min c.part_of-part.result gs) (sym c.deref.ensures.value) c.in_ok-groups.ensures.groups in
     IfOk-weaker c.reply_of.result _ _ (λ r is.
-    texts_are c.args.settings.now c.args.version c.args.query.now.project c.args.files.now c.args.conditions.now c.args.query.now.kind c.args.query.now.min c.part_of-part.result c.deref.result.now r c.requires.of_version some groups (is ∙ ap (λ (fs : List (File (Work g.row.L.Denot))). reply_of (facts_in fs) c.args.conditions.now c.args.version c.args.query.now.kind c.part_of-part.result c.deref.result.now) c.items-items.ensures.files)) c.reply_of.ensures
+    texts_are c.args.settings.now c.args.version c.args.query.now.project c.args.files.now c.args.conditions.now c.args.query.now.kind c.args.query.now.min c.part_of-part.result (chosen_in c.args.files.now c.args.query.now) c.deref.result.now r c.requires.of_version some groups (is ∙ ap (λ (fs : List (File (Work g.row.L.Denot))). reply_of (facts_in fs) c.args.conditions.now c.args.version c.args.query.now.kind c.part_of-part.result (chosen_in fs c.args.query.now) c.deref.result.now) c.items-items.ensures.files)) c.reply_of.ensures
 
 pub returns-clause-asked : goal.returns-clause-asked
 returns-clause-asked g c =

@@ -4,12 +4,9 @@ use Rattle.std.proofs.lemmas.List.{length-map}
 use Rattle.std.specs.Prelude.{option_map}
 use Rattle.std.specs.Arc.{arc_value}
 use Rattle.cq_scope.specs.Chosen.{is_chosen_at}
-use Rattle.cq_scope.proofs.Positions.{chosen_there, path_there, position_with, position_without, positions_all, positions_rise, positions_inside}
+use Rattle.cq_scope.proofs.Positions.{chosen_there, position_with, position_without, positions_all, positions_rise, positions_inside}
 use Rattle.cq_scope.proofs.choosing.choose.Goals.{then-is_chosen+in_ok-push, else-is_chosen}
 use Rattle.cq_scope.proofs.choosing.choose.Goals as goal
-
-pub is_chosen-requires : goal.is_chosen-requires
-is_chosen-requires g c = path_there c.args.files.now c.loop-i.i c.index-files-i.result c.requires.paths (search rules) c.index-files-i.is
 
 pub loop-i-preserved : goal.loop-i-preserved
 loop-i-preserved g c =
