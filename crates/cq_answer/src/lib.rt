@@ -5,6 +5,7 @@
 #![tactic(auto)]
 
 mod answering;
+mod bounds;
 mod file;
 mod functions;
 mod listing;
@@ -16,5 +17,6 @@ mod showing;
 mod works;
 
 pub use answering::answer;
+pub use bounds::{paths_are_named, versions_are_bounded};
 pub use part::Part;
 pub use refusing::{cause_told, refused_as};
