@@ -1,5 +1,5 @@
 -- The files of a version with the works of their texts.
-use Rattle.std.proofs.Common.{◌≡◌, ℕ, zero, suc, ◌<◌, ◌≤◌, true, List, [], ◌∷◌, length, get_or, map, sym, ap, subst, ◌∙◌, arith}
+use Rattle.std.proofs.Common.{◌≡◌, ℕ, zero, suc, true, List, [], ◌∷◌, length, get_or, sym, ap, subst, ◌∙◌, arith}
 use Rattle.std.specs.Prelude.{◌≢◌, All, AllPairs}
 use Rattle.std.specs.List.{AllByRecursion}
 use Rattle.std.specs.Str.{IsUtf8}
@@ -23,7 +23,7 @@ use Rattle.cq_work.proofs.Bounded.{bounded}
 use Rattle.cq_answer.specs.Bounds.{IsFileOf, AreFilesOf}
 use Rattle.cq_answer.specs.Rows.{AreNamed}
 use Rattle.cq_answer.specs.Versions.{AreOfVersion}
-use Rattle.cq_answer.specs.Works.{numbers_in, facts_in}
+use Rattle.cq_answer.specs.Works.{facts_in}
 use Rattle.cq_answer.proofs.VersionFiles.{IsPutWithin, sources_put, sources_named, sources_rise, few_at, numbers_apart}
 use Rattle.cq_answer.proofs.WorkReadings.{reads}
 

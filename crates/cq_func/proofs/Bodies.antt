@@ -15,7 +15,7 @@ use Rattle.cq_func.specs.declared.brackets.Kind.{Kind}
 use Rattle.cq_func.specs.declared.brackets.Kind.TheVariants as kind
 use Rattle.cq_func.specs.declared.found.Found.{Found}
 use Rattle.cq_func.specs.Places.{place_above}
-use Rattle.cq_func.specs.Brackets.{spelling_of, is_spelled, holds, stands, opens, closes, are_even, before, from_to, partner}
+use Rattle.cq_func.specs.Brackets.{spelling_of, is_spelled, holds, stands, opens, closes, are_even, from_to, partner}
 use Rattle.cq_func.specs.Levels.{level}
 use Rattle.cq_func.specs.Names.{is_name, is_called, with_body, is_no_method, ends_throws, behind_throws, java_open, java_function, c_function, go_is_named, go_parameters, go_end, go_open, is_type, go_body, go_function, function_at}
 use Rattle.cq_func.specs.Functions.{found}
@@ -152,17 +152,17 @@ unfolding partner
 partner_above l k ts at inside = (place_above-within (λ j. are_even l k (from_to ts at j)) at (length ts) inside).0
 
 cond_above : (b : Bool) (low x y : ℕ) → (b ≡ true → low < x) → low < y → low < cond b x y
-cond_above true low x y above other = above refl
-cond_above false low x y above other = other
+cond_above true low x y over other = over refl
+cond_above false low x y over other = other
 
 with_body-found : (l : Lang) (ts : List Spelled) (name brace : ℕ) (f : Found) → name < length ts → name < brace → with_body l ts name brace ≡ Some f → IsFound l ts f
-with_body-found l ts name brace f inside above is =
+with_body-found l ts name brace f inside over is =
     let c = cond_some (stands l ts brace (codes "{") && ltb (partner l kind.Curly ts brace) (length ts)) _ f is in
     let parts = and_parts (stands l ts brace (codes "{")) (ltb (partner l kind.Curly ts brace) (length ts)) c.0 in
     let e = some_is _ f c.1 in
     subst (IsFound l ts) e (record {
       named = inside;
-      begun = above;
+      begun = over;
       pair = record { opens = parts.0; closes = refl; within = ltb-true _ _ parts.1 };
     })
 
@@ -172,7 +172,7 @@ called_above l ts name called =
     partner_above l kind.Round ts (name + 1) (stands_inside l ts (name + 1) (codes "(") opened)
 
 java_open-above : (ts : List Spelled) (name close : ℕ) → name < length ts → name < close → name < java_open ts close
-java_open-above ts name close inside above =
+java_open-above ts name close inside over =
     let end = place_above (ends_throws ts) (close + 1) (length ts) in
     cond_above (stands lang.Java ts (close + 1) (codes "throws")) name (behind_throws ts (close + 1)) (close + 1)
     (λ _. cond_above (ltb (close + 1 + 1) end) name end (length ts) (λ is. let less = ltb-true (close + 1 + 1) end is in omega arith) inside)
@@ -183,15 +183,15 @@ java-found ts name f inside is =
     let c = cond_some (is_called lang.Java ts name && not (is_no_method ts name)) _ f is in
     let called = and_parts (is_called lang.Java ts name) (not (is_no_method ts name)) c.0 in
     let close = partner lang.Java kind.Round ts (name + 1) in
-    let above : name + 1 < close = called_above lang.Java ts name called.0 in
+    let over : name + 1 < close = called_above lang.Java ts name called.0 in
     with_body-found lang.Java ts name (java_open ts close) f inside (java_open-above ts name close inside (omega arith)) c.1
 
 c-found : (ts : List Spelled) (name : ℕ) (f : Found) → name < length ts → c_function ts name ≡ Some f → IsFound lang.C ts f
 c-found ts name f inside is =
     let close = partner lang.C kind.Round ts (name + 1) in
-    let c = cond_some (is_called lang.C ts name && are_even lang.C kind.Curly (before ts name)) (with_body lang.C ts name (close + 1)) f is in
-    let called = and_parts (is_called lang.C ts name) (are_even lang.C kind.Curly (before ts name)) c.0 in
-    let above : name + 1 < close = called_above lang.C ts name called.0 in
+    let c = cond_some _ (with_body lang.C ts name (close + 1)) f is in
+    let called = and_parts (is_called lang.C ts name) _ c.0 in
+    let over : name + 1 < close = called_above lang.C ts name called.0 in
     with_body-found lang.C ts name (close + 1) f inside (omega arith) c.1
 
 go_open-pair : (ts : List Spelled) (close : ℕ) → close < length ts → go_open ts close < length ts → IsPair lang.Go ts (go_open ts close) close
@@ -202,7 +202,7 @@ go_open-pair ts close inside found =
     record { opens = parts.0; closes = eqb-true _ _ parts.1; within = inside }
 
 go_body-found : (ts : List Spelled) (name close : ℕ) (f : Found) → name < length ts → name < close → go_body ts name close ≡ Some f → IsFound lang.Go ts f
-go_body-found ts name close f inside above is =
+go_body-found ts name close f inside over is =
     let end = go_end ts close in
     let brace = go_open ts (end - 1) in
     let c = cond_some (ltb end (length ts) && (ltb close brace && (ltb brace (length ts) && not (is_type ts brace)))) _ f is in
@@ -221,7 +221,7 @@ go_body-found ts name close f inside above is =
 go_parameters-above : (ts : List Spelled) (name : ℕ) → name < go_parameters ts name
 go_parameters-above ts name =
     cond_above (stands lang.Go ts (name + 1) (codes "[")) name (partner lang.Go kind.Square ts (name + 1) + 1) (name + 1)
-    (λ is. let above : name + 1 < partner lang.Go kind.Square ts (name + 1) = partner_above lang.Go kind.Square ts (name + 1) (stands_inside lang.Go ts (name + 1) (codes "[") is) in omega arith)
+    (λ is. let over : name + 1 < partner lang.Go kind.Square ts (name + 1) = partner_above lang.Go kind.Square ts (name + 1) (stands_inside lang.Go ts (name + 1) (codes "[") is) in omega arith)
     (omega arith)
 
 go-found : (ts : List Spelled) (name : ℕ) (f : Found) → name < length ts → go_function ts name ≡ Some f → IsFound lang.Go ts f
@@ -230,8 +230,8 @@ go-found ts name f inside is =
     let close = partner lang.Go kind.Round ts first in
     let c = cond_some (go_is_named ts name && (stands lang.Go ts first (codes "(") && ltb close (length ts))) (go_body ts name close) f is in
     let opened = (and_parts _ _ (and_parts (go_is_named ts name) (stands lang.Go ts first (codes "(") && ltb close (length ts)) c.0).1).0 in
-    let higher = go_parameters-above ts name in
-    let above : first < close = partner_above lang.Go kind.Round ts first (stands_inside lang.Go ts first (codes "(") opened) in
+    let low : name < first = go_parameters-above ts name in
+    let over : first < close = partner_above lang.Go kind.Round ts first (stands_inside lang.Go ts first (codes "(") opened) in
     go_body-found ts name close f inside (omega arith) c.1
 
 at-found : (l : Lang) (ts : List Spelled) (name : ℕ) (f : Found) → name < length ts → function_at l ts name ≡ Some f → IsFound l ts f

@@ -1,5 +1,5 @@
 -- The names of a change that a line says.
-use Rattle.std.proofs.Common.{◌≡◌, ℕ, List, [], Bool, true, false, cond, Option, Some, None, Result, Ok, Err, option_map, refl, subst}
+use Rattle.std.proofs.Common.{◌≡◌, ℕ, List, [], Bool, true, false, cond, Option, Some, None, Ok, Err, option_map, refl, subst}
 use Rattle.std.specs.Prelude.{unwrap_or, option_and_then, is_some, IsSome, codes, if◌then◌else◌}
 use Rattle.serde_json.specs.Data.{Data}
 use Rattle.serde_json.specs.Find.{get, as_object, as_str}
@@ -11,7 +11,6 @@ use Rattle.cq_request.specs.declared.request.Request.TheVariants as request
 use Rattle.cq_request.specs.declared.row.Name.TheVariants as name
 use Rattle.cq_request.specs.declared.row.Op.{Op}
 use Rattle.cq_request.specs.declared.row.Op.TheVariants as op
-use Rattle.cq_request.specs.Members.{text_at}
 use Rattle.cq_request.specs.Named.{IsNamed, ChangesAreNamed}
 use Rattle.cq_request.specs.Reading.{unless, lang_named, text_passes, min_passes, value_refused, why_refused, put_of, drop_of, gate_of, request_of, unless_refused, object_says, value_says, of_spelled}
 use Rattle.cq_request.specs.Rows.{op_of, fault_of, needed, rule_of, rules_of}

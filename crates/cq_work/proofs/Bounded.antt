@@ -1,6 +1,5 @@
 -- The work of a text is within its bounds.
-use Rattle.std.proofs.Common.{◌≡◌, ℕ, ◌+◌, ◌≤◌, Bool, true, false, not, if◌then◌else◌, IsUtf8, List, [], ◌∷◌, length, map, filter, refl, sym, ap, subst, ◌∙◌, arith}
-use Rattle.std.specs.Prelude.{⊤}
+use Rattle.std.proofs.Common.{◌≡◌, ℕ, ◌+◌, ◌≤◌, Bool, true, false, not, if◌then◌else◌, IsUtf8, List, [], ◌∷◌, length, map, refl, sym, ap, subst, ◌∙◌, arith}
 use Rattle.std.specs.Arc.{arc_value}
 use Rattle.std.specs.List.{AllByRecursion}
 use Rattle.std.proofs.lemmas.List.{length-map}
@@ -22,7 +21,6 @@ use Rattle.cq_munch.specs.declared.munching.Lexed.{Lexed}
 use Rattle.cq_munch.specs.declared.munching.Lexed.TheVariants as lexed
 use Rattle.cq_normal.specs.Kept.{is_on, kept, spans_of}
 use Rattle.cq_normal.specs.Normal.{normal}
-use Rattle.cq_work.specs.declared.work.State.{State}
 use Rattle.cq_work.specs.declared.work.Work.{Work}
 use Rattle.cq_work.specs.Bounds.{has_tokens, IsFaultWithin, IsWithin, IsCompared, IsFunctionWithin, IsBounded}
 use Rattle.cq_work.specs.Counts.{counts_of}

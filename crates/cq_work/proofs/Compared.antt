@@ -1,5 +1,5 @@
 -- Tokens as they are compared are spelled in UTF-8, and have no spelling where their class is ignored.
-use Rattle.std.proofs.Common.{◌≡◌, ℕ, ◌≤◌, Bool, true, false, if◌then◌else◌, List, [], ◌∷◌, map, codes, refl, ap, arith}
+use Rattle.std.proofs.Common.{◌≡◌, ℕ, Bool, true, false, if◌then◌else◌, List, [], ◌∷◌, map, codes, refl, ap, arith}
 use Rattle.std.specs.List.{AllByRecursion}
 use Rattle.std.specs.Str.{bytes_eq}
 use Rattle.cq_base.specs.declared.lang.Lang.{Lang}
@@ -11,7 +11,7 @@ use Rattle.cq_base.specs.declared.token.Class.TheVariants as class
 use Rattle.cq_base.specs.declared.token.Spelled.{Spelled}
 use Rattle.cq_base.specs.declared.token.Token.{Token}
 use Rattle.cq_normal.specs.Kept.{spans_of}
-use Rattle.cq_normal.specs.Normal.{undigraphed, punctuation, unless_ignored, normal_text, norm_of, normal}
+use Rattle.cq_normal.specs.Normal.{undigraphed, punctuation, unless_ignored, normal_text, normal}
 use Rattle.cq_work.specs.Bounds.{is_ignored, IsWithin, IsSpelling, IsCompared}
 use Rattle.cq_work.proofs.Scalars.{empty-spelling, one-spelling, two-spelling}
 use Rattle.cq_work.proofs.Standing.{IsPlaced}

@@ -1,6 +1,6 @@
 -- The functions of tokens that stand in order lie within their lines, and are named by a token.
-use Rattle.std.proofs.Common.{◌≡◌, ℕ, zero, suc, ◌+◌, ◌<◌, ◌≤◌, Bool, true, false, cond, List, [], ◌∷◌, length, get_or, map, count_by, arith}
-use Rattle.std.specs.Prelude.{Contains, ◌&&◌}
+use Rattle.std.proofs.Common.{ℕ, ◌<◌, ◌≤◌, List, length, get_or, map, arith}
+use Rattle.std.specs.Prelude.{◌&&◌}
 use Rattle.std.specs.List.{AllByRecursion, range_with_len}
 use Rattle.std.proofs.lemmas.List.Elements.{All-from_recursion, All-get_or, All-map, recursion_from_All}
 use Rattle.std.proofs.lemmas.List.FromFn.{length-range_with_len}
@@ -9,9 +9,8 @@ use Rattle.cq_base.proofs.Lists.{All-from_contains}
 use Rattle.cq_base.specs.declared.lang.Lang.{Lang}
 use Rattle.cq_base.specs.declared.token.Spelled.{Spelled}
 use Rattle.cq_func.specs.declared.found.Found.{Found}
-use Rattle.cq_func.specs.declared.function.Function.{Function}
 use Rattle.cq_func.specs.Functions.{found, functions, function_of, decides, is_own, no_token}
-use Rattle.cq_func.proofs.Bodies.{IsPair, bodies, found-are}
+use Rattle.cq_func.proofs.Bodies.{bodies, found-are}
 use Rattle.cq_work.specs.Bounds.{IsFunctionWithin}
 use Rattle.cq_work.proofs.Standing.{Stand, IsPlaced, each_placed, lines_rise}
 

@@ -1,5 +1,5 @@
 -- The tokens of what a text is lexed to lie within it and its lines, in order; a fault is one of its bytes.
-use Rattle.std.proofs.Common.{◌≡◌, ℕ, ◌+◌, ◌<◌, ◌≤◌, false, Result, Ok, Err, IsUtf8, List, length, sym, subst, arith}
+use Rattle.std.proofs.Common.{◌≡◌, ℕ, ◌≤◌, false, Result, Ok, Err, IsUtf8, List, length, sym, subst, arith}
 use Rattle.std.specs.Prelude.{⊤, IsOkAnd, MatchResult}
 use Rattle.cq_base.specs.Lines.{lines_of}
 use Rattle.cq_base.specs.declared.lang.Lang.{Lang}

@@ -9,7 +9,7 @@ use Rattle.cq_munch.specs.declared.element.Found.{Found}
 use Rattle.cq_munch.specs.declared.element.Spell.{Spell}
 use Rattle.cq_munch.specs.declared.element.Spell.TheVariants.{Blank, Comment, Token as TokenOf}
 use Rattle.cq_munch.specs.declared.unit.Unit.{Unit}
-use Rattle.cq_munch.specs.Characters.{characters, utf8_of}
+use Rattle.cq_munch.specs.Characters.{characters}
 use Rattle.cq_munch.specs.Language.{Language}
 use Rattle.cq_munch.specs.Lexed.{Follow, InOrder, IsWhole, token_of, tokens_of, unit_at, end_of}
 use Rattle.cq_munch.proofs.Elements.{further}

@@ -1,6 +1,6 @@
 -- What each language translates the units of a text to: units in order within the text, of Unicode scalar values, or a
 -- fault at one of its bytes.
-use Rattle.std.proofs.Common.{◌≡◌, ℕ, zero, suc, ◌+◌, ◌-◌, ◌*◌, ◌<◌, ◌≤◌, Bool, true, false, not, ◌&&◌, ◌||◌, ◌==◌, nat_lt, nat_le, Option, Some, None, Result, Ok, Err, IfOk, IfErr, IsUtf8, List, [], ◌∷◌, length, drop, refl, sym, arith}
+use Rattle.std.proofs.Common.{◌≡◌, ℕ, zero, suc, ◌+◌, ◌-◌, ◌*◌, ◌≤◌, Bool, true, false, not, ◌&&◌, ◌||◌, ◌==◌, nat_lt, nat_le, Option, Some, None, Result, Ok, Err, IfOk, IfErr, IsUtf8, List, [], ◌∷◌, length, drop, refl, arith}
 use Rattle.std.specs.Prelude.{if◌then◌else◌, ⊤}
 use Rattle.std.specs.Char.{IsScalar}
 use Rattle.std.proofs.lemmas.Bool.Decides.{nat_tests}
@@ -14,7 +14,7 @@ use Rattle.cq_lex_java.specs.declared.escape.Escape.{Escape}
 use Rattle.cq_lex_java.specs.declared.escape.Escape.TheVariants as escapes
 use Rattle.cq_lex_java.specs.declared.escape.Step.{Step}
 use Rattle.cq_lex_java.specs.declared.escape.Step.TheVariants as steps
-use Rattle.cq_lex_java.specs.Escapes.{scalar, joined, step_of, pair_of, by_scalar, by_escape, escape_at, step_at}
+use Rattle.cq_lex_java.specs.Escapes.{scalar, joined, step_of, pair_of, by_scalar, by_escape, escape_at}
 use Rattle.cq_lex_java.specs.Translation.{spanning, before, len_of, by_step, read_at, translated}
 use Rattle.cq_lex_java.proofs.Translating.{translated-order, translated-short, shorter}
 use Rattle.cq_work.proofs.Scalars.{AreScalars, units-scalars}
