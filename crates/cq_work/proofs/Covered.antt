@@ -1,5 +1,5 @@
 -- Tokens whose lines are among so many cover no more lines.
-use Rattle.std.proofs.Common.{◌≡◌, ℕ, ◌-◌, ◌≤◌, Bool, true, false, ◌||◌, cond, List, [], ◌∷◌, map, filter, refl, sym, ap, ◌∙◌, arith}
+use Rattle.std.proofs.Common.{◌≡◌, ℕ, ◌≤◌, Bool, true, false, ◌||◌, cond, List, [], ◌∷◌, map, filter, refl, sym, ap, ◌∙◌, arith}
 use Rattle.std.specs.List.{AllByRecursion, IsDistinct, flat_map, list_any}
 use Rattle.std.specs.Set.{is_member, unique_keys}
 use Rattle.std.proofs.lemmas.Map.Keys.{IsDistinct-cons}
@@ -56,11 +56,11 @@ covers_one lines t q first last is = grind arith
 
 covers_any : (lines : ℕ) (ts : List Token) (q : Line) → AllByRecursion (IsAmong lines) ts → list_any (covers q) (map extent_of_token ts) ≡ true → is_on 0 1 lines q ≡ true
 covers_any lines [] q each is = absurd (cc)
-covers_any lines (t ∷ ts) q each is = by (covers q (extent_of_token t)) refl is
+covers_any lines (t ∷ ts) q each is = by (covers q (extent_of_token t)) refl (λ later. covers_any lines ts q each.1 later) is
   where
-    by : (b : Bool) → covers q (extent_of_token t) ≡ b → (b || list_any (covers q) (map extent_of_token ts)) ≡ true → is_on 0 1 lines q ≡ true
-    by true here h = covers_one lines t q each.0.0 each.0.1 here
-    by false here h = covers_any lines ts q each.1 h
+    by : (b : Bool) → covers q (extent_of_token t) ≡ b → (list_any (covers q) (map extent_of_token ts) ≡ true → is_on 0 1 lines q ≡ true) → (b || list_any (covers q) (map extent_of_token ts)) ≡ true → is_on 0 1 lines q ≡ true
+    by true here more h = covers_one lines t q each.0.0 each.0.1 here
+    by false here more h = more h
 
 on_lines : (lines : ℕ) (q : Line) → is_on 0 1 lines q ≡ true → is_member same_line (lines_on 0 1 lines []) q ≡ true
 on_lines lines q is = member-lines_on 0 1 lines [] q ∙ ap (λ b. b || false) is
