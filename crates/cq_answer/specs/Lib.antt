@@ -7,3 +7,4 @@ pub mod Works
 pub mod Versions
 pub mod Refusals
 pub mod Lent
+pub mod Bounds

@@ -6,6 +6,7 @@
 #![tactic(auto)]
 
 mod answering;
+mod bounds;
 mod choosing;
 mod file;
 mod functions;
@@ -18,5 +19,6 @@ mod showing;
 mod works;
 
 pub use answering::answer;
+pub use bounds::{paths_are_named, versions_are_bounded};
 pub use part::Part;
 pub use refusing::{cause_told, refused_as};
