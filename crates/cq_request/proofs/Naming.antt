@@ -12,11 +12,11 @@ use Rattle.cq_request.specs.declared.row.Name.TheVariants as name
 use Rattle.cq_request.specs.declared.row.Op.{Op}
 use Rattle.cq_request.specs.declared.row.Op.TheVariants as op
 use Rattle.cq_request.specs.Named.{IsNamed, ChangesAreNamed}
-use Rattle.cq_request.specs.Reading.{unless, lang_named, text_passes, min_passes, value_refused, why_refused, put_of, drop_of, gate_of, request_of, unless_refused, object_says, value_says, of_spelled}
+use Rattle.cq_request.specs.Reading.{unless, lang_named, text_passes, value_refused, why_refused, put_of, drop_of, gate_of, request_of, unless_refused, object_says, value_says, of_spelled}
 use Rattle.cq_request.specs.Rows.{op_of, fault_of, needed, rule_of, rules_of}
 use Rattle.cq_request.specs.Spelled.{spelled}
 use Rattle.cq_request.specs.Tables.{is_good, bad_field}
-use Rattle.cq_request.specs.Text.{is_path, is_project, is_short}
+use Rattle.cq_request.specs.Text.{is_path, is_project}
 use Rattle.cq_request.proofs.Passing.{first_none, second_good, has_path, none_named}
 
 -- ---- the fields of an object that is not refused
@@ -25,18 +25,18 @@ first_good : (a : Bool) (k : List ℕ) (later : Option (List ℕ)) → cond a la
 first_good true k later none = refl
 first_good false k later none = absurd (cc)
 
--- the second of four tests behind which nothing is refused has passed
-second_passed : (a b c d : Bool) → unless a refusal.Lang (unless b refusal.Path (unless c refusal.TooMuchText (unless d refusal.Min None))) ≡ None → b ≡ true
-second_passed true true c d none = refl
-second_passed true false c d none = absurd (cc)
-second_passed false b c d none = absurd (cc)
+-- the second of two tests behind which nothing is refused has passed, whatever follows
+second_passed : (a b : Bool) (later : Option Refusal) → unless a refusal.Lang (unless b refusal.Path later) ≡ None → b ≡ true
+second_passed true true later none = refl
+second_passed true false later none = absurd (cc)
+second_passed false b later none = absurd (cc)
 
 all_good : (chunk : ℕ) (o : Op) (d : Data) → why_refused chunk o d ≡ None → bad_field (rules_of o) d ≡ None
 all_good chunk o d accepted = first_none (bad_field (rules_of o) d) _ (none_named (fault_of o d) (value_refused chunk d) accepted).0
 
 path_passed : (chunk : ℕ) (o : Op) (d : Data) → why_refused chunk o d ≡ None → text_passes is_path (codes "path") d ≡ true
 path_passed chunk o d accepted =
-    second_passed (text_passes (λ word. is_some (lang_named word)) (codes "lang") d) (text_passes is_path (codes "path") d) (text_passes is_short (codes "text") d) (min_passes chunk d) (none_named (fault_of o d) (value_refused chunk d) accepted).1
+    second_passed (text_passes (λ word. is_some (lang_named word)) (codes "lang") d) (text_passes is_path (codes "path") d) _ (none_named (fault_of o d) (value_refused chunk d) accepted).1
 
 project_read : (o : Option (List ℕ)) → unwrap_or (option_map is_project o) false ≡ true → is_project (unwrap_or o []) ≡ true
 project_read None are = absurd (cc)
