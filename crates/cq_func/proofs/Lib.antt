@@ -1,4 +1,5 @@
 pub mod Least
+pub mod OneByte
 pub mod Search
 pub mod Counted
 pub mod Marks

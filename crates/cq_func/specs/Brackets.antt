@@ -50,6 +50,19 @@ closes l kind.Square t = is_spelled l (codes "]") t
 closes l kind.Curly t = is_spelled l (codes "}") t
 closes l kind.All t = is_spelled l (codes ")") t || (is_spelled l (codes "]") t || is_spelled l (codes "}") t)
 
+-- the same of a spelling of one byte
+abbrev pub opens_with : Kind → ℕ → Bool
+opens_with kind.Round b = b == 40
+opens_with kind.Square b = b == 91
+opens_with kind.Curly b = b == 123
+opens_with kind.All b = (b == 40) || ((b == 91) || (b == 123))
+
+abbrev pub closes_with : Kind → ℕ → Bool
+closes_with kind.Round b = b == 41
+closes_with kind.Square b = b == 93
+closes_with kind.Curly b = b == 125
+closes_with kind.All b = (b == 41) || ((b == 93) || (b == 125))
+
 -- they hold as many openings as closings
 abbrev pub are_even : Lang → Kind → List Spelled → Bool
 are_even l k ts = count_by (opens l k) ts == count_by (closes l k) ts

@@ -4,7 +4,7 @@ ghost use Rattle.cq_func.specs.Levels as level;
 ghost use Rattle.cq_func.specs.Tables as tables;
 
 use crate::places::places_above;
-use crate::spelling::is_spelled;
+use crate::spelling::spelling;
 use cq_base::{Lang, Memory, Spelled};
 use std::alloc::Global;
 
@@ -21,33 +21,44 @@ pub(crate) enum Kind {
     All,
 }
 
+fn opens_with(kind: Kind, byte: u8) -> bool
+    ensures { result ≡ spec.opens_with kind byte }
+{
+    match kind {
+        Kind::Round => byte == b'(',
+        Kind::Square => byte == b'[',
+        Kind::Curly => byte == b'{',
+        Kind::All => byte == b'(' || byte == b'[' || byte == b'{',
+    }
+}
+
+fn closes_with(kind: Kind, byte: u8) -> bool
+    ensures { result ≡ spec.closes_with kind byte }
+{
+    match kind {
+        Kind::Round => byte == b')',
+        Kind::Square => byte == b']',
+        Kind::Curly => byte == b'}',
+        Kind::All => byte == b')' || byte == b']' || byte == b'}',
+    }
+}
+
+// Each bracket is spelled in one byte.
 fn opens(lang: Lang, kind: Kind, token: &Spelled) -> bool
     ensures { result ≡ spec.opens lang kind token.now }
 {
-    match kind {
-        Kind::Round => is_spelled(lang, b"(", token),
-        Kind::Square => is_spelled(lang, b"[", token),
-        Kind::Curly => is_spelled(lang, b"{", token),
-        Kind::All => {
-            is_spelled(lang, b"(", token)
-                || is_spelled(lang, b"[", token)
-                || is_spelled(lang, b"{", token)
-        }
+    match spelling(lang, token) {
+        [byte] => opens_with(kind, *byte),
+        _ => false,
     }
 }
 
 fn closes(lang: Lang, kind: Kind, token: &Spelled) -> bool
     ensures { result ≡ spec.closes lang kind token.now }
 {
-    match kind {
-        Kind::Round => is_spelled(lang, b")", token),
-        Kind::Square => is_spelled(lang, b"]", token),
-        Kind::Curly => is_spelled(lang, b"}", token),
-        Kind::All => {
-            is_spelled(lang, b")", token)
-                || is_spelled(lang, b"]", token)
-                || is_spelled(lang, b"}", token)
-        }
+    match spelling(lang, token) {
+        [byte] => closes_with(kind, *byte),
+        _ => false,
     }
 }
 
@@ -112,6 +123,23 @@ pub(crate) fn behind_each(levels: &[u32]) -> &[u32]
     &levels[1..]
 }
 
+/// The partner of each token that opens a bracket of the kind, by the levels.
+pub(crate) fn partners_by(
+    alloc: Global,
+    lang: Lang,
+    kind: Kind,
+    tokens: &[Spelled],
+    levels: &[u32],
+) -> Result<Vec<u32>, Memory>
+    requires few { length tokens.now ≤ 262144 }
+    requires counted { level.AreLevels lang kind tokens.now levels.now }
+    ensures { IfOk result (λ t. tables.ArePartners lang kind tokens.now t.items) }
+{
+    let wanted = before_each(levels);
+    let marks = behind_each(levels);
+    places_above(alloc, wanted, marks, 2 * tokens.len() + 1)
+}
+
 /// The partner of each token that opens a bracket of the kind.
 pub(crate) fn partners(
     alloc: Global,
@@ -123,9 +151,7 @@ pub(crate) fn partners(
     ensures { IfOk result (λ t. tables.ArePartners lang kind tokens.now t.items) }
 {
     let levels = levels(alloc, lang, kind, tokens)?;
-    let wanted = before_each(&levels);
-    let marks = behind_each(&levels);
-    places_above(alloc, wanted, marks, 2 * tokens.len() + 1)
+    partners_by(alloc, lang, kind, tokens, &levels)
 }
 
 /// The partner of the token at a place.

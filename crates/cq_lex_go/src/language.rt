@@ -31,6 +31,7 @@ impl Lexis for Go {
         Go
     }
 
+    #[inline(always)]
     fn longest(&mut self, units: &[Unit], at: u32, mode: u8) -> Option<Found> {
         if is_mark(units, at) {
             return Some(Found {

@@ -1,11 +1,11 @@
 -- Where no u stands directly behind a backslash, nothing is translated.
-use Rattle.std.proofs.Common.{◌≡◌, ℕ, ◌+◌, ◌<◌, ◌≤◌, nat_lt, Bool, true, false, not, ◌&&◌, ◌==◌, Ok, List, [], ◌∷◌, length, drop, refl, sym, ap, ◌∙◌}
+use Rattle.std.proofs.Common.{◌≡◌, ℕ, ◌+◌, ◌-◌, ◌<◌, ◌≤◌, nat_lt, Bool, true, false, not, ◌&&◌, ◌==◌, Ok, List, [], ◌∷◌, length, take, drop, refl, sym, ap, ◌∙◌}
 use Rattle.std.specs.Prelude.{◌||◌, if◌then◌else◌}
 use Rattle.std.proofs.lemmas.Bool.{or_parts}
-use Rattle.std.proofs.lemmas.List.{drop_more, drop_all}
+use Rattle.std.proofs.lemmas.List.{drop_more, drop_all, take_rest}
 use Rattle.cq_munch.specs.Lexed.{unit_at}
 use Rattle.cq_munch.specs.declared.unit.Unit.{Unit}
-use Rattle.cq_lex_java.specs.Escapes.{marks_of, four_digits, escape_of, by_escape, has_escape}
+use Rattle.cq_lex_java.specs.Escapes.{marks_of, four_digits, escape_of, by_escape, begins_mark, has_escape}
 use Rattle.cq_lex_java.specs.Translation.{before, read_at, translated}
 use Rattle.cq_lex_java.specs.declared.escape.Step.TheVariants as steps
 use Rattle.cq_lex_java.proofs.Translating.{reading}
@@ -26,14 +26,19 @@ untranslated behind odd (u ∷ us) h =
     let rest = (or_parts (behind && (u.ch == 117)) (has_escape (u.ch == 92) us) h).1 in
     ap (before u) (untranslated (u.ch == 92) ((u.ch == 92) && not odd) us rest) ∙ sym (reading odd u us steps.Plain (reads_plain odd u us (unmarked (u.ch == 92) us rest)))
 
--- one unit more
-pub none_here : (units : List Unit) (i : ℕ) (behind next begins : Bool) → i < length units → begins ≡ (behind && ((unit_at units i).ch == 117)) → begins ≡ false → next ≡ ((unit_at units i).ch == 92)
-    → has_escape behind (drop i units) ≡ has_escape false units → has_escape next (drop (i + 1) units) ≡ has_escape false units
-none_here units i behind next begins inside begins_is none next_is so_far =
-    let u = unit_at units i in
-    let us = drop (i + 1) units in
-    ap (λ b. has_escape b us) next_is ∙ ap (λ b. b || has_escape (u.ch == 92) us) (sym none ∙ begins_is)
-    ∙ sym (ap (has_escape behind) (drop_more units i (record { ch = 0; start = 0; len = 0 }) inside)) ∙ so_far
+-- a backslash without a u behind it begins nothing
+no_mark : (b : Bool) (us : List Unit) → (b && begins_mark us) ≡ false → has_escape b us ≡ has_escape false us
+no_mark b [] none = refl
+no_mark b (v ∷ us) none = ap (λ m. m || has_escape (v.ch == 92) us) none
 
-pub none_at_all : (units : List Unit) (i : ℕ) (behind : Bool) → length units ≤ i → has_escape behind (drop i units) ≡ has_escape false units → Ok units ≡ translated 0 false units
-none_at_all units i behind end so_far = untranslated false false units (sym so_far ∙ ap (has_escape behind) (drop_all i units end))
+-- one unit more
+pub none_here : (units : List Unit) (i : ℕ) (begins : Bool) → i < length units → begins ≡ (((unit_at units i).ch == 92) && begins_mark (take (length units - (i + 1)) (drop (i + 1) units))) → begins ≡ false
+    → has_escape false (drop i units) ≡ has_escape false units → has_escape false (drop (i + 1) units) ≡ has_escape false units
+none_here units i begins inside begins_is none so_far =
+    let u = unit_at units i in
+    let us : List Unit = drop (i + 1) units in
+    let no : ((u.ch == 92) && begins_mark us) ≡ false = ap (λ (vs : List Unit). (u.ch == 92) && begins_mark vs) (sym (take_rest units (i + 1))) ∙ sym begins_is ∙ none in
+    sym (no_mark (u.ch == 92) us no) ∙ sym (ap (has_escape false) (drop_more units i (record { ch = 0; start = 0; len = 0 }) inside)) ∙ so_far
+
+pub none_at_all : (units : List Unit) (i : ℕ) → length units ≤ i → has_escape false (drop i units) ≡ has_escape false units → Ok units ≡ translated 0 false units
+none_at_all units i end so_far = untranslated false false units (sym so_far ∙ ap (has_escape false) (drop_all i units end))
