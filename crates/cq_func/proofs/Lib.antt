@@ -1,7 +1,7 @@
 pub mod Least
-pub mod OneByte
 pub mod Search
 pub mod Counted
+pub mod Signs
 pub mod Marks
 pub mod Partners
 pub mod Walked

@@ -1,4 +1,4 @@
-ghost use Rattle.std.specs.Prelude.{◌≡◌, ◌+◌, ◌-◌, ◌≤◌, ◌<◌, IfOk, if◌then◌else◌, length, take, drop};
+ghost use Rattle.std.specs.Prelude.{◌≡◌, ◌+◌, ◌-◌, ◌≤◌, ◌<◌, IfOk, if◌then◌else◌, length, map, take, drop};
 ghost use Rattle.cq_func.specs.Brackets as spec;
 ghost use Rattle.cq_func.specs.Levels as level;
 ghost use Rattle.cq_func.specs.Tables as tables;
@@ -43,23 +43,24 @@ fn closes_with(kind: Kind, byte: u8) -> bool
     }
 }
 
-// Each bracket is spelled in one byte.
-fn opens(lang: Lang, kind: Kind, token: &Spelled) -> bool
-    ensures { result ≡ spec.opens lang kind token.now }
+fn sign(lang: Lang, token: &Spelled) -> u8
+    ensures { result ≡ spec.sign_of lang token.now }
 {
     match spelling(lang, token) {
-        [byte] => opens_with(kind, *byte),
-        _ => false,
+        [byte] => *byte,
+        _ => 0,
     }
 }
 
-fn closes(lang: Lang, kind: Kind, token: &Spelled) -> bool
-    ensures { result ≡ spec.closes lang kind token.now }
+/// The sign of each token, which tells brackets: the byte of its spelling, where it has one alone, else 0.
+pub(crate) fn signs(alloc: Global, lang: Lang, tokens: &[Spelled]) -> Result<Vec<u8>, Memory>
+    ensures { IfOk result (λ v. v.items ≡ map (spec.sign_of lang) tokens.now) }
 {
-    match spelling(lang, token) {
-        [byte] => closes_with(kind, *byte),
-        _ => false,
+    let mut signs = Vec::with_capacity(alloc, tokens.len())?;
+    for token in tokens {
+        signs.push(sign(lang, token))?;
     }
+    Ok(signs)
 }
 
 fn one_if(holds: bool) -> u32
@@ -68,13 +69,13 @@ fn one_if(holds: bool) -> u32
     if holds { 1 } else { 0 }
 }
 
-// The level behind a token.
-fn next_level(lang: Lang, kind: Kind, token: &Spelled, level: u32) -> u32
+// The level behind a token of this sign.
+fn next_level(kind: Kind, sign: u8, level: u32) -> u32
     requires high { level ≤ 1000000 }
-    requires low { (if spec.closes lang kind token.now then 1 else 0) ≤ level + (if spec.opens lang kind token.now then 1 else 0) }
-    ensures { result + (if spec.closes lang kind token.now then 1 else 0) ≡ level + (if spec.opens lang kind token.now then 1 else 0) }
+    requires low { (if spec.closes_with kind sign then 1 else 0) ≤ level + (if spec.opens_with kind sign then 1 else 0) }
+    ensures { result + (if spec.closes_with kind sign then 1 else 0) ≡ level + (if spec.opens_with kind sign then 1 else 0) }
 {
-    level + one_if(opens(lang, kind, token)) - one_if(closes(lang, kind, token))
+    level + one_if(opens_with(kind, sign)) - one_if(closes_with(kind, sign))
 }
 
 /// The level before each token, and behind the last: the number of tokens, and the openings less the closings before it.
@@ -83,15 +84,17 @@ pub(crate) fn levels(
     lang: Lang,
     kind: Kind,
     tokens: &[Spelled],
+    signs: &[u8],
 ) -> Result<Vec<u32>, Memory>
-    requires { length tokens.now ≤ 262144 }
+    requires few { length tokens.now ≤ 262144 }
+    requires signs { signs.now ≡ map (spec.sign_of lang) tokens.now }
     ensures { IfOk result (λ v. level.AreLevels lang kind tokens.now v.items) }
 {
     let mut levels = Vec::with_capacity(alloc, tokens.len() + 1)?;
     let mut level = tokens.len() as u32;
     levels.push(level)?;
-    for token in tokens {
-        level = next_level(lang, kind, token, level);
+    for sign in signs {
+        level = next_level(kind, *sign, level);
         levels.push(level)?;
     }
     Ok(levels)
@@ -146,11 +149,13 @@ pub(crate) fn partners(
     lang: Lang,
     kind: Kind,
     tokens: &[Spelled],
+    signs: &[u8],
 ) -> Result<Vec<u32>, Memory>
-    requires { length tokens.now ≤ 262144 }
+    requires few { length tokens.now ≤ 262144 }
+    requires signs { signs.now ≡ map (spec.sign_of lang) tokens.now }
     ensures { IfOk result (λ t. tables.ArePartners lang kind tokens.now t.items) }
 {
-    let levels = levels(alloc, lang, kind, tokens)?;
+    let levels = levels(alloc, lang, kind, tokens, signs)?;
     partners_by(alloc, lang, kind, tokens, &levels)
 }
 

@@ -1,12 +1,13 @@
-ghost use Rattle.std.specs.Prelude.{◌≡◌, ◌≤◌, ◌==◌, ◌&&◌, not, false, Ok, length, IfOk, IsFalse};
-ghost use Rattle.cq_munch.specs.Lexed.{InOrder, translation};
+ghost use Rattle.std.specs.Prelude.{◌≡◌, ◌≤◌, ◌==◌, ◌&&◌, not, false, Ok, length, IfOk, IsFalse, IsTrue, IsUtf8};
+ghost use Rattle.cq_munch.specs.Lexed.{InOrder, translation, units_of};
 ghost use Rattle.cq_lex_java.specs.Translation.{spanning, read_at, translated};
 ghost use Rattle.cq_lex_java.specs.Eligible.{EscapesGoByCount};
 ghost use Rattle.cq_lex_java.specs.Escapes.{begins_mark, IsStepWithin};
 
 use crate::escape::{Step, step_at};
-use cq_base::Memory;
+use cq_base::{Memory, Text};
 use cq_munch::{Translated, Unit};
+use memchr::memchr;
 use std::alloc::Global;
 
 // A character with the bytes of all the units that spell it.
@@ -98,6 +99,17 @@ fn translated(alloc: Global, units: &[Unit]) -> Result<Translated, Memory>
         }
     }
     Ok(Translated::Units(out))
+}
+
+/// Whether a text is known to have no escapes, since no backslash is among its bytes.
+pub(crate) fn is_plain(text: &Text) -> bool
+    requires { IsUtf8 text.now }
+    ensures { IsTrue result → Ok (units_of text.now) ≡ translated 0 false (units_of text.now) }
+{
+    match memchr(b'\\', text.as_bytes()) {
+        Some(_) => false,
+        None => true,
+    }
 }
 
 /// The units after the Unicode escapes are read, or the byte of the first fault. Those of a text without escapes are
