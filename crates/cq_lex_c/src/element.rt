@@ -119,6 +119,7 @@ fn behind_slash(units: &[Unit], mode: u8) -> Option<Found>
 
 // The element at the front, where no header name is looked for, by what its first character tells; the texts there, with a
 // prefix and without, are given.
+#[inline(never)]
 fn by_front(
     front: Front,
     units: &[Unit],

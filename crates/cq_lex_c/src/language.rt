@@ -39,7 +39,6 @@ impl Lexis for C {
         }
     }
 
-    #[inline(always)]
     fn longest(&mut self, units: &[Unit], at: u32, mode: u8) -> Option<Found> {
         let rest = &units[at as usize..];
         if is_mark(units, at) {

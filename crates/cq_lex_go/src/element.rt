@@ -107,6 +107,7 @@ fn behind_slash(units: &[Unit], mode: u8) -> Option<Found>
 }
 
 // The element at the front, by what its first character tells.
+#[inline(never)]
 fn by_front(front: Front, units: &[Unit], mode: u8) -> Option<Found>
     requires some { 0 < length units.now }
     requires short { length units.now < 2 ^ 32 }

@@ -31,7 +31,6 @@ impl Lexis for Go {
         Go
     }
 
-    #[inline(always)]
     fn longest(&mut self, units: &[Unit], at: u32, mode: u8) -> Option<Found> {
         if is_mark(units, at) {
             return Some(Found {

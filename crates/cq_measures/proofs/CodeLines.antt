@@ -25,7 +25,7 @@ pub record IsWalked (all left : List Token) (first free lines : ℕ) : Type 0 wh
 
 -- no token was looked at
 pub none_walked : (all : List Token) → IsWalked all all 0 0 0
-none_walked all = record { counted = refl; rise = λ begin rise. rise; within = omega arith; small = omega arith }
+none_walked all = record { counted = omega arith; rise = λ begin rise. rise; within = omega arith; small = omega arith }
 
 -- a token without bytes
 pub walked_past : (all left : List Token) (t : Token) (first free lines : ℕ) → has_bytes t ≡ false → IsWalked all (t ∷ left) first free lines → IsWalked all left first free lines
