@@ -1,9 +1,16 @@
 ghost use Rattle.std.specs.Prelude.{◌≡◌, ◌+◌, ◌≤◌, ◌++◌, length, IfOk, IfSome, OnOk};
+ghost use Rattle.std.specs.Str.{bytes_eq};
 ghost use Rattle.cq_munch.specs.Lexed.{TokensFollow};
 ghost use Rattle.cq_lex_go.specs.Semicolons as spec;
 
 use cq_base::{Class, Memory, Spelled, Text, Token};
 use std::alloc::Global;
+
+fn is_word(text: &Text, word: &str) -> bool
+    ensures { result ≡ bytes_eq text.now word.now }
+{
+    text.as_bytes() == word.as_bytes()
+}
 
 // Whether a statement may end with a token of this spelling.
 fn may_end(class: Class, text: &Text) -> bool
@@ -11,10 +18,12 @@ fn may_end(class: Class, text: &Text) -> bool
 {
     match class {
         Class::Ident | Class::Literal => true,
-        Class::Word => matches!(
-            text.as_bytes(),
-            b"break" | b"continue" | b"fallthrough" | b"return"
-        ),
+        Class::Word => {
+            is_word(text, "break")
+                || is_word(text, "continue")
+                || is_word(text, "fallthrough")
+                || is_word(text, "return")
+        }
         Class::Punct => matches!(text.as_bytes(), b"++" | b"--" | b")" | b"]" | b"}"),
     }
 }
