@@ -117,26 +117,18 @@ fn behind_slash(units: &[Unit], mode: u8) -> Option<Found>
     punctuator(units, mode)
 }
 
-// The element at the front, where no header name is looked for, by what its first character tells; the texts there, with a
-// prefix and without, are given.
-#[inline(never)]
-fn by_front(
-    front: Front,
-    units: &[Unit],
-    mode: u8,
-    text: Option<usize>,
-    prefixed: Option<usize>,
-) -> Option<Found>
+// The element at the front, where no header name is looked for. Its first character tells which scanners to ask; the
+// texts there, with a prefix and without, are given.
+fn element(units: &[Unit], mode: u8, text: Option<usize>, prefixed: Option<usize>) -> Option<Found>
     requires some { 0 < length units.now }
     requires short { length units.now < 2 ^ 32 }
-    requires told { front_of (slice_index_or (characters units.now) 0 0) ≡ front }
     requires text { LongestAt IsText (characters units.now) text }
     requires prefixed { LongestAt IsPrefixed (characters units.now) prefixed }
     ensures { (at : ℕ) → Takes with_comments at mode (characters units.now) result }
 {
     let literal = Spell::Token(Class::Literal);
     let alone = found_of(Spell::Token(Class::Punct), mode, Some(1));
-    match front {
+    match front_of(units[0].ch) {
         Front::Blank => found_of(Spell::Blank, mode, Some(1)),
         Front::Letter => better(name(units, mode), found_of(literal, mode, prefixed)),
         Front::Digit => found_of(literal, mode, longest_number(units)),
@@ -148,23 +140,6 @@ fn by_front(
         Front::Quote => better(found_of(literal, mode, text), alone),
         Front::Backslash => better(name(units, mode), alone),
         Front::Other => punctuator(units, mode),
-    }
-}
-
-// The element at the front, where no header name is looked for. Its first character tells which scanners to ask, and a blank
-// is taken at once; the texts there, with a prefix and without, are given.
-#[inline(always)]
-fn element(units: &[Unit], mode: u8, text: Option<usize>, prefixed: Option<usize>) -> Option<Found>
-    requires some { 0 < length units.now }
-    requires short { length units.now < 2 ^ 32 }
-    requires text { LongestAt IsText (characters units.now) text }
-    requires prefixed { LongestAt IsPrefixed (characters units.now) prefixed }
-    ensures { (at : ℕ) → Takes with_comments at mode (characters units.now) result }
-{
-    let front = front_of(units[0].ch);
-    match front {
-        Front::Blank => found_of(Spell::Blank, mode, Some(1)),
-        _ => by_front(front, units, mode, text, prefixed),
     }
 }
 
@@ -182,7 +157,6 @@ fn header_at(units: &[Unit], mode: u8) -> Option<usize>
 
 /// The element at the front, where no byte order mark stands. In mode 2 a header name comes before anything
 /// else. The texts there, with a prefix and without, are given.
-#[inline(always)]
 pub(crate) fn taken(
     units: &[Unit],
     mode: u8,

@@ -106,16 +106,14 @@ fn behind_slash(units: &[Unit], mode: u8) -> Option<Found>
     operator(units, mode)
 }
 
-// The element at the front, by what its first character tells.
-#[inline(never)]
-fn by_front(front: Front, units: &[Unit], mode: u8) -> Option<Found>
+/// The element at the front, where no byte order mark stands. Its first character tells which scanners there are to ask.
+pub(crate) fn taken(units: &[Unit], mode: u8) -> Option<Found>
     requires some { 0 < length units.now }
     requires short { length units.now < 2 ^ 32 }
-    requires told { front_of (slice_index_or (characters units.now) 0 0) ≡ front }
     ensures { (at : ℕ) → Takes unmarked at mode (characters units.now) result }
 {
     let literal = Spell::Token(Class::Literal);
-    match front {
+    match front_of(units[0].ch) {
         Front::Blank => found_of(Spell::Blank, mode, Some(1)),
         Front::Letter => name(units, mode),
         Front::Digit => found_of(literal, mode, longest_number(units)),
@@ -136,20 +134,5 @@ fn by_front(front: Front, units: &[Unit], mode: u8) -> Option<Found>
         ),
         Front::Back => found_of(literal, mode, longest_raw(units)),
         Front::Other => operator(units, mode),
-    }
-}
-
-/// The element at the front, where no byte order mark stands. Its first character tells which scanners there are to ask; a
-/// blank is taken at once.
-#[inline(always)]
-pub(crate) fn taken(units: &[Unit], mode: u8) -> Option<Found>
-    requires some { 0 < length units.now }
-    requires short { length units.now < 2 ^ 32 }
-    ensures { (at : ℕ) → Takes unmarked at mode (characters units.now) result }
-{
-    let front = front_of(units[0].ch);
-    match front {
-        Front::Blank => found_of(Spell::Blank, mode, Some(1)),
-        _ => by_front(front, units, mode),
     }
 }
