@@ -1,5 +1,5 @@
 -- Levels of brackets tell where as many are opened as are closed.
-use Rattle.std.proofs.Common.{◌≡◌, ℕ, ◌+◌, ◌-◌, ◌*◌, ◌<◌, ◌≤◌, Bool, cond, eqb, List, [], ◌∷◌, ◌++◌, length, get_or, take, drop, sym, ap, ◌∙◌, subst, ⊎_elim, arith}
+use Rattle.std.proofs.Common.{◌≡◌, ℕ, ◌+◌, ◌-◌, ◌*◌, ◌<◌, ◌≤◌, Bool, cond, eqb, List, [], ◌∷◌, ◌++◌, length, get_or, take, drop, ap, ◌∙◌, subst, ⊎_elim, arith}
 use Rattle.std.specs.Prelude.{count_by}
 use Rattle.std.proofs.lemmas.Bool.{cases_eq}
 use Rattle.std.proofs.lemmas.Bool.Decides.{same_from_decides, Decides-eqb, Decides-like}
@@ -95,7 +95,3 @@ levelled_all l k ts far levels whole all = record {
   many = let many = all.many in omega (arith, many);
   each = λ at low. all.each at (omega arith);
 }
-
--- one token more, by the token itself
-pub level_next : (l : Lang) (k : Kind) (ts : List Spelled) (at : ℕ) (t : Spelled) → at < length ts → t ≡ get_or ts at t → level l k ts (at + 1) + cond (closes l k t) 1 0 ≡ level l k ts at + cond (opens l k t) 1 0
-level_next l k ts at t lt is = subst (λ u. level l k ts (at + 1) + cond (closes l k u) 1 0 ≡ level l k ts at + cond (opens l k u) 1 0) (sym is) (level-more l k ts at t lt)

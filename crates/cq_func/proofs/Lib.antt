@@ -1,6 +1,7 @@
 pub mod Least
 pub mod Search
 pub mod Counted
+pub mod Signs
 pub mod Marks
 pub mod Partners
 pub mod Walked

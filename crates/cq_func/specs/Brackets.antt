@@ -1,6 +1,6 @@
 -- Spellings of tokens, and brackets and their partners. A place of a token counts from 0; where a place does not exist, the
 -- number of tokens stands for it, at which nothing stands.
-use Rattle.std.specs.Prelude.{ℕ, ◌+◌, ◌-◌, ◌==◌, ◌||◌, ◌&&◌, nat_lt, Bool, false, Option, Some, None, List, length, take, drop, slice_get, count_by, codes}
+use Rattle.std.specs.Prelude.{ℕ, ◌+◌, ◌-◌, ◌==◌, ◌||◌, ◌&&◌, nat_lt, Bool, false, Option, Some, None, List, [], ◌∷◌, length, take, drop, slice_get, count_by, codes}
 use Rattle.std.specs.Str.{bytes_eq}
 use Rattle.cq_base.specs.declared.lang.Lang.{Lang}
 use Rattle.cq_base.specs.declared.token.Class.{Class}
@@ -49,6 +49,28 @@ closes l kind.Round t = is_spelled l (codes ")") t
 closes l kind.Square t = is_spelled l (codes "]") t
 closes l kind.Curly t = is_spelled l (codes "}") t
 closes l kind.All t = is_spelled l (codes ")") t || (is_spelled l (codes "]") t || is_spelled l (codes "}") t)
+
+-- The sign of a token: the byte of its spelling, where it has one alone, else 0. It tells brackets.
+abbrev pub only_byte : List ℕ → ℕ
+only_byte [] = 0
+only_byte (b ∷ []) = b
+only_byte (b ∷ c ∷ s) = 0
+
+abbrev pub sign_of : Lang → Spelled → ℕ
+sign_of l t = only_byte (spelling_of l t.token.class t.text)
+
+-- the same by the sign
+abbrev pub opens_with : Kind → ℕ → Bool
+opens_with kind.Round b = b == 40
+opens_with kind.Square b = b == 91
+opens_with kind.Curly b = b == 123
+opens_with kind.All b = (b == 40) || ((b == 91) || (b == 123))
+
+abbrev pub closes_with : Kind → ℕ → Bool
+closes_with kind.Round b = b == 41
+closes_with kind.Square b = b == 93
+closes_with kind.Curly b = b == 125
+closes_with kind.All b = (b == 41) || ((b == 93) || (b == 125))
 
 -- they hold as many openings as closings
 abbrev pub are_even : Lang → Kind → List Spelled → Bool

@@ -1,10 +1,10 @@
-ghost use Rattle.std.specs.Prelude.{◌≡◌, ◌+◌, ◌-◌, ◌≤◌, ◌<◌, IfOk, if◌then◌else◌, length, take, drop};
+ghost use Rattle.std.specs.Prelude.{◌≡◌, ◌+◌, ◌-◌, ◌≤◌, ◌<◌, IfOk, if◌then◌else◌, length, map, take, drop};
 ghost use Rattle.cq_func.specs.Brackets as spec;
 ghost use Rattle.cq_func.specs.Levels as level;
 ghost use Rattle.cq_func.specs.Tables as tables;
 
 use crate::places::places_above;
-use crate::spelling::is_spelled;
+use crate::spelling::spelling;
 use cq_base::{Lang, Memory, Spelled};
 use std::alloc::Global;
 
@@ -21,34 +21,46 @@ pub(crate) enum Kind {
     All,
 }
 
-fn opens(lang: Lang, kind: Kind, token: &Spelled) -> bool
-    ensures { result ≡ spec.opens lang kind token.now }
+fn opens_with(kind: Kind, byte: u8) -> bool
+    ensures { result ≡ spec.opens_with kind byte }
 {
     match kind {
-        Kind::Round => is_spelled(lang, b"(", token),
-        Kind::Square => is_spelled(lang, b"[", token),
-        Kind::Curly => is_spelled(lang, b"{", token),
-        Kind::All => {
-            is_spelled(lang, b"(", token)
-                || is_spelled(lang, b"[", token)
-                || is_spelled(lang, b"{", token)
-        }
+        Kind::Round => byte == b'(',
+        Kind::Square => byte == b'[',
+        Kind::Curly => byte == b'{',
+        Kind::All => byte == b'(' || byte == b'[' || byte == b'{',
     }
 }
 
-fn closes(lang: Lang, kind: Kind, token: &Spelled) -> bool
-    ensures { result ≡ spec.closes lang kind token.now }
+fn closes_with(kind: Kind, byte: u8) -> bool
+    ensures { result ≡ spec.closes_with kind byte }
 {
     match kind {
-        Kind::Round => is_spelled(lang, b")", token),
-        Kind::Square => is_spelled(lang, b"]", token),
-        Kind::Curly => is_spelled(lang, b"}", token),
-        Kind::All => {
-            is_spelled(lang, b")", token)
-                || is_spelled(lang, b"]", token)
-                || is_spelled(lang, b"}", token)
-        }
+        Kind::Round => byte == b')',
+        Kind::Square => byte == b']',
+        Kind::Curly => byte == b'}',
+        Kind::All => byte == b')' || byte == b']' || byte == b'}',
     }
+}
+
+fn sign(lang: Lang, token: &Spelled) -> u8
+    ensures { result ≡ spec.sign_of lang token.now }
+{
+    match spelling(lang, token) {
+        [byte] => *byte,
+        _ => 0,
+    }
+}
+
+/// The sign of each token, which tells brackets: the byte of its spelling, where it has one alone, else 0.
+pub(crate) fn signs(alloc: Global, lang: Lang, tokens: &[Spelled]) -> Result<Vec<u8>, Memory>
+    ensures { IfOk result (λ v. v.items ≡ map (spec.sign_of lang) tokens.now) }
+{
+    let mut signs = Vec::with_capacity(alloc, tokens.len())?;
+    for token in tokens {
+        signs.push(sign(lang, token))?;
+    }
+    Ok(signs)
 }
 
 fn one_if(holds: bool) -> u32
@@ -57,13 +69,13 @@ fn one_if(holds: bool) -> u32
     if holds { 1 } else { 0 }
 }
 
-// The level behind a token.
-fn next_level(lang: Lang, kind: Kind, token: &Spelled, level: u32) -> u32
+// The level behind a token of this sign.
+fn next_level(kind: Kind, sign: u8, level: u32) -> u32
     requires high { level ≤ 1000000 }
-    requires low { (if spec.closes lang kind token.now then 1 else 0) ≤ level + (if spec.opens lang kind token.now then 1 else 0) }
-    ensures { result + (if spec.closes lang kind token.now then 1 else 0) ≡ level + (if spec.opens lang kind token.now then 1 else 0) }
+    requires low { (if spec.closes_with kind sign then 1 else 0) ≤ level + (if spec.opens_with kind sign then 1 else 0) }
+    ensures { result + (if spec.closes_with kind sign then 1 else 0) ≡ level + (if spec.opens_with kind sign then 1 else 0) }
 {
-    level + one_if(opens(lang, kind, token)) - one_if(closes(lang, kind, token))
+    level + one_if(opens_with(kind, sign)) - one_if(closes_with(kind, sign))
 }
 
 /// The level before each token, and behind the last: the number of tokens, and the openings less the closings before it.
@@ -72,15 +84,17 @@ pub(crate) fn levels(
     lang: Lang,
     kind: Kind,
     tokens: &[Spelled],
+    signs: &[u8],
 ) -> Result<Vec<u32>, Memory>
-    requires { length tokens.now ≤ 262144 }
+    requires few { length tokens.now ≤ 262144 }
+    requires signs { signs.now ≡ map (spec.sign_of lang) tokens.now }
     ensures { IfOk result (λ v. level.AreLevels lang kind tokens.now v.items) }
 {
     let mut levels = Vec::with_capacity(alloc, tokens.len() + 1)?;
     let mut level = tokens.len() as u32;
     levels.push(level)?;
-    for token in tokens {
-        level = next_level(lang, kind, token, level);
+    for sign in signs {
+        level = next_level(kind, *sign, level);
         levels.push(level)?;
     }
     Ok(levels)
@@ -112,20 +126,37 @@ pub(crate) fn behind_each(levels: &[u32]) -> &[u32]
     &levels[1..]
 }
 
+/// The partner of each token that opens a bracket of the kind, by the levels.
+pub(crate) fn partners_by(
+    alloc: Global,
+    lang: Lang,
+    kind: Kind,
+    tokens: &[Spelled],
+    levels: &[u32],
+) -> Result<Vec<u32>, Memory>
+    requires few { length tokens.now ≤ 262144 }
+    requires counted { level.AreLevels lang kind tokens.now levels.now }
+    ensures { IfOk result (λ t. tables.ArePartners lang kind tokens.now t.items) }
+{
+    let wanted = before_each(levels);
+    let marks = behind_each(levels);
+    places_above(alloc, wanted, marks, 2 * tokens.len() + 1)
+}
+
 /// The partner of each token that opens a bracket of the kind.
 pub(crate) fn partners(
     alloc: Global,
     lang: Lang,
     kind: Kind,
     tokens: &[Spelled],
+    signs: &[u8],
 ) -> Result<Vec<u32>, Memory>
-    requires { length tokens.now ≤ 262144 }
+    requires few { length tokens.now ≤ 262144 }
+    requires signs { signs.now ≡ map (spec.sign_of lang) tokens.now }
     ensures { IfOk result (λ t. tables.ArePartners lang kind tokens.now t.items) }
 {
-    let levels = levels(alloc, lang, kind, tokens)?;
-    let wanted = before_each(&levels);
-    let marks = behind_each(&levels);
-    places_above(alloc, wanted, marks, 2 * tokens.len() + 1)
+    let levels = levels(alloc, lang, kind, tokens, signs)?;
+    partners_by(alloc, lang, kind, tokens, &levels)
 }
 
 /// The partner of the token at a place.

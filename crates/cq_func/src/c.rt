@@ -6,7 +6,7 @@ ghost use Rattle.cq_func.specs.Levels as level;
 ghost use Rattle.cq_func.specs.Names as names;
 ghost use Rattle.cq_func.specs.Tables as tables;
 
-use crate::brackets::{Kind, is_even, levels, partner, partners};
+use crate::brackets::{Kind, is_even, levels, partner, partners, partners_by, signs};
 use crate::found::{Found, keep, with_body};
 use crate::spelling::is_called;
 use cq_base::{Lang, Memory, Spelled};
@@ -39,9 +39,10 @@ pub(crate) fn c_functions(alloc: Global, tokens: &[Spelled]) -> Result<Vec<Found
     requires { length tokens.now ≤ 262144 }
     ensures { IfOk result (λ v. v.items ≡ spec.found lang.C tokens.now) }
 {
-    let round = partners(alloc, Lang::C, Kind::Round, tokens)?;
-    let curly = partners(alloc, Lang::C, Kind::Curly, tokens)?;
-    let levels = levels(alloc, Lang::C, Kind::Curly, tokens)?;
+    let signs = signs(alloc, Lang::C, tokens)?;
+    let round = partners(alloc, Lang::C, Kind::Round, tokens, &signs)?;
+    let levels = levels(alloc, Lang::C, Kind::Curly, tokens, &signs)?;
+    let curly = partners_by(alloc, Lang::C, Kind::Curly, tokens, &levels)?;
     let mut found = Vec::new(alloc);
     for name in 0..tokens.len() {
         keep(

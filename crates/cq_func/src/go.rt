@@ -8,7 +8,7 @@ ghost use Rattle.cq_func.specs.Names as names;
 ghost use Rattle.cq_func.specs.Tables as table;
 ghost use Rattle.cq_func.specs.GoTables as all;
 
-use crate::brackets::{Kind, behind_each, is_even, levels, partner, partners};
+use crate::brackets::{Kind, behind_each, is_even, levels, partner, partners, signs};
 use crate::found::{Found, keep};
 use crate::places::{first_places, places_above};
 use crate::spelling::{is_name, stands, stands_before};
@@ -173,10 +173,11 @@ fn look_up(alloc: Global, tokens: &[Spelled]) -> Result<Tables, Memory>
     requires { length tokens.now ≤ 262144 }
     ensures { IfOk result (λ t. all.AreTables tokens.now t) }
 {
-    let levels = levels(alloc, Lang::Go, Kind::All, tokens)?;
-    let round = partners(alloc, Lang::Go, Kind::Round, tokens)?;
-    let square = partners(alloc, Lang::Go, Kind::Square, tokens)?;
-    let curly = partners(alloc, Lang::Go, Kind::Curly, tokens)?;
+    let signs = signs(alloc, Lang::Go, tokens)?;
+    let levels = levels(alloc, Lang::Go, Kind::All, tokens, &signs)?;
+    let round = partners(alloc, Lang::Go, Kind::Round, tokens, &signs)?;
+    let square = partners(alloc, Lang::Go, Kind::Square, tokens, &signs)?;
+    let curly = partners(alloc, Lang::Go, Kind::Curly, tokens, &signs)?;
     let funcs = funcs(alloc, tokens, &levels, &round)?;
     let ends = ends(alloc, tokens, &levels)?;
     let opens = opens(alloc, tokens, &curly)?;

@@ -6,7 +6,7 @@ ghost use Rattle.cq_func.specs.Names as names;
 ghost use Rattle.cq_func.specs.Places as places;
 ghost use Rattle.cq_func.specs.Tables as tables;
 
-use crate::brackets::{Kind, partner, partners};
+use crate::brackets::{Kind, partner, partners, signs};
 use crate::found::{Found, keep, with_body};
 use crate::spelling::{is_called, is_name, stands, stands_before};
 use cq_base::{Lang, Memory, Spelled};
@@ -85,8 +85,9 @@ pub(crate) fn java_functions(alloc: Global, tokens: &[Spelled]) -> Result<Vec<Fo
     requires { length tokens.now ≤ 262144 }
     ensures { IfOk result (λ v. v.items ≡ spec.found lang.Java tokens.now) }
 {
-    let round = partners(alloc, Lang::Java, Kind::Round, tokens)?;
-    let curly = partners(alloc, Lang::Java, Kind::Curly, tokens)?;
+    let signs = signs(alloc, Lang::Java, tokens)?;
+    let round = partners(alloc, Lang::Java, Kind::Round, tokens, &signs)?;
+    let curly = partners(alloc, Lang::Java, Kind::Curly, tokens, &signs)?;
     let mut found = Vec::new(alloc);
     for name in 0..tokens.len() {
         keep(&mut found, java_function(tokens, &round, &curly, name))?;

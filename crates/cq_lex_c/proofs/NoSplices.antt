@@ -1,11 +1,11 @@
 -- Where no line ends directly behind a backslash, nothing is left out.
-use Rattle.std.proofs.Common.{◌≡◌, ℕ, ◌+◌, ◌<◌, ◌≤◌, Bool, true, false, ◌&&◌, ◌==◌, List, [], ◌∷◌, length, drop, refl, sym, ap, ◌∙◌}
+use Rattle.std.proofs.Common.{◌≡◌, ℕ, ◌+◌, ◌-◌, ◌<◌, ◌≤◌, Bool, true, false, ◌&&◌, ◌==◌, List, [], ◌∷◌, length, take, drop, refl, sym, ap, ◌∙◌}
 use Rattle.std.specs.Prelude.{◌||◌, if◌then◌else◌}
 use Rattle.std.proofs.lemmas.Bool.{or_parts}
-use Rattle.std.proofs.lemmas.List.{drop_more, drop_all}
+use Rattle.std.proofs.lemmas.List.{drop_more, drop_all, take_rest}
 use Rattle.cq_munch.specs.Lexed.{unit_at}
 use Rattle.cq_munch.specs.declared.unit.Unit.{Unit}
-use Rattle.cq_lex_c.specs.Splices.{begins_with_lf, splice_len, spliced, has_splice}
+use Rattle.cq_lex_c.specs.Splices.{begins_with_lf, begins_line_end, splice_len, spliced, has_splice}
 use Rattle.cq_lex_c.proofs.Leaving.{spliced_keep}
 
 len_by : (slash feed return more : Bool) (two three none : ℕ) → (slash && (feed || return)) ≡ false → (if slash && feed then two else (if slash && (return && more) then three else none)) ≡ none
@@ -25,14 +25,19 @@ unspliced behind (u ∷ us) h =
     let rest = (or_parts (behind && ((u.ch == 10) || (u.ch == 13))) (has_splice (u.ch == 92) us) h).1 in
     ap (λ v. u ∷ v) (unspliced (u.ch == 92) us rest) ∙ sym (spliced_keep u us (none_begins u us rest))
 
--- one unit more
-pub none_here : (units : List Unit) (i : ℕ) (behind next ends : Bool) → i < length units → ends ≡ (behind && (((unit_at units i).ch == 10) || ((unit_at units i).ch == 13))) → ends ≡ false → next ≡ ((unit_at units i).ch == 92)
-    → has_splice behind (drop i units) ≡ has_splice false units → has_splice next (drop (i + 1) units) ≡ has_splice false units
-none_here units i behind next ends inside ends_is none next_is so_far =
-    let u = unit_at units i in
-    let us = drop (i + 1) units in
-    ap (λ b. has_splice b us) next_is ∙ ap (λ b. b || has_splice (u.ch == 92) us) (sym none ∙ ends_is)
-    ∙ sym (ap (has_splice behind) (drop_more units i (record { ch = 0; start = 0; len = 0 }) inside)) ∙ so_far
+-- a backslash without a line end behind it begins nothing
+no_end : (b : Bool) (us : List Unit) → (b && begins_line_end us) ≡ false → has_splice b us ≡ has_splice false us
+no_end b [] none = refl
+no_end b (v ∷ us) none = ap (λ m. m || has_splice (v.ch == 92) us) none
 
-pub none_at_all : (units : List Unit) (i : ℕ) (behind : Bool) → length units ≤ i → has_splice behind (drop i units) ≡ has_splice false units → units ≡ spliced 0 units
-none_at_all units i behind end so_far = unspliced false units (sym so_far ∙ ap (has_splice behind) (drop_all i units end))
+-- one unit more
+pub none_here : (units : List Unit) (i : ℕ) (begins : Bool) → i < length units → begins ≡ (((unit_at units i).ch == 92) && begins_line_end (take (length units - (i + 1)) (drop (i + 1) units))) → begins ≡ false
+    → has_splice false (drop i units) ≡ has_splice false units → has_splice false (drop (i + 1) units) ≡ has_splice false units
+none_here units i begins inside begins_is none so_far =
+    let u = unit_at units i in
+    let us : List Unit = drop (i + 1) units in
+    let no : ((u.ch == 92) && begins_line_end us) ≡ false = ap (λ (vs : List Unit). (u.ch == 92) && begins_line_end vs) (sym (take_rest units (i + 1))) ∙ sym begins_is ∙ none in
+    sym (no_end (u.ch == 92) us no) ∙ sym (ap (has_splice false) (drop_more units i (record { ch = 0; start = 0; len = 0 }) inside)) ∙ so_far
+
+pub none_at_all : (units : List Unit) (i : ℕ) → length units ≤ i → has_splice false (drop i units) ≡ has_splice false units → units ≡ spliced 0 units
+none_at_all units i end so_far = unspliced false units (sym so_far ∙ ap (has_splice false) (drop_all i units end))

@@ -26,6 +26,11 @@ spliced n [] = []
 spliced (suc n) (u ∷ us) = spliced n us
 spliced zero (u ∷ us) = let n = splice_len (u ∷ us) in kept n u (spliced 0 us) (spliced (n - 1) us)
 
+-- whether a line feed or a carriage return stands at the front
+abbrev pub begins_line_end : List Unit → Bool
+begins_line_end [] = false
+begins_line_end (u ∷ us) = (u.ch == 10) || (u.ch == 13)
+
 -- whether a line ends directly behind a backslash, and whether one stands before these units
 abbrev pub has_splice : Bool → List Unit → Bool
 has_splice behind [] = false

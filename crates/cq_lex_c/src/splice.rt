@@ -1,5 +1,5 @@
-ghost use Rattle.std.specs.Prelude.{◌≡◌, ◌==◌, ◌&&◌, ◌||◌, IfOk, IsFalse};
-ghost use Rattle.cq_lex_c.specs.Splices.{splice_len, spliced};
+ghost use Rattle.std.specs.Prelude.{◌≡◌, ◌==◌, ◌&&◌, IfOk, IsFalse};
+ghost use Rattle.cq_lex_c.specs.Splices.{begins_line_end, splice_len, spliced};
 ghost use Rattle.cq_lex_c.specs.Staying.{OnlySplicesAreLeftOut};
 
 use cq_base::Memory;
@@ -22,29 +22,31 @@ fn splice_len(units: &[Unit]) -> usize
     0
 }
 
-// Whether a line ends here, directly behind a backslash.
-fn ends_behind(behind: bool, ch: char) -> bool
-    ensures { result ≡ (behind && ((ch == 10) || (ch == 13))) }
+// Whether a line feed or a carriage return stands at the front.
+fn begins_line_end(units: &[Unit]) -> bool
+    ensures { result ≡ begins_line_end units.now }
 {
-    behind && (ch == '\n' || ch == '\r')
+    match units {
+        [first, ..] => first.ch == '\n' || first.ch == '\r',
+        [] => false,
+    }
 }
 
-fn is_backslash(ch: char) -> bool
-    ensures { result ≡ (ch == 92) }
+// Whether the character is a backslash, directly before the end of a line.
+fn begins_splice(ch: char, behind: &[Unit]) -> bool
+    ensures { result ≡ ((ch == 92) && begins_line_end behind.now) }
 {
-    ch == '\\'
+    ch == '\\' && begins_line_end(behind)
 }
 
 // Whether a line ends directly behind a backslash. Where none does, nothing is left out.
 fn has_splice(units: &[Unit]) -> bool
     ensures { IsFalse result → units.now ≡ spliced 0 units.now }
 {
-    let mut behind = false;
-    for unit in units {
-        if ends_behind(behind, unit.ch) {
+    for (i, unit) in units.iter().enumerate() {
+        if begins_splice(unit.ch, &units[i + 1..]) {
             return true;
         }
-        behind = is_backslash(unit.ch);
     }
     false
 }

@@ -24,13 +24,7 @@ fn may_end(class: Class, text: &Text) -> bool
                 || is_word(text, "fallthrough")
                 || is_word(text, "return")
         }
-        Class::Punct => {
-            is_word(text, "++")
-                || is_word(text, "--")
-                || is_word(text, ")")
-                || is_word(text, "]")
-                || is_word(text, "}")
-        }
+        Class::Punct => matches!(text.as_bytes(), b"++" | b"--" | b")" | b"]" | b"}"),
     }
 }
 

@@ -1,4 +1,5 @@
-ghost use Rattle.std.specs.Prelude.{◌≡◌, ◌↔◌, IsTrue, map};
+ghost use Rattle.std.specs.Prelude.{◌≡◌, ◌==◌, ◌||◌, ◌↔◌, IsTrue, map};
+ghost use Rattle.std.specs.Char.{is_ascii_alphabetic};
 ghost use Rattle.cq_munch.specs.Longest.{LongestAt, IsAmong};
 ghost use Rattle.cq_munch.specs.Characters.{characters};
 ghost use Rattle.cq_lex_go.specs.NameStates.{name_rest};
@@ -23,10 +24,20 @@ fn is_letter_category(category: GeneralCategory) -> bool
     )
 }
 
+// Of the characters of ASCII these are letters.
+fn is_ascii_letter(ch: char) -> bool
+    ensures { result ≡ ((ch == 95) || is_ascii_alphabetic ch) }
+{
+    ch == '_' || ch.is_ascii_alphabetic()
+}
+
 #[tactic(auto, unfolding(crate::specs::Words::is_letter))]
 pub(crate) fn is_letter(ch: char) -> bool
     ensures { result ≡ is_letter ch }
 {
+    if ch.is_ascii() {
+        return is_ascii_letter(ch);
+    }
     ch == '_' || is_letter_category(GeneralCategory::for_char(ch))
 }
 

@@ -65,6 +65,11 @@ by_escape (escapes.Code code len) units = by_scalar (scalar code) code len (esca
 abbrev pub step_at : List Unit → Step
 step_at units = by_escape (escape_at units) units
 
+-- whether a u stands at the front
+abbrev pub begins_mark : List Unit → Bool
+begins_mark [] = false
+begins_mark (u ∷ us) = u.ch == 117
+
 -- whether a u stands directly behind a backslash, and whether one stands before these units
 abbrev pub has_escape : Bool → List Unit → Bool
 has_escape behind [] = false

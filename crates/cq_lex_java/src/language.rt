@@ -5,7 +5,7 @@ ghost use Rattle.cq_lex_java.specs.OneKind.{one_kind_of_java};
 ghost use Rattle.cq_lex_java.specs.Translation.{translated};
 
 use crate::element::taken;
-use crate::translation::unescaped;
+use crate::translation::{is_plain, unescaped};
 use cq_base::{Memory, Spelled, Text};
 use cq_munch::{Found, Lexis, Spell, Translated, Unit, is_mark, plain_units};
 use std::alloc::Global;
@@ -23,6 +23,9 @@ impl Lexis for Java {
 
     fn translate(alloc: Global, text: &Text) -> Result<Translated, Memory> {
         let units = plain_units(alloc, text)?;
+        if is_plain(text) {
+            return Ok(Translated::Units(units));
+        }
         unescaped(alloc, units)
     }
 

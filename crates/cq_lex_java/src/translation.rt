@@ -1,12 +1,13 @@
-ghost use Rattle.std.specs.Prelude.{◌≡◌, ◌≤◌, ◌==◌, ◌&&◌, not, false, Ok, length, IfOk, IsFalse};
-ghost use Rattle.cq_munch.specs.Lexed.{InOrder, translation};
+ghost use Rattle.std.specs.Prelude.{◌≡◌, ◌≤◌, ◌==◌, ◌&&◌, not, false, Ok, length, IfOk, IsFalse, IsTrue, IsUtf8};
+ghost use Rattle.cq_munch.specs.Lexed.{InOrder, translation, units_of};
 ghost use Rattle.cq_lex_java.specs.Translation.{spanning, read_at, translated};
 ghost use Rattle.cq_lex_java.specs.Eligible.{EscapesGoByCount};
-ghost use Rattle.cq_lex_java.specs.Escapes.{IsStepWithin};
+ghost use Rattle.cq_lex_java.specs.Escapes.{begins_mark, IsStepWithin};
 
 use crate::escape::{Step, step_at};
-use cq_base::Memory;
+use cq_base::{Memory, Text};
 use cq_munch::{Translated, Unit};
+use memchr::memchr;
 use std::alloc::Global;
 
 // A character with the bytes of all the units that spell it.
@@ -40,29 +41,31 @@ fn odd_behind(odd: bool, ch: char) -> bool
     ch == '\\' && !odd
 }
 
-// Whether a u stands here, directly behind a backslash.
-fn begins_escape(behind: bool, ch: char) -> bool
-    ensures { result ≡ (behind && (ch == 117)) }
+// Whether a u stands at the front.
+fn begins_mark(units: &[Unit]) -> bool
+    ensures { result ≡ begins_mark units.now }
 {
-    behind && ch == 'u'
+    match units {
+        [first, ..] => first.ch == 'u',
+        [] => false,
+    }
 }
 
-fn is_backslash(ch: char) -> bool
-    ensures { result ≡ (ch == 92) }
+// Whether the character is a backslash, directly before a u.
+fn begins_escape(ch: char, behind: &[Unit]) -> bool
+    ensures { result ≡ ((ch == 92) && begins_mark behind.now) }
 {
-    ch == '\\'
+    ch == '\\' && begins_mark(behind)
 }
 
 // Whether a u stands directly behind a backslash. Where none does, nothing is translated.
 fn has_escape(units: &[Unit]) -> bool
     ensures { IsFalse result → Ok units.now ≡ translated 0 false units.now }
 {
-    let mut behind = false;
-    for unit in units {
-        if begins_escape(behind, unit.ch) {
+    for (i, unit) in units.iter().enumerate() {
+        if begins_escape(unit.ch, &units[i + 1..]) {
             return true;
         }
-        behind = is_backslash(unit.ch);
     }
     false
 }
@@ -96,6 +99,17 @@ fn translated(alloc: Global, units: &[Unit]) -> Result<Translated, Memory>
         }
     }
     Ok(Translated::Units(out))
+}
+
+/// Whether a text is known to have no escapes, since no backslash is among its bytes.
+pub(crate) fn is_plain(text: &Text) -> bool
+    requires { IsUtf8 text.now }
+    ensures { IsTrue result → Ok (units_of text.now) ≡ translated 0 false (units_of text.now) }
+{
+    match memchr(b'\\', text.as_bytes()) {
+        Some(_) => false,
+        None => true,
+    }
 }
 
 /// The units after the Unicode escapes are read, or the byte of the first fault. Those of a text without escapes are

@@ -1,4 +1,5 @@
-ghost use Rattle.std.specs.Prelude.{◌≡◌, ◌↔◌, IsTrue};
+ghost use Rattle.std.specs.Prelude.{◌≡◌, ◌==◌, ◌||◌, ◌↔◌, IsTrue};
+ghost use Rattle.std.specs.Char.{is_ascii_alphabetic, is_ascii_digit};
 ghost use Rattle.cq_munch.specs.Characters.{characters};
 ghost use Rattle.cq_munch.specs.Longest.{LongestAt, IsAmong};
 ghost use Rattle.cq_lex_java.specs.NameStates.{identifier_rest};
@@ -9,11 +10,28 @@ use cq_munch::{Machine, Unit, ascii_bytes, is_listed, longest_spelling};
 // `synchronized` has as many letters.
 const LONGEST_KEYWORD: usize = 12;
 
+// Of the characters of ASCII these begin an identifier.
+fn begins_ascii(ch: char) -> bool
+    ensures { result ≡ (is_ascii_alphabetic ch || ((ch == 95) || (ch == 36))) }
+{
+    ch.is_ascii_alphabetic() || ch == '_' || ch == '$'
+}
+
+// And these continue one.
+fn continues_ascii(ch: char) -> bool
+    ensures { result ≡ ((is_ascii_alphabetic ch || ((ch == 95) || (ch == 36))) || is_ascii_digit ch) }
+{
+    begins_ascii(ch) || ch.is_ascii_digit()
+}
+
 /// Whether an identifier may begin with the character.
 #[tactic(auto, unfolding(crate::specs::Words::begins_identifier))]
 pub(crate) fn begins_identifier(ch: char) -> bool
     ensures { result ≡ begins_identifier ch }
 {
+    if ch.is_ascii() {
+        return begins_ascii(ch);
+    }
     unicode_ident::is_xid_start(ch) || ch == '_' || ch == '$'
 }
 
@@ -21,6 +39,9 @@ pub(crate) fn begins_identifier(ch: char) -> bool
 fn continues_identifier(ch: char) -> bool
     ensures { result ≡ continues_identifier ch }
 {
+    if ch.is_ascii() {
+        return continues_ascii(ch);
+    }
     unicode_ident::is_xid_continue(ch) || ch == '$'
 }
 

@@ -1,7 +1,7 @@
 -- Lines that are covered, counted along extents in order: of each extent those that none before it covers.
 use Rattle.std.proofs.Common.{◌≡◌, ◌⊎◌, ℕ, ◌+◌, ◌-◌, ◌<◌, ◌≤◌, Bool, true, false, ◌||◌, ◌&&◌, List, [], ◌∷◌, length, refl, sym, ap, ◌∙◌, ⊎_elim, inl, inr, map, arith}
 use Rattle.std.proofs.lemmas.Bool.{false≢true, cases_Bool, or_cases, or_parts}
-use Rattle.std.specs.Prelude.{◌==◌, nat_lt, nat_le, not, if◌then◌else◌}
+use Rattle.std.specs.Prelude.{⊤, ◌==◌, nat_lt, nat_le, not, if◌then◌else◌}
 use Rattle.std.specs.List.{AllByRecursion, IsDistinct, flat_map, list_any}
 use Rattle.std.specs.Set.{is_member, distinct_count}
 use Rattle.std.specs.declared.cmp.Ordering.TheVariants.{Less}
@@ -29,7 +29,7 @@ abbrev is_taken : ℕ → ℕ → Line → Bool
 is_taken file free q = q.file == file && nat_lt q.number free
 
 -- no extent lies before the file, or before a line of it
-abbrev Begins : ℕ → ℕ → Extent → Type 0
+abbrev pub Begins : ℕ → ℕ → Extent → Type 0
 Begins file first e = (file < e.file) ⊎ ((file ≡ e.file) × (first ≤ e.first))
 
 begins_of : (a b : Extent) → extent_cmp a b ≡ Less → Begins a.file a.first b
@@ -49,12 +49,25 @@ all_begin e [] h = h
 all_begin e (f ∷ es) h = (begins_of e f h.0, all_begin e es h.1)
 
 -- nor in an earlier file
-pub no_earlier : (e : Extent) (es : List Extent) → AllByRecursion (λ f. extent_cmp e f ≡ Less) es → AllByRecursion (λ f. e.file ≤ f.file) es
-no_earlier e [] h = h
-no_earlier e (f ∷ es) h = (file_of e f h.0, no_earlier e es h.1)
+in_later_files : (file first : ℕ) (es : List Extent) → AllByRecursion (Begins file first) es → AllByRecursion (λ f. file ≤ f.file) es
+in_later_files file first [] h = h
+in_later_files file first (f ∷ es) h = (file_of file first f h.0, in_later_files file first es h.1)
   where
-    file_of : (a b : Extent) → extent_cmp a b ≡ Less → a.file ≤ b.file
-    file_of a b h = grind arith
+    file_of : (file first : ℕ) (f : Extent) → Begins file first f → file ≤ f.file
+    file_of file first f (inl less) = omega (arith, less)
+    file_of file first f (inr same) = omega (arith, same.0)
+
+pub no_earlier : (e : Extent) (es : List Extent) → AllByRecursion (λ f. extent_cmp e f ≡ Less) es → AllByRecursion (λ f. e.file ≤ f.file) es
+no_earlier e es h = in_later_files e.file e.first es (all_begin e es h)
+
+-- no extent begins before one that stands before it
+abbrev pub Rise : List Extent → Type 0
+Rise [] = ⊤
+Rise (e ∷ es) = AllByRecursion (Begins e.file e.first) es × Rise es
+
+pub in_order_rise : (es : List Extent) → AreInOrder es → Rise es
+in_order_rise [] o = tt
+in_order_rise (e ∷ es) o = (all_begin e es (sorted_head extent_cmp e es o), in_order_rise es (sorted_tail extent_cmp e es o))
 
 -- Of an extent's lines those are new that are not taken.
 fresh : (file free : ℕ) (e : Extent) (q : Line) → is_on e.file (first_new file free e) (e.last + 1 - first_new file free e) q ≡ (covers q e && not (is_taken file free q))
@@ -95,23 +108,22 @@ step file free e q false l h = ap (λ b. b || false) (fresh file free e q) ∙ j
     join a b = grind arith
 
 -- The new lines are those that are covered and not taken.
-pub member-new_lines : (file free : ℕ) (es : List Extent) (q : Line) → AreInOrder es → AllByRecursion (λ e. file ≤ e.file) es → is_member same_line (new_lines file free es) q ≡ (list_any (covers q) es && not (is_taken file free q))
+pub member-new_lines : (file free : ℕ) (es : List Extent) (q : Line) → Rise es → AllByRecursion (λ e. file ≤ e.file) es → is_member same_line (new_lines file free es) q ≡ (list_any (covers q) es && not (is_taken file free q))
 member-new_lines file free [] q o l = refl
 member-new_lines file free (e ∷ es) q o l =
     member-lines_on e.file (first_new file free e) (e.last + 1 - first_new file free e) _ q
-    ∙ ap (λ b. is_on e.file (first_new file free e) (e.last + 1 - first_new file free e) q || b) (member-new_lines e.file (next_free file free e) es q (sorted_tail extent_cmp e es o) (no_earlier e es (sorted_head extent_cmp e es o)))
-    ∙ step file free e q (list_any (covers q) es) l.0 (covered_later e.file e.first es q (all_begin e es (sorted_head extent_cmp e es o)))
+    ∙ ap (λ b. is_on e.file (first_new file free e) (e.last + 1 - first_new file free e) q || b) (member-new_lines e.file (next_free file free e) es q o.1 (in_later_files e.file e.first es o.0))
+    ∙ step file free e q (list_any (covers q) es) l.0 (covered_later e.file e.first es q o.0)
 
 -- They are different lines.
-pub distinct-new_lines : (file free : ℕ) (es : List Extent) → AreInOrder es → AllByRecursion (λ e. file ≤ e.file) es → IsDistinct same_line (new_lines file free es)
+pub distinct-new_lines : (file free : ℕ) (es : List Extent) → Rise es → AllByRecursion (λ e. file ≤ e.file) es → IsDistinct same_line (new_lines file free es)
 unfolding IsDistinct
 distinct-new_lines file free [] o l = tt
 distinct-new_lines file free (e ∷ es) o l =
-    let ordered = sorted_tail extent_cmp e es o in
-    let behind = no_earlier e es (sorted_head extent_cmp e es o) in
+    let behind = in_later_files e.file e.first es o.0 in
     distinct-lines_on e.file (first_new file free e) (e.last + 1 - first_new file free e) _
-    (distinct-new_lines e.file (next_free file free e) es ordered behind)
-    (λ q on. member-new_lines e.file (next_free file free e) es q ordered behind ∙ none file free e q (list_any (covers q) es) on)
+    (distinct-new_lines e.file (next_free file free e) es o.1 behind)
+    (λ q on. member-new_lines e.file (next_free file free e) es q o.1 behind ∙ none file free e q (list_any (covers q) es) on)
   where
     none : (file free : ℕ) (e : Extent) (q : Line) (later : Bool) → is_on e.file (first_new file free e) (e.last + 1 - first_new file free e) q ≡ true → (later && not (is_taken e.file (next_free file free e) q)) ≡ false
     none file free e q later on = grind arith
@@ -124,11 +136,17 @@ from_none [] = tt
 from_none (e ∷ es) = (omega arith, from_none es)
 
 -- So there are as many as different lines in any list of those that the extents cover.
-pub new_count-of : (es : List Extent) → AreInOrder es → (lines : List Line) → ((q : Line) → is_member same_line lines q ≡ list_any (covers q) es) → new_count 0 0 es ≡ distinct_count same_line lines
-new_count-of es o lines same =
+pub rising-count : (es : List Extent) → Rise es → (lines : List Line) → ((q : Line) → is_member same_line lines q ≡ list_any (covers q) es) → new_count 0 0 es ≡ distinct_count same_line lines
+rising-count es o lines same =
     sym (length-new_lines 0 0 es)
     ∙ length-from_keys same_line-laws (new_lines 0 0 es) lines (distinct-new_lines 0 0 es o (from_none es))
     (λ q. member-new_lines 0 0 es q o (from_none es) ∙ nothing_taken q _ ∙ sym (same q))
+
+pub new_count-of : (es : List Extent) → AreInOrder es → (lines : List Line) → ((q : Line) → is_member same_line lines q ≡ list_any (covers q) es) → new_count 0 0 es ≡ distinct_count same_line lines
+new_count-of es o lines same = rising-count es (in_order_rise es o) lines same
+
+pub rising-is : (es : List Extent) → Rise es → new_count 0 0 es ≡ covered_lines es
+rising-is es o = rising-count es o (flat_map lines_of es) (member-flat_map es)
 
 pub new_count-is : (es : List Extent) → AreInOrder es → new_count 0 0 es ≡ covered_lines es
 new_count-is es o = new_count-of es o (flat_map lines_of es) (member-flat_map es)

@@ -1,4 +1,4 @@
-ghost use Rattle.std.specs.Prelude.{◌≡◌, ℕ, ◌≤◌, ◌*◌, ◌^◌, IfOk, map, filter};
+ghost use Rattle.std.specs.Prelude.{◌≡◌, ℕ, ◌≤◌, ◌*◌, ◌^◌, IfOk, IfSome, map, filter};
 ghost use Rattle.cq_measures.specs.Extents as spec;
 ghost use Rattle.cq_measures.specs.Sorted as sorted;
 
@@ -109,11 +109,37 @@ fn code_extents(alloc: Global, tokens: &[Token]) -> Result<Vec<Extent>, Memory>
     Ok(extents)
 }
 
-/// Lines of code: how many lines lie from the first to the last line of a token that has bytes. It sorts the tokens'
-/// lines, which is one walk where they are in the order of the text.
+// Lines of code, where no token that has bytes begins on a line before that of the one before it; else None.
+fn lines_in_order(tokens: &[Token]) -> Option<u64>
+    ensures count { IfSome result (λ n. n ≡ spec.code_lines tokens.now) }
+    ensures within { IfSome result (λ n. n ≤ 2 ^ 32) }
+{
+    let mut lines = 0;
+    let mut first = 0;
+    let mut free = 0;
+    for token in tokens {
+        if token.len == 0 {
+            continue;
+        }
+        if token.first_line < first {
+            return None;
+        }
+        first = token.first_line;
+        let behind = u64::from(token.last_line) + 1;
+        lines += behind.saturating_sub(greater(u64::from(first), free));
+        free = greater(behind, free);
+    }
+    Some(lines)
+}
+
+/// Lines of code: how many lines lie from the first to the last line of a token that has bytes. It is one walk without
+/// memory where the tokens are in the order of the text; else their lines are sorted.
 pub fn ncloc(alloc: Global, tokens: &[Token]) -> Result<u64, Memory>
     ensures count { IfOk result (λ n. n ≡ spec.code_lines tokens.now) }
     ensures within { IfOk result (λ n. n ≤ 2 ^ 32) }
 {
-    Ok(count_up(code_extents(alloc, tokens)?).lines)
+    match lines_in_order(tokens) {
+        Some(lines) => Ok(lines),
+        None => Ok(count_up(code_extents(alloc, tokens)?).lines),
+    }
 }

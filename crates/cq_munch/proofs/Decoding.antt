@@ -1,5 +1,6 @@
 -- A text's characters as units, one after the other.
-use Rattle.std.proofs.Common.{◌≡◌, ℕ, ◌+◌, ◌<◌, ◌≤◌, List, [], ◌∷◌, ◌++◌, length, drop, get_or, IsUtf8, refl, sym, ap, subst, ◌∙◌, append_assoc, arith, length-append}
+use Rattle.std.proofs.Common.{◌≡◌, ℕ, zero, suc, ◌+◌, ◌<◌, ◌≤◌, List, [], ◌∷◌, ◌++◌, length, drop, get_or, IsUtf8, refl, sym, ap, subst, ◌∙◌, ⊎_elim, append_assoc, arith, length-append}
+use Rattle.std.proofs.lemmas.Bool.{cases_lt}
 use Rattle.std.proofs.lemmas.List.{append-nil, nil_from_length, drop_more, drop_all}
 use Rattle.std.proofs.lemmas.Str.{chars-nil, chars_past_char, IsUtf8-past_char, length-encode, length-le-encodes, encodes-chars, len_utf8_bounds, len_utf8_ascii, chars-IsAscii, IsUtf8-from_ascii}
 use Rattle.std.specs.Prelude.{encode_utf8}
@@ -68,6 +69,26 @@ pub decoded_pushed : (text : List ℕ) (units more : List Unit) (start size : �
 decoded_pushed text units more start size rest after c so_far is size_is more_is =
     subst (λ v. Decoded text v (start + size) after) (sym more_is)
     (subst (λ (v : ℕ). Decoded text (units ++ record { ch = c; start = start; len = v } ∷ []) (start + v) after) (sym size_is) (decoded_more text units start rest after c so_far is))
+
+-- each byte was seen to be ASCII, as far as there are some
+pub one_seen : (bytes : List ℕ) (i : ℕ) → ((k : ℕ) → k < i → get_or bytes k 0 < 128) → get_or bytes i 0 < 128 → (k : ℕ) → k < i + 1 → get_or bytes k 0 < 128
+one_seen bytes i seen here k less =
+    ⊎_elim
+    (λ (before : k < i). seen k before)
+    (λ (there : i ≤ k). let same : i ≡ k = omega (arith, less, there) in subst (λ j. get_or bytes j 0 < 128) same here)
+    (cases_lt k i)
+
+pub all_seen : (bytes : List ℕ) (i : ℕ) → length bytes ≤ i → ((k : ℕ) → k < i → get_or bytes k 0 < 128) → IsAscii bytes
+all_seen bytes i end seen k =
+    ⊎_elim
+    (λ (before : k < i). seen k before)
+    (λ (behind : i ≤ k). let none = get_or_past bytes k (omega (arith, end, behind)) in omega (arith, none))
+    (cases_lt k i)
+  where
+    get_or_past : (xs : List ℕ) (j : ℕ) → length xs ≤ j → get_or xs j 0 ≡ 0
+    get_or_past [] j past = refl
+    get_or_past (x ∷ xs) zero past = absurd (omega arith)
+    get_or_past (x ∷ xs) (suc j) past = get_or_past xs j (omega (arith, past))
 
 -- a text of ASCII, of which each byte is a character
 module _ (bytes : List ℕ) (ascii : IsAscii bytes) where

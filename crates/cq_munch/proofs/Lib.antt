@@ -1,4 +1,5 @@
 pub mod Front
+pub mod CommentScans
 pub mod Steps
 pub mod Tables
 pub mod WordLists

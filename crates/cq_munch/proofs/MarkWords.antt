@@ -1,13 +1,13 @@
 -- How a walk finds the last of the two words.
-use Rattle.std.proofs.Common.{◌≡◌, ℕ, zero, suc, ◌+◌, ◌-◌, ◌<◌, ◌≤◌, ◌==◌, ◌&&◌, Bool, true, false, if◌then◌else◌, Option, Some, None, List, [], ◌∷◌, length, take, drop, get_or, codes, refl, sym, ap, ap₂, ◌∙◌, arith}
-use Rattle.std.proofs.lemmas.Bool.{eq-eqb, ne_eqb}
-use Rattle.std.proofs.lemmas.List.{drop_more, drop_all, length-map}
+use Rattle.std.proofs.Common.{◌≡◌, ℕ, zero, suc, ◌+◌, ◌-◌, ◌<◌, ◌≤◌, ◌==◌, ◌&&◌, Bool, true, false, if◌then◌else◌, Option, Some, None, List, [], ◌∷◌, length, take, drop, get_or, codes, refl, sym, ap, ap₂, ◌∙◌, arith, length-drop}
+use Rattle.std.proofs.lemmas.Bool.{eq-eqb, ne_eqb, false≢true, and_left, and_right}
+use Rattle.std.proofs.lemmas.List.{drop_more, drop_all, drop-drop, get_or-drop, length-map}
 use Rattle.std.specs.Option.{option_or}
 use Rattle.cq_munch.specs.declared.unit.Unit.{Unit}
 use Rattle.cq_munch.specs.Characters.{characters}
 use Rattle.cq_munch.specs.Lexed.{unit_at}
 use Rattle.cq_munch.specs.LastWord.{SaysLast, TheLastWordCounts}
-use Rattle.cq_munch.specs.ListingMarks.{said, said_at}
+use Rattle.cq_munch.specs.ListingMarks.{leads, said, said_at}
 use Rattle.cq_munch.specs.Table.{begins}
 use Rattle.cq_munch.proofs.Front.{ch_at, as_many}
 use Rattle.cq_munch.proofs.Texts.{characters_from}
@@ -49,20 +49,12 @@ said_more text i last inside so_far =
     ∙ or_assoc (said (drop (i + 1) text)) (said_at (get_or text i 0 ∷ drop (i + 1) text)) last
     ∙ ap (λ cs. option_or (said (drop (i + 1) text)) (option_or (said_at cs) last)) (sym more)
 
-said_all : (text : List ℕ) (i : ℕ) (last : Option Bool) → length text ≤ i → said text ≡ option_or (said (drop i text)) last → last ≡ said text
-said_all text i last end so_far = sym (so_far ∙ ap (λ cs. option_or (said cs) last) (drop_all i text end))
-
 -- the walk goes on behind a unit
 pub said_step : (units : List Unit) (i : ℕ) (last next : Option Bool) → i < length units → said (characters units) ≡ option_or (said (drop i (characters units))) last → next ≡ option_or (said_at (characters (take (length units - i) (drop i units)))) last
     → said (characters units) ≡ option_or (said (drop (i + 1) (characters units))) next
 said_step units i last next inside so_far next_is =
     said_more (characters units) i last (as_many units i inside) so_far
     ∙ ap (option_or (said (drop (i + 1) (characters units)))) (ap (λ cs. option_or (said_at cs) last) (sym (characters_from units i)) ∙ sym next_is)
-
-pub said_end : (units : List Unit) (i : ℕ) (last : Option Bool) → length units ≤ i → said (characters units) ≡ option_or (said (drop i (characters units))) last → last ≡ said (characters units)
-said_end units i last end so_far =
-    let many = length-map units (λ (u : Unit). u.ch) in
-    said_all (characters units) i last (omega (arith, many, end)) so_far
 
 -- both words begin with a C
 pub none_said : (units : List Unit) → 0 < length units → ((unit_at units 0).ch ≡ 67 → ⊥) → said_at (characters units) ≡ None
@@ -95,6 +87,88 @@ none_anywhere (c ∷ text) none (suc at) = none_anywhere text (or_first (said te
 said_nowhere : (text : List ℕ) → ((at : ℕ) → said_at (drop at text) ≡ None) → said text ≡ None
 said_nowhere [] none = refl
 said_nowhere (c ∷ text) none = ap₂ option_or (said_nowhere text (λ at. none (suc at))) (none 0)
+
+-- ---- characters at which no word begins
+
+-- another character stands at a place of the word
+begins_other : (word text : List ℕ) (k : ℕ) → k < length word → (get_or text k 0 ≡ get_or word k 0 → ⊥) → begins word text ≡ false
+begins_other [] text k inside other = absurd (omega arith)
+begins_other (c ∷ word) [] k inside other = refl
+begins_other (c ∷ word) (d ∷ text) zero inside other = and_left (d == c) (begins word text) (ne_eqb d c other)
+begins_other (c ∷ word) (d ∷ text) (suc k) inside other = and_right (d == c) (begins word text) (begins_other word text k (omega (arith, inside)) other)
+
+-- the text ends before the word
+begins_short : (word text : List ℕ) → length text < length word → begins word text ≡ false
+begins_short [] text short = absurd (omega arith)
+begins_short (c ∷ word) [] short = refl
+begins_short (c ∷ word) (d ∷ text) short = and_right (d == c) (begins word text) (begins_short word text (omega (arith, short)))
+
+none_begins : (text : List ℕ) → begins (codes "CPD-OFF") text ≡ false → begins (codes "CPD-ON") text ≡ false → said_at text ≡ None
+none_begins text off on = ap₂ (λ a b. if a then Some false else (if b then Some true else None)) off on
+
+off_long : length (codes "CPD-OFF") ≡ 7
+off_long = refl
+
+on_long : length (codes "CPD-ON") ≡ 6
+on_long = refl
+
+both_lead : (k : ℕ) → k < 5 → get_or (codes "CPD-ON") k 0 ≡ get_or (codes "CPD-OFF") k 0
+both_lead zero small = refl
+both_lead (suc zero) small = refl
+both_lead (suc (suc zero)) small = refl
+both_lead (suc (suc (suc zero))) small = refl
+both_lead (suc (suc (suc (suc zero)))) small = refl
+both_lead (suc (suc (suc (suc (suc k))))) small = absurd (omega arith)
+
+no_lead : (c k : ℕ) → k < 5 → leads c ≡ false → c ≡ get_or (codes "CPD-OFF") k 0 → ⊥
+no_lead c zero small none is = false≢true (sym none ∙ ap leads is)
+no_lead c (suc zero) small none is = false≢true (sym none ∙ ap leads is)
+no_lead c (suc (suc zero)) small none is = false≢true (sym none ∙ ap leads is)
+no_lead c (suc (suc (suc zero))) small none is = false≢true (sym none ∙ ap leads is)
+no_lead c (suc (suc (suc (suc zero)))) small none is = false≢true (sym none ∙ ap leads is)
+no_lead c (suc (suc (suc (suc (suc k))))) small none is = absurd (omega arith)
+
+-- one of the first five characters is none of the words' first five
+none_leads : (text : List ℕ) (k : ℕ) → k < 5 → leads (get_or text k 0) ≡ false → said_at text ≡ None
+none_leads text k small none =
+    none_begins text
+    (begins_other (codes "CPD-OFF") text k (omega (arith, small, off_long)) (no_lead (get_or text k 0) k small none))
+    (begins_other (codes "CPD-ON") text k (omega (arith, small, on_long)) (λ is. no_lead (get_or text k 0) k small none (is ∙ both_lead k small)))
+
+or_none : (a : Option Bool) → option_or a None ≡ a
+or_none None = refl
+or_none (Some on) = refl
+
+-- characters at which no word begins are passed over
+passed : (n : ℕ) (text : List ℕ) → ((k : ℕ) → k < n → said_at (drop k text) ≡ None) → said text ≡ said (drop n text)
+passed zero text none = refl
+passed (suc n) [] none = refl
+passed (suc n) (c ∷ text) none =
+    ap (option_or (said text)) (none 0 (omega arith)) ∙ or_none (said text) ∙ passed n text (λ k small. none (suc k) (omega (arith, small)))
+
+fifth_of : (text : List ℕ) (k : ℕ) → k < 5 → get_or (drop k text) (4 - k) 0 ≡ get_or text 4 0
+fifth_of text k small = let there : k + (4 - k) ≡ 4 = omega (arith, small) in get_or-drop k text (4 - k) 0 ∙ ap (λ j. get_or text j 0) there
+
+-- five of them
+pub said_skip : (units : List Unit) (at : ℕ) (last : Option Bool) → at + 4 < length units → said (characters units) ≡ option_or (said (drop at (characters units))) last → leads (unit_at units (at + 4)).ch ≡ false
+    → said (characters units) ≡ option_or (said (drop (at + 5) (characters units))) last
+said_skip units at last inside so_far none =
+    let text : List ℕ = drop at (characters units) in
+    let there : leads (get_or text 4 0) ≡ false = ap leads (get_or-drop at (characters units) 4 0 ∙ ch_at units (at + 4) inside) ∙ none in
+    so_far ∙ ap (λ v. option_or v last)
+    (passed 5 text (λ k small. none_leads (drop k text) (4 - k) (omega arith) (ap leads (fifth_of text k small) ∙ there))
+    ∙ ap said (drop-drop 5 at (characters units)))
+
+-- fewer than five are left
+short_at : (text : List ℕ) → length text < 5 → said_at text ≡ None
+short_at text short = none_begins text (begins_short (codes "CPD-OFF") text (omega (arith, short, off_long))) (begins_short (codes "CPD-ON") text (omega (arith, short, on_long)))
+
+pub said_end : (units : List Unit) (at : ℕ) (last : Option Bool) → length units ≤ at + 4 → said (characters units) ≡ option_or (said (drop at (characters units))) last → last ≡ said (characters units)
+said_end units at last end so_far =
+    let text : List ℕ = drop at (characters units) in
+    let many = length-map units (λ (u : Unit). u.ch) in
+    let left = length-drop at (characters units) in
+    sym (so_far ∙ ap (λ v. option_or v last) (said_nowhere text (λ k. let fewer = length-drop k text in short_at (drop k text) (omega (arith, many, left, fewer, end)))))
 
 later_on : (c : ℕ) (text : List ℕ) (on : Bool) → SaysLast text on → SaysLast (c ∷ text) on
 later_on c text on says = record { at = suc says.at; says = says.says; last = last }

@@ -1,11 +1,11 @@
 -- Words in lists by their length.
-use Rattle.std.proofs.Common.{◌≡◌, ℕ, zero, suc, ◌≤◌, ◌↔◌, Bool, true, false, ◌||◌, Bor, List, [], ◌∷◌, length, map, get_or, bytes_eq, Decides, refl, sym, ap, ◌∙◌, arith}
+use Rattle.std.proofs.Common.{◌≡◌, ℕ, zero, suc, ◌+◌, ◌<◌, ◌≤◌, ◌==◌, ◌↔◌, Bool, true, false, ◌||◌, Bor, List, [], ◌∷◌, length, map, drop, get_or, bytes_eq, Decides, refl, sym, ap, ◌∙◌, arith}
 use Rattle.std.specs.List.{list_all, list_any}
 use Rattle.std.specs.Slice.{IsItemAt}
 use Rattle.std.specs.Prelude.{Some}
-use Rattle.std.proofs.lemmas.Bool.{and_parts}
+use Rattle.std.proofs.lemmas.Bool.{and_parts, and_left, ne_eqb}
 use Rattle.std.proofs.lemmas.Bool.Decides.{Decides-or, Decides-like}
-use Rattle.std.proofs.lemmas.List.{get_or-map, length-map}
+use Rattle.std.proofs.lemmas.List.{drop_more, drop_all, get_or-map, length-map}
 use Rattle.std.proofs.lemmas.Slice.Eq.{bytes_eq-Decides}
 use Rattle.cq_munch.specs.ByLength.{words_of_length}
 use Rattle.cq_munch.specs.Characters.{characters, AreAscii}
@@ -23,6 +23,27 @@ no_word s h = let none : false ≡ true = h in absurd (cc)
 has-among : (words : List (List ℕ)) (s : List ℕ) → Decides (has words s) (IsAmong words s)
 has-among [] s = (no_word s, λ h. absurd h)
 has-among (w ∷ words) s = Decides-or _ _ (Decides-like (bytes_eq w s) sym sym (bytes_eq-Decides w s)) (has-among words s)
+
+-- ---- a search in a list
+
+-- words whose first bytes are others
+pub other_first : (a b : List ℕ) → 0 < length a → 0 < length b → (get_or a 0 0 ≡ get_or b 0 0 → ⊥) → false ≡ bytes_eq a b
+other_first [] b some also other = absurd (omega arith)
+other_first (x ∷ a) [] some also other = absurd (omega arith)
+other_first (x ∷ a) (y ∷ b) some also other = sym (and_left (x == y) (bytes_eq a b) (ne_eqb x y other))
+
+module _ (s : List ℕ) (words : List (Bor (List ℕ))) (i : ℕ) (so_far : list_any (λ (w : Bor (List ℕ)). bytes_eq w.now s) words ≡ list_any (λ (w : Bor (List ℕ)). bytes_eq w.now s) (drop i words)) where
+  rest_is : (w : Bor (List ℕ)) → i < length words → list_any (λ (v : Bor (List ℕ)). bytes_eq v.now s) words ≡ (bytes_eq (get_or words i w).now s || list_any (λ (v : Bor (List ℕ)). bytes_eq v.now s) (drop (i + 1) words))
+  rest_is w inside = so_far ∙ ap (list_any (λ (v : Bor (List ℕ)). bytes_eq v.now s)) (drop_more words i w inside)
+
+  pub found_here : (w : Bor (List ℕ)) → i < length words → bytes_eq (get_or words i w).now s ≡ true → true ≡ list_any (λ (v : Bor (List ℕ)). bytes_eq v.now s) words
+  found_here w inside same = sym (rest_is w inside ∙ ap (λ b. b || list_any (λ (v : Bor (List ℕ)). bytes_eq v.now s) (drop (i + 1) words)) same)
+
+  pub found_later : (w : Bor (List ℕ)) → i < length words → bytes_eq (get_or words i w).now s ≡ false → list_any (λ (v : Bor (List ℕ)). bytes_eq v.now s) words ≡ list_any (λ (v : Bor (List ℕ)). bytes_eq v.now s) (drop (i + 1) words)
+  found_later w inside other = rest_is w inside ∙ ap (λ b. b || list_any (λ (v : Bor (List ℕ)). bytes_eq v.now s) (drop (i + 1) words)) other
+
+  pub found_nowhere : length words ≤ i → false ≡ list_any (λ (v : Bor (List ℕ)). bytes_eq v.now s) words
+  found_nowhere end = sym (so_far ∙ ap (list_any (λ (v : Bor (List ℕ)). bytes_eq v.now s)) (drop_all i words end))
 
 -- ---- the list of a length, as it lies in memory
 

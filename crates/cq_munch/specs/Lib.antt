@@ -5,7 +5,6 @@ pub mod Digits
 pub mod Behind
 pub mod LineEnds
 pub mod Comments
-pub mod CommentStates
 pub mod Quotes
 pub mod QuoteStates
 pub mod Characters

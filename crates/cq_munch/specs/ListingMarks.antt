@@ -1,5 +1,5 @@
 -- The two words in a comment that switch the listing of tokens off and on.
-use Rattle.std.specs.Prelude.{ℕ, Bool, true, false, if◌then◌else◌, Option, Some, None, List, [], ◌∷◌, codes}
+use Rattle.std.specs.Prelude.{ℕ, ◌==◌, Bool, true, false, ◌||◌, if◌then◌else◌, Option, Some, None, List, [], ◌∷◌, codes}
 use Rattle.std.specs.Option.{option_or}
 use Rattle.cq_munch.specs.Table.{begins}
 
@@ -11,3 +11,7 @@ said_at text = if begins (codes "CPD-OFF") text then Some false else (if begins 
 abbrev pub said : List ℕ → Option Bool
 said [] = None
 said (c ∷ text) = option_or (said text) (said_at (c ∷ text))
+
+-- the character is one of the first five of both words, which are the same
+abbrev pub leads : ℕ → Bool
+leads c = (c == 67) || ((c == 80) || ((c == 68) || ((c == 45) || (c == 79))))

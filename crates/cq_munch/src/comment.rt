@@ -1,99 +1,63 @@
-ghost use Rattle.std.specs.Prelude.{◌≡◌};
+ghost use Rattle.std.specs.Prelude.{◌≡◌, ◌==◌, ◌&&◌, [], ◌∷◌};
 ghost use Rattle.cq_munch.specs.Characters.{characters};
 ghost use Rattle.cq_munch.specs.Comments.{IsBlockComment, IsLineComment};
-ghost use Rattle.cq_munch.specs.CommentStates.{block_rest, line_rest};
 ghost use Rattle.cq_munch.specs.Longest.{LongestAt};
+ghost use Rattle.cq_munch.specs.Table.{begins};
 
 use crate::ends::{LineEnds, ends_line};
-use crate::machine::{Machine, longest_spelling};
 use crate::unit::Unit;
 
-/// How far a comment in slashes and stars has come.
-#[derive(Clone, Copy, Debug, PartialEq, Eq)]
-enum Block {
-    Before,
-    Slash,
-    Inside,
-    Star,
-    Closed,
-}
-
-impl Machine for Block {
-    ghost rest = { block_rest };
-
-    fn step(self, ch: char) -> Option<Self> {
-        match self {
-            Block::Before => if ch == '/' { Some(Block::Slash) } else { None },
-            Block::Slash => if ch == '*' { Some(Block::Inside) } else { None },
-            Block::Inside => Some(if ch == '*' {
-                Block::Star
-            } else {
-                Block::Inside
-            }),
-            Block::Star => if ch == '/' {
-                Some(Block::Closed)
-            } else {
-                Some(if ch == '*' {
-                    Block::Star
-                } else {
-                    Block::Inside
-                })
-            },
-            Block::Closed => None,
-        }
-    }
-
-    fn accepts(self) -> bool {
-        matches!(self, Block::Closed)
+// Whether a slash and this character open a comment at the front.
+fn opens(units: &[Unit], second: char) -> bool
+    ensures { result ≡ begins (47 ∷ second ∷ []) (characters units.now) }
+{
+    match units {
+        [slash, next, ..] => slash.ch == '/' && next.ch == second,
+        _ => false,
     }
 }
 
-/// How far a comment up to the end of its line has come.
-#[derive(Clone, Copy, Debug, PartialEq, Eq)]
-enum Line {
-    Before(LineEnds),
-    Slash(LineEnds),
-    Inside(LineEnds),
+// Whether the character closes a comment behind the one before it.
+fn closes(before: char, ch: char) -> bool
+    ensures { result ≡ ((ch == 47) && (before == 42)) }
+{
+    ch == '/' && before == '*'
 }
 
-impl Machine for Line {
-    ghost rest = { line_rest };
-
-    fn step(self, ch: char) -> Option<Self> {
-        match self {
-            Line::Before(ends) => if ch == '/' {
-                Some(Line::Slash(ends))
-            } else {
-                None
-            },
-            Line::Slash(ends) => if ch == '/' {
-                Some(Line::Inside(ends))
-            } else {
-                None
-            },
-            Line::Inside(ends) => if ends_line(ends, ch) {
-                None
-            } else {
-                Some(Line::Inside(ends))
-            },
-        }
-    }
-
-    fn accepts(self) -> bool {
-        matches!(self, Line::Inside(_))
-    }
-}
-
-/// The comment in slashes and stars at the front, if it is closed.
+/// The comment in slashes and stars at the front, if it is closed. Behind a character that is no star the next but one is
+/// looked at, since no slash between them closes the comment.
 pub fn longest_block_comment(units: &[Unit]) -> Option<usize>
     ensures { LongestAt IsBlockComment (characters units.now) result }
 {
-    longest_spelling(Block::Before, units)
+    if !opens(units, '*') {
+        return None;
+    }
+    let mut before = 2;
+    while before + 1 < units.len() {
+        let ch = units[before + 1].ch;
+        if closes(units[before].ch, ch) {
+            return Some(before + 2);
+        }
+        if ch == '*' {
+            before += 1;
+            continue;
+        }
+        before += 2;
+    }
+    None
 }
 
 /// The comment behind two slashes at the front. What ends its line is no part of it.
 pub fn longest_line_comment(ends: LineEnds, units: &[Unit]) -> Option<usize>
     ensures { LongestAt (IsLineComment ends) (characters units.now) result }
 {
-    longest_spelling(Line::Before(ends), units)
+    if !opens(units, '/') {
+        return None;
+    }
+    for at in 2..units.len() {
+        if ends_line(ends, units[at].ch) {
+            return Some(at);
+        }
+    }
+    Some(units.len())
 }

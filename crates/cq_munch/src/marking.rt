@@ -4,7 +4,7 @@ ghost use Rattle.std.specs.Option.{option_or};
 ghost use Rattle.cq_munch.specs.Characters.{characters};
 ghost use Rattle.cq_munch.specs.LastWord.{TheLastWordCounts};
 ghost use Rattle.cq_munch.specs.Lexed as spec;
-ghost use Rattle.cq_munch.specs.ListingMarks.{said, said_at};
+ghost use Rattle.cq_munch.specs.ListingMarks.{leads, said, said_at};
 ghost use Rattle.cq_munch.specs.declared.element.Spell.TheVariants.{Comment};
 ghost use Rattle.cq_munch.specs.Table.{begins};
 
@@ -50,13 +50,27 @@ fn said_here(units: &[Unit], before: Option<bool>) -> Option<bool>
     said_at(units).or(before)
 }
 
-// What the last of the two words says, if one stands there. It is one walk, with a few looks more where a `C` stands.
+// Whether the character is one of the first five of both words, which are the same.
+fn leads(ch: char) -> bool
+    ensures { result ≡ leads ch }
+{
+    ch == 'C' || ch == 'P' || ch == 'D' || ch == '-' || ch == 'O'
+}
+
+// What the last of the two words says, if one stands there. Neither begins at one of five characters of which the last is
+// none of their first five: so mostly one of five is looked at.
 fn said(units: &[Unit]) -> Option<bool>
     ensures { result ≡ said (characters units.now) }
 {
     let mut last = None;
-    for i in 0..units.len() {
-        last = said_here(&units[i..], last);
+    let mut at = 0;
+    while at + 4 < units.len() {
+        if !leads(units[at + 4].ch) {
+            at += 5;
+            continue;
+        }
+        last = said_here(&units[at..], last);
+        at += 1;
     }
     last
 }

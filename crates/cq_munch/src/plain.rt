@@ -1,5 +1,4 @@
-ghost use Rattle.std.specs.Prelude.{◌≡◌, ◌≤◌, length, IfOk, IsUtf8};
-ghost use Rattle.std.specs.Str.{IsAscii};
+ghost use Rattle.std.specs.Prelude.{◌≡◌, ◌≤◌, length, IfOk, IfSome, IsUtf8};
 ghost use Rattle.cq_munch.specs.Lexed.{units_of, InOrder};
 
 use crate::unit::Unit;
@@ -16,29 +15,31 @@ pub fn plain_units(alloc: Global, text: &Text) -> Result<Vec<Unit>, Memory>
     ensures short { IfOk result (λ v. length v.items ≤ length text.now) }
 {
     let bytes = text.as_bytes();
-    if bytes.is_ascii() {
-        return of_ascii(alloc, bytes);
+    match of_ascii(alloc, bytes)? {
+        Some(units) => Ok(units),
+        None => of_str(alloc, str::from_utf8(bytes).unwrap()),
     }
-    of_str(alloc, str::from_utf8(bytes).unwrap())
 }
 
-// The units of a text of ASCII, of which each byte is a character.
-fn of_ascii(alloc: Global, bytes: &[u8]) -> Result<Vec<Unit>, Memory>
-    requires ascii { IsAscii bytes.now }
+// The units of a text of ASCII, of which each byte is a character; None where another byte stands there.
+fn of_ascii(alloc: Global, bytes: &[u8]) -> Result<Option<Vec<Unit>>, Memory>
     requires short { length bytes.now ≤ 1048576 }
-    ensures units { IfOk result (λ v. v.items ≡ units_of bytes.now) }
-    ensures in_order { IfOk result (λ v. InOrder 0 v.items (length bytes.now)) }
-    ensures short { IfOk result (λ v. length v.items ≤ length bytes.now) }
+    ensures units { IfOk result (λ r. IfSome r (λ v. v.items ≡ units_of bytes.now)) }
+    ensures in_order { IfOk result (λ r. IfSome r (λ v. InOrder 0 v.items (length bytes.now))) }
+    ensures short { IfOk result (λ r. IfSome r (λ v. length v.items ≤ length bytes.now)) }
 {
     let mut units = Vec::with_capacity(alloc, bytes.len())?;
     for (i, byte) in bytes.iter().enumerate() {
+        if *byte >= 128 {
+            return Ok(None);
+        }
         units.push_reserved(Unit {
             ch: char::from(*byte),
             start: i as u32,
             len: 1,
         });
     }
-    Ok(units)
+    Ok(Some(units))
 }
 
 fn of_str(alloc: Global, text: &str) -> Result<Vec<Unit>, Memory>

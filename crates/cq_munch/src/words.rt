@@ -1,4 +1,6 @@
 ghost use Rattle.std.specs.Prelude.{◌≡◌, ◌↔◌, ◌<◌, ◌≤◌, length, take, All, IsTrue};
+ghost use Rattle.std.specs.List.{list_any};
+ghost use Rattle.std.specs.Str.{bytes_eq};
 ghost use Rattle.cq_munch.specs.ByLength.{words_of_length};
 ghost use Rattle.cq_munch.specs.Characters.{characters, AreAscii};
 ghost use Rattle.cq_munch.specs.Longest.{IsAmong};
@@ -25,12 +27,34 @@ pub fn ascii_bytes(units: &[Unit], room: &mut [u8]) -> bool
     true
 }
 
-/// Whether a word stands in the list of the words of its length. It costs one comparison with each of these.
+// Whether the words are the same. Mostly their first bytes tell.
+fn is_same(a: &[u8], b: &[u8]) -> bool
+    ensures { result ≡ bytes_eq a.now b.now }
+{
+    if a.is_empty() || b.is_empty() || a[0] == b[0] {
+        return a == b;
+    }
+    false
+}
+
+fn is_among(words: &[&[u8]], word: &[u8]) -> bool
+    ensures { result ≡ list_any (λ other. bytes_eq other.now word.now) words.now }
+{
+    for other in words {
+        if is_same(other, word) {
+            return true;
+        }
+    }
+    false
+}
+
+/// Whether a word stands in the list of the words of its length. It costs a look at each of these, and mostly at one byte of
+/// it.
 pub fn is_listed(by_length: &[&[&[u8]]], word: &[u8]) -> bool
     ensures { IsTrue result ↔ IsAmong (words_of_length by_length.now (length word.now)) word.now }
 {
     match by_length.get(word.len()) {
-        Some(words) => words.contains(&word),
+        Some(words) => is_among(words, word),
         None => false,
     }
 }

@@ -42,6 +42,15 @@ search_tells byte on marks (suc n) d within some point =
 pub none_tells : (byte : ℕ) (on : Bool) (marks : List Mark) (n : ℕ) → n ≡ 0 → IsPartitionPoint (λ (m : Mark). nat_lt m.at byte ≡ true) (λ (m : Mark). nat_lt m.at byte ≡ false) marks n → on ≡ is_on on marks byte
 none_tells byte on marks n none point = sym (none_before byte on marks (λ k d low high. point.1 k d (omega (arith, none)) high))
 
+-- without marks all tokens are left
+pub all_kept : (tokens : List Spelled) → tokens ≡ kept [] tokens
+all_kept [] = refl
+all_kept (s ∷ tokens) = ap (λ ts. s ∷ ts) (all_kept tokens)
+
+pub unmarked_kept : (marks : List Mark) (tokens : List Spelled) → length marks ≡ 0 → tokens ≡ kept marks tokens
+unmarked_kept [] tokens none = all_kept tokens
+unmarked_kept (m ∷ marks) tokens none = absurd (omega arith)
+
 -- the spellings that are left have no more bytes
 pub kept-short : (marks : List Mark) (tokens : List Spelled) → sum_by (λ (s : Spelled). length s.text) (kept marks tokens) ≤ sum_by (λ (s : Spelled). length s.text) tokens
 kept-short marks tokens =

@@ -99,7 +99,7 @@ fn norms_of(
 }
 
 /// The tokens of a text of this language as they are compared, without those that its marks leave out. Spellings are
-/// moved. It costs a search among the marks for each token.
+/// moved. Where there are marks it costs a search among them for each token.
 pub fn normalise(
     alloc: Global,
     settings: &Settings,

@@ -10,3 +10,4 @@ mod Covered
 pub mod FunctionLists
 mod Described
 pub mod Bounded
+mod Counted

@@ -1,7 +1,7 @@
 ghost use Rattle.std.specs.Prelude.{◌≡◌, ◌≤◌, length, IfOk, IsUtf8};
 ghost use Rattle.cq_work.specs.Work.{IsWorkOf};
 
-use crate::counting::counts_of;
+use crate::counting::{counts_of, early_counts};
 use crate::lexing::{lexed, parts_of, state_of};
 use cq_base::{FileCounts, Keys, Lang, Memory, Settings, Text, Token};
 use cq_func::{Function, functions};
@@ -53,9 +53,10 @@ pub fn work_of<L: Ledger>(
     let answer = lexed(alloc, lang, text)?;
     let state = state_of(&answer);
     let (found, marks) = parts_of(alloc, answer);
-    let counts = counts_of(alloc, lang, text, state, &found)?;
+    let early = early_counts(alloc, lang, state, &found, &marks)?;
     let functions = functions(alloc, lang, &found)?;
     let Normal { norms, spans } = normalise(alloc, settings, lang, found, &marks)?;
+    let counts = counts_of(alloc, text, early, &spans)?;
     let keys = Arc::new(alloc, keyer.keys(alloc, &norms)?)?;
     let tokens = Arc::new(alloc, Tokens::new(alloc, &norms)?)?;
     Ok(Work {

@@ -1,4 +1,4 @@
-use Rattle.std.proofs.Common.{◌≤◌, ℕ, Result, List, length, false, sym, subst}
+use Rattle.std.proofs.Common.{◌≤◌, ℕ, Result, Ok, List, length, false, sym, subst, ap, ◌∙◌}
 use Rattle.std.specs.Prelude.{IfOk}
 use Rattle.std.proofs.lemmas.Result.{IfOk-weaker}
 use Rattle.cq_munch.specs.Lexed.{InOrder}
@@ -24,3 +24,6 @@ returns-clause-short c =
     IfOk-weaker c.unescaped.result _ _
     (λ t is. subst (λ (r : Result (List Unit) ℕ). IfOk r (λ v. length v ≤ length c.args.text.now)) (sym is) (shorter (length units) (length c.args.text.now) (translated 0 false units) c.in_ok-units.ensures.short (translated-short 0 false units)))
     c.unescaped.ensures
+
+pub returns-then-is_plain-clause-translation : goal.returns-then-is_plain-clause-translation
+returns-then-is_plain-clause-translation c = ap Ok c.in_ok-units.ensures.units ∙ c.is_plain.ensures c.if-is_plain.true
