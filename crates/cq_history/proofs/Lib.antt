@@ -13,3 +13,4 @@ pub mod Lasting
 pub mod Gates
 pub mod PathOrder
 pub mod Standing
+pub mod Forgetting

@@ -1,6 +1,8 @@
 //! What every lawful history keeps, for those who read the definitions.
 ghost use Rattle.cq_history.specs.Laws as law;
 ghost use Rattle.cq_history.specs.Script.{IsAsWorkedOut};
+ghost use Rattle.cq_history.specs.Keeping.{IsKeptAsWorkedOut};
+ghost use Rattle.cq_history.specs.KeptLaws as kept;
 
 /// Any beginning of a lawful history is lawful.
 pub fn beginnings_are_lawful()
@@ -122,4 +124,24 @@ pub fn nobody_has_what_is_over()
 /// A history that was worked out by hand is lawful and leaves what it should.
 pub fn the_script_is_as_worked_out()
     ensures { IsAsWorkedOut }
+{}
+
+/// Whether a change is gone at a floor is computed as it is said.
+pub fn gone_is_as_said()
+    ensures { kept.GoneIsAsSaid }
+{}
+
+/// The kept numbers are exactly those of the changes that are kept, ascending.
+pub fn kept_numbers_are_those()
+    ensures { kept.KeptNumbersAreThose }
+{}
+
+/// A change that is gone stays so, whatever is accepted later and however the floor rises.
+pub fn gone_stays_gone()
+    ensures { kept.GoneStaysGone }
+{}
+
+/// What is kept of changes that were worked out by hand is what it should be.
+pub fn they_are_kept_as_worked_out()
+    ensures { IsKeptAsWorkedOut }
 {}
