@@ -14,3 +14,8 @@ pub mod Gates
 pub mod PathOrder
 pub mod Standing
 pub mod Forgetting
+pub mod Keeping
+pub mod FewFiles
+pub mod KeptPuts
+pub mod HeldKept
+pub mod KeptFiles

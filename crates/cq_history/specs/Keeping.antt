@@ -1,5 +1,5 @@
 -- Changes that were worked out by hand: a file put twice, two gates, and the file dropped.
-use Rattle.std.specs.Prelude.{◌≡◌, ℕ, List, [], ◌∷◌, codes}
+use Rattle.std.specs.Prelude.{◌≡◌, List, [], ◌∷◌, codes}
 use Rattle.cq_base.specs.declared.lang.Lang.TheVariants.{Any}
 use Rattle.cq_base.specs.declared.change.Change.{Change}
 use Rattle.cq_base.specs.declared.change.Change.TheVariants.{Put, Drop, Gate}

@@ -8,6 +8,7 @@ pub mod Lawful
 pub mod Shards
 pub mod Core
 pub mod Laws
+pub mod KeptFiles
 pub mod KeptLaws
 pub mod Keeping
 pub mod Standing

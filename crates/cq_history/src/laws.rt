@@ -2,6 +2,7 @@
 ghost use Rattle.cq_history.specs.Laws as law;
 ghost use Rattle.cq_history.specs.Script.{IsAsWorkedOut};
 ghost use Rattle.cq_history.specs.Keeping.{IsKeptAsWorkedOut};
+ghost use Rattle.cq_history.specs.KeptFiles.{KeptLeaveTheFiles};
 ghost use Rattle.cq_history.specs.KeptLaws as kept;
 
 /// Any beginning of a lawful history is lawful.
@@ -136,9 +137,44 @@ pub fn kept_numbers_are_those()
     ensures { kept.KeptNumbersAreThose }
 {}
 
+/// A higher floor keeps no more changes, and no more bytes of their texts.
+pub fn kept_falls_with_the_floor()
+    ensures { kept.KeptFallsWithTheFloor }
+{}
+
+/// One change more is kept, beside those that were.
+pub fn one_more_is_kept()
+    ensures { kept.OneMoreIsKept }
+{}
+
 /// A change that is gone stays so, whatever is accepted later and however the floor rises.
 pub fn gone_stays_gone()
     ensures { kept.GoneStaysGone }
+{}
+
+/// The files of each version from the floor on were put by changes that are kept.
+pub fn files_are_kept()
+    ensures { kept.FilesAreKept }
+{}
+
+/// A version from the floor on has no more files of a project than changes are kept.
+pub fn files_are_few()
+    ensures { kept.FilesAreFew }
+{}
+
+/// The kept changes alone leave the files of each version from the floor on.
+pub fn kept_leave_the_files()
+    ensures { KeptLeaveTheFiles }
+{}
+
+/// The puts that a floor keeps stay those when more is accepted.
+pub fn kept_puts_stay()
+    ensures { kept.KeptPutsStay }
+{}
+
+/// At the lowest floor all changes are kept.
+pub fn all_are_kept_at_first()
+    ensures { kept.AllAreKeptAtFirst }
 {}
 
 /// What is kept of changes that were worked out by hand is what it should be.
