@@ -4,6 +4,7 @@ pub mod Dead
 pub mod FileNumbers
 pub mod Floors
 pub mod Freeing
+pub mod Keeping
 pub mod Living
 pub mod Newer
 pub mod Numbers
@@ -14,7 +15,6 @@ pub mod Related
 pub mod SlotLists
 pub mod Sounding
 pub mod Superseding
-pub mod Sweeping
 pub mod Turning
 pub mod Undoing
 pub mod VersionEntries

@@ -3,6 +3,7 @@ pub mod Boards
 pub mod Edits
 pub mod Entries
 pub mod Free
+pub mod Keeping
 pub mod Listings
 pub mod Presence
 pub mod Related
@@ -10,6 +11,5 @@ pub mod Slots
 pub mod Sound
 pub mod Stands
 pub mod Superseded
-pub mod Sweeping
 pub mod Turnover
 pub mod Undone

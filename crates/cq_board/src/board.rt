@@ -3,10 +3,9 @@ ghost use Rattle.cq_history.specs.declared.event.Event.TheVariants as event;
 ghost use Rattle.std.specs.Arc.{arc_value};
 ghost use Rattle.std.specs.Bool.{OnTrue, OnFalse};
 ghost use Rattle.cq_history.specs.Lawful.{Permits};
-ghost use Rattle.cq_history.specs.Superseded.{AreSuperseded};
+ghost use Rattle.cq_history.specs.Gone.{AreKeptPuts};
 ghost use Rattle.cq_history.specs.State.{changes_in, first_free, ready, view_of, slot_of, IsAccepted, IsDone, IsUndone, IsTakenBy};
 ghost use Rattle.cq_board.specs.Stands.{BoardState, StandsFor, Adds, IsCaller};
-ghost use Rattle.cq_board.specs.Sweeping.{AreSupersededBetween};
 ghost use Rattle.cq_board.specs.Answers.{asked_of, greatest_floor, lower, IsJob, IsDonePut, IsWorkAt, HasFree, IsViewOf, TellsCause};
 ghost use Rattle.cq_history.specs.Changes.{IsWorkFor};
 ghost use Rattle.cq_base.specs.Changes.{IsSoundChange};
@@ -14,11 +13,12 @@ ghost use Rattle.cq_board.specs.Sound.{HasSoundText, HaveFewConditions};
 
 use crate::accepting::{note_both, refusal, stored, text_len};
 use crate::free::{FreeChanges, first_free, note_given_back, note_taken};
+use crate::keeping::puts_beside;
 use crate::kept::Kept;
 use crate::listing::{Listing, View, advance_to};
 use crate::presence::Presence;
 use crate::slot_tests::{is_done, job_of};
-use crate::superseded::{dead_at, dead_between};
+use crate::superseded::dead_at;
 use crate::undone::ready_of;
 use crate::{Asked, Finished, Job, Refused};
 use cq_base::{Change, Memory, Settings};
@@ -179,20 +179,13 @@ impl<W: Indexed> Board<W> {
         least(self.published, &self.views)
     }
 
-    /// The puts that a change of their file numbered at most a floor superseded, ascending. It costs a search, and a sort of
-    /// what it lists.
-    pub fn dead(&self, alloc: Global, floor: u64) -> Result<Vec<u64>, Memory>
-        ensures { IfOk result (λ dead. AreSuperseded (changes_in self.now.state) floor dead.items) }
+    /// The puts up to the floor that it keeps, ascending. It costs a search for what was superseded, a sort of that, and a look
+    /// at each change up to the floor.
+    pub fn keep(&self, alloc: Global) -> Result<Vec<u64>, Memory>
+        ensures { IfOk result (λ keep. AreKeptPuts (changes_in self.now.state) self.now.state.floor keep.items) }
     {
-        dead_at(alloc, &self.there.superseded, floor)
-    }
-
-    /// The puts that a floor lets go of which a lower one keeps, ascending: those that a change of their file superseded at the
-    /// floor, and none at the lower one. It costs two searches, and a sort of what it lists, however much was superseded before.
-    pub fn dead_between(&self, alloc: Global, above: u64, floor: u64) -> Result<Vec<u64>, Memory>
-        ensures { IfOk result (λ dead. AreSupersededBetween (changes_in self.now.state) above floor dead.items) }
-    {
-        dead_between(alloc, &self.there.superseded, above, floor)
+        let dead = dead_at(alloc, &self.there.superseded, self.floor)?;
+        puts_beside(alloc, &self.slots, &dead, self.floor)
     }
 
     /// Gives a taken change back, and answers whether there is this caller and had it, undone. It takes no memory, and costs

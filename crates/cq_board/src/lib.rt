@@ -10,8 +10,9 @@
 //! costs a logarithm and, for each giving back before it that another's work overtook, at most one logarithm more in all.
 //! Opening a view costs an owner of the listing, but for what is said of refused memory below, and shutting one a number.
 //!
-//! A put that a later change replaced or dropped is noted with that change, 16 bytes. What a floor lets go of is searched
-//! in these notes, and costs a sort of what is listed; raising the floor costs a look at each caller's view.
+//! A put that a later change replaced or dropped is noted with that change, 16 bytes. What a floor keeps costs a search in
+//! these notes, a sort of what is superseded, and a look at each change up to the floor; raising the floor costs a look at
+//! each caller's view.
 //!
 //! Publishing costs what cq_projects takes for the edits of the changes: one alone is a search and a move, several move
 //! the files of each project that they change once. Where a view still shows a list, it is copied first, an owner a file,
@@ -25,6 +26,7 @@ mod accepting;
 mod answers;
 mod board;
 mod free;
+mod keeping;
 mod kept;
 mod laws;
 mod listing;
@@ -36,5 +38,5 @@ mod undone;
 
 pub use answers::{Asked, Finished, Job, Refused};
 pub use board::Board;
-pub use laws::{it_stands_swept_between, shards_have_the_entries};
+pub use laws::shards_have_the_entries;
 pub use listing::{Listing, View};

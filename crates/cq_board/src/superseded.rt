@@ -1,6 +1,7 @@
 ghost use Rattle.std.specs.Prelude.{◌≡◌, ◌↔◌, ◌++◌, ◌+◌, ◌≤◌, ℕ, AllPairs, Contains, IfOk, map};
 ghost use Rattle.std.specs.Vec.{vec_len, vec_capacity};
-ghost use Rattle.std.specs.List.Sorted.{IsStrictlyIncreasing};
+ghost use Rattle.std.specs.Ordering.{nat_cmp};
+ghost use Rattle.std.specs.List.Sorted.{IsStrictlyIncreasing, IsSorted};
 ghost use Rattle.cq_board.specs.Superseded.{noted, IsSupersededBefore, AreOtherPuts, IsGoneAt, put_in};
 
 use cq_base::Memory;
@@ -40,27 +41,11 @@ pub fn dead_at(alloc: Global, all: &[Superseded], floor: u64) -> Result<Vec<u64>
     requires in_order { AllPairs IsSupersededBefore all.now }
     requires once { AllPairs AreOtherPuts all.now }
     ensures rising { IfOk result (λ dead. IsStrictlyIncreasing dead.items) }
+    ensures sorted { IfOk result (λ dead. IsSorted nat_cmp dead.items) }
     ensures each { IfOk result (λ dead. (number : ℕ) → Contains dead.items number ↔ IsGoneAt all.now floor number) }
 {
     let count = all.partition_point(|superseded| superseded.by <= floor);
     let mut dead = puts_of(alloc, &all[..count])?;
     dead.sort_unstable();
     Ok(dead)
-}
-
-/// The puts that changes numbered above one floor and at most another superseded, ascending. It costs two searches, and a
-/// sort of what it lists.
-pub fn dead_between(
-    alloc: Global,
-    all: &[Superseded],
-    above: u64,
-    floor: u64,
-) -> Result<Vec<u64>, Memory>
-    requires in_order { AllPairs IsSupersededBefore all.now }
-    requires once { AllPairs AreOtherPuts all.now }
-    ensures rising { IfOk result (λ dead. IsStrictlyIncreasing dead.items) }
-    ensures each { IfOk result (λ dead. (number : ℕ) → Contains dead.items number ↔ (IsGoneAt all.now floor number × (IsGoneAt all.now above number → ⊥))) }
-{
-    let from = all.partition_point(|superseded| superseded.by <= above);
-    dead_at(alloc, &all[from..], floor)
 }

@@ -77,7 +77,7 @@ kept_falls changes floor higher low =
 same_numbers : (xs : List ℕ) → map (λ (n : ℕ). n) xs ≡ xs
 same_numbers xs = map_fixed (λ (n : ℕ). n) xs (λ k d within. refl)
 
-range_more : (a n : ℕ) → range_with_len a (n + 1) ≡ range_with_len a n ++ (a + n) ∷ []
+pub range_more : (a n : ℕ) → range_with_len a (n + 1) ≡ range_with_len a n ++ (a + n) ∷ []
 range_more a n = sym (same_numbers (range_with_len a (n + 1))) ∙ map-range_with_len_more (λ (k : ℕ). k) a n (a + n) refl ∙ ap (λ ns. ns ++ (a + n) ∷ []) (same_numbers (range_with_len a n))
 
 filter_same_in : (p q : ℕ → Bool) (xs : List ℕ) → All (λ r. p r ≡ q r) xs → filter p xs ≡ filter q xs
