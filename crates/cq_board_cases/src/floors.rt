@@ -2,7 +2,7 @@ ghost use Rattle.std.specs.Prelude.{◌<◌, ◌≤◌, length, IfOk};
 ghost use Rattle.std.specs.Str.{IsUtf8};
 ghost use Rattle.cq_base.specs.Changes.{IsSoundChange};
 
-use cq_base::{Change, Conditions, Lang, Memory, Settings, Text};
+use cq_base::{Change, Conditions, Memory, Settings, Text};
 use cq_board::{Board, Refused};
 use cq_shard::Indexed;
 use std::alloc::Global;
@@ -67,7 +67,7 @@ fn kept(alloc: Global) -> Result<usize, Refused> {
     board.accept(alloc, 0, gate)?;
     let asked = board.ask(0);
     if asked.published >= asked.done {
-        return Ok(0);
+        return Ok(1);
     }
     board.publish(alloc, asked.done)?;
     board.set_floor(1);

@@ -16,4 +16,4 @@ mod sweeping;
 pub use applying::{finished_works, shards_of};
 pub use hub::Hub;
 pub use solo::{Solo, SoloPass};
-pub use sweeping::sweep_between;
+pub use sweeping::sweep_to;
