@@ -18,24 +18,8 @@ use Rattle.cq_history.proofs.Holders.{finished_is, is_finished}
 
 -- ---- what is accepted
 
-few_after : (set : Settings) (s : State) (e : Event) → length s.slots ≤ set.change_limit → Allowed set s e → length (after s e).slots ≤ set.change_limit
-few_after set s (Accept by change) few ok = grind (arith, ok.1.1, length-append s.slots (new_slot change ∷ []))
-few_after set s (Ask by) few ok = few
-few_after set s (Took by r) few ok = subst (λ n. n ≤ set.change_limit) (sym (length-set s.slots (r - 1) _)) few
-few_after set s (Back by r) few ok = subst (λ n. n ≤ set.change_limit) (sym (length-set s.slots (r - 1) _)) few
-few_after set s (Done by r) few ok = subst (λ n. n ≤ set.change_limit) (sym (length-set s.slots (r - 1) _)) few
-few_after set s (Publish p) few ok = few
-few_after set s (Open by p) few ok = few
-few_after set s (Shut by) few ok = few
-few_after set s (Floor f) few ok = few
-
 pub slots_number : (callers : ℕ) (h : List Event) → length (state callers h).slots ≡ length (accepted h)
 slots_number callers h = sym (length-map (state callers h).slots (λ (s : Slot). s.change)) ∙ ap length (changes_in-state callers h)
-
-pub few_accepted : (set : Settings) (callers : ℕ) (h : List Event) → Lawful set callers h → (length (state callers h).slots ≡ length (accepted h)) × (length (accepted h) ≤ set.change_limit)
-few_accepted set callers h law =
-    let few : length (state callers h).slots ≤ set.change_limit = by_events set (λ s. length s.slots ≤ set.change_limit) (few_after set) (start callers) h (omega arith) law in
-    (slots_number callers h, omega (arith, few, slots_number callers h))
 
 change_in : (callers : ℕ) (h : List Event) (r : ℕ) → IsAccepted (state callers h) r → (slot_of (state callers h) r).change ≡ get_or (accepted h) (r - 1) no_slot.change
 change_in callers h r is =

@@ -19,3 +19,4 @@ pub mod FewFiles
 pub mod KeptPuts
 pub mod HeldKept
 pub mod KeptFiles
+pub mod Limits

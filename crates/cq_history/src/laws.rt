@@ -102,6 +102,11 @@ pub fn few_are_accepted()
     ensures { law.FewAreAccepted }
 {}
 
+/// The floor keeps no more changes, and no more bytes of their texts, than there may be.
+pub fn few_are_kept()
+    ensures { law.FewAreKept }
+{}
+
 /// An accepted change stays so, and stays what it is.
 pub fn accepted_changes_stay()
     ensures { law.AcceptedChangesStay }
