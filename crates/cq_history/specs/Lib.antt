@@ -13,3 +13,4 @@ pub mod KeptLaws
 pub mod Keeping
 pub mod Standing
 pub mod Script
+pub mod Room

@@ -4,6 +4,7 @@ ghost use Rattle.cq_history.specs.Script.{IsAsWorkedOut};
 ghost use Rattle.cq_history.specs.Keeping.{IsKeptAsWorkedOut};
 ghost use Rattle.cq_history.specs.KeptFiles.{KeptLeaveTheFiles};
 ghost use Rattle.cq_history.specs.KeptLaws as kept;
+ghost use Rattle.cq_history.specs.Room.{IsRoomAsWorkedOut};
 
 /// Any beginning of a lawful history is lawful.
 pub fn beginnings_are_lawful()
@@ -185,4 +186,9 @@ pub fn all_are_kept_at_first()
 /// What is kept of changes that were worked out by hand is what it should be.
 pub fn they_are_kept_as_worked_out()
     ensures { IsKeptAsWorkedOut }
+{}
+
+/// The room that a floor makes in histories that were worked out by hand is what it should be.
+pub fn room_is_as_worked_out()
+    ensures { IsRoomAsWorkedOut }
 {}

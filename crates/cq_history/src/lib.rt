@@ -15,6 +15,7 @@ pub use laws::{
     kept_falls_with_the_floor, kept_leave_the_files, kept_numbers_are_those, kept_puts_stay,
     nobody_has_what_is_over, nothing_falls, one_more_is_kept, open_versions_are_kept,
     open_versions_go_by_own_events, own_events_are_a_part, presence_goes_by_changes,
-    ready_is_the_greatest, shards_stay_reached, taken_goes_by_own_events, the_last_is_published,
-    the_script_is_as_worked_out, they_are_kept_as_worked_out, they_stand_in_order, versions_stay,
+    ready_is_the_greatest, room_is_as_worked_out, shards_stay_reached, taken_goes_by_own_events,
+    the_last_is_published, the_script_is_as_worked_out, they_are_kept_as_worked_out,
+    they_stand_in_order, versions_stay,
 };
