@@ -8,6 +8,7 @@ use Rattle.cq_base.specs.declared.settings.Settings.{Settings}
 use Rattle.cq_base.specs.declared.change.Change.{Change}
 use Rattle.cq_base.specs.declared.change.Change.TheVariants.{Put, Drop, Gate}
 use Rattle.cq_history.specs.Changes.{is_put, IsWorkFor}
+use Rattle.cq_history.specs.Gone.{IsGone}
 use Rattle.cq_history.specs.State.{State, IsAccepted, slot_of, ready, first_free, changes_in}
 use Rattle.cq_board.specs.declared.answers.Asked.{Asked}
 use Rattle.cq_board.specs.declared.answers.Job.{Job}
@@ -49,6 +50,10 @@ IsJob s job = IsJobOf (slot_of s job.change).change job
 -- it is a put whose work was done
 abbrev pub IsDonePut : State → ℕ → Type 0
 IsDonePut s r = IsAccepted s r × (is_put (slot_of s r).change ≡ true) × ((slot_of s r).finished ≡ true)
+
+-- and the floor keeps it
+abbrev pub IsKeptWork : State → ℕ → Type 0
+IsKeptWork s r = IsDonePut s r × (IsGone (changes_in s) s.floor r → ⊥)
 
 -- the work is that of a change
 abbrev pub IsWorkAt : {W : Type 0} → (Lang → List ℕ → W → Type 0) → State → ℕ → Arc W Global → Type 0

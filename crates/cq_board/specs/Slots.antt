@@ -1,11 +1,11 @@
--- The slot that is kept of a change.
-use Rattle.std.specs.Prelude.{ℕ, List, [], ◌∷◌, ◌++◌, map, is_some, Option, IfSome}
+-- The slot that is kept of a change, and the slots of all changes.
+use Rattle.std.specs.Prelude.{ℕ, ◌-◌, Bool, true, List, map, is_some, Option, IfSome, slice_index_or, slice_set}
 use Rattle.std.specs.Arc.{arc_value}
 use Rattle.cq_base.specs.declared.change.Change.{Change}
 use Rattle.cq_base.specs.declared.change.Change.TheVariants as change
 use Rattle.cq_base.specs.declared.lang.Lang.{Lang}
 use Rattle.cq_history.specs.Changes.{IsWorkFor}
-use Rattle.cq_history.specs.State.{State, Slot, new_slot}
+use Rattle.cq_history.specs.State.{State, Slot, no_slot}
 use Rattle.cq_board.specs.declared.kept.Stored.{Stored}
 use Rattle.cq_board.specs.declared.kept.Stored.TheVariants.{Put, Drop, Gate}
 use Rattle.cq_board.specs.declared.kept.Kept.{Kept}
@@ -13,18 +13,29 @@ use Rattle.cq_board.specs.declared.kept.Kept.{Kept}
 abbrev pub change_of : Stored → Change
 change_of (Put file lang text) = change.Put (arc_value file.project) (arc_value file.path) lang (arc_value text)
 change_of (Drop file) = change.Drop (arc_value file.project) (arc_value file.path)
-change_of (Gate project conditions) = change.Gate (arc_value project) (arc_value conditions)
+change_of (Gate key conditions) = change.Gate (arc_value key.project) (arc_value conditions)
 
 module _ {W : Type 0} where
   abbrev pub slot_from : Kept W → Slot
   slot_from k = record { change = change_of k.change; finished = is_some k.work; holder = k.holder }
 
-  -- the slots, with one for a change more
-  abbrev pub slots_with : List (Kept W) → Change → List Slot
-  slots_with slots change = map slot_from slots ++ new_slot change ∷ []
-
-  abbrev pub state_from : List (Kept W) → ℕ → ℕ → List (Option ℕ) → State
-  state_from slots published floor views = record { slots = map slot_from slots; published = published; floor = floor; views = views }
-
   abbrev pub IsWorked : (Lang → List ℕ → W → Type 0) → Kept W → Type 0
   IsWorked IsWork k = IfSome k.work (λ work. IsWorkFor IsWork (change_of k.change) (arc_value work))
+
+abbrev pub changes_of : List Slot → List Change
+changes_of slots = map (λ (slot : Slot). slot.change) slots
+
+abbrev pub state_from : List Slot → ℕ → ℕ → List (Option ℕ) → State
+state_from slots published floor views = record { slots = slots; published = published; floor = floor; views = views }
+
+-- the slot of the change with this number
+abbrev pub slot_at : List Slot → ℕ → Slot
+slot_at slots number = slice_index_or slots (number - 1) no_slot
+
+-- the slots, where the change with this number has another holder
+abbrev pub with_holder : List Slot → ℕ → Option ℕ → List Slot
+with_holder slots number holder = slice_set slots (number - 1) (record { change = (slot_at slots number).change; finished = (slot_at slots number).finished; holder = holder })
+
+-- the slots, where the work of the change with this number is done
+abbrev pub with_work : List Slot → ℕ → List Slot
+with_work slots number = slice_set slots (number - 1) (record { change = (slot_at slots number).change; finished = true; holder = (slot_at slots number).holder })

@@ -1,15 +1,16 @@
-ghost use Rattle.std.specs.Prelude.{◌≡◌, ◌+◌, ◌≤◌, [], IfOk, OnOk, OnErr, true, take, map, All};
+ghost use Rattle.std.specs.Prelude.{◌≡◌, ◌⊎◌, ◌+◌, ◌≤◌, [], IfOk, OnOk, OnErr, true, take, map};
 ghost use Rattle.std.specs.Arc.{arc_value};
 ghost use Rattle.std.specs.List.{prefix_len};
 ghost use Rattle.cq_history.specs.State.{is_done};
-ghost use Rattle.cq_board.specs.Slots.{slot_from, change_of, IsWorked};
-ghost use Rattle.cq_board.specs.Boards.{changes_from, IsListingAt};
+ghost use Rattle.cq_board.specs.Slots.{slot_from, change_of, changes_of, IsWorked};
+ghost use Rattle.cq_board.specs.Boards.{IsListingAt};
 ghost use Rattle.cq_board.specs.Edits.{IsEditFor, project_named, put_by};
 ghost use Rattle.cq_projects.specs.Ordered.{AreRising};
 ghost use Rattle.cq_board.specs.Listings.{IsListing, ListsTheSame, HaveSame, listed};
 ghost use Rattle.cq_projects.specs.Projects.{owner_name, projects_in, files_in, conditions_in};
 ghost use Rattle.cq_board.specs.Turnover.{IsBefore, AddsKept, AddsOwned, IsListingBefore, ListsKept, from_option};
 
+use crate::changes::Changes;
 use crate::kept::{Kept, Stored};
 use crate::live::{Turnover, note, turn, turn_one};
 use cq_base::{Condition, Memory, Settings, Text};
@@ -114,7 +115,7 @@ fn project_of(change: &Stored) -> &Arc<Text, Global>
     match change {
         Stored::Put { file, .. } => &file.project,
         Stored::Drop { file } => &file.project,
-        Stored::Gate { project, .. } => project,
+        Stored::Gate { key, .. } => &key.project,
     }
 }
 
@@ -198,28 +199,33 @@ fn draft_change<W: Indexed>(
     edit_draft(alloc, drafts, project_of(&kept.change), edit)
 }
 
-// The listing of a later version, from the drafts of an earlier one's projects and its live numbers.
+// The listing of a later version, from the drafts of an earlier one's projects and its live numbers. Where that is version 0,
+// the kept changes alone leave the same.
 fn next_listing<W: Indexed>(
     alloc: Global,
-    settings: &Settings,
-    slots: &[Kept<W>],
+    changes: &Changes<W>,
     mut drafts: Vec<Draft<W>>,
     mut live: Vec<u64>,
     before: u64,
     version: u64,
 ) -> Result<Listing<W>, Memory>
     requires order { before ≤ version }
-    requires done { version ≤ prefix_len is_done (map slot_from slots.now) }
-    requires works { All (IsWorked (W.IsWorkOf settings.now)) slots.now }
-    requires listing { IsListing (W.IsWorkOf settings.now) (take before (changes_from slots.now)) (listed drafts.items live.items) }
-    ensures { IfOk result (IsListing (W.IsWorkOf settings.now) (take version (changes_from slots.now))) }
+    requires from { (changes.now.floor ≤ before) ⊎ (before ≡ 0) }
+    requires floor { changes.now.floor ≤ version }
+    requires done { version ≤ prefix_len is_done changes.now.slots }
+    requires listing { IsListing (W.IsWorkOf changes.now.settings) (take before (changes_of changes.now.slots)) (listed drafts.items live.items) }
+    ensures { IfOk result (IsListing (W.IsWorkOf changes.now.settings) (take version (changes_of changes.now.slots))) }
 {
     let mut turnover = Turnover::new(alloc);
-    for number in before..version {
-        let kept = &slots[number as usize];
-        let replaced = draft_change(alloc, settings, &mut drafts, number + 1, kept)?;
-        note(&mut turnover.put, put_number(&kept.change, number + 1))?;
+    let mut at = before;
+    'changes: while let Some((number, kept)) = changes.next(at) {
+        if version < number {
+            break;
+        }
+        let replaced = draft_change(alloc, changes.settings(), &mut drafts, number, kept)?;
+        note(&mut turnover.put, put_number(&kept.change, number))?;
         note(&mut turnover.gone, replaced)?;
+        at = number;
     }
     let projects = finished_all(alloc, drafts)?;
     turn(&mut live, turnover)?;
@@ -255,17 +261,17 @@ fn advance_own<W: Indexed>(
 // nobody else has is changed in place.
 fn advanced<W: Indexed>(
     alloc: Global,
-    settings: &Settings,
-    slots: &[Kept<W>],
+    changes: &Changes<W>,
     old: Listing<W>,
     before: u64,
     version: u64,
 ) -> Result<Listing<W>, Memory>
     requires order { before ≤ version }
-    requires done { version ≤ prefix_len is_done (map slot_from slots.now) }
-    requires works { All (IsWorked (W.IsWorkOf settings.now)) slots.now }
-    requires listing { IsListing (W.IsWorkOf settings.now) (take before (changes_from slots.now)) old }
-    ensures { IfOk result (IsListing (W.IsWorkOf settings.now) (take version (changes_from slots.now))) }
+    requires from { (changes.now.floor ≤ before) ⊎ (before ≡ 0) }
+    requires floor { changes.now.floor ≤ version }
+    requires done { version ≤ prefix_len is_done changes.now.slots }
+    requires listing { IsListing (W.IsWorkOf changes.now.settings) (take before (changes_of changes.now.slots)) old }
+    ensures { IfOk result (IsListing (W.IsWorkOf changes.now.settings) (take version (changes_of changes.now.slots))) }
 {
     let Listing {
         projects,
@@ -273,68 +279,68 @@ fn advanced<W: Indexed>(
         no_files: _no_files,
     } = old;
     let drafts = own_drafts(alloc, projects)?;
-    next_listing(alloc, settings, slots, drafts, live, before, version)
+    next_listing(alloc, changes, drafts, live, before, version)
 }
 
 // The listing of a later version beside an earlier one that stays, with an owner more for each project, and for each
 // project that changed a copy of its list of files.
 fn advanced_copy<W: Indexed>(
     alloc: Global,
-    settings: &Settings,
-    slots: &[Kept<W>],
+    changes: &Changes<W>,
     old: &Listing<W>,
     before: u64,
     version: u64,
 ) -> Result<Listing<W>, Memory>
     requires order { before ≤ version }
-    requires done { version ≤ prefix_len is_done (map slot_from slots.now) }
-    requires works { All (IsWorked (W.IsWorkOf settings.now)) slots.now }
-    requires listing { IsListing (W.IsWorkOf settings.now) (take before (changes_from slots.now)) old.now }
-    ensures { IfOk result (IsListing (W.IsWorkOf settings.now) (take version (changes_from slots.now))) }
+    requires from { (changes.now.floor ≤ before) ⊎ (before ≡ 0) }
+    requires floor { changes.now.floor ≤ version }
+    requires done { version ≤ prefix_len is_done changes.now.slots }
+    requires listing { IsListing (W.IsWorkOf changes.now.settings) (take before (changes_of changes.now.slots)) old.now }
+    ensures { IfOk result (IsListing (W.IsWorkOf changes.now.settings) (take version (changes_of changes.now.slots))) }
 {
     let drafts = drafts_of(alloc, &old.projects)?;
     let live = Vec::from_slice(alloc, &old.live)?;
-    next_listing(alloc, settings, slots, drafts, live, before, version)
+    next_listing(alloc, changes, drafts, live, before, version)
 }
 
 // Makes a listing that nobody else has that of a later version. Where memory is refused, it is that of version 0.
 fn advance_all<W: Indexed>(
     alloc: Global,
-    settings: &Settings,
-    slots: &[Kept<W>],
+    changes: &Changes<W>,
     own: &mut Listing<W>,
     before: u64,
     version: u64,
 ) -> Result<(), Memory>
     requires order { before ≤ version }
-    requires done { version ≤ prefix_len is_done (map slot_from slots.now) }
-    requires works { All (IsWorked (W.IsWorkOf settings.now)) slots.now }
-    requires listing { IsListing (W.IsWorkOf settings.now) (take before (changes_from slots.now)) own.old }
-    ensures next { OnOk result (IsListing (W.IsWorkOf settings.now) (take version (changes_from slots.now)) own.new) }
+    requires from { (changes.now.floor ≤ before) ⊎ (before ≡ 0) }
+    requires floor { changes.now.floor ≤ version }
+    requires done { version ≤ prefix_len is_done changes.now.slots }
+    requires listing { IsListing (W.IsWorkOf changes.now.settings) (take before (changes_of changes.now.slots)) own.old }
+    ensures next { OnOk result (IsListing (W.IsWorkOf changes.now.settings) (take version (changes_of changes.now.slots)) own.new) }
     ensures emptied { OnErr result (own.new ≡ listed [] []) }
 {
     let old = mem::replace(own, Listing::new(alloc));
-    *own = advanced(alloc, settings, slots, old, before, version)?;
+    *own = advanced(alloc, changes, old, before, version)?;
     Ok(())
 }
 
 // Makes the listing that of a later version, beside the earlier one, which somebody else has.
 fn advance_copied<W: Indexed>(
     alloc: Global,
-    settings: &Settings,
-    slots: &[Kept<W>],
+    changes: &Changes<W>,
     listing: &mut Arc<Listing<W>, Global>,
     before: u64,
     version: u64,
 ) -> Result<(), Memory>
     requires order { before ≤ version }
-    requires done { version ≤ prefix_len is_done (map slot_from slots.now) }
-    requires works { All (IsWorked (W.IsWorkOf settings.now)) slots.now }
-    requires listing { IsListingAt (W.IsWorkOf settings.now) slots.now before listing.old }
-    ensures next { OnOk result (IsListingAt (W.IsWorkOf settings.now) slots.now version listing.new) }
-    ensures unchanged { OnErr result (IsListingAt (W.IsWorkOf settings.now) slots.now before listing.new) }
+    requires from { (changes.now.floor ≤ before) ⊎ (before ≡ 0) }
+    requires floor { changes.now.floor ≤ version }
+    requires done { version ≤ prefix_len is_done changes.now.slots }
+    requires listing { IsListingAt (W.IsWorkOf changes.now.settings) changes.now.slots before listing.old }
+    ensures next { OnOk result (IsListingAt (W.IsWorkOf changes.now.settings) changes.now.slots version listing.new) }
+    ensures unchanged { OnErr result (IsListingAt (W.IsWorkOf changes.now.settings) changes.now.slots before listing.new) }
 {
-    let own = advanced_copy(alloc, settings, slots, listing, before, version)?;
+    let own = advanced_copy(alloc, changes, listing, before, version)?;
     *listing = Arc::new(alloc, own)?;
     Ok(())
 }
@@ -343,85 +349,88 @@ fn advance_copied<W: Indexed>(
 // version that is told then.
 fn advance_many<W: Indexed>(
     alloc: Global,
-    settings: &Settings,
-    slots: &[Kept<W>],
+    changes: &Changes<W>,
     listing: &mut Arc<Listing<W>, Global>,
     at: &mut u64,
     version: u64,
 ) -> Result<(), Memory>
     requires order { at.old ≤ version }
-    requires done { version ≤ prefix_len is_done (map slot_from slots.now) }
-    requires works { All (IsWorked (W.IsWorkOf settings.now)) slots.now }
-    requires listing { IsListingAt (W.IsWorkOf settings.now) slots.now at.old listing.old }
-    ensures listing { IsListingAt (W.IsWorkOf settings.now) slots.now at.new listing.new }
+    requires from { (changes.now.floor ≤ at.old) ⊎ (at.old ≡ 0) }
+    requires floor { changes.now.floor ≤ version }
+    requires done { version ≤ prefix_len is_done changes.now.slots }
+    requires listing { IsListingAt (W.IsWorkOf changes.now.settings) changes.now.slots at.old listing.old }
+    ensures listing { IsListingAt (W.IsWorkOf changes.now.settings) changes.now.slots at.new listing.new }
     ensures next { OnOk result (at.new ≡ version) }
-    ensures back { OnErr result (at.new ≤ at.old) }
+    ensures back { OnErr result ((at.new ≡ at.old) ⊎ (at.new ≡ 0)) }
 {
     match Arc::get_mut(listing) {
         Some(own) => {
             let before = *at;
             *at = 0;
-            advance_all(alloc, settings, slots, own, before, version)?;
+            advance_all(alloc, changes, own, before, version)?;
             *at = version;
             Ok(())
         }
         None => {
-            advance_copied(alloc, settings, slots, listing, *at, version)?;
+            advance_copied(alloc, changes, listing, *at, version)?;
             *at = version;
             Ok(())
         }
     }
 }
 
-// The listing of the next version, made in place where nobody else has it.
+// The listing of the next version, which is behind the floor, made in place where nobody else has it.
 fn advance_one<W: Indexed>(
     alloc: Global,
-    settings: &Settings,
-    slots: &[Kept<W>],
+    changes: &Changes<W>,
     listing: &mut Arc<Listing<W>, Global>,
     before: u64,
     version: u64,
 ) -> Result<(), Memory>
     requires one { before + 1 ≡ version }
-    requires done { version ≤ prefix_len is_done (map slot_from slots.now) }
-    requires works { All (IsWorked (W.IsWorkOf settings.now)) slots.now }
-    requires listing { IsListingAt (W.IsWorkOf settings.now) slots.now before listing.old }
-    ensures next { OnOk result (IsListingAt (W.IsWorkOf settings.now) slots.now version listing.new) }
-    ensures unchanged { OnErr result (IsListingAt (W.IsWorkOf settings.now) slots.now before listing.new) }
+    requires behind { changes.now.floor ≤ before }
+    requires done { version ≤ prefix_len is_done changes.now.slots }
+    requires listing { IsListingAt (W.IsWorkOf changes.now.settings) changes.now.slots before listing.old }
+    ensures next { OnOk result (IsListingAt (W.IsWorkOf changes.now.settings) changes.now.slots version listing.new) }
+    ensures unchanged { OnErr result (IsListingAt (W.IsWorkOf changes.now.settings) changes.now.slots before listing.new) }
 {
     match Arc::get_mut(listing) {
-        Some(own) => advance_own(alloc, settings, own, version, &slots[before as usize]),
-        None => advance_copied(alloc, settings, slots, listing, before, version),
+        Some(own) => match changes.get(version) {
+            Some(kept) => advance_own(alloc, changes.settings(), own, version, kept),
+            None => unreachable!(),
+        },
+        None => advance_copied(alloc, changes, listing, before, version),
     }
 }
 
 /// Makes the listing that of a version at or past the one that it is of, and tells which it is of then. What nobody else
 /// has of it is changed in place: one change alone costs a search and a move, several move the files of each project that
 /// they change once. Of what somebody else has a copy is made first, with an owner for each project, and for each file of a
-/// project that changed. Where memory is refused, it is that of the version before, or of version 0.
+/// project that changed. Where memory is refused, it is that of the version before, or of version 0, from which it is made anew
+/// of what is kept.
 pub fn advance_to<W: Indexed>(
     alloc: Global,
-    settings: &Settings,
-    slots: &[Kept<W>],
+    changes: &Changes<W>,
     listing: &mut Arc<Listing<W>, Global>,
     at: &mut u64,
     version: u64,
 ) -> Result<(), Memory>
     requires order { at.old ≤ version }
-    requires done { version ≤ prefix_len is_done (map slot_from slots.now) }
-    requires works { All (IsWorked (W.IsWorkOf settings.now)) slots.now }
-    requires listing { IsListingAt (W.IsWorkOf settings.now) slots.now at.old listing.old }
-    ensures listing { IsListingAt (W.IsWorkOf settings.now) slots.now at.new listing.new }
+    requires from { (changes.now.floor ≤ at.old) ⊎ (at.old ≡ 0) }
+    requires floor { changes.now.floor ≤ version }
+    requires done { version ≤ prefix_len is_done changes.now.slots }
+    requires listing { IsListingAt (W.IsWorkOf changes.now.settings) changes.now.slots at.old listing.old }
+    ensures listing { IsListingAt (W.IsWorkOf changes.now.settings) changes.now.slots at.new listing.new }
     ensures next { OnOk result (at.new ≡ version) }
-    ensures back { OnErr result (at.new ≤ at.old) }
+    ensures back { OnErr result ((at.new ≡ at.old) ⊎ (at.new ≡ 0)) }
 {
     if *at == version {
         return Ok(());
     }
-    if version - *at == 1 {
-        advance_one(alloc, settings, slots, listing, *at, version)?;
+    if version - *at == 1 && changes.floor() <= *at {
+        advance_one(alloc, changes, listing, *at, version)?;
         *at = version;
         return Ok(());
     }
-    advance_many(alloc, settings, slots, listing, at, version)
+    advance_many(alloc, changes, listing, at, version)
 }

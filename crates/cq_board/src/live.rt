@@ -63,8 +63,8 @@ fn take_out_each(live: &mut Vec<u64>, gone: &[u64])
     }
 }
 
-/// Whether a number is among sorted ones.
-pub fn is_among(gone: &[u64], number: u64) -> bool
+// Whether a number is among sorted ones.
+fn is_among(gone: &[u64], number: u64) -> bool
     requires { IsSorted nat_cmp gone.now }
     ensures { result ≡ list_any (nat_eq number) gone.now }
 {

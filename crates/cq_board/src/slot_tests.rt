@@ -9,6 +9,17 @@ use crate::kept::{Kept, Stored};
 use cq_base::Memory;
 use std::sync::Arc;
 
+/// Whether the change is a put.
+pub fn is_put(change: &Stored) -> bool
+    ensures { result ≡ is_put (change_of change.now) }
+{
+    match change {
+        Stored::Put { .. } => true,
+        Stored::Drop { .. } => false,
+        Stored::Gate { .. } => false,
+    }
+}
+
 /// Whether nothing is left to do for the change.
 pub fn is_done<W>(kept: &Kept<W>) -> bool
     ensures { result ≡ is_done (slot_from kept.now) }

@@ -1,37 +1,80 @@
-ghost use Rattle.std.specs.Prelude.{◌≡◌, ◌≤◌, length, map, OnOk, OnErr};
+ghost use Rattle.std.specs.Prelude.{◌≡◌, ◌≤◌, ◌++◌, ◌∷◌, [], ◌↔◌, true, length, IfOk, IfSome, IsSome, IsTrue, OnOk, OnErr};
 ghost use Rattle.std.specs.List.{prefix_len};
-ghost use Rattle.cq_history.specs.State.{is_done};
-ghost use Rattle.cq_board.specs.Slots.{slot_from, slots_with, change_of};
+ghost use Rattle.cq_history.specs.Changes.{is_put};
+ghost use Rattle.cq_history.specs.State.{is_done, new_slot, IsUndone, IsTakenBy};
+ghost use Rattle.cq_board.specs.Accepted.{Holds};
+ghost use Rattle.cq_board.specs.Answers.{IsJobOf};
+ghost use Rattle.cq_board.specs.Slots.{slot_from, slot_at, change_of, state_from};
 ghost use Rattle.cq_board.specs.Undone.{AreUndone};
 
+use crate::Job;
+use crate::changes::Changes;
 use crate::kept::{Kept, Stored};
+use crate::slot_tests::{is_done, job_of};
 use cq_base::Memory;
+use cq_shard::Indexed;
 use std::collections::BTreeSet;
 
 /// How many changes at the front are done.
-pub fn ready_of<W>(slots: &[Kept<W>], undone: &BTreeSet<usize>) -> usize
-    requires { AreUndone (map slot_from slots.now) undone.now }
-    ensures done { result ≡ prefix_len is_done (map slot_from slots.now) }
-    ensures within { result ≤ length slots.now }
+pub fn ready_of<W: Indexed>(changes: &Changes<W>, undone: &BTreeSet<u64>) -> u64
+    requires { AreUndone changes.now.slots undone.now }
+    ensures done { result ≡ prefix_len is_done changes.now.slots }
+    ensures within { result ≤ length changes.now.slots }
 {
     match undone.first() {
         Some(i) => *i,
-        None => slots.len(),
+        None => changes.len(),
+    }
+}
+
+/// The change of a number, where it is accepted and not done. What the floor has passed is done.
+pub fn undone_at<W: Indexed>(changes: &Changes<W>, number: u64) -> Option<&Kept<W>>
+    requires { changes.now.floor ≤ prefix_len is_done changes.now.slots }
+    ensures some { IsSome result ↔ IsUndone (state_from changes.now.slots 0 0 []) number }
+    ensures slot { IfSome result (λ kept. slot_from kept.now ≡ slot_at changes.now.slots number) }
+{
+    match changes.get(number) {
+        Some(kept) => { if is_done(kept) { None } else { Some(kept) } }
+        None => None,
+    }
+}
+
+/// Whether the caller has the change of a number, which is not done.
+pub fn is_taken_by<W: Indexed>(changes: &Changes<W>, number: u64, by: u32) -> bool
+    requires { changes.now.floor ≤ prefix_len is_done changes.now.slots }
+    ensures { IsTrue result ↔ IsTakenBy (state_from changes.now.slots 0 0 []) number by }
+{
+    match undone_at(changes, number) {
+        Some(kept) => kept.holder == Some(by),
+        None => false,
+    }
+}
+
+/// The job of a put that is kept.
+pub fn job_at<W: Indexed>(changes: &Changes<W>, number: u64) -> Result<Job, Memory>
+    requires held { Holds changes.now number }
+    requires put { is_put (slot_at changes.now.slots number).change ≡ true }
+    ensures job { IfOk result (IsJobOf (slot_at changes.now.slots number).change) }
+    ensures number { IfOk result (λ job. job.change ≡ number) }
+{
+    match changes.get(number) {
+        Some(kept) => job_of(number, &kept.change),
+        None => unreachable!(),
     }
 }
 
 /// Those of one change more, which is not done where it is a put. Where memory is refused they are as before.
-pub fn note_undone<W>(
-    slots: &[Kept<W>],
-    undone: &mut BTreeSet<usize>,
+pub fn note_undone<W: Indexed>(
+    changes: &Changes<W>,
+    undone: &mut BTreeSet<u64>,
     change: &Stored,
 ) -> Result<(), Memory>
-    requires { AreUndone (map slot_from slots.now) undone.old }
-    ensures more { OnOk result (AreUndone (slots_with slots.now (change_of change.now)) undone.new) }
-    ensures same { OnErr result (AreUndone (map slot_from slots.now) undone.new) }
+    requires { AreUndone changes.now.slots undone.old }
+    ensures more { OnOk result (AreUndone (changes.now.slots ++ new_slot (change_of change.now) ∷ []) undone.new) }
+    ensures same { OnErr result (AreUndone changes.now.slots undone.new) }
 {
     if let Stored::Put { .. } = change {
-        undone.insert(slots.len())?;
+        undone.insert(changes.len())?;
     }
     Ok(())
 }

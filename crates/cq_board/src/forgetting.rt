@@ -1,0 +1,41 @@
+ghost use Rattle.std.specs.Prelude.{◌≡◌, ◌+◌, ◌<◌, ◌^◌, not, nat_eq, filter, AllPairs};
+ghost use Rattle.cq_board.specs.Accepted.{text_in, not_over, over_behind};
+ghost use Rattle.cq_board.specs.Over.{IsNoLater};
+
+use crate::accepting::text_len;
+use crate::kept::Kept;
+use crate::over::Over;
+use std::collections::{BTreeMap, VecDeque};
+
+/// Takes out each change that is over at a floor, and tells how many bytes their texts had. It takes no memory, and costs a
+/// search for each.
+pub fn forget<W>(kept: &mut BTreeMap<u64, Kept<W>>, over: &mut VecDeque<Over>, floor: u64) -> u64
+    requires order { AllPairs IsNoLater over.old.items }
+    requires few { text_in kept.old.entries < 2 ^ 64 }
+    ensures over { over.new.items ≡ over_behind floor over.old.items }
+    ensures kept { kept.new.entries ≡ not_over over.old.items floor kept.old.entries }
+    ensures bytes { result + text_in kept.new.entries ≡ text_in kept.old.entries }
+{
+    let mut bytes = 0u64;
+    'over: while let Some(first) = over.front() {
+        if floor < first.by {
+            return bytes;
+        }
+        let number = first.number;
+        over.pop_front();
+        bytes += take_out(kept, number);
+    }
+    bytes
+}
+
+// Takes a change out, and tells how many bytes of text it had.
+fn take_out<W>(kept: &mut BTreeMap<u64, Kept<W>>, number: u64) -> u64
+    requires { text_in kept.old.entries < 2 ^ 64 }
+    ensures left { kept.new.entries ≡ filter (λ e. not (nat_eq number e.0)) kept.old.entries }
+    ensures bytes { result + text_in kept.new.entries ≡ text_in kept.old.entries }
+{
+    match kept.remove(&number) {
+        Some(gone) => text_len(&gone.change),
+        None => 0,
+    }
+}
