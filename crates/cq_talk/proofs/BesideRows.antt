@@ -21,7 +21,7 @@ use Rattle.cq_hub.specs.Hubs.{Grows}
 use Rattle.cq_talk.specs.Said.{Said, TooLong, Read}
 use Rattle.cq_talk.specs.Talk.{Asks, IsServed, IsGivenUp}
 use Rattle.cq_talk.specs.Beside.{IsPut}
-use Rattle.cq_talk.specs.Laws.{AcceptsBy}
+use Rattle.cq_talk.specs.Laws.{ActsBy}
 use Rattle.cq_talk.proofs.GoingOn.{GoesOnTo, by_one}
 use Rattle.cq_talk.proofs.Served.{asks_grow, served_accept_none, served_grows}
 use Rattle.cq_talk.proofs.Unmade.{none_more}
@@ -39,7 +39,7 @@ all_behind P (x ∷ xs) ys all = all_behind P xs ys all.1
 -- the history is lawful, and the other callers accept no changes in it
 pub record Fair (set : Settings) (callers c : ℕ) (h : List Event) : Type 0 where
   pub law : Lawful set callers h
-  pub accepts : AllByRecursion (AcceptsBy c) h
+  pub accepts : AllByRecursion (ActsBy c) h
 
 -- nothing more is accepted, and what is published is not taken back
 pub record Keeps (callers : ℕ) (h later : List Event) : Type 0 where
@@ -50,7 +50,7 @@ module _ (set : Settings) (callers : ℕ) (alone : Type 0) (c : ℕ) where
   pub fair_before : (h later : List Event) → GoesOnTo alone c h later → Fair set callers c later → Fair set callers c h
   fair_before h later on fair = record {
     law = Lawful-prefix set callers h on.more (subst (Lawful set callers) on.later_is fair.law);
-    accepts = all_before (AcceptsBy c) h on.more (subst (AllByRecursion (AcceptsBy c)) on.later_is fair.accepts);
+    accepts = all_before (ActsBy c) h on.more (subst (AllByRecursion (ActsBy c)) on.later_is fair.accepts);
   }
 
   published_rises : (h later more : List Event) → later ≡ h ++ more → Lawful set callers later → (state callers h).published ≤ (state callers later).published
@@ -59,7 +59,7 @@ module _ (set : Settings) (callers : ℕ) (alone : Type 0) (c : ℕ) where
   -- where none of the caller's own further events accepts a change, whatever the others do
   pub keeps : {May : Event → Type 0} (h later es : List Event) → accepted es ≡ [] → Grows alone May c h later es → Fair set callers c later → Keeps callers h later
   keeps h later es none grows fair =
-      let accepts : AllByRecursion (AcceptsBy c) grows.more = all_behind (AcceptsBy c) h grows.more (subst (AllByRecursion (AcceptsBy c)) grows.after_is fair.accepts) in
+      let accepts : AllByRecursion (ActsBy c) grows.more = all_behind (ActsBy c) h grows.more (subst (AllByRecursion (ActsBy c)) grows.after_is fair.accepts) in
       record {
         accepted_is = none_more c h later grows.more grows.after_is (ap accepted grows.own_is ∙ none) accepts;
         published = published_rises h later grows.more grows.after_is fair.law;

@@ -28,7 +28,7 @@ use Rattle.cq_talk.specs.Replies.{named, version_in}
 use Rattle.cq_talk.specs.Causes.{cause, change_told}
 use Rattle.cq_talk.specs.Talk.{Talk, Answers, IsAnswered, IsShown, IsChanged, IsGivenUp, Tells}
 use Rattle.cq_talk.specs.Beside.{Known, nothing_known, known_then, changes_then, with_told, IsReplyBeside, IsBeside}
-use Rattle.cq_talk.specs.Laws.{AcceptsBy}
+use Rattle.cq_talk.specs.Laws.{ActsBy}
 use Rattle.cq_talk.proofs.GoingOn.{by_one, by_unmade, talk_goes_on}
 use Rattle.cq_talk.proofs.BesideRows.{Fair, Keeps, fair_before, keeps, keeps_asking, keeps_to_ask, keeps_serving, keeps_giving_up, undone_put}
 use Rattle.cq_talk.proofs.Causing.{cause_is}
@@ -204,7 +204,7 @@ module _ (set : Settings) (callers : ℕ) (alone : Type 0) (c : ℕ) where
       let one = turn set callers alone c seen h k fits l r talk.0 (fair_before set callers alone c talk.0 later on fair) talk.1 in
       (one.is, walked (max seen (named r)) talk.0 later (known_then k l r) lines replies fair one.fits talk.2)
 
-  pub beside_from_nothing : (later : List Event) (lines : List Said) (replies : List Reply) → Talk set callers alone c 0 [] lines replies later → Lawful set callers later → AllByRecursion (AcceptsBy c) later → IsBeside set nothing_known lines replies
+  pub beside_from_nothing : (later : List Event) (lines : List Said) (replies : List Reply) → Talk set callers alone c 0 [] lines replies later → Lawful set callers later → AllByRecursion (ActsBy c) later → IsBeside set nothing_known lines replies
   beside_from_nothing later lines replies talk law accepts = walked 0 [] later nothing_known lines replies (record { law = law; accepts = accepts }) (record { changes = refl; version = omega arith; few = omega arith }) talk
 
 -- ---- a hub that is alone
@@ -212,4 +212,4 @@ module _ (set : Settings) (callers : ℕ) (alone : Type 0) (c : ℕ) where
 pub beside_alone : (set : Settings) (callers c : ℕ) (later : List Event) (lines : List Said) (replies : List Reply) → Talk set callers (Unit {0}) c 0 [] lines replies later → Lawful set callers later → IsBeside set nothing_known lines replies
 beside_alone set callers c later lines replies talk law =
     let on = talk_goes_on set callers (Unit {0}) c 0 [] later lines replies talk in
-    beside_from_nothing set callers (Unit {0}) c later lines replies talk law (subst (AllByRecursion (AcceptsBy c)) (sym on.later_is) (accepts_all c on.more (on.alone_is tt)))
+    beside_from_nothing set callers (Unit {0}) c later lines replies talk law (subst (AllByRecursion (ActsBy c)) (sym on.later_is) (accepts_all c on.more (on.alone_is tt)))
