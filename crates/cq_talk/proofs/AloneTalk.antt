@@ -1,9 +1,8 @@
 -- A talk with a hub that is alone, walked.
-use Rattle.std.proofs.Common.{◌≡◌, ℕ, ◌+◌, ◌≤◌, cond, fold, replicate, List, [], ◌∷◌, ◌++◌, length, max, Option, Some, None, Ok, Err, refl, sym, ap, ◌∙◌, subst, inl, inr, arith, length-append}
+use Rattle.std.proofs.Common.{◌≡◌, ℕ, ◌+◌, ◌≤◌, cond, replicate, List, [], ◌∷◌, ◌++◌, length, max, Option, Some, None, Ok, Err, refl, sym, ap, ◌∙◌, subst, inl, inr, arith, length-append}
 use Rattle.std.specs.Prelude.{All}
 use Rattle.std.proofs.Math.Nat.{le-max_left, le-max_right}
 use Rattle.std.proofs.lemmas.List.{length-map, length-replicate, get_or-replicate}
-use Rattle.std.proofs.lemmas.List.Elements.{All-head, All-tail}
 use Rattle.std.proofs.lemmas.List.Sums.{prefix_len-le-length}
 use Rattle.cq_base.specs.declared.settings.Settings.{Settings}
 use Rattle.cq_base.specs.declared.change.Change.{Change}
@@ -15,7 +14,7 @@ use Rattle.cq_history.proofs.States.{state_push, Lawful-prefix}
 use Rattle.cq_history.proofs.Bounds.{in_order}
 use Rattle.cq_history.proofs.Doing.{slots_number}
 use Rattle.cq_history.proofs.Prefixes.{changes_after, changes_in-state}
-use Rattle.cq_board.specs.Answers.{lower, refusal_of}
+use Rattle.cq_board.specs.Answers.{refusal_of}
 use Rattle.cq_request.specs.declared.request.Query.{Query}
 use Rattle.cq_request.specs.declared.request.Request.TheVariants as request
 use Rattle.cq_reply.specs.declared.reply.Reply.{Reply}
@@ -30,7 +29,7 @@ use Rattle.cq_talk.proofs.Causing.{cause_is}
 use Rattle.cq_talk.proofs.GoingOn.{talk_goes_on, talk_many}
 use Rattle.cq_talk.proofs.OneMore.{ready_with}
 use Rattle.cq_talk.proofs.AloneRows.{alone_same}
-use Rattle.cq_talk.proofs.Served.{served_accept_none, served_grows, served_published, served_shut}
+use Rattle.cq_talk.proofs.Served.{served_accept_none, served_grows, served_published, served_shut, none_open}
 use Rattle.cq_talk.proofs.Shown.{shown_named}
 use Rattle.cq_talk.proofs.Talking.{published_few}
 use Rattle.cq_talk.proofs.Unmade.{none_accepted}
@@ -45,11 +44,6 @@ given_read set callers alone c seen h later TooLong is = absurd is
 given_read set callers alone c seen h later (Read says) is = tt
 
 -- ---- nobody has a view open
-
--- the greatest floor is the published version then
-none_open : (views : List (Option ℕ)) (n : ℕ) → All (λ view. view ≡ None) views → fold lower n views ≡ n
-none_open [] n shut = refl
-none_open (view ∷ views) n shut = ap (λ v. fold lower (lower n v) views) (All-head (λ view. view ≡ None) view views shut) ∙ none_open views n (All-tail (λ view. view ≡ None) view views shut)
 
 all_none : (callers : ℕ) → All (λ view. view ≡ None) (replicate callers None)
 all_none callers k d within = get_or-replicate callers None k d (omega (arith, within, length-replicate callers {A = Option ℕ} None))

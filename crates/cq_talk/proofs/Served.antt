@@ -4,7 +4,8 @@ use Rattle.std.specs.Prelude.{All}
 use Rattle.std.specs.List.{AllByRecursion}
 use Rattle.std.proofs.lemmas.Bool.{cases_lt, cases_eq, eq-eqb, ne_eqb}
 use Rattle.std.proofs.lemmas.List.{get_or_default}
-use Rattle.std.proofs.lemmas.List.Folds.{fold_push}
+use Rattle.std.proofs.lemmas.List.Elements.{All-head, All-tail}
+use Rattle.std.proofs.lemmas.List.Sums.{fold_push}
 use lib.ListN.{get_or-eq_default}
 use Rattle.cq_base.specs.declared.settings.Settings.{Settings}
 use Rattle.cq_history.specs.declared.event.Event.{Event}
@@ -12,6 +13,7 @@ use Rattle.cq_history.specs.declared.event.Event.TheVariants.{Ask, Done, Open, S
 use Rattle.cq_history.specs.Lasts.{view_in, view_after}
 use Rattle.cq_history.specs.State.{state, accepted, own, maker, is_by, view_of}
 use Rattle.cq_history.specs.Lawful.{Lawful}
+use Rattle.cq_board.specs.Answers.{lower}
 use Rattle.cq_history.proofs.States.{Lawful-prefix, Lawful_last}
 use Rattle.cq_history.proofs.Openings.{view_is, view_own}
 use Rattle.cq_history.proofs.Prefixes.{accepted-append, own-append}
@@ -85,8 +87,13 @@ served_published set callers alone c seen q h later v is law =
 
 -- ---- who has a view open
 
+-- where nobody has one, the greatest floor is the published version
+pub none_open : (views : List (Option ℕ)) (n : ℕ) → All (λ view. view ≡ None) views → fold lower n views ≡ n
+none_open [] n shut = refl
+none_open (view ∷ views) n shut = ap (λ v. fold lower (lower n v) views) (All-head (λ view. view ≡ None) view views shut) ∙ none_open views n (All-tail (λ view. view ≡ None) view views shut)
+
 -- the last of the caller's own events shuts its view
-shut_last : (c : ℕ) (before : List Event) (rs : List ℕ) (v : ℕ) → view_in c (before ++ Ask c ∷ works_and_view c rs (Some v)) ≡ None
+pub shut_last : (c : ℕ) (before : List Event) (rs : List ℕ) (v : ℕ) → view_in c (before ++ Ask c ∷ works_and_view c rs (Some v)) ≡ None
 shut_last c before rs v =
     let front = before ++ Ask c ∷ map (λ r. Done c r) rs ++ Open c v ∷ [] in
     let is : before ++ Ask c ∷ works_and_view c rs (Some v) ≡ front ++ Shut c ∷ [] =
