@@ -1,3 +1,4 @@
+use Rattle.std.proofs.Common.{rules}
 use Rattle.cq_board.specs.declared.answers.Refused.TheVariants as refused
 use Rattle.cq_make.proofs.Puts.{never_refused, one_put}
 use Rattle.cq_make.proofs.putting.put_one.Goals as goal
