@@ -3,7 +3,7 @@ use Rattle.std.proofs.Common.{◌≡◌, ℕ, map, ◌+◌, ◌-◌, ◌<◌, �
 use Rattle.std.specs.Prelude.{not, ◌&&◌, nat_le}
 use Rattle.std.specs.List.{range_with_len}
 use Rattle.std.proofs.lemmas.Bool.{and_parts, and_from, and_left, leb-true, le-leb, lt-leb, not-true, not_from_false, true≢false}
-use Rattle.std.proofs.lemmas.List.{append-nil, append_assoc, get_or_append_left, take-append-le}
+use Rattle.std.proofs.lemmas.List.{append-nil, append_assoc, get_or_append_left, take-append-le, take-append-drop, length-take-le}
 use Rattle.std.proofs.lemmas.List.FromFn.{length-range_with_len, map-range_with_len_more}
 use Rattle.std.proofs.lemmas.List.Elements.{All-head, All-tail, filter-append}
 use Rattle.std.proofs.lemmas.List.Folds.{map_fixed}
@@ -141,6 +141,22 @@ module _ (changes : List Change) (floor : ℕ) (c : Change) (low : floor ≤ len
 pub one_more : (changes : List Change) (floor : ℕ) (c : Change) → floor ≤ length changes →
     (kept_numbers (changes ++ c ∷ []) floor ≡ kept_numbers changes floor ++ (length changes + 1) ∷ []) × (kept_count (changes ++ c ∷ []) floor ≡ kept_count changes floor + 1) × (kept_bytes (changes ++ c ∷ []) floor ≡ kept_bytes changes floor + text_len c)
 one_more changes floor c low = (kept_more changes floor c low, count_more changes floor c low, bytes_more changes floor c low)
+
+-- ---- above the floor
+
+above_more : (floor : ℕ) (cs ds : List Change) → floor ≤ length cs → length cs ≤ floor + kept_count cs floor → length (cs ++ ds) ≤ floor + kept_count (cs ++ ds) floor
+above_more floor cs [] low few = subst (λ xs. length xs ≤ floor + kept_count xs floor) (sym (append-nil cs)) few
+above_more floor cs (d ∷ ds) low few =
+    let long = length-append cs (d ∷ []) in
+    let count = count_more cs floor d low in
+    subst (λ xs. length xs ≤ floor + kept_count xs floor) (append_assoc cs (d ∷ []) ds)
+    (above_more floor (cs ++ d ∷ []) ds (omega (arith, long, low)) (omega (arith, long, count, few)))
+
+pub above_kept : (changes : List Change) (floor : ℕ) → floor ≤ length changes → length changes ≤ floor + kept_count changes floor
+above_kept changes floor low =
+    let front : length (take floor changes) ≡ floor = length-take-le floor changes low in
+    subst (λ xs. length xs ≤ floor + kept_count xs floor) (take-append-drop floor changes)
+    (above_more floor (take floor changes) (drop floor changes) (omega (arith, front)) (omega (arith, front)))
 
 -- ---- the lowest floor
 

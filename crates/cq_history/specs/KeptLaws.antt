@@ -23,6 +23,10 @@ abbrev pub OneMoreIsKept : Type 0
 OneMoreIsKept = (changes : List Change) (floor : ℕ) (change : Change) → floor ≤ length changes →
     (kept_numbers (changes ++ change ∷ []) floor ≡ kept_numbers changes floor ++ (length changes + 1) ∷ []) × (kept_count (changes ++ change ∷ []) floor ≡ kept_count changes floor + 1) × (kept_bytes (changes ++ change ∷ []) floor ≡ kept_bytes changes floor + text_len change)
 
+-- all changes above the floor are kept
+abbrev pub AllAboveAreKept : Type 0
+AllAboveAreKept = (changes : List Change) (floor : ℕ) → floor ≤ length changes → length changes ≤ floor + kept_count changes floor
+
 -- a change that is gone stays so, whatever is accepted later and however the floor rises
 abbrev pub GoneStaysGone : Type 0
 GoneStaysGone = (changes later : List Change) (floor higher number : ℕ) → floor ≤ higher → IsGone changes floor number → IsGone (changes ++ later) higher number

@@ -153,6 +153,11 @@ pub fn one_more_is_kept()
     ensures { kept.OneMoreIsKept }
 {}
 
+/// All changes above the floor are kept.
+pub fn all_above_are_kept()
+    ensures { kept.AllAboveAreKept }
+{}
+
 /// A change that is gone stays so, whatever is accepted later and however the floor rises.
 pub fn gone_stays_gone()
     ensures { kept.GoneStaysGone }
