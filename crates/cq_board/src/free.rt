@@ -1,8 +1,9 @@
-ghost use Rattle.std.specs.Prelude.{◌≡◌, ◌<◌, ◌≤◌, ◌^◌, ◌+◌, ◌-◌, ℕ, [], List, length, IfOk, IfSome, IsNone, false, true, is_none, slice_index_or, slice_set};
+ghost use Rattle.std.specs.Prelude.{◌≡◌, ◌<◌, ◌≤◌, ◌^◌, ◌+◌, ◌-◌, ℕ, [], List, All, length, IfOk, IfSome, IsNone, false, true, is_none, slice_index_or, slice_set};
 ghost use Rattle.std.specs.List.{position_or_len, prefix_len};
 ghost use Rattle.cq_history.specs.State.{Slot, no_slot, is_done, is_free};
 ghost use Rattle.cq_board.specs.Undone.{AreUndone};
-ghost use Rattle.cq_board.specs.Free.{AreFree, IsNext, IsNoneBefore, room_of};
+ghost use Rattle.cq_board.specs.Free.{AreFree, IsNext, IsNoneBefore, least_first, room_of};
+ghost use Rattle.std.specs.BinaryHeap.{IsHeap, heap_items};
 
 use crate::changes::Changes;
 use crate::slot_tests::is_free;
@@ -143,11 +144,21 @@ pub fn pass_over(free: &mut FreeChanges, floor: u64)
     ensures passed { (slots : List Slot) (low : ℕ) → low ≤ floor → floor ≤ prefix_len is_done slots → AreFree slots low free.old → AreFree slots floor free.new }
     ensures room { room_of free.new ≡ room_of free.old }
 {
+    drop_passed(free, floor);
+    free.untaken = free.untaken.max(floor);
+}
+
+// The least ones go up to the first that is behind the floor.
+fn drop_passed(free: &mut FreeChanges, floor: u64)
+    ensures free { (slots : List Slot) (low : ℕ) → floor ≤ prefix_len is_done slots → AreFree slots low free.old → AreFree slots low free.new }
+    ensures passed { IsHeap least_first (heap_items free.old.given_back) → All (λ given. floor ≤ given.0) (heap_items free.new.given_back) }
+    ensures untaken { free.new.untaken ≡ free.old.untaken }
+    ensures room { room_of free.new ≡ room_of free.old }
+{
     while let Some(given) = free.given_back.peek() {
         if floor <= given.0 {
-            break;
+            return;
         }
         free.given_back.pop();
     }
-    free.untaken = free.untaken.max(floor);
 }
