@@ -3,6 +3,7 @@ pub mod Advances
 pub mod Dead
 pub mod FileNumbers
 pub mod Floors
+pub mod Forgetting
 pub mod Freeing
 pub mod Keeping
 pub mod Living

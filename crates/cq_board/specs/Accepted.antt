@@ -1,7 +1,7 @@
 -- What a board holds of the accepted changes.
-use Rattle.std.specs.Prelude.{◌≡◌, ℕ, ◌^◌, ◌<◌, ◌≤◌, nat_eq, nat_le, nat_lt, Bool, not, ◌&&◌, List, length, sum_by, filter, All, Option}
+use Rattle.std.specs.Prelude.{◌≡◌, ℕ, ◌^◌, ◌<◌, ◌≤◌, nat_eq, nat_le, nat_lt, Bool, not, ◌&&◌, List, length, sum_by, filter, All, Contains}
 use Rattle.std.specs.List.{list_any}
-use Rattle.std.specs.BTreeMap.{BTreeMap, keys}
+use Rattle.std.specs.BTreeMap.{BTreeMap, keys, values}
 use Rattle.cq_base.specs.declared.settings.Settings.{Settings}
 use Rattle.cq_base.specs.declared.lang.Lang.{Lang}
 use Rattle.cq_history.specs.Changes.{text_len}
@@ -36,18 +36,22 @@ pub record IsNextHeld (a : Accepted) (after number : ℕ) : Type 0 where
 abbrev pub is_over_at : List Over → ℕ → ℕ → Bool
 is_over_at all floor number = list_any (λ (o : Over). nat_le o.by floor && nat_eq o.number number) all
 
+-- the numbers of those that are not over at the floor
+abbrev pub not_over : List Over → ℕ → List ℕ → List ℕ
+not_over all floor numbers = filter (λ (n : ℕ). not (is_over_at all floor n)) numbers
+
 -- those that are over behind the floor alone
 abbrev pub over_behind : ℕ → List Over → List Over
 over_behind floor all = filter (λ (o : Over). nat_lt floor o.by) all
 
 module _ {W : Type 0} where
   -- how many bytes the texts have
-  abbrev pub text_in : List (ℕ × Kept W) → ℕ
-  text_in entries = sum_by (λ (e : ℕ × Kept W). text_len (change_of e.1.change)) entries
+  abbrev pub text_in : BTreeMap ℕ (Kept W) → ℕ
+  text_in kept = sum_by (λ (k : Kept W). text_len (change_of k.change)) (values kept)
 
-  -- those that are not over at the floor
-  abbrev pub not_over : List Over → ℕ → List (ℕ × Kept W) → List (ℕ × Kept W)
-  not_over all floor entries = filter (λ (e : ℕ × Kept W). not (is_over_at all floor e.0)) entries
+  -- nothing is there that was not there before
+  abbrev pub IsPartOf : BTreeMap ℕ (Kept W) → BTreeMap ℕ (Kept W) → Type 0
+  IsPartOf old new = (e : ℕ × Kept W) → Contains new.entries e → Contains old.entries e
 
   -- the slot of the number, with its work where it is done
   abbrev pub IsHeldAs : (Lang → List ℕ → W → Type 0) → List Slot → ℕ × Kept W → Type 0
@@ -64,5 +68,5 @@ module _ {W : Type 0} where
     pub few : accepted ≤ 2 ^ 60
     pub passed : floor ≤ accepted
     pub presence : IsPresence (changes_of slots) floor there
-    pub text_bytes : bytes ≡ text_in kept.entries
+    pub text_bytes : bytes ≡ text_in kept
     pub few_bytes : bytes ≤ settings.text_limit

@@ -1,5 +1,7 @@
 ghost use Rattle.std.specs.Prelude.{◌≡◌, ◌+◌, ◌<◌, ◌^◌, not, nat_eq, filter, AllPairs};
-ghost use Rattle.cq_board.specs.Accepted.{text_in, not_over, over_behind};
+ghost use Rattle.std.specs.BTreeMap.{keys};
+ghost use Rattle.std.specs.List.Sorted.{IsStrictlyIncreasing};
+ghost use Rattle.cq_board.specs.Accepted.{text_in, not_over, over_behind, IsPartOf};
 ghost use Rattle.cq_board.specs.Over.{IsNoLater};
 
 use crate::accepting::text_len;
@@ -11,10 +13,12 @@ use std::collections::{BTreeMap, VecDeque};
 /// search for each.
 pub fn forget<W>(kept: &mut BTreeMap<u64, Kept<W>>, over: &mut VecDeque<Over>, floor: u64) -> u64
     requires order { AllPairs IsNoLater over.old.items }
-    requires few { text_in kept.old.entries < 2 ^ 64 }
+    requires rising { IsStrictlyIncreasing (keys kept.old) }
+    requires few { text_in kept.old < 2 ^ 64 }
     ensures over { over.new.items ≡ over_behind floor over.old.items }
-    ensures kept { kept.new.entries ≡ not_over over.old.items floor kept.old.entries }
-    ensures bytes { result + text_in kept.new.entries ≡ text_in kept.old.entries }
+    ensures numbers { keys kept.new ≡ not_over over.old.items floor (keys kept.old) }
+    ensures same { IsPartOf kept.old kept.new }
+    ensures bytes { result + text_in kept.new ≡ text_in kept.old }
 {
     let mut bytes = 0u64;
     'over: while let Some(first) = over.front() {
@@ -23,16 +27,18 @@ pub fn forget<W>(kept: &mut BTreeMap<u64, Kept<W>>, over: &mut VecDeque<Over>, f
         }
         let number = first.number;
         over.pop_front();
-        bytes += take_out(kept, number);
+        let taken = take_out(kept, number);
+        bytes += taken;
     }
     bytes
 }
 
 // Takes a change out, and tells how many bytes of text it had.
 fn take_out<W>(kept: &mut BTreeMap<u64, Kept<W>>, number: u64) -> u64
-    requires { text_in kept.old.entries < 2 ^ 64 }
-    ensures left { kept.new.entries ≡ filter (λ e. not (nat_eq number e.0)) kept.old.entries }
-    ensures bytes { result + text_in kept.new.entries ≡ text_in kept.old.entries }
+    requires { IsStrictlyIncreasing (keys kept.old) }
+    ensures numbers { keys kept.new ≡ filter (λ n. not (nat_eq number n)) (keys kept.old) }
+    ensures same { IsPartOf kept.old kept.new }
+    ensures bytes { result + text_in kept.new ≡ text_in kept.old }
 {
     match kept.remove(&number) {
         Some(gone) => text_len(&gone.change),
