@@ -57,7 +57,7 @@ module _ {X : Type 0} (number : ℕ) where
 
 -- ---- the notes, one by one
 
-filter_twice : (p q r : ℕ → Bool) → ((n : ℕ) → r n ≡ (p n || q n)) → (xs : List ℕ) → filter (λ n. not (q n)) (filter (λ n. not (p n)) xs) ≡ filter (λ n. not (r n)) xs
+pub filter_twice : (p q r : ℕ → Bool) → ((n : ℕ) → r n ≡ (p n || q n)) → (xs : List ℕ) → filter (λ n. not (q n)) (filter (λ n. not (p n)) xs) ≡ filter (λ n. not (r n)) xs
 filter_twice p q r both [] = refl
 filter_twice p q r both (x ∷ xs) = by_both (p x) (q x) (r x) refl refl (both x)
   where
@@ -195,3 +195,11 @@ late_all old over floor before numbers order is x first some late k d within =
         let step = subst (AllPairs IsNoLater) (sym is.left) pairs 0 (suc k) d (omega arith) within in
         let here = subst (λ (o : Over). floor < o.by) (first ∙ same_at 0 x d some) late in
         omega (arith, step, here)
+
+-- where there is none, all are
+pub none_behind : (over : List Over) (floor : ℕ) → (0 < length over → ⊥) → All (λ o. floor < o.by) over
+none_behind over floor none k d within = absurd (none (omega (arith, within)))
+
+-- what was first, and the rest behind it
+pub popped_first : (over : List Over) (x : Over) (rest : List Over) → x ≡ get_or over 0 x → 0 < length over → rest ≡ drop 1 over → over ≡ x ∷ rest
+popped_first over x rest first some is = drop_more over 0 x some ∙ ap₂ (λ y ys. y ∷ ys) (sym first) (sym is)

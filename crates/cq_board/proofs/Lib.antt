@@ -1,11 +1,10 @@
 pub mod Adding
 pub mod Advances
-pub mod Dead
 pub mod FileNumbers
 pub mod Floors
 pub mod Forgetting
 pub mod Freeing
-pub mod Keeping
+pub mod Holding
 pub mod Living
 pub mod Newer
 pub mod Numbers

@@ -50,7 +50,7 @@ over_higher_too changes floor higher r (Drop project path) low h = refl
 over_higher_too changes floor higher r (Gate project conditions) low h =
     follows_any (is_gate_of project) changes higher r (subst (λ cs. IsFollowed (is_gate_of project) cs higher r) (append-nil changes) (followed_higher (is_gate_of project) changes [] floor higher r low (any_follows (is_gate_of project) changes floor r h)))
 
-gone_higher : (changes : List Change) (floor higher r : ℕ) → floor ≤ higher → is_gone changes floor r ≡ true → is_gone changes higher r ≡ true
+pub gone_higher : (changes : List Change) (floor higher r : ℕ) → floor ≤ higher → is_gone changes floor r ≡ true → is_gone changes higher r ≡ true
 gone_higher changes floor higher r low h =
     let c : Change = get_or changes (r - 1) no_change in
     let both = and_parts (nat_le r floor) (is_over c (drop r (take floor changes))) h in
@@ -80,7 +80,7 @@ same_numbers xs = map_fixed (λ (n : ℕ). n) xs (λ k d within. refl)
 pub range_more : (a n : ℕ) → range_with_len a (n + 1) ≡ range_with_len a n ++ (a + n) ∷ []
 range_more a n = sym (same_numbers (range_with_len a (n + 1))) ∙ map-range_with_len_more (λ (k : ℕ). k) a n (a + n) refl ∙ ap (λ ns. ns ++ (a + n) ∷ []) (same_numbers (range_with_len a n))
 
-filter_same_in : (p q : ℕ → Bool) (xs : List ℕ) → All (λ r. p r ≡ q r) xs → filter p xs ≡ filter q xs
+pub filter_same_in : (p q : ℕ → Bool) (xs : List ℕ) → All (λ r. p r ≡ q r) xs → filter p xs ≡ filter q xs
 filter_same_in p q [] same = refl
 filter_same_in p q (x ∷ xs) same =
     ap (λ b. cond b (x ∷ filter p xs) (filter p xs)) (All-head (λ r. p r ≡ q r) x xs same)
