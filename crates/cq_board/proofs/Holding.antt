@@ -1,5 +1,5 @@
 -- What is held at a higher floor.
-use Rattle.std.proofs.Common.{◌≡◌, ℕ, ◌<◌, ◌≤◌, Bool, true, false, not, ◌||◌, ◌&&◌, nat_eq, nat_le, nat_lt, List, length, filter, get_or, refl, sym, ap, ◌∙◌, subst, ⊎_elim, append-nil, arith}
+use Rattle.std.proofs.Common.{◌≡◌, ℕ, ◌<◌, ◌≤◌, Bool, true, false, not, ◌||◌, ◌&&◌, nat_eq, nat_le, nat_lt, List, [], length, filter, get_or, refl, sym, ap, ◌∙◌, subst, ⊎_elim, append-nil, arith}
 use Rattle.std.specs.Prelude.{◌↔◌, All, AllPairs, Contains}
 use Rattle.std.specs.BTreeMap.{BTreeMap, keys, get}
 use Rattle.std.specs.List.{range_with_len}
@@ -52,7 +52,7 @@ only_once all once a b (i, below, here) (j, under, there) same =
 
 module _ (changes : List Change) (low floor : ℕ) (le : low ≤ floor) where
   gone_then : (n : ℕ) → IsGone changes low n → IsGone changes floor n
-  gone_then n gone = subst (λ cs. IsGone cs floor n) (append-nil changes) (stays_gone changes _ low floor n le gone)
+  gone_then n gone = subst (λ cs. IsGone cs floor n) (append-nil changes) (stays_gone changes [] low floor n le gone)
 
   module _ (over : List Over) (are : AreNoted changes low over) where
     -- what is gone at the floor was gone before, or is over now
