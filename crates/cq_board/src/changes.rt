@@ -57,7 +57,7 @@ impl<W: Indexed> Changes<W> {
     {
         Changes {
             settings: *settings,
-            past: Past::none(),
+            past: Past::of(),
             accepted: 0,
             floor: 0,
             kept: BTreeMap::new(alloc),

@@ -1,4 +1,4 @@
--- `none` makes a value of no bytes, that knows of no slot.
+-- `of` makes a value of no bytes, that knows of the slots of its ghost.
 use mathlib.Core.Path.{refl}
 use mathlib.Core.List.{[], ◌∷◌}
 use seplogic.Ra.Ura.{Ura}
@@ -25,10 +25,10 @@ use denote.Triple.Entry.{alive}
 use denote.Triple.Spec.{Meets, triple_of}
 use denote.Triple.Table.{entered}
 use denote.Triple.Walked.{says, Stays, walk_of, ends_at, walk_Meets}
-use Rattle.cq_board.specs.contracts.past.Past.none.{ended, clauses}
-use Rattle.cq_board.specs.contracts.past.Past.none.Key.{name as #self}
-use Rattle.cq_board.proofs.past.Past.none.Statement as stated
-use Rattle.cq_board.proofs.past.Past.none.Code as code
+use Rattle.cq_board.specs.contracts.past.Past.of.{ended, clauses}
+use Rattle.cq_board.specs.contracts.past.Past.of.Key.{name as #self}
+use Rattle.cq_board.proofs.past.Past.of.Statement as stated
+use Rattle.cq_board.proofs.past.Past.of.Code as code
 
 abbrev stayed : Stays ended.signature.params ended.kept
 stayed = tt
@@ -51,7 +51,7 @@ module _ {M : Type 1} {𝓤 : Ura M} (𝓛 : Logic 𝓤) (at_mem : Memory → SP
 
     walks : Goes
     walks =
-        let v : Val = vstruct (vcons (vstruct vnil) vnil) in let r : denote.Triple.Entry.Res ended.signature z.0.0 = record { marker = record {}; slots = [] } in
+        let v : Val = vstruct (vcons (vstruct vnil) vnil) in let r : denote.Triple.Entry.Res ended.signature z.0.0 = record { marker = record {}; slots = z.1 } in
         let O : Fml = (type_at ended.signature.result z.0.0).own_val r (v ∷ []) in
         qed 𝓛 ((raw toks ⊛ ‵ passed) ∷ raw ((held z.0.0 z.0.3).requires z.1) ∷ []) ∵ split ! $ keep ! (0 ∷ []) $
         enter ! C Λ code.function [] _ $ alloc_all ! (λ l. pass_all ! refl tt $
@@ -65,9 +65,9 @@ module _ {M : Type 1} {𝓤 : Ura M} (𝓛 : Logic 𝓤) (at_mem : Memory → SP
   meets 𝓣 =
       walk_Meets 𝓛 ended stayed tt held (WpFn 𝓤 H 𝓣.C 𝓣.Λ code.function) (WpFn-mono 𝓤 H 𝓛.laws 𝓣 code.function) (walks 𝓣.C 𝓣.Λ)
 
-pub none_spec : {M : Type 1} → stated.statement M
+pub of_spec : {M : Type 1} → stated.statement M
 unfolding tables_of
-none_spec 𝓤 𝓛 𝓜 𝓡 wired =
+of_spec 𝓤 𝓛 𝓜 𝓡 wired =
     let 𝓣 : Tables 𝓤 𝓛.H = tables_of 𝓤 𝓛.H 𝓜 (tables 𝓤 𝓛.H 𝓜 𝓡 𝓡.env) in
     entered 𝓤 𝓛.H (triple_of 𝓛 ended.signature (closing 𝓛 ended (clauses 𝓛 𝓜.mem 𝓡.returns))) 𝓣.C 𝓣.Λ #self code.function (code.unfolded 𝓤 𝓛.H 𝓜 𝓡 wired)
     (meets 𝓛 𝓜.mem 𝓡.returns 𝓣)
