@@ -4,9 +4,11 @@ pub mod FileNumbers
 pub mod Floors
 pub mod Forgetting
 pub mod Freeing
+pub mod Gates
 pub mod Holding
 pub mod Living
 pub mod Newer
+pub mod Noting
 pub mod Numbers
 pub mod OneMore
 pub mod Places
@@ -14,7 +16,6 @@ pub mod Reading
 pub mod Related
 pub mod SlotLists
 pub mod Sounding
-pub mod Superseding
 pub mod Turning
 pub mod Undoing
 pub mod VersionEntries
