@@ -1,5 +1,6 @@
 pub mod Adding
 pub mod Advances
+pub mod Changing
 pub mod FileNumbers
 pub mod Floors
 pub mod Forgetting
