@@ -82,7 +82,7 @@ module _ {X : Type 0} where
 
 -- ---- why a change is refused
 
-or_false : (a b : Bool) → (a || b) ≡ false → (a ≡ false) × (b ≡ false)
+pub or_false : (a b : Bool) → (a || b) ≡ false → (a ≡ false) × (b ≡ false)
 or_false true b e = absurd (cc)
 or_false false b e = (refl, e)
 
@@ -101,7 +101,7 @@ cause_is settings s change a b c absent full long =
     ap (λ x. cond x (Some Absent) (cond (is_full settings s) (Some FullChanges) (cond (is_long settings s change) (Some FullText) None))) absent
     ∙ ap₂ (λ x y. cond a (Some Absent) (cond x (Some FullChanges) (cond y (Some FullText) None))) full long
 
-lt-from-le_false : (a b : ℕ) → nat_le a b ≡ false → b < a
+pub lt-from-le_false : (a b : ℕ) → nat_le a b ≡ false → b < a
 lt-from-le_false a b e = grind (arith, nat_tests)
 
 le-from-lt_false : (a b : ℕ) → nat_lt a b ≡ false → b ≤ a

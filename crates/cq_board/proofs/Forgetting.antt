@@ -1,21 +1,25 @@
 -- What is over at a floor is taken out, one by one.
 use Rattle.std.proofs.Common.{◌≡◌, ℕ, zero, suc, ◌+◌, ◌<◌, ◌≤◌, Bool, true, false, cond, not, ◌||◌, ◌&&◌, nat_eq, nat_lt, nat_le, List, [], ◌∷◌, ◌++◌, length, take, drop, filter, get_or, refl, sym, ap, ap₂, ◌∙◌, subst, ⊎_elim, arith}
-use Rattle.std.specs.Prelude.{All, AllPairs, Contains}
-use Rattle.std.specs.BTreeMap.{is_at}
+use Rattle.std.specs.Prelude.{All, AllPairs, Contains, Option, Some, None, option_map, unwrap_or, sum_by}
+use Rattle.std.specs.BTreeMap.{BTreeMap, get_by, is_at}
 use Rattle.std.specs.Cmp.{unsigned_tied}
 use Rattle.std.specs.List.{list_any}
 use Rattle.std.specs.List.Sorted.{IsStrictlyIncreasing}
-use Rattle.std.specs.Map.{keys_of, remove_entry}
+use Rattle.std.specs.Map.{keys_of, values_of, lookup, remove_entry}
 use Rattle.std.specs.Ordering.{nat_cmp}
 use Rattle.std.proofs.lemmas.Bool.{cases_lt, eqb-true, false_from_ne_true, le-leb, lt-ltb, le-ltb, lt-leb}
 use Rattle.std.proofs.lemmas.List.{take_more, drop_more, take-append-drop, drop_all, get_or_default}
 use Rattle.std.proofs.lemmas.List.Elements.{All-push, filter-append}
 use Rattle.std.proofs.lemmas.List.Folds.{list_any-append}
 use Rattle.std.proofs.lemmas.List.Kept.{AllPairs-from_increasing}
+use Rattle.std.proofs.lemmas.Map.Entries.{sum_by-remove_entry}
 use Rattle.cq_base.proofs.Lists.{Contains-here, Contains-there, Contains-cases, AllPairs-head, AllPairs-tail}
 use Rattle.cq_shard.proofs.Taking.{left_same}
-use Rattle.cq_board.specs.Accepted.{is_over_at, not_over, over_behind}
+use Rattle.cq_history.specs.Changes.{text_len}
+use Rattle.cq_board.specs.Accepted.{text_in, is_over_at, not_over, over_behind}
 use Rattle.cq_board.specs.Over.{IsNoLater}
+use Rattle.cq_board.specs.Slots.{change_of}
+use Rattle.cq_board.specs.declared.kept.Kept.{Kept}
 use Rattle.cq_board.specs.declared.over.Over.{Over}
 
 -- ---- one entry is taken out
@@ -203,3 +207,22 @@ none_behind over floor none k d within = absurd (none (omega (arith, within)))
 -- what was first, and the rest behind it
 pub popped_first : (over : List Over) (x : Over) (rest : List Over) → x ≡ get_or over 0 x → 0 < length over → rest ≡ drop 1 over → over ≡ x ∷ rest
 popped_first over x rest first some is = drop_more over 0 x some ∙ ap₂ (λ y ys. y ∷ ys) (sym first) (sym is)
+
+-- ---- how many bytes go with it
+
+module _ {W : Type 0} where
+  abbrev bytes_of : Option (Kept W) → ℕ
+  bytes_of None = 0
+  bytes_of (Some k) = text_len (change_of k.change)
+
+  opened : (o : Option (Kept W)) → unwrap_or (option_map (λ (k : Kept W). text_len (change_of k.change)) o) 0 ≡ bytes_of o
+  opened None = refl
+  opened (Some k) = refl
+
+  pub taken_bytes : (number : ℕ) (old new : BTreeMap ℕ (Kept W)) (o : Option (Kept W)) → o ≡ get_by (nat_cmp number) old → new.entries ≡ remove_entry (is_at (nat_cmp number)) old.entries → bytes_of o + text_in new ≡ text_in old
+  taken_bytes number old new o value entries =
+      let len_of : Kept W → ℕ = λ k. text_len (change_of k.change) in
+      let whole = sum_by-remove_entry len_of (is_at (nat_cmp number)) old.entries in
+      let rest : text_in new ≡ sum_by len_of (values_of (remove_entry (is_at (nat_cmp number)) old.entries)) = ap (λ es. sum_by len_of (values_of es)) entries in
+      let taken : unwrap_or (option_map len_of (lookup (is_at (nat_cmp number)) old.entries)) 0 ≡ bytes_of o = ap (λ x. unwrap_or (option_map len_of x) 0) (sym value) ∙ opened o in
+      omega (arith, whole, rest, taken)

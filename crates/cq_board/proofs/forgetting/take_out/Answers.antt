@@ -1,15 +1,9 @@
-use Rattle.std.proofs.Common.{◌≡◌, ◌+◌, Option, Some, None, sym, ap, ◌∙◌, subst, arith}
+use Rattle.std.proofs.Common.{◌≡◌, ◌+◌, Some, None, sym, ap, ◌∙◌, subst}
 use Rattle.std.specs.Prelude.{Contains}
-use Rattle.std.specs.BTreeMap.{is_at, get_by}
-use Rattle.std.specs.Ordering.{nat_cmp}
-use Rattle.std.proofs.lemmas.Map.Entries.{sum_by-remove_entry}
-use Rattle.cq_history.specs.Changes.{text_len}
-use Rattle.cq_board.specs.Slots.{change_of}
-use Rattle.cq_board.specs.declared.kept.Kept.{Kept}
-use Rattle.cq_board.proofs.Forgetting.{removed_part, removed_numbers}
+use Rattle.cq_board.specs.Accepted.{text_in}
+use Rattle.cq_board.proofs.Forgetting.{removed_part, removed_numbers, taken_bytes}
 use Rattle.cq_board.proofs.forgetting.take_out.Goals as goal
 
--- the four below are the two arms of the match, each with its clauses; `sum_by-remove_entry` is over the value that was taken
 pub returns-in-Some-clause-numbers : goal.returns-in-Some-clause-numbers
 returns-in-Some-clause-numbers g c = removed_numbers c.args.number c.args.kept.now.entries c.remove.new.self.entries c.requires c.remove.ensures.entries
 
@@ -21,3 +15,11 @@ returns-in-Some-clause-same g c e there = removed_part c.args.number c.args.kept
 
 pub returns-in-None-clause-same : goal.returns-in-None-clause-same
 returns-in-None-clause-same g c e there = removed_part c.args.number c.args.kept.now.entries e (subst (λ es. Contains es e) c.remove.ensures.entries there)
+
+pub returns-in-Some-clause-bytes : goal.returns-in-Some-clause-bytes
+returns-in-Some-clause-bytes g c =
+    ap (λ n. n + text_in c.remove.new.self) c.text_len.ensures
+    ∙ taken_bytes c.args.number c.args.kept.now c.remove.new.self (Some c.in-Some.gone) (sym c.in-Some.is ∙ c.remove.ensures.value) c.remove.ensures.entries
+
+pub returns-in-None-clause-bytes : goal.returns-in-None-clause-bytes
+returns-in-None-clause-bytes g c = taken_bytes c.args.number c.args.kept.now c.remove.new.self None (sym c.in-None.is ∙ c.remove.ensures.value) c.remove.ensures.entries
