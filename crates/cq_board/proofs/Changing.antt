@@ -1,18 +1,18 @@
 -- What is held of the accepted changes as one more is accepted, or the slot of one is another.
 use Rattle.std.proofs.Common.{◌≡◌, ℕ, ◌+◌, ◌-◌, ◌<◌, ◌≤◌, ◌^◌, Bool, true, false, cond, ◌||◌, nat_eq, nat_le, nat_lt, List, [], ◌∷◌, ◌++◌, length, map, sum_by, get_or, set, Option, Some, None, refl, sym, ap, ap₂, ◌∙◌, subst, ⊎_elim, length-append, arith}
 use Rattle.std.specs.Prelude.{All, AllPairs, Contains}
-use Rattle.std.specs.BTreeMap.{BTreeMap, keys, insert_entry, is_at}
+use Rattle.std.specs.BTreeMap.{BTreeMap, keys, get, insert_entry, is_at}
 use Rattle.std.specs.Cmp.{nat_cmp_is, unsigned_tied}
 use Rattle.std.specs.List.Sorted.{IsStrictlyIncreasing}
-use Rattle.std.specs.Map.{keys_of, values_of, set_value}
+use Rattle.std.specs.Map.{keys_of, values_of, lookup, set_value}
 use Rattle.std.specs.Ordering.{nat_cmp, match_ordering}
 use Rattle.std.specs.declared.cmp.Ordering.TheVariants.{Greater}
 use Rattle.std.proofs.Math.ListN.{get_or-map, get_or-append}
 use Rattle.std.proofs.Math.Seq.{get_or-append_seam, map-set_same}
-use Rattle.std.proofs.lemmas.Bool.{eqb-true, true≢false}
+use Rattle.std.proofs.lemmas.Bool.{eqb-true, true≢false, false_from_ne_true}
 use Rattle.std.proofs.lemmas.Bool.Decides.{nat_tests}
 use Rattle.std.proofs.lemmas.List.{map-append, length-map, length-set, get_or-set_same, get_or-set_other}
-use Rattle.std.proofs.lemmas.List.Elements.{All-push, All-contains}
+use Rattle.std.proofs.lemmas.List.Elements.{All-nil, All-push, All-contains}
 use Rattle.std.proofs.lemmas.List.Kept.{AllPairs-from_increasing}
 use Rattle.std.proofs.lemmas.Map.{keys-set_value}
 use Rattle.std.proofs.lemmas.Map.Entries.{length-keys_of}
@@ -53,6 +53,13 @@ module _ {X : Type 0} where
   insert_last (x ∷ es) n v behind =
       ap (λ o. match_ordering o ((n, v) ∷ x ∷ es) ((x.0, v) ∷ es) (x ∷ insert_entry nat_cmp es n v)) (sym (nat_cmp_is n x.0 Greater (behind x.0 (Contains-here x.0 (keys_of es)))))
       ∙ ap (λ ys. x ∷ ys) (insert_last es n v (λ m has. behind m (Contains-there x.0 m (keys_of es) has)))
+
+  pub lookup_behind : (es : List (ℕ × X)) (n : ℕ) → ((m : ℕ) → Contains (keys_of es) m → m < n) → lookup (is_at (nat_cmp n)) es ≡ None
+  lookup_behind [] n behind = refl
+  lookup_behind (x ∷ es) n behind =
+      let less = behind x.0 (Contains-here x.0 (keys_of es)) in
+      ap (λ b. cond b (Some x.1) (lookup (is_at (nat_cmp n)) es)) (unsigned_tied n x.0 ∙ false_from_ne_true (nat_eq n x.0) (λ same. let e = eqb-true n x.0 same in omega (arith, less, e)))
+      ∙ lookup_behind es n (λ m has. behind m (Contains-there x.0 m (keys_of es) has))
 
   -- where one has another value, that one and the others
   pub set_each : (number : ℕ) (w : X) (Q : ℕ × X → Type 0) (es : List (ℕ × X)) → AllPairs (λ a b. a < b) (keys_of es) → ((e : ℕ × X) → Contains es e → nat_eq number e.0 ≡ false → Q e) → (Contains (keys_of es) number → Q (number, w)) →
@@ -144,6 +151,9 @@ module _ {W : Type 0} (IsWork : Lang → List ℕ → W → Type 0) where
     pub next_is_new : (n : ℕ) → Contains (keys kept) n → n < accepted + 1
     next_is_new n has = let number = number_of_key slots floor kept is.holds n has in omega (arith, number.1, is.number_is)
 
+    pub no_next : get nat_cmp kept (accepted + 1) ≡ None
+    no_next = lookup_behind kept.entries (accepted + 1) next_is_new
+
     pub is_full_as : is_full settings (state_from slots 0 floor []) ≡ (nat_le settings.change_limit (length kept.entries) || nat_le (2 ^ 60) accepted)
     is_full_as = ap₂ (λ n m. nat_le settings.change_limit n || nat_le (2 ^ 60) m) (sym (count_is slots floor kept is.holds)) (sym is.number_is)
 
@@ -227,3 +237,16 @@ module _ {W : Type 0} (IsWork : Lang → List ℕ → W → Type 0) where
         text_bytes = is.text_bytes ∙ text_is slots floor kept is.holds ∙ ap (λ cs. kept_bytes cs floor) (sym changes_same) ∙ sym (text_is (set slots (number - 1) slot) floor new holds_with);
         few_bytes = is.few_bytes;
       }
+
+  -- ---- none are held of none
+
+  pub none_held : (settings : Settings) (kept : BTreeMap ℕ (Kept W)) (there : Presence) → kept.entries ≡ [] → IsPresence [] 0 there → IsHeld IsWork settings [] 0 0 kept there 0
+  none_held settings kept there empty presence = record {
+    holds = record { numbers = ap keys_of empty; each = subst (All (IsHeldAs IsWork [])) (sym empty) (All-nil (IsHeldAs IsWork [])) };
+    number_is = refl;
+    few = omega arith;
+    passed = omega arith;
+    presence = presence;
+    text_bytes = ap (λ es. sum_by (λ (k : Kept W). text_len (change_of k.change)) (values_of es)) (sym empty);
+    few_bytes = omega arith;
+  }
