@@ -43,6 +43,16 @@ module _ {W : Type 0} (IsWork : Lang → List ℕ → W → Type 0) (settings : 
   listed_within : listed ≤ length slots
   listed_within = ⊎_elim (λ same. omega (arith, same, published_within)) (λ none. omega (arith, none)) ok.listed_is
 
+  -- what the listing is advanced from
+  pub listed_low : (version : ℕ) → published ≤ version → listed ≤ version
+  listed_low version up = ⊎_elim (λ same. omega (arith, same, up)) (λ none. omega (arith, none)) ok.listed_is
+
+  pub listed_from : (floor ≤ listed) ⊎ (listed ≡ 0)
+  listed_from = ⊎_elim (λ same. inl (omega (arith, same, ok.in_order.0))) (λ none. inr none) ok.listed_is
+
+  pub listed_back : (at : ℕ) → (at ≡ listed) ⊎ (at ≡ 0) → (at ≡ published) ⊎ (at ≡ 0)
+  listed_back at back = ⊎_elim (λ same. ⊎_elim (λ h. inl (same ∙ h)) (λ none. inr (same ∙ none)) ok.listed_is) (λ none. inr none) back
+
   -- one change more
   pub board_accepted : (c : Change) (now : BTreeSet ℕ) → IsSoundChange c → refusal_of settings (state_from slots 0 floor []) c ≡ None → AreUndone (slots ++ new_slot c ∷ []) now → BoardOk IsWork (accepted_from settings (slots ++ new_slot c ∷ []) floor) now free published listed l views
   board_accepted c now sound allowed not_done =
