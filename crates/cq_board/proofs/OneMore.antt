@@ -17,7 +17,7 @@ use Rattle.cq_history.specs.Gone.{kept_count}
 use Rattle.cq_history.specs.Lawful.{Permits, is_full}
 use Rattle.cq_history.specs.State.{State, Slot, no_slot, new_slot, is_done}
 use Rattle.cq_history.proofs.Bounds.{prefix_len-append-le}
-use Rattle.cq_history.proofs.Keeping.{one_more, kept_falls}
+use Rattle.cq_history.proofs.Keeping.{one_more, kept_falls, above_kept}
 use Rattle.cq_board.specs.declared.free.FreeChanges.{FreeChanges}
 use Rattle.cq_board.specs.Accepted.{accepted_from}
 use Rattle.cq_board.specs.Answers.{refusal_of}
@@ -42,6 +42,12 @@ module _ {W : Type 0} (IsWork : Lang → List ℕ → W → Type 0) (settings : 
 
   listed_within : listed ≤ length slots
   listed_within = ⊎_elim (λ same. omega (arith, same, published_within)) (λ none. omega (arith, none)) ok.listed_is
+
+  -- each change behind the floor may be given back
+  pub room_enough : length slots - floor ≤ room_of free
+  room_enough =
+      let above = above_kept (changes_of slots) floor (omega (arith, ok.in_order.0, published_within, many_changes)) in
+      omega (arith, above, many_changes, ok.few_kept, ok.room)
 
   -- what the listing is advanced from
   pub listed_low : (version : ℕ) → published ≤ version → listed ≤ version

@@ -1,6 +1,7 @@
 -- The slots of all accepted changes, as one of them is another.
-use Rattle.std.proofs.Common.{◌≡◌, ℕ, ◌+◌, ◌-◌, ◌<◌, ◌≤◌, Bool, true, false, List, [], length, get_or, set, Option, Some, None, refl, sym, ap, ◌∙◌, subst, arith, not, ◌||◌, ◌&&◌, is_none, true≢false}
+use Rattle.std.proofs.Common.{◌≡◌, ℕ, ◌+◌, ◌-◌, ◌<◌, ◌≤◌, Bool, true, false, List, [], length, get_or, set, Option, Some, None, refl, sym, ap, ◌∙◌, subst, arith, not, ◌||◌, ◌&&◌, is_none, true≢false, ⊎_elim}
 use Rattle.std.specs.List.{prefix_len, position_or_len}
+use Rattle.std.proofs.lemmas.Bool.{cases_lt}
 use Rattle.std.proofs.lemmas.List.{length-map}
 use Rattle.std.proofs.lemmas.List.Sums.{prefix_len_passes, passes_at_first}
 use Rattle.cq_base.proofs.Bools.{or-true}
@@ -38,6 +39,13 @@ undone_kept slots floor r done is = (
   (is.0.0, omega (arith, is.0.1, length-map slots (λ (s : Slot). s.change))),
   λ gone. true≢false (sym (prefix_len_passes is_done slots (r - 1) no_slot (omega (arith, gone.within, done, is.0.0))) ∙ is.1),
 )
+
+pub undone_behind : (slots : List Slot) (floor r : ℕ) → floor ≤ prefix_len is_done slots → IsUndone (state_from slots 0 0 []) r → floor ≤ r - 1
+undone_behind slots floor r done is =
+    ⊎_elim
+    (λ (lt : r - 1 < floor). absurd (true≢false (sym (prefix_len_passes is_done slots (r - 1) no_slot (omega (arith, lt, done))) ∙ is.1)))
+    (λ ge. ge)
+    (cases_lt (r - 1) floor)
 
 -- no fewer are done at the front with another holder
 pub held_grows : (slots : List Slot) (r : ℕ) (holder : Option ℕ) → prefix_len is_done slots ≤ prefix_len is_done (with_holder slots r holder)

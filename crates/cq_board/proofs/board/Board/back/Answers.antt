@@ -1,4 +1,4 @@
-use Rattle.std.proofs.Common.{◌≡◌, ◌+◌, ◌-◌, ◌%◌, ◌^◌, ◌<◌, ◌≤◌, [], length, arith, refl, sym, ap, ◌∙◌, subst, None}
+use Rattle.std.proofs.Common.{◌≡◌, ◌+◌, ◌-◌, ◌%◌, ◌^◌, ◌<◌, ◌≤◌, [], length, arith, refl, sym, ap, ◌∙◌, subst, None, is_none}
 use Rattle.std.specs.Arc.{arc_value}
 use Rattle.cq_history.specs.declared.event.Event.TheVariants as event
 use Rattle.cq_history.specs.State.{Slot, IsTakenBy}
@@ -7,12 +7,24 @@ use Rattle.cq_board.specs.Boards.{BoardOk}
 use Rattle.cq_board.specs.Slots.{slot_at, state_from}
 use Rattle.cq_board.specs.Stands.{BoardState}
 use Rattle.cq_board.proofs.Adding.{Adds_from}
-use Rattle.cq_board.proofs.OneMore.{board_with}
-use Rattle.cq_board.proofs.SlotLists.{undone_kept, held_grows}
+use Rattle.cq_board.proofs.OneMore.{board_with, room_enough}
+use Rattle.cq_board.proofs.SlotLists.{undone_kept, undone_behind, held_grows}
 use Rattle.cq_board.proofs.Undoing.{undone-set_same}
 use Rattle.cq_board.proofs.board.Board.back.Goals as goal
 
 -- the room is that of the limit: all behind the floor are kept, and no more than the limit are
+pub note_given_back-requires : goal.note_given_back-requires
+note_given_back-requires g c =
+    let a : Accepted = c.self.inside.changes in
+    let taken : IsTakenBy (state_from a.slots 0 0 []) c.args.change c.args.by = c.is_taken_by.ensures.0 c.if-is_taken_by.true in
+    record {
+      behind = undone_behind a.slots a.floor c.args.change (omega (arith, c.self.invariant.in_order)) taken.0;
+      within = omega (arith, taken.0.0.0, taken.0.0.1);
+      held = ap is_none taken.1;
+      free = c.self.invariant.may_take;
+      room = room_enough (g.W.Indexed.IsWorkOf c.self.inside.changes.settings) c.self.inside.changes.settings c.self.inside.changes.slots c.self.inside.changes.floor c.self.inside.undone c.self.inside.free c.self.inside.published c.self.inside.listed (arc_value c.self.inside.listing) c.self.inside.views.items c.self.invariant;
+    }
+
 pub hold-requires : goal.hold-requires
 hold-requires g c =
     let a : Accepted = c.self.inside.changes in
