@@ -10,7 +10,8 @@ use Rattle.cq_board.specs.Boards.{BoardOk}
 use Rattle.cq_board.specs.Slots.{change_of, state_from}
 use Rattle.cq_board.specs.Stands.{BoardState}
 use Rattle.cq_board.proofs.Adding.{Adds_from}
-use Rattle.cq_board.proofs.OneMore.{board_accepted, allowed_accept}
+use Rattle.cq_board.proofs.OneMore.{board_accepted, board_undone, allowed_accept}
+use Rattle.cq_board.proofs.Undoing.{undone-pop}
 use Rattle.cq_board.proofs.board.Board.accept.Goals as goal
 
 pub accept-requires : goal.accept-requires
@@ -32,3 +33,13 @@ returns-clause-adds g c =
     (ap (λ (b : Accepted). let x : BoardState = record { settings = b.settings; state = state_from b.slots c.self.inside.published b.floor c.self.inside.views.items; events = (c.self.inside.events + 1) % 2 ^ 64 } in x) c.accept.ensures.more)
     refl (ap (λ (d : Change). state_from (a.slots ++ new_slot d ∷ []) c.self.inside.published a.floor c.self.inside.views.items) same)
     c.requires.caller (allowed_accept a.settings (state_from c.self.inside.changes.slots c.self.inside.published c.self.inside.changes.floor c.self.inside.views.items) c.args.by c.args.change allowed) c.requires.sound
+
+-- where memory is refused, first by `note_undone` and then by `accept`, which leaves the changes as they were
+pub invariant_of-self-in_err-note_undone : goal.invariant_of-self-in_err-note_undone
+invariant_of-self-in_err-note_undone g c = board_undone (g.W.Indexed.IsWorkOf c.self.inside.changes.settings) c.self.inside.changes.settings c.self.inside.changes.slots c.self.inside.changes.floor c.self.inside.undone c.self.inside.free c.self.inside.published c.self.inside.listed (arc_value c.self.inside.listing) c.self.inside.views.items c.self.invariant c.note_undone.new.undone c.in_err-note_undone.ensures.same
+
+pub invariant_of-self-then-is_err : goal.invariant_of-self-then-is_err
+invariant_of-self-then-is_err g c =
+    let a : Accepted = c.self.inside.changes in
+    subst (λ (b : Accepted). BoardOk (g.W.Indexed.IsWorkOf b.settings) b c.remove.new.self c.self.inside.free c.self.inside.published c.self.inside.listed (arc_value c.self.inside.listing) c.self.inside.views.items) (sym c.accept.ensures.err)
+    (board_undone (g.W.Indexed.IsWorkOf c.self.inside.changes.settings) c.self.inside.changes.settings c.self.inside.changes.slots c.self.inside.changes.floor c.self.inside.undone c.self.inside.free c.self.inside.published c.self.inside.listed (arc_value c.self.inside.listing) c.self.inside.views.items c.self.invariant c.remove.new.self (undone-pop a.slots c.note_undone.new.undone c.remove.new.self (new_slot (change_of c.in_ok-change.change)) c.in_ok-note_undone.ensures.more c.remove.ensures.updates.0))
