@@ -89,7 +89,7 @@ is_undone-push slots slot i =
 
 -- it is not done, and its index is among them
 pub undone-push_put : (slots : List Slot) (undone new : BTreeSet ℕ) → AreUndone slots undone → (slot : Slot) → is_done slot ≡ false → ((i : ℕ) → contains nat_cmp new i ≡ cond (is_at (nat_cmp (length slots)) i) true (contains nat_cmp undone i)) → AreUndone (slots ++ slot ∷ []) new
-undone-push_put slots undone new are slot open updates i = updates i ∙ ap₂ (λ x y. cond (is_at (nat_cmp (length slots)) i) x y) (ap not (sym open)) (are i) ∙ sym (is_undone-push slots slot i)
+undone-push_put slots undone new are slot waiting updates i = updates i ∙ ap₂ (λ x y. cond (is_at (nat_cmp (length slots)) i) x y) (ap not (sym waiting)) (are i) ∙ sym (is_undone-push slots slot i)
 
 -- it is done at once
 pub undone-push_done : (slots : List Slot) (undone : BTreeSet ℕ) → AreUndone slots undone → (slot : Slot) → is_done slot ≡ true → AreUndone (slots ++ slot ∷ []) undone
