@@ -9,7 +9,8 @@ use Rattle.std.specs.Ordering.{nat_cmp, match_ordering}
 use Rattle.std.specs.declared.cmp.Ordering.TheVariants.{Greater}
 use Rattle.std.proofs.Math.ListN.{get_or-map, get_or-append}
 use Rattle.std.proofs.Math.Seq.{get_or-append_seam, map-set_same}
-use Rattle.std.proofs.lemmas.Bool.{eqb-true, true≢false, false_from_ne_true}
+use Rattle.std.proofs.lemmas.Bool.{eqb-true, eq-eqb, true≢false, false_from_ne_true}
+use Rattle.std.proofs.lemmas.Option.{none-some}
 use Rattle.std.proofs.lemmas.Bool.Decides.{nat_tests}
 use Rattle.std.proofs.lemmas.List.{map-append, length-map, length-set, get_or-set_same, get_or-set_other}
 use Rattle.std.proofs.lemmas.List.Elements.{All-nil, All-push, All-contains}
@@ -60,6 +61,33 @@ module _ {X : Type 0} where
       let less = behind x.0 (Contains-here x.0 (keys_of es)) in
       ap (λ b. cond b (Some x.1) (lookup (is_at (nat_cmp n)) es)) (unsigned_tied n x.0 ∙ false_from_ne_true (nat_eq n x.0) (λ same. let e = eqb-true n x.0 same in omega (arith, less, e)))
       ∙ lookup_behind es n (λ m has. behind m (Contains-there x.0 m (keys_of es) has))
+
+  -- what is found at a number is an entry with it
+  pub lookup_found : (es : List (ℕ × X)) (n : ℕ) (v : X) → lookup (is_at (nat_cmp n)) es ≡ Some v → Contains es (n, v)
+  lookup_found [] n v is = absurd (none-some v is)
+  lookup_found (x ∷ es) n v is = by (nat_eq n x.0) refl (ap (λ b. cond b (Some x.1) (lookup (is_at (nat_cmp n)) es)) (sym (unsigned_tied n x.0)) ∙ is)
+    where
+      value : Some x.1 ≡ Some v → x.1 ≡ v
+      value e = cc e
+
+      by : (b : Bool) → nat_eq n x.0 ≡ b → cond (nat_eq n x.0) (Some x.1) (lookup (is_at (nat_cmp n)) es) ≡ Some v → Contains (x ∷ es) (n, v)
+      by true here e =
+          let same : x.1 ≡ v = value (ap (λ b. cond b (Some x.1) (lookup (is_at (nat_cmp n)) es)) (sym here) ∙ e) in
+          subst (Contains (x ∷ es)) (ap₂ (λ m w. (m, w)) (sym (eqb-true n x.0 here)) same) (Contains-here x es)
+      by false here e = Contains-there x (n, v) es (lookup_found es n v (ap (λ b. cond b (Some x.1) (lookup (is_at (nat_cmp n)) es)) (sym here) ∙ e))
+
+  -- and a number that is there is found
+  pub lookup_there : (es : List (ℕ × X)) (n : ℕ) → Contains (keys_of es) n → lookup (is_at (nat_cmp n)) es ≡ None → ⊥
+  lookup_there [] n (k, within, at) none = omega (arith, within)
+  lookup_there (x ∷ es) n has none = by (nat_eq n x.0) refl (ap (λ b. cond b (Some x.1) (lookup (is_at (nat_cmp n)) es)) (sym (unsigned_tied n x.0)) ∙ none)
+    where
+      by : (b : Bool) → nat_eq n x.0 ≡ b → cond (nat_eq n x.0) (Some x.1) (lookup (is_at (nat_cmp n)) es) ≡ None → ⊥
+      by true here e = none-some x.1 (sym (ap (λ b. cond b (Some x.1) (lookup (is_at (nat_cmp n)) es)) (sym here) ∙ e))
+      by false here e =
+          ⊎_elim
+          (λ (same : x.0 ≡ n). true≢false (sym (eq-eqb n x.0 (sym same)) ∙ here))
+          (λ later. lookup_there es n later (ap (λ b. cond b (Some x.1) (lookup (is_at (nat_cmp n)) es)) (sym here) ∙ e))
+          (Contains-cases x.0 n (keys_of es) has)
 
   -- where one has another value, that one and the others
   pub set_each : (number : ℕ) (w : X) (Q : ℕ × X → Type 0) (es : List (ℕ × X)) → AllPairs (λ a b. a < b) (keys_of es) → ((e : ℕ × X) → Contains es e → nat_eq number e.0 ≡ false → Q e) → (Contains (keys_of es) number → Q (number, w)) →
@@ -131,6 +159,16 @@ module _ {W : Type 0} (IsWork : Lang → List ℕ → W → Type 0) where
 
     pub count_is : length kept.entries ≡ kept_count (changes_of slots) floor
     count_is = sym (length-keys_of kept.entries) ∙ ap length holds.numbers
+
+    -- what is held at a number is its slot
+    pub held_at : (n : ℕ) (k : Kept W) → get nat_cmp kept n ≡ Some k → IsHeldAs IsWork slots (n, k) × IsKept (changes_of slots) floor n
+    held_at n k is =
+        let there = lookup_found kept.entries n k is in
+        (All-contains (IsHeldAs IsWork slots) kept.entries (n, k) holds.each there, ((kept_are (changes_of slots) floor).each n).0 (subst (λ ns. Contains ns n) holds.numbers (contains_key kept.entries (n, k) there)))
+
+    -- and nothing is held at a number whose change is not kept, nor the other way round
+    pub none_at : (n : ℕ) → get nat_cmp kept n ≡ None → IsKept (changes_of slots) floor n → ⊥
+    none_at n none is = lookup_there kept.entries n (subst (λ ns. Contains ns n) (sym holds.numbers) (((kept_are (changes_of slots) floor).each n).1 is)) none
 
     pub number_of_key : (n : ℕ) → Contains (keys kept) n → (0 < n) × (n ≤ length slots)
     number_of_key n has =
