@@ -1,4 +1,5 @@
 ghost use Rattle.std.specs.Prelude.{◌≡◌, ◌+◌, ◌<◌, ◌≤◌, IfOk, OnOk};
+ghost use Rattle.std.specs.Thread.{IsSync};
 ghost use Rattle.cq_base.specs.Settings.{IsInRange};
 ghost use Rattle.cq_chain.specs.Passes.{HasNoneFrom};
 ghost use Rattle.cq_shared.specs.SharedPasses.{IsPassOf, settings_of};
@@ -177,14 +178,14 @@ struct Told {
 }
 
 // A session that uploads, and one that asks while the worker is held in the work of the upload, if it was accepted.
-fn two_sessions<L: Ledger, R: Wait, Q: Threads + Wait + Sync, G: Gate>(
+fn two_sessions<L: Ledger, R: Wait, Q: Threads + Sync, W: Wait, G: Gate>(
     rt: &Q,
     alloc: Global,
     settings: &Settings,
     hub: &Shared<Work<L>, R>,
     counters: &Counters<L>,
     gate: &G,
-    holding: &Holding<'_, Q>,
+    holding: &Holding<'_, W>,
     pass: Pass<Work<L>>,
 ) -> Result<(Told, Pass<Work<L>>), Memory>
     requires in_range { IsInRange settings.now }
@@ -214,13 +215,13 @@ fn two_sessions<L: Ledger, R: Wait, Q: Threads + Wait + Sync, G: Gate>(
 }
 
 // The same, and then the worker is let go and has its end.
-fn two_sessions_then_end<L: Ledger, R: Wait, Q: Threads + Wait + Sync>(
+fn two_sessions_then_end<L: Ledger, R: Wait, Q: Threads + Wait + Sync, W: Wait>(
     rt: &Q,
     alloc: Global,
     settings: &Settings,
     hub: &Shared<Work<L>, R>,
     counters: &Counters<L>,
-    holding: &Holding<'_, Q>,
+    holding: &Holding<'_, W>,
     bell: &Bell,
     pass: Pass<Work<L>>,
 ) -> Result<(Told, Pass<Work<L>>), Memory>
@@ -243,6 +244,129 @@ fn two_sessions_then_end<L: Ledger, R: Wait, Q: Threads + Wait + Sync>(
     came
 }
 
+// What one of two threads does. What it holds is opaque to whoever starts both.
+trait Actor {
+    type Out: Send;
+
+    // what it needs
+    ghost May: { Self → Type 0 };
+
+    // what it leaves
+    ghost Did: { Self → Self.Out → Type 0 };
+
+    fn act<Q: Threads + Wait + Sync>(self, rt: &Q) -> Self::Out
+        requires crosses { IsSync Q.row }
+        requires may { May self }
+        ensures did { Did self result };
+}
+
+// A worker, on a pass of its own.
+#[derive(Drop)]
+struct Worker<'a, L: Ledger, R, W> {
+    alloc: Global,
+    settings: &'a Settings,
+    hub: &'a Shared<Work<L>, R>,
+    holding: &'a Holding<'a, W>,
+    bell: &'a Bell,
+    pass: Pass<Work<L>>,
+}
+
+impl<'a, L: Ledger + Send + Sync, R: Wait, W: Wait> Actor for Worker<'a, L, R, W> {
+    ghost use Rattle.std.specs.Prelude.{◌≡◌};
+    ghost use Rattle.cq_base.specs.Settings.{IsInRange};
+    ghost use Rattle.cq_shared.specs.SharedPasses.{IsPassOf, settings_of};
+
+    type Out = Pass<Work<L>>;
+
+    ghost May = { λ w. IsInRange w.settings.now × (settings_of w.hub.now ≡ w.settings.now)
+        × IsPassOf w.hub.now w.pass };
+
+    ghost Did = { λ w out. IsPassOf w.hub.now out };
+
+    fn act<Q: Threads + Wait + Sync>(self, rt: &Q) -> Pass<Work<L>> {
+        let Worker {
+            alloc,
+            settings,
+            hub,
+            holding,
+            bell,
+            pass,
+        } = self;
+        labour(rt, alloc, settings, hub, pass, holding, bell)
+    }
+}
+
+// Two sessions, and the worker's end.
+#[derive(Drop)]
+struct Clients<'a, L: Ledger, R, W> {
+    alloc: Global,
+    settings: &'a Settings,
+    hub: &'a Shared<Work<L>, R>,
+    counters: &'a Counters<L>,
+    holding: &'a Holding<'a, W>,
+    bell: &'a Bell,
+    pass: Pass<Work<L>>,
+}
+
+impl<'a, L: Ledger + Send + Sync, R: Wait, W: Wait> Actor for Clients<'a, L, R, W> {
+    ghost use Rattle.std.specs.Prelude.{◌≡◌, ◌<◌, ◌≤◌, IfOk};
+    ghost use Rattle.cq_base.specs.Settings.{IsInRange};
+    ghost use Rattle.cq_chain.specs.Passes.{HasNoneFrom};
+    ghost use Rattle.cq_shared.specs.SharedPasses.{IsPassOf, settings_of};
+
+    type Out = Result<(Told, Pass<Work<L>>), Memory>;
+
+    ghost May = { λ t. IsInRange t.settings.now × (settings_of t.hub.now ≡ t.settings.now)
+        × IsPassOf t.hub.now t.pass × (3 ≤ t.pass.room) × HasNoneFrom t.pass.next t.pass.seen };
+
+    ghost Did = { λ t out. IfOk out (λ r. IsPassOf t.hub.now r.1 × (0 < r.1.room)) };
+
+    fn act<Q: Threads + Wait + Sync>(self, rt: &Q) -> Result<(Told, Pass<Work<L>>), Memory> {
+        let Clients {
+            alloc,
+            settings,
+            hub,
+            counters,
+            holding,
+            bell,
+            pass,
+        } = self;
+        two_sessions_then_end(rt, alloc, settings, hub, counters, holding, bell, pass)
+    }
+}
+
+// What an actor does, with all that it may need of the runtime.
+fn acted<Q: Threads + Wait + Sync, A: Actor>(rt: &Q, actor: A) -> A::Out
+    requires { A.May actor }
+    ensures { A.Did actor result }
+{
+    actor.act(rt)
+}
+
+// Both at once, where a thread can be made, and else one after the other.
+fn both<Q: Threads + Wait + Sync, A: Actor + Send + Drop, B: Actor + Drop>(
+    rt: &Q,
+    one: A,
+    other: B,
+) -> (A::Out, B::Out)
+    requires one { A.May one }
+    requires other { B.May other }
+    ensures one { A.Did one result.0 }
+    ensures other { B.Did other result.1 }
+{
+    join(
+        rt,
+        move || -> A::Out
+            requires { A.May one }
+            ensures { A.Did one result }
+        { acted(rt, one) },
+        move || -> B::Out
+            requires { B.May other }
+            ensures { B.Did other result }
+        { acted(rt, other) },
+    )
+}
+
 // Two sessions with a worker beside them, and a third one behind its end. Where no thread can be made, or no memory is
 // there for the worker, the wait for it lasts as long as the test may.
 fn three_sessions<Q: Threads + Wait + Sync, L: Ledger + Send + Sync, R: Wait + Sync>(
@@ -263,19 +387,24 @@ fn three_sessions<Q: Threads + Wait + Sync, L: Ledger + Send + Sync, R: Wait + S
 {
     let mut pass = pass;
     let mine = hub.split_pass(&mut pass);
-    let (mine, came) = join(
-        rt,
-        move || -> Pass<Work<L>>
-            requires { IsInRange settings.now × (settings_of hub.now ≡ settings.now)
-                × IsPassOf hub.now mine }
-            ensures { IsPassOf hub.entry.now result }
-        { labour(rt, alloc, settings, hub, mine, holding, bell) },
-        move || -> Result<(Told, Pass<Work<L>>), Memory>
-            requires { IsInRange settings.now × (settings_of hub.now ≡ settings.now)
-                × IsPassOf hub.now pass × (3 ≤ pass.room) × HasNoneFrom pass.next pass.seen }
-            ensures { IfOk result (λ r. IsPassOf hub.entry.now r.1 × (0 < r.1.room)) }
-        { two_sessions_then_end(rt, alloc, settings, hub, counters, holding, bell, pass) },
-    );
+    let worker = Worker {
+        alloc,
+        settings,
+        hub,
+        holding,
+        bell,
+        pass: mine,
+    };
+    let clients = Clients {
+        alloc,
+        settings,
+        hub,
+        counters,
+        holding,
+        bell,
+        pass,
+    };
+    let (mine, came) = both(rt, worker, clients);
     let (told, mut pass) = came?;
     hub.join_pass(&mut pass, mine);
     let behind = talks(
