@@ -142,6 +142,12 @@ lt-from-le_false a b e = grind (arith, nat_tests)
 le-from-lt_false : (a b : ℕ) → nat_lt a b ≡ false → b ≤ a
 le-from-lt_false a b e = grind (arith, nat_tests)
 
+room_for : (limit bytes more : ℕ) → bytes ≤ limit → nat_lt limit (bytes + more) ≡ nat_lt (limit - bytes) more
+room_for limit bytes more fits = grind (arith, nat_tests)
+
+none_too_long : (room : ℕ) → false ≡ nat_lt room 0
+none_too_long room = grind (arith, nat_tests)
+
 -- ---- what is held
 
 module _ {W : Type 0} (IsWork : Lang → List ℕ → W → Type 0) where
@@ -194,6 +200,13 @@ module _ {W : Type 0} (IsWork : Lang → List ℕ → W → Type 0) where
 
     pub is_full_as : is_full settings (state_from slots 0 floor []) ≡ (nat_le settings.change_limit (length kept.entries) || nat_le (2 ^ 60) accepted)
     is_full_as = ap₂ (λ n m. nat_le settings.change_limit n || nat_le (2 ^ 60) m) (sym (count_is slots floor kept is.holds)) (sym is.number_is)
+
+    -- a text that is too long has more bytes than there is room for
+    pub is_long_as : (c : Change) → is_long settings (state_from slots 0 floor []) c ≡ nat_lt (settings.text_limit - bytes) (text_len c)
+    is_long_as (Put project path lang text) =
+        ap (λ n. nat_lt settings.text_limit (n + length text)) (sym (text_is slots floor kept is.holds) ∙ sym is.text_bytes) ∙ room_for settings.text_limit bytes (length text) is.few_bytes
+    is_long_as (Drop project path) = none_too_long (settings.text_limit - bytes)
+    is_long_as (Gate project conditions) = none_too_long (settings.text_limit - bytes)
 
     long_fits : (c : Change) → is_long settings (state_from slots 0 floor []) c ≡ false → bytes + text_len c ≤ settings.text_limit
     long_fits (Put project path lang text) e =

@@ -4,6 +4,7 @@ pub mod Changing
 pub mod FileNumbers
 pub mod Floors
 pub mod Forgetting
+pub mod Found
 pub mod Freeing
 pub mod Gates
 pub mod Holding

@@ -40,6 +40,10 @@ undone_kept slots floor r done is = (
   λ gone. true≢false (sym (prefix_len_passes is_done slots (r - 1) no_slot (omega (arith, gone.within, done, is.0.0))) ∙ is.1),
 )
 
+-- a change that is kept is accepted
+pub held_accepted : (slots : List Slot) (floor r : ℕ) → IsKept (changes_of slots) floor r → IsAccepted (state_from slots 0 0 []) r
+held_accepted slots floor r held = (held.0.0, omega (arith, held.0.1, length-map slots (λ (s : Slot). s.change)))
+
 pub undone_behind : (slots : List Slot) (floor r : ℕ) → floor ≤ prefix_len is_done slots → IsUndone (state_from slots 0 0 []) r → floor ≤ r - 1
 undone_behind slots floor r done is =
     ⊎_elim

@@ -1,7 +1,11 @@
 -- What a board holds of the accepted changes.
-use Rattle.std.specs.Prelude.{◌≡◌, ℕ, ◌^◌, ◌<◌, ◌≤◌, nat_eq, nat_le, nat_lt, Bool, not, ◌&&◌, List, length, sum_by, filter, All, Contains}
+use Rattle.std.specs.Prelude.{◌≡◌, ℕ, ◌^◌, ◌<◌, ◌≤◌, nat_eq, nat_le, nat_lt, Bool, not, ◌&&◌, List, length, sum_by, filter, All, Contains, Option, Some}
 use Rattle.std.specs.List.{list_any}
-use Rattle.std.specs.BTreeMap.{BTreeMap, keys, values}
+use Rattle.std.specs.BTreeMap.{BTreeMap, keys, values, get, is_at}
+use Rattle.std.specs.Map.{set_value}
+use Rattle.std.specs.Ordering.{nat_cmp}
+use Rattle.std.specs.declared.sync.Arc.{Arc}
+use Rattle.std.specs.declared.alloc.Global.{Global}
 use Rattle.cq_base.specs.declared.settings.Settings.{Settings}
 use Rattle.cq_base.specs.declared.lang.Lang.{Lang}
 use Rattle.cq_history.specs.Changes.{text_len}
@@ -48,6 +52,14 @@ module _ {W : Type 0} where
   -- how many bytes the texts have
   abbrev pub text_in : BTreeMap ℕ (Kept W) → ℕ
   text_in kept = sum_by (λ (k : Kept W). text_len (change_of k.change)) (values kept)
+
+  -- the change of a number has another holder, where it was held
+  abbrev pub IsHeldBy : ℕ → Option ℕ → BTreeMap ℕ (Kept W) → BTreeMap ℕ (Kept W) → Type 0
+  IsHeldBy number holder old new = (was : Kept W) → get nat_cmp old number ≡ Some was → new.entries ≡ set_value (is_at (nat_cmp number)) old.entries (record { change = was.change; work = was.work; holder = holder })
+
+  -- it has this work, where it was held
+  abbrev pub IsWorkedAs : ℕ → Arc W Global → BTreeMap ℕ (Kept W) → BTreeMap ℕ (Kept W) → Type 0
+  IsWorkedAs number work old new = (was : Kept W) → get nat_cmp old number ≡ Some was → new.entries ≡ set_value (is_at (nat_cmp number)) old.entries (record { change = was.change; work = Some work; holder = was.holder })
 
   -- nothing is there that was not there before
   abbrev pub IsPartOf : BTreeMap ℕ (Kept W) → BTreeMap ℕ (Kept W) → Type 0

@@ -1,12 +1,15 @@
-ghost use Rattle.std.specs.Prelude.{◌≡◌, ◌↔◌, ◌+◌, ◌<◌, ◌≤◌, ◌++◌, ◌∷◌, ℕ, [], length, IfOk, OnOk, OnErr, IfSome, IsSome, IsNone, None};
+ghost use Rattle.std.specs.Prelude.{◌≡◌, ◌↔◌, ◌+◌, ◌<◌, ◌≤◌, ◌++◌, ◌∷◌, ◌^◌, ◌||◌, nat_le, nat_lt, ℕ, List, [], length, IfOk, OnOk, OnErr, IfSome, IsSome, IsNone, None};
 ghost use Rattle.std.specs.Arc.{arc_value};
 ghost use Rattle.std.specs.BTreeMap.{get, insert_entry};
 ghost use Rattle.std.specs.Ordering.{nat_cmp};
-ghost use Rattle.cq_history.specs.Changes.{IsWorkFor};
+ghost use Rattle.cq_history.specs.Changes.{IsWorkFor, text_len};
 ghost use Rattle.cq_history.specs.Gone.{AreKeptPuts};
-ghost use Rattle.cq_history.specs.State.{new_slot};
-ghost use Rattle.cq_board.specs.Accepted.{accepted_from, Holds, IsNextHeld};
-ghost use Rattle.cq_board.specs.Answers.{refusal_of};
+ghost use Rattle.cq_history.specs.Lawful.{is_absent};
+ghost use Rattle.cq_history.specs.State.{Slot, new_slot};
+ghost use Rattle.cq_board.specs.Accepted.{accepted_from, Holds, IsNextHeld, IsHeldBy, IsWorkedAs};
+ghost use Rattle.cq_board.specs.Answers.{refusal_of, cause_among};
+ghost use Rattle.cq_board.specs.Edits.{put_by};
+ghost use Rattle.cq_board.specs.Presence.{IsPresence};
 ghost use Rattle.cq_board.specs.Slots.{slot_from, slot_at, change_of, changes_of, state_from, with_holder, with_work, IsWorked};
 
 use crate::Refused;
@@ -15,7 +18,6 @@ use crate::forgetting::forget;
 use crate::kept::{Kept, Stored};
 use crate::past::Past;
 use crate::presence::{Presence, note};
-use crate::slot_tests::is_put;
 use cq_base::{Memory, Settings};
 use cq_shard::Indexed;
 use std::alloc::Global;
@@ -116,9 +118,7 @@ impl<W: Indexed> Changes<W> {
     {
         let mut keep = Vec::new(alloc);
         for (number, kept) in self.kept.range(..=self.floor) {
-            if is_put(&kept.change) {
-                keep.push(*number)?;
-            }
+            note_put(&mut keep, *number, &kept.change)?;
         }
         Ok(keep)
     }
@@ -127,18 +127,14 @@ impl<W: Indexed> Changes<W> {
     pub fn refusal(&self, change: &Stored) -> Option<Refused>
         ensures { result ≡ refusal_of self.now.settings (state_from self.now.slots 0 self.now.floor []) (change_of change.now) }
     {
-        if let Stored::Drop { file } = change {
-            if !self.there.has(file) {
-                return Some(Refused::Absent);
-            }
-        }
-        if self.kept.len() as u64 >= self.settings.change_limit || self.accepted >= MOST {
-            return Some(Refused::FullChanges);
-        }
-        if text_len(change) > self.settings.text_limit - self.text_bytes {
-            return Some(Refused::FullText);
-        }
-        None
+        let absent = is_absent(&self.there, change);
+        let full = is_full(
+            self.settings.change_limit,
+            self.kept.len() as u64,
+            self.accepted,
+        );
+        let long = is_long(self.settings.text_limit - self.text_bytes, change);
+        first_cause(absent, full, long)
     }
 
     /// One change more, which is not refused. Where memory is refused all is as before. What any later call needs of memory is
@@ -166,9 +162,7 @@ impl<W: Indexed> Changes<W> {
         requires { Holds self.old number }
         ensures { self.new ≡ accepted_from self.old.settings (with_holder self.old.slots number holder) self.old.floor }
     {
-        if let Some(kept) = self.kept.get_mut(&number) {
-            kept.holder = holder;
-        }
+        set_holder(&mut self.kept, number, holder);
         self.past = self.past.held(number, holder);
     }
 
@@ -178,9 +172,7 @@ impl<W: Indexed> Changes<W> {
         requires work { IsWorkFor (W.IsWorkOf self.old.settings) (slot_at self.old.slots number).change (arc_value work) }
         ensures { self.new ≡ accepted_from self.old.settings (with_work self.old.slots number) self.old.floor }
     {
-        if let Some(kept) = self.kept.get_mut(&number) {
-            kept.work = Some(work);
-        }
+        set_work(&mut self.kept, number, work);
         self.past = self.past.finished(number);
     }
 
@@ -197,8 +189,67 @@ impl<W: Indexed> Changes<W> {
     }
 }
 
+// Whether it drops a path at which no file stands.
+fn is_absent(there: &Presence, change: &Stored) -> bool
+    ensures { (slots : List Slot) (floor : ℕ) → IsPresence (changes_of slots) floor there.now → result ≡ is_absent (state_from slots 0 floor []) (change_of change.now) }
+{
+    match change {
+        Stored::Drop { file } => !there.has(file),
+        Stored::Put { .. } => false,
+        Stored::Gate { .. } => false,
+    }
+}
+
+// Whether so many are kept as may be, or so many were accepted.
+fn is_full(most: u64, kept: u64, accepted: u64) -> bool
+    ensures { result ≡ (nat_le most kept || nat_le (2 ^ 60) accepted) }
+{
+    kept >= most || accepted >= MOST
+}
+
+// Whether its text has more bytes than there is room for.
+fn is_long(room: u64, change: &Stored) -> bool
+    ensures { result ≡ nat_lt room (text_len (change_of change.now)) }
+{
+    text_len(change) > room
+}
+
+// The first cause that holds.
+fn first_cause(absent: bool, full: bool, long: bool) -> Option<Refused>
+    ensures { result ≡ cause_among absent full long }
+{
+    if absent {
+        return Some(Refused::Absent);
+    }
+    if full {
+        return Some(Refused::FullChanges);
+    }
+    if long {
+        return Some(Refused::FullText);
+    }
+    None
+}
+
+// One number more, where the change is a put.
+fn note_put(keep: &mut Vec<u64>, number: u64, change: &Stored) -> Result<(), Memory>
+    ensures { OnOk result (keep.new.items ≡ keep.old.items ++ put_by (change_of change.now) number) }
+{
+    match change {
+        Stored::Put { .. } => {
+            keep.push(number)?;
+            Ok(())
+        }
+        Stored::Drop { .. } => Ok(()),
+        Stored::Gate { .. } => Ok(()),
+    }
+}
+
 // One change more, which nobody took and whose work is not done.
-fn insert<W>(kept: &mut BTreeMap<u64, Kept<W>>, number: u64, change: Stored) -> Result<(), Memory>
+fn insert<W: Drop>(
+    kept: &mut BTreeMap<u64, Kept<W>>,
+    number: u64,
+    change: Stored,
+) -> Result<(), Memory>
     requires { get nat_cmp kept.old number ≡ None }
     ensures more { OnOk result (kept.new.entries ≡ insert_entry nat_cmp kept.old.entries number (record { change = change; work = None; holder = None })) }
     ensures same { OnErr result (kept.new.entries ≡ kept.old.entries) }
@@ -210,4 +261,24 @@ fn insert<W>(kept: &mut BTreeMap<u64, Kept<W>>, number: u64, change: Stored) -> 
     };
     kept.insert(number, slot)?;
     Ok(())
+}
+
+// Another holder of the change of a number.
+fn set_holder<W>(kept: &mut BTreeMap<u64, Kept<W>>, number: u64, holder: Option<u32>)
+    ensures { IsHeldBy number holder kept.old kept.new }
+{
+    match kept.get_mut(&number) {
+        Some(found) => found.holder = holder,
+        None => {}
+    }
+}
+
+// The work of the change of a number.
+fn set_work<W: Drop>(kept: &mut BTreeMap<u64, Kept<W>>, number: u64, work: Arc<W, Global>)
+    ensures { IsWorkedAs number work kept.old kept.new }
+{
+    match kept.get_mut(&number) {
+        Some(found) => found.work = Some(work),
+        None => {}
+    }
 }

@@ -11,7 +11,11 @@ use std::collections::{BTreeMap, VecDeque};
 
 /// Takes out each change that is over at a floor, and tells how many bytes their texts had. It takes no memory, and costs a
 /// search for each.
-pub fn forget<W>(kept: &mut BTreeMap<u64, Kept<W>>, over: &mut VecDeque<Over>, floor: u64) -> u64
+pub fn forget<W: Drop>(
+    kept: &mut BTreeMap<u64, Kept<W>>,
+    over: &mut VecDeque<Over>,
+    floor: u64,
+) -> u64
     requires order { AllPairs IsNoLater over.old.items }
     requires rising { IsStrictlyIncreasing (keys kept.old) }
     requires few { text_in kept.old < 2 ^ 64 }
@@ -34,7 +38,7 @@ pub fn forget<W>(kept: &mut BTreeMap<u64, Kept<W>>, over: &mut VecDeque<Over>, f
 }
 
 // Takes a change out, and tells how many bytes of text it had.
-fn take_out<W>(kept: &mut BTreeMap<u64, Kept<W>>, number: u64) -> u64
+fn take_out<W: Drop>(kept: &mut BTreeMap<u64, Kept<W>>, number: u64) -> u64
     requires { IsStrictlyIncreasing (keys kept.old) }
     ensures numbers { keys kept.new ≡ filter (λ n. not (nat_eq number n)) (keys kept.old) }
     ensures same { IsPartOf kept.old kept.new }

@@ -73,8 +73,12 @@ pub fn note_undone<W: Indexed>(
     ensures more { OnOk result (AreUndone (changes.now.slots ++ new_slot (change_of change.now) ∷ []) undone.new) }
     ensures same { OnErr result (AreUndone changes.now.slots undone.new) }
 {
-    if let Stored::Put { .. } = change {
-        undone.insert(changes.len())?;
+    match change {
+        Stored::Put { .. } => {
+            undone.insert(changes.len())?;
+            Ok(())
+        }
+        Stored::Drop { .. } => Ok(()),
+        Stored::Gate { .. } => Ok(()),
     }
-    Ok(())
 }
