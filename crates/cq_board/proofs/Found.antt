@@ -1,7 +1,9 @@
 -- What is found among the changes that are held: at a number, behind one, and the puts up to the floor.
-use Rattle.std.proofs.Common.{◌≡◌, ℕ, ◌+◌, ◌-◌, ◌<◌, ◌≤◌, Bool, true, false, cond, not, ◌&&◌, nat_lt, nat_le, List, [], ◌∷◌, ◌++◌, filter, get_or, Option, Some, None, refl, sym, ap, ap₂, ◌∙◌, subst, Bor, arith}
+use Rattle.std.proofs.Common.{◌≡◌, ℕ, ◌+◌, ◌-◌, ◌<◌, ◌≤◌, Bool, true, false, cond, not, ◌&&◌, nat_lt, nat_le, List, [], ◌∷◌, ◌++◌, filter, get_or, Option, Some, None, refl, sym, ap, ap₂, ◌∙◌, subst, Bor, Global, arith}
 use Rattle.std.specs.Prelude.{◌↔◌, Contains, All, IsSome, IfSome, is_some, option_copied}
+use Rattle.std.specs.Arc.{arc_value}
 use Rattle.std.specs.BTreeMap.{BTreeMap, keys, get}
+use Rattle.std.specs.declared.sync.Arc.{Arc}
 use Rattle.std.specs.BTreeMap.Range.{IsRangeOf, entries_between, range_contains}
 use Rattle.std.specs.List.Sorted.{IsStrictlyIncreasing}
 use Rattle.std.specs.Map.{keys_of}
@@ -20,13 +22,15 @@ use Rattle.cq_base.specs.declared.lang.Lang.{Lang}
 use Rattle.cq_base.specs.declared.settings.Settings.{Settings}
 use Rattle.cq_history.specs.Changes.{is_put, no_change, IsWorkFor}
 use Rattle.cq_history.specs.Gone.{IsKept, IsPutAt, AreKeptPuts, kept_numbers}
-use Rattle.cq_history.specs.State.{Slot, no_slot}
+use Rattle.cq_history.specs.State.{State, Slot, no_slot}
 use Rattle.cq_history.proofs.Forgetting.{kept_are}
 use Rattle.cq_board.specs.declared.kept.Kept.{Kept}
+use Rattle.cq_board.specs.Answers.{IsDonePut, IsKeptWork}
 use Rattle.cq_board.specs.Accepted.{IsHeldAs, HoldsKept, IsNextHeld, accepted_from}
 use Rattle.cq_board.specs.Edits.{put_by}
-use Rattle.cq_board.specs.Slots.{slot_from, slot_at, change_of, changes_of, IsWorked}
+use Rattle.cq_board.specs.Slots.{slot_from, slot_at, change_of, changes_of, state_from, IsWorked}
 use Rattle.cq_board.proofs.Changing.{held_at, none_at}
+use Rattle.cq_board.proofs.SlotLists.{held_accepted}
 
 not_gt : (a b : ℕ) → a ≤ b → is_gt (nat_cmp a b) ≡ false
 not_gt a b le = grind (arith, nat_tests)
@@ -78,6 +82,36 @@ module _ {W : Type 0} where
       by (Gate project conditions) is =
           ap (λ d. put_by d e.0 ++ puts_in es) is ∙ puts_are es
           ∙ ap (λ d. keys_of (cond (is_put d) (e ∷ filter is_kept_put es) (filter is_kept_put es))) (sym is)
+
+-- ---- works
+
+-- above the floor no work of a put is let go of
+pub work_above : {X : Type 0} (s : State) (r : ℕ) (held : Option X) → s.floor < r → IsSome held ↔ IsKeptWork s r → IsSome held ↔ IsDonePut s r
+work_above s r held above is = (λ some. (is.0 some).0, λ done. is.1 (done, λ gone. let low = gone.within in omega (arith, low, above)))
+
+module _ {W : Type 0} (IsWork : Lang → List ℕ → W → Type 0) where
+  -- only a put has work
+  put_worked : (c : Change) (work : Option (Arc W Global)) → IfSome work (λ w. IsWorkFor IsWork c (arc_value w)) → is_some work ≡ true → is_put c ≡ true
+  put_worked c None is some = absurd (false≢true some)
+  put_worked (Put project path lang text) (Some w) is some = refl
+  put_worked (Drop project path) (Some w) is some = absurd is
+  put_worked (Gate project conditions) (Some w) is some = absurd is
+
+  -- of a change that is kept the work is there where its slot is that of a done put
+  pub kept_work : (slots : List Slot) (published floor : ℕ) (views : List (Option ℕ)) (n : ℕ) (k : Kept W) → slot_from k ≡ slot_at slots n → IsWorked IsWork k → IsKept (changes_of slots) floor n → IsSome k.work ↔ IsKeptWork (state_from slots published floor views) n
+  kept_work slots published floor views n k slot worked held = (
+    λ some. (
+      (
+        (held_accepted slots floor n held),
+        ap (λ (s : Slot). is_put s.change) (sym slot) ∙ put_worked (change_of k.change) k.work worked some,
+        ap (λ (s : Slot). s.finished) (sym slot) ∙ some,
+      ),
+      held.1,
+    ),
+    λ is. ap (λ (s : Slot). s.finished) slot ∙ is.0.2,
+  )
+
+-- ---- what is found
 
 module _ {W : Type 0} (IsWork : Lang → List ℕ → W → Type 0) (slots : List Slot) (floor : ℕ) (kept : BTreeMap ℕ (Kept W)) (holds : HoldsKept IsWork slots floor kept) where
   -- a change that is kept is found at its number
