@@ -12,6 +12,7 @@ use Rattle.std.specs.declared.ops.Bound.TheVariants.{Included, Unbounded}
 use Rattle.std.proofs.Math.ListN.{get_or-map}
 use Rattle.std.proofs.lemmas.Bool.{false≢true}
 use Rattle.std.proofs.lemmas.Bool.Decides.{nat_tests}
+use Rattle.std.proofs.lemmas.List.{length-map}
 use Rattle.std.proofs.lemmas.List.Elements.{All-contains}
 use Rattle.std.proofs.lemmas.List.Kept.{IsStrictlyIncreasing-filter}
 use Rattle.std.proofs.lemmas.Map.Keys.{le_from_not_gt}
@@ -25,7 +26,7 @@ use Rattle.cq_history.specs.Gone.{IsKept, IsPutAt, AreKeptPuts, kept_numbers}
 use Rattle.cq_history.specs.State.{State, Slot, no_slot}
 use Rattle.cq_history.proofs.Forgetting.{kept_are}
 use Rattle.cq_board.specs.declared.kept.Kept.{Kept}
-use Rattle.cq_board.specs.Answers.{IsDonePut, IsKeptWork}
+use Rattle.cq_board.specs.Answers.{IsDonePut, IsKeptWork, IsWorkAt}
 use Rattle.cq_board.specs.Accepted.{IsHeldAs, HoldsKept, IsNextHeld, accepted_from}
 use Rattle.cq_board.specs.Edits.{put_by}
 use Rattle.cq_board.specs.Slots.{slot_from, slot_at, change_of, changes_of, state_from, IsWorked}
@@ -89,6 +90,10 @@ module _ {W : Type 0} where
 pub work_above : {X : Type 0} (s : State) (r : ℕ) (held : Option X) → s.floor < r → IsSome held ↔ IsKeptWork s r → IsSome held ↔ IsDonePut s r
 work_above s r held above is = (λ some. (is.0 some).0, λ done. is.1 (done, λ gone. let low = gone.within in omega (arith, low, above)))
 
+-- and what is kept with its work is kept
+pub accepted_held : (slots : List Slot) (published floor : ℕ) (views : List (Option ℕ)) (n : ℕ) → IsKeptWork (state_from slots published floor views) n → IsKept (changes_of slots) floor n
+accepted_held slots published floor views n is = ((is.0.0.0, omega (arith, is.0.0.1, length-map slots (λ (s : Slot). s.change))), is.1)
+
 module _ {W : Type 0} (IsWork : Lang → List ℕ → W → Type 0) where
   -- only a put has work
   put_worked : (c : Change) (work : Option (Arc W Global)) → IfSome work (λ w. IsWorkFor IsWork c (arc_value w)) → is_some work ≡ true → is_put c ≡ true
@@ -110,6 +115,20 @@ module _ {W : Type 0} (IsWork : Lang → List ℕ → W → Type 0) where
     ),
     λ is. ap (λ (s : Slot). s.finished) slot ∙ is.0.2,
   )
+
+  -- the work is that of the change with the number
+  pub worked_at : (slots : List Slot) (published floor : ℕ) (views : List (Option ℕ)) (n : ℕ) (k : Kept W) → slot_from k ≡ slot_at slots n → IsWorked IsWork k → IfSome k.work (IsWorkAt IsWork (state_from slots published floor views) n)
+  worked_at slots published floor views n k slot worked = subst (λ (c : Change). IfSome k.work (λ w. IsWorkFor IsWork c (arc_value w))) (ap (λ (s : Slot). s.change) slot) worked
+
+-- what is lent of an option is there where it is, and is the same
+module _ {X : Type 0} where
+  pub lent_some : (r : Option (Bor X)) (o : Option X) → option_copied r ≡ o → is_some r ≡ is_some o
+  lent_some None o is = ap is_some is
+  lent_some (Some x) o is = ap is_some is
+
+  pub lent_same : (P : X → Type 0) (r : Option (Bor X)) (o : Option X) → option_copied r ≡ o → IfSome o P → IfSome r (λ x. P x.now)
+  lent_same P None o is holds = tt
+  lent_same P (Some x) o is holds = subst (λ (p : Option X). IfSome p P) (sym is) holds
 
 -- ---- what is found
 

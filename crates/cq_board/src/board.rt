@@ -102,11 +102,8 @@ impl<W: Indexed> Board<W> {
         ensures some { IfOk result (λ work. IsSome work ↔ IsKeptWork self.now.state change) }
         ensures work { IfOk result (λ work. IfSome work (IsWorkAt (W.IsWorkOf self.now.settings) self.now.state change)) }
     {
-        match self.changes.get(change) {
-            Some(kept) => match &kept.work {
-                Some(work) => Ok(Some(Arc::try_clone(work)?)),
-                None => Ok(None),
-            },
+        match self.changes.work(change) {
+            Some(work) => Ok(Some(Arc::try_clone(work)?)),
             None => Ok(None),
         }
     }

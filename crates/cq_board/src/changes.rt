@@ -7,7 +7,7 @@ ghost use Rattle.cq_history.specs.Gone.{AreKeptPuts};
 ghost use Rattle.cq_history.specs.Lawful.{is_absent};
 ghost use Rattle.cq_history.specs.State.{Slot, new_slot};
 ghost use Rattle.cq_board.specs.Accepted.{accepted_from, Holds, IsNextHeld, IsHeldBy, IsWorkedAs};
-ghost use Rattle.cq_board.specs.Answers.{refusal_of, cause_among};
+ghost use Rattle.cq_board.specs.Answers.{refusal_of, cause_among, IsKeptWork, IsWorkAt};
 ghost use Rattle.cq_board.specs.Edits.{put_by};
 ghost use Rattle.cq_board.specs.Presence.{IsPresence};
 ghost use Rattle.cq_board.specs.Slots.{slot_from, slot_at, change_of, changes_of, state_from, with_holder, with_work, IsWorked};
@@ -96,6 +96,17 @@ impl<W: Indexed> Changes<W> {
         ensures work { IfSome result (λ kept. IsWorked (W.IsWorkOf self.now.settings) kept.now) }
     {
         self.kept.get(&number)
+    }
+
+    /// The work of a done put that is kept, and None for any other number. It costs a search.
+    pub fn work(&self, number: u64) -> Option<&Arc<W, Global>>
+        ensures some { IsSome result ↔ IsKeptWork (state_from self.now.slots 0 self.now.floor []) number }
+        ensures work { IfSome result (λ work. IsWorkAt (W.IsWorkOf self.now.settings) (state_from self.now.slots 0 self.now.floor []) number work.now) }
+    {
+        match self.get(number) {
+            Some(kept) => kept.work.as_ref(),
+            None => None,
+        }
     }
 
     /// The next change that is kept behind a number, and its own. It costs a search.
