@@ -65,35 +65,36 @@ module _ {X : Type 0} where
   -- what is found at a number is an entry with it
   pub lookup_found : (es : List (ℕ × X)) (n : ℕ) (v : X) → lookup (is_at (nat_cmp n)) es ≡ Some v → Contains es (n, v)
   lookup_found [] n v is = absurd (none-some v is)
-  lookup_found (x ∷ es) n v is = by (nat_eq n x.0) refl (ap (λ b. cond b (Some x.1) (lookup (is_at (nat_cmp n)) es)) (sym (unsigned_tied n x.0)) ∙ is)
+  lookup_found (x ∷ es) n v is = by (nat_eq n x.0) (λ found. lookup_found es n v found) refl (ap (λ b. cond b (Some x.1) (lookup (is_at (nat_cmp n)) es)) (sym (unsigned_tied n x.0)) ∙ is)
     where
       value : Some x.1 ≡ Some v → x.1 ≡ v
       value e = cc e
 
-      by : (b : Bool) → nat_eq n x.0 ≡ b → cond (nat_eq n x.0) (Some x.1) (lookup (is_at (nat_cmp n)) es) ≡ Some v → Contains (x ∷ es) (n, v)
-      by true here e =
+      by : (b : Bool) → (lookup (is_at (nat_cmp n)) es ≡ Some v → Contains es (n, v)) → nat_eq n x.0 ≡ b → cond (nat_eq n x.0) (Some x.1) (lookup (is_at (nat_cmp n)) es) ≡ Some v → Contains (x ∷ es) (n, v)
+      by true rest here e =
           let same : x.1 ≡ v = value (ap (λ b. cond b (Some x.1) (lookup (is_at (nat_cmp n)) es)) (sym here) ∙ e) in
           subst (Contains (x ∷ es)) (ap₂ (λ m w. (m, w)) (sym (eqb-true n x.0 here)) same) (Contains-here x es)
-      by false here e = Contains-there x (n, v) es (lookup_found es n v (ap (λ b. cond b (Some x.1) (lookup (is_at (nat_cmp n)) es)) (sym here) ∙ e))
+      by false rest here e = Contains-there x (n, v) es (rest (ap (λ b. cond b (Some x.1) (lookup (is_at (nat_cmp n)) es)) (sym here) ∙ e))
 
   -- and a number that is there is found
   pub lookup_there : (es : List (ℕ × X)) (n : ℕ) → Contains (keys_of es) n → lookup (is_at (nat_cmp n)) es ≡ None → ⊥
   lookup_there [] n (k, within, at) none = omega (arith, within)
-  lookup_there (x ∷ es) n has none = by (nat_eq n x.0) refl (ap (λ b. cond b (Some x.1) (lookup (is_at (nat_cmp n)) es)) (sym (unsigned_tied n x.0)) ∙ none)
+  lookup_there (x ∷ es) n has none = by (nat_eq n x.0) (λ later absent. lookup_there es n later absent) refl (ap (λ b. cond b (Some x.1) (lookup (is_at (nat_cmp n)) es)) (sym (unsigned_tied n x.0)) ∙ none)
     where
-      by : (b : Bool) → nat_eq n x.0 ≡ b → cond (nat_eq n x.0) (Some x.1) (lookup (is_at (nat_cmp n)) es) ≡ None → ⊥
-      by true here e = none-some x.1 (sym (ap (λ b. cond b (Some x.1) (lookup (is_at (nat_cmp n)) es)) (sym here) ∙ e))
-      by false here e =
+      by : (b : Bool) → (Contains (keys_of es) n → lookup (is_at (nat_cmp n)) es ≡ None → ⊥) → nat_eq n x.0 ≡ b → cond (nat_eq n x.0) (Some x.1) (lookup (is_at (nat_cmp n)) es) ≡ None → ⊥
+      by true rest here e = none-some x.1 (sym (ap (λ b. cond b (Some x.1) (lookup (is_at (nat_cmp n)) es)) (sym here) ∙ e))
+      by false rest here e =
           ⊎_elim
           (λ (same : x.0 ≡ n). true≢false (sym (eq-eqb n x.0 (sym same)) ∙ here))
-          (λ later. lookup_there es n later (ap (λ b. cond b (Some x.1) (lookup (is_at (nat_cmp n)) es)) (sym here) ∙ e))
+          (λ later. rest later (ap (λ b. cond b (Some x.1) (lookup (is_at (nat_cmp n)) es)) (sym here) ∙ e))
           (Contains-cases x.0 n (keys_of es) has)
 
   -- where one has another value, that one and the others
   pub set_each : (number : ℕ) (w : X) (Q : ℕ × X → Type 0) (es : List (ℕ × X)) → AllPairs (λ a b. a < b) (keys_of es) → ((e : ℕ × X) → Contains es e → nat_eq number e.0 ≡ false → Q e) → (Contains (keys_of es) number → Q (number, w)) →
       (e : ℕ × X) → Contains (set_value (is_at (nat_cmp number)) es w) e → Q e
   set_each number w Q [] rising others this e (k, within, at) = absurd (omega (arith, within))
-  set_each number w Q (x ∷ es) rising others this e has = by (nat_eq number x.0) refl (subst (λ (b : Bool). Contains (cond b ((x.0, w) ∷ es) (x ∷ set_value (is_at (nat_cmp number)) es w)) e) (unsigned_tied number x.0) has)
+  set_each number w Q (x ∷ es) rising others this e has =
+      by (nat_eq number x.0) (λ later. set_each number w Q es (AllPairs-tail (λ a b. a < b) x.0 (keys_of es) rising) (λ f there. others f (Contains-there x f es there)) (λ there. this (Contains-there x.0 number (keys_of es) there)) e later) refl (subst (λ (b : Bool). Contains (cond b ((x.0, w) ∷ es) (x ∷ set_value (is_at (nat_cmp number)) es w)) e) (unsigned_tied number x.0) has)
     where
       apart : number ≡ x.0 → (n : ℕ) → Contains (keys_of es) n → (b : Bool) → nat_eq number n ≡ b → b ≡ false
       apart here n later true is =
@@ -102,17 +103,17 @@ module _ {X : Type 0} where
           absurd (omega (arith, less, here, same))
       apart here n later false is = refl
 
-      by : (b : Bool) → nat_eq number x.0 ≡ b → Contains (cond (nat_eq number x.0) ((x.0, w) ∷ es) (x ∷ set_value (is_at (nat_cmp number)) es w)) e → Q e
-      by true is has =
+      by : (b : Bool) → (Contains (set_value (is_at (nat_cmp number)) es w) e → Q e) → nat_eq number x.0 ≡ b → Contains (cond (nat_eq number x.0) ((x.0, w) ∷ es) (x ∷ set_value (is_at (nat_cmp number)) es w)) e → Q e
+      by true rest is has =
           let here : number ≡ x.0 = eqb-true number x.0 is in
           ⊎_elim
           (λ (same : (x.0, w) ≡ e). subst Q (ap (λ n. (n, w)) here ∙ same) (this (subst (Contains (x.0 ∷ keys_of es)) (sym here) (Contains-here x.0 (keys_of es)))))
           (λ later. others e (Contains-there x e es later) (apart here e.0 (contains_key es e later) (nat_eq number e.0) refl))
           (Contains-cases (x.0, w) e es (subst (λ (b : Bool). Contains (cond b ((x.0, w) ∷ es) (x ∷ set_value (is_at (nat_cmp number)) es w)) e) is has))
-      by false is has =
+      by false rest is has =
           ⊎_elim
           (λ (same : x ≡ e). others e (subst (Contains (x ∷ es)) same (Contains-here x es)) (ap (λ (y : ℕ × X). nat_eq number y.0) (sym same) ∙ is))
-          (λ later. set_each number w Q es (AllPairs-tail (λ a b. a < b) x.0 (keys_of es) rising) (λ f there. others f (Contains-there x f es there)) (λ there. this (Contains-there x.0 number (keys_of es) there)) e later)
+          rest
           (Contains-cases x e (set_value (is_at (nat_cmp number)) es w) (subst (λ (b : Bool). Contains (cond b ((x.0, w) ∷ es) (x ∷ set_value (is_at (nat_cmp number)) es w)) e) is has))
 
 -- ---- why a change is refused

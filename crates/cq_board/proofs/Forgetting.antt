@@ -30,15 +30,15 @@ module _ {X : Type 0} (number : ℕ) where
 
   pub removed_part : (es : List (ℕ × X)) (e : ℕ × X) → Contains (remove_entry test es) e → Contains es e
   removed_part [] e there = there
-  removed_part (x ∷ es) e there = by_test (test x.0) there
+  removed_part (x ∷ es) e there = by_test (test x.0) (λ later. removed_part es e later) there
     where
-      by_test : (b : Bool) → Contains (cond b es (x ∷ remove_entry test es)) e → Contains (x ∷ es) e
-      by_test true there = Contains-there x e es there
-      by_test false there = ⊎_elim (λ (same : x ≡ e). subst (Contains (x ∷ es)) same (Contains-here x es)) (λ later. Contains-there x e es (removed_part es e later)) (Contains-cases x e (remove_entry test es) there)
+      by_test : (b : Bool) → (Contains (remove_entry test es) e → Contains es e) → Contains (cond b es (x ∷ remove_entry test es)) e → Contains (x ∷ es) e
+      by_test true rest there = Contains-there x e es there
+      by_test false rest there = ⊎_elim (λ (same : x ≡ e). subst (Contains (x ∷ es)) same (Contains-here x es)) (λ later. Contains-there x e es (rest later)) (Contains-cases x e (remove_entry test es) there)
 
   keys_removed : (es : List (ℕ × X)) → AllPairs (λ a b. a < b) (keys_of es) → keys_of (remove_entry test es) ≡ filter (λ n. not (nat_eq number n)) (keys_of es)
   keys_removed [] rising = refl
-  keys_removed (x ∷ es) rising = by_test (nat_eq number x.0) refl
+  keys_removed (x ∷ es) rising = by_test (nat_eq number x.0) (keys_removed es (AllPairs-tail (λ a b. a < b) x.0 (keys_of es) rising)) refl
     where
       others : nat_eq number x.0 ≡ true → filter (λ n. not (nat_eq number n)) (keys_of es) ≡ keys_of es
       others here = left_same (λ n. not (nat_eq number n)) (keys_of es) (λ n there.
@@ -46,14 +46,14 @@ module _ {X : Type 0} (number : ℕ) where
           let at = eqb-true number x.0 here in
           ap not (false_from_ne_true (nat_eq number n) (λ same. let e = eqb-true number n same in omega (arith, less, at, e))))
 
-      by_test : (b : Bool) → nat_eq number x.0 ≡ b → keys_of (cond (test x.0) es (x ∷ remove_entry test es)) ≡ cond (not (nat_eq number x.0)) (x.0 ∷ filter (λ n. not (nat_eq number n)) (keys_of es)) (filter (λ n. not (nat_eq number n)) (keys_of es))
-      by_test true is =
+      by_test : (b : Bool) → keys_of (remove_entry test es) ≡ filter (λ n. not (nat_eq number n)) (keys_of es) → nat_eq number x.0 ≡ b → keys_of (cond (test x.0) es (x ∷ remove_entry test es)) ≡ cond (not (nat_eq number x.0)) (x.0 ∷ filter (λ n. not (nat_eq number n)) (keys_of es)) (filter (λ n. not (nat_eq number n)) (keys_of es))
+      by_test true rest is =
           ap (λ b. keys_of (cond b es (x ∷ remove_entry test es))) (unsigned_tied number x.0 ∙ is)
           ∙ sym (others is)
           ∙ ap (λ b. cond (not b) (x.0 ∷ filter (λ n. not (nat_eq number n)) (keys_of es)) (filter (λ n. not (nat_eq number n)) (keys_of es))) (sym is)
-      by_test false is =
+      by_test false rest is =
           ap (λ b. keys_of (cond b es (x ∷ remove_entry test es))) (unsigned_tied number x.0 ∙ is)
-          ∙ ap (λ ns. x.0 ∷ ns) (keys_removed es (AllPairs-tail (λ a b. a < b) x.0 (keys_of es) rising))
+          ∙ ap (λ ns. x.0 ∷ ns) rest
           ∙ ap (λ b. cond (not b) (x.0 ∷ filter (λ n. not (nat_eq number n)) (keys_of es)) (filter (λ n. not (nat_eq number n)) (keys_of es))) (sym is)
 
   pub removed_numbers : (old new : List (ℕ × X)) → IsStrictlyIncreasing (keys_of old) → new ≡ remove_entry test old → keys_of new ≡ filter (λ n. not (nat_eq number n)) (keys_of old)
@@ -63,20 +63,17 @@ module _ {X : Type 0} (number : ℕ) where
 
 pub filter_twice : (p q r : ℕ → Bool) → ((n : ℕ) → r n ≡ (p n || q n)) → (xs : List ℕ) → filter (λ n. not (q n)) (filter (λ n. not (p n)) xs) ≡ filter (λ n. not (r n)) xs
 filter_twice p q r both [] = refl
-filter_twice p q r both (x ∷ xs) = by_both (p x) (q x) (r x) refl refl (both x)
+filter_twice p q r both (x ∷ xs) = by_both (p x) (q x) (r x) (filter_twice p q r both xs) refl refl (both x)
   where
-    rest : filter (λ n. not (q n)) (filter (λ n. not (p n)) xs) ≡ filter (λ n. not (r n)) xs
-    rest = filter_twice p q r both xs
-
-    by_both : (a b c : Bool) → p x ≡ a → q x ≡ b → c ≡ (p x || q x) → filter (λ n. not (q n)) (cond (not (p x)) (x ∷ filter (λ n. not (p n)) xs) (filter (λ n. not (p n)) xs)) ≡ cond (not c) (x ∷ filter (λ n. not (r n)) xs) (filter (λ n. not (r n)) xs)
-    by_both true b c here there is =
+    by_both : (a b c : Bool) → filter (λ n. not (q n)) (filter (λ n. not (p n)) xs) ≡ filter (λ n. not (r n)) xs → p x ≡ a → q x ≡ b → c ≡ (p x || q x) → filter (λ n. not (q n)) (cond (not (p x)) (x ∷ filter (λ n. not (p n)) xs) (filter (λ n. not (p n)) xs)) ≡ cond (not c) (x ∷ filter (λ n. not (r n)) xs) (filter (λ n. not (r n)) xs)
+    by_both true b c rest here there is =
         ap (λ a. filter (λ n. not (q n)) (cond (not a) (x ∷ filter (λ n. not (p n)) xs) (filter (λ n. not (p n)) xs))) here ∙ rest
         ∙ ap (λ c. cond (not c) (x ∷ filter (λ n. not (r n)) xs) (filter (λ n. not (r n)) xs)) (sym (is ∙ ap (λ a. a || q x) here))
-    by_both false true c here there is =
+    by_both false true c rest here there is =
         ap (λ a. filter (λ n. not (q n)) (cond (not a) (x ∷ filter (λ n. not (p n)) xs) (filter (λ n. not (p n)) xs))) here
         ∙ ap (λ b. cond (not b) (x ∷ filter (λ n. not (q n)) (filter (λ n. not (p n)) xs)) (filter (λ n. not (q n)) (filter (λ n. not (p n)) xs))) there ∙ rest
         ∙ ap (λ c. cond (not c) (x ∷ filter (λ n. not (r n)) xs) (filter (λ n. not (r n)) xs)) (sym (is ∙ ap₂ (λ a b. a || b) here there))
-    by_both false false c here there is =
+    by_both false false c rest here there is =
         ap (λ a. filter (λ n. not (q n)) (cond (not a) (x ∷ filter (λ n. not (p n)) xs) (filter (λ n. not (p n)) xs))) here
         ∙ ap (λ b. cond (not b) (x ∷ filter (λ n. not (q n)) (filter (λ n. not (p n)) xs)) (filter (λ n. not (q n)) (filter (λ n. not (p n)) xs))) there ∙ ap (λ ns. x ∷ ns) rest
         ∙ ap (λ c. cond (not c) (x ∷ filter (λ n. not (r n)) xs) (filter (λ n. not (r n)) xs)) (sym (is ∙ ap₂ (λ a b. a || b) here there))

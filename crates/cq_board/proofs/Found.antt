@@ -48,17 +48,14 @@ is_within floor n h = grind (arith, nat_tests)
 -- a part of the entries, by a test that their numbers pass as well, has those of the numbers
 keys_filtered : {X : Type 0} (p : ℕ × X → Bool) (q : ℕ → Bool) (es : List (ℕ × X)) → ((e : ℕ × X) → Contains es e → p e ≡ q e.0) → keys_of (filter p es) ≡ filter q (keys_of es)
 keys_filtered p q [] same = refl
-keys_filtered p q (e ∷ es) same = by (q e.0) (same e (Contains-here e es))
+keys_filtered p q (e ∷ es) same = by (q e.0) (keys_filtered p q es (λ f there. same f (Contains-there e f es there))) (same e (Contains-here e es))
   where
-    rest : keys_of (filter p es) ≡ filter q (keys_of es)
-    rest = keys_filtered p q es (λ f there. same f (Contains-there e f es there))
+    picked : (b : Bool) → keys_of (filter p es) ≡ filter q (keys_of es) → keys_of (cond b (e ∷ filter p es) (filter p es)) ≡ cond b (e.0 ∷ filter q (keys_of es)) (filter q (keys_of es))
+    picked true rest = ap (λ ns. e.0 ∷ ns) rest
+    picked false rest = rest
 
-    picked : (b : Bool) → keys_of (cond b (e ∷ filter p es) (filter p es)) ≡ cond b (e.0 ∷ filter q (keys_of es)) (filter q (keys_of es))
-    picked true = ap (λ ns. e.0 ∷ ns) rest
-    picked false = rest
-
-    by : (b : Bool) → p e ≡ b → keys_of (cond (p e) (e ∷ filter p es) (filter p es)) ≡ cond b (e.0 ∷ filter q (keys_of es)) (filter q (keys_of es))
-    by b is = ap (λ c. keys_of (cond c (e ∷ filter p es) (filter p es))) is ∙ picked b
+    by : (b : Bool) → keys_of (filter p es) ≡ filter q (keys_of es) → p e ≡ b → keys_of (cond (p e) (e ∷ filter p es) (filter p es)) ≡ cond b (e.0 ∷ filter q (keys_of es)) (filter q (keys_of es))
+    by b rest is = ap (λ c. keys_of (cond c (e ∷ filter p es) (filter p es))) is ∙ picked b rest
 
 module _ {W : Type 0} where
   abbrev is_kept_put : ℕ × Kept W → Bool
@@ -71,17 +68,17 @@ module _ {W : Type 0} where
 
   puts_are : (es : List (ℕ × Kept W)) → puts_in es ≡ keys_of (filter is_kept_put es)
   puts_are [] = refl
-  puts_are (e ∷ es) = by (change_of e.1.change) refl
+  puts_are (e ∷ es) = by (change_of e.1.change) (puts_are es) refl
     where
-      by : (c : Change) → change_of e.1.change ≡ c → put_by (change_of e.1.change) e.0 ++ puts_in es ≡ keys_of (cond (is_put (change_of e.1.change)) (e ∷ filter is_kept_put es) (filter is_kept_put es))
-      by (Put project path lang text) is =
-          ap (λ d. put_by d e.0 ++ puts_in es) is ∙ ap (λ ns. e.0 ∷ ns) (puts_are es)
+      by : (c : Change) → puts_in es ≡ keys_of (filter is_kept_put es) → change_of e.1.change ≡ c → put_by (change_of e.1.change) e.0 ++ puts_in es ≡ keys_of (cond (is_put (change_of e.1.change)) (e ∷ filter is_kept_put es) (filter is_kept_put es))
+      by (Put project path lang text) rest is =
+          ap (λ d. put_by d e.0 ++ puts_in es) is ∙ ap (λ ns. e.0 ∷ ns) rest
           ∙ ap (λ d. keys_of (cond (is_put d) (e ∷ filter is_kept_put es) (filter is_kept_put es))) (sym is)
-      by (Drop project path) is =
-          ap (λ d. put_by d e.0 ++ puts_in es) is ∙ puts_are es
+      by (Drop project path) rest is =
+          ap (λ d. put_by d e.0 ++ puts_in es) is ∙ rest
           ∙ ap (λ d. keys_of (cond (is_put d) (e ∷ filter is_kept_put es) (filter is_kept_put es))) (sym is)
-      by (Gate project conditions) is =
-          ap (λ d. put_by d e.0 ++ puts_in es) is ∙ puts_are es
+      by (Gate project conditions) rest is =
+          ap (λ d. put_by d e.0 ++ puts_in es) is ∙ rest
           ∙ ap (λ d. keys_of (cond (is_put d) (e ∷ filter is_kept_put es) (filter is_kept_put es))) (sym is)
 
 -- ---- works
