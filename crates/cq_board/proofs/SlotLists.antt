@@ -9,7 +9,7 @@ use Rattle.cq_history.specs.Changes.{is_put}
 use Rattle.cq_history.specs.Gone.{IsKept}
 use Rattle.cq_history.specs.State.{Slot, no_slot, is_free, is_done, first_free, IsAccepted, IsUndone}
 use Rattle.cq_history.proofs.Bounds.{prefix_len-set-le}
-use Rattle.cq_board.specs.Slots.{slot_at, changes_of, state_from, with_holder, with_work}
+use Rattle.cq_kept.specs.Slots.{slot_at, changes_of, state_from, with_holder, with_work}
 
 free_put : (a b c : Bool) → (not (not a || b) && c) ≡ true → a ≡ true
 free_put true b c h = refl

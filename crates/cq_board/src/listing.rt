@@ -2,7 +2,7 @@ ghost use Rattle.std.specs.Prelude.{◌≡◌, ◌⊎◌, ◌+◌, ◌≤◌, []
 ghost use Rattle.std.specs.Arc.{arc_value};
 ghost use Rattle.std.specs.List.{prefix_len};
 ghost use Rattle.cq_history.specs.State.{is_done};
-ghost use Rattle.cq_board.specs.Slots.{slot_from, change_of, changes_of, IsWorked};
+ghost use Rattle.cq_kept.specs.Slots.{slot_from, change_of, changes_of, IsWorked};
 ghost use Rattle.cq_board.specs.Boards.{IsListingAt};
 ghost use Rattle.cq_board.specs.Edits.{IsEditFor, project_named, put_by};
 ghost use Rattle.cq_projects.specs.Ordered.{AreRising};
@@ -10,10 +10,9 @@ ghost use Rattle.cq_board.specs.Listings.{IsListing, ListsTheSame, HaveSame, lis
 ghost use Rattle.cq_projects.specs.Projects.{owner_name, projects_in, files_in, conditions_in};
 ghost use Rattle.cq_board.specs.Turnover.{IsBefore, AddsKept, AddsOwned, IsListingBefore, ListsKept, from_option};
 
-use crate::changes::Changes;
-use crate::kept::{Kept, Stored};
 use crate::live::{Turnover, note, turn, turn_one};
 use cq_base::{Condition, Memory, Settings, Text};
+use cq_kept::{Changes, Kept, Stored};
 use cq_projects::{
     Draft, Held, Project, ProjectEdit, ProjectFiles, drafts_of, edit_draft, edit_in, find_project,
     finished_all, own_drafts,

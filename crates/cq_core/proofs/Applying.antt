@@ -21,7 +21,7 @@ use Rattle.cq_shard.specs.Shard as shard
 use Rattle.cq_shard.proofs.Given.{work_given}
 use Rattle.cq_shard.specs.Shard.{Contents, entries_of, brought}
 use Rattle.cq_board.specs.Answers.{IsKeptWork}
-use Rattle.cq_board.proofs.Found.{work_above}
+use Rattle.cq_board.proofs.Works.{work_above}
 use Rattle.cq_board.specs.Stands as board
 use Rattle.cq_core.specs.Cores.{StandsFor, AreNumbered, applied_of, floor_of}
 use Rattle.cq_core.specs.Steps.{Takes, HasSoMany, HasNext}

@@ -4,8 +4,8 @@ use Rattle.std.proofs.lemmas.List.Elements.{All-get_or}
 use Rattle.std.proofs.lemmas.Result.{on_ok_weaker, on_err_weaker}
 use Rattle.cq_base.specs.declared.change.Change.{Change}
 use Rattle.cq_history.specs.State.{no_slot, is_done}
-use Rattle.cq_board.specs.declared.kept.Kept.{Kept}
-use Rattle.cq_board.specs.Slots.{slot_from, IsWorked}
+use Rattle.cq_kept.specs.declared.kept.Kept.{Kept}
+use Rattle.cq_kept.specs.Slots.{slot_from, IsWorked}
 use Rattle.cq_board.specs.Boards.{changes_from}
 use Rattle.cq_board.specs.Listings.{IsListing}
 use Rattle.cq_board.proofs.SlotLists.{slot_read}

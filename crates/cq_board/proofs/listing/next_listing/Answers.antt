@@ -7,8 +7,8 @@ use Rattle.std.proofs.lemmas.List.Sums.{prefix_len-le-length, prefix_len_passes}
 use Rattle.std.proofs.lemmas.List.Elements.{All-get_or}
 use Rattle.cq_base.specs.declared.change.Change.{Change}
 use Rattle.cq_history.specs.State.{Slot, no_slot, is_done}
-use Rattle.cq_board.specs.declared.kept.Kept.{Kept}
-use Rattle.cq_board.specs.Slots.{slot_from, change_of, IsWorked}
+use Rattle.cq_kept.specs.declared.kept.Kept.{Kept}
+use Rattle.cq_kept.specs.Slots.{slot_from, change_of, IsWorked}
 use Rattle.cq_board.specs.Listings.{listed}
 use Rattle.cq_board.specs.Turnover.{IsNext}
 use Rattle.cq_projects.specs.Ordered.{AreRising}

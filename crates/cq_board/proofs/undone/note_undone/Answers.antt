@@ -1,8 +1,8 @@
 use Rattle.std.proofs.Common.{[], ◌∷◌, ◌++◌, refl, sym, subst}
 use Rattle.cq_history.specs.State.{new_slot}
-use Rattle.cq_board.specs.Slots.{change_of}
+use Rattle.cq_kept.specs.Slots.{change_of}
 use Rattle.cq_board.specs.Undone.{AreUndone}
-use Rattle.cq_board.specs.declared.kept.Stored.{Stored}
+use Rattle.cq_kept.specs.declared.kept.Stored.{Stored}
 use Rattle.cq_board.proofs.Undoing.{undone-push_put, undone-push_done}
 use Rattle.cq_board.proofs.undone.note_undone.Goals as goal
 

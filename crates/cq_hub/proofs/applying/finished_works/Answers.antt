@@ -7,7 +7,7 @@ use Rattle.cq_history.specs.Changes.{change_at}
 use Rattle.cq_history.specs.State.{changes_in, ready, slot_of}
 use Rattle.cq_shard.specs.Shard.{HasItsWork, HaveTheirWorks}
 use Rattle.cq_shard.proofs.Given.{work_given, held_given}
-use Rattle.cq_board.proofs.Found.{work_above}
+use Rattle.cq_board.proofs.Works.{work_above}
 use Rattle.cq_hub.proofs.ShardSteps.{works_more, few_for}
 use Rattle.cq_hub.proofs.applying.finished_works.Goals as goal
 
