@@ -15,6 +15,7 @@ pub mod OneMore
 pub mod Places
 pub mod Reading
 pub mod Related
+pub mod Skipping
 pub mod SlotLists
 pub mod Sounding
 pub mod Turning

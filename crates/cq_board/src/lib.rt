@@ -32,6 +32,7 @@ mod accepting;
 mod answers;
 mod board;
 mod changes;
+mod editing;
 mod forgetting;
 mod free;
 mod kept;
