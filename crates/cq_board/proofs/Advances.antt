@@ -16,7 +16,7 @@ use Rattle.cq_history.specs.State.{Slot, no_slot, is_done}
 use Rattle.cq_history.proofs.Prefixes.{files_of_push, conditions_from_push}
 use Rattle.cq_history.proofs.Standing.{files_stand}
 use Rattle.cq_board.specs.Related.{IsSameFile, AreSameFiles}
-use Rattle.cq_board.specs.Slots.{slot_at, changes_of}
+use Rattle.cq_kept.specs.Slots.{slot_at, changes_of}
 use Rattle.cq_board.specs.Listings.{listed, IsListing}
 use Rattle.cq_projects.specs.Projects.{name_in, path_of, number_at, files_in, conditions_in, ListedProject}
 use Rattle.cq_projects.specs.Ordered.{AreRising}

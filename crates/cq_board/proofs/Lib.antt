@@ -1,18 +1,12 @@
 pub mod Adding
 pub mod Advances
-pub mod Changing
-pub mod FileNumbers
+pub mod Causes
 pub mod Floors
-pub mod Forgetting
 pub mod Freeing
-pub mod Gates
-pub mod Holding
 pub mod Living
 pub mod Newer
-pub mod Noting
 pub mod Numbers
 pub mod OneMore
-pub mod Places
 pub mod Reading
 pub mod Related
 pub mod Skipping
@@ -21,3 +15,4 @@ pub mod Sounding
 pub mod Turning
 pub mod Undoing
 pub mod VersionEntries
+pub mod Works

@@ -19,14 +19,15 @@ use Rattle.cq_history.specs.State.{State, Slot, no_slot, new_slot, is_done}
 use Rattle.cq_history.proofs.Bounds.{prefix_len-append-le}
 use Rattle.cq_history.proofs.Keeping.{one_more, kept_falls, above_kept}
 use Rattle.cq_board.specs.declared.free.FreeChanges.{FreeChanges}
-use Rattle.cq_board.specs.Accepted.{accepted_from}
+use Rattle.cq_kept.specs.Accepted.{accepted_from}
 use Rattle.cq_board.specs.Answers.{refusal_of}
 use Rattle.cq_board.specs.Boards.{BoardOk}
 use Rattle.cq_board.specs.Free.{AreFree, room_of}
 use Rattle.cq_board.specs.Listings.{Listed, IsListing}
-use Rattle.cq_board.specs.Slots.{slot_at, changes_of, state_from}
+use Rattle.cq_kept.specs.Slots.{slot_at, changes_of, state_from}
 use Rattle.cq_board.specs.Undone.{AreUndone}
-use Rattle.cq_board.proofs.Changing.{causes, or_false, lt-from-le_false}
+use Rattle.cq_kept.proofs.Changing.{or_false, lt-from-le_false}
+use Rattle.cq_board.proofs.Causes.{causes}
 use Rattle.cq_board.proofs.Freeing.{one_more_free}
 
 -- what is not refused is allowed

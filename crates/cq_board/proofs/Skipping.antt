@@ -11,9 +11,9 @@ use Rattle.cq_history.specs.Files.{Source, files_of, conditions_of}
 use Rattle.cq_history.specs.Standing.{Has}
 use Rattle.cq_history.specs.State.{Slot, no_slot, is_done}
 use Rattle.cq_history.proofs.Blanks.{blanked_up_to, length_blanked, kept_stands, files_skipped, conditions_skipped, files_blanked, conditions_blanked}
-use Rattle.cq_board.specs.Accepted.{Accepted, Holds, IsNextHeld}
+use Rattle.cq_kept.specs.Accepted.{Accepted, Holds, IsNextHeld}
 use Rattle.cq_board.specs.Related.{AreSameFiles}
-use Rattle.cq_board.specs.Slots.{slot_at, changes_of}
+use Rattle.cq_kept.specs.Slots.{slot_at, changes_of}
 use Rattle.cq_board.specs.Listings.{Listed, IsListing}
 use Rattle.cq_board.specs.Turnover.{IsNext}
 use Rattle.cq_projects.specs.Projects.{ListedProject, files_in}

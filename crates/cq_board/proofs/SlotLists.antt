@@ -9,7 +9,7 @@ use Rattle.cq_history.specs.Changes.{is_put}
 use Rattle.cq_history.specs.Gone.{IsKept}
 use Rattle.cq_history.specs.State.{Slot, no_slot, is_free, is_done, first_free, IsAccepted, IsUndone}
 use Rattle.cq_history.proofs.Bounds.{prefix_len-set-le}
-use Rattle.cq_board.specs.Slots.{slot_at, changes_of, state_from, with_holder, with_work}
+use Rattle.cq_kept.specs.Slots.{slot_at, changes_of, state_from, with_holder, with_work}
 
 free_put : (a b c : Bool) → (not (not a || b) && c) ≡ true → a ≡ true
 free_put true b c h = refl
@@ -39,6 +39,10 @@ undone_kept slots floor r done is = (
   (is.0.0, omega (arith, is.0.1, length-map slots (λ (s : Slot). s.change))),
   λ gone. true≢false (sym (prefix_len_passes is_done slots (r - 1) no_slot (omega (arith, gone.within, done, is.0.0))) ∙ is.1),
 )
+
+-- a change that is kept is accepted
+pub held_accepted : (slots : List Slot) (floor r : ℕ) → IsKept (changes_of slots) floor r → IsAccepted (state_from slots 0 0 []) r
+held_accepted slots floor r held = (held.0.0, omega (arith, held.0.1, length-map slots (λ (s : Slot). s.change)))
 
 pub undone_behind : (slots : List Slot) (floor r : ℕ) → floor ≤ prefix_len is_done slots → IsUndone (state_from slots 0 0 []) r → floor ≤ r - 1
 undone_behind slots floor r done is =

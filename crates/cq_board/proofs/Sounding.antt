@@ -14,7 +14,7 @@ use Rattle.cq_history.specs.Files.{conditions_after, conditions_from}
 use Rattle.cq_history.specs.Changes.{IsNumber}
 use Rattle.cq_history.specs.State.{Slot, no_slot}
 use Rattle.cq_board.specs.declared.answers.Job.{Job}
-use Rattle.cq_board.specs.Slots.{slot_at, changes_of}
+use Rattle.cq_kept.specs.Slots.{slot_at, changes_of}
 use Rattle.cq_board.specs.Answers.{IsJobOf}
 use Rattle.cq_board.specs.Listings.{Listed, IsListing}
 use Rattle.cq_board.specs.Sound.{HasSoundText, HaveFewConditions}

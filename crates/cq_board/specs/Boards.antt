@@ -10,10 +10,10 @@ use Rattle.cq_base.specs.declared.lang.Lang.{Lang}
 use Rattle.cq_history.specs.Gone.{kept_count}
 use Rattle.cq_history.specs.State.{Slot, is_done}
 use Rattle.cq_board.specs.declared.free.FreeChanges.{FreeChanges}
-use Rattle.cq_board.specs.Accepted.{Accepted}
+use Rattle.cq_kept.specs.Accepted.{Accepted}
 use Rattle.cq_board.specs.Free.{AreFree, room_of}
 use Rattle.cq_board.specs.Listings.{Listed, IsListing}
-use Rattle.cq_board.specs.Slots.{changes_of}
+use Rattle.cq_kept.specs.Slots.{changes_of}
 use Rattle.cq_board.specs.Undone.{AreUndone}
 
 module _ {W : Type 0} where

@@ -1,14 +1,10 @@
-pub mod Accepted
 pub mod Answers
 pub mod Boards
 pub mod Edits
 pub mod Entries
 pub mod Free
 pub mod Listings
-pub mod Over
-pub mod Presence
 pub mod Related
-pub mod Slots
 pub mod Sound
 pub mod Stands
 pub mod Turnover

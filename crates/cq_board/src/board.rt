@@ -11,14 +11,13 @@ ghost use Rattle.cq_history.specs.Changes.{IsWorkFor};
 ghost use Rattle.cq_base.specs.Changes.{IsSoundChange};
 ghost use Rattle.cq_board.specs.Sound.{HasSoundText, HaveFewConditions};
 
-use crate::accepting::stored;
-use crate::changes::Changes;
 use crate::free::{FreeChanges, first_free, note_given_back, note_taken, pass_over};
 use crate::listing::{Listing, View, advance_to};
-use crate::slot_tests::job_of;
-use crate::undone::{is_taken_by, job_at, note_undone, ready_of, undone_at};
+use crate::refusing::refusal;
+use crate::undone::{is_taken_by, job_at, job_of, note_undone, ready_of, undone_at, work_at};
 use crate::{Asked, Finished, Job, Refused};
 use cq_base::{Change, Memory, Settings};
+use cq_kept::{Changes, stored};
 use cq_shard::Indexed;
 use std::alloc::Global;
 use std::collections::BTreeSet;
@@ -47,7 +46,7 @@ impl<W: Indexed> Model for Board<W> {
 
     ghost use Rattle.std.specs.Arc.{arc_value};
     ghost use Rattle.cq_board.specs.Boards.{BoardOk};
-    ghost use Rattle.cq_board.specs.Slots.{state_from};
+    ghost use Rattle.cq_kept.specs.Slots.{state_from};
 
     ghost view = { λ b. record { settings = b.changes.settings; state = state_from b.changes.slots b.published b.changes.floor b.views.items; events = b.events } };
 
@@ -102,11 +101,8 @@ impl<W: Indexed> Board<W> {
         ensures some { IfOk result (λ work. IsSome work ↔ IsKeptWork self.now.state change) }
         ensures work { IfOk result (λ work. IfSome work (IsWorkAt (W.IsWorkOf self.now.settings) self.now.state change)) }
     {
-        match self.changes.get(change) {
-            Some(kept) => match &kept.work {
-                Some(work) => Ok(Some(Arc::try_clone(work)?)),
-                None => Ok(None),
-            },
+        match work_at(&self.changes, change) {
+            Some(work) => Ok(Some(Arc::try_clone(work)?)),
             None => Ok(None),
         }
     }
@@ -198,7 +194,7 @@ impl<W: Indexed> Board<W> {
         ensures err { OnErr result (self.new ≡ self.old) }
     {
         let change = stored(alloc, change)?;
-        if let Some(cause) = self.changes.refusal(&change) {
+        if let Some(cause) = refusal(&self.changes, &change) {
             return Err(cause);
         }
         note_undone(&self.changes, &mut self.undone, &change)?;

@@ -1,15 +1,15 @@
 ghost use Rattle.std.specs.Prelude.{◌≡◌, IfOk, OnErr, true};
 ghost use Rattle.std.specs.Arc.{arc_value};
 ghost use Rattle.cq_history.specs.State.{is_done};
-ghost use Rattle.cq_board.specs.Slots.{slot_from, change_of, IsWorked};
+ghost use Rattle.cq_kept.specs.Slots.{slot_from, change_of, IsWorked};
 ghost use Rattle.cq_board.specs.Edits.{IsEditFor, project_named, put_by};
 ghost use Rattle.cq_projects.specs.Ordered.{AreRising};
 ghost use Rattle.cq_board.specs.Listings.{HaveSame};
 ghost use Rattle.cq_projects.specs.Projects.{owner_name, projects_in};
 ghost use Rattle.cq_board.specs.Turnover.{IsBefore, AddsKept, AddsOwned, from_option};
 
-use crate::kept::{Kept, Stored};
 use cq_base::{Memory, Settings, Text};
+use cq_kept::{Kept, Stored};
 use cq_projects::{Draft, Held, Project, ProjectEdit, edit_draft, edit_in};
 use cq_shard::Indexed;
 use std::alloc::Global;

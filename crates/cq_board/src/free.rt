@@ -5,9 +5,8 @@ ghost use Rattle.cq_board.specs.Undone.{AreUndone};
 ghost use Rattle.cq_board.specs.Free.{AreFree, IsNext, IsNoneBefore, least_first, room_of};
 ghost use Rattle.std.specs.BinaryHeap.{IsHeap, heap_items};
 
-use crate::changes::Changes;
-use crate::slot_tests::is_free;
 use cq_base::Memory;
+use cq_kept::{Changes, is_free};
 use cq_shard::Indexed;
 use std::alloc::Global;
 use std::cmp::Reverse;

@@ -28,21 +28,14 @@
 //! path and no work is copied: each is held once, behind an owner that what is kept, listings and jobs share.
 #![tactic(auto)]
 
-mod accepting;
 mod answers;
 mod board;
-mod changes;
 mod editing;
-mod forgetting;
 mod free;
-mod kept;
 mod laws;
 mod listing;
 mod live;
-mod over;
-mod past;
-mod presence;
-mod slot_tests;
+mod refusing;
 mod undone;
 
 pub use answers::{Asked, Finished, Job, Refused};

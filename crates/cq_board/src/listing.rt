@@ -2,18 +2,17 @@ ghost use Rattle.std.specs.Prelude.{◌≡◌, ◌⊎◌, ◌+◌, ◌<◌, ◌�
 ghost use Rattle.std.specs.Arc.{arc_value};
 ghost use Rattle.std.specs.List.{prefix_len};
 ghost use Rattle.cq_history.specs.State.{is_done};
-ghost use Rattle.cq_board.specs.Accepted.{Holds, IsNextHeld};
-ghost use Rattle.cq_board.specs.Slots.{slot_from, slot_at, changes_of, IsWorked};
+ghost use Rattle.cq_kept.specs.Accepted.{Holds, IsNextHeld};
+ghost use Rattle.cq_kept.specs.Slots.{slot_from, slot_at, changes_of, IsWorked};
 ghost use Rattle.cq_board.specs.Boards.{IsListingAt};
 ghost use Rattle.cq_board.specs.Listings.{IsListing, ListsTheSame, listed};
 ghost use Rattle.cq_projects.specs.Projects.{files_in, conditions_in};
 ghost use Rattle.cq_board.specs.Turnover.{IsListingBefore, ListsKept};
 
-use crate::changes::Changes;
 use crate::editing::{apply_change, draft_change, put_number};
-use crate::kept::Kept;
 use crate::live::{Turnover, note, turn, turn_one};
 use cq_base::{Condition, Memory, Settings, Text};
+use cq_kept::{Changes, Kept};
 use cq_projects::{
     Draft, Held, Project, ProjectFiles, drafts_of, find_project, finished_all, own_drafts,
 };

@@ -2,18 +2,18 @@ ghost use Rattle.std.specs.Prelude.{◌≡◌, ◌≤◌, ◌++◌, ◌∷◌, [
 ghost use Rattle.std.specs.List.{prefix_len};
 ghost use Rattle.cq_history.specs.Changes.{is_put};
 ghost use Rattle.cq_history.specs.State.{is_done, new_slot, IsUndone, IsTakenBy};
-ghost use Rattle.cq_board.specs.Accepted.{Holds};
-ghost use Rattle.cq_board.specs.Answers.{IsJobOf};
-ghost use Rattle.cq_board.specs.Slots.{slot_from, slot_at, change_of, state_from};
+ghost use Rattle.cq_kept.specs.Accepted.{Holds};
+ghost use Rattle.cq_board.specs.Answers.{IsJobOf, IsKeptWork, IsWorkAt};
+ghost use Rattle.cq_kept.specs.Slots.{slot_from, slot_at, change_of, state_from};
 ghost use Rattle.cq_board.specs.Undone.{AreUndone};
 
 use crate::Job;
-use crate::changes::Changes;
-use crate::kept::{Kept, Stored};
-use crate::slot_tests::{is_done, job_of};
 use cq_base::Memory;
+use cq_kept::{Changes, Kept, Stored, is_done};
 use cq_shard::Indexed;
+use std::alloc::Global;
 use std::collections::BTreeSet;
+use std::sync::Arc;
 
 /// How many changes at the front are done.
 pub fn ready_of<W: Indexed>(changes: &Changes<W>, undone: &BTreeSet<u64>) -> u64
@@ -63,6 +63,17 @@ pub fn job_at<W: Indexed>(changes: &Changes<W>, number: u64) -> Result<Job, Memo
     }
 }
 
+/// The work of a done put that is kept, and None for any other number. It costs a search.
+pub fn work_at<W: Indexed>(changes: &Changes<W>, number: u64) -> Option<&Arc<W, Global>>
+    ensures some { IsSome result ↔ IsKeptWork (state_from changes.now.slots 0 changes.now.floor []) number }
+    ensures work { IfSome result (λ work. IsWorkAt (W.IsWorkOf changes.now.settings) (state_from changes.now.slots 0 changes.now.floor []) number work.now) }
+{
+    match changes.get(number) {
+        Some(kept) => kept.work.as_ref(),
+        None => None,
+    }
+}
+
 /// Those of one change more, which is not done where it is a put. Where memory is refused they are as before.
 pub fn note_undone<W: Indexed>(
     changes: &Changes<W>,
@@ -73,8 +84,32 @@ pub fn note_undone<W: Indexed>(
     ensures more { OnOk result (AreUndone (changes.now.slots ++ new_slot (change_of change.now) ∷ []) undone.new) }
     ensures same { OnErr result (AreUndone changes.now.slots undone.new) }
 {
-    if let Stored::Put { .. } = change {
-        undone.insert(changes.len())?;
+    match change {
+        Stored::Put { .. } => {
+            undone.insert(changes.len())?;
+            Ok(())
+        }
+        Stored::Drop { .. } => Ok(()),
+        Stored::Gate { .. } => Ok(()),
     }
-    Ok(())
+}
+
+/// The job of a put.
+pub fn job_of(change: u64, stored: &Stored) -> Result<Job, Memory>
+    requires { is_put (change_of stored.now) ≡ true }
+    ensures job { IfOk result (IsJobOf (change_of stored.now)) }
+    ensures number { IfOk result (λ job. job.change ≡ change) }
+{
+    match stored {
+        Stored::Put { lang, text, .. } => {
+            let text = Arc::try_clone(text)?;
+            Ok(Job {
+                change,
+                lang: *lang,
+                text,
+            })
+        }
+        Stored::Drop { .. } => unreachable!(),
+        Stored::Gate { .. } => unreachable!(),
+    }
 }

@@ -19,29 +19,23 @@ use Rattle.cq_history.proofs.Forgetting.{any_follows, follows_any, followed_high
 
 sum_filter-le : (f : ℕ → ℕ) (p q : ℕ → Bool) → ((r : ℕ) → p r ≡ true → q r ≡ true) → (xs : List ℕ) → sum_by f (filter p xs) ≤ sum_by f (filter q xs)
 sum_filter-le f p q more [] = omega arith
-sum_filter-le f p q more (x ∷ xs) = go (p x) (q x) refl refl
+sum_filter-le f p q more (x ∷ xs) = go (p x) (q x) (sum_filter-le f p q more xs) refl refl
   where
-    rest : sum_by f (filter p xs) ≤ sum_by f (filter q xs)
-    rest = sum_filter-le f p q more xs
-
-    go : (a b : Bool) → p x ≡ a → q x ≡ b → sum_by f (cond a (x ∷ filter p xs) (filter p xs)) ≤ sum_by f (cond b (x ∷ filter q xs) (filter q xs))
-    go true true e d = omega (arith, sum_by-cons f x (filter p xs), sum_by-cons f x (filter q xs), rest)
-    go true false e d = absurd (true≢false (sym (more x e) ∙ d))
-    go false true e d = omega (arith, sum_by-cons f x (filter q xs), rest)
-    go false false e d = rest
+    go : (a b : Bool) → sum_by f (filter p xs) ≤ sum_by f (filter q xs) → p x ≡ a → q x ≡ b → sum_by f (cond a (x ∷ filter p xs) (filter p xs)) ≤ sum_by f (cond b (x ∷ filter q xs) (filter q xs))
+    go true true rest e d = omega (arith, sum_by-cons f x (filter p xs), sum_by-cons f x (filter q xs), rest)
+    go true false rest e d = absurd (true≢false (sym (more x e) ∙ d))
+    go false true rest e d = omega (arith, sum_by-cons f x (filter q xs), rest)
+    go false false rest e d = rest
 
 length_filter-le : (p q : ℕ → Bool) → ((r : ℕ) → p r ≡ true → q r ≡ true) → (xs : List ℕ) → length (filter p xs) ≤ length (filter q xs)
 length_filter-le p q more [] = omega arith
-length_filter-le p q more (x ∷ xs) = go (p x) (q x) refl refl
+length_filter-le p q more (x ∷ xs) = go (p x) (q x) (length_filter-le p q more xs) refl refl
   where
-    rest : length (filter p xs) ≤ length (filter q xs)
-    rest = length_filter-le p q more xs
-
-    go : (a b : Bool) → p x ≡ a → q x ≡ b → length (cond a (x ∷ filter p xs) (filter p xs)) ≤ length (cond b (x ∷ filter q xs) (filter q xs))
-    go true true e d = omega (arith, rest)
-    go true false e d = absurd (true≢false (sym (more x e) ∙ d))
-    go false true e d = omega (arith, rest)
-    go false false e d = rest
+    go : (a b : Bool) → length (filter p xs) ≤ length (filter q xs) → p x ≡ a → q x ≡ b → length (cond a (x ∷ filter p xs) (filter p xs)) ≤ length (cond b (x ∷ filter q xs) (filter q xs))
+    go true true rest e d = omega (arith, rest)
+    go true false rest e d = absurd (true≢false (sym (more x e) ∙ d))
+    go false true rest e d = omega (arith, rest)
+    go false false rest e d = rest
 
 over_higher_too : (changes : List Change) (floor higher r : ℕ) (c : Change) → floor ≤ higher → is_over c (drop r (take floor changes)) ≡ true → is_over c (drop r (take higher changes)) ≡ true
 over_higher_too changes floor higher r (Put project path lang text) low h =

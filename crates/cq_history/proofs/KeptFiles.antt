@@ -24,28 +24,22 @@ use Rattle.cq_history.proofs.FewFiles.{change_in_front, files_kept}
 
 filter_swap : (s t : Source → Bool) (files : List Source) → filter s (filter t files) ≡ filter t (filter s files)
 filter_swap s t [] = refl
-filter_swap s t (g ∷ files) = go (s g) (t g) refl refl
+filter_swap s t (g ∷ files) = go (s g) (t g) (filter_swap s t files) refl refl
   where
-    rest : filter s (filter t files) ≡ filter t (filter s files)
-    rest = filter_swap s t files
-
-    go : (a b : Bool) → s g ≡ a → t g ≡ b → filter s (cond b (g ∷ filter t files) (filter t files)) ≡ filter t (cond a (g ∷ filter s files) (filter s files))
-    go true true e d = ap (λ z. cond z (g ∷ filter s (filter t files)) (filter s (filter t files))) e ∙ ap (λ gs. g ∷ gs) rest ∙ sym (ap (λ z. cond z (g ∷ filter t (filter s files)) (filter t (filter s files))) d)
-    go true false e d = rest ∙ sym (ap (λ z. cond z (g ∷ filter t (filter s files)) (filter t (filter s files))) d)
-    go false true e d = ap (λ z. cond z (g ∷ filter s (filter t files)) (filter s (filter t files))) e ∙ rest
-    go false false e d = rest
+    go : (a b : Bool) → filter s (filter t files) ≡ filter t (filter s files) → s g ≡ a → t g ≡ b → filter s (cond b (g ∷ filter t files) (filter t files)) ≡ filter t (cond a (g ∷ filter s files) (filter s files))
+    go true true rest e d = ap (λ z. cond z (g ∷ filter s (filter t files)) (filter s (filter t files))) e ∙ ap (λ gs. g ∷ gs) rest ∙ sym (ap (λ z. cond z (g ∷ filter t (filter s files)) (filter t (filter s files))) d)
+    go true false rest e d = rest ∙ sym (ap (λ z. cond z (g ∷ filter t (filter s files)) (filter t (filter s files))) d)
+    go false true rest e d = ap (λ z. cond z (g ∷ filter s (filter t files)) (filter s (filter t files))) e ∙ rest
+    go false false rest e d = rest
 
 -- what one filter takes out another one doesn't keep
 filter_past : (kept test : Source → Bool) (files : List Source) → ((g : Source) → Has files g → test g ≡ false → kept g ≡ false) → filter kept (filter test files) ≡ filter kept files
 filter_past kept test [] never = refl
-filter_past kept test (g ∷ files) never = go (test g) refl
+filter_past kept test (g ∷ files) never = go (test g) (filter_past kept test files (λ h has. never h (inr has))) refl
   where
-    rest : filter kept (filter test files) ≡ filter kept files
-    rest = filter_past kept test files (λ h has. never h (inr has))
-
-    go : (b : Bool) → test g ≡ b → filter kept (cond b (g ∷ filter test files) (filter test files)) ≡ cond (kept g) (g ∷ filter kept files) (filter kept files)
-    go true e = ap (λ gs. cond (kept g) (g ∷ gs) gs) rest
-    go false e = rest ∙ sym (ap (λ z. cond z (g ∷ filter kept files) (filter kept files)) (never g (inl refl) e))
+    go : (b : Bool) → filter kept (filter test files) ≡ filter kept files → test g ≡ b → filter kept (cond b (g ∷ filter test files) (filter test files)) ≡ cond (kept g) (g ∷ filter kept files) (filter kept files)
+    go true rest e = ap (λ gs. cond (kept g) (g ∷ gs) gs) rest
+    go false rest e = rest ∙ sym (ap (λ z. cond z (g ∷ filter kept files) (filter kept files)) (never g (inl refl) e))
 
 -- each is kept
 pub filter_none : (kept : Source → Bool) (files : List Source) → ((g : Source) → Has files g → kept g ≡ true) → filter kept files ≡ files
@@ -64,33 +58,27 @@ in_front f (g ∷ files) all = ap (λ z. insert (g ∷ files) (cond (not z) (1 +
 
 filter_insert_kept : (kept : Source → Bool) (files : List Source) (f : Source) → AreInPathOrder files → kept f ≡ true → filter kept (insert files (place_of f.path files) f) ≡ insert (filter kept files) (place_of f.path (filter kept files)) f
 filter_insert_kept kept [] f order h = ap (λ z. cond z (f ∷ []) []) h
-filter_insert_kept kept (x ∷ files) f order h = go (is_before f.path x.path) (kept x) refl refl
+filter_insert_kept kept (x ∷ files) f order h = go (is_before f.path x.path) (kept x) (filter_insert_kept kept files f order.1 h) refl refl
   where
-    left : List Source
-    left = filter kept files
-
-    rest : filter kept (insert files (place_of f.path files) f) ≡ insert left (place_of f.path left) f
-    rest = filter_insert_kept kept files f order.1 h
-
-    behind : is_before f.path x.path ≡ true → AllByRecursion (λ (g : Source). is_before f.path g.path ≡ true) left
+    behind : is_before f.path x.path ≡ true → AllByRecursion (λ (g : Source). is_before f.path g.path ≡ true) (filter kept files)
     behind e = all_filter (λ (g : Source). is_before f.path g.path ≡ true) kept files (all_behind f.path x.path files e order.0)
 
-    go : (a b : Bool) → is_before f.path x.path ≡ a → kept x ≡ b → filter kept (insert (x ∷ files) (cond (not a) (1 + place_of f.path files) 0) f) ≡ insert (cond b (x ∷ left) left) (place_of f.path (cond b (x ∷ left) left)) f
-    go true true e d =
-        ap (λ z. cond z (f ∷ cond (kept x) (x ∷ left) left) (cond (kept x) (x ∷ left) left)) h
-        ∙ ap (λ z. f ∷ cond z (x ∷ left) left) d
-        ∙ sym (in_front f (x ∷ left) (e, behind e))
-    go true false e d =
-        ap (λ z. cond z (f ∷ cond (kept x) (x ∷ left) left) (cond (kept x) (x ∷ left) left)) h
-        ∙ ap (λ z. f ∷ cond z (x ∷ left) left) d
-        ∙ sym (in_front f left (behind e))
-    go false true e d =
+    go : (a b : Bool) → filter kept (insert files (place_of f.path files) f) ≡ insert (filter kept files) (place_of f.path (filter kept files)) f → is_before f.path x.path ≡ a → kept x ≡ b → filter kept (insert (x ∷ files) (cond (not a) (1 + place_of f.path files) 0) f) ≡ insert (cond b (x ∷ (filter kept files)) (filter kept files)) (place_of f.path (cond b (x ∷ (filter kept files)) (filter kept files))) f
+    go true true rest e d =
+        ap (λ z. cond z (f ∷ cond (kept x) (x ∷ (filter kept files)) (filter kept files)) (cond (kept x) (x ∷ (filter kept files)) (filter kept files))) h
+        ∙ ap (λ z. f ∷ cond z (x ∷ (filter kept files)) (filter kept files)) d
+        ∙ sym (in_front f (x ∷ (filter kept files)) (e, behind e))
+    go true false rest e d =
+        ap (λ z. cond z (f ∷ cond (kept x) (x ∷ (filter kept files)) (filter kept files)) (cond (kept x) (x ∷ (filter kept files)) (filter kept files))) h
+        ∙ ap (λ z. f ∷ cond z (x ∷ (filter kept files)) (filter kept files)) d
+        ∙ sym (in_front f (filter kept files) (behind e))
+    go false true rest e d =
         ap (λ n. filter kept (insert (x ∷ files) n f)) (sym (one_more (place_of f.path files)))
         ∙ ap (λ z. cond z (x ∷ filter kept (insert files (place_of f.path files) f)) (filter kept (insert files (place_of f.path files) f))) d
         ∙ ap (λ gs. x ∷ gs) rest
-        ∙ ap (λ n. insert (x ∷ left) n f) (one_more (place_of f.path left))
-        ∙ sym (ap (λ z. insert (x ∷ left) (cond (not z) (1 + place_of f.path left) 0) f) e)
-    go false false e d =
+        ∙ ap (λ n. insert (x ∷ (filter kept files)) n f) (one_more (place_of f.path (filter kept files)))
+        ∙ sym (ap (λ z. insert (x ∷ (filter kept files)) (cond (not z) (1 + place_of f.path (filter kept files)) 0) f) e)
+    go false false rest e d =
         ap (λ n. filter kept (insert (x ∷ files) n f)) (sym (one_more (place_of f.path files)))
         ∙ ap (λ z. cond z (x ∷ filter kept (insert files (place_of f.path files) f)) (filter kept (insert files (place_of f.path files) f))) d
         ∙ rest

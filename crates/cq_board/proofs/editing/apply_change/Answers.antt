@@ -1,6 +1,6 @@
 use Rattle.std.proofs.Common.{◌++◌}
 use Rattle.std.specs.Arc.{arc_value}
-use Rattle.cq_board.specs.Slots.{change_of}
+use Rattle.cq_kept.specs.Slots.{change_of}
 use Rattle.cq_board.specs.Listings.{listed}
 use Rattle.cq_projects.specs.Projects.{projects_in}
 use Rattle.cq_board.specs.Turnover.{left}

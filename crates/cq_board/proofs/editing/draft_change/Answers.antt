@@ -1,5 +1,5 @@
 use Rattle.std.specs.Arc.{arc_value}
-use Rattle.cq_board.specs.Slots.{change_of}
+use Rattle.cq_kept.specs.Slots.{change_of}
 use Rattle.cq_board.proofs.Turning.{draft_adds}
 use Rattle.cq_board.proofs.editing.draft_change.Goals as goal
 

@@ -4,7 +4,7 @@ use Rattle.std.proofs.lemmas.Result.{on_ok_weaker, on_err_weaker}
 use Rattle.cq_base.specs.declared.change.Change.{Change}
 use Rattle.cq_base.specs.declared.settings.Settings.{Settings}
 use Rattle.cq_history.specs.State.{Slot, no_slot, is_done}
-use Rattle.cq_board.specs.Slots.{slot_at, change_of, changes_of, IsWorked}
+use Rattle.cq_kept.specs.Slots.{slot_at, change_of, changes_of, IsWorked}
 use Rattle.cq_board.specs.Listings.{IsListing, ListsTheSame}
 use Rattle.cq_board.specs.Turnover.{IsListingBefore, ListsKept}
 use Rattle.cq_board.proofs.Advances.{next_changes, done_within, length_before}

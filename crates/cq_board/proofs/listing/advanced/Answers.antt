@@ -1,5 +1,5 @@
 use Rattle.std.proofs.Common.{List, take, sym, ap, ◌∙◌, subst}
-use Rattle.cq_board.specs.Slots.{changes_of}
+use Rattle.cq_kept.specs.Slots.{changes_of}
 use Rattle.cq_board.specs.Listings.{IsListing, listed}
 use Rattle.cq_projects.specs.Projects.{ListedProject}
 use Rattle.cq_board.proofs.listing.advanced.Goals as goal

@@ -1,6 +1,6 @@
 use Rattle.std.proofs.Common.{ℕ, List, map, take, sym, ap, ap₂, ◌∙◌, subst}
 use Rattle.std.specs.Arc.{arc_value}
-use Rattle.cq_board.specs.Slots.{changes_of}
+use Rattle.cq_kept.specs.Slots.{changes_of}
 use Rattle.cq_board.specs.Listings.{IsListing, listed}
 use Rattle.cq_projects.specs.Projects.{ListedProject}
 use Rattle.cq_board.proofs.listing.advanced_copy.Goals as goal

@@ -5,7 +5,7 @@ use Rattle.std.proofs.lemmas.List.Sums.{prefix_len-le-length, prefix_len_passes}
 use Rattle.cq_base.specs.declared.change.Change.{Change}
 use Rattle.cq_base.specs.declared.settings.Settings.{Settings}
 use Rattle.cq_history.specs.State.{Slot, no_slot, is_done}
-use Rattle.cq_board.specs.Slots.{change_of, IsWorked}
+use Rattle.cq_kept.specs.Slots.{change_of, IsWorked}
 use Rattle.cq_board.specs.Listings.{listed}
 use Rattle.cq_board.specs.Turnover.{IsBefore, IsNext, AddsKept}
 use Rattle.cq_projects.specs.Ordered.{AreRising}

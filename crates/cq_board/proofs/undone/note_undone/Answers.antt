@@ -1,13 +1,23 @@
 use Rattle.std.proofs.Common.{[], ◌∷◌, ◌++◌, refl, sym, subst}
 use Rattle.cq_history.specs.State.{new_slot}
-use Rattle.cq_board.specs.Slots.{change_of}
+use Rattle.cq_kept.specs.Slots.{change_of}
 use Rattle.cq_board.specs.Undone.{AreUndone}
-use Rattle.cq_board.specs.declared.kept.Stored.{Stored}
-use Rattle.cq_board.proofs.Undoing.{undone-push_put}
+use Rattle.cq_kept.specs.declared.kept.Stored.{Stored}
+use Rattle.cq_board.proofs.Undoing.{undone-push_put, undone-push_done}
 use Rattle.cq_board.proofs.undone.note_undone.Goals as goal
 
--- of a put; `undone-push_done` is for the others
+-- a put is not done, and the others are at once
 pub returns-in-Put-clause-more : goal.returns-in-Put-clause-more
 returns-in-Put-clause-more g c =
     subst (λ (s : Stored). AreUndone (c.args.changes.now.slots ++ new_slot (change_of s) ∷ []) c.insert.new.self) (sym c.in-Put.is)
     (undone-push_put c.args.changes.now.slots c.args.undone.now c.insert.new.self c.requires _ refl c.in_ok-insert.ensures.updates.0)
+
+pub returns-in-Drop-clause-more : goal.returns-in-Drop-clause-more
+returns-in-Drop-clause-more g c =
+    subst (λ (s : Stored). AreUndone (c.args.changes.now.slots ++ new_slot (change_of s) ∷ []) c.args.undone.now) (sym c.in-Drop.is)
+    (undone-push_done c.args.changes.now.slots c.args.undone.now c.requires _ refl)
+
+pub returns-in-Gate-clause-more : goal.returns-in-Gate-clause-more
+returns-in-Gate-clause-more g c =
+    subst (λ (s : Stored). AreUndone (c.args.changes.now.slots ++ new_slot (change_of s) ∷ []) c.args.undone.now) (sym c.in-Gate.is)
+    (undone-push_done c.args.changes.now.slots c.args.undone.now c.requires _ refl)

@@ -4,18 +4,21 @@ use Rattle.cq_base.specs.Changes.{IsSoundChange}
 use Rattle.cq_base.specs.declared.change.Change.{Change}
 use Rattle.cq_history.specs.declared.event.Event.TheVariants as event
 use Rattle.cq_history.specs.State.{new_slot}
-use Rattle.cq_board.specs.Accepted.{Accepted}
+use Rattle.cq_kept.specs.Accepted.{Accepted}
 use Rattle.cq_board.specs.Answers.{refusal_of}
 use Rattle.cq_board.specs.Boards.{BoardOk}
-use Rattle.cq_board.specs.Slots.{change_of, state_from}
+use Rattle.cq_kept.specs.Slots.{change_of, state_from}
 use Rattle.cq_board.specs.Stands.{BoardState}
 use Rattle.cq_board.proofs.Adding.{Adds_from}
+use Rattle.cq_board.proofs.Causes.{causes}
 use Rattle.cq_board.proofs.OneMore.{board_accepted, board_undone, allowed_accept}
 use Rattle.cq_board.proofs.Undoing.{undone-pop}
 use Rattle.cq_board.proofs.board.Board.accept.Goals as goal
 
 pub accept-requires : goal.accept-requires
-accept-requires g c = sym c.refusal.ensures ∙ c.in_default.is
+accept-requires g c =
+    let a : Accepted = c.self.inside.changes in
+    causes a.settings (state_from a.slots 0 a.floor []) (change_of c.in_ok-change.change) (sym c.refusal.ensures ∙ c.in_default.is)
 
 pub invariant_of-self : goal.invariant_of-self
 invariant_of-self g c =

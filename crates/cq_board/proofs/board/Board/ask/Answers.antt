@@ -1,7 +1,7 @@
 use Rattle.std.proofs.Common.{refl}
 use Rattle.cq_history.specs.declared.event.Event.TheVariants as event
 use Rattle.cq_board.proofs.Adding.{Adds_from}
-use Rattle.cq_board.specs.Slots.{state_from}
+use Rattle.cq_kept.specs.Slots.{state_from}
 use Rattle.cq_board.proofs.board.Board.ask.Goals as goal
 
 pub returns-clause-adds : goal.returns-clause-adds

@@ -3,9 +3,9 @@ use Rattle.std.specs.Arc.{arc_value}
 use Rattle.cq_history.specs.declared.event.Event.TheVariants as event
 use Rattle.cq_history.specs.Changes.{IsWorkFor}
 use Rattle.cq_history.specs.State.{Slot, slot_of, IsAccepted, IsUndone}
-use Rattle.cq_board.specs.Accepted.{Accepted}
+use Rattle.cq_kept.specs.Accepted.{Accepted}
 use Rattle.cq_board.specs.Boards.{BoardOk}
-use Rattle.cq_board.specs.Slots.{slot_at, state_from}
+use Rattle.cq_kept.specs.Slots.{slot_at, state_from}
 use Rattle.cq_board.specs.Stands.{BoardState}
 use Rattle.cq_board.proofs.Adding.{Adds_from}
 use Rattle.cq_board.proofs.Freeing.{done_free}

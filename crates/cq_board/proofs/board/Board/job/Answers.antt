@@ -1,7 +1,7 @@
 use Rattle.std.proofs.Common.{sym, ap, subst, arith}
 use Rattle.cq_history.specs.State.{Slot, IsAccepted}
 use Rattle.cq_base.specs.Changes.{IsSoundChange}
-use Rattle.cq_board.specs.Slots.{change_of, state_from}
+use Rattle.cq_kept.specs.Slots.{change_of, state_from}
 use Rattle.cq_board.specs.Stands.{BoardState}
 use Rattle.cq_board.proofs.Sounding.{slot_sound, job_text}
 use Rattle.cq_board.proofs.board.Board.job.Goals as goal

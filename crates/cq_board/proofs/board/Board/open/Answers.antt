@@ -5,7 +5,7 @@ use Rattle.cq_base.specs.Changes.{IsSoundChange}
 use Rattle.cq_history.specs.declared.event.Event.TheVariants as event
 use Rattle.cq_history.specs.State.{view_of}
 use Rattle.cq_board.specs.Listings.{Listed, IsListing}
-use Rattle.cq_board.specs.Slots.{changes_of, state_from}
+use Rattle.cq_kept.specs.Slots.{changes_of, state_from}
 use Rattle.cq_board.specs.Sound.{HaveFewConditions}
 use Rattle.cq_board.specs.Stands.{BoardState}
 use Rattle.cq_board.proofs.Adding.{Adds_from}

@@ -3,7 +3,7 @@ use Rattle.std.specs.Arc.{arc_value}
 use Rattle.cq_history.specs.declared.event.Event.TheVariants as event
 use Rattle.cq_history.specs.State.{ready}
 use Rattle.cq_board.specs.Stands.{BoardState}
-use Rattle.cq_board.specs.Slots.{state_from}
+use Rattle.cq_kept.specs.Slots.{state_from}
 use Rattle.cq_board.proofs.Adding.{Adds_from}
 use Rattle.cq_board.proofs.OneMore.{listed_low, listed_from, listed_back, board_published}
 use Rattle.cq_board.proofs.board.Board.publish.Goals as goal

@@ -5,10 +5,10 @@ use Rattle.cq_history.specs.Lawful.{Permits}
 use Rattle.cq_history.specs.State.{is_done}
 use Rattle.std.specs.List.{prefix_len}
 use Rattle.std.proofs.lemmas.List.Sums.{prefix_len-le-length}
-use Rattle.cq_board.specs.Accepted.{Accepted}
+use Rattle.cq_kept.specs.Accepted.{Accepted}
 use Rattle.cq_board.specs.Answers.{greatest_floor, lower}
 use Rattle.cq_board.specs.Boards.{BoardOk}
-use Rattle.cq_board.specs.Slots.{state_from}
+use Rattle.cq_kept.specs.Slots.{state_from}
 use Rattle.cq_board.specs.Stands.{BoardState}
 use Rattle.cq_board.proofs.Adding.{Adds_from}
 use Rattle.cq_board.proofs.Floors.{fits_all, all_fit}

@@ -6,7 +6,7 @@ use Rattle.cq_history.specs.State.{view_of}
 use Rattle.cq_board.specs.Stands.{BoardState}
 use Rattle.cq_board.proofs.Adding.{Adds_from}
 use Rattle.cq_board.proofs.OneMore.{board_views}
-use Rattle.cq_board.specs.Slots.{state_from}
+use Rattle.cq_kept.specs.Slots.{state_from}
 use Rattle.cq_board.proofs.board.Board.shut.Goals as goal
 
 pub returns : goal.returns

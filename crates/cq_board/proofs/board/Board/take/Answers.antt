@@ -2,9 +2,9 @@ use Rattle.std.proofs.Common.{◌≡◌, ◌+◌, ◌-◌, ◌<◌, ◌≤◌, �
 use Rattle.std.specs.Arc.{arc_value}
 use Rattle.cq_history.specs.declared.event.Event.TheVariants as event
 use Rattle.cq_history.specs.State.{Slot, after, first_free, IsAccepted, IsUndone}
-use Rattle.cq_board.specs.Accepted.{Accepted}
+use Rattle.cq_kept.specs.Accepted.{Accepted}
 use Rattle.cq_board.specs.Boards.{BoardOk}
-use Rattle.cq_board.specs.Slots.{slot_at, state_from}
+use Rattle.cq_kept.specs.Slots.{slot_at, state_from}
 use Rattle.cq_board.specs.Stands.{BoardState}
 use Rattle.cq_board.proofs.Adding.{Adds_from}
 use Rattle.cq_board.proofs.OneMore.{board_with, board_free}

@@ -1,5 +1,0 @@
-use Rattle.cq_board.specs.Slots.{with_work}
-use Rattle.cq_board.proofs.changes.Changes.finish.Given as goal
-
-abbrev pub ghost-finished : goal.ghost-finished
-ghost-finished g a = with_work a.self.now.slots a.number

@@ -1,5 +1,0 @@
-use Rattle.cq_board.specs.Slots.{with_holder}
-use Rattle.cq_board.proofs.changes.Changes.hold.Given as goal
-
-abbrev pub ghost-held : goal.ghost-held
-ghost-held g a = with_holder a.self.now.slots a.number a.holder

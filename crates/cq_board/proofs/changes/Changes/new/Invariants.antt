@@ -1,5 +1,0 @@
-use Rattle.std.proofs.Common.{[]}
-use Rattle.cq_board.proofs.changes.Changes.new.Given as goal
-
-abbrev pub ghost-of : goal.ghost-of
-ghost-of g a = []

@@ -1,4 +1,0 @@
-use Rattle.cq_board.proofs.past.Past.finished.Given as goal
-
-abbrev pub ghost-of : goal.ghost-of
-ghost-of g a = g.slots
