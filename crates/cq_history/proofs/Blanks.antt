@@ -8,10 +8,8 @@ use Rattle.std.proofs.lemmas.List.{append-nil, length-map, length-take-le, map-a
 use Rattle.cq_base.specs.declared.change.Change.{Change}
 use Rattle.cq_base.specs.declared.change.Change.TheVariants.{Put, Drop, Gate}
 use Rattle.cq_base.specs.declared.change.Condition.{Condition}
-use Rattle.cq_base.proofs.Bools.{cond-same}
 use Rattle.cq_history.specs.Changes.{change_at, no_change}
 use Rattle.cq_history.specs.Files.{Source, files_of, files_at, files_after, without_file, conditions_of, conditions_at, conditions_after}
-use Rattle.cq_history.specs.Standing.{Has}
 use Rattle.cq_history.specs.Gone.{IsKept, is_gone}
 use Rattle.cq_history.specs.KeptFiles.{numbered, files_by, conditions_by, kept_up_to}
 use Rattle.cq_history.proofs.PathOrder.{has_filter}

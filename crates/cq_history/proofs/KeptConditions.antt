@@ -13,7 +13,7 @@ use Rattle.cq_base.specs.declared.change.Condition.{Condition}
 use Rattle.cq_base.proofs.Bools.{cond-same}
 use Rattle.cq_history.specs.Changes.{change_at, is_gate_of, no_change, IsNumber}
 use Rattle.cq_history.specs.Files.{conditions_of, conditions_at, conditions_after}
-use Rattle.cq_history.specs.Gone.{IsFollowed, IsOver, IsGone, is_gone}
+use Rattle.cq_history.specs.Gone.{IsFollowed, IsOver, is_gone}
 use Rattle.cq_history.specs.KeptFiles.{numbered, conditions_by, kept_up_to}
 use Rattle.cq_history.proofs.Prefixes.{conditions_from_push}
 use Rattle.cq_history.proofs.Forgetting.{any_follows, follows_any, gone_is}
