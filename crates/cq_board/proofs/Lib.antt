@@ -9,6 +9,7 @@ pub mod Numbers
 pub mod OneMore
 pub mod Reading
 pub mod Related
+pub mod Skipping
 pub mod SlotLists
 pub mod Sounding
 pub mod Turning

@@ -30,6 +30,7 @@
 
 mod answers;
 mod board;
+mod editing;
 mod free;
 mod laws;
 mod listing;

@@ -1,21 +1,20 @@
-ghost use Rattle.std.specs.Prelude.{◌≡◌, ◌⊎◌, ◌+◌, ◌≤◌, [], IfOk, OnOk, OnErr, true, take, map};
+ghost use Rattle.std.specs.Prelude.{◌≡◌, ◌⊎◌, ◌+◌, ◌<◌, ◌≤◌, ℕ, [], IfOk, OnOk, OnErr, IfSome, IsNone, true, take, map, length};
 ghost use Rattle.std.specs.Arc.{arc_value};
 ghost use Rattle.std.specs.List.{prefix_len};
 ghost use Rattle.cq_history.specs.State.{is_done};
-ghost use Rattle.cq_kept.specs.Slots.{slot_from, change_of, changes_of, IsWorked};
+ghost use Rattle.cq_kept.specs.Accepted.{Holds, IsNextHeld};
+ghost use Rattle.cq_kept.specs.Slots.{slot_from, slot_at, changes_of, IsWorked};
 ghost use Rattle.cq_board.specs.Boards.{IsListingAt};
-ghost use Rattle.cq_board.specs.Edits.{IsEditFor, project_named, put_by};
-ghost use Rattle.cq_projects.specs.Ordered.{AreRising};
-ghost use Rattle.cq_board.specs.Listings.{IsListing, ListsTheSame, HaveSame, listed};
-ghost use Rattle.cq_projects.specs.Projects.{owner_name, projects_in, files_in, conditions_in};
-ghost use Rattle.cq_board.specs.Turnover.{IsBefore, AddsKept, AddsOwned, IsListingBefore, ListsKept, from_option};
+ghost use Rattle.cq_board.specs.Listings.{IsListing, ListsTheSame, listed};
+ghost use Rattle.cq_projects.specs.Projects.{files_in, conditions_in};
+ghost use Rattle.cq_board.specs.Turnover.{IsListingBefore, ListsKept};
 
+use crate::editing::{apply_change, draft_change, put_number};
 use crate::live::{Turnover, note, turn, turn_one};
 use cq_base::{Condition, Memory, Settings, Text};
-use cq_kept::{Changes, Kept, Stored};
+use cq_kept::{Changes, Kept};
 use cq_projects::{
-    Draft, Held, Project, ProjectEdit, ProjectFiles, drafts_of, edit_draft, edit_in, find_project,
-    finished_all, own_drafts,
+    Draft, Held, Project, ProjectFiles, drafts_of, find_project, finished_all, own_drafts,
 };
 use cq_shard::Indexed;
 use std::alloc::Global;
@@ -107,95 +106,37 @@ pub struct View<W> {
     pub listing: Arc<Listing<W>, Global>,
 }
 
-// The project that a change names.
-fn project_of(change: &Stored) -> &Arc<Text, Global>
-    ensures { arc_value result.now ≡ project_named (change_of change.now) }
+// A change that is kept.
+fn kept_at<W: Indexed>(changes: &Changes<W>, number: u64) -> &Kept<W>
+    requires { Holds changes.now number }
+    ensures slot { slot_from result.now ≡ slot_at changes.now.slots number }
+    ensures work { IsWorked (W.IsWorkOf changes.now.settings) result.now }
 {
-    match change {
-        Stored::Put { file, .. } => &file.project,
-        Stored::Drop { file } => &file.project,
-        Stored::Gate { key, .. } => &key.project,
+    match changes.get(number) {
+        Some(kept) => kept,
+        None => unreachable!(),
     }
 }
 
-// The number of a change that puts a file.
-fn put_number(change: &Stored, number: u64) -> Option<u64>
-    ensures { from_option result ≡ put_by (change_of change.now) number }
+// The next change that is kept behind a number, up to a version, and its own number.
+fn next_up_to<W: Indexed>(changes: &Changes<W>, after: u64, version: u64) -> Option<(u64, &Kept<W>)>
+    requires { after ≤ length changes.now.slots }
+    ensures next { IfSome result (λ p. IsNextHeld changes.now after p.0) }
+    ensures within { IfSome result (λ p. p.0 ≤ version) }
+    ensures slot { IfSome result (λ p. slot_from p.1.now ≡ slot_at changes.now.slots p.0) }
+    ensures work { IfSome result (λ p. IsWorked (W.IsWorkOf changes.now.settings) p.1.now) }
+    ensures none { IsNone result → (number : ℕ) → after < number → number ≤ version → Holds changes.now number → ⊥ }
 {
-    match change {
-        Stored::Put { .. } => Some(number),
-        Stored::Drop { .. } => None,
-        Stored::Gate { .. } => None,
-    }
-}
-
-// The edit that a change asks for, which is done.
-fn edit_of<W: Indexed>(
-    alloc: Global,
-    settings: &Settings,
-    number: u64,
-    kept: &Kept<W>,
-) -> Result<ProjectEdit<W>, Memory>
-    requires done { is_done (slot_from kept.now) ≡ true }
-    requires work { IsWorked (W.IsWorkOf settings.now) kept.now }
-    ensures { IfOk result (IsEditFor (W.IsWorkOf settings.now) number (change_of kept.now.change)) }
-{
-    match &kept.change {
-        Stored::Put { file, lang, .. } => match &kept.work {
-            Some(work) => {
-                let path = Arc::try_clone(&file.path)?;
-                let work = Arc::try_clone(work)?;
-                let held = Held {
-                    path,
-                    change: number,
-                    lang: *lang,
-                    work,
-                };
-                Ok(ProjectEdit::Put(Arc::new(alloc, held)?))
+    match changes.next(after) {
+        Some((number, kept)) => {
+            if number <= version {
+                Some((number, kept))
+            } else {
+                None
             }
-            None => unreachable!(),
-        },
-        Stored::Drop { file } => Ok(ProjectEdit::Drop(Arc::try_clone(&file.path)?)),
-        Stored::Gate { conditions, .. } => Ok(ProjectEdit::Gate(Arc::try_clone(conditions)?)),
+        }
+        None => None,
     }
-}
-
-// Makes one change more, which is the one with the next number and done. It answers the change whose file it replaced or
-// dropped, if there was one.
-fn apply_change<W: Indexed>(
-    alloc: Global,
-    settings: &Settings,
-    owners: &mut Vec<Arc<Project<W>, Global>>,
-    number: u64,
-    kept: &Kept<W>,
-) -> Result<Option<u64>, Memory>
-    requires done { is_done (slot_from kept.now) ≡ true }
-    requires work { IsWorked (W.IsWorkOf settings.now) kept.now }
-    requires before { IsBefore (W.IsWorkOf settings.now) number (projects_in owners.old.items) }
-    ensures names { AreRising owner_name owners.new.items }
-    ensures next { IfOk result (AddsOwned (W.IsWorkOf settings.now) number kept.now owners.old.items owners.new.items) }
-    ensures unchanged { OnErr result (HaveSame (projects_in owners.old.items) (projects_in owners.new.items)) }
-{
-    let edit = edit_of(alloc, settings, number, kept)?;
-    edit_in(alloc, owners, project_of(&kept.change), edit)
-}
-
-// Makes one change more in the drafts, which is the one with the next number and done. It answers the change whose file it
-// replaced or dropped, if there was one.
-fn draft_change<W: Indexed>(
-    alloc: Global,
-    settings: &Settings,
-    drafts: &mut Vec<Draft<W>>,
-    number: u64,
-    kept: &Kept<W>,
-) -> Result<Option<u64>, Memory>
-    requires done { is_done (slot_from kept.now) ≡ true }
-    requires work { IsWorked (W.IsWorkOf settings.now) kept.now }
-    requires before { IsBefore (W.IsWorkOf settings.now) number drafts.old.items }
-    ensures next { IfOk result (AddsKept (W.IsWorkOf settings.now) number kept.now drafts.old.items drafts.new.items) }
-{
-    let edit = edit_of(alloc, settings, number, kept)?;
-    edit_draft(alloc, drafts, project_of(&kept.change), edit)
 }
 
 // The listing of a later version, from the drafts of an earlier one's projects and its live numbers. Where that is version 0,
@@ -217,10 +158,7 @@ fn next_listing<W: Indexed>(
 {
     let mut turnover = Turnover::new(alloc);
     let mut at = before;
-    'changes: while let Some((number, kept)) = changes.next(at) {
-        if version < number {
-            break;
-        }
+    while let Some((number, kept)) = next_up_to(changes, at, version) {
         let replaced = draft_change(alloc, changes.settings(), &mut drafts, number, kept)?;
         note(&mut turnover.put, put_number(&kept.change, number))?;
         note(&mut turnover.gone, replaced)?;
@@ -394,10 +332,13 @@ fn advance_one<W: Indexed>(
     ensures unchanged { OnErr result (IsListingAt (W.IsWorkOf changes.now.settings) changes.now.slots before listing.new) }
 {
     match Arc::get_mut(listing) {
-        Some(own) => match changes.get(version) {
-            Some(kept) => advance_own(alloc, changes.settings(), own, version, kept),
-            None => unreachable!(),
-        },
+        Some(own) => advance_own(
+            alloc,
+            changes.settings(),
+            own,
+            version,
+            kept_at(changes, version),
+        ),
         None => advance_copied(alloc, changes, listing, before, version),
     }
 }

@@ -1,18 +1,18 @@
 -- What is done, what is ready, and what stays of an accepted change.
-use Rattle.std.proofs.Common.{◌≡◌, ◌⊎◌, ℕ, ◌+◌, ◌-◌, ◌<◌, ◌≤◌, Bool, true, false, not, ◌||◌, List, [], ◌∷◌, ◌++◌, length, get_or, set, refl, sym, ap, ◌∙◌, subst, inl, inr, ⊎_elim, arith, length-append}
+use Rattle.std.proofs.Common.{◌≡◌, ◌⊎◌, ℕ, ◌+◌, ◌-◌, ◌<◌, ◌≤◌, Bool, true, false, not, ◌||◌, List, ◌++◌, length, get_or, set, refl, sym, ap, ◌∙◌, subst, inl, inr, ⊎_elim, arith, length-append}
 use Rattle.std.specs.Prelude.{◌↔◌}
 use Rattle.std.proofs.lemmas.Bool.{cases_lt}
-use Rattle.std.proofs.lemmas.List.{get_or-map, get_or_append_left, length-map, length-set}
+use Rattle.std.proofs.lemmas.List.{get_or-map, get_or_append_left, length-map}
 use Rattle.std.proofs.lemmas.List.Elements.{Contains-append_left}
 use Rattle.std.proofs.lemmas.List.Sums.{prefix_len_passes, prefix_len_stops, prefix_len-le-length}
 use Rattle.cq_base.specs.declared.settings.Settings.{Settings}
 use Rattle.cq_history.specs.declared.event.Event.{Event}
-use Rattle.cq_history.specs.declared.event.Event.TheVariants.{Accept, Ask, Took, Back, Done, Publish, Open, Shut, Floor}
+use Rattle.cq_history.specs.declared.event.Event.TheVariants.{Done}
 use Rattle.cq_history.specs.Changes.{is_put}
-use Rattle.cq_history.specs.State.{State, Slot, no_slot, new_slot, start, after, state, slot_of, is_done, ready, accepted, IsAccepted, IsDone, AreDoneUpTo}
+use Rattle.cq_history.specs.State.{State, Slot, no_slot, state, slot_of, is_done, ready, accepted, IsAccepted, IsDone, AreDoneUpTo}
 use Rattle.cq_history.specs.Lasts.{IsDoneIn}
-use Rattle.cq_history.specs.Lawful.{Allowed, Lawful}
-use Rattle.cq_history.proofs.States.{by_events, Lawful-prefix}
+use Rattle.cq_history.specs.Lawful.{Lawful}
+use Rattle.cq_history.proofs.States.{Lawful-prefix}
 use Rattle.cq_history.proofs.Prefixes.{changes_in-state, accepted-append}
 use Rattle.cq_history.proofs.Holders.{finished_is, is_finished}
 

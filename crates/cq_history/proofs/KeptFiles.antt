@@ -1,6 +1,6 @@
 -- The kept changes alone leave the files of each version from the floor on.
 use Rattle.std.proofs.Common.{◌≡◌, ℕ, zero, suc, ◌+◌, ◌-◌, ◌<◌, ◌≤◌, Bool, true, false, cond, Some, List, [], ◌∷◌, ◌++◌, length, get_or, take, drop, filter, insert, refl, sym, subst, ap, ◌∙◌, inl, inr, ⊎_elim, arith}
-use Rattle.std.specs.Prelude.{not, ◌&&◌, nat_le}
+use Rattle.std.specs.Prelude.{not, nat_le}
 use Rattle.std.specs.List.{AllByRecursion}
 use Rattle.std.specs.Str.{bytes_eq}
 use Rattle.std.proofs.lemmas.Bool.{and_parts, and_from, leb-true, not-false, not_from_true, not_from_false, cases_lt, false_from_ne_true}
@@ -42,7 +42,7 @@ filter_past kept test (g ∷ files) never = go (test g) (filter_past kept test f
     go false rest e = rest ∙ sym (ap (λ z. cond z (g ∷ filter kept files) (filter kept files)) (never g (inl refl) e))
 
 -- each is kept
-filter_none : (kept : Source → Bool) (files : List Source) → ((g : Source) → Has files g → kept g ≡ true) → filter kept files ≡ files
+pub filter_none : (kept : Source → Bool) (files : List Source) → ((g : Source) → Has files g → kept g ≡ true) → filter kept files ≡ files
 filter_none kept [] each = refl
 filter_none kept (g ∷ files) each = ap (λ z. cond z (g ∷ filter kept files) (filter kept files)) (each g (inl refl)) ∙ ap (λ gs. g ∷ gs) (filter_none kept files (λ h has. each h (inr has)))
 
@@ -85,7 +85,7 @@ filter_insert_kept kept (x ∷ files) f order h = go (is_before f.path x.path) (
 
 -- ---- one change more
 
-numbered_more : (r : ℕ) (cs : List Change) (c : Change) → numbered r (cs ++ c ∷ []) ≡ numbered r cs ++ (r + length cs, c) ∷ []
+pub numbered_more : (r : ℕ) (cs : List Change) (c : Change) → numbered r (cs ++ c ∷ []) ≡ numbered r cs ++ (r + length cs, c) ∷ []
 numbered_more r [] c = let same : r ≡ r + 0 = omega arith in ap (λ n. (n, c) ∷ []) same
 numbered_more r (d ∷ ds) c =
     let same : r + 1 + length ds ≡ r + length (d ∷ ds) = omega arith in
@@ -95,7 +95,7 @@ files_by_more : (q : List ℕ) (files : List Source) (cs : List (ℕ × Change))
 files_by_more q files [] c = refl
 files_by_more q files (d ∷ ds) c = files_by_more q (files_after q d.0 files d.1) ds c
 
-files_by_next : (q : List ℕ) (cs : List (ℕ × Change)) (c : ℕ × Change) (b : Bool) → files_by q [] (cs ++ cond b (c ∷ []) []) ≡ cond b (files_after q c.0 (files_by q [] cs) c.1) (files_by q [] cs)
+pub files_by_next : (q : List ℕ) (cs : List (ℕ × Change)) (c : ℕ × Change) (b : Bool) → files_by q [] (cs ++ cond b (c ∷ []) []) ≡ cond b (files_after q c.0 (files_by q [] cs) c.1) (files_by q [] cs)
 files_by_next q cs c true = files_by_more q [] cs c
 files_by_next q cs c false = ap (files_by q []) (append-nil cs)
 
@@ -103,16 +103,38 @@ same_cond : {A : Type 0} (b : Bool) (x : A) → x ≡ cond b x x
 same_cond true x = refl
 same_cond false x = refl
 
+-- past the last change there are no more
+pub take_past : (changes : List Change) (version : ℕ) → length changes < version → take (length changes) changes ≡ take version changes
+take_past changes version past = take_all (length changes) changes (omega arith) ∙ sym (take_all version changes (omega (arith, past)))
+
+-- the change behind the first ones, by its number
+pub next_there : (changes : List Change) (n : ℕ) → n < length changes → change_at changes (n + 1) ≡ Some (get_or changes n no_change)
+next_there changes n within =
+    let index : n + 1 - 1 ≡ n = omega arith in
+    change_there changes (n + 1) (omega arith, omega (arith, within)) ∙ ap (λ i. Some (get_or changes i no_change)) index
+
+pub numbered_next : (changes : List Change) (n : ℕ) → n < length changes → numbered 1 (take (n + 1) changes) ≡ numbered 1 (take n changes) ++ (n + 1, get_or changes n no_change) ∷ []
+numbered_next changes n within =
+    let few : length (take n changes) ≡ n = length-take-le n changes (omega (arith, within)) in
+    let number : 1 + length (take n changes) ≡ n + 1 = omega (arith, few) in
+    ap (numbered 1) (take_more changes n no_change within)
+    ∙ numbered_more 1 (take n changes) (get_or changes n no_change)
+    ∙ ap (λ r. numbered 1 (take n changes) ++ (r, get_or changes n no_change) ∷ []) number
+
+-- the next change is one more of those that are kept, or not
+pub kept_next : (changes : List Change) (floor n : ℕ) → n < length changes → kept_up_to changes floor (n + 1) ≡ kept_up_to changes floor n ++ cond (not (is_gone changes floor (n + 1))) ((n + 1, get_or changes n no_change) ∷ []) []
+kept_next changes floor n within =
+    let stays : ℕ × Change → Bool = λ (c : ℕ × Change). not (is_gone changes floor c.0) in
+    ap (filter stays) (numbered_next changes n within)
+    ∙ filter-append stays (numbered 1 (take n changes)) ((n + 1, get_or changes n no_change) ∷ [])
+
 module _ (changes : List Change) (floor : ℕ) (q : List ℕ) where
-  abbrev is_left : Source → Bool
+  abbrev pub is_left : Source → Bool
   is_left f = not (is_gone changes floor f.number)
 
   module _ (n : ℕ) (c : Change) (within : n < length changes) (here : change_at changes (n + 1) ≡ Some c) where
-    abbrev files : List Source
-    files = files_of q (take n changes)
-
     -- a change that is gone took away what was gone already
-    gone_before : is_gone changes floor (n + 1) ≡ true → (f : Source) → Has files f → is_of_file q f.path c ≡ true → is_left f ≡ false
+    pub gone_before : is_gone changes floor (n + 1) ≡ true → (f : Source) → Has (files_of q (take n changes)) f → is_of_file q f.path c ≡ true → is_left f ≡ false
     gone_before gone f has names =
         let is = ((files_stand (take n changes) q).each f).0 has in
         let few = length-take-le n changes (omega (arith, within)) in
@@ -167,40 +189,32 @@ module _ (changes : List Change) (floor : ℕ) (q : List ℕ) where
       go false other = same_cond (not (is_gone changes floor (n + 1))) (filter is_left old)
   next_kept n (Gate project conditions) within here = same_cond (not (is_gone changes floor (n + 1))) (filter is_left (files_of q (take n changes)))
 
-  abbrev stays_in : ℕ × Change → Bool
-  stays_in c = not (is_gone changes floor c.0)
-
-  abbrev Agree : ℕ → Type 0
-  Agree n = files_by q [] (filter stays_in (numbered 1 (take n changes))) ≡ filter is_left (files_of q (take n changes))
+  -- what the kept changes leave of the files
+  abbrev pub Agree : ℕ → Type 0
+  Agree n = files_by q [] (kept_up_to changes floor n) ≡ filter is_left (files_of q (take n changes))
 
   agree_more : (n : ℕ) → n < length changes → Agree n → Agree (n + 1)
   agree_more n within was =
       let c : Change = get_or changes n no_change in
       let cs = take n changes in
       let few : length cs ≡ n = length-take-le n changes (omega (arith, within)) in
-      let index : n + 1 - 1 ≡ n = omega arith in
-      let here : change_at changes (n + 1) ≡ Some c = change_there changes (n + 1) (omega arith, omega (arith, within)) ∙ ap (λ i. Some (get_or changes i no_change)) index in
-      let longer : take (n + 1) changes ≡ cs ++ c ∷ [] = take_more changes n no_change within in
-      let number : 1 + length cs ≡ n + 1 = omega (arith, few) in
-      let old = filter stays_in (numbered 1 cs) in
-      ap (λ xs. files_by q [] (filter stays_in (numbered 1 xs))) longer
-      ∙ ap (λ xs. files_by q [] (filter stays_in xs)) (numbered_more 1 cs c ∙ ap (λ r. numbered 1 cs ++ (r, c) ∷ []) number)
-      ∙ ap (files_by q []) (filter-append stays_in (numbered 1 cs) ((n + 1, c) ∷ []))
-      ∙ files_by_next q old (n + 1, c) (stays_in (n + 1, c))
-      ∙ ap (λ fs. cond (stays_in (n + 1, c)) (files_after q (n + 1) fs c) fs) was
-      ∙ sym (next_kept n c within here)
+      let stays : Bool = not (is_gone changes floor (n + 1)) in
+      ap (files_by q []) (kept_next changes floor n within)
+      ∙ files_by_next q (kept_up_to changes floor n) (n + 1, c) stays
+      ∙ ap (λ fs. cond stays (files_after q (n + 1) fs c) fs) was
+      ∙ sym (next_kept n c within (next_there changes n within))
       ∙ ap (λ r. filter is_left (files_after q r (files_of q cs) c)) (let e : n + 1 ≡ length cs + 1 = omega (arith, few) in e)
       ∙ ap (filter is_left) (sym (files_of_push q cs c))
-      ∙ ap (λ xs. filter is_left (files_of q xs)) (sym longer)
+      ∙ ap (λ xs. filter is_left (files_of q xs)) (sym (take_more changes n no_change within))
 
-  agree : (n : ℕ) → n ≤ length changes → Agree n
+  pub agree : (n : ℕ) → n ≤ length changes → Agree n
   agree zero low = refl
   agree (suc n) low = subst Agree (let e : n + 1 ≡ suc n = omega arith in e) (agree_more n (omega (arith, low)) (agree n (omega (arith, low))))
 
   agree_at : (version : ℕ) → Agree version
   agree_at version =
       ⊎_elim
-      (λ (past : length changes < version). subst (λ xs. files_by q [] (filter stays_in (numbered 1 xs)) ≡ filter is_left (files_of q xs)) (take_all (length changes) changes (omega arith) ∙ sym (take_all version changes (omega (arith, past)))) (agree (length changes) (omega arith)))
+      (λ (past : length changes < version). subst (λ xs. files_by q [] (filter (λ (c : ℕ × Change). not (is_gone changes floor c.0)) (numbered 1 xs)) ≡ filter is_left (files_of q xs)) (take_past changes version past) (agree (length changes) (omega arith)))
       (λ (low : version ≤ length changes). agree version low)
       (cases_lt (length changes) version)
 

@@ -19,4 +19,6 @@ pub mod FewFiles
 pub mod KeptPuts
 pub mod HeldKept
 pub mod KeptFiles
+pub mod KeptConditions
+pub mod Blanks
 pub mod Limits

@@ -1,5 +1,5 @@
 -- What is accepted and what is kept along a lawful history is within the limits.
-use Rattle.std.proofs.Common.{◌≡◌, ℕ, ◌+◌, ◌-◌, ◌^◌, ◌<◌, ◌≤◌, List, [], ◌∷◌, ◌++◌, length, subst, ap, ◌∙◌, refl, arith, length-append}
+use Rattle.std.proofs.Common.{◌≡◌, ℕ, ◌+◌, ◌-◌, ◌^◌, ◌≤◌, List, [], ◌∷◌, ◌++◌, length, subst, ap, ◌∙◌, refl, arith, length-append}
 use Rattle.std.specs.Prelude.{nat_le, false}
 use Rattle.std.proofs.lemmas.Bool.{or_parts, leb-false, ltb-false}
 use Rattle.std.proofs.lemmas.List.{length-map, length-set}
@@ -12,7 +12,7 @@ use Rattle.cq_history.specs.declared.event.Event.TheVariants.{Accept, Ask, Took,
 use Rattle.cq_history.specs.Changes.{text_len}
 use Rattle.cq_history.specs.Gone.{kept_count, kept_bytes}
 use Rattle.cq_history.specs.State.{State, Slot, start, after, state, changes_in, accepted, is_done, new_slot}
-use Rattle.cq_history.specs.Lawful.{Allowed, Lawful, is_full, is_long, kept_changes, kept_text_bytes}
+use Rattle.cq_history.specs.Lawful.{Allowed, Lawful, is_long, kept_changes, kept_text_bytes}
 use Rattle.cq_history.proofs.States.{by_events}
 use Rattle.cq_history.proofs.Bounds.{InOrder, in_order, in_order_after}
 use Rattle.cq_history.proofs.Prefixes.{changes_in-state, changes_after, map_change-set}

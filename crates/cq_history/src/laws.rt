@@ -2,7 +2,7 @@
 ghost use Rattle.cq_history.specs.Laws as law;
 ghost use Rattle.cq_history.specs.Script.{IsAsWorkedOut};
 ghost use Rattle.cq_history.specs.Keeping.{IsKeptAsWorkedOut};
-ghost use Rattle.cq_history.specs.KeptFiles.{KeptLeaveTheFiles};
+ghost use Rattle.cq_history.specs.KeptFiles.{KeptLeaveTheConditions, KeptLeaveTheFiles};
 ghost use Rattle.cq_history.specs.KeptLaws as kept;
 ghost use Rattle.cq_history.specs.Room.{IsRoomAsWorkedOut};
 
@@ -176,6 +176,11 @@ pub fn files_are_few()
 /// The kept changes alone leave the files of each version from the floor on.
 pub fn kept_leave_the_files()
     ensures { KeptLeaveTheFiles }
+{}
+
+/// And the conditions of each.
+pub fn kept_leave_the_conditions()
+    ensures { KeptLeaveTheConditions }
 {}
 
 /// The puts that a floor keeps stay those when more is accepted.

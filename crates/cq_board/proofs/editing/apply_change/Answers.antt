@@ -7,7 +7,7 @@ use Rattle.cq_board.specs.Turnover.{left}
 use Rattle.cq_projects.proofs.OwnerLists.{rising_owners, rising_projects}
 use Rattle.cq_board.proofs.Newer.{newer_edit}
 use Rattle.cq_board.proofs.Turning.{edit_adds}
-use Rattle.cq_board.proofs.listing.apply_change.Goals as goal
+use Rattle.cq_board.proofs.editing.apply_change.Goals as goal
 
 pub edit_in-requires-clause-names : goal.edit_in-requires-clause-names
 edit_in-requires-clause-names g c = let (changes, base, put, gone, n, is) = c.requires.before in rising_owners c.args.owners.now.items is.listing.names

@@ -1,7 +1,7 @@
 use Rattle.std.specs.Arc.{arc_value}
 use Rattle.cq_kept.specs.Slots.{change_of}
 use Rattle.cq_board.proofs.Turning.{draft_adds}
-use Rattle.cq_board.proofs.listing.draft_change.Goals as goal
+use Rattle.cq_board.proofs.editing.draft_change.Goals as goal
 
 pub edit_draft-requires : goal.edit_draft-requires
 edit_draft-requires g c = let (changes, base, put, gone, n, is) = c.requires.before in is.listing.names
