@@ -37,7 +37,8 @@ impl Past {
         requires { slots ≡ self.now.slots ++ new_slot (change_of change.now) ∷ [] }
         ensures { result.slots ≡ self.now.slots ++ new_slot (change_of change.now) ∷ [] }
     {
-        let _ = (self, change);
+        let _ = self;
+        let _ = change;
         Past::of()
     }
 
@@ -47,7 +48,8 @@ impl Past {
         requires { slots ≡ with_holder self.now.slots number holder }
         ensures { result.slots ≡ with_holder self.now.slots number holder }
     {
-        let _ = (self, number, holder);
+        let _ = self;
+        let _ = (number, holder);
         Past::of()
     }
 
@@ -57,7 +59,8 @@ impl Past {
         requires { slots ≡ with_work self.now.slots number }
         ensures { result.slots ≡ with_work self.now.slots number }
     {
-        let _ = (self, number);
+        let _ = self;
+        let _ = number;
         Past::of()
     }
 }
