@@ -23,7 +23,7 @@ use Rattle.cq_kept.specs.Slots.{changes_of}
 use Rattle.cq_kept.specs.declared.kept.Kept.{Kept}
 use Rattle.cq_kept.specs.declared.over.Over.{Over}
 use Rattle.cq_kept.specs.declared.presence.Presence.{Presence}
-use Rattle.cq_kept.proofs.Forgetting.{filter_twice}
+use Rattle.cq_kept.proofs.Letting.{filter_twice}
 
 -- what is computed of the notes is what is said
 over_is : (all : List Over) (floor n : ℕ) → (is_over_at all floor n ≡ true) ↔ IsOverAt all floor n

@@ -1,6 +1,6 @@
 pub mod Changing
 pub mod FileNumbers
-pub mod Forgetting
+pub mod Letting
 pub mod Found
 pub mod Gates
 pub mod Holding

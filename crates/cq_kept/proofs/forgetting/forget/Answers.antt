@@ -4,7 +4,7 @@ use Rattle.std.specs.BTreeMap.{keys}
 use Rattle.std.specs.List.Sorted.{IsStrictlyIncreasing}
 use Rattle.std.proofs.lemmas.List.Kept.{IsStrictlyIncreasing-filter}
 use Rattle.cq_kept.specs.declared.over.Over.{Over}
-use Rattle.cq_kept.proofs.Forgetting.{forgetting_first, forgetting_more, forgetting_last, late_all, none_behind, popped_first}
+use Rattle.cq_kept.proofs.Letting.{forgetting_first, forgetting_more, forgetting_last, late_all, none_behind, popped_first}
 use Rattle.cq_kept.proofs.forgetting.forget.Goals as goal
 
 pub over-init : goal.over-init

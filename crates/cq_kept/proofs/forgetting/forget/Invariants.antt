@@ -2,7 +2,7 @@ use Rattle.std.proofs.Common.{◌≡◌, ◌+◌, length}
 use Rattle.std.specs.BTreeMap.{keys}
 use Rattle.std.specs.List.Sorted.{IsStrictlyIncreasing}
 use Rattle.cq_kept.specs.Accepted.{text_in, IsPartOf}
-use Rattle.cq_kept.proofs.Forgetting.{IsForgetting}
+use Rattle.cq_kept.proofs.Letting.{IsForgetting}
 use Rattle.cq_kept.proofs.forgetting.forget.Given as goal
 
 abbrev pub invariant-over : goal.invariant-over

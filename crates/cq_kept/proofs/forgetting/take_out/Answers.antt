@@ -1,7 +1,7 @@
 use Rattle.std.proofs.Common.{◌≡◌, ◌+◌, Some, None, sym, ap, ◌∙◌, subst}
 use Rattle.std.specs.Prelude.{Contains}
 use Rattle.cq_kept.specs.Accepted.{text_in}
-use Rattle.cq_kept.proofs.Forgetting.{removed_part, removed_numbers, taken_bytes}
+use Rattle.cq_kept.proofs.Letting.{removed_part, removed_numbers, taken_bytes}
 use Rattle.cq_kept.proofs.forgetting.take_out.Goals as goal
 
 pub returns-in-Some-clause-numbers : goal.returns-in-Some-clause-numbers
