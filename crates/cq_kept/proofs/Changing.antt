@@ -192,7 +192,7 @@ module _ {W : Type 0} (IsWork : Lang → List ℕ → W → Type 0) where
     is_long_as (Drop project path) = none_too_long (settings.text_limit - bytes)
     is_long_as (Gate project conditions) = none_too_long (settings.text_limit - bytes)
 
-    long_fits : (c : Change) → is_long settings (state_from slots 0 floor []) c ≡ false → bytes + text_len c ≤ settings.text_limit
+    pub long_fits : (c : Change) → is_long settings (state_from slots 0 floor []) c ≡ false → bytes + text_len c ≤ settings.text_limit
     long_fits (Put project path lang text) e =
         let text = text_is slots floor kept is.holds in
         let low = le-from-lt_false settings.text_limit _ e in

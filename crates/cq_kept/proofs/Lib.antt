@@ -4,6 +4,7 @@ pub mod Letting
 pub mod Found
 pub mod Gates
 pub mod Holding
+pub mod NotAccepted
 pub mod Noting
 pub mod Places
 pub mod PutNumbers
