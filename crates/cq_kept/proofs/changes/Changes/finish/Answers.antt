@@ -11,8 +11,8 @@ use Rattle.cq_kept.proofs.Changing.{held_at, held_with}
 use Rattle.cq_kept.proofs.Found.{held_there}
 use Rattle.cq_kept.proofs.changes.Changes.finish.Goals as goal
 
-pub finished-requires : goal.finished-requires
-finished-requires g c = refl
+pub finished-self-inside-requires : goal.finished-self-inside-requires
+finished-self-inside-requires g c = refl
 
 -- the entry that is found at the number has the slot's change and holder, and the work of that change
 pub invariant_of-self : goal.invariant_of-self
@@ -29,8 +29,8 @@ invariant_of-self g c =
     let asked : IsWorkFor IsWork (slot_at slots c.args.number).change (arc_value c.args.work) =
     subst (λ (a : Accepted). IsWorkFor (g.W.Indexed.IsWorkOf a.settings) (slot_at a.slots c.args.number).change (arc_value c.args.work)) (sym c.self.view_is) c.requires.work in
     let worked : IsWorkFor IsWork (change_of was.0.change) (arc_value c.args.work) = subst (λ (d : Change). IsWorkFor IsWork d (arc_value c.args.work)) (sym (ap (λ (x : Slot). x.change) at.0.0)) asked in
-    subst (λ (all : List Slot). IsHeld IsWork s.settings all s.accepted s.floor c.set_work.new.kept s.there s.text_bytes) (sym c.finished.ensures)
+    subst (λ (all : List Slot). IsHeld IsWork s.settings all s.accepted s.floor c.set_work.new.kept s.there s.text_bytes) (sym c.finished-self-inside.ensures)
     (held_with IsWork s.settings slots s.accepted s.floor s.kept s.there s.text_bytes c.self.invariant c.args.number held slot refl now (ap turned at.0.0) worked c.set_work.new.kept (c.set_work.ensures was.0 was.1))
 
 pub returns : goal.returns
-returns g c = ap (λ (slots : List Slot). accepted_from c.self.inside.settings slots c.self.inside.floor) c.finished.ensures ∙ ap (λ (a : Accepted). accepted_from a.settings (with_work a.slots c.args.number) a.floor) c.self.view_is
+returns g c = ap (λ (slots : List Slot). accepted_from c.self.inside.settings slots c.self.inside.floor) c.finished-self-inside.ensures ∙ ap (λ (a : Accepted). accepted_from a.settings (with_work a.slots c.args.number) a.floor) c.self.view_is

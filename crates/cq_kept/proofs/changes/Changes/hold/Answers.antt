@@ -8,8 +8,8 @@ use Rattle.cq_kept.proofs.Changing.{held_at, held_with}
 use Rattle.cq_kept.proofs.Found.{held_there}
 use Rattle.cq_kept.proofs.changes.Changes.hold.Goals as goal
 
-pub held-requires : goal.held-requires
-held-requires g c = refl
+pub held-self-inside-requires : goal.held-self-inside-requires
+held-self-inside-requires g c = refl
 
 -- the entry that is found at the number has the slot's change and work, and the new holder
 pub invariant_of-self : goal.invariant_of-self
@@ -23,8 +23,8 @@ invariant_of-self g c =
     let now : Kept g.row.W.Denot = record { change = was.0.change; work = was.0.work; holder = c.args.holder } in
     let slot : Slot = record { change = (slot_at slots c.args.number).change; finished = (slot_at slots c.args.number).finished; holder = c.args.holder } in
     let turned = λ (x : Slot). let y : Slot = record { change = x.change; finished = x.finished; holder = c.args.holder } in y in
-    subst (λ (all : List Slot). IsHeld IsWork s.settings all s.accepted s.floor c.set_holder.new.kept s.there s.text_bytes) (sym c.held.ensures)
+    subst (λ (all : List Slot). IsHeld IsWork s.settings all s.accepted s.floor c.set_holder.new.kept s.there s.text_bytes) (sym c.held-self-inside.ensures)
     (held_with IsWork s.settings slots s.accepted s.floor s.kept s.there s.text_bytes c.self.invariant c.args.number held slot refl now (ap turned at.0.0) at.0.1 c.set_holder.new.kept (c.set_holder.ensures was.0 was.1))
 
 pub returns : goal.returns
-returns g c = ap (λ (slots : List Slot). accepted_from c.self.inside.settings slots c.self.inside.floor) c.held.ensures ∙ ap (λ (a : Accepted). accepted_from a.settings (with_holder a.slots c.args.number c.args.holder) a.floor) c.self.view_is
+returns g c = ap (λ (slots : List Slot). accepted_from c.self.inside.settings slots c.self.inside.floor) c.held-self-inside.ensures ∙ ap (λ (a : Accepted). accepted_from a.settings (with_holder a.slots c.args.number c.args.holder) a.floor) c.self.view_is

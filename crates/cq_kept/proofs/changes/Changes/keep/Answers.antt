@@ -6,7 +6,7 @@ use Rattle.cq_kept.proofs.Found.{puts_in, keep_is}
 use Rattle.cq_kept.proofs.changes.Changes.keep.Goals as goal
 
 pub loop-number-init : goal.loop-number-init
-loop-number-init g c = refl
+loop-number-init g c = ap (λ ns. ns ++ puts_in c.into_iter-number-iterator.result) c.new-keep.ensures.items
 
 pub loop-number-preserved : goal.loop-number-preserved
 loop-number-preserved g c =
@@ -20,4 +20,4 @@ returns g c =
     let s = c.self.inside in
     let all = sym (append-nil c.loop-number.keep.items) ∙ ap (λ es. c.loop-number.keep.items ++ puts_in es) (sym c.in-None.ensures.steps.0) ∙ c.loop-number.invariant in
     subst (λ (a : Accepted). AreKeptPuts (changes_of a.slots) a.floor c.loop-number.keep.items) c.self.view_is
-    (keep_is (g.W.Indexed.IsWorkOf s.settings) s.past.slots s.floor s.kept c.self.invariant.holds c.loop-number.keep.items c.range.result (c.range.ensures.between tt) all)
+    (keep_is (g.W.Indexed.IsWorkOf s.settings) s.past.slots s.floor s.kept c.self.invariant.holds c.loop-number.keep.items c.range-number-items.result (c.range-number-items.ensures.between tt) all)

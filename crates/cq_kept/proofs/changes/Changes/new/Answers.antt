@@ -8,4 +8,4 @@ pub invariant_of-result : goal.invariant_of-result
 invariant_of-result g c =
     let IsWork = g.W.Indexed.IsWorkOf c.args.settings.now in
     subst (λ (slots : List Slot). IsHeld IsWork c.args.settings.now slots 0 0 c.new.result c.new-2.result 0) (sym c.of.ensures)
-    (none_held IsWork c.args.settings.now c.new.result c.new-2.result c.new.ensures c.new-2.ensures)
+    (none_held IsWork c.args.settings.now c.new.result c.new-2.result c.new.ensures.empty c.new-2.ensures)

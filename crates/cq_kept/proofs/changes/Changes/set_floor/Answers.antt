@@ -7,8 +7,8 @@ use Rattle.cq_kept.specs.Slots.{changes_of}
 use Rattle.cq_kept.proofs.Holding.{holds_then, presence_then}
 use Rattle.cq_kept.proofs.changes.Changes.set_floor.Goals as goal
 
-pub forget-requires : goal.forget-requires
-forget-requires g c =
+pub forget-gone-requires : goal.forget-gone-requires
+forget-gone-requires g c =
     let s = c.self.inside in
     let is = c.self.invariant in
     record {
