@@ -4,7 +4,7 @@ use Rattle.std.specs.Prelude.{All, AllPairs, Contains}
 use Rattle.std.specs.BTreeMap.{BTreeMap, keys, get, insert_entry, is_at}
 use Rattle.std.specs.Cmp.{nat_cmp_is, unsigned_tied}
 use Rattle.std.specs.List.Sorted.{IsStrictlyIncreasing}
-use Rattle.std.specs.Map.{keys_of, values_of, lookup, set_value}
+use Rattle.std.specs.Map.{keys_of, values_of, lookup, set_value, remove_entry}
 use Rattle.std.specs.Ordering.{nat_cmp, match_ordering}
 use Rattle.std.specs.declared.cmp.Ordering.TheVariants.{Greater}
 use Rattle.std.proofs.Math.ListN.{get_or-map, get_or-append}
@@ -13,6 +13,7 @@ use Rattle.std.proofs.lemmas.Bool.{eqb-true, eq-eqb, true≢false, false_from_ne
 use Rattle.std.proofs.lemmas.Option.{none-some}
 use Rattle.std.proofs.lemmas.Bool.Decides.{nat_tests}
 use Rattle.std.proofs.lemmas.List.{map-append, length-map, length-set, get_or-set_same, get_or-set_other}
+use Rattle.std.proofs.lemmas.List.Sums.{sum_by-cons}
 use Rattle.std.proofs.lemmas.List.Elements.{All-nil, All-push, All-contains}
 use Rattle.std.proofs.lemmas.List.Kept.{AllPairs-from_increasing}
 use Rattle.std.proofs.lemmas.Map.{keys-set_value}
@@ -52,6 +53,13 @@ module _ {X : Type 0} where
   insert_last (x ∷ es) n v behind =
       ap (λ o. match_ordering o ((n, v) ∷ x ∷ es) ((x.0, v) ∷ es) (x ∷ insert_entry nat_cmp es n v)) (sym (nat_cmp_is n x.0 Greater (behind x.0 (Contains-here x.0 (keys_of es)))))
       ∙ ap (λ ys. x ∷ ys) (insert_last es n v (λ m has. behind m (Contains-there x.0 m (keys_of es) has)))
+
+  pub remove_last : (es : List (ℕ × X)) (n : ℕ) (v : X) → ((m : ℕ) → Contains (keys_of es) m → m < n) → remove_entry (is_at (nat_cmp n)) (es ++ (n, v) ∷ []) ≡ es
+  remove_last [] n v behind = ap (λ b. cond b [] ((n, v) ∷ [])) (unsigned_tied n n ∙ eq-eqb n n refl)
+  remove_last (x ∷ es) n v behind =
+      let less : x.0 < n = behind x.0 (Contains-here x.0 (keys_of es)) in
+      ap (λ b. cond b (es ++ (n, v) ∷ []) (x ∷ remove_entry (is_at (nat_cmp n)) (es ++ (n, v) ∷ []))) (unsigned_tied n x.0 ∙ false_from_ne_true (nat_eq n x.0) (λ same. let e = eqb-true n x.0 same in omega (arith, less, e)))
+      ∙ ap (λ ys. x ∷ ys) (remove_last es n v (λ m has. behind m (Contains-there x.0 m (keys_of es) has)))
 
   pub lookup_behind : (es : List (ℕ × X)) (n : ℕ) → ((m : ℕ) → Contains (keys_of es) m → m < n) → lookup (is_at (nat_cmp n)) es ≡ None
   lookup_behind [] n behind = refl
@@ -141,7 +149,10 @@ module _ {W : Type 0} (IsWork : Lang → List ℕ → W → Type 0) where
 
   sums : (slots : List Slot) (es : List (ℕ × Kept W)) → ((e : ℕ × Kept W) → Contains es e → IsHeldAs IsWork slots e) → sum_by (λ (k : Kept W). text_len (change_of k.change)) (values_of es) ≡ sum_by (bytes_at (changes_of slots)) (keys_of es)
   sums slots [] each = refl
-  sums slots (e ∷ es) each = ap₂ (λ a b. a + b) (len_of slots e (each e (Contains-here e es))) (sums slots es (λ f has. each f (Contains-there e f es has)))
+  sums slots (e ∷ es) each =
+      sum_by-cons (λ (k : Kept W). text_len (change_of k.change)) e.1 (values_of es)
+      ∙ ap₂ (λ a b. a + b) (len_of slots e (each e (Contains-here e es))) (sums slots es (λ f has. each f (Contains-there e f es has)))
+      ∙ sym (sum_by-cons (bytes_at (changes_of slots)) e.0 (keys_of es))
 
   module _ (slots : List Slot) (floor : ℕ) (kept : BTreeMap ℕ (Kept W)) (holds : HoldsKept IsWork slots floor kept) where
     pub text_is : text_in kept ≡ kept_bytes (changes_of slots) floor
@@ -175,6 +186,18 @@ module _ {W : Type 0} (IsWork : Lang → List ℕ → W → Type 0) where
     many_changes : length (changes_of slots) ≡ length slots
     many_changes = length-map slots (λ (s : Slot). s.change)
 
+    -- the same entries, with what presence they have
+    pub held_as : (new : BTreeMap ℕ (Kept W)) (now : Presence) → new.entries ≡ kept.entries → IsPresence (changes_of slots) floor now → IsHeld IsWork settings slots accepted floor new now bytes
+    held_as new now same presence = record {
+      holds = record { numbers = ap keys_of same ∙ is.holds.numbers; each = subst (All (IsHeldAs IsWork slots)) (sym same) is.holds.each };
+      number_is = is.number_is;
+      few = is.few;
+      passed = is.passed;
+      presence = presence;
+      text_bytes = is.text_bytes ∙ ap (λ es. sum_by (λ (k : Kept W). text_len (change_of k.change)) (values_of es)) (sym same);
+      few_bytes = is.few_bytes;
+    }
+
     -- there is none of the next number
     pub next_is_new : (n : ℕ) → Contains (keys kept) n → n < accepted + 1
     next_is_new n has = let number = number_of_key slots floor kept is.holds n has in omega (arith, number.1, is.number_is)
@@ -184,6 +207,11 @@ module _ {W : Type 0} (IsWork : Lang → List ℕ → W → Type 0) where
 
     pub is_full_as : is_full settings (state_from slots 0 floor []) ≡ (nat_le settings.change_limit (length kept.entries) || nat_le (2 ^ 60) accepted)
     is_full_as = ap₂ (λ n m. nat_le settings.change_limit n || nat_le (2 ^ 60) m) (sym (count_is slots floor kept is.holds)) (sym is.number_is)
+
+    -- what was put behind all others is taken out again
+    pub taken_back : (k : Kept W) (put back : List (ℕ × Kept W)) → put ≡ insert_entry nat_cmp kept.entries (accepted + 1) k → back ≡ remove_entry (is_at (nat_cmp (accepted + 1))) put → back ≡ kept.entries
+    taken_back k put back is gone =
+        gone ∙ ap (remove_entry (is_at (nat_cmp (accepted + 1)))) (is ∙ insert_last kept.entries (accepted + 1) k next_is_new) ∙ remove_last kept.entries (accepted + 1) k next_is_new
 
     -- a text that is too long has more bytes than there is room for
     pub is_long_as : (c : Change) → is_long settings (state_from slots 0 floor []) c ≡ nat_lt (settings.text_limit - bytes) (text_len c)

@@ -24,19 +24,19 @@ use Rattle.cq_kept.specs.declared.over.Over.{Over}
 
 -- ---- one entry is taken out
 
+abbrev test : ℕ → ℕ → Bool
+test number = is_at (nat_cmp number)
+
 module _ {X : Type 0} (number : ℕ) where
-  abbrev test : ℕ → Bool
-  test = is_at (nat_cmp number)
-
-  pub removed_part : (es : List (ℕ × X)) (e : ℕ × X) → Contains (remove_entry test es) e → Contains es e
+  pub removed_part : (es : List (ℕ × X)) (e : ℕ × X) → Contains (remove_entry (test number) es) e → Contains es e
   removed_part [] e there = there
-  removed_part (x ∷ es) e there = by_test (test x.0) (λ later. removed_part es e later) there
+  removed_part (x ∷ es) e there = by_test (test number x.0) (λ later. removed_part es e later) there
     where
-      by_test : (b : Bool) → (Contains (remove_entry test es) e → Contains es e) → Contains (cond b es (x ∷ remove_entry test es)) e → Contains (x ∷ es) e
+      by_test : (b : Bool) → (Contains (remove_entry (test number) es) e → Contains es e) → Contains (cond b es (x ∷ remove_entry (test number) es)) e → Contains (x ∷ es) e
       by_test true rest there = Contains-there x e es there
-      by_test false rest there = ⊎_elim (λ (same : x ≡ e). subst (Contains (x ∷ es)) same (Contains-here x es)) (λ later. Contains-there x e es (rest later)) (Contains-cases x e (remove_entry test es) there)
+      by_test false rest there = ⊎_elim (λ (same : x ≡ e). subst (Contains (x ∷ es)) same (Contains-here x es)) (λ later. Contains-there x e es (rest later)) (Contains-cases x e (remove_entry (test number) es) there)
 
-  keys_removed : (es : List (ℕ × X)) → AllPairs (λ a b. a < b) (keys_of es) → keys_of (remove_entry test es) ≡ filter (λ n. not (nat_eq number n)) (keys_of es)
+  keys_removed : (es : List (ℕ × X)) → AllPairs (λ a b. a < b) (keys_of es) → keys_of (remove_entry (test number) es) ≡ filter (λ n. not (nat_eq number n)) (keys_of es)
   keys_removed [] rising = refl
   keys_removed (x ∷ es) rising = by_test (nat_eq number x.0) (keys_removed es (AllPairs-tail (λ a b. a < b) x.0 (keys_of es) rising)) refl
     where
@@ -46,17 +46,17 @@ module _ {X : Type 0} (number : ℕ) where
           let at = eqb-true number x.0 here in
           ap not (false_from_ne_true (nat_eq number n) (λ same. let e = eqb-true number n same in omega (arith, less, at, e))))
 
-      by_test : (b : Bool) → keys_of (remove_entry test es) ≡ filter (λ n. not (nat_eq number n)) (keys_of es) → nat_eq number x.0 ≡ b → keys_of (cond (test x.0) es (x ∷ remove_entry test es)) ≡ cond (not (nat_eq number x.0)) (x.0 ∷ filter (λ n. not (nat_eq number n)) (keys_of es)) (filter (λ n. not (nat_eq number n)) (keys_of es))
+      by_test : (b : Bool) → keys_of (remove_entry (test number) es) ≡ filter (λ n. not (nat_eq number n)) (keys_of es) → nat_eq number x.0 ≡ b → keys_of (cond (test number x.0) es (x ∷ remove_entry (test number) es)) ≡ cond (not (nat_eq number x.0)) (x.0 ∷ filter (λ n. not (nat_eq number n)) (keys_of es)) (filter (λ n. not (nat_eq number n)) (keys_of es))
       by_test true rest is =
-          ap (λ b. keys_of (cond b es (x ∷ remove_entry test es))) (unsigned_tied number x.0 ∙ is)
+          ap (λ b. keys_of (cond b es (x ∷ remove_entry (test number) es))) (unsigned_tied number x.0 ∙ is)
           ∙ sym (others is)
           ∙ ap (λ b. cond (not b) (x.0 ∷ filter (λ n. not (nat_eq number n)) (keys_of es)) (filter (λ n. not (nat_eq number n)) (keys_of es))) (sym is)
       by_test false rest is =
-          ap (λ b. keys_of (cond b es (x ∷ remove_entry test es))) (unsigned_tied number x.0 ∙ is)
+          ap (λ b. keys_of (cond b es (x ∷ remove_entry (test number) es))) (unsigned_tied number x.0 ∙ is)
           ∙ ap (λ ns. x.0 ∷ ns) rest
           ∙ ap (λ b. cond (not b) (x.0 ∷ filter (λ n. not (nat_eq number n)) (keys_of es)) (filter (λ n. not (nat_eq number n)) (keys_of es))) (sym is)
 
-  pub removed_numbers : (old new : List (ℕ × X)) → IsStrictlyIncreasing (keys_of old) → new ≡ remove_entry test old → keys_of new ≡ filter (λ n. not (nat_eq number n)) (keys_of old)
+  pub removed_numbers : (old new : List (ℕ × X)) → IsStrictlyIncreasing (keys_of old) → new ≡ remove_entry (test number) old → keys_of new ≡ filter (λ n. not (nat_eq number n)) (keys_of old)
   removed_numbers old new rising is = ap keys_of is ∙ keys_removed old (AllPairs-from_increasing (keys_of old) rising)
 
 -- ---- the notes, one by one

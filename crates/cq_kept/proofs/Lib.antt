@@ -4,7 +4,6 @@ pub mod Letting
 pub mod Found
 pub mod Gates
 pub mod Holding
-pub mod NotAccepted
 pub mod Noting
 pub mod Places
 pub mod PutNumbers

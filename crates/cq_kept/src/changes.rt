@@ -158,9 +158,12 @@ impl<W: Indexed> Changes<W> {
         let number = self.accepted + 1;
         let same = change.shared()?;
         insert(&mut self.kept, number, same)?;
-        if let Err(refused) = note(&mut self.there, number, &change) {
-            self.kept.remove(&number);
-            return Err(refused);
+        match note(&mut self.there, number, &change) {
+            Ok(()) => {}
+            Err(refused) => {
+                self.kept.remove(&number);
+                return Err(refused);
+            }
         }
         self.past = self.past.accepted(&change);
         self.accepted = number;

@@ -1,14 +1,14 @@
-use Rattle.std.proofs.Common.{◌≡◌, ◌+◌, ◌<◌, ◌≤◌, List, ◌∷◌, length, refl, sym, ◌∙◌, subst, arith}
-use Rattle.std.specs.Prelude.{All}
+use Rattle.std.proofs.Common.{zero-add, true≢false, ◌≡◌, ◌+◌, ◌<◌, ◌≤◌, List, ◌∷◌, length, refl, sym, ◌∙◌, subst, arith}
+use Rattle.std.specs.Prelude.{IsSome}
 use Rattle.std.specs.BTreeMap.{keys}
 use Rattle.std.specs.List.Sorted.{IsStrictlyIncreasing}
 use Rattle.std.proofs.lemmas.List.Kept.{IsStrictlyIncreasing-filter}
-use Rattle.cq_kept.specs.declared.over.Over.{Over}
+use Rattle.cq_kept.specs.Accepted.{text_in}
 use Rattle.cq_kept.proofs.Letting.{forgetting_first, forgetting_more, forgetting_last, late_all, none_behind, popped_first}
 use Rattle.cq_kept.proofs.forgetting.forget.Goals as goal
 
 pub over-init : goal.over-init
-over-init g c = record { notes = forgetting_first c.args.over.now.items c.args.floor (keys c.args.kept.now); rising = c.requires.rising; same = λ e there. there; bytes = refl }
+over-init g c = record { notes = forgetting_first c.args.over.now.items c.args.floor (keys c.args.kept.now); rising = c.requires.rising; same = λ e there. there; bytes = zero-add (text_in c.args.kept.now) }
 
 pub over-preserved : goal.over-preserved
 over-preserved g c =
@@ -36,12 +36,12 @@ returns-then-floor-first-clause-numbers g c =
     (forgetting_last c.args.over.now.items c.over.over.items c.args.floor (keys c.args.kept.now) (keys c.over.kept) inv.notes
     (late_all c.args.over.now.items c.over.over.items c.args.floor (keys c.args.kept.now) (keys c.over.kept) c.requires.order inv.notes c.in-Some.first.now c.in-Some.ensures.lookup (omega (arith, c.in-Some.ensures.variant.0 refl)) c.if-floor-first.true)).1
 
-pub returns-in-None-clause-over : goal.returns-in-None-clause-over
-returns-in-None-clause-over g c =
+pub returns-clause-over : goal.returns-clause-over
+returns-clause-over g c =
     let inv = c.over.invariant in
-    (forgetting_last c.args.over.now.items c.over.over.items c.args.floor (keys c.args.kept.now) (keys c.over.kept) inv.notes (none_behind c.over.over.items c.args.floor (λ some. absurd (c.in-None.ensures.variant.1 some)))).0
+    (forgetting_last c.args.over.now.items c.over.over.items c.args.floor (keys c.args.kept.now) (keys c.over.kept) inv.notes (none_behind c.over.over.items c.args.floor (λ some. true≢false (sym (subst IsSome c.in_default.is (c.front.ensures.variant.1 some)))))).0
 
-pub returns-in-None-clause-numbers : goal.returns-in-None-clause-numbers
-returns-in-None-clause-numbers g c =
+pub returns-clause-numbers : goal.returns-clause-numbers
+returns-clause-numbers g c =
     let inv = c.over.invariant in
-    (forgetting_last c.args.over.now.items c.over.over.items c.args.floor (keys c.args.kept.now) (keys c.over.kept) inv.notes (none_behind c.over.over.items c.args.floor (λ some. absurd (c.in-None.ensures.variant.1 some)))).1
+    (forgetting_last c.args.over.now.items c.over.over.items c.args.floor (keys c.args.kept.now) (keys c.over.kept) inv.notes (none_behind c.over.over.items c.args.floor (λ some. true≢false (sym (subst IsSome c.in_default.is (c.front.ensures.variant.1 some)))))).1

@@ -1,8 +1,13 @@
-use Rattle.std.proofs.Common.{Some, [], ◌∷◌, ◌++◌, refl, sym, ap, ◌∙◌, subst}
+use Rattle.std.proofs.Common.{Some, Ok, Err, Result, ◌++◌, refl, ap, ◌∙◌}
+use Rattle.std.specs.Prelude.{OnErr}
 use Rattle.cq_kept.specs.Slots.{change_of}
 use Rattle.cq_kept.specs.Over.{noted}
 use Rattle.cq_kept.proofs.Places.{put_noted, drop_noted, gate_noted, presence_same}
 use Rattle.cq_kept.proofs.presence.note.Goals as goal
+
+always_err : {T E : Type 0} {P : Type 0} (r : Result T E) → P → OnErr r P
+always_err (Ok x) h = tt
+always_err (Err e) h = h
 
 pub returns-in_ok-replaced-in-Put-clause-more : goal.returns-in_ok-replaced-in-Put-clause-more
 returns-in_ok-replaced-in-Put-clause-more c changes floor next low was =
@@ -10,8 +15,8 @@ returns-in_ok-replaced-in-Put-clause-more c changes floor next low was =
     _ _ (change_of c.args.change.now) (ap change_of c.in-Put.is)
     (c.note_over.ensures.items ∙ ap (λ xs. xs ++ noted c.args.number c.in_ok-replaced-in-Put.replaced) c.in_ok-reserve.ensures.items) c.in_ok-replaced-in-Put.ensures.updates.0 refl
 
-pub returns-in_ok-reserve-in-Drop-clause-more : goal.returns-in_ok-reserve-in-Drop-clause-more
-returns-in_ok-reserve-in-Drop-clause-more c changes floor next low was =
+pub returns-in-Drop-clause-more : goal.returns-in-Drop-clause-more
+returns-in-Drop-clause-more c changes floor next low was =
     drop_noted changes floor c.args.number next low c.args.there.now _ was c.in-Drop.file _ _ refl refl c.remove-dropped.result c.remove-dropped.ensures.value
     (change_of c.args.change.now) (ap change_of c.in-Drop.is)
     (c.note_over-in-Drop-2.ensures.items ∙ ap (λ xs. xs ++ noted c.args.number (Some c.args.number)) (c.note_over-in-Drop.ensures.items ∙ ap (λ xs. xs ++ noted c.args.number c.remove-dropped.result) c.in_ok-reserve.ensures.items))
@@ -24,13 +29,13 @@ returns-in_ok-replaced-in-Gate-clause-more c changes floor next low was =
     (c.note_over-in-Gate.ensures.items ∙ ap (λ xs. xs ++ noted c.args.number c.in_ok-replaced-in-Gate.replaced) c.in_ok-reserve.ensures.items) c.in_ok-replaced-in-Gate.ensures.updates.0 refl
 
 pub returns-in_err-key-in-Put-clause-same : goal.returns-in_err-key-in-Put-clause-same
-returns-in_err-key-in-Put-clause-same c changes floor was = presence_same changes floor c.args.there.now _ refl refl c.in_ok-reserve.ensures.items was
+returns-in_err-key-in-Put-clause-same c = always_err c.from_residual-in_err-key-in-Put.result (λ changes floor was. presence_same changes floor c.args.there.now _ refl refl c.in_ok-reserve.ensures.items was)
 
 pub returns-in_err-replaced-in-Put-clause-same : goal.returns-in_err-replaced-in-Put-clause-same
-returns-in_err-replaced-in-Put-clause-same c changes floor was = presence_same changes floor c.args.there.now _ c.in_err-replaced-in-Put.ensures refl c.in_ok-reserve.ensures.items was
+returns-in_err-replaced-in-Put-clause-same c = always_err c.from_residual-in_err-replaced-in-Put.result (λ changes floor was. presence_same changes floor c.args.there.now _ c.in_err-replaced-in-Put.ensures refl c.in_ok-reserve.ensures.items was)
 
 pub returns-in_err-key-in-Gate-clause-same : goal.returns-in_err-key-in-Gate-clause-same
-returns-in_err-key-in-Gate-clause-same c changes floor was = presence_same changes floor c.args.there.now _ refl refl c.in_ok-reserve.ensures.items was
+returns-in_err-key-in-Gate-clause-same c = always_err c.from_residual-in_err-key-in-Gate.result (λ changes floor was. presence_same changes floor c.args.there.now _ refl refl c.in_ok-reserve.ensures.items was)
 
 pub returns-in_err-replaced-in-Gate-clause-same : goal.returns-in_err-replaced-in-Gate-clause-same
-returns-in_err-replaced-in-Gate-clause-same c changes floor was = presence_same changes floor c.args.there.now _ refl c.in_err-replaced-in-Gate.ensures c.in_ok-reserve.ensures.items was
+returns-in_err-replaced-in-Gate-clause-same c = always_err c.from_residual-in_err-replaced-in-Gate.result (λ changes floor was. presence_same changes floor c.args.there.now _ refl c.in_err-replaced-in-Gate.ensures c.in_ok-reserve.ensures.items was)
