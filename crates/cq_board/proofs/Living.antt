@@ -1,7 +1,6 @@
 -- The numbers of the files' changes, behind one change more.
 use Rattle.std.proofs.Common.{◌≡◌, ◌≢◌, ◌⊎◌, ◌↔◌, ℕ, ◌+◌, ◌<◌, Bool, true, false, cond, List, [], ◌∷◌, ◌++◌, length, Some, refl, sym, ap, ap₂, ◌∙◌, subst, inl, inr, ⊎_elim, arith, true≢false}
 use Rattle.std.specs.Prelude.{◌&&◌}
-use Rattle.std.specs.List.{AllByRecursion}
 use Rattle.std.specs.Str.{bytes_eq}
 use Rattle.std.proofs.lemmas.Slice.Eq.{bytes_eq-Decides}
 use Rattle.std.proofs.lemmas.Bool.{false_from_ne_true}
@@ -10,8 +9,8 @@ use Rattle.cq_base.specs.declared.change.Condition.{Condition}
 use Rattle.cq_base.specs.declared.change.Change.{Change}
 use Rattle.cq_base.specs.declared.change.Change.TheVariants.{Put, Drop, Gate}
 use Rattle.cq_history.specs.Changes.{change_at, is_of_file}
-use Rattle.cq_history.specs.Files.{Source, is_before, files_of, with_file, without_file, place_of}
-use Rattle.cq_history.specs.Standing.{Has, AreInPathOrder, IsLastPut}
+use Rattle.cq_history.specs.Files.{Source, files_of, with_file, without_file, place_of}
+use Rattle.cq_history.specs.Standing.{Has, IsLastPut}
 use Rattle.cq_history.proofs.PathOrder.{insert_has}
 use Rattle.cq_history.proofs.Prefixes.{files_of_push}
 use Rattle.cq_history.proofs.Standing.{still_last, was_last, files_stand}

@@ -1,5 +1,5 @@
 -- What is held of the accepted changes as one more is accepted, or the slot of one is another.
-use Rattle.std.proofs.Common.{◌≡◌, ℕ, ◌+◌, ◌-◌, ◌<◌, ◌≤◌, ◌^◌, Bool, true, false, cond, ◌||◌, nat_eq, nat_le, nat_lt, List, [], ◌∷◌, ◌++◌, length, map, sum_by, get_or, set, Option, Some, None, refl, sym, ap, ap₂, ◌∙◌, subst, ⊎_elim, length-append, arith}
+use Rattle.std.proofs.Common.{◌≡◌, ℕ, ◌+◌, ◌-◌, ◌<◌, ◌≤◌, ◌^◌, Bool, true, false, cond, ◌||◌, nat_eq, nat_le, nat_lt, List, [], ◌∷◌, ◌++◌, length, sum_by, get_or, set, Some, None, refl, sym, ap, ap₂, ◌∙◌, subst, ⊎_elim, length-append, arith}
 use Rattle.std.specs.Prelude.{All, AllPairs, Contains}
 use Rattle.std.specs.BTreeMap.{BTreeMap, keys, get, insert_entry, is_at}
 use Rattle.std.specs.Cmp.{nat_cmp_is, unsigned_tied}
@@ -23,7 +23,7 @@ use Rattle.cq_base.specs.declared.change.Change.{Change}
 use Rattle.cq_base.specs.declared.change.Change.TheVariants.{Put, Drop, Gate}
 use Rattle.cq_base.specs.declared.lang.Lang.{Lang}
 use Rattle.cq_base.specs.declared.settings.Settings.{Settings}
-use Rattle.cq_history.specs.Changes.{text_len, no_change, IsNumber}
+use Rattle.cq_history.specs.Changes.{text_len}
 use Rattle.cq_history.specs.Gone.{IsKept, kept_numbers, kept_count, kept_bytes, bytes_at}
 use Rattle.cq_history.specs.Lawful.{is_full, is_long}
 use Rattle.cq_history.specs.State.{Slot, no_slot, new_slot}

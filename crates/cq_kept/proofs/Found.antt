@@ -1,9 +1,7 @@
 -- What is found among the changes that are held: at a number, behind one, and the puts up to the floor.
-use Rattle.std.proofs.Common.{◌≡◌, ℕ, ◌+◌, ◌-◌, ◌<◌, ◌≤◌, Bool, true, false, cond, not, ◌&&◌, nat_lt, nat_le, List, [], ◌∷◌, ◌++◌, filter, get_or, Option, Some, None, refl, sym, ap, ap₂, ◌∙◌, subst, Bor, Global, arith}
-use Rattle.std.specs.Prelude.{◌↔◌, Contains, All, IsSome, IfSome, is_some, option_copied}
-use Rattle.std.specs.Arc.{arc_value}
-use Rattle.std.specs.BTreeMap.{BTreeMap, keys, get}
-use Rattle.std.specs.declared.sync.Arc.{Arc}
+use Rattle.std.proofs.Common.{◌≡◌, ℕ, ◌+◌, ◌-◌, ◌<◌, ◌≤◌, Bool, true, false, cond, nat_le, List, [], ◌∷◌, ◌++◌, filter, get_or, Option, Some, None, refl, sym, ap, ◌∙◌, subst, Bor, arith}
+use Rattle.std.specs.Prelude.{◌↔◌, Contains, IsSome, IfSome, is_some, option_copied}
+use Rattle.std.specs.BTreeMap.{BTreeMap, get}
 use Rattle.std.specs.BTreeMap.Range.{IsRangeOf, entries_between, range_contains}
 use Rattle.std.specs.List.Sorted.{IsStrictlyIncreasing}
 use Rattle.std.specs.Map.{keys_of}
@@ -12,7 +10,6 @@ use Rattle.std.specs.declared.ops.Bound.TheVariants.{Included, Unbounded}
 use Rattle.std.proofs.Math.ListN.{get_or-map}
 use Rattle.std.proofs.lemmas.Bool.{false≢true}
 use Rattle.std.proofs.lemmas.Bool.Decides.{nat_tests}
-use Rattle.std.proofs.lemmas.List.{length-map}
 use Rattle.std.proofs.lemmas.List.Elements.{All-contains}
 use Rattle.std.proofs.lemmas.List.Kept.{IsStrictlyIncreasing-filter}
 use Rattle.std.proofs.lemmas.Map.Keys.{le_from_not_gt}
@@ -21,9 +18,9 @@ use Rattle.cq_base.specs.declared.change.Change.{Change}
 use Rattle.cq_base.specs.declared.change.Change.TheVariants.{Put, Drop, Gate}
 use Rattle.cq_base.specs.declared.lang.Lang.{Lang}
 use Rattle.cq_base.specs.declared.settings.Settings.{Settings}
-use Rattle.cq_history.specs.Changes.{is_put, no_change, IsWorkFor}
-use Rattle.cq_history.specs.Gone.{IsKept, IsPutAt, AreKeptPuts, kept_numbers}
-use Rattle.cq_history.specs.State.{State, Slot, no_slot}
+use Rattle.cq_history.specs.Changes.{is_put, no_change}
+use Rattle.cq_history.specs.Gone.{IsKept, AreKeptPuts, kept_numbers}
+use Rattle.cq_history.specs.State.{Slot, no_slot}
 use Rattle.cq_history.proofs.Forgetting.{kept_are}
 use Rattle.cq_kept.specs.declared.kept.Kept.{Kept}
 use Rattle.cq_kept.specs.Accepted.{IsHeldAs, HoldsKept, IsNextHeld, accepted_from}

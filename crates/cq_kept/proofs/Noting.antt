@@ -17,7 +17,7 @@ use Rattle.cq_history.proofs.Forgetting.{any_follows, follows_any, stays_gone}
 use Rattle.cq_history.proofs.Numbers.{change_at-append}
 use Rattle.cq_history.proofs.Standing.{newest, no_later}
 use Rattle.cq_kept.specs.declared.over.Over.{Over}
-use Rattle.cq_kept.specs.Over.{noted, IsNoLater, AreOthers, IsOverAt, AreNoted}
+use Rattle.cq_kept.specs.Over.{noted, IsNoLater, AreOthers, AreNoted}
 
 some_same : {A : Type 0} (a b : A) → Some a ≡ Some b → a ≡ b
 some_same a b h = cc h

@@ -30,7 +30,7 @@ use Rattle.cq_kept.specs.declared.presence.Presence.{Presence}
 use Rattle.cq_kept.specs.Over.{noted, AreNoted}
 use Rattle.cq_kept.specs.Presence.{key_cmp, project_cmp, gate_at, IsPresence}
 use Rattle.cq_kept.proofs.FileNumbers.{numbered, number_put, number_dropped, number_gated}
-use Rattle.cq_kept.proofs.Gates.{gate_more, gate_is, IsNewestGate}
+use Rattle.cq_kept.proofs.Gates.{gate_more, gate_is}
 use Rattle.cq_kept.proofs.PutNumbers.{number_found, number_of, last_of, has_of}
 use Rattle.cq_kept.proofs.Noting.{IsEndedPut, IsEndedGate, IsEnded, noted_more, none_noted}
 

@@ -1,5 +1,5 @@
 -- The slot that is kept of a change, and the slots of all changes.
-use Rattle.std.specs.Prelude.{ℕ, ◌-◌, Bool, true, List, [], ◌∷◌, map, is_some, Option, IfSome, slice_index_or, slice_set}
+use Rattle.std.specs.Prelude.{ℕ, ◌-◌, true, List, [], ◌∷◌, map, is_some, Option, IfSome, slice_index_or, slice_set}
 use Rattle.std.specs.Arc.{arc_value}
 use Rattle.cq_base.specs.declared.change.Change.{Change}
 use Rattle.cq_base.specs.declared.change.Change.TheVariants as change

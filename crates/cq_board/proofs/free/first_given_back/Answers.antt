@@ -1,4 +1,4 @@
-use Rattle.std.proofs.Common.{◌≡◌, ◌<◌, ◌≤◌, length, refl, sym, ap, ◌∙◌, arith}
+use Rattle.std.proofs.Common.{◌<◌, length, refl, sym, ◌∙◌, arith}
 use Rattle.std.specs.BinaryHeap.{heap_items}
 use Rattle.cq_board.proofs.Freeing.{top_is_first, top_below, top_behind, top_forgotten}
 use Rattle.cq_board.proofs.free.first_given_back.Goals as goal

@@ -1,6 +1,6 @@
 use Rattle.std.specs.Arc.{arc_value}
 use Rattle.std.specs.Prelude.{IsNone}
-use Rattle.std.proofs.Common.{◌-◌, ◌++◌, ◌∷◌, [], List, ap, ◌∙◌, map, refl, sym, subst, subst₂, arith}
+use Rattle.std.proofs.Common.{◌-◌, ◌++◌, ◌∷◌, [], ap, ◌∙◌, map, refl, sym, subst, subst₂, arith}
 use Rattle.std.proofs.lemmas.List.Sums.{prefix_len-le-length, prefix_len_passes}
 use Rattle.cq_base.specs.declared.change.Change.{Change}
 use Rattle.cq_base.specs.declared.settings.Settings.{Settings}

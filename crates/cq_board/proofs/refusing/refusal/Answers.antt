@@ -1,4 +1,4 @@
-use Rattle.std.proofs.Common.{◌≡◌, [], true, false, refl, sym, ◌∙◌}
+use Rattle.std.proofs.Common.{[], true, false, refl, sym, ◌∙◌}
 use Rattle.cq_history.specs.Lawful.{is_full, is_long}
 use Rattle.cq_kept.specs.Slots.{change_of, state_from}
 use Rattle.cq_board.proofs.Causes.{cause_is}

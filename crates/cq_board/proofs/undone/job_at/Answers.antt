@@ -1,8 +1,7 @@
-use Rattle.std.proofs.Common.{◌≡◌, true, sym, ap, ◌∙◌, subst}
+use Rattle.std.proofs.Common.{true, ap, ◌∙◌}
 use Rattle.std.proofs.lemmas.Bool.{false≢true}
 use Rattle.cq_history.specs.Changes.{is_put}
 use Rattle.cq_history.specs.State.{Slot}
-use Rattle.cq_board.specs.Answers.{IsJobOf}
 use Rattle.cq_board.proofs.undone.job_at.Goals as goal
 
 pub job_of-requires : goal.job_of-requires

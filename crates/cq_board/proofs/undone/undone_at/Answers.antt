@@ -1,6 +1,6 @@
-use Rattle.std.proofs.Common.{◌≡◌, sym, ap, ◌∙◌, refl, true≢false}
+use Rattle.std.proofs.Common.{sym, ap, ◌∙◌, refl, true≢false}
 use Rattle.std.proofs.lemmas.Bool.{false≢true}
-use Rattle.cq_history.specs.State.{Slot, is_done}
+use Rattle.cq_history.specs.State.{is_done}
 use Rattle.cq_board.proofs.SlotLists.{undone_kept, held_accepted}
 use Rattle.cq_board.proofs.undone.undone_at.Goals as goal
 

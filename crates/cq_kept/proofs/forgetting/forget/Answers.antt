@@ -1,4 +1,4 @@
-use Rattle.std.proofs.Common.{zero-add, true≢false, ◌≡◌, ◌+◌, ◌<◌, ◌≤◌, List, ◌∷◌, length, refl, sym, ◌∙◌, subst, arith}
+use Rattle.std.proofs.Common.{zero-add, true≢false, ◌≤◌, refl, sym, subst, arith}
 use Rattle.std.specs.Prelude.{IsSome}
 use Rattle.std.specs.BTreeMap.{keys}
 use Rattle.std.specs.List.Sorted.{IsStrictlyIncreasing}
@@ -39,9 +39,9 @@ returns-then-floor-first-clause-numbers g c =
 pub returns-clause-over : goal.returns-clause-over
 returns-clause-over g c =
     let inv = c.over.invariant in
-    (forgetting_last c.args.over.now.items c.over.over.items c.args.floor (keys c.args.kept.now) (keys c.over.kept) inv.notes (none_behind c.over.over.items c.args.floor (λ some. true≢false (sym (subst IsSome c.in_default.is (c.front.ensures.variant.1 some)))))).0
+    (forgetting_last c.args.over.now.items c.over.over.items c.args.floor (keys c.args.kept.now) (keys c.over.kept) inv.notes (none_behind c.over.over.items c.args.floor (λ some. true≢false (sym (subst IsSome c.in_default.is (c.front.ensures.variant.1 (omega (arith, some)))))))).0
 
 pub returns-clause-numbers : goal.returns-clause-numbers
 returns-clause-numbers g c =
     let inv = c.over.invariant in
-    (forgetting_last c.args.over.now.items c.over.over.items c.args.floor (keys c.args.kept.now) (keys c.over.kept) inv.notes (none_behind c.over.over.items c.args.floor (λ some. true≢false (sym (subst IsSome c.in_default.is (c.front.ensures.variant.1 some)))))).1
+    (forgetting_last c.args.over.now.items c.over.over.items c.args.floor (keys c.args.kept.now) (keys c.over.kept) inv.notes (none_behind c.over.over.items c.args.floor (λ some. true≢false (sym (subst IsSome c.in_default.is (c.front.ensures.variant.1 (omega (arith, some)))))))).1

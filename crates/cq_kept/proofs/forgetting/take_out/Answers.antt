@@ -1,4 +1,4 @@
-use Rattle.std.proofs.Common.{◌≡◌, ◌+◌, Some, None, sym, ap, ◌∙◌, subst}
+use Rattle.std.proofs.Common.{◌+◌, Some, None, sym, ap, ◌∙◌, subst}
 use Rattle.std.specs.Prelude.{Contains}
 use Rattle.cq_kept.specs.Accepted.{text_in}
 use Rattle.cq_kept.proofs.Letting.{removed_part, removed_numbers, taken_bytes}

@@ -32,10 +32,10 @@ pub returns-in_err-key-in-Put-clause-same : goal.returns-in_err-key-in-Put-claus
 returns-in_err-key-in-Put-clause-same c = always_err c.from_residual-in_err-key-in-Put.result (λ changes floor was. presence_same changes floor c.args.there.now _ refl refl c.in_ok-reserve.ensures.items was)
 
 pub returns-in_err-replaced-in-Put-clause-same : goal.returns-in_err-replaced-in-Put-clause-same
-returns-in_err-replaced-in-Put-clause-same c = always_err c.from_residual-in_err-replaced-in-Put.result (λ changes floor was. presence_same changes floor c.args.there.now _ c.in_err-replaced-in-Put.ensures refl c.in_ok-reserve.ensures.items was)
+returns-in_err-replaced-in-Put-clause-same c = always_err c.from_residual-in_err-replaced-in-Put.result (λ changes floor was. presence_same changes floor c.args.there.now _ c.in_err-replaced-in-Put.ensures.err refl c.in_ok-reserve.ensures.items was)
 
 pub returns-in_err-key-in-Gate-clause-same : goal.returns-in_err-key-in-Gate-clause-same
 returns-in_err-key-in-Gate-clause-same c = always_err c.from_residual-in_err-key-in-Gate.result (λ changes floor was. presence_same changes floor c.args.there.now _ refl refl c.in_ok-reserve.ensures.items was)
 
 pub returns-in_err-replaced-in-Gate-clause-same : goal.returns-in_err-replaced-in-Gate-clause-same
-returns-in_err-replaced-in-Gate-clause-same c = always_err c.from_residual-in_err-replaced-in-Gate.result (λ changes floor was. presence_same changes floor c.args.there.now _ refl c.in_err-replaced-in-Gate.ensures c.in_ok-reserve.ensures.items was)
+returns-in_err-replaced-in-Gate-clause-same c = always_err c.from_residual-in_err-replaced-in-Gate.result (λ changes floor was. presence_same changes floor c.args.there.now _ refl c.in_err-replaced-in-Gate.ensures.err c.in_ok-reserve.ensures.items was)

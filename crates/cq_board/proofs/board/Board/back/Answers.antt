@@ -1,4 +1,4 @@
-use Rattle.std.proofs.Common.{◌≡◌, ◌+◌, ◌-◌, ◌%◌, ◌^◌, ◌<◌, ◌≤◌, [], length, arith, refl, sym, ap, ◌∙◌, subst, None, is_none}
+use Rattle.std.proofs.Common.{◌+◌, ◌-◌, ◌%◌, ◌^◌, ◌<◌, [], length, arith, refl, sym, ap, subst, None, is_none}
 use Rattle.std.specs.Arc.{arc_value}
 use Rattle.cq_history.specs.declared.event.Event.TheVariants as event
 use Rattle.cq_history.specs.State.{Slot, IsTakenBy}

@@ -1,4 +1,4 @@
-use Rattle.std.proofs.Common.{◌∙◌, ◌≤◌, refl, sym, ap, subst, inl, take, Some, length-set, arith}
+use Rattle.std.proofs.Common.{◌∙◌, refl, sym, ap, subst, inl, take, Some, length-set, arith}
 use Rattle.std.proofs.lemmas.List.Elements.{All-take}
 use Rattle.std.specs.Arc.{arc_value}
 use Rattle.cq_base.specs.Changes.{IsSoundChange}

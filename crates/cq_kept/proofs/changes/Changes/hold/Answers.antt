@@ -1,4 +1,4 @@
-use Rattle.std.proofs.Common.{◌≡◌, List, refl, sym, ap, ◌∙◌, subst}
+use Rattle.std.proofs.Common.{List, refl, sym, ap, ◌∙◌, subst}
 use Rattle.cq_history.specs.Gone.{IsKept}
 use Rattle.cq_history.specs.State.{Slot}
 use Rattle.cq_kept.specs.declared.kept.Kept.{Kept}

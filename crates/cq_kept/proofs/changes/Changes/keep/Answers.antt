@@ -1,4 +1,4 @@
-use Rattle.std.proofs.Common.{◌≡◌, [], ◌++◌, refl, sym, ap, ◌∙◌, append_assoc, append-nil, subst}
+use Rattle.std.proofs.Common.{rules, ◌≡◌, ◌++◌, sym, ap, ◌∙◌, append_assoc, append-nil, subst}
 use Rattle.cq_history.specs.Gone.{AreKeptPuts}
 use Rattle.cq_kept.specs.Accepted.{Accepted}
 use Rattle.cq_kept.specs.Slots.{change_of, changes_of, put_by}
@@ -18,6 +18,7 @@ loop-number-preserved g c =
 pub returns : goal.returns
 returns g c =
     let s = c.self.inside in
-    let all = sym (append-nil c.loop-number.keep.items) ∙ ap (λ es. c.loop-number.keep.items ++ puts_in es) (sym c.in-None.ensures.steps.0) ∙ c.loop-number.invariant in
+    let same : c.into_iter-number-iterator.result ≡ c.range-number-items.result = search rules in
+    let all = sym (append-nil c.loop-number.keep.items) ∙ ap (λ es. c.loop-number.keep.items ++ puts_in es) (sym c.in-None.ensures.steps.0) ∙ c.loop-number.invariant ∙ ap puts_in same in
     subst (λ (a : Accepted). AreKeptPuts (changes_of a.slots) a.floor c.loop-number.keep.items) c.self.view_is
     (keep_is (g.W.Indexed.IsWorkOf s.settings) s.past.slots s.floor s.kept c.self.invariant.holds c.loop-number.keep.items c.range-number-items.result (c.range-number-items.ensures.between tt) all)

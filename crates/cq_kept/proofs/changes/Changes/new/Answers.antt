@@ -1,4 +1,4 @@
-use Rattle.std.proofs.Common.{List, [], sym, subst}
+use Rattle.std.proofs.Common.{List, sym, subst}
 use Rattle.cq_history.specs.State.{Slot}
 use Rattle.cq_kept.specs.Accepted.{IsHeld}
 use Rattle.cq_kept.proofs.Changing.{none_held}

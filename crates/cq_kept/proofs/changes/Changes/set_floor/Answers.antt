@@ -1,5 +1,4 @@
-use Rattle.std.proofs.Common.{◌≡◌, ◌<◌, ◌≤◌, ◌^◌, refl, sym, ap, ◌∙◌, subst, length, arith}
-use Rattle.std.specs.BTreeMap.{keys}
+use Rattle.std.proofs.Common.{◌≤◌, refl, sym, ap, subst, length, arith}
 use Rattle.std.specs.List.Sorted.{IsStrictlyIncreasing}
 use Rattle.cq_history.proofs.Forgetting.{kept_are}
 use Rattle.cq_kept.specs.Accepted.{Accepted, accepted_from}
