@@ -7,10 +7,10 @@ use Rattle.cq_board.proofs.Undoing.{undone-push_put, undone-push_done}
 use Rattle.cq_board.proofs.undone.note_undone.Goals as goal
 
 -- a put is not done, and the others are at once
-pub returns-in-Put-clause-more : goal.returns-in-Put-clause-more
-returns-in-Put-clause-more g c =
+pub returns-in_ok-insert-in-Put-clause-more : goal.returns-in_ok-insert-in-Put-clause-more
+returns-in_ok-insert-in-Put-clause-more g c =
     subst (λ (s : Stored). AreUndone (c.args.changes.now.slots ++ new_slot (change_of s) ∷ []) c.insert.new.self) (sym c.in-Put.is)
-    (undone-push_put c.args.changes.now.slots c.args.undone.now c.insert.new.self c.requires _ refl c.in_ok-insert.ensures.updates.0)
+    (undone-push_put c.args.changes.now.slots c.args.undone.now c.insert.new.self c.requires _ refl c.in_ok-insert-in-Put.ensures.updates.0)
 
 pub returns-in-Drop-clause-more : goal.returns-in-Drop-clause-more
 returns-in-Drop-clause-more g c =

@@ -9,8 +9,8 @@ use Rattle.cq_board.proofs.board.Board.job.Goals as goal
 pub undone_at-requires : goal.undone_at-requires
 undone_at-requires g c = omega (arith, c.self.invariant.in_order)
 
-pub returns-clause-text : goal.returns-clause-text
-returns-clause-text g c =
+pub returns-in_ok-job_of-in-Some-clause-text : goal.returns-in_ok-job_of-in-Some-clause-text
+returns-in_ok-job_of-in-Some-clause-text g c =
     let slots = c.self.inside.changes.slots in
     let P : BoardState → Type 0 = λ b. IsAccepted b.state c.args.change in
     let accepted : IsAccepted (state_from c.self.inside.changes.slots c.self.inside.published c.self.inside.changes.floor c.self.inside.views.items) c.args.change = subst P (sym c.self.view_is) c.requires in
