@@ -15,4 +15,4 @@ returns-in_ok-job_of-in-Some-clause-text g c =
     let P : BoardState → Type 0 = λ b. IsAccepted b.state c.args.change in
     let accepted : IsAccepted (state_from c.self.inside.changes.slots c.self.inside.published c.self.inside.changes.floor c.self.inside.views.items) c.args.change = subst P (sym c.self.view_is) c.requires in
     let sound = subst IsSoundChange (sym (ap (λ (s : Slot). s.change) c.in-Some.ensures.slot)) (slot_sound slots c.args.change c.self.invariant.sound accepted) in
-    job_text (change_of c.in-Some.kept.now.change) c.in_ok-job_of.field-0 sound c.in_ok-job_of.ensures.job
+    job_text (change_of c.in-Some.kept.now.change) c.in_ok-job_of-in-Some.field-0 sound c.in_ok-job_of-in-Some.ensures.job
