@@ -286,7 +286,7 @@ module _ (slots : List Slot) (floor : ℕ) (free : FreeChanges) (are : AreFree s
         given = λ k lt can.
             ⊎_elim
             (λ (early : k < high). absurd (both_ways (is_free (get_or slots k no_slot)) (done_not_free k (omega (arith, early, done))) can))
-            (λ (late : high ≤ k). ap (λ b. list_any (is_index k) (heap_items b)) same ∙ are.given k (⊎_elim (λ h. h) (λ past. absurd (omega (arith, late, past, lt, until, max-le (omega (arith, past)) late))) (cases_lt k free.untaken)) can)
+            (λ (late : high ≤ k). ap (λ b. list_any (is_index k) (heap_items b)) same ∙ are.given k (⊎_elim (λ h. h) (λ (past : free.untaken ≤ k). let both : max free.untaken high ≤ k = max-le past late in absurd (omega (arith, lt, until, both))) (cases_lt k free.untaken)) can)
             (cases_lt k high);
         untaken = λ k le. are.untaken k (omega (arith, le, until, le-max_left free.untaken high));
         within = (let both : max free.untaken high ≤ length slots = max-le are.within (omega (arith, done, most)) in omega (arith, until, both));

@@ -198,9 +198,13 @@ impl<W: Indexed> Board<W> {
             return Err(cause);
         }
         note_undone(&self.changes, &mut self.undone, &change)?;
-        if self.changes.accept(change).is_err() {
-            self.undone.remove(&self.changes.len());
-            return Err(Refused::Memory);
+        let accepted = self.changes.len();
+        match self.changes.accept(change) {
+            Ok(()) => {}
+            Err(_refused) => {
+                self.undone.remove(&accepted);
+                return Err(Refused::Memory);
+            }
         }
         self.events = self.events.wrapping_add(1);
         Ok(self.changes.len())

@@ -76,12 +76,14 @@ fn first_given_back<W: Indexed>(changes: &Changes<W>, free: &mut FreeChanges) ->
     None
 }
 
-// Whether a change behind the floor, which is kept, is neither done nor taken.
+// Whether a change behind the floor, where there is one, is neither done nor taken.
 fn is_free_at<W: Indexed>(changes: &Changes<W>, i: u64) -> bool
-    requires behind { changes.now.floor ≤ i }
-    requires within { i < length changes.now.slots }
+    requires { changes.now.floor ≤ i }
     ensures { result ≡ is_free (slice_index_or changes.now.slots i no_slot) }
 {
+    if i >= changes.len() {
+        return false;
+    }
     match changes.get(i + 1) {
         Some(kept) => is_free(kept),
         None => unreachable!(),

@@ -9,8 +9,7 @@ is_free_at-requires g c =
     let are = c.loop-given.invariant.0 in
     let x = c.in-Some.given.now in
     let some : 0 < length (heap_items c.loop-given.free.given_back) = omega (arith, c.in-Some.ensures.variant.0 refl, c.loop-given.free.given_back.data.ok.0) in
-    let below = top_below a.slots a.floor c.loop-given.free are x c.in-Some.ensures.lookup some in
-    record { behind = top_behind a.slots a.floor c.loop-given.free are x c.in-Some.ensures.lookup some; within = omega (arith, below, are.within) }
+    top_behind a.slots a.floor c.loop-given.free are x c.in-Some.ensures.lookup some
 
 pub returns-then-is_free_at-clause-first : goal.returns-then-is_free_at-clause-first
 returns-then-is_free_at-clause-first g c =

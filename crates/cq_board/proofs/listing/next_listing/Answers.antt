@@ -62,7 +62,7 @@ loop-number-preserved g c =
     let adds = subst (λ (s : Settings). AddsKept (g.W.Indexed.IsWorkOf s) number kept c.loop-number.drafts.items c.draft_change.new.drafts.items c.in_ok-replaced.replaced) c.settings.ensures c.in_ok-replaced.ensures.next in
     record {
       order = c.in-Some.ensures.within;
-      next = subst (λ cs. IsNext IsWork cs c.args.live.items c.draft_change.new.drafts.items c.note.new.gone.items c.note-in-loop-number.new.gone.items)
+      next = subst (λ cs. IsNext IsWork cs c.args.live.items c.draft_change.new.drafts.items c.note.new.gone.items c.note-in-Some.new.gone.items)
           (sym (blanks_more a number change next.held (ap (λ (s : Slot). s.change) c.in-Some.ensures.slot)))
           (subst₂ (λ put gone. IsNext IsWork (blanks a (number - 1) ++ change ∷ []) c.args.live.items c.draft_change.new.drafts.items put gone)
           (sym (c.in_ok-note.ensures ∙ ap (λ xs. c.loop-number.turnover.put.items ++ xs) c.put_number.ensures)) (sym c.in_ok-note-2.ensures)

@@ -1,4 +1,4 @@
-use Rattle.std.proofs.Common.{◌+◌, ◌-◌, ◌%◌, ◌^◌, [], arith, refl, sym, ap, subst, true, rules}
+use Rattle.std.proofs.Common.{◌<◌, length, ◌+◌, ◌-◌, ◌%◌, ◌^◌, [], arith, refl, sym, ap, subst, true, rules}
 use Rattle.std.specs.Arc.{arc_value}
 use Rattle.cq_history.specs.declared.event.Event.TheVariants as event
 use Rattle.cq_history.specs.Changes.{IsWorkFor}
@@ -34,7 +34,7 @@ invariant_of-self g c =
     let P : BoardState → Type 0 = λ b. IsAccepted b.state c.args.change in
     let accepted : IsAccepted (state_from c.self.inside.changes.slots c.self.inside.published c.self.inside.changes.floor c.self.inside.views.items) c.args.change = subst P (sym c.self.view_is) c.requires.accepted in
     let slot : Slot = record { change = (slot_at a.slots c.args.change).change; finished = true; holder = (slot_at a.slots c.args.change).holder } in
-    let within = omega (arith, accepted.0, accepted.1) in
+    let within : c.args.change - 1 < length a.slots = omega (arith, accepted.0, accepted.1) in
     let yes = worked_is_done a.slots c.args.change in
     subst (λ (b : Accepted). BoardOk (g.W.Indexed.IsWorkOf b.settings) b c.remove.new.self c.self.inside.free c.self.inside.published c.self.inside.listed (arc_value c.self.inside.listing) c.self.inside.views.items) (sym c.finish.ensures)
     (board_with (g.W.Indexed.IsWorkOf c.self.inside.changes.settings) c.self.inside.changes.settings c.self.inside.changes.slots c.self.inside.changes.floor c.self.inside.undone c.self.inside.free c.self.inside.published c.self.inside.listed (arc_value c.self.inside.listing) c.self.inside.views.items c.self.invariant c.args.change slot c.remove.new.self c.self.inside.free refl

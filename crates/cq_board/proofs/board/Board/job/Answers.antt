@@ -9,10 +9,10 @@ use Rattle.cq_board.proofs.board.Board.job.Goals as goal
 pub undone_at-requires : goal.undone_at-requires
 undone_at-requires g c = omega (arith, c.self.invariant.in_order)
 
-pub returns-clause-text : goal.returns-clause-text
-returns-clause-text g c =
+pub returns-in_ok-job_of-in-Some-clause-text : goal.returns-in_ok-job_of-in-Some-clause-text
+returns-in_ok-job_of-in-Some-clause-text g c =
     let slots = c.self.inside.changes.slots in
     let P : BoardState → Type 0 = λ b. IsAccepted b.state c.args.change in
     let accepted : IsAccepted (state_from c.self.inside.changes.slots c.self.inside.published c.self.inside.changes.floor c.self.inside.views.items) c.args.change = subst P (sym c.self.view_is) c.requires in
     let sound = subst IsSoundChange (sym (ap (λ (s : Slot). s.change) c.in-Some.ensures.slot)) (slot_sound slots c.args.change c.self.invariant.sound accepted) in
-    job_text (change_of c.in-Some.kept.now.change) c.in_ok-job_of.field-0 sound c.in_ok-job_of.ensures.job
+    job_text (change_of c.in-Some.kept.now.change) c.in_ok-job_of-in-Some.field-0 sound c.in_ok-job_of-in-Some.ensures.job

@@ -1,9 +1,10 @@
-use Rattle.std.proofs.Common.{◌≡◌, ◌+◌, ◌-◌, ◌<◌, ◌≤◌, ◌%◌, ◌^◌, [], ℕ, length, arith, refl, sym, ap, ◌∙◌, subst, Some}
+use Rattle.std.proofs.Common.{set, ◌≡◌, ◌+◌, ◌-◌, ◌<◌, ◌≤◌, ◌%◌, ◌^◌, [], ℕ, length, arith, refl, sym, ap, ◌∙◌, subst, Some}
 use Rattle.std.specs.Arc.{arc_value}
 use Rattle.cq_history.specs.declared.event.Event.TheVariants as event
 use Rattle.cq_history.specs.State.{Slot, after, first_free, IsAccepted, IsUndone}
 use Rattle.cq_kept.specs.Accepted.{Accepted}
 use Rattle.cq_board.specs.Boards.{BoardOk}
+use Rattle.cq_board.specs.Free.{AreFree}
 use Rattle.cq_kept.specs.Slots.{slot_at, state_from}
 use Rattle.cq_board.specs.Stands.{BoardState}
 use Rattle.cq_board.proofs.Adding.{Adds_from}
@@ -17,8 +18,8 @@ use Rattle.cq_board.proofs.board.Board.take.Goals as goal
 below_end : (i n m : ℕ) → i ≤ m → (i ≡ n → ⊥) → n ≡ m → i < m
 below_end i n m le other same = omega (arith, le, other, same)
 
-pub first_free-requires : goal.first_free-requires
-first_free-requires g c = record { undone = c.self.invariant.not_done; free = c.self.invariant.may_take }
+pub first_free-i-requires : goal.first_free-i-requires
+first_free-i-requires g c = record { undone = c.self.invariant.not_done; free = c.self.invariant.may_take }
 
 pub job_at-requires : goal.job_at-requires
 job_at-requires g c =
@@ -49,7 +50,7 @@ invariant_of-self-2 g c =
     subst (λ (b : Accepted). BoardOk (g.W.Indexed.IsWorkOf b.settings) b c.self.inside.undone c.note_taken.new.free c.self.inside.published c.self.inside.listed (arc_value c.self.inside.listing) c.self.inside.views.items) (sym c.hold.ensures)
     (board_with (g.W.Indexed.IsWorkOf c.self.inside.changes.settings) c.self.inside.changes.settings c.self.inside.changes.slots c.self.inside.changes.floor c.self.inside.undone c.self.inside.free c.self.inside.published c.self.inside.listed (arc_value c.self.inside.listing) c.self.inside.views.items c.self.invariant (i + 1) slot c.self.inside.undone c.note_taken.new.free refl
     (undone-set_same a.slots c.self.inside.undone c.self.invariant.not_done (i + 1 - 1) slot (omega (arith, within)) refl)
-    (c.note_taken.ensures.taken a.slots a.floor slot c.first_free-i.ensures.free c.first_free-i.ensures.first within refl)
+    (subst (λ (n : ℕ). AreFree (set a.slots n slot) a.floor c.note_taken.new.free) (let e : i ≡ i + 1 - 1 = omega arith in e) (c.note_taken.ensures.taken a.slots a.floor slot c.first_free-i.ensures.free c.first_free-i.ensures.first within refl))
     (omega (arith, c.first_free-i.ensures.room, c.note_taken.ensures.room)) (held_grows a.slots (i + 1) (Some c.args.by)))
 
 pub returns-clause-taken : goal.returns-clause-taken
