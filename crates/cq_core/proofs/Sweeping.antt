@@ -1,11 +1,11 @@
 -- A shard of a core that is swept to the board's floor.
 use Rattle.std.proofs.Common.{◌≡◌, ℕ, ◌<◌, ◌≤◌, List, length, map, get_or, set, sym, ap, ◌∙◌, subst, arith}
-use Rattle.std.specs.Prelude.{All, slice_index}
+use Rattle.std.specs.Prelude.{slice_index}
 use Rattle.std.proofs.lemmas.List.{length-map, map-set, set-get_or, get_or-map}
 use Rattle.std.proofs.lemmas.List.Elements.{All-set}
 use Rattle.cq_base.specs.declared.lang.Lang.{Lang}
 use Rattle.cq_history.specs.State.{State, changes_in, state as state_of}
-use Rattle.cq_history.specs.Core.{Core, IsReached, MayStep, stepped}
+use Rattle.cq_history.specs.Core.{Core, MayStep, stepped}
 use Rattle.cq_history.specs.Core.Step.{Sweeps}
 use Rattle.cq_history.specs.Gone.{AreKeptPuts}
 use Rattle.cq_history.proofs.Bounds.{in_order}
