@@ -1,6 +1,6 @@
-use Rattle.std.proofs.Common.{◌≡◌, ℕ, ◌<◌, ◌∙◌, length, get_or, sym, ap, subst, arith}
+use Rattle.std.proofs.Common.{◌≡◌, ◌<◌, ◌∙◌, length, get_or, sym, ap, subst, arith}
 use Rattle.std.proofs.lemmas.List.{length-set}
-use Rattle.cq_shard.specs.Shard.{Contents, HasWindow}
+use Rattle.cq_shard.specs.Shard.{HasWindow}
 use Rattle.cq_hub.specs.Shards.{IsShardOf, IsSweptTo}
 use Rattle.cq_hub.proofs.ShardSteps.{shards_set, each_more}
 use Rattle.cq_hub.proofs.Raising.{shard_swept}
