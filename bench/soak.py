@@ -12,12 +12,11 @@ Each reply is checked. What needs no other client is, as it comes: refusals are 
 fall, and replies of the client's own project are what bench/model.py works out from its texts. The others are checked behind
 all clients, by one history of all changes that were told: they are numbered once each and without a gap, each reply of the
 shared project is that of its version, each drop that was accepted had its file and one that was refused lacked it at some
-version in between, a change that was told as pending is a put, and after the first client was told that no more changes are
-taken there were none. Lines that broke off left nothing, and `state` adds up. Then the server has to end with 0, behind the
+version in between, and a change that was told as pending is a put. Lines that broke off left nothing, and `state` adds up. Then the server has to end with 0, behind the
 last of its connections, and its memory in the last minute may be a tenth above that of the minute before minute 5, or before a
 quarter of the minutes, where others are asked for; memory is VmRSS, looked at once a second, and the middle of a minute's.
 
-Changes and texts are never given back, so --changes is how many the server takes: behind these clients are told so. Printed
+The server keeps at most --changes changes; where a client is told that it is full, a query makes room. Printed
 are how many replies of each kind there were, connections, changes and memory. Ends with 1 where anything was otherwise.
 
 The program is ./cqd, or what the variable CQD names.
@@ -106,13 +105,12 @@ class Log:
 
 
 class Client:
-    def __init__(self, address, number, start, parts, limit, pause):
+    def __init__(self, address, number, start, parts, pause):
         self.address, self.number, self.start, self.parts = address, number, start, parts
-        self.limit, self.pause = limit, pause
+        self.pause = pause
         self.project, self.drawn, self.log, self.history = f"p{number}", random.Random(number), Log(), History()
         # The greatest number that was told in this session, the greatest version, and the greatest number of all.
         self.seen = self.shown = self.told = 0
-        self.is_full = False
 
     # ---- requests, each with a check of its reply
 
@@ -176,39 +174,31 @@ class Client:
 
     def change(self, reply, change):
         if reply == FULL_CHANGES:
-            self.is_full = True
-            self.name_limit(reply)
+            self.log.counted["told full"] += 1
         elif reply == refusal(9, "absent"):
             must(change.text is None and change.conditions is None, change, reply)
             must(change.project == SHARED or not self.history.has(self.project, self.told, change.path), change, reply)
             self.log.absent.append((self.told, len(self.log.changes), change))
         else:
             number = reply.get("change", 0)
-            must(reply == {"change": number, "ok": True} and self.told < number <= self.limit and not self.is_full, change, reply)
+            must(reply == {"change": number, "ok": True} and self.told < number, change, reply)
             self.log.changes.append((number, change))
             if change.project == self.project:
                 self.history.add(number, change)
             self.name(number)
 
-    def name_limit(self, reply):
-        must(self.told <= self.limit, "full", reply)
-        self.told = self.limit
-
     def full_text(self, reply):
-        must(reply in (FULL_TEXT, FULL_CHANGES) and (reply == FULL_CHANGES or not self.is_full), "a text that never fits", reply)
-        if reply == FULL_CHANGES:
-            self.is_full = True
-            self.name_limit(reply)
+        must(reply in (FULL_TEXT, FULL_CHANGES), "a text that never fits", reply)
 
     def future(self, reply):
         count = reply.get("count", -1)
-        must(reply == refusal(8, "future", count=count) and self.told <= count <= self.limit, "future", reply)
+        must(reply == refusal(8, "future", count=count) and self.told <= count, "future", reply)
         self.told = count
 
     def state(self, reply):
         accepted, done, published = (reply.get(it, -1) for it in ("accepted", "done", "published"))
         must(reply == {"accepted": accepted, "done": done, "ok": True, "published": published}, "state", reply)
-        must(self.shown <= published <= done <= accepted and self.told <= accepted <= self.limit, (self.shown, self.told), reply)
+        must(self.shown <= published <= done <= accepted and self.told <= accepted, (self.shown, self.told), reply)
         self.shown, self.told = published, accepted
         self.seen = max(self.seen, published)
 
@@ -229,7 +219,7 @@ class Client:
 
     def view(self, query, reply):
         version = reply["version"]
-        must(self.shown <= version <= self.limit, (query, self.shown), reply)
+        must(self.shown <= version, (query, self.shown), reply)
         self.shown = version
         self.name(version)
         if query["project"] == SHARED:
@@ -322,7 +312,7 @@ def left_changes(connection, sent):
     return told
 
 
-def one_history(connection, logs, limit):
+def one_history(connection, logs):
     """All changes by their numbers, from 1 on without a gap, and how many there are."""
     sent = {f"{number}/{at}" for number, log in enumerate(logs) for at in range(log.sent)}
     numbered = left_changes(connection, sent)
@@ -371,13 +361,13 @@ def soak(minutes, clients, workers, changes, pause):
     server = Server(clients * parts + 1, workers, clients, changes)
     try:
         with multiprocessing.Pool(clients) as pool:
-            given = [(server.address, number, time.monotonic(), parts, changes, pause) for number in range(clients)]
+            given = [(server.address, number, time.monotonic(), parts, pause) for number in range(clients)]
             logs = pool.map(run_client, given, chunksize=1)
             seconds = time.monotonic() - server.start
             early, late = server.memory_before(seconds / 4), server.memory_before(seconds)
             greatest = server.status("VmHWM:")
             connection = Connection(server.address)
-            numbered, accepted = one_history(connection, logs, changes)
+            numbered, accepted = one_history(connection, logs)
             must(server.process.poll() is None, "before the last connection", "the server ended")
             connection.close()
             must(server.process.wait(60) == 0, "behind the last connection", f"it ended with {server.process.returncode}")
@@ -385,10 +375,10 @@ def soak(minutes, clients, workers, changes, pause):
     finally:
         server.process.kill()
     counted = sum((it.counted for it in logs), collections.Counter())
-    replies = sum(count for kind, count in counted.items() if not kind.startswith("end: "))
+    replies = sum(count for kind, count in counted.items() if not kind.startswith("end: ") and kind != "told full")
     print(f"{seconds / 60:.1f} minutes, {clients} clients, {workers} workers, {clients * parts + 1} connections:"
           f" {replies} replies, each checked; {shared} of the shared project")
-    print(f"  {accepted} changes of {changes} at most; {sum(len(it.pending) for it in logs)} told pending; ended with 0")
+    print(f"  {accepted} changes, {changes} kept at most; {sum(len(it.pending) for it in logs)} told pending; ended with 0")
     print("  " + ", ".join(f"{kind} {count}" for kind, count in sorted(counted.items())))
     print(f"  memory: {early:.0f} MiB in the minute before a quarter of the time, {late:.0f} MiB in the last,"
           f" {greatest:.0f} MiB at most")
@@ -400,7 +390,7 @@ def main():
     parser.add_argument("--minutes", type=float, default=20)
     parser.add_argument("--clients", type=int, default=16)
     parser.add_argument("--workers", type=int, default=4)
-    parser.add_argument("--changes", type=int, default=8000, help="as many changes are taken, of clients together")
+    parser.add_argument("--changes", type=int, default=8000, help="as many changes are kept, of clients together")
     parser.add_argument("--pause", type=float, default=0.2, help="seconds between the requests of a client, in the middle")
     given = parser.parse_args()
     soak(given.minutes, given.clients, given.workers, given.changes, given.pause)

@@ -59,8 +59,8 @@ OPERATORS = {">": "GT", "<": "LT"}
 
 REFUSALS = {
     "absent": "no file stands there",
-    "full-changes": "the server has accepted as many changes as it may",
-    "full-text": "the server holds as many bytes of texts as it may",
+    "full-changes": "the server keeps as many changes as it may; a query makes room",
+    "full-text": "the server keeps as many bytes of texts as it may; a query makes room",
     "memory": "the server has no memory for it",
     "min": "--min is below the server's --chunk, or above 100,000",
     "path": "its path is none that the server takes",

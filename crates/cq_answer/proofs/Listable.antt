@@ -34,7 +34,7 @@ use Rattle.cq_answer.specs.Reply.{IsReply, part_read, chosen_read, reply_of}
 use Rattle.cq_answer.specs.Rows.{Facts, facts_read, place_row, group_row, functions_of, AreShowable, AreFewFunctions, AreNamed}
 use Rattle.cq_answer.specs.Versions.{AreOfVersion, HaveVersion, AreListable}
 use Rattle.cq_answer.specs.Works.{paths_in, norms_in, keys_in, spans_in, row_of, facts_in, chosen_in, AreNumbered}
-use Rattle.cq_answer.proofs.VersionFiles.{numbers_apart, numbers_positive, few_files, paths_are_texts, few_conditions}
+use Rattle.cq_answer.proofs.VersionFiles.{numbers_apart, numbers_positive, paths_are_texts, few_conditions}
 use Rattle.cq_answer.proofs.WorkReadings.{Reads, reads, as_many}
 use Rattle.cq_answer.proofs.SameReadings.{same_paths, same_corpus, same_keys}
 use Rattle.cq_answer.proofs.Inside.{groups_inside}
@@ -53,9 +53,9 @@ module _ {L : Type 0} (set : Settings) (changes : List Change) (version : ℕ) (
   abbrev pub found : Reads set (files_at changes version project) files
   found = reads set (files_at changes version project) files are.files_are
 
-  pub listable : IsInRange set → length changes ≤ set.change_limit → AreListable set files
+  pub listable : IsInRange set → length (files_at changes version project) ≤ set.change_limit → AreListable set files
   listable range few = record {
-    few = let most = few_files changes version project in let many = as_many_works set (files_at changes version project) files are.files_are in omega (arith, most, many, few, range.change_limit_most);
+    few = let many = as_many_works set (files_at changes version project) files are.files_are in omega (arith, many, few, range.change_limit_most);
     apart = subst (AllPairs (λ a b. a ≢ b)) (sym found.numbers) (numbers_apart changes version project);
     keyed = subst₂ (AreKeyed set.chunk) (sym found.norms) (sym found.keys) (keyed_by_windows set (corpus_read set found.readings) range.chunk);
     some = range.chunk;

@@ -24,11 +24,11 @@ pub record AreOfVersion {L : Type 0} (set : Settings) (changes : List Change) (v
   pub files_are : AreSameFiles (IsWorkOf set) (files_at changes version project) files
   pub conditions_are : conditions ≡ conditions_at changes version project
 
--- they are those of some changes, as many as may be accepted, each of which is sound
+-- they are those of some changes, each of which is sound, and no more files than may be kept
 pub record HaveVersion {L : Type 0} (set : Settings) (version : ℕ) (project : List ℕ) (files : List (File (Work L))) (conditions : List Condition) : Type 0 where
   pub changes : List Change
   pub sound : All IsSoundChange changes
-  pub few : length changes ≤ set.change_limit
+  pub few : length (files_at changes version project) ≤ set.change_limit
   pub are : AreOfVersion set changes version project files conditions
 
 -- what of it a listing needs

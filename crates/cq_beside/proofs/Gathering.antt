@@ -10,38 +10,37 @@ use Rattle.cq_cells.specs.Passes.{by_of}
 use Rattle.cq_cells.proofs.Fronts.{prefix_trans, prefix_self, left_longer, right_longer}
 use Rattle.cq_chain.specs.Passes.{BoardPass, IsOwn, HasNoneFrom}
 use Rattle.cq_history.specs.declared.event.Event.{Event}
-use Rattle.cq_history.specs.State.{state, accepted, own, view_of}
+use Rattle.cq_history.specs.State.{state, own, view_of}
 use Rattle.cq_history.proofs.Bounds.{no_view}
-use Rattle.cq_history.proofs.Prefixes.{accepted-append, own-append}
+use Rattle.cq_history.proofs.Prefixes.{own-append}
 use Rattle.cq_hub.specs.Hubs.{Never}
-use Rattle.cq_hub.proofs.Growing.{view_grows}
+use Rattle.cq_hub.proofs.Growing.{view_grows, all-append}
 use Rattle.cq_shared.specs.declared.shared.Shared.{Shared}
 use Rattle.cq_shared.specs.SharedPasses.{IsPassOf, callers_of}
-use Rattle.cq_talk.specs.Gathered.{AcceptsNone}
+use Rattle.cq_talk.specs.Gathered.{IsQuiet, StaysQuiet}
 use Rattle.cq_talk.specs.Steps.{IsClosed}
 use Rattle.cq_beside.specs.Besides.{Besides, Worked}
 use Rattle.cq_serve.specs.Labours.{IsOfTurn, Labour}
 
--- ---- a worker accepts nothing
+-- ---- a worker accepts nothing, and opens no view
 
-turn_accepts : (c : ℕ) (events : List Event) → IsOfTurn c events → accepted events ≡ []
-turn_accepts c events of = elim of.1 [
-  | inl done ↦ ap accepted done
-  | inr (inl back) ↦ ap accepted back
-  | inr (inr late) ↦ ap accepted late
+turn_quiet : (c : ℕ) (events : List Event) → IsOfTurn c events → AllByRecursion IsQuiet events
+turn_quiet c events of = elim of.1 [
+  | inl done ↦ subst (AllByRecursion IsQuiet) (sym done) (tt, (tt, (tt, tt)))
+  | inr (inl back) ↦ subst (AllByRecursion IsQuiet) (sym back) (tt, (tt, (tt, tt)))
+  | inr (inr late) ↦ subst (AllByRecursion IsQuiet) (sym late) (tt, (tt, tt))
 ]
 
-work_accepts : (c : ℕ) (turns : List (List Event)) → AllByRecursion (IsOfTurn c) turns → accepted (flat_map (λ (events : List Event). events) turns) ≡ []
-work_accepts c [] all = refl
-work_accepts c (events ∷ turns) all =
+work_quiet : (c : ℕ) (turns : List (List Event)) → AllByRecursion (IsOfTurn c) turns → AllByRecursion IsQuiet (flat_map (λ (events : List Event). events) turns)
+work_quiet c [] all = tt
+work_quiet c (events ∷ turns) all =
     let rest = flat_map (λ (more : List Event). more) turns in
-    ap accepted (flat_map-cons (λ (more : List Event). more) events turns) ∙ accepted-append events rest
-    ∙ ap (λ cs. cs ++ accepted rest) (turn_accepts c events all.0) ∙ work_accepts c turns all.1
+    subst (AllByRecursion IsQuiet) (sym (flat_map-cons (λ (more : List Event). more) events turns)) (all-append IsQuiet events rest (turn_quiet c events all.0) (work_quiet c turns all.1))
 
-pub labour_quiet : (alone : Type 0) (c : ℕ) (h after : List Event) → Labour alone c h after → AcceptsNone h c → AcceptsNone after c
-labour_quiet alone c h after l none =
-    ap (λ g. accepted (own c g)) l.grows.after_is ∙ ap accepted (own-append c h l.grows.more) ∙ accepted-append (own c h) (own c l.grows.more)
-    ∙ ap (λ cs. cs ++ accepted (own c l.grows.more)) none ∙ ap accepted l.grows.own_is ∙ work_accepts c l.turns l.each
+pub labour_quiet : (alone : Type 0) (c : ℕ) (h after : List Event) → Labour alone c h after → StaysQuiet h c → StaysQuiet after c
+labour_quiet alone c h after l quiet =
+    subst (AllByRecursion IsQuiet) (sym (ap (own c) l.grows.after_is ∙ own-append c h l.grows.more))
+    (all-append IsQuiet (own c h) (own c l.grows.more) quiet (subst (AllByRecursion IsQuiet) (sym l.grows.own_is) (work_quiet c l.turns l.each)))
 
 -- ---- whose numbers a pass has
 
@@ -124,8 +123,7 @@ module _ {W R : Type 0} (hub : Shared W R) where
           of = of;
           next = omega (arith, next_is);
           first = subst (Among (by_of p)) (sym all) (among_left one.callers own_pass.callers (by_of p) (subst (Among (by_of p)) (sym callers) (first_among p.callers is.of.of.has_caller)));
-          first_quiet = λ none.
-              ap accepted (subst (λ n. own n r.seen ≡ own n one.seen) by own_one.by) ∙ ap (λ h. accepted (own (by_of p) h)) seen ∙ none;
+          first_quiet = λ quiet. subst (AllByRecursion IsQuiet) (sym (subst (λ n. own n r.seen ≡ own n one.seen) by own_one.by ∙ ap (own (by_of p)) seen)) quiet;
           joined = λ c low high. absurd (omega (arith, low, high));
           quiet = λ c low high. absurd (omega (arith, low, high));
           unmade = λ c low. let from = none_from (omega (arith, next_is)) in from c (omega (arith, low, next_is));
@@ -148,8 +146,8 @@ module _ {W R : Type 0} (hub : Shared W R) where
         let number : one.next + fewer ≡ p.next + workers = omega (arith, one_next, more) in
         let back_is : by_of back ≡ p.next = w.caller ∙ by_is in
         let back_in : Among p.next r.callers = subst (Among p.next) (sym all) (among_right q.callers back.callers p.next (subst (λ n. Among n back.callers) back_is (first_among back.callers (w.of.of.of.has_caller)))) in
-        let stays : (c : ℕ) → Among c q.callers → AcceptsNone q.seen c → AcceptsNone r.seen c =
-        λ c there none. ap accepted (each_among (λ n. own n r.seen ≡ own n q.seen) q.callers c own_q.all there) ∙ none in
+        let stays : (c : ℕ) → Among c q.callers → StaysQuiet q.seen c → StaysQuiet r.seen c =
+        λ c there quiet. subst (AllByRecursion IsQuiet) (sym (each_among (λ n. own n r.seen ≡ own n q.seen) q.callers c own_q.all there)) quiet in
         record {
           heard = b.heard;
           asked = b.asked;
@@ -158,8 +156,8 @@ module _ {W R : Type 0} (hub : Shared W R) where
           of = of;
           next = next_is;
           first = subst (Among (by_of p)) (sym all) (among_left q.callers back.callers (by_of p) (subst (λ n. Among n q.callers) by b.first));
-          first_quiet = λ none. subst (AcceptsNone r.seen) by
-              (stays (by_of one) b.first (b.first_quiet (subst (λ h. AcceptsNone h (by_of one)) (sym one_seen) (subst (AcceptsNone p.seen) (sym by) none))));
+          first_quiet = λ none. subst (StaysQuiet r.seen) by
+              (stays (by_of one) b.first (b.first_quiet (subst (λ h. StaysQuiet h (by_of one)) (sym one_seen) (subst (StaysQuiet p.seen) (sym by) none))));
           joined = λ c low high. ⊎_elim
               (λ (same : c ≡ p.next). subst (λ n. Among n r.callers) (sym same) back_in)
               (λ (above : p.next < c). subst (Among c) (sym all) (among_left q.callers back.callers c (b.joined c (omega (arith, above, one_next)) (omega (arith, high, more, one_next)))))
@@ -167,13 +165,13 @@ module _ {W R : Type 0} (hub : Shared W R) where
           quiet = λ c low high none. ⊎_elim
               (λ (same : c ≡ p.next).
               let c_is : c ≡ by_of mine = same ∙ sym by_is in
-              let there : AcceptsNone back.seen (by_of mine) = w.quiet (subst (λ h. AcceptsNone h (by_of mine)) (sym seen) (subst (AcceptsNone p.seen) c_is none)) in
+              let there : StaysQuiet back.seen (by_of mine) = w.quiet (subst (λ h. StaysQuiet h (by_of mine)) (sym seen) (subst (StaysQuiet p.seen) c_is none)) in
               let last : own (by_of mine) r.seen ≡ own (by_of mine) back.seen = subst (λ n. own n r.seen ≡ own n back.seen) w.caller own_back.by in
-              subst (AcceptsNone r.seen) (sym c_is) (ap accepted last ∙ there))
+              subst (StaysQuiet r.seen) (sym c_is) (subst (AllByRecursion IsQuiet) (sym last) there))
               (λ (above : p.next < c).
               let low' : one.next ≤ c = omega (arith, above, one_next) in
               let high' : c < one.next + fewer = omega (arith, high, more, one_next) in
-              stays c (b.joined c low' high') (b.quiet c low' high' (subst (λ h. AcceptsNone h c) (sym one_seen) none)))
+              stays c (b.joined c low' high') (b.quiet c low' high' (subst (λ h. StaysQuiet h c) (sym one_seen) none)))
               (at_or_above p.next c low);
           unmade = λ c low. let from = none_from (omega (arith, next_is)) in from c (omega (arith, low, next_is));
         }

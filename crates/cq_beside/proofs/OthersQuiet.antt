@@ -19,8 +19,8 @@ use Rattle.cq_session.specs.Costs.{counted}
 use Rattle.cq_session.specs.Turn.{CountedTalk}
 use Rattle.cq_shared.specs.declared.shared.Shared.{Shared}
 use Rattle.cq_shared.specs.SharedPasses.{IsPassOf, settings_of, callers_of, shared_lawful}
-use Rattle.cq_talk.specs.Gathered.{AcceptsNone}
-use Rattle.cq_talk.specs.Laws.{AcceptsBy}
+use Rattle.cq_talk.specs.Gathered.{IsQuiet, StaysQuiet}
+use Rattle.cq_talk.specs.Laws.{ActsBy}
 use Rattle.cq_talk.specs.Said.{said}
 use Rattle.cq_talk.specs.Talk.{Talk}
 use Rattle.cq_talk.proofs.BesideRows.{all_before}
@@ -43,20 +43,20 @@ module _ {W R : Type 0} (hub : Shared W R) (p q : BoardPass) (workers : ℕ) (Sa
       let none_made = made.room in
       omega (arith, all, none_made)
 
-  none_before : (w : ℕ) → AcceptsNone p.seen w
-  none_before w = subst (λ h. AcceptsNone h w) (sym made.none) refl
+  none_before : (w : ℕ) → StaysQuiet p.seen w
+  none_before w = subst (λ h. StaysQuiet h w) (sym made.none) tt
 
-  others : (w : ℕ) → (w ≡ p.next + workers) ⊎ AcceptsNone q.seen w
+  others : (w : ℕ) → (w ≡ p.next + workers) ⊎ StaysQuiet q.seen w
   others w = ⊎_elim
       (λ (zero_is : w < 1).
       let first = made.first in
       let same : by_of p ≡ w = omega (arith, zero_is, first) in
-      inr (subst (AcceptsNone q.seen) same (b.first_quiet (none_before (by_of p)))))
+      inr (subst (StaysQuiet q.seen) same (b.first_quiet (none_before (by_of p)))))
       (λ (some : 1 ≤ w). ⊎_elim
       (λ (low : w < p.next + workers). inr (b.quiet w (omega (arith, some, one)) low (none_before w)))
       (λ (high : p.next + workers ≤ w). ⊎_elim
       (λ (same : w ≡ p.next + workers). inl same)
-      (λ other. inr (ap accepted (b.unmade w (omega (arith, high, other)))))
+      (λ other. inr (subst (AllByRecursion IsQuiet) (sym (b.unmade w (omega (arith, high, other)))) tt))
       (cases_eq w (p.next + workers)))
       (cases_lt w (p.next + workers)))
       (cases_lt w 1)
@@ -65,7 +65,7 @@ module _ {W R : Type 0} (hub : Shared W R) (p q : BoardPass) (workers : ℕ) (Sa
   are_beside set same lines replies talk =
       let heard_law : Lawful set (callers_of hub) b.heard = subst (λ s. Lawful s (callers_of hub) b.heard) same (Lawful-prefix (settings_of hub) (callers_of hub) b.heard b.front.0 (subst (Lawful (settings_of hub) (callers_of hub)) (sym b.front.1) law)) in
       beside_from_nothing set (callers_of hub) ⊥ (p.next + workers) b.heard (map (said set.chunk) lines) replies (subst (λ h. Talk set (callers_of hub) ⊥ (p.next + workers) 0 h (map (said set.chunk) lines) replies b.heard) made.none talk) heard_law
-      (all_before (AcceptsBy (p.next + workers)) b.heard b.front.0 (subst (AllByRecursion (AcceptsBy (p.next + workers))) (sym b.front.1) (only_by (p.next + workers) q.seen others)))
+      (all_before (ActsBy (p.next + workers)) b.heard b.front.0 (subst (AllByRecursion (ActsBy (p.next + workers))) (sym b.front.1) (only_by (p.next + workers) q.seen others)))
 
   -- so are the replies to the lines of a source that were served
   pub serves_beside : {S K : Type 0} (from : source.Ghosts S) (onto : sink.Ghosts K) (set : Settings) → settings_of hub ≡ set → (reads reads_now limit : ℕ) (read read_now : S) (written written_now : K) (by : End)

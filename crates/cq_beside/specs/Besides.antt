@@ -7,14 +7,14 @@ use Rattle.cq_chain.specs.Passes.{BoardPass, HasNoneFrom}
 use Rattle.cq_history.specs.declared.event.Event.{Event}
 use Rattle.cq_shared.specs.declared.shared.Shared.{Shared}
 use Rattle.cq_shared.specs.SharedPasses.{IsPassOf}
-use Rattle.cq_talk.specs.Gathered.{AcceptsNone}
+use Rattle.cq_talk.specs.Gathered.{StaysQuiet}
 
 module _ {W R : Type 0} (hub : Shared W R) where
   -- the pass is still that of its caller, which accepts nothing if it had accepted nothing
   pub record Worked (p q : BoardPass) : Type 0 where
     pub of : IsPassOf hub q
     pub caller : by_of q ≡ by_of p
-    pub quiet : AcceptsNone p.seen (by_of p) → AcceptsNone q.seen (by_of p)
+    pub quiet : StaysQuiet p.seen (by_of p) → StaysQuiet q.seen (by_of p)
 
   -- The talk of a caller, who was made behind so many workers, came to a history of which this holds. The callers that
   -- were made ended in the pass, which has seen more by then: none of them but that one accepted anything, and no other
@@ -27,7 +27,7 @@ module _ {W R : Type 0} (hub : Shared W R) where
     pub of : IsPassOf hub q
     pub next : q.next ≡ p.next + (workers + 1)
     pub first : Among (by_of p) q.callers
-    pub first_quiet : AcceptsNone p.seen (by_of p) → AcceptsNone q.seen (by_of p)
+    pub first_quiet : StaysQuiet p.seen (by_of p) → StaysQuiet q.seen (by_of p)
     pub joined : (c : ℕ) → p.next ≤ c → c < p.next + workers → Among c q.callers
-    pub quiet : (c : ℕ) → p.next ≤ c → c < p.next + workers → AcceptsNone p.seen c → AcceptsNone q.seen c
+    pub quiet : (c : ℕ) → p.next ≤ c → c < p.next + workers → StaysQuiet p.seen c → StaysQuiet q.seen c
     pub unmade : HasNoneFrom (p.next + (workers + 1)) q.seen

@@ -1,5 +1,5 @@
 -- A listing with one change more.
-use Rattle.std.proofs.Common.{◌≡◌, ◌≢◌, ◌⊎◌, ◌↔◌, ℕ, ◌+◌, ◌<◌, ◌≤◌, true, false, cond, List, [], ◌∷◌, ◌++◌, length, take, map, get_or, Option, Some, refl, sym, ap, ap₂, ◌∙◌, subst, subst₂, inl, inr, ⊎_elim, arith}
+use Rattle.std.proofs.Common.{◌≡◌, ◌≢◌, ◌⊎◌, ◌↔◌, ℕ, ◌+◌, ◌-◌, ◌<◌, ◌≤◌, true, false, cond, List, [], ◌∷◌, ◌++◌, length, take, map, get_or, Option, Some, refl, sym, ap, ap₂, ◌∙◌, subst, subst₂, inl, inr, ⊎_elim, arith}
 use Rattle.std.specs.Prelude.{Contains}
 use Rattle.std.specs.List.Sorted.{IsStrictlyIncreasing}
 use Rattle.std.specs.Str.{bytes_eq}
@@ -12,13 +12,11 @@ use Rattle.cq_base.specs.declared.change.Change.{Change}
 use Rattle.cq_base.specs.declared.change.Change.TheVariants.{Put, Drop, Gate}
 use Rattle.cq_history.specs.Files.{File, Source, files_of, files_after, with_file, without_file}
 use Rattle.cq_history.specs.Standing.{AreInPathOrder}
-use Rattle.cq_history.specs.State.{Slot, is_done}
+use Rattle.cq_history.specs.State.{Slot, no_slot, is_done}
 use Rattle.cq_history.proofs.Prefixes.{files_of_push, conditions_from_push}
 use Rattle.cq_history.proofs.Standing.{files_stand}
 use Rattle.cq_board.specs.Related.{IsSameFile, AreSameFiles}
-use Rattle.cq_board.specs.declared.kept.Kept.{Kept}
-use Rattle.cq_board.specs.Slots.{slot_from, change_of}
-use Rattle.cq_board.specs.Boards.{changes_from}
+use Rattle.cq_kept.specs.Slots.{slot_at, changes_of}
 use Rattle.cq_board.specs.Listings.{listed, IsListing}
 use Rattle.cq_projects.specs.Projects.{name_in, path_of, number_at, files_in, conditions_in, ListedProject}
 use Rattle.cq_projects.specs.Ordered.{AreRising}
@@ -119,20 +117,18 @@ module _ {W : Type 0} (IsWork : Lang → List ℕ → W → Type 0) (changes : L
       };
     }
 
-module _ {W : Type 0} where
-  -- the change that comes next
-  pub next_changes : (slots : List (Kept W)) (r : ℕ) (k : Kept W) → r < length slots → k ≡ get_or slots r k → take (r + 1) (changes_from slots) ≡ take r (changes_from slots) ++ change_of k.change ∷ []
-  next_changes slots r k within read =
-      let same : length (changes_from slots) ≡ length slots = length-map (map slot_from slots) (λ (s : Slot). s.change) ∙ length-map slots (slot_from {W = W}) in
-      take_more (changes_from slots) r (change_of k.change) (omega (arith, same, within))
-      ∙ ap (λ (c : Change). take r (changes_from slots) ++ c ∷ [])
-      (get_or-map (λ (s : Slot). s.change) (map slot_from slots) r (slot_from k) (change_of k.change) (omega (arith, length-map slots (slot_from {W = W}), within))
-      ∙ ap (λ (s : Slot). s.change) (get_or-map slot_from slots r k (slot_from k) within ∙ ap slot_from (sym read)))
+-- the change that comes next
+pub next_changes : (slots : List Slot) (r : ℕ) (c : Change) → r < length slots → c ≡ (slot_at slots (r + 1)).change → take (r + 1) (changes_of slots) ≡ take r (changes_of slots) ++ c ∷ []
+next_changes slots r c within is =
+    let same : length (changes_of slots) ≡ length slots = length-map slots (λ (s : Slot). s.change) in
+    take_more (changes_of slots) r c (omega (arith, same, within))
+    ∙ ap (λ (d : Change). take r (changes_of slots) ++ d ∷ [])
+    (get_or-map (λ (s : Slot). s.change) slots r no_slot c within ∙ ap (λ n. (get_or slots n no_slot).change) (let e : r ≡ r + 1 - 1 = omega arith in e) ∙ sym is)
 
-  pub done_within : (slots : List (Kept W)) (n v : ℕ) → n < v → v ≤ prefix_len is_done (map slot_from slots) → n < length slots
-  done_within slots n v lt le = omega (arith, lt, le, prefix_len-le-length is_done (map slot_from slots), length-map slots (slot_from {W = W}))
+pub done_within : (slots : List Slot) (n v : ℕ) → n < v → v ≤ prefix_len is_done slots → n < length slots
+done_within slots n v lt le = omega (arith, lt, le, prefix_len-le-length is_done slots)
 
-  pub length_before : (slots : List (Kept W)) (n : ℕ) → n < length slots → length (take n (changes_from slots)) + 1 ≡ n + 1
-  length_before slots n lt =
-      let few : length (changes_from slots) ≡ length slots = length-map (map slot_from slots) (λ (s : Slot). s.change) ∙ length-map slots (slot_from {W = W}) in
-      ap (λ k. k + 1) (length-take-le n (changes_from slots) (omega (arith, few, lt)))
+pub length_before : (slots : List Slot) (n : ℕ) → n < length slots → length (take n (changes_of slots)) + 1 ≡ n + 1
+length_before slots n lt =
+    let few : length (changes_of slots) ≡ length slots = length-map slots (λ (s : Slot). s.change) in
+    ap (λ k. k + 1) (length-take-le n (changes_of slots) (omega (arith, few, lt)))

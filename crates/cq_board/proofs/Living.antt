@@ -1,7 +1,6 @@
 -- The numbers of the files' changes, behind one change more.
 use Rattle.std.proofs.Common.{◌≡◌, ◌≢◌, ◌⊎◌, ◌↔◌, ℕ, ◌+◌, ◌<◌, Bool, true, false, cond, List, [], ◌∷◌, ◌++◌, length, Some, refl, sym, ap, ap₂, ◌∙◌, subst, inl, inr, ⊎_elim, arith, true≢false}
 use Rattle.std.specs.Prelude.{◌&&◌}
-use Rattle.std.specs.List.{AllByRecursion}
 use Rattle.std.specs.Str.{bytes_eq}
 use Rattle.std.proofs.lemmas.Slice.Eq.{bytes_eq-Decides}
 use Rattle.std.proofs.lemmas.Bool.{false_from_ne_true}
@@ -10,39 +9,14 @@ use Rattle.cq_base.specs.declared.change.Condition.{Condition}
 use Rattle.cq_base.specs.declared.change.Change.{Change}
 use Rattle.cq_base.specs.declared.change.Change.TheVariants.{Put, Drop, Gate}
 use Rattle.cq_history.specs.Changes.{change_at, is_of_file}
-use Rattle.cq_history.specs.Files.{Source, is_before, files_of, with_file, without_file, place_of}
-use Rattle.cq_history.specs.Standing.{Has, AreInPathOrder, IsLastPut}
+use Rattle.cq_history.specs.Files.{Source, files_of, with_file, without_file, place_of}
+use Rattle.cq_history.specs.Standing.{Has, IsLastPut}
 use Rattle.cq_history.proofs.PathOrder.{insert_has}
 use Rattle.cq_history.proofs.Prefixes.{files_of_push}
 use Rattle.cq_history.proofs.Standing.{still_last, was_last, files_stand}
 use Rattle.cq_board.specs.Listings.{IsLive}
 use Rattle.cq_projects.specs.Projects.{number_at}
-use Rattle.cq_projects.proofs.Putting.{below_apart}
-
--- ---- the number at a path
-
-pub number_found : (p : List ℕ) (files : List Source) (r : ℕ) → number_at p files ≡ Some r → (f : Source) × Has files f × (f.path ≡ p) × (f.number ≡ r)
-number_found p [] r is = absurd (true≢false (sym (cc is)))
-number_found p (g ∷ files) r is = by (bytes_eq p g.path) refl is (number_found p files r)
-  where
-    same_number : Some g.number ≡ Some r → g.number ≡ r
-    same_number h = cc h
-
-    by : (b : Bool) → bytes_eq p g.path ≡ b → cond b (Some g.number) (number_at p files) ≡ Some r → (number_at p files ≡ Some r → (f : Source) × Has files f × (f.path ≡ p) × (f.number ≡ r)) → (f : Source) × Has (g ∷ files) f × (f.path ≡ p) × (f.number ≡ r)
-    by true e h rest = (g, inl refl, sym ((bytes_eq-Decides p g.path).0 e), same_number h)
-    by false e h rest = let (f, has, path, number) = rest h in (f, inr has, path, number)
-
-all_has : (P : Source → Type 0) (files : List Source) (f : Source) → AllByRecursion P files → Has files f → P f
-all_has P [] f all has = absurd has
-all_has P (g ∷ files) f all has = ⊎_elim (λ same. subst P same all.0) (λ later. all_has P files f all.1 later) has
-
-pub number_of : (files : List Source) (f : Source) → AreInPathOrder files → Has files f → number_at f.path files ≡ Some f.number
-number_of [] f order has = absurd has
-number_of (g ∷ files) f order has =
-    ⊎_elim
-    (λ (same : g ≡ f). ap (λ b. cond b (Some g.number) (number_at f.path files)) ((bytes_eq-Decides f.path g.path).1 (ap (λ (x : Source). x.path) (sym same))) ∙ ap (λ (x : Source). Some x.number) same)
-    (λ later. ap (λ b. cond b (Some g.number) (number_at f.path files)) (below_apart f.path g.path (all_has (λ (h : Source). is_before g.path h.path ≡ true) files f order.0 later)) ∙ number_of files f order.1 later)
-    has
+use Rattle.cq_kept.proofs.PutNumbers.{number_found, number_of, last_of, has_of}
 
 -- ---- a change names a file
 
@@ -63,12 +37,6 @@ one_place changes q r f g is other same =
     same_put q r f.path g.path f.lang g.lang f.body g.body (sym is.put ∙ ap (change_at changes) same ∙ other.put)
 
 module _ (changes : List Change) where
-  pub last_of : (q : List ℕ) (f : Source) → Has (files_of q changes) f → IsLastPut changes q f
-  last_of q f has = ((files_stand changes q).each f).0 has
-
-  pub has_of : (q : List ℕ) (f : Source) → IsLastPut changes q f → Has (files_of q changes) f
-  has_of q f is = ((files_stand changes q).each f).1 is
-
   -- the file that a change names is the one at its path
   named_number : (q project path : List ℕ) (f : Source) → Has (files_of q changes) f → (bytes_eq q project && bytes_eq f.path path) ≡ true → number_at path (files_of project changes) ≡ Some f.number
   named_number q project path f has named =
@@ -81,7 +49,7 @@ module _ (changes : List Change) where
   other_number : (q project path : List ℕ) (f : Source) (r : ℕ) → IsLastPut changes q f → f.number ≡ r → number_at path (files_of project changes) ≡ Some r → (bytes_eq q project && bytes_eq f.path path) ≡ true
   other_number q project path f r is number at =
       let (g, has, here, same) = number_found path (files_of project changes) r at in
-      let place = one_place changes q project f g is (last_of project g has) (number ∙ sym same) in
+      let place = one_place changes q project f g is (last_of changes project g has) (number ∙ sym same) in
       and_both (bytes_eq q project) (bytes_eq f.path path) ((bytes_eq-Decides q project).1 place.0) ((bytes_eq-Decides f.path path).1 (place.1 ∙ here))
 
   -- the number at a path is that of a file
@@ -90,7 +58,7 @@ module _ (changes : List Change) where
 
   -- no number is above the last
   pub live_within : (r : ℕ) → IsLive changes r → r < length changes + 1
-  live_within r (q, f, has, is) = let a = (last_of q f has).accepted in omega (arith, a.1, is)
+  live_within r (q, f, has, is) = let a = (last_of changes q f has).accepted in omega (arith, a.1, is)
 
   module _ (c : Change) where
     longer : List Change
@@ -98,7 +66,7 @@ module _ (changes : List Change) where
 
     -- what stood and is not named still stands
     stays : (q : List ℕ) (f : Source) (r : ℕ) → Has (files_of q changes) f → f.number ≡ r → is_of_file q f.path c ≡ false → IsLive (changes ++ c ∷ []) r
-    stays q f r has is apart = (q, f, ((files_stand (changes ++ c ∷ []) q).each f).1 (still_last changes c q f (last_of q f has) apart), is)
+    stays q f r has is apart = (q, f, ((files_stand (changes ++ c ∷ []) q).each f).1 (still_last changes c q f (last_of changes q f has) apart), is)
 
     -- what stands stood and is not named, or the change put it
     stood : (r : ℕ) → IsLive (changes ++ c ∷ []) r → ((q : List ℕ) × (f : Source) × IsLastPut changes q f × (f.number ≡ r) × (is_of_file q f.path c ≡ false)) ⊎ ((r ≡ length changes + 1) × (q : List ℕ) × (f : Source) × (c ≡ Put q f.path f.lang f.body))
@@ -111,7 +79,7 @@ module _ (changes : List Change) where
   pub live_put : (project path : List ℕ) (lang : Lang) (text : List ℕ) (r : ℕ) → IsLive (changes ++ Put project path lang text ∷ []) r ↔ ((r ≡ length changes + 1) ⊎ (IsLive changes r × (number_at path (files_of project changes) ≢ Some r)))
   live_put project path lang text r = (
     λ live. ⊎_elim
-        (λ (q, f, is, number, apart). inr ((q, f, has_of q f is, number), λ at. true≢false (sym (other_number q project path f r is number at) ∙ apart)))
+        (λ (q, f, is, number, apart). inr ((q, f, has_of changes q f is, number), λ at. true≢false (sym (other_number q project path f r is number at) ∙ apart)))
         (λ new. inl new.0)
         (stood c r live),
     λ either. ⊎_elim
@@ -133,7 +101,7 @@ module _ (changes : List Change) where
   pub live_drop : (project path : List ℕ) (r : ℕ) → IsLive (changes ++ Drop project path ∷ []) r ↔ (IsLive changes r × (number_at path (files_of project changes) ≢ Some r))
   live_drop project path r = (
     λ live. ⊎_elim
-        (λ (q, f, is, number, apart). ((q, f, has_of q f is, number), λ at. true≢false (sym (other_number q project path f r is number at) ∙ apart)))
+        (λ (q, f, is, number, apart). ((q, f, has_of changes q f is, number), λ at. true≢false (sym (other_number q project path f r is number at) ∙ apart)))
         (λ (number, q, f, put). absurd (no_put put))
         (stood c r live),
     λ ((q, f, has, number), other). stays c q f r has number (false_from_ne_true _ (λ named. other (named_number q project path f has named ∙ ap Some number))),
@@ -148,7 +116,7 @@ module _ (changes : List Change) where
   pub live_gate : (project : List ℕ) (conditions : List Condition) (r : ℕ) → IsLive (changes ++ Gate project conditions ∷ []) r ↔ IsLive changes r
   live_gate project conditions r = (
     λ live. ⊎_elim
-        (λ (q, f, is, number, apart). (q, f, has_of q f is, number))
+        (λ (q, f, is, number, apart). (q, f, has_of changes q f is, number))
         (λ (number, q, f, put). absurd (no_put put))
         (stood c r live),
     λ (q, f, has, number). stays c q f r has number refl,

@@ -1,8 +1,9 @@
 -- What is handed out of sound changes.
-use Rattle.std.proofs.Common.{◌≡◌, ℕ, ◌<◌, ◌≤◌, true, false, cond, List, [], ◌∷◌, length, map, get_or, sym, ap, ◌∙◌, subst, arith}
+use Rattle.std.proofs.Common.{ℕ, ◌-◌, ◌≤◌, true, false, cond, List, [], ◌∷◌, length, sym, subst, arith}
 use Rattle.std.specs.Prelude.{All}
 use Rattle.std.specs.Str.{IsUtf8, bytes_eq}
-use Rattle.std.proofs.lemmas.List.{length-map, get_or-map}
+use Rattle.std.proofs.Math.ListN.{get_or-map}
+use Rattle.std.proofs.lemmas.List.{length-map}
 use Rattle.std.proofs.lemmas.List.Elements.{All-head, All-tail}
 use Rattle.cq_base.specs.declared.lang.Lang.{Lang}
 use Rattle.cq_base.specs.declared.change.Condition.{Condition}
@@ -10,11 +11,10 @@ use Rattle.cq_base.specs.declared.change.Change.{Change}
 use Rattle.cq_base.specs.declared.change.Change.TheVariants.{Put, Drop, Gate}
 use Rattle.cq_base.specs.Changes.{IsSoundChange}
 use Rattle.cq_history.specs.Files.{conditions_after, conditions_from}
-use Rattle.cq_history.specs.State.{Slot}
+use Rattle.cq_history.specs.Changes.{IsNumber}
+use Rattle.cq_history.specs.State.{Slot, no_slot}
 use Rattle.cq_board.specs.declared.answers.Job.{Job}
-use Rattle.cq_board.specs.declared.kept.Kept.{Kept}
-use Rattle.cq_board.specs.Slots.{slot_from, change_of}
-use Rattle.cq_board.specs.Boards.{changes_from}
+use Rattle.cq_kept.specs.Slots.{slot_at, changes_of}
 use Rattle.cq_board.specs.Answers.{IsJobOf}
 use Rattle.cq_board.specs.Listings.{Listed, IsListing}
 use Rattle.cq_board.specs.Sound.{HasSoundText, HaveFewConditions}
@@ -26,13 +26,9 @@ job_text (Drop project path) job sound is = absurd is
 job_text (Gate project conditions) job sound is = absurd is
 
 -- the change of a slot is one of the changes
-pub kept_sound : {W : Type 0} (slots : List (Kept W)) (i : ℕ) (k : Kept W) → All IsSoundChange (changes_from slots) → i < length slots → k ≡ get_or slots i k → IsSoundChange (change_of k.change)
-kept_sound {W} slots i k sound within read =
-    let few : length (map (slot_from {W = W}) slots) ≡ length slots = length-map slots (slot_from {W = W}) in
-    subst IsSoundChange
-    (get_or-map (λ (s : Slot). s.change) (map slot_from slots) i (slot_from k) (change_of k.change) (omega (arith, few, within))
-    ∙ ap (λ (s : Slot). s.change) (get_or-map slot_from slots i k (slot_from k) within ∙ ap slot_from (sym read)))
-    (sound i (change_of k.change) (omega (arith, few, length-map (map (slot_from {W = W}) slots) (λ (s : Slot). s.change), within)))
+pub slot_sound : (slots : List Slot) (r : ℕ) → All IsSoundChange (changes_of slots) → IsNumber slots r → IsSoundChange (slot_at slots r).change
+slot_sound slots r sound number =
+    subst IsSoundChange (get_or-map (λ (s : Slot). s.change) slots (r - 1) no_slot) (sound (r - 1) no_slot.change (omega (arith, number.0, number.1, length-map slots (λ (s : Slot). s.change))))
 
 few_after : (q : List ℕ) (old : List Condition) (c : Change) → length old ≤ 32 → IsSoundChange c → length (conditions_after q old c) ≤ 32
 few_after q old (Put project path lang text) few sound = few

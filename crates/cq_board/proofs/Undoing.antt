@@ -1,5 +1,5 @@
 -- The changes that are not done, by the set of their indexes.
-use Rattle.std.proofs.Common.{◌≡◌, ℕ, ◌<◌, ◌≤◌, Bool, true, false, not, cond, List, [], ◌∷◌, length, get_or, set, refl, sym, ap, ap₂, ◌∙◌, subst, arith, ⊎_elim}
+use Rattle.std.proofs.Common.{◌≡◌, ℕ, ◌+◌, ◌<◌, ◌≤◌, Bool, true, false, not, cond, List, [], ◌∷◌, ◌++◌, length, length-append, get_or, set, refl, sym, ap, ap₂, ◌∙◌, subst, arith, ⊎_elim}
 use Rattle.std.specs.Prelude.{IsTrue, is_none}
 use Rattle.std.specs.Ordering.{nat_cmp}
 use Rattle.std.specs.Cmp.{unsigned_tied}
@@ -10,6 +10,8 @@ use Rattle.std.specs.declared.ops.Bound.TheVariants.{Included, Unbounded}
 use Rattle.std.specs.BTreeMap.{is_at}
 use Rattle.std.specs.BTreeMap.Range.{range_contains}
 use Rattle.std.specs.BTreeSet.{BTreeSet, contains, keys_between, IsOrdered, IsLowerBound}
+use Rattle.std.proofs.Math.ListN.{get_or-append}
+use Rattle.std.proofs.Math.Seq.{get_or-append_seam}
 use Rattle.std.proofs.lemmas.Bool.{cases_lt, cases_eq, or_cases, or_left, and_parts, and_from, not-true, not-false, eqb-true, eq-eqb, ne_eqb, cond-true, cond-false, false_from_ne_true, both_ways, not_from_true}
 use Rattle.std.proofs.lemmas.Bool.Decides.{nat_tests}
 use Rattle.std.proofs.lemmas.List.{nil_from_length, get_or_past, get_or-set_same, get_or-set_other}
@@ -70,6 +72,39 @@ module _ (slots : List Slot) (undone : BTreeSet ℕ) (are : AreUndone slots undo
       ∙ by_index k i (not (is_done slot)) (is_undone slots i) (is_undone slots i)
       (λ here. ap (is_undone slots) (sym here) ∙ ap not (sym same)) (λ _. refl)
       ∙ sym (is_undone-set slots k slot i within)
+
+-- ---- one change more
+
+is_undone-push : (slots : List Slot) (slot : Slot) (i : ℕ) → is_undone (slots ++ slot ∷ []) i ≡ cond (is_at (nat_cmp (length slots)) i) (not (is_done slot)) (is_undone slots i)
+is_undone-push slots slot i =
+    by_index (length slots) i (not (is_done slot)) (is_undone slots i) (is_undone (slots ++ slot ∷ []) i)
+    (λ here. ap (is_undone (slots ++ slot ∷ [])) (sym here) ∙ ap (λ (s : Slot). not (is_done s)) (get_or-append_seam slots slot [] no_slot))
+    (λ elsewhere.
+    ⊎_elim
+    (λ (lt : i < length slots). ap (λ (s : Slot). not (is_done s)) (get_or-append slots (slot ∷ []) no_slot i lt))
+    (λ (ge : length slots ≤ i).
+    let past : length slots + 1 ≤ i = ⊎_elim (λ (lt : length slots < i). omega (arith, lt)) (λ le. absurd (elsewhere (omega (arith, ge, le)))) (cases_lt (length slots) i) in
+    is_undone-past (slots ++ slot ∷ []) i (omega (arith, past, length-append slots (slot ∷ []))) ∙ sym (is_undone-past slots i ge))
+    (cases_lt i (length slots)))
+
+-- it is not done, and its index is among them
+pub undone-push_put : (slots : List Slot) (undone new : BTreeSet ℕ) → AreUndone slots undone → (slot : Slot) → is_done slot ≡ false → ((i : ℕ) → contains nat_cmp new i ≡ cond (is_at (nat_cmp (length slots)) i) true (contains nat_cmp undone i)) → AreUndone (slots ++ slot ∷ []) new
+undone-push_put slots undone new are slot waiting updates i = updates i ∙ ap₂ (λ x y. cond (is_at (nat_cmp (length slots)) i) x y) (ap not (sym waiting)) (are i) ∙ sym (is_undone-push slots slot i)
+
+-- it is done at once
+pub undone-push_done : (slots : List Slot) (undone : BTreeSet ℕ) → AreUndone slots undone → (slot : Slot) → is_done slot ≡ true → AreUndone (slots ++ slot ∷ []) undone
+undone-push_done slots undone are slot done i =
+    are i
+    ∙ by_index (length slots) i (not (is_done slot)) (is_undone slots i) (is_undone slots i) (λ here. is_undone-past slots i (omega (arith, here)) ∙ sym (ap not done)) (λ _. refl)
+    ∙ sym (is_undone-push slots slot i)
+
+-- it is not accepted after all
+pub undone-pop : (slots : List Slot) (undone new : BTreeSet ℕ) (slot : Slot) → AreUndone (slots ++ slot ∷ []) undone → ((i : ℕ) → contains nat_cmp new i ≡ cond (is_at (nat_cmp (length slots)) i) false (contains nat_cmp undone i)) → AreUndone slots new
+undone-pop slots undone new slot are updates i =
+    updates i
+    ∙ sym (by_index (length slots) i false (contains nat_cmp undone i) (is_undone slots i)
+    (λ here. is_undone-past slots i (omega (arith, here)))
+    (λ elsewhere. sym (are i ∙ is_undone-push slots slot i ∙ cond-false (is_at (nat_cmp (length slots)) i) (not (is_done slot)) (is_undone slots i) (unsigned_tied (length slots) i ∙ ne_eqb (length slots) i elsewhere))))
 
 -- ---- a walk over those that are not done
 

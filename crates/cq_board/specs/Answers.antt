@@ -1,5 +1,5 @@
 -- What a board's calls answer.
-use Rattle.std.specs.Prelude.{◌≡◌, ℕ, ◌+◌, nat_lt, true, if◌then◌else◌, List, length, take, fold, min, Option, Some, None, Result, MatchResult, ◌⊎◌}
+use Rattle.std.specs.Prelude.{◌≡◌, ℕ, ◌+◌, nat_lt, Bool, true, if◌then◌else◌, List, length, take, fold, min, Option, Some, None, Result, MatchResult, ◌⊎◌}
 use Rattle.std.specs.Arc.{arc_value}
 use Rattle.std.specs.declared.sync.Arc.{Arc}
 use Rattle.std.specs.declared.alloc.Global.{Global}
@@ -8,6 +8,7 @@ use Rattle.cq_base.specs.declared.settings.Settings.{Settings}
 use Rattle.cq_base.specs.declared.change.Change.{Change}
 use Rattle.cq_base.specs.declared.change.Change.TheVariants.{Put, Drop, Gate}
 use Rattle.cq_history.specs.Changes.{is_put, IsWorkFor}
+use Rattle.cq_history.specs.Gone.{IsGone}
 use Rattle.cq_history.specs.State.{State, IsAccepted, slot_of, ready, first_free, changes_in}
 use Rattle.cq_board.specs.declared.answers.Asked.{Asked}
 use Rattle.cq_board.specs.declared.answers.Job.{Job}
@@ -17,10 +18,13 @@ use Rattle.cq_board.specs.declared.listing.View.{View}
 use Rattle.cq_board.specs.Listings.{IsListing}
 use Rattle.cq_history.specs.Lawful.{is_absent, is_full, is_long}
 
--- why a change is not accepted, if it is not: the first cause that holds
+-- the first cause that holds
+abbrev pub cause_among : Bool → Bool → Bool → Option Refused
+cause_among absent full long = if absent then Some Absent else (if full then Some FullChanges else (if long then Some FullText else None))
+
+-- why a change is not accepted, if it is not
 abbrev pub refusal_of : Settings → State → Change → Option Refused
-refusal_of set s change =
-    if is_absent s change then Some Absent else (if is_full set s then Some FullChanges else (if is_long set s change then Some FullText else None))
+refusal_of set s change = cause_among (is_absent s change) (is_full set s) (is_long set s change)
 
 -- it is accepted only where nothing is against it; the answer is the first cause against it, or want of memory
 abbrev pub TellsCause : Settings → State → Change → Result ℕ Refused → Type 0
@@ -49,6 +53,10 @@ IsJob s job = IsJobOf (slot_of s job.change).change job
 -- it is a put whose work was done
 abbrev pub IsDonePut : State → ℕ → Type 0
 IsDonePut s r = IsAccepted s r × (is_put (slot_of s r).change ≡ true) × ((slot_of s r).finished ≡ true)
+
+-- and the floor keeps it
+abbrev pub IsKeptWork : State → ℕ → Type 0
+IsKeptWork s r = IsDonePut s r × (IsGone (changes_in s) s.floor r → ⊥)
 
 -- the work is that of a change
 abbrev pub IsWorkAt : {W : Type 0} → (Lang → List ℕ → W → Type 0) → State → ℕ → Arc W Global → Type 0

@@ -1,10 +1,11 @@
 -- The edit that a change asks for.
-use Rattle.std.specs.Prelude.{◌≡◌, ℕ, List, [], ◌∷◌}
+use Rattle.std.specs.Prelude.{◌≡◌, ℕ, List}
 use Rattle.std.specs.Arc.{arc_value}
 use Rattle.cq_base.specs.declared.lang.Lang.{Lang}
 use Rattle.cq_base.specs.declared.change.Change.{Change}
 use Rattle.cq_base.specs.declared.change.Change.TheVariants as change
 use Rattle.cq_history.specs.Files.{Source}
+pub use Rattle.cq_kept.specs.Slots.{put_by}
 use Rattle.cq_board.specs.Related.{IsSameFile}
 use Rattle.cq_projects.specs.declared.projects.ProjectEdit.{ProjectEdit}
 use Rattle.cq_projects.specs.declared.projects.ProjectEdit.TheVariants.{Put, Drop, Gate}
@@ -28,9 +29,3 @@ abbrev pub project_named : Change → List ℕ
 project_named (change.Put project path lang text) = project
 project_named (change.Drop project path) = project
 project_named (change.Gate project conditions) = project
-
--- the numbers of the files that it puts
-abbrev pub put_by : Change → ℕ → List ℕ
-put_by (change.Put project path lang text) r = r ∷ []
-put_by (change.Drop project path) r = []
-put_by (change.Gate project conditions) r = []

@@ -4,12 +4,8 @@ pub mod Edits
 pub mod Entries
 pub mod Free
 pub mod Listings
-pub mod Presence
 pub mod Related
-pub mod Slots
 pub mod Sound
 pub mod Stands
-pub mod Superseded
-pub mod Sweeping
 pub mod Turnover
 pub mod Undone

@@ -7,8 +7,8 @@ use Rattle.cq_base.specs.declared.change.Change.{Change}
 use Rattle.cq_board.specs.Listings.{Listed, IsListing}
 use Rattle.cq_projects.specs.Projects.{ListedProject, projects_in}
 use Rattle.cq_board.specs.declared.live.Turnover.{Turnover}
-use Rattle.cq_board.specs.declared.kept.Kept.{Kept}
-use Rattle.cq_board.specs.Slots.{change_of}
+use Rattle.cq_kept.specs.declared.kept.Kept.{Kept}
+use Rattle.cq_kept.specs.Slots.{change_of}
 use Rattle.std.specs.declared.sync.Arc.{Arc}
 use Rattle.std.specs.declared.alloc.Global.{Global}
 use Rattle.cq_board.specs.Edits.{put_by}

@@ -1,4 +1,4 @@
--- Which changes are not done, by their indexes.
+-- Which changes are not done, by their indexes, from 0.
 use Rattle.std.specs.Prelude.{◌≡◌, ℕ, Bool, not, List, slice_index_or}
 use Rattle.std.specs.Ordering.{nat_cmp}
 use Rattle.std.specs.BTreeSet.{BTreeSet, contains}

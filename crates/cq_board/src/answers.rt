@@ -25,9 +25,9 @@ pub struct Job {
 pub enum Refused {
     /// It drops a path whose last put or drop is no put.
     Absent,
-    /// So many changes are accepted as may be.
+    /// So many changes are kept as may be, or so many were accepted.
     FullChanges,
-    /// Its text and all accepted texts have more bytes than may be.
+    /// Its text and all kept texts have more bytes than may be.
     FullText,
     Memory,
 }

@@ -3,25 +3,21 @@ ghost use Rattle.cq_history.specs.declared.event.Event.TheVariants as event;
 ghost use Rattle.std.specs.Arc.{arc_value};
 ghost use Rattle.std.specs.Bool.{OnTrue, OnFalse};
 ghost use Rattle.cq_history.specs.Lawful.{Permits};
-ghost use Rattle.cq_history.specs.Superseded.{AreSuperseded};
+ghost use Rattle.cq_history.specs.Gone.{AreKeptPuts};
 ghost use Rattle.cq_history.specs.State.{changes_in, first_free, ready, view_of, slot_of, IsAccepted, IsDone, IsUndone, IsTakenBy};
 ghost use Rattle.cq_board.specs.Stands.{BoardState, StandsFor, Adds, IsCaller};
-ghost use Rattle.cq_board.specs.Sweeping.{AreSupersededBetween};
-ghost use Rattle.cq_board.specs.Answers.{asked_of, greatest_floor, lower, IsJob, IsDonePut, IsWorkAt, HasFree, IsViewOf, TellsCause};
+ghost use Rattle.cq_board.specs.Answers.{asked_of, greatest_floor, lower, IsJob, IsKeptWork, IsWorkAt, HasFree, IsViewOf, TellsCause};
 ghost use Rattle.cq_history.specs.Changes.{IsWorkFor};
 ghost use Rattle.cq_base.specs.Changes.{IsSoundChange};
 ghost use Rattle.cq_board.specs.Sound.{HasSoundText, HaveFewConditions};
 
-use crate::accepting::{note_both, refusal, stored, text_len};
-use crate::free::{FreeChanges, first_free, note_given_back, note_taken};
-use crate::kept::Kept;
+use crate::free::{FreeChanges, first_free, note_given_back, note_taken, pass_over};
 use crate::listing::{Listing, View, advance_to};
-use crate::presence::Presence;
-use crate::slot_tests::{is_done, job_of};
-use crate::superseded::{dead_at, dead_between};
-use crate::undone::ready_of;
+use crate::refusing::refusal;
+use crate::undone::{is_taken_by, job_at, job_of, note_undone, ready_of, undone_at, work_at};
 use crate::{Asked, Finished, Job, Refused};
 use cq_base::{Change, Memory, Settings};
+use cq_kept::{Changes, stored};
 use cq_shard::Indexed;
 use std::alloc::Global;
 use std::collections::BTreeSet;
@@ -31,17 +27,13 @@ use std::sync::Arc;
 /// The accepted changes and what became of them.
 #[derive(Drop)]
 pub struct Board<W: Indexed> {
-    settings: Settings,
-    slots: Vec<Kept<W>>,
-    there: Presence,
+    changes: Changes<W>,
     // The indexes of the changes that are not done.
-    undone: BTreeSet<usize>,
-    text_bytes: u64,
+    undone: BTreeSet<u64>,
     free: FreeChanges,
     published: u64,
     // The version that the listing is of: the published one, or 0 where memory was refused while it was changed.
     listed: u64,
-    floor: u64,
     views: Vec<Option<u64>>,
     listing: Arc<Listing<W>, Global>,
     events: u64,
@@ -54,16 +46,16 @@ impl<W: Indexed> Model for Board<W> {
 
     ghost use Rattle.std.specs.Arc.{arc_value};
     ghost use Rattle.cq_board.specs.Boards.{BoardOk};
-    ghost use Rattle.cq_board.specs.Slots.{state_from};
+    ghost use Rattle.cq_kept.specs.Slots.{state_from};
 
-    ghost view = { λ b. record { settings = b.settings; state = state_from b.slots.items b.published b.floor b.views.items; events = b.events } };
+    ghost view = { λ b. record { settings = b.changes.settings; state = state_from b.changes.slots b.published b.changes.floor b.views.items; events = b.events } };
 
-    ghost invariant = { λ b. BoardOk (W.IsWorkOf b.settings) b.settings b.slots.items b.there b.undone b.text_bytes b.free b.published b.listed (arc_value b.listing) b.views.items };
+    ghost invariant = { λ b. BoardOk (W.IsWorkOf b.changes.settings) b.changes b.undone b.free b.published b.listed (arc_value b.listing) b.views.items };
 }
 
 impl<W: Indexed> Board<W> {
-    /// A board for so many callers, before any event. It takes memory for their views, for an empty listing, and for all
-    /// changes that may be accepted, a slot and 24 bytes each.
+    /// A board for so many callers, before any event. It takes memory for their views, for an empty listing, and 8 bytes for
+    /// each change that may be kept.
     pub fn new(alloc: Global, settings: &Settings, callers: u32) -> Result<Board<W>, Memory>
         ensures stands { IfOk result (StandsFor []) }
         ensures settings { IfOk result (λ b. b.settings ≡ settings.now) }
@@ -71,20 +63,13 @@ impl<W: Indexed> Board<W> {
     {
         let views = no_views(alloc, callers)?;
         let listing = Arc::new(alloc, Listing::new(alloc))?;
-        let most = settings.change_limit as usize;
-        let slots = Vec::with_capacity(alloc, most)?;
-        let there = Presence::new(alloc, most)?;
-        let free = FreeChanges::new(alloc, most)?;
+        let free = FreeChanges::new(alloc, settings.change_limit as usize)?;
         Ok(Board {
-            settings: *settings,
-            slots,
-            there,
+            changes: Changes::new(alloc, settings),
             undone: BTreeSet::new(alloc),
-            text_bytes: 0,
             free,
             published: 0,
             listed: 0,
-            floor: 0,
             views,
             listing,
             events: 0,
@@ -98,32 +83,25 @@ impl<W: Indexed> Board<W> {
         ensures job { IfOk result (λ job. IfSome job (λ j. (j.change ≡ change) × IsJob self.now.state j)) }
         ensures text { IfOk result (λ job. IfSome job HasSoundText) }
     {
-        let kept = &self.slots[change as usize - 1];
-        if is_done(kept) {
-            return Ok(None);
+        match undone_at(&self.changes, change) {
+            Some(kept) => Ok(Some(job_of(change, &kept.change)?)),
+            None => Ok(None),
         }
-        Ok(Some(job_of(change, &kept.change)?))
     }
 
     /// Whether a change is accepted and not done.
     pub fn is_undone(&self, change: u64) -> bool
         ensures { IsTrue result ↔ IsUndone self.now.state change }
     {
-        if change == 0 || change > self.slots.len() as u64 {
-            return false;
-        }
-        !is_done(&self.slots[change as usize - 1])
+        undone_at(&self.changes, change).is_some()
     }
 
-    /// The work of a done put, and None for any other number.
+    /// The work of a done put that the floor keeps, and None for any other number.
     pub fn finished_work(&self, change: u64) -> Result<Option<Arc<W, Global>>, Memory>
-        ensures some { IfOk result (λ work. IsSome work ↔ IsDonePut self.now.state change) }
+        ensures some { IfOk result (λ work. IsSome work ↔ IsKeptWork self.now.state change) }
         ensures work { IfOk result (λ work. IfSome work (IsWorkAt (W.IsWorkOf self.now.settings) self.now.state change)) }
     {
-        if change == 0 || change > self.slots.len() as u64 {
-            return Ok(None);
-        }
-        match &self.slots[change as usize - 1].work {
+        match work_at(&self.changes, change) {
             Some(work) => Ok(Some(Arc::try_clone(work)?)),
             None => Ok(None),
         }
@@ -133,7 +111,7 @@ impl<W: Indexed> Board<W> {
     pub fn settings(&self) -> &Settings
         ensures { result.now ≡ self.now.settings }
     {
-        &self.settings
+        self.changes.settings()
     }
 
     /// How many callers it has.
@@ -147,7 +125,7 @@ impl<W: Indexed> Board<W> {
     pub fn ready(&self) -> u64
         ensures { result ≡ ready self.now.state }
     {
-        ready_of(&self.slots, &self.undone) as u64
+        ready_of(&self.changes, &self.undone)
     }
 
     /// How many events there were, modulo 2^64.
@@ -168,7 +146,7 @@ impl<W: Indexed> Board<W> {
     pub fn floor(&self) -> u64
         ensures { result ≡ self.now.state.floor }
     {
-        self.floor
+        self.changes.floor()
     }
 
     /// The greatest floor that there may be: the least of the last published version and each open view's. It looks at
@@ -179,20 +157,11 @@ impl<W: Indexed> Board<W> {
         least(self.published, &self.views)
     }
 
-    /// The puts that a change of their file numbered at most a floor superseded, ascending. It costs a search, and a sort of
-    /// what it lists.
-    pub fn dead(&self, alloc: Global, floor: u64) -> Result<Vec<u64>, Memory>
-        ensures { IfOk result (λ dead. AreSuperseded (changes_in self.now.state) floor dead.items) }
+    /// The puts up to the floor that it keeps, ascending. It looks at each change that it keeps up to there.
+    pub fn keep(&self, alloc: Global) -> Result<Vec<u64>, Memory>
+        ensures { IfOk result (λ keep. AreKeptPuts (changes_in self.now.state) self.now.state.floor keep.items) }
     {
-        dead_at(alloc, &self.there.superseded, floor)
-    }
-
-    /// The puts that a floor lets go of which a lower one keeps, ascending: those that a change of their file superseded at the
-    /// floor, and none at the lower one. It costs two searches, and a sort of what it lists, however much was superseded before.
-    pub fn dead_between(&self, alloc: Global, above: u64, floor: u64) -> Result<Vec<u64>, Memory>
-        ensures { IfOk result (λ dead. AreSupersededBetween (changes_in self.now.state) above floor dead.items) }
-    {
-        dead_between(alloc, &self.there.superseded, above, floor)
+        self.changes.keep(alloc)
     }
 
     /// Gives a taken change back, and answers whether there is this caller and had it, undone. It takes no memory, and costs
@@ -205,21 +174,17 @@ impl<W: Indexed> Board<W> {
         if by as usize >= self.views.len() {
             return false;
         }
-        if change == 0 || change > self.slots.len() as u64 {
+        if !is_taken_by(&self.changes, change, by) {
             return false;
         }
-        let i = change as usize - 1;
-        if is_done(&self.slots[i]) || self.slots[i].holder != Some(by) {
-            return false;
-        }
-        let kept = &mut self.slots[i];
-        kept.holder = None;
-        note_given_back(&mut self.free, i);
+        note_given_back(&self.changes, &mut self.free, change - 1);
+        self.changes.hold(change, None);
         self.events = self.events.wrapping_add(1);
         true
     }
 
-    /// Accepts a change, and answers its number, or the first cause against it. A refusal changes nothing.
+    /// Accepts a change, and answers its number, or the first cause against it. A refusal changes nothing. What later calls
+    /// need of memory for it is taken here.
     pub fn accept(&mut self, alloc: Global, by: u32, change: Change) -> Result<u64, Refused>
         requires caller { IsCaller self.old by }
         requires sound { IsSoundChange change }
@@ -229,26 +194,20 @@ impl<W: Indexed> Board<W> {
         ensures err { OnErr result (self.new ≡ self.old) }
     {
         let change = stored(alloc, change)?;
-        if let Some(cause) = refusal(
-            &self.settings,
-            &self.slots,
-            &self.there,
-            self.text_bytes,
-            &change,
-        ) {
+        if let Some(cause) = refusal(&self.changes, &change) {
             return Err(cause);
         }
-        let len = text_len(&change);
-        self.slots.reserve(1)?;
-        note_both(&self.slots, &mut self.there, &mut self.undone, &change)?;
-        self.slots.push(Kept {
-            change,
-            work: None,
-            holder: None,
-        })?;
-        self.text_bytes += len;
+        note_undone(&self.changes, &mut self.undone, &change)?;
+        let accepted = self.changes.len();
+        match self.changes.accept(change) {
+            Ok(()) => {}
+            Err(_refused) => {
+                self.undone.remove(&accepted);
+                return Err(Refused::Memory);
+            }
+        }
         self.events = self.events.wrapping_add(1);
-        Ok(self.slots.len() as u64)
+        Ok(self.changes.len())
     }
 
     /// What a caller sees of the changes. It takes no memory.
@@ -259,16 +218,16 @@ impl<W: Indexed> Board<W> {
         ensures answer { result ≡ asked_of self.old.state }
     {
         self.events = self.events.wrapping_add(1);
-        let accepted = self.slots.len();
-        let done = ready_of(&self.slots, &self.undone);
+        let accepted = self.changes.len();
+        let done = ready_of(&self.changes, &self.undone);
         let undone = if done < accepted {
-            Some(done as u64 + 1)
+            Some(done + 1)
         } else {
             None
         };
         Asked {
-            accepted: accepted as u64,
-            done: done as u64,
+            accepted,
+            done,
             undone,
             published: self.published,
         }
@@ -287,13 +246,12 @@ impl<W: Indexed> Board<W> {
         ensures unchanged { IfOk result (λ job. MatchOption job (self.new ≡ self.old) (λ _. HasFree self.old.state)) }
         ensures err { OnErr result (self.new ≡ self.old) }
     {
-        let i = first_free(&self.slots, &self.undone, &mut self.free);
-        if i == self.slots.len() {
+        let i = first_free(&self.changes, &self.undone, &mut self.free);
+        if i == self.changes.len() {
             return Ok(None);
         }
-        let kept = &mut self.slots[i];
-        let job = job_of(i as u64 + 1, &kept.change)?;
-        kept.holder = Some(by);
+        let job = job_at(&self.changes, i + 1)?;
+        self.changes.hold(i + 1, Some(by));
         note_taken(&mut self.free, i);
         self.events = self.events.wrapping_add(1);
         Ok(Some(job))
@@ -309,8 +267,7 @@ impl<W: Indexed> Board<W> {
     {
         advance_to(
             alloc,
-            &self.settings,
-            &self.slots,
+            &self.changes,
             &mut self.listing,
             &mut self.listed,
             version,
@@ -332,9 +289,8 @@ impl<W: Indexed> Board<W> {
         ensures err { OnErr result (self.new ≡ self.old) }
     {
         advance_to(
-            *self.slots.allocator(),
-            &self.settings,
-            &self.slots,
+            *self.views.allocator(),
+            &self.changes,
             &mut self.listing,
             &mut self.listed,
             self.published,
@@ -359,19 +315,21 @@ impl<W: Indexed> Board<W> {
     }
 
     /// Gives versions below this one up, and answers whether it may: where it is above the last floor and at most the last
-    /// published version and each open view's. It looks at each caller's view, and takes no memory.
+    /// published version and each open view's. What no version from there on needs is forgotten, for a search each. It looks at
+    /// each caller's view, and takes no memory.
     pub fn set_floor(&mut self, version: u64) -> bool
         ensures adds { OnTrue result (Adds (event.Floor version) self.old self.new) }
         ensures lawful { IsTrue result ↔ Permits self.old.settings self.old.state (event.Floor version) }
         ensures unchanged { OnFalse result (self.new ≡ self.old) }
     {
-        if version <= self.floor {
+        if version <= self.changes.floor() {
             return false;
         }
         if version > least(self.published, &self.views) {
             return false;
         }
-        self.floor = version;
+        self.changes.set_floor(version);
+        pass_over(&mut self.free, version);
         self.events = self.events.wrapping_add(1);
         true
     }
@@ -385,13 +343,11 @@ impl<W: Indexed> Board<W> {
         ensures already { (result ≡ Finished.Already) ↔ IsDone self.old.state change }
         ensures unchanged { result ≡ Finished.Already → self.new ≡ self.old }
     {
-        let i = change as usize - 1;
-        if is_done(&self.slots[i]) {
+        if undone_at(&self.changes, change).is_none() {
             return Finished::Already;
         }
-        let kept = &mut self.slots[i];
-        kept.work = Some(work);
-        self.undone.remove(&i);
+        self.changes.finish(change, work);
+        self.undone.remove(&(change - 1));
         self.events = self.events.wrapping_add(1);
         Finished::Done
     }

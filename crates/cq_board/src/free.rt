@@ -1,31 +1,31 @@
-ghost use Rattle.std.specs.Prelude.{◌≡◌, ◌<◌, ◌≤◌, ◌^◌, ◌+◌, ℕ, [], List, length, map, IfOk, IfSome, IsNone, false, true, is_none, slice_index_or, slice_set};
-ghost use Rattle.std.specs.List.{position_or_len};
-ghost use Rattle.std.specs.BinaryHeap.{heap_len, heap_capacity};
-ghost use Rattle.cq_history.specs.State.{Slot, no_slot, is_free};
-ghost use Rattle.cq_board.specs.Slots.{slot_from};
+ghost use Rattle.std.specs.Prelude.{◌≡◌, ◌<◌, ◌≤◌, ◌^◌, ◌+◌, ◌-◌, ℕ, [], List, All, length, IfOk, IfSome, IsNone, false, true, is_none, slice_index_or, slice_set};
+ghost use Rattle.std.specs.List.{position_or_len, prefix_len};
+ghost use Rattle.cq_history.specs.State.{Slot, no_slot, is_done, is_free};
 ghost use Rattle.cq_board.specs.Undone.{AreUndone};
-ghost use Rattle.cq_board.specs.Free.{AreFree, IsNext, IsNoneBefore, room_of};
+ghost use Rattle.cq_board.specs.Free.{AreFree, IsNext, IsNoneBefore, least_first, room_of};
+ghost use Rattle.std.specs.BinaryHeap.{IsHeap, heap_items};
 
-use crate::kept::Kept;
-use crate::slot_tests::is_free;
 use cq_base::Memory;
+use cq_kept::{Changes, is_free};
+use cq_shard::Indexed;
 use std::alloc::Global;
 use std::cmp::Reverse;
 use std::collections::{BTreeSet, BinaryHeap};
 
-/// Which changes may be taken: those that were given back, and all from an index on that are not done.
+/// Which changes may be taken: those that were given back, and all from an index on that are not done. Changes stand at
+/// their indexes, from 0.
 #[derive(Drop)]
 pub struct FreeChanges {
     /// The indexes that were given back and not taken since, the least first. Some of their changes may be done since.
-    pub given_back: BinaryHeap<Reverse<usize>>,
+    pub given_back: BinaryHeap<Reverse<u64>>,
     /// No change from this index on was ever taken.
-    pub untaken: usize,
+    pub untaken: u64,
 }
 
 impl FreeChanges {
     /// Of no changes, with room for as many to be given back.
     pub fn new(alloc: Global, most: usize) -> Result<FreeChanges, Memory>
-        ensures none { IfOk result (AreFree []) }
+        ensures none { IfOk result (AreFree [] 0) }
         ensures room { IfOk result (λ free. most ≤ room_of free) }
     {
         Ok(FreeChanges {
@@ -37,34 +37,38 @@ impl FreeChanges {
 
 /// The index of the first change that is neither done nor taken, or how many there are. It costs a search, and another one
 /// for each change that was given back and is done since, which is then forgotten.
-pub fn first_free<W>(slots: &[Kept<W>], undone: &BTreeSet<usize>, free: &mut FreeChanges) -> usize
-    requires undone { AreUndone (map slot_from slots.now) undone.now }
-    requires free { AreFree (map slot_from slots.now) free.old }
-    ensures first { result ≡ position_or_len is_free (map slot_from slots.now) }
-    ensures within { result ≤ length slots.now }
-    ensures free { AreFree (map slot_from slots.now) free.new }
+pub fn first_free<W: Indexed>(
+    changes: &Changes<W>,
+    undone: &BTreeSet<u64>,
+    free: &mut FreeChanges,
+) -> u64
+    requires undone { AreUndone changes.now.slots undone.now }
+    requires free { AreFree changes.now.slots changes.now.floor free.old }
+    ensures first { result ≡ position_or_len is_free changes.now.slots }
+    ensures within { result ≤ length changes.now.slots }
+    ensures free { AreFree changes.now.slots changes.now.floor free.new }
     ensures next { IsNext free.new result }
     ensures room { room_of free.new ≡ room_of free.old }
 {
-    match first_given_back(slots, free) {
+    match first_given_back(changes, free) {
         Some(i) => i,
-        None => first_untaken(slots, undone, free.untaken),
+        None => first_untaken(changes, undone, free.untaken),
     }
 }
 
 // The first one of those that were given back, if there is one. Those that are done are forgotten.
-fn first_given_back<W>(slots: &[Kept<W>], free: &mut FreeChanges) -> Option<usize>
-    requires { AreFree (map slot_from slots.now) free.old }
-    ensures first { IfSome result (λ i. i ≡ position_or_len is_free (map slot_from slots.now)) }
-    ensures within { IfSome result (λ i. i ≤ length slots.now) }
+fn first_given_back<W: Indexed>(changes: &Changes<W>, free: &mut FreeChanges) -> Option<u64>
+    requires { AreFree changes.now.slots changes.now.floor free.old }
+    ensures first { IfSome result (λ i. i ≡ position_or_len is_free changes.now.slots) }
+    ensures within { IfSome result (λ i. i ≤ length changes.now.slots) }
     ensures next { IfSome result (IsNext free.new) }
-    ensures none { IsNone result → IsNoneBefore (map slot_from slots.now) free.new.untaken }
-    ensures free { AreFree (map slot_from slots.now) free.new }
+    ensures none { IsNone result → IsNoneBefore changes.now.slots free.new.untaken }
+    ensures free { AreFree changes.now.slots changes.now.floor free.new }
     ensures room { room_of free.new ≡ room_of free.old }
 {
     while let Some(given) = free.given_back.peek() {
         let i = given.0;
-        if is_free(&slots[i]) {
+        if is_free_at(changes, i) {
             return Some(i);
         }
         free.given_back.pop();
@@ -72,28 +76,42 @@ fn first_given_back<W>(slots: &[Kept<W>], free: &mut FreeChanges) -> Option<usiz
     None
 }
 
+// Whether a change behind the floor, where there is one, is neither done nor taken.
+fn is_free_at<W: Indexed>(changes: &Changes<W>, i: u64) -> bool
+    requires { changes.now.floor ≤ i }
+    ensures { result ≡ is_free (slice_index_or changes.now.slots i no_slot) }
+{
+    if i >= changes.len() {
+        return false;
+    }
+    match changes.get(i + 1) {
+        Some(kept) => is_free(kept),
+        None => unreachable!(),
+    }
+}
+
 // The first change that is not done, from an index on from which none is taken, and before which none may be.
-fn first_untaken<W>(slots: &[Kept<W>], undone: &BTreeSet<usize>, start: usize) -> usize
-    requires undone { AreUndone (map slot_from slots.now) undone.now }
-    requires before { IsNoneBefore (map slot_from slots.now) start }
-    requires behind { (i : ℕ) → start ≤ i → is_none (slice_index_or (map slot_from slots.now) i no_slot).holder ≡ true }
-    requires start { start ≤ length slots.now }
-    ensures first { result ≡ position_or_len is_free (map slot_from slots.now) }
-    ensures within { result ≤ length slots.now }
+fn first_untaken<W: Indexed>(changes: &Changes<W>, undone: &BTreeSet<u64>, start: u64) -> u64
+    requires undone { AreUndone changes.now.slots undone.now }
+    requires before { IsNoneBefore changes.now.slots start }
+    requires behind { (i : ℕ) → start ≤ i → is_none (slice_index_or changes.now.slots i no_slot).holder ≡ true }
+    requires start { start ≤ length changes.now.slots }
+    ensures first { result ≡ position_or_len is_free changes.now.slots }
+    ensures within { result ≤ length changes.now.slots }
     ensures from { start ≤ result }
 {
     match undone.range(start..).next() {
         Some(i) => *i,
-        None => slots.len(),
+        None => changes.len(),
     }
 }
 
 /// Notes that the first free change is taken. It takes no memory.
-pub fn note_taken(free: &mut FreeChanges, i: usize)
+pub fn note_taken(free: &mut FreeChanges, i: u64)
     requires next { IsNext free.old i }
     requires few { i + 1 < 2 ^ 64 }
-    ensures taken { (slots : List Slot) (slot : Slot) → AreFree slots free.old → i ≡ position_or_len is_free slots → i < length slots
-        → is_none slot.holder ≡ false → AreFree (slice_set slots i slot) free.new }
+    ensures taken { (slots : List Slot) (floor : ℕ) (slot : Slot) → AreFree slots floor free.old → i ≡ position_or_len is_free slots → i < length slots
+        → is_none slot.holder ≡ false → AreFree (slice_set slots i slot) floor free.new }
     ensures room { room_of free.new ≡ room_of free.old }
 {
     if i < free.untaken {
@@ -106,15 +124,42 @@ pub fn note_taken(free: &mut FreeChanges, i: usize)
     }
 }
 
-/// Notes that a change is given back. It takes no memory, and costs a search.
-pub fn note_given_back(free: &mut FreeChanges, i: usize)
-    requires { heap_len free.old.given_back < heap_capacity free.old.given_back }
-    ensures given { (slots : List Slot) (slot : Slot) → AreFree slots free.old → i < length slots
-        → is_none (slice_index_or slots i no_slot).holder ≡ false → is_none slot.holder ≡ true → AreFree (slice_set slots i slot) free.new }
+/// Notes that a change behind the floor is given back. It takes no memory, and costs a search.
+pub fn note_given_back<W: Indexed>(changes: &Changes<W>, free: &mut FreeChanges, i: u64)
+    requires behind { changes.now.floor ≤ i }
+    requires within { i < length changes.now.slots }
+    requires held { is_none (slice_index_or changes.now.slots i no_slot).holder ≡ false }
+    requires free { AreFree changes.now.slots changes.now.floor free.old }
+    requires room { length changes.now.slots - changes.now.floor ≤ room_of free.old }
+    ensures given { (slot : Slot) → is_none slot.holder ≡ true → AreFree (slice_set changes.now.slots i slot) changes.now.floor free.new }
     ensures room { room_of free.old ≤ room_of free.new }
 {
     match free.given_back.push(Reverse(i)) {
         Ok(()) => {}
         Err(_refused) => unreachable!(),
+    }
+}
+
+/// Forgets those that a higher floor has passed, all of which are done. It takes no memory, and costs a search for each.
+pub fn pass_over(free: &mut FreeChanges, floor: u64)
+    ensures passed { (slots : List Slot) (low : ℕ) → low ≤ floor → floor ≤ prefix_len is_done slots → AreFree slots low free.old → AreFree slots floor free.new }
+    ensures room { room_of free.new ≡ room_of free.old }
+{
+    drop_passed(free, floor);
+    free.untaken = free.untaken.max(floor);
+}
+
+// The least ones go up to the first that is behind the floor.
+fn drop_passed(free: &mut FreeChanges, floor: u64)
+    ensures free { (slots : List Slot) (low : ℕ) → floor ≤ prefix_len is_done slots → AreFree slots low free.old → AreFree slots low free.new }
+    ensures passed { IsHeap least_first (heap_items free.old.given_back) → All (λ given. floor ≤ given.0) (heap_items free.new.given_back) }
+    ensures untaken { free.new.untaken ≡ free.old.untaken }
+    ensures room { room_of free.new ≡ room_of free.old }
+{
+    while let Some(given) = free.given_back.peek() {
+        if floor <= given.0 {
+            return;
+        }
+        free.given_back.pop();
     }
 }

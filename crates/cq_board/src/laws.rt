@@ -2,7 +2,6 @@
 ghost use Rattle.cq_base.specs.declared.settings.Settings.{Settings};
 ghost use Rattle.cq_shard.specs.Shard.{HasWindow};
 ghost use Rattle.cq_board.specs.Entries.{ShardsHaveTheEntries};
-ghost use Rattle.cq_board.specs.Sweeping.{StandsSweptBetween};
 
 use cq_shard::{Indexed, it_answers_what_it_holds};
 
@@ -13,9 +12,3 @@ pub fn shards_have_the_entries<W: Indexed>()
 {
     it_answers_what_it_holds::<W>();
 }
-
-/// A shard that was swept to a floor, swept of what was superseded between one that is no higher and a new one, stands for
-/// the changes that it stood for.
-pub fn it_stands_swept_between<W: Indexed>()
-    ensures { (settings : Settings) → StandsSweptBetween (HasWindow W.keys_in W.IsWorkOf settings) }
-{}

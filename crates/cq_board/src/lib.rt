@@ -2,39 +2,43 @@
 //! to every history for which the board stands, exactly where the event is lawful, or changes nothing. Callers are
 //! numbered from 0.
 //!
-//! Room for all changes that may be accepted is made with the board, a slot and 24 bytes each, so that nothing moves then.
-//! Accepting a change costs an owner for each of its texts and two searches, one among the places at which files stand and
-//! one among the changes that are not done. Finishing one costs a search among these, and so does telling up to which all
-//! are done. Taking one costs a search among the changes that were given back or one among those that are not done; one that
-//! was given back and is done by another since is passed over at the next taking, once, by a search of its own. So a taking
-//! costs a logarithm and, for each giving back before it that another's work overtook, at most one logarithm more in all.
-//! Opening a view costs an owner of the listing, but for what is said of refused memory below, and shutting one a number.
+//! What no version from the floor on needs is forgotten as the floor rises: a drop, a put whose file was put or dropped again
+//! up to there, a gate that another one of its project followed. Each change that is kept is found by its number, in a
+//! logarithm of how many are kept, whatever its number is; those that are forgotten cost nothing, and are spoken of by clauses
+//! alone.
 //!
-//! A put that a later change replaced or dropped is noted with that change, 16 bytes. What a floor lets go of is searched
-//! in these notes, and costs a sort of what is listed; raising the floor costs a look at each caller's view.
+//! Accepting a change costs an owner for each of its texts, twice, and four searches: among what is kept, among the changes
+//! that are not done, among the places at which files stand or the projects with gates, and behind what is over. All that
+//! later calls need of memory for it is taken then, but for 8 bytes for each change that may be kept, which are taken with the
+//! board. Finishing one costs two searches, and telling up to which all are done costs one. Taking one costs a search among
+//! the changes that were given back or one among those that are not done; one that was given back and is done by another
+//! since is passed over at the next taking, once, by a search of its own. So a taking costs a logarithm and, for each giving
+//! back before it that another's work overtook, at most one logarithm more in all. Opening a view costs an owner of the
+//! listing, but for what is said of refused memory below, and shutting one a number.
+//!
+//! A change that another one makes over is noted with it, 16 bytes, in the order of the latter. Raising the floor costs a look
+//! at each caller's view and a search for each change that is forgotten, and no memory. The puts that the floor keeps are
+//! listed by a walk of what is kept up to there.
 //!
 //! Publishing costs what cq_projects takes for the edits of the changes: one alone is a search and a move, several move
 //! the files of each project that they change once. Where a view still shows a list, it is copied first, an owner a file,
 //! and the numbers of all files, 8 bytes each; else both are changed in place, the numbers in one walk where many were
 //! replaced or dropped. Where memory is refused while several changes are made in place, the board keeps an empty
-//! listing, and makes that of the published version anew, from all changes, for the next view or publication. No text, no
-//! path and no work is copied: each is held once, behind an owner that slots, listings and jobs share.
+//! listing, and makes that of the published version anew, from what is kept, for the next view or publication. No text, no
+//! path and no work is copied: each is held once, behind an owner that what is kept, listings and jobs share.
 #![tactic(auto)]
 
-mod accepting;
 mod answers;
 mod board;
+mod editing;
 mod free;
-mod kept;
 mod laws;
 mod listing;
 mod live;
-mod presence;
-mod slot_tests;
-mod superseded;
+mod refusing;
 mod undone;
 
 pub use answers::{Asked, Finished, Job, Refused};
 pub use board::Board;
-pub use laws::{it_stands_swept_between, shards_have_the_entries};
+pub use laws::shards_have_the_entries;
 pub use listing::{Listing, View};

@@ -1,21 +1,20 @@
-ghost use Rattle.std.specs.Prelude.{◌≡◌, ◌+◌, ◌≤◌, [], IfOk, OnOk, OnErr, true, take, map, All};
+ghost use Rattle.std.specs.Prelude.{◌≡◌, ◌⊎◌, ◌+◌, ◌<◌, ◌≤◌, ℕ, [], IfOk, OnOk, OnErr, IfSome, IsNone, true, take, map, length};
 ghost use Rattle.std.specs.Arc.{arc_value};
 ghost use Rattle.std.specs.List.{prefix_len};
 ghost use Rattle.cq_history.specs.State.{is_done};
-ghost use Rattle.cq_board.specs.Slots.{slot_from, change_of, IsWorked};
-ghost use Rattle.cq_board.specs.Boards.{changes_from, IsListingAt};
-ghost use Rattle.cq_board.specs.Edits.{IsEditFor, project_named, put_by};
-ghost use Rattle.cq_projects.specs.Ordered.{AreRising};
-ghost use Rattle.cq_board.specs.Listings.{IsListing, ListsTheSame, HaveSame, listed};
-ghost use Rattle.cq_projects.specs.Projects.{owner_name, projects_in, files_in, conditions_in};
-ghost use Rattle.cq_board.specs.Turnover.{IsBefore, AddsKept, AddsOwned, IsListingBefore, ListsKept, from_option};
+ghost use Rattle.cq_kept.specs.Accepted.{Holds, IsNextHeld};
+ghost use Rattle.cq_kept.specs.Slots.{slot_from, slot_at, changes_of, IsWorked};
+ghost use Rattle.cq_board.specs.Boards.{IsListingAt};
+ghost use Rattle.cq_board.specs.Listings.{IsListing, ListsTheSame, listed};
+ghost use Rattle.cq_projects.specs.Projects.{files_in, conditions_in};
+ghost use Rattle.cq_board.specs.Turnover.{IsListingBefore, ListsKept};
 
-use crate::kept::{Kept, Stored};
+use crate::editing::{apply_change, draft_change, put_number};
 use crate::live::{Turnover, note, turn, turn_one};
 use cq_base::{Condition, Memory, Settings, Text};
+use cq_kept::{Changes, Kept};
 use cq_projects::{
-    Draft, Held, Project, ProjectEdit, ProjectFiles, drafts_of, edit_draft, edit_in, find_project,
-    finished_all, own_drafts,
+    Draft, Held, Project, ProjectFiles, drafts_of, find_project, finished_all, own_drafts,
 };
 use cq_shard::Indexed;
 use std::alloc::Global;
@@ -107,119 +106,63 @@ pub struct View<W> {
     pub listing: Arc<Listing<W>, Global>,
 }
 
-// The project that a change names.
-fn project_of(change: &Stored) -> &Arc<Text, Global>
-    ensures { arc_value result.now ≡ project_named (change_of change.now) }
+// A change that is kept.
+fn kept_at<W: Indexed>(changes: &Changes<W>, number: u64) -> &Kept<W>
+    requires { Holds changes.now number }
+    ensures slot { slot_from result.now ≡ slot_at changes.now.slots number }
+    ensures work { IsWorked (W.IsWorkOf changes.now.settings) result.now }
 {
-    match change {
-        Stored::Put { file, .. } => &file.project,
-        Stored::Drop { file } => &file.project,
-        Stored::Gate { project, .. } => project,
+    match changes.get(number) {
+        Some(kept) => kept,
+        None => unreachable!(),
     }
 }
 
-// The number of a change that puts a file.
-fn put_number(change: &Stored, number: u64) -> Option<u64>
-    ensures { from_option result ≡ put_by (change_of change.now) number }
+// The next change that is kept behind a number, up to a version, and its own number.
+fn next_up_to<W: Indexed>(changes: &Changes<W>, after: u64, version: u64) -> Option<(u64, &Kept<W>)>
+    requires { after ≤ length changes.now.slots }
+    ensures next { IfSome result (λ p. IsNextHeld changes.now after p.0) }
+    ensures within { IfSome result (λ p. p.0 ≤ version) }
+    ensures slot { IfSome result (λ p. slot_from p.1.now ≡ slot_at changes.now.slots p.0) }
+    ensures work { IfSome result (λ p. IsWorked (W.IsWorkOf changes.now.settings) p.1.now) }
+    ensures none { IsNone result → (number : ℕ) → after < number → number ≤ version → Holds changes.now number → ⊥ }
 {
-    match change {
-        Stored::Put { .. } => Some(number),
-        Stored::Drop { .. } => None,
-        Stored::Gate { .. } => None,
-    }
-}
-
-// The edit that a change asks for, which is done.
-fn edit_of<W: Indexed>(
-    alloc: Global,
-    settings: &Settings,
-    number: u64,
-    kept: &Kept<W>,
-) -> Result<ProjectEdit<W>, Memory>
-    requires done { is_done (slot_from kept.now) ≡ true }
-    requires work { IsWorked (W.IsWorkOf settings.now) kept.now }
-    ensures { IfOk result (IsEditFor (W.IsWorkOf settings.now) number (change_of kept.now.change)) }
-{
-    match &kept.change {
-        Stored::Put { file, lang, .. } => match &kept.work {
-            Some(work) => {
-                let path = Arc::try_clone(&file.path)?;
-                let work = Arc::try_clone(work)?;
-                let held = Held {
-                    path,
-                    change: number,
-                    lang: *lang,
-                    work,
-                };
-                Ok(ProjectEdit::Put(Arc::new(alloc, held)?))
+    match changes.next(after) {
+        Some((number, kept)) => {
+            if number <= version {
+                Some((number, kept))
+            } else {
+                None
             }
-            None => unreachable!(),
-        },
-        Stored::Drop { file } => Ok(ProjectEdit::Drop(Arc::try_clone(&file.path)?)),
-        Stored::Gate { conditions, .. } => Ok(ProjectEdit::Gate(Arc::try_clone(conditions)?)),
+        }
+        None => None,
     }
 }
 
-// Makes one change more, which is the one with the next number and done. It answers the change whose file it replaced or
-// dropped, if there was one.
-fn apply_change<W: Indexed>(
-    alloc: Global,
-    settings: &Settings,
-    owners: &mut Vec<Arc<Project<W>, Global>>,
-    number: u64,
-    kept: &Kept<W>,
-) -> Result<Option<u64>, Memory>
-    requires done { is_done (slot_from kept.now) ≡ true }
-    requires work { IsWorked (W.IsWorkOf settings.now) kept.now }
-    requires before { IsBefore (W.IsWorkOf settings.now) number (projects_in owners.old.items) }
-    ensures names { AreRising owner_name owners.new.items }
-    ensures next { IfOk result (AddsOwned (W.IsWorkOf settings.now) number kept.now owners.old.items owners.new.items) }
-    ensures unchanged { OnErr result (HaveSame (projects_in owners.old.items) (projects_in owners.new.items)) }
-{
-    let edit = edit_of(alloc, settings, number, kept)?;
-    edit_in(alloc, owners, project_of(&kept.change), edit)
-}
-
-// Makes one change more in the drafts, which is the one with the next number and done. It answers the change whose file it
-// replaced or dropped, if there was one.
-fn draft_change<W: Indexed>(
-    alloc: Global,
-    settings: &Settings,
-    drafts: &mut Vec<Draft<W>>,
-    number: u64,
-    kept: &Kept<W>,
-) -> Result<Option<u64>, Memory>
-    requires done { is_done (slot_from kept.now) ≡ true }
-    requires work { IsWorked (W.IsWorkOf settings.now) kept.now }
-    requires before { IsBefore (W.IsWorkOf settings.now) number drafts.old.items }
-    ensures next { IfOk result (AddsKept (W.IsWorkOf settings.now) number kept.now drafts.old.items drafts.new.items) }
-{
-    let edit = edit_of(alloc, settings, number, kept)?;
-    edit_draft(alloc, drafts, project_of(&kept.change), edit)
-}
-
-// The listing of a later version, from the drafts of an earlier one's projects and its live numbers.
+// The listing of a later version, from the drafts of an earlier one's projects and its live numbers. Where that is version 0,
+// the kept changes alone leave the same.
 fn next_listing<W: Indexed>(
     alloc: Global,
-    settings: &Settings,
-    slots: &[Kept<W>],
+    changes: &Changes<W>,
     mut drafts: Vec<Draft<W>>,
     mut live: Vec<u64>,
     before: u64,
     version: u64,
 ) -> Result<Listing<W>, Memory>
     requires order { before ≤ version }
-    requires done { version ≤ prefix_len is_done (map slot_from slots.now) }
-    requires works { All (IsWorked (W.IsWorkOf settings.now)) slots.now }
-    requires listing { IsListing (W.IsWorkOf settings.now) (take before (changes_from slots.now)) (listed drafts.items live.items) }
-    ensures { IfOk result (IsListing (W.IsWorkOf settings.now) (take version (changes_from slots.now))) }
+    requires from { (changes.now.floor ≤ before) ⊎ (before ≡ 0) }
+    requires floor { changes.now.floor ≤ version }
+    requires done { version ≤ prefix_len is_done changes.now.slots }
+    requires listing { IsListing (W.IsWorkOf changes.now.settings) (take before (changes_of changes.now.slots)) (listed drafts.items live.items) }
+    ensures { IfOk result (IsListing (W.IsWorkOf changes.now.settings) (take version (changes_of changes.now.slots))) }
 {
     let mut turnover = Turnover::new(alloc);
-    for number in before..version {
-        let kept = &slots[number as usize];
-        let replaced = draft_change(alloc, settings, &mut drafts, number + 1, kept)?;
-        note(&mut turnover.put, put_number(&kept.change, number + 1))?;
+    let mut at = before;
+    while let Some((number, kept)) = next_up_to(changes, at, version) {
+        let replaced = draft_change(alloc, changes.settings(), &mut drafts, number, kept)?;
+        note(&mut turnover.put, put_number(&kept.change, number))?;
         note(&mut turnover.gone, replaced)?;
+        at = number;
     }
     let projects = finished_all(alloc, drafts)?;
     turn(&mut live, turnover)?;
@@ -255,17 +198,17 @@ fn advance_own<W: Indexed>(
 // nobody else has is changed in place.
 fn advanced<W: Indexed>(
     alloc: Global,
-    settings: &Settings,
-    slots: &[Kept<W>],
+    changes: &Changes<W>,
     old: Listing<W>,
     before: u64,
     version: u64,
 ) -> Result<Listing<W>, Memory>
     requires order { before ≤ version }
-    requires done { version ≤ prefix_len is_done (map slot_from slots.now) }
-    requires works { All (IsWorked (W.IsWorkOf settings.now)) slots.now }
-    requires listing { IsListing (W.IsWorkOf settings.now) (take before (changes_from slots.now)) old }
-    ensures { IfOk result (IsListing (W.IsWorkOf settings.now) (take version (changes_from slots.now))) }
+    requires from { (changes.now.floor ≤ before) ⊎ (before ≡ 0) }
+    requires floor { changes.now.floor ≤ version }
+    requires done { version ≤ prefix_len is_done changes.now.slots }
+    requires listing { IsListing (W.IsWorkOf changes.now.settings) (take before (changes_of changes.now.slots)) old }
+    ensures { IfOk result (IsListing (W.IsWorkOf changes.now.settings) (take version (changes_of changes.now.slots))) }
 {
     let Listing {
         projects,
@@ -273,68 +216,68 @@ fn advanced<W: Indexed>(
         no_files: _no_files,
     } = old;
     let drafts = own_drafts(alloc, projects)?;
-    next_listing(alloc, settings, slots, drafts, live, before, version)
+    next_listing(alloc, changes, drafts, live, before, version)
 }
 
 // The listing of a later version beside an earlier one that stays, with an owner more for each project, and for each
 // project that changed a copy of its list of files.
 fn advanced_copy<W: Indexed>(
     alloc: Global,
-    settings: &Settings,
-    slots: &[Kept<W>],
+    changes: &Changes<W>,
     old: &Listing<W>,
     before: u64,
     version: u64,
 ) -> Result<Listing<W>, Memory>
     requires order { before ≤ version }
-    requires done { version ≤ prefix_len is_done (map slot_from slots.now) }
-    requires works { All (IsWorked (W.IsWorkOf settings.now)) slots.now }
-    requires listing { IsListing (W.IsWorkOf settings.now) (take before (changes_from slots.now)) old.now }
-    ensures { IfOk result (IsListing (W.IsWorkOf settings.now) (take version (changes_from slots.now))) }
+    requires from { (changes.now.floor ≤ before) ⊎ (before ≡ 0) }
+    requires floor { changes.now.floor ≤ version }
+    requires done { version ≤ prefix_len is_done changes.now.slots }
+    requires listing { IsListing (W.IsWorkOf changes.now.settings) (take before (changes_of changes.now.slots)) old.now }
+    ensures { IfOk result (IsListing (W.IsWorkOf changes.now.settings) (take version (changes_of changes.now.slots))) }
 {
     let drafts = drafts_of(alloc, &old.projects)?;
     let live = Vec::from_slice(alloc, &old.live)?;
-    next_listing(alloc, settings, slots, drafts, live, before, version)
+    next_listing(alloc, changes, drafts, live, before, version)
 }
 
 // Makes a listing that nobody else has that of a later version. Where memory is refused, it is that of version 0.
 fn advance_all<W: Indexed>(
     alloc: Global,
-    settings: &Settings,
-    slots: &[Kept<W>],
+    changes: &Changes<W>,
     own: &mut Listing<W>,
     before: u64,
     version: u64,
 ) -> Result<(), Memory>
     requires order { before ≤ version }
-    requires done { version ≤ prefix_len is_done (map slot_from slots.now) }
-    requires works { All (IsWorked (W.IsWorkOf settings.now)) slots.now }
-    requires listing { IsListing (W.IsWorkOf settings.now) (take before (changes_from slots.now)) own.old }
-    ensures next { OnOk result (IsListing (W.IsWorkOf settings.now) (take version (changes_from slots.now)) own.new) }
+    requires from { (changes.now.floor ≤ before) ⊎ (before ≡ 0) }
+    requires floor { changes.now.floor ≤ version }
+    requires done { version ≤ prefix_len is_done changes.now.slots }
+    requires listing { IsListing (W.IsWorkOf changes.now.settings) (take before (changes_of changes.now.slots)) own.old }
+    ensures next { OnOk result (IsListing (W.IsWorkOf changes.now.settings) (take version (changes_of changes.now.slots)) own.new) }
     ensures emptied { OnErr result (own.new ≡ listed [] []) }
 {
     let old = mem::replace(own, Listing::new(alloc));
-    *own = advanced(alloc, settings, slots, old, before, version)?;
+    *own = advanced(alloc, changes, old, before, version)?;
     Ok(())
 }
 
 // Makes the listing that of a later version, beside the earlier one, which somebody else has.
 fn advance_copied<W: Indexed>(
     alloc: Global,
-    settings: &Settings,
-    slots: &[Kept<W>],
+    changes: &Changes<W>,
     listing: &mut Arc<Listing<W>, Global>,
     before: u64,
     version: u64,
 ) -> Result<(), Memory>
     requires order { before ≤ version }
-    requires done { version ≤ prefix_len is_done (map slot_from slots.now) }
-    requires works { All (IsWorked (W.IsWorkOf settings.now)) slots.now }
-    requires listing { IsListingAt (W.IsWorkOf settings.now) slots.now before listing.old }
-    ensures next { OnOk result (IsListingAt (W.IsWorkOf settings.now) slots.now version listing.new) }
-    ensures unchanged { OnErr result (IsListingAt (W.IsWorkOf settings.now) slots.now before listing.new) }
+    requires from { (changes.now.floor ≤ before) ⊎ (before ≡ 0) }
+    requires floor { changes.now.floor ≤ version }
+    requires done { version ≤ prefix_len is_done changes.now.slots }
+    requires listing { IsListingAt (W.IsWorkOf changes.now.settings) changes.now.slots before listing.old }
+    ensures next { OnOk result (IsListingAt (W.IsWorkOf changes.now.settings) changes.now.slots version listing.new) }
+    ensures unchanged { OnErr result (IsListingAt (W.IsWorkOf changes.now.settings) changes.now.slots before listing.new) }
 {
-    let own = advanced_copy(alloc, settings, slots, listing, before, version)?;
+    let own = advanced_copy(alloc, changes, listing, before, version)?;
     *listing = Arc::new(alloc, own)?;
     Ok(())
 }
@@ -343,85 +286,91 @@ fn advance_copied<W: Indexed>(
 // version that is told then.
 fn advance_many<W: Indexed>(
     alloc: Global,
-    settings: &Settings,
-    slots: &[Kept<W>],
+    changes: &Changes<W>,
     listing: &mut Arc<Listing<W>, Global>,
     at: &mut u64,
     version: u64,
 ) -> Result<(), Memory>
     requires order { at.old ≤ version }
-    requires done { version ≤ prefix_len is_done (map slot_from slots.now) }
-    requires works { All (IsWorked (W.IsWorkOf settings.now)) slots.now }
-    requires listing { IsListingAt (W.IsWorkOf settings.now) slots.now at.old listing.old }
-    ensures listing { IsListingAt (W.IsWorkOf settings.now) slots.now at.new listing.new }
+    requires from { (changes.now.floor ≤ at.old) ⊎ (at.old ≡ 0) }
+    requires floor { changes.now.floor ≤ version }
+    requires done { version ≤ prefix_len is_done changes.now.slots }
+    requires listing { IsListingAt (W.IsWorkOf changes.now.settings) changes.now.slots at.old listing.old }
+    ensures listing { IsListingAt (W.IsWorkOf changes.now.settings) changes.now.slots at.new listing.new }
     ensures next { OnOk result (at.new ≡ version) }
-    ensures back { OnErr result (at.new ≤ at.old) }
+    ensures back { OnErr result ((at.new ≡ at.old) ⊎ (at.new ≡ 0)) }
 {
     match Arc::get_mut(listing) {
         Some(own) => {
             let before = *at;
             *at = 0;
-            advance_all(alloc, settings, slots, own, before, version)?;
+            advance_all(alloc, changes, own, before, version)?;
             *at = version;
             Ok(())
         }
         None => {
-            advance_copied(alloc, settings, slots, listing, *at, version)?;
+            advance_copied(alloc, changes, listing, *at, version)?;
             *at = version;
             Ok(())
         }
     }
 }
 
-// The listing of the next version, made in place where nobody else has it.
+// The listing of the next version, which is behind the floor, made in place where nobody else has it.
 fn advance_one<W: Indexed>(
     alloc: Global,
-    settings: &Settings,
-    slots: &[Kept<W>],
+    changes: &Changes<W>,
     listing: &mut Arc<Listing<W>, Global>,
     before: u64,
     version: u64,
 ) -> Result<(), Memory>
     requires one { before + 1 ≡ version }
-    requires done { version ≤ prefix_len is_done (map slot_from slots.now) }
-    requires works { All (IsWorked (W.IsWorkOf settings.now)) slots.now }
-    requires listing { IsListingAt (W.IsWorkOf settings.now) slots.now before listing.old }
-    ensures next { OnOk result (IsListingAt (W.IsWorkOf settings.now) slots.now version listing.new) }
-    ensures unchanged { OnErr result (IsListingAt (W.IsWorkOf settings.now) slots.now before listing.new) }
+    requires behind { changes.now.floor ≤ before }
+    requires done { version ≤ prefix_len is_done changes.now.slots }
+    requires listing { IsListingAt (W.IsWorkOf changes.now.settings) changes.now.slots before listing.old }
+    ensures next { OnOk result (IsListingAt (W.IsWorkOf changes.now.settings) changes.now.slots version listing.new) }
+    ensures unchanged { OnErr result (IsListingAt (W.IsWorkOf changes.now.settings) changes.now.slots before listing.new) }
 {
     match Arc::get_mut(listing) {
-        Some(own) => advance_own(alloc, settings, own, version, &slots[before as usize]),
-        None => advance_copied(alloc, settings, slots, listing, before, version),
+        Some(own) => advance_own(
+            alloc,
+            changes.settings(),
+            own,
+            version,
+            kept_at(changes, version),
+        ),
+        None => advance_copied(alloc, changes, listing, before, version),
     }
 }
 
 /// Makes the listing that of a version at or past the one that it is of, and tells which it is of then. What nobody else
 /// has of it is changed in place: one change alone costs a search and a move, several move the files of each project that
 /// they change once. Of what somebody else has a copy is made first, with an owner for each project, and for each file of a
-/// project that changed. Where memory is refused, it is that of the version before, or of version 0.
+/// project that changed. Where memory is refused, it is that of the version before, or of version 0, from which it is made anew
+/// of what is kept.
 pub fn advance_to<W: Indexed>(
     alloc: Global,
-    settings: &Settings,
-    slots: &[Kept<W>],
+    changes: &Changes<W>,
     listing: &mut Arc<Listing<W>, Global>,
     at: &mut u64,
     version: u64,
 ) -> Result<(), Memory>
     requires order { at.old ≤ version }
-    requires done { version ≤ prefix_len is_done (map slot_from slots.now) }
-    requires works { All (IsWorked (W.IsWorkOf settings.now)) slots.now }
-    requires listing { IsListingAt (W.IsWorkOf settings.now) slots.now at.old listing.old }
-    ensures listing { IsListingAt (W.IsWorkOf settings.now) slots.now at.new listing.new }
+    requires from { (changes.now.floor ≤ at.old) ⊎ (at.old ≡ 0) }
+    requires floor { changes.now.floor ≤ version }
+    requires done { version ≤ prefix_len is_done changes.now.slots }
+    requires listing { IsListingAt (W.IsWorkOf changes.now.settings) changes.now.slots at.old listing.old }
+    ensures listing { IsListingAt (W.IsWorkOf changes.now.settings) changes.now.slots at.new listing.new }
     ensures next { OnOk result (at.new ≡ version) }
-    ensures back { OnErr result (at.new ≤ at.old) }
+    ensures back { OnErr result ((at.new ≡ at.old) ⊎ (at.new ≡ 0)) }
 {
     if *at == version {
         return Ok(());
     }
-    if version - *at == 1 {
-        advance_one(alloc, settings, slots, listing, *at, version)?;
+    if version - *at == 1 && changes.floor() <= *at {
+        advance_one(alloc, changes, listing, *at, version)?;
         *at = version;
         return Ok(());
     }
-    advance_many(alloc, settings, slots, listing, at, version)
+    advance_many(alloc, changes, listing, at, version)
 }

@@ -2,7 +2,7 @@ ghost use Rattle.std.specs.Prelude.{◌<◌, ◌≤◌, length, IfOk};
 ghost use Rattle.std.specs.Str.{IsUtf8};
 ghost use Rattle.cq_base.specs.Changes.{IsSoundChange};
 
-use cq_base::{Change, Conditions, Lang, Memory, Settings, Text};
+use cq_base::{Change, Conditions, Memory, Settings, Text};
 use cq_board::{Board, Refused};
 use cq_shard::Indexed;
 use std::alloc::Global;
@@ -50,32 +50,6 @@ fn letter(alloc: Global, byte: u8) -> Result<Text, Memory>
     Ok(Text::from_vec(bytes))
 }
 
-// A put of the file `a` of a project.
-fn put(alloc: Global, project: u8) -> Result<Change, Memory>
-    requires { project < 128 }
-    ensures { IfOk result IsSoundChange }
-{
-    let project = letter(alloc, project)?;
-    let path = letter(alloc, b'a')?;
-    let text = letter(alloc, b'x')?;
-    Ok(Change::Put {
-        project,
-        path,
-        lang: Lang::Any,
-        text,
-    })
-}
-
-// A drop of the file `a` of a project.
-fn drop_of(alloc: Global, project: u8) -> Result<Change, Memory>
-    requires { project < 128 }
-    ensures { IfOk result IsSoundChange }
-{
-    let project = letter(alloc, project)?;
-    let path = letter(alloc, b'a')?;
-    Ok(Change::Drop { project, path })
-}
-
 fn gate(alloc: Global) -> Result<Change, Memory>
     ensures { IfOk result IsSoundChange }
 {
@@ -86,31 +60,18 @@ fn gate(alloc: Global) -> Result<Change, Memory>
     })
 }
 
-// The last two of some numbers.
-fn last_two(numbers: Vec<u64>) -> (Option<u64>, Option<u64>) {
-    let mut numbers = numbers;
-    let last = numbers.pop();
-    (numbers.pop(), last)
-}
-
-type Two = (Option<u64>, Option<u64>);
-
-// The last two puts that are dead at the floors 2, 3 and 4, where two files are put, then the first anew, and the other one
-// is dropped.
-fn dead(alloc: Global) -> Result<(Two, Two, Two), Refused> {
+// How many puts the floor 1 keeps, where the first change is a gate.
+fn kept(alloc: Global) -> Result<usize, Refused> {
     let mut board: Board<Bare> = Board::new(alloc, &SETTINGS, 1)?;
-    let first = put(alloc, b'p')?;
-    board.accept(alloc, 0, first)?;
-    let other = put(alloc, b'q')?;
-    board.accept(alloc, 0, other)?;
-    let again = put(alloc, b'p')?;
-    board.accept(alloc, 0, again)?;
-    let dropped = drop_of(alloc, b'q')?;
-    board.accept(alloc, 0, dropped)?;
-    let low = board.dead(alloc, 2)?;
-    let middle = board.dead(alloc, 3)?;
-    let high = board.dead(alloc, 4)?;
-    Ok((last_two(low), last_two(middle), last_two(high)))
+    let gate = gate(alloc)?;
+    board.accept(alloc, 0, gate)?;
+    let asked = board.ask(0);
+    if asked.published >= asked.done {
+        return Ok(1);
+    }
+    board.publish(alloc, asked.done)?;
+    board.set_floor(1);
+    Ok(board.keep(alloc)?.len())
 }
 
 // Whether the floor may be raised to 1 where version 1 is published, to 1 once more, and to 2.
@@ -130,11 +91,8 @@ fn raised(alloc: Global) -> Result<(bool, bool, bool), Refused> {
 }
 
 #[test]
-fn replaced_and_dropped_puts_are_dead(rt: HostRuntime) -> Result<(), Refused> {
-    let (low, middle, high) = dead(rt.alloc())?;
-    assert_eq!(rt; low, (None, None));
-    assert_eq!(rt; middle, (None, Some(1)));
-    assert_eq!(rt; high, (Some(1), Some(2)));
+fn a_gate_is_no_put_to_keep(rt: HostRuntime) -> Result<(), Refused> {
+    assert_eq!(rt; kept(rt.alloc())?, 0);
     Ok(())
 }
 

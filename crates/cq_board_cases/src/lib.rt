@@ -1,4 +1,4 @@
-//! Trials of a board's floors, and of what is dead below them, over works that show nothing to the index.
+//! Trials of a board's floors, and of what they keep, over works that show nothing to the index.
 #![tactic(auto)]
 
 #[cfg(test)]

@@ -18,7 +18,7 @@ use Rattle.cq_history.proofs.Prefixes.{changes_in-state}
 use Rattle.cq_history.proofs.Falling.{never_falls}
 use Rattle.cq_history.proofs.Bounds.{views_above_floor}
 use Rattle.cq_history.proofs.Openings.{view_is, view_own}
-use Rattle.cq_history.proofs.Doing.{few_accepted}
+use Rattle.cq_history.proofs.Limits.{few_accepted}
 use Rattle.cq_shard.specs.Shard.{Contents, HasWindow, StandsFor}
 use Rattle.cq_shard.proofs.Standing.{first_stands}
 use Rattle.cq_board.specs.Stands as board

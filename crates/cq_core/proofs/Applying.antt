@@ -12,14 +12,16 @@ use Rattle.cq_base.specs.declared.entry.Entry.{Entry}
 use Rattle.cq_base.specs.declared.change.Change.{Change}
 use Rattle.cq_base.specs.declared.change.Change.TheVariants.{Put, Drop, Gate}
 use Rattle.cq_history.specs.Changes.{change_at, IsWorkFor}
-use Rattle.cq_history.specs.State.{slot_of, changes_in, ready, state as state_of}
+use Rattle.cq_history.specs.State.{State, slot_of, changes_in, ready, state as state_of}
 use Rattle.cq_history.specs.Core.{Core, stepped}
 use Rattle.cq_history.specs.Core.Step.{Applies}
+use Rattle.cq_history.proofs.Bounds.{in_order}
 use Rattle.cq_history.proofs.Cores.{step_is_sound}
 use Rattle.cq_shard.specs.Shard as shard
 use Rattle.cq_shard.proofs.Given.{work_given}
 use Rattle.cq_shard.specs.Shard.{Contents, entries_of, brought}
-use Rattle.cq_board.specs.Answers.{IsDonePut}
+use Rattle.cq_board.specs.Answers.{IsKeptWork}
+use Rattle.cq_board.proofs.Works.{work_above}
 use Rattle.cq_board.specs.Stands as board
 use Rattle.cq_core.specs.Cores.{StandsFor, AreNumbered, applied_of, floor_of}
 use Rattle.cq_core.specs.Steps.{Takes, HasSoMany, HasNext}
@@ -73,6 +75,15 @@ shard_read shards i a b within p q = p ∙ same_default_both shards i a b within
     same_default_both (x ∷ xs) zero d e lt = refl
     same_default_both (x ∷ xs) (suc k) d e lt = same_default_both xs k d e (omega (arith, lt))
 
+-- no shard has applied less than the floor
+pub floor_passed : (IsWindow : Lang → List ℕ → ℕ → ℕ → Type 0) (b : board.BoardState) (shards : List Contents) (k : Core) → StandsFor IsWindow k (core b shards) → (i : ℕ) (old : Contents) → i < length shards → old ≡ get_or shards i old → b.state.floor ≤ old.applied
+floor_passed IsWindow b shards k is i old within read =
+    let here : slice_index k.applied i ≡ old.applied = ap (λ xs. slice_index xs i) (sym is.applied) ∙ get_or-map applied_of shards i old 0 within ∙ ap applied_of (sym read) in
+    let reached = is.sound.applied i 0 (omega (arith, within, ap length is.applied, length-map shards applied_of)) in
+    let low = (in_order b.settings (length b.state.views) k.history is.sound.lawful).floor in
+    let floor : b.state.floor ≡ (state_of (length b.state.views) k.history).floor = ap (λ (s : State). s.floor) is.past.is in
+    omega (arith, low, floor, reached.0, here)
+
 -- the shard whose next change is ready, with what the board gives of that change's work
 pub record IsNextOf {W : Type 0} (IsWorkOf : Settings → Lang → List ℕ → W → Type 0) (b : board.BoardState) (shards : List Contents) (i applied : ℕ) (old : Contents) (lent : Option W) : Type 0 where
   pub within : i < length shards
@@ -82,15 +93,15 @@ pub record IsNextOf {W : Type 0} (IsWorkOf : Settings → Lang → List ℕ → 
   pub work : shard.HasItsWork (IsWorkOf b.settings) (change_at (changes_in b.state) (applied + 1)) lent
 
 pub next_of : {W : Type 0} (IsWorkOf : Settings → Lang → List ℕ → W → Type 0) (b : board.BoardState) (shards : List Contents) (i applied : ℕ) (first old : Contents) (work : Option (Arc W Global)) (lent : Option W) → AreNumbered b.settings.shards shards → i < b.settings.shards → first ≡ get_or shards i first → old ≡ get_or shards i old → applied ≡ first.applied
-    → applied + 1 ≤ ready b.state → IsSome work ↔ IsDonePut b.state (applied + 1) → IfSome work (λ w. IsWorkFor (IsWorkOf b.settings) (slot_of b.state (applied + 1)).change (arc_value w)) → lent ≡ option_map arc_value work → IsNextOf IsWorkOf b shards i applied old lent
-next_of IsWorkOf b shards i applied first old work lent numbered mine at read first_is below some is lent_is =
+    → b.state.floor ≤ first.applied → applied + 1 ≤ ready b.state → IsSome work ↔ IsKeptWork b.state (applied + 1) → IfSome work (λ w. IsWorkFor (IsWorkOf b.settings) (slot_of b.state (applied + 1)).change (arc_value w)) → lent ≡ option_map arc_value work → IsNextOf IsWorkOf b shards i applied old lent
+next_of IsWorkOf b shards i applied first old work lent numbered mine at read first_is low below some is lent_is =
     let within : i < length shards = omega (arith, mine, numbered.number_is) in
     record {
       within = within;
       read = read;
       same = first_is ∙ ap applied_of (shard_read shards i first old within at read);
       below = below;
-      work = subst (shard.HasItsWork (IsWorkOf b.settings) (change_at (changes_in b.state) (applied + 1))) (sym lent_is) (work_given (IsWorkOf b.settings) arc_value b.state (applied + 1) work (omega arith) below some is);
+      work = subst (shard.HasItsWork (IsWorkOf b.settings) (change_at (changes_in b.state) (applied + 1))) (sym lent_is) (work_given (IsWorkOf b.settings) arc_value b.state (applied + 1) work (omega arith) below (work_above b.state (applied + 1) work (omega (arith, low, first_is)) some) is);
     }
 
 -- ---- the shard

@@ -1,13 +1,13 @@
 -- A shard of a core that is swept to the board's floor.
 use Rattle.std.proofs.Common.{◌≡◌, ℕ, ◌<◌, ◌≤◌, List, length, map, get_or, set, sym, ap, ◌∙◌, subst, arith}
-use Rattle.std.specs.Prelude.{All, slice_index}
+use Rattle.std.specs.Prelude.{slice_index}
 use Rattle.std.proofs.lemmas.List.{length-map, map-set, set-get_or, get_or-map}
 use Rattle.std.proofs.lemmas.List.Elements.{All-set}
 use Rattle.cq_base.specs.declared.lang.Lang.{Lang}
 use Rattle.cq_history.specs.State.{State, changes_in, state as state_of}
-use Rattle.cq_history.specs.Core.{Core, IsReached, MayStep, stepped}
+use Rattle.cq_history.specs.Core.{Core, MayStep, stepped}
 use Rattle.cq_history.specs.Core.Step.{Sweeps}
-use Rattle.cq_history.specs.Superseded.{AreSuperseded}
+use Rattle.cq_history.specs.Gone.{AreKeptPuts}
 use Rattle.cq_history.proofs.Bounds.{in_order}
 use Rattle.cq_history.proofs.Cores.{step_is_sound}
 use Rattle.cq_shard.specs.Laws.{StandsSwept}
@@ -61,9 +61,9 @@ module _ (IsWindow : Lang → List ℕ → ℕ → ℕ → Type 0) (b : board.Bo
     pub takes_there : Takes IsWindow (Sweeps i b.state.floor) (core b shards) (core b shards)
     takes_there = record { may = λ k is. may k is; core = λ k is. stands_there k is }
 
-  -- ---- it is swept of what the floor lets go of
+  -- ---- it is swept up to the floor but for what this keeps
 
-  module _ (law : StandsSwept IsWindow) (dead : List ℕ) (new : Contents) (are : AreSuperseded (changes_in b.state) b.state.floor dead) (swept_is : new ≡ swept b.state.floor dead old) where
+  module _ (law : StandsSwept IsWindow) (keep : List ℕ) (new : Contents) (are : AreKeptPuts (changes_in b.state) b.state.floor keep) (swept_is : new ≡ swept b.state.floor keep old) where
     applied_same : new.applied ≡ old.applied
     applied_same = ap applied_of swept_is
 
@@ -78,7 +78,7 @@ module _ (IsWindow : Lang → List ℕ → ℕ → ℕ → Type 0) (b : board.Bo
       sound = step_is_sound b.settings (length b.state.views) k (Sweeps i b.state.floor) is.sound (may k is);
       shards = All-set (shard.StandsFor IsWindow (changes_in b.state)) shards i new
           (subst (shard.StandsFor IsWindow (changes_in b.state)) (sym swept_is)
-          (law (changes_in b.state) old b.state.floor dead (low k is) are (subst (shard.StandsFor IsWindow (changes_in b.state)) (sym read) (is.shards i old within)))) is.shards;
+          (law (changes_in b.state) old b.state.floor keep (low k is) are (subst (shard.StandsFor IsWindow (changes_in b.state)) (sym read) (is.shards i old within)))) is.shards;
       numbered = numbered_set b.settings.shards shards i old new is.numbered within read (ap (λ (c : Contents). c.shard) swept_is) (ap (λ (c : Contents). c.shards) swept_is) (omega (arith, floor_new, applied_same, high k is));
     }
 

@@ -305,9 +305,9 @@ impl<W: Indexed> Core<W> {
         if reached >= floor {
             return Ok(Outcome::Ok);
         }
-        let dead = self.board.dead(alloc, floor)?;
+        let keep = self.board.keep(alloc)?;
         let shard = &mut self.shards[i];
-        shard.sweep(floor, &dead);
+        shard.sweep(floor, &keep);
         Ok(Outcome::Ok)
     }
 }

@@ -20,11 +20,13 @@ use Rattle.cq_clones.specs.Windows.{IsBucket}
 use Rattle.cq_core.specs.Cores.{CoreState}
 use Rattle.cq_core.specs.Readings.{AreRead}
 use Rattle.cq_core.specs.Views.{IsView}
-use Rattle.cq_history.proofs.Doing.{few_accepted}
+use Rattle.cq_history.proofs.Bounds.{in_order}
+use Rattle.cq_history.proofs.FewFiles.{files_few}
+use Rattle.cq_history.proofs.Limits.{few_kept}
 use Rattle.cq_history.proofs.Prefixes.{changes_in-state}
 use Rattle.cq_history.specs.Files.{File, files_at}
 use Rattle.cq_history.specs.Lawful.{Lawful}
-use Rattle.cq_history.specs.State.{State, accepted, changes_in, view_of}
+use Rattle.cq_history.specs.State.{State, state, accepted, changes_in, view_of}
 use Rattle.cq_outcome.specs.declared.outcome.ScriptOutcome.TheVariants as outcome
 use Rattle.cq_reply.specs.declared.reply.Reply.{Reply}
 use Rattle.cq_request.specs.declared.request.Query.{Query}
@@ -51,14 +53,19 @@ module _ (L : Type 0) (set : Settings) where
   file_keys [] = refl
   file_keys (f ∷ files) = ap (λ ks. arc_value f.body.keys ∷ ks) (file_keys files)
 
-  -- the changes are sound, and as many as may be
-  few : (c : CoreState) → IsDriven L set c → length (changes_in c.board.state) ≤ set.change_limit
-  few c driven =
+  -- no more files than may be kept, since an open version is no lower than the floor
+  few : (c : CoreState) (by version : ℕ) (project : List ℕ) → IsDriven L set c → view_of c.board.state by ≡ Some version → length (files_at (changes_in c.board.state) version project) ≤ set.change_limit
+  few c by version project driven opened =
       let k = driven.past.0 in
       let stands = driven.past.1 in
-      let law = subst (λ (st : Settings). Lawful st (length c.board.state.views) k.history) driven.settings stands.past.lawful in
-      let number = ap (λ (s : State). length (changes_in s)) stands.past.is ∙ ap length (changes_in-state (length c.board.state.views) k.history) in
-      omega (arith, (few_accepted set (length c.board.state.views) k.history law).1, number)
+      let many = length c.board.state.views in
+      let law = subst (λ (st : Settings). Lawful st many k.history) driven.settings stands.past.lawful in
+      let then : view_of (state many k.history) by ≡ Some version = ap (λ (s : State). view_of s by) (sym stands.past.is) ∙ opened in
+      let low = ((in_order set many k.history law).views by version then).0 in
+      let most = files_few (accepted k.history) (state many k.history).floor version project low in
+      let room = (few_kept set many k.history law).0 in
+      let same : changes_in c.board.state ≡ accepted k.history = ap changes_in stands.past.is ∙ changes_in-state many k.history in
+      subst (λ cs. length (files_at cs version project) ≤ set.change_limit) (sym same) (omega (arith, most, room))
 
   module _ (c : CoreState) (by : ℕ) (view : View (Work L)) (project : List ℕ) (files : List (File (Work L))) (conditions : List Condition) (driven : IsDriven L set c) (is : IsView (λ lang text work. IsWorkOf c.board.settings lang text work) c.board.state view)
       (files_are : files ≡ files_in (arc_value view.listing).projects project) (conditions_are : conditions ≡ conditions_in (arc_value view.listing).projects project) where
@@ -70,8 +77,8 @@ module _ (L : Type 0) (set : Settings) where
       conditions_are = conditions_are ∙ is.conditions project;
     }
 
-    pub have_version : HaveVersion set view.version project files conditions
-    have_version = record { changes = changes_in c.board.state; sound = driven.past.1.past.sound; few = few c driven; are = of_version }
+    pub have_version : view_of c.board.state by ≡ Some view.version → HaveVersion set view.version project files conditions
+    have_version opened = record { changes = changes_in c.board.state; sound = driven.past.1.past.sound; few = few c by view.version project driven opened; are = of_version }
 
     pub in_view : IsInRange set → by < callers → view_of c.board.state by ≡ Some view.version → IsInView L set c by files
     in_view in_range caller opened = record { in_range = in_range; driven = driven; caller = caller; version = view.version; opened = opened; project = project; files_are = of_version.files_are }

@@ -63,7 +63,7 @@ open_below views f c p all h =
     (λ (past : length views ≤ c). let none : None ≡ Some p = sym (get_or_past views c None past) ∙ h in absurd (cc))
     (cases_lt c (length views))
 
-in_order_after : (set : Settings) (s : State) (e : Event) → InOrder s → Allowed set s e → InOrder (after s e)
+pub in_order_after : (set : Settings) (s : State) (e : Event) → InOrder s → Allowed set s e → InOrder (after s e)
 in_order_after set s (Accept by change) i ok = record { floor = i.floor; published = omega (arith, ready_after s (Accept by change), i.published); views = i.views }
 in_order_after set s (Ask by) i ok = i
 in_order_after set s (Took by r) i ok = record { floor = i.floor; published = omega (arith, ready_after s (Took by r), i.published); views = i.views }

@@ -1,41 +1,25 @@
 -- What is done, what is ready, and what stays of an accepted change.
-use Rattle.std.proofs.Common.{◌≡◌, ◌⊎◌, ℕ, ◌+◌, ◌-◌, ◌<◌, ◌≤◌, Bool, true, false, not, ◌||◌, List, [], ◌∷◌, ◌++◌, length, get_or, set, refl, sym, ap, ◌∙◌, subst, inl, inr, ⊎_elim, arith, length-append}
+use Rattle.std.proofs.Common.{◌≡◌, ◌⊎◌, ℕ, ◌+◌, ◌-◌, ◌<◌, ◌≤◌, Bool, true, false, not, ◌||◌, List, ◌++◌, length, get_or, set, refl, sym, ap, ◌∙◌, subst, inl, inr, ⊎_elim, arith, length-append}
 use Rattle.std.specs.Prelude.{◌↔◌}
 use Rattle.std.proofs.lemmas.Bool.{cases_lt}
-use Rattle.std.proofs.lemmas.List.{get_or-map, get_or_append_left, length-map, length-set}
+use Rattle.std.proofs.lemmas.List.{get_or-map, get_or_append_left, length-map}
 use Rattle.std.proofs.lemmas.List.Elements.{Contains-append_left}
 use Rattle.std.proofs.lemmas.List.Sums.{prefix_len_passes, prefix_len_stops, prefix_len-le-length}
 use Rattle.cq_base.specs.declared.settings.Settings.{Settings}
 use Rattle.cq_history.specs.declared.event.Event.{Event}
-use Rattle.cq_history.specs.declared.event.Event.TheVariants.{Accept, Ask, Took, Back, Done, Publish, Open, Shut, Floor}
+use Rattle.cq_history.specs.declared.event.Event.TheVariants.{Done}
 use Rattle.cq_history.specs.Changes.{is_put}
-use Rattle.cq_history.specs.State.{State, Slot, no_slot, new_slot, start, after, state, slot_of, is_done, ready, accepted, IsAccepted, IsDone, AreDoneUpTo}
+use Rattle.cq_history.specs.State.{State, Slot, no_slot, state, slot_of, is_done, ready, accepted, IsAccepted, IsDone, AreDoneUpTo}
 use Rattle.cq_history.specs.Lasts.{IsDoneIn}
-use Rattle.cq_history.specs.Lawful.{Allowed, Lawful}
-use Rattle.cq_history.proofs.States.{by_events, Lawful-prefix}
+use Rattle.cq_history.specs.Lawful.{Lawful}
+use Rattle.cq_history.proofs.States.{Lawful-prefix}
 use Rattle.cq_history.proofs.Prefixes.{changes_in-state, accepted-append}
 use Rattle.cq_history.proofs.Holders.{finished_is, is_finished}
 
 -- ---- what is accepted
 
-few_after : (set : Settings) (s : State) (e : Event) → length s.slots ≤ set.change_limit → Allowed set s e → length (after s e).slots ≤ set.change_limit
-few_after set s (Accept by change) few ok = grind (arith, ok.1.1, length-append s.slots (new_slot change ∷ []))
-few_after set s (Ask by) few ok = few
-few_after set s (Took by r) few ok = subst (λ n. n ≤ set.change_limit) (sym (length-set s.slots (r - 1) _)) few
-few_after set s (Back by r) few ok = subst (λ n. n ≤ set.change_limit) (sym (length-set s.slots (r - 1) _)) few
-few_after set s (Done by r) few ok = subst (λ n. n ≤ set.change_limit) (sym (length-set s.slots (r - 1) _)) few
-few_after set s (Publish p) few ok = few
-few_after set s (Open by p) few ok = few
-few_after set s (Shut by) few ok = few
-few_after set s (Floor f) few ok = few
-
 pub slots_number : (callers : ℕ) (h : List Event) → length (state callers h).slots ≡ length (accepted h)
 slots_number callers h = sym (length-map (state callers h).slots (λ (s : Slot). s.change)) ∙ ap length (changes_in-state callers h)
-
-pub few_accepted : (set : Settings) (callers : ℕ) (h : List Event) → Lawful set callers h → (length (state callers h).slots ≡ length (accepted h)) × (length (accepted h) ≤ set.change_limit)
-few_accepted set callers h law =
-    let few : length (state callers h).slots ≤ set.change_limit = by_events set (λ s. length s.slots ≤ set.change_limit) (few_after set) (start callers) h (omega arith) law in
-    (slots_number callers h, omega (arith, few, slots_number callers h))
 
 change_in : (callers : ℕ) (h : List Event) (r : ℕ) → IsAccepted (state callers h) r → (slot_of (state callers h) r).change ≡ get_or (accepted h) (r - 1) no_slot.change
 change_in callers h r is =

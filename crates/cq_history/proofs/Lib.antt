@@ -13,3 +13,12 @@ pub mod Lasting
 pub mod Gates
 pub mod PathOrder
 pub mod Standing
+pub mod Forgetting
+pub mod Keeping
+pub mod FewFiles
+pub mod KeptPuts
+pub mod HeldKept
+pub mod KeptFiles
+pub mod KeptConditions
+pub mod Blanks
+pub mod Limits

@@ -46,7 +46,7 @@ filter_has test (g ∷ files) f h t = go (test g) refl h (λ later. filter_has t
     go true e h rest = ⊎_elim (λ same. inl same) (λ later. inr (rest later)) h
     go false e h rest = ⊎_elim (λ same. let clash : test f ≡ false = ap test (sym same) ∙ e in absurd (cc)) rest h
 
-all_filter : (P : Source → Type 0) (test : Source → Bool) (files : List Source) → AllByRecursion P files → AllByRecursion P (filter test files)
+pub all_filter : (P : Source → Type 0) (test : Source → Bool) (files : List Source) → AllByRecursion P files → AllByRecursion P (filter test files)
 all_filter P test [] all = tt
 all_filter P test (g ∷ files) all = go (test g) (all_filter P test files all.1)
   where
@@ -79,7 +79,7 @@ all_insert P files zero g all here = (here, all)
 all_insert P [] (suc n) g all here = (here, tt)
 all_insert P (x ∷ files) (suc n) g all here = (all.0, all_insert P files n g all.1 here)
 
-all_behind : (p q : List ℕ) (files : List Source) → is_before p q ≡ true → AllByRecursion (λ (g : Source). is_before q g.path ≡ true) files → AllByRecursion (λ (g : Source). is_before p g.path ≡ true) files
+pub all_behind : (p q : List ℕ) (files : List Source) → is_before p q ≡ true → AllByRecursion (λ (g : Source). is_before q g.path ≡ true) files → AllByRecursion (λ (g : Source). is_before p g.path ≡ true) files
 all_behind p q [] before all = tt
 all_behind p q (g ∷ files) before all = (before_chain p q g.path before all.0, all_behind p q files before all.1)
 
@@ -87,7 +87,7 @@ all_behind p q (g ∷ files) before all = (before_chain p q g.path before all.0,
 abbrev pub AreElsewhere : List ℕ → List Source → Type 0
 AreElsewhere p files = AllByRecursion (λ (g : Source). bytes_eq p g.path ≡ false) files
 
-one_more : (n : ℕ) → suc n ≡ 1 + n
+pub one_more : (n : ℕ) → suc n ≡ 1 + n
 one_more n = omega arith
 
 pub order_insert : (files : List Source) (f : Source) → AreInPathOrder files → AreElsewhere f.path files → AreInPathOrder (insert files (place_of f.path files) f)

@@ -1,5 +1,5 @@
 -- Changes, by their numbers from 1.
-use Rattle.std.specs.Prelude.{ℕ, ◌-◌, ◌<◌, ◌≤◌, Bool, true, false, ◌&&◌, List, length, slice_get, Option}
+use Rattle.std.specs.Prelude.{ℕ, ◌-◌, ◌<◌, ◌≤◌, Bool, true, false, ◌&&◌, List, [], length, slice_get, Option}
 use Rattle.std.specs.Str.{bytes_eq}
 use Rattle.cq_base.specs.declared.lang.Lang.{Lang}
 use Rattle.cq_base.specs.declared.change.Change.{Change}
@@ -22,9 +22,19 @@ is_of_file q p (Put project path lang text) = bytes_eq q project && bytes_eq p p
 is_of_file q p (Drop project path) = bytes_eq q project && bytes_eq p path
 is_of_file q p (Gate project conditions) = false
 
+-- the change gives this project its conditions
+abbrev pub is_gate_of : List ℕ → Change → Bool
+is_gate_of q (Put project path lang text) = false
+is_gate_of q (Drop project path) = false
+is_gate_of q (Gate project conditions) = bytes_eq q project
+
 -- the number is that of a change
 abbrev pub IsNumber : {A : Type 0} → List A → ℕ → Type 0
 IsNumber changes r = (0 < r) × (r ≤ length changes)
+
+-- what stands for a change where there is none
+abbrev pub no_change : Change
+no_change = Gate [] []
 
 abbrev pub change_at : List Change → ℕ → Option Change
 change_at changes r = slice_get changes (r - 1)

@@ -1,12 +1,13 @@
 -- Which events a state allows, and which histories are lawful.
-use Rattle.std.specs.Prelude.{◌≡◌, ℕ, ◌+◌, ◌<◌, ◌≤◌, nat_lt, nat_le, Bool, false, not, List, [], ◌∷◌, length, All, Option, None, IsSome, IfSome}
+use Rattle.std.specs.Prelude.{◌≡◌, ℕ, ◌+◌, ◌<◌, ◌≤◌, ◌^◌, nat_lt, nat_le, Bool, false, not, ◌||◌, List, [], ◌∷◌, length, All, Option, None, IsSome, IfSome}
 use Rattle.cq_base.specs.declared.settings.Settings.{Settings}
 use Rattle.cq_base.specs.declared.change.Change.{Change}
 use Rattle.cq_base.specs.declared.change.Change.TheVariants.{Put, Drop, Gate}
 use Rattle.cq_history.specs.declared.event.Event.{Event}
 use Rattle.cq_history.specs.declared.event.Event.TheVariants.{Accept, Ask, Took, Back, Done, Publish, Open, Shut, Floor}
 use Rattle.cq_history.specs.Files.{files_of, has_file}
-use Rattle.cq_history.specs.State.{State, maker, start, after, changes_in, text_bytes, IsAccepted, IsUndone, IsTakenBy, ready, first_free, view_of}
+use Rattle.cq_history.specs.Gone.{kept_count, kept_bytes}
+use Rattle.cq_history.specs.State.{State, maker, start, after, changes_in, IsAccepted, IsUndone, IsTakenBy, ready, first_free, view_of}
 
 -- a drop of a path whose last put or drop is no put
 abbrev pub is_absent : State → Change → Bool
@@ -14,13 +15,20 @@ is_absent s (Put project path lang text) = false
 is_absent s (Drop project path) = not (has_file path (files_of project (changes_in s)))
 is_absent s (Gate project conditions) = false
 
--- no further change is accepted
-abbrev pub is_full : Settings → State → Bool
-is_full set s = nat_le set.change_limit (length s.slots)
+-- how many changes the floor keeps, and how many bytes their texts have
+abbrev pub kept_changes : State → ℕ
+kept_changes s = kept_count (changes_in s) s.floor
 
--- a put whose text and all accepted texts have too many bytes
+abbrev pub kept_text_bytes : State → ℕ
+kept_text_bytes s = kept_bytes (changes_in s) s.floor
+
+-- no further change is accepted: as many are kept as may be, or as many were accepted as are counted
+abbrev pub is_full : Settings → State → Bool
+is_full set s = nat_le set.change_limit (kept_changes s) || nat_le (2 ^ 60) (length s.slots)
+
+-- a put whose text and all kept texts have too many bytes
 abbrev pub is_long : Settings → State → Change → Bool
-is_long set s (Put project path lang text) = nat_lt set.text_limit (text_bytes s + length text)
+is_long set s (Put project path lang text) = nat_lt set.text_limit (kept_text_bytes s + length text)
 is_long set s (Drop project path) = false
 is_long set s (Gate project conditions) = false
 

@@ -1,5 +1,5 @@
 -- What a reader may rely on along each lawful history.
-use Rattle.std.specs.Prelude.{◌≡◌, ◌⊎◌, ◌↔◌, ℕ, ◌<◌, ◌≤◌, false, List, [], ◌∷◌, ◌++◌, length, Contains, Some, IfSome}
+use Rattle.std.specs.Prelude.{◌≡◌, ◌⊎◌, ◌↔◌, ℕ, ◌^◌, ◌<◌, ◌≤◌, false, List, [], ◌∷◌, ◌++◌, length, Contains, Some, IfSome}
 use Rattle.cq_base.specs.declared.settings.Settings.{Settings}
 use Rattle.cq_base.specs.declared.change.Change.{Change}
 use Rattle.cq_history.specs.declared.event.Event.{Event}
@@ -8,6 +8,7 @@ use Rattle.cq_history.specs.Changes.{is_put}
 use Rattle.cq_history.specs.State.{State, state, after, changes_in, accepted, maker, own, ready, view_of, slot_of, IsAccepted, IsDone, IsTakenBy, AreDoneUpTo}
 use Rattle.cq_history.specs.Lasts.{holder_in, IsDoneIn, view_in, published_in, floor_in}
 use Rattle.cq_history.specs.Lawful.{Lawful}
+use Rattle.cq_history.specs.Gone.{kept_count, kept_bytes}
 use Rattle.cq_history.specs.Files.{Source, files_at, files_of, files_after, has_file, is_path_put, conditions_at, conditions_of}
 use Rattle.cq_history.specs.Standing.{AreStanding, AreConditions}
 use Rattle.cq_history.specs.Core.{Core, Step, IsReached, IsAppliedFor, IsSound, MayStep, stepped, first_core}
@@ -95,7 +96,12 @@ ConditionsAreTheLastGates = (changes : List Change) (project : List ℕ) → Are
 
 -- a state has the accepted changes, and no more than there may be
 abbrev pub FewAreAccepted : Type 0
-FewAreAccepted = (settings : Settings) (callers : ℕ) (h : List Event) → Lawful settings callers h → (length (state callers h).slots ≡ length (accepted h)) × (length (accepted h) ≤ settings.change_limit)
+FewAreAccepted = (settings : Settings) (callers : ℕ) (h : List Event) → Lawful settings callers h → (length (state callers h).slots ≡ length (accepted h)) × (length (accepted h) ≤ 2 ^ 60)
+
+-- the floor keeps no more changes, and no more bytes of texts, than there may be
+abbrev pub FewAreKept : Type 0
+FewAreKept = (settings : Settings) (callers : ℕ) (h : List Event) → Lawful settings callers h →
+    (kept_count (accepted h) (state callers h).floor ≤ settings.change_limit) × (kept_bytes (accepted h) (state callers h).floor ≤ settings.text_limit)
 
 -- an accepted change stays so and stays what it is, and one that is done stays done
 abbrev pub AcceptedChangesStay : Type 0

@@ -2,10 +2,15 @@ pub mod Changes
 pub mod Files
 pub mod State
 pub mod Superseded
+pub mod Gone
 pub mod Lasts
 pub mod Lawful
 pub mod Shards
 pub mod Core
 pub mod Laws
+pub mod KeptFiles
+pub mod KeptLaws
+pub mod Keeping
 pub mod Standing
 pub mod Script
+pub mod Room

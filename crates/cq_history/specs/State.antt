@@ -1,11 +1,11 @@
 -- What a history of events leaves: its state.
-use Rattle.std.specs.Prelude.{◌≡◌, ◌==◌, ℕ, ◌+◌, ◌-◌, ◌<◌, ◌≤◌, Bool, true, false, not, ◌||◌, ◌&&◌, List, [], ◌∷◌, ◌++◌, map, fold, sum_by, replicate, filter, slice_index_or, slice_set, Option, Some, None, is_none}
+use Rattle.std.specs.Prelude.{◌≡◌, ◌==◌, ℕ, ◌+◌, ◌-◌, ◌<◌, ◌≤◌, Bool, true, false, not, ◌||◌, ◌&&◌, List, [], ◌∷◌, ◌++◌, map, fold, replicate, filter, slice_index_or, slice_set, Option, Some, None, is_none}
 use Rattle.std.specs.List.{prefix_len, position_or_len, filter_map}
 use Rattle.cq_base.specs.declared.change.Change.{Change}
 use Rattle.cq_base.specs.declared.change.Change.TheVariants.{Gate}
 use Rattle.cq_history.specs.declared.event.Event.{Event}
 use Rattle.cq_history.specs.declared.event.Event.TheVariants.{Accept, Ask, Took, Back, Done, Publish, Open, Shut, Floor}
-use Rattle.cq_history.specs.Changes.{is_put, text_len, IsNumber}
+use Rattle.cq_history.specs.Changes.{is_put, IsNumber}
 
 -- an accepted change: whether its work was done, and who took it and did not give it back
 pub record Slot : Type 0 where
@@ -55,9 +55,6 @@ state callers history = fold after (start callers) history
 -- the accepted changes
 abbrev pub changes_in : State → List Change
 changes_in s = map (λ (slot : Slot). slot.change) s.slots
-
-abbrev pub text_bytes : State → ℕ
-text_bytes s = sum_by (λ (slot : Slot). text_len slot.change) s.slots
 
 -- only a put has work
 abbrev pub is_done : Slot → Bool

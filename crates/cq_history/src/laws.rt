@@ -1,6 +1,10 @@
 //! What every lawful history keeps, for those who read the definitions.
 ghost use Rattle.cq_history.specs.Laws as law;
 ghost use Rattle.cq_history.specs.Script.{IsAsWorkedOut};
+ghost use Rattle.cq_history.specs.Keeping.{IsKeptAsWorkedOut};
+ghost use Rattle.cq_history.specs.KeptFiles.{KeptLeaveTheConditions, KeptLeaveTheFiles};
+ghost use Rattle.cq_history.specs.KeptLaws as kept;
+ghost use Rattle.cq_history.specs.Room.{IsRoomAsWorkedOut};
 
 /// Any beginning of a lawful history is lawful.
 pub fn beginnings_are_lawful()
@@ -99,6 +103,11 @@ pub fn few_are_accepted()
     ensures { law.FewAreAccepted }
 {}
 
+/// The floor keeps no more changes, and no more bytes of their texts, than there may be.
+pub fn few_are_kept()
+    ensures { law.FewAreKept }
+{}
+
 /// An accepted change stays so, and stays what it is.
 pub fn accepted_changes_stay()
     ensures { law.AcceptedChangesStay }
@@ -122,4 +131,74 @@ pub fn nobody_has_what_is_over()
 /// A history that was worked out by hand is lawful and leaves what it should.
 pub fn the_script_is_as_worked_out()
     ensures { IsAsWorkedOut }
+{}
+
+/// Whether a change is gone at a floor is computed as it is said.
+pub fn gone_is_as_said()
+    ensures { kept.GoneIsAsSaid }
+{}
+
+/// The kept numbers are exactly those of the changes that are kept, ascending.
+pub fn kept_numbers_are_those()
+    ensures { kept.KeptNumbersAreThose }
+{}
+
+/// A higher floor keeps no more changes, and no more bytes of their texts.
+pub fn kept_falls_with_the_floor()
+    ensures { kept.KeptFallsWithTheFloor }
+{}
+
+/// One change more is kept, beside those that were.
+pub fn one_more_is_kept()
+    ensures { kept.OneMoreIsKept }
+{}
+
+/// All changes above the floor are kept.
+pub fn all_above_are_kept()
+    ensures { kept.AllAboveAreKept }
+{}
+
+/// A change that is gone stays so, whatever is accepted later and however the floor rises.
+pub fn gone_stays_gone()
+    ensures { kept.GoneStaysGone }
+{}
+
+/// The files of each version from the floor on were put by changes that are kept.
+pub fn files_are_kept()
+    ensures { kept.FilesAreKept }
+{}
+
+/// A version from the floor on has no more files of a project than changes are kept.
+pub fn files_are_few()
+    ensures { kept.FilesAreFew }
+{}
+
+/// The kept changes alone leave the files of each version from the floor on.
+pub fn kept_leave_the_files()
+    ensures { KeptLeaveTheFiles }
+{}
+
+/// And the conditions of each.
+pub fn kept_leave_the_conditions()
+    ensures { KeptLeaveTheConditions }
+{}
+
+/// The puts that a floor keeps stay those when more is accepted.
+pub fn kept_puts_stay()
+    ensures { kept.KeptPutsStay }
+{}
+
+/// At the lowest floor all changes are kept.
+pub fn all_are_kept_at_first()
+    ensures { kept.AllAreKeptAtFirst }
+{}
+
+/// What is kept of changes that were worked out by hand is what it should be.
+pub fn they_are_kept_as_worked_out()
+    ensures { IsKeptAsWorkedOut }
+{}
+
+/// The room that a floor makes in histories that were worked out by hand is what it should be.
+pub fn room_is_as_worked_out()
+    ensures { IsRoomAsWorkedOut }
 {}

@@ -8,18 +8,18 @@ use Rattle.cq_base.specs.declared.lang.Lang.{Lang}
 use Rattle.cq_base.specs.declared.settings.Settings.{Settings}
 use Rattle.cq_history.specs.declared.event.Event.{Event}
 use Rattle.cq_history.specs.declared.event.Event.TheVariants.{Floor}
+use Rattle.cq_history.specs.Gone.{AreKeptPuts}
 use Rattle.cq_history.specs.State.{State, state, changes_in}
 use Rattle.cq_history.specs.Lawful.{IsBelow, Permits}
 use Rattle.cq_history.proofs.States.{state_push}
 use Rattle.cq_history.proofs.Bounds.{InOrder, in_order}
 use Rattle.cq_shard.specs.Shard.{Contents}
+use Rattle.cq_shard.proofs.Sweeping.{stands_swept}
 use Rattle.cq_board.specs.Answers.{greatest_floor}
 use Rattle.cq_board.specs.Stands.{BoardState, StandsFor, Adds}
-use Rattle.cq_board.specs.Sweeping.{AreSupersededBetween}
 use Rattle.cq_board.proofs.Floors.{fits_all, all_fit}
-use Rattle.cq_board.proofs.Sweeping.{stands_swept_between}
 use Rattle.cq_hub.specs.Hubs.{Grows, IsFloor}
-use Rattle.cq_hub.specs.Shards.{IsShardOf, IsSweptBetween}
+use Rattle.cq_hub.specs.Shards.{IsShardOf, IsSweptTo}
 use Rattle.cq_hub.specs.Solos.{IsSoloOf}
 use Rattle.cq_hub.proofs.Growing.{grows_none}
 use Rattle.cq_hub.proofs.Soloing.{solo_state, solo_adds}
@@ -105,15 +105,14 @@ floor_published IsWindow set c h b shards is =
 
 -- ---- a shard
 
--- a shard beside a board, swept of what was superseded since a floor that its own is not below, stands beside it, swept up to
--- the board's floor
-pub shard_swept : (IsWindow : Lang → List ℕ → ℕ → ℕ → Type 0) (b : BoardState) (above : ℕ) (dead : List ℕ) → AreSupersededBetween (changes_in b.state) above b.state.floor dead → (n : ℕ) (old new : Contents) → above ≤ old.floor
-    → IsSweptBetween above b.state.floor dead old new → IsShardOf IsWindow b n old → IsShardOf IsWindow b n new × (new.floor ≡ b.state.floor)
-shard_swept IsWindow b above dead are n old new low how was =
+-- a shard beside a board, swept up to the board's floor but for what this keeps, stands beside it
+pub shard_swept : (IsWindow : Lang → List ℕ → ℕ → ℕ → Type 0) (b : BoardState) (keep : List ℕ) → AreKeptPuts (changes_in b.state) b.state.floor keep → (n : ℕ) (old new : Contents) → IsSweptTo b.state.floor keep old new
+    → IsShardOf IsWindow b n old → IsShardOf IsWindow b n new × (new.floor ≡ b.state.floor)
+shard_swept IsWindow b keep are n old new how was =
     ⊎_elim
-    (λ sweeps. subst (λ (x : Contents). IsShardOf IsWindow b n x × (x.floor ≡ b.state.floor)) (sym sweeps.2) (
+    (λ sweeps. subst (λ (x : Contents). IsShardOf IsWindow b n x × (x.floor ≡ b.state.floor)) (sym sweeps.1) (
       record {
-        stands = stands_swept_between IsWindow (changes_in b.state) old above b.state.floor dead low (let lt = sweeps.1 in omega (arith, lt)) are was.stands;
+        stands = stands_swept IsWindow (changes_in b.state) old b.state.floor keep (let lt = sweeps.0 in omega (arith, lt)) are was.stands;
         reached = was.reached;
         swept = omega arith;
         number_is = was.number_is;
@@ -121,5 +120,5 @@ shard_swept IsWindow b above dead are n old new low how was =
       },
       refl,
     ))
-    (λ stays. subst (λ (x : Contents). IsShardOf IsWindow b n x × (x.floor ≡ b.state.floor)) (sym stays.1) (was, (let most = was.swept in ⊎_elim (λ lt. absurd (omega (arith, lt, low))) (λ ge. omega (arith, ge, most)) stays.0)))
+    (λ stays. subst (λ (x : Contents). IsShardOf IsWindow b n x × (x.floor ≡ b.state.floor)) (sym stays.1) (was, (let most = was.swept in let ge = stays.0 in omega (arith, ge, most))))
     how

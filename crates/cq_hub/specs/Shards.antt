@@ -30,11 +30,9 @@ module _ {W : Type 0} (keys_in : W → List ℕ) (IsWorkOf : Settings → Lang �
   abbrev pub StandBeside : List Contents → Type 0
   StandBeside shards = AreShardsOf (HasWindow keys_in IsWorkOf b.settings) b shards
 
--- The shard let go of the dead changes and was swept up to a floor, where its own lay between another one and that; else it
--- is as it was.
-abbrev pub IsSweptBetween : ℕ → ℕ → List ℕ → Contents → Contents → Type 0
-IsSweptBetween above floor dead old new =
-    ((above ≤ old.floor) × (old.floor < floor) × (new ≡ swept floor dead old)) ⊎ (((old.floor < above) ⊎ (floor ≤ old.floor)) × (new ≡ old))
+-- The shard was swept up to a floor but for the changes to keep, where its own was lower; else it is as it was.
+abbrev pub IsSweptTo : ℕ → List ℕ → Contents → Contents → Type 0
+IsSweptTo floor keep old new = ((old.floor < floor) × (new ≡ swept floor keep old)) ⊎ ((floor ≤ old.floor) × (new ≡ old))
 
 -- shards that have applied nothing
 pub record AreFresh (number : ℕ) (shards : List Contents) : Type 0 where

@@ -36,6 +36,7 @@ pub(crate) fn apply_up_to<W: Indexed, G: Gate>(
     gate: &G,
 ) -> Result<(), Memory>
     requires done { to ≤ ready board.now.state }
+    requires floor { board.now.state.floor ≤ board.now.state.published }
     requires some { 0 < board.now.settings.shards }
     requires stand { StandBeside W.keys_in W.IsWorkOf board.now shards.old.items }
     ensures stand { StandBeside W.keys_in W.IsWorkOf board.now shards.new.items }
@@ -56,6 +57,7 @@ fn apply_counted<W: Indexed, G: Gate, L: Ledger>(
     requires name { blank.name ≡ L.name }
     requires parts { blank.parts ≡ L.parts }
     requires done { to ≤ ready board.now.state }
+    requires floor { board.now.state.floor ≤ board.now.state.published }
     requires some { 0 < board.now.settings.shards }
     requires stand { StandBeside W.keys_in W.IsWorkOf board.now shards.old.items }
     ensures stand { StandBeside W.keys_in W.IsWorkOf board.now shards.new.items }
@@ -81,6 +83,7 @@ fn catch_up<W: Indexed, L: Ledger>(
     steps: &mut Steps<L>,
 ) -> Result<(), Memory>
     requires within { i < board.now.settings.shards }
+    requires floor { board.now.state.floor ≤ board.now.state.published }
     requires shard { StandsBeside W.keys_in W.IsWorkOf board.now i shard.old }
     requires coming { IsComing W.keys_in W.IsWorkOf board.now i coming.old }
     ensures shard { StandsBeside W.keys_in W.IsWorkOf board.now i shard.new }
@@ -107,6 +110,7 @@ impl<W: Indexed> Coming<W> {
     // The works that the board has, parted anew.
     fn behind(alloc: Global, board: &Board<W>, from: u64, to: u64) -> Result<Coming<W>, Memory>
         requires done { to ≤ ready board.now.state }
+        requires floor { board.now.state.floor ≤ from }
         requires some { 0 < board.now.settings.shards }
         ensures coming { IfOk result (IsComing W.keys_in W.IsWorkOf board.now 0) }
         ensures from { IfOk result (λ coming. coming.from ≡ from) }
@@ -125,6 +129,7 @@ impl<W: Indexed> Coming<W> {
     // They are those behind another change, where they aren't yet.
     fn turn_to(&mut self, alloc: Global, board: &Board<W>, from: u64) -> Result<(), Memory>
         requires done { self.old.to ≤ ready board.now.state }
+        requires floor { board.now.state.floor ≤ from }
         requires some { 0 < board.now.settings.shards }
         ensures coming { OnOk result
             (StaysComing W.keys_in W.IsWorkOf board.now self.old self.new) }
@@ -138,7 +143,8 @@ impl<W: Indexed> Coming<W> {
     }
 }
 
-/// The works of the changes behind one up to another, as the board has them. It takes memory for an owner of each.
+/// The works of the changes behind one up to another, as the board has them: each is kept, since none is below the floor. It
+/// takes memory for an owner of each.
 pub fn finished_works<W: Indexed>(
     alloc: Global,
     board: &Board<W>,
@@ -146,6 +152,7 @@ pub fn finished_works<W: Indexed>(
     to: u64,
 ) -> Result<Vec<Option<Arc<W, Global>>>, Memory>
     requires done { to ≤ ready board.now.state }
+    requires floor { board.now.state.floor ≤ from }
     ensures number { IfOk result (λ works. length works.items ≡ to - from) }
     ensures few { IfOk result (λ works. HaveFewKeys W.keys_in works.items) }
     ensures works { IfOk result (λ works. AreWorksBehind W.IsWorkOf board.now from works.items) }

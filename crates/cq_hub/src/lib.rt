@@ -4,8 +4,8 @@
 //!
 //! The plain hub holds a board and its shards, and a call costs what it costs there. To advance, the entries of all further
 //! changes are parted among the shards by one look at each key of their works, each shard applies its part, and the board
-//! publishes; a bucket is read of one shard. To sweep, the board lists what was superseded since the least of the shards'
-//! floors, and each shard that was not swept since lets go of that.
+//! publishes; a bucket is read of one shard. To sweep, the board lists the puts that its floor keeps, and each shard that was
+//! not swept up to there lets go of all others.
 #![tactic(auto)]
 
 mod applying;
@@ -16,4 +16,4 @@ mod sweeping;
 pub use applying::{finished_works, shards_of};
 pub use hub::Hub;
 pub use solo::{Solo, SoloPass};
-pub use sweeping::sweep_between;
+pub use sweeping::sweep_to;

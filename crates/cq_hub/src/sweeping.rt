@@ -1,14 +1,14 @@
 ghost use Rattle.std.specs.Prelude.{◌≡◌, ◌≤◌, All, OnOk};
 ghost use Rattle.std.specs.List.Sorted.{IsStrictlyIncreasing};
-ghost use Rattle.cq_hub.specs.Shards.{StandBeside, IsSweptBetween};
+ghost use Rattle.cq_hub.specs.Shards.{StandBeside, IsSweptTo};
 
 use cq_base::Memory;
 use cq_board::Board;
 use cq_shard::{Indexed, Shard};
 use std::alloc::Global;
 
-/// Each of the board's shards is swept up to the board's floor, where it was not: of what was superseded since the least of
-/// their floors. It takes memory for a list of that, and none where all are swept.
+/// Each of the board's shards is swept up to the board's floor, where it was not, but for the puts that this keeps. It takes
+/// memory for a list of these, and none where all are swept.
 pub(crate) fn sweep_shards<W: Indexed>(
     alloc: Global,
     board: &Board<W>,
@@ -20,13 +20,13 @@ pub(crate) fn sweep_shards<W: Indexed>(
     ensures swept { OnOk result (All (λ c. c.floor ≡ board.now.state.floor) shards.new.items) }
 {
     let floor = board.floor();
-    let above = least_floor(floor, shards);
-    if above == floor {
+    let least = least_floor(floor, shards);
+    if least == floor {
         return Ok(());
     }
-    let dead = board.dead_between(alloc, above, floor)?;
+    let keep = board.keep(alloc)?;
     'shards: for i in 0..shards.len() {
-        sweep_between(above, floor, &dead, &mut shards[i]);
+        sweep_to(floor, &keep, &mut shards[i]);
     }
     Ok(())
 }
@@ -43,14 +43,14 @@ fn least_floor(floor: u64, shards: &[Shard]) -> u64
     least
 }
 
-/// The shard lets go of the dead changes, where its floor lies between two floors, and is swept up to the second one then.
-pub fn sweep_between(above: u64, floor: u64, dead: &[u64], shard: &mut Shard)
+/// The shard is swept up to a floor but for the changes to keep, where it was not.
+pub fn sweep_to(floor: u64, keep: &[u64], shard: &mut Shard)
     requires applied { floor ≤ shard.old.applied }
-    requires rising { IsStrictlyIncreasing dead.now }
-    ensures { IsSweptBetween above floor dead.now shard.old shard.new }
+    requires rising { IsStrictlyIncreasing keep.now }
+    ensures { IsSweptTo floor keep.now shard.old shard.new }
 {
     let at = shard.floor();
-    if above <= at && at < floor {
-        shard.sweep(floor, dead);
+    if at < floor {
+        shard.sweep(floor, keep);
     }
 }

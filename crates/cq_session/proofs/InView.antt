@@ -1,5 +1,5 @@
 -- A query's reply in an open view.
-use Rattle.std.proofs.Common.{◌≡◌, ℕ, List, take, sym, ap, ◌∙◌, subst}
+use Rattle.std.proofs.Common.{◌≡◌, ◌≤◌, ℕ, List, length, take, sym, ap, ◌∙◌, subst, arith}
 use Rattle.std.specs.Prelude.{All}
 use Rattle.std.specs.Arc.{arc_value}
 use Rattle.cq_answer.specs.Versions.{AreOfVersion, HaveVersion}
@@ -14,7 +14,9 @@ use Rattle.cq_history.specs.declared.event.Event.{Event}
 use Rattle.cq_history.specs.Files.{File, files_at, files_of, conditions_of}
 use Rattle.cq_history.specs.Lawful.{Lawful}
 use Rattle.cq_history.specs.State.{state, accepted}
-use Rattle.cq_history.proofs.Doing.{few_accepted}
+use Rattle.cq_history.proofs.Bounds.{in_order}
+use Rattle.cq_history.proofs.FewFiles.{files_few}
+use Rattle.cq_history.proofs.Limits.{few_kept}
 use Rattle.cq_history.proofs.Prefixes.{changes_in-state}
 use Rattle.cq_hub.specs.Views.{IsOpen}
 use Rattle.cq_work.specs.Work.{IsWorkOf}
@@ -33,5 +35,14 @@ module _ {L : Type 0} (set now : Settings) (same : set ≡ now) (callers c : ℕ
     conditions_are = conditions_are ∙ opened.shows.conditions project ∙ ap (λ cs. conditions_of project (take view.version cs)) (changes_in-state callers h);
   })
 
+  -- no more of them than may be kept, since its version is no lower than the floor
+  few_then : Lawful set callers h → length (files_at (accepted h) view.version project) ≤ now.change_limit
+  few_then law =
+      let floor = (state callers h).floor in
+      let low = ((in_order set callers h law).views c view.version opened.version).0 in
+      let most = files_few (accepted h) floor view.version project low in
+      let room = (few_kept set callers h law).0 in
+      subst (λ (s : Settings). length (files_at (accepted h) view.version project) ≤ s.change_limit) same (omega (arith, most, room))
+
   pub have_version : Lawful set callers h → All IsSoundChange (accepted h) → HaveVersion now view.version project files conditions
-  have_version law sound = record { changes = accepted h; sound = sound; few = (few_accepted now callers h (subst (λ (s : Settings). Lawful s callers h) same law)).1; are = of_version }
+  have_version law sound = record { changes = accepted h; sound = sound; few = few_then law; are = of_version }

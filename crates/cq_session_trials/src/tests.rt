@@ -167,8 +167,8 @@ fn a_second_talk_goes_on(rt: HostRuntime) -> Result<(), Memory> {
 #[test]
 fn changes_and_texts_are_limited(rt: HostRuntime) -> Result<(), Memory> {
     let settings = Settings {
-        change_limit: 60,
-        text_limit: 250,
+        change_limit: 8,
+        text_limit: 60,
         ..SETTINGS
     };
     let told = ["\"full-text\"", "\"full-changes\""];

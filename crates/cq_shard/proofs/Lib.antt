@@ -6,6 +6,7 @@ pub mod Merging
 pub mod Finding
 pub mod Gathering
 pub mod Reaching
+pub mod Staying
 pub mod Taking
 pub mod Storing
 pub mod Lasting

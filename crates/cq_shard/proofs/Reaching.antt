@@ -1,12 +1,11 @@
 -- A search among numbers that rise, from a place on.
-use Rattle.std.proofs.Common.{◌≡◌, ◌≢◌, ℕ, ◌+◌, ◌-◌, ◌<◌, ◌≤◌, true, false, nat_lt, List, length, take, drop, get_or, sym, ap, ◌∙◌, subst, ⊎_elim, arith}
+use Rattle.std.proofs.Common.{◌≡◌, ℕ, ◌+◌, ◌-◌, ◌<◌, ◌≤◌, true, false, nat_lt, List, length, take, drop, get_or, ap, ⊎_elim, arith}
 use Rattle.std.specs.List.{AllWithin}
 use Rattle.std.specs.List.Sorted.{IsStrictlyIncreasing, IsPartitionedBy}
-use Rattle.std.proofs.lemmas.Bool.{eqb-true, cases_lt, false_from_ne_true}
-use Rattle.std.proofs.lemmas.List.{get_or_default, get_or-take, length-take}
-use Rattle.std.proofs.lemmas.Map.Views.{Contains-from_any}
+use Rattle.std.proofs.lemmas.Bool.{cases_lt}
+use Rattle.std.proofs.lemmas.List.{get_or_default}
 use Rattle.cq_clones.proofs.Words.{length-word, get_or-word}
-use Rattle.cq_shard.specs.Tables.{IsReached, AreOutside, is_among}
+use Rattle.cq_shard.specs.Tables.{IsReached}
 use Rattle.cq_shard.proofs.Live.{rises}
 
 module _ (xs : List ℕ) (up : IsStrictlyIncreasing xs) where
@@ -109,76 +108,3 @@ reached_further xs start number next reached within less = ⊎_elim
     (λ lt. lt)
     (λ (no : next ≤ start). let h = reached.others start 0 no within in absurd (omega (arith, h, less)))
     (cases_lt start next)
-
--- ---- two lists, stretch by stretch
-
--- none of the first `i` changes is dead, and the first `j` dead are before the other changes
-pub record AreApart (changes dead : List ℕ) (i j : ℕ) : Type 0 where
-  pub walked : i ≤ length changes
-  pub seen : j ≤ length dead
-  pub passed : (k m : ℕ) → k < i → m < length dead → get_or changes k 0 ≢ get_or dead m 0
-  pub below : (m k : ℕ) → m < j → i ≤ k → k < length changes → get_or dead m 0 < get_or changes k 0
-
-pub apart_first : (changes dead : List ℕ) → AreApart changes dead 0 0
-apart_first changes dead = record {
-  walked = omega arith;
-  seen = omega arith;
-  passed = λ k m lt within. absurd (omega (arith, lt));
-  below = λ m k lt low within. absurd (omega (arith, lt));
-}
-
-module _ (changes dead : List ℕ) (up : IsStrictlyIncreasing changes) (dead_up : IsStrictlyIncreasing dead) (i j : ℕ) (apart : AreApart changes dead i j) where
-  pub apart_changes : (next : ℕ) → j < length dead → IsReached changes i (get_or dead j 0) next next → AreApart changes dead next j
-  apart_changes next within reached =
-      let begins = reached.begins in
-      record {
-        walked = reached.within.1;
-        seen = apart.seen;
-        passed = λ k m lt inside. ⊎_elim
-            (λ (old : k < i). apart.passed k m old inside)
-            (λ (new : i ≤ k). ⊎_elim
-            (λ (early : m < j). let most = reached.within.1 in let h = apart.below m k early new (omega (arith, lt, most)) in λ same. omega (arith, h, same))
-            (λ (late : j ≤ m). let a = reached.lesser k 0 new lt in let b = rises dead dead_up j m late inside in λ same. omega (arith, a, b, same))
-            (cases_lt m j))
-            (cases_lt k i);
-        below = λ m k lt low inside. apart.below m k lt (omega (arith, low, begins)) inside;
-      }
-
-  pub apart_dead : (next : ℕ) → i < length changes → IsReached dead j (get_or changes i 0) next next → AreApart changes dead i next
-  apart_dead next within reached = record {
-    walked = apart.walked;
-    seen = reached.within.1;
-    passed = apart.passed;
-    below = λ m k lt low inside. ⊎_elim
-        (λ (old : m < j). apart.below m k old low inside)
-        (λ (new : j ≤ m). let a = reached.lesser m 0 new lt in let b = rises changes up i k low inside in omega (arith, a, b))
-        (cases_lt m j);
-  }
-
-  none_dead : (n : ℕ) → ((m : ℕ) → m < length dead → n ≢ get_or dead m 0) → is_among dead n ≡ false
-  none_dead n differ = false_from_ne_true (is_among dead n) (λ h.
-      let (m, within, is) = Contains-from_any eqb-true n dead h in
-      differ m within (sym is ∙ get_or_default dead m n 0 within))
-
-  pub apart_front : AreOutside dead (take i changes)
-  apart_front k d within =
-      let most = length-take i changes in
-      let few = apart.walked in
-      let lt : k < i = omega (arith, most, within, few) in
-      subst (λ n. is_among dead n ≡ false) (sym (get_or-take i changes k d lt ∙ get_or_default changes k d 0 (omega (arith, lt, few))))
-      (none_dead (get_or changes k 0) (λ m inside. apart.passed k m lt inside))
-
-  -- one of the two lists is at its end
-  pub apart_all : ((i < length changes) → j < length dead → ⊥) → AreOutside dead (take (length changes) changes)
-  apart_all over k d within =
-      let most = length-take (length changes) changes in
-      let lt : k < length changes = omega (arith, most, within) in
-      let few = apart.walked in
-      subst (λ n. is_among dead n ≡ false) (sym (get_or-take (length changes) changes k d lt ∙ get_or_default changes k d 0 lt))
-      (none_dead (get_or changes k 0) (λ m inside. ⊎_elim
-      (λ (old : k < i). apart.passed k m old inside)
-      (λ (new : i ≤ k). ⊎_elim
-      (λ (early : m < j). let h = apart.below m k early new lt in λ same. omega (arith, h, same))
-      (λ (late : j ≤ m). absurd (over (omega (arith, new, lt)) (omega (arith, late, inside))))
-      (cases_lt m j))
-      (cases_lt k i)))

@@ -1,5 +1,5 @@
 -- The entries that count, as entries come and as changes are taken out.
-use Rattle.std.proofs.Common.{◌≡◌, ◌≢◌, Ok, Err, Result, ℕ, ◌<◌, ◌≤◌, Bool, true, false, cond, not, ◌&&◌, nat_eq, List, [], ◌∷◌, ◌++◌, map, refl, sym, ap, ◌∙◌, subst, inl, inr, ⊎_elim, arith}
+use Rattle.std.proofs.Common.{◌≡◌, ◌≢◌, Ok, Err, Result, ℕ, ◌<◌, ◌≤◌, Bool, true, false, cond, ◌&&◌, nat_eq, List, [], ◌∷◌, ◌++◌, map, filter, refl, sym, ap, ◌∙◌, subst, inl, inr, ⊎_elim, arith}
 use Rattle.std.specs.Prelude.{All, Contains, OnOk}
 use Rattle.std.proofs.lemmas.Bool.{eqb-true}
 use Rattle.std.proofs.lemmas.List.Elements.{All-contains, filter-append}
@@ -10,8 +10,8 @@ use Rattle.cq_base.proofs.Lists.{Contains-here, Contains-there, Contains-map, Co
 use Rattle.cq_clones.specs.Lists.{AreAllInOrder}
 use Rattle.cq_clones.specs.Windows.{EntryBefore}
 use Rattle.cq_shard.specs.Runs.{RowBefore, IsRun, Precedes, AreRuns, AreAdded, AreDifferent, entries_in}
-use Rattle.cq_shard.specs.Tables.{is_among, outside, changes_of, AreNoted}
-use Rattle.cq_shard.specs.Stores.{those_of, without, Stored, stored, left_by, IsStore}
+use Rattle.cq_shard.specs.Tables.{is_among, stays, staying, changes_of, AreNoted}
+use Rattle.cq_shard.specs.Stores.{those_of, left_to, Stored, stored, left_by, IsStore}
 use Rattle.cq_shard.proofs.Entries.{any_of}
 
 -- ---- what a filter by changes keeps
@@ -35,21 +35,27 @@ those_again changes rows = those_all changes (those_of changes rows) (λ e c. (f
 
 -- ---- changes are taken out
 
-among_outside : (dead changes : List ℕ) (n : ℕ) → is_among (outside dead changes) n ≡ (not (is_among dead n) && is_among changes n)
-among_outside dead changes n = any-filter_same (nat_eq n) (λ k. not (is_among dead k)) (not (is_among dead n)) (λ k same. ap (λ m. not (is_among dead m)) (sym (eqb-true n k same))) changes
+module _ (test : ℕ → Bool) where
+  abbrev passing : List Entry → List Entry
+  passing entries = filter (λ (e : Entry). test e.change) entries
 
-step : (p q b : Bool) (e : Entry) (xs : List Entry) (dead : List ℕ) → b ≡ (not q && p) → q ≡ is_among dead e.change →
-    cond b (e ∷ without dead xs) (without dead xs) ≡ without dead (cond p (e ∷ xs) xs)
-step true true b e xs dead is same = ap (λ b. cond b (e ∷ without dead xs) (without dead xs)) is ∙ ap (λ q. cond (not q) (e ∷ without dead xs) (without dead xs)) same
-step true false b e xs dead is same = ap (λ b. cond b (e ∷ without dead xs) (without dead xs)) is ∙ ap (λ q. cond (not q) (e ∷ without dead xs) (without dead xs)) same
-step false true b e xs dead is same = ap (λ b. cond b (e ∷ without dead xs) (without dead xs)) is
-step false false b e xs dead is same = ap (λ b. cond b (e ∷ without dead xs) (without dead xs)) is
+  among_filtered : (changes : List ℕ) (n : ℕ) → is_among (filter test changes) n ≡ (test n && is_among changes n)
+  among_filtered changes n = any-filter_same (nat_eq n) test (test n) (λ k same. ap test (sym (eqb-true n k same))) changes
 
-pub those_outside : (dead changes : List ℕ) (rows : List Entry) → those_of (outside dead changes) rows ≡ without dead (those_of changes rows)
-those_outside dead changes [] = refl
-those_outside dead changes (e ∷ rows) =
-    ap (λ es. cond (is_among (outside dead changes) e.change) (e ∷ es) es) (those_outside dead changes rows)
-    ∙ step (is_among changes e.change) (is_among dead e.change) (is_among (outside dead changes) e.change) e (those_of changes rows) dead (among_outside dead changes e.change) refl
+  step : (p q b : Bool) (e : Entry) (xs : List Entry) → b ≡ (q && p) → q ≡ test e.change → cond b (e ∷ passing xs) (passing xs) ≡ passing (cond p (e ∷ xs) xs)
+  step true true b e xs is same = ap (λ b. cond b (e ∷ passing xs) (passing xs)) is ∙ ap (λ q. cond q (e ∷ passing xs) (passing xs)) same
+  step true false b e xs is same = ap (λ b. cond b (e ∷ passing xs) (passing xs)) is ∙ ap (λ q. cond q (e ∷ passing xs) (passing xs)) same
+  step false true b e xs is same = ap (λ b. cond b (e ∷ passing xs) (passing xs)) is
+  step false false b e xs is same = ap (λ b. cond b (e ∷ passing xs) (passing xs)) is
+
+  those_filtered : (changes : List ℕ) (rows : List Entry) → those_of (filter test changes) rows ≡ passing (those_of changes rows)
+  those_filtered changes [] = refl
+  those_filtered changes (e ∷ rows) =
+      ap (λ es. cond (is_among (filter test changes) e.change) (e ∷ es) es) (those_filtered changes rows)
+      ∙ step (is_among changes e.change) (test e.change) (is_among (filter test changes) e.change) e (those_of changes rows) (among_filtered changes e.change) refl
+
+pub those_staying : (floor : ℕ) (keep changes : List ℕ) (rows : List Entry) → those_of (staying floor keep changes) rows ≡ left_to floor keep (those_of changes rows)
+those_staying floor keep changes rows = those_filtered (λ n. stays floor keep n) changes rows
 
 -- ---- in runs
 
@@ -159,41 +165,42 @@ changes_precede applied changes rows entries gone is behind n e here there =
 
 -- ---- a sweep
 
-outside_known : (applied : ℕ) (dead changes : List ℕ) → All (λ n. n ≤ applied) changes → All (λ n. n ≤ applied) (outside dead changes)
-outside_known applied dead changes known = All-from_contains (λ n. n ≤ applied) (outside dead changes) (λ n c. All-contains (λ n. n ≤ applied) changes n known (Contains-from_filter (λ n. not (is_among dead n)) changes n c).0)
+module _ (applied floor : ℕ) (keep changes : List ℕ) where
+  staying_known : All (λ n. n ≤ applied) changes → All (λ n. n ≤ applied) (staying floor keep changes)
+  staying_known known = All-from_contains (λ n. n ≤ applied) (staying floor keep changes) (λ n c. All-contains (λ n. n ≤ applied) changes n known (Contains-from_filter (λ n. stays floor keep n) changes n c).0)
 
--- the entries still lie there
-pub store_marked : (applied : ℕ) (dead changes : List ℕ) (rows : List Entry) (gone more : ℕ) → IsStore applied changes rows gone → (more ≡ 0 → (gone ≡ 0) × (outside dead changes ≡ changes)) → IsStore applied (outside dead changes) rows more
-store_marked applied dead changes rows gone more is none = record {
-  known = outside_known applied dead changes is.known;
-  brought = is.brought;
-  different = is.different;
-  whole = λ zero e c. let same = none zero in subst (λ ns. Contains ns e.change) (sym same.1) (is.whole same.0 e c);
-}
+  -- the entries still lie there
+  pub store_marked : (rows : List Entry) (gone more : ℕ) → IsStore applied changes rows gone → (more ≡ 0 → (gone ≡ 0) × (staying floor keep changes ≡ changes)) → IsStore applied (staying floor keep changes) rows more
+  store_marked rows gone more is none = record {
+    known = staying_known is.known;
+    brought = is.brought;
+    different = is.different;
+    whole = λ zero e c. let same = none zero in subst (λ ns. Contains ns e.change) (sym same.1) (is.whole same.0 e c);
+  }
 
--- or are cleared
-pub store_cleared : (applied : ℕ) (dead changes : List ℕ) (rows : List Entry) (gone : ℕ) → IsStore applied changes rows gone → IsStore applied (outside dead changes) (those_of (outside dead changes) rows) 0
-store_cleared applied dead changes rows gone is =
-    let left = outside dead changes in
-    record {
-      known = outside_known applied dead changes is.known;
-      brought = All-from_contains (λ (e : Entry). e.change ≤ applied) (those_of left rows) (λ e c. All-contains (λ (e : Entry). e.change ≤ applied) rows e is.brought (from_those left rows e c).0);
-      different = AllPairs-filter (λ a b. a ≢ b) (λ (e : Entry). is_among left e.change) rows is.different;
-      whole = λ zero e c. (from_those left rows e c).1;
-    }
+  -- or are cleared
+  pub store_cleared : (rows : List Entry) (gone : ℕ) → IsStore applied changes rows gone → IsStore applied (staying floor keep changes) (those_of (staying floor keep changes) rows) 0
+  store_cleared rows gone is =
+      let left = staying floor keep changes in
+      record {
+        known = staying_known is.known;
+        brought = All-from_contains (λ (e : Entry). e.change ≤ applied) (those_of left rows) (λ e c. All-contains (λ (e : Entry). e.change ≤ applied) rows e is.brought (from_those left rows e c).0);
+        different = AllPairs-filter (λ a b. a ≢ b) (λ (e : Entry). is_among left e.change) rows is.different;
+        whole = λ zero e c. (from_those left rows e c).1;
+      }
 
--- what counts then, as it was before but for the dead
-pub left_marked : (applied : ℕ) (dead changes left : List ℕ) (rows : List Entry) (old : Stored) → stored applied changes rows ≡ old → left ≡ outside dead changes → stored applied left rows ≡ left_by dead old
-left_marked applied dead changes left rows old was is =
-    ap (λ ns. stored applied ns rows) is
-    ∙ ap (λ (es : List Entry). let s : Stored = record { applied = applied; entries = es } in s) (those_outside dead changes rows)
-    ∙ ap (left_by dead) was
+  -- what counts then, as it was before but for what goes
+  pub left_marked : (left : List ℕ) (rows : List Entry) (old : Stored) → stored applied changes rows ≡ old → left ≡ staying floor keep changes → stored applied left rows ≡ left_by floor keep old
+  left_marked left rows old was is =
+      ap (λ ns. stored applied ns rows) is
+      ∙ ap (λ (es : List Entry). let s : Stored = record { applied = applied; entries = es } in s) (those_staying floor keep changes rows)
+      ∙ ap (left_by floor keep) was
 
-pub left_cleared : (applied : ℕ) (dead changes left : List ℕ) (rows kept : List Entry) (old : Stored) → stored applied changes rows ≡ old → left ≡ outside dead changes → kept ≡ those_of left rows → stored applied left kept ≡ left_by dead old
-left_cleared applied dead changes left rows kept old was is cleared =
-    ap (stored applied left) cleared
-    ∙ ap (λ (es : List Entry). let s : Stored = record { applied = applied; entries = es } in s) (those_again left rows)
-    ∙ left_marked applied dead changes left rows old was is
+  pub left_cleared : (left : List ℕ) (rows kept : List Entry) (old : Stored) → stored applied changes rows ≡ old → left ≡ staying floor keep changes → kept ≡ those_of left rows → stored applied left kept ≡ left_by floor keep old
+  left_cleared left rows kept old was is cleared =
+      ap (stored applied left) cleared
+      ∙ ap (λ (es : List Entry). let s : Stored = record { applied = applied; entries = es } in s) (those_again left rows)
+      ∙ left_marked left rows old was is
 
 pub always_ok : {T E P : Type 0} (r : Result T E) → P → OnOk r P
 always_ok (Ok x) is = is

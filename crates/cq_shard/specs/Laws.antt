@@ -10,7 +10,7 @@ use Rattle.cq_history.specs.declared.event.Event.{Event}
 use Rattle.cq_history.specs.State.{accepted}
 use Rattle.cq_history.specs.Changes.{change_at, IsNumber}
 use Rattle.cq_history.specs.Shards.{Row, IsLastOfFile, ShardHolds}
-use Rattle.cq_history.specs.Superseded.{AreSuperseded}
+use Rattle.cq_history.specs.Gone.{AreKeptPuts}
 use Rattle.cq_shard.specs.Shard.{Contents, StandsFor, Holds, swept}
 
 module _ (IsWindow : Lang → List ℕ → ℕ → ℕ → Type 0) where
@@ -51,6 +51,6 @@ module _ (IsWindow : Lang → List ℕ → ℕ → ℕ → Type 0) where
       AreAllInOrder EntryBefore (λ e. (e.key ≡ key) × Contains live e.change × Contains c.entries e) bucket →
       AreAllInOrder EntryBefore (λ e. (e.key ≡ key) × Contains live e.change × Holds IsWindow changes c e) bucket
 
-  -- swept of exactly what a change up to its new floor supersedes, a shard stands for the changes that it stood for
+  -- swept up to a new floor but for exactly the puts that this keeps, a shard stands for the changes that it stood for
   abbrev pub StandsSwept : Type 0
-  StandsSwept = (changes : List Change) (c : Contents) (floor : ℕ) (dead : List ℕ) → c.floor ≤ floor → AreSuperseded changes floor dead → StandsFor IsWindow changes c → StandsFor IsWindow changes (swept floor dead c)
+  StandsSwept = (changes : List Change) (c : Contents) (floor : ℕ) (keep : List ℕ) → c.floor ≤ floor → AreKeptPuts changes floor keep → StandsFor IsWindow changes c → StandsFor IsWindow changes (swept floor keep c)

@@ -14,7 +14,7 @@ use Rattle.cq_clones.specs.Windows.{EntryBefore}
 use Rattle.cq_history.specs.Changes.{IsWorkFor, change_at}
 use Rattle.cq_history.specs.Shards.{Row, ShardHolds}
 use Rattle.cq_shard.specs.Runs.{AreDifferent}
-use Rattle.cq_shard.specs.Stores.{without}
+use Rattle.cq_shard.specs.Stores.{left_to}
 
 -- its number, how many shards there are, how many changes it has applied, its floor, and its entries
 pub record Contents : Type 0 where
@@ -124,6 +124,6 @@ AreAsked key live entries bucket = AreAllInOrder EntryBefore (λ e. (e.key ≡ k
 
 -- ---- what sweeping leaves
 
--- the floor is raised, and the entries of the dead changes are taken out
+-- the floor is raised, and the entries of all changes up to it are taken out but for those to keep
 abbrev pub swept : ℕ → List ℕ → Contents → Contents
-swept floor dead c = record { shard = c.shard; shards = c.shards; applied = c.applied; floor = floor; entries = without dead c.entries }
+swept floor keep c = record { shard = c.shard; shards = c.shards; applied = c.applied; floor = floor; entries = left_to floor keep c.entries }

@@ -1,16 +1,16 @@
 -- The entries that a shard stores. Those of changes that a sweep took out may lie there for a while, but count no more.
-use Rattle.std.specs.Prelude.{◌≡◌, ◌⊎◌, ℕ, ◌<◌, ◌≤◌, not, List, [], length, get_or, filter, All, Contains}
+use Rattle.std.specs.Prelude.{◌≡◌, ◌⊎◌, ℕ, ◌<◌, ◌≤◌, List, [], length, get_or, filter, All, Contains}
 use Rattle.cq_base.specs.declared.entry.Entry.{Entry}
 use Rattle.cq_shard.specs.Runs.{AreDifferent}
-use Rattle.cq_shard.specs.Tables.{is_among}
+use Rattle.cq_shard.specs.Tables.{is_among, stays}
 
 -- the entries of these changes
 abbrev pub those_of : List ℕ → List Entry → List Entry
 those_of changes entries = filter (λ (e : Entry). is_among changes e.change) entries
 
--- the entries of all other changes
-abbrev pub without : List ℕ → List Entry → List Entry
-without dead entries = filter (λ (e : Entry). not (is_among dead e.change)) entries
+-- the entries of changes above the floor, and of those to keep
+abbrev pub left_to : ℕ → List ℕ → List Entry → List Entry
+left_to floor keep entries = filter (λ (e : Entry). stays floor keep e.change) entries
 
 -- a run as it was, or its entries of these changes alone
 abbrev pub IsLeft : List ℕ → List Entry → List Entry → Type 0
@@ -29,9 +29,9 @@ pub record Stored : Type 0 where
 abbrev pub stored : ℕ → List ℕ → List Entry → Stored
 stored applied changes rows = record { applied = applied; entries = those_of changes rows }
 
--- the entries of the dead changes count no more
-abbrev pub left_by : List ℕ → Stored → Stored
-left_by dead s = record { applied = s.applied; entries = without dead s.entries }
+-- the entries of changes up to the floor count no more, but for those to keep
+abbrev pub left_by : ℕ → List ℕ → Stored → Stored
+left_by floor keep s = record { applied = s.applied; entries = left_to floor keep s.entries }
 
 -- The entries that lie there are of the changes so far. Where none of them is known to be gone, all are of changes that stand.
 pub record IsStore (applied : ℕ) (changes : List ℕ) (rows : List Entry) (gone : ℕ) : Type 0 where

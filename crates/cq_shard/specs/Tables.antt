@@ -1,5 +1,5 @@
 -- Numbers that rise: a search among them from a place on, and what is left of them.
-use Rattle.std.specs.Prelude.{◌≡◌, ◌↔◌, ◌⊎◌, ℕ, ◌<◌, ◌≤◌, Bool, false, not, nat_eq, List, length, map, filter, Contains, All}
+use Rattle.std.specs.Prelude.{◌≡◌, ◌↔◌, ◌⊎◌, ℕ, ◌<◌, ◌≤◌, ◌||◌, Bool, true, nat_eq, nat_lt, List, length, map, filter, Contains, All}
 use Rattle.std.specs.List.{list_any, AllWithin}
 use Rattle.std.specs.List.Sorted.{IsStrictlyIncreasing}
 use Rattle.cq_base.specs.declared.entry.Entry.{Entry}
@@ -15,13 +15,17 @@ pub record IsReached (numbers : List ℕ) (start number from to : ℕ) : Type 0 
 abbrev pub is_among : List ℕ → ℕ → Bool
 is_among numbers n = list_any (nat_eq n) numbers
 
--- the numbers but for those that are dead
-abbrev pub outside : List ℕ → List ℕ → List ℕ
-outside dead numbers = filter (λ n. not (is_among dead n)) numbers
+-- the change is above the floor, or one of those to keep
+abbrev pub stays : ℕ → List ℕ → ℕ → Bool
+stays floor keep n = nat_lt floor n || is_among keep n
 
--- none of them is dead
-abbrev pub AreOutside : List ℕ → List ℕ → Type 0
-AreOutside dead numbers = All (λ n. is_among dead n ≡ false) numbers
+-- the changes that stay
+abbrev pub staying : ℕ → List ℕ → List ℕ → List ℕ
+staying floor keep numbers = filter (λ n. stays floor keep n) numbers
+
+-- all of them stay
+abbrev pub AreStaying : ℕ → List ℕ → List ℕ → Type 0
+AreStaying floor keep numbers = All (λ n. stays floor keep n ≡ true) numbers
 
 -- the changes rise, and each has a size
 pub record IsTable (changes sizes : List ℕ) : Type 0 where

@@ -35,7 +35,7 @@ pub fn sweeping_takes_out_alone<W: Indexed>()
     ensures { (settings : Settings) → law.SweepingTakesOutAlone (HasWindow W.keys_in W.IsWorkOf settings) }
 {}
 
-/// Swept of what a change up to its new floor supersedes, a shard stands for the changes that it stood for.
+/// Swept up to a new floor but for the puts that this keeps, a shard stands for the changes that it stood for.
 pub fn it_stands_swept<W: Indexed>()
     ensures { (settings : Settings) → law.StandsSwept (HasWindow W.keys_in W.IsWorkOf settings) }
 {}

@@ -6,14 +6,13 @@
 //! run, which looks at a few entries side by side where keys are spread evenly and is at most a binary search and eight looks
 //! more, and one among the live changes for each entry with its key, and for each of those that are live one among the
 //! changes with entries, as long as swept entries still lie in the runs.
-//! A sweep takes no memory. Up to sixteen dead changes are each searched among those that have entries here, and the later
-//! changes of the shard move up at once, 16 bytes for each. More of them are gone through together with those that have
-//! entries, from stretch to stretch, each by a search from where the last one ended, so that costs no more than a look at each
-//! of the shorter list's and a logarithm for each way between; then the later changes move up one by one. Entries that go stay
-//! in their runs at first. A run is rid of them before it is merged, for a search among the changes for each of its entries, so
-//! of a file that is put anew and swept each time a run has one put at most that is gone. Where all that stay so are as many as
-//! those that stand, all runs are cleared where they stand: so each entry that goes pays for a search of two at most there. A
-//! run that was cleared keeps its room until it is merged.
+//! A sweep takes no memory. The changes up to the floor that have entries here are walked beside those to keep, each by a
+//! search from where the last one was found, up to the first that goes; from there on each is searched, and those that
+//! stay move up one by one, 16 bytes for each. Entries that go stay in their runs at first. A run is rid of them before it
+//! is merged, for a search among the changes for each of its entries, so of a file that is put anew and swept each time a
+//! run has one put at most that is gone. Where all that stay so are as many as those that stand, all runs are cleared
+//! where they stand: so each entry that goes pays for a search of two at most there. A run that was cleared keeps its room
+//! until it is merged.
 #![tactic(auto)]
 
 mod applying;

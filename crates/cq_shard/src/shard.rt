@@ -54,7 +54,7 @@ impl Shard {
         self.store.applied()
     }
 
-    /// What a change up to this one supersedes is no longer held.
+    /// Of the changes up to this one, the puts alone are held that it keeps.
     pub fn floor(&self) -> u64
         ensures { result ≡ self.now.floor }
     {
@@ -122,15 +122,15 @@ impl Shard {
         self.store.bucket(alloc, key, live)
     }
 
-    /// Takes the entries of the dead changes out, which are those that a change up to the new floor supersedes. It takes no
-    /// memory.
-    pub fn sweep(&mut self, floor: u64, dead: &[u64])
+    /// Takes the entries of all changes up to the new floor out but for those to keep, which are the puts that this floor
+    /// keeps. It takes no memory.
+    pub fn sweep(&mut self, floor: u64, keep: &[u64])
         requires low { self.old.floor ≤ floor }
         requires high { floor ≤ self.old.applied }
-        requires rising { IsStrictlyIncreasing dead.now }
-        ensures { self.new ≡ swept floor dead.now self.old }
+        requires rising { IsStrictlyIncreasing keep.now }
+        ensures { self.new ≡ swept floor keep.now self.old }
     {
-        self.store.sweep(dead);
+        self.store.sweep(floor, keep);
         self.floor = floor;
     }
 }

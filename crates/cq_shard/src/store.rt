@@ -106,12 +106,12 @@ impl Store {
         Ok(bucket)
     }
 
-    /// Takes the entries of the dead changes out. It takes no memory.
-    pub fn sweep(&mut self, dead: &[u64])
-        requires { IsStrictlyIncreasing dead.now }
-        ensures { self.new ≡ left_by dead.now self.old }
+    /// Takes the entries of the changes up to the floor out but for those to keep. It takes no memory.
+    pub fn sweep(&mut self, floor: u64, keep: &[u64])
+        requires { IsStrictlyIncreasing keep.now }
+        ensures { self.new ≡ left_by floor keep.now self.old }
     {
-        let taken = self.table.take_out(dead);
+        let taken = self.table.take_out(floor, keep);
         self.gone = self.gone.saturating_add(taken);
         self.standing = self.standing.saturating_sub(taken);
         if self.gone < self.standing {

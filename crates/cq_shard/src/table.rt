@@ -1,16 +1,14 @@
-ghost use Rattle.std.specs.Prelude.{◌≡◌, ◌∷◌, ◌+◌, ◌<◌, ◌≤◌, [], length, take, All, AllPairs, OnOk, OnErr};
+ghost use Rattle.std.specs.Prelude.{◌≡◌, ◌+◌, ◌<◌, ◌≤◌, [], length, take, All, AllPairs, Contains, OnOk, OnErr};
+ghost use Rattle.std.specs.Bool.{OnTrue};
 ghost use Rattle.std.specs.List.Sorted.{IsStrictlyIncreasing};
 ghost use Rattle.cq_clones.specs.Windows.{EntryBefore};
 ghost use Rattle.cq_shard.specs.Stores.{those_of};
-ghost use Rattle.cq_shard.specs.Tables.{IsReached, IsTable, is_among, outside, AreOutside, AreBefore, AreCounted, AreNoted};
+ghost use Rattle.cq_shard.specs.Tables.{IsReached, IsTable, is_among, stays, staying, AreStaying, AreBefore, AreCounted, AreNoted};
 
 use crate::run::is_live;
 use cq_base::{Entry, Memory};
 use std::alloc::Global;
 use std::marker::Model;
-
-// Up to so many dead changes are taken out one by one.
-const FEW: usize = 16;
 
 // How often steps are doubled, at most, before the rest is searched by halves.
 const STEPS: u32 = 48;
@@ -86,19 +84,15 @@ impl Table {
         self.changes.truncate(number);
     }
 
-    /// Takes the changes out that are dead, and tells how many entries they had, 0 only where none was taken out. A few are
-    /// each searched, and those behind move up at once. For many, both lists are searched from stretch to stretch for the
-    /// first, and those behind it move up one by one.
-    pub fn take_out(&mut self, dead: &[u64]) -> u64
-        requires { IsStrictlyIncreasing dead.now }
-        ensures left { self.new ≡ outside dead.now self.old }
+    /// Takes the changes up to the floor out but for those to keep, and tells how many entries they had, 0 only where none was
+    /// taken out. Both lists are walked side by side up to the first that goes, and those behind it move up one by one.
+    pub fn take_out(&mut self, floor: u64, keep: &[u64]) -> u64
+        requires keep { IsStrictlyIncreasing keep.now }
+        ensures left { self.new ≡ staying floor keep.now self.old }
         ensures none { result ≡ 0 → self.new ≡ self.old }
     {
-        if dead.len() <= FEW {
-            return take_each(&mut self.changes, &mut self.sizes, dead);
-        }
-        let first = first_among(&self.changes, dead);
-        close_up(&mut self.changes, &mut self.sizes, first, dead)
+        let first = first_going(&self.changes, floor, keep);
+        close_up(&mut self.changes, &mut self.sizes, first, floor, keep)
     }
 }
 
@@ -134,72 +128,56 @@ fn is_last(changes: &[u64], change: u64) -> bool
     changes[changes.len() - 1] == change
 }
 
-// Takes out each of the dead changes, and tells how many entries they had, or one where that is unknown.
-fn take_each(changes: &mut Vec<u64>, sizes: &mut Vec<u64>, dead: &[u64]) -> u64
-    requires table { IsTable changes.old.items sizes.old.items }
-    ensures table { IsTable changes.new.items sizes.new.items }
-    ensures left { changes.new.items ≡ outside dead.now changes.old.items }
-    ensures none { result ≡ 0 → changes.new.items ≡ changes.old.items }
-{
-    let mut taken = 0u64;
-    for change in dead {
-        let size = take_one(changes, sizes, *change);
-        taken = taken.saturating_add(size);
-    }
-    taken
-}
-
-// Takes the change out, where it is there, and tells how many entries it had, or one where that is unknown.
-fn take_one(changes: &mut Vec<u64>, sizes: &mut Vec<u64>, change: u64) -> u64
-    requires table { IsTable changes.old.items sizes.old.items }
-    ensures table { IsTable changes.new.items sizes.new.items }
-    ensures left { changes.new.items ≡ outside (change ∷ []) changes.old.items }
-    ensures none { result ≡ 0 → changes.new.items ≡ changes.old.items }
-{
-    let at = behind(changes, 0, change);
-    if at < changes.len() && changes[at] == change {
-        changes.remove(at);
-        let size = sizes.remove(at);
-        return size.max(1);
-    }
-    0
-}
-
-// Behind how many of the changes, none of which is dead, one stands that is; where none is, behind all.
-fn first_among(changes: &[u64], dead: &[u64]) -> usize
+// Behind how many of the changes, all of which stay, one stands that goes; where none goes, behind all. It looks at each of
+// the changes up to the floor, and searches those to keep for it from where the last one was found.
+fn first_going(changes: &[u64], floor: u64, keep: &[u64]) -> usize
     requires rising { IsStrictlyIncreasing changes.now }
-    requires dead { IsStrictlyIncreasing dead.now }
+    requires keep { IsStrictlyIncreasing keep.now }
     ensures within { result ≤ length changes.now }
-    ensures front { AreOutside dead.now (take result changes.now) }
+    ensures front { AreStaying floor keep.now (take result changes.now) }
 {
     let mut i = 0;
     let mut j = 0;
-    'stretches: while i < changes.len() && j < dead.len() {
+    'walk: while i < changes.len() {
         let change = changes[i];
-        let next = dead[j];
-        if change == next {
+        if floor < change {
+            return changes.len();
+        }
+        let next = behind(keep, j, change);
+        if !stands_at(keep, next, change) {
             return i;
         }
-        if next < change {
-            let past = behind(dead, j, change);
-            j = past;
-            continue;
-        }
-        let further = behind(changes, i, next);
-        i = further;
+        j = next;
+        i += 1;
     }
     changes.len()
 }
 
-// Takes the dead changes out behind the first so many, none of which is dead, and tells how many entries they had, or one
-// where that is unknown.
-fn close_up(changes: &mut Vec<u64>, sizes: &mut Vec<u64>, first: usize, dead: &[u64]) -> u64
+// Whether the number stands at the place.
+fn stands_at(numbers: &[u64], at: usize, number: u64) -> bool
+    ensures { OnTrue result (Contains numbers.now number) }
+{
+    if at >= numbers.len() {
+        return false;
+    }
+    numbers[at] == number
+}
+
+// Takes the changes up to the floor out but for those to keep, behind the first so many, all of which stay, and tells how many
+// entries they had, or one where that is unknown.
+fn close_up(
+    changes: &mut Vec<u64>,
+    sizes: &mut Vec<u64>,
+    first: usize,
+    floor: u64,
+    keep: &[u64],
+) -> u64
     requires table { IsTable changes.old.items sizes.old.items }
-    requires dead { IsStrictlyIncreasing dead.now }
+    requires keep { IsStrictlyIncreasing keep.now }
     requires within { first ≤ length changes.old.items }
-    requires front { AreOutside dead.now (take first changes.old.items) }
+    requires front { AreStaying floor keep.now (take first changes.old.items) }
     ensures table { IsTable changes.new.items sizes.new.items }
-    ensures left { changes.new.items ≡ outside dead.now changes.old.items }
+    ensures left { changes.new.items ≡ staying floor keep.now changes.old.items }
     ensures none { result ≡ 0 → changes.new.items ≡ changes.old.items }
 {
     let mut kept = first;
@@ -207,7 +185,7 @@ fn close_up(changes: &mut Vec<u64>, sizes: &mut Vec<u64>, first: usize, dead: &[
     for i in first..changes.len() {
         let change = changes[i];
         let size = sizes[i];
-        if is_live(dead, change) {
+        if !stays(floor, keep, change) {
             taken = taken.saturating_add(size.max(1));
             continue;
         }
@@ -217,6 +195,14 @@ fn close_up(changes: &mut Vec<u64>, sizes: &mut Vec<u64>, first: usize, dead: &[
     }
     changes.truncate(kept);
     taken
+}
+
+// Whether the change is above the floor, or one of those to keep.
+fn stays(floor: u64, keep: &[u64], change: u64) -> bool
+    requires { IsStrictlyIncreasing keep.now }
+    ensures { result ≡ stays floor keep.now change }
+{
+    floor < change || is_live(keep, change)
 }
 
 // Behind how many the first from `start` on stands that is no less than the number. It takes about as many looks as the

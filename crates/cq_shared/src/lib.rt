@@ -17,7 +17,7 @@
 //! - `finish`, the board: the work goes into its slot, and the change is looked for among those that are not done, a
 //!   logarithm. A work that comes too late is let go there.
 //! - `open_view`, the board: an owner of the listing. Where memory was refused in the middle of the last publication, the
-//!   listing may have to be made anew first, which takes the time of all changes once.
+//!   listing may have to be made anew first, which takes the time of all changes that are kept once.
 //! - `close_view`, the board: a number is cleared. The listing is let go afterwards.
 //! - `read_bucket`, the shard of the key: a search in each of its runs, and one among the view's files for each entry with
 //!   the key. Those that are there are copied out.
@@ -26,10 +26,10 @@
 //!   entry for each that is the shard's, and the merging that this brings. Between two shards the gate is called, and
 //!   nothing is held. Each caller begins at a shard of its own and goes round, so that callers that bring the same changes
 //!   seldom meet. At last, the board again: the publication, which costs what cq_board says of it.
-//! - `sweep`, the board: a look at each caller's view. Where some shard was not swept up to that floor, also two searches
-//!   among what was superseded, and a list of what was since all shards were swept last, which is sorted. So this hold
-//!   takes memory then, and is as long as the list. Then, shard by shard, a hold of the shard for what cq_shard says of a
-//!   sweep. Where all shards were swept up to that floor, as a word beside the cells tells, none is taken.
+//! - `sweep`, the board: a look at each caller's view, and what raising the floor lets go of. Where some shard was not swept
+//!   up to that floor, also a list of the puts that it keeps. So this hold takes memory then, and is as long as what is kept.
+//!   Then, shard by shard, a hold of the shard for what cq_shard says of a sweep. Where all shards were swept up to that
+//!   floor, as a word beside the cells tells, none is taken.
 //!
 //! Whoever enters a shard may bring it on by one change, by the rule of the cells. So no shard takes several changes as one
 //! run, as those of the plain hub do. Each shard looks at all keys of a work, since they aren't parted beforehand.

@@ -1,7 +1,7 @@
-ghost use Rattle.std.specs.Prelude.{◌≡◌, ◌<◌, ◌≤◌, [], IfOk};
+ghost use Rattle.std.specs.Prelude.{◌≡◌, ◌<◌, [], IfOk};
+ghost use Rattle.cq_history.specs.Gone.{AreKeptPuts};
 ghost use Rattle.cq_history.specs.State.{accepted, changes_in};
 ghost use Rattle.cq_board.specs.Answers.{greatest_floor};
-ghost use Rattle.cq_board.specs.Sweeping.{AreSupersededBetween};
 ghost use Rattle.cq_cells.specs.Passes.{IsSameCaller};
 ghost use Rattle.cq_hub.specs.Says.{HasGreatestFloor};
 ghost use Rattle.cq_shared.specs.Calls.{Calls};
@@ -12,7 +12,7 @@ use crate::shared::Shared;
 use cq_base::Memory;
 use cq_board::Board;
 use cq_chain::Pass;
-use cq_hub::sweep_between;
+use cq_hub::sweep_to;
 use cq_shard::Indexed;
 use std::alloc::Global;
 use std::sync::Wait;
@@ -20,26 +20,26 @@ use std::sync::atomic::Ordering;
 
 impl<W: Indexed, R: Wait> Shared<W, R> {
     /// Gives up the versions below the published one and each open one, sweeps each shard that was not swept so far, and
-    /// answers the floor. The board sets it in one hold, with a list of what was superseded since all shards were swept
-    /// last; each shard is swept in a hold of its own. Where all were swept up to this floor, no shard is taken, and no
-    /// memory. Where memory is refused, no shard is swept.
+    /// answers the floor. The board sets it in one hold, with a list of the puts that it keeps; each shard is swept in a hold
+    /// of its own. Where all were swept up to this floor, no shard is taken, and no memory. Where memory is refused, no shard
+    /// is swept.
     pub fn sweep(&self, alloc: Global, pass: &mut Pass<W>) -> Result<u64, Memory>
         requires of { IsPassOf self.now pass.old }
         ensures swept { Calls self.now pass.old pass.new [] (λ mid. HasGreatestFloor (state_of self.now mid) result) }
         ensures asked { pass.new.asked ≡ pass.old.asked }
     {
         let above = self.swept.load(Ordering::SeqCst);
-        let (floor, dead) = self.raise_floor(alloc, above, pass)?;
+        let (floor, keep) = self.raise_floor(alloc, above, pass)?;
         if floor <= above {
             return Ok(floor);
         }
-        self.sweep_shards(above, floor, &dead, pass);
+        self.sweep_shards(floor, &keep, pass);
         self.swept.store(floor, Ordering::SeqCst);
         Ok(floor)
     }
 
-    // Sets the greatest floor that there may be, in one hold of the board. Where it is above another one, what it lets go of
-    // that the other keeps is listed.
+    // Sets the greatest floor that there may be, in one hold of the board. Where it is above another one, the puts that it keeps
+    // are listed.
     fn raise_floor(
         &self,
         alloc: Global,
@@ -49,61 +49,55 @@ impl<W: Indexed, R: Wait> Shared<W, R> {
         requires of { IsPassOf self.now pass.old }
         ensures calls { Calls self.now pass.old pass.new [] (λ mid. (state_of self.now mid).floor ≡ greatest_floor (state_of self.now mid)) }
         ensures floor { IfOk result (λ r. r.0 ≡ (state_of self.now pass.new.seen).floor) }
-        ensures dead { IfOk result (λ r. above < r.0 → AreSupersededBetween (accepted pass.new.seen) above r.0 r.1.items) }
+        ensures keep { IfOk result (λ r. above < r.0 → AreKeptPuts (accepted pass.new.seen) r.0 r.1.items) }
         ensures asked { pass.new.asked ≡ pass.old.asked }
     {
         let mut board = self.cells.enter_board(pass);
         let floor = board.greatest_floor();
         if board.set_floor(floor) {
-            let dead = dead_above(alloc, &board, above, floor);
+            let keep = keep_above(alloc, &board, above);
             self.leave_after(board, pass, Deed::Floor(floor));
-            return Ok((floor, dead?));
+            return Ok((floor, keep?));
         }
-        let dead = dead_above(alloc, &board, above, floor);
+        let keep = keep_above(alloc, &board, above);
         self.leave_after(board, pass, Deed::Nothing);
-        Ok((floor, dead?))
+        Ok((floor, keep?))
     }
 
-    // Each shard is swept of the dead changes, in a hold of its own.
-    fn sweep_shards(&self, above: u64, floor: u64, dead: &[u64], pass: &mut Pass<W>)
+    // Each shard is swept up to the floor, in a hold of its own.
+    fn sweep_shards(&self, floor: u64, keep: &[u64], pass: &mut Pass<W>)
         requires of { IsPassOf self.now pass.old }
-        requires floor { (above < floor) × (floor ≡ (state_of self.now pass.old.seen).floor) }
-        requires dead { AreSupersededBetween (accepted pass.old.seen) above floor dead.now }
+        requires floor { floor ≡ (state_of self.now pass.old.seen).floor }
+        requires keep { AreKeptPuts (accepted pass.old.seen) floor keep.now }
         ensures of { IsPassOf self.now pass.new × IsSameCaller pass.old pass.new }
         ensures seen { pass.new.seen ≡ pass.old.seen }
     {
         'shards: for number in 0..self.shards {
-            self.sweep_shard(number, above, floor, dead, pass);
+            self.sweep_shard(number, floor, keep, pass);
         }
     }
 
-    // The shard is swept of the dead changes, where it was not, and was swept at least to where they begin. Nobody notes a
-    // floor before each shard is swept up to it, so each was.
-    fn sweep_shard(&self, number: u32, above: u64, floor: u64, dead: &[u64], pass: &mut Pass<W>)
+    // The shard is swept up to the floor but for the puts that this keeps, where it was not.
+    fn sweep_shard(&self, number: u32, floor: u64, keep: &[u64], pass: &mut Pass<W>)
         requires of { IsPassOf self.now pass.old }
         requires number { number < (settings_of self.now).shards }
-        requires floor { (above < floor) × (floor ≡ (state_of self.now pass.old.seen).floor) }
-        requires dead { AreSupersededBetween (accepted pass.old.seen) above floor dead.now }
+        requires floor { floor ≡ (state_of self.now pass.old.seen).floor }
+        requires keep { AreKeptPuts (accepted pass.old.seen) floor keep.now }
         ensures of { IsPassOf self.now pass.new × IsSameCaller pass.old pass.new }
         ensures seen { pass.new.seen ≡ pass.old.seen }
     {
         let mut shard = self.cells.enter_shard(number, pass);
-        sweep_between(above, floor, dead, &mut shard);
+        sweep_to(floor, keep, &mut shard);
         self.cells.leave_shard(number, shard, pass);
     }
 }
 
-// What one floor lets go of that another, lower one keeps. Where it is no lower, nothing is looked for, and no memory taken.
-fn dead_above<W: Indexed>(
-    alloc: Global,
-    board: &Board<W>,
-    above: u64,
-    floor: u64,
-) -> Result<Vec<u64>, Memory>
-    ensures { IfOk result (λ dead. above < floor → AreSupersededBetween (changes_in board.now.state) above floor dead.items) }
+// The puts that the board's floor keeps. Where it is no higher than another one, nothing is looked for, and no memory taken.
+fn keep_above<W: Indexed>(alloc: Global, board: &Board<W>, above: u64) -> Result<Vec<u64>, Memory>
+    ensures { IfOk result (λ keep. above < board.now.state.floor → AreKeptPuts (changes_in board.now.state) board.now.state.floor keep.items) }
 {
-    if floor <= above {
+    if board.floor() <= above {
         return Ok(Vec::new(alloc));
     }
-    board.dead_between(alloc, above, floor)
+    board.keep(alloc)
 }

@@ -16,13 +16,14 @@ use Rattle.cq_reply.specs.declared.reply.Reply.{Reply}
 use Rattle.cq_reply.specs.declared.reply.Reply.TheVariants as reply
 use Rattle.cq_answer.specs.Reply.{IsReply}
 use Rattle.cq_talk.specs.Said.{Said, TooLong, Read}
-use Rattle.cq_talk.specs.Replies.{version_in}
+use Rattle.cq_talk.specs.Replies.{version_in, answered_in}
 use Rattle.cq_talk.specs.Causes.{cause, change_told}
 use Rattle.cq_talk.specs.Alone.{Walk, no_walk, done_with, changed, IsAnsweredAlone, IsReplyAlone, IsAloneUpToMemory}
-use Rattle.cq_talk.specs.Beside.{Known, nothing_known, known_then, with_told, IsPut, IsReplyBeside, IsBeside}
+use Rattle.cq_talk.specs.Beside.{Known, nothing_known, known_then, with_told, IsPut, IsChangedBeside, IsReplyBeside, IsBeside}
 use Rattle.cq_talk.specs.Laws.{IsNoMemory}
-use Rattle.cq_talk.proofs.BesideTalk.{none_told, no_version}
-use Rattle.cq_talk.proofs.Shown.{shown_version}
+use Rattle.cq_talk.proofs.BesideTalk.{none_told, no_version, no_answer}
+use Rattle.cq_talk.proofs.Rooming.{accepted_beside, refused_beside}
+use Rattle.cq_talk.proofs.Shown.{shown_version, shown_answered}
 
 -- what a user knows, and what is walked: the first change that isn't done is a put
 pub record Agrees (w : Walk) (k : Known) : Type 0 where
@@ -31,6 +32,8 @@ pub record Agrees (w : Walk) (k : Known) : Type 0 where
   pub order : w.published ≤ w.done
   pub few : w.done ≤ length w.changes
   pub put : w.done < length w.changes → IsPut w.changes (w.done + 1)
+  pub answered : k.answered ≤ w.floor
+  pub floor : w.floor ≤ length w.changes
 
 pub record Turned (set : Settings) (k : Known) (l : Said) (r : Reply) (later : Walk) : Type 0 where
   pub is : IsReplyBeside set k l r
@@ -80,31 +83,35 @@ module _ (set : Settings) (w : Walk) (k : Known) (agrees : Agrees w k) where
   long = ap length agrees.changes
 
   -- nothing is walked, whatever is named
-  stays : (later : Walk) (changes : List Change) (version : ℕ) → later ≡ w → changes ≡ k.changes → version ≡ 0 → Agrees later (record { changes = changes; version = max k.version version })
-  stays later changes version same still none = subst (λ t. Agrees t (record { changes = changes; version = max k.version version })) (sym same) (record {
+  stays : (later : Walk) (changes : List Change) (version answered : ℕ) → later ≡ w → changes ≡ k.changes → version ≡ 0 → answered ≡ 0 → Agrees later (record { changes = changes; version = max k.version version; answered = max k.answered answered })
+  stays later changes version answered same still none no = subst (λ t. Agrees t (record { changes = changes; version = max k.version version; answered = max k.answered answered })) (sym same) (record {
     changes = agrees.changes ∙ sym still;
     version = max-le agrees.version (omega (arith, none));
     order = agrees.order;
     few = agrees.few;
     put = agrees.put;
+    answered = max-le agrees.answered (omega (arith, no));
+    floor = agrees.floor;
   })
 
   changes : (change : Change) (r : Reply) (later : Walk) (why : Option Refused) → r ≡ change_told w.changes why → later ≡ changed w change why → Agrees later (known_then k (Read (Ok (request.Change change))) r)
   changes change r later None told is =
       let f = further w change agrees.few agrees.put in
-      subst (λ s. Agrees later (known_then k (Read (Ok (request.Change change))) s)) (sym told) (subst (λ t. Agrees t (record { changes = k.changes ++ change ∷ []; version = max k.version 0 })) (sym is) (record {
+      subst (λ s. Agrees later (known_then k (Read (Ok (request.Change change))) s)) (sym told) (subst (λ t. Agrees t (record { changes = k.changes ++ change ∷ []; version = max k.version 0; answered = max k.answered 0 })) (sym is) (record {
         changes = ap (λ cs. cs ++ change ∷ []) agrees.changes;
         version = max-le agrees.version (omega arith);
         order = omega (arith, agrees.order, f.rises);
         few = omega (arith, f.few, many_with w.changes change);
         put = λ less. f.put (omega (arith, less, many_with w.changes change));
+        answered = max-le agrees.answered (omega arith);
+        floor = omega (arith, agrees.floor, many_with w.changes change);
       }))
   changes change r later (Some why) told is =
       let none = none_told k.changes change why in
-      stays later (with_told k.changes change r) (version_in r) is (ap (with_told k.changes change) told ∙ none.0) (ap version_in told ∙ none.1)
+      stays later (with_told k.changes change r) (version_in r) (answered_in r) is (ap (with_told k.changes change) told ∙ none.0) (ap version_in told ∙ none.1) (ap answered_in told ∙ none.2)
 
   answers : (q : Query) (r : Reply) (later : Walk) → IsAnsweredAlone set w q r later → Turned set k (Read (Ok (request.Query q))) r later
-  answers q r later (inl is) = record { is = inl (omega (arith, is.0, long), is.1 ∙ ap reply.Future long); agrees = stays later k.changes (version_in r) is.2 refl (ap version_in is.1) }
+  answers q r later (inl is) = record { is = inl (omega (arith, is.0, long), is.1 ∙ ap reply.Future long); agrees = stays later k.changes (version_in r) (answered_in r) is.2 refl (ap version_in is.1) (ap answered_in is.1) }
   answers q r later (inr (inl is)) = record {
     is = inr (inl (record {
       within = omega (arith, is.0, long);
@@ -114,7 +121,7 @@ module _ (set : Settings) (w : Walk) (k : Known) (agrees : Agrees w k) where
       above = omega (arith, agrees.version, agrees.order);
       reply_is = is.3;
     }));
-    agrees = stays later k.changes (version_in r) is.4 refl (ap version_in is.3);
+    agrees = stays later k.changes (version_in r) (answered_in r) is.4 refl (ap version_in is.3) (ap answered_in is.3);
   }
   answers q r later (inr (inr is)) =
       let names : version_in r ≡ length w.changes = shown_version set w.changes (length w.changes) q r is.2 in
@@ -126,15 +133,21 @@ module _ (set : Settings) (w : Walk) (k : Known) (agrees : Agrees w k) where
           order = omega arith;
           few = omega arith;
           put = λ less. absurd (omega (arith, less));
+          answered = let same = shown_answered set w.changes (length w.changes) q r is.2 in max-le (omega (arith, agrees.answered, agrees.floor)) (omega (arith, same));
+          floor = omega arith;
         });
       }
 
+  said_beside : (change : Change) (r : Reply) (why : Option Refused) → cause set k.changes w.floor change ≡ why → r ≡ change_told k.changes why → IsChangedBeside set k change r
+  said_beside change r None is told = accepted_beside set k change r w.floor (omega (arith, agrees.floor, long)) is told
+  said_beside change r (Some why) is told = refused_beside set k change r w.floor agrees.answered why is told
+
   turned : (l : Said) (r : Reply) (later : Walk) → IsReplyAlone set w l r later → Turned set k l r later
-  turned TooLong r later is = record { is = is.0; agrees = stays later k.changes (version_in r) is.1 refl (ap version_in is.0) }
-  turned (Read (Err why)) r later is = record { is = is.0; agrees = stays later k.changes (version_in r) is.1 refl (ap version_in is.0 ∙ no_version why) }
+  turned TooLong r later is = record { is = is.0; agrees = stays later k.changes (version_in r) (answered_in r) is.1 refl (ap version_in is.0) (ap answered_in is.0) }
+  turned (Read (Err why)) r later is = record { is = is.0; agrees = stays later k.changes (version_in r) (answered_in r) is.1 refl (ap version_in is.0 ∙ no_version why) (ap answered_in is.0 ∙ no_answer why) }
   turned (Read (Ok (request.Change change))) r later is = record {
-    is = is.0 ∙ ap (λ cs. change_told cs (cause set cs change)) agrees.changes;
-    agrees = changes change r later (cause set w.changes change) is.0 is.1;
+    is = said_beside change r (cause set k.changes w.floor change) refl (is.0 ∙ ap (λ cs. change_told cs (cause set cs w.floor change)) agrees.changes);
+    agrees = changes change r later (cause set w.changes w.floor change) is.0 is.1;
   }
   turned (Read (Ok (request.Query q))) r later is = answers q r later is
   turned (Read (Ok request.State)) r later is = record {
@@ -145,6 +158,8 @@ module _ (set : Settings) (w : Walk) (k : Known) (agrees : Agrees w k) where
       order = agrees.order;
       few = agrees.few;
       put = agrees.put;
+      answered = let no : answered_in r ≡ 0 = ap answered_in is.0 in max-le agrees.answered (omega (arith, no));
+      floor = agrees.floor;
     });
   }
 
@@ -159,4 +174,4 @@ walked set w k (l ∷ lines) (r ∷ replies) agrees is none =
     ]
 
 pub alone_beside : (set : Settings) (lines : List Said) (replies : List Reply) → IsAloneUpToMemory set no_walk lines replies → AllByRecursion IsNoMemory replies → IsBeside set nothing_known lines replies
-alone_beside set lines replies is none = walked set no_walk nothing_known lines replies (record { changes = refl; version = omega arith; order = omega arith; few = omega arith; put = λ less. absurd (omega (arith, less)) }) is none
+alone_beside set lines replies is none = walked set no_walk nothing_known lines replies (record { changes = refl; version = omega arith; order = omega arith; few = omega arith; put = λ less. absurd (omega (arith, less)); answered = omega arith; floor = omega arith }) is none

@@ -1,7 +1,8 @@
 -- A talk with a hub that is alone, walked.
-use Rattle.std.proofs.Common.{◌≡◌, ℕ, ◌+◌, ◌≤◌, cond, List, [], ◌∷◌, ◌++◌, length, max, Some, None, Ok, Err, refl, sym, ap, ◌∙◌, subst, inl, inr, arith, length-append}
+use Rattle.std.proofs.Common.{◌≡◌, ℕ, ◌+◌, ◌≤◌, cond, replicate, List, [], ◌∷◌, ◌++◌, length, max, Option, Some, None, Ok, Err, refl, sym, ap, ◌∙◌, subst, inl, inr, arith, length-append}
+use Rattle.std.specs.Prelude.{All}
 use Rattle.std.proofs.Math.Nat.{le-max_left, le-max_right}
-use Rattle.std.proofs.lemmas.List.{length-map}
+use Rattle.std.proofs.lemmas.List.{length-map, length-replicate, get_or-replicate}
 use Rattle.std.proofs.lemmas.List.Sums.{prefix_len-le-length}
 use Rattle.cq_base.specs.declared.settings.Settings.{Settings}
 use Rattle.cq_base.specs.declared.change.Change.{Change}
@@ -13,6 +14,7 @@ use Rattle.cq_history.proofs.States.{state_push, Lawful-prefix}
 use Rattle.cq_history.proofs.Bounds.{in_order}
 use Rattle.cq_history.proofs.Doing.{slots_number}
 use Rattle.cq_history.proofs.Prefixes.{changes_after, changes_in-state}
+use Rattle.cq_board.specs.Answers.{refusal_of}
 use Rattle.cq_request.specs.declared.request.Query.{Query}
 use Rattle.cq_request.specs.declared.request.Request.TheVariants as request
 use Rattle.cq_reply.specs.declared.reply.Reply.{Reply}
@@ -27,7 +29,7 @@ use Rattle.cq_talk.proofs.Causing.{cause_is}
 use Rattle.cq_talk.proofs.GoingOn.{talk_goes_on, talk_many}
 use Rattle.cq_talk.proofs.OneMore.{ready_with}
 use Rattle.cq_talk.proofs.AloneRows.{alone_same}
-use Rattle.cq_talk.proofs.Served.{served_accept_none, served_grows, served_published}
+use Rattle.cq_talk.proofs.Served.{served_accept_none, served_grows, served_published, served_shut, none_open}
 use Rattle.cq_talk.proofs.Shown.{shown_named}
 use Rattle.cq_talk.proofs.Talking.{published_few}
 use Rattle.cq_talk.proofs.Unmade.{none_accepted}
@@ -41,12 +43,20 @@ pub given_read : (set : Settings) (callers : ℕ) (alone : Type 0) (c seen : ℕ
 given_read set callers alone c seen h later TooLong is = absurd is
 given_read set callers alone c seen h later (Read says) is = tt
 
+-- ---- nobody has a view open
+
+all_none : (callers : ℕ) → All (λ view. view ≡ None) (replicate callers None)
+all_none callers k d within = get_or-replicate callers None k d (omega (arith, within, length-replicate callers {A = Option ℕ} None))
+
 -- ---- the walk and the state of the history
 
 pub record Matches (k : Walk) (s : State) : Type 0 where
   pub changes : changes_in s ≡ k.changes
   pub done : ready s ≡ k.done
   pub published : s.published ≡ k.published
+  pub floor : s.floor ≡ k.floor
+  -- nobody has a view open
+  pub shut : All (λ view. view ≡ None) s.views
 
 pub record Turn (set : Settings) (k : Walk) (l : Said) (r : Reply) (seen : ℕ) (s : State) : Type 0 where
   pub then : Walk
@@ -67,6 +77,10 @@ module _ (set : Settings) (callers c seen : ℕ) (h : List Event) (k : Walk) (m 
   known : (g : List Event) → g ≡ h → accepted g ≡ k.changes
   known g same = ap accepted same ∙ (sym (changes_in-state callers h) ∙ m.changes)
 
+  -- the cause against a change is that of the walk
+  cause_there : (g : List Event) (change : Change) → g ≡ h → refusal_of set (state callers g) change ≡ cause set k.changes k.floor change
+  cause_there g change same = cause_is set callers g k.changes change (known g same) ∙ ap (λ f. cause set k.changes f change) (ap (λ g. (state callers g).floor) same ∙ m.floor)
+
   stay : (l : Said) (r : Reply) (s : State) → s ≡ state callers h → IsReplyAlone set k l r k → Turn set k l r seen s
   stay l r s same is = record {
     then = k;
@@ -84,7 +98,7 @@ module _ (set : Settings) (callers c seen : ℕ) (h : List Event) (k : Walk) (m 
   changes_alone later change r (inl is) =
       let same : is.mid ≡ h = alone_same c h is.mid is.waits in
       let now : state callers later ≡ after (state callers h) (Accept c change) = ap (state callers) (is.accepts ∙ ap (λ g. g ++ Accept c change ∷ []) same) ∙ state_push callers h (Accept c change) in
-      let no_cause : cause set k.changes change ≡ None = sym (cause_is set callers is.mid k.changes change (known is.mid same)) ∙ is.no_cause in
+      let no_cause : cause set k.changes k.floor change ≡ None = sym (cause_there is.mid change same) ∙ is.no_cause in
       let grown : length (state callers later).slots ≡ length (state callers h).slots + 1 = ap (λ (s : State). length s.slots) now ∙ length-append (state callers h).slots (new_slot change ∷ []) in
       let long : length (accepted is.mid) ≡ length k.changes = ap length (known is.mid same) in
       record {
@@ -94,12 +108,14 @@ module _ (set : Settings) (callers c seen : ℕ) (h : List Event) (k : Walk) (m 
           changes = ap changes_in now ∙ (changes_after (state callers h) (Accept c change) ∙ ap (λ cs. cs ++ change ∷ []) m.changes);
           done = ap ready now ∙ ready_with (state callers h) c change k m.done number;
           published = ap (λ (s : State). s.published) now ∙ m.published;
+          floor = ap (λ (s : State). s.floor) now ∙ m.floor;
+          shut = subst (λ (s : State). All (λ view. view ≡ None) s.views) (sym now) m.shut;
         };
         few = let name : named r ≡ length (accepted is.mid) + 1 = ap named is.reply_is in omega (arith, name, long, grown, number, le-max_right seen (named r));
       }
   changes_alone later change r (inr is) =
       let same = alone_same c h later is.waits in
-      let told : cause set k.changes change ≡ Some is.cause = sym (cause_is set callers later k.changes change (known later same)) ∙ is.cause_is in
+      let told : cause set k.changes k.floor change ≡ Some is.cause = sym (cause_there later change same) ∙ is.cause_is in
       stay (Read (Ok (request.Change change))) r (state callers later) (ap (state callers) same) (is.reply_is ∙ sym (ap (change_told k.changes) told), sym (ap (changed k change) told))
 
   told_alone : (later : List Event) (r : Reply) → Tells set callers (Unit {0}) c h r later → Turn set k (Read (Ok request.State)) r seen (state callers later)
@@ -131,6 +147,7 @@ module _ (set : Settings) (callers c seen : ℕ) (h : List Event) (k : Walk) (m 
       let at_ask : length mid.slots ≡ length (state callers h).slots = ap (λ (t : State). length t.slots) same.0 in
       let changes : accepted later ≡ k.changes = got.0 ∙ known h refl in
       let version : is.version ≡ length k.changes = omega (arith, got.1, slots, number) in
+      let shut = served_shut set callers c seen q h later is.version law is.served m.shut in
       record {
         then = all_published k;
         is = inr (inr (
@@ -146,6 +163,8 @@ module _ (set : Settings) (callers c seen : ℕ) (h : List Event) (k : Walk) (m 
           changes = changes_in-state callers later ∙ changes;
           done = omega (arith, order, top, got.2, version, slots_then, long, slots, number);
           published = omega (arith, got.2, version);
+          floor = is.swept ∙ none_open (state callers later).views (state callers later).published shut ∙ (let e : (state callers later).published ≡ length k.changes = omega (arith, got.2, version) in e);
+          shut = shut;
         };
         few = omega (arith, shown_named set (accepted later) is.version q r is.shows, version, slots_then, long, slots, number, le-max_right seen (named r));
       }
@@ -188,4 +207,4 @@ module _ (set : Settings) (callers c : ℕ) where
       ]
 
   pub alone_from_nothing : (later : List Event) (lines : List Said) (replies : List Reply) → Talk set callers (Unit {0}) c 0 [] lines replies later → Lawful set callers later → IsAloneUpToMemory set no_walk lines replies
-  alone_from_nothing later lines replies talk law = walked 0 [] later no_walk lines replies law (record { changes = refl; done = refl; published = refl }) (omega arith) talk
+  alone_from_nothing later lines replies talk law = walked 0 [] later no_walk lines replies law (record { changes = refl; done = refl; published = refl; floor = refl; shut = all_none callers }) (omega arith) talk

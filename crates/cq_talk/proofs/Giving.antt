@@ -3,15 +3,12 @@ use Rattle.std.proofs.Common.{◌≡◌, ◌⊎◌, ℕ, ◌+◌, ◌<◌, ◌�
 use Rattle.std.proofs.Math.Nat.{le-max_right}
 use Rattle.cq_base.specs.declared.settings.Settings.{Settings}
 use Rattle.cq_base.specs.declared.change.Change.{Change}
-use Rattle.cq_board.specs.declared.answers.Refused.{Refused}
-use Rattle.cq_board.specs.declared.answers.Refused.TheVariants as refused
 use Rattle.cq_request.specs.declared.request.Query.{Query}
 use Rattle.cq_reply.specs.declared.reply.Reply.{Reply}
 use Rattle.cq_reply.specs.declared.reply.Reply.TheVariants as reply
 use Rattle.cq_talk.specs.Said.{Said, TooLong, WasRead}
 use Rattle.cq_talk.specs.Replies.{version_in}
-use Rattle.cq_talk.specs.Causes.{cause, change_told}
-use Rattle.cq_talk.specs.Beside.{Known, known_then, IsReplyBeside, IsAnsweredBeside, IsToldBeside, IsBeside}
+use Rattle.cq_talk.specs.Beside.{Known, known_then, IsReplyBeside, IsChangedBeside, IsAnsweredBeside, IsToldBeside, IsBeside}
 use Rattle.cq_talk.specs.Gives.{BesideGives, changes, asks, asks_state}
 use Rattle.cq_talk.proofs.Shown.{shown_version, shown_no_pending}
 
@@ -26,12 +23,11 @@ one_each set k [] (r ∷ replies) is = absurd is
 one_each set k (l ∷ lines) [] is = absurd is
 one_each set k (l ∷ lines) (r ∷ replies) is = omega (arith, one_each set (known_then k l r) lines replies is.1)
 
-numbered : (cs : List Change) (n : ℕ) (why : Option Refused) → reply.Change n ≡ change_told cs why → n ≡ length cs + 1
-numbered cs n None is = cc (is)
-numbered cs n (Some refused.Absent) is = absurd (cc (is))
-numbered cs n (Some refused.FullChanges) is = absurd (cc (is))
-numbered cs n (Some refused.FullText) is = absurd (cc (is))
-numbered cs n (Some refused.Memory) is = absurd (cc (is))
+numbered : (set : Settings) (k : Known) (change : Change) (n : ℕ) → IsChangedBeside set k change (reply.Change n) → n ≡ length k.changes + 1
+numbered set k change n (inl is) = let e = is.1 in absurd (cc (e))
+numbered set k change n (inr (inl is)) = let e = is.2 in absurd (cc (e))
+numbered set k change n (inr (inr (inl is))) = let e = is.2 in absurd (cc (e))
+numbered set k change n (inr (inr (inr is))) = let e = is.1 in cc (e)
 
 counted_in : (k : Known) (a d p : ℕ) → IsToldBeside k (reply.State a d p) → (a ≡ length k.changes) × (k.version ≤ p) × (p ≤ d)
 counted_in k a d p is =
@@ -66,7 +62,7 @@ too_long set k r (inr is) = is
 
 module _ (set : Settings) (k : Known) where
   told : (change : Change) (n : ℕ) → ((WasRead (changes change) × (reply.Change n ≡ reply.Memory)) ⊎ IsReplyBeside set k (changes change) (reply.Change n)) → n ≡ length k.changes + 1
-  told change n is = numbered k.changes n (cause set k.changes change) (replies set k (changes change) (reply.Change n) (λ e. absurd (cc (e))) is)
+  told change n is = numbered set k change n (replies set k (changes change) (reply.Change n) (λ e. absurd (cc (e))) is)
 
   state_told : (a d p : ℕ) → ((WasRead asks_state × (reply.State a d p ≡ reply.Memory)) ⊎ IsReplyBeside set k asks_state (reply.State a d p)) → (a ≡ length k.changes) × (k.version ≤ p) × (p ≤ d)
   state_told a d p is = counted_in k a d p (replies set k asks_state (reply.State a d p) (λ e. absurd (cc (e))) is)

@@ -77,11 +77,11 @@ gives_alone set k = record {
   told = told set k;
   accepted = λ change n a d p is.
       let one = first set k (changes change) (asks_state ∷ []) (reply.Change n) (reply.State a d p ∷ []) (λ e. absurd (cc (e))) is in
-      let now = accepted k one.0 change n (cause set k.changes change) one.1.0 one.1.1 in
+      let now = accepted k one.0 change n (cause set k.changes k.floor change) one.1.0 one.1.1 in
       (now.0, told_of set (changed k change None) one.0 a d p now.1 one.2);
   refused = λ change why a d p no_memory is.
       let one = first set k (changes change) (asks_state ∷ []) (cause_told why) (reply.State a d p ∷ []) no_memory is in
-      told_of set k one.0 a d p (refused_for k one.0 change why (cause set k.changes change) one.1.0 one.1.1) one.2;
+      told_of set k one.0 a d p (refused_for k one.0 change why (cause set k.changes k.floor change) one.1.0 one.1.1) one.2;
   answered = λ q r a d p some is.
       let one = first set k (asks q) (asks_state ∷ []) r (reply.State a d p ∷ []) (no_memory_of r some) is in
       let now = shown set k one.0 q r some one.1 in

@@ -8,6 +8,7 @@ pub mod Served
 pub mod Talking
 pub mod GoingOn
 pub mod Causing
+pub mod Rooming
 pub mod OneMore
 pub mod AloneRows
 pub mod AloneTalk

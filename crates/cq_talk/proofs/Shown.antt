@@ -17,7 +17,7 @@ use Rattle.cq_answer.specs.declared.part.Part.{Part}
 use Rattle.cq_answer.specs.Reply.{IsReply, reply_of, part_read, chosen_read}
 use Rattle.cq_answer.specs.Rows.{Facts, facts_read}
 use Rattle.cq_hub.specs.Hubs.{Grows}
-use Rattle.cq_talk.specs.Replies.{named, version_in}
+use Rattle.cq_talk.specs.Replies.{named, version_in, answered_in}
 
 module _ (facts : Facts) (conditions : List Condition) (version : ℕ) (p : Part) (is_chosen : ℕ → Bool) (groups : List Group) where
   kind_named : (k : Kind) → named (reply_of facts conditions version k p is_chosen groups) ≡ version
@@ -34,6 +34,13 @@ module _ (facts : Facts) (conditions : List Condition) (version : ℕ) (p : Part
   kind_version kind.Verdict = refl
   kind_version kind.Functions = refl
 
+  kind_answered : (k : Kind) → answered_in (reply_of facts conditions version k p is_chosen groups) ≡ version
+  kind_answered kind.Files = refl
+  kind_answered kind.Groups = refl
+  kind_answered kind.Measures = refl
+  kind_answered kind.Verdict = refl
+  kind_answered kind.Functions = refl
+
   kind_no_pending : (k : Kind) (n : ℕ) → reply.Pending n ≡ reply_of facts conditions version k p is_chosen groups → ⊥
   kind_no_pending kind.Files n same = absurd (cc (same))
   kind_no_pending kind.Groups n same = absurd (cc (same))
@@ -47,6 +54,9 @@ module _ (set : Settings) (changes : List Change) (version : ℕ) (q : Query) (r
 
   pub shown_version : version_in r ≡ version
   shown_version = ap version_in is.reply_is ∙ kind_version (facts_read is.readings) (conditions_at changes version q.project) version (part_read is.readings q) (chosen_read is.readings q) is.groups q.kind
+
+  pub shown_answered : answered_in r ≡ version
+  shown_answered = ap answered_in is.reply_is ∙ kind_answered (facts_read is.readings) (conditions_at changes version q.project) version (part_read is.readings q) (chosen_read is.readings q) is.groups q.kind
 
   -- it tells of no change that isn't done
   pub shown_no_pending : (n : ℕ) → r ≡ reply.Pending n → ⊥

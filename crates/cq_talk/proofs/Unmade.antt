@@ -7,7 +7,7 @@ use Rattle.cq_history.specs.declared.event.Event.TheVariants.{Accept, Ask, Took,
 use Rattle.cq_history.specs.State.{accepted, own, maker, is_by}
 use Rattle.cq_history.proofs.Prefixes.{accepted-append}
 use Rattle.cq_hub.specs.Hubs.{Grows, IsFloor, IsPublication}
-use Rattle.cq_talk.specs.Laws.{AcceptsBy}
+use Rattle.cq_talk.specs.Laws.{ActsBy}
 use Rattle.cq_talk.specs.Talk.{MayFollow}
 
 abbrev pub IsUnmade : Event → Type 0
@@ -52,7 +52,7 @@ grows_unmade alone c May h later es to grows = record { more = grows.more; after
 not_by : (c by : ℕ) → by ≡ c → (c == by) ≡ false → ⊥
 not_by c by same other = true≢false (sym (eq-eqb c c refl) ∙ ap (λ n. c == n) (sym same) ∙ other)
 
-own_step : (c : ℕ) (e : Event) (es : List Event) (b : Bool) → AcceptsBy c e → is_by c (maker e) ≡ b → accepted (e ∷ []) ++ accepted es ≡ accepted (cond b (e ∷ es) es)
+own_step : (c : ℕ) (e : Event) (es : List Event) (b : Bool) → ActsBy c e → is_by c (maker e) ≡ b → accepted (e ∷ []) ++ accepted es ≡ accepted (cond b (e ∷ es) es)
 own_step c e es true by is = sym (accepted-append (e ∷ []) es)
 own_step c (Accept by change) es false own is = absurd (not_by c by own is)
 own_step c (Ask by) es false own is = refl
@@ -64,11 +64,11 @@ own_step c (Open by p) es false own is = refl
 own_step c (Shut by) es false own is = refl
 own_step c (Floor f) es false own is = refl
 
-pub accepted_own : (c : ℕ) (more : List Event) → AllByRecursion (AcceptsBy c) more → accepted more ≡ accepted (own c more)
+pub accepted_own : (c : ℕ) (more : List Event) → AllByRecursion (ActsBy c) more → accepted more ≡ accepted (own c more)
 accepted_own c [] all = refl
 accepted_own c (e ∷ more) all = accepted-append (e ∷ []) more ∙ (ap (λ cs. accepted (e ∷ []) ++ cs) (accepted_own c more all.1) ∙ own_step c e (own c more) (is_by c (maker e)) all.0 refl)
 
-accepts_one : (c : ℕ) (e : Event) → (maker e ≡ Some c) ⊎ IsUnmade e → AcceptsBy c e
+accepts_one : (c : ℕ) (e : Event) → (maker e ≡ Some c) ⊎ IsUnmade e → ActsBy c e
 accepts_one c (Accept by change) (inl own) = cc (own)
 accepts_one c (Accept by change) (inr none) = absurd (cc (none))
 accepts_one c (Ask by) is = tt
@@ -76,17 +76,18 @@ accepts_one c (Took by r) is = tt
 accepts_one c (Back by r) is = tt
 accepts_one c (Done by r) is = tt
 accepts_one c (Publish p) is = tt
-accepts_one c (Open by p) is = tt
+accepts_one c (Open by p) (inl own) = cc (own)
+accepts_one c (Open by p) (inr none) = absurd (cc (none))
 accepts_one c (Shut by) is = tt
 accepts_one c (Floor f) is = tt
 
 -- where no other caller makes an event, none accepts a change
-pub accepts_all : (c : ℕ) (more : List Event) → AllByRecursion (λ (e : Event). (maker e ≡ Some c) ⊎ IsUnmade e) more → AllByRecursion (AcceptsBy c) more
+pub accepts_all : (c : ℕ) (more : List Event) → AllByRecursion (λ (e : Event). (maker e ≡ Some c) ⊎ IsUnmade e) more → AllByRecursion (ActsBy c) more
 accepts_all c [] all = tt
 accepts_all c (e ∷ more) all = (accepts_one c e all.0, accepts_all c more all.1)
 
 -- nothing more is accepted, where none of the caller's own further events accepts a change
-pub none_more : (c : ℕ) (h later more : List Event) → later ≡ h ++ more → accepted (own c more) ≡ [] → AllByRecursion (AcceptsBy c) more → accepted later ≡ accepted h
+pub none_more : (c : ℕ) (h later more : List Event) → later ≡ h ++ more → accepted (own c more) ≡ [] → AllByRecursion (ActsBy c) more → accepted later ≡ accepted h
 none_more c h later more is none accepts =
     ap accepted is ∙ (accepted-append h more ∙ (ap (λ cs. accepted h ++ cs) (accepted_own c more accepts ∙ none) ∙ append-nil (accepted h)))
 

@@ -13,14 +13,15 @@ use Rattle.cq_answer.specs.Reply.{IsReply}
 use Rattle.cq_talk.specs.Said.{Said, TooLong, Read, WasRead}
 use Rattle.cq_talk.specs.Causes.{cause, change_told}
 
--- the accepted changes, up to which one all are done, and the published version
+-- the accepted changes, up to which one all are done, the published version, and the floor
 pub record Walk : Type 0 where
   pub changes : List Change
   pub done : ℕ
   pub published : ℕ
+  pub floor : ℕ
 
 abbrev pub no_walk : Walk
-no_walk = record { changes = []; done = 0; published = 0 }
+no_walk = record { changes = []; done = 0; published = 0; floor = 0 }
 
 -- up to which one all are done with one change more: only a put has work
 abbrev pub done_with : Walk → Change → ℕ
@@ -28,16 +29,16 @@ done_with k change = if nat_lt k.done (length k.changes) || is_put change then k
 
 -- a change that there is no cause against is accepted
 abbrev pub changed : Walk → Change → Option Refused → Walk
-changed k change None = record { changes = k.changes ++ change ∷ []; done = done_with k change; published = k.published }
+changed k change None = record { changes = k.changes ++ change ∷ []; done = done_with k change; published = k.published; floor = k.floor }
 changed k change (Some why) = k
 
--- all works are done, and all changes published
+-- all works are done, all changes published, and all earlier versions given up
 abbrev pub all_published : Walk → Walk
-all_published k = record { changes = k.changes; done = length k.changes; published = length k.changes }
+all_published k = record { changes = k.changes; done = length k.changes; published = length k.changes; floor = length k.changes }
 
 -- its number, or the first cause against it
 abbrev pub IsChangedAlone : Settings → Walk → Change → Reply → Walk → Type 0
-IsChangedAlone set k change r after = (r ≡ change_told k.changes (cause set k.changes change)) × (after ≡ changed k change (cause set k.changes change))
+IsChangedAlone set k change r after = (r ≡ change_told k.changes (cause set k.changes k.floor change)) × (after ≡ changed k change (cause set k.changes k.floor change))
 
 -- it asks for more changes than there are
 abbrev pub IsFutureAlone : Walk → Query → Reply → Walk → Type 0

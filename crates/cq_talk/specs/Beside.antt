@@ -1,26 +1,30 @@
 -- What a user of a server may be told while workers go on beside it: the replies are walked from line to line.
-use Rattle.std.specs.Prelude.{◌≡◌, ◌⊎◌, ℕ, ◌-◌, ◌<◌, ◌≤◌, true, false, max, List, [], ◌∷◌, ◌++◌, length, slice_index_or, Ok, Err}
+use Rattle.std.specs.Prelude.{◌≡◌, ◌⊎◌, ℕ, ◌+◌, ◌-◌, ◌<◌, ◌≤◌, true, false, max, List, [], ◌∷◌, ◌++◌, length, slice_index_or, None, Ok, Err}
 use Rattle.cq_base.specs.declared.settings.Settings.{Settings}
 use Rattle.cq_base.specs.declared.change.Change.{Change}
 use Rattle.cq_history.specs.Changes.{is_put, IsNumber}
+use Rattle.cq_history.specs.Lawful.{is_absent, is_full, is_long}
 use Rattle.cq_history.specs.State.{no_slot}
+use Rattle.cq_board.specs.declared.answers.Refused.TheVariants.{Absent, FullChanges, FullText}
 use Rattle.cq_request.specs.declared.request.Query.{Query}
 use Rattle.cq_request.specs.declared.request.Request.TheVariants as request
 use Rattle.cq_reply.specs.declared.reply.Reply.{Reply}
 use Rattle.cq_reply.specs.declared.reply.Reply.TheVariants as reply
-use Rattle.cq_answer.specs.Refusals.{refused_as}
+use Rattle.cq_answer.specs.Refusals.{refused_as, cause_told}
 use Rattle.cq_answer.specs.Reply.{IsReply}
 use Rattle.cq_talk.specs.Said.{Said, TooLong, Read, WasRead}
-use Rattle.cq_talk.specs.Replies.{version_in}
-use Rattle.cq_talk.specs.Causes.{cause, change_told}
+use Rattle.cq_talk.specs.Replies.{version_in, answered_in}
+use Rattle.cq_talk.specs.Causes.{state_at, cause}
 
--- What the user knows: the changes that were accepted, and the greatest version or published number that a reply named.
+-- What the user knows: the changes that were accepted, the greatest version or published number that a reply named, and the
+-- greatest version that a query's reply named.
 pub record Known : Type 0 where
   pub changes : List Change
   pub version : ℕ
+  pub answered : ℕ
 
 abbrev pub nothing_known : Known
-nothing_known = record { changes = []; version = 0 }
+nothing_known = record { changes = []; version = 0; answered = 0 }
 
 -- a change whose number is told is accepted, and no other is
 abbrev pub with_told : List Change → Change → Reply → List Change
@@ -35,7 +39,26 @@ changes_then changes (Read (Ok (request.Query q))) r = changes
 changes_then changes (Read (Ok request.State)) r = changes
 
 abbrev pub known_then : Known → Said → Reply → Known
-known_then k l r = record { changes = changes_then k.changes l r; version = max k.version (version_in r) }
+known_then k l r = record { changes = changes_then k.changes l r; version = max k.version (version_in r); answered = max k.answered (answered_in r) }
+
+-- it drops a path whose last put or drop is no put, and is told so
+abbrev pub IsAbsentBeside : Known → Change → Reply → Type 0
+IsAbsentBeside k change r = (is_absent (state_at k.changes k.answered) change ≡ true) × (r ≡ cause_told Absent)
+
+-- It is told that there are too many changes. Then so many would be kept with the floor at the last version that was answered.
+abbrev pub IsFullBeside : Settings → Known → Change → Reply → Type 0
+IsFullBeside set k change r = (is_absent (state_at k.changes k.answered) change ≡ false) × (is_full set (state_at k.changes k.answered) ≡ true) × (r ≡ cause_told FullChanges)
+
+-- The same of the bytes of texts.
+abbrev pub IsLongBeside : Settings → Known → Change → Reply → Type 0
+IsLongBeside set k change r = (is_absent (state_at k.changes k.answered) change ≡ false) × (is_long set (state_at k.changes k.answered) change ≡ true) × (r ≡ cause_told FullText)
+
+-- It is accepted, with the next number. Then there is no cause against it with the floor at the last change.
+abbrev pub IsAcceptedBeside : Settings → Known → Change → Reply → Type 0
+IsAcceptedBeside set k change r = (cause set k.changes (length k.changes) change ≡ None) × (r ≡ reply.Change (length k.changes + 1))
+
+abbrev pub IsChangedBeside : Settings → Known → Change → Reply → Type 0
+IsChangedBeside set k change r = IsAbsentBeside k change r ⊎ (IsFullBeside set k change r ⊎ (IsLongBeside set k change r ⊎ IsAcceptedBeside set k change r))
 
 -- this is the number of a put
 abbrev pub IsPut : List Change → ℕ → Type 0
@@ -73,7 +96,7 @@ pub record IsToldBeside (k : Known) (r : Reply) : Type 0 where
 abbrev pub IsReplyBeside : Settings → Known → Said → Reply → Type 0
 IsReplyBeside set k TooLong r = r ≡ reply.Long
 IsReplyBeside set k (Read (Err why)) r = r ≡ refused_as why
-IsReplyBeside set k (Read (Ok (request.Change change))) r = r ≡ change_told k.changes (cause set k.changes change)
+IsReplyBeside set k (Read (Ok (request.Change change))) r = IsChangedBeside set k change r
 IsReplyBeside set k (Read (Ok (request.Query q))) r = IsAnsweredBeside set k q r
 IsReplyBeside set k (Read (Ok request.State)) r = IsToldBeside k r
 

@@ -13,25 +13,25 @@ use Rattle.cq_talk.specs.Alone.{Walk, IsAloneUpToMemory, no_walk}
 use Rattle.cq_talk.specs.Beside.{Known, IsBeside, nothing_known}
 use Rattle.cq_talk.specs.Gives.{AloneGives, BesideGives}
 
--- it accepts no change, unless it is this caller's
-abbrev pub AcceptsBy : ℕ → Event → Type 0
-AcceptsBy c (Accept by change) = by ≡ c
-AcceptsBy c (Ask by) = Unit {0}
-AcceptsBy c (Took by r) = Unit {0}
-AcceptsBy c (Back by r) = Unit {0}
-AcceptsBy c (Done by r) = Unit {0}
-AcceptsBy c (Publish p) = Unit {0}
-AcceptsBy c (Open by p) = Unit {0}
-AcceptsBy c (Shut by) = Unit {0}
-AcceptsBy c (Floor f) = Unit {0}
+-- it accepts no change and opens no view, unless it is this caller's
+abbrev pub ActsBy : ℕ → Event → Type 0
+ActsBy c (Accept by change) = by ≡ c
+ActsBy c (Ask by) = Unit {0}
+ActsBy c (Took by r) = Unit {0}
+ActsBy c (Back by r) = Unit {0}
+ActsBy c (Done by r) = Unit {0}
+ActsBy c (Publish p) = Unit {0}
+ActsBy c (Open by p) = by ≡ c
+ActsBy c (Shut by) = Unit {0}
+ActsBy c (Floor f) = Unit {0}
 
 -- with a hub that is alone, its replies are those of a server alone
 abbrev pub TalksAlone : Type 0
 TalksAlone = (set : Settings) (callers c : ℕ) (after : List Event) (lines : List Said) (replies : List Reply) → Talk set callers (Unit {0}) c 0 [] lines replies after → Lawful set callers after → IsAloneUpToMemory set no_walk lines replies
 
--- where the hub's other callers accept no changes, they are those of a server with workers beside it
+-- where the hub's other callers accept no changes and open no views, they are those of a server with workers beside it
 abbrev pub TalksBeside : Type 0
-TalksBeside = (set : Settings) (callers c : ℕ) (after : List Event) (lines : List Said) (replies : List Reply) → Talk set callers ⊥ c 0 [] lines replies after → Lawful set callers after → AllByRecursion (AcceptsBy c) after → IsBeside set nothing_known lines replies
+TalksBeside = (set : Settings) (callers c : ℕ) (after : List Event) (lines : List Said) (replies : List Reply) → Talk set callers ⊥ c 0 [] lines replies after → Lawful set callers after → AllByRecursion (ActsBy c) after → IsBeside set nothing_known lines replies
 
 -- and a server alone is one with no workers beside it
 abbrev pub TalksAloneBeside : Type 0

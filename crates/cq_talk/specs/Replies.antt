@@ -13,6 +13,15 @@ version_in (reply.Functions functions version worst) = version
 version_in (reply.State accepted done published) = published
 version_in _ = 0
 
+-- the version that a query's reply names
+abbrev pub answered_in : Reply → ℕ
+answered_in (reply.Files rows version) = version
+answered_in (reply.Groups rows version) = version
+answered_in (reply.Measures measures version) = version
+answered_in (reply.Verdict verdict version) = version
+answered_in (reply.Functions functions version worst) = version
+answered_in _ = 0
+
 -- the number that a reply names as change, version or published
 abbrev pub named : Reply → ℕ
 named (reply.Change n) = n

@@ -7,8 +7,8 @@ pub fn talks_alone()
     ensures { law.TalksAlone }
 {}
 
-/// A talk with a hub whose other callers accept no changes, from the empty history on, is that of a server with workers
-/// beside it, throughout; so is one with a hub that is alone.
+/// A talk with a hub whose other callers accept no changes and open no views, from the empty history on, is that of a server
+/// with workers beside it, throughout; so is one with a hub that is alone.
 pub fn talks_beside()
     ensures beside { law.TalksBeside }
     ensures alone { law.TalksAloneBeside }
@@ -29,7 +29,8 @@ pub fn alone_gives()
     ensures { law.AllGivenAlone }
 {}
 
-/// A talk is one with workers beside it where all passes are joined at the end, and those of the others accepted no change.
+/// A talk is one with workers beside it where all passes are joined at the end, and those of the others accepted no change and
+/// opened no view.
 pub fn talks_beside_workers()
     ensures first { gathered.GatheredAlone }
     ensures more { gathered.GatheredMore }

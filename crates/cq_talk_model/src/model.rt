@@ -82,11 +82,12 @@ pub enum Refusal {
 pub struct Model {
     pub changes: Vec<Change>,
     change_limit: u64,
-    // Bytes that further texts may have.
-    room: u64,
+    text_limit: u64,
     // All of the first so many changes are done.
     worked: u64,
     published: u64,
+    // Versions below this one are given up.
+    floor: u64,
     // The greatest number that a reply of this talk named.
     seen: u64,
 }
@@ -153,14 +154,57 @@ pub fn conditions_at<'a>(changes: &'a [Change], version: u64, project: u32) -> &
     found
 }
 
+// Whether the change puts or drops this file.
+fn is_of_file(change: &Change, project: u32, path: u32) -> bool {
+    match change {
+        Change::Put(put) => put.project == project && put.path == path,
+        Change::Drop {
+            project: of,
+            path: at,
+        } => *of == project && *at == path,
+        Change::Gate { .. } => false,
+    }
+}
+
+// Whether the change gives this project its conditions.
+fn is_gate_of(change: &Change, project: u32) -> bool {
+    match change {
+        Change::Gate { project: of, .. } => *of == project,
+        _ => false,
+    }
+}
+
+// Whether a later change takes the place of an earlier one; nothing needs a drop.
+fn takes_place(later: &Change, earlier: &Change) -> bool {
+    match earlier {
+        Change::Put(put) => is_of_file(later, put.project, put.path),
+        Change::Drop { .. } => true,
+        Change::Gate { project, .. } => is_gate_of(later, *project),
+    }
+}
+
+// Whether a floor lets go of the change with this number: of a drop up to there, and of any other whose place a later one up
+// to there takes.
+fn is_gone(changes: &[Change], change: &Change, number: u64, floor: u64) -> bool {
+    let mut at = 0u64;
+    for later in changes.iter().take(floor as usize) {
+        at = at.saturating_add(1);
+        if at > number && takes_place(later, change) {
+            return true;
+        }
+    }
+    number <= floor && matches!(change, Change::Drop { .. })
+}
+
 impl Model {
     pub fn new(alloc: Global, change_limit: u64, text_limit: u64) -> Model {
         Model {
             changes: Vec::new(alloc),
             change_limit,
-            room: text_limit,
+            text_limit,
             worked: 0,
             published: 0,
+            floor: 0,
             seen: 0,
         }
     }
@@ -186,6 +230,24 @@ impl Model {
         done
     }
 
+    // How many changes are kept, and how many bytes their texts have.
+    fn kept(&self) -> (u64, u64) {
+        let mut count = 0u64;
+        let mut bytes = 0u64;
+        let mut number = 0u64;
+        for change in &self.changes {
+            number = number.saturating_add(1);
+            if is_gone(&self.changes, change, number, self.floor) {
+                continue;
+            }
+            count = count.saturating_add(1);
+            if let Change::Put(put) = change {
+                bytes = bytes.saturating_add(size_of(&put.words));
+            }
+        }
+        (count, bytes)
+    }
+
     // Why a change is refused: of several causes the first.
     fn refusal(&self, change: &Change) -> Option<Refusal> {
         if let Change::Drop { project, path } = change {
@@ -193,11 +255,14 @@ impl Model {
                 return Some(Refusal::Absent);
             }
         }
-        if self.accepted() >= self.change_limit {
+        let (count, bytes) = self.kept();
+        if count >= self.change_limit {
             return Some(Refusal::FullChanges);
         }
         match change {
-            Change::Put(put) if size_of(&put.words) > self.room => Some(Refusal::FullText),
+            Change::Put(put) if size_of(&put.words) > self.text_limit.saturating_sub(bytes) => {
+                Some(Refusal::FullText)
+            }
             _ => None,
         }
     }
@@ -207,9 +272,6 @@ impl Model {
         let refusal = self.refusal(&change);
         if refusal.is_some() {
             return Ok(refusal);
-        }
-        if let Change::Put(put) = &change {
-            self.room = self.room.saturating_sub(size_of(&put.words));
         }
         let number = self.accepted().saturating_add(1);
         self.changes.push(change.numbered(number))?;
@@ -231,6 +293,7 @@ impl Model {
             return Err(Refusal::Pending(done.saturating_add(1)));
         }
         self.published = done;
+        self.floor = done;
         self.seen = done;
         Ok(done)
     }

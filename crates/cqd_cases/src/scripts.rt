@@ -4,8 +4,8 @@ use std::alloc::Global;
 use std::sync::Wait;
 use std::thread::Threads;
 
-// Windows of two tokens, two shards, one key for every window, three changes, and texts of twenty bytes together.
-const DRIVE: [&str; 11] = [
+/// Windows of two tokens, two shards, one key for every window, three changes, and texts of twenty bytes together.
+pub(crate) const DRIVE: [&str; 11] = [
     "drive",
     "--chunk",
     "2",
@@ -78,8 +78,8 @@ fn parted(alloc: Global, table: &str) -> Result<(Vec<u8>, Vec<u8>), Memory> {
     Ok((input, output))
 }
 
-// Whether each line of a script has the outcome behind it.
-fn all_come_to<Q: Threads + Wait + Sync>(
+/// Whether each line of a script or a session has the outcome behind it.
+pub(crate) fn all_come_to<Q: Threads + Wait + Sync>(
     rt: &Q,
     alloc: Global,
     words: &[&str],

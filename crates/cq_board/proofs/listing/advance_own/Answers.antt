@@ -1,7 +1,7 @@
 use Rattle.std.proofs.Common.{◌++◌, ◌∷◌, [], ℕ, List, refl, sym, subst, subst₂}
 use Rattle.std.specs.Prelude.{◌↔◌, Contains}
 use Rattle.std.specs.List.Sorted.{IsStrictlyIncreasing}
-use Rattle.cq_board.specs.Slots.{change_of}
+use Rattle.cq_kept.specs.Slots.{change_of}
 use Rattle.cq_board.specs.Edits.{put_by}
 use Rattle.cq_board.specs.Listings.{IsListing, listed}
 use Rattle.cq_projects.specs.Projects.{projects_in}

@@ -10,6 +10,7 @@ answer-requires-clause-of_version g c κs lives =
     have_version g.row.L.Denot c.args.settings.now c.args.core.now c.args.by c.args.view.now c.args.query.now.project c.project-files.result.now c.conditions-conditions.result.now c.requires.driven c.requires.listing
     (c.project-files.ensures ∙ ap (λ (l : Listed (Work g.row.L.Denot)). files_in l.projects c.args.query.now.project) c.deref.ensures)
     (c.conditions-conditions.ensures ∙ ap (λ (l : Listed (Work g.row.L.Denot)). conditions_in l.projects c.args.query.now.project) c.deref-2.ensures)
+    c.requires.opened
 
 pub answer-requires-clause-ready : goal.answer-requires-clause-ready
 answer-requires-clause-ready g c κs lives =

@@ -1,4 +1,4 @@
-use Rattle.cq_history.proofs.Doing.{few_accepted}
+use Rattle.cq_history.proofs.Limits.{few_accepted}
 use Rattle.cq_history.proofs.laws.few_are_accepted.Goals as goal
 
 pub returns : goal.returns

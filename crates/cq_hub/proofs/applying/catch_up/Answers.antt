@@ -7,6 +7,9 @@ use Rattle.cq_hub.specs.Shards.{IsShardOf}
 use Rattle.cq_hub.proofs.ShardSteps.{shard_applied}
 use Rattle.cq_hub.proofs.applying.catch_up.Goals as goal
 
+pub turn_to-requires-clause-floor : goal.turn_to-requires-clause-floor
+turn_to-requires-clause-floor g c = let low = c.requires.floor in let reached = c.requires.shard.reached in let here = c.applied.ensures in omega (arith, low, reached.0, here)
+
 pub index_mut-requires : goal.index_mut-requires
 index_mut-requires g c =
     let lists = (c.in_ok-turn_to.ensures.coming c.args.i c.requires.coming).lists in

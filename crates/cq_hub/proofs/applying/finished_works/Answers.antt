@@ -7,6 +7,7 @@ use Rattle.cq_history.specs.Changes.{change_at}
 use Rattle.cq_history.specs.State.{changes_in, ready, slot_of}
 use Rattle.cq_shard.specs.Shard.{HasItsWork, HaveTheirWorks}
 use Rattle.cq_shard.proofs.Given.{work_given, held_given}
+use Rattle.cq_board.proofs.Works.{work_above}
 use Rattle.cq_hub.proofs.ShardSteps.{works_more, few_for}
 use Rattle.cq_hub.proofs.applying.finished_works.Goals as goal
 
@@ -19,7 +20,8 @@ changes-preserved g c =
     let work = c.in_ok-work.work in
     let lt = c.changes-test.true in
     let within : i + 1 ≤ ready b.state = (let most = c.requires.done in omega (arith, lt, most)) in
-    let given = held_given (g.W.Indexed.IsWorkOf b.settings) arc_value (change_at (changes_in b.state) (i + 1)) work (work_given (g.W.Indexed.IsWorkOf b.settings) arc_value b.state (i + 1) work (omega arith) within c.in_ok-work.ensures.some c.in_ok-work.ensures.work) in
+    let above : b.state.floor < i + 1 = (let low = c.requires.floor in let first = inv.number in omega (arith, low, first)) in
+    let given = held_given (g.W.Indexed.IsWorkOf b.settings) arc_value (change_at (changes_in b.state) (i + 1)) work (work_given (g.W.Indexed.IsWorkOf b.settings) arc_value b.state (i + 1) work (omega arith) within (work_above b.state (i + 1) work above c.in_ok-work.ensures.some) c.in_ok-work.ensures.work) in
     let few = few_for (g.W.Indexed.IsWorkOf b.settings) g.W.Indexed.keys_in (g.met.W.Indexed.few b.settings) (slot_of b.state (i + 1)).change work c.in_ok-work.ensures.work in
     let pushed = c.in_ok-push.ensures.items in
     record {

@@ -1,55 +1,50 @@
-use Rattle.std.proofs.Common.{◌≡◌, ◌<◌, ◌≤◌, ◌+◌, ◌-◌, length, map, arith, refl, sym, ap, ◌∙◌, subst, Some, None, set, rules, is_none}
+use Rattle.std.proofs.Common.{◌+◌, ◌-◌, ◌%◌, ◌^◌, ◌<◌, [], length, arith, refl, sym, ap, subst, None, is_none}
 use Rattle.std.specs.Arc.{arc_value}
-use Rattle.std.proofs.lemmas.List.{length-map}
 use Rattle.cq_history.specs.declared.event.Event.TheVariants as event
-use Rattle.cq_history.specs.State.{State, Slot, is_done, slot_of}
+use Rattle.cq_history.specs.State.{Slot, IsTakenBy}
+use Rattle.cq_kept.specs.Accepted.{Accepted}
+use Rattle.cq_board.specs.Boards.{BoardOk}
+use Rattle.cq_kept.specs.Slots.{slot_at, state_from}
 use Rattle.cq_board.specs.Stands.{BoardState}
 use Rattle.cq_board.proofs.Adding.{Adds_from}
-use Rattle.cq_board.specs.Slots.{slot_from}
-use Rattle.cq_board.specs.Slots.{state_from}
-use Rattle.cq_board.proofs.SlotLists.{slot_read, held_ok, changes_stay, ready_grows, back_state}
-use Rattle.cq_board.proofs.OneMore.{board_with}
-use Rattle.cq_board.proofs.Freeing.{room_to_give}
-use Rattle.cq_board.specs.declared.kept.Kept.{Kept}
+use Rattle.cq_board.proofs.OneMore.{board_with, room_enough}
+use Rattle.cq_board.proofs.SlotLists.{undone_kept, undone_behind, held_grows}
+use Rattle.cq_board.proofs.Undoing.{undone-set_same}
 use Rattle.cq_board.proofs.board.Board.back.Goals as goal
 
+-- the room is that of the limit: all behind the floor are kept, and no more than the limit are
 pub note_given_back-requires : goal.note_given_back-requires
 note_given_back-requires g c =
-    let slots = c.self.inside.slots.items in
-    let within : c.args.change - 1 < length slots = omega (arith, c.if-change-eq0.false, c.if-change-len.false, c.len-else-change-eq0.ensures, c.self.inside.slots.ok.0) in
-    let holder : c.index-else-is_done.result.now.holder ≡ Some c.args.by = search rules in
-    let taken = ap (λ (s : Slot). is_none s.holder) (slot_read slots (c.args.change - 1) c.index-else-is_done.result.now within c.index-else-is_done.ensures) ∙ ap is_none holder in
-    let can = c.self.invariant.kept.may_take in
-    omega (arith, room_to_give (map slot_from slots) c.self.inside.free can (c.args.change - 1) (omega (arith, within, length-map slots (slot_from {W = g.row.W.Denot}))) taken, can.within, c.self.invariant.kept.few_slots, c.self.invariant.kept.room, length-map slots (slot_from {W = g.row.W.Denot}))
+    let a : Accepted = c.self.inside.changes in
+    let taken : IsTakenBy (state_from a.slots 0 0 []) c.args.change c.args.by = c.is_taken_by.ensures.0 c.if-not-is_taken_by.false in
+    record {
+      behind = undone_behind a.slots a.floor c.args.change (omega (arith, c.self.invariant.in_order)) taken.0;
+      within = omega (arith, taken.0.0.0, taken.0.0.1);
+      held = ap is_none taken.1;
+      free = c.self.invariant.may_take;
+      room = room_enough (g.W.Indexed.IsWorkOf c.self.inside.changes.settings) c.self.inside.changes.settings c.self.inside.changes.slots c.self.inside.changes.floor c.self.inside.undone c.self.inside.free c.self.inside.published c.self.inside.listed (arc_value c.self.inside.listing) c.self.inside.views.items c.self.invariant;
+    }
+
+pub hold-requires : goal.hold-requires
+hold-requires g c =
+    let a : Accepted = c.self.inside.changes in
+    let taken : IsTakenBy (state_from a.slots 0 0 []) c.args.change c.args.by = c.is_taken_by.ensures.0 c.if-not-is_taken_by.false in
+    undone_kept a.slots a.floor c.args.change (omega (arith, c.self.invariant.in_order)) taken.0
 
 pub invariant_of-self : goal.invariant_of-self
 invariant_of-self g c =
-    let slots = c.self.inside.slots.items in
-    let within : c.args.change - 1 < length slots = omega (arith, c.if-change-eq0.false, c.if-change-len.false, c.len-else-change-eq0.ensures, c.self.inside.slots.ok.0) in
-    let holder : c.index-else-is_done.result.now.holder ≡ Some c.args.by = search rules in
-    let taken = ap (λ (s : Slot). is_none s.holder) (slot_read slots (c.args.change - 1) c.index-else-is_done.result.now within c.index-else-is_done.ensures) ∙ ap is_none holder in
-    let k = c.index_mut-kept.result.now in
-    let j : Kept g.row.W.Denot = record { change = k.change; work = k.work; holder = None } in
-    board_with (g.W.Indexed.IsWorkOf c.self.inside.settings) c.self.inside.settings slots (set slots (c.args.change - 1) j) c.self.inside.there c.self.inside.undone c.self.inside.undone c.self.inside.text_bytes c.self.inside.free c.note_given_back.new.free c.self.inside.published c.self.inside.listed (arc_value c.self.inside.listing) c.self.inside.views.items
-    c.self.invariant
-    (held_ok (g.W.Indexed.IsWorkOf c.self.inside.settings) c.self.inside.settings slots c.self.inside.undone c.self.inside.text_bytes c.self.inside.free c.note_given_back.new.free (c.args.change - 1) k None within c.index_mut-kept.ensures.value
-    (c.note_given_back.ensures.given (map slot_from slots) (slot_from j) c.self.invariant.kept.may_take (omega (arith, within, length-map slots (slot_from {W = g.row.W.Denot}))) taken refl)
-    c.note_given_back.ensures.room
-    c.self.invariant.kept)
-    (changes_stay slots (c.args.change - 1) k j within c.index_mut-kept.ensures.value refl)
-    (ready_grows slots (c.args.change - 1) k j within c.index_mut-kept.ensures.value (λ h. h))
+    let a : Accepted = c.self.inside.changes in
+    let taken : IsTakenBy (state_from a.slots 0 0 []) c.args.change c.args.by = c.is_taken_by.ensures.0 c.if-not-is_taken_by.false in
+    let slot : Slot = record { change = (slot_at a.slots c.args.change).change; finished = (slot_at a.slots c.args.change).finished; holder = None } in
+    subst (λ (b : Accepted). BoardOk (g.W.Indexed.IsWorkOf b.settings) b c.self.inside.undone c.note_given_back.new.free c.self.inside.published c.self.inside.listed (arc_value c.self.inside.listing) c.self.inside.views.items) (sym c.hold.ensures)
+    (board_with (g.W.Indexed.IsWorkOf c.self.inside.changes.settings) c.self.inside.changes.settings c.self.inside.changes.slots c.self.inside.changes.floor c.self.inside.undone c.self.inside.free c.self.inside.published c.self.inside.listed (arc_value c.self.inside.listing) c.self.inside.views.items c.self.invariant c.args.change slot c.self.inside.undone c.note_given_back.new.free refl
+    (undone-set_same a.slots c.self.inside.undone c.self.invariant.not_done (c.args.change - 1) slot (omega (arith, taken.0.0.0, taken.0.0.1)) refl)
+    (c.note_given_back.ensures.given slot refl) c.note_given_back.ensures.room (held_grows a.slots c.args.change None))
 
 pub returns-clause-adds : goal.returns-clause-adds
 returns-clause-adds g c =
-    let within : c.args.change - 1 < length c.self.inside.slots.items = omega (arith, c.if-change-eq0.false, c.if-change-len.false, c.len-else-change-eq0.ensures, c.self.inside.slots.ok.0) in
-    let number : c.args.change ≡ c.args.change - 1 + 1 = omega (arith, c.if-change-eq0.false) in
-    let S : State = state_from c.self.inside.slots.items c.self.inside.published c.self.inside.floor c.self.inside.views.items in
-    let here : slot_of S c.args.change ≡ slot_from c.index.result.now = slot_read c.self.inside.slots.items (c.args.change - 1) c.index.result.now within c.index.ensures in
-    let there : slot_of S c.args.change ≡ slot_from c.index-else-is_done.result.now = slot_read c.self.inside.slots.items (c.args.change - 1) c.index-else-is_done.result.now within c.index-else-is_done.ensures in
-    let holder : c.index-else-is_done.result.now.holder ≡ Some c.args.by = search rules in
-    let most : c.args.change ≤ length (map (slot_from {W = g.row.W.Denot}) c.self.inside.slots.items) = omega (arith, number, within, length-map c.self.inside.slots.items (slot_from {W = g.row.W.Denot})) in
-    let least : 0 < c.args.change = omega (arith, number) in
-    let by : c.args.by < length c.args.self.now.state.views = subst (λ (b : BoardState). c.args.by < length b.state.views) c.self.view_is (omega (arith, c.if-by-len.false, c.len.ensures)) in
-    Adds_from c.self.inside.settings S _ c.self.inside.events _ c.args.self.now _ (event.Back c.args.by c.args.change) c.self.view_is refl refl
-    (back_state c.self.inside.slots.items c.self.inside.published c.self.inside.floor c.self.inside.views.items (c.args.change - 1) c.args.by c.args.change c.index_mut-kept.result.now within c.index_mut-kept.ensures.value number)
-    by (((least, most), ap is_done here ∙ sym c.is_done.ensures ∙ c.if-is_done.false), ap (λ (x : Rattle.cq_history.specs.State.Slot). x.holder) there ∙ holder) tt
+    let a : Accepted = c.self.inside.changes in
+    let taken : IsTakenBy (state_from a.slots 0 0 []) c.args.change c.args.by = c.is_taken_by.ensures.0 c.if-not-is_taken_by.false in
+    Adds_from a.settings (state_from c.self.inside.changes.slots c.self.inside.published c.self.inside.changes.floor c.self.inside.views.items) _ c.self.inside.events _ c.args.self.now _ (event.Back c.args.by c.args.change) c.self.view_is
+    (ap (λ (b : Accepted). let x : BoardState = record { settings = b.settings; state = state_from b.slots c.self.inside.published b.floor c.self.inside.views.items; events = (c.self.inside.events + 1) % 2 ^ 64 } in x) c.hold.ensures)
+    refl refl (subst (λ (b : BoardState). c.args.by < length b.state.views) c.self.view_is (omega (arith, c.if-by-len.false))) taken tt

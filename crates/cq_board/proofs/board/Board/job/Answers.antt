@@ -1,15 +1,18 @@
-use Rattle.std.proofs.Common.{◌<◌, ◌-◌, length, sym, subst, arith}
-use Rattle.std.proofs.lemmas.List.{length-map}
-use Rattle.cq_history.specs.State.{IsAccepted}
+use Rattle.std.proofs.Common.{sym, ap, subst, arith}
+use Rattle.cq_history.specs.State.{Slot, IsAccepted}
+use Rattle.cq_base.specs.Changes.{IsSoundChange}
+use Rattle.cq_kept.specs.Slots.{change_of, state_from}
 use Rattle.cq_board.specs.Stands.{BoardState}
-use Rattle.cq_board.specs.Slots.{slot_from, change_of, state_from}
-use Rattle.cq_board.proofs.Sounding.{kept_sound, job_text}
+use Rattle.cq_board.proofs.Sounding.{slot_sound, job_text}
 use Rattle.cq_board.proofs.board.Board.job.Goals as goal
 
-pub returns-clause-text : goal.returns-clause-text
-returns-clause-text g c =
-    let slots = c.self.inside.slots.items in
+pub undone_at-requires : goal.undone_at-requires
+undone_at-requires g c = omega (arith, c.self.invariant.in_order)
+
+pub returns-in_ok-job_of-in-Some-clause-text : goal.returns-in_ok-job_of-in-Some-clause-text
+returns-in_ok-job_of-in-Some-clause-text g c =
+    let slots = c.self.inside.changes.slots in
     let P : BoardState → Type 0 = λ b. IsAccepted b.state c.args.change in
-    let accepted : IsAccepted (state_from slots c.self.inside.published c.self.inside.floor c.self.inside.views.items) c.args.change = subst P (sym c.self.view_is) c.requires in
-    let within : c.args.change - 1 < length slots = omega (arith, accepted.0, accepted.1, length-map slots (slot_from {W = g.row.W.Denot})) in
-    job_text (change_of c.index-kept.result.now.change) c.in_ok-job_of.field-0 (kept_sound slots (c.args.change - 1) c.index-kept.result.now c.self.invariant.sound within c.index-kept.ensures) c.in_ok-job_of.ensures.job
+    let accepted : IsAccepted (state_from c.self.inside.changes.slots c.self.inside.published c.self.inside.changes.floor c.self.inside.views.items) c.args.change = subst P (sym c.self.view_is) c.requires in
+    let sound = subst IsSoundChange (sym (ap (λ (s : Slot). s.change) c.in-Some.ensures.slot)) (slot_sound slots c.args.change c.self.invariant.sound accepted) in
+    job_text (change_of c.in-Some.kept.now.change) c.in_ok-job_of-in-Some.field-0 sound c.in_ok-job_of-in-Some.ensures.job

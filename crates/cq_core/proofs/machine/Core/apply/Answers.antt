@@ -10,7 +10,7 @@ use Rattle.cq_core.specs.declared.step.Outcome.TheVariants as outcome
 use Rattle.cq_core.specs.Cores.{CoreState, AreNumbered}
 use Rattle.cq_core.specs.Steps.{IsStepped, HasNext, Counts, CountsSome}
 use Rattle.cq_core.specs.declared.step.Step.TheVariants as step
-use Rattle.cq_core.proofs.Applying.{HasApplied, IsNextOf, next_of, has_next, stands_applied, takes_applied}
+use Rattle.cq_core.proofs.Applying.{floor_passed, HasApplied, IsNextOf, next_of, has_next, stands_applied, takes_applied}
 use Rattle.cq_core.proofs.Stepping.{core}
 use Rattle.cq_core.proofs.machine.Core.apply.Given as Given
 use Rattle.cq_core.proofs.machine.Core.apply.Goals as goal
@@ -19,12 +19,18 @@ use Rattle.cq_core.proofs.machine.Core.apply.Goals as goal
 next_here : (g : Given.Over) (c : goal.Joined-work-2 g) → IsNextOf g.W.Indexed.IsWorkOf c.self.inside.board c.self.inside.shards.items c.args.shard c.applied-applied.result c.index_mut-shard.result.now (option_copied c.lent.result)
 next_here g c =
     next_of g.W.Indexed.IsWorkOf c.self.inside.board c.self.inside.shards.items c.args.shard c.applied-applied.result c.index.result.now c.index_mut-shard.result.now c.in_ok-work.work (option_copied c.lent.result) c.self.invariant.0.1.numbered
-    (subst (λ (x : CoreState). c.args.shard < x.board.settings.shards) (sym c.self.view_is) c.requires) c.index.ensures c.index_mut-shard.ensures.value c.applied-applied.ensures (let e = c.ready.ensures in omega (arith, e, c.if-applied-ready.false)) c.in_ok-work.ensures.some c.in_ok-work.ensures.work c.lent.ensures
+    (subst (λ (x : CoreState). c.args.shard < x.board.settings.shards) (sym c.self.view_is) c.requires) c.index.ensures c.index_mut-shard.ensures.value c.applied-applied.ensures
+    (floor_passed (HasWindow g.W.Indexed.keys_in g.W.Indexed.IsWorkOf c.self.inside.board.settings) c.self.inside.board c.self.inside.shards.items c.self.invariant.0.0 c.self.invariant.0.1 c.args.shard c.index.result.now
+    (let mine = subst (λ (x : CoreState). c.args.shard < x.board.settings.shards) (sym c.self.view_is) c.requires in let all = c.self.invariant.0.1.numbered.number_is in omega (arith, mine, all)) c.index.ensures)
+    (let e = c.ready.ensures in omega (arith, e, c.if-applied-ready.false)) c.in_ok-work.ensures.some c.in_ok-work.ensures.work c.lent.ensures
 
 next_there : (g : Given.Over) (c : goal.Joined-work g) → IsNextOf g.W.Indexed.IsWorkOf c.self.inside.board c.self.inside.shards.items c.args.shard c.applied-applied.result c.index_mut-shard.result.now (option_copied c.lent.result)
 next_there g c =
     next_of g.W.Indexed.IsWorkOf c.self.inside.board c.self.inside.shards.items c.args.shard c.applied-applied.result c.index.result.now c.index_mut-shard.result.now c.in_ok-work.work (option_copied c.lent.result) c.self.invariant.0.1.numbered
-    (subst (λ (x : CoreState). c.args.shard < x.board.settings.shards) (sym c.self.view_is) c.requires) c.index.ensures c.index_mut-shard.ensures.value c.applied-applied.ensures (let e = c.ready.ensures in omega (arith, e, c.if-applied-ready.false)) c.in_ok-work.ensures.some c.in_ok-work.ensures.work c.lent.ensures
+    (subst (λ (x : CoreState). c.args.shard < x.board.settings.shards) (sym c.self.view_is) c.requires) c.index.ensures c.index_mut-shard.ensures.value c.applied-applied.ensures
+    (floor_passed (HasWindow g.W.Indexed.keys_in g.W.Indexed.IsWorkOf c.self.inside.board.settings) c.self.inside.board c.self.inside.shards.items c.self.invariant.0.0 c.self.invariant.0.1 c.args.shard c.index.result.now
+    (let mine = subst (λ (x : CoreState). c.args.shard < x.board.settings.shards) (sym c.self.view_is) c.requires in let all = c.self.invariant.0.1.numbered.number_is in omega (arith, mine, all)) c.index.ensures)
+    (let e = c.ready.ensures in omega (arith, e, c.if-applied-ready.false)) c.in_ok-work.ensures.some c.in_ok-work.ensures.work c.lent.ensures
 
 applied_here : (g : Given.Over) (c : goal.Joined-work-2 g) → HasApplied (HasWindow g.W.Indexed.keys_in g.W.Indexed.IsWorkOf c.self.inside.board.settings) c.self.inside.board c.self.inside.shards.items c.args.shard c.index_mut-shard.result.now c.apply.new.self
 applied_here g c =

@@ -9,10 +9,10 @@ invariant_of-self c =
     let s = c.self.inside in
     let own : Contents = record { shard = s.shard; shards = s.shards; applied = s.store.applied; floor = s.floor; entries = s.store.entries } in
     subst (λ (t : Stored). let v : Contents = record { shard = s.shard; shards = s.shards; applied = t.applied; floor = c.args.floor; entries = t.entries } in IsShard v) (sym c.sweep.ensures)
-    (swept_is_shard own c.args.floor c.args.dead.now (subst (λ (v : Contents). c.args.floor ≤ v.applied) (sym c.self.view_is) c.requires.high) c.self.invariant)
+    (swept_is_shard own c.args.floor c.args.keep.now (subst (λ (v : Contents). c.args.floor ≤ v.applied) (sym c.self.view_is) c.requires.high) c.self.invariant)
 
 pub returns : goal.returns
 returns c =
     let s = c.self.inside in
     ap (λ (t : Stored). let v : Contents = record { shard = s.shard; shards = s.shards; applied = t.applied; floor = c.args.floor; entries = t.entries } in v) c.sweep.ensures
-    ∙ ap (swept c.args.floor c.args.dead.now) c.self.view_is
+    ∙ ap (swept c.args.floor c.args.keep.now) c.self.view_is

@@ -7,32 +7,30 @@ use Rattle.cq_shard.proofs.store.Store.sweep.Goals as goal
 pub invariant_of-self : goal.invariant_of-self
 invariant_of-self c =
     let s = c.self.inside in
-    let dead = c.args.dead.now in
     let taken = c.take_out-taken in
     let gone = c.saturating_add-self-inside.result in
     let sum = c.saturating_add-self-inside.ensures in
     subst (λ (ns : List ℕ). IsStore s.applied ns s.runs gone) (sym taken.ensures.left)
-    (store_marked s.applied dead s.table s.runs s.gone gone c.self.invariant (λ none.
+    (store_marked s.applied c.args.floor c.args.keep.now s.table s.runs s.gone gone c.self.invariant (λ none.
     let nothing : taken.result ≡ 0 = omega (arith, sum, none) in
     (omega (arith, sum, none), sym taken.ensures.left ∙ taken.ensures.none nothing)))
 
 pub invariant_of-self-2 : goal.invariant_of-self-2
 invariant_of-self-2 c =
     let s = c.self.inside in
-    let dead = c.args.dead.now in
     let taken = c.take_out-taken in
     subst (λ (es : List Entry). IsStore s.applied taken.new.self es 0) (sym c.keep.ensures)
     (subst (λ (ns : List ℕ). IsStore s.applied ns (those_of ns s.runs) 0) (sym taken.ensures.left)
-    (store_cleared s.applied dead s.table s.runs s.gone c.self.invariant))
+    (store_cleared s.applied c.args.floor c.args.keep.now s.table s.runs s.gone c.self.invariant))
 
 pub returns-then-self : goal.returns-then-self
 returns-then-self c =
     let s = c.self.inside in
     let taken = c.take_out-taken in
-    left_marked s.applied c.args.dead.now s.table taken.new.self s.runs c.args.self.now c.self.view_is taken.ensures.left
+    left_marked s.applied c.args.floor c.args.keep.now s.table taken.new.self s.runs c.args.self.now c.self.view_is taken.ensures.left
 
 pub returns : goal.returns
 returns c =
     let s = c.self.inside in
     let taken = c.take_out-taken in
-    left_cleared s.applied c.args.dead.now s.table taken.new.self s.runs c.keep.new.self c.args.self.now c.self.view_is taken.ensures.left c.keep.ensures
+    left_cleared s.applied c.args.floor c.args.keep.now s.table taken.new.self s.runs c.keep.new.self c.args.self.now c.self.view_is taken.ensures.left c.keep.ensures

@@ -1,7 +1,7 @@
 use Rattle.std.proofs.Common.{◌≡◌, ◌<◌, refl, sym, subst, arith, rules}
+use Rattle.cq_history.specs.Gone.{AreKeptPuts}
 use Rattle.cq_history.specs.State.{accepted}
 use Rattle.cq_board.specs.Answers.{greatest_floor}
-use Rattle.cq_board.specs.Sweeping.{AreSupersededBetween}
 use Rattle.cq_shared.specs.SharedPasses.{state_of}
 use Rattle.cq_shared.proofs.Calling.{calls_still, calls_end, same_itself}
 use Rattle.cq_shared.proofs.shared.Shared.sweep.Goals as goal
@@ -26,8 +26,8 @@ sweep_shards-requires g c =
     let lt : c.load-above.result < c.in_ok-floor.floor = let no = c.if-floor-above.false in omega (arith, no) in
     record {
       of = (c.raise_floor.ensures.calls).of;
-      floor = (lt, c.in_ok-floor.ensures.floor);
-      dead = subst (AreSupersededBetween (accepted a.seen) c.load-above.result c.in_ok-floor.floor) (sym c.deref.ensures.value) (c.in_ok-floor.ensures.dead lt);
+      floor = c.in_ok-floor.ensures.floor;
+      keep = subst (AreKeptPuts (accepted a.seen) c.in_ok-floor.floor) (sym c.deref.ensures.value) (c.in_ok-floor.ensures.keep lt);
     }
 
 pub returns-clause-swept : goal.returns-clause-swept

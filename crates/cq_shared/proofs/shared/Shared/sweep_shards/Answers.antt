@@ -1,6 +1,6 @@
 use Rattle.std.proofs.Common.{sym, ap, ◌∙◌, subst, arith}
+use Rattle.cq_history.specs.Gone.{AreKeptPuts}
 use Rattle.cq_history.specs.State.{accepted}
-use Rattle.cq_board.specs.Sweeping.{AreSupersededBetween}
 use Rattle.cq_shared.specs.SharedPasses.{state_of}
 use Rattle.cq_shared.proofs.shared.Shared.sweep_shards.Goals as goal
 
@@ -11,6 +11,6 @@ sweep_shard-requires g c =
     record {
       of = inv.of;
       number = (let n = c.requires.of.shards in let lt = c.shards-test.true in omega (arith, n, lt));
-      floor = (c.requires.floor.0, c.requires.floor.1 ∙ ap (λ l. (state_of hub l).floor) (sym inv.seen));
-      dead = subst (λ l. AreSupersededBetween (accepted l) c.args.above c.args.floor c.args.dead.now) (sym inv.seen) c.requires.dead;
+      floor = c.requires.floor ∙ ap (λ l. (state_of hub l).floor) (sym inv.seen);
+      keep = subst (λ l. AreKeptPuts (accepted l) c.args.floor c.args.keep.now) (sym inv.seen) c.requires.keep;
     }

@@ -1,5 +1,6 @@
 use Rattle.std.proofs.Common.{◌≡◌, ◌≤◌, sym, ap, ◌∙◌, subst, subst₂, append-nil}
 use Rattle.cq_history.specs.State.{State, accepted, changes_in, ready}
+use Rattle.cq_history.proofs.Bounds.{in_order}
 use Rattle.cq_history.proofs.Prefixes.{changes_in-state}
 use Rattle.cq_shared.specs.declared.deed.Deed.TheVariants as deed
 use Rattle.cq_shared.specs.Advancing.{AreWorksFrom}
@@ -12,7 +13,11 @@ finished_works-works-requires g c =
     let e = c.enter_board-board.ensures in
     let m = c.enter_board-board.new.pass in
     let hub = c.args.self.now in
-    record { done = subst (λ (s : State). c.args.to ≤ ready s) (sym (state_is (cells_of hub).about m.seen c.enter_board-board.result e.board)) (ready_seen hub (settings_of hub) c.args.pass.now.seen m.seen e.seen e.of.law.lawful c.args.to c.requires.done) }
+    record {
+      floor = subst (λ (s : State). s.floor ≤ c.published-base.result) (sym (state_is (cells_of hub).about m.seen c.enter_board-board.result e.board))
+          (let low = (in_order (settings_of hub) (callers_of hub) m.seen e.of.law.lawful).floor in let base = c.published-base.ensures ∙ ap (λ (s : State). s.published) (state_is (cells_of hub).about m.seen c.enter_board-board.result e.board) in omega (arith, low, base));
+      done = subst (λ (s : State). c.args.to ≤ ready s) (sym (state_is (cells_of hub).about m.seen c.enter_board-board.result e.board)) (ready_seen hub (settings_of hub) c.args.pass.now.seen m.seen e.seen e.of.law.lawful c.args.to c.requires.done);
+    }
 
 pub returns-clause-calls : goal.returns-clause-calls
 returns-clause-calls g c =

@@ -1,6 +1,0 @@
-use Rattle.std.proofs.Common.{◌∙◌}
-use Rattle.cq_board.proofs.Places.{there_is}
-use Rattle.cq_board.proofs.presence.Presence.has.Goals as goal
-
-pub returns : goal.returns
-returns c changes is = c.contains_key.ensures ∙ there_is changes c.args.self.now is c.args.file.now

@@ -1,0 +1,23 @@
+ghost use Rattle.std.specs.Prelude.{◌≡◌, []};
+ghost use Rattle.cq_board.specs.Answers.{refusal_of};
+ghost use Rattle.cq_kept.specs.Slots.{change_of, state_from};
+
+use crate::Refused;
+use cq_kept::{Changes, Stored};
+use cq_shard::Indexed;
+
+/// Why a change is not accepted, if it is not.
+pub fn refusal<W: Indexed>(changes: &Changes<W>, change: &Stored) -> Option<Refused>
+    ensures { result ≡ refusal_of changes.now.settings (state_from changes.now.slots 0 changes.now.floor []) (change_of change.now) }
+{
+    if changes.is_absent(change) {
+        return Some(Refused::Absent);
+    }
+    if changes.is_full() {
+        return Some(Refused::FullChanges);
+    }
+    if changes.is_long(change) {
+        return Some(Refused::FullText);
+    }
+    None
+}

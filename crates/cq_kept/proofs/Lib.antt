@@ -1,0 +1,9 @@
+pub mod Changing
+pub mod FileNumbers
+pub mod Letting
+pub mod Found
+pub mod Gates
+pub mod Holding
+pub mod Noting
+pub mod Places
+pub mod PutNumbers

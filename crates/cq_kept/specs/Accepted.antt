@@ -1,0 +1,90 @@
+-- What a board holds of the accepted changes.
+use Rattle.std.specs.Prelude.{◌≡◌, ℕ, ◌^◌, ◌<◌, ◌≤◌, nat_eq, nat_le, nat_lt, Bool, false, not, ◌&&◌, List, [], length, sum_by, filter, All, Contains, Option, Some}
+use Rattle.std.specs.List.{list_any}
+use Rattle.std.specs.BTreeMap.{BTreeMap, keys, values, get, is_at}
+use Rattle.std.specs.Map.{set_value}
+use Rattle.std.specs.Ordering.{nat_cmp}
+use Rattle.std.specs.declared.sync.Arc.{Arc}
+use Rattle.std.specs.declared.alloc.Global.{Global}
+use Rattle.cq_base.specs.declared.settings.Settings.{Settings}
+use Rattle.cq_base.specs.declared.change.Change.{Change}
+use Rattle.cq_base.specs.declared.lang.Lang.{Lang}
+use Rattle.cq_history.specs.Changes.{text_len}
+use Rattle.cq_history.specs.Gone.{IsKept, kept_numbers}
+use Rattle.cq_history.specs.Lawful.{is_absent, is_full, is_long}
+use Rattle.cq_history.specs.State.{Slot}
+use Rattle.cq_kept.specs.declared.kept.Kept.{Kept}
+use Rattle.cq_kept.specs.declared.over.Over.{Over}
+use Rattle.cq_kept.specs.declared.presence.Presence.{Presence}
+use Rattle.cq_kept.specs.Presence.{IsPresence}
+use Rattle.cq_kept.specs.Slots.{slot_from, slot_at, change_of, changes_of, state_from, IsWorked}
+
+-- the settings, the slots of all accepted changes, and the floor
+pub record Accepted : Type 0 where
+  pub settings : Settings
+  pub slots : List Slot
+  pub floor : ℕ
+
+abbrev pub accepted_from : Settings → List Slot → ℕ → Accepted
+accepted_from settings slots floor = record { settings = settings; slots = slots; floor = floor }
+
+-- the change of this number is held
+abbrev pub Holds : Accepted → ℕ → Type 0
+Holds a number = IsKept (changes_of a.slots) a.floor number
+
+-- nothing is against accepting the change
+abbrev pub MayAccept : Accepted → Change → Type 0
+MayAccept a change = (is_absent (state_from a.slots 0 a.floor []) change ≡ false) × (is_full a.settings (state_from a.slots 0 a.floor []) ≡ false) × (is_long a.settings (state_from a.slots 0 a.floor []) change ≡ false)
+
+-- the next change that is held behind a number
+pub record IsNextHeld (a : Accepted) (after number : ℕ) : Type 0 where
+  pub behind : after < number
+  pub held : Holds a number
+  pub first : (r : ℕ) → after < r → r < number → Holds a r → ⊥
+
+-- whether one of them is this change, made over by one numbered at most the floor
+abbrev pub is_over_at : List Over → ℕ → ℕ → Bool
+is_over_at all floor number = list_any (λ (o : Over). nat_le o.by floor && nat_eq o.number number) all
+
+-- the numbers of those that are not over at the floor
+abbrev pub not_over : List Over → ℕ → List ℕ → List ℕ
+not_over all floor numbers = filter (λ (n : ℕ). not (is_over_at all floor n)) numbers
+
+-- those that are over behind the floor alone
+abbrev pub over_behind : ℕ → List Over → List Over
+over_behind floor all = filter (λ (o : Over). nat_lt floor o.by) all
+
+module _ {W : Type 0} where
+  -- how many bytes the texts have
+  abbrev pub text_in : BTreeMap ℕ (Kept W) → ℕ
+  text_in kept = sum_by (λ (k : Kept W). text_len (change_of k.change)) (values kept)
+
+  -- the change of a number has another holder, where it was held
+  abbrev pub IsHeldBy : ℕ → Option ℕ → BTreeMap ℕ (Kept W) → BTreeMap ℕ (Kept W) → Type 0
+  IsHeldBy number holder old new = (was : Kept W) → get nat_cmp old number ≡ Some was → new.entries ≡ set_value (is_at (nat_cmp number)) old.entries (record { change = was.change; work = was.work; holder = holder })
+
+  -- it has this work, where it was held
+  abbrev pub IsWorkedAs : ℕ → Arc W Global → BTreeMap ℕ (Kept W) → BTreeMap ℕ (Kept W) → Type 0
+  IsWorkedAs number work old new = (was : Kept W) → get nat_cmp old number ≡ Some was → new.entries ≡ set_value (is_at (nat_cmp number)) old.entries (record { change = was.change; work = Some work; holder = was.holder })
+
+  -- nothing is there that was not there before
+  abbrev pub IsPartOf : BTreeMap ℕ (Kept W) → BTreeMap ℕ (Kept W) → Type 0
+  IsPartOf old new = (e : ℕ × Kept W) → Contains new.entries e → Contains old.entries e
+
+  -- the slot of the number, with its work where it is done
+  abbrev pub IsHeldAs : (Lang → List ℕ → W → Type 0) → List Slot → ℕ × Kept W → Type 0
+  IsHeldAs IsWork slots e = (slot_from e.1 ≡ slot_at slots e.0) × IsWorked IsWork e.1
+
+  -- by their numbers exactly the changes that the floor keeps
+  pub record HoldsKept (IsWork : Lang → List ℕ → W → Type 0) (slots : List Slot) (floor : ℕ) (kept : BTreeMap ℕ (Kept W)) : Type 0 where
+    pub numbers : keys kept ≡ kept_numbers (changes_of slots) floor
+    pub each : All (IsHeldAs IsWork slots) kept.entries
+
+  pub record IsHeld (IsWork : Lang → List ℕ → W → Type 0) (settings : Settings) (slots : List Slot) (accepted floor : ℕ) (kept : BTreeMap ℕ (Kept W)) (there : Presence) (bytes : ℕ) : Type 0 where
+    pub holds : HoldsKept IsWork slots floor kept
+    pub number_is : accepted ≡ length slots
+    pub few : accepted ≤ 2 ^ 60
+    pub passed : floor ≤ accepted
+    pub presence : IsPresence (changes_of slots) floor there
+    pub text_bytes : bytes ≡ text_in kept
+    pub few_bytes : bytes ≤ settings.text_limit

@@ -1,0 +1,4 @@
+pub mod Accepted
+pub mod Over
+pub mod Presence
+pub mod Slots

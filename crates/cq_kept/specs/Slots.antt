@@ -1,0 +1,48 @@
+-- The slot that is kept of a change, and the slots of all changes.
+use Rattle.std.specs.Prelude.{ℕ, ◌-◌, true, List, [], ◌∷◌, map, is_some, Option, IfSome, slice_index_or, slice_set}
+use Rattle.std.specs.Arc.{arc_value}
+use Rattle.cq_base.specs.declared.change.Change.{Change}
+use Rattle.cq_base.specs.declared.change.Change.TheVariants as change
+use Rattle.cq_base.specs.declared.lang.Lang.{Lang}
+use Rattle.cq_history.specs.Changes.{IsWorkFor}
+use Rattle.cq_history.specs.State.{State, Slot, no_slot}
+use Rattle.cq_kept.specs.declared.kept.Stored.{Stored}
+use Rattle.cq_kept.specs.declared.kept.Stored.TheVariants.{Put, Drop, Gate}
+use Rattle.cq_kept.specs.declared.kept.Kept.{Kept}
+
+-- the change as it is accepted
+abbrev pub change_of : Stored → Change
+change_of (Put file lang text) = change.Put (arc_value file.project) (arc_value file.path) lang (arc_value text)
+change_of (Drop file) = change.Drop (arc_value file.project) (arc_value file.path)
+change_of (Gate key conditions) = change.Gate (arc_value key.project) (arc_value conditions)
+
+module _ {W : Type 0} where
+  abbrev pub slot_from : Kept W → Slot
+  slot_from k = record { change = change_of k.change; finished = is_some k.work; holder = k.holder }
+
+  abbrev pub IsWorked : (Lang → List ℕ → W → Type 0) → Kept W → Type 0
+  IsWorked IsWork k = IfSome k.work (λ work. IsWorkFor IsWork (change_of k.change) (arc_value work))
+
+abbrev pub changes_of : List Slot → List Change
+changes_of slots = map (λ (slot : Slot). slot.change) slots
+
+abbrev pub state_from : List Slot → ℕ → ℕ → List (Option ℕ) → State
+state_from slots published floor views = record { slots = slots; published = published; floor = floor; views = views }
+
+-- the slot of the change with this number
+abbrev pub slot_at : List Slot → ℕ → Slot
+slot_at slots number = slice_index_or slots (number - 1) no_slot
+
+-- the slots, where the change with this number has another holder
+abbrev pub with_holder : List Slot → ℕ → Option ℕ → List Slot
+with_holder slots number holder = slice_set slots (number - 1) (record { change = (slot_at slots number).change; finished = (slot_at slots number).finished; holder = holder })
+
+-- the slots, where the work of the change with this number is done
+abbrev pub with_work : List Slot → ℕ → List Slot
+with_work slots number = slice_set slots (number - 1) (record { change = (slot_at slots number).change; finished = true; holder = (slot_at slots number).holder })
+
+-- the numbers of the files that a change of this number puts
+abbrev pub put_by : Change → ℕ → List ℕ
+put_by (change.Put project path lang text) r = r ∷ []
+put_by (change.Drop project path) r = []
+put_by (change.Gate project conditions) r = []

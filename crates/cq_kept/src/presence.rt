@@ -1,0 +1,65 @@
+ghost use Rattle.std.specs.Prelude.{◌≡◌, [], ℕ, List, IfOk, OnOk, OnErr};
+ghost use Rattle.cq_base.specs.declared.change.Change.{Change};
+ghost use Rattle.cq_kept.specs.Slots.{change_of};
+ghost use Rattle.cq_kept.specs.Presence.{IsPresence, AddsPlace, is_there};
+
+use crate::kept::{FileKey, ProjectKey, Stored};
+use crate::over::{Over, note_over};
+use cq_base::Memory;
+use std::alloc::Global;
+use std::collections::{BTreeMap, VecDeque};
+
+/// At each place where a file stands the change that put it there, the last gate of each project that has one, and the
+/// changes that are over, in the order of those that made them so.
+#[derive(Drop)]
+pub struct Presence {
+    pub puts: BTreeMap<FileKey, u64>,
+    pub gates: BTreeMap<ProjectKey, u64>,
+    pub over: VecDeque<Over>,
+}
+
+impl Presence {
+    /// No files and no gates. It takes no memory.
+    pub fn new(alloc: Global) -> Presence
+        ensures { IsPresence [] 0 result }
+    {
+        Presence {
+            puts: BTreeMap::new(alloc),
+            gates: BTreeMap::new(alloc),
+            over: VecDeque::new(alloc),
+        }
+    }
+
+    /// Whether a file stands at a place.
+    pub fn has(&self, file: &FileKey) -> bool
+        ensures { (changes : List Change) (floor : ℕ) → IsPresence changes floor self.now → result ≡ is_there changes file.now }
+    {
+        self.puts.contains_key(file)
+    }
+}
+
+/// Where files stand behind one change more, of this number, and what is over then. Where memory is refused it is as before.
+pub fn note(there: &mut Presence, number: u64, change: &Stored) -> Result<(), Memory>
+    ensures more { OnOk result (AddsPlace number (change_of change.now) there.old there.new) }
+    ensures same { OnErr result ((changes : List Change) (floor : ℕ) → IsPresence changes floor there.old → IsPresence changes floor there.new) }
+{
+    there.over.reserve(2)?;
+    match change {
+        Stored::Put { file, .. } => {
+            let key = file.shared()?;
+            let replaced = there.puts.insert(key, number)?;
+            note_over(&mut there.over, number, replaced);
+        }
+        Stored::Drop { file } => {
+            let dropped = there.puts.remove(file);
+            note_over(&mut there.over, number, dropped);
+            note_over(&mut there.over, number, Some(number));
+        }
+        Stored::Gate { key, .. } => {
+            let key = key.shared()?;
+            let replaced = there.gates.insert(key, number)?;
+            note_over(&mut there.over, number, replaced);
+        }
+    }
+    Ok(())
+}
