@@ -1,0 +1,28 @@
+-- What holds of the forms themselves.
+use Rattle.std.specs.Prelude.{◌≡◌, ◌<◌, ◌^◌, ℕ, List, ◌++◌}
+use Rattle.cq_base.specs.declared.settings.Settings.{Settings}
+use Rattle.cq_tokfile.specs.Spelling.{head, condition, token, function, counted, file, framed}
+use Rattle.cq_tokfile.specs.Sound.{IsSoundCondition, IsSoundToken, IsSoundFunction, AreCounted, IsSoundFile, IsSoundBody, IsSoundHead}
+
+-- Each sound value has one form, and no form begins another's, whatever follows.
+abbrev pub HasOneForm : {A : Type 0} → (A → List ℕ) → (A → Type 0) → Type 0
+HasOneForm {A = A} spell IsSound = (a b : A) (x y : List ℕ) → IsSound a → IsSound b → spell a ++ x ≡ spell b ++ y → (a ≡ b) × (x ≡ y)
+
+abbrev pub ConditionsHaveOneForm : Type 0
+ConditionsHaveOneForm = HasOneForm condition IsSoundCondition
+
+abbrev pub TokensHaveOneForm : Type 0
+TokensHaveOneForm = (settings : Settings) (lines : ℕ) → HasOneForm (counted token) (AreCounted (IsSoundToken settings lines))
+
+abbrev pub FunctionsHaveOneForm : Type 0
+FunctionsHaveOneForm = (lines : ℕ) → HasOneForm (counted function) (AreCounted (IsSoundFunction lines))
+
+-- of a version that eight bytes hold
+abbrev pub FilesHaveOneForm : Type 0
+FilesHaveOneForm = (settings : Settings) (version : ℕ) → version < 2 ^ 64 → HasOneForm file (IsSoundFile settings version)
+
+abbrev pub FramesHaveOneForm : Type 0
+FramesHaveOneForm = HasOneForm framed IsSoundBody
+
+abbrev pub HeadsHaveOneForm : Type 0
+HeadsHaveOneForm = (settings : Settings) → HasOneForm (head settings) (IsSoundHead settings)

@@ -1,0 +1,133 @@
+-- What may stand in a token file.
+use Rattle.std.specs.Prelude.{All, ◌≡◌, ◌≤◌, ◌<◌, ◌^◌, ℕ, ◌+◌, nat_le, ◌==◌, List, [], length, Bool, true, false, ◌&&◌, ◌||◌, not}
+use Rattle.std.specs.List.{AllByRecursion}
+use Rattle.std.specs.Str.{IsUtf8}
+use Rattle.cq_base.specs.declared.settings.Settings.{Settings}
+use Rattle.cq_base.specs.declared.change.Condition.{Condition}
+use Rattle.cq_base.specs.declared.token.Class.{Class}
+use Rattle.cq_base.specs.declared.token.Class.TheVariants as class
+use Rattle.cq_base.specs.declared.token.Spelled.{Spelled}
+use Rattle.cq_func.specs.declared.function.Function.{Function}
+use Rattle.cq_tokfile.specs.declared.head.Head.{Head}
+use Rattle.cq_work.specs.declared.work.State.{State}
+use Rattle.cq_work.specs.declared.work.State.TheVariants as states
+use Rattle.cq_tokfile.specs.Spelling.{Recorded, flag}
+
+-- a text of a token file: UTF-8, with a length that four bytes hold
+pub record IsSoundText (bytes : List ℕ) : Type 0 where
+  pub utf8 : IsUtf8 bytes
+  pub short : length bytes < 2 ^ 32
+
+-- what is in a condition has eight bytes
+pub record IsSoundCondition (c : Condition) : Type 0 where
+  pub error : c.error < 2 ^ 64
+
+-- whether tokens of this class are one token each
+abbrev pub is_ignored : Settings → Class → Bool
+is_ignored settings class.Ident = settings.ignore_ids
+is_ignored settings class.Word = false
+is_ignored settings class.Literal = settings.ignore_lits
+is_ignored settings class.Punct = false
+
+-- a token lies within 1,048,576 bytes and within the lines of its file; one of an ignored class has no text
+pub record IsSoundToken (settings : Settings) (lines : ℕ) (s : Spelled) : Type 0 where
+  pub within : s.token.start + s.token.len ≤ 1048576
+  pub first : 1 ≤ s.token.first_line
+  pub in_order : s.token.first_line ≤ s.token.last_line
+  pub last : s.token.last_line ≤ lines
+  pub last_short : s.token.last_line < 2 ^ 32
+  pub text : IsSoundText s.text
+  pub ignored : is_ignored settings s.token.class ≡ true → s.text ≡ []
+
+-- a function lies within the lines of its file
+pub record IsSoundFunction (lines : ℕ) (f : Function) : Type 0 where
+  pub name : IsSoundText f.name
+  pub first : 1 ≤ f.first
+  pub in_order : f.first ≤ f.last
+  pub last : f.last ≤ lines
+  pub last_short : f.last < 2 ^ 32
+  pub complexity : f.complexity < 2 ^ 32
+
+-- what of this is tested once a token's texts and numbers were read
+abbrev pub is_sound_token : Settings → ℕ → Spelled → Bool
+is_sound_token settings lines s =
+    nat_le (s.token.start + s.token.len) 1048576
+    && (nat_le 1 s.token.first_line
+    && (nat_le s.token.first_line s.token.last_line
+    && (nat_le s.token.last_line lines
+    && (not (is_ignored settings s.token.class) || (length s.text == 0)))))
+
+-- and of a function
+abbrev pub is_sound_function : ℕ → Function → Bool
+is_sound_function lines f = nat_le 1 f.first && (nat_le f.first f.last && nat_le f.last lines)
+
+-- a list whose number of elements four bytes hold, each of them sound
+pub record AreCounted {A : Type 0} (IsSound : A → Type 0) (xs : List A) : Type 0 where
+  pub few : length xs < 2 ^ 32
+  pub each : AllByRecursion IsSound xs
+
+-- a fault stands at a place that four bytes hold
+abbrev pub IsSoundState : State → Type 0
+IsSoundState states.Ok = Unit {0}
+IsSoundState (states.Fault at) = at < 2 ^ 32
+IsSoundState states.Large = Unit {0}
+
+-- whether the reading of a file gave its tokens
+abbrev pub has_tokens : State → Bool
+has_tokens states.Ok = true
+has_tokens (states.Fault at) = false
+has_tokens states.Large = false
+
+-- A file of a version: its change is one of those up to it, its counts and tokens are within their bounds, and it has
+-- tokens and functions only where its reading gave them.
+pub record IsSoundFile (settings : Settings) (version : ℕ) (f : Recorded) : Type 0 where
+  pub path : IsSoundText f.path
+  pub first_change : 1 ≤ f.change
+  pub last_change : f.change ≤ version
+  pub state : IsSoundState f.state
+  pub lines : f.counts.lines ≤ 1048576
+  pub ncloc : f.counts.ncloc ≤ f.counts.lines
+  pub complexity : f.counts.complexity ≤ 262145
+  pub few : length f.tokens ≤ 262144
+  pub tokens : AllByRecursion (IsSoundToken settings f.counts.lines) f.tokens
+  pub functions : AreCounted (IsSoundFunction f.counts.lines) f.functions
+  pub no_tokens : has_tokens f.state ≡ false → f.tokens ≡ []
+  pub no_functions : has_tokens f.state ≡ false → f.functions ≡ []
+
+-- what of this is tested once a file was read
+abbrev pub is_sound_file : ℕ → Recorded → Bool
+is_sound_file version f =
+    nat_le 1 f.change
+    && (nat_le f.change version
+    && (nat_le f.counts.lines 1048576
+    && (nat_le f.counts.ncloc f.counts.lines
+    && (nat_le f.counts.complexity 262145
+    && (nat_le (length f.tokens) 262144
+    && ((has_tokens f.state || (length f.tokens == 0))
+    && (has_tokens f.state || (length f.functions == 0))))))))
+
+-- what can be written of a file: four bytes hold each length
+pub record HasSpelling (f : Recorded) : Type 0 where
+  pub path : length f.path < 2 ^ 32
+  pub few_tokens : length f.tokens < 2 ^ 32
+  pub tokens : All (λ s. length s.text < 2 ^ 32) f.tokens
+  pub few_functions : length f.functions < 2 ^ 32
+  pub functions : All (λ g. length g.name < 2 ^ 32) f.functions
+
+-- a body has at most 268,435,456 bytes
+abbrev pub IsSoundBody : List ℕ → Type 0
+IsSoundBody body = length body ≤ 268435456
+
+-- a version is at most 2^60, and four bytes hold the chunk
+pub record IsSoundHead (settings : Settings) (h : Head) : Type 0 where
+  pub chunk : settings.chunk < 2 ^ 32
+  pub version : h.version ≤ 2 ^ 60
+  pub project : IsSoundText h.project
+
+-- whether the numbers of a head are those of a version and of the settings
+abbrev pub is_sound_head : Settings → ℕ → ℕ → ℕ → ℕ → Bool
+is_sound_head settings version chunk ids lits =
+    nat_le version (2 ^ 60)
+    && ((chunk == settings.chunk)
+    && ((ids == flag settings.ignore_ids)
+    && (lits == flag settings.ignore_lits)))
