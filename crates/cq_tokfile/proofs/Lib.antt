@@ -5,3 +5,5 @@ mod Appended
 mod FileForms
 mod Framed
 mod Heads
+mod InOrder
+mod Wholes

@@ -38,7 +38,7 @@ fn body_of(len: u64, bytes: &[u8]) -> Result<(&[u8], &[u8]), Unread>
 }
 
 #[tactic(auto, unfolding(crate::specs::Reading::frame_at))]
-fn frame_of(bytes: &[u8]) -> Result<(&[u8], &[u8]), Unread>
+pub(crate) fn frame_of(bytes: &[u8]) -> Result<(&[u8], &[u8]), Unread>
     ensures { Gives (λ x. (x.0.now, x.1.now)) result (frame_at bytes.now) }
 {
     let rest = mark_of(bytes)?;

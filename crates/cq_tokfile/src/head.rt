@@ -32,7 +32,7 @@ fn is_sound(settings: &Settings, version: u64, chunk: u32, ids: u8, lits: u8) ->
 }
 
 #[tactic(auto, unfolding(crate::specs::Reading::head_at))]
-fn head_of<'a>(
+pub(crate) fn head_of<'a>(
     alloc: Global,
     settings: &Settings,
     bytes: &'a [u8],

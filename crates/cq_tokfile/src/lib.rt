@@ -3,7 +3,9 @@
 //! the bytes that it takes, and takes memory only for elements that it has read, whatever number of them is claimed.
 #![tactic(auto)]
 
+mod apart;
 mod conditions;
+mod contents;
 mod file;
 mod files;
 mod frame;
@@ -11,10 +13,12 @@ mod functions;
 mod head;
 mod laws;
 mod numbers;
+mod rising;
 mod tokens;
 mod unread;
 
 pub use conditions::{put_condition, put_conditions, read_condition, read_conditions};
+pub use contents::{ContentsRecord, read_whole};
 pub use file::{FileRecord, put_file, read_file};
 pub use files::{put_files, read_files};
 pub use frame::{put_frame, read_frame};
@@ -22,7 +26,7 @@ pub use functions::{put_function, put_functions, read_function, read_functions};
 pub use head::{Head, put_head, read_head};
 pub use laws::{
     conditions_have_one_form, files_have_one_form, frames_have_one_form, functions_have_one_form,
-    heads_have_one_form, tokens_have_one_form,
+    heads_have_one_form, no_whole_begins_another, tokens_have_one_form, wholes_have_one_form,
 };
 pub use tokens::{put_token, put_tokens, read_token, read_tokens};
 pub use unread::Unread;
