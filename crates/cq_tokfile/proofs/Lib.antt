@@ -7,3 +7,4 @@ mod Framed
 mod Heads
 mod InOrder
 mod Wholes
+mod Decoded

@@ -6,6 +6,7 @@
 mod apart;
 mod conditions;
 mod contents;
+mod decoding;
 mod file;
 mod files;
 mod frame;
@@ -14,11 +15,13 @@ mod head;
 mod laws;
 mod numbers;
 mod rising;
+mod snapshot;
 mod tokens;
 mod unread;
 
 pub use conditions::{put_condition, put_conditions, read_condition, read_conditions};
 pub use contents::{ContentsRecord, read_whole};
+pub use decoding::decode;
 pub use file::{FileRecord, put_file, read_file};
 pub use files::{put_files, read_files};
 pub use frame::{put_frame, read_frame};
@@ -28,6 +31,7 @@ pub use laws::{
     conditions_have_one_form, files_have_one_form, frames_have_one_form, functions_have_one_form,
     heads_have_one_form, no_whole_begins_another, tokens_have_one_form, wholes_have_one_form,
 };
+pub use snapshot::Snapshot;
 pub use tokens::{put_token, put_tokens, read_token, read_tokens};
 pub use unread::Unread;
 

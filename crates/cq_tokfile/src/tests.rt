@@ -99,8 +99,10 @@ fn a_condition(rt: HostRuntime) -> Result<(), Fail> {
 
 #[test]
 fn a_whole_file_and_what_is_behind(rt: HostRuntime) -> Result<(), Fail> {
-    let mut bytes = Vec::from_slice(rt.alloc(), &FILE)?;
-    bytes.push(123)?;
+    let mut bytes = Vec::from_slice(rt.alloc(), &FILE)
+        .ok()
+        .ok_or("memory is there")?;
+    bytes.push(123).ok().ok_or("memory is there")?;
     let (contents, rest) = read_whole(rt.alloc(), &SETTINGS, &bytes)
         .ok()
         .ok_or("a whole file")?;

@@ -1,0 +1,77 @@
+-- A version of a project with the works of its files, and the token file of it.
+use Rattle.std.specs.Prelude.{◌≡◌, ◌≤◌, ℕ, List, [], ◌∷◌, length, map, All, Option, Some, None}
+use Rattle.std.specs.Arc.{arc_value}
+use Rattle.std.specs.List.{AllByRecursion}
+use Rattle.cq_base.specs.declared.lang.Lang.{Lang}
+use Rattle.cq_base.specs.declared.norm.Norm.{Norm}
+use Rattle.cq_base.specs.declared.settings.Settings.{Settings}
+use Rattle.cq_base.specs.declared.token.Spelled.{Spelled}
+use Rattle.cq_base.specs.declared.token.Token.{Token}
+use Rattle.cq_history.specs.Files.{File}
+use Rattle.cq_key.specs.Keys.{window_keys}
+use Rattle.cq_work.specs.declared.work.Work.{Work}
+use Rattle.cq_work.specs.Lexing.{spelled_bytes}
+use Rattle.cq_tokfile.specs.declared.snapshot.Snapshot.{Snapshot}
+use Rattle.cq_tokfile.specs.Spelling.{Recorded, Contents, body, whole}
+use Rattle.cq_tokfile.specs.Sound.{IsSoundContents, IsSoundBody}
+
+-- tokens with the places at which they stand, one for one
+abbrev pub spelled_of : List Token → List Norm → List Spelled
+spelled_of [] norms = []
+spelled_of (t ∷ spans) [] = []
+spelled_of (t ∷ spans) (n ∷ norms) = record { token = t; text = n.text } ∷ spelled_of spans norms
+
+-- a token as it is compared, of a file of this language
+abbrev pub norm_in : Lang → Spelled → Norm
+norm_in l s = record { lang = l; class = s.token.class; text = s.text }
+
+-- what a token file has of a file and its work
+abbrev pub record_of : {L : Type 0} → File (Work L) → Recorded
+record_of f = record { path = f.path; change = f.number; lang = f.lang; state = f.body.state; counts = f.body.counts; tokens = spelled_of f.body.spans.items (arc_value f.body.tokens); functions = f.body.functions.items }
+
+-- The parts of a file agree: one language, a token for each place, of the same class, and the keys are those of the
+-- tokens.
+pub record IsOneFile {L : Type 0} (settings : Settings) (f : File (Work L)) : Type 0 where
+  pub lang : f.body.lang ≡ f.lang
+  pub langs : All (λ (n : Norm). n.lang ≡ f.lang) (arc_value f.body.tokens)
+  pub classes : map (λ (t : Token). t.class) f.body.spans.items ≡ map (λ (n : Norm). n.class) (arc_value f.body.tokens)
+  pub keys : arc_value f.body.keys ≡ window_keys settings (arc_value f.body.tokens)
+
+-- the files are made of these records
+pub record AreMadeOf {L : Type 0} (settings : Settings) (records : List Recorded) (files : List (File (Work L))) : Type 0 where
+  pub same : map record_of files ≡ records
+  pub parts : All (IsOneFile settings) files
+
+-- what a token file has of a snapshot
+abbrev pub contents_of : {L : Type 0} → Snapshot L → Contents
+contents_of s = record { head = record { version = s.version; project = s.project }; conditions = s.conditions.items; files = map record_of s.files }
+
+-- a snapshot that a token file of these settings may have
+pub record IsSoundSnapshot {L : Type 0} (settings : Settings) (s : Snapshot L) : Type 0 where
+  pub contents : IsSoundContents settings (contents_of s)
+  pub parts : All (IsOneFile settings) s.files
+
+-- the bytes are the token file of a sound snapshot, whose body has the length that stands before it
+pub record IsTokenFile {L : Type 0} (settings : Settings) (s : Snapshot L) (bytes : List ℕ) : Type 0 where
+  pub sound : IsSoundSnapshot settings s
+  pub fits : IsSoundBody (body settings (contents_of s))
+  pub is : bytes ≡ whole settings (contents_of s)
+
+-- the bytes are read to the snapshot whose token file they are, and to none where they are no token file
+abbrev pub Decodes : {L : Type 0} → Settings → List ℕ → Option (Snapshot L) → Type 0
+Decodes settings bytes (Some s) = IsTokenFile settings s bytes
+Decodes {L} settings bytes None = (s : Snapshot L) → IsTokenFile settings s bytes → ⊥
+
+-- ---- for a private clause: a file has as many tokens as a file may have, and these have no more bytes than a body
+
+abbrev pub HasFewTokens : Recorded → Type 0
+HasFewTokens f = length f.tokens ≤ 262144
+
+abbrev pub HaveFewTokens : List Recorded → Type 0
+HaveFewTokens files = AllByRecursion HasFewTokens files
+
+abbrev pub HasShortTokens : Recorded → Type 0
+HasShortTokens f = spelled_bytes f.tokens ≤ 268435456
+
+abbrev pub HaveShortTokens : List Recorded → Type 0
+HaveShortTokens files = AllByRecursion HasShortTokens files
