@@ -8,3 +8,4 @@ mod Heads
 mod InOrder
 mod Wholes
 mod Decoded
+mod Written

@@ -89,6 +89,10 @@ recorded f = record { path = f.path; change = f.change; lang = f.lang; state = f
 abbrev pub file : Recorded → List ℕ
 file f = text f.path ++ (to_be_bytes w64 f.change ++ (language f.lang ++ (outcome f.state ++ (counts f.counts ++ (counted token f.tokens ++ counted function f.functions)))))
 
+-- what stands before the tokens of a file
+abbrev pub front : List ℕ → ℕ → Lang → State → FileCounts → List ℕ
+front path change lang state c = text path ++ (to_be_bytes w64 change ++ (language lang ++ (outcome state ++ counts c)))
+
 -- what each token file begins with
 abbrev pub mark : List ℕ
 mark = codes "CQTOK001"

@@ -53,6 +53,14 @@ pub fn read_frame(bytes: &[u8]) -> Result<(&[u8], &[u8]), Unread>
     frame_of(bytes)
 }
 
+/// Writes what each token file begins with at the end.
+pub(crate) fn put_mark(out: &mut Vec<u8>) -> Result<(), Memory>
+    ensures { OnOk result (out.new.items ≡ out.old.items ++ spell.mark) }
+{
+    out.extend_from_slice(MARK.as_slice())?;
+    Ok(())
+}
+
 /// Writes a body with its frame at the end.
 pub fn put_frame(out: &mut Vec<u8>, body: &[u8]) -> Result<(), Memory>
     requires { IsSoundBody body.now }
