@@ -9,3 +9,4 @@ mod InOrder
 mod Wholes
 mod Decoded
 mod Written
+mod Indexing

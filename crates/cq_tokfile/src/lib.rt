@@ -15,6 +15,7 @@ mod functions;
 mod head;
 mod laws;
 mod lengths;
+mod loaded;
 mod numbers;
 mod rising;
 mod snapshot;
@@ -34,6 +35,7 @@ pub use laws::{
     conditions_have_one_form, files_have_one_form, frames_have_one_form, functions_have_one_form,
     heads_have_one_form, no_whole_begins_another, tokens_have_one_form, wholes_have_one_form,
 };
+pub use loaded::Loaded;
 pub use snapshot::Snapshot;
 pub use tokens::{put_token, put_tokens, read_token, read_tokens};
 pub use unread::Unread;
