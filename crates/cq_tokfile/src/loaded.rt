@@ -3,7 +3,7 @@ ghost use Rattle.std.specs.Ordering.{is_lt};
 ghost use Rattle.cq_projects.specs.Spotted.{numbers_of};
 ghost use Rattle.cq_base.specs.declared.entry.Entry.{Entry};
 ghost use Rattle.cq_clones.specs.Windows.{IsBucket};
-ghost use Rattle.cq_order.specs.Order.{IsOrderOf};
+ghost use Rattle.cq_order.specs.Order.{IsOrderOf, is_entry_before};
 ghost use Rattle.cq_tokens.specs.Corpus.{changes_of, keys_of};
 ghost use Rattle.cq_tokfile.specs.Loaded as spec;
 
@@ -67,14 +67,18 @@ fn push_entries(entries: &mut Vec<Entry>, change: u64, keys: &[u64]) -> Result<(
     Ok(())
 }
 
-/// By key, and then by change and place.
+// By change and then place.
+fn compare_places(a: &Entry, b: &Entry) -> Ordering
+    ensures { is_lt result ≡ is_entry_before a.now b.now }
+{
+    a.change.cmp(&b.change).then(a.at.cmp(&b.at))
+}
+
+// By key, and then by change and place.
 fn compare_keyed(a: &Entry, b: &Entry) -> Ordering
     ensures { is_lt result ≡ spec.is_keyed_before a.now b.now }
 {
-    a.key
-        .cmp(&b.key)
-        .then(a.change.cmp(&b.change))
-        .then(a.at.cmp(&b.at))
+    a.key.cmp(&b.key).then(compare_places(a, b))
 }
 
 fn sort_keyed(entries: &mut Vec<Entry>)
