@@ -17,6 +17,8 @@ use Rattle.cq_order.specs.declared.spots.Spot.{Spot}
 use Rattle.cq_order.proofs.Sorting.{weak_order}
 use Rattle.cq_refine.proofs.KeyPlaces.{one_position}
 use Rattle.cq_refine.proofs.Places.{sorted_once}
+use Rattle.cq_tokens.specs.Corpus.{changes_of, keys_of}
+use Rattle.cq_tokens.specs.declared.plain.FileTokens.{FileTokens}
 use Rattle.cq_tokfile.specs.Loaded.{KeyedBefore, is_keyed_before, AreIndexed, AddsAllEntries, AreThoseOf}
 
 -- ---- no change is in a list that has spots twice
@@ -238,3 +240,9 @@ is_bucket changes keys key entries found indexed those =
     (λ z (c, k). (k, (indexed.each z).0 c))
     (λ z (k, is). ((indexed.each z).1 is, k))
     those
+
+-- no files have no entries
+pub nothing_indexed : {L : Type 0} (files : List (FileTokens L)) (entries : List Entry) → files ≡ [] → entries ≡ [] → AreIndexed (changes_of files) (keys_of files) entries
+nothing_indexed {L} files entries none nothing =
+    subst (λ (fs : List (FileTokens L)). AreIndexed (changes_of fs) (keys_of fs) entries) (sym none)
+    (subst (AreIndexed [] []) (sym nothing) (in_order_none KeyedBefore (IsEntryOf [] []) (λ z is. let put = slice_get_within [] is.file z.change is.put in omega (arith, put))))

@@ -1,4 +1,4 @@
-ghost use Rattle.std.specs.Prelude.{◌≡◌, ◌≢◌, ◌<◌, ◌^◌, length, Contains, AllPairs, IfOk, OnOk};
+ghost use Rattle.std.specs.Prelude.{[], ◌≡◌, ◌≢◌, ◌<◌, ◌^◌, length, Contains, AllPairs, IfOk, OnOk};
 ghost use Rattle.std.specs.Ordering.{is_lt};
 ghost use Rattle.cq_projects.specs.Spotted.{numbers_of};
 ghost use Rattle.cq_base.specs.declared.entry.Entry.{Entry};
@@ -114,8 +114,7 @@ fn with_key(alloc: Global, entries: &[Entry], key: u64) -> Result<Vec<Entry>, Me
 impl<L: Ledger> Loaded<L> {
     /// The buckets of a snapshot's files. It costs a sort of their windows, and 24 bytes for each.
     pub fn new(alloc: Global, snapshot: &Snapshot<L>) -> Result<Loaded<L>, Memory>
-        ensures changes { IfOk result (λ loaded. changes_of loaded.files.items ≡ numbers_of snapshot.now.files) }
-        ensures keys { IfOk result (λ loaded. keys_of loaded.files.items ≡ spec.keys_in snapshot.now.files) }
+        ensures of { IfOk result (λ loaded. spec.IsLoadedOf snapshot.now.files loaded) }
         ensures asked { IfOk result (λ loaded. loaded.asked ≡ 0) }
     {
         let files = shared_files(alloc, &snapshot.files)?;
@@ -126,6 +125,17 @@ impl<L: Ledger> Loaded<L> {
             entries,
             asked: 0,
         })
+    }
+
+    /// The buckets of no files. It takes no memory.
+    pub fn none(alloc: Global) -> Loaded<L>
+        ensures { spec.IsLoadedOf [] result }
+    {
+        Loaded {
+            files: Vec::new(alloc),
+            entries: Vec::new(alloc),
+            asked: 0,
+        }
     }
 
     /// How often it was asked.

@@ -1,0 +1,3 @@
+mod GivenFiles
+mod Said
+mod Runs
