@@ -65,6 +65,11 @@ module _ {L : Type 0} (settings : Settings) (f : File (Work L)) (tokens : List S
     keys = keys ∙ ap (window_keys settings) (sym norms);
   }
 
+-- what a token file has of a file with these parts
+pub record_same : {L : Type 0} (f : File (Work L)) (r : Recorded) → f.path ≡ r.path → f.number ≡ r.change → f.lang ≡ r.lang → f.body.state ≡ r.state → f.body.counts ≡ r.counts
+    → spelled_of f.body.spans.items (arc_value f.body.tokens) ≡ r.tokens → f.body.functions.items ≡ r.functions → record_of f ≡ r
+record_same f r path change lang state counts tokens functions = λ i. record { path = path i; change = change i; lang = lang i; state = state i; counts = counts i; tokens = tokens i; functions = functions i }
+
 -- ---- the bytes of tokens are among those of a body
 
 behind : (n : ℕ) (front back : List ℕ) → n ≤ length back → n ≤ length (front ++ back)

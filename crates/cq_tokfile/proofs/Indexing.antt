@@ -1,10 +1,11 @@
 -- All entries of files as they are collected, sorted by key, and those of one key among them.
-use Rattle.std.proofs.Common.{◌≡◌, ◌≢◌, ◌⊎◌, ◌↔◌, ℕ, ◌+◌, ◌-◌, ◌<◌, ◌≤◌, Bool, true, false, IsTrue, ltb, nat_le, List, [], ◌∷◌, ◌++◌, length, take, drop, get_or, slice_get, Some, refl, sym, ap, ◌∙◌, subst, inl, inr, ⊎_elim, arith, true≢false}
+use Rattle.std.proofs.Common.{◌≡◌, ◌≢◌, ◌⊎◌, ◌↔◌, ℕ, ◌+◌, ◌-◌, ◌<◌, ◌≤◌, Bool, true, false, IsTrue, ltb, nat_le, List, [], ◌∷◌, ◌++◌, length, take, drop, get_or, slice_get, Some, refl, sym, ap, ap₂, ◌∙◌, subst, inl, inr, ⊎_elim, arith, true≢false}
 use Rattle.std.specs.Prelude.{AllPairs, Contains}
 use Rattle.std.specs.Cmp.{IsStrictWeakOrder}
 use Rattle.std.specs.List.Sorted.{IsNonDecreasingBy, IsPartitionPoint}
 use Rattle.std.proofs.lemmas.Bool.{cases_lt, cases_eq, cases_Bool, ltb-true, lt-ltb, leb-true, le-leb}
-use Rattle.std.proofs.lemmas.List.{length-take-le, length-drop, get_or-take, get_or-drop, get_or_default, get_or_past}
+use Rattle.std.proofs.lemmas.List.{length-take-le, length-drop, get_or-take, get_or-drop, get_or_past, take_more, map_push}
+use Rattle.std.specs.Arc.{arc_value}
 use Rattle.std.proofs.lemmas.Option.{same_Some, slice_get-get_or, slice_get_within, get_or_from_slice_get}
 use Rattle.cq_base.specs.declared.entry.Entry.{Entry}
 use Rattle.cq_clones.specs.Groups.{file_at}
@@ -15,11 +16,14 @@ use Rattle.cq_order.specs.Order.{IsOrderOf, is_entry_before}
 use Rattle.cq_order.specs.Spots.{AreSpots}
 use Rattle.cq_order.specs.declared.spots.Spot.{Spot}
 use Rattle.cq_order.proofs.Sorting.{weak_order}
+use Rattle.cq_history.specs.Files.{File}
+use Rattle.cq_projects.specs.Spotted.{numbers_of}
 use Rattle.cq_refine.proofs.KeyPlaces.{one_position}
 use Rattle.cq_refine.proofs.Places.{sorted_once}
 use Rattle.cq_tokens.specs.Corpus.{changes_of, keys_of}
 use Rattle.cq_tokens.specs.declared.plain.FileTokens.{FileTokens}
-use Rattle.cq_tokfile.specs.Loaded.{KeyedBefore, is_keyed_before, AreIndexed, AddsAllEntries, AreThoseOf}
+use Rattle.cq_tokfile.specs.Loaded.{KeyedBefore, is_keyed_before, AreIndexed, AddsAllEntries, AreThoseOf, keys_in}
+use Rattle.cq_work.specs.declared.work.Work.{Work}
 
 -- ---- no change is in a list that has spots twice
 
@@ -246,3 +250,21 @@ pub nothing_indexed : {L : Type 0} (files : List (FileTokens L)) (entries : List
 nothing_indexed {L} files entries none nothing =
     subst (λ (fs : List (FileTokens L)). AreIndexed (changes_of fs) (keys_of fs) entries) (sym none)
     (subst (AreIndexed [] []) (sym nothing) (in_order_none KeyedBefore (IsEntryOf [] []) (λ z is. let put = slice_get_within [] is.file z.change is.put in omega (arith, put))))
+
+-- ---- files that are shared one by one
+
+module _ {L : Type 0} (files : List (File (Work L))) (i : ℕ) (item : File (Work L)) (within : i < length files) (is : item ≡ get_or files i item) where
+  one_more : take (i + 1) files ≡ take i files ++ item ∷ []
+  one_more = take_more files i item within ∙ ap (λ (x : File (Work L)). take i files ++ x ∷ []) (sym is)
+
+  pub shared_numbers : (shared more : List (FileTokens L)) (f : FileTokens L) → more ≡ shared ++ f ∷ [] → f.change ≡ item.number → changes_of shared ≡ numbers_of (take i files) → changes_of more ≡ numbers_of (take (i + 1) files)
+  shared_numbers shared more f more_is same so_far =
+      ap changes_of more_is ∙ map_push (λ (g : FileTokens L). g.change) shared f
+      ∙ ap₂ (λ (ns : List ℕ) (n : ℕ). ns ++ n ∷ []) so_far same
+      ∙ sym (ap numbers_of one_more ∙ map_push (λ (g : File (Work L)). g.number) (take i files) item)
+
+  pub shared_keys : (shared more : List (FileTokens L)) (f : FileTokens L) → more ≡ shared ++ f ∷ [] → arc_value f.keys ≡ arc_value item.body.keys → keys_of shared ≡ keys_in (take i files) → keys_of more ≡ keys_in (take (i + 1) files)
+  shared_keys shared more f more_is same so_far =
+      ap keys_of more_is ∙ map_push (λ (g : FileTokens L). arc_value g.keys) shared f
+      ∙ ap₂ (λ (ks : List (List ℕ)) (k : List ℕ). ks ++ k ∷ []) so_far same
+      ∙ sym (ap keys_in one_more ∙ map_push (λ (g : File (Work L)). arc_value g.body.keys) (take i files) item)
