@@ -1,3 +1,4 @@
 mod GivenFiles
 mod Said
 mod Runs
+mod Fronts

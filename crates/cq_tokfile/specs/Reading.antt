@@ -172,6 +172,10 @@ file_at settings version bytes = do
 abbrev pub behind_mark : List ℕ → Option (List ℕ)
 behind_mark bytes = if nat_lt (length bytes) 8 then None else (if bytes_eq (take 8 bytes) mark then Some (drop 8 bytes) else None)
 
+-- how many bytes the body has that 16 bytes announce, if they begin a token file
+abbrev pub announced : List ℕ → Option ℕ
+announced bytes = if bytes_eq (take 8 bytes) mark then (if nat_lt 268435456 (from_be_bytes w64 (drop 8 bytes)) then None else Some (from_be_bytes w64 (drop 8 bytes))) else None
+
 -- a body of so many bytes
 abbrev pub body_at : ℕ → List ℕ → Option (List ℕ × List ℕ)
 body_at n bytes = if nat_lt 268435456 n then None else (if nat_lt (length bytes) n then None else Some (take n bytes, drop n bytes))

@@ -28,7 +28,7 @@ pub use decoding::decode;
 pub use encoding::{Encoded, encode};
 pub use file::{FileRecord, put_file, read_file};
 pub use files::{put_files, read_files};
-pub use frame::{put_frame, read_frame};
+pub use frame::{announced, put_frame, read_frame};
 pub use functions::{put_function, put_functions, read_function, read_functions};
 pub use head::{Head, put_head, read_head};
 pub use laws::{
