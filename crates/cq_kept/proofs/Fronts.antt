@@ -1,7 +1,7 @@
 -- What stands at the front of a source, by what was taken of it.
 use Rattle.std.proofs.Common.{◌≡◌, ℕ, ◌+◌, ◌<◌, ◌≤◌, List, [], ◌∷◌, ◌++◌, length, take, Option, Some, None, refl, sym, ap, ◌∙◌, subst, append_assoc, arith, length-append}
 use Rattle.std.specs.Prelude.{IfSome}
-use Rattle.std.specs.Io.KnownBytes.{Consumes, IsAtEnd}
+use Rattle.std.specs.Io.KnownBytes.{Consumes}
 use Rattle.std.proofs.lemmas.List.{append-nil, take_at}
 use Rattle.cq_base.specs.declared.settings.Settings.{Settings}
 use Rattle.cq_kept.specs.Taken.{BeginsOther, IsFramed}
@@ -58,11 +58,9 @@ told_of P None rest_now got came each = tt
 told_of P (Some xs) None got came each = absurd came
 told_of P (Some xs) (Some ys) got came each = subst P (sym came) (each ys)
 
--- where none is left
-pub told_at_end : (P : List ℕ → Type 0) (rest rest_now : Option (List ℕ)) (got : List ℕ) → Consumes rest rest_now got → IsAtEnd rest_now → P got → IfSome rest P
-told_at_end P None rest_now got came none is = tt
-told_at_end P (Some xs) None got came none is = absurd came
-told_at_end P (Some xs) (Some ys) got came none is = subst P (sym (append-nil got) ∙ ap (λ (left : List ℕ). got ++ left) (sym none) ∙ sym came) is
+pub of_known : (rest : Option (List ℕ)) (P Q : List ℕ → Type 0) → ((bytes : List ℕ) → P bytes → Q bytes) → IfSome rest P → IfSome rest Q
+of_known None P Q to is = tt
+of_known (Some xs) P Q to is = to xs is
 
 -- ---- no front is a token file
 

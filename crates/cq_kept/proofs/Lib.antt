@@ -2,3 +2,4 @@ mod GivenFiles
 mod Said
 mod Runs
 mod Fronts
+mod Coming
