@@ -1,8 +1,9 @@
 ghost use Rattle.std.specs.Prelude.{◌≡◌};
 
 use cq_base::{Memory, Settings, Steps};
+use cq_groups::Buckets;
 use cq_key::{Keyer, plain_key};
-use cq_tokfile::{Encoded, decode, encode};
+use cq_tokfile::{Encoded, Loaded, Snapshot, decode, encode};
 use std::alloc::Global;
 use std::marker::Brand;
 use std::sync::ledger::{Blank, Ledger};
@@ -93,6 +94,16 @@ const NO_PROJECT: [u8; 45] = [
     0, 0, 0, 0, 3, 112, 32, 113, 0, 0, 0, 0, 0, 0, 0, 0,
 ];
 
+// The file `t` of three times the token `a`, which change 3 put.
+const THREE_TOKENS: [u8; 156] = [
+    67, 81, 84, 79, 75, 48, 48, 49, 0, 0, 0, 0, 0, 0, 0, 140, 0, 0, 0, 0, 0, 0, 0, 3, 0, 0, 0, 2,
+    0, 0, 0, 0, 0, 1, 112, 0, 0, 0, 0, 0, 0, 0, 1, 0, 0, 0, 1, 116, 0, 0, 0, 0, 0, 0, 0, 3, 0, 0,
+    0, 0, 0, 0, 0, 0, 0, 1, 0, 0, 0, 0, 0, 0, 0, 1, 0, 0, 0, 0, 0, 0, 0, 1, 0, 0, 0, 3, 0, 0, 0, 0,
+    0, 0, 0, 0, 1, 0, 0, 0, 1, 0, 0, 0, 1, 0, 0, 0, 1, 97, 0, 0, 0, 0, 2, 0, 0, 0, 1, 0, 0, 0, 1,
+    0, 0, 0, 1, 0, 0, 0, 1, 97, 0, 0, 0, 0, 4, 0, 0, 0, 1, 0, 0, 0, 1, 0, 0, 0, 1, 0, 0, 0, 1, 97,
+    0, 0, 0, 0,
+];
+
 // Whether the bytes are a token file of these settings, which is written as the same bytes again.
 fn written_again<L: Ledger>(
     alloc: Global,
@@ -156,5 +167,33 @@ fn what_breaks_a_rule_is_no_file(rt: HostRuntime) -> Result<(), Memory> {
     assert!(rt; !is_file(alloc, SETTINGS, &PAST_THE_LINES)?);
     assert!(rt; !is_file(alloc, SETTINGS, &UPWARDS)?);
     assert!(rt; !is_file(alloc, SETTINGS, &NO_PROJECT)?);
+    Ok(())
+}
+
+// How many windows of the first file of a token file have the key of its first window, and how many have another key.
+fn windows(alloc: Global, bytes: &[u8]) -> Result<Option<(usize, usize)>, Memory> {
+    let key = Box::new(alloc, |codes: &[u64]| plain_key(&SETTINGS, codes))?;
+    let keyer = Keyer::new(&SETTINGS, key);
+    let found: Option<Snapshot<Brand>> = decode(alloc, &SETTINGS, &keyer, bytes)?;
+    let Some(snapshot) = found else {
+        return Ok(None);
+    };
+    if snapshot.files.len() == 0 {
+        return Ok(None);
+    }
+    let mut loaded = Loaded::new(alloc, &snapshot)?;
+    let keys = snapshot.files.at(0).work.keys.as_slice();
+    if keys.is_empty() {
+        return Ok(None);
+    }
+    let same = loaded.bucket(alloc, keys[0])?;
+    let others = loaded.bucket(alloc, keys[0] ^ 1)?;
+    Ok(Some((same.len(), others.len())))
+}
+
+#[test]
+fn windows_are_found_by_their_keys(rt: HostRuntime) -> Result<(), Memory> {
+    let found = windows(rt.alloc(), &THREE_TOKENS)?;
+    assert_eq!(rt; found, Some((2, 0)));
     Ok(())
 }

@@ -6,6 +6,9 @@ use Rattle.cq_tokfile.proofs.decoding.decode.Goals as goal
 
 -- the names of the steps are guessed: each answer is a lemma of Decoded over what `read_whole` says in `reads`
 
+pub snapshot_of-requires-clause-sound : goal.snapshot_of-requires-clause-sound
+snapshot_of-requires-clause-sound g c = c.in-Ok.ensures.reads.0
+
 pub returns-in-Ok : goal.returns-in-Ok
 returns-in-Ok g c =
     let rest : length c.in-Ok.rest.now ≡ 0 = search rules in
