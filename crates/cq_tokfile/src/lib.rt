@@ -1,6 +1,7 @@
-//! The parts of a token file as bytes, read and written: its frame, the head, conditions, and files with their tokens and
-//! functions. What is read is spelled so, what is spelled so is read, and no form begins another. A reader goes once over
-//! the bytes that it takes, and takes memory only for elements that it has read, whatever number of them is claimed.
+//! Token files: a version of a project with the works of its files as bytes, and their parts. What is read is spelled so,
+//! what is spelled so is read, and no form begins another. A reader goes once over the bytes that it takes, and takes memory
+//! only for elements that it has read, whatever number of them is claimed; `decode` keys the tokens anew, and `encode` reads
+//! each token twice and takes memory for the file alone. `Loaded` is an index of the windows by key, 24 bytes for each.
 #![tactic(auto)]
 
 mod apart;
