@@ -1,5 +1,6 @@
 -- What a kept version answers.
-use Rattle.std.specs.Prelude.{◌≡◌, ◌⊎◌, ℕ, nat_lt, List, [], if◌then◌else◌, MatchBool, AllZip, Ok, Err}
+use Rattle.std.specs.Prelude.{◌≡◌, ◌⊎◌, ℕ, nat_lt, List, [], if◌then◌else◌, MatchBool, Ok, Err}
+use Rattle.std.specs.List.{AllZip}
 use Rattle.std.specs.Str.{bytes_eq}
 use Rattle.cq_answer.specs.Given.{IsReplyOf}
 use Rattle.cq_answer.specs.Refusals.{refused_as}
