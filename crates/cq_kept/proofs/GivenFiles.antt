@@ -1,16 +1,13 @@
 -- The files and the conditions of a sound snapshot are as an answer asks, and no files are.
-use Rattle.std.proofs.Common.{◌≡◌, ◌≢◌, ℕ, zero, suc, ◌^◌, ◌<◌, ◌≤◌, List, [], ◌∷◌, length, get_or, map, refl, sym, ap, ap₂, ◌∙◌, subst, arith}
+use Rattle.std.proofs.Common.{◌≡◌, ◌≢◌, ℕ, zero, suc, ◌^◌, ◌<◌, List, [], ◌∷◌, length, get_or, map, refl, sym, ap₂, subst, arith}
 use Rattle.std.specs.Prelude.{All, AllPairs}
-use Rattle.std.specs.Arc.{arc_value}
 use Rattle.std.specs.List.{AllByRecursion}
 use Rattle.std.specs.Str.{IsUtf8}
 use Rattle.std.proofs.lemmas.List.{length-map}
 use Rattle.std.proofs.lemmas.List.Elements.{All-nil, All-cons, All-head, All-tail}
 use Rattle.cq_answer.specs.Given.{AreGiven}
-use Rattle.cq_answer.specs.Versions.{AreListable}
-use Rattle.cq_answer.specs.Works.{paths_in, numbers_in, norms_in, keys_in, spans_in, counts_in, functions_in}
+use Rattle.cq_answer.specs.Works.{paths_in, norms_in, keys_in, spans_in, counts_in, functions_in}
 use Rattle.cq_base.specs.Settings.{IsInRange}
-use Rattle.cq_base.specs.declared.norm.Norm.{Norm}
 use Rattle.cq_base.specs.declared.settings.Settings.{Settings}
 use Rattle.cq_clones.specs.Windows.{AreKeyed}
 use Rattle.cq_func.specs.declared.function.Function.{Function}

@@ -1,8 +1,8 @@
-ghost use Rattle.std.specs.Prelude.{◌≡◌, ◌≤◌, [], IfOk};
+ghost use Rattle.std.specs.Prelude.{◌≤◌, [], IfOk};
 ghost use Rattle.cq_answer.specs.Given.{IsReplyOf};
 ghost use Rattle.cq_answer.specs.Parts.{HasPath};
 ghost use Rattle.cq_base.specs.Settings.{IsInRange};
-ghost use Rattle.cq_kept.specs.Asked.{AnswersQuery, AnswersRequest, AnswersSaid};
+ghost use Rattle.cq_kept.specs.Asked.{AnswersQuery, AnswersSaid};
 ghost use Rattle.cq_reply.specs.Written.{IsReplyText};
 ghost use Rattle.cq_request.specs.Reading.{line_says};
 ghost use Rattle.cq_talk.specs.Said.{Read};

@@ -1,5 +1,5 @@
 -- A snapshot that was made of what was read: its parts agree, it has what was read, and its tokens are short.
-use Rattle.std.proofs.Common.{◌≡◌, ◌≢◌, ℕ, zero, suc, ◌+◌, ◌<◌, ◌≤◌, true, List, [], ◌∷◌, ◌++◌, length, map, refl, sym, ap, ap₂, subst, ◌∙◌, append_assoc, arith, length-append}
+use Rattle.std.proofs.Common.{◌≡◌, ◌≢◌, ℕ, ◌+◌, ◌≤◌, true, List, [], ◌∷◌, ◌++◌, length, map, refl, sym, ap, ap₂, subst, ◌∙◌, append_assoc, arith, length-append}
 use Rattle.std.specs.Prelude.{All, AllPairs}
 use Rattle.std.specs.Arc.{arc_value}
 use Rattle.std.specs.Int.{w32, w64, to_be_bytes}
@@ -27,7 +27,7 @@ use Rattle.cq_tokfile.specs.Spelling.{Recorded, Contents, text, place, token, fu
 use Rattle.cq_tokfile.specs.Spelling.{counts as counts_bytes}
 use Rattle.cq_tokfile.specs.Sound.{IsSoundFile, IsSoundBody, IsSoundContents, IsSoundWhole, changes_in}
 use Rattle.cq_tokfile.specs.Reading.{whole_at}
-use Rattle.cq_tokfile.specs.Snapshot.{spelled_of, norm_in, record_of, contents_of, IsOneFile, AreMadeOf, IsSoundSnapshot, IsTokenFile, HasFewTokens, HaveFewTokens, HasShortTokens, HaveShortTokens}
+use Rattle.cq_tokfile.specs.Snapshot.{spelled_of, norm_in, record_of, contents_of, IsOneFile, AreMadeOf, IsSoundSnapshot, IsTokenFile, HaveFewTokens, HaveShortTokens}
 use Rattle.cq_tokfile.proofs.Fields.{one_form}
 use Rattle.cq_tokfile.proofs.Wholes.{wholes}
 

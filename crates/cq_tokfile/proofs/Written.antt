@@ -1,5 +1,5 @@
 -- A snapshot as it is written: a token for each place, each file behind its front, and how many bytes that are.
-use Rattle.std.proofs.Common.{◌≡◌, ℕ, zero, suc, ◌+◌, ◌-◌, ◌*◌, ◌^◌, ◌<◌, ◌≤◌, min, List, [], ◌∷◌, ◌++◌, length, map, take, get_or, refl, sym, ap, ap₂, subst, ◌∙◌, append_assoc, arith, length-append}
+use Rattle.std.proofs.Common.{◌≡◌, ℕ, zero, suc, ◌+◌, ◌-◌, ◌*◌, ◌^◌, ◌<◌, ◌≤◌, List, [], ◌∷◌, ◌++◌, length, map, take, get_or, refl, sym, ap, ◌∙◌, append_assoc, arith, length-append}
 use Rattle.std.specs.Prelude.{All}
 use Rattle.std.specs.Arc.{arc_value}
 use Rattle.std.specs.Int.{w32, w64, to_be_bytes}
@@ -7,7 +7,6 @@ use Rattle.std.specs.List.{AllByRecursion, flat_map, sum_by}
 use Rattle.std.proofs.lemmas.List.{length-map}
 use Rattle.std.proofs.lemmas.List.Concat.{flat_map-cons}
 use Rattle.std.proofs.lemmas.List.Elements.{All-nil, All-cons, All-head, All-tail, All-from_recursion, All-weaker}
-use Rattle.std.proofs.lemmas.List.Folds.{flat_map-map}
 use Rattle.std.proofs.lemmas.List.Sums.{sum_by-cons, sum_by_more}
 use Rattle.cq_base.specs.declared.change.Condition.{Condition}
 use Rattle.cq_base.specs.declared.lang.Lang.{Lang}
@@ -23,9 +22,9 @@ use Rattle.cq_history.specs.Files.{File}
 use Rattle.cq_work.specs.declared.work.State.{State}
 use Rattle.cq_work.specs.declared.work.Work.{Work}
 use Rattle.cq_tokfile.specs.declared.snapshot.Snapshot.{Snapshot}
-use Rattle.cq_tokfile.specs.Spelling.{Recorded, text, place, token, function, counted, condition, language, outcome, counts, front, file, head, body, mark, whole}
-use Rattle.cq_tokfile.specs.Sound.{IsSoundToken, IsSoundFunction, IsSoundFile, IsSoundBody, HasSpelling}
-use Rattle.cq_tokfile.specs.Snapshot.{spelled_of, record_of, contents_of, IsOneFile, IsSoundSnapshot, IsTokenFile, HasTokenForEachPlace, tokens_length, functions_length, file_length, files_length, body_length, capped}
+use Rattle.cq_tokfile.specs.Spelling.{Recorded, text, place, token, function, counted, condition, language, outcome, counts, front, file, head, body, whole}
+use Rattle.cq_tokfile.specs.Sound.{IsSoundToken, IsSoundFunction, IsSoundFile, HasSpelling}
+use Rattle.cq_tokfile.specs.Snapshot.{spelled_of, record_of, contents_of, IsOneFile, IsSoundSnapshot, HasTokenForEachPlace, tokens_length, functions_length, file_length, files_length, body_length, capped}
 
 abbrev pub no_place : Token
 no_place = record { class = class.Ident; start = 0; len = 0; first_line = 0; last_line = 0 }

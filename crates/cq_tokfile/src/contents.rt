@@ -1,5 +1,4 @@
 ghost use Rattle.std.specs.Prelude.{◌≡◌, IfOk, map};
-ghost use Rattle.std.specs.List.{list_all};
 ghost use Rattle.cq_tokfile.specs.Spelling as spell;
 ghost use Rattle.cq_tokfile.specs.Spelling.{listed, recorded};
 ghost use Rattle.cq_tokfile.specs.Sound.{IsSoundWhole, have_form, has_form, is_sound_contents};

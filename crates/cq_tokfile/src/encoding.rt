@@ -1,5 +1,4 @@
 ghost use Rattle.std.specs.Prelude.{◌≡◌, ◌<◌, ◌^◌, ◌++◌, length, map, slice_index_or, All, IfOk, OnOk};
-ghost use Rattle.cq_base.specs.declared.norm.Norm.{Norm};
 ghost use Rattle.cq_base.specs.declared.token.Spelled.{Spelled};
 ghost use Rattle.cq_tokfile.specs.Spelling as spell;
 ghost use Rattle.cq_tokfile.specs.Sound.{HasSpelling};

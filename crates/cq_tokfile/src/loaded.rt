@@ -2,7 +2,6 @@ ghost use Rattle.std.specs.Prelude.{[], ◌≡◌, ◌≢◌, ◌<◌, ◌^◌, 
 ghost use Rattle.std.specs.Ordering.{is_lt};
 ghost use Rattle.cq_projects.specs.Spotted.{numbers_of};
 ghost use Rattle.cq_base.specs.declared.entry.Entry.{Entry};
-ghost use Rattle.cq_clones.specs.Windows.{IsBucket};
 ghost use Rattle.cq_order.specs.Order.{IsOrderOf, is_entry_before};
 ghost use Rattle.cq_tokens.specs.Corpus.{changes_of, keys_of};
 ghost use Rattle.cq_tokfile.specs.Loaded as spec;

@@ -1,4 +1,4 @@
-use Rattle.std.proofs.Common.{◌≡◌, ◌∙◌, ℕ, refl, sym, ap, subst, inl, inr}
+use Rattle.std.proofs.Common.{ℕ, refl, subst, inl, inr}
 use Rattle.cq_kept.proofs.Fronts.{other_is_no_file, framed_is_no_file, told_of, of_known}
 use Rattle.cq_kept.specs.Kept.{BeginsWithNoFile}
 use Rattle.cq_lines.specs.Serving.{HasEndCause}

@@ -1,4 +1,4 @@
-use Rattle.std.proofs.Common.{◌≡◌, ◌∙◌, ℕ, ◌<◌, List, [], ◌++◌, length, ap, sym, arith, rules}
+use Rattle.std.proofs.Common.{◌∙◌, ◌++◌, sym, rules}
 use Rattle.std.proofs.KnownBytes.{Consumes-trans, Consumes-whole}
 use Rattle.cq_kept.specs.Taken.{BeginsOther}
 use Rattle.cq_kept.proofs.Fronts.{too_short, announces_none, some_missing, all_there, told_of}

@@ -1,5 +1,5 @@
-use Rattle.std.proofs.Common.{◌≡◌, ◌≤◌, ◌∙◌, ℕ, List, ◌++◌, length, take, ap, sym, arith, rules}
-use Rattle.std.proofs.lemmas.List.{append-nil, length-take-le}
+use Rattle.std.proofs.Common.{take, sym}
+use Rattle.std.proofs.lemmas.List.{append-nil}
 use Rattle.cq_kept.proofs.taking.take_some.Goals as goal
 
 -- Expected open: the piece that came is `take count` of the piece behind the read, of which `&mut piece[..size]` is

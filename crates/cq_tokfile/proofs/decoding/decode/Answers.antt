@@ -1,4 +1,4 @@
-use Rattle.std.proofs.Common.{◌≡◌, ◌∙◌, [], length, ap, rules}
+use Rattle.std.proofs.Common.{◌≡◌, length, ap, rules}
 use Rattle.std.proofs.lemmas.List.{nil_from_length}
 use Rattle.cq_tokfile.specs.Spelling.{listed}
 use Rattle.cq_tokfile.proofs.Decoded.{is_token_file, left_over, not_read}

@@ -1,10 +1,8 @@
-use Rattle.std.proofs.Common.{◌≡◌, ◌∙◌, ◌++◌, ◌∷◌, [], map, ap, sym, refl, rules, subst}
+use Rattle.std.proofs.Common.{◌≡◌, ◌∙◌, ◌++◌, ◌∷◌, [], map, ap, sym, rules, subst}
 use Rattle.std.specs.Arc.{arc_value}
 use Rattle.std.specs.Vec.Iter.{into_iter_items}
 use Rattle.std.proofs.lemmas.List.{map_push}
-use Rattle.cq_tokfile.specs.declared.file.FileRecord.{FileRecord}
-use Rattle.cq_tokfile.specs.Spelling.{Recorded, recorded}
-use Rattle.cq_tokfile.specs.Snapshot.{HasFewTokens, HasShortTokens}
+use Rattle.cq_tokfile.specs.Spelling.{recorded}
 use Rattle.cq_tokfile.proofs.Decoded.{AreMadeSoFar, made_none, made_more, made_all}
 use Rattle.cq_tokfile.proofs.decoding.held_all.Goals as goal
 

@@ -1,6 +1,6 @@
-use Rattle.std.proofs.Common.{◌≡◌, ◌∙◌, ◌≤◌, ◌<◌, ℕ, [], List, ◌++◌, length, ap, sym, subst, arith}
+use Rattle.std.proofs.Common.{◌≡◌, ◌∙◌, ◌≤◌, ℕ, [], List, ◌++◌, length, ap, sym, arith}
 use Rattle.std.specs.Int.{w64, to_be_bytes}
-use Rattle.cq_tokfile.specs.Spelling.{mark, body, whole}
+use Rattle.cq_tokfile.specs.Spelling.{mark, body}
 use Rattle.cq_tokfile.specs.Snapshot.{contents_of, body_length}
 use Rattle.cq_tokfile.proofs.Appended.{three}
 use Rattle.cq_tokfile.proofs.Written.{body_bytes, too_large, fits_count}

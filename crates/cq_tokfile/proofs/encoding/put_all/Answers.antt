@@ -1,4 +1,4 @@
-use Rattle.std.proofs.Common.{◌≡◌, ◌∙◌, ℕ, ◌<◌, ◌≤◌, List, ◌++◌, length, map, take, get_or, ap, sym, refl, append_assoc, arith}
+use Rattle.std.proofs.Common.{◌∙◌, ℕ, List, ◌++◌, length, map, ap, sym, append_assoc, arith}
 use Rattle.std.specs.Int.{w32, to_be_bytes}
 use Rattle.std.specs.List.{flat_map}
 use Rattle.std.proofs.lemmas.List.{append-nil, take_all, length-map}

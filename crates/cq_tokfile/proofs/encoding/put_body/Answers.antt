@@ -1,6 +1,4 @@
-use Rattle.std.proofs.Common.{◌≡◌, ◌∙◌, ◌≤◌, ◌<◌, ◌^◌, List, ◌++◌, length, map, ap, sym, subst, arith}
-use Rattle.std.specs.Prelude.{All}
-use Rattle.std.proofs.lemmas.List.Elements.{All-from_recursion, All-weaker}
+use Rattle.std.proofs.Common.{◌∙◌, List, ◌++◌, ap}
 use Rattle.cq_base.specs.declared.change.Condition.{Condition}
 use Rattle.cq_tokfile.specs.Spelling.{head, counted, condition, file}
 use Rattle.cq_tokfile.specs.Snapshot.{contents_of}

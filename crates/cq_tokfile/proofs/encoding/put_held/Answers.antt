@@ -1,4 +1,4 @@
-use Rattle.std.proofs.Common.{◌≡◌, ◌∙◌, List, ◌++◌, ap, sym}
+use Rattle.std.proofs.Common.{◌∙◌, List, ◌++◌, ap}
 use Rattle.std.specs.Arc.{arc_value}
 use Rattle.cq_base.specs.declared.token.Token.{Token}
 use Rattle.cq_func.specs.declared.function.Function.{Function}

@@ -1,4 +1,4 @@
-use Rattle.std.proofs.Common.{◌≡◌, ◌∙◌, ◌^◌, ◌<◌, List, ◌++◌, length, get_or, ap, sym, subst}
+use Rattle.std.proofs.Common.{◌∙◌, ◌^◌, ◌<◌, ◌++◌, length, get_or, ap, sym, subst}
 use Rattle.cq_base.specs.declared.norm.Norm.{Norm}
 use Rattle.cq_base.specs.declared.token.Spelled.{Spelled}
 use Rattle.cq_tokfile.specs.Spelling.{token}

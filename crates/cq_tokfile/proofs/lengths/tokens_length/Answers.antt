@@ -1,8 +1,8 @@
-use Rattle.std.proofs.Common.{◌≡◌, ◌+◌, ◌<◌, length, get_or, ap, arith}
+use Rattle.std.proofs.Common.{◌+◌, ◌<◌, length, ap, arith}
 use Rattle.std.proofs.lemmas.List.{take_all}
 use Rattle.std.proofs.lemmas.List.Sums.{sum_by_more}
 use Rattle.cq_base.specs.declared.norm.Norm.{Norm}
-use Rattle.cq_tokfile.specs.Snapshot.{capped, tokens_length}
+use Rattle.cq_tokfile.specs.Snapshot.{tokens_length}
 use Rattle.cq_tokfile.proofs.Written.{no_norm}
 use Rattle.cq_tokfile.proofs.lengths.tokens_length.Goals as goal
 

@@ -1,4 +1,4 @@
-use Rattle.std.proofs.Common.{◌++◌, ◌∷◌, [], get_or, refl}
+use Rattle.std.proofs.Common.{get_or, refl}
 use Rattle.cq_base.specs.declared.entry.Entry.{Entry}
 use Rattle.cq_tokfile.proofs.Indexing.{pushed_none, pushed_more, pushed_all}
 use Rattle.cq_tokfile.proofs.loaded.push_entries.Goals as goal

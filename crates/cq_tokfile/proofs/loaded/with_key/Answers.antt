@@ -1,5 +1,4 @@
-use Rattle.std.proofs.Common.{◌≡◌, ◌∙◌, ltb, nat_le, List, length, take, drop, ap, sym, subst, rules, arith}
-use Rattle.std.proofs.lemmas.List.{length-drop}
+use Rattle.std.proofs.Common.{ltb, nat_le, length, take, drop, sym, subst, rules}
 use Rattle.std.proofs.lemmas.List.Sorted.{IsPartitionPoint-from_clause, IsPartitionedBy-ltb, IsPartitionedBy-leb, IsNonDecreasingBy-drop}
 use Rattle.cq_base.specs.declared.entry.Entry.{Entry}
 use Rattle.cq_tokfile.specs.Loaded.{AreThoseOf}

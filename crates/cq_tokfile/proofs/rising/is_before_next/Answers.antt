@@ -1,4 +1,4 @@
-use Rattle.std.proofs.Common.{◌≡◌, ◌+◌, ◌<◌, ◌∙◌, List, length, get_or, ap, ap₂, arith}
+use Rattle.std.proofs.Common.{◌≡◌, ◌+◌, ◌<◌, ◌∙◌, length, get_or, ap₂, arith}
 use Rattle.std.proofs.lemmas.List.{get_or_default}
 use Rattle.cq_history.specs.Files.{is_before}
 use Rattle.cq_tokfile.specs.declared.file.FileRecord.{FileRecord}

@@ -1,4 +1,4 @@
-use Rattle.std.proofs.Common.{◌≡◌, ◌+◌, ◌<◌, ◌≤◌, ◌∙◌, Bool, length, sym, rules}
+use Rattle.std.proofs.Common.{◌+◌, ◌<◌, ◌≤◌, ◌∙◌, Bool, length, sym, rules}
 use Rattle.cq_history.specs.Files.{is_before}
 use Rattle.cq_tokfile.specs.declared.file.FileRecord.{FileRecord}
 use Rattle.cq_tokfile.specs.Spelling.{recorded}

@@ -1,6 +1,4 @@
-use Rattle.std.proofs.Common.{List, subst, rules}
 use Rattle.std.proofs.lemmas.Result.{IfOk-weaker}
-use Rattle.cq_base.specs.declared.entry.Entry.{Entry}
 use Rattle.cq_tokens.specs.Corpus.{changes_of, keys_of}
 use Rattle.cq_tokfile.proofs.Indexing.{is_bucket}
 use Rattle.cq_tokfile.proofs.loaded.Loaded.bucket.Goals as goal

@@ -1,4 +1,4 @@
-use Rattle.std.proofs.Common.{sym, ◌∙◌, subst, ap}
+use Rattle.std.proofs.Common.{sym, subst}
 use Rattle.std.specs.Prelude.{AllPairs, ◌≢◌}
 use Rattle.cq_projects.specs.Spotted.{numbers_of}
 use Rattle.cq_tokfile.proofs.Indexing.{spots_apart}
