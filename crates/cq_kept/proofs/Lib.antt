@@ -3,3 +3,4 @@ mod Said
 mod Runs
 mod Fronts
 mod Coming
+mod Exported

@@ -7,8 +7,10 @@
 mod answering;
 mod asking;
 mod kept;
+mod laws;
 mod taking;
 mod telling;
 
 pub use asking::ask_lines;
 pub use kept::{Asked, ask};
+pub use laws::a_kept_version_answers_as_its_changes;
