@@ -1,5 +1,6 @@
-//! A query's reply on the files of one version, over any index of their windows. The reply is defined by the accepted
-//! changes up to the version and by the query alone; `answer` gives it from the files' works and reads no text. It asks
+//! A query's reply on the files of one version, over any index of their windows. The reply is defined on given files with
+//! their works, and where these are of a version, by the accepted changes up to it and by the query alone; `answer` reads
+//! no text. It asks
 //! the index once for each different key among the windows of what the query lists: of all files, or of the one file at
 //! its path; for a list of files, or for functions, it asks nothing. Tokens are read as `cq_groups` says; each row copies a path.
 #![tactic(auto)]
@@ -7,6 +8,7 @@
 mod answering;
 mod file;
 mod functions;
+mod laws;
 mod listing;
 mod measuring;
 mod part;
@@ -16,5 +18,6 @@ mod showing;
 mod works;
 
 pub use answering::answer;
+pub use laws::reply_by_changes_is_on_its_files;
 pub use part::Part;
 pub use refusing::{cause_told, refused_as};

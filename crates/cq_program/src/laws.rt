@@ -1,4 +1,7 @@
-ghost use Rattle.cq_program.specs.Complete.{ListensComplete, MadeComplete, ScriptsComplete, SessionsBesideComplete, SessionsComplete};
+ghost use Rattle.cq_program.specs.Complete.{AsksComplete, ListensComplete, MadeComplete, ScriptsComplete, SessionsBesideComplete, SessionsComplete};
+
+use cq_io::{Sink, Source};
+use std::sync::ledger::Ledger;
 
 /// Where no count of faults rose, and fewer bytes came than may be read, whatever meets the clauses of `top` ends with 0, or
 /// with 4 for want of memory.
@@ -8,4 +11,10 @@ pub fn a_command_that_nothing_fails_is_done()
     ensures scripts { ScriptsComplete }
     ensures made { MadeComplete }
     ensures listens { ListensComplete }
+{}
+
+/// Where no count of faults rose, and fewer bytes came than may be read, what meets the clause of `top` on `ask` ends with 0,
+/// with 8 where they begin with no token file, or with 4 for want of memory.
+pub fn a_kept_version_that_nothing_fails_is_asked<S: Source, K: Sink, L: Ledger>()
+    ensures { AsksComplete L S.Source K.Sink }
 {}

@@ -1,6 +1,7 @@
 ghost use Rattle.std.specs.Prelude.{◌≡◌};
 ghost use Rattle.cq_program.specs.Top as spec;
 
+use cq_kept::Asked;
 use cq_lines::End;
 
 /// The status of a run that ends so.
@@ -12,5 +13,15 @@ pub(crate) fn status_of(end: End) -> u8
         End::ReadFault => 2,
         End::WriteFault => 3,
         End::Spent => 6,
+    }
+}
+
+/// The status of the asking of a kept version that ended so.
+pub(crate) fn status_of_asked(asked: Asked) -> u8
+    ensures { result ≡ spec.status_of_asked asked }
+{
+    match asked {
+        Asked::Refused => 8,
+        Asked::Ended(end) => status_of(end),
     }
 }

@@ -30,30 +30,35 @@ built_is verb.Run = refl
 built_is verb.Listen = refl
 built_is verb.Drive = refl
 built_is verb.Make = refl
+built_is verb.Ask = refl
 
 is_bare : (v : Verb) → (asked_app v).top.no_binary_name ≡ true
 is_bare verb.Run = refl
 is_bare verb.Listen = refl
 is_bare verb.Drive = refl
 is_bare verb.Make = refl
+is_bare verb.Ask = refl
 
 pub is_simple : (v : Verb) → is_simple_and_free (asked_app v) ≡ true
 is_simple verb.Run = refl
 is_simple verb.Listen = refl
 is_simple verb.Drive = refl
 is_simple verb.Make = refl
+is_simple verb.Ask = refl
 
 places : (v : Verb) → Places (rules_of (row_of v)) 1 (row_of v).positionals
 places verb.Run = refl
 places verb.Listen = (refl, refl, refl)
 places verb.Drive = refl
 places verb.Make = (refl, refl, (refl, refl, refl))
+places verb.Ask = refl
 
 are_plain : (v : Verb) → ArePlain (row_of v) (row_of v).positionals
 are_plain verb.Run = tt
 are_plain verb.Listen = (refl, tt)
 are_plain verb.Drive = tt
 are_plain verb.Make = (refl, (refl, tt))
+are_plain verb.Ask = tt
 
 -- no number has a flag's name, and no flag an option's or a positional's
 other_name : (p : Param) → has_name (map flag_name (flag.IgnoreIds ∷ flag.IgnoreLiterals ∷ [])) (param_name p) ≡ false
@@ -76,6 +81,7 @@ no_flag verb.Run = refl
 no_flag verb.Listen = refl
 no_flag verb.Drive = refl
 no_flag verb.Make = refl
+no_flag verb.Ask = refl
 
 no_option : (v : Verb) (f : Flag) → has_name (row_of v).options (flag_name f) ≡ false
 no_option verb.Run flag.IgnoreIds = refl
@@ -85,6 +91,8 @@ no_option verb.Listen flag.IgnoreLiterals = refl
 no_option verb.Drive flag.IgnoreIds = refl
 no_option verb.Drive flag.IgnoreLiterals = refl
 no_option verb.Make f = refl
+no_option verb.Ask flag.IgnoreIds = refl
+no_option verb.Ask flag.IgnoreLiterals = refl
 
 no_place : (v : Verb) (f : Flag) → has_name (row_of v).positionals (flag_name f) ≡ false
 no_place verb.Run f = refl
@@ -93,6 +101,7 @@ no_place verb.Listen flag.IgnoreLiterals = refl
 no_place verb.Drive f = refl
 no_place verb.Make flag.IgnoreIds = refl
 no_place verb.Make flag.IgnoreLiterals = refl
+no_place verb.Ask f = refl
 
 -- the values, from the entries and from the items
 abbrev AreAllBare : List Item → Type 0
@@ -126,6 +135,7 @@ values_are verb.Listen items bare valued = λ i. option_map command.Listen (list
 values_are verb.Drive items bare valued = λ i. option_map command.Drive (settings_are (row_of verb.Drive) items other_name known_flag bare i)
 values_are verb.Make items bare valued = λ i. option_map command.Make
     (make_made (number_is (row_of verb.Make) items param.Number refl i) (number_is (row_of verb.Make) items param.Files refl i))
+values_are verb.Ask items bare valued = λ i. option_map command.Ask (settings_are (row_of verb.Ask) items other_name known_flag bare i)
 
 each_item : (row : Row) (x : Option (List Item)) (P : Item → Type 0) → EachIfSome P x → EachIfSome P (option_and_then (λ items. cond (are_whole row items) (Some items) None) x)
 each_item row None P each = tt

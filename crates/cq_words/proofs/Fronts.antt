@@ -187,6 +187,8 @@ all_there verb.Drive items = sym (map_some command.Drive (settings_from items) �
 all_there verb.Make items = sym (map_some command.Make (make_made (number_from param.Number items) (number_from param.Files items))
     ∙ and_then_some _ (number_from param.Number items) _ (λ n. map_some _ (number_from param.Files items))
     ∙ ap (λ b. is_there items param.Number && b) (sym (and_all (is_there items param.Files))))
+all_there verb.Ask items = sym (map_some command.Ask (settings_from items) ∙ settings_there items
+    ∙ no_last (is_there items param.Chunk) (is_there items param.Shards) (is_there items param.KeyBits) (is_there items param.ChangeLimit) (is_there items param.TextLimit) (is_there items param.ByteLimit))
 
 -- a positional's value is there only where its item is
 item_missing : (name : Word) (items : List Item) → has_item items name ≡ false → item_of name items ≡ None
@@ -199,6 +201,7 @@ item_missing name (item ∷ items) none =
 placed : (v : Verb) (items : List Item) → cond (list_all (has_item items) (row_of v).positionals) (command_from v items) None ≡ command_from v items
 placed verb.Run items = refl
 placed verb.Drive items = refl
+placed verb.Ask items = refl
 placed verb.Listen items = there (has_item items (param_name param.Address)) refl
   where
     from_parts : Option Settings → Option Word → Option Command

@@ -117,3 +117,4 @@ command_read verb.Listen entries = option_map command.Listen (listen_made
     (number_read param.Connections entries))
 command_read verb.Drive entries = option_map command.Drive (settings_read entries)
 command_read verb.Make entries = option_map command.Make (make_made (number_read param.Number entries) (number_read param.Files entries))
+command_read verb.Ask entries = option_map command.Ask (settings_read entries)

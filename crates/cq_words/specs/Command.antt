@@ -81,6 +81,7 @@ command_from verb.Listen items = option_map command.Listen (listen_made
     (number_from param.Connections items))
 command_from verb.Drive items = option_map command.Drive (settings_from items)
 command_from verb.Make items = option_map command.Make (make_made (number_from param.Number items) (number_from param.Files items))
+command_from verb.Ask items = option_map command.Ask (settings_from items)
 
 -- what the words behind a command's name give
 abbrev pub command_after : Verb → List Word → Option Command
@@ -97,6 +98,7 @@ connections_in (command.Run run) = None
 connections_in (command.Listen listen) = Some listen.connections
 connections_in (command.Drive settings) = None
 connections_in (command.Make make) = None
+connections_in (command.Ask settings) = None
 
 abbrev pub connections_of : List Word → Option ℕ
 connections_of words = option_and_then connections_in (command_of words)
@@ -107,3 +109,4 @@ HasRanges (command.Run run) = IsInRange run.settings × (run.workers ≤ 64)
 HasRanges (command.Listen listen) = IsInRange listen.settings × (listen.workers ≤ 64) × (1 ≤ listen.sessions) × (listen.sessions ≤ 64)
 HasRanges (command.Drive settings) = IsInRange settings
 HasRanges (command.Make make) = make.files ≤ 10000
+HasRanges (command.Ask settings) = IsInRange settings

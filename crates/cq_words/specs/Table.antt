@@ -16,6 +16,7 @@ verb_name verb.Run = codes "run"
 verb_name verb.Listen = codes "listen"
 verb_name verb.Drive = codes "drive"
 verb_name verb.Make = codes "make"
+verb_name verb.Ask = codes "ask"
 
 -- the command that a word names
 abbrev pub verb_named : Word → Option Verb
@@ -24,7 +25,8 @@ verb_named word =
     else (if bytes_eq word (codes "listen") then Some verb.Listen
     else (if bytes_eq word (codes "drive") then Some verb.Drive
     else (if bytes_eq word (codes "make") then Some verb.Make
-    else None)))
+    else (if bytes_eq word (codes "ask") then Some verb.Ask
+    else None))))
 
 abbrev pub options_of : Verb → List Param
 options_of verb.Run = param.Chunk ∷ param.Shards ∷ param.KeyBits ∷ param.ChangeLimit ∷ param.TextLimit ∷ param.ByteLimit ∷ param.Workers ∷ []
@@ -33,18 +35,21 @@ options_of verb.Listen =
     ∷ param.ListenWorkers ∷ param.Sessions ∷ param.Connections ∷ []
 options_of verb.Drive = param.Chunk ∷ param.Shards ∷ param.KeyBits ∷ param.ChangeLimit ∷ param.TextLimit ∷ param.ByteLimit ∷ []
 options_of verb.Make = []
+options_of verb.Ask = param.Chunk ∷ param.Shards ∷ param.KeyBits ∷ param.ChangeLimit ∷ param.TextLimit ∷ param.ByteLimit ∷ []
 
 abbrev pub flags_of : Verb → List Flag
 flags_of verb.Run = flag.IgnoreIds ∷ flag.IgnoreLiterals ∷ []
 flags_of verb.Listen = flag.IgnoreIds ∷ flag.IgnoreLiterals ∷ []
 flags_of verb.Drive = flag.IgnoreIds ∷ flag.IgnoreLiterals ∷ []
 flags_of verb.Make = []
+flags_of verb.Ask = flag.IgnoreIds ∷ flag.IgnoreLiterals ∷ []
 
 abbrev pub positionals_of : Verb → List Param
 positionals_of verb.Run = []
 positionals_of verb.Listen = param.Address ∷ []
 positionals_of verb.Drive = []
 positionals_of verb.Make = param.Number ∷ param.Files ∷ []
+positionals_of verb.Ask = []
 
 abbrev pub param_name : Param → Word
 param_name param.Chunk = codes "chunk"

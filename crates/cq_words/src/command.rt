@@ -42,4 +42,6 @@ pub enum Command {
     Drive(Settings),
     /// A project that is made, put and listed; no input is read.
     Make(Make),
+    /// A kept version, which the input begins with, asked by the lines behind it.
+    Ask(Settings),
 }

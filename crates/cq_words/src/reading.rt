@@ -144,6 +144,14 @@ fn drive_read(matches: &ArgMatches) -> Option<Command>
     Some(Command::Drive(settings))
 }
 
+fn ask_read(matches: &ArgMatches) -> Option<Command>
+    ensures command { result ≡ spec.command_read verb.Ask (rows_of (found_of matches.now)) }
+    ensures in_range { IfSome result HasRanges }
+{
+    let settings = settings_read(matches)?;
+    Some(Command::Ask(settings))
+}
+
 fn make_read(matches: &ArgMatches) -> Option<Command>
     ensures command { result ≡ spec.command_read verb.Make (rows_of (found_of matches.now)) }
     ensures in_range { IfSome result HasRanges }
@@ -165,6 +173,7 @@ fn command_read(alloc: Global, verb: Verb, matches: &ArgMatches) -> Result<Optio
         Verb::Listen => listen_read(alloc, matches),
         Verb::Drive => Ok(drive_read(matches)),
         Verb::Make => Ok(make_read(matches)),
+        Verb::Ask => Ok(ask_read(matches)),
     }
 }
 

@@ -9,6 +9,7 @@ pub(crate) enum Verb {
     Listen,
     Drive,
     Make,
+    Ask,
 }
 
 /// What words give by an option or as a positional: a number, or the text of an address.
@@ -67,7 +68,7 @@ const LISTEN_OPTIONS: [Param; 9] = [
     Param::Connections,
 ];
 
-const DRIVE_OPTIONS: [Param; 6] = [
+const SETTINGS_OPTIONS: [Param; 6] = [
     Param::Chunk,
     Param::Shards,
     Param::KeyBits,
@@ -97,6 +98,9 @@ pub(crate) fn verb_named(word: &[u8]) -> Option<Verb>
     if word == b"make".as_slice() {
         return Some(Verb::Make);
     }
+    if word == b"ask".as_slice() {
+        return Some(Verb::Ask);
+    }
     None
 }
 
@@ -108,6 +112,7 @@ pub(crate) fn verb_name(verb: Verb) -> &'static str
         Verb::Listen => "listen",
         Verb::Drive => "drive",
         Verb::Make => "make",
+        Verb::Ask => "ask",
     }
 }
 
@@ -117,7 +122,7 @@ pub(crate) fn options_of(verb: Verb) -> &'static [Param]
     match verb {
         Verb::Run => &RUN_OPTIONS,
         Verb::Listen => &LISTEN_OPTIONS,
-        Verb::Drive => &DRIVE_OPTIONS,
+        Verb::Drive | Verb::Ask => &SETTINGS_OPTIONS,
         Verb::Make => &[],
     }
 }
@@ -126,7 +131,7 @@ pub(crate) fn flags_of(verb: Verb) -> &'static [Flag]
     ensures { result.now ≡ spec.flags_of verb }
 {
     match verb {
-        Verb::Run | Verb::Listen | Verb::Drive => &FLAGS,
+        Verb::Run | Verb::Listen | Verb::Drive | Verb::Ask => &FLAGS,
         Verb::Make => &[],
     }
 }
@@ -136,7 +141,7 @@ pub(crate) fn positionals_of(verb: Verb) -> &'static [Param]
     ensures { result.now ≡ spec.positionals_of verb }
 {
     match verb {
-        Verb::Run | Verb::Drive => &[],
+        Verb::Run | Verb::Drive | Verb::Ask => &[],
         Verb::Listen => &LISTEN_POSITIONALS,
         Verb::Make => &MAKE_POSITIONALS,
     }

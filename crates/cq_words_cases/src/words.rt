@@ -22,7 +22,7 @@ fn read(alloc: Global, all: &[&str]) -> Result<Option<Command>, Fail> {
     Ok(read_command(alloc, words.as_slice())?)
 }
 
-const REFUSED: [&[&str]; 93] = [
+const REFUSED: [&[&str]; 98] = [
     &[],
     &[""],
     &["listen"],
@@ -102,6 +102,11 @@ const REFUSED: [&[&str]; 93] = [
     &["drive", "--chunk", "5", "--chunk=6"],
     &["drive", "--ignore-ids", "--ignore-ids"],
     &["drive", "--"],
+    &["ask", "--workers", "0"],
+    &["ask", "x"],
+    &["ask", "--chunk", "0"],
+    &["ask", "--ignore-literals=true"],
+    &["Ask"],
     &["make"],
     &["make", "1"],
     &["make", "7", "3", "4"],
@@ -146,6 +151,7 @@ fn defaults_stand_where_nothing_is_said(rt: HostRuntime) -> Result<(), Fail> {
     let alloc = rt.alloc();
     assert_eq!(rt; read(alloc, &["run"])?, Some(Command::Run(run)));
     assert_eq!(rt; read(alloc, &["drive"])?, Some(Command::Drive(DEFAULTS)));
+    assert_eq!(rt; read(alloc, &["ask"])?, Some(Command::Ask(DEFAULTS)));
     Ok(())
 }
 
@@ -225,6 +231,22 @@ fn the_settings_of_drive_are_read(rt: HostRuntime) -> Result<(), Fail> {
     assert_eq!(rt;
         read(alloc, words.as_slice())?,
         Some(Command::Drive(literals))
+    );
+    Ok(())
+}
+
+#[test]
+fn the_settings_of_ask_are_read(rt: HostRuntime) -> Result<(), Fail> {
+    let settings = Settings {
+        chunk: 2,
+        ignore_ids: true,
+        byte_limit: 7,
+        ..DEFAULTS
+    };
+    let words = ["ask", "--byte-limit=7", "--ignore-ids", "--chunk", "2"];
+    assert_eq!(rt;
+        read(rt.alloc(), words.as_slice())?,
+        Some(Command::Ask(settings))
     );
     Ok(())
 }

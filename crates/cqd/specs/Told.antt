@@ -9,4 +9,5 @@ line_of status =
     else if status == 3 then codes "cqd: write fault"
     else if status == 4 then codes "cqd: out of memory"
     else if status == 5 then codes "cqd: doors failed"
+    else if status == 8 then codes "cqd: token file refused"
     else codes "cqd: byte limit"

@@ -37,6 +37,7 @@ fn line_of(status: u8) -> &'static str
         3 => "cqd: write fault",
         4 => "cqd: out of memory",
         5 => "cqd: doors failed",
+        8 => "cqd: token file refused",
         _ => "cqd: byte limit",
     }
 }

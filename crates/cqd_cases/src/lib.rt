@@ -9,6 +9,8 @@ mod failing;
 #[cfg(test)]
 mod functions;
 #[cfg(test)]
+mod kept;
+#[cfg(test)]
 mod marks;
 #[cfg(test)]
 mod projects;
