@@ -1,0 +1,4 @@
+mod Accepting
+mod Running
+mod Holding
+mod Showing
