@@ -1,5 +1,5 @@
 use cq_base::{Settings, Text};
-use cq_words::{Command, Listen, Make, Run, connections, is_command, read_command};
+use cq_words::{Command, Export, Listen, Make, Run, connections, is_command, read_command};
 use std::alloc::Global;
 use std::test::Fail;
 
@@ -22,7 +22,10 @@ fn read(alloc: Global, all: &[&str]) -> Result<Option<Command>, Fail> {
     Ok(read_command(alloc, words.as_slice())?)
 }
 
-const REFUSED: [&[&str]; 98] = [
+// A name of 65 bytes.
+const LONG: &str = "aaaaaaaaaaaaaaaaaaaaaaaaaaaaaaaaaaaaaaaaaaaaaaaaaaaaaaaaaaaaaaaaa";
+
+const REFUSED: [&[&str]; 107] = [
     &[],
     &[""],
     &["listen"],
@@ -102,6 +105,15 @@ const REFUSED: [&[&str]; 98] = [
     &["drive", "--chunk", "5", "--chunk=6"],
     &["drive", "--ignore-ids", "--ignore-ids"],
     &["drive", "--"],
+    &["export"],
+    &["export", ""],
+    &["export", "-p"],
+    &["export", "a b"],
+    &["export", "p", "q"],
+    &["export", "--project", "p"],
+    &["export", "p", "--workers", "0"],
+    &["export", "p", "--chunk", "0"],
+    &["export", LONG],
     &["ask", "--workers", "0"],
     &["ask", "x"],
     &["ask", "--chunk", "0"],
@@ -248,6 +260,22 @@ fn the_settings_of_ask_are_read(rt: HostRuntime) -> Result<(), Fail> {
         read(rt.alloc(), words.as_slice())?,
         Some(Command::Ask(settings))
     );
+    Ok(())
+}
+
+#[test]
+fn the_project_of_export_is_read(rt: HostRuntime) -> Result<(), Fail> {
+    let alloc = rt.alloc();
+    let export = Export {
+        settings: Settings {
+            chunk: 2,
+            ignore_lits: true,
+            ..DEFAULTS
+        },
+        project: Text::from_bytes(alloc, b"a-Z.9_")?,
+    };
+    let words = ["export", "--chunk", "2", "a-Z.9_", "--ignore-literals"];
+    assert_eq!(rt; read(alloc, words.as_slice())?, Some(Command::Export(export)));
     Ok(())
 }
 
