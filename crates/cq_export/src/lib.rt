@@ -7,6 +7,7 @@
 mod exporting;
 mod publishing;
 mod saying;
+mod sharing;
 mod taking;
 mod working;
 

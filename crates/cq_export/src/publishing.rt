@@ -1,10 +1,13 @@
 ghost use Rattle.std.specs.Prelude.{◌≤◌, ℕ, List, length, IfOk, OnOk};
+ghost use Rattle.std.specs.List.{AllByRecursion};
 ghost use Rattle.cq_base.specs.declared.change.Change.{Change};
 ghost use Rattle.cq_base.specs.declared.settings.Settings.{Settings};
 ghost use Rattle.cq_export.specs.Boards.{Holds, IsPublished, IsViewOfAll};
 ghost use Rattle.cq_history.specs.State.{changes_in, ready};
 ghost use Rattle.cq_kept.specs.Exported.{IsOfChanges};
+ghost use Rattle.cq_tokfile.specs.Sound.{IsSoundCondition};
 
+use crate::sharing::{copied, shared};
 use cq_base::{Memory, Settings, Text};
 use cq_board::{Board, View};
 use cq_shard::Indexed;
@@ -54,12 +57,13 @@ fn shown<L: Ledger>(
     view: &View<Work<L>>,
     project: &Text,
 ) -> Result<Snapshot<L>, Memory>
-    ensures { IfOk result (λ snapshot. (settings : Settings) (changes : List Change)
+    ensures shows { IfOk result (λ snapshot. (settings : Settings) (changes : List Change)
         → IsViewOfAll settings changes view.now
         → IsOfChanges settings changes project.now snapshot) }
+    ensures conditions { IfOk result (λ snapshot. AllByRecursion IsSoundCondition snapshot.conditions.items) }
 {
-    let files = view.listing.project(project).copied(alloc)?;
-    let conditions = Vec::from_slice(alloc, view.listing.conditions(project))?;
+    let files = shared(alloc, view.listing.project(project))?;
+    let conditions = copied(alloc, view.listing.conditions(project))?;
     let project = Text::from_bytes(alloc, project.as_bytes())?;
     Ok(Snapshot {
         version: view.version,
@@ -78,7 +82,8 @@ pub(crate) fn last_version<L: Ledger>(
 ) -> Result<Snapshot<L>, Memory>
     requires holds { Holds settings.now board.old }
     requires all { length (changes_in board.old.state) ≤ ready board.old.state }
-    ensures { IfOk result (IsOfChanges settings.now (changes_in board.old.state) project.now) }
+    ensures of_changes { IfOk result (IsOfChanges settings.now (changes_in board.old.state) project.now) }
+    ensures conditions { IfOk result (λ snapshot. AllByRecursion IsSoundCondition snapshot.conditions.items) }
 {
     let view = last_view(alloc, settings, board)?;
     shown(alloc, &view, project)

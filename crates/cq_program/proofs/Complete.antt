@@ -18,8 +18,11 @@ use Rattle.cq_lines.specs.declared.ending.End.{End}
 use Rattle.cq_lines.specs.declared.ending.End.TheVariants as end
 use Rattle.cq_outcome.specs.Outcomes.{line_of as outcome_line}
 use Rattle.cq_reply.specs.Written.{line_of as reply_line}
-use Rattle.cq_program.specs.Top.{status_of, status_of_asked, end_of, AreAlone}
-use Rattle.cq_program.specs.Complete.{IsQuiet, HasFewer, SessionsComplete, SessionsBesideComplete, ScriptsComplete, MadeComplete, ListensComplete, AsksComplete}
+use Rattle.cq_export.specs.Exports.{Exports}
+use Rattle.cq_export.specs.declared.exporting.Exported.{Exported}
+use Rattle.cq_export.specs.declared.exporting.Exported.TheVariants as exported
+use Rattle.cq_program.specs.Top.{status_of, status_of_asked, status_of_exported, end_of, AreAlone}
+use Rattle.cq_program.specs.Complete.{IsQuiet, HasFewer, SessionsComplete, SessionsBesideComplete, ScriptsComplete, MadeComplete, ListensComplete, AsksComplete, ExportsComplete}
 
 not_rose : (before now : ℕ) → IsQuiet before now → Rose before now → ⊥
 not_rose before now quiet (inl less) = omega (arith, less, quiet.0)
@@ -94,3 +97,19 @@ module _ (L : Type 0) {S K : Type 0} (from : source.Ghosts S) (onto : sink.Ghost
   asks_complete set read read_now written written_now status is quiet_read quiet_written few other =
       let asked = is other in
       ⊎_elim (λ zero. inl (asked.status_is ∙ zero)) (λ eight. inr (asked.status_is ∙ eight)) (asked_by set read read_now written written_now asked.by asked.asks quiet_read quiet_written few)
+
+  exported_by : (set : Settings) (project : List ℕ) (read read_now : S) (written written_now : K) (by : Exported) → Exports L from onto set project read read_now written written_now by → IsQuiet (from.faults read) (from.faults read_now) → IsQuiet (onto.faults written) (onto.faults written_now) → HasFewer set.byte_limit (from.rest read) → (status_of_exported by ≡ 0) ⊎ ((status_of_exported by ≡ 7) ⊎ (status_of_exported by ≡ 9))
+  exported_by set project read read_now written written_now exported.Refused exports quiet_read quiet_written few = inr (inl refl)
+  exported_by set project read read_now written written_now exported.TooLarge exports quiet_read quiet_written few = inr (inr refl)
+  exported_by set project read read_now written written_now (exported.Ended end.Finished) exports quiet_read quiet_written few = inl refl
+  exported_by set project read read_now written written_now (exported.Ended end.ReadFault) exports quiet_read quiet_written few = absurd (not_rose (from.faults read) (from.faults read_now) quiet_read exports.1)
+  exported_by set project read read_now written written_now (exported.Ended end.WriteFault) exports quiet_read quiet_written few = absurd (not_rose (onto.faults written) (onto.faults written_now) quiet_written exports.writes.4)
+  exported_by set project read read_now written written_now (exported.Ended end.Spent) exports quiet_read quiet_written few =
+      let most = exports.0.1 in
+      absurd (not_spent set.byte_limit (from.rest read) (from.rest read_now) most.0.got most.0.bytes most.1 few)
+
+  pub exports_complete : ExportsComplete L from onto
+  exports_complete asked read read_now written written_now status is quiet_read quiet_written few other =
+      let done = is other in
+      ⊎_elim (λ zero. inl (done.status_is ∙ zero)) (λ others. inr (⊎_elim (λ seven. inl (done.status_is ∙ seven)) (λ nine. inr (done.status_is ∙ nine)) others))
+      (exported_by asked.settings asked.project read read_now written written_now done.by done.exports quiet_read quiet_written few)

@@ -1,5 +1,5 @@
 -- What the status of the asking of a kept version says of its ends.
-use Rattle.std.proofs.Common.{◌≡◌, ℕ, sym, ap, subst, inl, inr, arith}
+use Rattle.std.proofs.Common.{◌≡◌, ◌≤◌, ℕ, sym, ap, subst, inl, inr, arith}
 use Rattle.cq_base.specs.declared.settings.Settings.{Settings}
 use Rattle.cq_io.specs.Causes.{Rose}
 use Rattle.cq_io.specs.declared.sink.Sink as sink
@@ -12,12 +12,12 @@ use Rattle.cq_lines.specs.declared.ending.End.{End}
 use Rattle.cq_lines.specs.declared.ending.End.TheVariants as end
 use Rattle.cq_program.specs.Top.{status_of, status_of_asked}
 
--- no end has the status of a refused file, of words out of form, or of the doors
-pub no_such : (by : End) → (status_of by ≡ 1 → ⊥) × (status_of by ≡ 5 → ⊥) × (status_of by ≡ 8 → ⊥)
-no_such end.Finished = (λ (is : 0 ≡ 1). omega (arith, is), λ (is : 0 ≡ 5). omega (arith, is), λ (is : 0 ≡ 8). omega (arith, is))
-no_such end.ReadFault = (λ (is : 2 ≡ 1). omega (arith, is), λ (is : 2 ≡ 5). omega (arith, is), λ (is : 2 ≡ 8). omega (arith, is))
-no_such end.WriteFault = (λ (is : 3 ≡ 1). omega (arith, is), λ (is : 3 ≡ 5). omega (arith, is), λ (is : 3 ≡ 8). omega (arith, is))
-no_such end.Spent = (λ (is : 6 ≡ 1). omega (arith, is), λ (is : 6 ≡ 5). omega (arith, is), λ (is : 6 ≡ 8). omega (arith, is))
+-- no end has the status of words out of form, of want of memory, or of the doors, and none one above 6
+pub no_such : (by : End) → (status_of by ≡ 1 → ⊥) × (status_of by ≡ 4 → ⊥) × (status_of by ≡ 5 → ⊥) × (status_of by ≤ 6)
+no_such end.Finished = (λ (is : 0 ≡ 1). omega (arith, is), λ (is : 0 ≡ 4). omega (arith, is), λ (is : 0 ≡ 5). omega (arith, is), let low : 0 ≤ 6 = omega arith in low)
+no_such end.ReadFault = (λ (is : 2 ≡ 1). omega (arith, is), λ (is : 2 ≡ 4). omega (arith, is), λ (is : 2 ≡ 5). omega (arith, is), let low : 2 ≤ 6 = omega arith in low)
+no_such end.WriteFault = (λ (is : 3 ≡ 1). omega (arith, is), λ (is : 3 ≡ 4). omega (arith, is), λ (is : 3 ≡ 5). omega (arith, is), let low : 3 ≤ 6 = omega arith in low)
+no_such end.Spent = (λ (is : 6 ≡ 1). omega (arith, is), λ (is : 6 ≡ 4). omega (arith, is), λ (is : 6 ≡ 5). omega (arith, is), let low : 6 ≤ 6 = omega arith in low)
 
 -- the counts of faults, by the status of an end
 module _ (read read_now written written_now : ℕ) where
@@ -45,17 +45,14 @@ module _ (read read_now written written_now : ℕ) where
   write_rose end.WriteFault cause is = cause.0
   write_rose end.Spent cause is = let no : 6 ≡ 3 = is in absurd (omega (arith, no))
 
--- no status is that of words out of form or of the doors, and none that of want of memory
-pub others : (by : Asked) → (status_of_asked by ≡ 1 → ⊥) × (status_of_asked by ≡ 5 → ⊥)
-others kept.Refused = (λ (is : 8 ≡ 1). omega (arith, is), λ (is : 8 ≡ 5). omega (arith, is))
-others (kept.Ended by) = ((no_such by).0, (no_such by).1)
+-- no status is that of words out of form, of the doors or of an export, and none that of want of memory
+pub others : (by : Asked) → (status_of_asked by ≡ 1 → ⊥) × (status_of_asked by ≡ 5 → ⊥) × (status_of_asked by ≡ 7 → ⊥) × (status_of_asked by ≡ 9 → ⊥)
+others kept.Refused = (λ (is : 8 ≡ 1). omega (arith, is), λ (is : 8 ≡ 5). omega (arith, is), λ (is : 8 ≡ 7). omega (arith, is), λ (is : 8 ≡ 9). omega (arith, is))
+others (kept.Ended by) = let low = (no_such by).3 in ((no_such by).0, (no_such by).2, λ (is : status_of by ≡ 7). omega (arith, is, low), λ (is : status_of by ≡ 9). omega (arith, is, low))
 
 pub not_four : (by : Asked) → status_of_asked by ≡ 4 → ⊥
 not_four kept.Refused is = let no : 8 ≡ 4 = is in omega (arith, no)
-not_four (kept.Ended end.Finished) is = let no : 0 ≡ 4 = is in omega (arith, no)
-not_four (kept.Ended end.ReadFault) is = let no : 2 ≡ 4 = is in omega (arith, no)
-not_four (kept.Ended end.WriteFault) is = let no : 3 ≡ 4 = is in omega (arith, no)
-not_four (kept.Ended end.Spent) is = let no : 6 ≡ 4 = is in omega (arith, no)
+not_four (kept.Ended by) is = (no_such by).1 is
 
 module _ (L : Type 0) {S K : Type 0} (from : source.Ghosts S) (onto : sink.Ghosts K) (set : Settings) (read read_now : S) (written written_now : K) where
   -- an end tells what rose, whether it came before the file was whole or behind it
@@ -81,4 +78,4 @@ module _ (L : Type 0) {S K : Type 0} (from : source.Ghosts S) (onto : sink.Ghost
 
   pub on_refused : (by : Asked) → Asks L from onto set read read_now written written_now by → status_of_asked by ≡ 8 → (from.faults read_now ≡ from.faults read) × (written_now ≡ written)
   on_refused kept.Refused asks is = (asks.1, asks.2)
-  on_refused (kept.Ended by) asks is = absurd ((no_such by).2 is)
+  on_refused (kept.Ended by) asks is = let low = (no_such by).3 in absurd (omega (arith, is, low))

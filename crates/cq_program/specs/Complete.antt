@@ -4,7 +4,8 @@ use Rattle.cq_base.specs.declared.settings.Settings.{Settings}
 use Rattle.cq_io.specs.Causes.{Rose}
 use Rattle.cq_io.specs.declared.sink.Sink as sink
 use Rattle.cq_io.specs.declared.source.Source as source
-use Rattle.cq_program.specs.Top.{AsksFile, IsSession, IsSessionBeside, IsDrive, IsMade, HasListened}
+use Rattle.cq_words.specs.declared.command.Export.{Export}
+use Rattle.cq_program.specs.Top.{AsksFile, ExportsFile, IsSession, IsSessionBeside, IsDrive, IsMade, HasListened}
 
 -- the count of faults is as it was, and below the last value of a counter of 64 bits
 abbrev pub IsQuiet : ℕ → ℕ → Type 0
@@ -55,3 +56,10 @@ module _ (L : Type 0) {S K : Type 0} (from : source.Ghosts S) (onto : sink.Ghost
       AsksFile L from onto set read read_now written written_now status →
       IsQuiet (from.faults read) (from.faults read_now) → IsQuiet (onto.faults written) (onto.faults written_now) → HasFewer set.byte_limit (from.rest read) →
       status ≢ 4 → (status ≡ 0) ⊎ (status ≡ 8)
+
+  -- a version is written, or a line is no change that is accepted, or the file would be too large
+  abbrev pub ExportsComplete : Type 0
+  ExportsComplete = (asked : Export) (read read_now : S) (written written_now : K) (status : ℕ) →
+      ExportsFile L from onto asked read read_now written written_now status →
+      IsQuiet (from.faults read) (from.faults read_now) → IsQuiet (onto.faults written) (onto.faults written_now) → HasFewer asked.settings.byte_limit (from.rest read) →
+      status ≢ 4 → (status ≡ 0) ⊎ ((status ≡ 7) ⊎ (status ≡ 9))

@@ -3,6 +3,9 @@ use Rattle.std.specs.Prelude.{◌≡◌, ◌≢◌, ◌==◌, ◌||◌, ℕ, Boo
 use Rattle.cq_base.specs.declared.settings.Settings.{Settings}
 use Rattle.cq_beside.specs.Replies.{AreBeside}
 use Rattle.cq_drive.specs.Script.{IsScript}
+use Rattle.cq_export.specs.Exports.{Exports}
+use Rattle.cq_export.specs.declared.exporting.Exported.{Exported}
+use Rattle.cq_export.specs.declared.exporting.Exported.TheVariants as exported
 use Rattle.cq_history.specs.declared.event.Event.{Event}
 use Rattle.cq_io.specs.Causes.{HasCause}
 use Rattle.cq_io.specs.declared.sink.Sink as sink
@@ -26,6 +29,7 @@ use Rattle.cq_talk.specs.Said.{said}
 use Rattle.cq_words.specs.Command.{command_of, default_settings}
 use Rattle.cq_words.specs.declared.command.Command.{Command}
 use Rattle.cq_words.specs.declared.command.Command.TheVariants as command
+use Rattle.cq_words.specs.declared.command.Export.{Export}
 use Rattle.cq_words.specs.declared.command.Listen.{Listen}
 use Rattle.cq_words.specs.declared.command.Make.{Make}
 use Rattle.cq_words.specs.declared.command.Run.{Run}
@@ -42,6 +46,12 @@ abbrev pub status_of_asked : Asked → ℕ
 status_of_asked kept.Refused = 8
 status_of_asked (kept.Ended by) = status_of by
 
+-- the status of the writing of a version: 7 where a line is no change that is accepted, 9 where the file would be too large
+abbrev pub status_of_exported : Exported → ℕ
+status_of_exported exported.Refused = 7
+status_of_exported exported.TooLarge = 9
+status_of_exported (exported.Ended by) = status_of by
+
 -- the words ask for a kept version
 abbrev pub is_ask : Option Command → Bool
 is_ask None = false
@@ -49,7 +59,22 @@ is_ask (Some (command.Run run)) = false
 is_ask (Some (command.Listen listen)) = false
 is_ask (Some (command.Drive settings)) = false
 is_ask (Some (command.Make make)) = false
+is_ask (Some (command.Export export)) = false
 is_ask (Some (command.Ask settings)) = true
+
+-- or that one is written
+abbrev pub is_export : Option Command → Bool
+is_export None = false
+is_export (Some (command.Run run)) = false
+is_export (Some (command.Listen listen)) = false
+is_export (Some (command.Drive settings)) = false
+is_export (Some (command.Make make)) = false
+is_export (Some (command.Export export)) = true
+is_export (Some (command.Ask settings)) = false
+
+-- memory may be refused behind bytes that were taken
+abbrev pub takes_first : Option Command → Bool
+takes_first asked = is_ask asked || is_export asked
 
 -- how the writing of one line ends a run
 abbrev pub end_of : {E : Type 0} → Result (Unit {0}) E → End
@@ -151,6 +176,20 @@ module _ (L : Type 0) {S K : Type 0} (from : source.Ghosts S) (onto : sink.Ghost
   -- where the words ask for one
   abbrev pub AsksFor : List (List ℕ) → S → S → K → K → ℕ → Type 0
   AsksFor words read read_now written written_now status = (settings : Settings) → command_of words ≡ Some (command.Ask settings) → AsksFile settings read read_now written written_now status
+
+  -- the changes that the lines say were taken, and the file of their version written, and how that ended gives the status
+  pub record IsExport (asked : Export) (read read_now : S) (written written_now : K) (status : ℕ) : Type 0 where
+    pub by : Exported
+    pub status_is : status ≡ status_of_exported by
+    pub exports : Exports L from onto asked.settings asked.project read read_now written written_now by
+
+  -- each status but 4 is that of one
+  abbrev pub ExportsFile : Export → S → S → K → K → ℕ → Type 0
+  ExportsFile asked read read_now written written_now status = status ≢ 4 → IsExport asked read read_now written written_now status
+
+  -- where the words ask for it
+  abbrev pub ExportsFor : List (List ℕ) → S → S → K → K → ℕ → Type 0
+  ExportsFor words read read_now written written_now status = (asked : Export) → command_of words ≡ Some (command.Export asked) → ExportsFile asked read read_now written written_now status
 
 -- ---- connections
 

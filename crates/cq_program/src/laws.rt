@@ -1,4 +1,4 @@
-ghost use Rattle.cq_program.specs.Complete.{AsksComplete, ListensComplete, MadeComplete, ScriptsComplete, SessionsBesideComplete, SessionsComplete};
+ghost use Rattle.cq_program.specs.Complete.{AsksComplete, ExportsComplete, ListensComplete, MadeComplete, ScriptsComplete, SessionsBesideComplete, SessionsComplete};
 
 use cq_io::{Sink, Source};
 use std::sync::ledger::Ledger;
@@ -17,4 +17,11 @@ pub fn a_command_that_nothing_fails_is_done()
 /// with 8 where they begin with no token file, or with 4 for want of memory.
 pub fn a_kept_version_that_nothing_fails_is_asked<S: Source, K: Sink, L: Ledger>()
     ensures { AsksComplete L S.Source K.Sink }
+{}
+
+/// Where no count of faults rose, and fewer bytes came than may be read, what meets the clause of `top` on `export` ends with
+/// 0, with 7 where a line is no change that is accepted, with 9 where the file would be too large, or with 4 for want of
+/// memory.
+pub fn a_version_that_nothing_fails_is_written<S: Source, K: Sink, L: Ledger>()
+    ensures { ExportsComplete L S.Source K.Sink }
 {}

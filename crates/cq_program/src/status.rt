@@ -1,6 +1,7 @@
 ghost use Rattle.std.specs.Prelude.{◌≡◌};
 ghost use Rattle.cq_program.specs.Top as spec;
 
+use cq_export::Exported;
 use cq_kept::Asked;
 use cq_lines::End;
 
@@ -23,5 +24,16 @@ pub(crate) fn status_of_asked(asked: Asked) -> u8
     match asked {
         Asked::Refused => 8,
         Asked::Ended(end) => status_of(end),
+    }
+}
+
+/// The status of the writing of a version that ended so.
+pub(crate) fn status_of_exported(exported: Exported) -> u8
+    ensures { result ≡ spec.status_of_exported exported }
+{
+    match exported {
+        Exported::Refused => 7,
+        Exported::TooLarge => 9,
+        Exported::Ended(end) => status_of(end),
     }
 }

@@ -275,7 +275,10 @@ fn the_project_of_export_is_read(rt: HostRuntime) -> Result<(), Fail> {
         project: Text::from_bytes(alloc, b"a-Z.9_")?,
     };
     let words = ["export", "--chunk", "2", "a-Z.9_", "--ignore-literals"];
-    assert_eq!(rt; read(alloc, words.as_slice())?, Some(Command::Export(export)));
+    assert_eq!(rt;
+        read(alloc, words.as_slice())?,
+        Some(Command::Export(export))
+    );
     Ok(())
 }
 

@@ -12,7 +12,7 @@ last_version-requires-clause-all g c = c.in_ok-make_all.ensures.all
 
 pub returns-clause-of_changes : goal.returns-clause-of_changes
 returns-clause-of_changes g c =
-    subst (λ (changes : List Change). IfOk c.last_version.result (IsOfChanges c.args.settings.now changes c.args.project.now)) c.in_ok-make_all.ensures.on.same c.last_version.ensures
+    subst (λ (changes : List Change). IfOk c.last_version.result (IsOfChanges c.args.settings.now changes c.args.project.now)) c.in_ok-make_all.ensures.on.same c.last_version.ensures.of_changes
 
 pub returns-clause-sound : goal.returns-clause-sound
 returns-clause-sound g c = ?

@@ -6,7 +6,7 @@ use Rattle.cq_program.proofs.program.kept.Goals as goal
 pub returns-in-Ok-clause-others : goal.returns-in-Ok-clause-others
 returns-in-Ok-clause-others g c =
     let none = others c.in-Ok.asked in
-    (λ is. none.0 (sym c.status_of_asked.ensures ∙ is), λ is. none.1 (sym c.status_of_asked.ensures ∙ is))
+    (λ is. none.0 (sym c.status_of_asked.ensures ∙ is), λ is. none.1 (sym c.status_of_asked.ensures ∙ is), λ is. none.2 (sym c.status_of_asked.ensures ∙ is), λ is. none.3 (sym c.status_of_asked.ensures ∙ is))
 
 pub returns-in-Ok-clause-memory : goal.returns-in-Ok-clause-memory
 returns-in-Ok-clause-memory g c = λ is. absurd (not_four c.in-Ok.asked (sym c.status_of_asked.ensures ∙ is))
