@@ -5,6 +5,8 @@
 #[cfg(test)]
 mod clients;
 #[cfg(test)]
+mod exported;
+#[cfg(test)]
 mod failing;
 #[cfg(test)]
 mod functions;
