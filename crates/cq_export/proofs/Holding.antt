@@ -9,7 +9,7 @@ use Rattle.cq_base.specs.declared.settings.Settings.{Settings}
 use Rattle.cq_board.specs.Stands.{BoardState, StandsFor, Adds, IsCaller}
 use Rattle.cq_export.specs.Boards.{Holds, GoesOn, IsMade, AreMade, IsPublished}
 use Rattle.cq_export.specs.Lines.{accepts, HasAccepted}
-use Rattle.cq_export.proofs.Accepting.{state_is}
+use Rattle.cq_export.proofs.Accepting.{state_is, accepted_alone}
 use Rattle.cq_history.proofs.Bounds.{ready_after}
 use Rattle.cq_history.proofs.Doing.{accepted_stays, done_is}
 use Rattle.cq_history.proofs.Prefixes.{changes_after, changes_in-state}
@@ -20,10 +20,6 @@ use Rattle.cq_history.specs.declared.event.Event.TheVariants.{Accept, Ask, Done,
 use Rattle.cq_talk.proofs.OneMore.{ready_more}
 
 -- ---- changes alone
-
-accepted_alone : (changes : List Change) → accepted (accepts changes) ≡ changes
-accepted_alone [] = refl
-accepted_alone (c ∷ changes) = ap (λ (cs : List Change). c ∷ cs) (accepted_alone changes)
 
 published_alone : (s : State) (changes : List Change) → (fold after s (accepts changes)).published ≡ s.published
 published_alone s [] = refl

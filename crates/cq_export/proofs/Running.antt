@@ -7,7 +7,6 @@ use Rattle.cq_base.specs.declared.settings.Settings.{Settings}
 use Rattle.cq_board.specs.Stands.{BoardState}
 use Rattle.cq_export.specs.Lines.{Says, SayChanges, IsRefused, HasAccepted, TakesRefused, TakesLine, TakenSoFar, Takes}
 use Rattle.cq_export.specs.declared.taking.Taken.TheVariants as taken
-use Rattle.cq_export.proofs.Accepting.{are_accepted}
 use Rattle.cq_lines.proofs.Whole.{cut_none, cut_line, cut_front, run_ends}
 use Rattle.cq_lines.specs.Cutting.{IsNext, Cuts}
 use Rattle.cq_lines.specs.Held.{Held}
@@ -57,7 +56,7 @@ module _ (set : Settings) where
             others = others.0;
             parts = others.1;
             say = so.say;
-            accepted = are_accepted set so.changes old so.accepted;
+            accepted = so.accepted.accepted;
             refused = refused;
           },
         )
@@ -71,16 +70,16 @@ module _ (set : Settings) where
     at_end cuts =
         let run = run_ends set.byte_limit a b d x y so.lines cut.End so.cut cuts in (
           so.changes,
-          record { got = run.got; bytes = run.bytes; at_end = run.ends.0; fewer = run.ends.1; say = say_same _ run.ends.2; accepted = are_accepted set so.changes board so.accepted },
+          record { got = run.got; bytes = run.bytes; at_end = run.ends.0; fewer = run.ends.1; say = say_same _ run.ends.2; accepted = so.accepted.accepted },
           so.accepted,
         )
 
     pub at_limit : Cuts b d x cut.Spent y → Takes set a d board taken.Spent
     at_limit cuts =
         let run = run_ends set.byte_limit a b d x y so.lines cut.Spent so.cut cuts in
-        (so.changes, (record { got = run.got; bytes = run.bytes; say = say_same _ run.ends.1; accepted = are_accepted set so.changes board so.accepted }, run.ends.0))
+        (so.changes, (record { got = run.got; bytes = run.bytes; say = say_same _ run.ends.1; accepted = so.accepted.accepted }, run.ends.0))
 
     pub at_fault : Cuts b d x cut.ReadFault y → Takes set a d board taken.Failed
     at_fault cuts =
         let run = run_ends set.byte_limit a b d x y so.lines cut.ReadFault so.cut cuts in
-        (so.changes, record { got = run.got; bytes = run.bytes; say = say_same _ run.ends; accepted = are_accepted set so.changes board so.accepted })
+        (so.changes, record { got = run.got; bytes = run.bytes; say = say_same _ run.ends; accepted = so.accepted.accepted })

@@ -4,12 +4,9 @@ use Rattle.std.specs.Io.KnownBytes.{Consumes, IsAtEnd}
 use Rattle.std.specs.List.{AllZip}
 use Rattle.cq_base.specs.declared.change.Change.{Change}
 use Rattle.cq_base.specs.declared.settings.Settings.{Settings}
-use Rattle.cq_board.specs.Answers.{refusal_of}
 use Rattle.cq_board.specs.Stands.{BoardState, StandsFor}
 use Rattle.cq_export.specs.declared.taking.Taken.{Taken}
 use Rattle.cq_export.specs.declared.taking.Taken.TheVariants as taken
-use Rattle.cq_history.specs.Lawful.{Lawful}
-use Rattle.cq_history.specs.State.{state}
 use Rattle.cq_history.specs.declared.event.Event.{Event}
 use Rattle.cq_history.specs.declared.event.Event.TheVariants.{Accept}
 use Rattle.cq_io.specs.Causes.{Rose}
@@ -19,6 +16,7 @@ use Rattle.cq_lines.specs.Runs.{CutTo}
 use Rattle.cq_request.specs.declared.request.Refusal.{Refusal}
 use Rattle.cq_request.specs.declared.request.Request.{Request}
 use Rattle.cq_request.specs.declared.request.Request.TheVariants as request
+use Rattle.cq_talk.specs.Causes.{cause}
 use Rattle.cq_talk.specs.Said.{Said, TooLong, Read, said}
 
 -- the line says this change
@@ -29,18 +27,19 @@ Says chunk line change = said chunk line ≡ Read (Ok (request.Change change))
 abbrev pub SayChanges : ℕ → List (List ℕ) → List Change → Type 0
 SayChanges chunk lines changes = AllZip (Says chunk) lines changes
 
--- one caller's changes, and nothing else
-abbrev pub accepts : List Change → List Event
-accepts changes = map (λ (change : Change). Accept 0 change) changes
+-- behind these changes there is no cause against the first, nor against any other behind it and those before
+abbrev pub AreAcceptedBehind : Settings → List Change → List Change → Type 0
+AreAcceptedBehind set before [] = Unit {0}
+AreAcceptedBehind set before (change ∷ changes) = (cause set before change ≡ None) × AreAcceptedBehind set (before ++ change ∷ []) changes
 
--- each is accepted behind those before it
+-- each is accepted behind those before it, where nothing was accepted before
 abbrev pub AreAccepted : Settings → List Change → Type 0
-AreAccepted set changes = Lawful set 1 (accepts changes)
+AreAccepted set changes = AreAcceptedBehind set [] changes
 
--- it is too long, refused, no change, or one that is not accepted behind these
+-- it is too long, refused, no change, or one that there is a cause against behind these
 abbrev pub IsRefused : Settings → List Change → Said → Type 0
 IsRefused set changes TooLong = Unit {0}
-IsRefused set changes (Read (Ok (request.Change change))) = IsSome (refusal_of set (state 1 (accepts changes)) change)
+IsRefused set changes (Read (Ok (request.Change change))) = IsSome (cause set changes change)
 IsRefused set changes (Read (Ok (request.Query query))) = Unit {0}
 IsRefused set changes (Read (Ok request.State)) = Unit {0}
 IsRefused set changes (Read (Err why)) = Unit {0}
@@ -93,11 +92,16 @@ abbrev pub SaysOrNot : Result Request Refusal → Option Change → Type 0
 SaysOrNot says (Some change) = says ≡ Ok (request.Change change)
 SaysOrNot says None = IsNoChange says
 
--- the board of one caller whose changes are these, and nothing else happened
+-- one caller's changes, and nothing else
+abbrev pub accepts : List Change → List Event
+accepts changes = map (λ (change : Change). Accept 0 change) changes
+
+-- the board of one caller which has accepted these, and nothing else happened
 pub record HasAccepted (set : Settings) (changes : List Change) (b : BoardState) : Type 0 where
   pub stands : StandsFor (accepts changes) b
   pub settings_are : b.settings ≡ set
   pub one_caller : length b.state.views ≡ 1
+  pub accepted : AreAccepted set changes
 
 -- behind these changes, the line's was accepted, or the line is refused
 abbrev pub TakesBehind : Settings → List Change → List ℕ → BoardState → Bool → Type 0

@@ -7,7 +7,7 @@ returns-in-None-clause-takes g c = λ changes has. no_change_refused c.args.sett
 
 pub returns-in-Ok-clause-takes : goal.returns-in-Ok-clause-takes
 returns-in-Ok-clause-takes g c = λ changes has.
-    (c.in-Some.change, says_change c.args.settings.now.chunk c.args.line.now c.in-Some.change c.requires.short c.in-Some.ensures.says, accepts_more c.args.settings.now changes c.args.board.now has c.accept.new.board c.in-Some.change c.in-Ok.ensures.adds)
+    (c.in-Some.change, says_change c.args.settings.now.chunk c.args.line.now c.in-Some.change c.requires.short c.in-Some.ensures.says, accepts_more c.args.settings.now changes c.args.board.now has c.accept.new.board c.in-Some.change c.in-Ok.ensures.adds c.in-Ok.ensures.cause)
 
 pub returns-in-Err-Absent-clause-takes : goal.returns-in-Err-Absent-clause-takes
 returns-in-Err-Absent-clause-takes g c = λ changes has.
