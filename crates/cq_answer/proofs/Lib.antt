@@ -1,6 +1,6 @@
 pub mod VersionFiles
-pub mod FunctionLists
 pub mod WorkReadings
+pub mod Bounding
 pub mod SameReadings
 pub mod Inside
 pub mod Rows

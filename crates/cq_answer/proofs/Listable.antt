@@ -20,18 +20,19 @@ use Rattle.cq_history.specs.Files.{File, Source, files_at, conditions_at}
 use Rattle.cq_key.proofs.Keyed.{keyed_by_windows}
 use Rattle.cq_measures.specs.Measures.{AreGroupsInside}
 use Rattle.cq_reply.specs.declared.reply.Reply.{Reply}
-use Rattle.cq_reply.specs.Written.{IsFileText, IsPlaceText, IsGroupText, IsReplyText}
+use Rattle.cq_reply.specs.Written.{IsFileText, IsPlaceText, IsGroupText, IsFunctionText, IsReplyText}
 use Rattle.cq_request.specs.declared.request.Kind.{Kind}
 use Rattle.cq_request.specs.declared.request.Kind.TheVariants as kind
 use Rattle.cq_request.specs.declared.request.Query.{Query}
 use Rattle.cq_work.specs.Work.{IsWorkOf}
 use Rattle.cq_work.specs.declared.work.Work.{Work}
 use Rattle.cq_answer.specs.declared.part.Part.{Part}
+use Rattle.cq_answer.specs.declared.part.Part.TheVariants as parts
 use Rattle.cq_answer.specs.Parts.{part_of, AreGroupsOf, AreKeysOf, AreMostReads}
 use Rattle.cq_answer.specs.Questions.{AreAsked, IsMostRead}
 use Rattle.cq_answer.specs.Readings.{paths_read, corpus_read, keys_read}
 use Rattle.cq_answer.specs.Reply.{IsReply, part_read, reply_of}
-use Rattle.cq_answer.specs.Rows.{Facts, facts_read, place_row, group_row, AreShowable, AreFewFunctions}
+use Rattle.cq_answer.specs.Rows.{Facts, facts_read, place_row, group_row, functions_of, AreShowable, AreFewFunctions, AreNamed}
 use Rattle.cq_answer.specs.Given.{AreGiven, IsReplyOf}
 use Rattle.cq_answer.specs.Versions.{AreOfVersion, HaveVersion, AreListable}
 use Rattle.cq_answer.specs.Works.{paths_in, norms_in, keys_in, spans_in, functions_in, row_of, facts_in}
@@ -39,6 +40,7 @@ use Rattle.cq_answer.proofs.VersionFiles.{numbers_apart, few_files, paths_are_te
 use Rattle.cq_answer.proofs.WorkReadings.{Reads, reads, as_many}
 use Rattle.cq_answer.proofs.SameReadings.{same_paths, same_corpus, same_keys}
 use Rattle.cq_answer.proofs.Inside.{groups_inside}
+use Rattle.cq_answer.proofs.Bounding.{version_bounded, functions_named, named_at}
 
 as_many_works : {L : Type 0} (set : Settings) (sources : List Source) (files : List (File (Work L))) → AreSameFiles (IsWorkOf set) sources files → length files ≡ length sources
 as_many_works set [] [] same = refl
@@ -149,13 +151,19 @@ group_texts facts (g ∷ groups) texts many inside = (
   group_texts facts groups texts many (λ h c. inside h (Contains-there g h groups c)),
 )
 
-reply_texts : {L : Type 0} (files : List (File (Work L))) (conditions : List Condition) (version : ℕ) (k : Kind) (p : Part) (groups : List Group) → AllByRecursion IsUtf8 (paths_in files) → AreGroupsInside (spans_in files) groups → IsReplyText (reply_of (facts_in files) conditions version k p groups)
-reply_texts files conditions version kind.Files p groups texts inside = file_texts files texts
-reply_texts {L} files conditions version kind.Groups p groups texts inside =
+function_texts : (facts : Facts) (p : Part) → AreNamed facts → AllByRecursion IsFunctionText (functions_of facts p)
+function_texts facts parts.Whole named = tt
+function_texts facts (parts.File i) named = tt
+function_texts facts (parts.Alone i) named = named_at facts.functions i named
+function_texts facts parts.Nothing named = tt
+
+reply_texts : {L : Type 0} (files : List (File (Work L))) (conditions : List Condition) (version : ℕ) (k : Kind) (p : Part) (groups : List Group) → AllByRecursion IsUtf8 (paths_in files) → AreNamed (facts_in files) → AreGroupsInside (spans_in files) groups → IsReplyText (reply_of (facts_in files) conditions version k p groups)
+reply_texts files conditions version kind.Files p groups texts named inside = file_texts files texts
+reply_texts {L} files conditions version kind.Groups p groups texts named inside =
     group_texts (facts_in files) groups texts (length-map files (λ (f : File (Work L)). f.body.spans.items) ∙ sym (length-map files (λ (f : File (Work L)). f.path))) inside
-reply_texts files conditions version kind.Measures p groups texts inside = tt
-reply_texts files conditions version kind.Verdict p groups texts inside = tt
-reply_texts files conditions version kind.Functions p groups texts inside = tt
+reply_texts files conditions version kind.Measures p groups texts named inside = tt
+reply_texts files conditions version kind.Verdict p groups texts named inside = tt
+reply_texts files conditions version kind.Functions p groups texts named inside = function_texts (facts_in files) p named
 
 pub conditions_few : {L : Type 0} (set : Settings) (version : ℕ) (project : List ℕ) (files : List (File (Work L))) (conditions : List Condition) → HaveVersion set version project files conditions → length conditions ≤ 32
 conditions_few set version project files conditions have =
@@ -169,6 +177,7 @@ given_version set version project files conditions range have = record {
   placed = placed set have.changes version project files conditions have.are;
   few_functions = few_functions set have.changes version project files conditions have.are;
   texts = texts_of_works set (files_at have.changes version project) files have.are.files_are (paths_are_texts have.changes version project have.sound);
+  names = functions_named set version files (version_bounded set have.changes version project files conditions have.sound have.are).each;
   few_conditions = conditions_few set version project files conditions have;
 }
 
@@ -187,7 +196,7 @@ module _ {L : Type 0} (set : Settings) (files : List (File (Work L))) (condition
 
   pub texts_given : (version : ℕ) (k : Kind) (min : ℕ) (p : Part) (groups : List Group) (r : Reply) → 1 ≤ min → AreGroupsOf (norms_in files) min p groups → r ≡ reply_of (facts_in files) conditions version k p groups → IsReplyText r
   texts_given version k min p groups r some are_groups is =
-      subst IsReplyText (sym is) (reply_texts files conditions version k p groups given.texts (inside_given min p groups some are_groups))
+      subst IsReplyText (sym is) (reply_texts files conditions version k p groups given.texts given.names (inside_given min p groups some are_groups))
 
 -- the reply on given files
 pub reply_given : {L : Type 0} (files : List (File (Work L))) (conditions : List Condition) (q : Query) (version : ℕ) (p : Part) (groups : List Group) (r : Reply) → p ≡ part_of (paths_in files) q.kind q.path → AreGroupsOf (norms_in files) q.min p groups

@@ -17,6 +17,8 @@ use Rattle.cq_history.specs.Changes.{change_at}
 use Rattle.cq_history.specs.Files.{Source, is_before, place_of, without_file, files_after, files_from, files_at, conditions_from, conditions_at}
 use Rattle.cq_history.specs.Standing.{Has, AreInPathOrder, IsLastPut}
 use Rattle.cq_history.proofs.Standing.{files_stand}
+use Rattle.cq_request.specs.Named.{IsNamed}
+use Rattle.cq_names.specs.Names.{is_path_text}
 
 -- ---- each has the number of its own change
 
@@ -96,6 +98,12 @@ few_files changes version q =
     let front = length-take version changes in
     omega (arith, few, front)
 
+pub few_at : (changes : List Change) (version : ℕ) (q : List ℕ) → length (files_at changes version q) ≤ version
+few_at changes version q =
+    let few = few_from q 1 [] (take version changes) in
+    let front = length-take version changes in
+    omega (arith, few, front)
+
 -- ---- what sound changes bring
 
 one_by_one : {X : Type 0} (P : X → Type 0) (xs : List X) → All P xs → AllByRecursion P xs
@@ -116,15 +124,44 @@ each_has : (P : Source → Type 0) (files : List Source) → ((f : Source) → H
 each_has P [] each = tt
 each_has P (f ∷ files) each = (each f (inl refl), each_has P files (λ g there. each g (inr there)))
 
--- the paths of the files are texts
-pub paths_are_texts : (changes : List Change) (version : ℕ) (q : List ℕ) → All IsSoundChange changes → AllByRecursion (λ (f : Source). IsUtf8 f.path) (files_at changes version q)
-paths_are_texts changes version q sound =
+-- what the put of a file gives, whatever each change has
+each_put : (P : Change → Type 0) (Q : Source → Type 0) (changes : List Change) (version : ℕ) (q : List ℕ) → All P changes → ((f : Source) → IsLastPut (take version changes) q f → P (Put q f.path f.lang f.body) → Q f)
+    → AllByRecursion Q (files_at changes version q)
+each_put P Q changes version q all gives =
     let stand = files_stand (take version changes) q in
-    each_has (λ (f : Source). IsUtf8 f.path) (files_at changes version q)
+    each_has Q (files_at changes version q)
     (λ f there.
     let last = (stand.each f).0 there in
-    let is_sound : IsSoundChange (Put q f.path f.lang f.body) = all_at IsSoundChange (take version changes) (f.number - 1) (Put q f.path f.lang f.body) (all_taken IsSoundChange version changes (one_by_one IsSoundChange changes sound)) last.put in
-    is_sound.1)
+    gives f last (all_at P (take version changes) (f.number - 1) (Put q f.path f.lang f.body) (all_taken P version changes (one_by_one P changes all)) last.put))
+
+-- the paths of the files are texts
+pub paths_are_texts : (changes : List Change) (version : ℕ) (q : List ℕ) → All IsSoundChange changes → AllByRecursion (λ (f : Source). IsUtf8 f.path) (files_at changes version q)
+paths_are_texts changes version q sound = each_put IsSoundChange (λ (f : Source). IsUtf8 f.path) changes version q sound (λ f last is. is.1)
+
+-- one of so many changes put the file, its path and its text are UTF-8, and the text is no longer than one may be
+pub record IsPutWithin (version : ℕ) (f : Source) : Type 0 where
+  pub path : IsUtf8 f.path
+  pub text : IsUtf8 f.body
+  pub short : length f.body ≤ 1048576
+  pub first : 1 ≤ f.number
+  pub last : f.number ≤ version
+
+put_within : (changes : List Change) (version : ℕ) (q : List ℕ) (f : Source) → IsLastPut (take version changes) q f → IsSoundChange (Put q f.path f.lang f.body) → IsPutWithin version f
+put_within changes version q f last is =
+    let first = last.accepted.0 in
+    let within = last.accepted.1 in
+    let front = length-take version changes in
+    record { path = is.1; text = is.2; short = is.3; first = omega (arith, first); last = omega (arith, within, front) }
+
+pub sources_put : (changes : List Change) (version : ℕ) (q : List ℕ) → All IsSoundChange changes → AllByRecursion (IsPutWithin version) (files_at changes version q)
+sources_put changes version q sound = each_put IsSoundChange (IsPutWithin version) changes version q sound (put_within changes version q)
+
+-- and of named changes they are paths of files
+pub sources_named : (changes : List Change) (version : ℕ) (q : List ℕ) → All IsNamed changes → AllByRecursion (λ (f : Source). is_path_text f.path ≡ true) (files_at changes version q)
+sources_named changes version q named = each_put IsNamed (λ (f : Source). is_path_text f.path ≡ true) changes version q named (λ f last is. is.1)
+
+pub sources_rise : (changes : List Change) (version : ℕ) (q : List ℕ) → AreInPathOrder (files_at changes version q)
+sources_rise changes version q = (files_stand (take version changes) q).ordered
 
 short : (b : Bool) (new old : List Condition) → length new ≤ 32 → length old ≤ 32 → length (cond b new old) ≤ 32
 short true new old n o = n

@@ -23,10 +23,10 @@ use Rattle.cq_work.specs.Work.{IsWorkOf}
 use Rattle.cq_work.specs.declared.work.State.{State}
 use Rattle.cq_work.specs.declared.work.State.TheVariants as state
 use Rattle.cq_work.specs.declared.work.Work.{Work}
+use Rattle.cq_work.proofs.FunctionLists.{few_functions}
 use Rattle.cq_answer.specs.Readings.{Reading, paths_read, corpus_read, keys_read, spans_read, counts_read, functions_read}
 use Rattle.cq_answer.specs.Rows.{file_row, shown_in}
 use Rattle.cq_answer.specs.Works.{paths_in, numbers_in, norms_in, keys_in, spans_in, counts_in, functions_in, row_of}
-use Rattle.cq_answer.proofs.FunctionLists.{few_functions}
 
 -- readings of the files, of which the works show what they show
 pub record Reads {L : Type 0} (set : Settings) (sources : List Source) (files : List (File (Work L))) : Type 0 where

@@ -14,7 +14,7 @@ use Rattle.cq_request.specs.declared.request.Query.{Query}
 use Rattle.cq_work.specs.declared.work.Work.{Work}
 use Rattle.cq_answer.specs.Readings.{Reading, AreRead, corpus_read}
 use Rattle.cq_answer.specs.Parts.{part_of, AreGroupsOf}
-use Rattle.cq_answer.specs.Rows.{Facts, facts_read, AreFewFunctions}
+use Rattle.cq_answer.specs.Rows.{Facts, facts_read, AreFewFunctions, AreNamed}
 use Rattle.cq_answer.specs.Reply.{IsReply, reply_of}
 use Rattle.cq_answer.specs.Versions.{AreListable}
 use Rattle.cq_answer.specs.Works.{paths_in, norms_in, spans_in, counts_in, facts_in}
@@ -30,13 +30,14 @@ abbrev pub IsReplyOf : {L : Type 0} → List (File (Work L)) → List Condition 
 IsReplyOf files conditions q version reply = IsReplyBy (facts_in files) (norms_in files) conditions version q reply
 
 -- What is asked of such files and conditions: what a listing needs, counts of texts, a place for each token, as many
--- functions as four bytes tell, paths that are texts, and as many conditions as a gate may have.
+-- functions as four bytes tell, paths and names of functions that are texts, and as many conditions as a gate may have.
 pub record AreGiven {L : Type 0} (set : Settings) (files : List (File (Work L))) (conditions : List Condition) : Type 0 where
   pub listable : AreListable set files
   pub small : All AreSmall (counts_in files)
   pub placed : (i : ℕ) → length (slice_index_or (norms_in files) i []) ≡ length (slice_index_or (spans_in files) i [])
   pub few_functions : AreFewFunctions (facts_in files)
   pub texts : AllByRecursion IsUtf8 (paths_in files)
+  pub names : AreNamed (facts_in files)
   pub few_conditions : length conditions ≤ 32
 
 -- ---- the law

@@ -8,3 +8,4 @@ pub mod Versions
 pub mod Given
 pub mod Refusals
 pub mod Lent
+pub mod Bounds

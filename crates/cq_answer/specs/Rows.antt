@@ -1,6 +1,6 @@
 -- Files and groups as a reply shows them, and the measures of a part of a project.
 use Rattle.std.specs.Prelude.{ℕ, ◌<◌, ◌^◌, ◌==◌, max, Option, List, [], ◌∷◌, length, map, slice_index_or, All}
-use Rattle.std.specs.List.{position}
+use Rattle.std.specs.List.{AllByRecursion, position}
 use Rattle.cq_base.specs.Lines.{lines_of}
 use Rattle.cq_base.specs.declared.group.Group.{Group}
 use Rattle.cq_base.specs.declared.group.Place.{Place}
@@ -14,6 +14,7 @@ use Rattle.cq_reply.specs.declared.reply.GroupRow.{GroupRow}
 use Rattle.cq_reply.specs.declared.reply.PlaceRow.{PlaceRow}
 use Rattle.cq_reply.specs.declared.reply.Shown.{Shown}
 use Rattle.cq_reply.specs.declared.reply.Shown.TheVariants as shown
+use Rattle.cq_reply.specs.Written.{IsFunctionText}
 use Rattle.cq_work.specs.declared.work.State.{State}
 use Rattle.cq_work.specs.declared.work.State.TheVariants as state
 use Rattle.cq_work.specs.Lexing.{kept_in, state_of}
@@ -85,3 +86,7 @@ AreShowable facts groups = IsMeasurable facts.counts facts.spans groups
 -- no file has more functions than it may have tokens
 abbrev pub AreFewFunctions : Facts → Type 0
 AreFewFunctions facts = All (λ fs. length fs < 2 ^ 32) facts.functions
+
+-- the name of each function is UTF-8
+abbrev pub AreNamed : Facts → Type 0
+AreNamed facts = AllByRecursion (AllByRecursion IsFunctionText) facts.functions

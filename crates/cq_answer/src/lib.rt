@@ -6,6 +6,7 @@
 #![tactic(auto)]
 
 mod answering;
+mod bounds;
 mod file;
 mod functions;
 mod laws;
@@ -18,6 +19,7 @@ mod showing;
 mod works;
 
 pub use answering::answer;
+pub use bounds::{paths_are_named, versions_are_bounded};
 pub use laws::reply_by_changes_is_on_its_files;
 pub use part::Part;
 pub use refusing::{cause_told, refused_as};

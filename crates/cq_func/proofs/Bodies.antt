@@ -11,11 +11,13 @@ use Rattle.std.proofs.lemmas.Slice.Eq.{bytes_eq-Decides}
 use Rattle.cq_base.specs.declared.lang.Lang.{Lang}
 use Rattle.cq_base.specs.declared.lang.Lang.TheVariants as lang
 use Rattle.cq_base.specs.declared.token.Spelled.{Spelled}
+use Rattle.cq_func.specs.declared.brackets.Kind.{Kind}
 use Rattle.cq_func.specs.declared.brackets.Kind.TheVariants as kind
 use Rattle.cq_func.specs.declared.found.Found.{Found}
+use Rattle.cq_func.specs.Places.{place_above}
 use Rattle.cq_func.specs.Brackets.{spelling_of, is_spelled, holds, stands, opens, closes, are_even, from_to, partner}
 use Rattle.cq_func.specs.Levels.{level}
-use Rattle.cq_func.specs.Names.{is_called, with_body, is_no_method, java_function, c_function, go_parameters, go_end, go_open, is_type, go_body, go_function, function_at}
+use Rattle.cq_func.specs.Names.{is_name, is_called, with_body, is_no_method, ends_throws, behind_throws, java_open, java_function, c_function, go_is_named, go_parameters, go_end, go_open, is_type, go_body, go_function, function_at}
 use Rattle.cq_func.specs.Functions.{found}
 use Rattle.cq_func.specs.Walks.{AreBodies}
 use Rattle.cq_func.proofs.Least.{place_above-within, place_above-passes, place_above-least, place_below-passes}
@@ -131,6 +133,7 @@ nested_pairs l ts d a x b y outer inner less begins =
 
 pub record IsFound (l : Lang) (ts : List Spelled) (f : Found) : Type 0 where
   pub named : f.name < length ts
+  pub begun : f.name < f.brace
   pub pair : IsPair l ts f.brace f.close
 
 cond_some : {X : Type 0} (b : Bool) (x : Option X) (y : X) → cond b x None ≡ Some y → (b ≡ true) × (x ≡ Some y)
@@ -140,21 +143,56 @@ cond_some false x y is = absurd (cc)
 some_is : {X : Type 0} (x y : X) → Some x ≡ Some y → x ≡ y
 some_is x y is = cc
 
-with_body-found : (l : Lang) (ts : List Spelled) (name brace : ℕ) (f : Found) → name < length ts → with_body l ts name brace ≡ Some f → IsFound l ts f
-with_body-found l ts name brace f inside is =
+-- a token that is spelled so is there, and the partner of a bracket that is there stands above it
+stands_inside : (l : Lang) (ts : List Spelled) (at : ℕ) (word : List ℕ) → stands l ts at word ≡ true → at < length ts
+stands_inside l ts at word is = let found = opening_token l (slice_get ts at) word is in (read_token ts at found.0 found.1).0
+
+partner_above : (l : Lang) (k : Kind) (ts : List Spelled) (at : ℕ) → at < length ts → at < partner l k ts at
+unfolding partner
+partner_above l k ts at inside = (place_above-within (λ j. are_even l k (from_to ts at j)) at (length ts) inside).0
+
+cond_above : (b : Bool) (low x y : ℕ) → (b ≡ true → low < x) → low < y → low < cond b x y
+cond_above true low x y over other = over refl
+cond_above false low x y over other = other
+
+with_body-found : (l : Lang) (ts : List Spelled) (name brace : ℕ) (f : Found) → name < length ts → name < brace → with_body l ts name brace ≡ Some f → IsFound l ts f
+with_body-found l ts name brace f inside over is =
     let c = cond_some (stands l ts brace (codes "{") && ltb (partner l kind.Curly ts brace) (length ts)) _ f is in
     let parts = and_parts (stands l ts brace (codes "{")) (ltb (partner l kind.Curly ts brace) (length ts)) c.0 in
     let e = some_is _ f c.1 in
     subst (IsFound l ts) e (record {
       named = inside;
+      begun = over;
       pair = record { opens = parts.0; closes = refl; within = ltb-true _ _ parts.1 };
     })
 
+called_above : (l : Lang) (ts : List Spelled) (name : ℕ) → is_called l ts name ≡ true → name + 1 < partner l kind.Round ts (name + 1)
+called_above l ts name called =
+    let opened = (and_parts (is_name ts name) (stands l ts (name + 1) (codes "(")) called).1 in
+    partner_above l kind.Round ts (name + 1) (stands_inside l ts (name + 1) (codes "(") opened)
+
+java_open-above : (ts : List Spelled) (name close : ℕ) → name < length ts → name < close → name < java_open ts close
+java_open-above ts name close inside over =
+    let end = place_above (ends_throws ts) (close + 1) (length ts) in
+    cond_above (stands lang.Java ts (close + 1) (codes "throws")) name (behind_throws ts (close + 1)) (close + 1)
+    (λ _. cond_above (ltb (close + 1 + 1) end) name end (length ts) (λ is. let less = ltb-true (close + 1 + 1) end is in omega arith) inside)
+    (omega arith)
+
 java-found : (ts : List Spelled) (name : ℕ) (f : Found) → name < length ts → java_function ts name ≡ Some f → IsFound lang.Java ts f
-java-found ts name f inside is = let c = cond_some (is_called lang.Java ts name && not (is_no_method ts name)) _ f is in with_body-found lang.Java ts name _ f inside c.1
+java-found ts name f inside is =
+    let c = cond_some (is_called lang.Java ts name && not (is_no_method ts name)) _ f is in
+    let called = and_parts (is_called lang.Java ts name) (not (is_no_method ts name)) c.0 in
+    let close = partner lang.Java kind.Round ts (name + 1) in
+    let over : name + 1 < close = called_above lang.Java ts name called.0 in
+    with_body-found lang.Java ts name (java_open ts close) f inside (java_open-above ts name close inside (omega arith)) c.1
 
 c-found : (ts : List Spelled) (name : ℕ) (f : Found) → name < length ts → c_function ts name ≡ Some f → IsFound lang.C ts f
-c-found ts name f inside is = let c = cond_some _ (with_body lang.C ts name (partner lang.C kind.Round ts (name + 1) + 1)) f is in with_body-found lang.C ts name _ f inside c.1
+c-found ts name f inside is =
+    let close = partner lang.C kind.Round ts (name + 1) in
+    let c = cond_some _ (with_body lang.C ts name (close + 1)) f is in
+    let called = and_parts (is_called lang.C ts name) _ c.0 in
+    let over : name + 1 < close = called_above lang.C ts name called.0 in
+    with_body-found lang.C ts name (close + 1) f inside (omega arith) c.1
 
 go_open-pair : (ts : List Spelled) (close : ℕ) → close < length ts → go_open ts close < length ts → IsPair lang.Go ts (go_open ts close) close
 unfolding go_open
@@ -163,8 +201,8 @@ go_open-pair ts close inside found =
     let parts = and_parts _ _ passes in
     record { opens = parts.0; closes = eqb-true _ _ parts.1; within = inside }
 
-go_body-found : (ts : List Spelled) (name close : ℕ) (f : Found) → name < length ts → go_body ts name close ≡ Some f → IsFound lang.Go ts f
-go_body-found ts name close f inside is =
+go_body-found : (ts : List Spelled) (name close : ℕ) (f : Found) → name < length ts → name < close → go_body ts name close ≡ Some f → IsFound lang.Go ts f
+go_body-found ts name close f inside over is =
     let end = go_end ts close in
     let brace = go_open ts (end - 1) in
     let c = cond_some (ltb end (length ts) && (ltb close brace && (ltb brace (length ts) && not (is_type ts brace)))) _ f is in
@@ -172,16 +210,29 @@ go_body-found ts name close f inside is =
     let second = and_parts _ _ first.1 in
     let third = and_parts _ _ second.1 in
     let within = ltb-true end (length ts) first.0 in
+    let behind = ltb-true close brace second.0 in
     let e = some_is _ f c.1 in
     subst (IsFound lang.Go ts) e (record {
       named = inside;
+      begun = omega arith;
       pair = go_open-pair ts (end - 1) (omega arith) (ltb-true brace (length ts) third.0);
     })
 
+go_parameters-above : (ts : List Spelled) (name : ℕ) → name < go_parameters ts name
+go_parameters-above ts name =
+    cond_above (stands lang.Go ts (name + 1) (codes "[")) name (partner lang.Go kind.Square ts (name + 1) + 1) (name + 1)
+    (λ is. let over : name + 1 < partner lang.Go kind.Square ts (name + 1) = partner_above lang.Go kind.Square ts (name + 1) (stands_inside lang.Go ts (name + 1) (codes "[") is) in omega arith)
+    (omega arith)
+
 go-found : (ts : List Spelled) (name : ℕ) (f : Found) → name < length ts → go_function ts name ≡ Some f → IsFound lang.Go ts f
 go-found ts name f inside is =
-    let c = cond_some _ (go_body ts name (partner lang.Go kind.Round ts (go_parameters ts name))) f is in
-    go_body-found ts name _ f inside c.1
+    let first = go_parameters ts name in
+    let close = partner lang.Go kind.Round ts first in
+    let c = cond_some (go_is_named ts name && (stands lang.Go ts first (codes "(") && ltb close (length ts))) (go_body ts name close) f is in
+    let opened = (and_parts _ _ (and_parts (go_is_named ts name) (stands lang.Go ts first (codes "(") && ltb close (length ts)) c.0).1).0 in
+    let low : name < first = go_parameters-above ts name in
+    let over : first < close = partner_above lang.Go kind.Round ts first (stands_inside lang.Go ts first (codes "(") opened) in
+    go_body-found ts name close f inside (omega arith) c.1
 
 at-found : (l : Lang) (ts : List Spelled) (name : ℕ) (f : Found) → name < length ts → function_at l ts name ≡ Some f → IsFound l ts f
 at-found lang.Any ts name f inside is = absurd (cc)

@@ -6,7 +6,8 @@ use Rattle.std.specs.Str.{IsUtf8}
 use Rattle.std.proofs.lemmas.List.{length-map}
 use Rattle.std.proofs.lemmas.List.Elements.{All-nil, All-cons, All-head, All-tail}
 use Rattle.cq_answer.specs.Given.{AreGiven}
-use Rattle.cq_answer.specs.Works.{paths_in, norms_in, keys_in, spans_in, counts_in, functions_in}
+use Rattle.cq_answer.specs.Rows.{AreNamed}
+use Rattle.cq_answer.specs.Works.{paths_in, norms_in, keys_in, spans_in, counts_in, functions_in, facts_in}
 use Rattle.cq_base.specs.Settings.{IsInRange}
 use Rattle.cq_base.specs.declared.settings.Settings.{Settings}
 use Rattle.cq_clones.specs.Windows.{AreKeyed}
@@ -15,8 +16,9 @@ use Rattle.cq_history.specs.Files.{File}
 use Rattle.cq_key.specs.Keys.{window_keys}
 use Rattle.cq_key.proofs.Keyed.{keyed_by_windows}
 use Rattle.cq_measures.specs.Measures.{AreSmall}
+use Rattle.cq_reply.specs.Written.{IsFunctionText}
 use Rattle.cq_tokfile.specs.declared.snapshot.Snapshot.{Snapshot}
-use Rattle.cq_tokfile.specs.Sound.{IsSoundFile}
+use Rattle.cq_tokfile.specs.Sound.{IsSoundFunction, IsSoundFile}
 use Rattle.cq_tokfile.specs.Snapshot.{record_of, IsOneFile, IsSoundSnapshot}
 use Rattle.cq_tokfile.proofs.Decoded.{same_changes}
 use Rattle.cq_tokfile.proofs.Written.{one_for_each}
@@ -48,6 +50,14 @@ module _ {L : Type 0} (set : Settings) (version : ℕ) where
   texts [] sound = tt
   texts (f ∷ files) sound = (sound.0.path.utf8, texts files sound.1)
 
+names_told : (lines : ℕ) (fs : List Function) → AllByRecursion (IsSoundFunction lines) fs → AllByRecursion IsFunctionText fs
+names_told lines [] sound = tt
+names_told lines (f ∷ fs) sound = (sound.0.name.utf8, names_told lines fs sound.1)
+
+names : {L : Type 0} (set : Settings) (version : ℕ) (files : List (File (Work L))) → AllByRecursion (IsSoundFile set version) (map record_of files) → AreNamed (facts_in files)
+names set version [] sound = tt
+names set version (f ∷ files) sound = (names_told f.body.counts.lines f.body.functions.items sound.0.functions.each, names set version files sound.1)
+
 pub given_snapshot : {L : Type 0} (set : Settings) (s : Snapshot L) → IsInRange set → IsSoundSnapshot set s → AreGiven set s.files s.conditions.items
 given_snapshot set s range sound =
     let many = length-map s.files record_of in
@@ -63,6 +73,7 @@ given_snapshot set s range sound =
       placed = placed set s.version s.files sound.parts;
       few_functions = few_functions set s.version s.files sound.contents.files;
       texts = texts set s.version s.files sound.contents.files;
+      names = names set s.version s.files sound.contents.files;
       few_conditions = sound.contents.few_conditions;
     }
 
@@ -78,5 +89,6 @@ given_none {L} set range = record {
   placed = λ i. refl;
   few_functions = All-nil (λ (fs : List Function). length fs < 2 ^ 32);
   texts = tt;
+  names = tt;
   few_conditions = omega arith;
 }

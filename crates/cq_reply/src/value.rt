@@ -4,7 +4,7 @@ ghost use Rattle.std.specs.Str.{IsUtf8};
 ghost use Rattle.serde_json.specs.Data.{array, object};
 ghost use Rattle.serde_json.specs.View.{view};
 ghost use Rattle.cq_reply.specs.declared.reply.Shown.TheVariants.{Fault};
-ghost use Rattle.cq_reply.specs.Written.{word_of, position_data, name_text, function_data, functions_data, file_members, shown_data, file_data, files_data, place_data, group_data, groups_data, count, measures_members, measures_data, failed_data, verdict_data, change_data, state_data, refusal, future_data, field_data, pending_data, reply_data, IsFileText, IsPlaceText, IsGroupText, IsReplyText};
+ghost use Rattle.cq_reply.specs.Written.{word_of, position_data, function_data, functions_data, file_members, shown_data, file_data, files_data, place_data, group_data, groups_data, count, measures_members, measures_data, failed_data, verdict_data, change_data, state_data, refusal, future_data, field_data, pending_data, reply_data, IsFileText, IsPlaceText, IsGroupText, IsFunctionText, IsReplyText};
 
 use crate::reply::{FileRow, GroupRow, PlaceRow, Reply, Shown};
 use cq_base::{Lang, Measures, Text};
@@ -194,23 +194,16 @@ fn state_value(alloc: Global, accepted: u64, done: u64, published: u64) -> Resul
     json!(in alloc; {"accepted": accepted, "done": done, "ok": true, "published": published})
 }
 
-fn name_of(function: &Function) -> &str
-    ensures { result.now ≡ name_text function.now.name }
-{
-    match str::from_utf8(function.name.as_bytes()) {
-        Ok(name) => name,
-        Err(_) => "",
-    }
-}
-
 fn function_value(alloc: Global, function: &Function) -> Result<Value, AllocError>
+    requires { IsFunctionText function.now }
     ensures { IfOk result (λ v. view v ≡ function_data function.now) }
 {
-    let name = name_of(function);
+    let name = str::from_utf8(function.name.as_bytes()).unwrap();
     json!(in alloc; {"complexity": function.complexity, "first": function.first, "last": function.last, "name": name})
 }
 
 fn function_values(alloc: Global, functions: &[Function]) -> Result<Vec<Value>, AllocError>
+    requires { AllByRecursion IsFunctionText functions.now }
     ensures { IfOk result (λ v. map view v.items ≡ map function_data functions.now) }
 {
     let mut values = Vec::new(alloc);
@@ -235,6 +228,7 @@ fn functions_value(
     version: u64,
     worst: Option<u32>,
 ) -> Result<Value, AllocError>
+    requires { AllByRecursion IsFunctionText functions.now }
     ensures { IfOk result (λ v. view v ≡ functions_data functions.now version worst) }
 {
     let functions = Value::Array(function_values(alloc, functions)?);

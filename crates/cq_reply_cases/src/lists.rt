@@ -1,5 +1,5 @@
 ghost use Rattle.std.specs.Prelude.{IfOk};
-ghost use Rattle.cq_reply.specs.Written.{IsFileText, IsPlaceText};
+ghost use Rattle.cq_reply.specs.Written.{IsFileText, IsFunctionText, IsPlaceText};
 
 use crate::writing::is_written;
 use cq_base::{Lang, Memory, Text};
@@ -105,32 +105,29 @@ fn groups_are_written(rt: HostRuntime) -> Result<(), Memory> {
     Ok(())
 }
 
-fn function(alloc: Global, name: &[u8], first: u32, complexity: u32) -> Result<Function, Memory> {
+fn function(alloc: Global, name: &str, first: u32, complexity: u32) -> Result<Function, Memory>
+    ensures { IfOk result IsFunctionText }
+{
     Ok(Function {
-        name: Text::from_bytes(alloc, name)?,
+        name: Text::from_bytes(alloc, name.as_bytes())?,
         first,
         last: first.saturating_add(1),
         complexity,
     })
 }
 
-// The last name is no UTF-8.
-fn some_functions(alloc: Global) -> Result<Vec<Function>, Memory> {
-    let mut functions = Vec::new(alloc);
-    functions.push(function(alloc, "é".as_bytes(), 1, 2)?)?;
-    functions.push(function(alloc, b"main", 4, u32::MAX)?)?;
-    functions.push(function(alloc, b"a\xff", 7, 1)?)?;
-    Ok(functions)
-}
-
 const FUNCTIONS: &str =
-    r#"{"functions":[{"complexity":2,"first":1,"last":2,"name":"é"},{"complexity":4294967295,"first":4,"last":5,"name":"main"},{"complexity":1,"first":7,"last":8,"name":""}],"ok":true,"version":3,"worst":1}"#;
+    r#"{"functions":[{"complexity":2,"first":1,"last":2,"name":"é"},{"complexity":4294967295,"first":4,"last":5,"name":"main"}],"ok":true,"version":3,"worst":1}"#;
 
 #[test]
 fn functions_are_written(rt: HostRuntime) -> Result<(), Memory> {
     let alloc = rt.alloc();
+    let two = vec![in alloc;
+        function(alloc, "é", 1, 2)?,
+        function(alloc, "main", 4, u32::MAX)?,
+    ]?;
     let functions = Reply::Functions {
-        functions: FunctionRows::from_vec(some_functions(alloc)?),
+        functions: FunctionRows::from_vec(two),
         version: 3,
         worst: Some(1),
     };

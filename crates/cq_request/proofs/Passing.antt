@@ -37,7 +37,7 @@ min_passed chunk o d accepted =
 
 -- ---- the conditions of a gate
 
-first_none : {X : Type 0} (a b : Option X) → option_or a b ≡ None → a ≡ None
+pub first_none : {X : Type 0} (a b : Option X) → option_or a b ≡ None → a ≡ None
 first_none None b none = refl
 first_none (Some x) b none = absurd (cc)
 
@@ -46,7 +46,7 @@ second_none None b none = none
 second_none (Some x) b none = absurd (cc)
 
 -- of two fields the second is good where none is bad
-second_good : (a b : Bool) (k l : List ℕ) (later : Option (List ℕ)) → cond a (cond b later (Some l)) (Some k) ≡ None → b ≡ true
+pub second_good : (a b : Bool) (k l : List ℕ) (later : Option (List ℕ)) → cond a (cond b later (Some l)) (Some k) ≡ None → b ≡ true
 second_good true true k l later none = refl
 second_good true false k l later none = absurd (cc)
 second_good false b k l later none = absurd (cc)
@@ -80,7 +80,7 @@ few_conditions chunk d accepted =
 
 -- ---- the path of a file
 
-has_path : (o : Option Data) → is_good (rule_of (needed name.Path)) o ≡ true → IsSome (option_and_then as_str o)
+pub has_path : (o : Option Data) → is_good (rule_of (needed name.Path)) o ≡ true → IsSome (option_and_then as_str o)
 has_path None are = absurd (cc)
 has_path (Some d) are = are
 

@@ -5,6 +5,7 @@
 #![tactic(auto)]
 
 mod condition;
+mod laws;
 mod member;
 mod reading;
 mod request;
@@ -12,6 +13,7 @@ mod row;
 mod table;
 mod text;
 
+pub use laws::changes_are_named;
 pub use member::{number_at, taken, text_at};
 pub use reading::{parsed, read_request, read_value};
 pub use request::{Kind, Query, Refusal, Request};

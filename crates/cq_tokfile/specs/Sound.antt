@@ -4,14 +4,13 @@ use Rattle.std.specs.List.{AllByRecursion, list_all}
 use Rattle.std.specs.Str.{IsUtf8}
 use Rattle.cq_base.specs.declared.settings.Settings.{Settings}
 use Rattle.cq_base.specs.declared.change.Condition.{Condition}
-use Rattle.cq_base.specs.declared.token.Class.{Class}
-use Rattle.cq_base.specs.declared.token.Class.TheVariants as class
 use Rattle.cq_base.specs.declared.token.Spelled.{Spelled}
 use Rattle.cq_func.specs.declared.function.Function.{Function}
 use Rattle.cq_history.specs.Files.{is_before}
 use Rattle.cq_names.specs.Names.{is_path, is_project}
 use Rattle.cq_projects.specs.Ordered.{AreRising}
 use Rattle.cq_tokfile.specs.declared.head.Head.{Head}
+use Rattle.cq_work.specs.Bounds.{is_ignored, has_tokens}
 use Rattle.cq_work.specs.declared.work.State.{State}
 use Rattle.cq_work.specs.declared.work.State.TheVariants as states
 use Rattle.cq_tokfile.specs.Spelling.{Recorded, Contents, flag, body}
@@ -24,13 +23,6 @@ pub record IsSoundText (bytes : List ℕ) : Type 0 where
 -- what is in a condition has eight bytes
 pub record IsSoundCondition (c : Condition) : Type 0 where
   pub error : c.error < 2 ^ 64
-
--- whether tokens of this class are one token each
-abbrev pub is_ignored : Settings → Class → Bool
-is_ignored settings class.Ident = settings.ignore_ids
-is_ignored settings class.Word = false
-is_ignored settings class.Literal = settings.ignore_lits
-is_ignored settings class.Punct = false
 
 -- a token lies within 1,048,576 bytes and within the lines of its file; one of an ignored class has no text
 pub record IsSoundToken (settings : Settings) (lines : ℕ) (s : Spelled) : Type 0 where
@@ -74,12 +66,6 @@ abbrev pub IsSoundState : State → Type 0
 IsSoundState states.Ok = Unit {0}
 IsSoundState (states.Fault at) = at < 2 ^ 32
 IsSoundState states.Large = Unit {0}
-
--- whether the reading of a file gave its tokens
-abbrev pub has_tokens : State → Bool
-has_tokens states.Ok = true
-has_tokens (states.Fault at) = false
-has_tokens states.Large = false
 
 -- A file of a version: its change is one of those up to it, its counts and tokens are within their bounds, and it has
 -- tokens and functions only where its reading gave them.

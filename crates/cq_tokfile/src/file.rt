@@ -2,7 +2,8 @@ ghost use Rattle.std.specs.Prelude.{◌≡◌, ◌<◌, ◌^◌, ◌++◌, lengt
 ghost use Rattle.cq_key.specs.Keys.{lang_code};
 ghost use Rattle.cq_tokfile.specs.Spelling as spell;
 ghost use Rattle.cq_tokfile.specs.Spelling.{recorded};
-ghost use Rattle.cq_tokfile.specs.Sound.{HasSpelling, IsSoundFile, has_tokens, is_sound_file};
+ghost use Rattle.cq_tokfile.specs.Sound.{HasSpelling, IsSoundFile, is_sound_file};
+ghost use Rattle.cq_work.specs.Bounds.{has_tokens};
 ghost use Rattle.cq_tokfile.specs.Reading.{Gives, Reads, counts_at, file_at, lang_at, lang_of, state_at};
 
 use crate::functions::{functions_of, put_functions};

@@ -40,7 +40,7 @@ bytes_append = sum_by-append (λ (s : Spelled). length s.text)
 
 -- ---- elements that stand one behind the other
 
-encodes-short : (cs : List ℕ) → length (encode_utf8_all cs) ≤ 4 * length cs
+pub encodes-short : (cs : List ℕ) → length (encode_utf8_all cs) ≤ 4 * length cs
 encodes-short [] = omega arith
 encodes-short (c ∷ cs) =
     let size = length-encode c in

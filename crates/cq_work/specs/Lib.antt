@@ -2,3 +2,4 @@ pub mod Counts
 pub mod Lexing
 pub mod Work
 pub mod Shown
+pub mod Bounds

@@ -4,8 +4,10 @@
 #![tactic(auto)]
 
 mod counting;
+mod laws;
 mod lexing;
 mod shown;
 mod work;
 
+pub use laws::works_are_bounded;
 pub use work::{State, Work, work_of};

@@ -1,0 +1,43 @@
+-- The functions of tokens that stand in order lie within their lines, and are named by a token.
+use Rattle.std.proofs.Common.{ℕ, ◌<◌, ◌≤◌, List, length, get_or, map, arith}
+use Rattle.std.specs.Prelude.{◌&&◌}
+use Rattle.std.specs.List.{AllByRecursion, range_with_len}
+use Rattle.std.proofs.lemmas.List.Elements.{All-from_recursion, All-get_or, All-map, recursion_from_All}
+use Rattle.std.proofs.lemmas.List.FromFn.{length-range_with_len}
+use Rattle.std.proofs.lemmas.List.Sums.{count_by-le-length}
+use Rattle.cq_base.proofs.Lists.{All-from_contains}
+use Rattle.cq_base.specs.declared.lang.Lang.{Lang}
+use Rattle.cq_base.specs.declared.token.Spelled.{Spelled}
+use Rattle.cq_func.specs.declared.found.Found.{Found}
+use Rattle.cq_func.specs.Functions.{found, functions, function_of, decides, is_own, no_token}
+use Rattle.cq_func.proofs.Bodies.{bodies, found-are}
+use Rattle.cq_work.specs.Bounds.{IsFunctionWithin}
+use Rattle.cq_work.proofs.Standing.{Stand, IsPlaced, each_placed, lines_rise}
+
+module _ (most lines from : ℕ) (tokens : List Spelled) (stand : Stand most lines from tokens) (few : length tokens ≤ 262144) (l : Lang) where
+  token_placed : (at : ℕ) → at < length tokens → IsPlaced most lines (get_or tokens at no_token)
+  token_placed at inside = All-get_or (IsPlaced most lines) tokens at no_token inside (All-from_recursion (IsPlaced most lines) tokens (each_placed most lines from tokens stand))
+
+  function_within : (fs : List Found) (f : Found) → f.name < f.brace → f.brace < f.close → f.close < length tokens → IsFunctionWithin lines (function_of l tokens fs f)
+  function_within fs f begun ordered closed =
+      let named = token_placed f.name (omega (arith, begun, ordered, closed)) in
+      let ended = token_placed f.close closed in
+      record {
+        name = named.text;
+        first = named.place.first;
+        in_order = lines_rise most lines from tokens f.name f.close no_token stand (omega (arith, begun, ordered)) closed;
+        last = ended.place.last;
+        complexity =
+            let own = count_by-le-length (λ at. decides l tokens at && is_own fs f at) (range_with_len 0 (length tokens)) in
+            let many = length-range_with_len 0 (length tokens) in
+            omega (arith, own, many, few);
+      }
+
+  pub functions_within : AllByRecursion (IsFunctionWithin lines) (functions l tokens)
+  functions_within =
+      let fs = found l tokens in
+      let are = bodies l tokens no_token in
+      recursion_from_All (IsFunctionWithin lines) (map (function_of l tokens fs) fs)
+      (All-map (IsFunctionWithin lines) (function_of l tokens fs) fs
+      (All-from_contains (λ (f : Found). IsFunctionWithin lines (function_of l tokens fs f)) fs
+      (λ f among. function_within fs f (found-are l tokens f among).begun (are.ordered f among) (found-are l tokens f among).pair.within)))
