@@ -3,6 +3,7 @@ pub mod OperatorSteps
 pub mod Opening
 pub mod Spans
 pub mod Translating
+pub mod Scalars
 pub mod NoEscapes
 pub mod Dispatch
 pub mod Counting

@@ -6,7 +6,6 @@ use Rattle.std.specs.Cmp.Lexicographic.{slice_cmp}
 use Rattle.std.proofs.lemmas.Map.Lookups.{exact_bytes}
 use Rattle.serde_json.specs.Data.{Data, Members, no_members, member}
 use Rattle.serde_json.specs.Find.{get, get_member, as_object, as_str}
-use Rattle.cq_request.specs.declared.row.Op.TheVariants as op
 use Rattle.cq_request.specs.declared.request.Kind.{Kind}
 use Rattle.cq_request.specs.declared.request.Kind.TheVariants as kind
 use Rattle.cq_request.specs.Members.{least_key, lesser, text_at}

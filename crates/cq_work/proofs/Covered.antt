@@ -1,11 +1,10 @@
 -- Tokens whose lines are among so many cover no more lines.
-use Rattle.std.proofs.Common.{◌≡◌, ℕ, ◌-◌, ◌≤◌, Bool, true, false, ◌||◌, cond, List, [], ◌∷◌, map, filter, refl, sym, ap, ◌∙◌, arith}
+use Rattle.std.proofs.Common.{◌≡◌, ℕ, ◌≤◌, Bool, true, false, ◌||◌, cond, List, [], ◌∷◌, map, filter, refl, sym, ap, ◌∙◌, arith}
 use Rattle.std.specs.List.{AllByRecursion, IsDistinct, flat_map, list_any}
 use Rattle.std.specs.Set.{is_member, unique_keys}
 use Rattle.std.proofs.lemmas.Map.Keys.{IsDistinct-cons}
 use Rattle.std.proofs.lemmas.Map.Made.{length-le_from_is_member}
 use Rattle.cq_base.specs.declared.token.Token.{Token}
-use Rattle.cq_measures.specs.declared.extent.Extent.{Extent}
 use Rattle.cq_measures.specs.Extents.{Line, same_line, lines_of, covered_lines, code_lines, extent_of_token, has_bytes}
 use Rattle.cq_measures.proofs.Lines.{same_line-laws, lines_on, length-lines_on, is_on, member-lines_on, none_same, covers, member-flat_map}
 use Rattle.cq_work.specs.Bounds.{IsWithin}
@@ -46,42 +45,41 @@ unique-member (x ∷ xs) q h = by (is_member same_line xs x) (unique-member xs q
     by true more h = or_later (same_line q x) (is_member same_line xs q) (more h)
     by false more h = or_first (same_line q x) (is_member same_line (unique_keys same_line xs) q) (is_member same_line xs q) more h
 
--- ---- extents among so many lines
+-- ---- the lines of tokens
 
-pub record IsAmong (lines : ℕ) (e : Extent) : Type 0 where
-  pub file : e.file ≡ 0
-  pub first : 1 ≤ e.first
-  pub last : e.last ≤ lines
+-- the lines of a token are among so many
+abbrev IsAmong : ℕ → Token → Type 0
+IsAmong lines t = (1 ≤ t.first_line) × (t.last_line ≤ lines)
 
-covers_one : (lines : ℕ) (e : Extent) (q : Line) → e.file ≡ 0 → 1 ≤ e.first → e.last ≤ lines → covers q e ≡ true → is_on 0 1 lines q ≡ true
-covers_one lines e q file first last is = grind arith
+covers_one : (lines : ℕ) (t : Token) (q : Line) → 1 ≤ t.first_line → t.last_line ≤ lines → covers q (extent_of_token t) ≡ true → is_on 0 1 lines q ≡ true
+covers_one lines t q first last is = grind arith
 
-covers_any : (lines : ℕ) (es : List Extent) (q : Line) → AllByRecursion (IsAmong lines) es → list_any (covers q) es ≡ true → is_on 0 1 lines q ≡ true
+covers_any : (lines : ℕ) (ts : List Token) (q : Line) → AllByRecursion (IsAmong lines) ts → list_any (covers q) (map extent_of_token ts) ≡ true → is_on 0 1 lines q ≡ true
 covers_any lines [] q each is = absurd (cc)
-covers_any lines (e ∷ es) q each is = by (covers q e) refl is
+covers_any lines (t ∷ ts) q each is = by (covers q (extent_of_token t)) refl (λ later. covers_any lines ts q each.1 later) is
   where
-    by : (b : Bool) → covers q e ≡ b → (b || list_any (covers q) es) ≡ true → is_on 0 1 lines q ≡ true
-    by true here h = covers_one lines e q each.0.file each.0.first each.0.last here
-    by false here h = covers_any lines es q each.1 h
+    by : (b : Bool) → covers q (extent_of_token t) ≡ b → (list_any (covers q) (map extent_of_token ts) ≡ true → is_on 0 1 lines q ≡ true) → (b || list_any (covers q) (map extent_of_token ts)) ≡ true → is_on 0 1 lines q ≡ true
+    by true here more h = covers_one lines t q each.0.0 each.0.1 here
+    by false here more h = more h
 
 on_lines : (lines : ℕ) (q : Line) → is_on 0 1 lines q ≡ true → is_member same_line (lines_on 0 1 lines []) q ≡ true
 on_lines lines q is = member-lines_on 0 1 lines [] q ∙ ap (λ b. b || false) is
 
-few_covered : (lines : ℕ) (es : List Extent) → AllByRecursion (IsAmong lines) es → covered_lines es ≤ lines
-few_covered lines es each =
-    let all = flat_map lines_of es in
+few_covered : (lines : ℕ) (ts : List Token) → AllByRecursion (IsAmong lines) ts → covered_lines (map extent_of_token ts) ≤ lines
+few_covered lines ts each =
+    let all = flat_map lines_of (map extent_of_token ts) in
     let most = length-le_from_is_member same_line-laws (unique_keys same_line all) (lines_on 0 1 lines []) (unique-distinct all)
-    (λ q h. on_lines lines q (covers_any lines es q each (sym (member-flat_map es q) ∙ unique-member all q h))) in
+    (λ q h. on_lines lines q (covers_any lines ts q each (sym (member-flat_map (map extent_of_token ts) q) ∙ unique-member all q h))) in
     let many = length-lines_on 0 1 lines [] in
     omega (arith, most, many)
 
-among_if : (b : Bool) (lines : ℕ) (t : Token) (ts : List Token) → (t.last_line ≤ lines) × (1 ≤ t.first_line) → AllByRecursion (IsAmong lines) (map extent_of_token ts) → AllByRecursion (IsAmong lines) (map extent_of_token (cond b (t ∷ ts) ts))
-among_if true lines t ts is rest = (record { file = refl; first = is.1; last = is.0 }, rest)
+among_if : (b : Bool) (lines : ℕ) (t : Token) (ts : List Token) → IsAmong lines t → AllByRecursion (IsAmong lines) ts → AllByRecursion (IsAmong lines) (cond b (t ∷ ts) ts)
+among_if true lines t ts is rest = (is, rest)
 among_if false lines t ts is rest = rest
 
-tokens_among : (most lines : ℕ) (ts : List Token) → AllByRecursion (IsWithin most lines) ts → AllByRecursion (IsAmong lines) (map extent_of_token (filter has_bytes ts))
+tokens_among : (most lines : ℕ) (ts : List Token) → AllByRecursion (IsWithin most lines) ts → AllByRecursion (IsAmong lines) (filter has_bytes ts)
 tokens_among most lines [] each = tt
-tokens_among most lines (t ∷ ts) each = among_if (has_bytes t) lines t (filter has_bytes ts) (each.0.last, each.0.first) (tokens_among most lines ts each.1)
+tokens_among most lines (t ∷ ts) each = among_if (has_bytes t) lines t (filter has_bytes ts) (each.0.first, each.0.last) (tokens_among most lines ts each.1)
 
 pub few_code_lines : (most lines : ℕ) (ts : List Token) → AllByRecursion (IsWithin most lines) ts → code_lines ts ≤ lines
-few_code_lines most lines ts each = few_covered lines (map extent_of_token (filter has_bytes ts)) (tokens_among most lines ts each)
+few_code_lines most lines ts each = few_covered lines (filter has_bytes ts) (tokens_among most lines ts each)

@@ -6,17 +6,14 @@ use Rattle.std.proofs.lemmas.List.{length-map}
 use Rattle.std.proofs.lemmas.List.Elements.{All-from_recursion, recursion_from_All, All-take, All-drop}
 use Rattle.std.proofs.lemmas.Str.{IsUtf8-append, IsUtf8-encode, IsUtf8-nil, encode_ascii, scalars-chars}
 use Rattle.std.specs.Char.{IsScalar, len_utf8}
-use Rattle.std.specs.List.{AllByRecursion}
 use Rattle.std.specs.Prelude.{encode_utf8}
 use Rattle.std.specs.Str.{chars}
 use Rattle.cq_munch.specs.declared.unit.Unit.{Unit}
 use Rattle.cq_munch.specs.Characters.{characters, utf8_of}
 use Rattle.cq_munch.specs.Lexed.{placed, units_of}
+use Rattle.cq_lex_java.proofs.Scalars.{AreScalars}
 use Rattle.cq_work.specs.Bounds.{IsSpelling}
 use Rattle.cq_work.proofs.Spellings.{encodes-short}
-
-abbrev pub AreScalars : List Unit → Type 0
-AreScalars units = AllByRecursion (λ (u : Unit). IsScalar u.ch) units
 
 pub scalars-take : (n : ℕ) (units : List Unit) → AreScalars units → AreScalars (take n units)
 scalars-take n units are = recursion_from_All (λ (u : Unit). IsScalar u.ch) (take n units) (All-take (λ (u : Unit). IsScalar u.ch) n units (All-from_recursion (λ (u : Unit). IsScalar u.ch) units are))

@@ -12,10 +12,11 @@ use Rattle.cq_munch.specs.declared.unit.Unit.{Unit}
 use Rattle.cq_munch.specs.Characters.{characters}
 use Rattle.cq_munch.specs.Language.{Language}
 use Rattle.cq_munch.specs.Lexed.{Follow, InOrder, IsWhole, token_of, tokens_of, unit_at, end_of}
+use Rattle.cq_lex_java.proofs.Scalars.{AreScalars}
 use Rattle.cq_munch.proofs.Elements.{further}
 use Rattle.cq_munch.proofs.Orders.{InOrder-take, InOrder-ends, InOrder-behind}
 use Rattle.cq_work.specs.Bounds.{IsWithin, IsSpelling}
-use Rattle.cq_work.proofs.Scalars.{AreScalars, scalars-take, scalars-drop, units-spell}
+use Rattle.cq_work.proofs.Scalars.{scalars-take, scalars-drop, units-spell}
 use Rattle.cq_work.proofs.TextLines.{later_line, line_within}
 use Rattle.cq_work.proofs.Translated.{AreUnitsOf}
 
