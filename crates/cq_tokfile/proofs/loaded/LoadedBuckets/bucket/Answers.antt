@@ -1,7 +1,7 @@
 use Rattle.std.proofs.lemmas.Result.{IfOk-weaker}
 use Rattle.cq_tokens.specs.Corpus.{changes_of, keys_of}
 use Rattle.cq_tokfile.proofs.Indexing.{is_bucket}
-use Rattle.cq_tokfile.proofs.loaded.Loaded.bucket.Goals as goal
+use Rattle.cq_tokfile.proofs.loaded.LoadedBuckets.bucket.Goals as goal
 
 pub with_key-requires : goal.with_key-requires
 with_key-requires g c = c.self.indexed.ordered
