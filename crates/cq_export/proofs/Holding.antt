@@ -6,7 +6,7 @@ use Rattle.std.proofs.lemmas.List.Elements.{Contains-push}
 use Rattle.std.proofs.lemmas.List.Sums.{prefix_len-le-length}
 use Rattle.cq_base.specs.declared.change.Change.{Change}
 use Rattle.cq_base.specs.declared.settings.Settings.{Settings}
-use Rattle.cq_board.specs.Stands.{BoardState, StandsFor, Adds, IsCaller}
+use Rattle.cq_board.specs.Stands.{BoardState, Adds, IsCaller}
 use Rattle.cq_export.specs.Boards.{Holds, GoesOn, IsMade, AreMade, IsPublished}
 use Rattle.cq_export.specs.Lines.{accepts, HasAccepted}
 use Rattle.cq_export.proofs.Accepting.{state_is, accepted_alone}

@@ -2,3 +2,4 @@ mod Accepting
 mod Running
 mod Holding
 mod Showing
+mod Ended

@@ -10,7 +10,7 @@ use Rattle.cq_tokfile.specs.Reading.{announced, frame_at}
 use Rattle.cq_tokfile.specs.Snapshot.{contents_of, IsTokenFile}
 use Rattle.cq_tokfile.specs.Sound.{IsSoundBody}
 use Rattle.cq_tokfile.specs.Spelling.{framed, body}
-use Rattle.cq_tokfile.proofs.Announced.{front_of, framed_parts, front_length, announces, announced_is}
+use Rattle.cq_tokfile.proofs.Announcing.{front_of, framed_parts, front_length, announces, announced_is}
 use Rattle.cq_tokfile.proofs.Fields.{IsBytes, one_form}
 use Rattle.cq_tokfile.proofs.Framed.{frames}
 

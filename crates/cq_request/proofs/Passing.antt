@@ -11,8 +11,7 @@ use Rattle.cq_request.specs.declared.row.Op.TheVariants as op
 use Rattle.cq_request.specs.declared.row.Name.TheVariants as name
 use Rattle.cq_request.specs.declared.request.Refusal.{Refusal}
 use Rattle.cq_request.specs.declared.request.Refusal.TheVariants as refusal
-use Rattle.cq_names.specs.Names.{is_path_text}
-use Rattle.cq_request.specs.Text.{is_short}
+use Rattle.cq_request.specs.Text.{is_path, is_short}
 use Rattle.cq_request.specs.Members.{items_in, text_at}
 use Rattle.cq_request.specs.Conditions.{condition_of, are_conditions}
 use Rattle.cq_request.specs.Tables.{is_good, bad_field}
@@ -33,7 +32,7 @@ none_named (Some n) later none = absurd (cc)
 
 pub min_passed : (chunk : ℕ) (o : Op) (d : Data) → why_refused chunk o d ≡ None → min_passes chunk d ≡ true
 min_passed chunk o d accepted =
-    all_passed (text_passes (λ name. is_some (lang_named name)) (codes "lang") d) (text_passes is_path_text (codes "path") d) (text_passes is_short (codes "text") d) (min_passes chunk d) (none_named (fault_of o d) (value_refused chunk d) accepted).1
+    all_passed (text_passes (λ name. is_some (lang_named name)) (codes "lang") d) (text_passes is_path (codes "path") d) (text_passes is_short (codes "text") d) (min_passes chunk d) (none_named (fault_of o d) (value_refused chunk d) accepted).1
 
 -- ---- the conditions of a gate
 

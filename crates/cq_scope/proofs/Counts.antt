@@ -1,10 +1,11 @@
 -- How many characters and parts a text has, and how long they are.
 use Rattle.std.proofs.Common.{◌≡◌, ℕ, zero, suc, ◌+◌, ◌<◌, ◌≤◌, List, [], ◌∷◌, length, drop, get_or, Bool, true, false, cond, ◌&&◌, IsUtf8, lit<, refl, sym, ap, ◌∙◌, arith}
 use Rattle.std.specs.Prelude.{◌==◌, nat_le}
+use Rattle.std.proofs.lemmas.List.{drop_more, drop_all}
 use Rattle.std.proofs.lemmas.Bool.{and_parts, leb-true}
 use Rattle.std.proofs.lemmas.Iterator.{YieldsList}
 use Rattle.std.proofs.lemmas.Iterator.Splits.{YieldsList-from_str_split}
-use Rattle.std.proofs.lemmas.Str.{length-le-encodes, encodes-chars, IsUtf8-from_is_utf8}
+use Rattle.std.proofs.lemmas.Str.{length-le-encodes, encodes-chars, IsUtf8-from_is_utf8, is_utf8-from_IsUtf8}
 use Rattle.std.proofs.lemmas.List.Sums.{count_by-le-length}
 use Rattle.std.proofs.lemmas.List.Splits.{length-slice_split}
 use Rattle.std.specs.List.{list_all, onto_first}
@@ -12,7 +13,7 @@ use Rattle.std.specs.Str.{chars, is_utf8}
 use Rattle.std.specs.declared.str.Split.{Split}
 use Rattle.std.specs.Str.Iter.{split_steps, split_text, split_has_more, split_pattern}
 use Rattle.std.specs.Str.Pattern.{FindsChar}
-use Rattle.cq_names.specs.Names.{parts, is_part, is_path_byte, is_path_text, is_path}
+use Rattle.cq_scope.specs.Paths.{parts, is_part, is_path_byte, is_path_text, is_path}
 
 pub few_chars : (text : List ℕ) → IsUtf8 text → length (chars text) ≤ length text
 few_chars text utf8 = let all = ap length (encodes-chars text utf8) in omega (arith, length-le-encodes (chars text))
@@ -60,6 +61,17 @@ few_parts (b ∷ bs) good = cut_few (b == 47) b bs (parts bs) (some_parts bs) go
 pub path_utf8 : (path : List ℕ) → is_path path ≡ true → IsUtf8 path
 path_utf8 path good = IsUtf8-from_is_utf8 path (and_parts (is_utf8 path) (is_path_text path) good).0
 
+-- what is spelled in UTF-8 is a path where the text is one, and nothing else is
+pub path_spelled : (bytes text : List ℕ) (r : Bool) → (text ≡ bytes) × IsUtf8 bytes → r ≡ is_path_text text → r ≡ is_path bytes
+path_spelled bytes text r good is = is ∙ ap is_path_text good.0 ∙ sym (ap (λ b. b && is_path_text bytes) (is_utf8-from_IsUtf8 bytes good.1))
+
+pub path_broken : (bytes : List ℕ) → (IsUtf8 bytes → ⊥) → false ≡ is_path bytes
+path_broken bytes broken = by (is_utf8 bytes) refl
+  where
+    by : (b : Bool) → is_utf8 bytes ≡ b → false ≡ (b && is_path_text bytes)
+    by true is = absurd (broken (IsUtf8-from_is_utf8 bytes is))
+    by false is = refl
+
 second_and_last : (a b c d : Bool) → (a && b && c && d) ≡ true → (b ≡ true) × (d ≡ true)
 second_and_last true true true true all = (refl, refl)
 second_and_last true true true false all = let bad : false ≡ true = all in absurd (cc)
@@ -78,3 +90,23 @@ short_path path good = omega (arith, (form_of path good).0)
 
 pub few_in_path : (path : List ℕ) → is_path path ≡ true → length (parts path) < 513
 few_in_path path good = let form = form_of path good in omega (arith, form.0, few_parts path form.1)
+
+-- ---- a walk over the parts of a text
+
+pub part_good : (ps : List (List ℕ)) (n more : ℕ) (p : List ℕ) (b : Bool) → more ≡ n + 1 → n < length ps → p ≡ get_or ps n p → is_part p ≡ true → list_all is_part (drop n ps) ≡ b → list_all is_part (drop more ps) ≡ b
+part_good ps n more p b next inside is good so_far =
+    ap (λ k. list_all is_part (drop k ps)) next
+    ∙ sym (ap (λ t. t && list_all is_part (drop (n + 1) ps)) good)
+    ∙ ap (λ v. list_all is_part (v ∷ drop (n + 1) ps)) is
+    ∙ sym (ap (list_all is_part) (drop_more ps n p inside))
+    ∙ so_far
+
+pub part_bad : (ps : List (List ℕ)) (n : ℕ) (p : List ℕ) (b : Bool) → n < length ps → p ≡ get_or ps n p → is_part p ≡ false → list_all is_part (drop n ps) ≡ b → false ≡ b
+part_bad ps n p b inside is bad so_far =
+    sym (ap (λ t. t && list_all is_part (drop (n + 1) ps)) bad)
+    ∙ ap (λ v. list_all is_part (v ∷ drop (n + 1) ps)) is
+    ∙ sym (ap (list_all is_part) (drop_more ps n p inside))
+    ∙ so_far
+
+pub parts_good : (ps : List (List ℕ)) (n : ℕ) (b : Bool) → n ≡ length ps → list_all is_part (drop n ps) ≡ b → true ≡ b
+parts_good ps n b end so_far = sym (ap (list_all is_part) (drop_all n ps (omega (arith, end)))) ∙ so_far

@@ -13,7 +13,7 @@ use Rattle.std.proofs.lemmas.List.Kept.{IsStrictlyIncreasing-filter}
 use Rattle.std.proofs.lemmas.Option.{slice_get-get_or, slice_get-map}
 use Rattle.cq_history.specs.Files.{File}
 use Rattle.cq_scope.specs.Chosen.{is_chosen, is_chosen_at, HavePaths}
-use Rattle.cq_names.specs.Names.{is_path}
+use Rattle.cq_scope.specs.Paths.{is_path}
 
 module _ (is : ℕ → Bool) (n : ℕ) where
   next_position : (i : ℕ) → i < n → filter is (take (i + 1) (range_with_len 0 n)) ≡ filter is (take i (range_with_len 0 n)) ++ cond (is i) (i ∷ []) []

@@ -2,7 +2,7 @@ ghost use Rattle.std.specs.Prelude.{◌≡◌, ◌<◌, ◌^◌, IsTrue, IfOk, l
 ghost use Rattle.std.specs.List.Sorted.{IsStrictlyIncreasing};
 ghost use Rattle.std.specs.Arc.{arc_value};
 ghost use Rattle.cq_scope.specs.Chosen as spec;
-ghost use Rattle.cq_names.specs.Names.{is_path};
+ghost use Rattle.cq_scope.specs.Paths.{is_path};
 
 use crate::pattern::{Pattern, fits};
 use cq_base::{Memory, Text};

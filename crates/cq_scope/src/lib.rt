@@ -8,6 +8,7 @@ mod choosing;
 mod laws;
 mod part;
 mod parts;
+mod path;
 mod pattern;
 mod row;
 

@@ -92,7 +92,11 @@ file_within : (f : Recorded) → spelled_bytes f.tokens ≤ length (file f)
 file_within f =
     let n = spelled_bytes f.tokens in
     let list = behind n (to_be_bytes w32 (length f.tokens)) (flat_map token f.tokens) (tokens_within f.tokens) in
-    behind n (text f.path) _ (behind n (to_be_bytes w64 f.change) _ (behind n (language f.lang) _ (behind n (outcome f.state) _ (behind n (counts_bytes f.counts) _
+    let lists = counted token f.tokens ++ counted function f.functions in
+    let told = counts_bytes f.counts ++ lists in
+    let read = outcome f.state ++ told in
+    let lang = language f.lang ++ read in
+    behind n (text f.path) (to_be_bytes w64 f.change ++ lang) (behind n (to_be_bytes w64 f.change) lang (behind n (language f.lang) read (behind n (outcome f.state) told (behind n (counts_bytes f.counts) lists
     (before n (counted token f.tokens) (counted function f.functions) list)))))
 
 files_within : (n : ℕ) (files : List Recorded) → length (flat_map file files) ≤ n → AllByRecursion (λ (f : Recorded). spelled_bytes f.tokens ≤ n) files

@@ -4,10 +4,10 @@ mod Counted
 mod Appended
 mod FileForms
 pub mod Framed
-pub mod Announced
+pub mod Announcing
 mod Heads
 mod InOrder
 mod Wholes
 pub mod Decoded
 pub mod Written
-mod Indexing
+pub mod Indexing

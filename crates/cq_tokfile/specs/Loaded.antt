@@ -7,9 +7,7 @@ use Rattle.cq_clones.specs.Windows.{EntryBefore, IsEntryOf}
 use Rattle.cq_history.specs.Files.{File}
 use Rattle.cq_order.specs.Order.{is_entry_before}
 use Rattle.cq_projects.specs.Spotted.{numbers_of}
-use Rattle.cq_tokens.specs.Corpus.{changes_of, keys_of}
 use Rattle.cq_work.specs.declared.work.Work.{Work}
-use Rattle.cq_tokfile.specs.declared.loaded.Loaded.{Loaded}
 
 -- the keys of each file's windows
 abbrev pub keys_in : {L : Type 0} → List (File (Work L)) → List (List ℕ)
@@ -34,7 +32,14 @@ AddsAllEntries change keys old new = AreAllInOrder (λ a b. a ≢ b) (λ e. Cont
 abbrev pub AreThoseOf : ℕ → List Entry → List Entry → Type 0
 AreThoseOf key entries found = AreAllInOrder EntryBefore (λ e. Contains entries e × (e.key ≡ key)) found
 
--- the buckets are of these files
-pub record IsLoadedOf {L : Type 0} (files : List (File (Work L))) (loaded : Loaded L) : Type 0 where
-  pub changes : changes_of loaded.files.items ≡ numbers_of files
-  pub keys : keys_of loaded.files.items ≡ keys_in files
+-- what buckets are to their callers: the changes of the files that they are for, the keys of each, and how often they were
+-- asked
+pub record KeyedFiles : Type 0 where
+  pub changes : List ℕ
+  pub keys : List (List ℕ)
+  pub asked : ℕ
+
+-- they are those of these files
+pub record IsLoadedOf {L : Type 0} (files : List (File (Work L))) (b : KeyedFiles) : Type 0 where
+  pub changes : b.changes ≡ numbers_of files
+  pub keys : b.keys ≡ keys_in files

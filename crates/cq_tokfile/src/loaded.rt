@@ -14,6 +14,7 @@ use cq_tokens::FileTokens;
 use cq_work::Work;
 use std::alloc::Global;
 use std::cmp::Ordering;
+use std::marker::Model;
 use std::sync::Arc;
 use std::sync::ledger::Ledger;
 
@@ -25,8 +26,17 @@ pub struct Loaded<L: Ledger> {
     files: Vec<FileTokens<L>>,
     entries: Vec<Entry>,
     asked: u64,
+}
 
-    ghost indexed: { spec.AreIndexed (changes_of files.items) (keys_of files.items) entries.items },
+impl<L: Ledger> Model for Loaded<L> {
+    ghost use Rattle.cq_tokens.specs.Corpus.{changes_of, keys_of};
+    ghost use Rattle.cq_tokfile.specs.Loaded.{AreIndexed, KeyedFiles};
+
+    ghost Value = { KeyedFiles };
+
+    ghost view = { λ b. record { changes = changes_of b.files.items; keys = keys_of b.files.items; asked = b.asked } };
+
+    ghost invariant = { λ b. AreIndexed (changes_of b.files.items) (keys_of b.files.items) b.entries.items };
 }
 
 // Further owners of what a listing takes of the files.
@@ -113,7 +123,7 @@ fn with_key(alloc: Global, entries: &[Entry], key: u64) -> Result<Vec<Entry>, Me
 impl<L: Ledger> Loaded<L> {
     /// The buckets of a snapshot's files. It costs a sort of their windows, and 24 bytes for each.
     pub fn new(alloc: Global, snapshot: &Snapshot<L>) -> Result<Loaded<L>, Memory>
-        ensures of { IfOk result (λ loaded. spec.IsLoadedOf snapshot.now.files loaded) }
+        ensures of { IfOk result (spec.IsLoadedOf snapshot.now.files) }
         ensures asked { IfOk result (λ loaded. loaded.asked ≡ 0) }
     {
         let files = shared_files(alloc, &snapshot.files)?;
@@ -128,7 +138,7 @@ impl<L: Ledger> Loaded<L> {
 
     /// The buckets of no files. It takes no memory.
     pub fn none(alloc: Global) -> Loaded<L>
-        ensures { spec.IsLoadedOf [] result }
+        ensures { result ≡ record { changes = []; keys = []; asked = 0 } }
     {
         Loaded {
             files: Vec::new(alloc),
@@ -146,23 +156,19 @@ impl<L: Ledger> Loaded<L> {
 }
 
 impl<L: Ledger> Buckets for Loaded<L> {
-    ghost use Rattle.std.specs.Prelude.{◌≡◌, refl};
-    ghost use Rattle.std.proofs.Common.{◌∙◌};
-    ghost use Rattle.cq_tokens.specs.Corpus.{changes_of, keys_of};
+    ghost file_changes = { λ b. b.changes };
 
-    ghost file_changes = { λ b. changes_of b.files.items };
-
-    ghost file_keys = { λ b. keys_of b.files.items };
+    ghost file_keys = { λ b. b.keys };
 
     ghost asked = { λ b. b.asked };
 
     ghost ready = { λ b. Unit {0} };
 
-    ghost moved = { λ b c. b.files ≡ c.files };
+    ghost moved = { λ b c. Unit {0} };
 
-    ghost unmoved = { λ b. refl };
+    ghost unmoved = { λ b. tt };
 
-    ghost moved_on = { λ b c d h k. h ∙ k };
+    ghost moved_on = { λ b c d h k. tt };
 
     fn bucket(&mut self, alloc: Global, key: u64) -> Result<Vec<Entry>, Memory> {
         self.asked = self.asked.saturating_add(1);

@@ -1,4 +1,4 @@
-use Rattle.std.proofs.Common.{◌∙◌, sym, arith}
+use Rattle.std.proofs.Common.{arith}
 use Rattle.cq_export.proofs.Holding.{published_then, nothing_published}
 use Rattle.cq_export.proofs.publishing.publish_all.Goals as goal
 

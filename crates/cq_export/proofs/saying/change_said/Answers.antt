@@ -1,4 +1,4 @@
-use Rattle.std.proofs.Common.{◌≡◌, ◌∙◌, Ok, Result, sym, ap, subst}
+use Rattle.std.proofs.Common.{◌∙◌, Ok, Result, sym, ap, subst}
 use Rattle.cq_answer.proofs.Told.{refusal_said}
 use Rattle.cq_export.specs.Lines.{IsNoChange}
 use Rattle.cq_export.proofs.saying.change_said.Goals as goal

@@ -1,4 +1,4 @@
-use Rattle.std.proofs.Common.{◌∙◌, ap, arith}
+use Rattle.std.proofs.Common.{ap, arith}
 use Rattle.cq_board.specs.declared.answers.Asked.{Asked}
 use Rattle.cq_export.proofs.Holding.{one_caller_there, asked_on, goes_on_none, goes_on_then, ready_then, accepted_there, all_made}
 use Rattle.cq_export.proofs.working.make_all.Goals as goal

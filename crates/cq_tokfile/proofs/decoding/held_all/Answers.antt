@@ -1,7 +1,7 @@
-use Rattle.std.proofs.Common.{◌≡◌, ◌∙◌, ◌++◌, ◌∷◌, [], map, ap, sym, rules, subst}
+use Rattle.std.proofs.Common.{◌≡◌, ◌∙◌, ◌++◌, ◌∷◌, [], map, ap, sym, rules, subst, arith}
 use Rattle.std.specs.Arc.{arc_value}
 use Rattle.std.specs.Vec.Iter.{into_iter_items}
-use Rattle.std.proofs.lemmas.List.{map_push}
+use Rattle.std.proofs.lemmas.List.{length-map, map_push, nil_from_length}
 use Rattle.cq_tokfile.specs.Spelling.{recorded}
 use Rattle.cq_tokfile.proofs.Decoded.{AreMadeSoFar, made_none, made_more, made_all}
 use Rattle.cq_tokfile.proofs.decoding.held_all.Goals as goal
@@ -9,8 +9,8 @@ use Rattle.cq_tokfile.proofs.decoding.held_all.Goals as goal
 pub loop-file-init : goal.loop-file-init
 loop-file-init g c =
     let given : into_iter_items c.into_iter-file-iterator.result ≡ c.args.files.items = c.into_iter-file-iterator.ensures.into_iter_gives.0 in
-    let none : map arc_value c.with_capacity-all.result.items ≡ [] = search rules in
-    subst (AreMadeSoFar c.args.keyer.now.settings (map recorded c.args.files.items) (map arc_value c.with_capacity-all.result.items)) (sym (ap (map recorded) given))
+    let none : map arc_value c.in_ok-all.all.items ≡ [] = ap (map arc_value) c.in_ok-all.ensures.items in
+    subst (AreMadeSoFar c.args.keyer.now.settings (map recorded c.args.files.items) (map arc_value c.in_ok-all.all.items)) (sym (ap (map recorded) given))
     (made_none c.args.keyer.now.settings (map recorded c.args.files.items) _ none c.requires.few c.requires.short)
 
 pub held_of-requires-clause-few : goal.held_of-requires-clause-few
@@ -32,4 +32,4 @@ loop-file-preserved g c =
     left more c.in_ok-held.ensures.same c.in_ok-held.ensures.parts c.loop-file.invariant
 
 pub returns : goal.returns
-returns g c = made_all c.args.keyer.now.settings (map recorded c.args.files.items) (map arc_value c.loop-file.all.items) (map recorded (into_iter_items c.loop-file.file-iterator)) (ap (map recorded) c.in-None.ensures.steps.0) c.loop-file.invariant
+returns g c = made_all c.args.keyer.now.settings (map recorded c.args.files.items) (map arc_value c.loop-file.all.items) (map recorded (into_iter_items c.loop-file.file-iterator)) (nil_from_length (map recorded (into_iter_items c.loop-file.file-iterator)) (omega (arith, length-map (into_iter_items c.loop-file.file-iterator) recorded, c.in-None.ensures.steps.0))) c.loop-file.invariant

@@ -6,8 +6,8 @@ use Rattle.cq_tokfile.proofs.Appended.{three}
 use Rattle.cq_tokfile.proofs.Written.{body_bytes, too_large, fits_count}
 use Rattle.cq_tokfile.proofs.encoding.encode.Goals as goal
 
-pub body_length-requires : goal.body_length-requires
-body_length-requires g c = c.requires.contents.few_conditions
+pub body_length-len-requires : goal.body_length-len-requires
+body_length-len-requires g c = c.requires.contents.few_conditions
 
 pub returns-then-len-gt268435456 : goal.returns-then-len-gt268435456
 returns-then-len-gt268435456 g c = λ fits.

@@ -1,16 +1,33 @@
-use Rattle.std.proofs.Common.{◌∙◌, ℕ, List, ◌++◌, length, map, ap, sym, append_assoc, arith}
+use Rattle.std.proofs.Common.{◌∙◌, ℕ, List, ◌++◌, length, map, ap, sym, subst, append_assoc, arith}
 use Rattle.std.specs.Int.{w32, to_be_bytes}
 use Rattle.std.specs.List.{flat_map}
 use Rattle.std.proofs.lemmas.List.{append-nil, take_all, length-map}
 use Rattle.std.proofs.lemmas.List.Folds.{flat_map-map}
 use Rattle.std.proofs.lemmas.Option.{get_or_from_slice_get}
 use Rattle.cq_tokfile.specs.Spelling.{file}
-use Rattle.cq_tokfile.specs.Snapshot.{record_of}
+use Rattle.cq_history.specs.Files.{File}
+use Rattle.cq_work.specs.declared.work.Work.{Work}
+use Rattle.cq_tokfile.specs.Sound.{HasSpelling}
+use Rattle.cq_tokfile.specs.Snapshot.{record_of, HasTokenForEachPlace}
 use Rattle.cq_tokfile.proofs.Appended.{written_on}
 use Rattle.cq_tokfile.proofs.encoding.put_all.Goals as goal
 
 pub loop-i-init : goal.loop-i-init
 loop-i-init g c = c.in_ok-put_u32.ensures ∙ ap (λ (n : ℕ). c.args.out.now.items ++ to_be_bytes w32 n) c.len.ensures ∙ sym (append-nil (c.args.out.now.items ++ to_be_bytes w32 (length c.args.files.now)))
+
+pub put_held-requires-clause-spelled : goal.put_held-requires-clause-spelled
+put_held-requires-clause-spelled g c =
+    let test = c.loop-i-test.true in
+    let len = c.len-i-end.ensures in
+    let item = c.at.result.now in
+    subst (λ (f : File (Work g.row.L.Denot)). HasSpelling (record_of f)) (get_or_from_slice_get c.args.files.now c.loop-i.i item item c.at.ensures) (c.requires.spelled c.loop-i.i item (omega (arith, test, len)))
+
+pub put_held-requires-clause-parts : goal.put_held-requires-clause-parts
+put_held-requires-clause-parts g c =
+    let test = c.loop-i-test.true in
+    let len = c.len-i-end.ensures in
+    let item = c.at.result.now in
+    subst (λ (f : File (Work g.row.L.Denot)). HasTokenForEachPlace f) (get_or_from_slice_get c.args.files.now c.loop-i.i item item c.at.ensures) (c.requires.parts c.loop-i.i item (omega (arith, test, len)))
 
 pub loop-i-preserved : goal.loop-i-preserved
 loop-i-preserved g c =

@@ -16,7 +16,7 @@ loop-i-preserved g c =
     let more = sum_by_more file_length files i item within in
     let here = ap file_length (get_or_from_slice_get files i item item c.at.ensures) in
     let one = c.file_length.ensures in
-    let added = c.saturating_add.ensures in
+    let added = c.saturating_add-count.ensures in
     let so_far = c.loop-i.invariant in
     omega (arith, one, added, so_far, more, here)
 

@@ -12,6 +12,6 @@ loop-function-preserved c =
     let name = ap (λ (f : Function). length f.name) c.function-item.is in
     let bytes = ap length c.as_bytes.ensures in
     let inner = c.more.ensures in
-    let outer = c.more-2.ensures in
+    let outer = c.more-count.ensures in
     let so_far = c.loop-function.invariant in
     omega (arith, inner, outer, so_far, more, name, bytes)

@@ -31,7 +31,7 @@ loop-file-preserved g c =
     let here : slice_get (changes_of files) at ≡ Some file.change =
     slice_get-get_or (changes_of files) at 0 (omega (arith, inside, length-map files (λ f. f.change))) ∙ ap Some (get_or-map (λ f. f.change) files at file 0 inside ∙ ap (λ f. f.change) (sym c.file-item.is)) in
     let keys : file_at (keys_of files) at ≡ c.as_slice.result.now =
-    get_or-map (λ f. arc_value f.keys) files at file _ inside ∙ ap (λ f. arc_value f.keys) (sym c.file-item.is) ∙ sym c.as_slice.ensures.keys in
+    get_or-map (λ f. arc_value f.keys) files at file _ inside ∙ ap (λ f. arc_value f.keys) (sym c.file-item.is) ∙ sym (c.as_slice.ensures.keys ∙ c.deref.ensures) in
     files_more (changes_of files) (keys_of files) at file.change c.as_slice.result.now c.loop-file.entries.items c.push_entries.new.entries.items here keys c.loop-file.invariant c.in_ok-push_entries.ensures
 
 pub returns : goal.returns

@@ -10,6 +10,6 @@ returns c = λ d.
     let at = c.args.at in
     let high = c.requires in
     let here : at < length files = omega (arith, high) in
-    let this : c.index-files-at.result ≡ get_or files at d = c.index-files-at.is ∙ get_or_default files at _ d here in
-    let next : c.index-files-next.result ≡ get_or files (at + 1) d = c.index-files-next.is ∙ get_or_default files (at + 1) _ d high in
+    let this : get_or files at c.index-files-at.result ≡ get_or files at d = get_or_default files at c.index-files-at.result d here in
+    let next : get_or files (at + 1) c.index-files-next.result ≡ get_or files (at + 1) d = get_or_default files (at + 1) c.index-files-next.result d high in
     c.is_before.ensures ∙ ap₂ (λ (f g : FileRecord). is_before f.path g.path) this next

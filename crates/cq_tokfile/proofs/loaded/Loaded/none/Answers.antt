@@ -2,5 +2,5 @@ use Rattle.cq_tokfile.proofs.Indexing.{nothing_indexed}
 use Rattle.cq_tokfile.proofs.loaded.Loaded.none.Goals as goal
 
 -- that the new vectors are empty, by the clauses of both calls of `new`
-pub invariant_of-result-clause-indexed : goal.invariant_of-result-clause-indexed
-invariant_of-result-clause-indexed g c = nothing_indexed _ _ c.new-files.ensures.items c.new-entries.ensures.items
+pub invariant_of-result : goal.invariant_of-result
+invariant_of-result g c = nothing_indexed _ _ c.new-files.ensures.items c.new-entries.ensures.items
