@@ -3,6 +3,7 @@ use Rattle.std.proofs.lemmas.Result.{IfOk-weaker}
 use Rattle.cq_answer.specs.Given.{AreGiven, IsReplyOf}
 use Rattle.cq_answer.specs.Works.{numbers_in, keys_in}
 use Rattle.cq_history.specs.Files.{File}
+use Rattle.cq_tokfile.specs.Loaded.{KeyedFiles}
 use Rattle.cq_work.specs.declared.work.Work.{Work}
 use Rattle.cq_kept.proofs.GivenFiles.{given_none}
 use Rattle.cq_kept.proofs.answering.reply_to_other.Goals as goal
@@ -12,10 +13,10 @@ answer-requires-clause-given g c κs lives =
     subst (λ (fs : List (File (Work g.row.L.Denot))). AreGiven c.args.settings.now fs []) (sym c.new-files.ensures) (given_none {L = g.row.L.Denot} c.args.settings.now c.requires.in_range)
 
 pub answer-requires-clause-for_changes : goal.answer-requires-clause-for_changes
-answer-requires-clause-for_changes g c κs lives = c.none-buckets.ensures.changes ∙ sym (ap numbers_in c.new-files.ensures)
+answer-requires-clause-for_changes g c κs lives = ap (λ (b : KeyedFiles). b.changes) c.none-buckets.ensures ∙ sym (ap numbers_in c.new-files.ensures)
 
 pub answer-requires-clause-for_keys : goal.answer-requires-clause-for_keys
-answer-requires-clause-for_keys g c κs lives = c.none-buckets.ensures.keys ∙ sym (ap keys_in c.new-files.ensures)
+answer-requires-clause-for_keys g c κs lives = ap (λ (b : KeyedFiles). b.keys) c.none-buckets.ensures ∙ sym (ap keys_in c.new-files.ensures)
 
 pub returns-clause-given : goal.returns-clause-given
 returns-clause-given g c =

@@ -17,7 +17,7 @@ pub ask_lines-requires-clause-sound : goal.ask_lines-requires-clause-sound
 ask_lines-requires-clause-sound g c κs lives = c.in-Some.ensures.sound
 
 pub ask_lines-requires-clause-loaded : goal.ask_lines-requires-clause-loaded
-ask_lines-requires-clause-loaded g c κs lives = record { changes = c.in_ok-loaded.ensures.changes; keys = c.in_ok-loaded.ensures.keys }
+ask_lines-requires-clause-loaded g c κs lives = c.in_ok-loaded.ensures.of
 
 pub returns-in-None-clause-asks : goal.returns-in-None-clause-asks
 returns-in-None-clause-asks g c =

@@ -6,4 +6,4 @@ use Rattle.cq_tokfile.proofs.loaded.Loaded.new.Goals as goal
 
 pub entries_of-requires : goal.entries_of-requires
 entries_of-requires g c =
-    subst (λ ns. AllPairs (λ a b. a ≢ b) ns) (sym c.in_ok-files.ensures.changes) (spots_apart (numbers_of c.args.snapshot.now.files) c.spots-_apart.result.now c.spots-_apart.ensures)
+    subst (λ ns. AllPairs (λ a b. a ≢ b) ns) (sym c.in_ok-files.ensures.changes) (spots_apart (numbers_of c.args.snapshot.now.files) c.spots-apart.result.now c.spots-apart.ensures)
