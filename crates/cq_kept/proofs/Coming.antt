@@ -1,7 +1,8 @@
 -- Bytes that come piece by piece.
-use Rattle.std.proofs.Common.{◌≡◌, ℕ, ◌+◌, ◌-◌, ◌≤◌, List, [], ◌++◌, length, Option, sym, ap, ◌∙◌, append_assoc, arith, length-append}
+use Rattle.std.proofs.Common.{◌≡◌, ℕ, ◌+◌, ◌-◌, ◌≤◌, List, [], ◌++◌, length, take, Option, None, Some, sym, ap, ◌∙◌, append_assoc, arith, length-append}
 use Rattle.std.proofs.KnownBytes.{Consumes-nil, Consumes-trans}
-use Rattle.std.proofs.lemmas.List.{append-nil}
+use Rattle.std.specs.Io.KnownBytes.{Consumes, Keeps}
+use Rattle.std.proofs.lemmas.List.{append-nil, length-take-le, take-take}
 use Rattle.cq_kept.specs.Taken.{CameBehind}
 
 pub came_none : (a : Option (List ℕ)) (old : List ℕ) → CameBehind a a old old []
@@ -12,6 +13,18 @@ came_more a b d old mid new got more first next = record {
   consumed = Consumes-trans a b d got more first.consumed next.consumed;
   behind = next.behind ∙ ap (λ (x : List ℕ). x ++ more) first.behind ∙ append_assoc old got more;
 }
+
+-- nothing is taken of what stays
+pub consumes_nothing : (a b : Option (List ℕ)) → Keeps a b → Consumes a b []
+consumes_nothing None b kept = tt
+consumes_nothing (Some xs) None kept = kept
+consumes_nothing (Some xs) (Some ys) kept = sym kept
+
+-- some bytes of a piece of which a front was read came
+pub came_some : (a b : Option (List ℕ)) (old new piece : List ℕ) (n size : ℕ) → n ≤ size → size ≤ length piece → Consumes a b (take n (take size piece)) → new ≡ old ++ take n piece → (got : List ℕ) × CameBehind a b old new got × (length got ≡ n)
+came_some a b old new piece n size few room took grown =
+    let len : length (take n (take size piece)) ≡ n = ap length (take-take n size piece few) ∙ length-take-le n piece (omega (arith, few, room)) in
+    (take n (take size piece), record { consumed = took; behind = grown ∙ ap (λ (p : List ℕ). old ++ p) (sym (take-take n size piece few)) }, len)
 
 -- so many came, and so many are left of what is wanted
 pub record ComesSoFar (a b : Option (List ℕ)) (old now : List ℕ) (count left : ℕ) : Type 0 where

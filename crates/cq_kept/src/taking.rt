@@ -1,4 +1,6 @@
-ghost use Rattle.std.specs.Prelude.{◌≡◌, ◌<◌, vec_len, IfOk};
+ghost use Rattle.std.specs.Prelude.{◌≡◌, ◌≤◌, ◌<◌, take, vec_len, IfOk};
+ghost use Rattle.std.specs.Io.KnownBytes.{ReadConsumes};
+ghost use Rattle.cq_io.specs.Causes.{HasCause};
 ghost use Rattle.cq_kept.specs.Taken.{TakesBytes, TakesFile, TakesSome};
 
 use cq_base::Memory;
@@ -31,6 +33,18 @@ pub(crate) enum Front {
     Failed,
 }
 
+// Reads once into the front of the piece.
+fn read_some<S: Source>(source: &mut S, piece: &mut Vec<u8>, size: usize) -> Result<usize, Failed>
+    requires fits { size ≤ vec_len piece.old }
+    requires some { 0 < size }
+    ensures within { IfOk result (λ n. n ≤ size) }
+    ensures len { vec_len piece.new ≡ vec_len piece.old }
+    ensures bytes { ReadConsumes (S.rest source.old) (S.rest source.new) result (take size piece.new.items) }
+    ensures cause { HasCause (S.faults source.old) (S.faults source.new) result }
+{
+    source.read(&mut piece[..size])
+}
+
 // Takes some of the next bytes, as many as are wanted or fewer, and none where none are left. They come behind those that
 // are there.
 fn take_some<S: Source>(
@@ -45,7 +59,7 @@ fn take_some<S: Source>(
     ensures bytes { IfOk result (TakesSome S.Source source.old source.new out.old.items out.new.items want) }
 {
     let size = want.min(piece.len());
-    match source.read(&mut piece[..size]) {
+    match read_some(source, piece, size) {
         Ok(count) => {
             out.extend_from_slice(&piece[..count])?;
             Ok(Ok(count))

@@ -13,33 +13,34 @@ pieces-init g c = record {
 
 pub pieces-preserved : goal.pieces-preserved
 pieces-preserved g c =
-    let some = c.in-Ok-Ok.ensures.bytes in
+    let some = c.in-Ok.ensures.bytes in
     let before = c.pieces.invariant in
     record {
-      comes = comes_more _ _ _ _ _ _ some.1.0 c.args.count c.pieces.left c.in-Ok-Ok.taken before.comes some.1.1 some.1.2 some.0;
+      comes = comes_more _ _ _ _ _ _ some.1.0 c.args.count c.pieces.left c.in-Ok.taken before.comes some.1.1 some.1.2 some.0;
       room = c.take_some.ensures.len ∙ before.room;
       faults = some.3 ∙ before.faults;
     }
 
-pub returns-in-Ok-Ok-eq0-clause-bytes : goal.returns-in-Ok-Ok-eq0-clause-bytes
-returns-in-Ok-Ok-eq0-clause-bytes g c =
-    let some = c.in-Ok-Ok-eq0.ensures.bytes in
+pub returns-in-Ok-eq0-clause-bytes : goal.returns-in-Ok-eq0-clause-bytes
+returns-in-Ok-eq0-clause-bytes g c =
+    let some = c.in-Ok-eq0.ensures.bytes in
     let so = c.pieces.invariant.comes in
     let wanted = c.pieces-test.true in
     let many = so.many in
+    let zero = c.in-Ok-eq0.field-0-test in
     record {
       got = so.got ++ some.1.0;
       came = came_more _ _ _ _ _ _ so.got some.1.0 so.came some.1.1;
       ends = (
-        (let both = length-append so.got some.1.0 in let none = some.1.2 in omega (arith, both, none, many, wanted)),
-        some.2 refl,
+        (let both = length-append so.got some.1.0 in let none = some.1.2 in omega (arith, both, none, zero, many, wanted)),
+        some.2 zero,
         some.3 ∙ c.pieces.invariant.faults,
       );
     }
 
-pub returns-in-Ok-Err-clause-bytes : goal.returns-in-Ok-Err-clause-bytes
-returns-in-Ok-Err-clause-bytes g c =
-    let some = c.in-Ok-Err.ensures.bytes in
+pub returns-in-Err-clause-bytes : goal.returns-in-Err-clause-bytes
+returns-in-Err-clause-bytes g c =
+    let some = c.in-Err.ensures.bytes in
     let so = c.pieces.invariant.comes in
     let wanted = c.pieces-test.true in
     let many = so.many in
