@@ -36,7 +36,7 @@ fn reply_to_other<R: Threads + Sync, L: Ledger>(
     ensures text { IfOk result IsReplyText }
 {
     let files: ProjectFiles<Work<L>> = ProjectFiles::new(alloc);
-    let mut buckets = Loaded::none(alloc);
+    let mut buckets: Loaded<L> = Loaded::none(alloc);
     answer(
         rt,
         alloc,
