@@ -8,7 +8,7 @@ use Rattle.cq_export.specs.declared.exporting.Exported.{Exported}
 use Rattle.cq_export.specs.declared.exporting.Exported.TheVariants as exported
 use Rattle.cq_io.specs.declared.sink.Sink as sink
 use Rattle.cq_io.specs.declared.source.Source as source
-use Rattle.cq_kept.specs.Exported.{IsOfChanges}
+use Rattle.cq_tokask.specs.Exported.{IsOfChanges}
 use Rattle.cq_lines.specs.declared.ending.End.TheVariants as end
 use Rattle.cq_tokfile.specs.declared.snapshot.Snapshot.{Snapshot}
 

@@ -12,7 +12,7 @@ use Rattle.cq_board.specs.declared.listing.View.{View}
 use Rattle.cq_export.specs.Boards.{IsPublished, IsViewOfAll}
 use Rattle.cq_history.specs.Files.{File, files_of, conditions_of}
 use Rattle.cq_history.specs.State.{changes_in}
-use Rattle.cq_kept.specs.Exported.{IsOfChanges}
+use Rattle.cq_tokask.specs.Exported.{IsOfChanges}
 use Rattle.cq_projects.specs.Projects.{files_in, conditions_in}
 use Rattle.cq_tokfile.specs.declared.snapshot.Snapshot.{Snapshot}
 use Rattle.cq_work.specs.Work.{IsWorkOf}

@@ -3,7 +3,7 @@ ghost use Rattle.cq_base.specs.Settings.{IsInRange};
 ghost use Rattle.cq_export.specs.Boards.{Holds};
 ghost use Rattle.cq_export.specs.Exports.{Exports, Writes};
 ghost use Rattle.cq_history.specs.State.{changes_in};
-ghost use Rattle.cq_kept.specs.Exported.{IsOfChanges};
+ghost use Rattle.cq_tokask.specs.Exported.{IsOfChanges};
 ghost use Rattle.cq_names.specs.Names.{is_project};
 ghost use Rattle.cq_tokfile.specs.Snapshot.{IsSoundSnapshot};
 

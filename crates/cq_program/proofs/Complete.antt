@@ -7,10 +7,10 @@ use Rattle.cq_io.specs.Causes.{Rose, HasCause}
 use Rattle.cq_io.specs.declared.sink.Sink as sink
 use Rattle.cq_io.specs.declared.source.Failed.{Failed}
 use Rattle.cq_io.specs.declared.source.Source as source
-use Rattle.cq_kept.specs.Asked.{AnswersLines}
-use Rattle.cq_kept.specs.Kept.{Asks}
-use Rattle.cq_kept.specs.declared.kept.Asked.{Asked}
-use Rattle.cq_kept.specs.declared.kept.Asked.TheVariants as kept
+use Rattle.cq_tokask.specs.Asked.{AnswersLines}
+use Rattle.cq_tokask.specs.Kept.{Asks}
+use Rattle.cq_tokask.specs.declared.kept.Asked.{Asked}
+use Rattle.cq_tokask.specs.declared.kept.Asked.TheVariants as kept
 use Rattle.cq_drive.specs.Script.{IsScript}
 use Rattle.cq_beside.specs.Replies.{AreBeside}
 use Rattle.cq_lines.specs.Serving.{Serves, HasEndCause}

@@ -4,9 +4,9 @@ use Rattle.cq_base.specs.declared.settings.Settings.{Settings}
 use Rattle.cq_io.specs.Causes.{Rose}
 use Rattle.cq_io.specs.declared.sink.Sink as sink
 use Rattle.cq_io.specs.declared.source.Source as source
-use Rattle.cq_kept.specs.Kept.{Asks}
-use Rattle.cq_kept.specs.declared.kept.Asked.{Asked}
-use Rattle.cq_kept.specs.declared.kept.Asked.TheVariants as kept
+use Rattle.cq_tokask.specs.Kept.{Asks}
+use Rattle.cq_tokask.specs.declared.kept.Asked.{Asked}
+use Rattle.cq_tokask.specs.declared.kept.Asked.TheVariants as kept
 use Rattle.cq_lines.specs.Serving.{HasEndCause}
 use Rattle.cq_lines.specs.declared.ending.End.{End}
 use Rattle.cq_lines.specs.declared.ending.End.TheVariants as end

@@ -2,8 +2,8 @@ ghost use Rattle.std.specs.Prelude.{◌≡◌};
 ghost use Rattle.cq_program.specs.Top as spec;
 
 use cq_export::Exported;
-use cq_kept::Asked;
 use cq_lines::End;
+use cq_tokask::Asked;
 
 /// The status of a run that ends so.
 pub(crate) fn status_of(end: End) -> u8

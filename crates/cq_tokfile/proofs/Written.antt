@@ -1,5 +1,5 @@
 -- A snapshot as it is written: a token for each place, each file behind its front, and how many bytes that are.
-use Rattle.std.proofs.Common.{◌≡◌, ℕ, zero, suc, ◌+◌, ◌-◌, ◌*◌, ◌^◌, ◌<◌, ◌≤◌, List, [], ◌∷◌, ◌++◌, length, map, take, get_or, refl, sym, ap, ◌∙◌, append_assoc, arith, length-append}
+use Rattle.std.proofs.Common.{◌≡◌, ℕ, zero, suc, ◌+◌, ◌*◌, ◌^◌, ◌<◌, ◌≤◌, List, [], ◌∷◌, ◌++◌, length, map, take, get_or, refl, sym, ap, ◌∙◌, append_assoc, arith, length-append}
 use Rattle.std.specs.Prelude.{All}
 use Rattle.std.specs.Arc.{arc_value}
 use Rattle.std.specs.Int.{w32, w64, to_be_bytes}
@@ -22,7 +22,7 @@ use Rattle.cq_history.specs.Files.{File}
 use Rattle.cq_work.specs.declared.work.State.{State}
 use Rattle.cq_work.specs.declared.work.Work.{Work}
 use Rattle.cq_tokfile.specs.declared.snapshot.Snapshot.{Snapshot}
-use Rattle.cq_tokfile.specs.Spelling.{Recorded, text, place, token, function, counted, condition, language, outcome, counts, front, file, head, body, whole}
+use Rattle.cq_tokfile.specs.Spelling.{Recorded, text, place, token, function, counted, condition, language, outcome, counts, front, file, head, body}
 use Rattle.cq_tokfile.specs.Sound.{IsSoundToken, IsSoundFunction, IsSoundFile, HasSpelling}
 use Rattle.cq_tokfile.specs.Snapshot.{spelled_of, record_of, contents_of, IsOneFile, IsSoundSnapshot, HasTokenForEachPlace, tokens_length, functions_length, file_length, files_length, body_length, capped}
 

@@ -2,7 +2,7 @@ use Rattle.std.proofs.Common.{List, refl, subst}
 use Rattle.std.proofs.lemmas.Result.{IfOk-weaker}
 use Rattle.cq_base.specs.declared.change.Change.{Change}
 use Rattle.cq_export.proofs.Ended.{written_of}
-use Rattle.cq_kept.specs.Exported.{IsOfChanges}
+use Rattle.cq_tokask.specs.Exported.{IsOfChanges}
 use Rattle.cq_export.proofs.Accepting.{begun}
 use Rattle.cq_export.proofs.Holding.{accepted_holds}
 use Rattle.cq_export.proofs.exporting.export.Goals as goal

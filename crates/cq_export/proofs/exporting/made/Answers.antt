@@ -1,7 +1,7 @@
 use Rattle.std.proofs.Common.{List, subst}
 use Rattle.std.specs.Prelude.{IfOk}
 use Rattle.cq_base.specs.declared.change.Change.{Change}
-use Rattle.cq_kept.specs.Exported.{IsOfChanges}
+use Rattle.cq_tokask.specs.Exported.{IsOfChanges}
 use Rattle.cq_export.proofs.exporting.made.Goals as goal
 
 pub last_version-requires-clause-holds : goal.last_version-requires-clause-holds

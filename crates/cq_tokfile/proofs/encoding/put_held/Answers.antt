@@ -2,7 +2,6 @@ use Rattle.std.proofs.Common.{◌≡◌, ◌∙◌, ◌<◌, ◌^◌, List, ℕ,
 use Rattle.std.specs.Arc.{arc_value}
 use Rattle.std.specs.Prelude.{All}
 use Rattle.cq_base.specs.declared.norm.Norm.{Norm}
-use Rattle.cq_base.specs.declared.token.Token.{Token}
 use Rattle.cq_func.specs.declared.function.Function.{Function}
 use Rattle.cq_history.specs.Files.{File}
 use Rattle.cq_work.specs.declared.work.Work.{Work}
@@ -38,7 +37,9 @@ returns g c =
     let spans : c.as_slice.result.now ≡ f.body.spans.items = c.as_slice.ensures.value ∙ ap (λ (w : Work g.row.L.Denot). w.spans.items) third in
     let tokens : c.deref-6.result.now ≡ arc_value f.body.tokens = c.deref-6.ensures ∙ ap (λ (w : Work g.row.L.Denot). arc_value w.tokens) fourth in
     let functions : c.as_slice-2.result.now ≡ f.body.functions.items = c.as_slice-2.ensures.value ∙ ap (λ (w : Work g.row.L.Denot). w.functions.items) last in
-    let head : front c.deref.result.now f.number f.lang c.deref-2.result.now.state c.deref-3.result.now.counts ≡ front f.path f.number f.lang f.body.state f.body.counts = λ i. front (path i) f.number f.lang (first i).state (second i).counts in
+    let number : c.held.inside.change ≡ f.number = ap (λ (h : File (Work g.row.L.Denot)). h.number) c.held.view_is in
+    let lang : c.held.inside.lang ≡ f.lang = ap (λ (h : File (Work g.row.L.Denot)). h.lang) c.held.view_is in
+    let head : front c.deref.result.now c.held.inside.change c.held.inside.lang c.deref-2.result.now.state c.deref-3.result.now.counts ≡ front f.path f.number f.lang f.body.state f.body.counts = λ i. front (path i) (number i) (lang i) (first i).state (second i).counts in
     let list : counted token (spelled_of c.as_slice.result.now c.deref-6.result.now) ≡ counted token r.tokens = λ i. counted token (spelled_of (spans i) (tokens i)) in
     three _ _ _ _ (front f.path f.number f.lang f.body.state f.body.counts) (counted token r.tokens) (counted function r.functions)
     (c.in_ok-put_front.ensures ∙ ap (λ (b : List ℕ). c.args.out.now.items ++ b) head)

@@ -1,4 +1,4 @@
-use Rattle.std.proofs.Common.{◌+◌, ◌<◌, ◌≤◌, ◌∙◌, true, false, ltb, length, sym, ap₂, rules, arith}
+use Rattle.std.proofs.Common.{◌+◌, ◌<◌, ◌≤◌, ◌∙◌, ltb, length, sym, ap₂, rules, arith}
 use Rattle.std.proofs.lemmas.List.{get_or_default}
 use Rattle.cq_tokfile.proofs.InOrder.{rise_next, rise_stop, rise_end}
 use Rattle.cq_tokfile.proofs.rising.numbers_rise.Goals as goal

@@ -1,5 +1,0 @@
-use Rattle.cq_kept.proofs.Exported.{answers_as}
-use Rattle.cq_kept.proofs.laws.a_kept_version_answers_as_its_changes.Goals as goal
-
-pub returns : goal.returns
-returns g c = answers_as g.row.L.Denot
