@@ -12,7 +12,8 @@ use Rattle.cq_work.specs.declared.work.State.{State}
 use Rattle.cq_work.specs.declared.work.State.TheVariants as states
 use Rattle.cq_tokfile.specs.Spelling.{text, counted, token, function, language, outcome, Recorded, file}
 use Rattle.cq_tokfile.specs.Spelling.{counts as counts_bytes}
-use Rattle.cq_tokfile.specs.Sound.{IsSoundText, IsSoundToken, IsSoundFunction, AreCounted, IsSoundState, IsSoundFile, has_tokens, is_sound_file}
+use Rattle.cq_tokfile.specs.Sound.{IsSoundText, IsSoundToken, IsSoundFunction, AreCounted, IsSoundState, IsSoundFile, is_sound_file}
+use Rattle.cq_work.specs.Bounds.{has_tokens}
 use Rattle.cq_tokfile.specs.Reading.{◌>>=◌, byte_at, number_at, text_at, token_at, function_at, counted_at, lang_of, lang_at, state_at, counts_at, file_at}
 use Rattle.cq_tokfile.proofs.Fields.{IsBytes, IsReader, Takes, Takes-then, after, bind_some, if_some, some_is, byte_takes, number32, number64, texts}
 use Rattle.cq_tokfile.proofs.Records.{other, none_is, both, with_both}

@@ -1,7 +1,13 @@
-mod Fields
+pub mod Fields
 mod Records
 mod Counted
 mod Appended
 mod FileForms
-mod Framed
+pub mod Framed
+pub mod Announcing
 mod Heads
+mod InOrder
+mod Wholes
+pub mod Decoded
+pub mod Written
+pub mod Indexing

@@ -16,7 +16,8 @@ use Rattle.cq_base.specs.declared.token.Token.{Token}
 use Rattle.cq_func.specs.declared.function.Function.{Function}
 use Rattle.cq_key.specs.Keys.{class_code}
 use Rattle.cq_tokfile.specs.Spelling.{text, metric_byte, compare_byte, condition, place, token, function}
-use Rattle.cq_tokfile.specs.Sound.{IsSoundText, IsSoundCondition, IsSoundToken, IsSoundFunction, is_ignored, is_sound_token, is_sound_function}
+use Rattle.cq_tokfile.specs.Sound.{IsSoundText, IsSoundCondition, IsSoundToken, IsSoundFunction, is_sound_token, is_sound_function}
+use Rattle.cq_work.specs.Bounds.{is_ignored}
 use Rattle.cq_tokfile.specs.Reading.{◌>>=◌, byte_at, number_at, text_at, metric_of, compare_of, class_of, condition_at, place_at, token_at, function_at}
 use Rattle.cq_tokfile.proofs.Fields.{IsBytes, IsReader, Takes, Takes-then, bind_some, if_some, some_is, byte_takes, number32, number64, texts}
 

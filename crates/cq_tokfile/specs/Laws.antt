@@ -1,8 +1,8 @@
 -- What holds of the forms themselves.
-use Rattle.std.specs.Prelude.{◌≡◌, ◌<◌, ◌^◌, ℕ, List, ◌++◌}
+use Rattle.std.specs.Prelude.{◌≡◌, ◌<◌, ◌^◌, ℕ, List, [], ◌++◌}
 use Rattle.cq_base.specs.declared.settings.Settings.{Settings}
-use Rattle.cq_tokfile.specs.Spelling.{head, condition, token, function, counted, file, framed}
-use Rattle.cq_tokfile.specs.Sound.{IsSoundCondition, IsSoundToken, IsSoundFunction, AreCounted, IsSoundFile, IsSoundBody, IsSoundHead}
+use Rattle.cq_tokfile.specs.Spelling.{Contents, head, condition, token, function, counted, file, framed, whole}
+use Rattle.cq_tokfile.specs.Sound.{IsSoundCondition, IsSoundToken, IsSoundFunction, AreCounted, IsSoundFile, IsSoundBody, IsSoundHead, IsSoundWhole}
 
 -- Each sound value has one form, and no form begins another's, whatever follows.
 abbrev pub HasOneForm : {A : Type 0} → (A → List ℕ) → (A → Type 0) → Type 0
@@ -26,3 +26,10 @@ FramesHaveOneForm = HasOneForm framed IsSoundBody
 
 abbrev pub HeadsHaveOneForm : Type 0
 HeadsHaveOneForm = (settings : Settings) → HasOneForm (head settings) (IsSoundHead settings)
+
+abbrev pub WholesHaveOneForm : Type 0
+WholesHaveOneForm = (settings : Settings) → HasOneForm (whole settings) (IsSoundWhole settings)
+
+-- a file that begins with another one, of whatever settings, is that one
+abbrev pub NoWholeBeginsAnother : Type 0
+NoWholeBeginsAnother = (settings others : Settings) (a b : Contents) (rest : List ℕ) → IsSoundWhole settings a → IsSoundWhole others b → whole settings a ++ rest ≡ whole others b → rest ≡ []

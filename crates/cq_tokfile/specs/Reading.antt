@@ -21,8 +21,8 @@ use Rattle.cq_work.specs.declared.work.State.TheVariants as states
 use Rattle.cq_tokfile.specs.declared.head.Head.{Head}
 use Rattle.cq_tokfile.specs.declared.unread.Unread.{Unread}
 use Rattle.cq_tokfile.specs.declared.unread.Unread.TheVariants as unread
-use Rattle.cq_tokfile.specs.Spelling.{Recorded, mark}
-use Rattle.cq_tokfile.specs.Sound.{is_sound_token, is_sound_function, is_sound_file, is_sound_head}
+use Rattle.cq_tokfile.specs.Spelling.{Recorded, Contents, mark}
+use Rattle.cq_tokfile.specs.Sound.{is_sound_token, is_sound_function, is_sound_file, is_sound_head, is_sound_contents}
 
 -- What a reader promises, where `spell` gives the bytes of a value, and `IsSound` says which values may be read: where it
 -- reads, the bytes are those of a sound value and what is behind, and where it refuses, they begin with those of none.
@@ -172,6 +172,10 @@ file_at settings version bytes = do
 abbrev pub behind_mark : List ℕ → Option (List ℕ)
 behind_mark bytes = if nat_lt (length bytes) 8 then None else (if bytes_eq (take 8 bytes) mark then Some (drop 8 bytes) else None)
 
+-- how many bytes the body has that 16 bytes announce, if they begin a token file
+abbrev pub announced : List ℕ → Option ℕ
+announced bytes = if bytes_eq (take 8 bytes) mark then (if nat_lt 268435456 (from_be_bytes w64 (drop 8 bytes)) then None else Some (from_be_bytes w64 (drop 8 bytes))) else None
+
 -- a body of so many bytes
 abbrev pub body_at : ℕ → List ℕ → Option (List ℕ × List ℕ)
 body_at n bytes = if nat_lt 268435456 n then None else (if nat_lt (length bytes) n then None else Some (take n bytes, drop n bytes))
@@ -190,3 +194,17 @@ head_at settings bytes = do
   lits ← byte_at ids.1
   project ← text_at lits.1
   if is_sound_head settings version.0 chunk.0 ids.0 lits.0 then Some (record { version = version.0; project = project.0 }, project.1) else None
+
+unfoldable pub contents_at : Settings → List ℕ → Option (Contents × List ℕ)
+contents_at settings bytes = do
+  head ← head_at settings bytes
+  conditions ← counted_at condition_at head.1
+  files ← counted_at (file_at settings head.0.version) conditions.1
+  if is_sound_contents (record { head = head.0; conditions = conditions.0; files = files.0 }) then Some (record { head = head.0; conditions = conditions.0; files = files.0 }, files.1) else None
+
+-- a whole file: all of the body belongs to its contents
+unfoldable pub whole_at : Settings → List ℕ → Option (Contents × List ℕ)
+whole_at settings bytes = do
+  frame ← frame_at bytes
+  contents ← contents_at settings frame.0
+  if length contents.1 == 0 then Some (contents.0, frame.1) else None

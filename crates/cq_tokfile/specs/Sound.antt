@@ -1,17 +1,19 @@
 -- What may stand in a token file.
-use Rattle.std.specs.Prelude.{All, ◌≡◌, ◌≤◌, ◌<◌, ◌^◌, ℕ, ◌+◌, nat_le, ◌==◌, List, [], length, Bool, true, false, ◌&&◌, ◌||◌, not}
-use Rattle.std.specs.List.{AllByRecursion}
+use Rattle.std.specs.Prelude.{All, AllPairs, ◌≡◌, ◌≢◌, ◌≤◌, ◌<◌, ◌^◌, ℕ, ◌+◌, nat_le, ◌==◌, List, [], ◌∷◌, length, map, Bool, true, false, ◌&&◌, ◌||◌, not}
+use Rattle.std.specs.List.{AllByRecursion, list_all}
 use Rattle.std.specs.Str.{IsUtf8}
 use Rattle.cq_base.specs.declared.settings.Settings.{Settings}
 use Rattle.cq_base.specs.declared.change.Condition.{Condition}
-use Rattle.cq_base.specs.declared.token.Class.{Class}
-use Rattle.cq_base.specs.declared.token.Class.TheVariants as class
 use Rattle.cq_base.specs.declared.token.Spelled.{Spelled}
 use Rattle.cq_func.specs.declared.function.Function.{Function}
+use Rattle.cq_history.specs.Files.{is_before}
+use Rattle.cq_names.specs.Names.{is_path, is_project}
+use Rattle.cq_projects.specs.Ordered.{AreRising}
 use Rattle.cq_tokfile.specs.declared.head.Head.{Head}
+use Rattle.cq_work.specs.Bounds.{is_ignored, has_tokens}
 use Rattle.cq_work.specs.declared.work.State.{State}
 use Rattle.cq_work.specs.declared.work.State.TheVariants as states
-use Rattle.cq_tokfile.specs.Spelling.{Recorded, flag}
+use Rattle.cq_tokfile.specs.Spelling.{Recorded, Contents, flag, body}
 
 -- a text of a token file: UTF-8, with a length that four bytes hold
 pub record IsSoundText (bytes : List ℕ) : Type 0 where
@@ -21,13 +23,6 @@ pub record IsSoundText (bytes : List ℕ) : Type 0 where
 -- what is in a condition has eight bytes
 pub record IsSoundCondition (c : Condition) : Type 0 where
   pub error : c.error < 2 ^ 64
-
--- whether tokens of this class are one token each
-abbrev pub is_ignored : Settings → Class → Bool
-is_ignored settings class.Ident = settings.ignore_ids
-is_ignored settings class.Word = false
-is_ignored settings class.Literal = settings.ignore_lits
-is_ignored settings class.Punct = false
 
 -- a token lies within 1,048,576 bytes and within the lines of its file; one of an ignored class has no text
 pub record IsSoundToken (settings : Settings) (lines : ℕ) (s : Spelled) : Type 0 where
@@ -71,12 +66,6 @@ abbrev pub IsSoundState : State → Type 0
 IsSoundState states.Ok = Unit {0}
 IsSoundState (states.Fault at) = at < 2 ^ 32
 IsSoundState states.Large = Unit {0}
-
--- whether the reading of a file gave its tokens
-abbrev pub has_tokens : State → Bool
-has_tokens states.Ok = true
-has_tokens (states.Fault at) = false
-has_tokens states.Large = false
 
 -- A file of a version: its change is one of those up to it, its counts and tokens are within their bounds, and it has
 -- tokens and functions only where its reading gave them.
@@ -131,3 +120,50 @@ is_sound_head settings version chunk ids lits =
     && ((chunk == settings.chunk)
     && ((ids == flag settings.ignore_ids)
     && (lits == flag settings.ignore_lits)))
+
+-- the changes that put the files
+abbrev pub changes_in : List Recorded → List ℕ
+changes_in files = map (λ (f : Recorded). f.change) files
+
+-- What a token file has of a snapshot of these settings: its project and its paths have the form of one, it has as many
+-- conditions as a gate may have and as many files as changes may put, in the order of their paths, and each was put by a
+-- change of its own.
+pub record IsSoundContents (settings : Settings) (c : Contents) : Type 0 where
+  pub head : IsSoundHead settings c.head
+  pub project : is_project c.head.project ≡ true
+  pub few_conditions : length c.conditions ≤ 32
+  pub conditions : AllByRecursion IsSoundCondition c.conditions
+  pub few_files : length c.files ≤ 262144
+  pub files : AllByRecursion (IsSoundFile settings c.head.version) c.files
+  pub paths : AllByRecursion (λ (f : Recorded). is_path f.path ≡ true) c.files
+  pub rising : AreRising (λ (f : Recorded). f.path) c.files
+  pub apart : AllPairs (λ a b. a ≢ b) (changes_in c.files)
+
+-- and its body has the length that stands before it
+pub record IsSoundWhole (settings : Settings) (c : Contents) : Type 0 where
+  pub contents : IsSoundContents settings c
+  pub fits : IsSoundBody (body settings c)
+
+-- whether each is before the next
+abbrev pub rise : {X : Type 0} → (X → X → Bool) → List X → Bool
+rise before [] = true
+rise before (x ∷ []) = true
+rise before (x ∷ y ∷ xs) = before x y && rise before (y ∷ xs)
+
+abbrev pub is_path_before : Recorded → Recorded → Bool
+is_path_before f g = is_before f.path g.path
+
+-- whether no number is there twice
+abbrev pub are_apart : List ℕ → Bool
+are_apart [] = true
+are_apart (n ∷ numbers) = list_all (λ (m : ℕ). not (m == n)) numbers && are_apart numbers
+
+-- what of this is tested once the parts were read: of the files, and of all but their changes, and of these
+abbrev pub have_form : List Recorded → Bool
+have_form files = nat_le (length files) 262144 && list_all (λ (f : Recorded). is_path f.path) files
+
+abbrev pub has_form : Contents → Bool
+has_form c = is_project c.head.project && (nat_le (length c.conditions) 32 && (have_form c.files && rise is_path_before c.files))
+
+abbrev pub is_sound_contents : Contents → Bool
+is_sound_contents c = has_form c && are_apart (changes_in c.files)

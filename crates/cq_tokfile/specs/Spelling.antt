@@ -1,5 +1,5 @@
 -- The bytes of a token file's parts, in the order of its table. All numbers are unsigned and big-endian.
-use Rattle.std.specs.Prelude.{ℕ, Bool, if◌then◌else◌, codes, List, [], ◌∷◌, ◌++◌, length}
+use Rattle.std.specs.Prelude.{ℕ, Bool, if◌then◌else◌, codes, List, [], ◌∷◌, ◌++◌, length, map}
 use Rattle.std.specs.List.{flat_map}
 use Rattle.std.specs.Int.{w32, w64, to_be_bytes}
 use Rattle.cq_base.specs.declared.settings.Settings.{Settings}
@@ -16,6 +16,7 @@ use Rattle.cq_func.specs.declared.function.Function.{Function}
 use Rattle.cq_key.specs.Keys.{class_code, lang_code}
 use Rattle.cq_work.specs.declared.work.State.{State}
 use Rattle.cq_work.specs.declared.work.State.TheVariants as states
+use Rattle.cq_tokfile.specs.declared.contents.ContentsRecord.{ContentsRecord}
 use Rattle.cq_tokfile.specs.declared.file.FileRecord.{FileRecord}
 use Rattle.cq_tokfile.specs.declared.head.Head.{Head}
 
@@ -88,6 +89,10 @@ recorded f = record { path = f.path; change = f.change; lang = f.lang; state = f
 abbrev pub file : Recorded → List ℕ
 file f = text f.path ++ (to_be_bytes w64 f.change ++ (language f.lang ++ (outcome f.state ++ (counts f.counts ++ (counted token f.tokens ++ counted function f.functions)))))
 
+-- what stands before the tokens of a file
+abbrev pub front : List ℕ → ℕ → Lang → State → FileCounts → List ℕ
+front path change lang state c = text path ++ (to_be_bytes w64 change ++ (language lang ++ (outcome state ++ counts c)))
+
 -- what each token file begins with
 abbrev pub mark : List ℕ
 mark = codes "CQTOK001"
@@ -103,3 +108,20 @@ flag set = if set then 1 else 0
 -- the head of a body: the version in eight bytes, the settings that the tokens depend on, and the project
 abbrev pub head : Settings → Head → List ℕ
 head settings h = to_be_bytes w64 h.version ++ (to_be_bytes w32 settings.chunk ++ ((flag settings.ignore_ids ∷ []) ++ ((flag settings.ignore_lits ∷ []) ++ text h.project)))
+
+-- what a token file has: of which version of which project it is, the conditions of its gate, and its files
+pub record Contents : Type 0 where
+  pub head : Head
+  pub conditions : List Condition
+  pub files : List Recorded
+
+abbrev pub listed : ContentsRecord → Contents
+listed c = record { head = c.head; conditions = c.conditions.items; files = map recorded c.files.items }
+
+-- the body: its head, its conditions and its files
+abbrev pub body : Settings → Contents → List ℕ
+body settings c = head settings c.head ++ (counted condition c.conditions ++ counted file c.files)
+
+-- the whole file: the body in its frame
+abbrev pub whole : Settings → Contents → List ℕ
+whole settings c = framed (body settings c)

@@ -102,7 +102,7 @@ fn conditions_at(alloc: Global, count: u32, bytes: &[u8]) -> Result<(Vec<Conditi
 }
 
 #[tactic(auto, unfolding(crate::specs::Reading::counted_at))]
-fn conditions_of(alloc: Global, bytes: &[u8]) -> Result<(Vec<Condition>, &[u8]), Unread>
+pub(crate) fn conditions_of(alloc: Global, bytes: &[u8]) -> Result<(Vec<Condition>, &[u8]), Unread>
     ensures { Gives (λ x. (x.0.items, x.1.now)) result (counted_at condition_at bytes.now) }
 {
     let (count, rest) = u32_at(bytes)?;

@@ -1,8 +1,9 @@
-ghost use Rattle.std.specs.Prelude.{◌≡◌, ◌++◌, OnOk};
+ghost use Rattle.std.specs.Prelude.{◌≡◌, ◌<◌, ◌^◌, ◌++◌, length, OnOk};
 ghost use Rattle.cq_key.specs.Keys.{lang_code};
 ghost use Rattle.cq_tokfile.specs.Spelling as spell;
 ghost use Rattle.cq_tokfile.specs.Spelling.{recorded};
-ghost use Rattle.cq_tokfile.specs.Sound.{HasSpelling, IsSoundFile, has_tokens, is_sound_file};
+ghost use Rattle.cq_tokfile.specs.Sound.{HasSpelling, IsSoundFile, is_sound_file};
+ghost use Rattle.cq_work.specs.Bounds.{has_tokens};
 ghost use Rattle.cq_tokfile.specs.Reading.{Gives, Reads, counts_at, file_at, lang_at, lang_of, state_at};
 
 use crate::functions::{functions_of, put_functions};
@@ -176,6 +177,26 @@ fn put_counts(out: &mut Vec<u8>, counts: FileCounts) -> Result<(), Memory>
     put_u64(out, counts.lines)?;
     put_u64(out, counts.ncloc)?;
     put_u64(out, counts.complexity)?;
+    Ok(())
+}
+
+/// Writes what stands before the tokens of a file at the end.
+pub(crate) fn put_front(
+    out: &mut Vec<u8>,
+    path: &Text,
+    change: u64,
+    lang: Lang,
+    state: State,
+    counts: FileCounts,
+) -> Result<(), Memory>
+    requires { length path.now < 2 ^ 32 }
+    ensures { OnOk result (out.new.items ≡ out.old.items ++ spell.front path.now change lang state counts) }
+{
+    put_text(out, path.as_bytes())?;
+    put_u64(out, change)?;
+    put_u8(out, lang_byte(lang))?;
+    put_state(out, state)?;
+    put_counts(out, counts)?;
     Ok(())
 }
 

@@ -31,7 +31,7 @@ fn files_at<'a>(
 }
 
 #[tactic(auto, unfolding(crate::specs::Reading::counted_at))]
-fn files_of<'a>(
+pub(crate) fn files_of<'a>(
     alloc: Global,
     settings: &Settings,
     version: u64,

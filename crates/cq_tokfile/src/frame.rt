@@ -1,7 +1,7 @@
-ghost use Rattle.std.specs.Prelude.{◌≡◌, ◌++◌, OnOk};
+ghost use Rattle.std.specs.Prelude.{◌≡◌, ◌++◌, length, OnOk};
 ghost use Rattle.cq_tokfile.specs.Spelling as spell;
 ghost use Rattle.cq_tokfile.specs.Sound.{IsSoundBody};
-ghost use Rattle.cq_tokfile.specs.Reading.{Gives, Reads, behind_mark, body_at, frame_at};
+ghost use Rattle.cq_tokfile.specs.Reading.{Gives, Reads, announced, behind_mark, body_at, frame_at};
 
 use crate::numbers::{put_u64, u64_at};
 use crate::unread::Unread;
@@ -38,7 +38,7 @@ fn body_of(len: u64, bytes: &[u8]) -> Result<(&[u8], &[u8]), Unread>
 }
 
 #[tactic(auto, unfolding(crate::specs::Reading::frame_at))]
-fn frame_of(bytes: &[u8]) -> Result<(&[u8], &[u8]), Unread>
+pub(crate) fn frame_of(bytes: &[u8]) -> Result<(&[u8], &[u8]), Unread>
     ensures { Gives (λ x. (x.0.now, x.1.now)) result (frame_at bytes.now) }
 {
     let rest = mark_of(bytes)?;
@@ -51,6 +51,32 @@ pub fn read_frame(bytes: &[u8]) -> Result<(&[u8], &[u8]), Unread>
     ensures reads { Reads spell.framed IsSoundBody (λ x. (x.0.now, x.1.now)) bytes.now result }
 {
     frame_of(bytes)
+}
+
+/// How many bytes the body has that the 16 bytes before it announce, if they begin a token file.
+pub fn announced(bytes: &[u8]) -> Option<usize>
+    requires { length bytes.now ≡ 16 }
+    ensures { result ≡ announced bytes.now }
+{
+    let (mark, len) = bytes.split_at(8);
+    if mark != MARK.as_slice() {
+        return None;
+    }
+    let len = u64::from_be_bytes([
+        len[0], len[1], len[2], len[3], len[4], len[5], len[6], len[7],
+    ]);
+    if len > 268_435_456 {
+        return None;
+    }
+    Some(len as usize)
+}
+
+/// Writes what each token file begins with at the end.
+pub(crate) fn put_mark(out: &mut Vec<u8>) -> Result<(), Memory>
+    ensures { OnOk result (out.new.items ≡ out.old.items ++ spell.mark) }
+{
+    out.extend_from_slice(MARK.as_slice())?;
+    Ok(())
 }
 
 /// Writes a body with its frame at the end.

@@ -32,7 +32,7 @@ fn is_sound(settings: &Settings, version: u64, chunk: u32, ids: u8, lits: u8) ->
 }
 
 #[tactic(auto, unfolding(crate::specs::Reading::head_at))]
-fn head_of<'a>(
+pub(crate) fn head_of<'a>(
     alloc: Global,
     settings: &Settings,
     bytes: &'a [u8],
@@ -61,15 +61,28 @@ pub fn read_head<'a>(
     head_of(alloc, settings, bytes)
 }
 
+/// Writes the head of a version of a project with these settings at the end.
+pub(crate) fn put_head_of(
+    out: &mut Vec<u8>,
+    settings: &Settings,
+    version: u64,
+    project: &Text,
+) -> Result<(), Memory>
+    requires { length project.now < 2 ^ 32 }
+    ensures { OnOk result (out.new.items ≡ out.old.items ++ spell.head settings.now (record { version = version; project = project.now })) }
+{
+    put_u64(out, version)?;
+    put_u32(out, settings.chunk)?;
+    put_u8(out, flag(settings.ignore_ids))?;
+    put_u8(out, flag(settings.ignore_lits))?;
+    put_text(out, project.as_bytes())?;
+    Ok(())
+}
+
 /// Writes a head with these settings at the end.
 pub fn put_head(out: &mut Vec<u8>, settings: &Settings, head: &Head) -> Result<(), Memory>
     requires { length head.now.project < 2 ^ 32 }
     ensures { OnOk result (out.new.items ≡ out.old.items ++ spell.head settings.now head.now) }
 {
-    put_u64(out, head.version)?;
-    put_u32(out, settings.chunk)?;
-    put_u8(out, flag(settings.ignore_ids))?;
-    put_u8(out, flag(settings.ignore_lits))?;
-    put_text(out, head.project.as_bytes())?;
-    Ok(())
+    put_head_of(out, settings, head.version, &head.project)
 }

@@ -29,3 +29,13 @@ pub fn frames_have_one_form()
 pub fn heads_have_one_form()
     ensures { law.HeadsHaveOneForm }
 {}
+
+/// Each contents of a token file has one file under given settings, and no file begins another's.
+pub fn wholes_have_one_form()
+    ensures { law.WholesHaveOneForm }
+{}
+
+/// No token file is a proper beginning of another, whatever the settings of both.
+pub fn no_whole_begins_another()
+    ensures { law.NoWholeBeginsAnother }
+{}

@@ -96,3 +96,20 @@ fn a_condition(rt: HostRuntime) -> Result<(), Fail> {
     assert_eq!(rt; out.as_slice(), bytes.as_slice());
     Ok(())
 }
+
+#[test]
+fn a_whole_file_and_what_is_behind(rt: HostRuntime) -> Result<(), Fail> {
+    let mut bytes = Vec::from_slice(rt.alloc(), &FILE)
+        .ok()
+        .ok_or("memory is there")?;
+    bytes.push(123).ok().ok_or("memory is there")?;
+    let (contents, rest) = read_whole(rt.alloc(), &SETTINGS, &bytes)
+        .ok()
+        .ok_or("a whole file")?;
+    assert_eq!(rt; rest.len(), 1);
+    assert_eq!(rt; contents.head.version, 1);
+    assert_eq!(rt; contents.conditions.len(), 0);
+    assert_eq!(rt; contents.files.len(), 1);
+    assert!(rt; read_whole(rt.alloc(), &SETTINGS, &FILE[..111]).is_err());
+    Ok(())
+}

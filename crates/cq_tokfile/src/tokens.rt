@@ -1,7 +1,8 @@
 ghost use Rattle.std.specs.Prelude.{◌≡◌, ◌<◌, ◌^◌, ◌++◌, length, All, OnOk};
 ghost use Rattle.cq_key.specs.Keys.{class_code};
 ghost use Rattle.cq_tokfile.specs.Spelling as spell;
-ghost use Rattle.cq_tokfile.specs.Sound.{AreCounted, IsSoundToken, is_ignored, is_sound_token};
+ghost use Rattle.cq_tokfile.specs.Sound.{AreCounted, IsSoundToken, is_sound_token};
+ghost use Rattle.cq_work.specs.Bounds.{is_ignored};
 ghost use Rattle.cq_tokfile.specs.Reading.{Gives, Reads, class_of, counted_at, items_at, place_at, token_at};
 
 use crate::numbers::{put_text, put_u8, put_u32, text_of, u8_at, u32_at};
