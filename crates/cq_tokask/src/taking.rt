@@ -1,4 +1,4 @@
-ghost use Rattle.std.specs.Prelude.{◌≡◌, ◌≤◌, ◌<◌, take, vec_len, IfOk};
+ghost use Rattle.std.specs.Prelude.{◌≡◌, ◌≤◌, ◌<◌, ◌+◌, take, drop, vec_len, IfOk};
 ghost use Rattle.std.specs.Io.KnownBytes.{ReadConsumes};
 ghost use Rattle.cq_io.specs.Causes.{HasCause};
 ghost use Rattle.cq_tokask.specs.Taken.{TakesBytes, TakesFile, TakesSome};
@@ -33,16 +33,22 @@ pub(crate) enum Front {
     Failed,
 }
 
-// Reads once into the front of the piece.
-fn read_some<S: Source>(source: &mut S, piece: &mut Vec<u8>, size: usize) -> Result<usize, Failed>
-    requires fits { size ≤ vec_len piece.old }
-    requires some { 0 < size }
-    ensures within { IfOk result (λ n. n ≤ size) }
+// Reads once into the piece from a place on.
+fn read_at<S: Source>(
+    source: &mut S,
+    piece: &mut Vec<u8>,
+    at: usize,
+    want: usize,
+) -> Result<usize, Failed>
+    requires fits { at + want ≤ vec_len piece.old }
+    requires some { 0 < want }
+    ensures within { IfOk result (λ n. n ≤ want) }
     ensures len { vec_len piece.new ≡ vec_len piece.old }
-    ensures bytes { ReadConsumes (S.rest source.old) (S.rest source.new) result (take size piece.new.items) }
+    ensures front { take at piece.new.items ≡ take at piece.old.items }
+    ensures bytes { ReadConsumes (S.rest source.old) (S.rest source.new) result (take want (drop at piece.new.items)) }
     ensures cause { HasCause (S.faults source.old) (S.faults source.new) result }
 {
-    source.read(&mut piece[..size])
+    source.read(&mut piece[at..at + want])
 }
 
 // Takes some of the next bytes, as many as are wanted or fewer, and none where none are left. They come behind those that
@@ -59,7 +65,7 @@ fn take_some<S: Source>(
     ensures bytes { IfOk result (TakesSome S.Source source.old source.new out.old.items out.new.items want) }
 {
     let size = want.min(piece.len());
-    match read_some(source, piece, size) {
+    match read_at(source, piece, 0, size) {
         Ok(count) => {
             out.extend_from_slice(&piece[..count])?;
             Ok(Ok(count))
