@@ -1,7 +1,8 @@
-ghost use Rattle.std.specs.Prelude.{◌≡◌, ◌≤◌, ◌<◌, ◌+◌, take, drop, vec_len, IfOk};
+ghost use Rattle.std.specs.Prelude.{◌≡◌, ◌≤◌, ◌<◌, ◌+◌, length, take, drop, vec_len, IfOk};
 ghost use Rattle.std.specs.Io.KnownBytes.{ReadConsumes};
 ghost use Rattle.cq_io.specs.Causes.{HasCause};
-ghost use Rattle.cq_tokask.specs.Taken.{TakesBytes, TakesFile, TakesSome};
+ghost use Rattle.cq_tokask.specs.Taken.{AreBytes, TakesBytes, TakesFile, TakesSome};
+ghost use Rattle.cq_tokfile.specs.Reading as reading;
 
 use cq_base::Memory;
 use cq_io::{Failed, Source};
@@ -96,6 +97,15 @@ fn take<S: Source>(
     Ok(Taken::All)
 }
 
+// How long a body is, by the 16 bytes before it.
+fn length_told(bytes: &[u8]) -> Option<usize>
+    requires { length bytes.now ≡ 16 }
+    ensures told { result ≡ reading.announced bytes.now }
+    ensures fit { AreBytes bytes.now }
+{
+    announced(bytes)
+}
+
 /// Takes the body in its frame that stands at the front of a source. No byte behind it is taken. Where something else
 /// stands there, or a read fails, some bytes may have been taken.
 pub(crate) fn take_front<S: Source>(alloc: Global, source: &mut S) -> Result<Front, Memory>
@@ -108,7 +118,7 @@ pub(crate) fn take_front<S: Source>(alloc: Global, source: &mut S) -> Result<Fro
         Taken::Ended => return Ok(Front::Other),
         Taken::Failed => return Ok(Front::Failed),
     }
-    let Some(len) = announced(&bytes) else {
+    let Some(len) = length_told(&bytes) else {
         return Ok(Front::Other);
     };
     match take(source, &mut piece, len, &mut bytes)? {

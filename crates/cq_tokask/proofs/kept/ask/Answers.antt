@@ -1,7 +1,10 @@
-use Rattle.std.proofs.Common.{ℕ, List, refl, sym, subst, inl, inr}
+use Rattle.std.proofs.Common.{ℕ, List, refl, ap, sym, subst, inl, inr}
 use Rattle.cq_tokask.proofs.Fronts.{other_is_no_file, framed_is_no_file, told_of, of_known}
 use Rattle.cq_tokask.specs.Kept.{BeginsWithNoFile}
-use Rattle.cq_lines.specs.Serving.{HasEndCause}
+use Rattle.cq_lines.specs.Held.{Held}
+use Rattle.cq_lines.specs.Serving.{HasEndCause, Serves}
+use Rattle.cq_reply.specs.Written.{line_of}
+use Rattle.cq_tokask.specs.Asked.{AnswersLines}
 use Rattle.cq_tokfile.specs.Snapshot.{IsTokenFile}
 use Rattle.cq_tokask.proofs.kept.ask.Goals as goal
 
@@ -40,7 +43,7 @@ returns-clause-asks g c =
         is_file = subst (λ (bytes : List ℕ). IsTokenFile c.args.settings.now c.in-Some.snapshot bytes) c.deref.ensures.value is;
         behind = g.S.Source.rest c.take_front.new.source;
         taken = taken.1;
-        serves = c.ask_lines-end.ensures.served;
+        serves = subst (λ (n : ℕ). Serves line_of (AnswersLines c.in-Some.snapshot c.args.settings.now) n (g.S.Source.rest c.take_front.new.source) (g.S.Source.rest c.ask_lines-end.new.source) (g.K.Sink.written c.args.sink.now) (g.K.Sink.written c.ask_lines-end.new.sink) c.ask_lines-end.result) (ap (λ (h : Held). h.limit) c.in_ok-lines.ensures) c.ask_lines-end.ensures.served;
       },
       subst (λ (n : ℕ). HasEndCause n (g.S.Source.faults c.ask_lines-end.new.source) (g.K.Sink.faults c.args.sink.now) (g.K.Sink.faults c.ask_lines-end.new.sink) c.ask_lines-end.result) taken.2 c.ask_lines-end.ensures.cause,
     )
