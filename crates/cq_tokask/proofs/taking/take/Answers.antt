@@ -1,4 +1,4 @@
-use Rattle.std.proofs.Common.{◌+◌, ◌∙◌, [], ◌++◌, refl, subst, arith, length-append}
+use Rattle.std.proofs.Common.{◌∙◌, [], ◌++◌, refl, subst, arith, length-append}
 use Rattle.cq_io.specs.Causes.{Rose}
 use Rattle.cq_tokask.proofs.Coming.{came_none, came_more, comes_more}
 use Rattle.cq_tokask.proofs.taking.take.Goals as goal
