@@ -1,5 +1,5 @@
 -- What is taken of a source, up to the end of the body in its frame at the front.
-use Rattle.std.specs.Prelude.{◌≡◌, ◌≤◌, ◌<◌, ℕ, List, [], ◌++◌, length, Option, IfSome, MatchResult, Result}
+use Rattle.std.specs.Prelude.{◌≡◌, ◌≤◌, ◌<◌, ℕ, List, [], ◌++◌, length, get_or, Option, IfSome, MatchResult, Result}
 use Rattle.std.specs.Io.KnownBytes.{Consumes, IsAtEnd}
 use Rattle.cq_io.specs.Causes.{Rose}
 use Rattle.cq_io.specs.declared.source.Source as source
@@ -9,6 +9,10 @@ use Rattle.cq_tokask.specs.declared.taking.Taken.{Taken}
 use Rattle.cq_tokask.specs.declared.taking.Taken.TheVariants as taken
 use Rattle.cq_tokfile.specs.Spelling.{framed}
 use Rattle.cq_tokfile.specs.Sound.{IsSoundBody}
+
+-- each is a byte
+abbrev pub AreBytes : List ℕ → Type 0
+AreBytes bytes = (i : ℕ) → get_or bytes i 0 < 256
 
 -- no body in its frame is a front of the bytes
 abbrev pub BeginsOther : List ℕ → Type 0

@@ -1,7 +1,8 @@
-ghost use Rattle.std.specs.Prelude.{◌≡◌, ◌≤◌, ◌<◌, take, vec_len, IfOk};
+ghost use Rattle.std.specs.Prelude.{◌≡◌, ◌≤◌, ◌<◌, ◌+◌, length, take, drop, vec_len, IfOk};
 ghost use Rattle.std.specs.Io.KnownBytes.{ReadConsumes};
 ghost use Rattle.cq_io.specs.Causes.{HasCause};
-ghost use Rattle.cq_tokask.specs.Taken.{TakesBytes, TakesFile, TakesSome};
+ghost use Rattle.cq_tokask.specs.Taken.{AreBytes, TakesBytes, TakesFile, TakesSome};
+ghost use Rattle.cq_tokfile.specs.Reading as reading;
 
 use cq_base::Memory;
 use cq_io::{Failed, Source};
@@ -33,16 +34,22 @@ pub(crate) enum Front {
     Failed,
 }
 
-// Reads once into the front of the piece.
-fn read_some<S: Source>(source: &mut S, piece: &mut Vec<u8>, size: usize) -> Result<usize, Failed>
-    requires fits { size ≤ vec_len piece.old }
-    requires some { 0 < size }
-    ensures within { IfOk result (λ n. n ≤ size) }
+// Reads once into the piece from a place on.
+fn read_at<S: Source>(
+    source: &mut S,
+    piece: &mut Vec<u8>,
+    at: usize,
+    want: usize,
+) -> Result<usize, Failed>
+    requires fits { at + want ≤ vec_len piece.old }
+    requires some { 0 < want }
+    ensures within { IfOk result (λ n. n ≤ want) }
     ensures len { vec_len piece.new ≡ vec_len piece.old }
-    ensures bytes { ReadConsumes (S.rest source.old) (S.rest source.new) result (take size piece.new.items) }
+    ensures front { take at piece.new.items ≡ take at piece.old.items }
+    ensures bytes { ReadConsumes (S.rest source.old) (S.rest source.new) result (take want (drop at piece.new.items)) }
     ensures cause { HasCause (S.faults source.old) (S.faults source.new) result }
 {
-    source.read(&mut piece[..size])
+    source.read(&mut piece[at..at + want])
 }
 
 // Takes some of the next bytes, as many as are wanted or fewer, and none where none are left. They come behind those that
@@ -59,7 +66,7 @@ fn take_some<S: Source>(
     ensures bytes { IfOk result (TakesSome S.Source source.old source.new out.old.items out.new.items want) }
 {
     let size = want.min(piece.len());
-    match read_some(source, piece, size) {
+    match read_at(source, piece, 0, size) {
         Ok(count) => {
             out.extend_from_slice(&piece[..count])?;
             Ok(Ok(count))
@@ -90,6 +97,15 @@ fn take<S: Source>(
     Ok(Taken::All)
 }
 
+// How long a body is, by the 16 bytes before it.
+fn length_told(bytes: &[u8]) -> Option<usize>
+    requires { length bytes.now ≡ 16 }
+    ensures told { result ≡ reading.announced bytes.now }
+    ensures fit { AreBytes bytes.now }
+{
+    announced(bytes)
+}
+
 /// Takes the body in its frame that stands at the front of a source. No byte behind it is taken. Where something else
 /// stands there, or a read fails, some bytes may have been taken.
 pub(crate) fn take_front<S: Source>(alloc: Global, source: &mut S) -> Result<Front, Memory>
@@ -102,7 +118,7 @@ pub(crate) fn take_front<S: Source>(alloc: Global, source: &mut S) -> Result<Fro
         Taken::Ended => return Ok(Front::Other),
         Taken::Failed => return Ok(Front::Failed),
     }
-    let Some(len) = announced(&bytes) else {
+    let Some(len) = length_told(&bytes) else {
         return Ok(Front::Other);
     };
     match take(source, &mut piece, len, &mut bytes)? {

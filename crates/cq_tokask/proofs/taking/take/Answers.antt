@@ -1,4 +1,4 @@
-use Rattle.std.proofs.Common.{◌+◌, ◌∙◌, [], ◌++◌, refl, subst, arith, length-append}
+use Rattle.std.proofs.Common.{◌∙◌, [], ◌++◌, refl, subst, arith, length-append}
 use Rattle.cq_io.specs.Causes.{Rose}
 use Rattle.cq_tokask.proofs.Coming.{came_none, came_more, comes_more}
 use Rattle.cq_tokask.proofs.taking.take.Goals as goal
@@ -13,7 +13,7 @@ pieces-init g c = record {
 
 pub pieces-preserved : goal.pieces-preserved
 pieces-preserved g c =
-    let some = c.in-Ok.ensures.bytes in
+    let some = rw c.in-Ok.is at c.in_ok-take_some.ensures.bytes in
     let before = c.pieces.invariant in
     record {
       comes = comes_more _ _ _ _ _ _ some.1.0 c.args.count c.pieces.left c.in-Ok.taken before.comes some.1.1 some.1.2 some.0;
@@ -23,7 +23,7 @@ pieces-preserved g c =
 
 pub returns-in-Ok-eq0-clause-bytes : goal.returns-in-Ok-eq0-clause-bytes
 returns-in-Ok-eq0-clause-bytes g c =
-    let some = c.in-Ok-eq0.ensures.bytes in
+    let some = rw c.in-Ok-eq0.is at c.in_ok-take_some.ensures.bytes in
     let so = c.pieces.invariant.comes in
     let wanted = c.pieces-test.true in
     let many = so.many in
@@ -40,7 +40,7 @@ returns-in-Ok-eq0-clause-bytes g c =
 
 pub returns-in-Err-clause-bytes : goal.returns-in-Err-clause-bytes
 returns-in-Err-clause-bytes g c =
-    let some = c.in-Err.ensures.bytes in
+    let some = rw c.in-Err.is at c.in_ok-take_some.ensures.bytes in
     let so = c.pieces.invariant.comes in
     let wanted = c.pieces-test.true in
     let many = so.many in
