@@ -1,8 +1,9 @@
 -- Changes that a board accepts one behind the other, and what a line says.
-use Rattle.std.proofs.Common.{◌≡◌, ◌⊎◌, ℕ, ◌<◌, ◌≤◌, Bool, if◌then◌else◌, List, [], ◌∷◌, ◌++◌, length, map, Option, Some, None, Ok, Err, Result, refl, sym, ap, ap₂, ◌∙◌, subst, ⊎_elim, append_assoc, arith}
-use Rattle.std.specs.Prelude.{IsSome}
+use Rattle.std.proofs.Common.{◌≡◌, ◌⊎◌, ℕ, ◌<◌, ◌≤◌, Bool, if◌then◌else◌, List, [], ◌∷◌, ◌++◌, length, map, Option, Some, None, Ok, Err, Result, fold, refl, sym, ap, ap₂, ◌∙◌, subst, ⊎_elim, append_assoc, arith}
+use Rattle.std.specs.Prelude.{All, IsSome}
 use Rattle.std.proofs.lemmas.Bool.{lt-ltb, le-ltb}
 use Rattle.std.proofs.lemmas.List.{append-nil, map-append}
+use Rattle.std.proofs.lemmas.List.Elements.{All-nil, All-push}
 use Rattle.cq_base.specs.declared.change.Change.{Change}
 use Rattle.cq_base.specs.declared.settings.Settings.{Settings}
 use Rattle.cq_board.specs.Answers.{refusal_of}
@@ -10,10 +11,11 @@ use Rattle.cq_board.specs.Stands.{BoardState, StandsFor, Adds, IsCaller}
 use Rattle.cq_board.specs.declared.answers.Refused.{Refused}
 use Rattle.cq_board.specs.declared.answers.Refused.TheVariants as refused
 use Rattle.cq_export.specs.Lines.{Says, accepts, AreAcceptedBehind, IsRefused, IsNoChange, HasAccepted}
-use Rattle.cq_history.specs.State.{State, state, accepted}
+use Rattle.cq_history.specs.State.{State, start, after, state, accepted}
 use Rattle.cq_history.specs.declared.event.Event.{Event}
 use Rattle.cq_history.specs.declared.event.Event.TheVariants.{Accept}
 use Rattle.cq_lines.specs.Pieces.{line_limit}
+use Rattle.cq_request.specs.Named.{IsNamed}
 use Rattle.cq_request.specs.Reading.{line_says}
 use Rattle.cq_request.specs.declared.request.Refusal.{Refusal}
 use Rattle.cq_request.specs.declared.request.Request.{Request}
@@ -51,14 +53,21 @@ pub accepted_alone : (changes : List Change) → accepted (accepts changes) ≡ 
 accepted_alone [] = refl
 accepted_alone (c ∷ changes) = ap (λ (cs : List Change). c ∷ cs) (accepted_alone changes)
 
+floor_alone : (s : State) (changes : List Change) → (fold after s (accepts changes)).floor ≡ s.floor
+floor_alone s [] = refl
+floor_alone s (c ∷ changes) = floor_alone (after s (Accept 0 c)) changes
+
+pub unfloored : (changes : List Change) → (state 1 (accepts changes)).floor ≡ 0
+unfloored changes = floor_alone (start 1) changes
+
 -- one change more
-accepted_push : (set : Settings) (before changes : List Change) (c : Change) → AreAcceptedBehind set before changes → cause set (before ++ changes) c ≡ None → AreAcceptedBehind set before (changes ++ c ∷ [])
-accepted_push set before [] c so none = (ap (λ (cs : List Change). cause set cs c) (sym (append-nil before)) ∙ none, tt)
+accepted_push : (set : Settings) (before changes : List Change) (c : Change) → AreAcceptedBehind set before changes → cause set (before ++ changes) 0 c ≡ None → AreAcceptedBehind set before (changes ++ c ∷ [])
+accepted_push set before [] c so none = (ap (λ (cs : List Change). cause set cs 0 c) (sym (append-nil before)) ∙ none, tt)
 accepted_push set before (d ∷ changes) c so none =
-    (so.0, accepted_push set (before ++ d ∷ []) changes c so.1 (ap (λ (cs : List Change). cause set cs c) (append_assoc before (d ∷ []) changes) ∙ none))
+    (so.0, accepted_push set (before ++ d ∷ []) changes c so.1 (ap (λ (cs : List Change). cause set cs 0 c) (append_assoc before (d ∷ []) changes) ∙ none))
 
 pub begun : (set : Settings) (b : BoardState) → StandsFor [] b → b.settings ≡ set → length b.state.views ≡ 1 → HasAccepted set [] b
-begun set b stands settings callers = record { stands = stands; settings_are = settings; one_caller = callers; accepted = tt }
+begun set b stands settings callers = record { stands = stands; settings_are = settings; one_caller = callers; accepted = tt; named = All-nil IsNamed }
 
 module _ (set : Settings) (changes : List Change) (b : BoardState) (has : HasAccepted set changes b) where
   pub state_is : b.state ≡ state 1 (accepts changes)
@@ -68,15 +77,16 @@ module _ (set : Settings) (changes : List Change) (b : BoardState) (has : HasAcc
   is_caller = let one = has.one_caller in omega (arith, one)
 
   -- the cause against a change
-  cause_here : (change : Change) → refusal_of b.settings b.state change ≡ cause set changes change
-  cause_here change = ap₂ (λ (s : Settings) (t : State). refusal_of s t change) has.settings_are state_is ∙ cause_is set 1 (accepts changes) changes change (accepted_alone changes)
+  cause_here : (change : Change) → refusal_of b.settings b.state change ≡ cause set changes 0 change
+  cause_here change = ap₂ (λ (s : Settings) (t : State). refusal_of s t change) has.settings_are state_is ∙ cause_is set 1 (accepts changes) changes change (accepted_alone changes) ∙ ap (λ (f : ℕ). cause set changes f change) (unfloored changes)
 
-  pub accepts_more : (new : BoardState) (change : Change) → Adds (Accept 0 change) b new → refusal_of b.settings b.state change ≡ None → HasAccepted set (changes ++ change ∷ []) new
-  accepts_more new change adds none = record {
+  pub accepts_more : (new : BoardState) (change : Change) → Adds (Accept 0 change) b new → refusal_of b.settings b.state change ≡ None → IsNamed change → HasAccepted set (changes ++ change ∷ []) new
+  accepts_more new change adds none named = record {
     accepted = accepted_push set [] changes change has.accepted (sym (cause_here change) ∙ none);
     stands = subst (λ (h : List Event). StandsFor h new) (sym (map-append (λ (c : Change). Accept 0 c) changes (change ∷ []))) (adds.history (accepts changes) has.stands);
     settings_are = adds.settings ∙ has.settings_are;
     one_caller = adds.callers ∙ has.one_caller;
+    named = All-push IsNamed changes change has.named named;
   }
 
   -- a change that is not accepted for some cause but want of memory
@@ -84,5 +94,5 @@ module _ (set : Settings) (changes : List Change) (b : BoardState) (has : HasAcc
       → (why_not ≡ refused.Memory) ⊎ (refusal_of b.settings b.state change ≡ Some why_not) → IsRefused set changes (said set.chunk line)
   change_refused line change why_not short says other told =
       let why : refusal_of b.settings b.state change ≡ Some why_not = ⊎_elim (λ (memory : why_not ≡ refused.Memory). absurd (other memory)) (λ (is : refusal_of b.settings b.state change ≡ Some why_not). is) told in
-      let here : cause set changes change ≡ Some why_not = sym (cause_here change) ∙ why in
+      let here : cause set changes 0 change ≡ Some why_not = sym (cause_here change) ∙ why in
       subst (IsRefused set changes) (sym (says_change set.chunk line change short says)) (subst (λ (o : Option Refused). IsSome o) (sym here) refl)

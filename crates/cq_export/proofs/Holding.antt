@@ -9,11 +9,14 @@ use Rattle.cq_base.specs.declared.settings.Settings.{Settings}
 use Rattle.cq_board.specs.Stands.{BoardState, Adds, IsCaller}
 use Rattle.cq_export.specs.Boards.{Holds, GoesOn, IsMade, AreMade, IsPublished}
 use Rattle.cq_export.specs.Lines.{accepts, HasAccepted}
-use Rattle.cq_export.proofs.Accepting.{state_is, accepted_alone}
+use Rattle.cq_export.proofs.Accepting.{state_is, accepted_alone, unfloored}
 use Rattle.cq_history.proofs.Bounds.{ready_after}
 use Rattle.cq_history.proofs.Doing.{accepted_stays, done_is}
+use Rattle.cq_history.proofs.Keeping.{all_kept}
+use Rattle.cq_history.proofs.Limits.{few_kept}
 use Rattle.cq_history.proofs.Prefixes.{changes_after, changes_in-state}
 use Rattle.cq_history.proofs.States.{state_push}
+use Rattle.cq_history.specs.Gone.{kept_count}
 use Rattle.cq_history.specs.State.{State, Slot, is_done, start, after, state, changes_in, ready, view_of, accepted, IsAccepted, IsDone}
 use Rattle.cq_history.specs.declared.event.Event.{Event}
 use Rattle.cq_history.specs.declared.event.Event.TheVariants.{Accept, Ask, Done, Publish}
@@ -38,6 +41,7 @@ accepted_holds set changes b has =
         settings_are = has.settings_are;
         one_caller = has.one_caller;
         unpublished = ap (λ (s : State). s.published) is ∙ published_alone (start 1) changes;
+        unfloored = ap (λ (s : State). s.floor) is ∙ unfloored changes;
         closed = ap (λ (s : State). view_of s 0) is ∙ ap (λ (views : List (Option ℕ)). slice_index_or views 0 None) (views_alone (start 1) changes);
       },
       ap changes_in is ∙ changes_in-state 1 (accepts changes) ∙ accepted_alone changes,
@@ -56,9 +60,9 @@ module _ (set : Settings) (old new : BoardState) (holds : Holds set old) where
       ∙ state_push (length old.state.views) holds.history e
       ∙ ap (λ (s : State). after s e) (sym holds.stands.is)
 
-  -- one that accepts, publishes and opens nothing
-  goes_on : (e : Event) → Adds e old new → (after old.state e).published ≡ old.state.published → (after old.state e).views ≡ old.state.views → accepted (e ∷ []) ≡ [] → GoesOn set old new
-  goes_on e adds same_published same_views none =
+  -- one that accepts, publishes and opens nothing, and raises no floor
+  goes_on : (e : Event) → Adds e old new → (after old.state e).published ≡ old.state.published → (after old.state e).floor ≡ old.state.floor → (after old.state e).views ≡ old.state.views → accepted (e ∷ []) ≡ [] → GoesOn set old new
+  goes_on e adds same_published same_floor same_views none =
       let is = stepped e adds in
       record {
         holds = record {
@@ -67,6 +71,7 @@ module _ (set : Settings) (old new : BoardState) (holds : Holds set old) where
           settings_are = adds.settings ∙ holds.settings_are;
           one_caller = adds.callers ∙ holds.one_caller;
           unpublished = ap (λ (s : State). s.published) is ∙ same_published ∙ holds.unpublished;
+          unfloored = ap (λ (s : State). s.floor) is ∙ same_floor ∙ holds.unfloored;
           closed = ap (λ (s : State). view_of s 0) is ∙ ap (λ (views : List (Option ℕ)). slice_index_or views 0 None) same_views ∙ holds.closed;
         };
         same = ap changes_in is ∙ changes_after old.state e ∙ ap (λ (cs : List Change). changes_in old.state ++ cs) none ∙ append-nil (changes_in old.state);
@@ -74,7 +79,7 @@ module _ (set : Settings) (old new : BoardState) (holds : Holds set old) where
       }
 
   pub asked_on : Adds (Ask 0) old new → GoesOn set old new
-  asked_on adds = goes_on (Ask 0) adds refl refl refl
+  asked_on adds = goes_on (Ask 0) adds refl refl refl refl
 
   pub made_then : (r : ℕ) → IsAccepted old.state r → Adds (Done 0 r) old new → IsMade set r old new
   made_then r there adds =
@@ -83,7 +88,7 @@ module _ (set : Settings) (old new : BoardState) (holds : Holds set old) where
       let was : IsAccepted (state n holds.history) r = subst (λ (s : State). IsAccepted s r) (holds.stands.is ∙ ap (λ (k : ℕ). state k holds.history) (sym adds.callers)) there in
       let stays = accepted_stays n holds.history (Done 0 r ∷ []) r was in
       record {
-        on = goes_on (Done 0 r) adds refl refl refl;
+        on = goes_on (Done 0 r) adds refl refl refl refl;
         done = subst (λ (s : State). IsDone s r) (sym stands.is) ((done_is new.settings n (holds.history ++ Done 0 r ∷ []) r stands.lawful).1 (stays.0, inr (0, Contains-push holds.history (Done 0 r))));
       }
 
@@ -122,6 +127,17 @@ all_made set first old new count i one two is past made =
     let same = ap length on.same in
     let many = many_changes first.state in
     record { on = on; all = omega (arith, is, past, made, same, many) }
+
+-- all of them are kept, so they are no more than may be
+pub few_changes : (set : Settings) (b : BoardState) → Holds set b → length (changes_in b.state) ≤ set.change_limit
+few_changes set b holds =
+    let n = length b.state.views in
+    let h = holds.history in
+    let kept = (few_kept b.settings n h holds.stands.lawful).0 in
+    let floor : (state n h).floor ≡ 0 = ap (λ (s : State). s.floor) (sym holds.stands.is) ∙ holds.unfloored in
+    let changes : accepted h ≡ changes_in b.state = sym (changes_in-state n h) ∙ ap changes_in (sym holds.stands.is) in
+    let all : kept_count (accepted h) (state n h).floor ≡ length (changes_in b.state) = ap (kept_count (accepted h)) floor ∙ (all_kept (accepted h)).0 ∙ ap length changes in
+    subst (λ (s : Settings). length (changes_in b.state) ≤ s.change_limit) holds.settings_are (omega (arith, kept, all))
 
 -- ---- the publication
 

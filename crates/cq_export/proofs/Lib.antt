@@ -1,5 +1,7 @@
 mod Accepting
 mod Running
+mod Jobs
 mod Holding
 mod Showing
 mod Ended
+mod Sounding

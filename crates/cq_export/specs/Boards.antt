@@ -11,13 +11,14 @@ use Rattle.cq_history.specs.declared.event.Event.{Event}
 use Rattle.cq_work.specs.Work.{IsWorkOf}
 use Rattle.cq_work.specs.declared.work.Work.{Work}
 
--- nothing was published, and no view opened
+-- nothing was published, no view opened, and no floor raised
 pub record Holds (set : Settings) (b : BoardState) : Type 0 where
   pub history : List Event
   pub stands : StandsFor history b
   pub settings_are : b.settings ≡ set
   pub one_caller : length b.state.views ≡ 1
   pub unpublished : b.state.published ≡ 0
+  pub unfloored : b.state.floor ≡ 0
   pub closed : view_of b.state 0 ≡ None
 
 -- it goes on so with the same changes, of which no fewer are done

@@ -1,5 +1,5 @@
 -- The lines of a source as changes, each accepted behind those before it.
-use Rattle.std.specs.Prelude.{◌≡◌, ◌<◌, ℕ, Bool, true, false, List, ◌∷◌, [], ◌++◌, length, map, Option, Some, None, IsSome, Result, Ok, Err}
+use Rattle.std.specs.Prelude.{All, ◌≡◌, ◌<◌, ℕ, Bool, true, false, List, ◌∷◌, [], ◌++◌, length, map, Option, Some, None, IsSome, Result, Ok, Err}
 use Rattle.std.specs.Io.KnownBytes.{Consumes, IsAtEnd}
 use Rattle.std.specs.List.{AllZip}
 use Rattle.cq_base.specs.declared.change.Change.{Change}
@@ -13,6 +13,7 @@ use Rattle.cq_io.specs.Causes.{Rose}
 use Rattle.cq_lines.specs.Held.{Held}
 use Rattle.cq_lines.specs.Pieces.{closed_lines, all_lines}
 use Rattle.cq_lines.specs.Runs.{CutTo}
+use Rattle.cq_request.specs.Named.{IsNamed}
 use Rattle.cq_request.specs.declared.request.Refusal.{Refusal}
 use Rattle.cq_request.specs.declared.request.Request.{Request}
 use Rattle.cq_request.specs.declared.request.Request.TheVariants as request
@@ -27,10 +28,11 @@ Says chunk line change = said chunk line ≡ Read (Ok (request.Change change))
 abbrev pub SayChanges : ℕ → List (List ℕ) → List Change → Type 0
 SayChanges chunk lines changes = AllZip (Says chunk) lines changes
 
--- behind these changes there is no cause against the first, nor against any other behind it and those before
+-- behind these changes, of which no floor lets any go, there is no cause against the first, nor against any other behind it and
+-- those before
 abbrev pub AreAcceptedBehind : Settings → List Change → List Change → Type 0
 AreAcceptedBehind set before [] = Unit {0}
-AreAcceptedBehind set before (change ∷ changes) = (cause set before change ≡ None) × AreAcceptedBehind set (before ++ change ∷ []) changes
+AreAcceptedBehind set before (change ∷ changes) = (cause set before 0 change ≡ None) × AreAcceptedBehind set (before ++ change ∷ []) changes
 
 -- each is accepted behind those before it, where nothing was accepted before
 abbrev pub AreAccepted : Settings → List Change → Type 0
@@ -39,7 +41,7 @@ AreAccepted set changes = AreAcceptedBehind set [] changes
 -- it is too long, refused, no change, or one that there is a cause against behind these
 abbrev pub IsRefused : Settings → List Change → Said → Type 0
 IsRefused set changes TooLong = Unit {0}
-IsRefused set changes (Read (Ok (request.Change change))) = IsSome (cause set changes change)
+IsRefused set changes (Read (Ok (request.Change change))) = IsSome (cause set changes 0 change)
 IsRefused set changes (Read (Ok (request.Query query))) = Unit {0}
 IsRefused set changes (Read (Ok request.State)) = Unit {0}
 IsRefused set changes (Read (Err why)) = Unit {0}
@@ -96,12 +98,13 @@ SaysOrNot says None = IsNoChange says
 abbrev pub accepts : List Change → List Event
 accepts changes = map (λ (change : Change). Accept 0 change) changes
 
--- the board of one caller which has accepted these, and nothing else happened
+-- the board of one caller which has accepted these, each said by a line, and nothing else happened
 pub record HasAccepted (set : Settings) (changes : List Change) (b : BoardState) : Type 0 where
   pub stands : StandsFor (accepts changes) b
   pub settings_are : b.settings ≡ set
   pub one_caller : length b.state.views ≡ 1
   pub accepted : AreAccepted set changes
+  pub named : All IsNamed changes
 
 -- behind these changes, the line's was accepted, or the line is refused
 abbrev pub TakesBehind : Settings → List Change → List ℕ → BoardState → Bool → Type 0

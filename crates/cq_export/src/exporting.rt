@@ -1,10 +1,11 @@
-ghost use Rattle.std.specs.Prelude.{◌≡◌, true, IfOk, OnErr};
+ghost use Rattle.std.specs.Prelude.{◌≡◌, true, All, IfOk, OnErr};
 ghost use Rattle.cq_base.specs.Settings.{IsInRange};
 ghost use Rattle.cq_export.specs.Boards.{Holds};
 ghost use Rattle.cq_export.specs.Exports.{Exports, Writes};
 ghost use Rattle.cq_history.specs.State.{changes_in};
 ghost use Rattle.cq_tokask.specs.Exported.{IsOfChanges};
 ghost use Rattle.cq_names.specs.Names.{is_project};
+ghost use Rattle.cq_request.specs.Named.{IsNamed};
 ghost use Rattle.cq_tokfile.specs.Snapshot.{IsSoundSnapshot};
 
 use crate::publishing::last_version;
@@ -43,6 +44,7 @@ fn made<L: Ledger>(
     requires in_range { IsInRange settings.now }
     requires settings { keyer.now.settings ≡ settings.now }
     requires holds { Holds settings.now board.old }
+    requires named { All IsNamed (changes_in board.old.state) }
     requires project { is_project project.now ≡ true }
     ensures of_changes { IfOk result (IsOfChanges settings.now (changes_in board.old.state) project.now) }
     ensures sound { IfOk result (IsSoundSnapshot settings.now) }

@@ -1,4 +1,5 @@
-use Rattle.std.proofs.Common.{List, refl, subst}
+use Rattle.std.proofs.Common.{List, refl, sym, subst}
+use Rattle.std.specs.Prelude.{All}
 use Rattle.std.proofs.lemmas.Result.{IfOk-weaker}
 use Rattle.cq_base.specs.declared.change.Change.{Change}
 use Rattle.cq_export.proofs.Ended.{written_of}
@@ -6,6 +7,7 @@ use Rattle.cq_tokask.specs.Exported.{IsOfChanges}
 use Rattle.cq_export.proofs.Accepting.{begun}
 use Rattle.cq_export.proofs.Holding.{accepted_holds}
 use Rattle.cq_export.proofs.exporting.export.Goals as goal
+use Rattle.cq_request.specs.Named.{IsNamed}
 
 pub take_changes-requires-clause-nothing : goal.take_changes-requires-clause-nothing
 take_changes-requires-clause-nothing g c = begun c.args.settings.now c.in_ok-board.board c.in_ok-board.ensures.stands c.in_ok-board.ensures.settings c.in_ok-board.ensures.callers
@@ -14,6 +16,11 @@ pub made-requires-clause-holds : goal.made-requires-clause-holds
 made-requires-clause-holds g c =
     let (changes, taken, has) = c.in-All.ensures.takes in
     (accepted_holds c.args.settings.now changes c.take_changes.new.board has).0
+
+pub made-requires-clause-named : goal.made-requires-clause-named
+made-requires-clause-named g c =
+    let (changes, taken, has) = c.in-All.ensures.takes in
+    subst (All IsNamed) (sym (accepted_holds c.args.settings.now changes c.take_changes.new.board has).1) has.named
 
 pub returns-in-Spent-clause-exports : goal.returns-in-Spent-clause-exports
 returns-in-Spent-clause-exports g c = (c.in-Spent.ensures.takes, c.in-Spent.ensures.cause, refl)

@@ -1,8 +1,12 @@
 use Rattle.std.proofs.Common.{List, subst}
 use Rattle.std.specs.Prelude.{IfOk}
 use Rattle.cq_base.specs.declared.change.Change.{Change}
-use Rattle.cq_tokask.specs.Exported.{IsOfChanges}
+use Rattle.cq_export.proofs.Holding.{few_changes}
+use Rattle.cq_export.proofs.Sounding.{both_ok, version_sound}
 use Rattle.cq_export.proofs.exporting.made.Goals as goal
+use Rattle.cq_history.specs.State.{changes_in}
+use Rattle.cq_tokask.specs.Exported.{IsOfChanges}
+use Rattle.cq_tokfile.specs.Snapshot.{IsSoundSnapshot}
 
 pub last_version-requires-clause-holds : goal.last_version-requires-clause-holds
 last_version-requires-clause-holds g c = c.in_ok-make_all.ensures.on.holds
@@ -15,4 +19,8 @@ returns-clause-of_changes g c =
     subst (λ (changes : List Change). IfOk c.last_version.result (IsOfChanges c.args.settings.now changes c.args.project.now)) c.in_ok-make_all.ensures.on.same c.last_version.ensures.of_changes
 
 pub returns-clause-sound : goal.returns-clause-sound
-returns-clause-sound g c = ?
+returns-clause-sound g c =
+    both_ok c.last_version.result _ _ (IsSoundSnapshot c.args.settings.now)
+    (λ s of errors. version_sound c.args.settings.now (changes_in c.args.board.now.state) c.args.project.now s c.requires.in_range c.requires.holds.stands.sound c.requires.named (few_changes c.args.settings.now c.args.board.now c.requires.holds) c.requires.project of errors)
+    (returns-clause-of_changes g c)
+    c.last_version.ensures.conditions
