@@ -18,7 +18,7 @@ use Rattle.cq_key.proofs.Keyed.{keyed_by_windows}
 use Rattle.cq_measures.specs.Measures.{AreSmall}
 use Rattle.cq_reply.specs.Written.{IsFunctionText}
 use Rattle.cq_tokfile.specs.declared.snapshot.Snapshot.{Snapshot}
-use Rattle.cq_tokfile.specs.Sound.{IsSoundFunction, IsSoundFile}
+use Rattle.cq_tokform.specs.Sound.{IsSoundFunction, IsSoundFile}
 use Rattle.cq_tokfile.specs.Snapshot.{record_of, IsOneFile, IsSoundSnapshot}
 use Rattle.cq_tokfile.proofs.Decoded.{same_changes}
 use Rattle.cq_tokfile.proofs.Written.{one_for_each}
