@@ -29,9 +29,9 @@ use Rattle.cq_tokask.specs.Exported.{IsOfChanges}
 use Rattle.cq_names.specs.Names.{parts, is_part, is_path_byte, is_name_byte, is_path, is_path_text, is_project}
 use Rattle.cq_projects.specs.Ordered.{AreRising}
 use Rattle.cq_request.specs.Named.{IsNamed}
-use Rattle.cq_tokfile.specs.Sound.{IsSoundText, IsSoundState, IsSoundCondition, IsSoundToken, IsSoundFunction, IsSoundFile}
+use Rattle.cq_tokform.specs.Sound.{IsSoundText, IsSoundState, IsSoundCondition, IsSoundToken, IsSoundFunction, IsSoundFile}
 use Rattle.cq_tokfile.specs.Snapshot.{spelled_of, record_of, contents_of, IsOneFile, IsSoundSnapshot}
-use Rattle.cq_tokfile.specs.Spelling.{Recorded}
+use Rattle.cq_tokform.specs.Spelling.{Recorded}
 use Rattle.cq_tokfile.specs.declared.snapshot.Snapshot.{Snapshot}
 use Rattle.cq_tokfile.proofs.Decoded.{same_changes}
 use Rattle.cq_work.specs.Bounds.{is_ignored, IsWithin, IsCompared, IsFunctionWithin, IsFaultWithin, IsBounded}

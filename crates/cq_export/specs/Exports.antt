@@ -12,8 +12,8 @@ use Rattle.cq_io.specs.declared.source.Source as source
 use Rattle.cq_tokask.specs.Exported.{IsOfChanges}
 use Rattle.cq_lines.specs.declared.ending.End.TheVariants as end
 use Rattle.cq_tokfile.specs.Snapshot.{contents_of, IsTokenFile}
-use Rattle.cq_tokfile.specs.Sound.{IsSoundBody}
-use Rattle.cq_tokfile.specs.Spelling.{body}
+use Rattle.cq_tokform.specs.Sound.{IsSoundBody}
+use Rattle.cq_tokform.specs.Spelling.{body}
 use Rattle.cq_tokfile.specs.declared.snapshot.Snapshot.{Snapshot}
 
 module _ {K : Type 0} (onto : sink.Ghosts K) (set : Settings) where

@@ -5,7 +5,7 @@ ghost use Rattle.cq_base.specs.declared.settings.Settings.{Settings};
 ghost use Rattle.cq_export.specs.Boards.{Holds, IsPublished, IsViewOfAll};
 ghost use Rattle.cq_history.specs.State.{changes_in, ready};
 ghost use Rattle.cq_tokask.specs.Exported.{IsOfChanges};
-ghost use Rattle.cq_tokfile.specs.Sound.{IsSoundCondition};
+ghost use Rattle.cq_tokform.specs.Sound.{IsSoundCondition};
 
 use crate::sharing::{copied, shared};
 use cq_base::{Memory, Settings, Text};

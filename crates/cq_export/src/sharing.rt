@@ -1,7 +1,7 @@
 ghost use Rattle.std.specs.Prelude.{◌≡◌, map, IfOk};
 ghost use Rattle.std.specs.Arc.{arc_value};
 ghost use Rattle.std.specs.List.{AllByRecursion};
-ghost use Rattle.cq_tokfile.specs.Sound.{IsSoundCondition};
+ghost use Rattle.cq_tokform.specs.Sound.{IsSoundCondition};
 
 use cq_base::{Condition, Memory};
 use cq_projects::{Held, ProjectFiles};

@@ -6,13 +6,13 @@ use Rattle.std.proofs.lemmas.List.{take_at}
 use Rattle.cq_base.specs.declared.settings.Settings.{Settings}
 use Rattle.cq_tokask.specs.Taken.{BeginsOther, IsFramed}
 use Rattle.cq_tokfile.specs.declared.snapshot.Snapshot.{Snapshot}
-use Rattle.cq_tokfile.specs.Reading.{announced, frame_at}
+use Rattle.cq_tokform.specs.Reading.{announced, frame_at}
 use Rattle.cq_tokfile.specs.Snapshot.{contents_of, IsTokenFile}
-use Rattle.cq_tokfile.specs.Sound.{IsSoundBody}
-use Rattle.cq_tokfile.specs.Spelling.{framed, body}
-use Rattle.cq_tokfile.proofs.Announcing.{front_of, framed_parts, front_length, announces, announced_is}
-use Rattle.cq_tokfile.proofs.Fields.{IsBytes, one_form}
-use Rattle.cq_tokfile.proofs.Framed.{frames}
+use Rattle.cq_tokform.specs.Sound.{IsSoundBody}
+use Rattle.cq_tokform.specs.Spelling.{framed, body}
+use Rattle.cq_tokform.proofs.Announcing.{front_of, framed_parts, front_length, announces, announced_is}
+use Rattle.cq_tokform.proofs.Fields.{IsBytes, one_form}
+use Rattle.cq_tokform.proofs.Framed.{frames}
 
 framed_length : (body : List ℕ) → length (framed body) ≡ 16 + length body
 framed_length body = ap length (framed_parts body) ∙ length-append (front_of body) body

@@ -7,7 +7,7 @@ use Rattle.std.proofs.lemmas.List.{length-map}
 use Rattle.std.proofs.lemmas.List.Elements.{All-nil, All-cons, All-head, All-tail}
 use Rattle.cq_answer.specs.Given.{AreGiven}
 use Rattle.cq_answer.specs.Rows.{AreNamed}
-use Rattle.cq_answer.specs.Works.{paths_in, norms_in, keys_in, spans_in, counts_in, functions_in, facts_in}
+use Rattle.cq_answer.specs.Works.{paths_in, numbers_in, norms_in, keys_in, spans_in, counts_in, functions_in, facts_in, AreNumbered}
 use Rattle.cq_base.specs.Settings.{IsInRange}
 use Rattle.cq_base.specs.declared.settings.Settings.{Settings}
 use Rattle.cq_clones.specs.Windows.{AreKeyed}
@@ -18,7 +18,7 @@ use Rattle.cq_key.proofs.Keyed.{keyed_by_windows}
 use Rattle.cq_measures.specs.Measures.{AreSmall}
 use Rattle.cq_reply.specs.Written.{IsFunctionText}
 use Rattle.cq_tokfile.specs.declared.snapshot.Snapshot.{Snapshot}
-use Rattle.cq_tokfile.specs.Sound.{IsSoundFunction, IsSoundFile}
+use Rattle.cq_tokform.specs.Sound.{IsSoundFunction, IsSoundFile}
 use Rattle.cq_tokfile.specs.Snapshot.{record_of, IsOneFile, IsSoundSnapshot}
 use Rattle.cq_tokfile.proofs.Decoded.{same_changes}
 use Rattle.cq_tokfile.proofs.Written.{one_for_each}
@@ -46,6 +46,10 @@ module _ {L : Type 0} (set : Settings) (version : ℕ) where
   few_functions [] sound = All-nil (λ (fs : List Function). length fs < 2 ^ 32)
   few_functions (f ∷ files) sound = All-cons (λ (fs : List Function). length fs < 2 ^ 32) f.body.functions.items (functions_in files) sound.0.functions.few (few_functions files sound.1)
 
+  numbered : (files : List (File (Work L))) → AllByRecursion (IsSoundFile set version) (map record_of files) → AreNumbered files
+  numbered [] sound = All-nil (λ n. 0 < n)
+  numbered (f ∷ files) sound = let first = sound.0.first_change in All-cons (λ n. 0 < n) f.number (numbers_in files) (omega (arith, first)) (numbered files sound.1)
+
   texts : (files : List (File (Work L))) → AllByRecursion (IsSoundFile set version) (map record_of files) → AllByRecursion IsUtf8 (paths_in files)
   texts [] sound = tt
   texts (f ∷ files) sound = (sound.0.path.utf8, texts files sound.1)
@@ -72,6 +76,7 @@ given_snapshot set s range sound =
       small = small set s.version s.files sound.contents.files;
       placed = placed set s.version s.files sound.parts;
       few_functions = few_functions set s.version s.files sound.contents.files;
+      numbered = numbered set s.version s.files sound.contents.files;
       texts = texts set s.version s.files sound.contents.files;
       names = names set s.version s.files sound.contents.files;
       few_conditions = sound.contents.few_conditions;
@@ -88,6 +93,7 @@ given_none {L} set range = record {
   small = All-nil AreSmall;
   placed = λ i. refl;
   few_functions = All-nil (λ (fs : List Function). length fs < 2 ^ 32);
+  numbered = All-nil (λ n. 0 < n);
   texts = tt;
   names = tt;
   few_conditions = omega arith;

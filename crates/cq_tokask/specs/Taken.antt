@@ -7,8 +7,8 @@ use Rattle.cq_tokask.specs.declared.taking.Front.{Front}
 use Rattle.cq_tokask.specs.declared.taking.Front.TheVariants as front
 use Rattle.cq_tokask.specs.declared.taking.Taken.{Taken}
 use Rattle.cq_tokask.specs.declared.taking.Taken.TheVariants as taken
-use Rattle.cq_tokfile.specs.Spelling.{framed}
-use Rattle.cq_tokfile.specs.Sound.{IsSoundBody}
+use Rattle.cq_tokform.specs.Spelling.{framed}
+use Rattle.cq_tokform.specs.Sound.{IsSoundBody}
 
 -- each is a byte
 abbrev pub AreBytes : List ℕ → Type 0

@@ -1,6 +1,6 @@
 ghost use Rattle.std.specs.Prelude.{◌≤◌, [], IfOk};
 ghost use Rattle.cq_answer.specs.Given.{IsReplyOf};
-ghost use Rattle.cq_answer.specs.Parts.{HasPath};
+ghost use Rattle.cq_answer.specs.Parts.{HasPath, HasScope};
 ghost use Rattle.cq_base.specs.Settings.{IsInRange};
 ghost use Rattle.cq_tokask.specs.Asked.{AnswersQuery, AnswersSaid};
 ghost use Rattle.cq_reply.specs.Written.{IsReplyText};
@@ -32,6 +32,7 @@ fn reply_to_other<R: Threads + Sync, L: Ledger>(
     requires in_range { IsInRange settings.now }
     requires long { settings.now.chunk ≤ query.now.min }
     requires path { HasPath query.now.kind query.now.path }
+    requires scope { HasScope query.now.path query.now.scope }
     ensures given { IfOk result (IsReplyOf {L = L} [] [] query.now version) }
     ensures text { IfOk result IsReplyText }
 {
@@ -65,6 +66,7 @@ fn query_reply<R: Threads + Sync, L: Ledger>(
     requires loaded { IsLoadedOf snapshot.now.files loaded.old }
     requires long { settings.now.chunk ≤ query.now.min }
     requires path { HasPath query.now.kind query.now.path }
+    requires scope { HasScope query.now.path query.now.scope }
     ensures answers { IfOk result (AnswersQuery snapshot.now query.now) }
     ensures text { IfOk result IsReplyText }
     ensures loaded { IsLoadedOf snapshot.now.files loaded.new }

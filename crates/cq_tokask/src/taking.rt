@@ -2,11 +2,11 @@ ghost use Rattle.std.specs.Prelude.{◌≡◌, ◌≤◌, ◌<◌, ◌+◌, leng
 ghost use Rattle.std.specs.Io.KnownBytes.{ReadConsumes};
 ghost use Rattle.cq_io.specs.Causes.{HasCause};
 ghost use Rattle.cq_tokask.specs.Taken.{AreBytes, TakesBytes, TakesFile, TakesSome};
-ghost use Rattle.cq_tokfile.specs.Reading as reading;
+ghost use Rattle.cq_tokform.specs.Reading as reading;
 
 use cq_base::Memory;
 use cq_io::{Failed, Source};
-use cq_tokfile::announced;
+use cq_tokform::announced;
 use std::alloc::Global;
 
 // How many bytes are asked for at once.

@@ -23,13 +23,13 @@ use Rattle.cq_tokens.specs.Packed.{spelling_bytes}
 use Rattle.cq_work.specs.declared.work.Work.{Work}
 use Rattle.cq_work.specs.Lexing.{spelled_bytes}
 use Rattle.cq_tokfile.specs.declared.snapshot.Snapshot.{Snapshot}
-use Rattle.cq_tokfile.specs.Spelling.{Recorded, Contents, text, place, token, function, counted, language, outcome, file, head, condition, body, whole}
-use Rattle.cq_tokfile.specs.Spelling.{counts as counts_bytes}
-use Rattle.cq_tokfile.specs.Sound.{IsSoundFile, IsSoundBody, IsSoundContents, IsSoundWhole, changes_in}
-use Rattle.cq_tokfile.specs.Reading.{whole_at}
+use Rattle.cq_tokform.specs.Spelling.{Recorded, Contents, text, place, token, function, counted, language, outcome, file, head, condition, body, whole}
+use Rattle.cq_tokform.specs.Spelling.{counts as counts_bytes}
+use Rattle.cq_tokform.specs.Sound.{IsSoundFile, IsSoundBody, IsSoundContents, IsSoundWhole, changes_in}
+use Rattle.cq_tokform.specs.Reading.{whole_at}
 use Rattle.cq_tokfile.specs.Snapshot.{spelled_of, norm_in, record_of, contents_of, IsOneFile, AreMadeOf, IsSoundSnapshot, IsTokenFile, HaveFewTokens, HaveShortTokens}
-use Rattle.cq_tokfile.proofs.Fields.{one_form}
-use Rattle.cq_tokfile.proofs.Wholes.{wholes}
+use Rattle.cq_tokform.proofs.Fields.{one_form}
+use Rattle.cq_tokform.proofs.Wholes.{wholes}
 
 -- ---- the tokens of a file, apart and together again
 

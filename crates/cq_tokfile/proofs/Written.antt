@@ -22,8 +22,8 @@ use Rattle.cq_history.specs.Files.{File}
 use Rattle.cq_work.specs.declared.work.State.{State}
 use Rattle.cq_work.specs.declared.work.Work.{Work}
 use Rattle.cq_tokfile.specs.declared.snapshot.Snapshot.{Snapshot}
-use Rattle.cq_tokfile.specs.Spelling.{Recorded, text, place, token, function, counted, condition, language, outcome, counts, front, file, head, body}
-use Rattle.cq_tokfile.specs.Sound.{IsSoundToken, IsSoundFunction, IsSoundFile, HasSpelling}
+use Rattle.cq_tokform.specs.Spelling.{Recorded, text, place, token, function, counted, condition, language, outcome, counts, front, file, head, body}
+use Rattle.cq_tokform.specs.Sound.{IsSoundToken, IsSoundFunction, IsSoundFile, HasSpelling}
 use Rattle.cq_tokfile.specs.Snapshot.{spelled_of, record_of, contents_of, IsOneFile, IsSoundSnapshot, HasTokenForEachPlace, tokens_length, functions_length, file_length, files_length, body_length, capped}
 
 abbrev pub no_place : Token

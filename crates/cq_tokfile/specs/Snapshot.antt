@@ -15,8 +15,8 @@ use Rattle.cq_work.specs.Lexing.{spelled_bytes}
 use Rattle.cq_tokfile.specs.declared.encoding.Encoded.{Encoded}
 use Rattle.cq_tokfile.specs.declared.encoding.Encoded.TheVariants as encoded
 use Rattle.cq_tokfile.specs.declared.snapshot.Snapshot.{Snapshot}
-use Rattle.cq_tokfile.specs.Spelling.{Recorded, Contents, outcome, body, whole}
-use Rattle.cq_tokfile.specs.Sound.{IsSoundContents, IsSoundBody}
+use Rattle.cq_tokform.specs.Spelling.{Recorded, Contents, outcome, body, whole}
+use Rattle.cq_tokform.specs.Sound.{IsSoundContents, IsSoundBody}
 
 -- tokens with the places at which they stand, one for one
 abbrev pub spelled_of : List Token → List Norm → List Spelled

@@ -1,21 +1,17 @@
 ghost use Rattle.std.specs.Prelude.{◌≡◌, ◌<◌, ◌^◌, ◌++◌, length, map, slice_index_or, All, IfOk, OnOk};
 ghost use Rattle.cq_base.specs.declared.token.Spelled.{Spelled};
-ghost use Rattle.cq_tokfile.specs.Spelling as spell;
-ghost use Rattle.cq_tokfile.specs.Sound.{HasSpelling};
+ghost use Rattle.cq_tokform.specs.Spelling as spell;
+ghost use Rattle.cq_tokform.specs.Sound.{HasSpelling};
 ghost use Rattle.cq_tokfile.specs.Snapshot as spec;
 
-use crate::conditions::put_conditions;
-use crate::file::put_front;
-use crate::frame::put_mark;
-use crate::functions::put_functions;
-use crate::head::put_head_of;
 use crate::lengths::{body_length, seen_at};
-use crate::numbers::{put_u32, put_u64};
 use crate::snapshot::Snapshot;
-use crate::tokens::put_token;
 use cq_base::{Memory, Settings, Steps, Token};
 use cq_projects::{Held, ProjectFiles};
 use cq_tokens::Tokens;
+use cq_tokform::{
+    put_conditions, put_front, put_functions, put_head_of, put_mark, put_token, put_u32, put_u64,
+};
 use cq_work::Work;
 use std::alloc::Global;
 use std::sync::ledger::Ledger;

@@ -2,7 +2,7 @@
 ghost use Rattle.std.specs.Prelude.{◌≡◌, ◌+◌, ◌≤◌, ◌<◌, length, slice_index_or};
 ghost use Rattle.cq_base.specs.declared.norm.Norm.{Norm};
 ghost use Rattle.cq_tokens.specs.Packed.{norm_in};
-ghost use Rattle.cq_tokfile.specs.Spelling as spell;
+ghost use Rattle.cq_tokform.specs.Spelling as spell;
 ghost use Rattle.cq_tokfile.specs.Snapshot as spec;
 
 use crate::snapshot::Snapshot;

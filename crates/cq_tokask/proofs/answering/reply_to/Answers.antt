@@ -1,6 +1,6 @@
 use Rattle.std.proofs.Common.{◌≡◌, ◌∙◌, Ok, Result, refl, sym, ap, subst}
 use Rattle.std.proofs.lemmas.Result.{IfOk-weaker}
-use Rattle.cq_answer.proofs.Asked.{path_asked}
+use Rattle.cq_answer.proofs.Asked.{path_asked, scope_asked}
 use Rattle.cq_answer.proofs.Told.{refusal_said}
 use Rattle.cq_reply.specs.declared.reply.Reply.TheVariants as reply
 use Rattle.cq_request.specs.Reading.{line_says}
@@ -17,6 +17,11 @@ pub query_reply-requires-clause-path : goal.query_reply-requires-clause-path
 query_reply-requires-clause-path g c κs lives =
     let sound : IsSound c.args.settings.now.chunk (request.Query c.in-Ok-Query.query) = subst (IsSound c.args.settings.now.chunk) c.in-Ok-Query.field-0-is c.in-Ok-Query.ensures.sound in
     path_asked c.in-Ok-Query.query.kind c.in-Ok-Query.query.path sound.3
+
+pub query_reply-requires-clause-scope : goal.query_reply-requires-clause-scope
+query_reply-requires-clause-scope g c κs lives =
+    let sound : IsSound c.args.settings.now.chunk (request.Query c.in-Ok-Query.query) = subst (IsSound c.args.settings.now.chunk) c.in-Ok-Query.field-0-is c.in-Ok-Query.ensures.sound in
+    scope_asked c.in-Ok-Query.query.path c.in-Ok-Query.query.scope sound.4
 
 pub returns-in-Ok-Query-clause-answers : goal.returns-in-Ok-Query-clause-answers
 returns-in-Ok-Query-clause-answers g c =

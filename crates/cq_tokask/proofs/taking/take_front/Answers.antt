@@ -4,8 +4,8 @@ use Rattle.std.specs.Io.KnownBytes.{Consumes}
 use Rattle.cq_io.specs.Causes.{Rose}
 use Rattle.cq_tokask.specs.Taken.{BeginsOther, IsFramed}
 use Rattle.cq_tokask.proofs.Fronts.{too_short, announces_none, some_missing, all_there, told_of}
-use Rattle.cq_tokfile.proofs.Fields.{IsBytes}
-use Rattle.cq_tokfile.specs.Reading.{announced}
+use Rattle.cq_tokform.proofs.Fields.{IsBytes}
+use Rattle.cq_tokform.specs.Reading.{announced}
 use Rattle.cq_tokask.proofs.taking.take_front.Goals as goal
 
 -- `take` is the first call, of 16 bytes, and `take-2` that of the body

@@ -1,6 +1,6 @@
 use Rattle.std.proofs.Common.{◌≡◌, length, ap, rules}
 use Rattle.std.proofs.lemmas.List.{nil_from_length}
-use Rattle.cq_tokfile.specs.Spelling.{listed}
+use Rattle.cq_tokform.specs.Spelling.{listed}
 use Rattle.cq_tokfile.proofs.Decoded.{is_token_file, left_over, not_read}
 use Rattle.cq_tokfile.proofs.decoding.decode.Goals as goal
 

@@ -2,7 +2,7 @@ use Rattle.std.proofs.Common.{◌≡◌, ◌∙◌, ◌++◌, ◌∷◌, [], map
 use Rattle.std.specs.Arc.{arc_value}
 use Rattle.std.specs.Vec.Iter.{into_iter_items}
 use Rattle.std.proofs.lemmas.List.{length-map, map_push, nil_from_length}
-use Rattle.cq_tokfile.specs.Spelling.{recorded}
+use Rattle.cq_tokform.specs.Spelling.{recorded}
 use Rattle.cq_tokfile.proofs.Decoded.{AreMadeSoFar, made_none, made_more, made_all}
 use Rattle.cq_tokfile.proofs.decoding.held_all.Goals as goal
 

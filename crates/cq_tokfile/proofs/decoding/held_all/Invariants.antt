@@ -1,7 +1,7 @@
 use Rattle.std.proofs.Common.{map}
 use Rattle.std.specs.Arc.{arc_value}
 use Rattle.std.specs.Vec.Iter.{into_iter_items}
-use Rattle.cq_tokfile.specs.Spelling.{recorded}
+use Rattle.cq_tokform.specs.Spelling.{recorded}
 use Rattle.cq_tokfile.proofs.Decoded.{AreMadeSoFar}
 use Rattle.cq_tokfile.proofs.decoding.held_all.Given as goal
 

@@ -2,7 +2,7 @@ use Rattle.std.proofs.Common.{rules}
 use Rattle.std.specs.Arc.{arc_value}
 use Rattle.cq_history.specs.Files.{File}
 use Rattle.cq_work.specs.declared.work.Work.{Work}
-use Rattle.cq_tokfile.specs.Spelling.{recorded}
+use Rattle.cq_tokform.specs.Spelling.{recorded}
 use Rattle.cq_tokfile.proofs.Decoded.{tokens_made, one_file, record_same}
 use Rattle.cq_tokfile.proofs.decoding.held_of.Goals as goal
 

@@ -2,7 +2,7 @@ use Rattle.std.proofs.Common.{◌≡◌, ◌∙◌, List, map, ap, sym, subst}
 use Rattle.std.specs.Arc.{arc_value}
 use Rattle.std.specs.Prelude.{All}
 use Rattle.cq_base.specs.declared.settings.Settings.{Settings}
-use Rattle.cq_tokfile.specs.Spelling.{Contents, Recorded, listed}
+use Rattle.cq_tokform.specs.Spelling.{Contents, Recorded, listed}
 use Rattle.cq_tokfile.specs.Snapshot.{IsOneFile, record_of}
 use Rattle.cq_tokfile.proofs.Decoded.{few_tokens, short_tokens, rising_snapshot, apart_snapshot, sound_snapshot}
 use Rattle.cq_tokfile.proofs.decoding.snapshot_of.Goals as goal

@@ -1,8 +1,8 @@
 use Rattle.std.proofs.Common.{◌≡◌, ◌∙◌, ◌≤◌, ℕ, [], List, ◌++◌, length, ap, sym, arith}
 use Rattle.std.specs.Int.{w64, to_be_bytes}
-use Rattle.cq_tokfile.specs.Spelling.{mark, body}
+use Rattle.cq_tokform.specs.Spelling.{mark, body}
 use Rattle.cq_tokfile.specs.Snapshot.{contents_of, body_length}
-use Rattle.cq_tokfile.proofs.Appended.{three}
+use Rattle.cq_tokform.proofs.Appended.{three}
 use Rattle.cq_tokfile.proofs.Written.{body_bytes, too_large, fits_count}
 use Rattle.cq_tokfile.proofs.encoding.encode.Goals as goal
 

@@ -4,12 +4,12 @@ use Rattle.std.specs.List.{flat_map}
 use Rattle.std.proofs.lemmas.List.{append-nil, take_all, length-map}
 use Rattle.std.proofs.lemmas.List.Folds.{flat_map-map}
 use Rattle.std.proofs.lemmas.Option.{get_or_from_slice_get}
-use Rattle.cq_tokfile.specs.Spelling.{file}
+use Rattle.cq_tokform.specs.Spelling.{file}
 use Rattle.cq_history.specs.Files.{File}
 use Rattle.cq_work.specs.declared.work.Work.{Work}
-use Rattle.cq_tokfile.specs.Sound.{HasSpelling}
+use Rattle.cq_tokform.specs.Sound.{HasSpelling}
 use Rattle.cq_tokfile.specs.Snapshot.{record_of, HasTokenForEachPlace}
-use Rattle.cq_tokfile.proofs.Appended.{written_on}
+use Rattle.cq_tokform.proofs.Appended.{written_on}
 use Rattle.cq_tokfile.proofs.encoding.put_all.Goals as goal
 
 pub loop-i-init : goal.loop-i-init

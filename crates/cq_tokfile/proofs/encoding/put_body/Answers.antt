@@ -1,8 +1,8 @@
 use Rattle.std.proofs.Common.{◌∙◌, List, ◌++◌, ap}
 use Rattle.cq_base.specs.declared.change.Condition.{Condition}
-use Rattle.cq_tokfile.specs.Spelling.{head, counted, condition, file}
+use Rattle.cq_tokform.specs.Spelling.{head, counted, condition, file}
 use Rattle.cq_tokfile.specs.Snapshot.{contents_of}
-use Rattle.cq_tokfile.proofs.Appended.{three}
+use Rattle.cq_tokform.proofs.Appended.{three}
 use Rattle.cq_tokfile.proofs.Written.{each_has_tokens, spelled_files}
 use Rattle.cq_tokfile.proofs.encoding.put_body.Goals as goal
 

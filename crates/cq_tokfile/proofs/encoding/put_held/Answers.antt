@@ -5,9 +5,9 @@ use Rattle.cq_base.specs.declared.norm.Norm.{Norm}
 use Rattle.cq_func.specs.declared.function.Function.{Function}
 use Rattle.cq_history.specs.Files.{File}
 use Rattle.cq_work.specs.declared.work.Work.{Work}
-use Rattle.cq_tokfile.specs.Spelling.{counted, token, function, front}
+use Rattle.cq_tokform.specs.Spelling.{counted, token, function, front}
 use Rattle.cq_tokfile.specs.Snapshot.{spelled_of, record_of}
-use Rattle.cq_tokfile.proofs.Appended.{three}
+use Rattle.cq_tokform.proofs.Appended.{three}
 use Rattle.cq_tokfile.proofs.Written.{short_norms, file_parts}
 use Rattle.cq_tokfile.proofs.encoding.put_held.Goals as goal
 

@@ -3,9 +3,9 @@ use Rattle.std.specs.Int.{w32, to_be_bytes}
 use Rattle.std.specs.List.{flat_map}
 use Rattle.std.proofs.lemmas.List.{append-nil, take_all}
 use Rattle.cq_base.specs.declared.token.Spelled.{Spelled}
-use Rattle.cq_tokfile.specs.Spelling.{token}
+use Rattle.cq_tokform.specs.Spelling.{token}
 use Rattle.cq_tokfile.specs.Snapshot.{spelled_of}
-use Rattle.cq_tokfile.proofs.Appended.{written_on}
+use Rattle.cq_tokform.proofs.Appended.{written_on}
 use Rattle.cq_tokfile.proofs.Written.{no_token, spelled_length}
 use Rattle.cq_tokfile.proofs.encoding.put_spelled.Goals as goal
 

@@ -1,7 +1,7 @@
 use Rattle.std.proofs.Common.{◌≡◌, ◌++◌, length, take}
 use Rattle.std.specs.Int.{w32, to_be_bytes}
 use Rattle.std.specs.List.{flat_map}
-use Rattle.cq_tokfile.specs.Spelling.{token}
+use Rattle.cq_tokform.specs.Spelling.{token}
 use Rattle.cq_tokfile.specs.Snapshot.{spelled_of}
 use Rattle.cq_tokfile.proofs.encoding.put_spelled.Given as goal
 

@@ -1,7 +1,7 @@
 use Rattle.std.proofs.Common.{◌∙◌, ◌^◌, ◌<◌, ◌++◌, length, get_or, ap, sym, subst}
 use Rattle.cq_base.specs.declared.norm.Norm.{Norm}
 use Rattle.cq_base.specs.declared.token.Spelled.{Spelled}
-use Rattle.cq_tokfile.specs.Spelling.{token}
+use Rattle.cq_tokform.specs.Spelling.{token}
 use Rattle.cq_tokfile.proofs.Written.{no_place, no_norm, spelled_at}
 use Rattle.cq_tokfile.proofs.encoding.put_token_at.Goals as goal
 

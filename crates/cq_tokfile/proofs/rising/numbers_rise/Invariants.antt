@@ -1,6 +1,0 @@
-use Rattle.std.proofs.Common.{◌≡◌, drop, ltb}
-use Rattle.cq_tokfile.specs.Sound.{rise}
-use Rattle.cq_tokfile.proofs.rising.numbers_rise.Given as goal
-
-abbrev pub invariant-loop-at : goal.invariant-loop-at
-invariant-loop-at l = rise ltb (drop l.at l.numbers) ≡ rise ltb l.numbers
