@@ -15,7 +15,7 @@ use Rattle.cq_history.specs.Standing.{AreInPathOrder}
 use Rattle.cq_projects.specs.Ordered.{AreRising}
 use Rattle.cq_reply.specs.Written.{IsFunctionText}
 use Rattle.cq_request.specs.Named.{IsNamed}
-use Rattle.cq_request.specs.Text.{is_path}
+use Rattle.cq_names.specs.Names.{is_path_text}
 use Rattle.cq_work.specs.Bounds.{IsFunctionWithin}
 use Rattle.cq_work.specs.Work.{IsWorkOf}
 use Rattle.cq_work.specs.declared.work.Work.{Work}
@@ -78,8 +78,8 @@ module _ {L : Type 0} (set : Settings) (changes : List Change) (version : ℕ) (
         apart = subst (AllPairs (λ a b. a ≢ b)) (sym found.numbers) (numbers_apart changes version project);
       }
 
-  pub named_files : All IsNamed changes → AreOfVersion set changes version project files conditions → AllByRecursion (λ (f : File (Work L)). is_path f.path ≡ true) files
-  named_files named are = each_path set (λ p. is_path p ≡ true) (files_at changes version project) files are.files_are (sources_named changes version project named)
+  pub named_files : All IsNamed changes → AreOfVersion set changes version project files conditions → AllByRecursion (λ (f : File (Work L)). is_path_text f.path ≡ true) files
+  named_files named are = each_path set (λ p. is_path_text p ≡ true) (files_at changes version project) files are.files_are (sources_named changes version project named)
 
 -- ---- the names of their functions
 

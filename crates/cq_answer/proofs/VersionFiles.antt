@@ -18,7 +18,7 @@ use Rattle.cq_history.specs.Files.{Source, is_before, place_of, without_file, fi
 use Rattle.cq_history.specs.Standing.{Has, AreInPathOrder, IsLastPut}
 use Rattle.cq_history.proofs.Standing.{files_stand}
 use Rattle.cq_request.specs.Named.{IsNamed}
-use Rattle.cq_request.specs.Text.{is_path}
+use Rattle.cq_names.specs.Names.{is_path_text}
 
 -- ---- each has the number of its own change
 
@@ -168,8 +168,8 @@ pub sources_put : (changes : List Change) (version : ℕ) (q : List ℕ) → All
 sources_put changes version q sound = each_put IsSoundChange (IsPutWithin version) changes version q sound (put_within changes version q)
 
 -- and of named changes they are paths of files
-pub sources_named : (changes : List Change) (version : ℕ) (q : List ℕ) → All IsNamed changes → AllByRecursion (λ (f : Source). is_path f.path ≡ true) (files_at changes version q)
-sources_named changes version q named = each_put IsNamed (λ (f : Source). is_path f.path ≡ true) changes version q named (λ f last is. is.1)
+pub sources_named : (changes : List Change) (version : ℕ) (q : List ℕ) → All IsNamed changes → AllByRecursion (λ (f : Source). is_path_text f.path ≡ true) (files_at changes version q)
+sources_named changes version q named = each_put IsNamed (λ (f : Source). is_path_text f.path ≡ true) changes version q named (λ f last is. is.1)
 
 pub sources_rise : (changes : List Change) (version : ℕ) (q : List ℕ) → AreInPathOrder (files_at changes version q)
 sources_rise changes version q = (files_stand (take version changes) q).ordered

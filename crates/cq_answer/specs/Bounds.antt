@@ -9,7 +9,7 @@ use Rattle.cq_base.specs.declared.settings.Settings.{Settings}
 use Rattle.cq_history.specs.Files.{File}
 use Rattle.cq_projects.specs.Ordered.{AreRising}
 use Rattle.cq_request.specs.Named.{IsNamed}
-use Rattle.cq_request.specs.Text.{is_path}
+use Rattle.cq_names.specs.Names.{is_path_text}
 use Rattle.cq_work.specs.Bounds.{IsBounded}
 use Rattle.cq_work.specs.declared.work.Work.{Work}
 use Rattle.cq_answer.specs.Versions.{AreOfVersion}
@@ -40,4 +40,4 @@ VersionsAreBounded L = (set : Settings) (changes : List Change) (version : ℕ) 
 -- and where each change is named, each has the path of a file
 abbrev pub PathsAreNamed : Type 0 → Type 0
 PathsAreNamed L = (set : Settings) (changes : List Change) (version : ℕ) (project : List ℕ) (files : List (File (Work L))) (conditions : List Condition)
-    → All IsNamed changes → AreOfVersion set changes version project files conditions → AllByRecursion (λ (f : File (Work L)). is_path f.path ≡ true) files
+    → All IsNamed changes → AreOfVersion set changes version project files conditions → AllByRecursion (λ (f : File (Work L)). is_path_text f.path ≡ true) files

@@ -10,7 +10,7 @@ use Rattle.cq_groups.specs.Listing.{IsKey, IsKeyIn, AreAllRising, AreWindows, Ar
 use Rattle.cq_refine.specs.Sets.{IsLongest}
 use Rattle.cq_request.specs.declared.request.Kind.{Kind}
 use Rattle.cq_request.specs.declared.request.Kind.TheVariants as kind
-use Rattle.cq_scope.specs.Paths.{is_path}
+use Rattle.cq_names.specs.Names.{is_path}
 use Rattle.cq_answer.specs.declared.part.Part.{Part}
 use Rattle.cq_answer.specs.declared.part.Part.TheVariants as part
 

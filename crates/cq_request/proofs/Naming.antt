@@ -16,7 +16,7 @@ use Rattle.cq_request.specs.Reading.{unless, lang_named, text_passes, value_refu
 use Rattle.cq_request.specs.Rows.{op_of, fault_of, needed, rule_of, rules_of}
 use Rattle.cq_request.specs.Spelled.{spelled}
 use Rattle.cq_request.specs.Tables.{is_good, bad_field}
-use Rattle.cq_request.specs.Text.{is_path, is_project}
+use Rattle.cq_names.specs.Names.{is_path_text, is_project}
 use Rattle.cq_request.proofs.Passing.{first_none, second_good, has_path, none_named}
 
 -- ---- the fields of an object that is not refused
@@ -34,9 +34,9 @@ second_passed false b later none = absurd (cc)
 all_good : (chunk : ℕ) (o : Op) (d : Data) → why_refused chunk o d ≡ None → bad_field (rules_of o) d ≡ None
 all_good chunk o d accepted = first_none (bad_field (rules_of o) d) _ (none_named (fault_of o d) (value_refused chunk d) accepted).0
 
-path_passed : (chunk : ℕ) (o : Op) (d : Data) → why_refused chunk o d ≡ None → text_passes is_path (codes "path") d ≡ true
+path_passed : (chunk : ℕ) (o : Op) (d : Data) → why_refused chunk o d ≡ None → text_passes is_path_text (codes "path") d ≡ true
 path_passed chunk o d accepted =
-    second_passed (text_passes (λ word. is_some (lang_named word)) (codes "lang") d) (text_passes is_path (codes "path") d) _ (none_named (fault_of o d) (value_refused chunk d) accepted).1
+    second_passed (text_passes (λ word. is_some (lang_named word)) (codes "lang") d) (text_passes is_path_text (codes "path") d) _ (none_named (fault_of o d) (value_refused chunk d) accepted).1
 
 project_read : (o : Option (List ℕ)) → unwrap_or (option_map is_project o) false ≡ true → is_project (unwrap_or o []) ≡ true
 project_read None are = absurd (cc)
@@ -46,11 +46,11 @@ project_good : (o : Option Data) → is_good (rule_of (needed name.Project)) o �
 project_good None are = absurd (cc)
 project_good (Some d) are = project_read (as_str d) are
 
-path_read : (o : Option (List ℕ)) → IsSome o → unwrap_or (option_map is_path o) true ≡ true → is_path (unwrap_or o []) ≡ true
+path_read : (o : Option (List ℕ)) → IsSome o → unwrap_or (option_map is_path_text o) true ≡ true → is_path_text (unwrap_or o []) ≡ true
 path_read None there passes = absurd (cc)
 path_read (Some path) there passes = passes
 
-path_good : (o : Option Data) → is_good (rule_of (needed name.Path)) o ≡ true → unwrap_or (option_map is_path (option_and_then as_str o)) true ≡ true → is_path (unwrap_or (option_and_then as_str o) []) ≡ true
+path_good : (o : Option Data) → is_good (rule_of (needed name.Path)) o ≡ true → unwrap_or (option_map is_path_text (option_and_then as_str o)) true ≡ true → is_path_text (unwrap_or (option_and_then as_str o) []) ≡ true
 path_good o are passes = path_read (option_and_then as_str o) (has_path o are) passes
 
 -- ---- each change

@@ -13,7 +13,8 @@ use Rattle.cq_request.specs.declared.row.Op.TheVariants as op
 use Rattle.cq_request.specs.declared.row.Name.TheVariants as name
 use Rattle.cq_request.specs.declared.request.Refusal.{Refusal}
 use Rattle.cq_request.specs.declared.request.Refusal.TheVariants as refusal
-use Rattle.cq_request.specs.Text.{is_path, is_short}
+use Rattle.cq_names.specs.Names.{is_path_text}
+use Rattle.cq_request.specs.Text.{is_short}
 use Rattle.cq_request.specs.Members.{items_in, text_at}
 use Rattle.cq_request.specs.Conditions.{condition_of, are_conditions}
 use Rattle.cq_request.specs.Tables.{is_good, bad_field}
@@ -36,17 +37,17 @@ none_named (Some n) later none = absurd (cc)
 
 passed : (chunk : ℕ) (o : Op) (d : Data) → why_refused chunk o d ≡ None → (min_passes chunk d ≡ true) × (scope_passes d ≡ true)
 passed chunk o d accepted =
-    all_passed (text_passes (λ name. is_some (lang_named name)) (codes "lang") d) (text_passes is_path (codes "path") d) (text_passes is_short (codes "text") d) (min_passes chunk d) (scope_passes d) (none_named (fault_of o d) (value_refused chunk d) accepted).1
+    all_passed (text_passes (λ name. is_some (lang_named name)) (codes "lang") d) (text_passes is_path_text (codes "path") d) (text_passes is_short (codes "text") d) (min_passes chunk d) (scope_passes d) (none_named (fault_of o d) (value_refused chunk d) accepted).1
 
 pub min_passed : (chunk : ℕ) (o : Op) (d : Data) → why_refused chunk o d ≡ None → min_passes chunk d ≡ true
 min_passed chunk o d accepted = (passed chunk o d accepted).0
 
 -- ---- a scope
 
-sound_scope : (scope path : Option (List ℕ)) → unwrap_or (option_map (λ s. is_path s && not (is_some path)) scope) true ≡ true → IfSome scope IsUtf8 → IfSome scope (IsScopeBeside path)
+sound_scope : (scope path : Option (List ℕ)) → unwrap_or (option_map (λ s. is_path_text s && not (is_some path)) scope) true ≡ true → IfSome scope IsUtf8 → IfSome scope (IsScopeBeside path)
 sound_scope None path passes utf8 = tt
-sound_scope (Some s) None passes utf8 = (utf8, (and_parts (is_path s) true passes).0, refl)
-sound_scope (Some s) (Some p) passes utf8 = let bad : false ≡ true = (and_parts (is_path s) false passes).1 in absurd (cc)
+sound_scope (Some s) None passes utf8 = (utf8, (and_parts (is_path_text s) true passes).0, refl)
+sound_scope (Some s) (Some p) passes utf8 = let bad : false ≡ true = (and_parts (is_path_text s) false passes).1 in absurd (cc)
 
 pub scope_is_sound : (chunk : ℕ) (o : Op) (d : Data) → why_refused chunk o d ≡ None → IfSome (text_at (codes "scope") d) IsUtf8 → IfSome (text_at (codes "scope") d) (IsScopeBeside (text_at (codes "path") d))
 scope_is_sound chunk o d accepted utf8 = sound_scope (text_at (codes "scope") d) (text_at (codes "path") d) (passed chunk o d accepted).1 utf8

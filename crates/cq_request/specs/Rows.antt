@@ -8,7 +8,7 @@ use Rattle.cq_request.specs.declared.row.Op.TheVariants as op
 use Rattle.cq_request.specs.declared.row.Name.{Name}
 use Rattle.cq_request.specs.declared.row.Name.TheVariants as name
 use Rattle.cq_request.specs.declared.row.Field.{Field}
-use Rattle.cq_request.specs.Text.{is_project}
+use Rattle.cq_names.specs.Names.{is_project}
 use Rattle.cq_request.specs.Members.{text_at, number_of}
 use Rattle.cq_request.specs.Conditions.{is_condition_list}
 use Rattle.cq_request.specs.Tables.{Rule, fault_in}

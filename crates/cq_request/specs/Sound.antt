@@ -11,7 +11,7 @@ use Rattle.cq_request.specs.declared.request.Request.{Request}
 use Rattle.cq_request.specs.declared.request.Request.TheVariants as request
 use Rattle.cq_request.specs.declared.request.Refusal.{Refusal}
 use Rattle.cq_request.specs.declared.request.Refusal.TheVariants as refusal
-use Rattle.cq_request.specs.Text.{is_path}
+use Rattle.cq_names.specs.Names.{is_path_text}
 
 -- the list of files and the verdict are of a whole project, functions of one file
 abbrev pub IsPathOf : Kind → Option (List ℕ) → Type 0
@@ -23,7 +23,7 @@ IsPathOf kind.Functions path = IsSome path
 
 -- a scope is a path in UTF-8, and stands beside no path
 abbrev pub IsScopeBeside : Option (List ℕ) → List ℕ → Type 0
-IsScopeBeside path scope = IsUtf8 scope × IsTrue (is_path scope) × (path ≡ None)
+IsScopeBeside path scope = IsUtf8 scope × IsTrue (is_path_text scope) × (path ≡ None)
 
 abbrev pub IsSoundQuery : ℕ → Query → Type 0
 IsSoundQuery chunk q = IsUtf8 q.project × IfSome q.path IsUtf8 × (chunk ≤ q.min) × IsPathOf q.kind q.path × IfSome q.scope (IsScopeBeside q.path)

@@ -1,29 +1,5 @@
--- Which texts are names of projects and paths of files.
-use Rattle.std.specs.Prelude.{◌&&◌, ◌||◌, ◌==◌, ℕ, List, [], ◌∷◌, length, Bool, true, false, not, nat_le}
-use Rattle.std.specs.List.{list_all, slice_split}
-
--- A-Z a-z 0-9 . _ -
-abbrev pub is_name_byte : ℕ → Bool
-is_name_byte b = (nat_le 65 b && nat_le b 90) || (nat_le 97 b && nat_le b 122) || (nat_le 48 b && nat_le b 57) || b == 46 || b == 95 || b == 45
-
--- 1 to 64 of these
-abbrev pub is_project : List ℕ → Bool
-is_project name = nat_le 1 (length name) && nat_le (length name) 64 && list_all is_name_byte name
-
--- neither empty nor one dot nor two dots
-abbrev pub is_part : List ℕ → Bool
-is_part [] = false
-is_part (a ∷ []) = not (a == 46)
-is_part (a ∷ b ∷ []) = not (a == 46 && b == 46)
-is_part (a ∷ b ∷ c ∷ rest) = true
-
--- no control character of ASCII
-abbrev pub is_path_byte : ℕ → Bool
-is_path_byte b = nat_le 32 b && not (b == 127)
-
--- 1 to 512 bytes, of parts joined by `/`
-abbrev pub is_path : List ℕ → Bool
-is_path path = nat_le 1 (length path) && nat_le (length path) 512 && list_all is_path_byte path && list_all is_part (slice_split (λ b. b == 47) path)
+-- How long the text of a file may be.
+use Rattle.std.specs.Prelude.{ℕ, List, length, Bool, nat_le}
 
 -- a text of at most 1,048,576 bytes
 abbrev pub is_short : List ℕ → Bool

@@ -19,4 +19,3 @@ pub use reading::{parsed, read_request, read_value};
 pub use request::{Kind, Query, Refusal, Request};
 pub use row::{Op, op_of};
 pub use table::{Ruled, fault_in};
-pub use text::is_path;

@@ -7,14 +7,16 @@ ghost use Rattle.cq_request.specs.Sound.{IsSound, IsSoundQuery, IsSoundRefusal};
 ghost use Rattle.cq_request.specs.Reading as spec;
 ghost use Rattle.cq_request.specs.Spelled.{spelled};
 ghost use Rattle.cq_request.specs.Reading.{UnlessMemory, IsNoJson, value_says, line_says};
+ghost use Rattle.cq_names.specs.Names as names;
 ghost use Rattle.cq_request.specs.Text as text;
 
 use crate::condition::conditions_in;
 use crate::member::{flag_at, list_at, number_at, taken_text, text_at};
 use crate::request::{Kind, Query, Refusal, Request};
 use crate::row::{Op, fault_of, op_of};
-use crate::text::{is_path, is_short};
+use crate::text::is_short;
 use cq_base::{Change, Conditions, Lang, Memory, Settings, Text};
+use cq_names::is_path_text;
 use serde_json::Value;
 use std::alloc::Global;
 
@@ -40,10 +42,10 @@ fn lang_passes(value: &Value) -> bool
 }
 
 fn path_passes(value: &Value) -> bool
-    ensures { result ≡ spec.text_passes text.is_path (codes "path") (view value.now) }
+    ensures { result ≡ spec.text_passes names.is_path_text (codes "path") (view value.now) }
 {
     match text_at(value, "path") {
-        Some(path) => is_path(path),
+        Some(path) => is_path_text(path),
         None => true,
     }
 }
@@ -77,9 +79,9 @@ fn has_path(value: &Value) -> bool
 
 // Whether a scope is a path, and stands beside none.
 fn is_lone_path(scope: &str, value: &Value) -> bool
-    ensures { result ≡ (text.is_path scope.now && not (is_some (members.text_at (codes "path") (view value.now)))) }
+    ensures { result ≡ (names.is_path_text scope.now && not (is_some (members.text_at (codes "path") (view value.now)))) }
 {
-    is_path(scope) && !has_path(value)
+    is_path_text(scope) && !has_path(value)
 }
 
 fn scope_passes(value: &Value) -> bool

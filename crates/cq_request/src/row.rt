@@ -6,7 +6,7 @@ ghost use Rattle.cq_request.specs.Rows as rows;
 use crate::condition::is_condition_list;
 use crate::member::text_at;
 use crate::table::{Ruled, fault_in};
-use crate::text::is_project;
+use cq_names::is_project;
 use serde_json::Value;
 
 /// What can be asked for.
@@ -195,7 +195,7 @@ fn is_project_value(value: &Value) -> bool
     ensures { result ≡ rows.is_of_form name.Project (view value.now) }
 {
     match value.as_str() {
-        Some(name) => is_project(name),
+        Some(name) => is_project(name.as_bytes()),
         None => false,
     }
 }

@@ -4,7 +4,7 @@ use Rattle.std.specs.Prelude.{◌==◌, nat_le}
 use Rattle.std.proofs.lemmas.Bool.{and_parts, leb-true}
 use Rattle.std.proofs.lemmas.Iterator.{YieldsList}
 use Rattle.std.proofs.lemmas.Iterator.Splits.{YieldsList-from_str_split}
-use Rattle.std.proofs.lemmas.Str.{length-le-encodes, encodes-chars, IsUtf8-from_is_utf8, is_utf8-from_IsUtf8}
+use Rattle.std.proofs.lemmas.Str.{length-le-encodes, encodes-chars, IsUtf8-from_is_utf8}
 use Rattle.std.proofs.lemmas.List.Sums.{count_by-le-length}
 use Rattle.std.proofs.lemmas.List.Splits.{length-slice_split}
 use Rattle.std.specs.List.{list_all, onto_first}
@@ -12,9 +12,7 @@ use Rattle.std.specs.Str.{chars, is_utf8}
 use Rattle.std.specs.declared.str.Split.{Split}
 use Rattle.std.specs.Str.Iter.{split_steps, split_text, split_has_more, split_pattern}
 use Rattle.std.specs.Str.Pattern.{FindsChar}
-use Rattle.cq_request.specs.Text as texts
-use Rattle.cq_request.specs.Text.{is_part, is_path_byte}
-use Rattle.cq_scope.specs.Paths.{parts, is_path}
+use Rattle.cq_names.specs.Names.{parts, is_part, is_path_byte, is_path_text, is_path}
 
 pub few_chars : (text : List ℕ) → IsUtf8 text → length (chars text) ≤ length text
 few_chars text utf8 = let all = ap length (encodes-chars text utf8) in omega (arith, length-le-encodes (chars text))
@@ -60,18 +58,7 @@ few_parts (b ∷ bs) good = cut_few (b == 47) b bs (parts bs) (some_parts bs) go
 -- ---- what is so of a path
 
 pub path_utf8 : (path : List ℕ) → is_path path ≡ true → IsUtf8 path
-path_utf8 path good = IsUtf8-from_is_utf8 path (and_parts (is_utf8 path) (texts.is_path path) good).0
-
--- what is spelled in UTF-8 is a path where the text is one, and nothing else is
-pub path_spelled : (bytes spelled : List ℕ) (r : Bool) → (spelled ≡ bytes) × IsUtf8 bytes → r ≡ texts.is_path spelled → r ≡ is_path bytes
-path_spelled bytes spelled r good is = is ∙ ap texts.is_path good.0 ∙ sym (ap (λ b. b && texts.is_path bytes) (is_utf8-from_IsUtf8 bytes good.1))
-
-pub path_broken : (bytes : List ℕ) → (IsUtf8 bytes → ⊥) → false ≡ is_path bytes
-path_broken bytes broken = by (is_utf8 bytes) refl
-  where
-    by : (b : Bool) → is_utf8 bytes ≡ b → false ≡ (b && texts.is_path bytes)
-    by true is = absurd (broken (IsUtf8-from_is_utf8 bytes is))
-    by false is = refl
+path_utf8 path good = IsUtf8-from_is_utf8 path (and_parts (is_utf8 path) (is_path_text path) good).0
 
 second_and_last : (a b c d : Bool) → (a && b && c && d) ≡ true → (b ≡ true) × (d ≡ true)
 second_and_last true true true true all = (refl, refl)
@@ -82,7 +69,7 @@ second_and_last false b c d all = let bad : false ≡ true = all in absurd (cc)
 
 form_of : (path : List ℕ) → is_path path ≡ true → (length path ≤ 512) × (list_all is_part (parts path) ≡ true)
 form_of path good =
-    let of_text = (and_parts (is_utf8 path) (texts.is_path path) good).1 in
+    let of_text = (and_parts (is_utf8 path) (is_path_text path) good).1 in
     let form = second_and_last (nat_le 1 (length path)) (nat_le (length path) 512) (list_all is_path_byte path) (list_all is_part (parts path)) of_text in
     (leb-true (length path) 512 form.0, form.1)
 

@@ -3,7 +3,7 @@ use Rattle.std.specs.Prelude.{◌&&◌, ℕ, nat_lt, List, length, filter, slice
 use Rattle.std.specs.List.{range_with_len}
 use Rattle.cq_history.specs.Files.{File}
 use Rattle.cq_scope.specs.Fits.{fits}
-use Rattle.cq_scope.specs.Paths.{is_path}
+use Rattle.cq_names.specs.Names.{is_path}
 
 -- it is a path and fits the pattern; without one every path does
 abbrev pub is_in_scope : Option (List ℕ) → List ℕ → Bool

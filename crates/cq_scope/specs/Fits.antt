@@ -2,7 +2,7 @@
 use Rattle.std.specs.Prelude.{◌&&◌, ◌||◌, ◌==◌, ℕ, List, [], ◌∷◌, Bool, true, false, if◌then◌else◌, codes}
 use Rattle.std.specs.List.{list_any}
 use Rattle.std.specs.Str.{chars, bytes_eq}
-use Rattle.cq_scope.specs.Paths.{parts}
+use Rattle.cq_names.specs.Names.{parts}
 
 -- what follows in a list: all of it, what is behind its first element, and so on, and nothing at last
 abbrev pub suffixes : {X : Type 0} → List X → List (List X)

@@ -3,9 +3,9 @@ ghost use Rattle.std.specs.List.Sorted.{IsStrictlyIncreasing};
 ghost use Rattle.std.specs.Arc.{arc_value};
 ghost use Rattle.cq_scope.specs.Chosen as spec;
 
-use crate::path::is_path;
 use crate::pattern::{Pattern, fits};
 use cq_base::{Memory, Text};
+use cq_names::is_path;
 use cq_projects::Held;
 use std::alloc::Global;
 use std::sync::Arc;

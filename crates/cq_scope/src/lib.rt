@@ -8,7 +8,6 @@ mod choosing;
 mod laws;
 mod part;
 mod parts;
-mod path;
 mod pattern;
 mod row;
 

@@ -1,7 +1,7 @@
 ghost use Rattle.std.specs.Prelude.{◌≡◌, ◌<◌, ◌&&◌, length, false, codes};
 ghost use Rattle.std.specs.Str.{bytes_eq};
 ghost use Rattle.cq_scope.specs.Fits as spec;
-ghost use Rattle.cq_scope.specs.Paths.{parts};
+ghost use Rattle.cq_names.specs.Names.{parts};
 ghost use Rattle.cq_scope.specs.Rows as rows;
 
 use crate::part::part_fits;

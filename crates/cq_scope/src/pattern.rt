@@ -1,10 +1,11 @@
 ghost use Rattle.std.specs.Prelude.{◌≡◌, IfOk, IsTrue};
 ghost use Rattle.cq_scope.specs.Fits as spec;
-ghost use Rattle.cq_scope.specs.Paths.{is_path, path_in};
+ghost use Rattle.cq_names.specs.Names.{is_path};
+ghost use Rattle.cq_scope.specs.Paths.{path_in};
 
 use crate::parts::parts_fit;
-use crate::path::is_path;
 use cq_base::{Memory, Text};
+use cq_names::is_path;
 use std::alloc::Global;
 use std::marker::Model;
 use std::str;
@@ -20,7 +21,7 @@ pub struct Pattern {
 
 impl Model for Pattern {
     ghost use Rattle.std.specs.Prelude.{List, ℕ, IsTrue};
-    ghost use Rattle.cq_scope.specs.Paths.{is_path};
+    ghost use Rattle.cq_names.specs.Names.{is_path};
 
     ghost Value = { List ℕ };
 

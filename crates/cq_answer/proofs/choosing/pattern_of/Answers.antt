@@ -1,7 +1,7 @@
 use Rattle.std.proofs.Common.{◌≡◌, Bool, true, cond, Some, None, sym, ap, ◌∙◌, subst, rules}
 use Rattle.std.proofs.lemmas.Result.{IfOk-weaker}
 use Rattle.cq_answer.specs.Parts.{IsPattern}
-use Rattle.cq_scope.specs.Paths.{is_path}
+use Rattle.cq_names.specs.Names.{is_path}
 use Rattle.cq_answer.proofs.choosing.pattern_of.Goals as goal
 
 pub returns-in-Some : goal.returns-in-Some

@@ -3,7 +3,7 @@ use Rattle.std.proofs.lemmas.Iterator.Consumers.{YieldsList-turn, YieldsList-end
 use Rattle.std.proofs.lemmas.List.{length_push, length-take-le}
 use Rattle.std.specs.Str.{bytes_eq}
 use Rattle.cq_scope.specs.Fits.{name_fits, parts_fit}
-use Rattle.cq_scope.specs.Paths.{parts}
+use Rattle.cq_names.specs.Names.{parts}
 use Rattle.cq_scope.proofs.Reaching.{walk_begun, walk_on, walk_ended, length-begun, length-advanced}
 use Rattle.cq_scope.proofs.Counts.{yields_parts}
 use Rattle.cq_scope.proofs.parts.parts_fit.Goals as goal

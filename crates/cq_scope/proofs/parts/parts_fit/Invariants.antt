@@ -1,6 +1,6 @@
 use Rattle.std.proofs.Common.{◌≡◌, ◌+◌, ◌<◌, drop, length}
 use Rattle.cq_scope.specs.Fits.{parts_fit}
-use Rattle.cq_scope.specs.Paths.{parts}
+use Rattle.cq_names.specs.Names.{parts}
 use Rattle.cq_scope.proofs.Reaching.{reached}
 use Rattle.cq_scope.proofs.parts.parts_fit.Given as goal
 

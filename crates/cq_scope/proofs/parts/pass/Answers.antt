@@ -2,7 +2,7 @@ use Rattle.std.proofs.Common.{arith, rules}
 use Rattle.std.proofs.lemmas.Iterator.Consumers.{YieldsList-turn, YieldsList-end}
 use Rattle.std.proofs.lemmas.List.{length_push, length-set}
 use Rattle.cq_scope.specs.Fits.{name_fits}
-use Rattle.cq_scope.specs.Paths.{parts}
+use Rattle.cq_names.specs.Names.{parts}
 use Rattle.cq_scope.proofs.Counts.{yields_parts, short_next}
 use Rattle.cq_scope.proofs.InRow.{passed_next, passed_last}
 use Rattle.cq_scope.proofs.parts.pass.Goals as goal

@@ -1,6 +1,6 @@
 use Rattle.std.proofs.Common.{◌≡◌, ◌<◌, ◌++◌, take, drop, length, false}
 use Rattle.cq_scope.specs.Fits.{name_fits}
-use Rattle.cq_scope.specs.Paths.{parts}
+use Rattle.cq_names.specs.Names.{parts}
 use Rattle.cq_scope.specs.Rows.{passed}
 use Rattle.cq_scope.proofs.parts.pass.Given as goal
 

@@ -1,5 +1,5 @@
 use Rattle.std.proofs.Common.{◌≡◌, ◌<◌, length, IsUtf8, sym, subst, rules}
-use Rattle.cq_scope.specs.Paths.{parts}
+use Rattle.cq_names.specs.Names.{parts}
 use Rattle.cq_scope.proofs.Counts.{path_utf8, few_in_path}
 use Rattle.cq_scope.proofs.pattern.fits.Goals as goal
 

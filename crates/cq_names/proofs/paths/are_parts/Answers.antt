@@ -1,6 +1,6 @@
 use Rattle.std.proofs.Common.{sym, ◌∙◌}
-use Rattle.cq_request.proofs.Parts.{parts_next, last_part}
-use Rattle.cq_request.proofs.text.are_parts.Goals as goal
+use Rattle.cq_names.proofs.Parts.{parts_next, last_part}
+use Rattle.cq_names.proofs.paths.are_parts.Goals as goal
 
 pub parts-preserved : goal.parts-preserved
 parts-preserved c =

@@ -1,8 +1,0 @@
-use Rattle.cq_scope.proofs.Counts.{path_spelled, path_broken}
-use Rattle.cq_scope.proofs.path.is_path.Goals as goal
-
-pub returns-in-Ok : goal.returns-in-Ok
-returns-in-Ok c = path_spelled c.args.bytes.now c.in-Ok.text.now _ c.in-Ok.ensures.cases c.is_path.ensures
-
-pub returns-in-Err : goal.returns-in-Err
-returns-in-Err c = path_broken c.args.bytes.now c.in-Err.ensures.cases.0
