@@ -110,6 +110,18 @@ LINES = [
     put("t", "q r s q r s"), line(op="measures", project="p", min=2, path="t"), line(op="groups", project="p", min=2),
     line(op="state"),
 ]
+# Version 2 of `p` with a gate: `t` with the one token `a`, and `u` with none.
+FILE = bytes.fromhex(
+    "4351544f4b303031000000000000009900000000000000020000000200000000000170000000010700000000000000012c0000000200"
+    "000001740000000000000002000000000000000000010000000000000001000000000000000100000001000000000000000001000000"
+    "010000000100000001610000000000000001750000000000000001000000000000000000010000000000000001000000000000000100"
+    "00000000000000"
+)
+ASKED = [
+    line(op="files", project="p"), line(op="groups", project="p", min=2), line(op="measures", project="p", min=2),
+    line(op="verdict", project="p", min=2), line(op="groups", project="p", min=2, path="t"), line(op="files", project="q"),
+    line(op="files", project="p", at=3), line(op="state"), b'{"op":\n',
+]
 STEPS = (ROOT / "examples" / "versions.jsonl").read_bytes().splitlines(keepends=True)
 
 
@@ -198,6 +210,7 @@ class Case(NamedTuple):
     given: list[bytes]
     over_sockets: bool = False
     has_workers: bool = False
+    front: bytes = b""  # what the input has before the lines
 
 
 FIRST, SETTINGS = ["--chunk", "2", "--shards", "1"], ["--chunk", "2", "--shards", "3"]
@@ -209,6 +222,7 @@ CASES = {
     "run with workers": Case(["run", *SETTINGS, "--workers", "2"], LINES, has_workers=True),
     "drive": Case(["drive", "--chunk", "2", "--shards", "1", "--key-bits", "0"], STEPS),
     "make": Case(["make", "7", "3"], []),
+    "ask": Case(["ask", "--chunk", "2"], ASKED, front=FILE),
     "listen": Case(["listen", *SETTINGS, "--workers", "0", "--sessions", "1", "--connections", "1"], LINES, over_sockets=True),
     "listen with workers": Case(["listen", *SETTINGS, "--workers", "2", "--sessions", "2", "--connections", "1"], LINES,
                                 over_sockets=True, has_workers=True),
@@ -247,7 +261,11 @@ def check(run, case, wanted, told):
 
 
 def try_each(refusing, case, every, is_open):
-    run = refusing.listen if case.over_sockets else refusing.run
+    over = refusing.listen if case.over_sockets else refusing.run
+
+    def run(words, lines, first=0, last=0):
+        return over(words, [case.front, *lines], first, last)
+
     wanted = run(case.words, case.given)
     if wanted.status != 0 or MEMORY in wanted.lines or len(wanted.lines) != max(len(case.given), 1):
         raise Broken(f"with enough memory it ended with {wanted.status} and {len(wanted.lines)} lines")

@@ -1,9 +1,10 @@
 -- What a query's reply rests on: files and conditions that are those of a version.
-use Rattle.std.proofs.Common.{◌≡◌, ℕ, zero, suc, ◌<◌, ◌≤◌, Bool, Option, List, [], ◌∷◌, length, get_or, map, refl, sym, ap, ap₂, ◌∙◌, subst, subst₂, arith}
+use Rattle.std.proofs.Common.{◌≡◌, ℕ, zero, suc, ◌^◌, ◌<◌, ◌≤◌, Bool, Option, List, [], ◌∷◌, length, get_or, map, refl, sym, ap, ap₂, ◌∙◌, subst, subst₂, arith}
 use Rattle.std.specs.Prelude.{◌≢◌, All, AllPairs, Contains}
 use Rattle.std.specs.List.{AllByRecursion}
 use Rattle.std.specs.Str.{IsUtf8}
 use Rattle.std.proofs.lemmas.List.{length-map}
+use Rattle.std.proofs.lemmas.List.Elements.{All-weaker}
 use Rattle.cq_base.proofs.Lists.{Contains-here, Contains-there}
 use Rattle.cq_base.specs.Settings.{IsInRange}
 use Rattle.cq_base.specs.declared.change.Change.{Change}
@@ -14,6 +15,7 @@ use Rattle.cq_base.specs.declared.norm.Norm.{Norm}
 use Rattle.cq_base.specs.declared.settings.Settings.{Settings}
 use Rattle.cq_board.specs.Related.{AreSameFiles}
 use Rattle.cq_clones.specs.Windows.{AreKeyed}
+use Rattle.cq_func.specs.declared.function.Function.{Function}
 use Rattle.cq_history.specs.Files.{File, Source, files_at, conditions_at}
 use Rattle.cq_key.proofs.Keyed.{keyed_by_windows}
 use Rattle.cq_measures.specs.Measures.{AreGroupsInside}
@@ -32,8 +34,9 @@ use Rattle.cq_answer.specs.Questions.{AreAsked, IsMostRead}
 use Rattle.cq_answer.specs.Readings.{paths_read, corpus_read, keys_read}
 use Rattle.cq_answer.specs.Reply.{IsReply, part_read, chosen_read, reply_of}
 use Rattle.cq_answer.specs.Rows.{Facts, facts_read, place_row, group_row, functions_of, AreShowable, AreFewFunctions, AreNamed}
+use Rattle.cq_answer.specs.Given.{AreGiven, IsReplyOf}
 use Rattle.cq_answer.specs.Versions.{AreOfVersion, HaveVersion, AreListable}
-use Rattle.cq_answer.specs.Works.{paths_in, norms_in, keys_in, spans_in, row_of, facts_in, chosen_in, AreNumbered}
+use Rattle.cq_answer.specs.Works.{paths_in, norms_in, keys_in, spans_in, functions_in, row_of, facts_in, chosen_in, AreNumbered}
 use Rattle.cq_answer.proofs.VersionFiles.{numbers_apart, numbers_positive, paths_are_texts, few_conditions}
 use Rattle.cq_answer.proofs.WorkReadings.{Reads, reads, as_many}
 use Rattle.cq_answer.proofs.SameReadings.{same_paths, same_corpus, same_keys}
@@ -61,21 +64,12 @@ module _ {L : Type 0} (set : Settings) (changes : List Change) (version : ℕ) (
     some = range.chunk;
   }
 
-  pub inside : (min : ℕ) (p : Part) (groups : List Group) → 1 ≤ min → AreGroupsOf (norms_in files) min p groups → AreGroupsInside (spans_in files) groups
-  inside min p groups some are_groups =
-      groups_inside (norms_in files) (spans_in files) min p groups some
-      (λ i. ap (λ xs. length (get_or xs i [])) found.norms ∙ as_many set found.readings i ∙ ap (λ xs. length (get_or xs i [])) (sym found.spans))
-      are_groups
-
-  pub measurable : (min : ℕ) (p : Part) (groups : List Group) → 1 ≤ min → length files ≤ 262144 → AreGroupsOf (norms_in files) min p groups → AreShowable (facts_in files) groups
-  measurable min p groups some few are_groups = record {
-    few = let many = length-map files (λ (f : File (Work L)). f.body.counts) in omega (arith, many, few);
-    small = found.small;
-    inside = inside min p groups some are_groups;
-  }
-
   pub few_functions : AreFewFunctions (facts_in files)
-  few_functions = found.few_functions
+  few_functions = All-weaker (λ (fs : List Function). length fs ≤ 262144) (λ (fs : List Function). length fs < 2 ^ 32) (λ fs few. omega (arith, few)) (functions_in files) found.few_functions
+
+  -- as many tokens as places
+  pub placed : (i : ℕ) → length (get_or (norms_in files) i []) ≡ length (get_or (spans_in files) i [])
+  placed i = ap (λ xs. length (get_or xs i [])) found.norms ∙ as_many set found.readings i ∙ ap (λ xs. length (get_or xs i [])) (sym found.spans)
 
   pub numbered : AreNumbered files
   numbered = subst (All (λ n. 0 < n)) (sym found.numbers) (numbers_positive changes version project)
@@ -184,13 +178,45 @@ reply_texts files conditions version kind.Measures p is_chosen groups texts name
 reply_texts files conditions version kind.Verdict p is_chosen groups texts named inside = tt
 reply_texts files conditions version kind.Functions p is_chosen groups texts named inside = function_texts (facts_in files) p named
 
-pub texts_are : {L : Type 0} (set : Settings) (version : ℕ) (project : List ℕ) (files : List (File (Work L))) (conditions : List Condition) (k : Kind) (min : ℕ) (p : Part) (is_chosen : ℕ → Bool) (groups : List Group) (r : Reply)
-    → HaveVersion set version project files conditions → 1 ≤ min → AreGroupsOf (norms_in files) min p groups → r ≡ reply_of (facts_in files) conditions version k p is_chosen groups → IsReplyText r
-texts_are set version project files conditions k min p is_chosen groups r have some are_groups is =
-    let paths = texts_of_works set (files_at have.changes version project) files have.are.files_are (paths_are_texts have.changes version project have.sound) in
-    let named = functions_named set version files (version_bounded set have.changes version project files conditions have.sound have.are).each in
-    subst IsReplyText (sym is) (reply_texts files conditions version k p is_chosen groups paths named (inside set have.changes version project files conditions have.are min p groups some are_groups))
-
 pub conditions_few : {L : Type 0} (set : Settings) (version : ℕ) (project : List ℕ) (files : List (File (Work L))) (conditions : List Condition) → HaveVersion set version project files conditions → length conditions ≤ 32
 conditions_few set version project files conditions have =
     subst (λ (cs : List Condition). length cs ≤ 32) (sym have.are.conditions_are) (few_conditions have.changes version project have.sound)
+
+-- files and conditions of a version are as an answer asks
+pub given_version : {L : Type 0} (set : Settings) (version : ℕ) (project : List ℕ) (files : List (File (Work L))) (conditions : List Condition) → IsInRange set → HaveVersion set version project files conditions → AreGiven set files conditions
+given_version set version project files conditions range have = record {
+  listable = listable set have.changes version project files conditions have.are range have.few;
+  small = (found set have.changes version project files conditions have.are).small;
+  placed = placed set have.changes version project files conditions have.are;
+  few_functions = few_functions set have.changes version project files conditions have.are;
+  numbered = numbered set have.changes version project files conditions have.are;
+  texts = texts_of_works set (files_at have.changes version project) files have.are.files_are (paths_are_texts have.changes version project have.sound);
+  names = functions_named set version files (version_bounded set have.changes version project files conditions have.sound have.are).each;
+  few_conditions = conditions_few set version project files conditions have;
+}
+
+-- ---- what given files need
+
+module _ {L : Type 0} (set : Settings) (files : List (File (Work L))) (conditions : List Condition) (given : AreGiven set files conditions) where
+  pub inside_given : (min : ℕ) (p : Part) (groups : List Group) → 1 ≤ min → AreGroupsOf (norms_in files) min p groups → AreGroupsInside (spans_in files) groups
+  inside_given min p groups some are_groups = groups_inside (norms_in files) (spans_in files) min p groups some given.placed are_groups
+
+  pub measurable_given : (min : ℕ) (p : Part) (groups : List Group) → 1 ≤ min → AreGroupsOf (norms_in files) min p groups → AreShowable (facts_in files) groups
+  measurable_given min p groups some are_groups = record {
+    few = let many = length-map files (λ (f : File (Work L)). f.body.counts) in let few = given.listable.few in omega (arith, many, few);
+    small = given.small;
+    inside = inside_given min p groups some are_groups;
+  }
+
+  pub texts_given : (version : ℕ) (k : Kind) (min : ℕ) (p : Part) (is_chosen : ℕ → Bool) (groups : List Group) (r : Reply) → 1 ≤ min → AreGroupsOf (norms_in files) min p groups → r ≡ reply_of (facts_in files) conditions version k p is_chosen groups → IsReplyText r
+  texts_given version k min p is_chosen groups r some are_groups is =
+      subst IsReplyText (sym is) (reply_texts files conditions version k p is_chosen groups given.texts given.names (inside_given min p groups some are_groups))
+
+-- the reply on given files
+pub reply_given : {L : Type 0} (files : List (File (Work L))) (conditions : List Condition) (q : Query) (version : ℕ) (p : Part) (groups : List Group) (r : Reply) → p ≡ part_of (paths_in files) q.kind q.path → AreGroupsOf (norms_in files) q.min p groups
+    → r ≡ reply_of (facts_in files) conditions version q.kind p (chosen_in files q) groups → IsReplyOf files conditions q version r
+reply_given files conditions q version p groups r part_is are_groups is = record {
+  groups = groups;
+  are_groups = subst (λ (at : Part). AreGroupsOf (norms_in files) q.min at groups) part_is are_groups;
+  reply_is = is ∙ ap (λ (at : Part). reply_of (facts_in files) conditions version q.kind at (chosen_in files q) groups) part_is;
+}

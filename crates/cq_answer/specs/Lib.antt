@@ -5,6 +5,7 @@ pub mod Reply
 pub mod Questions
 pub mod Works
 pub mod Versions
+pub mod Given
 pub mod Refusals
 pub mod Lent
 pub mod Bounds

@@ -1,5 +1,5 @@
 -- Files and groups as a reply shows them, and the measures of a part of a project.
-use Rattle.std.specs.Prelude.{ℕ, ◌≤◌, ◌==◌, max, Bool, if◌then◌else◌, Option, List, [], ◌∷◌, length, map, filter, slice_index_or, All}
+use Rattle.std.specs.Prelude.{ℕ, ◌<◌, ◌^◌, ◌==◌, max, Bool, if◌then◌else◌, Option, List, [], ◌∷◌, length, map, filter, slice_index_or, All}
 use Rattle.std.specs.List.{AllByRecursion, position, range_with_len}
 use Rattle.cq_base.specs.Lines.{lines_of}
 use Rattle.cq_base.specs.declared.group.Group.{Group}
@@ -90,7 +90,7 @@ AreShowable facts groups = IsMeasurable facts.counts facts.spans groups
 
 -- no file has more functions than it may have tokens
 abbrev pub AreFewFunctions : Facts → Type 0
-AreFewFunctions facts = All (λ fs. length fs ≤ 262144) facts.functions
+AreFewFunctions facts = All (λ fs. length fs < 2 ^ 32) facts.functions
 
 -- the name of each function is UTF-8
 abbrev pub AreNamed : Facts → Type 0

@@ -3,7 +3,8 @@ ghost use Rattle.cq_base.specs.Settings.{IsInRange};
 ghost use Rattle.cq_reply.specs.Written.{IsReplyText};
 ghost use Rattle.cq_answer.specs.Parts.{HasPath, HasScope, IsPattern, IsWithin};
 ghost use Rattle.cq_answer.specs.Rows.{AreShowable, AreFewFunctions};
-ghost use Rattle.cq_answer.specs.Versions.{HaveVersion, IsReplyOn, ShowsGroups, AsksOn, AsksAtMostOn, ReadsOn};
+ghost use Rattle.cq_answer.specs.Given.{AreGiven, IsReplyOf};
+ghost use Rattle.cq_answer.specs.Versions.{IsReplyOn, ShowsGroups, AsksOn, AsksAtMostOn, ReadsOn};
 ghost use Rattle.cq_answer.specs.Works.{works_in, keys_in, numbers_in, facts_in, AreNumbered};
 
 use crate::functions::functions_in;
@@ -74,7 +75,8 @@ fn reply_of<R: Threads + Sync, L: Ledger>(
     }
 }
 
-/// The reply to a query at a version, of which these are the project's files and conditions. Want of memory leaves the
+/// The reply to a query on the files of one project with their works, and on its conditions, at a version. Where they are
+/// those of a version of some changes, it is the reply by these. Want of memory leaves the
 /// buckets fit for the next question. With a path that is there, the index is asked for the keys of that file's windows
 /// alone; for the list of files, for functions, and for a path that is not there, it is not asked and no token is read.
 /// Measures of chosen files are by the groups of the whole project, and cost one look for each file, the comparison of its
@@ -92,13 +94,14 @@ pub fn answer<R: Threads + Sync, B: Buckets, L: Ledger>(
     steps: &mut Steps<L>,
 ) -> Result<Reply, Memory>
     requires settings { IsInRange settings.now }
-    requires of_version { HaveVersion settings.now version query.now.project files.now conditions.now }
+    requires given { AreGiven settings.now files.now conditions.now }
     requires long { settings.now.chunk ≤ query.now.min }
     requires path { HasPath query.now.kind query.now.path }
     requires scope { HasScope query.now.path query.now.scope }
     requires for_changes { B.file_changes buckets.old ≡ numbers_in files.now }
     requires for_keys { B.file_keys buckets.old ≡ keys_in files.now }
     requires ready { B.ready buckets.old }
+    ensures given { IfOk result (IsReplyOf files.now conditions.now query.now version) }
     ensures reply { IfOk result (IsReplyOn settings.now version query.now files.now conditions.now) }
     ensures texts { IfOk result IsReplyText }
     ensures asked { OnOk result (AsksOn B.Buckets settings.now version query.now files.now buckets.old buckets.new) }

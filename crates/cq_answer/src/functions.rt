@@ -1,4 +1,4 @@
-ghost use Rattle.std.specs.Prelude.{◌≡◌, ◌≤◌, ◌<◌, ◌==◌, length, IfOk, IfSome};
+ghost use Rattle.std.specs.Prelude.{◌≡◌, ◌<◌, ◌^◌, ◌==◌, length, IfOk, IfSome};
 ghost use Rattle.std.specs.List.{position};
 ghost use Rattle.cq_answer.specs.Parts.{IsWithin};
 ghost use Rattle.cq_answer.specs.Rows as spec;
@@ -35,7 +35,7 @@ fn position_of(functions: &[Function], complexity: u32) -> Option<usize>
 
 // The position of the first function of greatest complexity.
 fn worst_of(functions: &[Function]) -> Option<u32>
-    requires { length functions.now ≤ 262144 }
+    requires { length functions.now < 2 ^ 32 }
     ensures { result ≡ spec.worst_of functions.now }
 {
     match position_of(functions, greatest_complexity(functions)) {

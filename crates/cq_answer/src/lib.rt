@@ -1,5 +1,6 @@
-//! A query's reply on the files of one version, over any index of their windows. The reply is defined by the accepted
-//! changes up to the version and by the query alone; `answer` gives it from the files' works and reads no text. It asks
+//! A query's reply on the files of one version, over any index of their windows. The reply is defined on given files with
+//! their works, and where these are of a version, by the accepted changes up to it and by the query alone; `answer` reads
+//! no text. It asks
 //! the index once for each different key among the windows of what the query lists: of all files, or of the one file at
 //! its path; for a list of files, or for functions, it asks nothing. What is measured of chosen files is by the groups of
 //! the whole project. Tokens are read as `cq_groups` says; each row copies a path.
@@ -10,6 +11,7 @@ mod bounds;
 mod choosing;
 mod file;
 mod functions;
+mod laws;
 mod listing;
 mod measuring;
 mod part;
@@ -20,5 +22,6 @@ mod works;
 
 pub use answering::answer;
 pub use bounds::{paths_are_named, versions_are_bounded};
+pub use laws::reply_by_changes_is_on_its_files;
 pub use part::Part;
 pub use refusing::{cause_told, refused_as};

@@ -2,8 +2,15 @@
 use Rattle.std.proofs.Common.{◌≡◌, ◌≢◌, ◌⊎◌, ◌<◌, ◌||◌, ℕ, Bool, true, false, List, length, Option, Some, None, Result, Ok, Err, refl, sym, ap, ◌∙◌, subst, inl, inr, ⊎_elim, arith, length-append}
 use Rattle.std.proofs.lemmas.Bool.{eqb-true}
 use Rattle.std.specs.Io.KnownBytes.{Consumes}
+use Rattle.cq_base.specs.declared.settings.Settings.{Settings}
 use Rattle.cq_io.specs.Causes.{Rose, HasCause}
+use Rattle.cq_io.specs.declared.sink.Sink as sink
 use Rattle.cq_io.specs.declared.source.Failed.{Failed}
+use Rattle.cq_io.specs.declared.source.Source as source
+use Rattle.cq_tokask.specs.Asked.{AnswersLines}
+use Rattle.cq_tokask.specs.Kept.{Asks}
+use Rattle.cq_tokask.specs.declared.kept.Asked.{Asked}
+use Rattle.cq_tokask.specs.declared.kept.Asked.TheVariants as kept
 use Rattle.cq_drive.specs.Script.{IsScript}
 use Rattle.cq_beside.specs.Replies.{AreBeside}
 use Rattle.cq_lines.specs.Serving.{Serves, HasEndCause}
@@ -11,8 +18,11 @@ use Rattle.cq_lines.specs.declared.ending.End.{End}
 use Rattle.cq_lines.specs.declared.ending.End.TheVariants as end
 use Rattle.cq_outcome.specs.Outcomes.{line_of as outcome_line}
 use Rattle.cq_reply.specs.Written.{line_of as reply_line}
-use Rattle.cq_program.specs.Top.{status_of, end_of, AreAlone}
-use Rattle.cq_program.specs.Complete.{IsQuiet, HasFewer, SessionsComplete, SessionsBesideComplete, ScriptsComplete, MadeComplete, ListensComplete}
+use Rattle.cq_export.specs.Exports.{Exports}
+use Rattle.cq_export.specs.declared.exporting.Exported.{Exported}
+use Rattle.cq_export.specs.declared.exporting.Exported.TheVariants as exported
+use Rattle.cq_program.specs.Top.{status_of, status_of_asked, status_of_exported, end_of, AreAlone}
+use Rattle.cq_program.specs.Complete.{IsQuiet, HasFewer, SessionsComplete, SessionsBesideComplete, ScriptsComplete, MadeComplete, ListensComplete, AsksComplete, ExportsComplete}
 
 not_rose : (before now : ℕ) → IsQuiet before now → Rose before now → ⊥
 not_rose before now quiet (inl less) = omega (arith, less, quiet.0)
@@ -66,3 +76,40 @@ listens_complete address bound_now left left_now doors doors_now status listened
     ⊎_elim (λ zero. eqb-true status 0 zero)
     (λ more. ⊎_elim (λ four. absurd (other (eqb-true status 4 four))) (λ five. absurd (not_rose doors doors_now quiet (rose (eqb-true status 5 five)))) more)
     (either _ _ _ listened.0)
+
+-- what is left behind some bytes is fewer than they were with it
+fewer_of : (limit : ℕ) (bytes : List ℕ) (behind : Option (List ℕ)) (file : List ℕ) → Consumes (Some bytes) behind file → length bytes < limit → HasFewer limit behind
+fewer_of limit bytes None file none fewer = absurd none
+fewer_of limit bytes (Some left) file same fewer = (left, refl, omega (arith, ap length same, length-append file left, fewer))
+
+fewer_behind : (limit : ℕ) (rest behind : Option (List ℕ)) (file : List ℕ) → Consumes rest behind file → HasFewer limit rest → HasFewer limit behind
+fewer_behind limit rest behind file taken few = fewer_of limit few.0 behind file (subst (λ (r : Option (List ℕ)). Consumes r behind file) few.1 taken) few.2
+
+module _ (L : Type 0) {S K : Type 0} (from : source.Ghosts S) (onto : sink.Ghosts K) where
+  asked_by : (set : Settings) (read read_now : S) (written written_now : K) (by : Asked) → Asks L from onto set read read_now written written_now by → IsQuiet (from.faults read) (from.faults read_now) → IsQuiet (onto.faults written) (onto.faults written_now) → HasFewer set.byte_limit (from.rest read) → (status_of_asked by ≡ 0) ⊎ (status_of_asked by ≡ 8)
+  asked_by set read read_now written written_now kept.Refused asks quiet_read quiet_written few = inr refl
+  asked_by set read read_now written written_now (kept.Ended by) (inl first) quiet_read quiet_written few = absurd (not_rose (from.faults read) (from.faults read_now) quiet_read first.rose)
+  asked_by set read read_now written written_now (kept.Ended by) (inr (answered, cause)) quiet_read quiet_written few =
+      inl (done_by reply_line (AnswersLines answered.snapshot set) set.byte_limit answered.behind (from.rest read_now) (onto.written written) (onto.written written_now) (from.faults read) (from.faults read_now) (onto.faults written) (onto.faults written_now) by answered.serves cause quiet_read quiet_written
+      (fewer_behind set.byte_limit (from.rest read) answered.behind answered.file answered.taken few))
+
+  pub asks_complete : AsksComplete L from onto
+  asks_complete set read read_now written written_now status is quiet_read quiet_written few other =
+      let asked = is other in
+      ⊎_elim (λ zero. inl (asked.status_is ∙ zero)) (λ eight. inr (asked.status_is ∙ eight)) (asked_by set read read_now written written_now asked.by asked.asks quiet_read quiet_written few)
+
+  exported_by : (set : Settings) (project : List ℕ) (read read_now : S) (written written_now : K) (by : Exported) → Exports L from onto set project read read_now written written_now by → IsQuiet (from.faults read) (from.faults read_now) → IsQuiet (onto.faults written) (onto.faults written_now) → HasFewer set.byte_limit (from.rest read) → (status_of_exported by ≡ 0) ⊎ ((status_of_exported by ≡ 7) ⊎ (status_of_exported by ≡ 9))
+  exported_by set project read read_now written written_now exported.Refused exports quiet_read quiet_written few = inr (inl refl)
+  exported_by set project read read_now written written_now exported.TooLarge exports quiet_read quiet_written few = inr (inr refl)
+  exported_by set project read read_now written written_now (exported.Ended end.Finished) exports quiet_read quiet_written few = inl refl
+  exported_by set project read read_now written written_now (exported.Ended end.ReadFault) exports quiet_read quiet_written few = absurd (not_rose (from.faults read) (from.faults read_now) quiet_read exports.1)
+  exported_by set project read read_now written written_now (exported.Ended end.WriteFault) exports quiet_read quiet_written few = absurd (not_rose (onto.faults written) (onto.faults written_now) quiet_written exports.writes.4)
+  exported_by set project read read_now written written_now (exported.Ended end.Spent) exports quiet_read quiet_written few =
+      let most = exports.0.1 in
+      absurd (not_spent set.byte_limit (from.rest read) (from.rest read_now) most.0.got most.0.bytes most.1 few)
+
+  pub exports_complete : ExportsComplete L from onto
+  exports_complete asked read read_now written written_now status is quiet_read quiet_written few other =
+      let done = is other in
+      ⊎_elim (λ zero. inl (done.status_is ∙ zero)) (λ others. inr (⊎_elim (λ seven. inl (done.status_is ∙ seven)) (λ nine. inr (done.status_is ∙ nine)) others))
+      (exported_by asked.settings asked.project read read_now written written_now done.by done.exports quiet_read quiet_written few)

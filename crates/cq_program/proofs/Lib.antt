@@ -1,2 +1,4 @@
 pub mod Served
 pub mod Complete
+pub mod Kept
+mod Sent

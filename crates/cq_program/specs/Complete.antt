@@ -1,8 +1,11 @@
 -- What the clauses of the top call come to where nothing fails: a command is done, unless memory was refused.
-use Rattle.std.specs.Prelude.{◌≡◌, ◌≢◌, ◌<◌, ◌-◌, ◌^◌, ℕ, List, length, Option, Some}
+use Rattle.std.specs.Prelude.{◌≡◌, ◌≢◌, ◌⊎◌, ◌<◌, ◌-◌, ◌^◌, ℕ, List, length, Option, Some}
 use Rattle.cq_base.specs.declared.settings.Settings.{Settings}
 use Rattle.cq_io.specs.Causes.{Rose}
-use Rattle.cq_program.specs.Top.{IsSession, IsSessionBeside, IsDrive, IsMade, HasListened}
+use Rattle.cq_io.specs.declared.sink.Sink as sink
+use Rattle.cq_io.specs.declared.source.Source as source
+use Rattle.cq_words.specs.declared.command.Export.{Export}
+use Rattle.cq_program.specs.Top.{AsksFile, ExportsFile, IsSession, IsSessionBeside, IsDrive, IsMade, HasListened}
 
 -- the count of faults is as it was, and below the last value of a counter of 64 bits
 abbrev pub IsQuiet : ℕ → ℕ → Type 0
@@ -45,3 +48,18 @@ abbrev pub ListensComplete : Type 0
 ListensComplete = (address : List ℕ) (bound_now : Option (List ℕ)) (left left_now : Option ℕ) (doors doors_now status : ℕ) →
     HasListened address bound_now left left_now status → (status ≡ 5 → Rose doors doors_now) →
     IsQuiet doors doors_now → IsDone status
+
+module _ (L : Type 0) {S K : Type 0} (from : source.Ghosts S) (onto : sink.Ghosts K) where
+  -- a kept version is asked to the end, or the source begins with no token file
+  abbrev pub AsksComplete : Type 0
+  AsksComplete = (set : Settings) (read read_now : S) (written written_now : K) (status : ℕ) →
+      AsksFile L from onto set read read_now written written_now status →
+      IsQuiet (from.faults read) (from.faults read_now) → IsQuiet (onto.faults written) (onto.faults written_now) → HasFewer set.byte_limit (from.rest read) →
+      status ≢ 4 → (status ≡ 0) ⊎ (status ≡ 8)
+
+  -- a version is written, or a line is no change that is accepted, or the file would be too large
+  abbrev pub ExportsComplete : Type 0
+  ExportsComplete = (asked : Export) (read read_now : S) (written written_now : K) (status : ℕ) →
+      ExportsFile L from onto asked read read_now written written_now status →
+      IsQuiet (from.faults read) (from.faults read_now) → IsQuiet (onto.faults written) (onto.faults written_now) → HasFewer asked.settings.byte_limit (from.rest read) →
+      status ≢ 4 → (status ≡ 0) ⊎ ((status ≡ 7) ⊎ (status ≡ 9))

@@ -1,13 +1,19 @@
 -- What the top call does, by its status.
-use Rattle.std.specs.Prelude.{◌≡◌, ◌≢◌, ◌==◌, ◌||◌, ℕ, Bool, true, MatchBool, List, [], map, Option, Some, IfSome, Result, Ok, Err}
+use Rattle.std.specs.Prelude.{◌≡◌, ◌≢◌, ◌==◌, ◌||◌, ℕ, Bool, true, false, MatchBool, List, [], map, Option, Some, None, IfSome, Result, Ok, Err}
 use Rattle.cq_base.specs.declared.settings.Settings.{Settings}
 use Rattle.cq_beside.specs.Replies.{AreBeside}
 use Rattle.cq_drive.specs.Script.{IsScript}
+use Rattle.cq_export.specs.Exports.{Exports}
+use Rattle.cq_export.specs.declared.exporting.Exported.{Exported}
+use Rattle.cq_export.specs.declared.exporting.Exported.TheVariants as exported
 use Rattle.cq_history.specs.declared.event.Event.{Event}
 use Rattle.cq_io.specs.Causes.{HasCause}
 use Rattle.cq_io.specs.declared.sink.Sink as sink
 use Rattle.cq_io.specs.declared.source.Failed.{Failed}
 use Rattle.cq_io.specs.declared.source.Source as source
+use Rattle.cq_tokask.specs.Kept.{Asks}
+use Rattle.cq_tokask.specs.declared.kept.Asked.{Asked}
+use Rattle.cq_tokask.specs.declared.kept.Asked.TheVariants as kept
 use Rattle.cq_lines.specs.Serving.{Serves, HasEndCause}
 use Rattle.cq_lines.specs.declared.ending.End.{End}
 use Rattle.cq_lines.specs.declared.ending.End.TheVariants as end
@@ -21,7 +27,9 @@ use Rattle.cq_talk.specs.Alone.{IsAloneUpToMemory, no_walk}
 use Rattle.cq_talk.specs.Beside.{IsBeside, nothing_known}
 use Rattle.cq_talk.specs.Said.{said}
 use Rattle.cq_words.specs.Command.{command_of, default_settings}
+use Rattle.cq_words.specs.declared.command.Command.{Command}
 use Rattle.cq_words.specs.declared.command.Command.TheVariants as command
+use Rattle.cq_words.specs.declared.command.Export.{Export}
 use Rattle.cq_words.specs.declared.command.Listen.{Listen}
 use Rattle.cq_words.specs.declared.command.Make.{Make}
 use Rattle.cq_words.specs.declared.command.Run.{Run}
@@ -32,6 +40,41 @@ status_of end.Finished = 0
 status_of end.ReadFault = 2
 status_of end.WriteFault = 3
 status_of end.Spent = 6
+
+-- the status of the asking of a kept version: 8 where the input doesn't begin with a token file of the settings
+abbrev pub status_of_asked : Asked → ℕ
+status_of_asked kept.Refused = 8
+status_of_asked (kept.Ended by) = status_of by
+
+-- the status of the writing of a version: 7 where a line is no change that is accepted, 9 where the file would be too large
+abbrev pub status_of_exported : Exported → ℕ
+status_of_exported exported.Refused = 7
+status_of_exported exported.TooLarge = 9
+status_of_exported (exported.Ended by) = status_of by
+
+-- the words ask for a kept version
+abbrev pub is_ask : Option Command → Bool
+is_ask None = false
+is_ask (Some (command.Run run)) = false
+is_ask (Some (command.Listen listen)) = false
+is_ask (Some (command.Drive settings)) = false
+is_ask (Some (command.Make make)) = false
+is_ask (Some (command.Export export)) = false
+is_ask (Some (command.Ask settings)) = true
+
+-- or that one is written
+abbrev pub is_export : Option Command → Bool
+is_export None = false
+is_export (Some (command.Run run)) = false
+is_export (Some (command.Listen listen)) = false
+is_export (Some (command.Drive settings)) = false
+is_export (Some (command.Make make)) = false
+is_export (Some (command.Export export)) = true
+is_export (Some (command.Ask settings)) = false
+
+-- memory may be refused behind bytes that were taken
+abbrev pub takes_first : Option Command → Bool
+takes_first asked = is_ask asked || is_export asked
 
 -- how the writing of one line ends a run
 abbrev pub end_of : {E : Type 0} → Result (Unit {0}) E → End
@@ -117,6 +160,36 @@ module _ {K : Type 0} (onto : sink.Ghosts K) where
   -- where the words ask for it
   abbrev pub MakesFor : List (List ℕ) → K → K → ℕ → Type 0
   MakesFor words written written_now status = (asked : Make) → command_of words ≡ Some (command.Make asked) → MakesLine asked written written_now status
+
+module _ (L : Type 0) {S K : Type 0} (from : source.Ghosts S) (onto : sink.Ghosts K) where
+  -- the version of the token file that the source begins with is asked by all lines behind it, and how that ended gives
+  -- the status
+  pub record IsAsk (settings : Settings) (read read_now : S) (written written_now : K) (status : ℕ) : Type 0 where
+    pub by : Asked
+    pub status_is : status ≡ status_of_asked by
+    pub asks : Asks L from onto settings read read_now written written_now by
+
+  -- each status but 4 is that of one
+  abbrev pub AsksFile : Settings → S → S → K → K → ℕ → Type 0
+  AsksFile settings read read_now written written_now status = status ≢ 4 → IsAsk settings read read_now written written_now status
+
+  -- where the words ask for one
+  abbrev pub AsksFor : List (List ℕ) → S → S → K → K → ℕ → Type 0
+  AsksFor words read read_now written written_now status = (settings : Settings) → command_of words ≡ Some (command.Ask settings) → AsksFile settings read read_now written written_now status
+
+  -- the changes that the lines say were taken, and the file of their version written, and how that ended gives the status
+  pub record IsExport (asked : Export) (read read_now : S) (written written_now : K) (status : ℕ) : Type 0 where
+    pub by : Exported
+    pub status_is : status ≡ status_of_exported by
+    pub exports : Exports L from onto asked.settings asked.project read read_now written written_now by
+
+  -- each status but 4 is that of one
+  abbrev pub ExportsFile : Export → S → S → K → K → ℕ → Type 0
+  ExportsFile asked read read_now written written_now status = status ≢ 4 → IsExport asked read read_now written written_now status
+
+  -- where the words ask for it
+  abbrev pub ExportsFor : List (List ℕ) → S → S → K → K → ℕ → Type 0
+  ExportsFor words read read_now written written_now status = (asked : Export) → command_of words ≡ Some (command.Export asked) → ExportsFile asked read read_now written written_now status
 
 -- ---- connections
 

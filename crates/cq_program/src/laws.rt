@@ -1,4 +1,7 @@
-ghost use Rattle.cq_program.specs.Complete.{ListensComplete, MadeComplete, ScriptsComplete, SessionsBesideComplete, SessionsComplete};
+ghost use Rattle.cq_program.specs.Complete.{AsksComplete, ExportsComplete, ListensComplete, MadeComplete, ScriptsComplete, SessionsBesideComplete, SessionsComplete};
+
+use cq_io::{Sink, Source};
+use std::sync::ledger::Ledger;
 
 /// Where no count of faults rose, and fewer bytes came than may be read, whatever meets the clauses of `top` ends with 0, or
 /// with 4 for want of memory.
@@ -8,4 +11,17 @@ pub fn a_command_that_nothing_fails_is_done()
     ensures scripts { ScriptsComplete }
     ensures made { MadeComplete }
     ensures listens { ListensComplete }
+{}
+
+/// Where no count of faults rose, and fewer bytes came than may be read, what meets the clause of `top` on `ask` ends with 0,
+/// with 8 where they begin with no token file, or with 4 for want of memory.
+pub fn a_kept_version_that_nothing_fails_is_asked<S: Source, K: Sink, L: Ledger>()
+    ensures { AsksComplete L S.Source K.Sink }
+{}
+
+/// Where no count of faults rose, and fewer bytes came than may be read, what meets the clause of `top` on `export` ends with
+/// 0, with 7 where a line is no change that is accepted, with 9 where the file would be too large, or with 4 for want of
+/// memory.
+pub fn a_version_that_nothing_fails_is_written<S: Source, K: Sink, L: Ledger>()
+    ensures { ExportsComplete L S.Source K.Sink }
 {}

@@ -8,5 +8,8 @@ mod program;
 mod status;
 mod workers;
 
-pub use laws::a_command_that_nothing_fails_is_done;
+pub use laws::{
+    a_command_that_nothing_fails_is_done, a_kept_version_that_nothing_fails_is_asked,
+    a_version_that_nothing_fails_is_written,
+};
 pub use program::top;

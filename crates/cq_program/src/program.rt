@@ -1,17 +1,19 @@
-ghost use Rattle.std.specs.Prelude.{◌≡◌, ◌≢◌, ◌↔◌, ◌≤◌, None, Some};
+ghost use Rattle.std.specs.Prelude.{◌≡◌, ◌≢◌, ◌↔◌, ◌≤◌, true, false, None, Some};
 ghost use Rattle.cq_base.specs.Settings.{IsInRange};
 ghost use Rattle.cq_io.specs.Causes.{Rose};
-ghost use Rattle.cq_program.specs.Top.{Drives, DrivesFor, ListensFor, MakesFor, MakesLine, Runs, RunsAsked, RunsFor};
+ghost use Rattle.cq_program.specs.Top.{AsksFile, AsksFor, Drives, DrivesFor, ExportsFile, ExportsFor, ListensFor, MakesFor, MakesLine, Runs, RunsAsked, RunsFor, is_ask, is_export, takes_first};
+ghost use Rattle.cq_names.specs.Names.{is_project};
 ghost use Rattle.cq_words.specs.Command.{command_of, connections_of};
 ghost use Rattle.cq_words.specs.declared.command.Command.TheVariants as command;
 ghost use Rattle.cq_words.specs.declared.command.Listen.{Listen};
 ghost use Rattle.cq_words.specs.declared.command.Make.{Make};
 
 use crate::clients::listen;
-use crate::status::status_of;
+use crate::status::{status_of, status_of_asked, status_of_exported};
 use crate::workers::serve_with_workers;
 use cq_base::{Memory, Settings, Steps, Text};
 use cq_drive::drive;
+use cq_export::export;
 use cq_hub::{Solo, SoloPass};
 use cq_io::{Doors, Failed, Gate, Sink, Source};
 use cq_key::{Keyer, plain_key};
@@ -19,7 +21,8 @@ use cq_lines::{End, Lines};
 use cq_make::make;
 use cq_session::session;
 use cq_talk::{talks_alone, talks_beside};
-use cq_words::{Command, Make, Run, default_settings, is_command, read_command};
+use cq_tokask::ask;
+use cq_words::{Command, Export, Make, Run, default_settings, is_command, read_command};
 use cq_work::Work;
 use std::alloc::Global;
 use std::sync::Wait;
@@ -37,7 +40,7 @@ fn serve<R: Threads + Sync, S: Source, K: Sink, G: Gate, L: Ledger>(
     steps: &mut Steps<L>,
 ) -> u8
     requires in_range { IsInRange settings.now }
-    ensures others { (result ≢ 1) × (result ≢ 5) }
+    ensures others { (result ≢ 1) × (result ≢ 5) × (result ≤ 6) }
     ensures memory { result ≡ 4 → (source.new ≡ source.old) × (sink.new ≡ sink.old) }
     ensures read_fault { result ≡ 2 → Rose (S.faults source.old) (S.faults source.new) }
     ensures write_fault { result ≡ 3 → Rose (K.faults sink.old) (K.faults sink.new) }
@@ -81,7 +84,7 @@ fn run_with<Q: Threads + Wait + Sync, S: Source, K: Sink, G: Gate + Sync, L: Led
 ) -> u8
     requires in_range { IsInRange asked.settings }
     requires few { asked.workers ≤ 64 }
-    ensures others { (result ≢ 1) × (result ≢ 5) }
+    ensures others { (result ≢ 1) × (result ≢ 5) × (result ≤ 6) }
     ensures memory { result ≡ 4 → (source.new ≡ source.old) × (sink.new ≡ sink.old) }
     ensures read_fault { result ≡ 2 → Rose (S.faults source.old) (S.faults source.new) }
     ensures write_fault { result ≡ 3 → Rose (K.faults sink.old) (K.faults sink.new) }
@@ -109,7 +112,7 @@ fn driven<R: Threads + Sync, S: Source, K: Sink, L: Ledger>(
     steps: &mut Steps<L>,
 ) -> u8
     requires in_range { IsInRange settings.now }
-    ensures others { (result ≢ 1) × (result ≢ 5) }
+    ensures others { (result ≢ 1) × (result ≢ 5) × (result ≤ 6) }
     ensures memory { result ≡ 4 → (source.new ≡ source.old) × (sink.new ≡ sink.old) }
     ensures read_fault { result ≡ 2 → Rose (S.faults source.old) (S.faults source.new) }
     ensures write_fault { result ≡ 3 → Rose (K.faults sink.old) (K.faults sink.new) }
@@ -142,7 +145,7 @@ fn made<R: Threads + Sync, K: Sink, L: Ledger>(
     steps: &mut Steps<L>,
 ) -> u8
     requires few { asked.files ≤ 10000 }
-    ensures others { (result ≢ 1) × (result ≢ 5) }
+    ensures others { (result ≢ 1) × (result ≢ 5) × (result ≤ 6) }
     ensures read_fault { result ≢ 2 }
     ensures spent { result ≢ 6 }
     ensures memory { result ≡ 4 → sink.new ≡ sink.old }
@@ -165,11 +168,85 @@ fn made<R: Threads + Sync, K: Sink, L: Ledger>(
     }
 }
 
+// A kept version, which the source begins with, asked by the lines behind it, and the status.
+fn kept<R: Threads + Sync, S: Source, K: Sink, L: Ledger>(
+    rt: &R,
+    alloc: Global,
+    settings: &Settings,
+    source: &mut S,
+    sink: &mut K,
+    steps: &mut Steps<L>,
+) -> u8
+    requires in_range { IsInRange settings.now }
+    ensures others { (result ≢ 1) × (result ≢ 5) × (result ≢ 7) × (result ≢ 9) }
+    ensures memory { result ≡ 4 → sink.new ≡ sink.old }
+    ensures no_file { result ≡ 8 → (S.faults source.new ≡ S.faults source.old) × (sink.new ≡ sink.old) }
+    ensures read_fault { result ≡ 2 → Rose (S.faults source.old) (S.faults source.new) }
+    ensures write_fault { result ≡ 3 → Rose (K.faults sink.old) (K.faults sink.new) }
+    ensures finished { result ≡ 0 → (S.faults source.new ≡ S.faults source.old)
+        × (K.faults sink.new ≡ K.faults sink.old) }
+    ensures spent { result ≡ 6 → (S.faults source.new ≡ S.faults source.old)
+        × (K.faults sink.new ≡ K.faults sink.old) }
+    ensures asks { AsksFile L S.Source K.Sink settings.now source.old source.new sink.old sink.new result }
+{
+    let of = *settings;
+    let Ok(key) = Box::new(alloc, move |codes: &[u64]| plain_key(&of, codes)) else {
+        return 4;
+    };
+    let keyer = Keyer::new(settings, key);
+    match ask(rt, alloc, settings, &keyer, source, sink, steps) {
+        Ok(asked) => status_of_asked(asked),
+        Err(Memory) => 4,
+    }
+}
+
+// The version of a project that the changes of the source make, written as its token file, and the status.
+fn exported<S: Source, K: Sink, L: Ledger>(
+    alloc: Global,
+    asked: &Export,
+    source: &mut S,
+    sink: &mut K,
+    steps: &mut Steps<L>,
+) -> u8
+    requires in_range { IsInRange asked.now.settings }
+    requires project { is_project asked.now.project ≡ true }
+    ensures others { (result ≢ 1) × (result ≢ 5) × (result ≢ 8) }
+    ensures memory { result ≡ 4 → sink.new ≡ sink.old }
+    ensures refused { result ≡ 7 → (S.faults source.new ≡ S.faults source.old) × (sink.new ≡ sink.old) }
+    ensures too_large { result ≡ 9 → (S.faults source.new ≡ S.faults source.old) × (sink.new ≡ sink.old) }
+    ensures read_fault { result ≡ 2 → Rose (S.faults source.old) (S.faults source.new) }
+    ensures write_fault { result ≡ 3 → Rose (K.faults sink.old) (K.faults sink.new) }
+    ensures finished { result ≡ 0 → (S.faults source.new ≡ S.faults source.old)
+        × (K.faults sink.new ≡ K.faults sink.old) }
+    ensures spent { result ≡ 6 → (S.faults source.new ≡ S.faults source.old)
+        × (K.faults sink.new ≡ K.faults sink.old) }
+    ensures exports { ExportsFile L S.Source K.Sink asked.now source.old source.new sink.old sink.new result }
+{
+    let of = asked.settings;
+    let Ok(key) = Box::new(alloc, move |codes: &[u64]| plain_key(&of, codes)) else {
+        return 4;
+    };
+    let keyer = Keyer::new(&asked.settings, key);
+    match export(
+        alloc,
+        &asked.settings,
+        &keyer,
+        &asked.project,
+        source,
+        sink,
+        steps,
+    ) {
+        Ok(ended) => status_of_exported(ended),
+        Err(Memory) => 4,
+    }
+}
+
 /// The whole program: what the words ask for, over these ends. Its answer is the status with which the process is to
 /// end. `run` answers the lines of the source into the sink; `listen` the lines of each connection into it; `drive` steps a
-/// core by the lines of the source, and writes their outcomes; `make` writes one line. Threads are started for the workers of
-/// `run` and `listen` and for the sessions of `listen` alone, and each is joined before this returns; the gate is then called
-/// from them too. The reads of the sessions of `listen` are counted on a ledger of their own.
+/// core by the lines of the source, and writes their outcomes; `make` writes one line; `export` writes the token file of the
+/// version that the changes of the source make; `ask` answers the lines behind the token file that the source begins with. Threads are started for the workers of `run` and `listen` and for the sessions of
+/// `listen` alone, and each is joined before this returns; the gate is then called from them too. The reads of the sessions of
+/// `listen` are counted on a ledger of their own.
 pub fn top<
     Q: Threads + Wait + Sync,
     S: Source,
@@ -194,8 +271,10 @@ pub fn top<
     ensures refused { result ≡ 1 → (source.new ≡ source.old) × (sink.new ≡ sink.old)
         × (doors.new ≡ doors.old) }
 
-    // 4 for want of memory before a line is read or a connection is taken.
-    ensures memory { result ≡ 4 → (source.new ≡ source.old) × (sink.new ≡ sink.old) }
+    // 4 for want of memory before a byte is written, and before a line is read or a connection is taken. `ask` may have taken
+    // bytes of the file then, and `export` bytes of the lines.
+    ensures memory { result ≡ 4 → sink.new ≡ sink.old }
+    ensures untaken { result ≡ 4 → takes_first (command_of words.now) ≡ false → source.new ≡ source.old }
     ensures unasked { result ≡ 4 → (D.faults doors.new ≡ D.faults doors.old)
         × (D.left doors.new ≡ D.left doors.old) }
 
@@ -207,6 +286,16 @@ pub fn top<
         × (K.faults sink.new ≡ K.faults sink.old) × (D.faults doors.new ≡ D.faults doors.old) }
     ensures spent { result ≡ 6 → (S.faults source.new ≡ S.faults source.old)
         × (K.faults sink.new ≡ K.faults sink.old) × (D.faults doors.new ≡ D.faults doors.old) }
+
+    // 8 for `ask` alone, and nothing is written then, and no fault rose.
+    ensures no_file { result ≡ 8 → (is_ask (command_of words.now) ≡ true) × (S.faults source.new ≡ S.faults source.old)
+        × (sink.new ≡ sink.old) × (D.faults doors.new ≡ D.faults doors.old) }
+
+    // 7 and 9 for `export` alone, and nothing is written then, and no fault rose.
+    ensures no_changes { result ≡ 7 → (is_export (command_of words.now) ≡ true) × (S.faults source.new ≡ S.faults source.old)
+        × (sink.new ≡ sink.old) × (D.faults doors.new ≡ D.faults doors.old) }
+    ensures too_large { result ≡ 9 → (is_export (command_of words.now) ≡ true) × (S.faults source.new ≡ S.faults source.old)
+        × (sink.new ≡ sink.old) × (D.faults doors.new ≡ D.faults doors.old) }
 
     // The doors are for `listen` alone, and the source and the sink are for the others. With 0 the doors of `listen` are bound
     // to the address, and no connection is still to come, where they tell it.
@@ -223,6 +312,12 @@ pub fn top<
     // Every status of `drive` but 4 is that of a script of all lines of the source.
     ensures drives { DrivesFor S.Source K.Sink words.now source.old source.new sink.old sink.new result }
 
+    // Every status of `ask` but 4 is that of a kept version, asked by all lines of the source behind its file.
+    ensures asks { AsksFor L S.Source K.Sink words.now source.old source.new sink.old sink.new result }
+
+    // Every status of `export` but 4 is that of writing the version of the changes that all lines of the source say.
+    ensures exports { ExportsFor L S.Source K.Sink words.now source.old source.new sink.old sink.new result }
+
     // Every status of `make` but 4 is that of sending the line of the project, and nothing is read.
     ensures makes { MakesFor K.Sink words.now sink.old sink.new result }
     ensures unread { (asked : Make) → command_of words.now ≡ Some (command.Make asked)
@@ -236,6 +331,8 @@ pub fn top<
         Ok(Some(Command::Listen(asked))) => listen(rt, alloc, asked, doors, gate),
         Ok(Some(Command::Drive(settings))) => driven(rt, alloc, &settings, source, sink, steps),
         Ok(Some(Command::Make(asked))) => made(rt, alloc, asked, sink, steps),
+        Ok(Some(Command::Export(asked))) => exported(alloc, &asked, source, sink, steps),
+        Ok(Some(Command::Ask(settings))) => kept(rt, alloc, &settings, source, sink, steps),
         Ok(None) => unreachable!(),
         Err(Memory) => 4,
     }

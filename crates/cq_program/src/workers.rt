@@ -37,7 +37,7 @@ pub(crate) fn serve_with_workers<
 ) -> u8
     requires in_range { IsInRange settings.now }
     requires few { workers ≤ 64 }
-    ensures others { (result ≢ 1) × (result ≢ 5) }
+    ensures others { (result ≢ 1) × (result ≢ 5) × (result ≤ 6) }
     ensures memory { result ≡ 4 → (source.new ≡ source.old) × (sink.new ≡ sink.old) }
     ensures read_fault { result ≡ 2 → Rose (S.faults source.old) (S.faults source.new) }
     ensures write_fault { result ≡ 3 → Rose (K.faults sink.old) (K.faults sink.new) }

@@ -1,7 +1,3 @@
-mod Fields
-mod Records
-mod Counted
-mod Appended
-mod FileForms
-mod Framed
-mod Heads
+pub mod Decoded
+pub mod Written
+pub mod Indexing

@@ -1,4 +1,2 @@
-pub mod Spelling
-pub mod Sound
-pub mod Reading
-pub mod Laws
+pub mod Snapshot
+pub mod Loaded

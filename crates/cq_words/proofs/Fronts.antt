@@ -11,8 +11,8 @@ use Rattle.cq_words.specs.Front.{are_places_given, is_plain, read_in, IsFront, I
 use Rattle.cq_words.specs.declared.form.Left.{Left}
 use Rattle.cq_words.specs.declared.form.Front.{Front}
 use Rattle.cq_base.specs.declared.settings.Settings.{Settings}
-use Rattle.cq_words.specs.Command.{settings_made, run_made, listen_made, make_made, settings_from, command_from, command_after}
-use Rattle.cq_words.specs.Table.{row_of, options_of, param_name, range_of, number_or, number_from, address_or, address_from, has_flag}
+use Rattle.cq_words.specs.Command.{settings_made, run_made, listen_made, make_made, export_made, settings_from, command_from, command_after}
+use Rattle.cq_words.specs.Table.{row_of, options_of, param_name, range_of, number_or, number_from, text_or, text_from, has_flag}
 use Rattle.cq_words.specs.declared.command.Command.{Command}
 use Rattle.cq_words.specs.declared.command.Command.TheVariants as command
 use Rattle.cq_words.specs.declared.table.Verb.{Verb}
@@ -137,6 +137,9 @@ no_last true true true true false f = refl
 no_last true true true true true true = refl
 no_last true true true true true false = refl
 
+with_text : (a b c d e f place : Bool) → ((a && (b && (c && (d && (e && f))))) && place) ≡ ((a && (b && (c && (d && (e && (f && true)))))) && place)
+with_text a b c d e f place = ap (λ (g : Bool). (a && (b && (c && (d && (e && g))))) && place) (sym (and_all f))
+
 place_last : (place w s k : Bool) → (place && (w && (s && k))) ≡ ((w && (s && (k && true))) && place)
 place_last true false s k = refl
 place_last true true false k = refl
@@ -171,22 +174,28 @@ listen_some : (settings : Option Settings) (address : Option Word) (workers sess
 listen_some settings address workers sessions connections =
     and_then_some _ settings _ (λ a. and_then_some _ address _ (λ b. and_then_some _ workers _ (λ c. and_then_some _ sessions _ (λ d. map_some _ connections))))
 
--- a command's numbers and its address are there just where the command is
+-- a command's numbers and its text are there just where the command is
 pub all_there : (v : Verb) (items : List Item) → (list_all (is_there items) (options_of v) && are_places_given v items) ≡ is_some (command_from v items)
 all_there verb.Run items = sym (map_some command.Run (run_made (settings_from items) (number_from param.Workers items))
     ∙ and_then_some _ (settings_from items) _ (λ s. map_some _ (number_from param.Workers items))
     ∙ ap (λ b. b && is_there items param.Workers) (settings_there items)
     ∙ last_one (is_there items param.Chunk) (is_there items param.Shards) (is_there items param.KeyBits) (is_there items param.ChangeLimit) (is_there items param.TextLimit) (is_there items param.ByteLimit) (is_there items param.Workers))
-all_there verb.Listen items = sym (map_some command.Listen (listen_made (settings_from items) (address_from items) (number_from param.ListenWorkers items) (number_from param.Sessions items) (number_from param.Connections items))
-    ∙ listen_some (settings_from items) (address_from items) (number_from param.ListenWorkers items) (number_from param.Sessions items) (number_from param.Connections items)
-    ∙ ap (λ b. b && (is_some (address_from items) && (is_there items param.ListenWorkers && (is_there items param.Sessions && is_there items param.Connections)))) (settings_there items)
+all_there verb.Listen items = sym (map_some command.Listen (listen_made (settings_from items) (text_from param.Address items) (number_from param.ListenWorkers items) (number_from param.Sessions items) (number_from param.Connections items))
+    ∙ listen_some (settings_from items) (text_from param.Address items) (number_from param.ListenWorkers items) (number_from param.Sessions items) (number_from param.Connections items)
+    ∙ ap (λ b. b && (is_some (text_from param.Address items) && (is_there items param.ListenWorkers && (is_there items param.Sessions && is_there items param.Connections)))) (settings_there items)
     ∙ last_three (is_there items param.Chunk) (is_there items param.Shards) (is_there items param.KeyBits) (is_there items param.ChangeLimit) (is_there items param.TextLimit) (is_there items param.ByteLimit)
-    (is_some (address_from items)) (is_there items param.ListenWorkers) (is_there items param.Sessions) (is_there items param.Connections))
+    (is_some (text_from param.Address items)) (is_there items param.ListenWorkers) (is_there items param.Sessions) (is_there items param.Connections))
 all_there verb.Drive items = sym (map_some command.Drive (settings_from items) ∙ settings_there items
     ∙ no_last (is_there items param.Chunk) (is_there items param.Shards) (is_there items param.KeyBits) (is_there items param.ChangeLimit) (is_there items param.TextLimit) (is_there items param.ByteLimit))
 all_there verb.Make items = sym (map_some command.Make (make_made (number_from param.Number items) (number_from param.Files items))
     ∙ and_then_some _ (number_from param.Number items) _ (λ n. map_some _ (number_from param.Files items))
     ∙ ap (λ b. is_there items param.Number && b) (sym (and_all (is_there items param.Files))))
+all_there verb.Export items = sym (map_some command.Export (export_made (settings_from items) (text_from param.Project items))
+    ∙ and_then_some _ (settings_from items) _ (λ s. map_some _ (text_from param.Project items))
+    ∙ ap (λ b. b && is_some (text_from param.Project items)) (settings_there items)
+    ∙ with_text (is_there items param.Chunk) (is_there items param.Shards) (is_there items param.KeyBits) (is_there items param.ChangeLimit) (is_there items param.TextLimit) (is_there items param.ByteLimit) (is_some (text_from param.Project items)))
+all_there verb.Ask items = sym (map_some command.Ask (settings_from items) ∙ settings_there items
+    ∙ no_last (is_there items param.Chunk) (is_there items param.Shards) (is_there items param.KeyBits) (is_there items param.ChangeLimit) (is_there items param.TextLimit) (is_there items param.ByteLimit))
 
 -- a positional's value is there only where its item is
 item_missing : (name : Word) (items : List Item) → has_item items name ≡ false → item_of name items ≡ None
@@ -199,6 +208,7 @@ item_missing name (item ∷ items) none =
 placed : (v : Verb) (items : List Item) → cond (list_all (has_item items) (row_of v).positionals) (command_from v items) None ≡ command_from v items
 placed verb.Run items = refl
 placed verb.Drive items = refl
+placed verb.Ask items = refl
 placed verb.Listen items = there (has_item items (param_name param.Address)) refl
   where
     from_parts : Option Settings → Option Word → Option Command
@@ -210,7 +220,19 @@ placed verb.Listen items = there (has_item items (param_name param.Address)) ref
 
     there : (a : Bool) → has_item items (param_name param.Address) ≡ a → cond (a && true) (command_from verb.Listen items) None ≡ command_from verb.Listen items
     there true address = refl
-    there false address = sym (ap (λ x. from_parts (settings_from items) (address_or x)) (item_missing (param_name param.Address) items address) ∙ no_address (settings_from items))
+    there false address = sym (ap (λ x. from_parts (settings_from items) (text_or param.Address x)) (item_missing (param_name param.Address) items address) ∙ no_address (settings_from items))
+placed verb.Export items = there (has_item items (param_name param.Project)) refl
+  where
+    from_parts : Option Settings → Option Word → Option Command
+    from_parts settings project = option_map command.Export (export_made settings project)
+
+    no_project : (settings : Option Settings) → from_parts settings None ≡ None
+    no_project None = refl
+    no_project (Some s) = refl
+
+    there : (a : Bool) → has_item items (param_name param.Project) ≡ a → cond (a && true) (command_from verb.Export items) None ≡ command_from verb.Export items
+    there true project = refl
+    there false project = sym (ap (λ x. from_parts (settings_from items) (text_or param.Project x)) (item_missing (param_name param.Project) items project) ∙ no_project (settings_from items))
 placed verb.Make items = first (has_item items (param_name param.Number)) (has_item items (param_name param.Files)) refl refl
   where
     both : Option ℕ → Option ℕ → Option Command

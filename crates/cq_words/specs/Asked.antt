@@ -12,8 +12,8 @@ use Rattle.clap.specs.declared.builder.action.ArgAction.TheVariants.{SetTrue}
 use Rattle.cq_base.specs.declared.settings.Settings.{Settings}
 use Rattle.cq_words.specs.Grammar.{Word}
 use Rattle.cq_words.specs.Numbers.{number_within}
-use Rattle.cq_words.specs.Table.{verb_name, options_of, flags_of, positionals_of, param_name, flag_name, range_of, text_within}
-use Rattle.cq_words.specs.Command.{settings_made, run_made, listen_made, make_made}
+use Rattle.cq_words.specs.Table.{verb_name, options_of, flags_of, positionals_of, param_name, flag_name, range_of, text_taken}
+use Rattle.cq_words.specs.Command.{settings_made, run_made, listen_made, make_made, export_made}
 use Rattle.cq_words.specs.declared.table.Verb.{Verb}
 use Rattle.cq_words.specs.declared.table.Verb.TheVariants as verb
 use Rattle.cq_words.specs.declared.table.Param.{Param}
@@ -90,8 +90,8 @@ text_is_true (Some text) = bytes_eq text (codes "true")
 abbrev pub number_read : Param → List Entry → Option ℕ
 number_read p entries = text_number (range_of p) (first_of (param_name p) entries)
 
-abbrev pub address_read : List Entry → Option Word
-address_read entries = option_and_then (text_within (range_of param.Address).low (range_of param.Address).high) (first_of (param_name param.Address) entries)
+abbrev pub text_read : Param → List Entry → Option Word
+text_read p entries = option_and_then (text_taken p) (first_of (param_name p) entries)
 
 abbrev pub flag_read : Flag → List Entry → Bool
 flag_read f entries = text_is_true (first_of (flag_name f) entries)
@@ -111,9 +111,11 @@ abbrev pub command_read : Verb → List Entry → Option Command
 command_read verb.Run entries = option_map command.Run (run_made (settings_read entries) (number_read param.Workers entries))
 command_read verb.Listen entries = option_map command.Listen (listen_made
     (settings_read entries)
-    (address_read entries)
+    (text_read param.Address entries)
     (number_read param.ListenWorkers entries)
     (number_read param.Sessions entries)
     (number_read param.Connections entries))
 command_read verb.Drive entries = option_map command.Drive (settings_read entries)
 command_read verb.Make entries = option_map command.Make (make_made (number_read param.Number entries) (number_read param.Files entries))
+command_read verb.Export entries = option_map command.Export (export_made (settings_read entries) (text_read param.Project entries))
+command_read verb.Ask entries = option_map command.Ask (settings_read entries)

@@ -1,9 +1,10 @@
 -- What the words of the command line ask for.
-use Rattle.std.specs.Prelude.{ℕ, ◌≤◌, Bool, false, List, [], ◌∷◌, Option, Some, None, option_and_then, option_map}
+use Rattle.std.specs.Prelude.{◌≡◌, ℕ, ◌≤◌, Bool, true, false, List, [], ◌∷◌, Option, Some, None, option_and_then, option_map}
 use Rattle.cq_base.specs.Settings.{IsInRange}
 use Rattle.cq_base.specs.declared.settings.Settings.{Settings}
+use Rattle.cq_names.specs.Names.{is_project}
 use Rattle.cq_words.specs.Grammar.{Word, Item, items_of}
-use Rattle.cq_words.specs.Table.{row_of, verb_named, number_from, address_from, has_flag, default_of}
+use Rattle.cq_words.specs.Table.{row_of, verb_named, number_from, text_from, has_flag, default_of}
 use Rattle.cq_words.specs.declared.table.Verb.{Verb}
 use Rattle.cq_words.specs.declared.table.Verb.TheVariants as verb
 use Rattle.cq_words.specs.declared.table.Param.TheVariants as param
@@ -11,6 +12,7 @@ use Rattle.cq_words.specs.declared.table.Flag.TheVariants as flag
 use Rattle.cq_words.specs.declared.command.Run.{Run}
 use Rattle.cq_words.specs.declared.command.Listen.{Listen}
 use Rattle.cq_words.specs.declared.command.Make.{Make}
+use Rattle.cq_words.specs.declared.command.Export.{Export}
 use Rattle.cq_words.specs.declared.command.Command.{Command}
 use Rattle.cq_words.specs.declared.command.Command.TheVariants as command
 
@@ -46,6 +48,9 @@ listen_made settings address workers sessions connections =
 abbrev pub make_made : Option ℕ → Option ℕ → Option Make
 make_made number files = option_and_then (λ number. option_map (λ files. record { number = number; files = files }) files) number
 
+abbrev pub export_made : Option Settings → Option Word → Option Export
+export_made settings project = option_and_then (λ settings. option_map (λ project. record { settings = settings; project = project }) project) settings
+
 abbrev pub settings_from : List Item → Option Settings
 settings_from items = settings_made
     (number_from param.Chunk items)
@@ -75,12 +80,14 @@ abbrev pub command_from : Verb → List Item → Option Command
 command_from verb.Run items = option_map command.Run (run_made (settings_from items) (number_from param.Workers items))
 command_from verb.Listen items = option_map command.Listen (listen_made
     (settings_from items)
-    (address_from items)
+    (text_from param.Address items)
     (number_from param.ListenWorkers items)
     (number_from param.Sessions items)
     (number_from param.Connections items))
 command_from verb.Drive items = option_map command.Drive (settings_from items)
 command_from verb.Make items = option_map command.Make (make_made (number_from param.Number items) (number_from param.Files items))
+command_from verb.Export items = option_map command.Export (export_made (settings_from items) (text_from param.Project items))
+command_from verb.Ask items = option_map command.Ask (settings_from items)
 
 -- what the words behind a command's name give
 abbrev pub command_after : Verb → List Word → Option Command
@@ -97,13 +104,18 @@ connections_in (command.Run run) = None
 connections_in (command.Listen listen) = Some listen.connections
 connections_in (command.Drive settings) = None
 connections_in (command.Make make) = None
+connections_in (command.Export export) = None
+connections_in (command.Ask settings) = None
 
 abbrev pub connections_of : List Word → Option ℕ
 connections_of words = option_and_then connections_in (command_of words)
 
--- the settings are in their ranges, workers, sessions and files are few, and there is a session
+-- the settings are in their ranges, workers, sessions and files are few, there is a session, and a project has the form of
+-- one
 abbrev pub HasRanges : Command → Type 0
 HasRanges (command.Run run) = IsInRange run.settings × (run.workers ≤ 64)
 HasRanges (command.Listen listen) = IsInRange listen.settings × (listen.workers ≤ 64) × (1 ≤ listen.sessions) × (listen.sessions ≤ 64)
 HasRanges (command.Drive settings) = IsInRange settings
 HasRanges (command.Make make) = make.files ≤ 10000
+HasRanges (command.Export export) = IsInRange export.settings × (is_project export.project ≡ true)
+HasRanges (command.Ask settings) = IsInRange settings

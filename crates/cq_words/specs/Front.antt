@@ -2,10 +2,11 @@
 use Rattle.std.specs.Prelude.{◌≡◌, ◌<◌, ◌≤◌, Bool, true, false, List, [], length, drop, Option, Some, None, option_map, unwrap_or, is_some}
 use Rattle.std.specs.List.{list_all}
 use Rattle.cq_words.specs.Grammar.{Word, Item, Look, named, dashed, plain, with_item, items_from, named_read, positional_read, word_read}
-use Rattle.cq_words.specs.Table.{row_of, positionals_of, number_or, number_from, address_or, address_from, range_of}
+use Rattle.cq_words.specs.Table.{row_of, positionals_of, number_or, number_from, text_or, text_from, range_of}
 use Rattle.cq_words.specs.declared.table.Verb.{Verb}
 use Rattle.cq_words.specs.declared.table.Verb.TheVariants as verb
 use Rattle.cq_words.specs.declared.table.Param.{Param}
+use Rattle.cq_words.specs.declared.table.Param.TheVariants as param
 use Rattle.cq_words.specs.declared.form.Look.{Look as Seen}
 use Rattle.cq_words.specs.declared.form.Look.TheVariants as seen
 use Rattle.cq_words.specs.declared.form.Left.{Left}
@@ -60,13 +61,15 @@ items_in l = unwrap_or (read_in l None) []
 abbrev pub is_within : Param → Option Word → Bool
 is_within p value = is_some (number_or (range_of p) (Some ([], value)))
 
--- the value of an item is an address
-abbrev pub is_address : Option Word → Bool
-is_address value = is_some (address_or (Some ([], value)))
+-- the value of an item is a text that is taken
+abbrev pub is_text : Param → Option Word → Bool
+is_text p value = is_some (text_or p (Some ([], value)))
 
--- the positionals are there: the address of `listen`, and numbers in their ranges
+-- the positionals are there: the address of `listen`, the project of `export`, and numbers in their ranges
 abbrev pub are_places_given : Verb → List Item → Bool
-are_places_given verb.Listen items = is_some (address_from items)
+are_places_given verb.Listen items = is_some (text_from param.Address items)
 are_places_given verb.Run items = list_all (λ p. is_some (number_from p items)) (positionals_of verb.Run)
 are_places_given verb.Drive items = list_all (λ p. is_some (number_from p items)) (positionals_of verb.Drive)
 are_places_given verb.Make items = list_all (λ p. is_some (number_from p items)) (positionals_of verb.Make)
+are_places_given verb.Export items = is_some (text_from param.Project items)
+are_places_given verb.Ask items = list_all (λ p. is_some (number_from p items)) (positionals_of verb.Ask)

@@ -1,6 +1,8 @@
--- What each command takes: its options, flags and positionals, and the ranges of their numbers and of an address's bytes.
+-- What each command takes: its options, flags and positionals, the ranges of their numbers and of an address's bytes, and
+-- the form of a project's name.
 use Rattle.std.specs.Prelude.{◌&&◌, ℕ, Bool, List, [], ◌∷◌, length, map, nat_le, Option, Some, None, if◌then◌else◌, option_and_then, unwrap_or, codes}
 use Rattle.std.specs.Str.{bytes_eq}
+use Rattle.cq_names.specs.Names.{is_project}
 use Rattle.cq_words.specs.Grammar.{Word, Row, Item, item_of, has_item}
 use Rattle.cq_words.specs.Numbers.{number_within}
 use Rattle.cq_words.specs.declared.table.Verb.{Verb}
@@ -16,6 +18,8 @@ verb_name verb.Run = codes "run"
 verb_name verb.Listen = codes "listen"
 verb_name verb.Drive = codes "drive"
 verb_name verb.Make = codes "make"
+verb_name verb.Export = codes "export"
+verb_name verb.Ask = codes "ask"
 
 -- the command that a word names
 abbrev pub verb_named : Word → Option Verb
@@ -24,7 +28,9 @@ verb_named word =
     else (if bytes_eq word (codes "listen") then Some verb.Listen
     else (if bytes_eq word (codes "drive") then Some verb.Drive
     else (if bytes_eq word (codes "make") then Some verb.Make
-    else None)))
+    else (if bytes_eq word (codes "export") then Some verb.Export
+    else (if bytes_eq word (codes "ask") then Some verb.Ask
+    else None)))))
 
 abbrev pub options_of : Verb → List Param
 options_of verb.Run = param.Chunk ∷ param.Shards ∷ param.KeyBits ∷ param.ChangeLimit ∷ param.TextLimit ∷ param.ByteLimit ∷ param.Workers ∷ []
@@ -33,18 +39,24 @@ options_of verb.Listen =
     ∷ param.ListenWorkers ∷ param.Sessions ∷ param.Connections ∷ []
 options_of verb.Drive = param.Chunk ∷ param.Shards ∷ param.KeyBits ∷ param.ChangeLimit ∷ param.TextLimit ∷ param.ByteLimit ∷ []
 options_of verb.Make = []
+options_of verb.Export = param.Chunk ∷ param.Shards ∷ param.KeyBits ∷ param.ChangeLimit ∷ param.TextLimit ∷ param.ByteLimit ∷ []
+options_of verb.Ask = param.Chunk ∷ param.Shards ∷ param.KeyBits ∷ param.ChangeLimit ∷ param.TextLimit ∷ param.ByteLimit ∷ []
 
 abbrev pub flags_of : Verb → List Flag
 flags_of verb.Run = flag.IgnoreIds ∷ flag.IgnoreLiterals ∷ []
 flags_of verb.Listen = flag.IgnoreIds ∷ flag.IgnoreLiterals ∷ []
 flags_of verb.Drive = flag.IgnoreIds ∷ flag.IgnoreLiterals ∷ []
 flags_of verb.Make = []
+flags_of verb.Export = flag.IgnoreIds ∷ flag.IgnoreLiterals ∷ []
+flags_of verb.Ask = flag.IgnoreIds ∷ flag.IgnoreLiterals ∷ []
 
 abbrev pub positionals_of : Verb → List Param
 positionals_of verb.Run = []
 positionals_of verb.Listen = param.Address ∷ []
 positionals_of verb.Drive = []
 positionals_of verb.Make = param.Number ∷ param.Files ∷ []
+positionals_of verb.Export = param.Project ∷ []
+positionals_of verb.Ask = []
 
 abbrev pub param_name : Param → Word
 param_name param.Chunk = codes "chunk"
@@ -58,6 +70,7 @@ param_name param.ListenWorkers = codes "workers"
 param_name param.Sessions = codes "sessions"
 param_name param.Connections = codes "connections"
 param_name param.Address = codes "address"
+param_name param.Project = codes "project"
 param_name param.Number = codes "number"
 param_name param.Files = codes "files"
 
@@ -84,6 +97,7 @@ range_of param.ListenWorkers = option_range 0 64 4
 range_of param.Sessions = option_range 1 64 8
 range_of param.Connections = option_range 1 4294967295 4294967295
 range_of param.Address = positional_range 1 255
+range_of param.Project = positional_range 1 64
 range_of param.Number = positional_range 0 9999999999999999999
 range_of param.Files = positional_range 0 10000
 
@@ -103,12 +117,18 @@ number_from p items = number_or (range_of p) (item_of (param_name p) items)
 abbrev pub text_within : ℕ → ℕ → Word → Option Word
 text_within low high word = if nat_le low (length word) && nat_le (length word) high then Some word else None
 
-abbrev pub address_or : Option Item → Option Word
-address_or None = None
-address_or (Some item) = option_and_then (text_within (range_of param.Address).low (range_of param.Address).high) item.1
+-- a text that a positional takes: the name of a project, or so many bytes of an address
+abbrev pub text_taken : Param → Word → Option Word
+text_taken param.Project word = if is_project word then Some word else None
+text_taken p word = text_within (range_of p).low (range_of p).high word
 
-abbrev pub address_from : List Item → Option Word
-address_from items = address_or (item_of (param_name param.Address) items)
+abbrev pub text_or : Param → Option Item → Option Word
+text_or p None = None
+text_or p (Some item) = option_and_then (text_taken p) item.1
+
+-- the text of an item that takes it
+abbrev pub text_from : Param → List Item → Option Word
+text_from p items = text_or p (item_of (param_name p) items)
 
 abbrev pub has_flag : Flag → List Item → Bool
 has_flag f items = has_item items (flag_name f)

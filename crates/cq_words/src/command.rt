@@ -31,6 +31,14 @@ pub struct Make {
     pub files: u32,
 }
 
+/// What the words of `export` give.
+#[derive(Debug, Drop, PartialEq, Eq)]
+pub struct Export {
+    pub settings: Settings,
+    /// The project of which a version is written.
+    pub project: Text,
+}
+
 /// What words in form ask for.
 #[derive(Debug, Drop, PartialEq, Eq)]
 pub enum Command {
@@ -42,4 +50,8 @@ pub enum Command {
     Drive(Settings),
     /// A project that is made, put and listed; no input is read.
     Make(Make),
+    /// The version of a project that the changes of the input make, written as its token file.
+    Export(Export),
+    /// A kept version, which the input begins with, asked by the lines behind it.
+    Ask(Settings),
 }

@@ -7,7 +7,7 @@ ghost use Rattle.cq_words.specs.Grammar as grammar;
 ghost use Rattle.cq_words.specs.Command.{command_after, command_from, command_of};
 ghost use Rattle.cq_words.specs.Table as table;
 
-use crate::numbers::{is_count_within, number_within};
+use crate::numbers::{is_taken, number_within};
 use crate::table::{
     Flag, Param, Verb, flag_name, flags_of, options_of, param_name, positionals_of, range_of,
     verb_named,
@@ -258,12 +258,11 @@ fn is_within(value: Option<&[u8]>, param: Param) -> bool
     }
 }
 
-fn is_address(value: Option<&[u8]>) -> bool
-    ensures { result ≡ spec.is_address (option_map (λ v. v.now) value.entry) }
+fn is_text_taken(value: Option<&[u8]>, param: Param) -> bool
+    ensures { result ≡ spec.is_text param (option_map (λ v. v.now) value.entry) }
 {
-    let range = range_of(Param::Address);
     match value {
-        Some(value) => is_count_within(range.low, range.high, value),
+        Some(value) => is_taken(param, value),
         None => false,
     }
 }
@@ -298,13 +297,13 @@ fn is_given(all: Left<'_>, param: Param) -> bool
     }
 }
 
-// Whether the address is there and of a length that is taken.
-fn is_address_given(all: Left<'_>) -> bool
+// Whether the text of this name is there and is taken.
+fn is_text_given(all: Left<'_>, param: Param) -> bool
     requires { is_some (read_in all None) ≡ true }
-    ensures { result ≡ is_some (table.address_from (items_in all.entry)) }
+    ensures { result ≡ is_some (table.text_from param (items_in all.entry)) }
 {
-    match item_named(all, param_name(Param::Address).as_bytes()) {
-        Some(front) => is_address(front.value),
+    match item_named(all, param_name(param).as_bytes()) {
+        Some(front) => is_text_taken(front.value, param),
         None => false,
     }
 }
@@ -327,7 +326,8 @@ fn are_places_given(all: Left<'_>) -> bool
     ensures { result ≡ spec.are_places_given all.entry.verb (items_in all.entry) }
 {
     match all.verb {
-        Verb::Listen => is_address_given(all),
+        Verb::Listen => is_text_given(all, Param::Address),
+        Verb::Export => is_text_given(all, Param::Project),
         _ => are_given(all, positionals_of(all.verb)),
     }
 }

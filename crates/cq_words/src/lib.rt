@@ -12,7 +12,7 @@ mod numbers;
 mod reading;
 mod table;
 
-pub use command::{Command, Listen, Make, Run};
+pub use command::{Command, Export, Listen, Make, Run};
 pub use form::is_command;
 pub use laws::words_in_form;
 pub use reading::{connections, default_settings, read_command};

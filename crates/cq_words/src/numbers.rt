@@ -3,6 +3,9 @@ ghost use Rattle.std.specs.List.{list_all};
 ghost use Rattle.cq_words.specs.Numbers as spec;
 ghost use Rattle.cq_words.specs.Table as table;
 
+use crate::table::{Param, range_of};
+use cq_names::is_project;
+
 fn are_digits(bytes: &[u8]) -> bool
     ensures { result ≡ list_all spec.is_digit bytes.now }
 {
@@ -55,19 +58,32 @@ pub(crate) fn number_within(low: u64, high: u64, bytes: &[u8]) -> Option<u64>
     }
 }
 
-/// Whether there are so many bytes.
-pub(crate) fn is_count_within(low: u64, high: u64, bytes: &[u8]) -> bool
+// Whether there are so many bytes.
+fn is_count_within(low: u64, high: u64, bytes: &[u8]) -> bool
     ensures { result ≡ is_some (table.text_within low high bytes.now) }
 {
     let count = bytes.len() as u64;
     count >= low && count <= high
 }
 
-/// The text itself, where it has so many bytes.
-pub(crate) fn text_within<'a>(low: u64, high: u64, text: &'a str) -> Option<&'a str>
-    ensures { option_map (λ t. t.now) result ≡ table.text_within low high text.entry.now }
+/// Whether the bytes are a text that is taken: the name of a project, or as many as an address may have.
+pub(crate) fn is_taken(param: Param, bytes: &[u8]) -> bool
+    ensures { result ≡ is_some (table.text_taken param bytes.now) }
 {
-    if is_count_within(low, high, text.as_bytes()) {
+    match param {
+        Param::Project => is_project(bytes),
+        _ => {
+            let range = range_of(param);
+            is_count_within(range.low, range.high, bytes)
+        }
+    }
+}
+
+/// The text itself, where it is taken.
+pub(crate) fn text_taken<'a>(param: Param, text: &'a str) -> Option<&'a str>
+    ensures { option_map (λ t. t.now) result ≡ table.text_taken param text.entry.now }
+{
+    if is_taken(param, text.as_bytes()) {
         Some(text)
     } else {
         None

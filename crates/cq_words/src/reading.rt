@@ -7,9 +7,9 @@ ghost use Rattle.cq_words.specs.Table as table;
 ghost use Rattle.cq_words.specs.declared.table.Verb.TheVariants as verb;
 
 use crate::asked::{command_asked, matches_in, texts_of};
-use crate::command::{Command, Listen, Make, Run};
+use crate::command::{Command, Export, Listen, Make, Run};
 use crate::form::is_command;
-use crate::numbers::{number_within, text_within};
+use crate::numbers::{number_within, text_taken};
 use crate::table::{Flag, Param, Verb, flag_name, param_name, range_of, verb_named};
 use clap::ArgMatches;
 use cq_base::{Memory, Settings, Text};
@@ -34,12 +34,11 @@ fn number_read(matches: &ArgMatches, param: Param) -> Option<u64>
     }
 }
 
-fn address_read<'a>(matches: &ArgMatches<'a>) -> Option<&'a str>
-    ensures { option_map (λ s. s.now) result ≡ spec.address_read (rows_of (found_of matches.now)) }
+fn text_read<'a>(matches: &ArgMatches<'a>, param: Param) -> Option<&'a str>
+    ensures { option_map (λ s. s.now) result ≡ spec.text_read param (rows_of (found_of matches.now)) }
 {
-    let range = range_of(Param::Address);
-    let text = text_of(matches, param_name(Param::Address))?;
-    text_within(range.low, range.high, text)
+    let text = text_of(matches, param_name(param))?;
+    text_taken(param, text)
 }
 
 fn default_of(param: Param) -> u64
@@ -115,7 +114,7 @@ fn listen_read(alloc: Global, matches: &ArgMatches) -> Result<Option<Command>, M
     let Some(settings) = settings_read(matches) else {
         return Ok(None);
     };
-    let Some(address) = address_read(matches) else {
+    let Some(address) = text_read(matches, Param::Address) else {
         return Ok(None);
     };
     let Some(workers) = number_read(matches, Param::ListenWorkers) else {
@@ -144,6 +143,30 @@ fn drive_read(matches: &ArgMatches) -> Option<Command>
     Some(Command::Drive(settings))
 }
 
+fn export_read(alloc: Global, matches: &ArgMatches) -> Result<Option<Command>, Memory>
+    ensures command { IfOk result (λ r. r ≡ spec.command_read verb.Export (rows_of (found_of matches.now))) }
+    ensures in_range { IfOk result (λ r. IfSome r HasRanges) }
+{
+    let Some(settings) = settings_read(matches) else {
+        return Ok(None);
+    };
+    let Some(project) = text_read(matches, Param::Project) else {
+        return Ok(None);
+    };
+    Ok(Some(Command::Export(Export {
+        settings,
+        project: Text::from_bytes(alloc, project.as_bytes())?,
+    })))
+}
+
+fn ask_read(matches: &ArgMatches) -> Option<Command>
+    ensures command { result ≡ spec.command_read verb.Ask (rows_of (found_of matches.now)) }
+    ensures in_range { IfSome result HasRanges }
+{
+    let settings = settings_read(matches)?;
+    Some(Command::Ask(settings))
+}
+
 fn make_read(matches: &ArgMatches) -> Option<Command>
     ensures command { result ≡ spec.command_read verb.Make (rows_of (found_of matches.now)) }
     ensures in_range { IfSome result HasRanges }
@@ -165,6 +188,8 @@ fn command_read(alloc: Global, verb: Verb, matches: &ArgMatches) -> Result<Optio
         Verb::Listen => listen_read(alloc, matches),
         Verb::Drive => Ok(drive_read(matches)),
         Verb::Make => Ok(make_read(matches)),
+        Verb::Export => export_read(alloc, matches),
+        Verb::Ask => Ok(ask_read(matches)),
     }
 }
 

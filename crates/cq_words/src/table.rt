@@ -9,9 +9,11 @@ pub(crate) enum Verb {
     Listen,
     Drive,
     Make,
+    Export,
+    Ask,
 }
 
-/// What words give by an option or as a positional: a number, or the text of an address.
+/// What words give by an option or as a positional: a number, or the text of an address or of a project's name.
 #[derive(Clone, Copy, Debug, PartialEq, Eq)]
 pub(crate) enum Param {
     Chunk,
@@ -25,6 +27,7 @@ pub(crate) enum Param {
     Sessions,
     Connections,
     Address,
+    Project,
     Number,
     Files,
 }
@@ -36,7 +39,7 @@ pub(crate) enum Flag {
     IgnoreLiterals,
 }
 
-/// The least and the greatest number that is taken, of an address the number of its bytes, and the one that stands where
+/// The least and the greatest number that is taken, of a text the number of its bytes, and the one that stands where
 /// none is given; a positional has none and has to be there.
 #[derive(Clone, Copy, Debug, PartialEq, Eq)]
 pub(crate) struct Range {
@@ -67,7 +70,7 @@ const LISTEN_OPTIONS: [Param; 9] = [
     Param::Connections,
 ];
 
-const DRIVE_OPTIONS: [Param; 6] = [
+const SETTINGS_OPTIONS: [Param; 6] = [
     Param::Chunk,
     Param::Shards,
     Param::KeyBits,
@@ -79,6 +82,8 @@ const DRIVE_OPTIONS: [Param; 6] = [
 const FLAGS: [Flag; 2] = [Flag::IgnoreIds, Flag::IgnoreLiterals];
 
 const LISTEN_POSITIONALS: [Param; 1] = [Param::Address];
+
+const EXPORT_POSITIONALS: [Param; 1] = [Param::Project];
 
 const MAKE_POSITIONALS: [Param; 2] = [Param::Number, Param::Files];
 
@@ -97,6 +102,12 @@ pub(crate) fn verb_named(word: &[u8]) -> Option<Verb>
     if word == b"make".as_slice() {
         return Some(Verb::Make);
     }
+    if word == b"export".as_slice() {
+        return Some(Verb::Export);
+    }
+    if word == b"ask".as_slice() {
+        return Some(Verb::Ask);
+    }
     None
 }
 
@@ -108,6 +119,8 @@ pub(crate) fn verb_name(verb: Verb) -> &'static str
         Verb::Listen => "listen",
         Verb::Drive => "drive",
         Verb::Make => "make",
+        Verb::Export => "export",
+        Verb::Ask => "ask",
     }
 }
 
@@ -117,7 +130,7 @@ pub(crate) fn options_of(verb: Verb) -> &'static [Param]
     match verb {
         Verb::Run => &RUN_OPTIONS,
         Verb::Listen => &LISTEN_OPTIONS,
-        Verb::Drive => &DRIVE_OPTIONS,
+        Verb::Drive | Verb::Export | Verb::Ask => &SETTINGS_OPTIONS,
         Verb::Make => &[],
     }
 }
@@ -126,7 +139,7 @@ pub(crate) fn flags_of(verb: Verb) -> &'static [Flag]
     ensures { result.now ≡ spec.flags_of verb }
 {
     match verb {
-        Verb::Run | Verb::Listen | Verb::Drive => &FLAGS,
+        Verb::Run | Verb::Listen | Verb::Drive | Verb::Export | Verb::Ask => &FLAGS,
         Verb::Make => &[],
     }
 }
@@ -136,9 +149,10 @@ pub(crate) fn positionals_of(verb: Verb) -> &'static [Param]
     ensures { result.now ≡ spec.positionals_of verb }
 {
     match verb {
-        Verb::Run | Verb::Drive => &[],
+        Verb::Run | Verb::Drive | Verb::Ask => &[],
         Verb::Listen => &LISTEN_POSITIONALS,
         Verb::Make => &MAKE_POSITIONALS,
+        Verb::Export => &EXPORT_POSITIONALS,
     }
 }
 
@@ -158,6 +172,7 @@ pub(crate) fn param_name(param: Param) -> &'static str
         Param::Sessions => "sessions",
         Param::Connections => "connections",
         Param::Address => "address",
+        Param::Project => "project",
         Param::Number => "number",
         Param::Files => "files",
     }
@@ -209,6 +224,7 @@ pub(crate) fn range_of(param: Param) -> Range
         Param::Sessions => option_range(1, 64, 8),
         Param::Connections => option_range(1, 4_294_967_295, 4_294_967_295),
         Param::Address => positional_range(1, 255),
+        Param::Project => positional_range(1, 64),
         Param::Number => positional_range(0, 9_999_999_999_999_999_999),
         Param::Files => positional_range(0, 10_000),
     }

@@ -1,5 +1,5 @@
 use cq_base::{Settings, Text};
-use cq_words::{Command, Listen, Make, Run, connections, is_command, read_command};
+use cq_words::{Command, Export, Listen, Make, Run, connections, is_command, read_command};
 use std::alloc::Global;
 use std::test::Fail;
 
@@ -22,7 +22,10 @@ fn read(alloc: Global, all: &[&str]) -> Result<Option<Command>, Fail> {
     Ok(read_command(alloc, words.as_slice())?)
 }
 
-const REFUSED: [&[&str]; 93] = [
+// A name of 65 bytes.
+const LONG: &str = "aaaaaaaaaaaaaaaaaaaaaaaaaaaaaaaaaaaaaaaaaaaaaaaaaaaaaaaaaaaaaaaaa";
+
+const REFUSED: [&[&str]; 107] = [
     &[],
     &[""],
     &["listen"],
@@ -102,6 +105,20 @@ const REFUSED: [&[&str]; 93] = [
     &["drive", "--chunk", "5", "--chunk=6"],
     &["drive", "--ignore-ids", "--ignore-ids"],
     &["drive", "--"],
+    &["export"],
+    &["export", ""],
+    &["export", "-p"],
+    &["export", "a b"],
+    &["export", "p", "q"],
+    &["export", "--project", "p"],
+    &["export", "p", "--workers", "0"],
+    &["export", "p", "--chunk", "0"],
+    &["export", LONG],
+    &["ask", "--workers", "0"],
+    &["ask", "x"],
+    &["ask", "--chunk", "0"],
+    &["ask", "--ignore-literals=true"],
+    &["Ask"],
     &["make"],
     &["make", "1"],
     &["make", "7", "3", "4"],
@@ -146,6 +163,7 @@ fn defaults_stand_where_nothing_is_said(rt: HostRuntime) -> Result<(), Fail> {
     let alloc = rt.alloc();
     assert_eq!(rt; read(alloc, &["run"])?, Some(Command::Run(run)));
     assert_eq!(rt; read(alloc, &["drive"])?, Some(Command::Drive(DEFAULTS)));
+    assert_eq!(rt; read(alloc, &["ask"])?, Some(Command::Ask(DEFAULTS)));
     Ok(())
 }
 
@@ -225,6 +243,41 @@ fn the_settings_of_drive_are_read(rt: HostRuntime) -> Result<(), Fail> {
     assert_eq!(rt;
         read(alloc, words.as_slice())?,
         Some(Command::Drive(literals))
+    );
+    Ok(())
+}
+
+#[test]
+fn the_settings_of_ask_are_read(rt: HostRuntime) -> Result<(), Fail> {
+    let settings = Settings {
+        chunk: 2,
+        ignore_ids: true,
+        byte_limit: 7,
+        ..DEFAULTS
+    };
+    let words = ["ask", "--byte-limit=7", "--ignore-ids", "--chunk", "2"];
+    assert_eq!(rt;
+        read(rt.alloc(), words.as_slice())?,
+        Some(Command::Ask(settings))
+    );
+    Ok(())
+}
+
+#[test]
+fn the_project_of_export_is_read(rt: HostRuntime) -> Result<(), Fail> {
+    let alloc = rt.alloc();
+    let export = Export {
+        settings: Settings {
+            chunk: 2,
+            ignore_lits: true,
+            ..DEFAULTS
+        },
+        project: Text::from_bytes(alloc, b"a-Z.9_")?,
+    };
+    let words = ["export", "--chunk", "2", "a-Z.9_", "--ignore-literals"];
+    assert_eq!(rt;
+        read(alloc, words.as_slice())?,
+        Some(Command::Export(export))
     );
     Ok(())
 }

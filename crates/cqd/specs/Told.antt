@@ -9,4 +9,7 @@ line_of status =
     else if status == 3 then codes "cqd: write fault"
     else if status == 4 then codes "cqd: out of memory"
     else if status == 5 then codes "cqd: doors failed"
+    else if status == 7 then codes "cqd: line refused"
+    else if status == 8 then codes "cqd: token file refused"
+    else if status == 9 then codes "cqd: too large"
     else codes "cqd: byte limit"

@@ -37,6 +37,9 @@ fn line_of(status: u8) -> &'static str
         3 => "cqd: write fault",
         4 => "cqd: out of memory",
         5 => "cqd: doors failed",
+        7 => "cqd: line refused",
+        8 => "cqd: token file refused",
+        9 => "cqd: too large",
         _ => "cqd: byte limit",
     }
 }

@@ -5,9 +5,13 @@
 #[cfg(test)]
 mod clients;
 #[cfg(test)]
+mod exported;
+#[cfg(test)]
 mod failing;
 #[cfg(test)]
 mod functions;
+#[cfg(test)]
+mod kept;
 #[cfg(test)]
 mod limits;
 #[cfg(test)]

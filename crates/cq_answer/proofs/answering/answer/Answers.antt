@@ -8,7 +8,7 @@ use Rattle.cq_answer.specs.Parts.{AreGroupsOf, IsWithin}
 use Rattle.cq_answer.specs.Reply.{reply_of}
 use Rattle.cq_answer.specs.Rows.{AreShowable, AreFewFunctions}
 use Rattle.cq_answer.specs.Works.{work_in, facts_in, norms_in, chosen_in, AreNumbered}
-use Rattle.cq_answer.proofs.Listable.{listable, measurable, few_functions, numbered, replied, keys_asked, most_read, texts_are, conditions_few}
+use Rattle.cq_answer.proofs.Listable.{measurable_given, reply_given, replied, keys_asked, most_read, texts_given}
 use Rattle.cq_answer.proofs.answering.answer.Goals as goal
 
 -- as many owners as files
@@ -17,9 +17,7 @@ reply_of-requires-clause-within g c κs lives =
     subst (λ n. IsWithin n c.part_of-part.result) (sym (ap length c.items-items.ensures.files) ∙ length-map c.items-items.result.now work_in) c.part_of-part.ensures.within
 
 pub groups_of-requires-clause-listable : goal.groups_of-requires-clause-listable
-groups_of-requires-clause-listable g c =
-    let have = c.requires.of_version in
-    listable c.args.settings.now have.changes c.args.version c.args.query.now.project c.args.files.now c.args.conditions.now have.are c.requires.settings have.few
+groups_of-requires-clause-listable g c = c.requires.given.listable
 
 pub returns-in_err-groups-clause-asked_most : goal.returns-in_err-groups-clause-asked_most
 returns-in_err-groups-clause-asked_most g c = λ ks on.
@@ -30,31 +28,31 @@ returns-in_err-groups-clause-reads g c = λ n on.
     c.groups_of.ensures.reads n (most_read c.args.settings.now on.changes c.args.version c.args.query.now c.args.files.now c.part_of-part.result n on.files_are c.part_of-part.ensures.part on.most)
 
 pub reply_of-requires-clause-few : goal.reply_of-requires-clause-few
-reply_of-requires-clause-few g c κs lives = conditions_few c.args.settings.now c.args.version c.args.query.now.project c.args.files.now c.args.conditions.now c.requires.of_version
+reply_of-requires-clause-few g c κs lives = c.requires.given.few_conditions
 
 pub reply_of-requires-clause-measurable : goal.reply_of-requires-clause-measurable
 reply_of-requires-clause-measurable g c κs lives =
-    let have = c.requires.of_version in
-    let files = listable c.args.settings.now have.changes c.args.version c.args.query.now.project c.args.files.now c.args.conditions.now have.are c.requires.settings have.few in
     let some : 1 ≤ c.args.query.now.min = omega (arith, c.requires.settings.chunk, c.requires.long) in
     let groups : AreGroupsOf (norms_in c.args.files.now) c.args.query.now.min c.part_of-part.result c.deref.result.now = subst (λ gs. AreGroupsOf (norms_in c.args.files.now) c.args.query.now.min c.part_of-part.result gs) (sym c.deref.ensures.value) c.in_ok-groups.ensures.groups in
     subst (λ (fs : List (File (Work g.row.L.Denot))). AreShowable (facts_in fs) c.deref.result.now) (sym c.items-items.ensures.files)
-    (measurable c.args.settings.now have.changes c.args.version c.args.query.now.project c.args.files.now c.args.conditions.now have.are c.args.query.now.min c.part_of-part.result c.deref.result.now some files.few groups)
+    (measurable_given c.args.settings.now c.args.files.now c.args.conditions.now c.requires.given c.args.query.now.min c.part_of-part.result c.deref.result.now some groups)
 
 pub reply_of-requires-clause-scope : goal.reply_of-requires-clause-scope
 reply_of-requires-clause-scope g c κs lives = c.requires.scope.0
 
 pub reply_of-requires-clause-numbered : goal.reply_of-requires-clause-numbered
 reply_of-requires-clause-numbered g c κs lives =
-    let have = c.requires.of_version in
-    subst (λ (fs : List (File (Work g.row.L.Denot))). AreNumbered fs) (sym c.items-items.ensures.files)
-    (numbered c.args.settings.now have.changes c.args.version c.args.query.now.project c.args.files.now c.args.conditions.now have.are)
+    subst (λ (fs : List (File (Work g.row.L.Denot))). AreNumbered fs) (sym c.items-items.ensures.files) c.requires.given.numbered
 
 pub reply_of-requires-clause-few_functions : goal.reply_of-requires-clause-few_functions
 reply_of-requires-clause-few_functions g c κs lives =
-    let have = c.requires.of_version in
-    subst (λ (fs : List (File (Work g.row.L.Denot))). AreFewFunctions (facts_in fs)) (sym c.items-items.ensures.files)
-    (few_functions c.args.settings.now have.changes c.args.version c.args.query.now.project c.args.files.now c.args.conditions.now have.are)
+    subst (λ (fs : List (File (Work g.row.L.Denot))). AreFewFunctions (facts_in fs)) (sym c.items-items.ensures.files) c.requires.given.few_functions
+
+pub returns-clause-given : goal.returns-clause-given
+returns-clause-given g c =
+    let groups : AreGroupsOf (norms_in c.args.files.now) c.args.query.now.min c.part_of-part.result c.deref.result.now = subst (λ gs. AreGroupsOf (norms_in c.args.files.now) c.args.query.now.min c.part_of-part.result gs) (sym c.deref.ensures.value) c.in_ok-groups.ensures.groups in
+    IfOk-weaker c.reply_of.result _ _ (λ r is.
+    reply_given c.args.files.now c.args.conditions.now c.args.query.now c.args.version c.part_of-part.result c.deref.result.now r c.part_of-part.ensures.part groups (is ∙ ap (λ (fs : List (File (Work g.row.L.Denot))). reply_of (facts_in fs) c.args.conditions.now c.args.version c.args.query.now.kind c.part_of-part.result (chosen_in fs c.args.query.now) c.deref.result.now) c.items-items.ensures.files)) c.reply_of.ensures
 
 pub returns-clause-reply : goal.returns-clause-reply
 returns-clause-reply g c =
@@ -67,7 +65,7 @@ returns-clause-texts g c =
     let some : 1 ≤ c.args.query.now.min = omega (arith, c.requires.settings.chunk, c.requires.long) in
     let groups : AreGroupsOf (norms_in c.args.files.now) c.args.query.now.min c.part_of-part.result c.deref.result.now = subst (λ gs. AreGroupsOf (norms_in c.args.files.now) c.args.query.now.min c.part_of-part.result gs) (sym c.deref.ensures.value) c.in_ok-groups.ensures.groups in
     IfOk-weaker c.reply_of.result _ _ (λ r is.
-    texts_are c.args.settings.now c.args.version c.args.query.now.project c.args.files.now c.args.conditions.now c.args.query.now.kind c.args.query.now.min c.part_of-part.result (chosen_in c.args.files.now c.args.query.now) c.deref.result.now r c.requires.of_version some groups (is ∙ ap (λ (fs : List (File (Work g.row.L.Denot))). reply_of (facts_in fs) c.args.conditions.now c.args.version c.args.query.now.kind c.part_of-part.result (chosen_in fs c.args.query.now) c.deref.result.now) c.items-items.ensures.files)) c.reply_of.ensures
+    texts_given c.args.settings.now c.args.files.now c.args.conditions.now c.requires.given c.args.version c.args.query.now.kind c.args.query.now.min c.part_of-part.result (chosen_in c.args.files.now c.args.query.now) c.deref.result.now r some groups (is ∙ ap (λ (fs : List (File (Work g.row.L.Denot))). reply_of (facts_in fs) c.args.conditions.now c.args.version c.args.query.now.kind c.part_of-part.result (chosen_in fs c.args.query.now) c.deref.result.now) c.items-items.ensures.files)) c.reply_of.ensures
 
 pub returns-clause-asked : goal.returns-clause-asked
 returns-clause-asked g c =

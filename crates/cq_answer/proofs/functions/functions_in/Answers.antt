@@ -1,4 +1,4 @@
-use Rattle.std.proofs.Common.{◌≡◌, ◌≤◌, ◌<◌, ◌∙◌, List, [], get_or, length, sym, ap, subst, arith}
+use Rattle.std.proofs.Common.{◌≡◌, ◌^◌, ◌<◌, ◌∙◌, List, [], get_or, length, sym, ap, subst, arith}
 use Rattle.cq_func.specs.declared.function.Function.{Function}
 use Rattle.cq_answer.specs.Parts.{IsWithin}
 use Rattle.cq_answer.specs.Rows.{functions_of, worst_of}
@@ -13,7 +13,7 @@ worst_of-worst-requires g c =
     let inside : i < length files = subst (IsWithin (length files)) c.in-Alone.is c.requires.within in
     let here : get_or (lists_in (works_in files)) i [] ≡ c.functions_of-functions.result.now = told_at (λ f. f.body.functions.items) files i c.index-files-file.result [] inside c.index-files-file.is ∙ sym c.functions_of-functions.ensures in
     let many = told_many (λ f. f.body.functions.items) files in
-    subst (λ (fs : List Function). length fs ≤ 262144) here (c.requires.few i [] (omega (arith, inside, many)))
+    subst (λ (fs : List Function). length fs < 2 ^ 32) here (c.requires.few i [] (omega (arith, inside, many)))
 
 pub returns-in_ok-all_copied-in-Alone-clause-functions : goal.returns-in_ok-all_copied-in-Alone-clause-functions
 returns-in_ok-all_copied-in-Alone-clause-functions g c =

@@ -2,15 +2,17 @@ use Rattle.std.proofs.Common.{refl, ap, ◌∙◌}
 use Rattle.cq_board.specs.Listings.{Listed}
 use Rattle.cq_projects.specs.Projects.{files_in, conditions_in}
 use Rattle.cq_work.specs.declared.work.Work.{Work}
+use Rattle.cq_answer.proofs.Listable.{given_version}
 use Rattle.cq_drive.proofs.InView.{have_version, in_view, was_answered}
 use Rattle.cq_drive.proofs.viewing.answered.Goals as goal
 
-pub answer-requires-clause-of_version : goal.answer-requires-clause-of_version
-answer-requires-clause-of_version g c κs lives =
-    have_version g.row.L.Denot c.args.settings.now c.args.core.now c.args.by c.args.view.now c.args.query.now.project c.project-files.result.now c.conditions-conditions.result.now c.requires.driven c.requires.listing
+pub answer-requires-clause-given : goal.answer-requires-clause-given
+answer-requires-clause-given g c κs lives =
+    given_version c.args.settings.now c.args.view.now.version c.args.query.now.project c.project-files.result.now c.conditions-conditions.result.now c.requires.in_range
+    (have_version g.row.L.Denot c.args.settings.now c.args.core.now c.args.by c.args.view.now c.args.query.now.project c.project-files.result.now c.conditions-conditions.result.now c.requires.driven c.requires.listing
     (c.project-files.ensures ∙ ap (λ (l : Listed (Work g.row.L.Denot)). files_in l.projects c.args.query.now.project) c.deref.ensures)
     (c.conditions-conditions.ensures ∙ ap (λ (l : Listed (Work g.row.L.Denot)). conditions_in l.projects c.args.query.now.project) c.deref-2.ensures)
-    c.requires.opened
+    c.requires.opened)
 
 pub answer-requires-clause-ready : goal.answer-requires-clause-ready
 answer-requires-clause-ready g c κs lives =

@@ -2,6 +2,7 @@ use Rattle.std.proofs.Common.{List, [], ◌∷◌, sym, ap, ◌∙◌, subst, ar
 use Rattle.std.specs.Result.{is_ok}
 use Rattle.std.proofs.lemmas.Result.{IfOk-weaker, on_ok_weaker}
 use Rattle.cq_answer.specs.Reply.{IsReply}
+use Rattle.cq_answer.proofs.Listable.{given_version}
 use Rattle.cq_ask.specs.Moves.{Moves}
 use Rattle.cq_base.specs.declared.settings.Settings.{Settings}
 use Rattle.cq_board.specs.Listings.{Listed}
@@ -14,13 +15,14 @@ use Rattle.cq_session.proofs.Spending.{costs_one}
 use Rattle.cq_session.proofs.InView.{of_version, have_version}
 use Rattle.cq_session.proofs.viewing.reply_in.Goals as goal
 
-pub answer-requires-clause-of_version : goal.answer-requires-clause-of_version
-answer-requires-clause-of_version g c κs lives =
+pub answer-requires-clause-given : goal.answer-requires-clause-given
+answer-requires-clause-given g c κs lives =
     let r = c.requires.viewing in
-    have_version (g.H.Hub.settings c.args.hub.now) c.args.settings.now c.requires.hub_settings (g.H.Hub.callers c.args.hub.now) r.0 r.1 c.args.view.now c.args.query.now.project c.project-files.result.now c.conditions-conditions.result.now r.3
+    given_version c.args.settings.now c.args.view.now.version c.args.query.now.project c.project-files.result.now c.conditions-conditions.result.now c.requires.in_range
+    (have_version (g.H.Hub.settings c.args.hub.now) c.args.settings.now c.requires.hub_settings (g.H.Hub.callers c.args.hub.now) r.0 r.1 c.args.view.now c.args.query.now.project c.project-files.result.now c.conditions-conditions.result.now r.3
     (c.project-files.ensures ∙ ap (λ (l : Listed (Work g.row.L.Denot)). files_in l.projects c.args.query.now.project) c.deref.ensures)
     (c.conditions-conditions.ensures ∙ ap (λ (l : Listed (Work g.row.L.Denot)). conditions_in l.projects c.args.query.now.project) c.deref-2.ensures)
-    (g.met.H.Hub.lawful _ _ r.0 r.1 r.2) (g.met.H.Hub.sound _ _ r.0 r.1 r.2)
+    (g.met.H.Hub.lawful _ _ r.0 r.1 r.2) (g.met.H.Hub.sound _ _ r.0 r.1 r.2))
 
 pub answer-requires-clause-ready : goal.answer-requires-clause-ready
 answer-requires-clause-ready g c κs lives =

@@ -1,0 +1,5 @@
+mod Accepting
+mod Running
+mod Holding
+mod Showing
+mod Ended

@@ -1,0 +1,80 @@
+ghost use Rattle.std.specs.Prelude.{◌≡◌, IfOk, OnOk};
+ghost use Rattle.std.specs.Arc.{arc_value};
+ghost use Rattle.cq_base.specs.Settings.{IsInRange};
+ghost use Rattle.cq_board.specs.Sound.{HasSoundText};
+ghost use Rattle.cq_export.specs.Boards.{AreMade, Holds, IsMade};
+ghost use Rattle.cq_history.specs.State.{IsAccepted};
+ghost use Rattle.cq_work.specs.Work.{IsWorkOf};
+
+use cq_base::{Memory, Settings};
+use cq_board::{Board, Finished, Job};
+use cq_key::Keyer;
+use cq_work::{Work, work_of};
+use std::alloc::Global;
+use std::sync::Arc;
+use std::sync::ledger::Ledger;
+
+fn work_for<L: Ledger>(
+    alloc: Global,
+    settings: &Settings,
+    keyer: &Keyer,
+    job: &Job,
+) -> Result<Arc<Work<L>, Global>, Memory>
+    requires in_range { IsInRange settings.now }
+    requires settings { keyer.now.settings ≡ settings.now }
+    requires sound { HasSoundText job.now }
+    ensures { IfOk result (λ work.
+        IsWorkOf settings.now job.now.lang (arc_value job.now.text) (arc_value work)) }
+{
+    let work = work_of(alloc, settings, keyer, job.lang, &job.text)?;
+    Ok(Arc::new(alloc, work)?)
+}
+
+// The work of a change is done.
+fn make_one<L: Ledger>(
+    alloc: Global,
+    settings: &Settings,
+    keyer: &Keyer,
+    board: &mut Board<Work<L>>,
+    change: u64,
+) -> Result<(), Memory>
+    requires in_range { IsInRange settings.now }
+    requires settings { keyer.now.settings ≡ settings.now }
+    requires holds { Holds settings.now board.old }
+    requires there { IsAccepted board.old.state change }
+    ensures { OnOk result (IsMade settings.now change board.old board.new) }
+{
+    match board.job(change) {
+        Err(Memory) => Err(Memory),
+        Ok(None) => Ok(()),
+        Ok(Some(job)) => match work_for(alloc, settings, keyer, &job) {
+            Err(Memory) => Err(Memory),
+            Ok(work) => match board.done(0, change, work) {
+                Finished::Done => Ok(()),
+                Finished::Already => Ok(()),
+            },
+        },
+    }
+}
+
+/// The works of all accepted changes are done. Each costs what `work_of` does.
+pub(crate) fn make_all<L: Ledger>(
+    alloc: Global,
+    settings: &Settings,
+    keyer: &Keyer,
+    board: &mut Board<Work<L>>,
+) -> Result<(), Memory>
+    requires in_range { IsInRange settings.now }
+    requires settings { keyer.now.settings ≡ settings.now }
+    requires holds { Holds settings.now board.old }
+    ensures { OnOk result (AreMade settings.now board.old board.new) }
+{
+    let asked = board.ask(0);
+    'changes: for i in asked.done..asked.accepted {
+        match make_one(alloc, settings, keyer, board, i + 1) {
+            Ok(()) => {}
+            Err(Memory) => return Err(Memory),
+        }
+    }
+    Ok(())
+}

@@ -1,0 +1,6 @@
+mod GivenFiles
+mod Said
+mod Runs
+mod Fronts
+mod Coming
+mod Exported

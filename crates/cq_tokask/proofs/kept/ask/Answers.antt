@@ -1,0 +1,49 @@
+use Rattle.std.proofs.Common.{ℕ, List, refl, ap, sym, subst, inl, inr}
+use Rattle.cq_tokask.proofs.Fronts.{other_is_no_file, framed_is_no_file, told_of, of_known}
+use Rattle.cq_tokask.specs.Kept.{BeginsWithNoFile}
+use Rattle.cq_lines.specs.Held.{Held}
+use Rattle.cq_lines.specs.Serving.{HasEndCause, Serves}
+use Rattle.cq_reply.specs.Written.{line_of}
+use Rattle.cq_tokask.specs.Asked.{AnswersLines}
+use Rattle.cq_tokfile.specs.Snapshot.{IsTokenFile}
+use Rattle.cq_tokask.proofs.kept.ask.Goals as goal
+
+pub returns-in-Failed-clause-asks : goal.returns-in-Failed-clause-asks
+returns-in-Failed-clause-asks g c = inl (record { ended = refl; rose = rw c.in-Failed.is at c.in_ok-bytes.ensures; unwritten = refl })
+
+pub returns-in-Other-clause-asks : goal.returns-in-Other-clause-asks
+returns-in-Other-clause-asks g c =
+    let other = rw c.in-Other.is at c.in_ok-bytes.ensures in
+    (of_known (g.S.Source.rest c.args.source.now) _ _ (other_is_no_file c.args.settings.now) other.0, other.1, refl)
+
+pub ask_lines-end-requires-clause-sound : goal.ask_lines-end-requires-clause-sound
+ask_lines-end-requires-clause-sound g c κs lives = let is = rw c.in-Some.is at c.in_ok-found.ensures in is.sound
+
+pub ask_lines-end-requires-clause-loaded : goal.ask_lines-end-requires-clause-loaded
+ask_lines-end-requires-clause-loaded g c κs lives = c.in_ok-loaded.ensures.of
+
+pub returns-in_default-clause-asks : goal.returns-in_default-clause-asks
+returns-in_default-clause-asks g c =
+    let taken = rw c.in-Framed.is at c.in_ok-bytes.ensures in
+    let none = rw c.in_default.is at c.in_ok-found.ensures in (
+      told_of (BeginsWithNoFile g.row.L.Denot g.S.Source g.K.Sink c.args.settings.now) _ _ c.in-Framed.bytes.items taken.1
+          (λ left. framed_is_no_file c.args.settings.now c.in-Framed.bytes.items left taken.0 (λ s is. none s (subst (IsTokenFile c.args.settings.now s) (sym c.deref.ensures.value) is))),
+      taken.2,
+      refl,
+    )
+
+pub returns-clause-asks : goal.returns-clause-asks
+returns-clause-asks g c =
+    let taken = rw c.in-Framed.is at c.in_ok-bytes.ensures in
+    let is = rw c.in-Some.is at c.in_ok-found.ensures in
+    inr (
+      record {
+        snapshot = c.in-Some.snapshot;
+        file = c.in-Framed.bytes.items;
+        is_file = subst (λ (bytes : List ℕ). IsTokenFile c.args.settings.now c.in-Some.snapshot bytes) c.deref.ensures.value is;
+        behind = g.S.Source.rest c.take_front.new.source;
+        taken = taken.1;
+        serves = subst (λ (n : ℕ). Serves line_of (AnswersLines c.in-Some.snapshot c.args.settings.now) n (g.S.Source.rest c.take_front.new.source) (g.S.Source.rest c.ask_lines-end.new.source) (g.K.Sink.written c.args.sink.now) (g.K.Sink.written c.ask_lines-end.new.sink) c.ask_lines-end.result) (ap (λ (h : Held). h.limit) c.in_ok-lines.ensures) c.ask_lines-end.ensures.served;
+      },
+      subst (λ (n : ℕ). HasEndCause n (g.S.Source.faults c.ask_lines-end.new.source) (g.K.Sink.faults c.args.sink.now) (g.K.Sink.faults c.ask_lines-end.new.sink) c.ask_lines-end.result) taken.2 c.ask_lines-end.ensures.cause,
+    )

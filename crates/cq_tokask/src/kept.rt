@@ -1,0 +1,64 @@
+ghost use Rattle.std.specs.Prelude.{◌≡◌, IfOk, OnErr};
+ghost use Rattle.cq_base.specs.Settings.{IsInRange};
+ghost use Rattle.cq_tokask.specs.Kept.{Asks};
+
+use crate::asking::ask_lines;
+use crate::taking::{Front, take_front};
+use cq_base::{Memory, Settings, Steps};
+use cq_io::{Sink, Source};
+use cq_key::Keyer;
+use cq_lines::{End, Lines};
+use cq_tokfile::{Loaded, Snapshot, decode};
+use std::alloc::Global;
+use std::sync::ledger::Ledger;
+use std::thread::Threads;
+
+/// How the asking of a kept version ended.
+#[derive(Clone, Copy, Debug, PartialEq, Eq)]
+pub enum Asked {
+    /// The source doesn't begin with a token file of the settings, and nothing was written.
+    Refused,
+    /// The lines behind it ended so; or a read of the file failed, and nothing was written.
+    Ended(End),
+}
+
+/// Answers the lines behind the token file that a source begins with, by its version. `byte_limit` counts the bytes behind
+/// the file. Memory is answered before a line is read alone, and then nothing was written; bytes may have been taken.
+pub fn ask<R: Threads + Sync, L: Ledger, S: Source, K: Sink>(
+    rt: &R,
+    alloc: Global,
+    settings: &Settings,
+    keyer: &Keyer,
+    source: &mut S,
+    sink: &mut K,
+    steps: &mut Steps<L>,
+) -> Result<Asked, Memory>
+    requires in_range { IsInRange settings.now }
+    requires settings { keyer.now.settings ≡ settings.now }
+    ensures asks { IfOk result (Asks L S.Source K.Sink settings.now source.old source.new sink.old sink.new) }
+    ensures unwritten { OnErr result (sink.new ≡ sink.old) }
+{
+    let bytes = match take_front(alloc, source)? {
+        Front::Framed(bytes) => bytes,
+        Front::Other => return Ok(Asked::Refused),
+        Front::Failed => return Ok(Asked::Ended(End::ReadFault)),
+    };
+    let found: Option<Snapshot<L>> = decode(alloc, settings, keyer, &bytes)?;
+    let Some(snapshot) = found else {
+        return Ok(Asked::Refused);
+    };
+    let mut loaded = Loaded::new(alloc, &snapshot)?;
+    let mut lines = Lines::new(alloc, settings.byte_limit)?;
+    let end = ask_lines(
+        rt,
+        alloc,
+        settings,
+        &snapshot,
+        &mut loaded,
+        &mut lines,
+        source,
+        sink,
+        steps,
+    );
+    Ok(Asked::Ended(end))
+}

@@ -1,0 +1,4 @@
+pub mod Spelling
+pub mod Sound
+pub mod Reading
+pub mod Laws

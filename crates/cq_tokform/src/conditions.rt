@@ -1,0 +1,129 @@
+ghost use Rattle.std.specs.Prelude.{◌≡◌, ◌<◌, ◌^◌, ◌++◌, length, OnOk};
+ghost use Rattle.cq_tokform.specs.Spelling as spell;
+ghost use Rattle.cq_tokform.specs.Sound.{AreCounted, IsSoundCondition};
+ghost use Rattle.cq_tokform.specs.Reading.{Gives, Reads, metric_of, compare_of, condition_at, counted_at, items_at};
+
+use crate::numbers::{put_u32, u8_at, u32_at, u64_at};
+use crate::unread::Unread;
+use cq_base::{Compare, Condition, Memory, Metric};
+use std::alloc::Global;
+
+fn metric_of(byte: u8) -> Option<Metric>
+    ensures { result ≡ metric_of byte }
+{
+    match byte {
+        0 => Some(Metric::Lines),
+        1 => Some(Metric::Ncloc),
+        2 => Some(Metric::Files),
+        3 => Some(Metric::Complexity),
+        4 => Some(Metric::DupLines),
+        5 => Some(Metric::DupBlocks),
+        6 => Some(Metric::DupFiles),
+        7 => Some(Metric::Density),
+        _ => None,
+    }
+}
+
+fn compare_of(byte: u8) -> Option<Compare>
+    ensures { result ≡ compare_of byte }
+{
+    match byte {
+        0 => Some(Compare::Gt),
+        1 => Some(Compare::Lt),
+        _ => None,
+    }
+}
+
+fn metric_byte(metric: Metric) -> u8
+    ensures { result ≡ spell.metric_byte metric }
+{
+    match metric {
+        Metric::Lines => 0,
+        Metric::Ncloc => 1,
+        Metric::Files => 2,
+        Metric::Complexity => 3,
+        Metric::DupLines => 4,
+        Metric::DupBlocks => 5,
+        Metric::DupFiles => 6,
+        Metric::Density => 7,
+    }
+}
+
+fn compare_byte(op: Compare) -> u8
+    ensures { result ≡ spell.compare_byte op }
+{
+    match op {
+        Compare::Gt => 0,
+        Compare::Lt => 1,
+    }
+}
+
+#[tactic(auto, unfolding(crate::specs::Reading::condition_at))]
+fn condition_of(bytes: &[u8]) -> Result<(Condition, &[u8]), Unread>
+    ensures { Gives (λ x. (x.0, x.1.now)) result (condition_at bytes.now) }
+{
+    let (metric, rest) = u8_at(bytes)?;
+    let metric = metric_of(metric).ok_or(Unread::Refused)?;
+    let (op, rest) = u8_at(rest)?;
+    let op = compare_of(op).ok_or(Unread::Refused)?;
+    let (error, rest) = u64_at(rest)?;
+    Ok((Condition { metric, op, error }, rest))
+}
+
+/// The condition at the front, and the bytes behind it.
+pub fn read_condition(bytes: &[u8]) -> Result<(Condition, &[u8]), Unread>
+    ensures reads { Reads spell.condition IsSoundCondition (λ x. (x.0, x.1.now)) bytes.now result }
+{
+    condition_of(bytes)
+}
+
+/// Writes a condition at the end.
+pub fn put_condition(out: &mut Vec<u8>, condition: &Condition) -> Result<(), Memory>
+    ensures { OnOk result (out.new.items ≡ out.old.items ++ spell.condition condition.now) }
+{
+    out.push(metric_byte(condition.metric))?;
+    out.push(compare_byte(condition.op))?;
+    out.extend_from_slice(&condition.error.to_be_bytes())?;
+    Ok(())
+}
+
+// So many conditions, one behind the other. No memory is taken ahead of them.
+fn conditions_at(alloc: Global, count: u32, bytes: &[u8]) -> Result<(Vec<Condition>, &[u8]), Unread>
+    ensures { Gives (λ x. (x.0.items, x.1.now)) result (items_at condition_at count bytes.now) }
+{
+    let mut conditions = Vec::new(alloc);
+    let mut rest = bytes;
+    for _ in 0..count {
+        let (condition, after) = condition_of(rest)?;
+        conditions.push(condition)?;
+        rest = after;
+    }
+    Ok((conditions, rest))
+}
+
+#[tactic(auto, unfolding(crate::specs::Reading::counted_at))]
+pub(crate) fn conditions_of(alloc: Global, bytes: &[u8]) -> Result<(Vec<Condition>, &[u8]), Unread>
+    ensures { Gives (λ x. (x.0.items, x.1.now)) result (counted_at condition_at bytes.now) }
+{
+    let (count, rest) = u32_at(bytes)?;
+    conditions_at(alloc, count, rest)
+}
+
+/// The list of conditions at the front, and the bytes behind it.
+pub fn read_conditions(alloc: Global, bytes: &[u8]) -> Result<(Vec<Condition>, &[u8]), Unread>
+    ensures reads { Reads (spell.counted spell.condition) (AreCounted IsSoundCondition) (λ x. (x.0.items, x.1.now)) bytes.now result }
+{
+    conditions_of(alloc, bytes)
+}
+
+/// Writes how many conditions there are, and each of them, at the end.
+pub fn put_conditions(out: &mut Vec<u8>, conditions: &[Condition]) -> Result<(), Memory>
+    requires { length conditions.now < 2 ^ 32 }
+    ensures { OnOk result (out.new.items ≡ out.old.items ++ spell.counted spell.condition conditions.now) }
+{
+    put_u32(out, conditions.len() as u32)?;
+    for condition in conditions {
+        put_condition(out, condition)?;
+    }
+    Ok(())
+}

@@ -1,0 +1,216 @@
+ghost use Rattle.std.specs.Prelude.{◌≡◌, ◌<◌, ◌^◌, ◌++◌, length, OnOk};
+ghost use Rattle.cq_key.specs.Keys.{lang_code};
+ghost use Rattle.cq_tokform.specs.Spelling as spell;
+ghost use Rattle.cq_tokform.specs.Spelling.{recorded};
+ghost use Rattle.cq_tokform.specs.Sound.{HasSpelling, IsSoundFile, is_sound_file};
+ghost use Rattle.cq_work.specs.Bounds.{has_tokens};
+ghost use Rattle.cq_tokform.specs.Reading.{Gives, Reads, counts_at, file_at, lang_at, lang_of, state_at};
+
+use crate::functions::{functions_of, put_functions};
+use crate::numbers::{put_text, put_u8, put_u32, put_u64, text_of, u8_at, u32_at, u64_at};
+use crate::tokens::{put_tokens, tokens_of};
+use crate::unread::Unread;
+use cq_base::{FileCounts, Lang, Memory, Settings, Spelled, Text};
+use cq_func::Function;
+use cq_work::State;
+use std::alloc::Global;
+
+/// What a token file has of a file: its path, the change that put it, its language, what its reading gave, what is counted
+/// of it, and its tokens and functions.
+#[derive(Debug, Drop)]
+pub struct FileRecord {
+    pub path: Text,
+    pub change: u64,
+    pub lang: Lang,
+    pub state: State,
+    pub counts: FileCounts,
+    pub tokens: Vec<Spelled>,
+    pub functions: Vec<Function>,
+}
+
+fn lang_of(byte: u8) -> Option<Lang>
+    ensures { result ≡ lang_of byte }
+{
+    match byte {
+        0 => Some(Lang::Any),
+        1 => Some(Lang::Go),
+        2 => Some(Lang::C),
+        3 => Some(Lang::Java),
+        _ => None,
+    }
+}
+
+#[tactic(auto, unfolding(crate::specs::Reading::lang_at))]
+fn language_of(bytes: &[u8]) -> Result<(Lang, &[u8]), Unread>
+    ensures { Gives (λ x. (x.0, x.1.now)) result (lang_at bytes.now) }
+{
+    let (byte, rest) = u8_at(bytes)?;
+    let lang = lang_of(byte).ok_or(Unread::Refused)?;
+    Ok((lang, rest))
+}
+
+#[tactic(auto, unfolding(crate::specs::Reading::state_at))]
+fn state_of(bytes: &[u8]) -> Result<(State, &[u8]), Unread>
+    ensures { Gives (λ x. (x.0, x.1.now)) result (state_at bytes.now) }
+{
+    match bytes {
+        [] => Err(Unread::Refused),
+        [0, rest @ ..] => Ok((State::Ok, rest)),
+        [1, rest @ ..] => {
+            let (at, rest) = u32_at(rest)?;
+            Ok((State::Fault(at), rest))
+        }
+        [2, rest @ ..] => Ok((State::Large, rest)),
+        [_, ..] => Err(Unread::Refused),
+    }
+}
+
+#[tactic(auto, unfolding(crate::specs::Reading::counts_at))]
+fn counts_of(bytes: &[u8]) -> Result<(FileCounts, &[u8]), Unread>
+    ensures { Gives (λ x. (x.0, x.1.now)) result (counts_at bytes.now) }
+{
+    let (lines, rest) = u64_at(bytes)?;
+    let (ncloc, rest) = u64_at(rest)?;
+    let (complexity, rest) = u64_at(rest)?;
+    let counts = FileCounts {
+        lines,
+        ncloc,
+        complexity,
+    };
+    Ok((counts, rest))
+}
+
+fn has_tokens(state: State) -> bool
+    ensures { result ≡ has_tokens state }
+{
+    match state {
+        State::Ok => true,
+        State::Fault(_) | State::Large => false,
+    }
+}
+
+// Whether a file may stand at this version. Its tokens and functions are sound already.
+fn is_sound(version: u64, file: &FileRecord) -> bool
+    ensures { result ≡ is_sound_file version (recorded file.now) }
+{
+    let counts = file.counts;
+    1 <= file.change
+        && file.change <= version
+        && counts.lines <= 1_048_576
+        && counts.ncloc <= counts.lines
+        && counts.complexity <= 262_145
+        && file.tokens.len() <= 262_144
+        && (has_tokens(file.state) || file.tokens.is_empty())
+        && (has_tokens(file.state) || file.functions.is_empty())
+}
+
+#[tactic(auto, unfolding(crate::specs::Reading::file_at))]
+pub(crate) fn file_of<'a>(
+    alloc: Global,
+    settings: &Settings,
+    version: u64,
+    bytes: &'a [u8],
+) -> Result<(FileRecord, &'a [u8]), Unread>
+    ensures { Gives (λ x. (recorded x.0, x.1.now)) result (file_at settings.now version bytes.now) }
+{
+    let (path, rest) = text_of(alloc, bytes)?;
+    let (change, rest) = u64_at(rest)?;
+    let (lang, rest) = language_of(rest)?;
+    let (state, rest) = state_of(rest)?;
+    let (counts, rest) = counts_of(rest)?;
+    let (tokens, rest) = tokens_of(alloc, settings, counts.lines, rest)?;
+    let (functions, rest) = functions_of(alloc, counts.lines, rest)?;
+    let file = FileRecord {
+        path,
+        change,
+        lang,
+        state,
+        counts,
+        tokens,
+        functions,
+    };
+    if !is_sound(version, &file) {
+        return Err(Unread::Refused);
+    }
+    Ok((file, rest))
+}
+
+/// The file at the front that may stand at this version, and the bytes behind it.
+pub fn read_file<'a>(
+    alloc: Global,
+    settings: &Settings,
+    version: u64,
+    bytes: &'a [u8],
+) -> Result<(FileRecord, &'a [u8]), Unread>
+    ensures reads { Reads spell.file (IsSoundFile settings.now version) (λ x. (recorded x.0, x.1.now)) bytes.now result }
+{
+    file_of(alloc, settings, version, bytes)
+}
+
+fn lang_byte(lang: Lang) -> u8
+    ensures { result ≡ lang_code lang }
+{
+    match lang {
+        Lang::Any => 0,
+        Lang::Go => 1,
+        Lang::C => 2,
+        Lang::Java => 3,
+    }
+}
+
+fn put_state(out: &mut Vec<u8>, state: State) -> Result<(), Memory>
+    ensures { OnOk result (out.new.items ≡ out.old.items ++ spell.outcome state) }
+{
+    match state {
+        State::Ok => put_u8(out, 0),
+        State::Fault(at) => {
+            put_u8(out, 1)?;
+            put_u32(out, at)
+        }
+        State::Large => put_u8(out, 2),
+    }
+}
+
+fn put_counts(out: &mut Vec<u8>, counts: FileCounts) -> Result<(), Memory>
+    ensures { OnOk result (out.new.items ≡ out.old.items ++ spell.counts counts) }
+{
+    put_u64(out, counts.lines)?;
+    put_u64(out, counts.ncloc)?;
+    put_u64(out, counts.complexity)?;
+    Ok(())
+}
+
+/// Writes what stands before the tokens of a file at the end.
+pub fn put_front(
+    out: &mut Vec<u8>,
+    path: &Text,
+    change: u64,
+    lang: Lang,
+    state: State,
+    counts: FileCounts,
+) -> Result<(), Memory>
+    requires { length path.now < 2 ^ 32 }
+    ensures { OnOk result (out.new.items ≡ out.old.items ++ spell.front path.now change lang state counts) }
+{
+    put_text(out, path.as_bytes())?;
+    put_u64(out, change)?;
+    put_u8(out, lang_byte(lang))?;
+    put_state(out, state)?;
+    put_counts(out, counts)?;
+    Ok(())
+}
+
+/// Writes a file at the end.
+pub fn put_file(out: &mut Vec<u8>, file: &FileRecord) -> Result<(), Memory>
+    requires { HasSpelling (recorded file.now) }
+    ensures { OnOk result (out.new.items ≡ out.old.items ++ spell.file (recorded file.now)) }
+{
+    put_text(out, file.path.as_bytes())?;
+    put_u64(out, file.change)?;
+    put_u8(out, lang_byte(file.lang))?;
+    put_state(out, file.state)?;
+    put_counts(out, file.counts)?;
+    put_tokens(out, file.tokens.as_slice())?;
+    put_functions(out, file.functions.as_slice())?;
+    Ok(())
+}

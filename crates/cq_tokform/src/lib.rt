@@ -1,0 +1,36 @@
+//! The byte form of a token file: what it has of a version of a project, part by part and whole. What is read is spelled so,
+//! what is spelled so is read, and no form begins another. A reader goes once over the bytes that it takes, and takes memory
+//! only for elements that it has read, whatever number of them is claimed.
+#![tactic(auto)]
+
+mod apart;
+mod conditions;
+mod contents;
+mod file;
+mod files;
+mod frame;
+mod functions;
+mod head;
+mod laws;
+mod numbers;
+mod rising;
+mod tokens;
+mod unread;
+
+pub use conditions::{put_condition, put_conditions, read_condition, read_conditions};
+pub use contents::{ContentsRecord, read_whole};
+pub use file::{FileRecord, put_file, put_front, read_file};
+pub use files::{put_files, read_files};
+pub use frame::{announced, put_frame, put_mark, read_frame};
+pub use functions::{put_function, put_functions, read_function, read_functions};
+pub use head::{Head, put_head, put_head_of, read_head};
+pub use laws::{
+    conditions_have_one_form, files_have_one_form, frames_have_one_form, functions_have_one_form,
+    heads_have_one_form, no_whole_begins_another, tokens_have_one_form, wholes_have_one_form,
+};
+pub use numbers::{put_u32, put_u64};
+pub use tokens::{put_token, put_tokens, read_token, read_tokens};
+pub use unread::Unread;
+
+#[cfg(test)]
+mod tests;

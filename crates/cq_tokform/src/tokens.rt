@@ -1,0 +1,184 @@
+ghost use Rattle.std.specs.Prelude.{◌≡◌, ◌<◌, ◌^◌, ◌++◌, length, All, OnOk};
+ghost use Rattle.cq_key.specs.Keys.{class_code};
+ghost use Rattle.cq_tokform.specs.Spelling as spell;
+ghost use Rattle.cq_tokform.specs.Sound.{AreCounted, IsSoundToken, is_sound_token};
+ghost use Rattle.cq_work.specs.Bounds.{is_ignored};
+ghost use Rattle.cq_tokform.specs.Reading.{Gives, Reads, class_of, counted_at, items_at, place_at, token_at};
+
+use crate::numbers::{put_text, put_u8, put_u32, text_of, u8_at, u32_at};
+use crate::unread::Unread;
+use cq_base::{Class, Memory, Settings, Spelled, Token};
+use std::alloc::Global;
+
+fn class_of(byte: u8) -> Option<Class>
+    ensures { result ≡ class_of byte }
+{
+    match byte {
+        0 => Some(Class::Ident),
+        1 => Some(Class::Word),
+        2 => Some(Class::Literal),
+        3 => Some(Class::Punct),
+        _ => None,
+    }
+}
+
+fn class_byte(class: Class) -> u8
+    ensures { result ≡ class_code class }
+{
+    match class {
+        Class::Ident => 0,
+        Class::Word => 1,
+        Class::Literal => 2,
+        Class::Punct => 3,
+    }
+}
+
+fn is_ignored(settings: &Settings, class: Class) -> bool
+    ensures { result ≡ is_ignored settings.now class }
+{
+    match class {
+        Class::Ident => settings.ignore_ids,
+        Class::Literal => settings.ignore_lits,
+        Class::Word | Class::Punct => false,
+    }
+}
+
+// Whether a token may stand in a file of so many lines. Its text is UTF-8 already.
+fn is_sound(settings: &Settings, lines: u64, spelled: &Spelled) -> bool
+    ensures { result ≡ is_sound_token settings.now lines spelled.now }
+{
+    let token = spelled.token;
+    token.start as u64 + token.len as u64 <= 1_048_576
+        && 1 <= token.first_line
+        && token.first_line <= token.last_line
+        && u64::from(token.last_line) <= lines
+        && (!is_ignored(settings, token.class) || spelled.text.as_bytes().is_empty())
+}
+
+#[tactic(auto, unfolding(crate::specs::Reading::place_at))]
+fn place_of(bytes: &[u8]) -> Result<(Token, &[u8]), Unread>
+    ensures { Gives (λ x. (x.0, x.1.now)) result (place_at bytes.now) }
+{
+    let (class, rest) = u8_at(bytes)?;
+    let class = class_of(class).ok_or(Unread::Refused)?;
+    let (start, rest) = u32_at(rest)?;
+    let (len, rest) = u32_at(rest)?;
+    let (first_line, rest) = u32_at(rest)?;
+    let (last_line, rest) = u32_at(rest)?;
+    let token = Token {
+        class,
+        start,
+        len,
+        first_line,
+        last_line,
+    };
+    Ok((token, rest))
+}
+
+#[tactic(auto, unfolding(crate::specs::Reading::token_at))]
+fn token_of<'a>(
+    alloc: Global,
+    settings: &Settings,
+    lines: u64,
+    bytes: &'a [u8],
+) -> Result<(Spelled, &'a [u8]), Unread>
+    ensures { Gives (λ x. (x.0, x.1.now)) result (token_at settings.now lines bytes.now) }
+{
+    let (token, rest) = place_of(bytes)?;
+    let (text, rest) = text_of(alloc, rest)?;
+    let spelled = Spelled { token, text };
+    if !is_sound(settings, lines, &spelled) {
+        return Err(Unread::Refused);
+    }
+    Ok((spelled, rest))
+}
+
+/// The token at the front that may stand in a file of so many lines, and the bytes behind it.
+pub fn read_token<'a>(
+    alloc: Global,
+    settings: &Settings,
+    lines: u64,
+    bytes: &'a [u8],
+) -> Result<(Spelled, &'a [u8]), Unread>
+    ensures reads { Reads spell.token (IsSoundToken settings.now lines) (λ x. (x.0, x.1.now)) bytes.now result }
+{
+    token_of(alloc, settings, lines, bytes)
+}
+
+// So many tokens, one behind the other. No memory is taken ahead of them.
+fn tokens_at<'a>(
+    alloc: Global,
+    settings: &Settings,
+    lines: u64,
+    count: u32,
+    bytes: &'a [u8],
+) -> Result<(Vec<Spelled>, &'a [u8]), Unread>
+    ensures { Gives (λ x. (x.0.items, x.1.now)) result (items_at (token_at settings.now lines) count bytes.now) }
+{
+    let mut tokens = Vec::new(alloc);
+    let mut rest = bytes;
+    for _ in 0..count {
+        let (token, after) = token_of(alloc, settings, lines, rest)?;
+        tokens.push(token)?;
+        rest = after;
+    }
+    Ok((tokens, rest))
+}
+
+#[tactic(auto, unfolding(crate::specs::Reading::counted_at))]
+pub(crate) fn tokens_of<'a>(
+    alloc: Global,
+    settings: &Settings,
+    lines: u64,
+    bytes: &'a [u8],
+) -> Result<(Vec<Spelled>, &'a [u8]), Unread>
+    ensures { Gives (λ x. (x.0.items, x.1.now)) result (counted_at (token_at settings.now lines) bytes.now) }
+{
+    let (count, rest) = u32_at(bytes)?;
+    tokens_at(alloc, settings, lines, count, rest)
+}
+
+/// The list of tokens at the front that may stand in a file of so many lines, and the bytes behind it.
+pub fn read_tokens<'a>(
+    alloc: Global,
+    settings: &Settings,
+    lines: u64,
+    bytes: &'a [u8],
+) -> Result<(Vec<Spelled>, &'a [u8]), Unread>
+    ensures reads { Reads (spell.counted spell.token) (AreCounted (IsSoundToken settings.now lines)) (λ x. (x.0.items, x.1.now)) bytes.now result }
+{
+    tokens_of(alloc, settings, lines, bytes)
+}
+
+fn put_place(out: &mut Vec<u8>, token: Token) -> Result<(), Memory>
+    ensures { OnOk result (out.new.items ≡ out.old.items ++ spell.place token) }
+{
+    put_u8(out, class_byte(token.class))?;
+    put_u32(out, token.start)?;
+    put_u32(out, token.len)?;
+    put_u32(out, token.first_line)?;
+    put_u32(out, token.last_line)?;
+    Ok(())
+}
+
+/// Writes a token with this text at the end.
+pub fn put_token(out: &mut Vec<u8>, token: Token, text: &[u8]) -> Result<(), Memory>
+    requires { length text.now < 2 ^ 32 }
+    ensures { OnOk result (out.new.items ≡ out.old.items ++ spell.token (record { token = token; text = text.now })) }
+{
+    put_place(out, token)?;
+    put_text(out, text)
+}
+
+/// Writes how many tokens there are, and each of them, at the end.
+pub fn put_tokens(out: &mut Vec<u8>, tokens: &[Spelled]) -> Result<(), Memory>
+    requires few { length tokens.now < 2 ^ 32 }
+    requires short { All (λ s. length s.text < 2 ^ 32) tokens.now }
+    ensures { OnOk result (out.new.items ≡ out.old.items ++ spell.counted spell.token tokens.now) }
+{
+    put_u32(out, tokens.len() as u32)?;
+    for spelled in tokens {
+        put_token(out, spelled.token, spelled.text.as_bytes())?;
+    }
+    Ok(())
+}
