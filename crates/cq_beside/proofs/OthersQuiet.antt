@@ -1,12 +1,11 @@
 -- A session beside which no other caller accepts a change.
-use Rattle.std.proofs.Common.{◌≡◌, ◌⊎◌, ℕ, ◌+◌, ◌<◌, ◌≤◌, List, map, sym, ap, subst, arith, inl, inr, ⊎_elim, refl}
+use Rattle.std.proofs.Common.{◌≡◌, ◌⊎◌, ℕ, ◌+◌, ◌<◌, ◌≤◌, List, map, sym, subst, arith, inl, inr, ⊎_elim, refl}
 use Rattle.std.specs.List.{AllByRecursion}
 use Rattle.std.proofs.lemmas.Bool.{cases_lt, cases_eq}
 use Rattle.cq_base.specs.declared.settings.Settings.{Settings}
 use Rattle.cq_cells.specs.Passes.{by_of}
 use Rattle.cq_chain.specs.Passes.{BoardPass}
 use Rattle.cq_history.specs.declared.event.Event.{Event}
-use Rattle.cq_history.specs.State.{accepted}
 use Rattle.cq_history.specs.Lawful.{Lawful}
 use Rattle.cq_history.proofs.States.{Lawful-prefix}
 use Rattle.cq_io.specs.declared.sink.Sink as sink

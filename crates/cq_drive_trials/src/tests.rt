@@ -51,14 +51,14 @@ fn difference(written: &[u8], wanted: &[u8]) -> Option<u64> {
 
 // The kinds of outcomes: a step, a piece of its outcome, and how often it comes in the three scripts together, which
 // have 986 lines. An outcome is of the first kind that it fits; a refusal is counted whatever its line is.
-const KINDS: &str = r#""accept" | "value": | 92
+const KINDS: &str = r#""accept" | "value": | 105
 "ask" | "value": | 13
-"took" | null | 13
-"took" | "value": | 24
+"took" | null | 11
+"took" | "value": | 26
 "back" | "ok":true | 5
 "back" | {"ok":false} | 28
-"done" | "ok":true | 50
-"done" | {"ok":false} | 40
+"done" | "ok":true | 52
+"done" | {"ok":false} | 38
 "apply" | "value": | 121
 "apply" | {"ok":false} | 26
 "publish" | "ok":true | 24
@@ -88,9 +88,9 @@ const KINDS: &str = r#""accept" | "value": | 92
  | "code":5, | 6
  | "code":6, | 3
  | "code":7, | 6
- | "code":9, | 8
- | "code":10, | 18
- | "code":11, | 9
+ | "code":9, | 9
+ | "code":10, | 11
+ | "code":11, | 2
  | "code":13, | 3
  | "code":15, | 6
 "#;

@@ -21,7 +21,7 @@ const SETTINGS: Settings = Settings {
     key_bits: 64,
     ignore_ids: false,
     ignore_lits: false,
-    change_limit: 9,
+    change_limit: 6,
     text_limit: 1_000,
     byte_limit: 1_048_576,
 };

@@ -1,11 +1,11 @@
 -- A search among numbers that rise, from a place on.
-use Rattle.std.proofs.Common.{◌≡◌, ℕ, ◌+◌, ◌-◌, ◌<◌, ◌≤◌, true, false, nat_lt, List, length, take, drop, get_or, ap, ⊎_elim, arith}
+use Rattle.std.proofs.Common.{◌≡◌, ℕ, ◌+◌, ◌-◌, ◌<◌, ◌≤◌, true, false, nat_lt, List, length, take, drop, get_or, ap, ◌∙◌, ⊎_elim, arith}
 use Rattle.std.specs.List.{AllWithin}
 use Rattle.std.specs.List.Sorted.{IsStrictlyIncreasing, IsPartitionedBy}
 use Rattle.std.proofs.lemmas.Bool.{cases_lt}
 use Rattle.std.proofs.lemmas.List.{get_or_default}
 use Rattle.cq_clones.proofs.Words.{length-word, get_or-word}
-use Rattle.cq_shard.specs.Tables.{IsReached}
+use Rattle.cq_shard.specs.Tables.{IsAt, IsReached}
 use Rattle.cq_shard.proofs.Live.{rises}
 
 module _ (xs : List ℕ) (up : IsStrictlyIncreasing xs) where
@@ -15,6 +15,26 @@ module _ (xs : List ℕ) (up : IsStrictlyIncreasing xs) where
       let b = get_or_default xs j d 0 within in
       let h = rises xs up i j low within in
       omega (arith, a, b, h)
+
+  -- the one behind `start` is the number
+  pub reached_next : (start number : ℕ) → IsAt xs (start + 1) number → IsReached xs start number (start + 1) (start + 1)
+  reached_next start number there =
+      let within = there.0 in
+      record {
+        begins = omega arith;
+        within = (omega arith, omega (arith, within));
+        lesser = λ k d above below.
+            let same : k ≡ start = omega (arith, above, below) in
+            let a = up k (omega (arith, same, within)) in
+            let b = get_or_default xs k d 0 (omega (arith, same, within)) in
+            let c = get_or_default xs (k + 1) number 0 (omega (arith, same, within)) in
+            let e : get_or xs (k + 1) number ≡ number = ap (λ i. get_or xs (i + 1) number) same ∙ there.1 in
+            omega (arith, a, b, c, e);
+        others = λ k d above below.
+            let h = rises_at (start + 1) k number above below in
+            let same = get_or_default xs k d number below in
+            omega (arith, h, same, there.1);
+      }
 
   module _ (start number from to : ℕ) (reached : IsReached xs start number from to) where
     pub reached_behind : (at d : ℕ) → from ≤ at → at < to → get_or xs at d < number → IsReached xs start number (at + 1) to

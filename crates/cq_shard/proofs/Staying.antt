@@ -7,7 +7,7 @@ use Rattle.std.proofs.lemmas.Bool.{OnTrue_from, eqb-true, lt-ltb, ltb-true, or_l
 use Rattle.std.proofs.lemmas.List.{take_more, take_all, get_or-take, get_or_default, length-take}
 use Rattle.std.proofs.lemmas.List.Elements.{All-push}
 use Rattle.std.proofs.lemmas.Map.Views.{Contains-from_any}
-use Rattle.cq_shard.specs.Tables.{is_among, stays, AreStaying}
+use Rattle.cq_shard.specs.Tables.{IsAt, is_among, stays, AreStaying}
 use Rattle.cq_shard.proofs.Entries.{any_of}
 use Rattle.cq_shard.proofs.Live.{rises}
 
@@ -17,6 +17,9 @@ stays_above floor keep n above = or_left (nat_lt floor n) (is_among keep n) (lt-
 pub stays_kept : (floor : ℕ) (keep : List ℕ) (n : ℕ) → Contains keep n → stays floor keep n ≡ true
 stays_kept floor keep n there = or_right (nat_lt floor n) (is_among keep n) (any_of n keep there)
 
+pub stays_there : (floor : ℕ) (keep : List ℕ) (at n : ℕ) → IsAt keep at n → stays floor keep n ≡ true
+stays_there floor keep at n there = stays_kept floor keep n (at, there.0, there.1)
+
 pub stays_cases : (floor : ℕ) (keep : List ℕ) (n : ℕ) → stays floor keep n ≡ true → (floor < n) ⊎ Contains keep n
 stays_cases floor keep n is = ⊎_elim
     (λ above. inl (ltb-true floor n above))
@@ -25,8 +28,8 @@ stays_cases floor keep n is = ⊎_elim
 
 -- ---- one by one
 
-pub read_there : (xs : List ℕ) (at n : ℕ) → at < length xs → OnTrue (nat_eq (get_or xs at 0) n) (Contains xs n)
-read_there xs at n within = OnTrue_from (nat_eq (get_or xs at 0) n) (Contains xs n) (λ same. (at, within, get_or_default xs at n 0 within ∙ eqb-true (get_or xs at 0) n same))
+pub read_there : (xs : List ℕ) (at n : ℕ) → at < length xs → OnTrue (nat_eq (get_or xs at 0) n) (IsAt xs at n)
+read_there xs at n within = OnTrue_from (nat_eq (get_or xs at 0) n) (IsAt xs at n) (λ same. (within, get_or_default xs at n 0 within ∙ eqb-true (get_or xs at 0) n same))
 
 module _ (floor : ℕ) (keep changes : List ℕ) where
   pub staying_first : AreStaying floor keep (take 0 changes)

@@ -1,5 +1,5 @@
 -- Numbers that rise: a search among them from a place on, and what is left of them.
-use Rattle.std.specs.Prelude.{◌≡◌, ◌↔◌, ◌⊎◌, ℕ, ◌<◌, ◌≤◌, ◌||◌, Bool, true, nat_eq, nat_lt, List, length, map, filter, Contains, All}
+use Rattle.std.specs.Prelude.{◌≡◌, ◌↔◌, ◌⊎◌, ℕ, ◌<◌, ◌≤◌, ◌||◌, Bool, true, nat_eq, nat_lt, List, length, get_or, map, filter, Contains, All}
 use Rattle.std.specs.List.{list_any, AllWithin}
 use Rattle.std.specs.List.Sorted.{IsStrictlyIncreasing}
 use Rattle.cq_base.specs.declared.entry.Entry.{Entry}
@@ -10,6 +10,10 @@ pub record IsReached (numbers : List ℕ) (start number from to : ℕ) : Type 0 
   pub within : (from ≤ to) × (to ≤ length numbers)
   pub lesser : AllWithin (λ n. n < number) numbers start from
   pub others : AllWithin (λ n. number ≤ n) numbers to (length numbers)
+
+-- the number stands at this place
+abbrev pub IsAt : List ℕ → ℕ → ℕ → Type 0
+IsAt numbers at n = (at < length numbers) × (get_or numbers at n ≡ n)
 
 -- whether the number is among these
 abbrev pub is_among : List ℕ → ℕ → Bool

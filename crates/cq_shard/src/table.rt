@@ -1,9 +1,9 @@
-ghost use Rattle.std.specs.Prelude.{◌≡◌, ◌+◌, ◌<◌, ◌≤◌, [], length, take, All, AllPairs, Contains, OnOk, OnErr};
+ghost use Rattle.std.specs.Prelude.{◌≡◌, ◌+◌, ◌<◌, ◌≤◌, [], length, take, All, AllPairs, OnOk, OnErr};
 ghost use Rattle.std.specs.Bool.{OnTrue};
 ghost use Rattle.std.specs.List.Sorted.{IsStrictlyIncreasing};
 ghost use Rattle.cq_clones.specs.Windows.{EntryBefore};
 ghost use Rattle.cq_shard.specs.Stores.{those_of};
-ghost use Rattle.cq_shard.specs.Tables.{IsReached, IsTable, is_among, stays, staying, AreStaying, AreBefore, AreCounted, AreNoted};
+ghost use Rattle.cq_shard.specs.Tables.{IsReached, IsTable, IsAt, is_among, stays, staying, AreStaying, AreBefore, AreCounted, AreNoted};
 
 use crate::run::is_live;
 use cq_base::{Entry, Memory};
@@ -155,7 +155,7 @@ fn first_going(changes: &[u64], floor: u64, keep: &[u64]) -> usize
 
 // Whether the number stands at the place.
 fn stands_at(numbers: &[u64], at: usize, number: u64) -> bool
-    ensures { OnTrue result (Contains numbers.now number) }
+    ensures { OnTrue result (IsAt numbers.now at number) }
 {
     if at >= numbers.len() {
         return false;
@@ -181,11 +181,13 @@ fn close_up(
     ensures none { result ≡ 0 → changes.new.items ≡ changes.old.items }
 {
     let mut kept = first;
+    let mut near = 0;
     let mut taken = 0u64;
     for i in first..changes.len() {
         let change = changes[i];
         let size = sizes[i];
-        if !stays(floor, keep, change) {
+        near = behind(keep, near, change);
+        if !stays(floor, keep, near, change) {
             taken = taken.saturating_add(size.max(1));
             continue;
         }
@@ -197,21 +199,30 @@ fn close_up(
     taken
 }
 
-// Whether the change is above the floor, or one of those to keep.
-fn stays(floor: u64, keep: &[u64], change: u64) -> bool
+// Whether the change is above the floor, or one of those to keep. It looks first at the place where it is likely to stand.
+fn stays(floor: u64, keep: &[u64], near: usize, change: u64) -> bool
     requires { IsStrictlyIncreasing keep.now }
     ensures { result ≡ stays floor keep.now change }
 {
-    floor < change || is_live(keep, change)
+    if floor < change {
+        return true;
+    }
+    if stands_at(keep, near, change) {
+        return true;
+    }
+    is_live(keep, change)
 }
 
-// Behind how many the first from `start` on stands that is no less than the number. It takes about as many looks as the
-// logarithm of how far that is.
+// Behind how many the first from `start` on stands that is no less than the number. It takes one look where that is the one
+// behind `start`, and else about as many as the logarithm of how far it is.
 fn behind(numbers: &[u64], start: usize, number: u64) -> usize
     requires rising { IsStrictlyIncreasing numbers.now }
     requires within { start ≤ length numbers.now }
     ensures { IsReached numbers.now start number result result }
 {
+    if start < numbers.len() && stands_at(numbers, start + 1, number) {
+        return start + 1;
+    }
     let (from, to) = stretch(numbers, start, number);
     from + numbers[from..to].partition_point(|n| *n < number)
 }

@@ -84,13 +84,13 @@ module _ (set : Settings) (w : Walk) (k : Known) (agrees : Agrees w k) where
 
   -- nothing is walked, whatever is named
   stays : (later : Walk) (changes : List Change) (version answered : ℕ) → later ≡ w → changes ≡ k.changes → version ≡ 0 → answered ≡ 0 → Agrees later (record { changes = changes; version = max k.version version; answered = max k.answered answered })
-  stays later changes version answered same still none no = subst (λ t. Agrees t (record { changes = changes; version = max k.version version; answered = max k.answered answered })) (sym same) (record {
+  stays later changes version answered same still none unanswered = subst (λ t. Agrees t (record { changes = changes; version = max k.version version; answered = max k.answered answered })) (sym same) (record {
     changes = agrees.changes ∙ sym still;
     version = max-le agrees.version (omega (arith, none));
     order = agrees.order;
     few = agrees.few;
     put = agrees.put;
-    answered = max-le agrees.answered (omega (arith, no));
+    answered = max-le agrees.answered (omega (arith, unanswered));
     floor = agrees.floor;
   })
 
@@ -158,7 +158,7 @@ module _ (set : Settings) (w : Walk) (k : Known) (agrees : Agrees w k) where
       order = agrees.order;
       few = agrees.few;
       put = agrees.put;
-      answered = let no : answered_in r ≡ 0 = ap answered_in is.0 in max-le agrees.answered (omega (arith, no));
+      answered = let unanswered : answered_in r ≡ 0 = ap answered_in is.0 in max-le agrees.answered (omega (arith, unanswered));
       floor = agrees.floor;
     });
   }

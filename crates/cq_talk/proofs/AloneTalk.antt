@@ -45,8 +45,8 @@ given_read set callers alone c seen h later (Read says) is = tt
 
 -- ---- nobody has a view open
 
-all_none : (callers : ℕ) → All (λ view. view ≡ None) (replicate callers None)
-all_none callers k d within = get_or-replicate callers None k d (omega (arith, within, length-replicate callers {A = Option ℕ} None))
+all_none : (callers : ℕ) → All (λ (view : Option ℕ). view ≡ None) (replicate callers None)
+all_none callers k d within = get_or-replicate callers k None d (omega (arith, within, length-replicate {A = Option ℕ} callers None))
 
 -- ---- the walk and the state of the history
 

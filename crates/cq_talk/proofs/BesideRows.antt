@@ -50,7 +50,7 @@ quiet_view c w (Publish p) other acts = refl
 quiet_view c w (Open by p) other acts = ap (λ b. cond b (Some p) None) (ne_eqb w by (λ same. other (same ∙ acts)))
 quiet_view c w (Shut by) other acts = by_both (w == by)
   where
-    by_both : (b : Bool) → cond b (None {A = ℕ}) None ≡ None
+    by_both : (b : Bool) → cond {A = Option ℕ} b None None ≡ None
     by_both true = refl
     by_both false = refl
 quiet_view c w (Floor f) other acts = refl

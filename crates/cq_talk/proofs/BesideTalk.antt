@@ -71,6 +71,7 @@ no_answer refusal.Lang = refl
 no_answer refusal.Path = refl
 no_answer refusal.TooMuchText = refl
 no_answer refusal.Min = refl
+no_answer refusal.Scope = refl
 no_answer refusal.Memory = refl
 
 pub none_told : (changes : List Change) (change : Change) (why : Refused) → (with_told changes change (cause_told why) ≡ changes) × (version_in (cause_told why) ≡ 0) × (answered_in (cause_told why) ≡ 0)
@@ -97,7 +98,7 @@ module _ (set : Settings) (callers : ℕ) (alone : Type 0) (c seen : ℕ) (h : L
   }
 
   silent : (later : List Event) (l : Said) (r : Reply) → changes_then k.changes l r ≡ k.changes → version_in r ≡ 0 → answered_in r ≡ 0 → Keeps callers h later → Fits callers (known_then k l r) (max seen (named r)) later
-  silent later l r same none no kept = named_more later l r same kept (omega (arith, none)) (omega (arith, no))
+  silent later l r same none unanswered kept = named_more later l r same kept (omega (arith, none)) (omega (arith, unanswered))
 
   same_many : (mid : List Event) → Keeps callers h mid → length (state callers mid).slots ≡ length k.changes
   same_many mid kept = slots_number callers mid ∙ ap length (kept.accepted_is ∙ fits.changes)
@@ -153,7 +154,7 @@ module _ (set : Settings) (callers : ℕ) (alone : Type 0) (c seen : ℕ) (h : L
           few = omega (arith, few, many);
           reply_is = is.reply_is ∙ ap (λ n. reply.State n (ready s) s.published) many;
         });
-        fits = named_more later (Read (Ok request.State)) r refl kept (omega (arith, published, version)) (let no : answered_in r ≡ 0 = ap answered_in is.reply_is in omega (arith, no));
+        fits = named_more later (Read (Ok request.State)) r refl kept (omega (arith, published, version)) (let unanswered : answered_in r ≡ 0 = ap answered_in is.reply_is in omega (arith, unanswered));
       }
 
   shown : (q : Query) (r : Reply) (later : List Event) → Fair set callers c later → IsShown set callers alone c seen h q r later → Turn set callers k (Read (Ok (request.Query q))) r seen later

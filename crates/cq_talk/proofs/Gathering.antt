@@ -4,13 +4,11 @@ use Rattle.std.specs.List.{AllByRecursion}
 use Rattle.std.proofs.lemmas.Bool.{cases_lt}
 use mathlib.Core.List.{IsPrefix}
 use Rattle.cq_base.specs.declared.settings.Settings.{Settings}
-use Rattle.cq_base.specs.declared.change.Change.{Change}
 use Rattle.cq_history.specs.declared.event.Event.{Event}
 use Rattle.cq_history.specs.declared.event.Event.TheVariants.{Accept, Ask, Took, Back, Done, Publish, Open, Shut, Floor}
 use Rattle.cq_history.specs.State.{accepted, own, maker, is_by}
 use Rattle.cq_history.specs.Lawful.{Lawful}
 use Rattle.cq_history.proofs.States.{Lawful-prefix}
-use Rattle.cq_history.proofs.Prefixes.{accepted-append}
 use Rattle.cq_hub.proofs.Growing.{all-append}
 use Rattle.cq_talk.specs.Laws.{ActsBy}
 use Rattle.cq_reply.specs.declared.reply.Reply.{Reply}

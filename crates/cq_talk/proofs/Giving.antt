@@ -1,5 +1,5 @@
 -- What a user may conclude from the replies.
-use Rattle.std.proofs.Common.{◌≡◌, ◌⊎◌, ℕ, ◌+◌, ◌<◌, ◌≤◌, List, [], ◌∷◌, length, Option, Some, None, false, refl, sym, ap, ◌∙◌, inl, inr, arith, length-append}
+use Rattle.std.proofs.Common.{◌≡◌, ◌⊎◌, ℕ, ◌+◌, ◌<◌, ◌≤◌, List, [], ◌∷◌, length, false, refl, sym, ap, ◌∙◌, inl, inr, arith, length-append}
 use Rattle.std.proofs.Math.Nat.{le-max_right}
 use Rattle.cq_base.specs.declared.settings.Settings.{Settings}
 use Rattle.cq_base.specs.declared.change.Change.{Change}

@@ -1,6 +1,6 @@
 -- The causes against a change at different floors: a higher floor leaves more room.
-use Rattle.std.proofs.Common.{◌≡◌, ◌⊎◌, ◌^◌, ℕ, ◌+◌, ◌≤◌, Bool, true, false, cond, ◌||◌, List, length, map, Option, Some, None, refl, sym, ap, ◌∙◌, inl, inr, ⊎_elim, arith}
-use Rattle.std.specs.Prelude.{nat_le, nat_lt}
+use Rattle.std.proofs.Common.{◌≡◌, ◌⊎◌, ◌^◌, ℕ, ◌+◌, ◌≤◌, Bool, true, false, cond, List, length, map, Some, None, refl, sym, ap, ◌∙◌, inl, inr, ⊎_elim, arith}
+use Rattle.std.specs.Prelude.{nat_le}
 use Rattle.std.proofs.lemmas.Bool.{or_left, or_right, or_cases, leb-true, le-leb, ltb-true, lt-ltb}
 use Rattle.cq_base.specs.declared.settings.Settings.{Settings}
 use Rattle.cq_base.specs.declared.change.Change.{Change}
@@ -51,8 +51,8 @@ module _ (set : Settings) (changes : List Change) (low high : ℕ) (le : low ≤
           ap (λ a. cond a (Some Absent) (cond b (Some FullChanges) (cond c (Some FullText) None))) x ∙ ap (λ b. cond b (Some FullChanges) (cond c (Some FullText) None)) y ∙ ap (λ c. cond c (Some FullText) None) z
 
       stays : (high low : Bool) → (high ≡ true → low ≡ true) → low ≡ false → high ≡ false
-      stays true low to no = absurd (let yes = to refl in cc (yes, no))
-      stays false low to no = refl
+      stays true low to fails = absurd (let holds : low ≡ true = to refl in cc (holds, fails))
+      stays false low to fails = refl
 
 -- ---- what a user is told
 

@@ -1,5 +1,5 @@
 -- What a question, and a query that is served, add to a history.
-use Rattle.std.proofs.Common.{◌≡◌, ◌⊎◌, ℕ, ◌<◌, ◌≤◌, Bool, true, false, cond, fold, List, [], ◌∷◌, ◌++◌, length, map, Option, Some, None, refl, sym, ap, ap₂, ◌∙◌, subst, inl, inr, ⊎_elim, arith, append-nil, append_assoc}
+use Rattle.std.proofs.Common.{◌≡◌, ◌⊎◌, ℕ, ◌≤◌, Bool, true, false, cond, fold, List, [], ◌∷◌, ◌++◌, length, map, Option, Some, None, refl, sym, ap, ap₂, ◌∙◌, subst, inl, inr, ⊎_elim, arith, append-nil, append_assoc}
 use Rattle.std.specs.Prelude.{All}
 use Rattle.std.specs.List.{AllByRecursion}
 use Rattle.std.proofs.lemmas.Bool.{cases_lt, cases_eq, eq-eqb, ne_eqb}
@@ -95,9 +95,9 @@ none_open (view ∷ views) n shut = ap (λ v. fold lower (lower n v) views) (All
 -- the last of the caller's own events shuts its view
 pub shut_last : (c : ℕ) (before : List Event) (rs : List ℕ) (v : ℕ) → view_in c (before ++ Ask c ∷ works_and_view c rs (Some v)) ≡ None
 shut_last c before rs v =
-    let front = before ++ Ask c ∷ map (λ r. Done c r) rs ++ Open c v ∷ [] in
+    let front : List Event = before ++ (Ask c ∷ (map (λ r. Done c r) rs ++ Open c v ∷ [])) in
     let is : before ++ Ask c ∷ works_and_view c rs (Some v) ≡ front ++ Shut c ∷ [] =
-    ap (λ es. before ++ Ask c ∷ es) (sym (append_assoc (map (λ r. Done c r) rs) (Open c v ∷ []) (Shut c ∷ []))) ∙ sym (append_assoc before (Ask c ∷ map (λ r. Done c r) rs ++ Open c v ∷ []) (Shut c ∷ [])) in
+    ap (λ es. before ++ (Ask c ∷ es)) (sym (append_assoc (map (λ r. Done c r) rs) (Open c v ∷ []) (Shut c ∷ []))) ∙ sym (append_assoc before (Ask c ∷ (map (λ r. Done c r) rs ++ Open c v ∷ [])) (Shut c ∷ [])) in
     ap (view_in c) is ∙ fold_push (view_after c) None front (Shut c) ∙ ap (λ b. cond b None (fold (view_after c) None front)) (eq-eqb c c refl)
 
 -- another caller's own events are what they were
@@ -127,7 +127,7 @@ served_shut set callers c seen q h later v law is shut k d within =
     was w = sym (view_own w h) ∙ sym (view_is set callers h w before) ∙ all_shut w
       where
         all_shut : (w : ℕ) → view_of (state callers h) w ≡ None
-        all_shut w = ⊎_elim (λ lt. shut w None lt) (λ past. get_or-eq_default (state callers h).views past) (cases_lt w (length (state callers h).views))
+        all_shut w = ⊎_elim (λ lt. shut w None lt) (λ past. get_or-eq_default (state callers h).views None past) (cases_lt w (length (state callers h).views))
 
     closed : (w : ℕ) → view_in w later ≡ None
     closed w = ⊎_elim

@@ -7,8 +7,8 @@ use Rattle.cq_hub.proofs.ShardSteps.{shards_set, each_more}
 use Rattle.cq_hub.proofs.applying.apply_counted.Goals as goal
 
 -- the first shard has applied what is published, and the floor is no higher
-pub behind-coming-requires-clause-floor : goal.behind-coming-requires-clause-floor
-behind-coming-requires-clause-floor g c =
+pub behind-requires-clause-floor : goal.behind-requires-clause-floor
+behind-requires-clause-floor g c =
     let b = c.args.board.now in
     let within : 0 < length c.args.shards.now.items = let n = c.requires.stand.number_is in let some = c.requires.some in omega (arith, n, some) in
     let first = subst (IsShardOf (HasWindow g.W.Indexed.keys_in g.W.Indexed.IsWorkOf b.settings) b 0) (sym c.index.ensures) (c.requires.stand.each 0 c.index.result.now within) in

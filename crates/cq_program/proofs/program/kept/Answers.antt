@@ -2,7 +2,6 @@ use Rattle.std.proofs.Common.{◌∙◌, sym}
 use Rattle.cq_program.proofs.Kept.{others, not_four, on_finished, on_spent, on_read_fault, on_write_fault, on_refused}
 use Rattle.cq_program.proofs.program.kept.Goals as goal
 
--- the names of the steps are guessed
 pub returns-in-Ok-clause-others : goal.returns-in-Ok-clause-others
 returns-in-Ok-clause-others g c =
     let none = others c.in-Ok.asked in

@@ -1,7 +1,11 @@
 use Rattle.std.proofs.Common.{◌-◌, nat_lt, take, drop, rules}
+use Rattle.std.proofs.lemmas.Bool.{OnTrue_at}
 use Rattle.std.proofs.lemmas.List.Sorted.{IsPartitionPoint-from_clause}
-use Rattle.cq_shard.proofs.Reaching.{parted_numbers, reached_there}
+use Rattle.cq_shard.proofs.Reaching.{reached_next, parted_numbers, reached_there}
 use Rattle.cq_shard.proofs.table.behind.Goals as goal
+
+pub returns-then-stands_at : goal.returns-then-stands_at
+returns-then-stands_at c = reached_next c.args.numbers.now c.requires.rising c.args.start c.args.number (OnTrue_at c.if-stands_at.true c.stands_at.ensures)
 
 pub returns : goal.returns
 returns c =

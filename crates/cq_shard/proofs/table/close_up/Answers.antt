@@ -10,7 +10,7 @@ pub loop-i-init : goal.loop-i-init
 loop-i-init c =
     let test : ℕ → Bool = λ (n : ℕ). stays c.args.floor c.args.keep.now n in
     let closing = closing_first test c.args.changes.now.items c.args.first c.requires.front in
-    record { closing = closing; sized = c.requires.table.sized; none = λ nothing. sym closing.made }
+    record { closing = closing; near = omega arith; sized = c.requires.table.sized; none = λ nothing. sym closing.made }
 
 pub loop-i-preserved-then-not-stays : goal.loop-i-preserved-then-not-stays
 loop-i-preserved-then-not-stays c =
@@ -22,6 +22,7 @@ loop-i-preserved-then-not-stays c =
     let goes : test x ≡ false = sym c.stays.ensures ∙ c.if-not-stays.true in
     record {
       closing = closing_dropped test old c.loop-i.changes.items c.loop-i.i c.loop-i.kept x was.closing within (subst (λ y. test y ≡ false) c.index-change.ensures goes);
+      near = c.behind-near.ensures.within.1;
       sized = was.sized;
       none = λ nothing. let one = c.max.ensures in let more = c.saturating_add-taken.ensures in absurd (omega (arith, one, more, nothing));
     }
@@ -42,6 +43,7 @@ loop-i-preserved c =
     let sized = was.sized in
     record {
       closing = subst (λ y. IsClosing test old (set now kept y) (i + 1) (kept + 1)) (sym c.index-change.ensures) (closing_kept test old now i kept x was.closing within is);
+      near = c.behind-near.ensures.within.1;
       sized = omega (arith, long, many, sized);
       none = λ nothing. none_yet test old now i kept x was.closing within is (was.none nothing);
     }

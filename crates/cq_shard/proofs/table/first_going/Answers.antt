@@ -1,6 +1,6 @@
 use Rattle.std.proofs.Common.{get_or, arith}
 use Rattle.std.proofs.lemmas.Bool.{OnTrue_at}
-use Rattle.cq_shard.proofs.Staying.{stays_kept, staying_first, staying_more, staying_all, staying_above}
+use Rattle.cq_shard.proofs.Staying.{stays_there, staying_first, staying_more, staying_all, staying_above}
 use Rattle.cq_shard.proofs.table.first_going.Goals as goal
 
 pub walk-init : goal.walk-init
@@ -12,7 +12,7 @@ walk-preserved c =
     let keep = c.args.keep.now in
     let x = get_or c.args.changes.now c.walk.i 0 in
     let within = c.walk-test.true in
-    let is = stays_kept floor keep x (OnTrue_at c.if-not-stands_at.false c.stands_at.ensures) in
+    let is = stays_there floor keep c.behind-next.result x (OnTrue_at c.if-not-stands_at.false c.stands_at.ensures) in
     record {
       walked = omega (arith, within);
       seen = c.behind-next.ensures.within.1;

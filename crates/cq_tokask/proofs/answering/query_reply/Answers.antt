@@ -7,7 +7,6 @@ use Rattle.cq_tokask.proofs.GivenFiles.{given_snapshot}
 use Rattle.cq_tokask.proofs.Said.{answers_later, answers_now, of_project, of_other}
 use Rattle.cq_tokask.proofs.answering.query_reply.Goals as goal
 
--- the names of the steps are guessed
 pub returns-then-query-snapshot-clause-answers : goal.returns-then-query-snapshot-clause-answers
 returns-then-query-snapshot-clause-answers g c = answers_later c.args.snapshot.now c.args.query.now c.if-query-snapshot.true
 

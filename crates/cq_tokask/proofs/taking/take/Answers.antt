@@ -3,7 +3,7 @@ use Rattle.cq_io.specs.Causes.{Rose}
 use Rattle.cq_tokask.proofs.Coming.{came_none, came_more, comes_more}
 use Rattle.cq_tokask.proofs.taking.take.Goals as goal
 
--- the names of the steps are guessed; of `take_some` the clause `bytes` says how many came, and which
+-- of `take_some` the clause `bytes` says how many came, and which
 pub pieces-init : goal.pieces-init
 pieces-init g c = record {
   comes = record { got = []; came = came_none (g.S.Source.rest c.args.source.now) c.args.out.now.items; many = omega arith };

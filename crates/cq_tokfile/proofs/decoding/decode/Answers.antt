@@ -4,7 +4,7 @@ use Rattle.cq_tokform.specs.Spelling.{listed}
 use Rattle.cq_tokfile.proofs.Decoded.{is_token_file, left_over, not_read}
 use Rattle.cq_tokfile.proofs.decoding.decode.Goals as goal
 
--- the names of the steps are guessed: each answer is a lemma of Decoded over what `read_whole` says in `reads`
+-- each answer is a lemma of Decoded over what `read_whole` says in `reads`
 
 pub snapshot_of-requires-clause-sound : goal.snapshot_of-requires-clause-sound
 snapshot_of-requires-clause-sound g c = c.in-Ok.ensures.reads.0

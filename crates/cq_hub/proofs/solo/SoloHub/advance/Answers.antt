@@ -2,10 +2,9 @@ use Rattle.std.proofs.Common.{◌≡◌, ◌≤◌, ◌++◌, [], ◌∷◌, ari
 use Rattle.cq_base.specs.declared.settings.Settings.{Settings}
 use Rattle.cq_history.specs.declared.event.Event.TheVariants as event
 use Rattle.cq_history.specs.State.{State, ready}
-use Rattle.cq_history.proofs.Bounds.{in_order}
 use Rattle.cq_shard.specs.Shard.{HasWindow}
-use Rattle.cq_hub.specs.Solos.{solo_lawful}
 use Rattle.cq_hub.proofs.Growing.{calls_now}
+use Rattle.cq_hub.proofs.Raising.{floor_published}
 use Rattle.cq_hub.proofs.Soloing.{solo_applies, solo_stand, solo_publishes, solo_says, solo_said, solo_same, solo_nil, grows_published, published_then}
 use Rattle.cq_hub.proofs.solo.SoloHub.advance.Goals as goal
 
@@ -16,9 +15,7 @@ returns-then-published-to-clause-published g c = λ by h is.
     (solo_nil _ _ by h _ _ is)
 
 pub apply_up_to-requires-clause-floor : goal.apply_up_to-requires-clause-floor
-apply_up_to-requires-clause-floor g c =
-    let r = c.requires.done in
-    solo_said _ _ r.0 r.1 _ _ r.2 (λ n (set : Settings) (s : State). s.floor ≤ s.published) (in_order _ 1 r.1 (solo_lawful _ _ r.0 r.1 _ _ r.2)).floor
+apply_up_to-requires-clause-floor g c = let r = c.requires.done in floor_published _ _ r.0 r.1 _ _ r.2
 
 pub apply_up_to-requires-clause-some : goal.apply_up_to-requires-clause-some
 apply_up_to-requires-clause-some g c = let r = c.requires.done in r.2.some_shard
