@@ -1,6 +1,6 @@
 -- A board of one caller: what a work and a publication leave of it.
 use Rattle.std.proofs.Common.{◌≡◌, ℕ, ◌+◌, ◌<◌, ◌≤◌, List, [], ◌∷◌, ◌++◌, length, map, fold, Option, None, refl, sym, ap, ◌∙◌, subst, inr, arith}
-use Rattle.std.specs.Prelude.{slice_index_or}
+use Rattle.std.specs.Prelude.{All, slice_index_or}
 use Rattle.std.proofs.lemmas.List.{append-nil, length-map}
 use Rattle.std.proofs.lemmas.List.Elements.{Contains-push}
 use Rattle.std.proofs.lemmas.List.Sums.{prefix_len-le-length}
@@ -20,7 +20,10 @@ use Rattle.cq_history.specs.Gone.{kept_count}
 use Rattle.cq_history.specs.State.{State, Slot, is_done, start, after, state, changes_in, ready, view_of, accepted, IsAccepted, IsDone}
 use Rattle.cq_history.specs.declared.event.Event.{Event}
 use Rattle.cq_history.specs.declared.event.Event.TheVariants.{Accept, Ask, Done, Publish}
+use Rattle.cq_request.specs.Named.{IsNamed}
 use Rattle.cq_talk.proofs.OneMore.{ready_more}
+use Rattle.cq_tokask.specs.Exported.{IsOfChanges}
+use Rattle.cq_tokfile.specs.declared.snapshot.Snapshot.{Snapshot}
 
 -- ---- changes alone
 
@@ -46,6 +49,12 @@ accepted_holds set changes b has =
       },
       ap changes_in is ∙ changes_in-state 1 (accepts changes) ∙ accepted_alone changes,
     )
+
+pub accepted_named : (set : Settings) (changes : List Change) (b : BoardState) → HasAccepted set changes b → All IsNamed (changes_in b.state)
+accepted_named set changes b has = subst (All IsNamed) (sym (accepted_holds set changes b has).1) has.named
+
+pub of_accepted : {L : Type 0} (set : Settings) (changes : List Change) (b : BoardState) (project : List ℕ) (s : Snapshot L) → HasAccepted set changes b → IsOfChanges set (changes_in b.state) project s → IsOfChanges set changes project s
+of_accepted set changes b project s has of = subst (λ (cs : List Change). IsOfChanges set cs project s) (accepted_holds set changes b has).1 of
 
 -- ---- one event more
 

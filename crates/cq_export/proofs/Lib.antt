@@ -1,3 +1,4 @@
+mod Conditions
 mod Accepting
 mod Running
 mod Jobs

@@ -1,4 +1,4 @@
-ghost use Rattle.std.specs.Prelude.{◌≡◌, map, IfOk};
+ghost use Rattle.std.specs.Prelude.{◌≡◌, ◌<◌, ◌^◌, map, IfOk};
 ghost use Rattle.std.specs.Arc.{arc_value};
 ghost use Rattle.std.specs.List.{AllByRecursion};
 ghost use Rattle.cq_tokform.specs.Sound.{IsSoundCondition};
@@ -35,6 +35,26 @@ pub(crate) fn shared<W: Drop>(
     ProjectFiles::gathered(alloc, owners)
 }
 
+// A number has eight bytes.
+fn in_eight_bytes(number: u64) -> u64
+    ensures same { result ≡ number }
+    ensures low { result < 2 ^ 64 }
+{
+    number
+}
+
+// The same condition. Its error has eight bytes.
+fn as_read(condition: &Condition) -> Condition
+    ensures same { result ≡ condition.now }
+    ensures sound { IsSoundCondition result }
+{
+    Condition {
+        metric: condition.metric,
+        op: condition.op,
+        error: in_eight_bytes(condition.error),
+    }
+}
+
 /// The same conditions. Each error has eight bytes.
 pub(crate) fn copied(alloc: Global, conditions: &[Condition]) -> Result<Vec<Condition>, Memory>
     ensures same { IfOk result (λ copied. copied.items ≡ conditions.now) }
@@ -42,7 +62,7 @@ pub(crate) fn copied(alloc: Global, conditions: &[Condition]) -> Result<Vec<Cond
 {
     let mut copied = Vec::with_capacity(alloc, conditions.len())?;
     for condition in conditions {
-        copied.push(*condition)?;
+        copied.push(as_read(condition))?;
     }
     Ok(copied)
 }

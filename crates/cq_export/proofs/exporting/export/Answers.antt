@@ -1,41 +1,36 @@
-use Rattle.std.proofs.Common.{List, refl, sym, subst}
-use Rattle.std.specs.Prelude.{All}
+use Rattle.std.proofs.Common.{refl}
 use Rattle.std.proofs.lemmas.Result.{IfOk-weaker}
-use Rattle.cq_base.specs.declared.change.Change.{Change}
-use Rattle.cq_export.proofs.Ended.{written_of}
-use Rattle.cq_tokask.specs.Exported.{IsOfChanges}
 use Rattle.cq_export.proofs.Accepting.{begun}
-use Rattle.cq_export.proofs.Holding.{accepted_holds}
+use Rattle.cq_export.proofs.Ended.{written_of}
+use Rattle.cq_export.proofs.Holding.{accepted_holds, accepted_named, of_accepted}
 use Rattle.cq_export.proofs.exporting.export.Goals as goal
-use Rattle.cq_request.specs.Named.{IsNamed}
 
 pub take_changes-requires-clause-nothing : goal.take_changes-requires-clause-nothing
 take_changes-requires-clause-nothing g c = begun c.args.settings.now c.in_ok-board.board c.in_ok-board.ensures.stands c.in_ok-board.ensures.settings c.in_ok-board.ensures.callers
 
 pub made-requires-clause-holds : goal.made-requires-clause-holds
 made-requires-clause-holds g c =
-    let (changes, taken, has) = c.in-All.ensures.takes in
+    let (changes, taken, has) = rw c.in-All.is at c.in_ok-take_changes.ensures.takes in
     (accepted_holds c.args.settings.now changes c.take_changes.new.board has).0
 
 pub made-requires-clause-named : goal.made-requires-clause-named
 made-requires-clause-named g c =
-    let (changes, taken, has) = c.in-All.ensures.takes in
-    subst (All IsNamed) (sym (accepted_holds c.args.settings.now changes c.take_changes.new.board has).1) has.named
+    let (changes, taken, has) = rw c.in-All.is at c.in_ok-take_changes.ensures.takes in
+    accepted_named c.args.settings.now changes c.take_changes.new.board has
 
 pub returns-in-Spent-clause-exports : goal.returns-in-Spent-clause-exports
-returns-in-Spent-clause-exports g c = (c.in-Spent.ensures.takes, c.in-Spent.ensures.cause, refl)
+returns-in-Spent-clause-exports g c = (rw c.in-Spent.is at c.in_ok-take_changes.ensures.takes, rw c.in-Spent.is at c.in_ok-take_changes.ensures.cause, refl)
 
 pub returns-in-Failed-clause-exports : goal.returns-in-Failed-clause-exports
-returns-in-Failed-clause-exports g c = (c.in-Failed.ensures.takes, c.in-Failed.ensures.cause, refl)
+returns-in-Failed-clause-exports g c = (rw c.in-Failed.is at c.in_ok-take_changes.ensures.takes, rw c.in-Failed.is at c.in_ok-take_changes.ensures.cause, refl)
 
 pub returns-in-Refused-clause-exports : goal.returns-in-Refused-clause-exports
-returns-in-Refused-clause-exports g c = (c.in-Refused.ensures.takes, c.in-Refused.ensures.cause, refl)
+returns-in-Refused-clause-exports g c = (rw c.in-Refused.is at c.in_ok-take_changes.ensures.takes, rw c.in-Refused.is at c.in_ok-take_changes.ensures.cause, refl)
 
 pub returns-clause-exports : goal.returns-clause-exports
 returns-clause-exports g c =
-    let (changes, taken, has) = c.in-All.ensures.takes in
-    let same = (accepted_holds c.args.settings.now changes c.take_changes.new.board has).1 in
-    let of = subst (λ (cs : List Change). IsOfChanges c.args.settings.now cs c.args.project.now c.in_ok-snapshot.snapshot) same c.in_ok-snapshot.ensures.of_changes in
+    let (changes, taken, has) = rw c.in-All.is at c.in_ok-take_changes.ensures.takes in
+    let of = of_accepted c.args.settings.now changes c.take_changes.new.board c.args.project.now c.in_ok-snapshot.snapshot has c.in_ok-snapshot.ensures.of_changes in
     IfOk-weaker c.write.result _ _
-    (λ by writes. written_of g.row.L.Denot g.S.Source g.K.Sink c.args.settings.now c.args.project.now c.args.source.now c.take_changes.new.source c.args.sink.now c.write.new.sink changes c.in_ok-snapshot.snapshot taken c.in-All.ensures.cause of by writes)
+    (λ by writes. written_of g.row.L.Denot g.S.Source g.K.Sink c.args.settings.now c.args.project.now c.args.source.now c.take_changes.new.source c.args.sink.now c.write.new.sink changes c.in_ok-snapshot.snapshot taken (rw c.in-All.is at c.in_ok-take_changes.ensures.cause) of by writes)
     c.write.ensures.writes

@@ -14,5 +14,5 @@ returns-in-Ok-Query-clause-says c = subst (λ (says : Result Request Refusal). I
 pub returns-in-Ok-State-clause-says : goal.returns-in-Ok-State-clause-says
 returns-in-Ok-State-clause-says c = subst (λ (says : Result Request Refusal). IsNoChange says) (sym (c.in-Ok-State.ensures.says ∙ ap Ok c.in-Ok-State.field-0-is)) tt
 
-pub returns-in-Ok-refused_as-clause-says : goal.returns-in-Ok-refused_as-clause-says
-returns-in-Ok-refused_as-clause-says c = subst (λ (says : Result Request Refusal). IsNoChange says) (sym (refusal_said c.in-Err.refusal _ c.in-Ok.ensures.told c.in-Err.ensures.says)) tt
+pub returns-in-Ok-clause-says : goal.returns-in-Ok-clause-says
+returns-in-Ok-clause-says c = subst (λ (says : Result Request Refusal). IsNoChange says) (sym (refusal_said c.in-Err.refusal _ c.in-Ok.ensures.told c.in-Err.ensures.says)) tt

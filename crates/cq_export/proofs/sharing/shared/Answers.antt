@@ -12,4 +12,4 @@ gathered-requires-clause-rising g c =
 
 pub gathered-requires-clause-apart : goal.gathered-requires-clause-apart
 gathered-requires-clause-apart g c =
-    subst (λ (files : List (File g.row.W.Denot)). AreApartIn files) (sym (c.in_ok-owners.ensures ∙ c.items.ensures.files)) (spots_apart (numbers_of c.args.files.now) c.spots-_apart.result.now c.spots-_apart.ensures)
+    subst (λ (files : List (File g.row.W.Denot)). AreApartIn files) (sym (c.in_ok-owners.ensures ∙ c.items.ensures.files)) (spots_apart (numbers_of c.args.files.now) c.spots-apart.result.now c.spots-apart.ensures)

@@ -12,7 +12,7 @@ lines-init g c = record {
 }
 
 pub take_line-requires-clause-caller : goal.take_line-requires-clause-caller
-take_line-requires-clause-caller g c = let so = c.lines.invariant.goes in is_caller c.args.settings.now so.changes c.lines.board.now so.accepted
+take_line-requires-clause-caller g c = let so = c.lines.invariant.goes in is_caller c.args.settings.now so.changes c.lines.board so.accepted
 
 pub returns-in-End-clause-takes : goal.returns-in-End-clause-takes
 returns-in-End-clause-takes g c = at_end c.args.settings.now _ _ _ _ _ _ c.lines.invariant.goes (rw c.in-End.is at c.next.follows.holds-at-none)
@@ -36,7 +36,8 @@ pub returns-in-Ok-false-clause-takes : goal.returns-in-Ok-false-clause-takes
 returns-in-Ok-false-clause-takes g c =
     let cuts = rw c.in-Line.is at c.next.follows.holds-at-none in
     let so = c.lines.invariant.goes in
-    line_refused c.args.settings.now _ _ _ _ _ _ cuts.got c.in-Line.line.now so cuts.bytes cuts.taken cuts.within cuts.limit (λ e. (cuts.stays e).0) cuts.finds.1 (c.in-Ok-false.ensures so.changes so.accepted)
+    let takes = rw c.in-Ok-false.field-0-test at c.in-Ok-false.ensures.takes in
+    line_refused c.args.settings.now _ _ _ _ _ _ cuts.got c.in-Line.line.now so cuts.bytes cuts.taken cuts.within cuts.limit (λ e. (cuts.stays e).0) cuts.finds.1 (takes so.changes so.accepted)
 
 pub lines-smaller : goal.lines-smaller
 lines-smaller g c =
@@ -47,6 +48,6 @@ pub lines-preserved : goal.lines-preserved
 lines-preserved g c =
     let cuts = rw c.in-Line.is at c.next.follows.holds-at-none in
     record {
-      goes = one_taken c.args.settings.now _ _ _ _ _ _ cuts.got c.in-Line.line.now c.lines.invariant.goes cuts.bytes cuts.taken cuts.within cuts.limit (λ e. (cuts.stays e).0) cuts.finds.1 _ c.in-Ok-true.ensures;
+      goes = one_taken c.args.settings.now _ _ _ _ _ _ cuts.got c.in-Line.line.now c.lines.invariant.goes cuts.bytes cuts.taken cuts.within cuts.limit (λ e. (cuts.stays e).0) cuts.finds.1 c.take_line.new.board (rw c.in-Ok-true.field-0-test at c.in-Ok-true.ensures.takes);
       faults = c.in-Line.ensures.cause ∙ c.lines.invariant.faults;
     }

@@ -13,7 +13,7 @@ pub work_for-requires-clause-sound : goal.work_for-requires-clause-sound
 work_for-requires-clause-sound g c = rw c.in-Ok-Some.field-0-is at c.in-Ok-Some.ensures.text
 
 pub done-requires-clause-caller : goal.done-requires-clause-caller
-done-requires-clause-caller g c = one_caller_there c.args.settings.now c.args.board.now c.requires.holds
+done-requires-clause-caller g c = one_caller_there c.args.settings.now c.args.board.now c.args.board.now c.requires.holds
 
 pub done-requires-clause-work : goal.done-requires-clause-work
 done-requires-clause-work g c =
@@ -22,7 +22,7 @@ done-requires-clause-work g c =
     (subst (λ (set : Settings). IsWorkOf set c.in-Ok-Some.job.lang (arc_value c.in-Ok-Some.job.text) (arc_value c.in-Ok.work)) (sym c.requires.holds.settings_are) c.in-Ok.ensures)
 
 pub returns-in-Done : goal.returns-in-Done
-returns-in-Done g c = made_then c.args.settings.now c.args.board.now c.done.new.board c.requires.holds c.args.change c.requires.there (c.done.ensures.adds c.in-Done.is)
+returns-in-Done g c = made_then c.args.settings.now c.args.board.now c.done.new.self c.requires.holds c.args.change c.requires.there (c.done.ensures.adds c.in-Done.is)
 
 pub returns : goal.returns
-returns g c = made_before c.args.settings.now c.args.board.now c.done.new.board c.args.change c.requires.holds (c.done.ensures.unchanged c.in-Already.is) (c.done.ensures.already.0 c.in-Already.is)
+returns g c = made_before c.args.settings.now c.args.board.now c.done.new.self c.args.change c.requires.holds (c.done.ensures.unchanged c.in-Already.is) (c.done.ensures.already.0 c.in-Already.is)
