@@ -1,6 +1,6 @@
 -- Changes that a board accepts one behind the other, and what a line says.
-use Rattle.std.proofs.Common.{◌≡◌, ◌⊎◌, ℕ, ◌<◌, ◌≤◌, Bool, if◌then◌else◌, List, [], ◌∷◌, ◌++◌, length, map, Option, Some, None, Ok, Err, Result, fold, refl, sym, ap, ap₂, ◌∙◌, subst, ⊎_elim, append_assoc, arith}
-use Rattle.std.specs.Prelude.{All, IsSome}
+use Rattle.std.proofs.Common.{◌≡◌, ◌⊎◌, ℕ, ◌<◌, ◌≤◌, Bool, if◌then◌else◌, List, [], ◌∷◌, ◌++◌, length, Option, Some, None, Ok, Err, Result, fold, refl, sym, ap, ap₂, ◌∙◌, subst, ⊎_elim, append_assoc, arith}
+use Rattle.std.specs.Prelude.{IsSome}
 use Rattle.std.proofs.lemmas.Bool.{lt-ltb, le-ltb}
 use Rattle.std.proofs.lemmas.List.{append-nil, map-append}
 use Rattle.std.proofs.lemmas.List.Elements.{All-nil, All-push}
@@ -22,7 +22,7 @@ use Rattle.cq_request.specs.declared.request.Request.{Request}
 use Rattle.cq_request.specs.declared.request.Request.TheVariants as request
 use Rattle.cq_talk.proofs.Causing.{cause_is}
 use Rattle.cq_talk.specs.Causes.{cause}
-use Rattle.cq_talk.specs.Said.{Said, TooLong, Read, said}
+use Rattle.cq_talk.specs.Said.{TooLong, Read, said}
 
 -- ---- what a line says
 

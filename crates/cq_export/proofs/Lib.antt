@@ -6,3 +6,7 @@ mod Holding
 mod Showing
 mod Ended
 mod Sounding
+mod Lexings
+mod OneReply
+mod Rereading
+mod Sessions

@@ -1,5 +1,5 @@
 -- The version of sound changes, each with names of its form, is a sound snapshot.
-use Rattle.std.proofs.Common.{◌≡◌, ℕ, suc, get_or, nat_le, ⊎_elim, ◌+◌, ◌≤◌, ◌<◌, ◌^◌, Bool, true, false, List, [], ◌∷◌, length, map, refl, sym, ap, ◌∙◌, subst, arith}
+use Rattle.std.proofs.Common.{◌≡◌, ℕ, get_or, nat_le, ⊎_elim, ◌≤◌, ◌<◌, Bool, true, false, List, [], ◌∷◌, length, map, refl, sym, ap, ◌∙◌, subst, arith}
 use Rattle.std.specs.Prelude.{All, AllPairs, ◌≢◌, ◌&&◌, IfOk, Result, Ok, Err}
 use Rattle.std.specs.Arc.{arc_value}
 use Rattle.std.specs.List.{AllByRecursion, list_all}
@@ -12,7 +12,7 @@ use Rattle.std.proofs.lemmas.List.Elements.{All-nil, All-cons}
 use Rattle.std.proofs.lemmas.Str.{is_utf8-from_IsUtf8, IsUtf8-from_ascii}
 use Rattle.cq_answer.proofs.Bounding.{version_bounded, named_files}
 use Rattle.cq_answer.proofs.VersionFiles.{few_conditions}
-use Rattle.cq_answer.specs.Bounds.{IsFileOf, AreFilesOf}
+use Rattle.cq_answer.specs.Bounds.{IsFileOf}
 use Rattle.cq_base.specs.Changes.{IsSoundChange}
 use Rattle.cq_base.specs.Settings.{IsInRange}
 use Rattle.cq_base.specs.declared.change.Change.{Change}
@@ -20,8 +20,6 @@ use Rattle.cq_base.specs.declared.change.Condition.{Condition}
 use Rattle.cq_base.specs.declared.lang.Lang.{Lang}
 use Rattle.cq_base.specs.declared.norm.Norm.{Norm}
 use Rattle.cq_base.specs.declared.settings.Settings.{Settings}
-use Rattle.cq_base.specs.declared.token.Class.{Class}
-use Rattle.cq_base.specs.declared.token.Class.TheVariants as class
 use Rattle.cq_base.specs.declared.token.Token.{Token}
 use Rattle.cq_func.specs.declared.function.Function.{Function}
 use Rattle.cq_history.specs.Files.{File, is_before}
@@ -30,7 +28,7 @@ use Rattle.cq_names.specs.Names.{parts, is_part, is_path_byte, is_name_byte, is_
 use Rattle.cq_projects.specs.Ordered.{AreRising}
 use Rattle.cq_request.specs.Named.{IsNamed}
 use Rattle.cq_tokform.specs.Sound.{IsSoundText, IsSoundState, IsSoundCondition, IsSoundToken, IsSoundFunction, IsSoundFile}
-use Rattle.cq_tokfile.specs.Snapshot.{spelled_of, record_of, contents_of, IsOneFile, IsSoundSnapshot}
+use Rattle.cq_tokfile.specs.Snapshot.{spelled_of, record_of, IsOneFile, IsSoundSnapshot}
 use Rattle.cq_tokform.specs.Spelling.{Recorded}
 use Rattle.cq_tokfile.specs.declared.snapshot.Snapshot.{Snapshot}
 use Rattle.cq_tokfile.proofs.Decoded.{same_changes}

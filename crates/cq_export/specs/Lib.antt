@@ -1,3 +1,4 @@
 pub mod Lines
 pub mod Boards
 pub mod Exports
+pub mod Laws

@@ -5,6 +5,7 @@
 #![tactic(auto)]
 
 mod exporting;
+mod laws;
 mod publishing;
 mod saying;
 mod sharing;
@@ -12,3 +13,4 @@ mod taking;
 mod working;
 
 pub use exporting::{Exported, export};
+pub use laws::a_written_version_answers_as_a_session;
