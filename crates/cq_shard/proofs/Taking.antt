@@ -1,9 +1,12 @@
 -- Changes in a table: some taken out where they stand, and those of more entries noted.
-use Rattle.std.proofs.Common.{◌≡◌, ℕ, suc, ◌+◌, ◌-◌, ◌<◌, ◌≤◌, Bool, true, false, cond, nat_eq, List, [], ◌∷◌, ◌++◌, length, take, drop, get_or, set, filter, refl, sym, ap, ap₂, ◌∙◌, subst, inl, inr, ⊎_elim, arith, append-nil}
+use Rattle.std.proofs.Common.{◌≡◌, ℕ, suc, ◌+◌, ◌-◌, ◌<◌, ◌≤◌, Bool, true, false, cond, nat_eq, List, [], ◌∷◌, ◌++◌, length, take, drop, get_or, set, filter, refl, sym, ap, ap₂, ◌∙◌, subst, inl, inr, ⊎_elim, arith, append-nil, append_assoc}
 use Rattle.std.specs.Prelude.{All, AllPairs, Contains}
+use Rattle.std.specs.List.{copy_within}
 use Rattle.std.specs.List.Sorted.{IsStrictlyIncreasing}
 use Rattle.std.proofs.lemmas.Bool.{eqb-true, false_from_ne_true, cases_lt, eq-eqb, false≢true}
-use Rattle.std.proofs.lemmas.List.{take_more, take_more_set, drop_more, drop-set-lt, take_all, length-set, length-take, get_or_default, get_or-take, map-append}
+use Rattle.std.proofs.lemmas.List.{take_more, take_more_set, drop_more, drop-set-lt, take_all, take-append-drop, drop-drop, length-set, length-take, length-drop, get_or_default, get_or-take, map-append}
+use Rattle.std.proofs.Math.Seq.{paste, take-add}
+use Rattle.std.proofs.lemmas.List.Edits.{take-paste, drop-paste, length-paste}
 use Rattle.std.proofs.lemmas.List.Elements.{All-contains, filter-append, Contains-push, Contains-push_cases, Contains-append_left, Contains-get_or}
 use Rattle.std.proofs.lemmas.List.Kept.{AllPairs-from_increasing}
 use Rattle.std.proofs.lemmas.List.Quantifiers.{all_pairs_push}
@@ -37,13 +40,59 @@ pub record IsClosing (test : ℕ → Bool) (old now : List ℕ) (i kept : ℕ) :
   pub made : take kept now ≡ filter test (take i old)
   pub rest : drop i now ≡ drop i old
 
-pub closing_first : (test : ℕ → Bool) (old : List ℕ) (first : ℕ) → All (λ n. test n ≡ true) (take first old) → IsClosing test old old first first
-closing_first test old first front = record {
-  low = omega arith;
-  number = refl;
-  made = sym (left_same test (take first old) (λ n c. All-contains (λ n. test n ≡ true) (take first old) n front c));
-  rest = refl;
-}
+pub closing_first : (test : ℕ → Bool) (old : List ℕ) → IsClosing test old old 0 0
+closing_first test old = record { low = omega arith; number = refl; made = refl; rest = refl }
+
+-- what is moved onto itself stays
+pub moved_nowhere : (xs : List ℕ) (at n : ℕ) → paste xs at (drop at xs) n ≡ xs
+moved_nowhere xs at n =
+    append_assoc (take at xs) (take n (drop at xs)) (drop (at + n) xs)
+    ∙ ap (λ l. take at xs ++ (take n (drop at xs) ++ l)) (sym (drop-drop n at xs))
+    ∙ ap (λ l. take at xs ++ l) (take-append-drop n (drop at xs))
+    ∙ take-append-drop at xs
+
+-- as many are moved as there is room for
+pub length-moved : (xs : List ℕ) (from many to : ℕ) → to ≤ from → from + many ≤ length xs → length (copy_within xs from (from + many) to) ≡ length xs
+length-moved xs from many to low within =
+    let rest = length-drop from xs in
+    length-paste xs to (drop from xs) (from + many - from) (omega (arith, low, within)) (omega (arith, rest, within))
+
+-- some more that all pass move up together
+module _ (test : ℕ → Bool) (old now : List ℕ) (i kept run : ℕ) (closing : IsClosing test old now i kept) (within : i + run ≤ length now) (all : (n : ℕ) → Contains (take run (drop i now)) n → test n ≡ true) where
+  left_run : filter test (take (i + run) old) ≡ filter test (take i old) ++ take run (drop i now)
+  left_run =
+      ap (filter test) (take-add i run old)
+      ∙ filter-append test (take i old) (take run (drop i old))
+      ∙ ap (λ xs. filter test (take i old) ++ filter test (take run xs)) (sym closing.rest)
+      ∙ ap (λ xs. filter test (take i old) ++ xs) (left_same test (take run (drop i now)) all)
+
+  pub closing_run : IsClosing test old (copy_within now i (i + run) kept) (i + run) (kept + run)
+  closing_run =
+      let low = closing.low in
+      let many = length-drop i now in
+      let some : run ≤ length (drop i now) = omega (arith, many, within) in
+      let place : kept ≤ length now = omega (arith, low, within) in
+      let moved = paste now kept (drop i now) run in
+      let is : copy_within now i (i + run) kept ≡ moved = ap (paste now kept (drop i now)) (omega arith) in
+      subst (λ xs. IsClosing test old xs (i + run) (kept + run)) (sym is) (record {
+        low = omega (arith, low);
+        number = ap length (sym is) ∙ length-moved now i run kept low within ∙ closing.number;
+        made = take-paste now kept (drop i now) run place some ∙ ap (λ xs. xs ++ take run (drop i now)) closing.made ∙ sym left_run;
+        rest =
+            let e : i + run ≡ kept + run + (i - kept) = omega (arith, low) in
+            ap (λ k. drop k moved) e
+            ∙ sym (drop-drop (i - kept) (kept + run) moved)
+            ∙ ap (drop (i - kept)) (drop-paste now kept (drop i now) run place some)
+            ∙ drop-drop (i - kept) (kept + run) now
+            ∙ ap (λ k. drop k now) (sym e)
+            ∙ sym (drop-drop run i now)
+            ∙ ap (drop run) closing.rest
+            ∙ drop-drop run i old;
+      })
+
+  pub none_in_run : filter test (take i old) ≡ take i old → filter test (take (i + run) old) ≡ take (i + run) old
+  none_in_run same =
+      left_run ∙ ap₂ (λ front xs. front ++ take run xs) same closing.rest ∙ sym (take-add i run old)
 
 heads : (xs ys : List ℕ) (x y : ℕ) → x ∷ xs ≡ y ∷ ys → (x ≡ y) × (xs ≡ ys)
 heads xs ys x y e = (cc e, cc e)

@@ -1,5 +1,5 @@
 -- Numbers that rise: a search among them from a place on, and what is left of them.
-use Rattle.std.specs.Prelude.{◌≡◌, ◌↔◌, ◌⊎◌, ℕ, ◌<◌, ◌≤◌, ◌||◌, Bool, true, nat_eq, nat_lt, List, length, get_or, map, filter, Contains, All}
+use Rattle.std.specs.Prelude.{◌≡◌, ◌↔◌, ◌⊎◌, ℕ, ◌<◌, ◌≤◌, ◌||◌, Bool, nat_eq, nat_lt, List, length, get_or, map, filter, Contains}
 use Rattle.std.specs.List.{list_any, AllWithin}
 use Rattle.std.specs.List.Sorted.{IsStrictlyIncreasing}
 use Rattle.cq_base.specs.declared.entry.Entry.{Entry}
@@ -26,10 +26,6 @@ stays floor keep n = nat_lt floor n || is_among keep n
 -- the changes that stay
 abbrev pub staying : ℕ → List ℕ → List ℕ → List ℕ
 staying floor keep numbers = filter (λ n. stays floor keep n) numbers
-
--- all of them stay
-abbrev pub AreStaying : ℕ → List ℕ → List ℕ → Type 0
-AreStaying floor keep numbers = All (λ n. stays floor keep n ≡ true) numbers
 
 -- the changes rise, and each has a size
 pub record IsTable (changes sizes : List ℕ) : Type 0 where

@@ -1,9 +1,10 @@
-ghost use Rattle.std.specs.Prelude.{◌≡◌, ◌+◌, ◌<◌, ◌≤◌, [], length, take, All, AllPairs, OnOk, OnErr};
+ghost use Rattle.std.specs.Prelude.{◌≡◌, ◌+◌, ◌<◌, ◌≤◌, [], length, take, drop, All, AllPairs, Contains, OnOk, OnErr};
 ghost use Rattle.std.specs.Bool.{OnTrue};
+ghost use Rattle.std.specs.List.{copy_within};
 ghost use Rattle.std.specs.List.Sorted.{IsStrictlyIncreasing};
 ghost use Rattle.cq_clones.specs.Windows.{EntryBefore};
 ghost use Rattle.cq_shard.specs.Stores.{those_of};
-ghost use Rattle.cq_shard.specs.Tables.{IsReached, IsTable, IsAt, is_among, stays, staying, AreStaying, AreBefore, AreCounted, AreNoted};
+ghost use Rattle.cq_shard.specs.Tables.{IsReached, IsTable, IsAt, is_among, stays, staying, AreBefore, AreCounted, AreNoted};
 
 use crate::run::is_live;
 use cq_base::{Entry, Memory};
@@ -85,14 +86,14 @@ impl Table {
     }
 
     /// Takes the changes up to the floor out but for those to keep, and tells how many entries they had, 0 only where none was
-    /// taken out. Both lists are walked side by side up to the first that goes, and those behind it move up one by one.
+    /// taken out. Both lists are walked side by side; as far as they go alike it is a comparison for each change, and those
+    /// behind the first that goes move up.
     pub fn take_out(&mut self, floor: u64, keep: &[u64]) -> u64
         requires keep { IsStrictlyIncreasing keep.now }
         ensures left { self.new ≡ staying floor keep.now self.old }
         ensures none { result ≡ 0 → self.new ≡ self.old }
     {
-        let first = first_going(&self.changes, floor, keep);
-        close_up(&mut self.changes, &mut self.sizes, first, floor, keep)
+        close_up(&mut self.changes, &mut self.sizes, floor, keep)
     }
 }
 
@@ -128,31 +129,6 @@ fn is_last(changes: &[u64], change: u64) -> bool
     changes[changes.len() - 1] == change
 }
 
-// Behind how many of the changes, all of which stay, one stands that goes; where none goes, behind all. It looks at each of
-// the changes up to the floor, and searches those to keep for it from where the last one was found.
-fn first_going(changes: &[u64], floor: u64, keep: &[u64]) -> usize
-    requires rising { IsStrictlyIncreasing changes.now }
-    requires keep { IsStrictlyIncreasing keep.now }
-    ensures within { result ≤ length changes.now }
-    ensures front { AreStaying floor keep.now (take result changes.now) }
-{
-    let mut i = 0;
-    let mut j = 0;
-    'walk: while i < changes.len() {
-        let change = changes[i];
-        if floor < change {
-            return changes.len();
-        }
-        let next = behind(keep, j, change);
-        if !stands_at(keep, next, change) {
-            return i;
-        }
-        j = next;
-        i += 1;
-    }
-    changes.len()
-}
-
 // Whether the number stands at the place.
 fn stands_at(numbers: &[u64], at: usize, number: u64) -> bool
     ensures { OnTrue result (IsAt numbers.now at number) }
@@ -163,29 +139,32 @@ fn stands_at(numbers: &[u64], at: usize, number: u64) -> bool
     numbers[at] == number
 }
 
-// Takes the changes up to the floor out but for those to keep, behind the first so many, all of which stay, and tells how many
-// entries they had, or one where that is unknown.
-fn close_up(
-    changes: &mut Vec<u64>,
-    sizes: &mut Vec<u64>,
-    first: usize,
-    floor: u64,
-    keep: &[u64],
-) -> u64
+// Takes the changes up to the floor out but for those to keep, and tells how many entries they had, or one where that is
+// unknown.
+fn close_up(changes: &mut Vec<u64>, sizes: &mut Vec<u64>, floor: u64, keep: &[u64]) -> u64
     requires table { IsTable changes.old.items sizes.old.items }
     requires keep { IsStrictlyIncreasing keep.now }
-    requires within { first ≤ length changes.old.items }
-    requires front { AreStaying floor keep.now (take first changes.old.items) }
     ensures table { IsTable changes.new.items sizes.new.items }
     ensures left { changes.new.items ≡ staying floor keep.now changes.old.items }
     ensures none { result ≡ 0 → changes.new.items ≡ changes.old.items }
 {
-    let mut kept = first;
+    let mut at = 0;
+    let mut kept = 0;
     let mut near = 0;
     let mut taken = 0u64;
-    for i in first..changes.len() {
-        let change = changes[i];
-        let size = sizes[i];
+    'walk: while at < changes.len() {
+        let run = alike(changes, at, keep, near);
+        if run > 0 {
+            move_up(changes, at, run, kept);
+            move_up(sizes, at, run, kept);
+            at += run;
+            kept += run;
+            near += run;
+            continue;
+        }
+        let change = changes[at];
+        let size = sizes[at];
+        at += 1;
         near = behind(keep, near, change);
         if !stays(floor, keep, near, change) {
             taken = taken.saturating_add(size.max(1));
@@ -197,6 +176,33 @@ fn close_up(
     }
     changes.truncate(kept);
     taken
+}
+
+// How many changes from the one place on are the same as those to keep from the other on.
+fn alike(changes: &[u64], at: usize, keep: &[u64], near: usize) -> usize
+    requires from { at ≤ length changes.now }
+    requires near { near ≤ length keep.now }
+    ensures within { at + result ≤ length changes.now }
+    ensures near { near + result ≤ length keep.now }
+    ensures kept { All (λ n. Contains keep.now n) (take result (drop at changes.now)) }
+{
+    let most = (changes.len() - at).min(keep.len() - near);
+    let mut run = 0;
+    'walk: while run < most && changes[at + run] == keep[near + run] {
+        run += 1;
+    }
+    run
+}
+
+// Moves so many numbers from one place on to an earlier one, over those that stand there.
+fn move_up(numbers: &mut Vec<u64>, from: usize, many: usize, to: usize)
+    requires earlier { to ≤ from }
+    requires within { from + many ≤ length numbers.old.items }
+    ensures { numbers.new.items ≡ copy_within numbers.old.items from (from + many) to }
+{
+    if to < from {
+        numbers.copy_within(from..from + many, to);
+    }
 }
 
 // Whether the change is above the floor, or one of those to keep. It looks first at the place where it is likely to stand.
