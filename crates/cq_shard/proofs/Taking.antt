@@ -1,7 +1,7 @@
 -- Changes in a table: some taken out where they stand, and those of more entries noted.
 use Rattle.std.proofs.Common.{◌≡◌, ℕ, suc, ◌+◌, ◌-◌, ◌<◌, ◌≤◌, Bool, true, false, cond, nat_eq, List, [], ◌∷◌, ◌++◌, length, take, drop, get_or, set, filter, refl, sym, ap, ap₂, ◌∙◌, subst, inl, inr, ⊎_elim, arith, append-nil, append_assoc}
 use Rattle.std.specs.Prelude.{All, AllPairs, Contains}
-use Rattle.std.specs.List.{copy_within}
+use Rattle.std.specs.List.{copy_within, remove}
 use Rattle.std.specs.List.Sorted.{IsStrictlyIncreasing}
 use Rattle.std.proofs.lemmas.Bool.{eqb-true, false_from_ne_true, cases_lt, eq-eqb, false≢true}
 use Rattle.std.proofs.lemmas.List.{take_more, take_more_set, drop_more, drop-set-lt, take_all, take-append-drop, drop-drop, length-set, length-take, length-drop, get_or_default, get_or-take, map-append}
@@ -32,6 +32,14 @@ module _ (test : ℕ → Bool) where
   left_same (x ∷ xs) all =
       ap (λ b. cond b (x ∷ filter test xs) (filter test xs)) (all x (0, omega arith, refl))
       ∙ ap (λ ns. x ∷ ns) (left_same xs (λ n (k, within, is). all n (suc k, omega (arith, within), is)))
+
+  -- one alone goes
+  pub left_alone : (xs : List ℕ) (i d : ℕ) → i < length xs → ((n : ℕ) → Contains (take i xs) n → test n ≡ true) → test (get_or xs i d) ≡ false → ((n : ℕ) → Contains (drop (i + 1) xs) n → test n ≡ true) → filter test xs ≡ remove xs i
+  left_alone xs i d within front goes rest =
+      ap (filter test) (sym (take-append-drop (i + 1) xs))
+      ∙ filter-append test (take (i + 1) xs) (drop (i + 1) xs)
+      ∙ ap₂ (λ a b. a ++ b) (left_next xs i d false within goes ∙ append-nil (filter test (take i xs)) ∙ left_same (take i xs) front) (left_same (drop (i + 1) xs) rest)
+      ∙ (let next : i + 1 ≡ suc i = omega arith in ap (λ k. take i xs ++ drop k xs) next)
 
 -- Of the first `i` old ones those that pass stand in front, and all others where they stood.
 pub record IsClosing (test : ℕ → Bool) (old now : List ℕ) (i kept : ℕ) : Type 0 where

@@ -1,6 +1,6 @@
 ghost use Rattle.std.specs.Prelude.{◌≡◌, ◌+◌, ◌<◌, ◌≤◌, [], length, take, drop, All, AllPairs, Contains, OnOk, OnErr};
 ghost use Rattle.std.specs.Bool.{OnTrue};
-ghost use Rattle.std.specs.List.{copy_within};
+ghost use Rattle.std.specs.List.{copy_within, remove};
 ghost use Rattle.std.specs.List.Sorted.{IsStrictlyIncreasing};
 ghost use Rattle.cq_clones.specs.Windows.{EntryBefore};
 ghost use Rattle.cq_shard.specs.Stores.{those_of};
@@ -87,13 +87,21 @@ impl Table {
 
     /// Takes the changes up to the floor out but for those to keep, and tells how many entries they had, 0 only where none was
     /// taken out. Both lists are walked side by side; as far as they go alike it is a comparison for each change, and those
-    /// behind the first that goes move up.
+    /// behind the first that goes move up, all at once where no other goes.
     pub fn take_out(&mut self, floor: u64, keep: &[u64]) -> u64
         requires keep { IsStrictlyIncreasing keep.now }
         ensures left { self.new ≡ staying floor keep.now self.old }
         ensures none { result ≡ 0 → self.new ≡ self.old }
     {
-        close_up(&mut self.changes, &mut self.sizes, floor, keep)
+        let first = alike(&self.changes, 0, keep, 0);
+        if first == self.changes.len() {
+            return 0;
+        }
+        if !goes_alone(&self.changes, first, floor, keep) {
+            return close_up(&mut self.changes, &mut self.sizes, floor, keep);
+        }
+        self.changes.remove(first);
+        self.sizes.remove(first).max(1)
     }
 }
 
@@ -176,6 +184,21 @@ fn close_up(changes: &mut Vec<u64>, sizes: &mut Vec<u64>, floor: u64, keep: &[u6
     }
     changes.truncate(kept);
     taken
+}
+
+// Whether the change behind the first so many, all of which are to be kept, goes, and all behind it are to be kept as well.
+fn goes_alone(changes: &[u64], first: usize, floor: u64, keep: &[u64]) -> bool
+    requires keep { IsStrictlyIncreasing keep.now }
+    requires within { first < length changes.now }
+    requires near { first ≤ length keep.now }
+    requires front { All (λ n. Contains keep.now n) (take first changes.now) }
+    ensures { OnTrue result (staying floor keep.now changes.now ≡ remove changes.now first) }
+{
+    let rest = alike(changes, first + 1, keep, first);
+    if first + 1 + rest < changes.len() {
+        return false;
+    }
+    !stays(floor, keep, first, changes[first])
 }
 
 // How many changes from the one place on are the same as those to keep from the other on.
