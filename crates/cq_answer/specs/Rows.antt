@@ -88,7 +88,7 @@ worst_of fs = position (λ f. f.complexity == greatest_complexity fs) fs
 abbrev pub AreShowable : Facts → List Group → Type 0
 AreShowable facts groups = IsMeasurable facts.counts facts.spans groups
 
--- no file has more functions than it may have tokens
+-- each file has fewer functions than four bytes tell
 abbrev pub AreFewFunctions : Facts → Type 0
 AreFewFunctions facts = All (λ fs. length fs < 2 ^ 32) facts.functions
 

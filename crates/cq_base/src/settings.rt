@@ -14,9 +14,9 @@ pub struct Settings {
     pub ignore_ids: bool,
     /// Whether all literals are one token.
     pub ignore_lits: bool,
-    /// The most changes that are accepted, 1 to 262,144.
+    /// The most changes that are kept at once, 1 to 262,144.
     pub change_limit: u64,
-    /// The most bytes of all accepted texts, 1 to 67,108,864.
+    /// The most bytes of all kept texts, 1 to 67,108,864.
     pub text_limit: u64,
     /// The most bytes that a session reads, 1 to 2^60.
     pub byte_limit: u64,

@@ -10,15 +10,15 @@ use Rattle.cq_shared.specs.SharedPasses.{IsPassOf}
 use Rattle.cq_talk.specs.Gathered.{StaysQuiet}
 
 module _ {W R : Type 0} (hub : Shared W R) where
-  -- the pass is still that of its caller, which accepts nothing if it had accepted nothing
+  -- the pass is still that of its caller, which accepts nothing and opens no view if it had done neither
   pub record Worked (p q : BoardPass) : Type 0 where
     pub of : IsPassOf hub q
     pub caller : by_of q ≡ by_of p
     pub quiet : StaysQuiet p.seen (by_of p) → StaysQuiet q.seen (by_of p)
 
   -- The talk of a caller, who was made behind so many workers, came to a history of which this holds. The callers that
-  -- were made ended in the pass, which has seen more by then: none of them but that one accepted anything, and no other
-  -- has an event.
+  -- were made ended in the pass, which has seen more by then: none of them but that one accepted anything or opened a view, and
+  -- no other has an event.
   pub record Besides (p : BoardPass) (workers : ℕ) (q : BoardPass) (Said : ℕ → List Event → List Event → ℕ → Type 0) : Type 0 where
     pub heard : List Event
     pub asked : ℕ

@@ -183,8 +183,8 @@ impl<W: Indexed> Board<W> {
         true
     }
 
-    /// Accepts a change, and answers its number, or the first cause against it. A refusal changes nothing. What later calls
-    /// need of memory for it is taken here.
+    /// Accepts a change, and answers its number, or the first cause against it. A refusal changes nothing. What `back`, `done`
+    /// and `set_floor` need of memory for it is taken here.
     pub fn accept(&mut self, alloc: Global, by: u32, change: Change) -> Result<u64, Refused>
         requires caller { IsCaller self.old by }
         requires sound { IsSoundChange change }

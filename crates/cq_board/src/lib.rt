@@ -8,9 +8,9 @@
 //! alone.
 //!
 //! Accepting a change costs an owner for each of its texts, twice, and four searches: among what is kept, among the changes
-//! that are not done, among the places at which files stand or the projects with gates, and behind what is over. All that
-//! later calls need of memory for it is taken then, but for 8 bytes for each change that may be kept, which are taken with the
-//! board. Finishing one costs two searches, and telling up to which all are done costs one. Taking one costs a search among
+//! that are not done, among the places at which files stand or the projects with gates, and behind what is over. All memory
+//! that giving it back, finishing it and forgetting it need is taken then, but for 8 bytes for each change that may be kept,
+//! which are taken with the board. Finishing one costs two searches, and telling up to which all are done costs one. Taking one costs a search among
 //! the changes that were given back or one among those that are not done; one that was given back and is done by another
 //! since is passed over at the next taking, once, by a search of its own. So a taking costs a logarithm and, for each giving
 //! back before it that another's work overtook, at most one logarithm more in all. Opening a view costs an owner of the

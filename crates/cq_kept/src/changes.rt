@@ -148,8 +148,8 @@ impl<W: Indexed> Changes<W> {
         has_more(self.settings.text_limit - self.text_bytes, change)
     }
 
-    /// One change more, against which nothing is. Where memory is refused all is as before. What any later call needs of memory is
-    /// taken here.
+    /// One change more, against which nothing is. Where memory is refused all is as before. What `hold`, `finish` and `set_floor`
+    /// need of memory for it is taken here.
     pub fn accept(&mut self, change: Stored) -> Result<(), Memory>
         requires { MayAccept self.old (change_of change) }
         ensures more { OnOk result (self.new ≡ accepted_from self.old.settings (self.old.slots ++ new_slot (change_of change) ∷ []) self.old.floor) }

@@ -244,9 +244,10 @@ fn exported<S: Source, K: Sink, L: Ledger>(
 /// The whole program: what the words ask for, over these ends. Its answer is the status with which the process is to
 /// end. `run` answers the lines of the source into the sink; `listen` the lines of each connection into it; `drive` steps a
 /// core by the lines of the source, and writes their outcomes; `make` writes one line; `export` writes the token file of the
-/// version that the changes of the source make; `ask` answers the lines behind the token file that the source begins with. Threads are started for the workers of `run` and `listen` and for the sessions of
-/// `listen` alone, and each is joined before this returns; the gate is then called from them too. The reads of the sessions of
-/// `listen` are counted on a ledger of their own.
+/// version that the changes of the source make; `ask` answers the lines behind the token file that the source begins with.
+/// Threads are started for the workers of `run` and `listen` and for the sessions of `listen` alone, and each is joined before
+/// this returns; the gate is then called from them too. The reads of the sessions of `listen` are counted on a ledger of their
+/// own.
 pub fn top<
     Q: Threads + Wait + Sync,
     S: Source,
@@ -312,7 +313,8 @@ pub fn top<
     // Every status of `drive` but 4 is that of a script of all lines of the source.
     ensures drives { DrivesFor S.Source K.Sink words.now source.old source.new sink.old sink.new result }
 
-    // Every status of `ask` but 4 is that of a kept version, asked by all lines of the source behind its file.
+    // 8 of `ask` is that the source begins with no token file of the settings; every other status but 4 is that of a kept
+    // version, asked by all lines of the source behind its file, or of a read that failed before the file was whole.
     ensures asks { AsksFor L S.Source K.Sink words.now source.old source.new sink.old sink.new result }
 
     // Every status of `export` but 4 is that of writing the version of the changes that all lines of the source say.

@@ -216,9 +216,9 @@ pub enum Reply {
     Future(u64),
     /// There is no file to drop.
     Absent,
-    /// As many changes are accepted as may be.
+    /// As many changes are kept as may be, or 2^60 were accepted.
     FullChanges,
-    /// The texts have as many bytes as they may.
+    /// The text and all kept texts have more bytes than they may.
     FullText,
     /// This change is not done yet.
     Pending(u64),

@@ -6,9 +6,10 @@
 //! run, which looks at a few entries side by side where keys are spread evenly and is at most a binary search and eight looks
 //! more, and one among the live changes for each entry with its key, and for each of those that are live one among the
 //! changes with entries, as long as swept entries still lie in the runs.
-//! A sweep takes no memory. The changes up to the floor that have entries here are walked beside those to keep, each by a
-//! search from where the last one was found, up to the first that goes; from there on each is searched, and those that
-//! stay move up one by one, 16 bytes for each. Entries that go stay in their runs at first. A run is rid of them before it
+//! A sweep takes no memory. The changes that have entries here are walked beside those to keep: as far as both lists go
+//! alike it is a comparison for each, and else a search from where the last one was found. Where one change goes, as where a
+//! file was put anew, those behind it move up at once; where several go, those that stay move up run by run, 16 bytes for
+//! each. Entries that go stay in their runs at first. A run is rid of them before it
 //! is merged, for a search among the changes for each of its entries, so of a file that is put anew and swept each time a
 //! run has one put at most that is gone. Where all that stay so are as many as those that stand, all runs are cleared
 //! where they stand: so each entry that goes pays for a search of two at most there. A run that was cleared keeps its room

@@ -5,17 +5,17 @@
 //!
 //! No call holds two cells, and none waits while it holds one. No text, no path and no work is copied there.
 //!
-//! - `accept`, the board: an owner for each text of the change, which is the caller's own before; two searches, each a
-//!   logarithm, one among the places at which files stand and one among the changes that are not done; and a slot, for
-//!   which there was room from the first on. A change that is refused is let go there.
+//! - `accept`, the board: two owners for each text of the change, which is the caller's own before; four searches, each a
+//!   logarithm, among what is kept, among the changes that are not done, among the places at which files stand or the
+//!   projects with gates, and behind what is over; and the memory for what they add. A change that is refused is let go there.
 //! - `ask`, the board: three numbers are read, and the first of the changes that are not done is looked for, a logarithm.
 //! - `take`, the board: a search among the changes that were given back or among those that are not done, a logarithm; and
 //!   an owner of a text. What was given back and is done by another since is passed over by the next call, a logarithm for
 //!   each: over all calls that is one for each `back` at most.
-//! - `job`, the board: one slot is looked at; an owner of a text.
-//! - `back`, the board: one slot is looked at, and the change goes among those that were given back, a logarithm.
-//! - `finish`, the board: the work goes into its slot, and the change is looked for among those that are not done, a
-//!   logarithm. A work that comes too late is let go there.
+//! - `job`, the board: a search among what is kept; an owner of a text.
+//! - `back`, the board: a search among what is kept, and the change goes among those that were given back, a logarithm.
+//! - `finish`, the board: the change is looked for among what is kept, where its work goes, and among those that are not done,
+//!   a logarithm each. A work that comes too late is let go there.
 //! - `open_view`, the board: an owner of the listing. Where memory was refused in the middle of the last publication, the
 //!   listing may have to be made anew first, which takes the time of all changes that are kept once.
 //! - `close_view`, the board: a number is cleared. The listing is let go afterwards.
