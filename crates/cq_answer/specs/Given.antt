@@ -7,17 +7,19 @@ use Rattle.cq_base.specs.declared.change.Condition.{Condition}
 use Rattle.cq_base.specs.declared.group.Group.{Group}
 use Rattle.cq_base.specs.declared.norm.Norm.{Norm}
 use Rattle.cq_base.specs.declared.settings.Settings.{Settings}
+use Rattle.cq_groups.specs.declared.buckets.Buckets as buckets
 use Rattle.cq_history.specs.Files.{File, conditions_at}
 use Rattle.cq_measures.specs.Measures.{AreSmall}
 use Rattle.cq_reply.specs.declared.reply.Reply.{Reply}
 use Rattle.cq_request.specs.declared.request.Query.{Query}
 use Rattle.cq_work.specs.declared.work.Work.{Work}
 use Rattle.cq_answer.specs.Readings.{Reading, AreRead, corpus_read}
-use Rattle.cq_answer.specs.Parts.{part_of, AreGroupsOf}
+use Rattle.cq_answer.specs.Parts.{part_of, AreGroupsOf, AsksPart, AsksPartAtMost, ReadsPart}
 use Rattle.cq_answer.specs.Rows.{Facts, facts_read, AreFewFunctions, AreNamed}
 use Rattle.cq_answer.specs.Reply.{IsReply, reply_of, chosen_read}
 use Rattle.cq_answer.specs.Versions.{AreListable}
-use Rattle.cq_answer.specs.Works.{paths_in, norms_in, spans_in, counts_in, facts_in, chosen_in, AreNumbered}
+use Rattle.cq_answer.specs.declared.part.Part.{Part}
+use Rattle.cq_answer.specs.Works.{paths_in, norms_in, keys_in, spans_in, counts_in, facts_in, chosen_in, AreNumbered}
 
 -- The reply shows these facts of files, or what the groups of their tokens give: those of the part that the query lists,
 -- and of measures those of the files that it chooses.
@@ -42,6 +44,24 @@ pub record AreGiven {L : Type 0} (set : Settings) (files : List (File (Work L)))
   pub texts : AllByRecursion IsUtf8 (paths_in files)
   pub names : AreNamed (facts_in files)
   pub few_conditions : length conditions ≤ 32
+
+-- ---- what a query on such files asks and reads
+
+-- the part that the query lists
+abbrev pub part_in : {L : Type 0} → List (File (Work L)) → Query → Part
+part_in files q = part_of (paths_in files) q.kind q.path
+
+-- buckets were asked once for each different key of the part's windows
+abbrev pub AsksGiven : {L B : Type 0} → buckets.Ghosts B → List (File (Work L)) → Query → B → B → Type 0
+AsksGiven of files q old new = AsksPart (keys_in files) (part_in files q) (of.asked old) (of.asked new)
+
+-- and no more than so
+abbrev pub AsksGivenAtMost : {L B : Type 0} → buckets.Ghosts B → List (File (Work L)) → Query → B → B → Type 0
+AsksGivenAtMost of files q old new = AsksPartAtMost (keys_in files) (part_in files q) (of.asked old) (of.asked new)
+
+-- from one count of steps to another, no more tokens were read than the part's windows call for
+abbrev pub ReadsGiven : {L : Type 0} → List (File (Work L)) → Query → ℕ → ℕ → Type 0
+ReadsGiven files q old new = ReadsPart (norms_in files) (keys_in files) (part_in files q) old new
 
 -- ---- the law
 

@@ -3,7 +3,7 @@ ghost use Rattle.cq_base.specs.Settings.{IsInRange};
 ghost use Rattle.cq_reply.specs.Written.{IsReplyText};
 ghost use Rattle.cq_answer.specs.Parts.{HasPath, HasScope, IsPattern, IsWithin};
 ghost use Rattle.cq_answer.specs.Rows.{AreShowable, AreFewFunctions};
-ghost use Rattle.cq_answer.specs.Given.{AreGiven, IsReplyOf};
+ghost use Rattle.cq_answer.specs.Given.{AreGiven, IsReplyOf, AsksGiven, AsksGivenAtMost, ReadsGiven};
 ghost use Rattle.cq_answer.specs.Versions.{IsReplyOn, ShowsGroups, AsksOn, AsksAtMostOn, ReadsOn};
 ghost use Rattle.cq_answer.specs.Works.{works_in, keys_in, numbers_in, facts_in, AreNumbered};
 
@@ -76,8 +76,8 @@ fn reply_of<R: Threads + Sync, L: Ledger>(
 }
 
 /// The reply to a query on the files of one project with their works, and on its conditions, at a version. Where they are
-/// those of a version of some changes, it is the reply by these. Want of memory leaves the
-/// buckets fit for the next question. With a path that is there, the index is asked for the keys of that file's windows
+/// those of a version of some changes, it is the reply by these. Want of memory leaves the buckets fit for the next question.
+/// With a path that is there, the index is asked for the keys of that file's windows
 /// alone; for the list of files, for functions, and for a path that is not there, it is not asked and no token is read.
 /// Measures of chosen files are by the groups of the whole project, and cost one look for each file, the comparison of its
 /// path where it changed, and a search among the chosen ones for each place. The measures of a whole project of many places
@@ -104,6 +104,9 @@ pub fn answer<R: Threads + Sync, B: Buckets, L: Ledger>(
     ensures given { IfOk result (IsReplyOf files.now conditions.now query.now version) }
     ensures reply { IfOk result (IsReplyOn settings.now version query.now files.now conditions.now) }
     ensures texts { IfOk result IsReplyText }
+    ensures asks { OnOk result (AsksGiven B.Buckets files.now query.now buckets.old buckets.new) }
+    ensures asks_most { AsksGivenAtMost B.Buckets files.now query.now buckets.old buckets.new }
+    ensures reads_most { ReadsGiven files.now query.now steps.old steps.new }
     ensures asked { OnOk result (AsksOn B.Buckets settings.now version query.now files.now buckets.old buckets.new) }
     ensures asked_most { AsksAtMostOn B.Buckets settings.now version query.now files.now buckets.old buckets.new }
     ensures same_changes { B.file_changes buckets.new ≡ B.file_changes buckets.old }

@@ -1,9 +1,9 @@
 -- All entries of files as they are collected, sorted by key, and those of one key among them.
-use Rattle.std.proofs.Common.{◌≡◌, ◌≢◌, ◌⊎◌, ◌↔◌, ℕ, ◌+◌, ◌-◌, ◌<◌, ◌≤◌, true, false, IsTrue, ltb, nat_le, List, [], ◌∷◌, ◌++◌, length, take, drop, get_or, slice_get, Some, sym, ap, ap₂, ◌∙◌, subst, inl, inr, ⊎_elim, arith, true≢false}
+use Rattle.std.proofs.Common.{◌≡◌, ◌≢◌, ◌⊎◌, ◌↔◌, ℕ, ◌+◌, ◌-◌, ◌<◌, ◌≤◌, true, false, IsTrue, ltb, List, [], ◌∷◌, ◌++◌, length, take, drop, get_or, slice_get, Some, sym, ap, ap₂, ◌∙◌, subst, inl, inr, ⊎_elim, arith, true≢false}
 use Rattle.std.specs.Prelude.{AllPairs, Contains}
 use Rattle.std.specs.Cmp.{IsStrictWeakOrder}
 use Rattle.std.specs.List.Sorted.{IsNonDecreasingBy, IsPartitionPoint}
-use Rattle.std.proofs.lemmas.Bool.{cases_lt, cases_eq, cases_Bool, ltb-true, lt-ltb, leb-true, le-leb}
+use Rattle.std.proofs.lemmas.Bool.{cases_lt, cases_eq, cases_Bool, ltb-true, lt-ltb}
 use Rattle.std.proofs.lemmas.List.{length-take-le, length-drop, get_or-take, get_or-drop, get_or_past, take_more, map_push}
 use Rattle.std.specs.Arc.{arc_value}
 use Rattle.std.proofs.lemmas.Option.{same_Some, slice_get-get_or, slice_get_within}
@@ -22,7 +22,7 @@ use Rattle.cq_refine.proofs.KeyPlaces.{one_position}
 use Rattle.cq_refine.proofs.Places.{sorted_once}
 use Rattle.cq_tokens.specs.Corpus.{changes_of, keys_of}
 use Rattle.cq_tokens.specs.declared.plain.FileTokens.{FileTokens}
-use Rattle.cq_tokfile.specs.Loaded.{KeyedBefore, is_keyed_before, AreIndexed, AddsAllEntries, AreThoseOf, keys_in}
+use Rattle.cq_tokfile.specs.Loaded.{KeyedBefore, is_keyed_before, AreIndexed, AddsAllEntries, AreThoseOf, IsFirst, keys_in}
 use Rattle.cq_work.specs.declared.work.Work.{Work}
 
 -- ---- no change is in a list that has spots twice
@@ -169,45 +169,55 @@ keys_rise entries ordered i j d le within =
     (λ other. ⊎_elim (λ less. omega (arith, less)) (λ tie. let e = tie.0 in omega (arith, e)) (ordered i j d (omega (arith, le, other)) within))
     (cases_eq i j)
 
-module _ (key : ℕ) (entries : List Entry) (ordered : AllPairs KeyedBefore entries) (from count : ℕ) (bound : from ≤ length entries) (within : count ≤ length (drop from entries))
-    (low : IsPartitionPoint (λ (e : Entry). ltb e.key key ≡ true) (λ (e : Entry). ltb e.key key ≡ false) entries from)
-    (high : IsPartitionPoint (λ (e : Entry). nat_le e.key key ≡ true) (λ (e : Entry). nat_le e.key key ≡ false) (drop from entries) count) where
+module _ (key : ℕ) (entries : List Entry) (ordered : AllPairs KeyedBefore entries) where
+  -- it is seen by the keys beside the place
+  pub first_seen : (at : ℕ) → at ≤ length entries → ((d : Entry) → 0 < at → (get_or entries (at - 1) d).key < key) → ((d : Entry) → at < length entries → key ≤ (get_or entries at d).key) → IsFirst key entries at
+  first_seen at bound before behind = record {
+    bound = bound;
+    lesser = λ k d low lt.
+        let up = keys_rise entries ordered k (at - 1) d (omega (arith, lt)) (omega (arith, lt, bound)) in
+        let last = before d (omega (arith, lt)) in
+        omega (arith, up, last);
+    others = λ k d low lt.
+        let up = keys_rise entries ordered at k d low lt in
+        let first = behind d (omega (arith, low, lt)) in
+        omega (arith, up, first);
+  }
+
+  -- by halves
+  pub first_parted : (at : ℕ) → at ≤ length entries → IsPartitionPoint (λ (e : Entry). ltb e.key key ≡ true) (λ (e : Entry). ltb e.key key ≡ false) entries at → IsFirst key entries at
+  first_parted at bound point = record {
+    bound = bound;
+    lesser = λ k d low lt. ltb-true _ key (point.0 k d low lt);
+    others = λ k d low lt. ⊎_elim (λ less. absurd (true≢false (sym (lt-ltb _ key less) ∙ point.1 k d low lt))) (λ h. h) (cases_lt (get_or entries k d).key key);
+  }
+
+-- those between the first with the key and the first with a greater one
+module _ (key : ℕ) (entries : List Entry) (ordered : AllPairs KeyedBefore entries) (from to : ℕ) (further : from ≤ to) (first : IsFirst key entries from) (last : IsFirst (key + 1) entries to) where
   abbrev pub found : List Entry
-  found = take count (drop from entries)
+  found = take (to - from) (drop from entries)
 
-  many : length found ≡ count
-  many = length-take-le count (drop from entries) within
+  reaches : to ≤ length entries
+  reaches = last.bound
 
-  reaches : from + count ≤ length entries
-  reaches = let left = length-drop from entries in omega (arith, left, within, bound)
+  many : length found ≡ to - from
+  many = let left = length-drop from entries in let all = reaches in length-take-le (to - from) (drop from entries) (omega (arith, left, all))
 
-  at_place : (k : ℕ) (d : Entry) → k < count → get_or found k d ≡ get_or entries (from + k) d
-  at_place k d lt = get_or-take count (drop from entries) k d lt ∙ get_or-drop from entries k d
+  at_place : (k : ℕ) (d : Entry) → k < to - from → get_or found k d ≡ get_or entries (from + k) d
+  at_place k d lt = get_or-take (to - from) (drop from entries) k d lt ∙ get_or-drop from entries k d
 
-  -- between both points each entry has the key
-  has_key : (k : ℕ) (d : Entry) → k < count → (get_or entries (from + k) d).key ≡ key
+  has_key : (k : ℕ) (d : Entry) → k < to - from → (get_or entries (from + k) d).key ≡ key
   has_key k d lt =
-      let e = get_or entries (from + k) d in
-      let le : e.key ≤ key = leb-true e.key key (ap (λ (x : Entry). nat_le x.key key) (sym (get_or-drop from entries k d)) ∙ high.0 k d (omega arith) lt) in
-      let ge : key ≤ e.key =
-      ⊎_elim
-      (λ less. let told = low.1 (from + k) d (omega arith) (let all = reaches in omega (arith, all, lt)) in absurd (true≢false (sym (lt-ltb e.key key less) ∙ told)))
-      (λ h. h)
-      (cases_lt e.key key) in
-      omega (arith, le, ge)
+      let all = reaches in
+      let most = last.lesser (from + k) d (omega arith) (omega (arith, lt)) in
+      let least = first.others (from + k) d (omega arith) (omega (arith, lt, all)) in
+      omega (arith, most, least)
 
   -- and no other has it
-  no_other : (k : ℕ) (d : Entry) → k < length entries → (get_or entries k d).key ≡ key → (from ≤ k) × (k < from + count)
+  no_other : (k : ℕ) (d : Entry) → k < length entries → (get_or entries k d).key ≡ key → (from ≤ k) × (k < to)
   no_other k d lt is = (
-    ⊎_elim (λ before. absurd (let less = ltb-true _ key (low.0 k d (omega arith) before) in omega (arith, less, is))) (λ h. h) (cases_lt k from),
-    ⊎_elim (λ h. h)
-        (λ past. absurd (
-        let left = length-drop from entries in
-        let e : from + (k - from) ≡ k = omega (arith, past) in
-        let told = high.1 (k - from) d (omega (arith, past)) (omega (arith, left, lt, past)) in
-        let here : (get_or (drop from entries) (k - from) d).key ≡ key = ap (λ (x : Entry). x.key) (get_or-drop from entries (k - from) d ∙ ap (λ (i : ℕ). get_or entries i d) e) ∙ is in
-        true≢false (sym (le-leb _ key (omega (arith, here))) ∙ told)))
-        (cases_lt k (from + count)),
+    ⊎_elim (λ before. absurd (let less = first.lesser k d (omega arith) before in omega (arith, less, is))) (λ h. h) (cases_lt k from),
+    ⊎_elim (λ h. h) (λ past. absurd (let more = last.others k d past lt in omega (arith, more, is))) (cases_lt k to),
   )
 
   tie : (a b : Entry) → a.key ≡ key → b.key ≡ key → KeyedBefore a b → EntryBefore a b
@@ -216,7 +226,7 @@ module _ (key : ℕ) (entries : List Entry) (ordered : AllPairs KeyedBefore entr
   pub are_those : AreThoseOf key entries found
   are_those = record {
     ordered = λ i j d less inside.
-        let lt : j < count = (let all = many in omega (arith, all, inside)) in
+        let lt : j < to - from = (let all = many in omega (arith, all, inside)) in
         let a = at_place i d (omega (arith, less, lt)) in
         let b = at_place j d lt in
         let pair = ordered (from + i) (from + j) d (omega (arith, less)) (let all = reaches in omega (arith, all, lt)) in
@@ -224,14 +234,14 @@ module _ (key : ℕ) (entries : List Entry) (ordered : AllPairs KeyedBefore entr
         subst (λ (x : Entry). EntryBefore x (get_or found j d)) (sym a) (subst (λ (y : Entry). EntryBefore (get_or entries (from + i) d) y) (sym b) both);
     each = λ e. (
       (λ (k, inside, is).
-          let lt : k < count = (let all = many in omega (arith, all, inside)) in
+          let lt : k < to - from = (let all = many in omega (arith, all, inside)) in
           let there = sym (at_place k e lt) ∙ is in
           ((from + k, (let all = reaches in omega (arith, all, lt)), there), ap (λ (x : Entry). x.key) (sym there) ∙ has_key k e lt)),
       (λ ((k, inside, is), of).
           let range = no_other k e inside (ap (λ (x : Entry). x.key) is ∙ of) in
           let low_end = range.0 in
           let high_end = range.1 in
-          let lt : k - from < count = omega (arith, low_end, high_end) in
+          let lt : k - from < to - from = omega (arith, low_end, high_end) in
           let i : from + (k - from) ≡ k = omega (arith, low_end) in
           (k - from, (let all = many in omega (arith, all, lt)), at_place (k - from) e lt ∙ ap (λ (m : ℕ). get_or entries m e) i ∙ is)),
     );

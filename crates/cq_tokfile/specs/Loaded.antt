@@ -1,6 +1,7 @@
 -- All entries of some files, by key.
-use Rattle.std.specs.Prelude.{◌≡◌, ◌≢◌, ◌⊎◌, ◌&&◌, ◌||◌, ◌==◌, ℕ, ◌<◌, nat_lt, Bool, List, Contains, map, slice_get, Some}
+use Rattle.std.specs.Prelude.{◌≡◌, ◌≢◌, ◌⊎◌, ◌&&◌, ◌||◌, ◌==◌, ℕ, ◌<◌, ◌≤◌, nat_lt, Bool, List, length, Contains, map, slice_get, Some}
 use Rattle.std.specs.Arc.{arc_value}
+use Rattle.std.specs.List.{AllWithin}
 use Rattle.cq_base.specs.declared.entry.Entry.{Entry}
 use Rattle.cq_clones.specs.Lists.{AreAllInOrder}
 use Rattle.cq_clones.specs.Windows.{EntryBefore, IsEntryOf}
@@ -27,6 +28,12 @@ AreIndexed changes keys entries = AreAllInOrder KeyedBefore (IsEntryOf changes k
 -- the old entries and those of one file, each once
 abbrev pub AddsAllEntries : ℕ → List ℕ → List Entry → List Entry → Type 0
 AddsAllEntries change keys old new = AreAllInOrder (λ a b. a ≢ b) (λ e. Contains old e ⊎ ((e.change ≡ change) × (slice_get keys e.at ≡ Some e.key))) new
+
+-- keys before the place are lesser, and none from there on is
+pub record IsFirst (key : ℕ) (entries : List Entry) (at : ℕ) : Type 0 where
+  pub bound : at ≤ length entries
+  pub lesser : AllWithin (λ (e : Entry). e.key < key) entries 0 at
+  pub others : AllWithin (λ (e : Entry). key ≤ e.key) entries at (length entries)
 
 -- those of entries that have a key, in their order
 abbrev pub AreThoseOf : ℕ → List Entry → List Entry → Type 0

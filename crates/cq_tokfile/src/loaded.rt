@@ -1,4 +1,5 @@
-ghost use Rattle.std.specs.Prelude.{[], ◌≡◌, ◌≢◌, ◌<◌, ◌^◌, length, Contains, AllPairs, IfOk, OnOk};
+ghost use Rattle.std.specs.Prelude.{[], ◌≡◌, ◌≢◌, ◌+◌, ◌<◌, ◌≤◌, ◌^◌, length, Contains, AllPairs, IfOk, OnOk};
+ghost use Rattle.std.specs.Bool.{OnTrue};
 ghost use Rattle.std.specs.Ordering.{is_lt};
 ghost use Rattle.cq_projects.specs.Spotted.{numbers_of};
 ghost use Rattle.cq_base.specs.declared.entry.Entry.{Entry};
@@ -19,12 +20,14 @@ use std::sync::Arc;
 use std::sync::ledger::Ledger;
 
 /// The buckets of a snapshot's files. It has owners of its own of their tokens and keys, and borrows nothing, so that the
-/// snapshot's files can be lent beside it. It keeps an entry for each window, by key: a question costs two searches and a
-/// copy of the answer.
+/// snapshot's files can be lent beside it. It keeps an entry for each window, by key: a question costs a search and a copy of
+/// the answer, and no search where its key is the next one behind that of the last question.
 #[derive(Drop)]
 pub struct Loaded<L: Ledger> {
     files: Vec<FileTokens<L>>,
     entries: Vec<Entry>,
+    // behind those that were told last
+    near: usize,
     asked: u64,
 }
 
@@ -109,15 +112,59 @@ fn entries_of<L: Ledger>(alloc: Global, files: &[FileTokens<L>]) -> Result<Vec<E
     Ok(entries)
 }
 
-// The entries with the key among entries in order.
-fn with_key(alloc: Global, entries: &[Entry], key: u64) -> Result<Vec<Entry>, Memory>
+// Whether keys before the place are lesser, and none from there on is. It is two looks.
+fn is_first(entries: &[Entry], at: usize, key: u64) -> bool
     requires { AllPairs spec.KeyedBefore entries.now }
-    ensures { IfOk result (λ found. spec.AreThoseOf key entries.now found.items) }
+    ensures { OnTrue result (spec.IsFirst key entries.now at) }
 {
-    let from = entries.partition_point(|e| e.key < key);
-    let rest = &entries[from..];
-    let count = rest.partition_point(|e| e.key <= key);
-    Ok(Vec::from_slice(alloc, &rest[..count])?)
+    if at > entries.len() {
+        return false;
+    }
+    if at > 0 && entries[at - 1].key >= key {
+        return false;
+    }
+    at == entries.len() || entries[at].key >= key
+}
+
+// The place before which keys are lesser, and from which on none is. It is searched where it is not the one that is tried.
+fn first_at(entries: &[Entry], near: usize, key: u64) -> usize
+    requires { AllPairs spec.KeyedBefore entries.now }
+    ensures { spec.IsFirst key entries.now result }
+{
+    if is_first(entries, near, key) {
+        return near;
+    }
+    entries.partition_point(|e| e.key < key)
+}
+
+// The place behind those with the key, each of which is looked at.
+fn end_of(entries: &[Entry], from: usize, key: u64) -> usize
+    requires ordered { AllPairs spec.KeyedBefore entries.now }
+    requires first { spec.IsFirst key entries.now from }
+    ensures further { from ≤ result }
+    ensures first { spec.IsFirst (key + 1) entries.now result }
+{
+    let mut to = from;
+    'walk: while to < entries.len() && entries[to].key == key {
+        to += 1;
+    }
+    to
+}
+
+// The entries with the key among entries in order, and the place behind them. That before them is tried first.
+fn with_key(
+    alloc: Global,
+    entries: &[Entry],
+    near: usize,
+    key: u64,
+) -> Result<(Vec<Entry>, usize), Memory>
+    requires { AllPairs spec.KeyedBefore entries.now }
+    ensures { IfOk result (λ told. spec.AreThoseOf key entries.now told.0.items) }
+{
+    let from = first_at(entries, near, key);
+    let to = end_of(entries, from, key);
+    let found = Vec::from_slice(alloc, &entries[from..to])?;
+    Ok((found, to))
 }
 
 impl<L: Ledger> Loaded<L> {
@@ -132,6 +179,7 @@ impl<L: Ledger> Loaded<L> {
         Ok(Loaded {
             files,
             entries,
+            near: 0,
             asked: 0,
         })
     }
@@ -143,6 +191,7 @@ impl<L: Ledger> Loaded<L> {
         Loaded {
             files: Vec::new(alloc),
             entries: Vec::new(alloc),
+            near: 0,
             asked: 0,
         }
     }
@@ -172,6 +221,8 @@ impl<L: Ledger> Buckets for Loaded<L> {
 
     fn bucket(&mut self, alloc: Global, key: u64) -> Result<Vec<Entry>, Memory> {
         self.asked = self.asked.saturating_add(1);
-        with_key(alloc, &self.entries, key)
+        let (found, behind) = with_key(alloc, &self.entries, self.near, key)?;
+        self.near = behind;
+        Ok(found)
     }
 }
