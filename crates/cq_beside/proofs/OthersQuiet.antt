@@ -29,7 +29,7 @@ use Rattle.cq_beside.specs.Besides.{Besides}
 use Rattle.cq_beside.specs.Replies.{AreBeside}
 use Rattle.cq_beside.specs.Served.{IsFirst, IsTold}
 use Rattle.cq_beside.proofs.Gathering.{some_next}
-use Rattle.cq_beside.proofs.Served.{serves_as}
+use Rattle.cq_lines.proofs.Serving.{serves_as}
 
 module _ {W R : Type 0} (hub : Shared W R) (p q : BoardPass) (workers : ℕ) (Said : ℕ → List Event → List Event → ℕ → Type 0) (is : IsPassOf hub p) (room : workers < p.room) (made : IsFirst hub p) (b : Besides hub p workers q Said) where
   law : Lawful (settings_of hub) (callers_of hub) q.seen

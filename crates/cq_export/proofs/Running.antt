@@ -82,4 +82,4 @@ module _ (set : Settings) where
     pub at_fault : Cuts b d x cut.ReadFault y → Takes set a d board taken.Failed
     at_fault cuts =
         let run = run_ends set.byte_limit a b d x y so.lines cut.ReadFault so.cut cuts in
-        (so.changes, record { got = run.got; bytes = run.bytes; say = say_same _ run.ends; accepted = so.accepted.accepted })
+        (so.changes, record { got = run.got; bytes = run.bytes; say = say_same _ run.ends.1; accepted = so.accepted.accepted })

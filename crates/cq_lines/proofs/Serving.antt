@@ -1,15 +1,16 @@
 -- One more line that has its reply, and the ends of a run.
-use Rattle.std.proofs.Common.{◌≡◌, ℕ, ◌+◌, ◌≤◌, List, [], ◌∷◌, ◌++◌, length, flat_map, Option, true, sym, ap, ◌∙◌, append_assoc, subst}
+use Rattle.std.proofs.Common.{◌≡◌, ℕ, ◌+◌, ◌≤◌, List, [], ◌∷◌, ◌++◌, length, flat_map, Option, true, sym, ap, ◌∙◌, append_assoc, subst, arith}
 use Rattle.std.proofs.KnownBytes.{Appends-nil, Appends-trans}
 use Rattle.std.specs.Io.KnownBytes.{Consumes, Appends, IsAtEnd}
 use Rattle.cq_lines.specs.Held.{Held}
 use Rattle.cq_lines.specs.Pieces.{closed_lines, all_lines}
 use Rattle.cq_lines.specs.Cutting.{IsNext, Cuts}
 use Rattle.cq_lines.specs.Runs.{CutTo, IsFresh}
-use Rattle.cq_lines.specs.Serving.{Replied, RepliedSoFar, Serves}
+use Rattle.cq_lines.specs.Serving.{Replied, RepliedSoFar, PartReplied, ServedBy, Serves}
 use Rattle.cq_lines.specs.declared.lines.Cut.TheVariants as cut
+use Rattle.cq_lines.specs.declared.ending.End.{End}
 use Rattle.cq_lines.specs.declared.ending.End.TheVariants as end
-use Rattle.cq_lines.proofs.Whole.{cut_none, cut_line, cut_front, run_ends, flat_map_more}
+use Rattle.cq_lines.proofs.Whole.{cut_none, cut_line, cut_whole, run_ends, flat_map_more}
 
 module _ {R : Type 0} (line_of : R → List ℕ) where
   pub replied_none : (Are : List (List ℕ) → List R → Type 0) (a w : Option (List ℕ)) (x : Held) → IsFresh x → Are [] [] → RepliedSoFar line_of Are x.limit a a w w x
@@ -35,14 +36,13 @@ module _ {R : Type 0} (line_of : R → List ℕ) where
     pub write_failed : (front rest : List ℕ) → front ++ rest ≡ line_of r → Appends w1 w2 front → Serves line_of Are limit a d w0 w2 end.WriteFault
     write_failed front rest parts sent =
         let cut_now : CutTo limit a d y (so.lines ++ line ∷ []) = cut_line limit a b d x y so.lines got line so.cut came taken within same going next in
-        let others = cut_front limit a d y (so.lines ++ line ∷ []) cut_now in
         record {
           got = cut_now.got;
           bytes = cut_now.bytes;
           served = record {
-            some = so.lines ++ line ∷ [];
-            others = others.0;
-            parts = others.1;
+            lines = so.lines ++ line ∷ [];
+            within = let taken_now = cut_now.taken in let all = cut_now.within in let same_limit = cut_now.limited in omega (arith, taken_now, all, same_limit);
+            whole = cut_whole limit a d y (so.lines ++ line ∷ []) cut_now;
             replies = so.replied.replies ++ r ∷ [];
             talk = more so.replied.talk;
             out = flat_map line_of so.replied.replies ++ front;
@@ -70,4 +70,32 @@ module _ {R : Type 0} (line_of : R → List ℕ) where
     pub read_failed : Cuts b d x cut.ReadFault y → Serves line_of Are limit a d w0 w1 end.ReadFault
     read_failed cuts =
         let run = run_ends limit a b d x y so.lines cut.ReadFault so.cut cuts in
-        record { got = run.got; bytes = run.bytes; served = replied (closed_lines run.got) run.ends }
+        record { got = run.got; bytes = run.bytes; served = (run.ends.0, replied (closed_lines run.got) run.ends.1) }
+
+-- ---- what was served, where the replies to the lines are also of another kind
+
+module _ {R : Type 0} (line_of : R → List ℕ) (Was Are : List (List ℕ) → List R → Type 0) (to : (lines : List (List ℕ)) (replies : List R) → Was lines replies → Are lines replies) where
+  replied_as : (before written_now : Option (List ℕ)) (lines : List (List ℕ)) → Replied line_of Was before written_now lines → Replied line_of Are before written_now lines
+  replied_as before written_now lines is = record { replies = is.replies; talk = to lines is.replies is.talk; written = is.written }
+
+  part_as : (limit : ℕ) (rest before written_now : Option (List ℕ)) (got : List ℕ) → PartReplied line_of Was limit rest before written_now got → PartReplied line_of Are limit rest before written_now got
+  part_as limit rest before written_now got is = record {
+    lines = is.lines;
+    within = is.within;
+    whole = is.whole;
+    replies = is.replies;
+    talk = to is.lines is.replies is.talk;
+    out = is.out;
+    more = is.more;
+    front = is.front;
+    written = is.written;
+  }
+
+  served_as : (limit : ℕ) (rest before written_now : Option (List ℕ)) (got : List ℕ) (by : End) → ServedBy line_of Was limit rest before written_now got by → ServedBy line_of Are limit rest before written_now got by
+  served_as limit rest before written_now got end.Finished is = (is.0, is.1, replied_as before written_now _ is.2)
+  served_as limit rest before written_now got end.Spent is = (is.0, replied_as before written_now _ is.1)
+  served_as limit rest before written_now got end.ReadFault is = (is.0, replied_as before written_now _ is.1)
+  served_as limit rest before written_now got end.WriteFault is = part_as limit rest before written_now got is
+
+  pub serves_as : (limit : ℕ) (rest rest_now before written_now : Option (List ℕ)) (by : End) → Serves line_of Was limit rest rest_now before written_now by → Serves line_of Are limit rest rest_now before written_now by
+  serves_as limit rest rest_now before written_now by is = record { got = is.got; bytes = is.bytes; served = served_as limit rest_now before written_now is.got by is.served }

@@ -7,7 +7,7 @@ use Rattle.std.specs.Io.KnownBytes.{Consumes, IsAtEnd}
 use Rattle.cq_lines.specs.Held.{Held}
 use Rattle.cq_lines.specs.Pieces.{HasNoFeed, ended, split, onto_split, closed_lines, all_lines, last_line}
 use Rattle.cq_lines.specs.Cutting.{IsNext, Cuts}
-use Rattle.cq_lines.specs.Runs.{CutTo, IsFresh, RunEnds}
+use Rattle.cq_lines.specs.Runs.{CutTo, IsFresh, AreWhole, RunEnds}
 use Rattle.cq_lines.specs.declared.lines.Cut.{Cut}
 use Rattle.cq_lines.specs.declared.lines.Cut.TheVariants as cut
 use Rattle.cq_lines.proofs.Splitting.{split_clean, split_lines}
@@ -75,6 +75,16 @@ cut_front limit a c y lines so =
           ((split y.pending).0 ++ last_line (split y.pending).1, rw e (sym (append_assoc lines (split y.pending).0 (last_line (split y.pending).1))))
     ]
 
+-- and they are whole
+pub cut_whole : (limit : ℕ) (a c : Option (List ℕ)) (y : Held) (lines : List (List ℕ)) (so : CutTo limit a c y lines) → AreWhole limit c so.got lines
+cut_whole limit a c y lines so =
+    elim so.cut [
+      | inr done ↦ inr (done.3, omega (arith, done.4, so.taken, so.limited), sym done.0)
+      | inl going_on ↦
+          let e : split so.got ≡ (lines ++ (split y.pending).0, (split y.pending).1) = ap split going_on.1 ∙ split_lines lines y.pending going_on.0 in
+          inl ((split y.pending).0, sym (ap (λ (p : List (List ℕ) × List ℕ). p.0) e))
+    ]
+
 -- what was cut is all that has a feed
 closed_now : (limit : ℕ) (a b : Option (List ℕ)) (x : Held) (lines : List (List ℕ)) (so : CutTo limit a b x lines) (got : List ℕ) → (x.over ≡ true → ⊥) → HasNoFeed (x.pending ++ got) → closed_lines (so.got ++ got) ≡ lines
 closed_now limit a b x lines so got going clean =
@@ -127,7 +137,7 @@ run_ends limit a b c x y lines cut.Spent so cuts = record {
 run_ends limit a b c x y lines cut.ReadFault so cuts = record {
   got = so.got ++ cuts.got;
   bytes = Consumes-trans a b c so.got cuts.got so.bytes cuts.bytes;
-  ends = closed_now limit a b x lines so cuts.got (λ e. (cuts.stays e).0) cuts.finds.0;
+  ends = (omega (arith, length-append so.got cuts.got, so.taken, cuts.taken, cuts.finds.3, cuts.limit, so.limited), closed_now limit a b x lines so cuts.got (λ e. (cuts.stays e).0) cuts.finds.0);
 }
 run_ends limit a b c x y lines (cut.Line line) so cuts = record { got = so.got ++ cuts.got; bytes = Consumes-trans a b c so.got cuts.got so.bytes cuts.bytes; ends = tt }
 run_ends limit a b c x y lines cut.TooLong so cuts = record { got = so.got ++ cuts.got; bytes = Consumes-trans a b c so.got cuts.got so.bytes cuts.bytes; ends = tt }

@@ -28,11 +28,15 @@ pub record CutTo (limit : ℕ) (rest rest_now : Option (List ℕ)) (held : Held)
   pub limited : held.limit ≡ limit
   pub cut : CutSoFar (IsAtEnd rest_now) got lines held
 
+-- the lines are the first of what was taken, each closed by a line feed; or all lines of a source that is at its end
+abbrev pub AreWhole : ℕ → Option (List ℕ) → List ℕ → List (List ℕ) → Type 0
+AreWhole limit rest got lines = ((others : List (List ℕ)) × (lines ++ others ≡ closed_lines got)) ⊎ (IsAtEnd rest × (length got < limit) × (lines ≡ all_lines got))
+
 -- by what ends a run: at the end these are all lines, and otherwise those that a line feed closes
 abbrev pub EndsWith : ℕ → Option (List ℕ) → List ℕ → List (List ℕ) → Cut → Type 0
 EndsWith limit after got lines cut.End = IsAtEnd after × (length got < limit) × (all_lines got ≡ lines)
 EndsWith limit after got lines cut.Spent = (length got ≡ limit) × (closed_lines got ≡ lines)
-EndsWith limit after got lines cut.ReadFault = closed_lines got ≡ lines
+EndsWith limit after got lines cut.ReadFault = (length got < limit) × (closed_lines got ≡ lines)
 EndsWith limit after got lines (cut.Line line) = ⊤
 EndsWith limit after got lines cut.TooLong = ⊤
 

@@ -1,12 +1,12 @@
 -- What is written for the lines of a source, from the source to the sink.
-use Rattle.std.specs.Prelude.{◌≡◌, ◌<◌, ℕ, List, ◌++◌, length, flat_map, Option}
+use Rattle.std.specs.Prelude.{◌≡◌, ◌<◌, ◌≤◌, ℕ, List, ◌++◌, length, flat_map, Option}
 use Rattle.std.specs.Io.KnownBytes.{Consumes, Appends, IsAtEnd}
 use Rattle.cq_io.specs.Causes.{Rose}
 use Rattle.cq_io.specs.declared.sink.Sink as sink
 use Rattle.cq_io.specs.declared.source.Source as source
 use Rattle.cq_lines.specs.Held.{Held}
 use Rattle.cq_lines.specs.Pieces.{closed_lines, all_lines}
-use Rattle.cq_lines.specs.Runs.{CutTo}
+use Rattle.cq_lines.specs.Runs.{CutTo, AreWhole}
 use Rattle.cq_lines.specs.declared.ending.End.{End}
 use Rattle.cq_lines.specs.declared.ending.End.TheVariants as end
 
@@ -18,13 +18,13 @@ module _ {R : Type 0} (line_of : R → List ℕ) (AreReplies : List (List ℕ) �
     pub talk : AreReplies lines replies
     pub written : Appends before written_now (flat_map line_of replies)
 
-  -- a front of the lines have their replies, and a front of these was written
-  pub record PartReplied (before written_now : Option (List ℕ)) (lines : List (List ℕ)) : Type 0 where
-    pub some : List (List ℕ)
-    pub others : List (List ℕ)
-    pub parts : some ++ others ≡ lines
+  -- some whole lines that came first have their replies, and a front of these was written
+  pub record PartReplied (limit : ℕ) (rest before written_now : Option (List ℕ)) (got : List ℕ) : Type 0 where
+    pub lines : List (List ℕ)
+    pub within : length got ≤ limit
+    pub whole : AreWhole limit rest got lines
     pub replies : List R
-    pub talk : AreReplies some replies
+    pub talk : AreReplies lines replies
     pub out : List ℕ
     pub more : List ℕ
     pub front : out ++ more ≡ flat_map line_of replies
@@ -34,8 +34,8 @@ module _ {R : Type 0} (line_of : R → List ℕ) (AreReplies : List (List ℕ) �
   abbrev pub ServedBy : ℕ → Option (List ℕ) → Option (List ℕ) → Option (List ℕ) → List ℕ → End → Type 0
   ServedBy limit rest before written_now got end.Finished = IsAtEnd rest × (length got < limit) × Replied before written_now (all_lines got)
   ServedBy limit rest before written_now got end.Spent = (length got ≡ limit) × Replied before written_now (closed_lines got)
-  ServedBy limit rest before written_now got end.ReadFault = Replied before written_now (closed_lines got)
-  ServedBy limit rest before written_now got end.WriteFault = PartReplied before written_now (all_lines got)
+  ServedBy limit rest before written_now got end.ReadFault = (length got < limit) × Replied before written_now (closed_lines got)
+  ServedBy limit rest before written_now got end.WriteFault = PartReplied limit rest before written_now got
 
   -- the lines of a source were served
   pub record Serves (limit : ℕ) (rest rest_now before written_now : Option (List ℕ)) (by : End) : Type 0 where

@@ -1,4 +1,3 @@
-pub mod Served
 pub mod Complete
 pub mod Kept
 mod Sent

@@ -9,7 +9,7 @@ use Rattle.cq_session.specs.Costs.{counted}
 use Rattle.cq_session.specs.Turn.{CountedTalk}
 use Rattle.cq_talk.specs.Said.{said}
 use Rattle.cq_program.specs.Top.{AreAlone}
-use Rattle.cq_program.proofs.Served.{serves_as}
+use Rattle.cq_lines.proofs.Serving.{serves_as}
 use Rattle.cq_program.proofs.program.serve.Goals as goal
 
 pub session-end-requires-clause-closed : goal.session-end-requires-clause-closed
