@@ -1,5 +1,5 @@
 #!/usr/bin/env python3
-"""Runs each command of cqd once for each of its allocations, with that one refused, and checks how it ends and what it wrote.
+"""Runs each command but `export` once for each of its allocations, with that one refused, and checks how it ends and what it wrote.
 
 usage: bench/refused.py [--only NAME] [--every N] [--and-behind]
 

@@ -12,12 +12,13 @@ Each reply is checked. What needs no other client is, as it comes: refusals are 
 fall, and replies of the client's own project are what bench/model.py works out from its texts. The others are checked behind
 all clients, by one history of all changes that were told: they are numbered once each and without a gap, each reply of the
 shared project is that of its version, each drop that was accepted had its file and one that was refused lacked it at some
-version in between, and a change that was told as pending is a put. Lines that broke off left nothing, and `state` adds up. Then the server has to end with 0, behind the
-last of its connections, and its memory in the last minute may be a tenth above that of the minute before minute 5, or before a
-quarter of the minutes, where others are asked for; memory is VmRSS, looked at once a second, and the middle of a minute's.
+version in between, and a change that was told as pending is a put. Lines that broke off left nothing, and `state` adds up.
+Then the server has to end with 0, behind the last of its connections, and its memory in the last minute may be a tenth above
+that of the minute before minute 5, or before a quarter of the minutes, where others are asked for; memory is VmRSS, looked at
+once a second, and the middle of a minute's.
 
-The server keeps at most --changes changes; where a client is told that it is full, a query makes room. Printed
-are how many replies of each kind there were, connections, changes and memory. Ends with 1 where anything was otherwise.
+The server keeps at most --changes changes; where a client is told that it is full, a query makes room. Printed are how many
+replies of each kind there were, connections, changes and memory. Ends with 1 where anything was otherwise.
 
 The program is ./cqd, or what the variable CQD names.
 """

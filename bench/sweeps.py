@@ -10,9 +10,9 @@ usage: bench/sweeps.py [--rounds N]
 - 20,000 uploads go round over 200 paths, with a query behind each tenth. Printed is the peak of memory behind 2,000, 8,000,
   14,000 and 20,000 of them.
 
-A server keeps the text of each change, and its work, also where the file was replaced. So all is run once more with windows
-that are longer than the files: then nothing is ever in the index, and what still grows is that. The difference, an upload,
-is what the index and the keys of a work keep. Sizes are in bytes of 2^20. The program is ./cqd, or what CQD names."""
+All is run once more with windows that are longer than the files: then nothing is ever in the index, and no work has keys. The
+difference, an upload, is what the index and the keys of a work keep. Sizes are in bytes of 2^20. The program is ./cqd, or what
+CQD names."""
 import argparse
 import json
 import os
