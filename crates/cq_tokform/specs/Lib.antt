@@ -1,4 +1,5 @@
 pub mod Spelling
 pub mod Sound
 pub mod Reading
+pub mod Writing
 pub mod Laws

@@ -1,7 +1,8 @@
-ghost use Rattle.std.specs.Prelude.{◌≡◌, ◌<◌, ◌^◌, ◌++◌, length, OnOk};
+ghost use Rattle.std.specs.Prelude.{◌≡◌, ◌<◌, ◌^◌, ◌++◌, length, OnOk, OnErr};
 ghost use Rattle.cq_tokform.specs.Spelling as spell;
 ghost use Rattle.cq_tokform.specs.Sound.{AreCounted, IsSoundCondition};
 ghost use Rattle.cq_tokform.specs.Reading.{Gives, Reads, metric_of, compare_of, condition_at, counted_at, items_at};
+ghost use Rattle.cq_tokform.specs.Writing.{IsFrontOf};
 
 use crate::numbers::{put_u32, u8_at, u32_at, u64_at};
 use crate::unread::Unread;
@@ -78,8 +79,10 @@ pub fn read_condition(bytes: &[u8]) -> Result<(Condition, &[u8]), Unread>
 }
 
 /// Writes a condition at the end.
+/// Where memory is refused, some more bytes may stand behind those that were there.
 pub fn put_condition(out: &mut Vec<u8>, condition: &Condition) -> Result<(), Memory>
-    ensures { OnOk result (out.new.items ≡ out.old.items ++ spell.condition condition.now) }
+    ensures written { OnOk result (out.new.items ≡ out.old.items ++ spell.condition condition.now) }
+    ensures front { OnErr result (IsFrontOf out.old.items out.new.items) }
 {
     out.push(metric_byte(condition.metric))?;
     out.push(compare_byte(condition.op))?;
@@ -117,9 +120,11 @@ pub fn read_conditions(alloc: Global, bytes: &[u8]) -> Result<(Vec<Condition>, &
 }
 
 /// Writes how many conditions there are, and each of them, at the end.
+/// Where memory is refused, some more bytes may stand behind those that were there.
 pub fn put_conditions(out: &mut Vec<u8>, conditions: &[Condition]) -> Result<(), Memory>
     requires { length conditions.now < 2 ^ 32 }
-    ensures { OnOk result (out.new.items ≡ out.old.items ++ spell.counted spell.condition conditions.now) }
+    ensures written { OnOk result (out.new.items ≡ out.old.items ++ spell.counted spell.condition conditions.now) }
+    ensures front { OnErr result (IsFrontOf out.old.items out.new.items) }
 {
     put_u32(out, conditions.len() as u32)?;
     for condition in conditions {

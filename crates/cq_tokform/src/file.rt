@@ -1,10 +1,11 @@
-ghost use Rattle.std.specs.Prelude.{◌≡◌, ◌<◌, ◌^◌, ◌++◌, length, OnOk};
+ghost use Rattle.std.specs.Prelude.{◌≡◌, ◌<◌, ◌^◌, ◌++◌, length, OnOk, OnErr};
 ghost use Rattle.cq_key.specs.Keys.{lang_code};
 ghost use Rattle.cq_tokform.specs.Spelling as spell;
 ghost use Rattle.cq_tokform.specs.Spelling.{recorded};
 ghost use Rattle.cq_tokform.specs.Sound.{HasSpelling, IsSoundFile, is_sound_file};
 ghost use Rattle.cq_work.specs.Bounds.{has_tokens};
 ghost use Rattle.cq_tokform.specs.Reading.{Gives, Reads, counts_at, file_at, lang_at, lang_of, state_at};
+ghost use Rattle.cq_tokform.specs.Writing.{IsFrontOf};
 
 use crate::functions::{functions_of, put_functions};
 use crate::numbers::{put_text, put_u8, put_u32, put_u64, text_of, u8_at, u32_at, u64_at};
@@ -159,7 +160,8 @@ fn lang_byte(lang: Lang) -> u8
 }
 
 fn put_state(out: &mut Vec<u8>, state: State) -> Result<(), Memory>
-    ensures { OnOk result (out.new.items ≡ out.old.items ++ spell.outcome state) }
+    ensures written { OnOk result (out.new.items ≡ out.old.items ++ spell.outcome state) }
+    ensures front { OnErr result (IsFrontOf out.old.items out.new.items) }
 {
     match state {
         State::Ok => put_u8(out, 0),
@@ -172,7 +174,8 @@ fn put_state(out: &mut Vec<u8>, state: State) -> Result<(), Memory>
 }
 
 fn put_counts(out: &mut Vec<u8>, counts: FileCounts) -> Result<(), Memory>
-    ensures { OnOk result (out.new.items ≡ out.old.items ++ spell.counts counts) }
+    ensures written { OnOk result (out.new.items ≡ out.old.items ++ spell.counts counts) }
+    ensures front { OnErr result (IsFrontOf out.old.items out.new.items) }
 {
     put_u64(out, counts.lines)?;
     put_u64(out, counts.ncloc)?;
@@ -181,6 +184,7 @@ fn put_counts(out: &mut Vec<u8>, counts: FileCounts) -> Result<(), Memory>
 }
 
 /// Writes what stands before the tokens of a file at the end.
+/// Where memory is refused, some more bytes may stand behind those that were there.
 pub fn put_front(
     out: &mut Vec<u8>,
     path: &Text,
@@ -190,7 +194,8 @@ pub fn put_front(
     counts: FileCounts,
 ) -> Result<(), Memory>
     requires { length path.now < 2 ^ 32 }
-    ensures { OnOk result (out.new.items ≡ out.old.items ++ spell.front path.now change lang state counts) }
+    ensures written { OnOk result (out.new.items ≡ out.old.items ++ spell.front path.now change lang state counts) }
+    ensures front { OnErr result (IsFrontOf out.old.items out.new.items) }
 {
     put_text(out, path.as_bytes())?;
     put_u64(out, change)?;
@@ -201,9 +206,11 @@ pub fn put_front(
 }
 
 /// Writes a file at the end.
+/// Where memory is refused, some more bytes may stand behind those that were there.
 pub fn put_file(out: &mut Vec<u8>, file: &FileRecord) -> Result<(), Memory>
     requires { HasSpelling (recorded file.now) }
-    ensures { OnOk result (out.new.items ≡ out.old.items ++ spell.file (recorded file.now)) }
+    ensures written { OnOk result (out.new.items ≡ out.old.items ++ spell.file (recorded file.now)) }
+    ensures front { OnErr result (IsFrontOf out.old.items out.new.items) }
 {
     put_text(out, file.path.as_bytes())?;
     put_u64(out, file.change)?;

@@ -1,8 +1,9 @@
-ghost use Rattle.std.specs.Prelude.{◌≡◌, ◌<◌, ◌^◌, ◌++◌, length, map, All, OnOk};
+ghost use Rattle.std.specs.Prelude.{◌≡◌, ◌<◌, ◌^◌, ◌++◌, length, map, All, OnOk, OnErr};
 ghost use Rattle.cq_tokform.specs.Spelling as spell;
 ghost use Rattle.cq_tokform.specs.Spelling.{recorded};
 ghost use Rattle.cq_tokform.specs.Sound.{AreCounted, HasSpelling, IsSoundFile};
 ghost use Rattle.cq_tokform.specs.Reading.{Gives, Reads, counted_at, file_at, items_at};
+ghost use Rattle.cq_tokform.specs.Writing.{IsFrontOf};
 
 use crate::file::{FileRecord, file_of, put_file};
 use crate::numbers::{put_u32, u32_at};
@@ -56,10 +57,12 @@ pub fn read_files<'a>(
 }
 
 /// Writes how many files there are, and each of them, at the end.
+/// Where memory is refused, some more bytes may stand behind those that were there.
 pub fn put_files(out: &mut Vec<u8>, files: &[FileRecord]) -> Result<(), Memory>
     requires few { length files.now < 2 ^ 32 }
     requires spelled { All (λ f. HasSpelling (recorded f)) files.now }
-    ensures { OnOk result (out.new.items ≡ out.old.items ++ spell.counted (λ f. spell.file (recorded f)) files.now) }
+    ensures written { OnOk result (out.new.items ≡ out.old.items ++ spell.counted (λ f. spell.file (recorded f)) files.now) }
+    ensures front { OnErr result (IsFrontOf out.old.items out.new.items) }
 {
     put_u32(out, files.len() as u32)?;
     for file in files {

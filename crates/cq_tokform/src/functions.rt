@@ -1,7 +1,8 @@
-ghost use Rattle.std.specs.Prelude.{◌≡◌, ◌<◌, ◌^◌, ◌++◌, length, All, OnOk};
+ghost use Rattle.std.specs.Prelude.{◌≡◌, ◌<◌, ◌^◌, ◌++◌, length, All, OnOk, OnErr};
 ghost use Rattle.cq_tokform.specs.Spelling as spell;
 ghost use Rattle.cq_tokform.specs.Sound.{AreCounted, IsSoundFunction, is_sound_function};
 ghost use Rattle.cq_tokform.specs.Reading.{Gives, Reads, counted_at, function_at, items_at};
+ghost use Rattle.cq_tokform.specs.Writing.{IsFrontOf};
 
 use crate::numbers::{put_text, put_u32, text_of, u32_at};
 use crate::unread::Unread;
@@ -86,9 +87,11 @@ pub fn read_functions(
 }
 
 /// Writes a function at the end.
+/// Where memory is refused, some more bytes may stand behind those that were there.
 pub fn put_function(out: &mut Vec<u8>, function: &Function) -> Result<(), Memory>
     requires { length function.now.name < 2 ^ 32 }
-    ensures { OnOk result (out.new.items ≡ out.old.items ++ spell.function function.now) }
+    ensures written { OnOk result (out.new.items ≡ out.old.items ++ spell.function function.now) }
+    ensures front { OnErr result (IsFrontOf out.old.items out.new.items) }
 {
     put_text(out, function.name.as_bytes())?;
     put_u32(out, function.first)?;
@@ -98,10 +101,12 @@ pub fn put_function(out: &mut Vec<u8>, function: &Function) -> Result<(), Memory
 }
 
 /// Writes how many functions there are, and each of them, at the end.
+/// Where memory is refused, some more bytes may stand behind those that were there.
 pub fn put_functions(out: &mut Vec<u8>, functions: &[Function]) -> Result<(), Memory>
     requires few { length functions.now < 2 ^ 32 }
     requires short { All (λ s. length s.name < 2 ^ 32) functions.now }
-    ensures { OnOk result (out.new.items ≡ out.old.items ++ spell.counted spell.function functions.now) }
+    ensures written { OnOk result (out.new.items ≡ out.old.items ++ spell.counted spell.function functions.now) }
+    ensures front { OnErr result (IsFrontOf out.old.items out.new.items) }
 {
     put_u32(out, functions.len() as u32)?;
     for function in functions {

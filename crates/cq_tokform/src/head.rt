@@ -1,7 +1,8 @@
-ghost use Rattle.std.specs.Prelude.{◌≡◌, ◌<◌, ◌^◌, ◌++◌, length, OnOk};
+ghost use Rattle.std.specs.Prelude.{◌≡◌, ◌<◌, ◌^◌, ◌++◌, length, OnOk, OnErr};
 ghost use Rattle.cq_tokform.specs.Spelling as spell;
 ghost use Rattle.cq_tokform.specs.Sound.{IsSoundHead, is_sound_head};
 ghost use Rattle.cq_tokform.specs.Reading.{Gives, Reads, head_at};
+ghost use Rattle.cq_tokform.specs.Writing.{IsFrontOf};
 
 use crate::numbers::{put_text, put_u8, put_u32, put_u64, text_of, u8_at, u32_at, u64_at};
 use crate::unread::Unread;
@@ -62,6 +63,7 @@ pub fn read_head<'a>(
 }
 
 /// Writes the head of a version of a project with these settings at the end.
+/// Where memory is refused, some more bytes may stand behind those that were there.
 pub fn put_head_of(
     out: &mut Vec<u8>,
     settings: &Settings,
@@ -69,7 +71,8 @@ pub fn put_head_of(
     project: &Text,
 ) -> Result<(), Memory>
     requires { length project.now < 2 ^ 32 }
-    ensures { OnOk result (out.new.items ≡ out.old.items ++ spell.head settings.now (record { version = version; project = project.now })) }
+    ensures written { OnOk result (out.new.items ≡ out.old.items ++ spell.head settings.now (record { version = version; project = project.now })) }
+    ensures front { OnErr result (IsFrontOf out.old.items out.new.items) }
 {
     put_u64(out, version)?;
     put_u32(out, settings.chunk)?;
@@ -80,9 +83,11 @@ pub fn put_head_of(
 }
 
 /// Writes a head with these settings at the end.
+/// Where memory is refused, some more bytes may stand behind those that were there.
 pub fn put_head(out: &mut Vec<u8>, settings: &Settings, head: &Head) -> Result<(), Memory>
     requires { length head.now.project < 2 ^ 32 }
-    ensures { OnOk result (out.new.items ≡ out.old.items ++ spell.head settings.now head.now) }
+    ensures written { OnOk result (out.new.items ≡ out.old.items ++ spell.head settings.now head.now) }
+    ensures front { OnErr result (IsFrontOf out.old.items out.new.items) }
 {
     put_head_of(out, settings, head.version, &head.project)
 }

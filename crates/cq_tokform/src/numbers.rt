@@ -1,8 +1,9 @@
-ghost use Rattle.std.specs.Prelude.{◌≡◌, ◌<◌, ◌^◌, ◌++◌, List, [], ◌∷◌, length, OnOk};
+ghost use Rattle.std.specs.Prelude.{◌≡◌, ◌<◌, ◌^◌, ◌++◌, List, [], ◌∷◌, length, OnOk, OnErr};
 ghost use Rattle.std.specs.Int.{w32, w64, to_be_bytes};
 ghost use Rattle.std.specs.Str.{is_utf8};
 ghost use Rattle.cq_tokform.specs.Spelling as spell;
 ghost use Rattle.cq_tokform.specs.Reading.{Gives, byte_at, number_at, text_at};
+ghost use Rattle.cq_tokform.specs.Writing.{IsFrontOf};
 
 use crate::unread::Unread;
 use cq_base::{Memory, Text};
@@ -71,33 +72,41 @@ pub(crate) fn text_of(alloc: Global, bytes: &[u8]) -> Result<(Text, &[u8]), Unre
 }
 
 /// Writes a byte at the end.
+/// Where memory is refused, some more bytes may stand behind those that were there.
 pub(crate) fn put_u8(out: &mut Vec<u8>, byte: u8) -> Result<(), Memory>
-    ensures { OnOk result (out.new.items ≡ out.old.items ++ byte ∷ []) }
+    ensures written { OnOk result (out.new.items ≡ out.old.items ++ byte ∷ []) }
+    ensures front { OnErr result (IsFrontOf out.old.items out.new.items) }
 {
     out.push(byte)?;
     Ok(())
 }
 
 /// Writes a number of four bytes at the end.
+/// Where memory is refused, some more bytes may stand behind those that were there.
 pub fn put_u32(out: &mut Vec<u8>, number: u32) -> Result<(), Memory>
-    ensures { OnOk result (out.new.items ≡ out.old.items ++ to_be_bytes w32 number) }
+    ensures written { OnOk result (out.new.items ≡ out.old.items ++ to_be_bytes w32 number) }
+    ensures front { OnErr result (IsFrontOf out.old.items out.new.items) }
 {
     out.extend_from_slice(&number.to_be_bytes())?;
     Ok(())
 }
 
 /// Writes a number of eight bytes at the end.
+/// Where memory is refused, some more bytes may stand behind those that were there.
 pub fn put_u64(out: &mut Vec<u8>, number: u64) -> Result<(), Memory>
-    ensures { OnOk result (out.new.items ≡ out.old.items ++ to_be_bytes w64 number) }
+    ensures written { OnOk result (out.new.items ≡ out.old.items ++ to_be_bytes w64 number) }
+    ensures front { OnErr result (IsFrontOf out.old.items out.new.items) }
 {
     out.extend_from_slice(&number.to_be_bytes())?;
     Ok(())
 }
 
 /// Writes a text at the end.
+/// Where memory is refused, some more bytes may stand behind those that were there.
 pub(crate) fn put_text(out: &mut Vec<u8>, text: &[u8]) -> Result<(), Memory>
     requires { length text.now < 2 ^ 32 }
-    ensures { OnOk result (out.new.items ≡ out.old.items ++ spell.text text.now) }
+    ensures written { OnOk result (out.new.items ≡ out.old.items ++ spell.text text.now) }
+    ensures front { OnErr result (IsFrontOf out.old.items out.new.items) }
 {
     put_u32(out, text.len() as u32)?;
     out.extend_from_slice(text)?;

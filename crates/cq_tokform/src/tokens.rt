@@ -1,9 +1,10 @@
-ghost use Rattle.std.specs.Prelude.{◌≡◌, ◌<◌, ◌^◌, ◌++◌, length, All, OnOk};
+ghost use Rattle.std.specs.Prelude.{◌≡◌, ◌<◌, ◌^◌, ◌++◌, length, All, OnOk, OnErr};
 ghost use Rattle.cq_key.specs.Keys.{class_code};
 ghost use Rattle.cq_tokform.specs.Spelling as spell;
 ghost use Rattle.cq_tokform.specs.Sound.{AreCounted, IsSoundToken, is_sound_token};
 ghost use Rattle.cq_work.specs.Bounds.{is_ignored};
 ghost use Rattle.cq_tokform.specs.Reading.{Gives, Reads, class_of, counted_at, items_at, place_at, token_at};
+ghost use Rattle.cq_tokform.specs.Writing.{IsFrontOf};
 
 use crate::numbers::{put_text, put_u8, put_u32, text_of, u8_at, u32_at};
 use crate::unread::Unread;
@@ -151,7 +152,8 @@ pub fn read_tokens<'a>(
 }
 
 fn put_place(out: &mut Vec<u8>, token: Token) -> Result<(), Memory>
-    ensures { OnOk result (out.new.items ≡ out.old.items ++ spell.place token) }
+    ensures written { OnOk result (out.new.items ≡ out.old.items ++ spell.place token) }
+    ensures front { OnErr result (IsFrontOf out.old.items out.new.items) }
 {
     put_u8(out, class_byte(token.class))?;
     put_u32(out, token.start)?;
@@ -162,19 +164,23 @@ fn put_place(out: &mut Vec<u8>, token: Token) -> Result<(), Memory>
 }
 
 /// Writes a token with this text at the end.
+/// Where memory is refused, some more bytes may stand behind those that were there.
 pub fn put_token(out: &mut Vec<u8>, token: Token, text: &[u8]) -> Result<(), Memory>
     requires { length text.now < 2 ^ 32 }
-    ensures { OnOk result (out.new.items ≡ out.old.items ++ spell.token (record { token = token; text = text.now })) }
+    ensures written { OnOk result (out.new.items ≡ out.old.items ++ spell.token (record { token = token; text = text.now })) }
+    ensures front { OnErr result (IsFrontOf out.old.items out.new.items) }
 {
     put_place(out, token)?;
     put_text(out, text)
 }
 
 /// Writes how many tokens there are, and each of them, at the end.
+/// Where memory is refused, some more bytes may stand behind those that were there.
 pub fn put_tokens(out: &mut Vec<u8>, tokens: &[Spelled]) -> Result<(), Memory>
     requires few { length tokens.now < 2 ^ 32 }
     requires short { All (λ s. length s.text < 2 ^ 32) tokens.now }
-    ensures { OnOk result (out.new.items ≡ out.old.items ++ spell.counted spell.token tokens.now) }
+    ensures written { OnOk result (out.new.items ≡ out.old.items ++ spell.counted spell.token tokens.now) }
+    ensures front { OnErr result (IsFrontOf out.old.items out.new.items) }
 {
     put_u32(out, tokens.len() as u32)?;
     for spelled in tokens {
