@@ -23,7 +23,7 @@ returns g c =
     let len : c.body_length-len.result ≡ length inside = small.1 ∙ sym bytes in
     let fits : length inside ≤ 268435456 = omega (arith, bytes, small.0) in
     let written = three [] _ _ _ mark (to_be_bytes w64 (length inside)) inside
-    (c.in_ok-put_mark.ensures ∙ ap (λ (b : List ℕ). b ++ mark) c.in_ok-out.ensures.items)
-    (c.in_ok-put_u64.ensures ∙ ap (λ (n : ℕ). c.put_mark.new.out.items ++ to_be_bytes w64 n) len)
+    (c.in_ok-put_mark.ensures.written ∙ ap (λ (b : List ℕ). b ++ mark) c.in_ok-out.ensures.items)
+    (c.in_ok-put_u64.ensures.written ∙ ap (λ (n : ℕ). c.put_mark.new.out.items ++ to_be_bytes w64 n) len)
     c.in_ok-put_body.ensures in
     record { sound = c.requires; fits = fits; is = written }

@@ -13,7 +13,7 @@ use Rattle.cq_tokform.proofs.Appended.{written_on}
 use Rattle.cq_tokfile.proofs.encoding.put_all.Goals as goal
 
 pub loop-i-init : goal.loop-i-init
-loop-i-init g c = c.in_ok-put_u32.ensures ∙ ap (λ (n : ℕ). c.args.out.now.items ++ to_be_bytes w32 n) c.len.ensures ∙ sym (append-nil (c.args.out.now.items ++ to_be_bytes w32 (length c.args.files.now)))
+loop-i-init g c = c.in_ok-put_u32.ensures.written ∙ ap (λ (n : ℕ). c.args.out.now.items ++ to_be_bytes w32 n) c.len.ensures ∙ sym (append-nil (c.args.out.now.items ++ to_be_bytes w32 (length c.args.files.now)))
 
 pub put_held-requires-clause-spelled : goal.put_held-requires-clause-spelled
 put_held-requires-clause-spelled g c =

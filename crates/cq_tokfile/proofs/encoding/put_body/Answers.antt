@@ -19,6 +19,6 @@ pub returns : goal.returns
 returns g c =
     let k = contents_of c.args.snapshot.now in
     three _ _ _ _ (head c.args.settings.now k.head) (counted condition k.conditions) (counted file k.files)
-    c.in_ok-put_head_of.ensures
-    (c.in_ok-put_conditions.ensures ∙ ap (λ (cs : List Condition). c.put_head_of.new.out.items ++ counted condition cs) c.as_slice.ensures.value)
+    c.in_ok-put_head_of.ensures.written
+    (c.in_ok-put_conditions.ensures.written ∙ ap (λ (cs : List Condition). c.put_head_of.new.out.items ++ counted condition cs) c.as_slice.ensures.value)
     c.in_ok-put_all.ensures

@@ -42,7 +42,7 @@ returns g c =
     let head : front c.deref.result.now c.held.inside.change c.held.inside.lang c.deref-2.result.now.state c.deref-3.result.now.counts ≡ front f.path f.number f.lang f.body.state f.body.counts = λ i. front (path i) (number i) (lang i) (first i).state (second i).counts in
     let list : counted token (spelled_of c.as_slice.result.now c.deref-6.result.now) ≡ counted token r.tokens = λ i. counted token (spelled_of (spans i) (tokens i)) in
     three _ _ _ _ (front f.path f.number f.lang f.body.state f.body.counts) (counted token r.tokens) (counted function r.functions)
-    (c.in_ok-put_front.ensures ∙ ap (λ (b : List ℕ). c.args.out.now.items ++ b) head)
+    (c.in_ok-put_front.ensures.written ∙ ap (λ (b : List ℕ). c.args.out.now.items ++ b) head)
     (c.in_ok-put_spelled.ensures ∙ ap (λ (b : List ℕ). c.put_front.new.out.items ++ b) list)
-    (c.in_ok-put_functions.ensures ∙ ap (λ (fs : List Function). c.put_spelled.new.out.items ++ counted function fs) functions)
+    (c.in_ok-put_functions.ensures.written ∙ ap (λ (fs : List Function). c.put_spelled.new.out.items ++ counted function fs) functions)
     ∙ ap (λ (b : List ℕ). c.args.out.now.items ++ b) (file_parts f.path f.number f.lang f.body.state f.body.counts (counted token r.tokens ++ counted function r.functions))

@@ -10,7 +10,7 @@ use Rattle.cq_tokfile.proofs.Written.{no_token, spelled_length}
 use Rattle.cq_tokfile.proofs.encoding.put_spelled.Goals as goal
 
 pub loop-i-init : goal.loop-i-init
-loop-i-init g c = c.in_ok-put_u32.ensures ∙ ap (λ (n : ℕ). c.args.out.now.items ++ to_be_bytes w32 n) c.len.ensures ∙ sym (append-nil (c.args.out.now.items ++ to_be_bytes w32 (length c.args.tokens.now)))
+loop-i-init g c = c.in_ok-put_u32.ensures.written ∙ ap (λ (n : ℕ). c.args.out.now.items ++ to_be_bytes w32 n) c.len.ensures ∙ sym (append-nil (c.args.out.now.items ++ to_be_bytes w32 (length c.args.tokens.now)))
 
 pub loop-i-preserved : goal.loop-i-preserved
 loop-i-preserved g c =

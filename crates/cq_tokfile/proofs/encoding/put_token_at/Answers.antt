@@ -12,4 +12,4 @@ pub returns : goal.returns
 returns g c = λ d.
     let t = get_or c.args.spans.now c.args.i no_place in
     let text = ap (λ (n : Norm). let s : Spelled = record { token = t; text = n.text } in c.args.out.now.items ++ token s) (c.seen_at-seen.ensures.token no_norm) in
-    c.in_ok-put_token.ensures ∙ text ∙ ap (λ (s : Spelled). c.args.out.now.items ++ token s) (sym (spelled_at c.args.spans.now c.args.tokens.now c.args.i d no_place no_norm c.requires.same c.requires.within))
+    c.in_ok-put_token.ensures.written ∙ text ∙ ap (λ (s : Spelled). c.args.out.now.items ++ token s) (sym (spelled_at c.args.spans.now c.args.tokens.now c.args.i d no_place no_norm c.requires.same c.requires.within))
