@@ -1,5 +1,5 @@
 -- The lines of a source as changes, each accepted behind those before it.
-use Rattle.std.specs.Prelude.{All, ◌≡◌, ◌<◌, ℕ, Bool, true, false, List, ◌∷◌, [], ◌++◌, length, map, Option, Some, None, IsSome, Result, Ok, Err}
+use Rattle.std.specs.Prelude.{All, ◌≡◌, ◌⊎◌, ◌<◌, ◌≤◌, ℕ, Bool, true, false, List, ◌∷◌, [], ◌++◌, length, map, Option, Some, None, IsSome, Result, Ok, Err}
 use Rattle.std.specs.Io.KnownBytes.{Consumes, IsAtEnd}
 use Rattle.std.specs.List.{AllZip}
 use Rattle.cq_base.specs.declared.change.Change.{Change}
@@ -48,6 +48,11 @@ IsRefused set changes (Read (Err why)) = Unit {0}
 
 -- ---- what was taken of a source
 
+-- these are the first lines of the bytes that were taken, and whole: a line feed closes each of them; or the source is at its end,
+-- fewer bytes were taken than may be, and these are all lines
+abbrev pub AreWhole : ℕ → Option (List ℕ) → List ℕ → List (List ℕ) → Type 0
+AreWhole limit rest_now got lines = ((others : List (List ℕ)) × (lines ++ others ≡ closed_lines got)) ⊎ (IsAtEnd rest_now × (length got < limit) × (lines ≡ all_lines got))
+
 module _ (set : Settings) (rest rest_now : Option (List ℕ)) (changes : List Change) where
   -- all of it: its lines say these changes, and each of them was accepted
   pub record TakesAll : Type 0 where
@@ -69,14 +74,15 @@ module _ (set : Settings) (rest rest_now : Option (List ℕ)) (changes : List Ch
   abbrev pub TakesMost : Type 0
   TakesMost = (closed : TakesClosed) × (length closed.got ≡ set.byte_limit)
 
-  -- the lines up to one say these changes, each of them was accepted, and that one is no change that is accepted
+  -- the lines up to one say these changes, each of them was accepted, and that one is no change that is accepted; it is whole, as
+  -- they are
   pub record TakesRefused : Type 0 where
     pub got : List ℕ
     pub bytes : Consumes rest rest_now got
+    pub within : length got ≤ set.byte_limit
     pub lines : List (List ℕ)
     pub line : List ℕ
-    pub others : List (List ℕ)
-    pub parts : (lines ++ line ∷ []) ++ others ≡ all_lines got
+    pub whole : AreWhole set.byte_limit rest_now got (lines ++ line ∷ [])
     pub say : SayChanges set.chunk lines changes
     pub accepted : AreAccepted set changes
     pub refused : IsRefused set changes (said set.chunk line)

@@ -24,7 +24,7 @@ use std::sync::ledger::Ledger;
 /// How the writing of a version ended.
 #[derive(Clone, Copy, Debug, PartialEq, Eq)]
 pub enum Exported {
-    /// A line is no change, or one that is not accepted, and nothing was written.
+    /// A whole line is no change, or one that is not accepted, and nothing was written.
     Refused,
     /// The file's body would have more than 268,435,456 bytes, and nothing was written.
     TooLarge,
@@ -76,7 +76,7 @@ fn write<L: Ledger, K: Sink>(
 }
 
 /// Writes the file of a project at the version of all changes that the lines of a source say, if each of them is accepted
-/// behind those before it. Memory is answered before a byte is written alone; bytes may have been taken.
+/// behind those before it. Where memory is refused, nothing is written; bytes may have been taken.
 pub fn export<L: Ledger, S: Source, K: Sink>(
     alloc: Global,
     settings: &Settings,

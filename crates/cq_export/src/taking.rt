@@ -21,7 +21,7 @@ pub(crate) enum Taken {
     Spent,
     /// A read failed.
     Failed,
-    /// A line is no change that is accepted.
+    /// A line that was taken whole is no change that is accepted.
     Refused,
 }
 

@@ -1,5 +1,6 @@
 -- Bytes that come piece by piece.
-use Rattle.std.proofs.Common.{◌≡◌, ℕ, ◌+◌, ◌-◌, ◌≤◌, List, [], ◌++◌, length, take, Option, None, Some, sym, ap, ◌∙◌, append_assoc, arith, length-append}
+use Rattle.std.proofs.Common.{◌≡◌, ℕ, ◌+◌, ◌-◌, ◌≤◌, List, [], ◌++◌, length, take, Option, None, Some, Ok, Err, Result, sym, ap, ◌∙◌, append_assoc, arith, length-append}
+use Rattle.std.specs.Prelude.{OnErr}
 use Rattle.std.proofs.KnownBytes.{Consumes-nil, Consumes-trans}
 use Rattle.std.specs.Io.KnownBytes.{Consumes, Keeps}
 use Rattle.std.proofs.lemmas.List.{append-nil, length-take-le, take-take}
@@ -38,3 +39,8 @@ comes_more a b d old mid new more count left n so came many fits = record {
   came = came_more a b d old mid new so.got more so.came came;
   many = (let both = length-append so.got more in let before = so.many in omega (arith, both, before, many, fits));
 }
+
+-- what holds anyway holds at an error
+pub on_err : {T E : Type 0} {P : Type 0} (r : Result T E) → P → OnErr r P
+on_err (Ok x) is = tt
+on_err (Err e) is = is

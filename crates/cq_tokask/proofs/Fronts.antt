@@ -1,10 +1,10 @@
 -- What stands at the front of a source, by what was taken of it.
-use Rattle.std.proofs.Common.{◌≡◌, ℕ, ◌+◌, ◌<◌, List, ◌++◌, length, take, Option, Some, None, sym, ap, ◌∙◌, subst, append_assoc, arith, length-append}
+use Rattle.std.proofs.Common.{◌≡◌, ℕ, ◌+◌, ◌<◌, ◌≤◌, List, [], ◌∷◌, ◌++◌, length, take, Option, Some, None, sym, ap, ◌∙◌, subst, append_assoc, arith, length-append, refl}
 use Rattle.std.specs.Prelude.{IfSome}
 use Rattle.std.specs.Io.KnownBytes.{Consumes}
-use Rattle.std.proofs.lemmas.List.{take_at}
+use Rattle.std.proofs.lemmas.List.{append-nil, take_at}
 use Rattle.cq_base.specs.declared.settings.Settings.{Settings}
-use Rattle.cq_tokask.specs.Taken.{BeginsOther, IsFramed}
+use Rattle.cq_tokask.specs.Taken.{BeginsOther, HasNoneBehind, IsFramed}
 use Rattle.cq_tokfile.specs.declared.snapshot.Snapshot.{Snapshot}
 use Rattle.cq_tokform.specs.Reading.{announced, frame_at}
 use Rattle.cq_tokfile.specs.Snapshot.{contents_of, IsTokenFile}
@@ -51,6 +51,37 @@ all_there front behind n fits len told there =
     let is = announced_is front behind fits len (told ∙ ap (λ (k : ℕ). Some k) (sym there)) in
     record { body = behind; sound = is.1; is = ap (λ (b : List ℕ). b ++ behind) is.0 ∙ sym (framed_parts behind) }
 
+-- ---- nothing stands behind a body in its frame
+
+no_bytes : (bytes : List ℕ) → length bytes ≡ 0 → bytes ≡ []
+no_bytes [] none = refl
+no_bytes (b ∷ bytes) none = absurd (omega (arith, none))
+
+-- no more than 16 bytes
+pub at_most_head : (bytes : List ℕ) → length bytes ≤ 16 → HasNoneBehind bytes
+at_most_head bytes few body rest sound is =
+    let all = ap length is in
+    let both = length-append (framed body) rest in
+    let len = framed_length body in
+    no_bytes rest (omega (arith, few, all, both, len))
+
+-- no more than announced
+pub at_most_announced : (front behind : List ℕ) (n : ℕ) → length front ≡ 16 → announced front ≡ Some n → length behind ≤ n → HasNoneBehind (front ++ behind)
+at_most_announced front behind n len told few body rest sound is =
+    let found : Some n ≡ Some (length body) = sym told ∙ announced_front front behind body rest len sound is in
+    let same : n ≡ length body = cc (found) in
+    let all = ap length is in
+    let left = length-append front behind in
+    let right = length-append (framed body) rest in
+    let size = framed_length body in
+    no_bytes rest (omega (arith, few, same, all, left, right, size, len))
+
+-- a body in its frame alone
+pub framed_alone : (taken : List ℕ) → IsFramed taken → HasNoneBehind taken
+framed_alone taken framed_bytes inside rest sound is =
+    let both : framed framed_bytes.body ++ [] ≡ framed inside ++ rest = append-nil (framed framed_bytes.body) ∙ sym framed_bytes.is ∙ is in
+    sym (one_form framed IsSoundBody frame_at frames framed_bytes.body inside [] rest framed_bytes.sound sound both).1
+
 -- ---- what a source tells of its front
 
 pub told_of : (P : List ℕ → Type 0) (rest rest_now : Option (List ℕ)) (got : List ℕ) → Consumes rest rest_now got → ((left : List ℕ) → P (got ++ left)) → IfSome rest P
@@ -61,6 +92,11 @@ told_of P (Some xs) (Some ys) got came each = subst P (sym came) (each ys)
 pub of_known : (rest : Option (List ℕ)) (P Q : List ℕ → Type 0) → ((bytes : List ℕ) → P bytes → Q bytes) → IfSome rest P → IfSome rest Q
 of_known None P Q to is = tt
 of_known (Some xs) P Q to is = to xs is
+
+-- ---- a token file at the front
+
+pub none_behind_file : {L : Type 0} (set : Settings) (bytes : List ℕ) → HasNoneBehind bytes → (s : Snapshot L) (file behind : List ℕ) → bytes ≡ file ++ behind → IsTokenFile set s file → behind ≡ []
+none_behind_file set bytes none s file behind parts of = none (body set (contents_of s)) behind of.fits (parts ∙ ap (λ (b : List ℕ). b ++ behind) of.is)
 
 -- ---- no front is a token file
 

@@ -1,5 +1,5 @@
 -- What is written for a source that begins with a token file.
-use Rattle.std.specs.Prelude.{◌≡◌, ◌⊎◌, ℕ, List, ◌++◌, Option, IfSome}
+use Rattle.std.specs.Prelude.{◌≡◌, ◌⊎◌, ℕ, List, [], ◌++◌, Option, IfSome}
 use Rattle.std.specs.Io.KnownBytes.{Consumes}
 use Rattle.cq_base.specs.declared.settings.Settings.{Settings}
 use Rattle.cq_io.specs.Causes.{Rose}
@@ -15,6 +15,12 @@ use Rattle.cq_reply.specs.Written.{line_of}
 use Rattle.cq_tokfile.specs.declared.snapshot.Snapshot.{Snapshot}
 use Rattle.cq_tokfile.specs.Snapshot.{IsTokenFile}
 
+-- memory was refused: where what was taken begins with a token file of these settings, nothing behind it was taken
+pub record TakesNoLine (L : Type 0) {S : Type 0} (from : source.Ghosts S) (set : Settings) (read read_now : S) : Type 0 where
+  pub got : List ℕ
+  pub taken : Consumes (from.rest read) (from.rest read_now) got
+  pub none_behind : (s : Snapshot L) (file behind : List ℕ) → got ≡ file ++ behind → IsTokenFile set s file → behind ≡ []
+
 module _ (L : Type 0) {S K : Type 0} (from : source.Ghosts S) (onto : sink.Ghosts K) (set : Settings) where
   -- no front of the bytes is a token file of these settings
   abbrev pub BeginsWithNoFile : List ℕ → Type 0
@@ -29,9 +35,12 @@ module _ (L : Type 0) {S K : Type 0} (from : source.Ghosts S) (onto : sink.Ghost
     pub taken : Consumes (from.rest read) behind file
     pub serves : Serves line_of (AnswersLines snapshot set) set.byte_limit behind (from.rest read_now) (onto.written written) (onto.written written_now) by
 
-  -- a read failed before the file was whole, and nothing was written
+  -- a read failed before the file was whole: what was taken begins with no token file, and nothing was written
   pub record FailsFirst (read read_now : S) (written written_now : K) (by : End) : Type 0 where
     pub ended : by ≡ end.ReadFault
+    pub got : List ℕ
+    pub taken : Consumes (from.rest read) (from.rest read_now) got
+    pub unfinished : BeginsWithNoFile got
     pub rose : Rose (from.faults read) (from.faults read_now)
     pub unwritten : written_now ≡ written
 

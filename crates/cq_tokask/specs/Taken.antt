@@ -18,6 +18,10 @@ AreBytes bytes = (i : ℕ) → get_or bytes i 0 < 256
 abbrev pub BeginsOther : List ℕ → Type 0
 BeginsOther bytes = (body rest : List ℕ) → IsSoundBody body → bytes ≡ framed body ++ rest → ⊥
 
+-- where a body in its frame is a front of the bytes, nothing stands behind it
+abbrev pub HasNoneBehind : List ℕ → Type 0
+HasNoneBehind bytes = (body rest : List ℕ) → IsSoundBody body → bytes ≡ framed body ++ rest → rest ≡ []
+
 -- a body in its frame
 pub record IsFramed (bytes : List ℕ) : Type 0 where
   pub body : List ℕ
@@ -30,6 +34,14 @@ pub record CameBehind (rest rest_now : Option (List ℕ)) (old new got : List �
   pub behind : new ≡ old ++ got
 
 module _ {S : Type 0} (from : source.Ghosts S) (before now : S) where
+  -- the next bytes were taken, of which this holds
+  abbrev pub TakesSuch : (List ℕ → Type 0) → Type 0
+  TakesSuch Is = (got : List ℕ) × Consumes (from.rest before) (from.rest now) got × Is got
+
+  -- no more than so many were
+  abbrev pub TakesUpTo : ℕ → Type 0
+  TakesUpTo count = TakesSuch (λ got. length got ≤ count)
+
   -- some of the wanted bytes came, and none where none are left; or a read failed, and none came
   abbrev pub TakesSome : {E : Type 0} → List ℕ → List ℕ → ℕ → Result ℕ E → Type 0
   TakesSome old new want result =
@@ -48,8 +60,8 @@ module _ {S : Type 0} (from : source.Ghosts S) (before now : S) where
     pub came : CameBehind (from.rest before) (from.rest now) old new got
     pub ends : EndsTaking count got by
 
-  -- the framed bytes at the front were taken; or other bytes stand there; or a read failed
+  -- the framed bytes at the front were taken; or other bytes stand there; or a read failed before a framed body was whole
   abbrev pub TakesFile : Front → Type 0
   TakesFile (front.Framed bytes) = IsFramed bytes.items × Consumes (from.rest before) (from.rest now) bytes.items × (from.faults now ≡ from.faults before)
   TakesFile front.Other = IfSome (from.rest before) BeginsOther × (from.faults now ≡ from.faults before)
-  TakesFile front.Failed = Rose (from.faults before) (from.faults now)
+  TakesFile front.Failed = TakesSuch BeginsOther × Rose (from.faults before) (from.faults now)

@@ -54,8 +54,8 @@ fn turn_long<K: Sink>(sink: &mut K) -> Result<(), Failed>
     send(sink, fixed(Short::Long).as_bytes())
 }
 
-/// Answers the lines of a source by a kept version, of which these are the buckets. Each whole reply is handed to the sink
-/// before the next line is cut.
+/// Answers the lines of a source by a kept version, of which these are the buckets. The replies are written in the order of
+/// the lines, each whole but the last where the sink fails.
 pub fn ask_lines<R: Threads + Sync, L: Ledger, S: Source, K: Sink>(
     rt: &R,
     alloc: Global,

@@ -1,6 +1,6 @@
 ghost use Rattle.std.specs.Prelude.{◌≡◌, IfOk, OnErr};
 ghost use Rattle.cq_base.specs.Settings.{IsInRange};
-ghost use Rattle.cq_tokask.specs.Kept.{Asks};
+ghost use Rattle.cq_tokask.specs.Kept.{Asks, TakesNoLine};
 
 use crate::asking::ask_lines;
 use crate::taking::{Front, take_front};
@@ -18,12 +18,13 @@ use std::thread::Threads;
 pub enum Asked {
     /// The source doesn't begin with a token file of the settings, and nothing was written.
     Refused,
-    /// The lines behind it ended so; or a read of the file failed, and nothing was written.
+    /// The lines behind it ended so; or a read failed before the file was whole, and nothing was written.
     Ended(End),
 }
 
 /// Answers the lines behind the token file that a source begins with, by its version. `byte_limit` counts the bytes behind
-/// the file. Memory is answered before a line is read alone, and then nothing was written; bytes may have been taken.
+/// the file. Where memory is refused before the first of these lines is read, nothing is written, and of what was taken
+/// nothing stands behind such a file; behind that, a reply tells it.
 pub fn ask<R: Threads + Sync, L: Ledger, S: Source, K: Sink>(
     rt: &R,
     alloc: Global,
@@ -36,6 +37,7 @@ pub fn ask<R: Threads + Sync, L: Ledger, S: Source, K: Sink>(
     requires in_range { IsInRange settings.now }
     requires settings { keyer.now.settings ≡ settings.now }
     ensures asks { IfOk result (Asks L S.Source K.Sink settings.now source.old source.new sink.old sink.new) }
+    ensures no_line { OnErr result (TakesNoLine L S.Source settings.now source.old source.new) }
     ensures unwritten { OnErr result (sink.new ≡ sink.old) }
 {
     let bytes = match take_front(alloc, source)? {

@@ -1,7 +1,7 @@
-ghost use Rattle.std.specs.Prelude.{◌≡◌, ◌≤◌, ◌<◌, ◌+◌, length, take, drop, vec_len, IfOk};
+ghost use Rattle.std.specs.Prelude.{◌≡◌, ◌≤◌, ◌<◌, ◌+◌, length, take, drop, vec_len, IfOk, OnErr};
 ghost use Rattle.std.specs.Io.KnownBytes.{ReadConsumes};
 ghost use Rattle.cq_io.specs.Causes.{HasCause};
-ghost use Rattle.cq_tokask.specs.Taken.{AreBytes, TakesBytes, TakesFile, TakesSome};
+ghost use Rattle.cq_tokask.specs.Taken.{AreBytes, HasNoneBehind, TakesBytes, TakesFile, TakesSome, TakesSuch, TakesUpTo};
 ghost use Rattle.cq_tokform.specs.Reading as reading;
 
 use cq_base::Memory;
@@ -53,7 +53,7 @@ fn read_at<S: Source>(
 }
 
 // Takes some of the next bytes, as many as are wanted or fewer, and none where none are left. They come behind those that
-// are there.
+// are there; where memory for them is refused, they are lost.
 fn take_some<S: Source>(
     source: &mut S,
     piece: &mut Vec<u8>,
@@ -64,6 +64,7 @@ fn take_some<S: Source>(
     requires some { 0 < want }
     ensures len { vec_len piece.new ≡ vec_len piece.old }
     ensures bytes { IfOk result (TakesSome S.Source source.old source.new out.old.items out.new.items want) }
+    ensures few { OnErr result (TakesUpTo S.Source source.old source.new want) }
 {
     let size = want.min(piece.len());
     match read_at(source, piece, 0, size) {
@@ -75,7 +76,7 @@ fn take_some<S: Source>(
     }
 }
 
-// Takes so many of the next bytes. Memory is taken for what has come alone, whatever number is wanted.
+// Takes so many of the next bytes, and never more. Memory is taken for what has come alone, whatever number is wanted.
 fn take<S: Source>(
     source: &mut S,
     piece: &mut Vec<u8>,
@@ -85,6 +86,7 @@ fn take<S: Source>(
     requires room { 0 < vec_len piece.old }
     ensures len { vec_len piece.new ≡ vec_len piece.old }
     ensures bytes { IfOk result (TakesBytes S.Source source.old source.new out.old.items out.new.items count) }
+    ensures few { OnErr result (TakesUpTo S.Source source.old source.new count) }
 {
     let mut left = count;
     'pieces: while left > 0 {
@@ -106,10 +108,11 @@ fn length_told(bytes: &[u8]) -> Option<usize>
     announced(bytes)
 }
 
-/// Takes the body in its frame that stands at the front of a source. No byte behind it is taken. Where something else
-/// stands there, or a read fails, some bytes may have been taken.
+/// Takes the body in its frame that stands at the front of a source. No byte behind it is taken, whatever fails. Where
+/// something else stands there, some bytes may have been taken.
 pub(crate) fn take_front<S: Source>(alloc: Global, source: &mut S) -> Result<Front, Memory>
-    ensures { IfOk result (TakesFile S.Source source.old source.new) }
+    ensures takes { IfOk result (TakesFile S.Source source.old source.new) }
+    ensures none_behind { OnErr result (TakesSuch S.Source source.old source.new HasNoneBehind) }
 {
     let mut piece = vec![in alloc; 0u8; PIECE]?;
     let mut bytes = Vec::new(alloc);

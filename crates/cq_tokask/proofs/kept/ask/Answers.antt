@@ -1,5 +1,6 @@
 use Rattle.std.proofs.Common.{ℕ, List, refl, ap, sym, subst, inl, inr}
-use Rattle.cq_tokask.proofs.Fronts.{other_is_no_file, framed_is_no_file, told_of, of_known}
+use Rattle.cq_tokask.proofs.Coming.{on_err}
+use Rattle.cq_tokask.proofs.Fronts.{framed_alone, none_behind_file, other_is_no_file, framed_is_no_file, told_of, of_known}
 use Rattle.cq_tokask.specs.Kept.{BeginsWithNoFile}
 use Rattle.cq_lines.specs.Held.{Held}
 use Rattle.cq_lines.specs.Serving.{HasEndCause, Serves}
@@ -9,11 +10,20 @@ use Rattle.cq_tokfile.specs.Snapshot.{IsTokenFile}
 use Rattle.cq_tokask.proofs.kept.ask.Goals as goal
 
 pub returns-in-Failed-clause-asks : goal.returns-in-Failed-clause-asks
-returns-in-Failed-clause-asks g c = inl (record { ended = refl; rose = rw c.in-Failed.is at c.in_ok-bytes.ensures; unwritten = refl })
+returns-in-Failed-clause-asks g c =
+    let failed = rw c.in-Failed.is at c.in_ok-bytes.ensures.takes in
+    inl (record {
+      ended = refl;
+      got = failed.0.0;
+      taken = failed.0.1;
+      unfinished = other_is_no_file c.args.settings.now failed.0.0 failed.0.2;
+      rose = failed.1;
+      unwritten = refl;
+    })
 
 pub returns-in-Other-clause-asks : goal.returns-in-Other-clause-asks
 returns-in-Other-clause-asks g c =
-    let other = rw c.in-Other.is at c.in_ok-bytes.ensures in
+    let other = rw c.in-Other.is at c.in_ok-bytes.ensures.takes in
     (of_known (g.S.Source.rest c.args.source.now) _ _ (other_is_no_file c.args.settings.now) other.0, other.1, refl)
 
 pub ask_lines-end-requires-clause-sound : goal.ask_lines-end-requires-clause-sound
@@ -24,7 +34,7 @@ ask_lines-end-requires-clause-loaded g c κs lives = c.in_ok-loaded.ensures.of
 
 pub returns-in_default-clause-asks : goal.returns-in_default-clause-asks
 returns-in_default-clause-asks g c =
-    let taken = rw c.in-Framed.is at c.in_ok-bytes.ensures in
+    let taken = rw c.in-Framed.is at c.in_ok-bytes.ensures.takes in
     let none = rw c.in_default.is at c.in_ok-found.ensures in (
       told_of (BeginsWithNoFile g.row.L.Denot g.S.Source g.K.Sink c.args.settings.now) _ _ c.in-Framed.bytes.items taken.1
           (λ left. framed_is_no_file c.args.settings.now c.in-Framed.bytes.items left taken.0 (λ s is. none s (subst (IsTokenFile c.args.settings.now s) (sym c.deref.ensures.value) is))),
@@ -34,7 +44,7 @@ returns-in_default-clause-asks g c =
 
 pub returns-clause-asks : goal.returns-clause-asks
 returns-clause-asks g c =
-    let taken = rw c.in-Framed.is at c.in_ok-bytes.ensures in
+    let taken = rw c.in-Framed.is at c.in_ok-bytes.ensures.takes in
     let is = rw c.in-Some.is at c.in_ok-found.ensures in
     inr (
       record {
@@ -47,3 +57,26 @@ returns-clause-asks g c =
       },
       subst (λ (n : ℕ). HasEndCause n (g.S.Source.faults c.ask_lines-end.new.source) (g.K.Sink.faults c.args.sink.now) (g.K.Sink.faults c.ask_lines-end.new.sink) c.ask_lines-end.result) taken.2 c.ask_lines-end.ensures.cause,
     )
+
+pub returns-in_err-bytes-clause-no_line : goal.returns-in_err-bytes-clause-no_line
+returns-in_err-bytes-clause-no_line g c =
+    let (got, taken, none) = c.in_err-bytes.ensures.none_behind in
+    on_err c.from_residual.result (record { got = got; taken = taken; none_behind = none_behind_file c.args.settings.now got none })
+
+pub returns-in_err-found-clause-no_line : goal.returns-in_err-found-clause-no_line
+returns-in_err-found-clause-no_line g c =
+    let taken = rw c.in-Framed.is at c.in_ok-bytes.ensures.takes in
+    let bytes = c.in-Framed.bytes.items in
+    on_err c.from_residual-in_err-found.result (record { got = bytes; taken = taken.1; none_behind = none_behind_file c.args.settings.now bytes (framed_alone bytes taken.0) })
+
+pub returns-in_err-loaded-clause-no_line : goal.returns-in_err-loaded-clause-no_line
+returns-in_err-loaded-clause-no_line g c =
+    let taken = rw c.in-Framed.is at c.in_ok-bytes.ensures.takes in
+    let bytes = c.in-Framed.bytes.items in
+    on_err c.from_residual-in_err-loaded.result (record { got = bytes; taken = taken.1; none_behind = none_behind_file c.args.settings.now bytes (framed_alone bytes taken.0) })
+
+pub returns-in_err-lines-clause-no_line : goal.returns-in_err-lines-clause-no_line
+returns-in_err-lines-clause-no_line g c =
+    let taken = rw c.in-Framed.is at c.in_ok-bytes.ensures.takes in
+    let bytes = c.in-Framed.bytes.items in
+    on_err c.from_residual-in_err-lines.result (record { got = bytes; taken = taken.1; none_behind = none_behind_file c.args.settings.now bytes (framed_alone bytes taken.0) })

@@ -1,6 +1,7 @@
 use Rattle.std.proofs.Common.{◌∙◌, [], ◌++◌, refl, subst, arith, length-append}
 use Rattle.cq_io.specs.Causes.{Rose}
-use Rattle.cq_tokask.proofs.Coming.{came_none, came_more, comes_more}
+use Rattle.std.proofs.KnownBytes.{Consumes-trans}
+use Rattle.cq_tokask.proofs.Coming.{came_none, came_more, comes_more, on_err}
 use Rattle.cq_tokask.proofs.taking.take.Goals as goal
 
 -- of `take_some` the clause `bytes` says how many came, and which
@@ -59,3 +60,11 @@ returns-clause-bytes g c =
     let none = c.pieces-test.false in
     let many = so.many in
     record { got = so.got; came = so.came; ends = (omega (arith, many, none), c.pieces.invariant.faults) }
+
+pub returns-in_err-take_some-clause-few : goal.returns-in_err-take_some-clause-few
+returns-in_err-take_some-clause-few g c =
+    let so = c.pieces.invariant.comes in
+    let many = so.many in
+    let (more, came, few) = c.in_err-take_some.ensures.few in
+    on_err c.from_residual.result
+    (so.got ++ more, Consumes-trans _ _ _ so.got more so.came.consumed came, (let both = length-append so.got more in omega (arith, both, many, few)))
