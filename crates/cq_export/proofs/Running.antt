@@ -5,25 +5,16 @@ use Rattle.std.proofs.lemmas.Slice.Zip.{all_zipped_more}
 use Rattle.cq_base.specs.declared.change.Change.{Change}
 use Rattle.cq_base.specs.declared.settings.Settings.{Settings}
 use Rattle.cq_board.specs.Stands.{BoardState}
-use Rattle.cq_export.specs.Lines.{Says, SayChanges, IsRefused, HasAccepted, AreWhole, TakesRefused, TakesLine, TakenSoFar, Takes}
+use Rattle.cq_export.specs.Lines.{Says, SayChanges, IsRefused, HasAccepted, TakesRefused, TakesLine, TakenSoFar, Takes}
 use Rattle.cq_export.specs.declared.taking.Taken.TheVariants as taken
-use Rattle.cq_lines.proofs.Splitting.{split_lines}
-use Rattle.cq_lines.proofs.Whole.{cut_none, cut_line, run_ends}
+use Rattle.cq_lines.proofs.Whole.{cut_none, cut_line, cut_whole, run_ends}
 use Rattle.cq_lines.specs.Cutting.{IsNext, Cuts}
 use Rattle.cq_lines.specs.Held.{Held}
-use Rattle.cq_lines.specs.Pieces.{ended, split}
 use Rattle.cq_lines.specs.Runs.{CutTo, IsFresh}
 use Rattle.cq_lines.specs.declared.lines.Cut.TheVariants as cut
 use Rattle.cq_talk.specs.Said.{said}
 
--- the lines that were cut are whole, and no more bytes came than may
-cut_whole : (limit : ℕ) (a d : Option (List ℕ)) (y : Held) (lines : List (List ℕ)) (so : CutTo limit a d y lines) → AreWhole limit d so.got lines
-cut_whole limit a d y lines so =
-    elim so.cut [
-      | inl going_on ↦ inl ((split y.pending).0, sym (ap (λ (p : List (List ℕ) × List ℕ). p.0) (ap split going_on.1 ∙ split_lines lines y.pending going_on.0)))
-      | inr done ↦ inr (done.3, omega (arith, so.taken, done.4, so.limited), sym done.0)
-    ]
-
+-- no more bytes came than may
 cut_within : (limit : ℕ) (a d : Option (List ℕ)) (y : Held) (lines : List (List ℕ)) (so : CutTo limit a d y lines) → length so.got ≤ limit
 cut_within limit a d y lines so = omega (arith, so.taken, so.within, so.limited)
 

@@ -12,7 +12,7 @@ use Rattle.cq_history.specs.declared.event.Event.TheVariants.{Accept}
 use Rattle.cq_io.specs.Causes.{Rose}
 use Rattle.cq_lines.specs.Held.{Held}
 use Rattle.cq_lines.specs.Pieces.{closed_lines, all_lines}
-use Rattle.cq_lines.specs.Runs.{CutTo}
+use Rattle.cq_lines.specs.Runs.{CutTo, AreWhole}
 use Rattle.cq_request.specs.Named.{IsNamed}
 use Rattle.cq_request.specs.declared.request.Refusal.{Refusal}
 use Rattle.cq_request.specs.declared.request.Request.{Request}
@@ -47,11 +47,6 @@ IsRefused set changes (Read (Ok request.State)) = Unit {0}
 IsRefused set changes (Read (Err why)) = Unit {0}
 
 -- ---- what was taken of a source
-
--- these are the first lines of the bytes that were taken, and whole: a line feed closes each of them; or the source is at its end,
--- fewer bytes were taken than may be, and these are all lines
-abbrev pub AreWhole : ℕ → Option (List ℕ) → List ℕ → List (List ℕ) → Type 0
-AreWhole limit rest_now got lines = ((others : List (List ℕ)) × (lines ++ others ≡ closed_lines got)) ⊎ (IsAtEnd rest_now × (length got < limit) × (lines ≡ all_lines got))
 
 module _ (set : Settings) (rest rest_now : Option (List ℕ)) (changes : List Change) where
   -- all of it: its lines say these changes, and each of them was accepted
