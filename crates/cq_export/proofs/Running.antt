@@ -11,7 +11,7 @@ use Rattle.cq_lines.proofs.Splitting.{split_lines}
 use Rattle.cq_lines.proofs.Whole.{cut_none, cut_line, run_ends}
 use Rattle.cq_lines.specs.Cutting.{IsNext, Cuts}
 use Rattle.cq_lines.specs.Held.{Held}
-use Rattle.cq_lines.specs.Pieces.{ended, split}
+use Rattle.cq_lines.specs.Pieces.{split}
 use Rattle.cq_lines.specs.Runs.{CutTo, IsFresh}
 use Rattle.cq_lines.specs.declared.lines.Cut.TheVariants as cut
 use Rattle.cq_talk.specs.Said.{said}
