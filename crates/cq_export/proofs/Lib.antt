@@ -9,4 +9,5 @@ mod Sounding
 mod Lexings
 mod OneReply
 mod Rereading
+mod SessionsBeside
 mod Sessions
