@@ -8,5 +8,6 @@ mod Ended
 mod Sounding
 mod Lexings
 mod OneReply
-mod Rereading
+pub mod Rereading
+mod SessionsBeside
 mod Sessions

@@ -1,8 +1,7 @@
 -- What is read of the token file of a version of some changes is the version of these changes.
-use Rattle.std.proofs.Common.{◌≡◌, ℕ, List, [], ◌∷◌, length, map, refl, sym, ap, ap₂, ◌∙◌, subst}
+use Rattle.std.proofs.Common.{◌≡◌, ℕ, List, [], ◌∷◌, ◌++◌, length, map, refl, sym, ap, ap₂, ◌∙◌, subst}
 use Rattle.std.specs.Prelude.{All}
 use Rattle.std.specs.Arc.{arc_value}
-use Rattle.std.proofs.lemmas.List.{append-nil}
 use Rattle.std.proofs.lemmas.List.Elements.{All-head, All-tail}
 use Rattle.cq_base.specs.declared.change.Change.{Change}
 use Rattle.cq_base.specs.declared.lang.Lang.{Lang}
@@ -136,13 +135,20 @@ same_files set (x ∷ sources) (f ∷ files) (g ∷ others) one two same are =
 
 -- ---- the version
 
+-- bytes that begin with a token file of these settings begin with no other
+pub one_front : {L : Type 0} (set : Settings) (s t : Snapshot L) (file other rest behind : List ℕ) → IsTokenFile set s file → IsTokenFile set t other → file ++ rest ≡ other ++ behind
+    → (contents_of t ≡ contents_of s) × (other ≡ file) × (behind ≡ rest)
+one_front set s t file other rest behind is also same =
+    let both =
+    one_form (whole set) (IsSoundWhole set) (whole_at set) (wholes set) (contents_of t) (contents_of s) behind rest
+    (record { contents = also.sound.contents; fits = also.fits })
+    (record { contents = is.sound.contents; fits = is.fits })
+    (ap (λ (f : List ℕ). f ++ behind) (sym also.is) ∙ sym same ∙ ap (λ (f : List ℕ). f ++ rest) is.is) in
+    (both.0, also.is ∙ ap (whole set) both.0 ∙ sym is.is, both.1)
+
 module _ {L : Type 0} (set : Settings) (written read : Snapshot L) (file : List ℕ) (is : IsTokenFile set written file) (also : IsTokenFile set read file) where
   same_contents : contents_of read ≡ contents_of written
-  same_contents =
-      (one_form (whole set) (IsSoundWhole set) (whole_at set) (wholes set) (contents_of read) (contents_of written) [] []
-      (record { contents = also.sound.contents; fits = also.fits })
-      (record { contents = is.sound.contents; fits = is.fits })
-      (append-nil (whole set (contents_of read)) ∙ sym also.is ∙ is.is ∙ sym (append-nil (whole set (contents_of written))))).0
+  same_contents = (one_front set written read file file [] [] is also refl).0
 
   pub read_again : (changes : List Change) (project : List ℕ) → IsOfChanges set changes project written → IsOfChanges set changes project read
   read_again changes project of = record {

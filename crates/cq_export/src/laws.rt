@@ -1,3 +1,4 @@
+ghost use Rattle.cq_export.specs.Beside as beside;
 ghost use Rattle.cq_export.specs.Laws as law;
 
 use cq_tokask::a_kept_version_answers_as_its_changes;
@@ -7,6 +8,15 @@ use std::sync::ledger::Ledger;
 /// these lines, where no reply tells want of memory.
 pub fn a_written_version_answers_as_a_session<L: Ledger>()
     ensures { law.AsksAsASession L }
+{
+    // the law that this one stands on
+    a_kept_version_answers_as_its_changes::<L>();
+}
+
+/// A session with workers beside it tells the numbers of the changes that some lines say, and then the replies that are given
+/// to what is asked of the token file of their version, where no reply tells want of memory.
+pub fn a_written_version_answers_as_a_session_beside<L: Ledger>()
+    ensures { beside.AsksAsBeside L }
 {
     // the law that this one stands on
     a_kept_version_answers_as_its_changes::<L>();

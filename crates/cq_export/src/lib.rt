@@ -13,4 +13,6 @@ mod taking;
 mod working;
 
 pub use exporting::{Exported, export};
-pub use laws::a_written_version_answers_as_a_session;
+pub use laws::{
+    a_written_version_answers_as_a_session, a_written_version_answers_as_a_session_beside,
+};
