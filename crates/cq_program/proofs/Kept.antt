@@ -1,10 +1,11 @@
 -- What the status of the asking of a kept version says of its ends.
-use Rattle.std.proofs.Common.{◌≡◌, ◌≤◌, ℕ, sym, ap, subst, inl, inr, arith}
+use Rattle.std.proofs.Common.{◌≡◌, ◌≤◌, ℕ, List, [], ◌∷◌, ◌++◌, sym, ap, subst, inl, inr, arith}
+use Rattle.std.proofs.KnownBytes.{Consumes-nil}
 use Rattle.cq_base.specs.declared.settings.Settings.{Settings}
 use Rattle.cq_io.specs.Causes.{Rose}
 use Rattle.cq_io.specs.declared.sink.Sink as sink
 use Rattle.cq_io.specs.declared.source.Source as source
-use Rattle.cq_tokask.specs.Kept.{Asks}
+use Rattle.cq_tokask.specs.Kept.{Asks, TakesNoLine}
 use Rattle.cq_tokask.specs.declared.kept.Asked.{Asked}
 use Rattle.cq_tokask.specs.declared.kept.Asked.TheVariants as kept
 use Rattle.cq_lines.specs.Serving.{HasEndCause}
@@ -79,3 +80,12 @@ module _ (L : Type 0) {S K : Type 0} (from : source.Ghosts S) (onto : sink.Ghost
   pub on_refused : (by : Asked) → Asks L from onto set read read_now written written_now by → status_of_asked by ≡ 8 → (from.faults read_now ≡ from.faults read) × (written_now ≡ written)
   on_refused kept.Refused asks is = (asks.1, asks.2)
   on_refused (kept.Ended by) asks is = let low = (no_such by).3 in absurd (omega (arith, is, low))
+
+-- behind nothing that was taken nothing stands
+nothing_behind : (file behind : List ℕ) → [] ≡ file ++ behind → behind ≡ []
+nothing_behind [] behind is = sym is
+nothing_behind (x ∷ file) behind is = cc
+
+-- where nothing was taken, no line was
+pub no_line_taken : (L : Type 0) {S : Type 0} (from : source.Ghosts S) (set : Settings) (read : S) → TakesNoLine L from set read read
+no_line_taken L from set read = record { got = []; taken = Consumes-nil (from.rest read); none_behind = λ s file behind is of. nothing_behind file behind is }

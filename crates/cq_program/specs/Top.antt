@@ -11,7 +11,7 @@ use Rattle.cq_io.specs.Causes.{HasCause}
 use Rattle.cq_io.specs.declared.sink.Sink as sink
 use Rattle.cq_io.specs.declared.source.Failed.{Failed}
 use Rattle.cq_io.specs.declared.source.Source as source
-use Rattle.cq_tokask.specs.Kept.{Asks}
+use Rattle.cq_tokask.specs.Kept.{Asks, TakesNoLine}
 use Rattle.cq_tokask.specs.declared.kept.Asked.{Asked}
 use Rattle.cq_tokask.specs.declared.kept.Asked.TheVariants as kept
 use Rattle.cq_lines.specs.Serving.{Serves, HasEndCause}
@@ -176,6 +176,10 @@ module _ (L : Type 0) {S K : Type 0} (from : source.Ghosts S) (onto : sink.Ghost
   -- where the words ask for one
   abbrev pub AsksFor : List (List ℕ) → S → S → K → K → ℕ → Type 0
   AsksFor words read read_now written written_now status = (settings : Settings) → command_of words ≡ Some (command.Ask settings) → AsksFile settings read read_now written written_now status
+
+  -- with 4 no line behind a token file of the settings was taken
+  abbrev pub TakesNoLineFor : List (List ℕ) → S → S → ℕ → Type 0
+  TakesNoLineFor words read read_now status = (settings : Settings) → command_of words ≡ Some (command.Ask settings) → status ≡ 4 → TakesNoLine L from settings read read_now
 
   -- the changes that the lines say were taken, and the file of their version written, and how that ended gives the status
   pub record IsExport (asked : Export) (read read_now : S) (written written_now : K) (status : ℕ) : Type 0 where

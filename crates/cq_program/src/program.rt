@@ -1,7 +1,8 @@
 ghost use Rattle.std.specs.Prelude.{◌≡◌, ◌≢◌, ◌↔◌, ◌≤◌, true, false, None, Some};
 ghost use Rattle.cq_base.specs.Settings.{IsInRange};
 ghost use Rattle.cq_io.specs.Causes.{Rose};
-ghost use Rattle.cq_program.specs.Top.{AsksFile, AsksFor, Drives, DrivesFor, ExportsFile, ExportsFor, ListensFor, MakesFor, MakesLine, Runs, RunsAsked, RunsFor, is_ask, is_export, takes_first};
+ghost use Rattle.cq_tokask.specs.Kept.{TakesNoLine};
+ghost use Rattle.cq_program.specs.Top.{AsksFile, AsksFor, Drives, DrivesFor, ExportsFile, ExportsFor, ListensFor, MakesFor, MakesLine, Runs, RunsAsked, RunsFor, TakesNoLineFor, is_ask, is_export, takes_first};
 ghost use Rattle.cq_names.specs.Names.{is_project};
 ghost use Rattle.cq_words.specs.Command.{command_of, connections_of};
 ghost use Rattle.cq_words.specs.declared.command.Command.TheVariants as command;
@@ -188,6 +189,7 @@ fn kept<R: Threads + Sync, S: Source, K: Sink, L: Ledger>(
     ensures spent { result ≡ 6 → (S.faults source.new ≡ S.faults source.old)
         × (K.faults sink.new ≡ K.faults sink.old) }
     ensures asks { AsksFile L S.Source K.Sink settings.now source.old source.new sink.old sink.new result }
+    ensures no_line { result ≡ 4 → TakesNoLine L S.Source settings.now source.old source.new }
 {
     let of = *settings;
     let Ok(key) = Box::new(alloc, move |codes: &[u64]| plain_key(&of, codes)) else {
@@ -273,7 +275,7 @@ pub fn top<
         × (doors.new ≡ doors.old) }
 
     // 4 for want of memory before a byte is written, and before a line is read or a connection is taken. `ask` may have taken
-    // bytes of the file then, and `export` bytes of the lines.
+    // bytes of the file then, none behind it, and `export` bytes of the lines.
     ensures memory { result ≡ 4 → sink.new ≡ sink.old }
     ensures untaken { result ≡ 4 → takes_first (command_of words.now) ≡ false → source.new ≡ source.old }
     ensures unasked { result ≡ 4 → (D.faults doors.new ≡ D.faults doors.old)
@@ -316,6 +318,7 @@ pub fn top<
     // 8 of `ask` is that the source begins with no token file of the settings; every other status but 4 is that of a kept
     // version, asked by all lines of the source behind its file, or of a read that failed before the file was whole.
     ensures asks { AsksFor L S.Source K.Sink words.now source.old source.new sink.old sink.new result }
+    ensures no_line { TakesNoLineFor L S.Source K.Sink words.now source.old source.new result }
 
     // Every status of `export` but 4 is that of writing the version of the changes that all lines of the source say.
     ensures exports { ExportsFor L S.Source K.Sink words.now source.old source.new sink.old sink.new result }
