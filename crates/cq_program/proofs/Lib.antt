@@ -2,3 +2,5 @@ pub mod Served
 pub mod Complete
 pub mod Kept
 mod Sent
+mod Closing
+mod Agreeing
