@@ -1,5 +1,6 @@
 -- What `export`, `ask` and `run` have written where each ended with 0.
-use Rattle.std.proofs.Common.{◌≡◌, ◌≢◌, ◌⊎◌, ◌==◌, ℕ, Bool, true, false, MatchBool, List, [], ◌∷◌, ◌++◌, length, flat_map, Option, Some, None, refl, sym, ap, ◌∙◌, subst, inl, inr, append_assoc, arith}
+use Rattle.std.proofs.Common.{◌≡◌, ◌≢◌, ◌⊎◌, ◌==◌, ℕ, Bool, true, false, MatchBool, List, [], ◌∷◌, ◌++◌, length, flat_map, Option, Some, None, refl, sym, ap, ◌∙◌, subst, inl, inr, arith}
+use Rattle.std.specs.Prelude.{codes}
 use Rattle.std.specs.Io.KnownBytes.{Appends, Consumes, IsAtEnd}
 use Rattle.std.specs.List.{AllByRecursion}
 use Rattle.std.proofs.lemmas.Grind.{flat_map-append}
@@ -17,16 +18,18 @@ use Rattle.cq_export.specs.declared.exporting.Exported.{Exported}
 use Rattle.cq_export.specs.declared.exporting.Exported.TheVariants as exported
 use Rattle.cq_io.specs.declared.sink.Sink as sink
 use Rattle.cq_io.specs.declared.source.Source as source
-use Rattle.cq_lines.specs.Pieces.{all_lines, ended}
+use Rattle.cq_lines.specs.Pieces.{all_lines, ended, split}
 use Rattle.cq_lines.specs.Serving.{Serves}
 use Rattle.cq_lines.specs.declared.ending.End.{End}
 use Rattle.cq_lines.specs.declared.ending.End.TheVariants as end
 use Rattle.cq_program.proofs.Closing.{lines_behind}
 use Rattle.cq_program.specs.Agreeing.{IsWhole, TellsNoMemory, Ends, RunWrites, ExportWrites, AskWrites, AskedAsRun}
 use Rattle.cq_program.specs.Top.{status_of, status_of_asked, status_of_exported, AreAlone}
+use Rattle.cq_reply.proofs.Shorts.{memory_line}
 use Rattle.cq_reply.specs.Written.{line_of as reply_line}
 use Rattle.cq_reply.specs.declared.reply.Reply.{Reply}
 use Rattle.cq_reply.specs.declared.reply.Reply.TheVariants as reply
+use Rattle.cq_talk.proofs.BesideRows.{all_before, all_behind}
 use Rattle.cq_tokask.specs.Asked.{AnswersLines}
 use Rattle.cq_tokask.specs.Exported.{IsOfChanges}
 use Rattle.cq_tokask.specs.Kept.{Asks}
@@ -57,18 +60,32 @@ left_behind (Some left) input file parts = (left, refl, parts)
 
 -- ---- replies
 
-ended_whole : (front line : List ℕ) → IsWhole (front ++ ended line)
-ended_whole front line = inr (front ++ line, sym (append_assoc front line (10 ∷ [])))
+abbrev IsOther : List ℕ → Type 0
+IsOther line = ended line ≢ reply_line reply.Memory
 
-line_whole : (front : List ℕ) (r : Reply) → IsWhole (front ++ reply_line r)
-line_whole front r = ended_whole front _
+abbrev memory_text : List ℕ
+memory_text = codes "{\"code\":14,\"error\":\"memory\",\"ok\":false}"
 
-none_told : (front : List ℕ) (replies : List Reply) → IsWhole front → TellsNoMemory (front ++ flat_map reply_line replies) → AreTold replies
-none_told front [] whole tells = tt
-none_told front (r ∷ replies) whole tells = (
-  λ (memory : r ≡ reply.Memory). tells front (flat_map reply_line replies) whole (ap (λ (x : Reply). front ++ (reply_line x ++ flat_map reply_line replies)) memory),
-  none_told (front ++ reply_line r) replies (line_whole front r) (subst TellsNoMemory (sym (append_assoc front (reply_line r) (flat_map reply_line replies))) tells),
-)
+memory_alone : all_lines (ended memory_text) ≡ memory_text ∷ []
+unfolding split
+memory_alone = refl
+
+told_other : (r : Reply) → AllByRecursion IsOther (all_lines (reply_line r)) → r ≢ reply.Memory
+told_other r others memory =
+    let line : all_lines (reply_line r) ≡ memory_text ∷ [] = ap (λ (x : Reply). all_lines (reply_line x)) memory ∙ ap all_lines (sym memory_line) ∙ memory_alone in
+    (subst (AllByRecursion IsOther) line others).0 memory_line
+
+ended_whole : (line : List ℕ) → IsWhole (ended line)
+ended_whole line = inr (line, refl)
+
+line_whole : (r : Reply) → IsWhole (reply_line r)
+line_whole r = ended_whole _
+
+none_told : (replies : List Reply) → TellsNoMemory (flat_map reply_line replies) → AreTold replies
+none_told [] tells = tt
+none_told (r ∷ replies) tells =
+    let parts = subst (AllByRecursion IsOther) (lines_behind (reply_line r) (flat_map reply_line replies) (line_whole r)) tells in
+    (told_other r (all_before IsOther (all_lines (reply_line r)) (all_lines (flat_map reply_line replies)) parts), none_told replies (all_behind IsOther (all_lines (reply_line r)) (all_lines (flat_map reply_line replies)) parts))
 
 -- the output is the replies to the lines of the input
 record Told (Are : List (List ℕ) → List Reply → Type 0) (input output : List ℕ) : Type 0 where
@@ -77,7 +94,7 @@ record Told (Are : List (List ℕ) → List Reply → Type 0) (input output : Li
   output_is : output ≡ flat_map reply_line replies
 
 no_memory : (Are : List (List ℕ) → List Reply → Type 0) (input output : List ℕ) (told : Told Are input output) → TellsNoMemory output → AreTold told.replies
-no_memory Are input output told tells = none_told [] told.replies (inl refl) (subst TellsNoMemory told.output_is tells)
+no_memory Are input output told tells = none_told told.replies (subst TellsNoMemory told.output_is tells)
 
 served : (Are : List (List ℕ) → List Reply → Type 0) (limit : ℕ) (rest rest_now was now : Option (List ℕ)) (by : End) (input before output : List ℕ) → rest ≡ Some input → was ≡ Some before → now ≡ Some (before ++ output) → status_of by ≡ 0
     → Serves reply_line Are limit rest rest_now was now by → Told Are input output

@@ -1,5 +1,5 @@
 -- That `export` and `ask` together write what `run` writes, by the clauses of the top call.
-use Rattle.std.specs.Prelude.{◌≡◌, ◌⊎◌, ℕ, List, [], ◌++◌, length, flat_map, Some}
+use Rattle.std.specs.Prelude.{◌≡◌, ◌≢◌, ◌⊎◌, ℕ, List, [], ◌++◌, length, flat_map, Some}
 use Rattle.std.specs.List.{AllByRecursion}
 use Rattle.cq_base.specs.declared.settings.Settings.{Settings}
 use Rattle.cq_export.specs.Beside.{numbers_behind}
@@ -17,9 +17,9 @@ use Rattle.cq_words.specs.declared.command.Command.TheVariants as command
 abbrev pub IsWhole : List ℕ → Type 0
 IsWhole bytes = (bytes ≡ []) ⊎ ((front : List ℕ) × (bytes ≡ ended front))
 
--- none of the lines is that of the reply that memory was refused
+-- no line of these bytes is that of the reply that memory was refused
 abbrev pub TellsNoMemory : List ℕ → Type 0
-TellsNoMemory bytes = (before after : List ℕ) → IsWhole before → bytes ≡ before ++ (reply_line reply.Memory ++ after) → ⊥
+TellsNoMemory bytes = AllByRecursion (λ (line : List ℕ). ended line ≢ reply_line reply.Memory) (all_lines bytes)
 
 module _ {S K : Type 0} (from : source.Ghosts S) (onto : sink.Ghosts K) where
   -- a source that has these bytes left, and a sink that they are added to, as a command finds them and as it leaves them
