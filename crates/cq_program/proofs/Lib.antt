@@ -1,3 +1,5 @@
 pub mod Complete
 pub mod Kept
 mod Sent
+mod Closing
+mod Agreeing

@@ -1,5 +1,7 @@
+ghost use Rattle.cq_program.specs.Agreeing.{AskedAsRun};
 ghost use Rattle.cq_program.specs.Complete.{AsksComplete, ExportsComplete, ListensComplete, MadeComplete, ScriptsComplete, SessionsBesideComplete, SessionsComplete};
 
+use cq_export::a_written_version_answers_as_a_session_beside;
 use cq_io::{Sink, Source};
 use std::sync::ledger::Ledger;
 
@@ -25,3 +27,13 @@ pub fn a_kept_version_that_nothing_fails_is_asked<S: Source, K: Sink, L: Ledger>
 pub fn a_version_that_nothing_fails_is_written<S: Source, K: Sink, L: Ledger>()
     ensures { ExportsComplete L S.Source K.Sink }
 {}
+
+/// Where `export`, `ask` and `run` meet the clauses of `top` with 0, under the same settings: what `ask` writes for the file that
+/// `export` wrote for some changes, and questions behind it, is what `run` writes for these questions behind these changes,
+/// unless a reply tells that memory was refused. `run` may have any number of workers, and none.
+pub fn what_was_exported_is_asked_as_run<S: Source, K: Sink, L: Ledger>()
+    ensures { AskedAsRun L S.Source K.Sink }
+{
+    // the law over the replies, from which this one over the bytes follows
+    a_written_version_answers_as_a_session_beside::<L>();
+}

@@ -10,6 +10,6 @@ mod workers;
 
 pub use laws::{
     a_command_that_nothing_fails_is_done, a_kept_version_that_nothing_fails_is_asked,
-    a_version_that_nothing_fails_is_written,
+    a_version_that_nothing_fails_is_written, what_was_exported_is_asked_as_run,
 };
 pub use program::top;
