@@ -235,7 +235,7 @@ impl<W: Indexed> Board<W> {
 
     /// Gives the caller the first change that is neither done nor taken, if there is one. It costs a search among those that
     /// were given back or one among those that are not done, and another one for each that was given back and is done since,
-    /// once.
+    /// once: at most as many as were held at once.
     pub fn take(&mut self, by: u32) -> Result<Option<Job>, Memory>
         requires { IsCaller self.old by }
         ensures taken { IfOk result (λ job. IfSome job (λ j. Adds (event.Took by j.change) self.old self.new)) }
@@ -257,8 +257,8 @@ impl<W: Indexed> Board<W> {
         Ok(Some(job))
     }
 
-    /// Publishes a version up to which all is done. Where memory is refused, nothing has changed. What it costs is said at
-    /// the head of the crate.
+    /// Publishes a version up to which all is done. Where memory is refused, nothing has changed, but that `open` may refuse
+    /// until `relist` or another publication is through. What it costs is said at the head of the crate.
     pub fn publish(&mut self, alloc: Global, version: u64) -> Result<(), Memory>
         requires above { self.old.state.published < version }
         requires done { version ≤ ready self.old.state }
@@ -277,8 +277,25 @@ impl<W: Indexed> Board<W> {
         Ok(())
     }
 
-    /// Opens a view of the last published version, which costs an owner of its listing, and the listing itself where memory
-    /// was refused in the middle of the last publication.
+    /// Makes the listing that of the published version again, from what is kept, where memory was refused while it was
+    /// changed. Else it does nothing, and costs nothing.
+    pub fn relist(&mut self) -> Result<(), Memory>
+        ensures { self.new ≡ self.old }
+    {
+        let alloc = *self.views.allocator();
+        let version = self.published;
+        advance_to(
+            alloc,
+            &self.changes,
+            &mut self.listing,
+            &mut self.listed,
+            version,
+        )?;
+        Ok(())
+    }
+
+    /// Opens a view of the last published version, which costs an owner of its listing. Where memory was refused in the
+    /// middle of a publication and no `relist` or `publish` came through since, it tells so again.
     pub fn open(&mut self, by: u32) -> Result<View<W>, Memory>
         requires caller { IsCaller self.old by }
         requires closed { view_of self.old.state by ≡ None }
@@ -288,13 +305,9 @@ impl<W: Indexed> Board<W> {
         ensures conditions { IfOk result (λ view. HaveFewConditions (arc_value view.listing).projects) }
         ensures err { OnErr result (self.new ≡ self.old) }
     {
-        advance_to(
-            *self.views.allocator(),
-            &self.changes,
-            &mut self.listing,
-            &mut self.listed,
-            self.published,
-        )?;
+        if self.listed != self.published {
+            return Err(Memory);
+        }
         let listing = Arc::try_clone(&self.listing)?;
         self.views[by as usize] = Some(self.published);
         self.events = self.events.wrapping_add(1);

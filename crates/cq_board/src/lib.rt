@@ -10,11 +10,11 @@
 //! Accepting a change costs an owner for each of its texts, twice, and four searches: among what is kept, among the changes
 //! that are not done, among the places at which files stand or the projects with gates, and behind what is over. All memory
 //! that giving it back, finishing it and forgetting it need is taken then, but for 8 bytes for each change that may be kept,
-//! which are taken with the board. Finishing one costs two searches, and telling up to which all are done costs one. Taking one costs a search among
-//! the changes that were given back or one among those that are not done; one that was given back and is done by another
-//! since is passed over at the next taking, once, by a search of its own. So a taking costs a logarithm and, for each giving
-//! back before it that another's work overtook, at most one logarithm more in all. Opening a view costs an owner of the
-//! listing, but for what is said of refused memory below, and shutting one a number.
+//! which are taken with the board. Finishing one costs two searches, and telling up to which all are done costs one. Taking
+//! one costs a search among the changes that were given back or one among those that are not done; one that was given back
+//! and is done by another since is passed over at the next taking, by a search of its own, and forgotten. Over all takings
+//! that is at most one search more for each giving back, so a logarithm a call over any run of calls; one taking passes over
+//! at most as many as were held at once. Opening a view costs an owner of the listing, and shutting one a number.
 //!
 //! A change that another one makes over is noted with it, 16 bytes, in the order of the latter. Raising the floor costs a look
 //! at each caller's view and a search for each change that is forgotten, and no memory. The puts that the floor keeps are
@@ -24,8 +24,9 @@
 //! the files of each project that they change once. Where a view still shows a list, it is copied first, an owner a file,
 //! and the numbers of all files, 8 bytes each; else both are changed in place, the numbers in one walk where many were
 //! replaced or dropped. Where memory is refused while several changes are made in place, the board keeps an empty
-//! listing, and makes that of the published version anew, from what is kept, for the next view or publication. No text, no
-//! path and no work is copied: each is held once, behind an owner that what is kept, listings and jobs share.
+//! listing, and opens no view until `relist` or the next publication has made the listing anew, which costs what publishing
+//! all that is kept at once does. No text, no path and no work is copied: each is held once, behind an owner that what is
+//! kept, listings and jobs share.
 #![tactic(auto)]
 
 mod answers;
