@@ -149,6 +149,7 @@ impl<W: Indexed> Hub<W> for Solo<W> {
     ) -> Result<u64, Memory> {
         let published = pass.board.published();
         if published >= to {
+            pass.board.relist()?;
             return Ok(published);
         }
         apply_up_to(alloc, &pass.board, &mut pass.shards, to, gate)?;

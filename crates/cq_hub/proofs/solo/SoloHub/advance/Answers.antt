@@ -12,7 +12,11 @@ pub returns-then-published-to-clause-published : goal.returns-then-published-to-
 returns-then-published-to-clause-published g c = λ by h is.
     calls_now _ _ _ by _ _ h _ _
     (solo_says _ _ by h _ _ is (λ n (set : Settings) (s : State). (c.published-published.result ≡ s.published) × (c.args.to ≤ c.published-published.result)) (c.published-published.ensures, c.if-published-to.true))
-    (solo_nil _ _ by h _ _ is)
+    (solo_same _ _ by h _ _ is _ c.relist.ensures)
+
+pub returns-in_err-relist-clause-published : goal.returns-in_err-relist-clause-published
+returns-in_err-relist-clause-published g c = λ by h is.
+    calls_now _ _ _ by _ _ h _ _ (search rules) (solo_same _ _ by h _ _ is _ c.relist.ensures)
 
 pub apply_up_to-requires-clause-floor : goal.apply_up_to-requires-clause-floor
 apply_up_to-requires-clause-floor g c = let r = c.requires.done in floor_published _ _ r.0 r.1 _ _ r.2
