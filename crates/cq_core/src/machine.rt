@@ -9,6 +9,7 @@ ghost use Rattle.cq_history.specs.declared.event.Event.TheVariants as event;
 ghost use Rattle.cq_history.specs.State.{view_of, first_free, ready, IsUndone};
 ghost use Rattle.cq_base.specs.Changes.{IsSoundChange};
 ghost use Rattle.cq_board.specs.Answers.{IsJob};
+ghost use Rattle.cq_board.specs.Stands.{Adds};
 ghost use Rattle.cq_board.specs.Sound.{HasSoundText, HaveFewConditions};
 ghost use Rattle.cq_core.specs.Cores.{CoreState, StandsAtFirst, IsCaller, IsShard, AreFresh};
 ghost use Rattle.cq_core.specs.Steps.{IsNamed, IsSoundStep, HasWork, IsOutcome, DoesStep, Counts, CountsSome};
@@ -259,7 +260,7 @@ impl<W: Indexed> Core<W> {
         if self.views[by as usize].is_some() {
             return Ok(Outcome::No);
         }
-        let view = self.board.open(by)?;
+        let view = open_listed(&mut self.board, by)?;
         let version = view.version;
         self.views[by as usize] = Some(view);
         Ok(Outcome::Value(version))
@@ -310,6 +311,21 @@ impl<W: Indexed> Core<W> {
         shard.sweep(floor, &keep);
         Ok(Outcome::Ok)
     }
+}
+
+// Opens a view of a board's last published version, whose listing is made anew first where memory was refused while it was
+// changed.
+fn open_listed<W: Indexed>(board: &mut Board<W>, by: u32) -> Result<View<W>, Memory>
+    requires caller { by < length board.old.state.views }
+    requires closed { view_of board.old.state by ≡ None }
+    ensures adds { IfOk result (λ view. Adds (event.Open by view.version) board.old board.new) }
+    ensures version { IfOk result (λ view. view.version ≡ board.old.state.published) }
+    ensures listing { IfOk result (IsView (W.IsWorkOf board.old.settings) board.old.state) }
+    ensures conditions { IfOk result (λ view. HaveFewConditions (arc_value view.listing).projects) }
+    ensures err { OnErr result (board.new ≡ board.old) }
+{
+    board.relist()?;
+    board.open(by)
 }
 
 // Whether each shard has applied all up to a version.
