@@ -10,6 +10,7 @@ ghost use Rattle.cq_shared.specs.SharedPasses.{IsPassOf, settings_of, state_of};
 use crate::deed::Deed;
 use crate::shared::Shared;
 use cq_base::{Memory, Steps};
+use cq_board::Board;
 use cq_chain::Pass;
 use cq_hub::finished_works;
 use cq_io::Gate;
@@ -25,8 +26,9 @@ const GOLDEN: u32 = 2_654_435_769;
 impl<W: Indexed, R: Wait> Shared<W, R> {
     /// Publishes the changes up to a number, all of which are done, and answers the last published version. The board gives
     /// the owners of the works in one hold; each shard applies each further change in a hold of its own, with a look at each
-    /// key of its work; and the board publishes in another. Where memory is refused, some shards may be further on than what
-    /// is published. The gate is told of each shard that was brought up, while the pass holds no cell.
+    /// key of its work; and the board publishes in another. Where they are published, the board makes the listing anew in
+    /// that hold, should memory have been refused while it was changed. Where memory is refused, some shards may be further
+    /// on than what is published. The gate is told of each shard that was brought up, while the pass holds no cell.
     pub fn advance<G: Gate>(
         &self,
         alloc: Global,
@@ -47,7 +49,8 @@ impl<W: Indexed, R: Wait> Shared<W, R> {
         self.publish(alloc, to, pass)
     }
 
-    // The last published version, and the works of the changes behind it up to another.
+    // The last published version, and the works of the changes behind it up to another. Where that is published, the listing
+    // is made anew, should memory have been refused while it was changed.
     fn works_up_to(
         &self,
         alloc: Global,
@@ -61,10 +64,12 @@ impl<W: Indexed, R: Wait> Shared<W, R> {
         ensures works { IfOk result (λ r. HasWorksFrom self.now pass.new W.keys_in W.IsWorkOf r.0 to r.1.items) }
         ensures asked { pass.new.asked ≡ pass.old.asked }
     {
-        let board = self.cells.enter_board(pass);
+        let mut board = self.cells.enter_board(pass);
         let base = board.published();
+        let listed = relist_where_published(&mut board, to);
         let works = finished_works(alloc, &board, base, to);
         self.leave_after(board, pass, Deed::Nothing);
+        listed?;
         Ok((base, works?))
     }
 
@@ -191,7 +196,9 @@ impl<W: Indexed, R: Wait> Shared<W, R> {
         let mut board = self.cells.enter_board(pass);
         let published = board.published();
         if to <= published {
+            let listed = board.relist();
             self.leave_after(board, pass, Deed::Nothing);
+            listed?;
             return Ok(published);
         }
         match board.publish(alloc, to) {
@@ -205,6 +212,17 @@ impl<W: Indexed, R: Wait> Shared<W, R> {
             }
         }
     }
+}
+
+// Makes the listing of a board anew where a version is published already, should memory have been refused while it was
+// changed. A later version's publication makes it else.
+fn relist_where_published<W: Indexed>(board: &mut Board<W>, to: u64) -> Result<(), Memory>
+    ensures { board.new ≡ board.old }
+{
+    if to <= board.published() {
+        return board.relist();
+    }
+    Ok(())
 }
 
 // At which shard a caller begins. However many callers and shards there are, the first so many callers stand apart by about

@@ -11,13 +11,12 @@
 //! - `ask`, the board: three numbers are read, and the first of the changes that are not done is looked for, a logarithm.
 //! - `take`, the board: a search among the changes that were given back or among those that are not done, a logarithm; and
 //!   an owner of a text. What was given back and is done by another since is passed over by the next call, a logarithm for
-//!   each: over all calls that is one for each `back` at most.
+//!   each: over all calls that is one more for each `back` at most, and in one call as many as were held at once at most.
 //! - `job`, the board: a search among what is kept; an owner of a text.
 //! - `back`, the board: a search among what is kept, and the change goes among those that were given back, a logarithm.
 //! - `finish`, the board: the change is looked for among what is kept, where its work goes, and among those that are not done,
 //!   a logarithm each. A work that comes too late is let go there.
-//! - `open_view`, the board: an owner of the listing. Where memory was refused in the middle of the last publication, the
-//!   listing may have to be made anew first, which takes the time of all changes that are kept once.
+//! - `open_view`, the board: an owner of the listing.
 //! - `close_view`, the board: a number is cleared. The listing is let go afterwards.
 //! - `read_bucket`, the shard of the key: a search in each of its runs, and one among the view's files for each entry with
 //!   the key. Those that are there are copied out.
@@ -25,7 +24,9 @@
 //!   is as long as the list. Then, shard by shard, a hold of the shard for each change: a look at each key of its work, an
 //!   entry for each that is the shard's, and the merging that this brings. Between two shards the gate is called, and
 //!   nothing is held. Each caller begins at a shard of its own and goes round, so that callers that bring the same changes
-//!   seldom meet. At last, the board again: the publication, which costs what cq_board says of it.
+//!   seldom meet. At last, the board again: the publication, which costs what cq_board says of it. Where as much is
+//!   published by then, or was at first, that hold makes the listing anew instead, should memory have been refused in the
+//!   middle of a publication of several changes; this takes the time of all changes that are kept once.
 //! - `sweep`, the board: a look at each caller's view, and what raising the floor lets go of. Where some shard was not swept
 //!   up to that floor, also a list of the puts that it keeps. So this hold takes memory then, and is as long as what is kept.
 //!   Then, shard by shard, a hold of the shard for what cq_shard says of a sweep. Where all shards were swept up to that

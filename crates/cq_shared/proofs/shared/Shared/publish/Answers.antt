@@ -1,4 +1,4 @@
-use Rattle.std.proofs.Common.{◌≤◌, refl, sym, ap, ◌∙◌, subst, arith}
+use Rattle.std.proofs.Common.{◌≤◌, refl, sym, ap, ◌∙◌, subst, arith, rules}
 use Rattle.cq_history.specs.declared.event.Event.TheVariants as event
 use Rattle.cq_history.specs.State.{State, ready}
 use Rattle.cq_history.proofs.States.{state_push}
@@ -24,6 +24,12 @@ returns-then-to-published-clause-published g c =
     let hub = c.args.self.now in
     called hub c.args.pass.now m c.leave_after.new.pass c.requires.of e.seen e.own e.same c.leave_after.ensures.of c.leave_after.ensures.free c.leave_after.ensures.same deed.Nothing _ c.leave_after.ensures.seen
     (c.published-published.ensures ∙ ap (λ (s : State). s.published) (state_is (cells_of hub).about m.seen c.enter_board-board.result e.board), c.if-to-published.true)
+
+pub returns-in_err-listed-clause-published : goal.returns-in_err-listed-clause-published
+returns-in_err-listed-clause-published g c =
+    let e = c.enter_board-board.ensures in
+    let m = c.enter_board-board.new.pass in
+    called c.args.self.now c.args.pass.now m c.leave_after.new.pass c.requires.of e.seen e.own e.same c.leave_after.ensures.of c.leave_after.ensures.free c.leave_after.ensures.same deed.Nothing _ c.leave_after.ensures.seen (search rules)
 
 pub returns-in-Ok-clause-published : goal.returns-in-Ok-clause-published
 returns-in-Ok-clause-published g c =

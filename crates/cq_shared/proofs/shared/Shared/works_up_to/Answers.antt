@@ -2,6 +2,7 @@ use Rattle.std.proofs.Common.{◌≡◌, ◌≤◌, sym, ap, ◌∙◌, subst, s
 use Rattle.cq_history.specs.State.{State, accepted, changes_in, ready}
 use Rattle.cq_history.proofs.Bounds.{in_order}
 use Rattle.cq_history.proofs.Prefixes.{changes_in-state}
+use Rattle.cq_chain.specs.Held.{IsBoard}
 use Rattle.cq_shared.specs.declared.deed.Deed.TheVariants as deed
 use Rattle.cq_shared.specs.Advancing.{AreWorksFrom}
 use Rattle.cq_shared.specs.SharedPasses.{cells_of, callers_of, settings_of, state_of}
@@ -12,11 +13,14 @@ pub finished_works-works-requires : goal.finished_works-works-requires
 finished_works-works-requires g c =
     let e = c.enter_board-board.ensures in
     let m = c.enter_board-board.new.pass in
+    let b = c.relist_where_published-listed.new.board in
     let hub = c.args.self.now in
+    let board : IsBoard (cells_of hub).about m.seen b = subst (IsBoard (cells_of hub).about m.seen) (sym c.relist_where_published-listed.ensures) e.board in
+    let is = state_is (cells_of hub).about m.seen b board in
     record {
-      floor = subst (λ (s : State). s.floor ≤ c.published-base.result) (sym (state_is (cells_of hub).about m.seen c.enter_board-board.result e.board))
+      floor = subst (λ (s : State). s.floor ≤ c.published-base.result) (sym is)
           (let low = (in_order (settings_of hub) (callers_of hub) m.seen e.of.law.lawful).floor in let base = c.published-base.ensures ∙ ap (λ (s : State). s.published) (state_is (cells_of hub).about m.seen c.enter_board-board.result e.board) in omega (arith, low, base));
-      done = subst (λ (s : State). c.args.to ≤ ready s) (sym (state_is (cells_of hub).about m.seen c.enter_board-board.result e.board)) (ready_seen hub (settings_of hub) c.args.pass.now.seen m.seen e.seen e.of.law.lawful c.args.to c.requires.done);
+      done = subst (λ (s : State). c.args.to ≤ ready s) (sym is) (ready_seen hub (settings_of hub) c.args.pass.now.seen m.seen e.seen e.of.law.lawful c.args.to c.requires.done);
     }
 
 pub returns-clause-calls : goal.returns-clause-calls
@@ -27,6 +31,12 @@ returns-clause-calls g c =
 
 pub returns-in_err-works-clause-calls : goal.returns-in_err-works-clause-calls
 returns-in_err-works-clause-calls g c =
+    let e = c.enter_board-board.ensures in
+    let m = c.enter_board-board.new.pass in
+    called c.args.self.now c.args.pass.now m c.leave_after.new.pass c.requires.of e.seen e.own e.same c.leave_after.ensures.of c.leave_after.ensures.free c.leave_after.ensures.same deed.Nothing _ c.leave_after.ensures.seen tt
+
+pub returns-in_err-listed-clause-calls : goal.returns-in_err-listed-clause-calls
+returns-in_err-listed-clause-calls g c =
     let e = c.enter_board-board.ensures in
     let m = c.enter_board-board.new.pass in
     called c.args.self.now c.args.pass.now m c.leave_after.new.pass c.requires.of e.seen e.own e.same c.leave_after.ensures.of c.leave_after.ensures.free c.leave_after.ensures.same deed.Nothing _ c.leave_after.ensures.seen tt
@@ -43,9 +53,10 @@ pub returns-clause-works : goal.returns-clause-works
 returns-clause-works g c =
     let e = c.enter_board-board.ensures in
     let m = c.enter_board-board.new.pass in
-    let b = c.enter_board-board.result in
+    let b = c.relist_where_published-listed.new.board in
     let hub = c.args.self.now in
+    let board : IsBoard (cells_of hub).about m.seen b = subst (IsBoard (cells_of hub).about m.seen) (sym c.relist_where_published-listed.ensures) e.board in
     let works = c.in_ok-works.ensures in
     let seen : m.seen ≡ c.leave_after.new.pass.seen = sym (append-nil m.seen) ∙ sym c.leave_after.ensures.seen in
-    let same : changes_in b.state ≡ accepted c.leave_after.new.pass.seen = ap changes_in (state_is (cells_of hub).about m.seen b e.board) ∙ changes_in-state (callers_of hub) m.seen ∙ ap accepted seen in
-    subst₂ (λ set cs. AreWorksFrom g.W.Indexed.keys_in (g.W.Indexed.IsWorkOf set) cs c.published-base.result c.args.to c.in_ok-works.field-0.items) e.board.settings same (record { number = works.number; few = works.few; theirs = works.works })
+    let same : changes_in b.state ≡ accepted c.leave_after.new.pass.seen = ap changes_in (state_is (cells_of hub).about m.seen b board) ∙ changes_in-state (callers_of hub) m.seen ∙ ap accepted seen in
+    subst₂ (λ set cs. AreWorksFrom g.W.Indexed.keys_in (g.W.Indexed.IsWorkOf set) cs c.published-base.result c.args.to c.in_ok-works.field-0.items) board.settings same (record { number = works.number; few = works.few; theirs = works.works })
