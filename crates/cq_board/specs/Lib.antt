@@ -3,6 +3,7 @@ pub mod Boards
 pub mod Edits
 pub mod Entries
 pub mod Free
+pub mod Keeps
 pub mod Listings
 pub mod Related
 pub mod Sound

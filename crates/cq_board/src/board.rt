@@ -12,6 +12,7 @@ ghost use Rattle.cq_base.specs.Changes.{IsSoundChange};
 ghost use Rattle.cq_board.specs.Sound.{HasSoundText, HaveFewConditions};
 
 use crate::free::{FreeChanges, first_free, note_given_back, note_taken, pass_over};
+use crate::keep::Keep;
 use crate::listing::{Listing, View, advance_to};
 use crate::refusing::refusal;
 use crate::undone::{is_taken_by, job_at, job_of, note_undone, ready_of, undone_at, work_at};
@@ -157,11 +158,20 @@ impl<W: Indexed> Board<W> {
         least(self.published, &self.views)
     }
 
-    /// The puts up to the floor that it keeps, ascending. It looks at each change that it keeps up to there.
-    pub fn keep(&self, alloc: Global) -> Result<Vec<u64>, Memory>
-        ensures { IfOk result (λ keep. AreKeptPuts (changes_in self.now.state) self.now.state.floor keep.items) }
+    /// The puts up to the floor that it keeps, ascending. Where the floor is the last published
+    /// version they are those of its listing, and cost an owner of it. Else, and where memory was
+    /// refused in the middle of the last publication, they are listed by a look at each change that
+    /// it keeps up to there.
+    pub fn keep(&self, alloc: Global) -> Result<Keep<W>, Memory>
+        ensures { IfOk result (λ keep. AreKeptPuts (changes_in self.now.state) self.now.state.floor keep) }
     {
-        self.changes.keep(alloc)
+        let floor = self.changes.floor();
+        if self.listed == floor {
+            let listing = Arc::try_clone(&self.listing)?;
+            return Ok(Keep::shared(listing));
+        }
+        let numbers = self.changes.keep(alloc)?;
+        Ok(Keep::own(numbers))
     }
 
     /// Gives a taken change back, and answers whether there is this caller and had it, undone. It takes no memory, and costs

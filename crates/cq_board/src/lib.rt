@@ -18,7 +18,9 @@
 //!
 //! A change that another one makes over is noted with it, 16 bytes, in the order of the latter. Raising the floor costs a look
 //! at each caller's view and a search for each change that is forgotten, and no memory. The puts that the floor keeps are
-//! listed by a walk of what is kept up to there.
+//! the live numbers of the listing where this is of the floor's version, which costs an owner of
+//! it; else they are listed by a walk of what is kept up to there. While somebody has that owner, a
+//! publication copies the listing, as for a view.
 //!
 //! Publishing costs what cq_projects takes for the edits of the changes: one alone is a search and a move, several move
 //! the files of each project that they change once. Where a view still shows a list, it is copied first, an owner a file,
@@ -33,6 +35,7 @@ mod answers;
 mod board;
 mod editing;
 mod free;
+mod keep;
 mod laws;
 mod listing;
 mod live;
@@ -41,5 +44,6 @@ mod undone;
 
 pub use answers::{Asked, Finished, Job, Refused};
 pub use board::Board;
+pub use keep::Keep;
 pub use laws::shards_have_the_entries;
 pub use listing::{Listing, View};

@@ -71,7 +71,8 @@ fn kept(alloc: Global) -> Result<usize, Refused> {
     }
     board.publish(alloc, asked.done)?;
     board.set_floor(1);
-    Ok(board.keep(alloc)?.len())
+    let keep = board.keep(alloc)?;
+    Ok(keep.numbers().len())
 }
 
 // Whether the floor may be raised to 1 where version 1 is published, to 1 once more, and to 2.

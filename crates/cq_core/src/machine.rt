@@ -308,7 +308,7 @@ impl<W: Indexed> Core<W> {
         }
         let keep = self.board.keep(alloc)?;
         let shard = &mut self.shards[i];
-        shard.sweep(floor, &keep);
+        shard.sweep(floor, keep.numbers());
         Ok(Outcome::Ok)
     }
 }

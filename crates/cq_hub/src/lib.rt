@@ -4,8 +4,9 @@
 //!
 //! The plain hub holds a board and its shards, and a call costs what it costs there. To advance, the entries of all further
 //! changes are parted among the shards by one look at each key of their works, each shard applies its part, and the board
-//! publishes; where there are none, it makes the listing anew, should memory have been refused while it was changed. So
-//! opening a view costs an owner alone. A bucket is read of one shard. To sweep, the board lists the puts that its floor
+//! publishes; where there are none, it makes the listing anew, should memory have been refused
+//! while it was changed. So opening a view costs an owner alone. A bucket is read of one shard. To
+//! sweep, the board tells the puts that its floor
 //! keeps, and each shard that was not swept up to there lets go of all others.
 #![tactic(auto)]
 

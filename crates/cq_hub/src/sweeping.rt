@@ -7,8 +7,8 @@ use cq_board::Board;
 use cq_shard::{Indexed, Shard};
 use std::alloc::Global;
 
-/// Each of the board's shards is swept up to the board's floor, where it was not, but for the puts that this keeps. It takes
-/// memory for a list of these, and none where all are swept.
+/// Each of the board's shards is swept up to the board's floor, where it was not, but for the puts
+/// that this keeps. It asks the board for these, and does nothing where all are swept.
 pub(crate) fn sweep_shards<W: Indexed>(
     alloc: Global,
     board: &Board<W>,
@@ -25,8 +25,9 @@ pub(crate) fn sweep_shards<W: Indexed>(
         return Ok(());
     }
     let keep = board.keep(alloc)?;
+    let numbers = keep.numbers();
     'shards: for i in 0..shards.len() {
-        sweep_to(floor, &keep, &mut shards[i]);
+        sweep_to(floor, numbers, &mut shards[i]);
     }
     Ok(())
 }

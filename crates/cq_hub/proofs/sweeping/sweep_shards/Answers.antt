@@ -25,10 +25,10 @@ shards-preserved g c =
     let within : i < length shards = let n = inv.number in let len = c.len-i-end.ensures in let lt = c.shards-test.true in omega (arith, n, len, lt) in
     let floor = c.floor-floor.ensures in
     let old = c.index_mut.result.now in
-    let keep = c.in_ok-keep.keep.items in
+    let keep = c.in_ok-keep.keep in
     let was : IsShardOf (HasWindow g.W.Indexed.keys_in g.W.Indexed.IsWorkOf b.settings) b i old =
     subst (IsShardOf (HasWindow g.W.Indexed.keys_in g.W.Indexed.IsWorkOf b.settings) b i) (sym c.index_mut.ensures.value) (inv.stand.each i old within) in
-    let how = subst (λ f. IsSweptTo f keep old new) floor (subst (λ xs. IsSweptTo c.floor-floor.result xs old new) c.deref-in-shards.ensures.value c.sweep_to.ensures) in
+    let how = subst (λ f. IsSweptTo f keep old new) floor (subst (λ xs. IsSweptTo c.floor-floor.result xs old new) c.numbers-numbers.ensures c.sweep_to.ensures) in
     let then = shard_swept (HasWindow g.W.Indexed.keys_in g.W.Indexed.IsWorkOf b.settings) b keep c.in_ok-keep.ensures i old new how was in
     record {
       number = length-set shards i new ∙ inv.number;

@@ -30,7 +30,7 @@ sweep-requires g c =
     record {
       low = (let n = low (HasWindow g.W.Indexed.keys_in g.W.Indexed.IsWorkOf b.settings) b shards c.args.shard old within c.index_mut-shard.ensures.value c.self.invariant.0.0 c.self.invariant.0.1 in omega (arith, n, c.floor-floor.ensures));
       high = (let n = high (HasWindow g.W.Indexed.keys_in g.W.Indexed.IsWorkOf b.settings) b shards c.args.shard old within c.index_mut-shard.ensures.value c.self.invariant.0.0 c.self.invariant.0.1 in omega (arith, n, c.floor-floor.ensures));
-      rising = subst IsStrictlyIncreasing (sym c.deref.ensures.value) c.in_ok-keep.ensures.rising;
+      rising = subst IsStrictlyIncreasing (sym c.numbers.ensures) c.in_ok-keep.ensures.rising;
     }
 
 pub invariant_of-self : goal.invariant_of-self
@@ -40,8 +40,8 @@ invariant_of-self g c =
     let mine : c.args.shard < b.settings.shards = subst (λ (x : CoreState). c.args.shard < x.board.settings.shards) (sym c.self.view_is) c.requires in
     let within : c.args.shard < length shards = omega (arith, mine, c.self.invariant.0.1.numbered.number_is) in
     let old = c.index_mut-shard.result.now in
-    let keep = c.in_ok-keep.keep.items in
-    let is = c.sweep.ensures ∙ ap (λ f. swept f c.deref.result.now old) c.floor-floor.ensures ∙ ap (λ ns. swept b.state.floor ns old) c.deref.ensures.value in
+    let keep = c.in_ok-keep.keep in
+    let is = c.sweep.ensures ∙ ap (λ f. swept f c.numbers.result.now old) c.floor-floor.ensures ∙ ap (λ ns. swept b.state.floor ns old) c.numbers.ensures in
     let stands = stands_swept (HasWindow g.W.Indexed.keys_in g.W.Indexed.IsWorkOf b.settings) b shards c.args.shard old within c.index_mut-shard.ensures.value (c.it_stands_swept.ensures b.settings) keep c.sweep.new.self c.in_ok-keep.ensures is c.self.invariant.0.0 c.self.invariant.0.1 in
     ((stepped c.self.invariant.0.0 (Sweeps c.args.shard b.state.floor), stands), c.self.invariant.1)
 
@@ -52,8 +52,8 @@ returns-clause-steps g c =
     let mine : c.args.shard < b.settings.shards = subst (λ (x : CoreState). c.args.shard < x.board.settings.shards) (sym c.self.view_is) c.requires in
     let within : c.args.shard < length shards = omega (arith, mine, c.self.invariant.0.1.numbered.number_is) in
     let old = c.index_mut-shard.result.now in
-    let keep = c.in_ok-keep.keep.items in
-    let is = c.sweep.ensures ∙ ap (λ f. swept f c.deref.result.now old) c.floor-floor.ensures ∙ ap (λ ns. swept b.state.floor ns old) c.deref.ensures.value in
+    let keep = c.in_ok-keep.keep in
+    let is = c.sweep.ensures ∙ ap (λ f. swept f c.numbers.result.now old) c.floor-floor.ensures ∙ ap (λ ns. swept b.state.floor ns old) c.numbers.ensures in
     let takes = takes_swept (HasWindow g.W.Indexed.keys_in g.W.Indexed.IsWorkOf b.settings) b shards c.args.shard old within c.index_mut-shard.ensures.value (c.it_stands_swept.ensures b.settings) keep c.sweep.new.self c.in_ok-keep.ensures is in
     subst (λ (x : CoreState). IsStepped (HasWindow g.W.Indexed.keys_in g.W.Indexed.IsWorkOf x.board.settings) (Sweeps c.args.shard x.board.state.floor) x (core b (set shards c.args.shard c.sweep.new.self)) outcome.Ok) c.self.view_is
     (record { settings = refl; callers = refl; done = λ _. takes; not_done = λ not. absurd (not tt) })
