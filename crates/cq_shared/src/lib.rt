@@ -28,9 +28,12 @@
 //!   published by then, or was at first, that hold makes the listing anew instead, should memory have been refused in the
 //!   middle of a publication of several changes; this takes the time of all changes that are kept once.
 //! - `sweep`, the board: a look at each caller's view, and what raising the floor lets go of. Where some shard was not swept
-//!   up to that floor, also a list of the puts that it keeps. So this hold takes memory then, and is as long as what is kept.
-//!   Then, shard by shard, a hold of the shard for what cq_shard says of a sweep. Where all shards were swept up to that
-//!   floor, as a word beside the cells tells, none is taken.
+//!   up to that floor, also the puts that it keeps: an owner of the listing where the floor is the
+//!   published version. While an older version is viewed it is a list, so this hold takes memory
+//!   then, and is as long as what is kept. Then, shard by shard, a hold of the shard for what
+//!   cq_shard says of a sweep. A publication before the last of them copies the listing that has an
+//!   owner more, as for a view. Where all shards were swept up to that floor, as a word beside the
+//!   cells tells, none is taken.
 //!
 //! Whoever enters a shard may bring it on by one change, by the rule of the cells. So no shard takes several changes as one
 //! run, as those of the plain hub do. Each shard looks at all keys of a work, since they aren't parted beforehand.

@@ -10,7 +10,7 @@ ghost use Rattle.cq_shared.specs.SharedPasses.{IsPassOf, settings_of, state_of};
 use crate::deed::Deed;
 use crate::shared::Shared;
 use cq_base::Memory;
-use cq_board::Board;
+use cq_board::{Board, Keep};
 use cq_chain::Pass;
 use cq_hub::sweep_to;
 use cq_shard::Indexed;
@@ -20,9 +20,10 @@ use std::sync::atomic::Ordering;
 
 impl<W: Indexed, R: Wait> Shared<W, R> {
     /// Gives up the versions below the published one and each open one, sweeps each shard that was not swept so far, and
-    /// answers the floor. The board sets it in one hold, with a list of the puts that it keeps; each shard is swept in a hold
-    /// of its own. Where all were swept up to this floor, no shard is taken, and no memory. Where memory is refused, no shard
-    /// is swept.
+    /// answers the floor. The board sets it in one hold, and tells the puts that it keeps; each
+    /// shard is swept in a hold of its own. Where all were swept up to this floor, no shard is
+    /// taken, and no memory. Where memory is refused, no shard is swept. The listing that has those
+    /// puts' numbers has an owner more until all shards are swept.
     pub fn sweep(&self, alloc: Global, pass: &mut Pass<W>) -> Result<u64, Memory>
         requires of { IsPassOf self.now pass.old }
         ensures swept { Calls self.now pass.old pass.new [] (λ mid. HasGreatestFloor (state_of self.now mid) result) }
@@ -33,23 +34,24 @@ impl<W: Indexed, R: Wait> Shared<W, R> {
         if floor <= above {
             return Ok(floor);
         }
-        self.sweep_shards(floor, &keep, pass);
+        self.sweep_shards(floor, keep.numbers(), pass);
+        drop(keep);
         self.swept.store(floor, Ordering::SeqCst);
         Ok(floor)
     }
 
-    // Sets the greatest floor that there may be, in one hold of the board. Where it is above another one, the puts that it keeps
-    // are listed.
+    // Sets the greatest floor that there may be, in one hold of the board. Where it is above
+    // another one, the puts that it keeps are told.
     fn raise_floor(
         &self,
         alloc: Global,
         above: u64,
         pass: &mut Pass<W>,
-    ) -> Result<(u64, Vec<u64>), Memory>
+    ) -> Result<(u64, Keep<W>), Memory>
         requires of { IsPassOf self.now pass.old }
         ensures calls { Calls self.now pass.old pass.new [] (λ mid. (state_of self.now mid).floor ≡ greatest_floor (state_of self.now mid)) }
         ensures floor { IfOk result (λ r. r.0 ≡ (state_of self.now pass.new.seen).floor) }
-        ensures keep { IfOk result (λ r. above < r.0 → AreKeptPuts (accepted pass.new.seen) r.0 r.1.items) }
+        ensures keep { IfOk result (λ r. above < r.0 → AreKeptPuts (accepted pass.new.seen) r.0 r.1) }
         ensures asked { pass.new.asked ≡ pass.old.asked }
     {
         let mut board = self.cells.enter_board(pass);
@@ -93,11 +95,11 @@ impl<W: Indexed, R: Wait> Shared<W, R> {
 }
 
 // The puts that the board's floor keeps. Where it is no higher than another one, nothing is looked for, and no memory taken.
-fn keep_above<W: Indexed>(alloc: Global, board: &Board<W>, above: u64) -> Result<Vec<u64>, Memory>
-    ensures { IfOk result (λ keep. above < board.now.state.floor → AreKeptPuts (changes_in board.now.state) board.now.state.floor keep.items) }
+fn keep_above<W: Indexed>(alloc: Global, board: &Board<W>, above: u64) -> Result<Keep<W>, Memory>
+    ensures { IfOk result (λ keep. above < board.now.state.floor → AreKeptPuts (changes_in board.now.state) board.now.state.floor keep) }
 {
     if board.floor() <= above {
-        return Ok(Vec::new(alloc));
+        return Ok(Keep::new(alloc));
     }
     board.keep(alloc)
 }

@@ -58,8 +58,8 @@ returns-then-set_floor-clause-keep g c =
     λ lt.
     let now = adds_board about m.seen b c.set_floor.new.self (event.Floor c.greatest_floor-floor.result) e.board (OnTrue_at c.if-set_floor.true c.set_floor.ensures.adds) in
     let at = ap (λ (s : State). s.floor) (state_is about _ c.set_floor.new.self now) ∙ sym then.1 in
-    subst (λ f. AreKeptPuts (accepted c.leave_after.new.pass.seen) f c.in_ok-keep.field-0.items) at
-    (subst (λ cs. AreKeptPuts cs c.set_floor.new.self.state.floor c.in_ok-keep.field-0.items) (board_changes about _ c.set_floor.new.self now ∙ ap accepted (sym c.leave_after.ensures.seen)) (c.in_ok-keep.ensures (subst (λ f. c.args.above < f) (sym at) lt)))
+    subst (λ f. AreKeptPuts (accepted c.leave_after.new.pass.seen) f c.in_ok-keep.field-0) at
+    (subst (λ cs. AreKeptPuts cs c.set_floor.new.self.state.floor c.in_ok-keep.field-0) (board_changes about _ c.set_floor.new.self now ∙ ap accepted (sym c.leave_after.ensures.seen)) (c.in_ok-keep.ensures (subst (λ f. c.args.above < f) (sym at) lt)))
 
 pub returns-clause-calls : goal.returns-clause-calls
 returns-clause-calls g c =
@@ -102,5 +102,5 @@ returns-clause-keep g c =
     let now = same_board about m.seen b c.set_floor.new.self e.board (OnFalse_at c.if-set_floor.false c.set_floor.ensures.unchanged) in
     let stays = floor_stays m.seen b e.board.stands (subst (λ f. Permits b.settings b.state (event.Floor f) → ⊥) c.greatest_floor-floor.ensures (iff_false c.set_floor.ensures.lawful c.if-set_floor.false)) in
     let at = ap (λ (x : BoardState). x.state.floor) (OnFalse_at c.if-set_floor.false c.set_floor.ensures.unchanged) ∙ stays ∙ sym c.greatest_floor-floor.ensures in
-    subst (λ f. AreKeptPuts (accepted c.leave_after-2.new.pass.seen) f c.in_ok-keep-2.field-0.items) at
-    (subst (λ cs. AreKeptPuts cs c.set_floor.new.self.state.floor c.in_ok-keep-2.field-0.items) (board_changes about _ c.set_floor.new.self now ∙ ap accepted (sym c.leave_after-2.ensures.seen)) (c.in_ok-keep-2.ensures (subst (λ f. c.args.above < f) (sym at) lt)))
+    subst (λ f. AreKeptPuts (accepted c.leave_after-2.new.pass.seen) f c.in_ok-keep-2.field-0) at
+    (subst (λ cs. AreKeptPuts cs c.set_floor.new.self.state.floor c.in_ok-keep-2.field-0) (board_changes about _ c.set_floor.new.self now ∙ ap accepted (sym c.leave_after-2.ensures.seen)) (c.in_ok-keep-2.ensures (subst (λ f. c.args.above < f) (sym at) lt)))

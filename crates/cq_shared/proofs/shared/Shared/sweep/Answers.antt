@@ -27,7 +27,7 @@ sweep_shards-requires g c =
     record {
       of = (c.raise_floor.ensures.calls).of;
       floor = c.in_ok-floor.ensures.floor;
-      keep = subst (AreKeptPuts (accepted a.seen) c.in_ok-floor.floor) (sym c.deref.ensures.value) (c.in_ok-floor.ensures.keep lt);
+      keep = subst (AreKeptPuts (accepted a.seen) c.in_ok-floor.floor) (sym c.numbers.ensures) (c.in_ok-floor.ensures.keep lt);
     }
 
 pub returns-clause-swept : goal.returns-clause-swept
