@@ -5,9 +5,11 @@ pub mod RowOrder
 pub mod Merging
 pub mod Finding
 pub mod Gathering
-pub mod Reaching
 pub mod Staying
 pub mod Taking
+pub mod Alike
+pub mod Closing
+pub mod Leaving
 pub mod Storing
 pub mod Lasting
 pub mod Standing

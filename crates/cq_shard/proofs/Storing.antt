@@ -2,16 +2,16 @@
 use Rattle.std.proofs.Common.{◌≡◌, ◌≢◌, Ok, Err, Result, ℕ, ◌<◌, ◌≤◌, Bool, true, false, cond, ◌&&◌, nat_eq, List, [], ◌∷◌, ◌++◌, map, filter, refl, sym, ap, ◌∙◌, subst, inl, inr, ⊎_elim, arith}
 use Rattle.std.specs.Prelude.{All, Contains, OnOk}
 use Rattle.std.proofs.lemmas.Bool.{eqb-true}
-use Rattle.std.proofs.lemmas.List.Elements.{All-contains, filter-append}
+use Rattle.std.proofs.lemmas.List.Elements.{All-contains, All-append, Contains-append_left, Contains-append_right, Contains-append_cases, filter-append}
 use Rattle.std.proofs.lemmas.List.Kept.{AllPairs-filter}
 use Rattle.std.proofs.lemmas.Map.Views.{Contains-from_any, any-filter_same}
 use Rattle.cq_base.specs.declared.entry.Entry.{Entry}
-use Rattle.cq_base.proofs.Lists.{Contains-here, Contains-there, Contains-map, Contains-from_map, Contains-filter, Contains-from_filter, All-from_contains, AllPairs-map, AllPairs-weaker}
+use Rattle.cq_base.proofs.Lists.{Contains-here, Contains-there, Contains-from_map, Contains-filter, Contains-from_filter, All-from_contains, AllPairs-map, AllPairs-weaker}
 use Rattle.cq_clones.specs.Lists.{AreAllInOrder}
 use Rattle.cq_clones.specs.Windows.{EntryBefore}
 use Rattle.cq_shard.specs.Runs.{RowBefore, IsRun, Precedes, AreRuns, AreAdded, AreDifferent, entries_in}
-use Rattle.cq_shard.specs.Tables.{is_among, stays, staying, changes_of, AreNoted}
-use Rattle.cq_shard.specs.Stores.{those_of, left_to, Stored, stored, left_by, IsStore}
+use Rattle.cq_shard.specs.Tables.{is_among, stays, staying}
+use Rattle.cq_shard.specs.Stores.{those_of, left_to, Stored, stored, left_by, AreNext, IsStore}
 use Rattle.cq_shard.proofs.Entries.{any_of}
 
 -- ---- what a filter by changes keeps
@@ -93,53 +93,56 @@ asked_those key live changes rows bucket are = record {
 
 -- ---- entries come
 
-module _ (applied later : ℕ) (changes noted : List ℕ) (rows entries more : List Entry) (gone : ℕ) (is : IsStore applied changes rows gone) (further : applied ≤ later)
-    (behind : All (λ e. applied < e.change) entries) (within : All (λ e. e.change ≤ later) entries) (are : AreNoted entries changes noted) (added : AreAdded rows entries more) where
-  change_in : (e : Entry) → Contains entries e → Contains (changes_of entries) e.change
-  change_in e c = Contains-map (λ (e : Entry). e.change) entries e c
+module _ (applied later : ℕ) (changes puts : List ℕ) (rows entries : List Entry) (before : List Entry) (gone : ℕ) (is : IsStore applied changes rows gone) (next : AreNext (stored applied changes before) later puts entries) where
+  entry_later : (e : Entry) → Contains entries e → applied < e.change
+  entry_later e c = All-contains (λ n. applied < n) puts e.change next.later (All-contains (λ (e : Entry). Contains puts e.change) entries e next.each c)
 
-  pub stored_added : AreAdded (those_of changes rows) entries (those_of noted more)
-  stored_added = record {
-    each = λ e. (
-      λ h. let found = from_those noted more e h in
-          ⊎_elim
-          (λ old. inl (to_those changes rows e old (⊎_elim
-          (λ was. was)
-          (λ new.
-          let (f, there, same) = Contains-from_map (λ (e : Entry). e.change) entries e.change new in
-          let low = All-contains (λ (e : Entry). e.change ≤ applied) rows e is.brought old in
-          let high = All-contains (λ (e : Entry). applied < e.change) entries f behind there in
-          absurd (omega (arith, low, high, same)))
-          ((are e.change).0 found.1))))
-          (λ new. inr new)
-          ((added.each e).0 found.0),
-      λ h. ⊎_elim
-          (λ old. let found = from_those changes rows e old in to_those noted more e ((added.each e).1 (inl found.0)) ((are e.change).1 (inl found.1)))
-          (λ new. to_those noted more e ((added.each e).1 (inr new)) ((are e.change).1 (inr (change_in e new))))
-          h,
-    );
-    different = λ _. AllPairs-filter (λ a b. a ≢ b) (λ (e : Entry). is_among noted e.change) more (added.different is.different);
-  }
+  entry_known : (e : Entry) → Contains entries e → e.change ≤ later
+  entry_known e c = All-contains (λ n. n ≤ later) puts e.change next.known (All-contains (λ (e : Entry). Contains puts e.change) entries e next.each c)
 
-  pub store_added : IsStore later noted more gone
-  store_added = record {
-    known = All-from_contains (λ n. n ≤ later) noted (λ n c. ⊎_elim
-        (λ was. let low = All-contains (λ n. n ≤ applied) changes n is.known was in omega (arith, low, further))
-        (λ new.
-        let (e, there, same) = Contains-from_map (λ (e : Entry). e.change) entries n new in
-        let low = All-contains (λ (e : Entry). e.change ≤ later) entries e within there in
-        omega (arith, low, same))
-        ((are n).0 c));
-    brought = All-from_contains (λ (e : Entry). e.change ≤ later) more (λ e c. ⊎_elim
-        (λ old. let low = All-contains (λ (e : Entry). e.change ≤ applied) rows e is.brought old in omega (arith, low, further))
-        (λ new. All-contains (λ (e : Entry). e.change ≤ later) entries e within new)
-        ((added.each e).0 c));
-    different = added.different is.different;
-    whole = λ none e c. ⊎_elim
-        (λ old. (are e.change).1 (inl (is.whole none e old)))
-        (λ new. (are e.change).1 (inr (change_in e new)))
-        ((added.each e).0 c);
-  }
+  -- those that come are of later changes than all before
+  pub rows_precede : Precedes rows entries
+  rows_precede a b here there =
+      let low = All-contains (λ (e : Entry). e.change ≤ applied) rows a is.brought here in
+      let high = entry_later b there in
+      omega (arith, low, high)
+
+  module _ (more : List Entry) (added : AreAdded rows entries more) where
+    pub stored_added : AreAdded (those_of changes rows) entries (those_of (changes ++ puts) more)
+    stored_added = record {
+      each = λ e. (
+        λ h. let found = from_those (changes ++ puts) more e h in
+            ⊎_elim
+            (λ old. inl (to_those changes rows e old (⊎_elim
+            (λ was. was)
+            (λ new.
+            let low = All-contains (λ (e : Entry). e.change ≤ applied) rows e is.brought old in
+            let high = All-contains (λ n. applied < n) puts e.change next.later new in
+            absurd (omega (arith, low, high)))
+            (Contains-append_cases changes puts e.change found.1))))
+            (λ new. inr new)
+            ((added.each e).0 found.0),
+        λ h. ⊎_elim
+            (λ old. let found = from_those changes rows e old in to_those (changes ++ puts) more e ((added.each e).1 (inl found.0)) (Contains-append_left changes puts e.change found.1))
+            (λ new. to_those (changes ++ puts) more e ((added.each e).1 (inr new)) (Contains-append_right changes puts e.change (All-contains (λ (e : Entry). Contains puts e.change) entries e next.each new)))
+            h,
+      );
+      different = λ _. AllPairs-filter (λ a b. a ≢ b) (λ (e : Entry). is_among (changes ++ puts) e.change) more (added.different is.different);
+    }
+
+    pub store_added : applied ≤ later → IsStore later (changes ++ puts) more gone
+    store_added further = record {
+      known = All-append (λ n. n ≤ later) changes puts (λ i d lt. let low = is.known i d lt in omega (arith, low, further)) next.known;
+      brought = All-from_contains (λ (e : Entry). e.change ≤ later) more (λ e c. ⊎_elim
+          (λ old. let low = All-contains (λ (e : Entry). e.change ≤ applied) rows e is.brought old in omega (arith, low, further))
+          (λ new. entry_known e new)
+          ((added.each e).0 c));
+      different = added.different is.different;
+      whole = λ none e c. ⊎_elim
+          (λ old. Contains-append_left changes puts e.change (is.whole none e old))
+          (λ new. Contains-append_right changes puts e.change (All-contains (λ (e : Entry). Contains puts e.change) entries e next.each new))
+          ((added.each e).0 c);
+    }
 
 -- some that a sweep took out were cleared
 pub store_less : (applied : ℕ) (changes : List ℕ) (rows less : List Entry) (gone left : ℕ) → IsStore applied changes rows gone → ((e : Entry) → Contains less e → Contains rows e) → AreDifferent less → (left ≡ 0 → gone ≡ 0) → IsStore applied changes less left
@@ -149,19 +152,6 @@ store_less applied changes rows less gone left is fewer different none = record 
   different = different;
   whole = λ zero e c. is.whole (none zero) e (fewer e c);
 }
-
--- those that come are of later changes than all before
-pub rows_precede : (applied : ℕ) (changes : List ℕ) (rows entries : List Entry) (gone : ℕ) → IsStore applied changes rows gone → All (λ e. applied < e.change) entries → Precedes rows entries
-rows_precede applied changes rows entries gone is behind a b here there =
-    let low = All-contains (λ (e : Entry). e.change ≤ applied) rows a is.brought here in
-    let high = All-contains (λ (e : Entry). applied < e.change) entries b behind there in
-    omega (arith, low, high)
-
-pub changes_precede : (applied : ℕ) (changes : List ℕ) (rows entries : List Entry) (gone : ℕ) → IsStore applied changes rows gone → All (λ e. applied < e.change) entries → (n : ℕ) (e : Entry) → Contains changes n → Contains entries e → n < e.change
-changes_precede applied changes rows entries gone is behind n e here there =
-    let low = All-contains (λ n. n ≤ applied) changes n is.known here in
-    let high = All-contains (λ (e : Entry). applied < e.change) entries e behind there in
-    omega (arith, low, high)
 
 -- ---- a sweep
 
@@ -193,13 +183,13 @@ module _ (applied floor : ℕ) (keep changes : List ℕ) where
   pub left_marked : (left : List ℕ) (rows : List Entry) (old : Stored) → stored applied changes rows ≡ old → left ≡ staying floor keep changes → stored applied left rows ≡ left_by floor keep old
   left_marked left rows old was is =
       ap (λ ns. stored applied ns rows) is
-      ∙ ap (λ (es : List Entry). let s : Stored = record { applied = applied; entries = es } in s) (those_staying floor keep changes rows)
+      ∙ ap (λ (es : List Entry). let s : Stored = record { applied = applied; puts = staying floor keep changes; entries = es } in s) (those_staying floor keep changes rows)
       ∙ ap (left_by floor keep) was
 
   pub left_cleared : (left : List ℕ) (rows kept : List Entry) (old : Stored) → stored applied changes rows ≡ old → left ≡ staying floor keep changes → kept ≡ those_of left rows → stored applied left kept ≡ left_by floor keep old
   left_cleared left rows kept old was is cleared =
       ap (stored applied left) cleared
-      ∙ ap (λ (es : List Entry). let s : Stored = record { applied = applied; entries = es } in s) (those_again left rows)
+      ∙ ap (λ (es : List Entry). let s : Stored = record { applied = applied; puts = left; entries = es } in s) (those_again left rows)
       ∙ left_marked left rows old was is
 
 pub always_ok : {T E P : Type 0} (r : Result T E) → P → OnOk r P

@@ -11,7 +11,7 @@ use Rattle.cq_history.specs.State.{accepted}
 use Rattle.cq_history.specs.Changes.{change_at, IsNumber}
 use Rattle.cq_history.specs.Shards.{Row, IsLastOfFile, ShardHolds}
 use Rattle.cq_history.specs.Gone.{AreKeptPuts}
-use Rattle.cq_shard.specs.Shard.{Contents, StandsFor, Holds, swept}
+use Rattle.cq_shard.specs.Shard.{Contents, StandsFor, Holds, AreKnown, swept}
 
 module _ (IsWindow : Lang → List ℕ → ℕ → ℕ → Type 0) where
   -- what is accepted later changes nothing of what a shard holds
@@ -39,7 +39,7 @@ module _ (IsWindow : Lang → List ℕ → ℕ → ℕ → Type 0) where
 
   -- a shard that has applied nothing stands for any changes
   abbrev pub StandsAtFirst : Type 0
-  StandsAtFirst = (changes : List Change) (c : Contents) → c.applied ≡ 0 → c.entries ≡ [] → StandsFor IsWindow changes c
+  StandsAtFirst = (changes : List Change) (c : Contents) → c.applied ≡ 0 → c.puts ≡ [] → c.entries ≡ [] → StandsFor IsWindow changes c
 
   -- later changes alter nothing of what it stands for
   abbrev pub StandsOn : Type 0
@@ -54,3 +54,7 @@ module _ (IsWindow : Lang → List ℕ → ℕ → ℕ → Type 0) where
   -- swept up to a new floor but for exactly the puts that this keeps, a shard stands for the changes that it stood for
   abbrev pub StandsSwept : Type 0
   StandsSwept = (changes : List Change) (c : Contents) (floor : ℕ) (keep : List ℕ) → c.floor ≤ floor → AreKeptPuts changes floor keep → StandsFor IsWindow changes c → StandsFor IsWindow changes (swept floor keep c)
+
+  -- of the changes that it stands for, it knows each put that a floor keeps, from its own floor up to what it has applied
+  abbrev pub KnowsWhatIsKept : Type 0
+  KnowsWhatIsKept = (changes : List Change) (c : Contents) (floor : ℕ) (keep : List ℕ) → c.floor ≤ floor → floor ≤ c.applied → AreKeptPuts changes floor keep → StandsFor IsWindow changes c → AreKnown keep c

@@ -1,6 +1,7 @@
 -- What a shard is, and for which changes it stands.
-use Rattle.std.specs.Prelude.{◌≡◌, ◌↔◌, slice_get, slice_index_or, ℕ, ◌+◌, ◌<◌, ◌≤◌, ◌%◌, ◌==◌, nat_eq, ◌&&◌, if◌then◌else◌, Bool, List, [], ◌∷◌, ◌++◌, length, Contains, All, Option, Some, None, IfSome, ◌^◌}
+use Rattle.std.specs.Prelude.{◌≡◌, ◌↔◌, slice_get, slice_index_or, ℕ, ◌+◌, ◌<◌, ◌≤◌, ◌%◌, ◌==◌, nat_eq, ◌&&◌, if◌then◌else◌, Bool, List, [], ◌∷◌, ◌++◌, length, Contains, All, Option, Some, None, is_some, IfSome, ◌^◌}
 use Rattle.std.specs.List.{list_any}
+use Rattle.std.specs.List.Sorted.{IsStrictlyIncreasing}
 use Rattle.std.specs.Arc.{arc_value}
 use Rattle.std.specs.declared.sync.Arc.{Arc}
 use Rattle.std.specs.declared.alloc.Global.{Global}
@@ -12,22 +13,27 @@ use Rattle.cq_base.specs.declared.change.Change.TheVariants.{Put, Drop, Gate}
 use Rattle.cq_clones.specs.Lists.{AreAllInOrder}
 use Rattle.cq_clones.specs.Windows.{EntryBefore}
 use Rattle.cq_history.specs.Changes.{IsWorkFor, change_at}
+use Rattle.cq_history.specs.Gone.{IsKept, IsPutAt}
 use Rattle.cq_history.specs.Shards.{Row, ShardHolds}
 use Rattle.cq_shard.specs.Runs.{AreDifferent}
 use Rattle.cq_shard.specs.Stores.{left_to}
+use Rattle.cq_shard.specs.Tables.{staying, AreAmong}
 
--- its number, how many shards there are, how many changes it has applied, its floor, and its entries
+-- its number, how many shards there are, how many changes it has applied, its floor, the puts that it knows, and its entries
 pub record Contents : Type 0 where
   pub shard : ℕ
   pub shards : ℕ
   pub applied : ℕ
   pub floor : ℕ
+  pub puts : List ℕ
   pub entries : List Entry
 
--- it is one of the shards, and its entries are those of applied changes, each once
+-- it is one of the shards; its puts ascend, and its entries stand each once; all are of applied changes
 pub record IsShard (c : Contents) : Type 0 where
   pub mine : c.shard < c.shards
   pub passed : c.floor ≤ c.applied
+  pub rising : IsStrictlyIncreasing c.puts
+  pub noted : All (λ n. n ≤ c.applied) c.puts
   pub known : All (λ e. e.change ≤ c.applied) c.entries
   pub different : AreDifferent c.entries
 
@@ -38,9 +44,15 @@ row_of e = record { key = e.key; number = e.change; place = e.at }
 abbrev pub Holds : (Lang → List ℕ → ℕ → ℕ → Type 0) → List Change → Contents → Entry → Type 0
 Holds IsWindow changes c e = ShardHolds IsWindow c.shards changes c.shard c.applied c.floor (row_of e)
 
--- it has applied no more than there is, and its entries are what it holds of these changes
+-- the change of this number is one of the puts that were applied, and the floor keeps it
+abbrev pub IsKnownPut : List Change → ℕ → ℕ → ℕ → Type 0
+IsKnownPut changes applied floor number = IsKept changes floor number × (number ≤ applied) × IsPutAt changes number
+
+-- It has applied no more than there is. It knows the puts of these changes that it has applied and its floor keeps, and its
+-- entries are what it holds of them.
 pub record StandsFor (IsWindow : Lang → List ℕ → ℕ → ℕ → Type 0) (changes : List Change) (c : Contents) : Type 0 where
   pub applied : c.applied ≤ length changes
+  pub puts : (n : ℕ) → Contains c.puts n ↔ IsKnownPut changes c.applied c.floor n
   pub entries : (e : Entry) → Contains c.entries e ↔ Holds IsWindow changes c e
 
 -- the change there has the work that it comes with: a put that of its text, and no other change one
@@ -69,6 +81,15 @@ brought keys_in change shard shards (Some work) = entries_of change shard shards
 abbrev pub all_brought : {W : Type 0} → (W → List ℕ) → ℕ → ℕ → ℕ → List (Option W) → List Entry
 all_brought keys_in applied shard shards [] = []
 all_brought keys_in applied shard shards (work ∷ works) = brought keys_in (applied + 1) shard shards work ++ all_brought keys_in (applied + 1) shard shards works
+
+-- the number of a change that has a work, as a put has
+abbrev pub put_of : {W : Type 0} → ℕ → Option W → List ℕ
+put_of change work = if is_some work then change ∷ [] else []
+
+-- the numbers of those changes behind so many that have one, a change for each work
+abbrev pub puts_among : {W : Type 0} → ℕ → List (Option W) → List ℕ
+puts_among applied [] = []
+puts_among applied (work ∷ works) = put_of (applied + 1) work ++ puts_among (applied + 1) works
 
 -- the changes behind so many have the works that they come with
 abbrev pub HaveTheirWorks : {W : Type 0} → (Lang → List ℕ → W → Type 0) → List Change → ℕ → List (Option W) → Type 0
@@ -124,6 +145,10 @@ AreAsked key live entries bucket = AreAllInOrder EntryBefore (λ e. (e.key ≡ k
 
 -- ---- what sweeping leaves
 
--- the floor is raised, and the entries of all changes up to it are taken out but for those to keep
+-- the shard knows each of the changes to keep
+abbrev pub AreKnown : List ℕ → Contents → Type 0
+AreKnown keep c = AreAmong keep c.puts
+
+-- the floor is raised, and all puts up to it are taken out, with their entries, but for those to keep
 abbrev pub swept : ℕ → List ℕ → Contents → Contents
-swept floor keep c = record { shard = c.shard; shards = c.shards; applied = c.applied; floor = floor; entries = left_to floor keep c.entries }
+swept floor keep c = record { shard = c.shard; shards = c.shards; applied = c.applied; floor = floor; puts = staying floor keep c.puts; entries = left_to floor keep c.entries }

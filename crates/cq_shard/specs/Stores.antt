@@ -1,8 +1,9 @@
 -- The entries that a shard stores. Those of changes that a sweep took out may lie there for a while, but count no more.
-use Rattle.std.specs.Prelude.{◌≡◌, ◌⊎◌, ℕ, ◌<◌, ◌≤◌, List, [], length, get_or, filter, All, Contains}
+use Rattle.std.specs.Prelude.{◌≡◌, ◌⊎◌, ℕ, ◌<◌, ◌≤◌, List, [], ◌++◌, length, get_or, filter, All, Contains}
+use Rattle.std.specs.List.Sorted.{IsStrictlyIncreasing}
 use Rattle.cq_base.specs.declared.entry.Entry.{Entry}
 use Rattle.cq_shard.specs.Runs.{AreDifferent}
-use Rattle.cq_shard.specs.Tables.{is_among, stays}
+use Rattle.cq_shard.specs.Tables.{is_among, stays, staying}
 
 -- the entries of these changes
 abbrev pub those_of : List ℕ → List Entry → List Entry
@@ -21,17 +22,25 @@ pub record AreLeft (changes : List ℕ) (old new : List (List Entry)) : Type 0 w
   pub number : length new ≡ length old
   pub each : (i : ℕ) → i < length old → IsLeft changes (get_or old i []) (get_or new i [])
 
--- up to which change all were added, and the entries that count
+-- up to which change all were added, the puts that no sweep took out, and the entries that count, which are theirs
 pub record Stored : Type 0 where
   pub applied : ℕ
+  pub puts : List ℕ
   pub entries : List Entry
 
 abbrev pub stored : ℕ → List ℕ → List Entry → Stored
-stored applied changes rows = record { applied = applied; entries = those_of changes rows }
+stored applied changes rows = record { applied = applied; puts = changes; entries = those_of changes rows }
 
--- the entries of changes up to the floor count no more, but for those to keep
+-- the puts up to the floor are gone, and their entries count no more, but for those to keep
 abbrev pub left_by : ℕ → List ℕ → Stored → Stored
-left_by floor keep s = record { applied = s.applied; entries = left_to floor keep s.entries }
+left_by floor keep s = record { applied = s.applied; puts = staying floor keep s.puts; entries = left_to floor keep s.entries }
+
+-- puts behind all so far and up to a change, ascending, and entries of these
+pub record AreNext (s : Stored) (applied : ℕ) (puts : List ℕ) (entries : List Entry) : Type 0 where
+  pub rising : IsStrictlyIncreasing (s.puts ++ puts)
+  pub later : All (λ n. s.applied < n) puts
+  pub known : All (λ n. n ≤ applied) puts
+  pub each : All (λ e. Contains puts e.change) entries
 
 -- The entries that lie there are of the changes so far. Where none of them is known to be gone, all are of changes that stand.
 pub record IsStore (applied : ℕ) (changes : List ℕ) (rows : List Entry) (gone : ℕ) : Type 0 where

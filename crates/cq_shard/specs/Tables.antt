@@ -1,23 +1,15 @@
--- Numbers that rise: a search among them from a place on, and what is left of them.
-use Rattle.std.specs.Prelude.{◌≡◌, ◌↔◌, ◌⊎◌, ℕ, ◌<◌, ◌≤◌, ◌||◌, Bool, nat_eq, nat_lt, List, length, get_or, map, filter, Contains}
+-- Numbers that rise, what is left of them, and a part of them beside them.
+use Rattle.std.specs.Prelude.{◌≡◌, ℕ, ◌+◌, ◌<◌, ◌≤◌, ◌||◌, Bool, nat_eq, nat_lt, List, length, slice_index, filter, Contains}
 use Rattle.std.specs.List.{list_any, AllWithin}
 use Rattle.std.specs.List.Sorted.{IsStrictlyIncreasing}
-use Rattle.cq_base.specs.declared.entry.Entry.{Entry}
-
--- From `start` on all before one place are less than the number, and from another place on none is.
-pub record IsReached (numbers : List ℕ) (start number from to : ℕ) : Type 0 where
-  pub begins : start ≤ from
-  pub within : (from ≤ to) × (to ≤ length numbers)
-  pub lesser : AllWithin (λ n. n < number) numbers start from
-  pub others : AllWithin (λ n. number ≤ n) numbers to (length numbers)
-
--- the number stands at this place
-abbrev pub IsAt : List ℕ → ℕ → ℕ → Type 0
-IsAt numbers at n = (at < length numbers) × (get_or numbers at n ≡ n)
 
 -- whether the number is among these
 abbrev pub is_among : List ℕ → ℕ → Bool
 is_among numbers n = list_any (nat_eq n) numbers
+
+-- the first are all among the others
+abbrev pub AreAmong : List ℕ → List ℕ → Type 0
+AreAmong part numbers = (n : ℕ) → Contains part n → Contains numbers n
 
 -- the change is above the floor, or one of those to keep
 abbrev pub stays : ℕ → List ℕ → ℕ → Bool
@@ -32,17 +24,30 @@ pub record IsTable (changes sizes : List ℕ) : Type 0 where
   pub rising : IsStrictlyIncreasing changes
   pub sized : length changes ≤ length sizes
 
-abbrev pub changes_of : List Entry → List ℕ
-changes_of entries = map (λ (e : Entry). e.change) entries
+-- so many of the numbers are at most the floor, and all behind them are above it
+pub record IsUpTo (numbers : List ℕ) (floor many : ℕ) : Type 0 where
+  pub within : many ≤ length numbers
+  pub low : AllWithin (λ n. n ≤ floor) numbers 0 many
+  pub high : AllWithin (λ n. floor < n) numbers many (length numbers)
 
--- each of the changes is before all that the entries are of
-abbrev pub AreBefore : List ℕ → List Entry → Type 0
-AreBefore changes entries = (n : ℕ) (e : Entry) → Contains changes n → Contains entries e → n < e.change
+-- Both rise, and the second are a part of the first, of which there are so many more.
+pub record IsPart (numbers part : List ℕ) (more : ℕ) : Type 0 where
+  pub rising : IsStrictlyIncreasing numbers
+  pub part_rises : IsStrictlyIncreasing part
+  pub among : AreAmong part numbers
+  pub number : length numbers ≡ length part + more
 
--- numbers with one more, or others with it already
-abbrev pub AreCounted : ℕ → List ℕ → List ℕ → Type 0
-AreCounted change old new = (n : ℕ) → Contains new n ↔ (Contains old n ⊎ (n ≡ change))
+-- what is to be kept at this place stands so many places further on among the changes
+abbrev pub IsAlike : List ℕ → List ℕ → ℕ → ℕ → Type 0
+IsAlike changes keep gone i = slice_index changes (i + gone) ≡ slice_index keep i
 
--- the old ones, and the changes of the entries
-abbrev pub AreNoted : List Entry → List ℕ → List ℕ → Type 0
-AreNoted entries old new = (n : ℕ) → Contains new n ↔ (Contains old n ⊎ Contains (changes_of entries) n)
+-- from a place on, where they are alike they are so at each place before
+abbrev pub AreAlikeInFront : List ℕ → List ℕ → ℕ → ℕ → Type 0
+AreAlikeInFront changes keep gone from = (i j : ℕ) → from ≤ i → i ≤ j → j < length keep → IsAlike changes keep gone j → IsAlike changes keep gone i
+
+-- From one place up to another they are alike, and not there, unless nothing more is to be kept.
+pub record AreAlikeUpTo (changes keep : List ℕ) (gone from to : ℕ) : Type 0 where
+  pub begins : from ≤ to
+  pub within : to ≤ length keep
+  pub same : (i : ℕ) → from ≤ i → i < to → IsAlike changes keep gone i
+  pub differs : to < length keep → IsAlike changes keep gone to → ⊥

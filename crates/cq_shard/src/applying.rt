@@ -1,13 +1,16 @@
-ghost use Rattle.std.specs.Prelude.{◌≡◌, ◌+◌, ◌<◌, ◌≤◌, ◌^◌, ◌%◌, length, option_copied, IfOk, OnOk, OnErr, IfSome};
+ghost use Rattle.std.specs.Prelude.{◌≡◌, if◌then◌else◌, ◌+◌, ◌<◌, ◌≤◌, ◌^◌, ◌%◌, ◌++◌, [], length, option_copied, is_some, All, IfOk, OnOk, OnErr, IfSome};
 ghost use Rattle.std.specs.Int.{IsPowerOfTwo};
+ghost use Rattle.std.specs.List.Sorted.{IsStrictlyIncreasing};
 ghost use Rattle.cq_shard.specs.Runs.{AreAdded};
 ghost use Rattle.cq_shard.specs.Gathered.{AreGathered, brought_for};
+ghost use Rattle.cq_shard.specs.Shard.{put_of, puts_among};
 
 use crate::indexed::Indexed;
 use crate::parting::room;
 use crate::store::Store;
 use cq_base::{Entry, Memory, Steps};
 use std::alloc::Global;
+use std::sync::Arc;
 use std::sync::ledger::Ledger;
 
 /// The shard's part of a change: which shard it is of how many, and the change's number.
@@ -72,7 +75,37 @@ pub(crate) fn entries_for<W: Indexed>(
     Ok(entries)
 }
 
-/// The entries that the change brings to the shard more, or none of them.
+/// The numbers of the puts among the changes behind so many, which alone have works.
+pub(crate) fn puts_in<W: Indexed>(
+    alloc: Global,
+    applied: u64,
+    works: &[Option<Arc<W, Global>>],
+) -> Result<Vec<u64>, Memory>
+    requires { applied + length works.now < 2 ^ 64 }
+    ensures { IfOk result (λ puts. puts.items ≡ puts_among applied works.now) }
+{
+    let mut puts = Vec::with_capacity(alloc, works.len())?;
+    let mut change = applied;
+    for work in works {
+        change += 1;
+        if let Some(_work) = work {
+            puts.push(change)?;
+        }
+    }
+    Ok(puts)
+}
+
+// The numbers, where there is a work.
+fn where_some<'a, W>(numbers: &'a [u64], work: Option<&W>) -> &'a [u64]
+    ensures { result.now ≡ (if is_some (option_copied work.entry) then numbers.now else []) }
+{
+    match work {
+        Some(_work) => numbers,
+        None => &[],
+    }
+}
+
+/// The change more, which is a put where it has a work, and the entries that it brings to the shard, or nothing.
 pub(crate) fn add_work<W: Indexed, L: Ledger>(
     alloc: Global,
     store: &mut Store,
@@ -83,12 +116,17 @@ pub(crate) fn add_work<W: Indexed, L: Ledger>(
     requires few { IfSome work (λ w. length (W.keys_in w.now) < 2 ^ 32) }
     requires some { 0 < part.shards }
     requires later { store.old.applied < part.change }
+    requires rising { IsStrictlyIncreasing store.old.puts }
+    requires known { All (λ n. n ≤ store.old.applied) store.old.puts }
     ensures applied { OnOk result (store.new.applied ≡ part.change) }
+    ensures noted { OnOk result (store.new.puts ≡ store.old.puts ++ put_of part.change (option_copied work.entry)) }
     ensures added { OnOk result (AreAdded store.old.entries (brought_for W.keys_in part (option_copied work.entry)) store.new.entries) }
     ensures same { OnErr result (store.new ≡ store.old) }
     ensures steps { OnOk result (steps.new ≡ steps.old + length (brought_for W.keys_in part (option_copied work.entry))) }
     ensures most { steps.new ≤ steps.old + length (brought_for W.keys_in part (option_copied work.entry)) }
 {
     let entries = entries_for(alloc, part, work)?;
-    store.add(alloc, part.change, entries, steps)
+    let number = [part.change];
+    let puts = where_some(&number, work);
+    store.add(alloc, part.change, puts, entries, steps)
 }

@@ -35,6 +35,12 @@ pub fn sweeping_takes_out_alone<W: Indexed>()
     ensures { (settings : Settings) → law.SweepingTakesOutAlone (HasWindow W.keys_in W.IsWorkOf settings) }
 {}
 
+/// Of the changes that it stands for, a shard knows each put that a floor keeps which is no lower than its own and no higher
+/// than what it has applied.
+pub fn it_knows_what_is_kept<W: Indexed>()
+    ensures { (settings : Settings) → law.KnowsWhatIsKept (HasWindow W.keys_in W.IsWorkOf settings) }
+{}
+
 /// Swept up to a new floor but for the puts that this keeps, a shard stands for the changes that it stood for.
 pub fn it_stands_swept<W: Indexed>()
     ensures { (settings : Settings) → law.StandsSwept (HasWindow W.keys_in W.IsWorkOf settings) }

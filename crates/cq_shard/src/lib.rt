@@ -5,15 +5,16 @@
 //! its entries, so an entry is moved about as often as the logarithm of how many there are. A bucket costs a search in each
 //! run, which looks at a few entries side by side where keys are spread evenly and is at most a binary search and eight looks
 //! more, and one among the live changes for each entry with its key, and for each of those that are live one among the
-//! changes with entries, as long as swept entries still lie in the runs.
-//! A sweep takes no memory. The changes that have entries here are walked beside those to keep: as far as both lists go
-//! alike it is a comparison for each, and else a search from where the last one was found. Where one change goes, as where a
-//! file was put anew, those behind it move up at once; where several go, those that stay move up run by run, 16 bytes for
-//! each. Entries that go stay in their runs at first. A run is rid of them before it
-//! is merged, for a search among the changes for each of its entries, so of a file that is put anew and swept each time a
-//! run has one put at most that is gone. Where all that stay so are as many as those that stand, all runs are cleared
-//! where they stand: so each entry that goes pays for a search of two at most there. A run that was cleared keeps its room
-//! until it is merged.
+//! puts, as long as swept entries still lie in the runs.
+//! A shard knows each put that it has applied and that no sweep took out, even where no key of it is the shard's, at 16 bytes.
+//! A sweep takes no memory, and costs what it takes out and a logarithm for each. Those to keep are a part of the shard's puts
+//! up to the floor, so as many go as these are more, and where none goes that is all. Up to the first that goes both lists are
+//! alike and from there on they are not, so it is found by halves, and each further one so among the rest. What stands
+//! between two that go, or behind the last, moves up at once, 16 bytes for each. Entries that go stay in their runs at first.
+//! A run is rid of them before it is merged, for a search among the puts for each of its entries, so of a file that is put
+//! anew and swept each time a run has one put at most that is gone. Where all that stay so are as many as those that stand,
+//! all runs are cleared where they stand: so each entry that goes pays for a search of two at most there. A run that was
+//! cleared keeps its room until it is merged.
 #![tactic(auto)]
 
 mod applying;
@@ -29,8 +30,8 @@ mod table;
 
 pub use indexed::{Indexed, lent};
 pub use laws::{
-    applying_adds_its_rows, it_answers_what_it_holds, it_stands_at_first, it_stands_on,
-    it_stands_swept, shards_stay, sweeping_takes_out_alone,
+    applying_adds_its_rows, it_answers_what_it_holds, it_knows_what_is_kept, it_stands_at_first,
+    it_stands_on, it_stands_swept, shards_stay, sweeping_takes_out_alone,
 };
 pub use parting::parted;
 pub use shard::Shard;

@@ -1,8 +1,8 @@
-ghost use Rattle.std.specs.Prelude.{◌≡◌, ◌+◌, ◌<◌, ◌≤◌, ◌^◌, [], length, option_copied, IfOk, OnOk, OnErr, IfSome};
+ghost use Rattle.std.specs.Prelude.{◌≡◌, ◌+◌, ◌<◌, ◌≤◌, ◌^◌, ◌++◌, [], length, option_copied, IfOk, OnOk, OnErr, IfSome};
 ghost use Rattle.std.specs.List.Sorted.{IsStrictlyIncreasing};
-ghost use Rattle.cq_shard.specs.Shard.{StandsOnWith, StandsOnWithAll, IsSameShard, cost_of, all_brought_to, AreAsked, swept};
+ghost use Rattle.cq_shard.specs.Shard.{StandsOnWith, StandsOnWithAll, IsSameShard, cost_of, put_of, puts_among, all_brought_to, AreAsked, AreKnown, swept};
 
-use crate::applying::{Part, add_work};
+use crate::applying::{Part, add_work, puts_in};
 use crate::indexed::Indexed;
 use crate::laws::applying_adds_its_rows;
 use crate::store::Store;
@@ -27,16 +27,16 @@ impl Model for Shard {
 
     ghost Value = { Contents };
 
-    ghost view = { λ s. record { shard = s.shard; shards = s.shards; applied = s.store.applied; floor = s.floor; entries = s.store.entries } };
+    ghost view = { λ s. record { shard = s.shard; shards = s.shards; applied = s.store.applied; floor = s.floor; puts = s.store.puts; entries = s.store.entries } };
 
-    ghost invariant = { λ s. IsShard (record { shard = s.shard; shards = s.shards; applied = s.store.applied; floor = s.floor; entries = s.store.entries }) };
+    ghost invariant = { λ s. IsShard (record { shard = s.shard; shards = s.shards; applied = s.store.applied; floor = s.floor; puts = s.store.puts; entries = s.store.entries }) };
 }
 
 impl Shard {
     /// The shard of this number, from 0, which has applied nothing. It takes no memory.
     pub fn new(alloc: Global, shard: u32, shards: u32) -> Shard
         requires { shard < shards }
-        ensures { result ≡ record { shard = shard; shards = shards; applied = 0; floor = 0; entries = [] } }
+        ensures { result ≡ record { shard = shard; shards = shards; applied = 0; floor = 0; puts = []; entries = [] } }
     {
         Shard {
             shard,
@@ -63,7 +63,8 @@ impl Shard {
 
     /// Applies the next change, whose work is given exactly where it is a put. Where memory is refused, nothing has
     /// changed. It looks at each key of the work; each that is the shard's costs a step and an entry. Beside that, runs of
-    /// entries are merged: over all applications each entry is moved about as often as the logarithm of their number.
+    /// entries are merged: over all applications each entry is moved about as often as the logarithm of their number. A put
+    /// costs 16 bytes as long as the shard knows it, even where no key is the shard's.
     pub fn apply<W: Indexed, L: Ledger>(
         &mut self,
         change: u64,
@@ -75,6 +76,7 @@ impl Shard {
         ensures stands { OnOk result (StandsOnWith W.keys_in W.IsWorkOf change (option_copied work.entry) self.old self.new) }
         ensures applied { OnOk result (self.new.applied ≡ change) }
         ensures kept { OnOk result (IsSameShard self.old self.new) }
+        ensures noted { OnOk result (self.new.puts ≡ self.old.puts ++ put_of change (option_copied work.entry)) }
         ensures same { OnErr result (self.new ≡ self.old) }
         ensures steps { OnOk result (steps.new ≡ steps.old + cost_of W.keys_in self.old change (option_copied work.entry)) }
         ensures most { steps.new ≤ steps.old + cost_of W.keys_in self.old change (option_copied work.entry) }
@@ -103,13 +105,16 @@ impl Shard {
         ensures stands { OnOk result (StandsOnWithAll W.keys_in W.IsWorkOf works.now self.old self.new) }
         ensures applied { OnOk result (self.new.applied ≡ self.old.applied + length works.now) }
         ensures kept { OnOk result (IsSameShard self.old self.new) }
+        ensures noted { OnOk result (self.new.puts ≡ self.old.puts ++ puts_among self.old.applied works.now) }
         ensures same { OnErr result (self.new ≡ self.old) }
         ensures steps { OnOk result (steps.new ≡ steps.old + length (all_brought_to W.keys_in self.old works.now)) }
         ensures most { steps.new ≤ steps.old + length (all_brought_to W.keys_in self.old works.now) }
     {
         applying_adds_its_rows::<W>();
-        let applied = self.store.applied() + works.len() as u64;
-        self.store.add(self.alloc, applied, part, steps)?;
+        let before = self.store.applied();
+        let puts = puts_in(self.alloc, before, works)?;
+        let applied = before + works.len() as u64;
+        self.store.add(self.alloc, applied, &puts, part, steps)?;
         Ok(())
     }
 
@@ -122,12 +127,14 @@ impl Shard {
         self.store.bucket(alloc, key, live)
     }
 
-    /// Takes the entries of all changes up to the new floor out but for those to keep, which are the puts that this floor
-    /// keeps. It takes no memory.
+    /// Takes all puts up to the new floor out, with their entries, but for those to keep, which are the puts that this floor
+    /// keeps, so that the shard knows them all. It is two searches among the puts, and one more for each that goes; what stands
+    /// behind that moves up. It takes no memory.
     pub fn sweep(&mut self, floor: u64, keep: &[u64])
         requires low { self.old.floor ≤ floor }
         requires high { floor ≤ self.old.applied }
         requires rising { IsStrictlyIncreasing keep.now }
+        requires known { AreKnown keep.now self.old }
         ensures { self.new ≡ swept floor keep.now self.old }
     {
         self.store.sweep(floor, keep);

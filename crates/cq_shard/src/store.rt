@@ -1,11 +1,11 @@
-ghost use Rattle.std.specs.Prelude.{◌≡◌, ◌+◌, ◌<◌, ◌≤◌, [], length, take, All, AllPairs, Contains, IfOk, OnOk, OnErr};
+ghost use Rattle.std.specs.Prelude.{◌≡◌, ◌+◌, ◌≤◌, ◌++◌, [], length, take, AllPairs, Contains, IfOk, OnOk, OnErr};
 ghost use Rattle.std.specs.List.Sorted.{IsStrictlyIncreasing};
 ghost use Rattle.cq_base.specs.declared.entry.Entry.{Entry};
 ghost use Rattle.cq_clones.specs.Windows.{EntryBefore};
 ghost use Rattle.cq_shard.specs.Runs.{AreAdded, AreDifferent, Precedes};
 ghost use Rattle.cq_shard.specs.Shard.{AreAsked};
-ghost use Rattle.cq_shard.specs.Stores.{left_by, those_of};
-ghost use Rattle.cq_shard.specs.Tables.{AreBefore, AreNoted};
+ghost use Rattle.cq_shard.specs.Stores.{AreNext, left_by, those_of};
+ghost use Rattle.cq_shard.specs.Tables.{AreAmong};
 
 use crate::runs::Runs;
 use crate::table::Table;
@@ -14,7 +14,7 @@ use std::alloc::Global;
 use std::marker::Model;
 use std::sync::ledger::Ledger;
 
-/// The entries of a shard, and of which changes those are that no sweep took out. What a sweep takes out stays in its run
+/// The puts of a shard that no sweep took out, and their entries. What entries a sweep takes out stay in their run
 /// until that is merged with another, or until all that stays so is as much as what stands; then the runs are cleared where
 /// they stand. So sweeping takes no memory, and a run has what was taken out since it was made, and nothing older.
 #[derive(Drop)]
@@ -39,7 +39,7 @@ impl Model for Store {
 impl Store {
     /// No entries. It takes no memory.
     pub fn new(alloc: Global) -> Store
-        ensures { result ≡ record { applied = 0; entries = [] } }
+        ensures { result ≡ record { applied = 0; puts = []; entries = [] } }
     {
         Store {
             runs: Runs::new(alloc),
@@ -57,20 +57,21 @@ impl Store {
         self.applied
     }
 
-    /// The entries of the changes up to this one more, by change and place; none of them where memory is refused. Each is one
-    /// step.
+    /// The puts of the changes up to this one more, and their entries by change and place; none of them where memory is refused.
+    /// Each entry is one step.
     pub fn add<L: Ledger>(
         &mut self,
         alloc: Global,
         applied: u64,
+        puts: &[u64],
         entries: Vec<Entry>,
         steps: &mut Steps<L>,
     ) -> Result<(), Memory>
         requires further { self.old.applied ≤ applied }
         requires ordered { AllPairs EntryBefore entries.items }
-        requires later { All (λ e. self.old.applied < e.change) entries.items }
-        requires known { All (λ e. e.change ≤ applied) entries.items }
+        requires next { AreNext self.old applied puts.now entries.items }
         ensures applied { OnOk result (self.new.applied ≡ applied) }
+        ensures noted { OnOk result (self.new.puts ≡ self.old.puts ++ puts.now) }
         ensures added { OnOk result (AreAdded self.old.entries entries.items self.new.entries) }
         ensures same { OnErr result (self.new ≡ self.old) }
         ensures steps { OnOk result (steps.new ≡ steps.old + length entries.items) }
@@ -79,7 +80,7 @@ impl Store {
         let added = entries.len() as u64;
         let noted = self.table.len();
         self.gone = cleared(&mut self.runs, &self.table, entries.len(), self.gone);
-        match put(alloc, &mut self.runs, &mut self.table, entries, steps) {
+        match put(alloc, &mut self.runs, &mut self.table, puts, entries, steps) {
             Ok(()) => {
                 self.applied = applied;
                 self.standing = self.standing.saturating_add(added);
@@ -93,7 +94,7 @@ impl Store {
     }
 
     /// Those with the key whose change is one of `live`, by change and place. It searches each run, `live` for each entry
-    /// with the key, and the changes that stand for each of a live one, where some are gone.
+    /// with the key, and the puts that stand for each of a live one, where some are gone.
     pub fn bucket(&self, alloc: Global, key: u64, live: &[u64]) -> Result<Vec<Entry>, Memory>
         requires { IsStrictlyIncreasing live.now }
         ensures { IfOk result (λ bucket. AreAsked key live.now self.now.entries bucket.items) }
@@ -106,13 +107,15 @@ impl Store {
         Ok(bucket)
     }
 
-    /// Takes the entries of the changes up to the floor out but for those to keep. It takes no memory.
+    /// Takes the puts up to the floor out, with their entries, but for those to keep. It is a search for each that goes, and
+    /// takes no memory. Towards clearing all runs a put without entries counts as one.
     pub fn sweep(&mut self, floor: u64, keep: &[u64])
-        requires { IsStrictlyIncreasing keep.now }
+        requires rising { IsStrictlyIncreasing keep.now }
+        requires known { AreAmong keep.now self.old.puts }
         ensures { self.new ≡ left_by floor keep.now self.old }
     {
-        let taken = self.table.take_out(floor, keep);
-        self.gone = self.gone.saturating_add(taken);
+        let (went, taken) = self.table.take_out(floor, keep);
+        self.gone = self.gone.saturating_add(taken.max(went as u64));
         self.standing = self.standing.saturating_sub(taken);
         if self.gone < self.standing {
             return;
@@ -137,24 +140,25 @@ fn cleared(runs: &mut Runs, table: &Table, added: usize, gone: u64) -> u64
     gone.saturating_sub(taken).max(1)
 }
 
-// The entries more in the runs, and their changes in the table; where memory is refused, some in the table alone.
+// The entries more in the runs, and the puts in the table; where memory is refused, none or in the table alone.
 fn put<L: Ledger>(
     alloc: Global,
     runs: &mut Runs,
     table: &mut Table,
+    puts: &[u64],
     entries: Vec<Entry>,
     steps: &mut Steps<L>,
 ) -> Result<(), Memory>
     requires ordered { AllPairs EntryBefore entries.items }
     requires rows { Precedes runs.old entries.items }
-    requires changes { AreBefore table.old entries.items }
+    requires rising { IsStrictlyIncreasing (table.old ++ puts.now) }
     ensures front { take (length table.old) table.new ≡ table.old }
-    ensures noted { OnOk result (AreNoted entries.items table.old table.new) }
+    ensures noted { OnOk result (table.new ≡ table.old ++ puts.now) }
     ensures added { OnOk result (AreAdded runs.old entries.items runs.new) }
     ensures same { OnErr result (runs.new ≡ runs.old) }
     ensures steps { OnOk result (steps.new ≡ steps.old + length entries.items) }
     ensures most { steps.new ≤ steps.old + length entries.items }
 {
-    table.note(&entries)?;
+    table.note(puts, &entries)?;
     runs.add(alloc, entries, steps)
 }

@@ -1,20 +1,15 @@
-ghost use Rattle.std.specs.Prelude.{◌≡◌, ◌+◌, ◌<◌, ◌≤◌, [], length, take, drop, All, AllPairs, Contains, OnOk, OnErr};
-ghost use Rattle.std.specs.Bool.{OnTrue};
-ghost use Rattle.std.specs.List.{copy_within, remove};
+ghost use Rattle.std.specs.Prelude.{◌≡◌, ◌+◌, ◌<◌, ◌≤◌, ◌++◌, [], length, take, drop, OnOk, OnErr};
+ghost use Rattle.std.specs.List.{copy_within};
 ghost use Rattle.std.specs.List.Sorted.{IsStrictlyIncreasing};
-ghost use Rattle.cq_clones.specs.Windows.{EntryBefore};
 ghost use Rattle.cq_shard.specs.Stores.{those_of};
-ghost use Rattle.cq_shard.specs.Tables.{IsReached, IsTable, IsAt, is_among, stays, staying, AreBefore, AreCounted, AreNoted};
+ghost use Rattle.cq_shard.specs.Tables.{IsTable, IsUpTo, IsPart, is_among, staying, AreAmong, AreAlikeInFront, AreAlikeUpTo};
 
 use crate::run::is_live;
 use cq_base::{Entry, Memory};
 use std::alloc::Global;
 use std::marker::Model;
 
-// How often steps are doubled, at most, before the rest is searched by halves.
-const STEPS: u32 = 48;
-
-/// The changes that have entries in a shard, ascending, each with how many it has.
+/// The puts that a shard knows, ascending, each with how many entries it has there. It is 16 bytes for each.
 #[derive(Drop)]
 pub(crate) struct Table {
     changes: Vec<u64>,
@@ -33,7 +28,7 @@ impl Model for Table {
 }
 
 impl Table {
-    /// No changes. It takes no memory.
+    /// No puts. It takes no memory.
     pub fn new(alloc: Global) -> Table
         ensures { result ≡ [] }
     {
@@ -43,7 +38,7 @@ impl Table {
         }
     }
 
-    /// How many changes there are.
+    /// How many puts there are.
     pub fn len(&self) -> usize
         ensures { result ≡ length self.now }
     {
@@ -57,164 +52,124 @@ impl Table {
         is_live(&self.changes, change)
     }
 
-    /// Leaves those entries that are of the changes. It takes no memory.
+    /// Leaves those entries that are of the puts. It takes no memory.
     pub fn keep(&self, entries: &mut Vec<Entry>)
         ensures { entries.new.items ≡ those_of self.now entries.old.items }
     {
         entries.retain(|entry| self.has(entry.change));
     }
 
-    /// The changes of these entries more, which come by change and are later than all before. Where memory is refused, some
-    /// of them may stand behind the old ones.
-    pub fn note(&mut self, entries: &[Entry]) -> Result<(), Memory>
-        requires ordered { AllPairs EntryBefore entries.now }
-        requires later { AreBefore self.old entries.now }
-        ensures front { take (length self.old) self.new ≡ self.old }
-        ensures each { OnOk result (AreNoted entries.now self.old self.new) }
+    /// These puts more, which are later than all before. Of the entries, which come by change, it counts those of each.
+    pub fn note(&mut self, puts: &[u64], entries: &[Entry]) -> Result<(), Memory>
+        requires { IsStrictlyIncreasing (self.old ++ puts.now) }
+        ensures noted { OnOk result (self.new ≡ self.old ++ puts.now) }
+        ensures same { OnErr result (self.new ≡ self.old) }
     {
-        for entry in entries {
-            count(&mut self.changes, &mut self.sizes, entry.change)?;
-        }
+        self.sizes.truncate(self.changes.len());
+        count(&mut self.sizes, puts, entries)?;
+        self.changes.extend_from_slice(puts)?;
         Ok(())
     }
 
-    /// The first so many changes alone.
+    /// The first so many puts alone.
     pub fn cut(&mut self, number: usize)
         ensures { self.new ≡ take number self.old }
     {
         self.changes.truncate(number);
     }
 
-    /// Takes the changes up to the floor out but for those to keep, and tells how many entries they had, 0 only where none was
-    /// taken out. Both lists are walked side by side; as far as they go alike it is a comparison for each change, and those
-    /// behind the first that goes move up, all at once where no other goes.
-    pub fn take_out(&mut self, floor: u64, keep: &[u64]) -> u64
+    /// Takes the puts up to the floor out but for those to keep, and tells how many went, and how many entries they had. It is
+    /// two searches, and one more for each that goes. What stands between two that go, or behind the last, moves up at once.
+    pub fn take_out(&mut self, floor: u64, keep: &[u64]) -> (usize, u64)
         requires keep { IsStrictlyIncreasing keep.now }
+        requires known { AreAmong keep.now self.old }
         ensures left { self.new ≡ staying floor keep.now self.old }
-        ensures none { result ≡ 0 → self.new ≡ self.old }
+        ensures none { result.0 ≡ 0 → self.new ≡ self.old }
     {
-        let first = alike(&self.changes, 0, keep, 0);
-        if first == self.changes.len() {
-            return 0;
-        }
-        if !goes_alone(&self.changes, first, floor, keep) {
-            return close_up(&mut self.changes, &mut self.sizes, floor, keep);
-        }
-        self.changes.remove(first);
-        self.sizes.remove(first).max(1)
+        let end = up_to(&self.changes, floor);
+        let kept = up_to(keep, floor);
+        let number = end - kept;
+        let keep = &keep[..kept];
+        let taken = close_up(&mut self.changes, &mut self.sizes, keep, number);
+        (number, taken)
     }
 }
 
-// The change, which is no earlier than those before, has one entry more.
-fn count(changes: &mut Vec<u64>, sizes: &mut Vec<u64>, change: u64) -> Result<(), Memory>
-    requires table { IsTable changes.old.items sizes.old.items }
-    requires low { All (λ n. n ≤ change) changes.old.items }
-    ensures table { IsTable changes.new.items sizes.new.items }
-    ensures front { take (length changes.old.items) changes.new.items ≡ changes.old.items }
-    ensures long { length changes.old.items ≤ length changes.new.items }
-    ensures each { OnOk result (AreCounted change changes.old.items changes.new.items) }
+// For each of the puts how many of the entries it has, behind other numbers. The entries come by change.
+fn count(sizes: &mut Vec<u64>, puts: &[u64], entries: &[Entry]) -> Result<(), Memory>
+    ensures long { length sizes.old.items ≤ length sizes.new.items }
+    ensures each { OnOk result (length sizes.new.items ≡ length sizes.old.items + length puts.now) }
 {
-    if is_last(changes, change) {
-        let last = changes.len() - 1;
-        sizes[last] = sizes[last].saturating_add(1);
-        return Ok(());
+    let mut from = 0;
+    for put in puts {
+        let many = entries[from..].partition_point(|entry| entry.change <= *put);
+        sizes.push(many as u64)?;
+        from += many;
     }
-    sizes.truncate(changes.len());
-    sizes.push(1)?;
-    changes.push(change)?;
     Ok(())
 }
 
-// Whether the change, which is no earlier than any of these, is one of them.
-fn is_last(changes: &[u64], change: u64) -> bool
-    requires rising { IsStrictlyIncreasing changes.now }
-    requires low { All (λ n. n ≤ change) changes.now }
-    ensures { result ≡ is_among changes.now change }
+// How many of the numbers are at most the floor.
+fn up_to(numbers: &[u64], floor: u64) -> usize
+    requires { IsStrictlyIncreasing numbers.now }
+    ensures { IsUpTo numbers.now floor result }
 {
-    if changes.is_empty() {
-        return false;
-    }
-    changes[changes.len() - 1] == change
+    numbers.partition_point(|number| *number <= floor)
 }
 
-// Whether the number stands at the place.
-fn stands_at(numbers: &[u64], at: usize, number: u64) -> bool
-    ensures { OnTrue result (IsAt numbers.now at number) }
-{
-    if at >= numbers.len() {
-        return false;
-    }
-    numbers[at] == number
-}
-
-// Takes the changes up to the floor out but for those to keep, and tells how many entries they had, or one where that is
-// unknown.
-fn close_up(changes: &mut Vec<u64>, sizes: &mut Vec<u64>, floor: u64, keep: &[u64]) -> u64
-    requires table { IsTable changes.old.items sizes.old.items }
-    requires keep { IsStrictlyIncreasing keep.now }
-    ensures table { IsTable changes.new.items sizes.new.items }
-    ensures left { changes.new.items ≡ staying floor keep.now changes.old.items }
-    ensures none { result ≡ 0 → changes.new.items ≡ changes.old.items }
+// Takes so many changes out, which stand among those to keep, up to the last of these or behind it, and tells how many entries
+// they had.
+fn close_up(changes: &mut Vec<u64>, sizes: &mut Vec<u64>, keep: &[u64], number: usize) -> u64
+    requires sized { length changes.old.items ≤ length sizes.old.items }
+    requires within { length keep.now + number ≤ length changes.old.items }
+    requires part { IsPart (take (length keep.now + number) changes.old.items) keep.now number }
+    ensures sized { length changes.new.items ≤ length sizes.new.items }
+    ensures left { changes.new.items ≡ keep.now ++ drop (length keep.now + number) changes.old.items }
 {
     let mut at = 0;
-    let mut kept = 0;
-    let mut near = 0;
     let mut taken = 0u64;
-    'walk: while at < changes.len() {
-        let run = alike(changes, at, keep, near);
-        if run > 0 {
-            move_up(changes, at, run, kept);
-            move_up(sizes, at, run, kept);
-            at += run;
-            kept += run;
-            near += run;
-            continue;
-        }
-        let change = changes[at];
-        let size = sizes[at];
-        at += 1;
-        near = behind(keep, near, change);
-        if !stays(floor, keep, near, change) {
-            taken = taken.saturating_add(size.max(1));
-            continue;
-        }
-        changes[kept] = change;
-        sizes[kept] = size;
-        kept += 1;
+    'going: for gone in 0..number {
+        let next = alike(changes, keep, at, gone);
+        move_up(changes, at + gone, next - at, at);
+        move_up(sizes, at + gone, next - at, at);
+        taken = taken.saturating_add(sizes[next + gone]);
+        at = next;
     }
-    changes.truncate(kept);
+    let rest = changes.len() - (at + number);
+    move_up(changes, at + number, rest, at);
+    move_up(sizes, at + number, rest, at);
+    changes.truncate(at + rest);
     taken
 }
 
-// Whether the change behind the first so many, all of which are to be kept, goes, and all behind it are to be kept as well.
-fn goes_alone(changes: &[u64], first: usize, floor: u64, keep: &[u64]) -> bool
-    requires keep { IsStrictlyIncreasing keep.now }
-    requires within { first < length changes.now }
-    requires near { first ≤ length keep.now }
-    requires front { All (λ n. Contains keep.now n) (take first changes.now) }
-    ensures { OnTrue result (staying floor keep.now changes.now ≡ remove changes.now first) }
+// Up to where, from a place on, what is to be kept stands so many places further on among the changes. It searches by halves.
+fn alike(changes: &[u64], keep: &[u64], from: usize, gone: usize) -> usize
+    requires from { from ≤ length keep.now }
+    requires within { length keep.now + gone ≤ length changes.now }
+    requires front { AreAlikeInFront changes.now keep.now gone from }
+    ensures { AreAlikeUpTo changes.now keep.now gone from result }
 {
-    let rest = alike(changes, first + 1, keep, first);
-    if first + 1 + rest < changes.len() {
-        return false;
+    let mut low = from;
+    let mut high = keep.len();
+    'halves: while low < high {
+        let middle = between(low, high);
+        let found = changes[middle + gone];
+        let wanted = keep[middle];
+        if found == wanted {
+            low = middle + 1;
+        } else {
+            high = middle;
+        }
     }
-    !stays(floor, keep, first, changes[first])
+    low
 }
 
-// How many changes from the one place on are the same as those to keep from the other on.
-fn alike(changes: &[u64], at: usize, keep: &[u64], near: usize) -> usize
-    requires from { at ≤ length changes.now }
-    requires near { near ≤ length keep.now }
-    ensures within { at + result ≤ length changes.now }
-    ensures near { near + result ≤ length keep.now }
-    ensures kept { All (λ n. Contains keep.now n) (take result (drop at changes.now)) }
+// The place in the middle of those from one place up to another.
+fn between(low: usize, high: usize) -> usize
+    requires { low < high }
+    ensures { (low ≤ result) × (result < high) }
 {
-    let most = (changes.len() - at).min(keep.len() - near);
-    let mut run = 0;
-    'walk: while run < most && changes[at + run] == keep[near + run] {
-        run += 1;
-    }
-    run
+    low + (high - low) / 2
 }
 
 // Moves so many numbers from one place on to an earlier one, over those that stand there.
@@ -226,56 +181,4 @@ fn move_up(numbers: &mut Vec<u64>, from: usize, many: usize, to: usize)
     if to < from {
         numbers.copy_within(from..from + many, to);
     }
-}
-
-// Whether the change is above the floor, or one of those to keep. It looks first at the place where it is likely to stand.
-fn stays(floor: u64, keep: &[u64], near: usize, change: u64) -> bool
-    requires { IsStrictlyIncreasing keep.now }
-    ensures { result ≡ stays floor keep.now change }
-{
-    if floor < change {
-        return true;
-    }
-    if stands_at(keep, near, change) {
-        return true;
-    }
-    is_live(keep, change)
-}
-
-// Behind how many the first from `start` on stands that is no less than the number. It takes one look where that is the one
-// behind `start`, and else about as many as the logarithm of how far it is.
-fn behind(numbers: &[u64], start: usize, number: u64) -> usize
-    requires rising { IsStrictlyIncreasing numbers.now }
-    requires within { start ≤ length numbers.now }
-    ensures { IsReached numbers.now start number result result }
-{
-    if start < numbers.len() && stands_at(numbers, start + 1, number) {
-        return start + 1;
-    }
-    let (from, to) = stretch(numbers, start, number);
-    from + numbers[from..to].partition_point(|n| *n < number)
-}
-
-// From where on up to where that place is: steps double until one goes past.
-fn stretch(numbers: &[u64], start: usize, number: u64) -> (usize, usize)
-    requires rising { IsStrictlyIncreasing numbers.now }
-    requires within { start ≤ length numbers.now }
-    ensures { IsReached numbers.now start number result.0 result.1 }
-{
-    let mut from = start;
-    let mut to = numbers.len();
-    'steps: for step in 0..STEPS {
-        let doubled = 1usize << step;
-        if to - from <= doubled {
-            break;
-        }
-        let at = (from + (doubled - 1)).min(to - 1);
-        let found = numbers[at];
-        if found < number {
-            from = at + 1;
-        } else {
-            to = at;
-        }
-    }
-    (from, to)
 }

@@ -1,12 +1,9 @@
-use Rattle.std.proofs.Common.{◌≤◌, ◌-◌, take, drop}
-use Rattle.std.specs.Prelude.{All, Contains}
+use Rattle.std.proofs.Common.{◌-◌}
+use Rattle.cq_shard.proofs.Alike.{IsHalving}
 use Rattle.cq_shard.proofs.table.alike.Given as goal
 
-abbrev pub invariant-walk : goal.invariant-walk
-invariant-walk l = record {
-  fits : l.run ≤ l.most;
-  kept : All (λ n. Contains l.keep n) (take l.run (drop l.at l.changes));
-}
+abbrev pub invariant-halves : goal.invariant-halves
+invariant-halves l = IsHalving l.changes l.keep l.gone l.from l.low l.high
 
-abbrev pub decreases-walk : goal.decreases-walk
-decreases-walk l = l.most - l.run
+abbrev pub decreases-halves : goal.decreases-halves
+decreases-halves l = l.high - l.low

@@ -1,21 +1,77 @@
-use Rattle.std.proofs.Common.{rules, ◌≡◌, ℕ, Bool, take, sym, subst, ◌∙◌}
-use Rattle.std.specs.Prelude.{All, Contains}
-use Rattle.std.proofs.lemmas.List.{take_all}
-use Rattle.std.proofs.lemmas.List.Elements.{All-contains}
-use Rattle.cq_shard.specs.Tables.{stays}
-use Rattle.cq_shard.proofs.Staying.{stays_kept}
-use Rattle.cq_shard.proofs.Taking.{left_same}
+use Rattle.std.proofs.Common.{◌-◌, refl, sym, ap, subst, ◌∙◌}
+use Rattle.std.specs.List.Sorted.{IsStrictlyIncreasing}
+use Rattle.std.proofs.lemmas.List.Kept.{IsStrictlyIncreasing-filter}
+use Rattle.cq_shard.specs.Tables.{AreAmong, IsUpTo, stays, staying}
+use Rattle.cq_shard.proofs.Leaving.{fewer_kept, kept_part, left_stays, none_goes}
 use Rattle.cq_shard.proofs.table.Table.take_out.Goals as goal
 
-pub returns-then-first-len-clause-left : goal.returns-then-first-len-clause-left
-returns-then-first-len-clause-left c =
+pub overflow_sub-number : goal.overflow_sub-number
+overflow_sub-number c =
+    let changes = c.self.inside.changes.items in
     let keep = c.args.keep.now in
     let floor = c.args.floor in
-    let changes = c.args.self.now in
-    let test : ℕ → Bool = λ n. stays floor keep n in
-    let whole : take c.alike-first.result c.deref.result.now ≡ changes = take_all c.alike-first.result c.deref.result.now (search rules) ∙ c.deref.ensures.value ∙ c.self.view_is in
-    sym (left_same test changes (λ n there. stays_kept floor keep n (All-contains (Contains keep) changes n (subst (All (Contains keep)) whole c.alike-first.ensures.kept) there)))
+    let end = c.up_to-end.result in
+    let kept = c.up_to-kept.result in
+    let ends = subst (λ xs. IsUpTo xs floor end) c.deref.ensures.value c.up_to-end.ensures in
+    let known = subst (AreAmong keep) (sym c.self.view_is) c.requires.known in
+    fewer_kept changes keep floor end kept c.self.invariant.rising c.requires.keep known ends c.up_to-kept.ensures
 
-pub goes_alone-requires-clause-front : goal.goes_alone-requires-clause-front
-goes_alone-requires-clause-front c =
-    subst (λ xs. All (Contains c.args.keep.now) (take c.alike-first.result xs)) (c.deref.ensures.value ∙ sym c.deref-2.ensures.value) c.alike-first.ensures.kept
+pub close_up-taken-requires-clause-within : goal.close_up-taken-requires-clause-within
+close_up-taken-requires-clause-within c =
+    let changes = c.self.inside.changes.items in
+    let keep = c.args.keep.now in
+    let floor = c.args.floor in
+    let end = c.up_to-end.result in
+    let kept = c.up_to-kept.result in
+    let ends = subst (λ xs. IsUpTo xs floor end) c.deref.ensures.value c.up_to-end.ensures in
+    let known = subst (AreAmong keep) (sym c.self.view_is) c.requires.known in
+    (kept_part changes keep floor end kept c.self.invariant.rising c.requires.keep known ends c.up_to-kept.ensures (end - kept) refl).0
+
+pub close_up-taken-requires-clause-part : goal.close_up-taken-requires-clause-part
+close_up-taken-requires-clause-part c =
+    let changes = c.self.inside.changes.items in
+    let keep = c.args.keep.now in
+    let floor = c.args.floor in
+    let end = c.up_to-end.result in
+    let kept = c.up_to-kept.result in
+    let ends = subst (λ xs. IsUpTo xs floor end) c.deref.ensures.value c.up_to-end.ensures in
+    let known = subst (AreAmong keep) (sym c.self.view_is) c.requires.known in
+    (kept_part changes keep floor end kept c.self.invariant.rising c.requires.keep known ends c.up_to-kept.ensures (end - kept) refl).1
+
+pub invariant_of-self : goal.invariant_of-self
+invariant_of-self c =
+    let changes = c.self.inside.changes.items in
+    let keep = c.args.keep.now in
+    let floor = c.args.floor in
+    let end = c.up_to-end.result in
+    let kept = c.up_to-kept.result in
+    let ends = subst (λ xs. IsUpTo xs floor end) c.deref.ensures.value c.up_to-end.ensures in
+    let known = subst (AreAmong keep) (sym c.self.view_is) c.requires.known in
+    record {
+      rising = subst IsStrictlyIncreasing (sym (c.close_up-taken.ensures.left ∙ left_stays changes keep floor end kept c.self.invariant.rising c.requires.keep known ends c.up_to-kept.ensures)) (IsStrictlyIncreasing-filter (λ n. stays floor keep n) changes c.self.invariant.rising);
+      sized = c.close_up-taken.ensures.sized;
+    }
+
+pub returns-clause-left : goal.returns-clause-left
+returns-clause-left c =
+    let changes = c.self.inside.changes.items in
+    let keep = c.args.keep.now in
+    let floor = c.args.floor in
+    let end = c.up_to-end.result in
+    let kept = c.up_to-kept.result in
+    let ends = subst (λ xs. IsUpTo xs floor end) c.deref.ensures.value c.up_to-end.ensures in
+    let known = subst (AreAmong keep) (sym c.self.view_is) c.requires.known in
+    c.close_up-taken.ensures.left ∙ left_stays changes keep floor end kept c.self.invariant.rising c.requires.keep known ends c.up_to-kept.ensures ∙ ap (staying floor keep) c.self.view_is
+
+pub returns-clause-none : goal.returns-clause-none
+returns-clause-none c none =
+    let changes = c.self.inside.changes.items in
+    let keep = c.args.keep.now in
+    let floor = c.args.floor in
+    let end = c.up_to-end.result in
+    let kept = c.up_to-kept.result in
+    let ends = subst (λ xs. IsUpTo xs floor end) c.deref.ensures.value c.up_to-end.ensures in
+    let known = subst (AreAmong keep) (sym c.self.view_is) c.requires.known in
+    c.close_up-taken.ensures.left ∙ left_stays changes keep floor end kept c.self.invariant.rising c.requires.keep known ends c.up_to-kept.ensures
+    ∙ none_goes changes keep floor end kept c.self.invariant.rising c.requires.keep known ends c.up_to-kept.ensures none
+    ∙ c.self.view_is
