@@ -42,7 +42,7 @@ fresh_shards IsWindow law b shards stands are = record {
       let applied : (get_or shards i d).applied ≡ 0 = ap (λ (c : Contents). c.applied) here in
       let floor : (get_or shards i d).floor ≡ 0 = ap (λ (c : Contents). c.floor) here in
       record {
-        stands = law (changes_in b.state) (get_or shards i d) applied (ap (λ (c : Contents). c.entries) here);
+        stands = law (changes_in b.state) (get_or shards i d) applied (ap (λ (c : Contents). c.puts) here) (ap (λ (c : Contents). c.entries) here);
         reached = (omega (arith, published, applied), omega (arith, applied));
         swept = omega (arith, floor);
         number_is = ap (λ (c : Contents). c.shard) here;

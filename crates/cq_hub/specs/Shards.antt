@@ -2,8 +2,10 @@
 use Rattle.std.specs.Prelude.{◌≡◌, ◌⊎◌, ℕ, ◌<◌, ◌≤◌, List, [], length, slice_index_or}
 use Rattle.cq_base.specs.declared.lang.Lang.{Lang}
 use Rattle.cq_base.specs.declared.settings.Settings.{Settings}
+use Rattle.cq_base.specs.declared.change.Change.{Change}
 use Rattle.cq_history.specs.State.{changes_in}
 use Rattle.cq_history.specs.Core.{IsReached}
+use Rattle.cq_history.specs.Gone.{AreKeptPuts}
 use Rattle.cq_shard.specs.Shard.{Contents, StandsFor, HasWindow, swept}
 use Rattle.cq_board.specs.Stands.{BoardState}
 
@@ -30,6 +32,13 @@ module _ {W : Type 0} (keys_in : W → List ℕ) (IsWorkOf : Settings → Lang �
   abbrev pub StandBeside : List Contents → Type 0
   StandBeside shards = AreShardsOf (HasWindow keys_in IsWorkOf b.settings) b shards
 
+-- the shard stands for some changes, over the windows of their works, and of these changes a floor keeps just these puts
+pub record AreKeptOf {W : Type 0} (keys_in : W → List ℕ) (IsWorkOf : Settings → Lang → List ℕ → W → Type 0) (floor : ℕ) (keep : List ℕ) (c : Contents) : Type 0 where
+  pub settings : Settings
+  pub changes : List Change
+  pub stands : StandsFor (HasWindow keys_in IsWorkOf settings) changes c
+  pub kept : AreKeptPuts changes floor keep
+
 -- The shard was swept up to a floor but for the changes to keep, where its own was lower; else it is as it was.
 abbrev pub IsSweptTo : ℕ → List ℕ → Contents → Contents → Type 0
 IsSweptTo floor keep old new = ((old.floor < floor) × (new ≡ swept floor keep old)) ⊎ ((floor ≤ old.floor) × (new ≡ old))
@@ -37,4 +46,4 @@ IsSweptTo floor keep old new = ((old.floor < floor) × (new ≡ swept floor keep
 -- shards that have applied nothing
 pub record AreFresh (number : ℕ) (shards : List Contents) : Type 0 where
   pub number_is : length shards ≡ number
-  pub each : (i : ℕ) (d : Contents) → i < length shards → slice_index_or shards i d ≡ record { shard = i; shards = number; applied = 0; floor = 0; entries = [] }
+  pub each : (i : ℕ) (d : Contents) → i < length shards → slice_index_or shards i d ≡ record { shard = i; shards = number; applied = 0; floor = 0; puts = []; entries = [] }

@@ -1,10 +1,9 @@
 ghost use Rattle.std.specs.Prelude.{◌≡◌, ◌≤◌, All, OnOk};
-ghost use Rattle.std.specs.List.Sorted.{IsStrictlyIncreasing};
-ghost use Rattle.cq_hub.specs.Shards.{StandBeside, IsSweptTo};
+ghost use Rattle.cq_hub.specs.Shards.{StandBeside, AreKeptOf, IsSweptTo};
 
 use cq_base::Memory;
 use cq_board::Board;
-use cq_shard::{Indexed, Shard};
+use cq_shard::{Indexed, Shard, it_knows_what_is_kept};
 use std::alloc::Global;
 
 /// Each of the board's shards is swept up to the board's floor, where it was not, but for the puts
@@ -27,7 +26,7 @@ pub(crate) fn sweep_shards<W: Indexed>(
     let keep = board.keep(alloc)?;
     let numbers = keep.numbers();
     'shards: for i in 0..shards.len() {
-        sweep_to(floor, numbers, &mut shards[i]);
+        sweep_to::<W>(floor, numbers, &mut shards[i]);
     }
     Ok(())
 }
@@ -44,12 +43,13 @@ fn least_floor(floor: u64, shards: &[Shard]) -> u64
     least
 }
 
-/// The shard is swept up to a floor but for the changes to keep, where it was not.
-pub fn sweep_to(floor: u64, keep: &[u64], shard: &mut Shard)
+/// The shard is swept up to a floor, where it was not, but for the puts that this keeps of the changes that it stands for.
+pub fn sweep_to<W: Indexed>(floor: u64, keep: &[u64], shard: &mut Shard)
     requires applied { floor ≤ shard.old.applied }
-    requires rising { IsStrictlyIncreasing keep.now }
+    requires kept { AreKeptOf W.keys_in W.IsWorkOf floor keep.now shard.old }
     ensures { IsSweptTo floor keep.now shard.old shard.new }
 {
+    it_knows_what_is_kept::<W>();
     let at = shard.floor();
     if at < floor {
         shard.sweep(floor, keep);

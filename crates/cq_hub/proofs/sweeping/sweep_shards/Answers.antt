@@ -1,5 +1,7 @@
-use Rattle.std.proofs.Common.{◌≡◌, ◌<◌, ◌∙◌, length, get_or, sym, ap, subst, arith}
+use Rattle.std.proofs.Common.{◌≡◌, ◌<◌, ◌∙◌, length, get_or, sym, ap, subst, subst₂, arith}
 use Rattle.std.proofs.lemmas.List.{length-set}
+use Rattle.cq_history.specs.Gone.{AreKeptPuts}
+use Rattle.cq_history.specs.State.{changes_in}
 use Rattle.cq_shard.specs.Shard.{HasWindow}
 use Rattle.cq_hub.specs.Shards.{IsShardOf, IsSweptTo}
 use Rattle.cq_hub.proofs.ShardSteps.{shards_set, each_more}
@@ -14,6 +16,22 @@ returns-then-least-floor-clause-swept g c = λ k d lt.
     let at = c.if-least-floor.true in
     let is = c.floor-floor.ensures in
     omega (arith, low, same, high, at, is)
+
+pub sweep_to-requires-clause-kept : goal.sweep_to-requires-clause-kept
+sweep_to-requires-clause-kept g c =
+    let b = c.args.board.now in
+    let inv = c.shards.invariant in
+    let i = c.shards.i in
+    let within : i < length c.shards.shards.items = let n = inv.number in let len = c.len-i-end.ensures in let lt = c.shards-test.true in omega (arith, n, len, lt) in
+    let old = c.index_mut.result.now in
+    let was : IsShardOf (HasWindow g.W.Indexed.keys_in g.W.Indexed.IsWorkOf b.settings) b i old =
+    subst (IsShardOf (HasWindow g.W.Indexed.keys_in g.W.Indexed.IsWorkOf b.settings) b i) (sym c.index_mut.ensures.value) (inv.stand.each i old within) in
+    record {
+      settings = b.settings;
+      changes = changes_in b.state;
+      stands = was.stands;
+      kept = subst₂ (λ f ns. AreKeptPuts (changes_in b.state) f ns) (sym c.floor-floor.ensures) (sym c.deref-in-shards.ensures.value) c.in_ok-keep.ensures;
+    }
 
 pub shards-preserved : goal.shards-preserved
 shards-preserved g c =
