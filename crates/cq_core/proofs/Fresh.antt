@@ -15,7 +15,7 @@ use Rattle.cq_core.specs.Views.{AreViews, version_in}
 use Rattle.cq_core.proofs.Stepping.{core}
 
 fresh : ℕ → ℕ → Contents
-fresh i n = record { shard = i; shards = n; applied = 0; floor = 0; entries = [] }
+fresh i n = record { shard = i; shards = n; applied = 0; floor = 0; puts = []; entries = [] }
 
 module _ (n : ℕ) (shards : List Contents) (are : AreFresh n shards) where
   zeros : (f : Contents → ℕ) → ((i : ℕ) → f (fresh i n) ≡ 0) → map f shards ≡ replicate n 0
@@ -34,7 +34,7 @@ module _ (n : ℕ) (shards : List Contents) (are : AreFresh n shards) where
     applied = zeros applied_of (λ i. refl);
     floors = zeros floor_of (λ i. refl);
     sound = first_is_sound b.settings (length b.state.views) n;
-    shards = λ i d lt. law (changes_in b.state) (get_or shards i d) (ap applied_of (are.each i d lt)) (ap (λ (c : Contents). c.entries) (are.each i d lt));
+    shards = λ i d lt. law (changes_in b.state) (get_or shards i d) (ap applied_of (are.each i d lt)) (ap (λ (c : Contents). c.puts) (are.each i d lt)) (ap (λ (c : Contents). c.entries) (are.each i d lt));
     numbered = record {
       number_is = are.number_is ∙ sym number;
       each = λ i d lt. (ap (λ (c : Contents). c.shard) (are.each i d lt), ap (λ (c : Contents). c.shards) (are.each i d lt) ∙ sym number);

@@ -179,7 +179,7 @@ keeps_same window_at work_at old new shards views same keeps = subst (λ b. Keep
 pub all_applied : (v : ℕ) (shards : List Contents) → All (λ s. v ≤ s.applied) shards → All (λ a. v ≤ a) (map applied_of shards)
 all_applied v shards all k d lt =
     let within : k < length shards = omega (arith, lt, length-map shards applied_of) in
-    let none : Contents = record { shard = 0; shards = 0; applied = 0; floor = 0; entries = [] } in
+    let none : Contents = record { shard = 0; shards = 0; applied = 0; floor = 0; puts = []; entries = [] } in
     let here = all k none within in
     subst (λ n. v ≤ n) (sym (get_or-map applied_of shards k none d within)) here
 

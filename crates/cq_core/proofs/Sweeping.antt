@@ -10,9 +10,9 @@ use Rattle.cq_history.specs.Core.Step.{Sweeps}
 use Rattle.cq_history.specs.Gone.{AreKeptPuts}
 use Rattle.cq_history.proofs.Bounds.{in_order}
 use Rattle.cq_history.proofs.Cores.{step_is_sound}
-use Rattle.cq_shard.specs.Laws.{StandsSwept}
+use Rattle.cq_shard.specs.Laws.{StandsSwept, KnowsWhatIsKept}
 use Rattle.cq_shard.specs.Shard as shard
-use Rattle.cq_shard.specs.Shard.{Contents, swept}
+use Rattle.cq_shard.specs.Shard.{Contents, AreKnown, swept}
 use Rattle.cq_board.specs.Stands as board
 use Rattle.cq_core.specs.Cores.{StandsFor, applied_of, floor_of}
 use Rattle.cq_core.specs.Steps.{Takes}
@@ -39,6 +39,11 @@ module _ (IsWindow : Lang → List ℕ → ℕ → ℕ → Type 0) (b : board.Bo
         let at = is.sound.applied i 0 (omega (arith, within, length-map shards applied_of, ap length is.applied)) in
         let order = in_order b.settings (length b.state.views) k.history is.past.lawful in
         omega (arith, at.0, here, floor_then, order.floor)
+
+    -- it knows what the floor keeps
+    pub known : KnowsWhatIsKept IsWindow → (keep : List ℕ) → AreKeptPuts (changes_in b.state) b.state.floor keep → AreKnown keep old
+    known law keep are =
+        law (changes_in b.state) old b.state.floor keep low high are (subst (shard.StandsFor IsWindow (changes_in b.state)) (sym read) (is.shards i old within))
 
     may : MayStep b.settings (length b.state.views) k (Sweeps i b.state.floor)
     may = (omega (arith, low, floor_here), omega (arith, floor_then))

@@ -20,7 +20,9 @@ ghost use Rattle.cq_core.specs.declared.step.Step.TheVariants as step;
 use crate::step::{Outcome, Step};
 use cq_base::{Change, Entry, Memory, Settings, Steps};
 use cq_board::{Board, Finished, Job, Refused, View, shards_have_the_entries};
-use cq_shard::{Indexed, Shard, it_stands_at_first, it_stands_on, it_stands_swept, lent};
+use cq_shard::{
+    Indexed, Shard, it_knows_what_is_kept, it_stands_at_first, it_stands_on, it_stands_swept, lent,
+};
 use std::alloc::Global;
 use std::marker::Model;
 use std::sync::Arc;
@@ -300,6 +302,7 @@ impl<W: Indexed> Core<W> {
         ensures err { OnErr result (self.new ≡ self.old) }
     {
         it_stands_swept::<W>();
+        it_knows_what_is_kept::<W>();
         let i = shard as usize;
         let floor = self.board.floor();
         let reached = self.shards[i].floor();

@@ -2,12 +2,12 @@ use Rattle.std.proofs.Common.{◌<◌, length, set, refl, sym, ap, ◌∙◌, su
 use Rattle.std.specs.List.Sorted.{IsStrictlyIncreasing}
 use Rattle.cq_history.specs.Core.{stepped}
 use Rattle.cq_history.specs.Core.Step.{Sweeps}
-use Rattle.cq_shard.specs.Shard.{HasWindow, swept}
+use Rattle.cq_shard.specs.Shard.{HasWindow, AreKnown, swept}
 use Rattle.cq_core.specs.declared.step.Outcome.TheVariants as outcome
 use Rattle.cq_core.specs.Cores.{CoreState}
 use Rattle.cq_core.specs.Steps.{IsStepped}
 use Rattle.cq_core.proofs.Stepping.{core}
-use Rattle.cq_core.proofs.Sweeping.{low, high, stands_swept, takes_there, takes_swept}
+use Rattle.cq_core.proofs.Sweeping.{low, high, known, stands_swept, takes_there, takes_swept}
 use Rattle.cq_core.proofs.machine.Core.sweep.Goals as goal
 
 pub returns-then-reached-floor-clause-steps : goal.returns-then-reached-floor-clause-steps
@@ -31,6 +31,8 @@ sweep-requires g c =
       low = (let n = low (HasWindow g.W.Indexed.keys_in g.W.Indexed.IsWorkOf b.settings) b shards c.args.shard old within c.index_mut-shard.ensures.value c.self.invariant.0.0 c.self.invariant.0.1 in omega (arith, n, c.floor-floor.ensures));
       high = (let n = high (HasWindow g.W.Indexed.keys_in g.W.Indexed.IsWorkOf b.settings) b shards c.args.shard old within c.index_mut-shard.ensures.value c.self.invariant.0.0 c.self.invariant.0.1 in omega (arith, n, c.floor-floor.ensures));
       rising = subst IsStrictlyIncreasing (sym c.numbers.ensures) c.in_ok-keep.ensures.rising;
+      known = subst (λ ns. AreKnown ns old) (sym c.numbers.ensures)
+          (known (HasWindow g.W.Indexed.keys_in g.W.Indexed.IsWorkOf b.settings) b shards c.args.shard old within c.index_mut-shard.ensures.value c.self.invariant.0.0 c.self.invariant.0.1 (c.it_knows_what_is_kept.ensures b.settings) c.in_ok-keep.keep c.in_ok-keep.ensures);
     }
 
 pub invariant_of-self : goal.invariant_of-self
