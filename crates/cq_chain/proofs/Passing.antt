@@ -213,7 +213,7 @@ first_board about b settings many stands = record { stands = stands; settings = 
 
 module _ {W : Type 0} (keys_in : W → List ℕ) (IsWorkOf : Settings → Lang → List ℕ → W → Type 0) (about : About) where
   fresh : ℕ → Contents
-  fresh s = record { shard = s; shards = about.settings.shards; applied = 0; floor = 0; entries = [] }
+  fresh s = record { shard = s; shards = about.settings.shards; applied = 0; floor = 0; puts = []; entries = [] }
 
   first_shard : (s : ℕ) (x : Contents) → x ≡ fresh s → IsShardAt keys_in IsWorkOf about [] s 0 x
   unfolding fresh
@@ -222,7 +222,7 @@ module _ {W : Type 0} (keys_in : W → List ℕ) (IsWorkOf : Settings → Lang �
       let floor = ap (λ (z : Contents). z.floor) is in (
         sym none,
         record {
-          stands = first_stands (HasWindow keys_in IsWorkOf about.settings) [] x none (ap (λ (z : Contents). z.entries) is);
+          stands = first_stands (HasWindow keys_in IsWorkOf about.settings) [] x none (ap (λ (z : Contents). z.puts) is) (ap (λ (z : Contents). z.entries) is);
           reached = (omega (arith, none), omega (arith, none));
           swept = omega (arith, floor);
           number_is = ap (λ (z : Contents). z.shard) is;
@@ -240,4 +240,4 @@ module _ {W : Type 0} (keys_in : W → List ℕ) (IsWorkOf : Settings → Lang �
   pub first_shards : (number : ℕ) (xs : List Contents) → about.settings.shards ≡ number → AreFresh number xs → passes.AreFresh (IsShardAt keys_in IsWorkOf about) 0 xs
   unfolding fresh
   first_shards number xs is are = first_from 0 xs (λ i d near. let next : i ≡ 0 + i = omega arith in
-      are.each i d near ∙ ap (λ n. record { shard = i; shards = n; applied = 0; floor = 0; entries = [] }) (sym is) ∙ ap fresh next)
+      are.each i d near ∙ ap (λ n. record { shard = i; shards = n; applied = 0; floor = 0; puts = []; entries = [] }) (sym is) ∙ ap fresh next)

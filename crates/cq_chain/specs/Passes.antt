@@ -76,4 +76,4 @@ pub record MayLeave {W : Type 0} (keys_in : W → List ℕ) (IsWorkOf : Settings
 -- all shards, by number, which have applied nothing
 pub record AreFresh (number : ℕ) (shards : List Contents) : Type 0 where
   pub number_is : length shards ≡ number
-  pub each : (i : ℕ) (d : Contents) → i < length shards → slice_index_or shards i d ≡ record { shard = i; shards = number; applied = 0; floor = 0; entries = [] }
+  pub each : (i : ℕ) (d : Contents) → i < length shards → slice_index_or shards i d ≡ record { shard = i; shards = number; applied = 0; floor = 0; puts = []; entries = [] }
