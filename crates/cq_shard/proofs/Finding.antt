@@ -150,6 +150,11 @@ none_left rows i d key live within run from other =
     let front : drop i rows ≡ row ∷ drop (i + 1) rows = drop_more rows i d within in
     ap (filter (is_asked key live)) front ∙ none_behind row (drop (i + 1) rows) key live (subst IsRun front (run_behind rows i run)) more
 
+-- nor where each entry's key is one of those of which this key is none
+pub none_among : (P : ℕ → Type 0) (rows : List Entry) (key : ℕ) (live : List ℕ) → All (λ e. P e.key) rows → (P key → ⊥) → filter (is_asked key live) rows ≡ []
+none_among P rows key live all none =
+    none_kept (is_asked key live) rows (λ e c. other_key key live e (λ same. none (subst P same (All-contains (λ (w : Entry). P w.key) rows e all c))))
+
 -- all behind a place, as a slice has it
 pub whole_rest : {X : Type 0} (xs : List X) (i : ℕ) → take (length xs - i) (drop i xs) ≡ drop i xs
 whole_rest xs i = let many = length-drop i xs in take_all (length xs - i) (drop i xs) (omega (arith, many))

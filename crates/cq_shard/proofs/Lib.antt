@@ -1,6 +1,7 @@
 pub mod Entries
 pub mod Live
 pub mod Masks
+pub mod Marking
 pub mod RowOrder
 pub mod Merging
 pub mod Finding

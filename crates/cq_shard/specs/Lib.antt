@@ -1,6 +1,7 @@
 pub mod Laws
 pub mod Gathered
 pub mod Parts
+pub mod Marks
 pub mod Runs
 pub mod Tables
 pub mod Stores

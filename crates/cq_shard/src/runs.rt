@@ -59,15 +59,16 @@ impl Runs {
     {
         let added = entries.len();
         if added > 0 {
-            let (kept, run) = gather(alloc, &self.runs, Run::sorted(entries))?;
+            let run = Run::sorted(alloc, entries)?;
+            let (kept, run) = gather(alloc, &self.runs, run)?;
             put(&mut self.runs, kept, run)?;
             count(added, steps);
         }
         Ok(())
     }
 
-    /// Those with the key whose change is one of `live`, by change and place. It searches each run, and `live` for each
-    /// entry with the key.
+    /// Those with the key whose change is one of `live`, by change and place. It searches each run that may have the key, and
+    /// `live` for each entry with it.
     pub fn bucket(&self, alloc: Global, key: u64, live: &[u64]) -> Result<Vec<Entry>, Memory>
         requires { IsStrictlyIncreasing live.now }
         ensures { IfOk result (λ bucket. AreAsked key live.now self.now bucket.items) }

@@ -93,8 +93,8 @@ impl Store {
         }
     }
 
-    /// Those with the key whose change is one of `live`, by change and place. It searches each run, `live` for each entry
-    /// with the key, and the puts that stand for each of a live one, where some are gone.
+    /// Those with the key whose change is one of `live`, by change and place. It searches each run that may have the key,
+    /// `live` for each entry with it, and the puts that stand for each of a live one, where some are gone.
     pub fn bucket(&self, alloc: Global, key: u64, live: &[u64]) -> Result<Vec<Entry>, Memory>
         requires { IsStrictlyIncreasing live.now }
         ensures { IfOk result (λ bucket. AreAsked key live.now self.now.entries bucket.items) }
