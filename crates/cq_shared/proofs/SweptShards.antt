@@ -1,5 +1,6 @@
 -- A shard is swept up to a floor, and is right for each history that begins with what was seen.
 use Rattle.std.proofs.Common.{◌≡◌, ℕ, ◌≤◌, List, ◌++◌, length, refl, sym, ap, ◌∙◌, subst, inl, inr, ⊎_elim, arith}
+use mathlib.Core.List.{IsPrefix}
 use Rattle.cq_base.specs.declared.lang.Lang.{Lang}
 use Rattle.cq_history.specs.declared.event.Event.{Event}
 use Rattle.cq_history.specs.Gone.{AreKeptPuts}
@@ -28,12 +29,19 @@ module _ (IsWindow : Lang → List ℕ → ℕ → ℕ → Type 0) (about : Abou
       let next = order.published in
       within_accepted about seen (state_in about seen).floor (omega (arith, low, next))
 
+  -- the puts that a floor keeps are the same in each history that goes on
+  pub kept_on : (floor : ℕ) (keep : List ℕ) (log : List Event) → floor ≡ (state_in about seen).floor → AreKeptPuts (accepted seen) floor keep → IsPrefix seen log → AreKeptPuts (accepted log) floor keep
+  kept_on floor keep log is are begins =
+      let later = begins.0 in
+      let most = floor_accepted in
+      subst (λ l. AreKeptPuts (accepted l) floor keep) begins.1
+      (subst (λ cs. AreKeptPuts cs floor keep) (sym (accepted-append seen later)) (kept_puts_stay (accepted seen) (accepted later) floor keep (omega (arith, is, most)) are))
+
   pub swept_step : (floor : ℕ) (keep : List ℕ) (x y : Contents) → floor ≡ (state_in about seen).floor → AreKeptPuts (accepted seen) floor keep → IsSweptTo floor keep x y → IsStep IsWindow about seen x y
   swept_step floor keep x y is are how =
       ⊎_elim
       (λ sweeps.
       let lt = sweeps.0 in
-      let most = floor_accepted in
       subst (IsStep IsWindow about seen x) (sym sweeps.1) (record {
         applied = inl refl;
         swept = inr (omega (arith, is));
@@ -41,7 +49,7 @@ module _ (IsWindow : Lang → List ℕ → ℕ → ℕ → Type 0) (about : Abou
         shards = refl;
         stands = λ later was.
             stands_swept IsWindow (accepted (seen ++ later)) x floor keep (omega (arith, lt))
-            (subst (λ cs. AreKeptPuts cs floor keep) (sym (accepted-append seen later)) (kept_puts_stay (accepted seen) (accepted later) floor keep (omega (arith, is, most)) are)) was;
+            (kept_on floor keep (seen ++ later) is are (later, refl)) was;
       }))
       (λ stays. subst (IsStep IsWindow about seen x) (sym stays.1) (same_step IsWindow about seen x))
       how

@@ -89,7 +89,7 @@ impl<W: Indexed, R: Wait> Shared<W, R> {
         ensures seen { pass.new.seen ≡ pass.old.seen }
     {
         let mut shard = self.cells.enter_shard(number, pass);
-        sweep_to(floor, keep, &mut shard);
+        sweep_to::<W>(floor, keep, &mut shard);
         self.cells.leave_shard(number, shard, pass);
     }
 }

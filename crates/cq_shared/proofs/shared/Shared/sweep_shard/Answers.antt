@@ -4,7 +4,7 @@ use Rattle.cq_history.specs.State.{accepted}
 use Rattle.cq_history.proofs.Bounds.{in_order}
 use Rattle.cq_shard.specs.Shard.{HasWindow}
 use Rattle.cq_shared.specs.SharedPasses.{cells_of, settings_of, state_of}
-use Rattle.cq_shared.proofs.SweptShards.{swept_step}
+use Rattle.cq_shared.proofs.SweptShards.{kept_on, swept_step}
 use Rattle.cq_shared.proofs.shared.Shared.sweep_shard.Goals as goal
 
 pub sweep_to-requires : goal.sweep_to-requires
@@ -16,7 +16,16 @@ sweep_to-requires g c =
     let low = order.floor in
     let at = c.requires.floor in
     let published = c.enter_shard-shard.ensures.published in
-    record { applied = omega (arith, low, at, published); rising = c.requires.keep.rising }
+    let found = c.enter_shard-shard.ensures.shard in
+    record {
+      applied = omega (arith, low, at, published);
+      kept = record {
+        settings = about.settings;
+        changes = accepted found.log;
+        stands = found.is.stands;
+        kept = kept_on (HasWindow g.W.Indexed.keys_in g.W.Indexed.IsWorkOf about.settings) about p.seen c.requires.of.of.law c.args.floor c.args.keep.now found.log c.requires.floor c.requires.keep found.begins;
+      };
+    }
 
 pub leave_shard-requires : goal.leave_shard-requires
 leave_shard-requires g c =
