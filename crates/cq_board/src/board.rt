@@ -158,10 +158,9 @@ impl<W: Indexed> Board<W> {
         least(self.published, &self.views)
     }
 
-    /// The puts up to the floor that it keeps, ascending. Where the floor is the last published
-    /// version they are those of its listing, and cost an owner of it. Else, and where memory was
-    /// refused in the middle of the last publication, they are listed by a look at each change that
-    /// it keeps up to there.
+    /// The puts up to the floor that it keeps, ascending. Where the floor is the last published version they are those of
+    /// its listing, and cost an owner of it. Else, and where memory was refused in the middle of the last publication,
+    /// they are listed by a look at each change that it keeps up to there.
     pub fn keep(&self, alloc: Global) -> Result<Keep<W>, Memory>
         ensures { IfOk result (λ keep. AreKeptPuts (changes_in self.now.state) self.now.state.floor keep) }
     {
@@ -243,9 +242,9 @@ impl<W: Indexed> Board<W> {
         }
     }
 
-    /// Gives the caller the first change that is neither done nor taken, if there is one. It costs a search among those that
-    /// were given back or one among those that are not done, and another one for each that was given back and is done since,
-    /// once: at most as many as were held at once.
+    /// Gives the caller the first change that is neither done nor taken, if there is one. It costs a search among those
+    /// that were given back or one among those that are not done, and another one for each that was given back and is
+    /// done since, once: at most as many as were held at once.
     pub fn take(&mut self, by: u32) -> Result<Option<Job>, Memory>
         requires { IsCaller self.old by }
         ensures taken { IfOk result (λ job. IfSome job (λ j. Adds (event.Took by j.change) self.old self.new)) }
@@ -267,8 +266,8 @@ impl<W: Indexed> Board<W> {
         Ok(Some(job))
     }
 
-    /// Publishes a version up to which all is done. Where memory is refused, nothing has changed, but that `open` may refuse
-    /// until `relist` or another publication is through. What it costs is said at the head of the crate.
+    /// Publishes a version up to which all is done. Where memory is refused, nothing has changed, but that `open` may
+    /// refuse until `relist` or another publication is through. What it costs is said at the head of the crate.
     pub fn publish(&mut self, alloc: Global, version: u64) -> Result<(), Memory>
         requires above { self.old.state.published < version }
         requires done { version ≤ ready self.old.state }

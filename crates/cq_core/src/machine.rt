@@ -316,8 +316,8 @@ impl<W: Indexed> Core<W> {
     }
 }
 
-// Opens a view of a board's last published version, whose listing is made anew first where memory was refused while it was
-// changed.
+// Opens a view of a board's last published version, whose listing is made anew first where memory was refused while it
+// was changed.
 fn open_listed<W: Indexed>(board: &mut Board<W>, by: u32) -> Result<View<W>, Memory>
     requires caller { by < length board.old.state.views }
     requires closed { view_of board.old.state by ≡ None }

@@ -86,9 +86,9 @@ pub trait Hub<W: Indexed> {
             → SeesDone Stands alone settings callers self.now pass.old pass.new change }
         ensures asked { asked pass.new ≡ asked pass.old };
 
-    /// Publishes the changes up to a number, all of which are done, and answers the last published version. Where memory was
-    /// refused in the middle of a publication, the listing of the last one is made anew here. Where memory is refused, the
-    /// index may be further on than what is published. The gate is told of each shard that was brought up.
+    /// Publishes the changes up to a number, all of which are done, and answers the last published version. Where memory
+    /// was refused in the middle of a publication, the listing of the last one is made anew here. Where memory is
+    /// refused, the index may be further on than what is published. The gate is told of each shard that was brought up.
     fn advance<G: Gate>(
         &self,
         alloc: Global,

@@ -35,8 +35,8 @@ pub fn sweeping_takes_out_alone<W: Indexed>()
     ensures { (settings : Settings) → law.SweepingTakesOutAlone (HasWindow W.keys_in W.IsWorkOf settings) }
 {}
 
-/// Of the changes that it stands for, a shard knows each put that a floor keeps which is no lower than its own and no higher
-/// than what it has applied.
+/// Of the changes that it stands for, a shard knows each put that a floor keeps which is no lower than its own and no
+/// higher than what it has applied.
 pub fn it_knows_what_is_kept<W: Indexed>()
     ensures { (settings : Settings) → law.KnowsWhatIsKept (HasWindow W.keys_in W.IsWorkOf settings) }
 {}

@@ -67,8 +67,8 @@ impl Runs {
         Ok(())
     }
 
-    /// Those with the key whose change is one of `live`, by change and place. It searches each run that may have the key, and
-    /// `live` for each entry with it.
+    /// Those with the key whose change is one of `live`, by change and place. It searches each run that may have the key,
+    /// and `live` for each entry with it.
     pub fn bucket(&self, alloc: Global, key: u64, live: &[u64]) -> Result<Vec<Entry>, Memory>
         requires { IsStrictlyIncreasing live.now }
         ensures { IfOk result (λ bucket. AreAsked key live.now self.now bucket.items) }

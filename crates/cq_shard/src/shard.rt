@@ -62,9 +62,9 @@ impl Shard {
     }
 
     /// Applies the next change, whose work is given exactly where it is a put. Where memory is refused, nothing has
-    /// changed. It looks at each key of the work; each that is the shard's costs a step and an entry. Beside that, runs of
-    /// entries are merged: over all applications each entry is moved about as often as the logarithm of their number. A put
-    /// costs 16 bytes as long as the shard knows it, even where no key is the shard's.
+    /// changed. It looks at each key of the work; each that is the shard's costs a step and an entry. Beside that, runs
+    /// of entries are merged: over all applications each entry is moved about as often as the logarithm of their number.
+    /// A put costs 16 bytes as long as the shard knows it, even where no key is the shard's.
     pub fn apply<W: Indexed, L: Ledger>(
         &mut self,
         change: u64,
@@ -118,9 +118,9 @@ impl Shard {
         Ok(())
     }
 
-    /// The entries with the key whose change is one of `live`, by change and place. It looks at a word of each of the shard's
-    /// runs, of which there are at most the logarithm of its entries, searches those that may have the key, and searches
-    /// `live` for each entry with it.
+    /// The entries with the key whose change is one of `live`, by change and place. It looks at a word of each of the
+    /// shard's runs, of which there are at most the logarithm of its entries, searches those that may have the key, and
+    /// searches `live` for each entry with it.
     pub fn bucket(&self, alloc: Global, key: u64, live: &[u64]) -> Result<Vec<Entry>, Memory>
         requires rising { IsStrictlyIncreasing live.now }
         ensures { IfOk result (λ bucket. AreAsked key live.now self.now.entries bucket.items) }
@@ -128,9 +128,9 @@ impl Shard {
         self.store.bucket(alloc, key, live)
     }
 
-    /// Takes all puts up to the new floor out, with their entries, but for those to keep, which are the puts that this floor
-    /// keeps, so that the shard knows them all. It is two searches among the puts, and one more for each that goes; what stands
-    /// behind that moves up. It takes no memory.
+    /// Takes all puts up to the new floor out, with their entries, but for those to keep, which are the puts that this
+    /// floor keeps, so that the shard knows them all. It is two searches among the puts, and one more for each that goes;
+    /// what stands behind that moves up. It takes no memory.
     pub fn sweep(&mut self, floor: u64, keep: &[u64])
         requires low { self.old.floor ≤ floor }
         requires high { floor ≤ self.old.applied }

@@ -14,8 +14,8 @@ use std::alloc::Global;
 use std::marker::Model;
 use std::sync::ledger::Ledger;
 
-/// The puts of a shard that no sweep took out, and their entries. What entries a sweep takes out stay in their run
-/// until that is merged with another, or until all that stays so is as much as what stands; then the runs are cleared where
+/// The puts of a shard that no sweep took out, and their entries. What entries a sweep takes out stay in their run until
+/// that is merged with another, or until all that stays so is as much as what stands; then the runs are cleared where
 /// they stand. So sweeping takes no memory, and a run has what was taken out since it was made, and nothing older.
 #[derive(Drop)]
 pub(crate) struct Store {
@@ -57,8 +57,8 @@ impl Store {
         self.applied
     }
 
-    /// The puts of the changes up to this one more, and their entries by change and place; none of them where memory is refused.
-    /// Each entry is one step.
+    /// The puts of the changes up to this one more, and their entries by change and place; none of them where memory is
+    /// refused. Each entry is one step.
     pub fn add<L: Ledger>(
         &mut self,
         alloc: Global,
@@ -107,8 +107,8 @@ impl Store {
         Ok(bucket)
     }
 
-    /// Takes the puts up to the floor out, with their entries, but for those to keep. It is a search for each that goes, and
-    /// takes no memory. Towards clearing all runs a put without entries counts as one.
+    /// Takes the puts up to the floor out, with their entries, but for those to keep. It is a search for each that goes,
+    /// and takes no memory. Towards clearing all runs a put without entries counts as one.
     pub fn sweep(&mut self, floor: u64, keep: &[u64])
         requires rising { IsStrictlyIncreasing keep.now }
         requires known { AreAmong keep.now self.old.puts }

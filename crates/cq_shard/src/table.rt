@@ -78,8 +78,9 @@ impl Table {
         self.changes.truncate(number);
     }
 
-    /// Takes the puts up to the floor out but for those to keep, and tells how many went, and how many entries they had. It is
-    /// two searches, and one more for each that goes. What stands between two that go, or behind the last, moves up at once.
+    /// Takes the puts up to the floor out but for those to keep, and tells how many went, and how many entries they had.
+    /// It is two searches, and one more for each that goes. What stands between two that go, or behind the last, moves up
+    /// at once.
     pub fn take_out(&mut self, floor: u64, keep: &[u64]) -> (usize, u64)
         requires keep { IsStrictlyIncreasing keep.now }
         requires known { AreAmong keep.now self.old }
@@ -117,8 +118,8 @@ fn up_to(numbers: &[u64], floor: u64) -> usize
     numbers.partition_point(|number| *number <= floor)
 }
 
-// Takes so many changes out, which stand among those to keep, up to the last of these or behind it, and tells how many entries
-// they had.
+// Takes so many changes out, which stand among those to keep, up to the last of these or behind it, and tells how many
+// entries they had.
 fn close_up(changes: &mut Vec<u64>, sizes: &mut Vec<u64>, keep: &[u64], number: usize) -> u64
     requires sized { length changes.old.items ≤ length sizes.old.items }
     requires within { length keep.now + number ≤ length changes.old.items }
@@ -142,7 +143,8 @@ fn close_up(changes: &mut Vec<u64>, sizes: &mut Vec<u64>, keep: &[u64], number: 
     taken
 }
 
-// Up to where, from a place on, what is to be kept stands so many places further on among the changes. It searches by halves.
+// Up to where, from a place on, what is to be kept stands so many places further on among the changes. It searches by
+// halves.
 fn alike(changes: &[u64], keep: &[u64], from: usize, gone: usize) -> usize
     requires from { from ≤ length keep.now }
     requires within { length keep.now + gone ≤ length changes.now }

@@ -24,11 +24,12 @@ use std::sync::{Arc, Wait};
 const GOLDEN: u32 = 2_654_435_769;
 
 impl<W: Indexed, R: Wait> Shared<W, R> {
-    /// Publishes the changes up to a number, all of which are done, and answers the last published version. The board gives
-    /// the owners of the works in one hold; each shard applies each further change in a hold of its own, with a look at each
-    /// key of its work; and the board publishes in another. Where they are published, the board makes the listing anew in
-    /// that hold, should memory have been refused while it was changed. Where memory is refused, some shards may be further
-    /// on than what is published. The gate is told of each shard that was brought up, while the pass holds no cell.
+    /// Publishes the changes up to a number, all of which are done, and answers the last published version. The board
+    /// gives the owners of the works in one hold; each shard applies each further change in a hold of its own, with a
+    /// look at each key of its work; and the board publishes in another. Where they are published, the board makes the
+    /// listing anew in that hold, should memory have been refused while it was changed. Where memory is refused, some
+    /// shards may be further on than what is published. The gate is told of each shard that was brought up, while the
+    /// pass holds no cell.
     pub fn advance<G: Gate>(
         &self,
         alloc: Global,
@@ -49,8 +50,8 @@ impl<W: Indexed, R: Wait> Shared<W, R> {
         self.publish(alloc, to, pass)
     }
 
-    // The last published version, and the works of the changes behind it up to another. Where that is published, the listing
-    // is made anew, should memory have been refused while it was changed.
+    // The last published version, and the works of the changes behind it up to another. Where that is published, the
+    // listing is made anew, should memory have been refused while it was changed.
     fn works_up_to(
         &self,
         alloc: Global,

@@ -174,8 +174,8 @@ impl<W: Indexed, R: Wait> Shared<W, R> {
         }
     }
 
-    /// Opens a view of the last published version, where this caller has none open. Where memory was refused in the middle of
-    /// a publication and no `advance` came through since, it tells so again.
+    /// Opens a view of the last published version, where this caller has none open. Where memory was refused in the
+    /// middle of a publication and no `advance` came through since, it tells so again.
     pub fn open_view(&self, pass: &mut Pass<W>) -> Result<View<W>, Memory>
         requires of { IsPassOf self.now pass.old }
         requires closed { view_of (state_of self.now pass.old.seen) (by_of pass.old) ≡ None }

@@ -20,10 +20,9 @@ use std::sync::atomic::Ordering;
 
 impl<W: Indexed, R: Wait> Shared<W, R> {
     /// Gives up the versions below the published one and each open one, sweeps each shard that was not swept so far, and
-    /// answers the floor. The board sets it in one hold, and tells the puts that it keeps; each
-    /// shard is swept in a hold of its own. Where all were swept up to this floor, no shard is
-    /// taken, and no memory. Where memory is refused, no shard is swept. The listing that has those
-    /// puts' numbers has an owner more until all shards are swept.
+    /// answers the floor. The board sets it in one hold, and tells the puts that it keeps; each shard is swept in a hold
+    /// of its own. Where all were swept up to this floor, no shard is taken, and no memory. Where memory is refused, no
+    /// shard is swept. The listing that has those puts' numbers has an owner more until all shards are swept.
     pub fn sweep(&self, alloc: Global, pass: &mut Pass<W>) -> Result<u64, Memory>
         requires of { IsPassOf self.now pass.old }
         ensures swept { Calls self.now pass.old pass.new [] (λ mid. HasGreatestFloor (state_of self.now mid) result) }
@@ -40,8 +39,8 @@ impl<W: Indexed, R: Wait> Shared<W, R> {
         Ok(floor)
     }
 
-    // Sets the greatest floor that there may be, in one hold of the board. Where it is above
-    // another one, the puts that it keeps are told.
+    // Sets the greatest floor that there may be, in one hold of the board. Where it is above another one, the puts that
+    // it keeps are told.
     fn raise_floor(
         &self,
         alloc: Global,
