@@ -30,9 +30,9 @@ bit_stays words at bit other of within low is =
     ap (λ n. bit_in (with_bit words at bit) n of) same
     ∙ ap (λ w. bit_at w of) (get_or-set_same words at value 0 within)
     ∙ ⊎_elim
-      (λ (e : of ≡ bit). ap (bit_at (bit_or (get_or words at 0) (1 * 2 ^ bit % 2 ^ 64))) e ∙ bit_at_set_same w64 (get_or words at 0) bit low)
-      (λ differ. bit_at_set_other w64 (get_or words at 0) bit low of differ ∙ here)
-      (cases_eq of bit))
+    (λ (e : of ≡ bit). ap (bit_at (bit_or (get_or words at 0) (1 * 2 ^ bit % 2 ^ 64))) e ∙ bit_at_set_same w64 (get_or words at 0) bit low)
+    (λ differ. bit_at_set_other w64 (get_or words at 0) bit low of differ ∙ here)
+    (cases_eq of bit))
     (λ apart. ap (λ w. bit_at w of) (get_or-set_other words at other value 0 apart) ∙ is)
     (cases_eq other at)
 
