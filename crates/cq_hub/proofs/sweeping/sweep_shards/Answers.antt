@@ -30,7 +30,7 @@ sweep_to-requires-clause-kept g c =
       settings = b.settings;
       changes = changes_in b.state;
       stands = was.stands;
-      kept = subst₂ (λ f ns. AreKeptPuts (changes_in b.state) f ns) (sym c.floor-floor.ensures) (sym c.deref-in-shards.ensures.value) c.in_ok-keep.ensures;
+      kept = subst₂ (λ f ns. AreKeptPuts (changes_in b.state) f ns) (sym c.floor-floor.ensures) (sym c.numbers-numbers.ensures) c.in_ok-keep.ensures;
     }
 
 pub shards-preserved : goal.shards-preserved
