@@ -8,8 +8,8 @@ use std::alloc::Global;
 // About for how many entries there is a word of 64 bits.
 const ENTRIES: usize = 8;
 
-/// Which keys some entries may have, a bit or two for each entry and a word for eight: where a key's bit is not set, no
-/// entry has it.
+/// Which keys some entries may have, by a word of 64 bits for four to eight of them where they are many: where a key's bit
+/// is not set, no entry has it.
 #[derive(Drop)]
 pub(crate) struct Marks {
     pub words: Vec<u64>,

@@ -13,8 +13,9 @@ use std::alloc::Global;
 use std::marker::Model;
 use std::sync::ledger::Ledger;
 
-/// The entries of a shard, as runs of changes that follow each other. Each run has at least twice the entries of the one
-/// behind it, so there are at most as many as the logarithm of the entries, and an entry is moved about as often.
+/// The entries of a shard, as runs of changes that follow each other. Each run was made with at least twice the entries of
+/// the one behind it, so there are at most as many as the logarithm of the entries that they were made with, and an entry
+/// is moved about as often.
 #[derive(Drop)]
 pub(crate) struct Runs {
     runs: Vec<Run>,
@@ -88,7 +89,7 @@ impl Runs {
     }
 
     /// The entries of these changes alone in those runs with which as many entries more will be merged, and how many went. It
-    /// looks at no more entries than are merged then, and takes no memory.
+    /// looks at the entries of these runs, and takes no memory.
     pub fn keep_last(&mut self, changes: &Table, added: usize) -> u64
         ensures those { those_of changes.now self.new ≡ those_of changes.now self.old }
         ensures fewer { (e : Entry) → Contains self.new e → Contains self.old e }

@@ -119,8 +119,8 @@ impl Shard {
     }
 
     /// The entries with the key whose change is one of `live`, by change and place. It looks at a word of each of the
-    /// shard's runs, of which there are at most the logarithm of its entries, searches those that may have the key, and
-    /// searches `live` for each entry with it.
+    /// shard's runs, of which there are at most the logarithm of the entries that they were made with, searches those that
+    /// may have the key, and searches `live` for each entry with it.
     pub fn bucket(&self, alloc: Global, key: u64, live: &[u64]) -> Result<Vec<Entry>, Memory>
         requires rising { IsStrictlyIncreasing live.now }
         ensures { IfOk result (λ bucket. AreAsked key live.now self.now.entries bucket.items) }

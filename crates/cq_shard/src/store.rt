@@ -108,7 +108,8 @@ impl Store {
     }
 
     /// Takes the puts up to the floor out, with their entries, but for those to keep. It is a search for each that goes,
-    /// and takes no memory. Towards clearing all runs a put without entries counts as one.
+    /// two more, and a move of those behind; and, where as much has gone as stands, a search for each entry of all runs.
+    /// It takes no memory. Towards that what goes counts as its entries, and as its puts where these are more.
     pub fn sweep(&mut self, floor: u64, keep: &[u64])
         requires rising { IsStrictlyIncreasing keep.now }
         requires known { AreAmong keep.now self.old.puts }

@@ -9,7 +9,8 @@ use cq_base::{Entry, Memory};
 use std::alloc::Global;
 use std::marker::Model;
 
-/// The puts that a shard knows, ascending, each with how many entries it has there. It is 16 bytes for each.
+/// The puts that a shard knows, ascending, each with how many entries it has there. It is 16 bytes for each, and as much
+/// room again at most.
 #[derive(Drop)]
 pub(crate) struct Table {
     changes: Vec<u64>,
