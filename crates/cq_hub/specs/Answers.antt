@@ -106,7 +106,8 @@ module _ {S P : Type 0} (Stands : S → P → ℕ → List Event → Type 0) (al
   Reads of view key result =
       Extends Stands alone Never hub old new (λ _. []) (λ _ mid. IfOk result (λ entries. AreEntriesWith (HasWindow of.keys_in of.IsWorkOf (settings hub)) (accepted mid) view.version key entries.items))
 
-  -- a floor came at most; it is the least of the published version and the open ones, and where there is an answer, it is that
+  -- floors may have come; the last one is the least of the published version and the open ones, and where there is an answer, it
+  -- is that
   abbrev pub Sweeps : Result ℕ Memory → Type 0
   Sweeps result = Extends Stands alone IsFloor hub old new (λ _. []) (λ _ mid. HasGreatestFloor (state (callers hub) mid) result)
 
