@@ -7,14 +7,18 @@ ghost use Rattle.std.specs.Cmp.Lexicographic.{slice_cmp};
 ghost use Rattle.std.specs.Str.{bytes_eq};
 
 use crate::Memory;
+use smallvec::SmallVec;
 use std::alloc::Global;
 use std::cmp::{Ord, Ordering};
 use std::marker::Model;
 
+// A text of at most so many bytes, as most tokens are, takes no memory beside itself.
+const SHORT: usize = 16;
+
 /// The bytes of a text. Contracts see it as their list.
 #[derive(Debug, Drop)]
 pub struct Text {
-    bytes: Vec<u8>,
+    bytes: SmallVec<u8, SHORT>,
 }
 
 impl Model for Text {
@@ -30,7 +34,7 @@ impl Text {
     pub fn from_bytes(alloc: Global, bytes: &[u8]) -> Result<Text, Memory>
         ensures { IfOk result (λ t. t ≡ bytes.now) }
     {
-        let bytes = Vec::from_slice(alloc, bytes)?;
+        let bytes = SmallVec::from_slice(alloc, bytes)?;
         Ok(Text { bytes })
     }
 
@@ -38,7 +42,9 @@ impl Text {
     pub fn from_vec(bytes: Vec<u8>) -> Text
         ensures { result ≡ bytes.items }
     {
-        Text { bytes }
+        Text {
+            bytes: SmallVec::from_vec(bytes),
+        }
     }
 
     /// Its bytes, which are lent.

@@ -4,11 +4,26 @@ ghost use Rattle.cq_munch.specs.Characters.{utf8_of};
 ghost use Rattle.cq_munch.specs.Lexed.{InOrder, unit_at, spelled_of};
 
 use crate::unit::Unit;
+use crate::words::ascii_bytes;
 use cq_base::{Class, Memory, Spelled, Text, Token, line_further};
 use std::alloc::Global;
 
+// Most spellings have no more units.
+const SHORT: usize = 16;
+
 // The text of the units' characters.
 fn of_units(alloc: Global, units: &[Unit]) -> Result<Text, Memory>
+    ensures { IfOk result (λ t. t ≡ utf8_of units.now) }
+{
+    let mut short = [0; SHORT];
+    if ascii_bytes(units, &mut short) {
+        return Text::from_bytes(alloc, &short[..units.len()]);
+    }
+    of_many(alloc, units)
+}
+
+// The same, where they may be many.
+fn of_many(alloc: Global, units: &[Unit]) -> Result<Text, Memory>
     ensures { IfOk result (λ t. t ≡ utf8_of units.now) }
 {
     let mut bytes = Vec::with_capacity(alloc, units.len())?;

@@ -12,6 +12,7 @@ use crate::unit::Unit;
 pub fn ascii_bytes(units: &[Unit], room: &mut [u8]) -> bool
     ensures fits { IsTrue result → length units.now ≤ length room.old }
     ensures bytes { IsTrue result → take (length units.now) room.new ≡ characters units.now }
+    ensures ascii { IsTrue result → AreAscii units.now }
     ensures all { length units.now ≤ length room.old → AreAscii units.now → IsTrue result }
     ensures same { length room.new ≡ length room.old }
 {

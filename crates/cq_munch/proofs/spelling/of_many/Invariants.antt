@@ -1,7 +1,7 @@
 use Rattle.std.proofs.Common.{◌≡◌, ◌≤◌, take, length}
 use Rattle.std.specs.Prelude.{vec_len, vec_capacity}
 use Rattle.cq_munch.specs.Characters.{utf8_of}
-use Rattle.cq_munch.proofs.spelling.of_units.Given as goal
+use Rattle.cq_munch.proofs.spelling.of_many.Given as goal
 
 abbrev pub invariant-loop-unit : goal.invariant-loop-unit
 invariant-loop-unit l = record {
