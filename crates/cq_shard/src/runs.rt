@@ -6,7 +6,7 @@ ghost use Rattle.cq_shard.specs.Runs.{AreRuns, AreRunsWith, AreAdded, AreDiffere
 ghost use Rattle.cq_shard.specs.Shard.{AreAsked};
 ghost use Rattle.cq_shard.specs.Stores.{those_of, AreLeft};
 
-use crate::run::Run;
+use crate::run::{Run, sorted_rows};
 use crate::table::Table;
 use cq_base::{Entry, Memory, Steps};
 use std::alloc::Global;
@@ -60,8 +60,8 @@ impl Runs {
     {
         let added = entries.len();
         if added > 0 {
-            let run = Run::sorted(alloc, entries)?;
-            let (kept, run) = gather(alloc, &self.runs, run)?;
+            let (kept, rows) = gather(alloc, &self.runs, sorted_rows(entries))?;
+            let run = Run::of(alloc, rows)?;
             put(&mut self.runs, kept, run)?;
             count(added, steps);
         }
@@ -126,20 +126,20 @@ fn keep_last(runs: &mut Vec<Run>, changes: &Table, added: usize) -> u64
     taken
 }
 
-// The run merged with those before it that it has half as many entries as, or more: how many runs stay, and the run
-// that comes behind them.
-fn gather(alloc: Global, runs: &[Run], run: Run) -> Result<(usize, Run), Memory>
-    requires { AreRuns (runs.now ++ run ∷ []) }
+// These rows merged with the runs before them that they have half as many entries as, or more: how many runs stay, and the
+// rows that come behind them.
+fn gather(alloc: Global, runs: &[Run], rows: Vec<Entry>) -> Result<(usize, Vec<Entry>), Memory>
+    requires { AreRuns (runs.now ++ rows.items ∷ []) }
     ensures kept { IfOk result (λ g. g.0 ≤ length runs.now) }
-    ensures runs { IfOk result (λ g. AreRunsWith runs.now run (take g.0 runs.now ++ g.1 ∷ [])) }
+    ensures runs { IfOk result (λ g. AreRunsWith runs.now rows.items (take g.0 runs.now ++ g.1.items ∷ [])) }
 {
     let mut kept = runs.len();
-    let mut run = run;
-    'merging: while kept > 0 && runs[kept - 1].len() / 2 < run.len() {
-        run = runs[kept - 1].merged(alloc, &run)?;
+    let mut rows = rows;
+    'merging: while kept > 0 && runs[kept - 1].len() / 2 < rows.len() {
+        rows = runs[kept - 1].merged(alloc, &rows)?;
         kept -= 1;
     }
-    Ok((kept, run))
+    Ok((kept, rows))
 }
 
 // The run in place of all behind the first `kept`.

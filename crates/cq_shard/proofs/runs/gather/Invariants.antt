@@ -5,7 +5,7 @@ use Rattle.cq_shard.proofs.runs.gather.Given as goal
 abbrev pub invariant-merging : goal.invariant-merging
 invariant-merging l = record {
   kept : l.kept ≤ length l.runs;
-  runs : AreRunsWith l.runs l.fn.run (take l.kept l.runs ++ l.run ∷ []);
+  runs : AreRunsWith l.runs l.fn.rows.items (take l.kept l.runs ++ l.rows.items ∷ []);
 }
 
 abbrev pub decreases-merging : goal.decreases-merging
