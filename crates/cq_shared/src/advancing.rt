@@ -74,8 +74,8 @@ impl<W: Indexed, R: Wait> Shared<W, R> {
         Ok((base, works?))
     }
 
-    // Each shard applies the changes up to one. Callers begin at shards that stand apart: so two that bring the same changes
-    // share the shards among them, and seldom wait for each other.
+    // Each shard applies the changes up to one. Callers begin at shards that stand apart, and every second one goes down: so
+    // two that bring the same changes share the shards among them, and neither goes behind the other.
     fn commit<G: Gate>(
         &self,
         base: u64,
@@ -93,15 +93,20 @@ impl<W: Indexed, R: Wait> Shared<W, R> {
         ensures applied { OnOk result ((s : ℕ) → s < (settings_of self.now).shards → to ≤ least pass.new s) }
     {
         let first = first_shard(pass.by(), self.shards);
-        self.commit_shards(first, self.shards, base, to, works, gate, pass)?;
-        self.commit_shards(0, first, base, to, works, gate, pass)
+        if pass.by() % 2 == 0 {
+            self.commit_shards(first, self.shards, false, base, to, works, gate, pass)?;
+            return self.commit_shards(0, first, false, base, to, works, gate, pass);
+        }
+        self.commit_shards(0, first, true, base, to, works, gate, pass)?;
+        self.commit_shards(first, self.shards, true, base, to, works, gate, pass)
     }
 
-    // The shards from one up to another apply the changes up to one.
+    // The shards from one on and before another apply the changes up to one, the last shard first where they go down.
     fn commit_shards<G: Gate>(
         &self,
         from: u32,
         until: u32,
+        down: bool,
         base: u64,
         to: u64,
         works: &Vec<Option<Arc<W, Global>>>,
@@ -118,7 +123,15 @@ impl<W: Indexed, R: Wait> Shared<W, R> {
         ensures more { (s : ℕ) → least pass.old s ≤ least pass.new s }
         ensures applied { OnOk result ((s : ℕ) → from ≤ s → s < until → to ≤ least pass.new s) }
     {
-        'shards: for number in from..until {
+        let mut low = from;
+        let mut high = until;
+        'shards: while low < high {
+            let number = if down { high - 1 } else { low };
+            if down {
+                high = number;
+            } else {
+                low = number + 1;
+            }
             self.commit_shard(number, base, to, works, pass)?;
             gate.after_shard(number);
         }
