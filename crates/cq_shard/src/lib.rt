@@ -4,7 +4,7 @@
 //! all shards apply some changes, `parted` looks at each key once for all of them. The entries stand in runs in order of
 //! their keys, a run for some changes that follow each other. A run is merged with the one before it where that has less
 //! than twice its entries, so an entry is moved about as often as the logarithm of how many there are. Beside its entries
-//! a run has marks, one to two bytes for each, set anew at each merge: one bit is set for each key that it has, and few
+//! a run has marks, one to two bytes for each, set when it is made: one bit is set for each key that it has, and few
 //! others where keys are spread evenly over all 64 bits. Where they are not, marks tell little.
 //!
 //! A bucket costs a look at a word of each run's marks. In a run that may have the key it costs a search, which looks at a
