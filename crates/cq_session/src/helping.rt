@@ -66,8 +66,43 @@ fn help_one<L: Ledger, H: Hub<Work<L>>, G: Gate>(
     }
 }
 
+// How many works are made in a row from the last one down.
+const BLOCK: u64 = 64;
+
+// The works of the changes behind the first `done`, which are done, are done up to the one with the number `to`, the last
+// one first.
+fn help_down<L: Ledger, H: Hub<Work<L>>, G: Gate>(
+    alloc: Global,
+    settings: &Settings,
+    keyer: &Keyer,
+    hub: &H,
+    done: u64,
+    to: u64,
+    gate: &G,
+    pass: &mut H::Pass,
+) -> Result<(), Memory>
+    requires in_range { IsInRange settings.now }
+    requires settings { keyer.now.settings ≡ settings.now }
+    requires hub_settings { H.settings hub.now ≡ settings.now }
+    requires accepted { MayHelp H.Hub hub.now pass.old done to }
+    ensures done { OnOk result (HasDoneUpTo H.Hub hub.now pass.old pass.new done to) }
+    ensures refused { OnErr result (HasDoneSome H.Hub hub.now pass.old pass.new done to) }
+    ensures asked { H.asked pass.new ≡ H.asked pass.old }
+{
+    let mut left = to;
+    'changes: while left > done {
+        match help_one(alloc, settings, keyer, hub, left, gate, pass) {
+            Ok(()) => {}
+            Err(Memory) => return Err(Memory),
+        }
+        left -= 1;
+    }
+    Ok(())
+}
+
 /// The works of the changes behind the first `done`, which are done, are done up to the one with the number `to`. Each
-/// costs what `work_of` does, unless it is done by then.
+/// costs what `work_of` does, unless it is done by then. Of some changes in a row the last one is made first: workers
+/// begin with the first one, so few are made twice.
 pub(crate) fn help<L: Ledger, H: Hub<Work<L>>, G: Gate>(
     alloc: Global,
     settings: &Settings,
@@ -86,11 +121,14 @@ pub(crate) fn help<L: Ledger, H: Hub<Work<L>>, G: Gate>(
     ensures refused { OnErr result (HasDoneSome H.Hub hub.now pass.old pass.new done to) }
     ensures asked { H.asked pass.new ≡ H.asked pass.old }
 {
-    'changes: for i in done..to {
-        match help_one(alloc, settings, keyer, hub, i + 1, gate, pass) {
+    let mut from = done;
+    'rounds: while from < to {
+        let until = to.min(from.saturating_add(BLOCK));
+        match help_down(alloc, settings, keyer, hub, from, until, gate, pass) {
             Ok(()) => {}
             Err(Memory) => return Err(Memory),
         }
+        from = until;
     }
     Ok(())
 }
