@@ -26,10 +26,11 @@
 //! - `advance`, the board: an owner of each work that is to be applied, and a list of them. So this hold takes memory,
 //!   and is as long as the list. Then, shard by shard, a hold of the shard for each change: a look at each key of its
 //!   work, an entry for each that is the shard's, and the merging that this brings. Between two shards the gate is
-//!   called, and nothing is held. Each caller begins at a shard of its own and goes round, so that callers that bring the
-//!   same changes seldom meet. At last, the board again: the publication, which costs what cq_board says of it. Where as
-//!   much is published by then, or was at first, that hold makes the listing anew instead, should memory have been
-//!   refused in the middle of a publication of several changes; this takes the time of all changes that are kept once.
+//!   called, and nothing is held. Each caller begins at a shard of its own and goes round, every second one downwards, so
+//!   that callers that bring the same changes meet and don't follow each other. At last, the board again: the
+//!   publication, which costs what cq_board says of it. Where as much is published by then, or was at first, that hold
+//!   makes the listing anew instead, should memory have been refused in the middle of a publication of several changes;
+//!   this takes the time of all changes that are kept once.
 //! - `sweep`, the board: a look at each caller's view, and what raising the floor lets go of. Where some shard was not
 //!   swept up to that floor, also the puts that it keeps: an owner of the listing where the floor is the published
 //!   version. While an older version is viewed it is a list, so this hold takes memory then, and is as long as what is
