@@ -35,7 +35,7 @@ const TALK: &str = "\
 {\"op\":\"state\"}\t
 {\"op\":\"drop\",\"project\":\"p\",\"path\":\"c\"}\t
 {\"op\":\"files\",\"project\":\"p\",\"finish\":false}\t
-{\"op\":\"files\",\"project\":\"p\"}\t work 1 work 2 shard 0 shard 1 open 2
+{\"op\":\"files\",\"project\":\"p\"}\t work 2 work 1 shard 0 shard 1 open 2
 {\"op\":\"groups\",\"project\":\"p\",\"min\":2}\t open 2
 {\"op\":\"gate\",\"project\":\"p\",\"conditions\":[]}\t accept 3
 {\"op\":\"measures\",\"project\":\"p\",\"at\":4}\t
