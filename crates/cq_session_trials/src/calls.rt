@@ -27,15 +27,15 @@ const SETTINGS: Settings = Settings {
 };
 
 // The lines of a talk, each with the calls of the gate that come before its reply, behind a tab. An upload makes no work.
-// A query makes that of each upload that has none, and of no other change; it brings up both shards where its version is
-// not the published one; and what is refused calls nothing.
+// A query makes that of each upload that has none, the last one first, and of no other change; it brings up both shards
+// where its version is not the published one; and what is refused calls nothing.
 const TALK: &str = "\
 {\"op\":\"put\",\"project\":\"p\",\"path\":\"a\",\"lang\":\"any\",\"text\":\"a b a b\"}\t accept 1
 {\"op\":\"put\",\"project\":\"p\",\"path\":\"b\",\"lang\":\"any\",\"text\":\"a b\"}\t accept 2
 {\"op\":\"state\"}\t
 {\"op\":\"drop\",\"project\":\"p\",\"path\":\"c\"}\t
 {\"op\":\"files\",\"project\":\"p\",\"finish\":false}\t
-{\"op\":\"files\",\"project\":\"p\"}\t work 1 work 2 shard 0 shard 1 open 2
+{\"op\":\"files\",\"project\":\"p\"}\t work 2 work 1 shard 0 shard 1 open 2
 {\"op\":\"groups\",\"project\":\"p\",\"min\":2}\t open 2
 {\"op\":\"gate\",\"project\":\"p\",\"conditions\":[]}\t accept 3
 {\"op\":\"measures\",\"project\":\"p\",\"at\":4}\t
@@ -44,7 +44,7 @@ const TALK: &str = "\
 {\"op\":\"drop\",\"project\":\"p\",\"path\":\"a\"}\t accept 5
 {\"op\":\"put\",\"project\":\"p\",\"path\":\"b\",\"lang\":\"c\",\"text\":\"int a;\"}\t accept 6
 {\"op\":\"groups\",\"project\":\"p\",\"min\":1}\t
-{\"op\":\"verdict\",\"project\":\"p\"}\t work 4 work 6 shard 0 shard 1 open 6
+{\"op\":\"verdict\",\"project\":\"p\"}\t work 6 work 4 shard 0 shard 1 open 6
 {\"op\":\"files\",\"project\":\"none\",\"finish\":false}\t open 6
 {\"op\":\"drop\",\"project\":\"q\",\"path\":\"a\"}\t accept 7
 {\"op\":\"drop\",\"project\":\"q\",\"path\":\"a\"}\t
@@ -52,7 +52,7 @@ const TALK: &str = "\
 {\"op\":\"put\",\"project\":\"q\",\"path\":\"a\",\"lang\":\"go\",\"text\":\"\"}\t accept 8
 {\"op\":\"put\",\"project\":\"q\",\"path\":\"a\",\"lang\":\"any\",\"text\":\"a\"}\t accept 9
 {\"op\":\"put\",\"project\":\"q\",\"path\":\"a\",\"lang\":\"any\",\"text\":\"b\"}\t
-{\"op\":\"groups\",\"project\":\"q\",\"min\":2}\t work 8 work 9 shard 0 shard 1 open 9
+{\"op\":\"groups\",\"project\":\"q\",\"min\":2}\t work 9 work 8 shard 0 shard 1 open 9
 ";
 
 // Writes down each call, in order, with its number.
