@@ -3,6 +3,8 @@ pub mod Words
 pub mod Marking
 pub mod SetLaws
 pub mod SetGroups
+pub mod RowLaws
+pub mod Spread
 pub mod Parts
 pub mod WordSets
 pub mod OneSided
@@ -13,6 +15,5 @@ pub mod KeyPlaces
 pub mod Places
 pub mod OneStep
 pub mod ToldApart
-pub mod Gaps
+pub mod Alike
 pub mod Kept
-pub mod Fronts

@@ -2,7 +2,6 @@
 use Rattle.std.proofs.Common.{◌≡◌, ◌≢◌, ℕ, zero, suc, ◌+◌, ◌-◌, ◌<◌, ◌≤◌, List, [], ◌∷◌, ◌++◌, length, map, get_or, Option, Some, None, IsSome, refl, sym, ap, ◌∙◌, subst, inl, inr, ⊎_elim, arith, append-nil, true≢false}
 use Rattle.std.specs.Prelude.{All, Contains, filter, nat_le, option_map}
 use Rattle.std.proofs.lemmas.Bool.{cases_eq, le-leb, eq-eqb, ne_eqb}
-use Rattle.std.proofs.lemmas.List.{length-map, get_or-map}
 use Rattle.std.proofs.lemmas.List.Elements.{All-cons, All-nil, All-contains, Contains-get_or}
 use Rattle.std.proofs.lemmas.List.Kept.{AllPairs-cons}
 use Rattle.std.proofs.lemmas.List.Sums.{sum_by-cons}
@@ -14,35 +13,21 @@ use Rattle.cq_clones.specs.Groups.{IsPlace, token_before, token_behind, token_ah
 use Rattle.cq_tokens.specs.Packed.{norm_in}
 use Rattle.cq_refine.specs.declared.differing.Difference.{Difference}
 use Rattle.cq_refine.specs.declared.spots.Spot.{Spot}
-use Rattle.cq_refine.specs.declared.spots.Marked.{Marked}
+use Rattle.cq_refine.specs.declared.spots.Row.{Row}
 use Rattle.cq_refine.specs.declared.spots.Set.{Set}
-use Rattle.cq_refine.specs.Sets.{IsMark, AreOne, IsDifference, AreTwoMarks, AreSpots, AreMarked, HaveOneLeft, HaveOneMark, MayGive, part_of, IsPart, AddsParts, IsParted, group_of, IsLong, IsChosen, AddsGroup, IsSplit}
+use Rattle.cq_refine.specs.Rows.{all_of}
+use Rattle.cq_refine.specs.Sets.{set_spots, Marked, all_marked, IsMark, AreOne, IsDifference, AreTwoMarks, AreSpots, AreMarked, HaveOneLeft, HaveOneMark, MayGive, part_of, IsPart, AddsParts, IsParted, group_of, IsLong, IsChosen, AddsGroup, IsSplit}
 use Rattle.cq_refine.proofs.Marking.{same_from_marks, no_mark}
+use Rattle.cq_refine.proofs.RowLaws.{first_in, pair_spots_of}
+use Rattle.cq_refine.proofs.Spread.{all_spots, all_part, all_mark}
 
 -- ---- all of it
-
--- the spots with one mark
-abbrev pub all_marked : ℕ → List Spot → List Marked
-all_marked m spots = map (λ (s : Spot). let x : Marked = record { spot = s; mark = m } in x) spots
-
-pub all_spots : (m : ℕ) (spots : List Spot) → map (λ x. x.spot) (all_marked m spots) ≡ spots
-all_spots m [] = refl
-all_spots m (s ∷ ss) = ap (λ (zs : List Spot). s ∷ zs) (all_spots m ss)
-
-pub all_part : (m : ℕ) (spots : List Spot) → part_of m (all_marked m spots) ≡ spots
-all_part m [] = refl
-all_part m (s ∷ ss) = rw (eq-eqb m m refl) (ap (λ (zs : List Spot). s ∷ zs) (all_part m ss))
 
 all_low : (m : ℕ) (spots : List Spot) → length spots ≤ length (filter (λ x. nat_le x.mark m) (all_marked m spots))
 all_low m [] = omega arith
 all_low m (s ∷ ss) = let r = all_low m ss in rw (le-leb m m (omega arith)) (omega (arith, r))
 
-pub all_mark : (m : ℕ) (spots : List Spot) (x : Marked) → Contains (all_marked m spots) x → (x.mark ≡ m) × Contains spots x.spot
-all_mark m spots x c =
-    let (s, s_in, is) = Contains-from_map (λ (s : Spot). let x : Marked = record { spot = s; mark = m } in x) spots x c in
-    (sym (ap (λ (z : Marked). z.mark) is), subst (Contains spots) (ap (λ (z : Marked). z.spot) is) s_in)
-
-pub all_go_on : {T : Type 0} (corpus : List (List T)) (least : ℕ) (set s : Set) (rest more : List Set) (groups : List Group) → AreOne (λ z. token_behind corpus z.place set.depth) set.spots.items → MayGive set.spots.items → s.depth ≡ set.depth + 1 → s.spots.items ≡ set.spots.items → more ≡ rest ++ s ∷ [] → IsSplit corpus least set rest more groups groups
+pub all_go_on : {T : Type 0} (corpus : List (List T)) (least : ℕ) (set s : Set) (rest more : List Set) (groups : List Group) → AreOne (λ z. token_behind corpus z.place set.depth) (set_spots set) → MayGive (set_spots set) → s.depth ≡ set.depth + 1 → (set_spots s) ≡ (set_spots set) → more ≡ rest ++ s ∷ [] → IsSplit corpus least set rest more groups groups
 all_go_on {T} corpus least set s rest more groups (t, tokens) gives deeper same more_is = record {
   marked = marked;
   spots = all_spots 1 spots;
@@ -66,25 +51,25 @@ all_go_on {T} corpus least set s rest more groups (t, tokens) gives deeper same 
           let e : 1 ≡ x.mark = sym (all_mark 1 spots x c).0 in
           (0, s, omega arith, refl, (deeper, part.is ∙ ap (λ k. part_of k marked) e));
     };
-    size = let e = sum_by-cons (λ (z : Set). length z.spots.items) s [] in let low = all_low 1 spots in omega (arith, e, ap length same, low);
+    size = let e = sum_by-cons (λ (z : Set). length (set_spots z)) s [] in let low = all_low 1 spots in omega (arith, e, ap length same, low);
   };
   group = inr (λ chosen. chosen.right (1, omega arith, ones), refl);
 }
   where
     spots : List Spot
-    spots = set.spots.items
+    spots = (set_spots set)
 
     marked : List Marked
-    marked = all_marked 1 set.spots.items
+    marked = all_marked 1 (set_spots set)
 
-    ones : All (λ x. x.mark ≡ 1) (all_marked 1 set.spots.items)
-    ones k d within = (all_mark 1 set.spots.items _ (Contains-get_or (all_marked 1 set.spots.items) k d within)).0
+    ones : All (λ x. x.mark ≡ 1) (all_marked 1 (set_spots set))
+    ones k d within = (all_mark 1 (set_spots set) _ (Contains-get_or (all_marked 1 (set_spots set)) k d within)).0
 
-    ones_low : All (λ x. x.mark ≤ 1) (all_marked 1 set.spots.items)
+    ones_low : All (λ x. x.mark ≤ 1) (all_marked 1 (set_spots set))
     ones_low k d within = let e = ones k d within in omega (arith, e)
 
-    part : IsPart (set.depth + 1) (all_marked 1 set.spots.items) 1 s
-    part = record { mark = 1; some = omega arith; low = omega arith; deeper = deeper; gives = subst MayGive (sym same) gives; is = same ∙ sym (all_part 1 set.spots.items) }
+    part : IsPart (set.depth + 1) (all_marked 1 (set_spots set)) 1 s
+    part = record { mark = 1; some = omega arith; low = omega arith; deeper = deeper; gives = subst MayGive (sym same) gives; is = same ∙ sym (all_part 1 (set_spots set)) }
 
     only : (z : Set) → Contains (s ∷ []) z → s ≡ z
     only z c = ⊎_elim (λ e. e) (λ h. absurd (Contains-nil z h)) (Contains-cases s z [] c)
@@ -110,19 +95,18 @@ first_and_last token xs d x is (there, same) =
     let b = is.end x in
     is.differ (subst IsSome a there, sym a ∙ same ∙ b)
 
-pub no_one_mark_of : (corpus : List (List Norm)) (n : ℕ) (spots : List Spot) (marked : List Marked) (d : Difference) → IsDifference (λ s. token_behind corpus s.place n) spots d → map (λ x. x.spot) marked ≡ spots → AreMarked corpus n marked → HaveOneMark marked → ⊥
-no_one_mark_of corpus n spots marked d is spots_are are =
-    let origin : Marked = record { spot = record { place = record { file = 0; at = 0 }; left = 0 }; mark = 0 } in
-    let size : length marked ≡ length spots = sym (length-map marked (λ (x : Marked). x.spot)) ∙ ap length spots_are in
-    let at : (k : ℕ) → k < length marked → token_behind corpus (get_or marked k origin).spot.place n ≡ token_behind corpus (get_or spots k origin.spot).place n =
-    λ k lt. ap (λ (s : Spot). token_behind corpus s.place n) (sym (get_or-map (λ (x : Marked). x.spot) marked k origin origin.spot lt) ∙ ap (λ (ss : List Spot). get_or ss k origin.spot) spots_are) in
-    let within_first : 0 < length marked = omega (arith, size, is.several, is.within) in
-    let within_last : d.read - 1 < length marked = omega (arith, size, is.several, is.within) in
-    let a = at 0 within_first in
-    let b = at (d.read - 1) within_last in
-    no_one_mark corpus n marked (get_or marked 0 origin) (get_or marked (d.read - 1) origin) are
-    (Contains-get_or marked 0 origin within_first) (Contains-get_or marked (d.read - 1) origin within_last)
-    (λ (there, same). first_and_last (λ (s : Spot). token_behind corpus s.place n) spots d origin.spot is (subst IsSome a there, sym a ∙ same ∙ b))
+pub no_one_mark_of : (corpus : List (List Norm)) (n : ℕ) (rows : List Row) (marked : List Marked) (d : Difference) → IsDifference (λ r. token_behind corpus r.first.place n) rows d → map (λ x. x.spot) marked ≡ all_of rows → AreMarked corpus n marked → HaveOneMark marked → ⊥
+no_one_mark_of corpus n rows marked d is spots_are are =
+    let origin : Row = record { first = record { place = record { file = 0; at = 0 }; left = 0 }; others = 0; gap = 0; left = 0 } in
+    let (x, x_in, x_is) = found (get_or rows 0 origin) (Contains-get_or rows 0 origin (omega (arith, is.several, is.within))) in
+    let (y, y_in, y_is) = found (get_or rows (d.read - 1) origin) (Contains-get_or rows (d.read - 1) origin (omega (arith, is.several, is.within))) in
+    let a = ap (λ (s : Spot). token_behind corpus s.place n) x_is in
+    let b = ap (λ (s : Spot). token_behind corpus s.place n) y_is in
+    no_one_mark corpus n marked x y are x_in y_in
+    (λ (there, same). first_and_last (λ (r : Row). token_behind corpus r.first.place n) rows d origin is (subst IsSome a there, sym a ∙ same ∙ b))
+  where
+    found : (r : Row) → Contains rows r → (x : Marked) × Contains marked x × (x.spot ≡ r.first)
+    found r c = Contains-from_map (λ (x : Marked). x.spot) marked r.first (subst (λ (ss : List Spot). Contains ss r.first) (sym spots_are) (first_in rows r c))
 
 -- the group of a set that stops here
 pub chosen_group : (least depth : ℕ) (spots : List Spot) (marked : List Marked) (group : Group) (old new : List Group) → (HaveOneLeft spots → ⊥) → (HaveOneMark marked → ⊥) → AddsGroup (IsLong least depth spots) group old new → AddsGroup (IsChosen least depth spots marked) group old new
@@ -216,14 +200,12 @@ apart_parts a b s t m n k differ marks some several =
     (cases_eq m k) in
     omega (arith, several, one)
 
-pub split_two : (corpus : List (List Norm)) (least : ℕ) (set : Set) (rest : List Set) (d : Difference) (old new : List Group) → IsDifference (λ s. token_behind corpus s.place set.depth) set.spots.items d → length set.spots.items ≡ 2 → MayGive set.spots.items → AddsGroup (IsLong least set.depth set.spots.items) (group_of set.depth set.spots.items) old new → IsSplit corpus least set rest rest old new
-split_two corpus least set rest d old new is two gives adds = by set.spots.items refl two
+pub split_two : (corpus : List (List Norm)) (least : ℕ) (set : Set) (rest : List Set) (d : Difference) (old new : List Group) → IsDifference (λ r. token_behind corpus r.first.place set.depth) set.rows.items d → length set.rows.items ≡ 2 → All (λ r. r.others ≡ 0) set.rows.items → MayGive (set_spots set) → AddsGroup (IsLong least set.depth (set_spots set)) (group_of set.depth (set_spots set)) old new → IsSplit corpus least set rest rest old new
+split_two corpus least set rest d old new is two single gives adds = by set.rows.items refl two
   where
-    of_pair : (s t : Spot) → set.spots.items ≡ s ∷ t ∷ [] → IsSplit corpus least set rest rest old new
-    of_pair s t e =
+    of_pair : (s t : Spot) → set_spots set ≡ s ∷ t ∷ [] → (AreSame (token_behind corpus s.place set.depth) (token_behind corpus t.place set.depth) → ⊥) → IsSplit corpus least set rest rest old new
+    of_pair s t e differ =
         let n = set.depth in
-        let pair_is = subst (λ (ss : List Spot). IsDifference (λ s. token_behind corpus s.place n) ss d) e is in
-        let differ = two_differ (λ (s : Spot). token_behind corpus s.place n) s t d pair_is in
         let (a, b, marks) = two_exist (token_behind corpus s.place n) (token_behind corpus t.place n) differ in
         let x : Marked = record { spot = s; mark = a } in
         let y : Marked = record { spot = t; mark = b } in
@@ -239,18 +221,25 @@ split_two corpus least set rest d old new is two gives adds = by set.spots.items
           highest = a + b;
           all = All-cons (λ (z : Marked). z.mark ≤ a + b) x (y ∷ []) (omega arith) (All-cons (λ (z : Marked). z.mark ≤ a + b) y [] (omega arith) (All-nil (λ (z : Marked). z.mark ≤ a + b)));
           parts = few_parts (n + 1) (a + b) (x ∷ y ∷ []) rest (λ k some several. apart_parts (token_behind corpus s.place n) (token_behind corpus t.place n) s t a b k differ marks some several);
-          group = chosen_group least n set.spots.items (x ∷ y ∷ []) (group_of n set.spots.items) old new gives.1
+          group = chosen_group least n (set_spots set) (x ∷ y ∷ []) (group_of n (set_spots set)) old new gives.1
               (no_one_mark corpus n (x ∷ y ∷ []) x y are (Contains-here x (y ∷ [])) (Contains-there x y (y ∷ []) (Contains-here y [])) differ) adds;
         }
 
-    by : (spots : List Spot) → set.spots.items ≡ spots → length spots ≡ 2 → IsSplit corpus least set rest rest old new
+    of_rows : (a b : Row) → set.rows.items ≡ a ∷ b ∷ [] → IsSplit corpus least set rest rest old new
+    of_rows a b e =
+        let one = subst (All (λ (r : Row). r.others ≡ 0)) e single in
+        let rows_is = subst (λ (rs : List Row). IsDifference (λ r. token_behind corpus r.first.place set.depth) rs d) e is in
+        of_pair a.first b.first (ap all_of e ∙ pair_spots_of a b (one 0 a (omega arith)) (one 1 a (omega arith)))
+        (two_differ (λ (r : Row). token_behind corpus r.first.place set.depth) a b d rows_is)
+
+    by : (rows : List Row) → set.rows.items ≡ rows → length rows ≡ 2 → IsSplit corpus least set rest rest old new
     by [] e size = absurd (omega (arith, size))
-    by (s ∷ []) e size = absurd (omega (arith, size))
-    by (s ∷ t ∷ []) e size = of_pair s t e
-    by (s ∷ t ∷ u ∷ ss) e size = absurd (omega (arith, size))
+    by (a ∷ []) e size = absurd (omega (arith, size))
+    by (a ∷ b ∷ []) e size = of_rows a b e
+    by (a ∷ b ∷ c ∷ rs) e size = absurd (omega (arith, size))
 
 -- a set of more places
-pub split_parts : (corpus : List (List Norm)) (least : ℕ) (set : Set) (rest more : List Set) (d : Difference) (old new : List Group) → IsDifference (λ s. token_behind corpus s.place set.depth) set.spots.items d → MayGive set.spots.items → IsParted corpus set rest more → AddsGroup (IsLong least set.depth set.spots.items) (group_of set.depth set.spots.items) old new → IsSplit corpus least set rest more old new
+pub split_parts : (corpus : List (List Norm)) (least : ℕ) (set : Set) (rest more : List Set) (d : Difference) (old new : List Group) → IsDifference (λ r. token_behind corpus r.first.place set.depth) set.rows.items d → MayGive (set_spots set) → IsParted corpus set rest more → AddsGroup (IsLong least set.depth (set_spots set)) (group_of set.depth (set_spots set)) old new → IsSplit corpus least set rest more old new
 split_parts corpus least set rest more d old new is gives parted adds = record {
   marked = parted.marked;
   spots = parted.spots;
@@ -258,5 +247,5 @@ split_parts corpus least set rest more d old new is gives parted adds = record {
   highest = parted.highest;
   all = parted.all;
   parts = parted.parts;
-  group = chosen_group least set.depth set.spots.items parted.marked (group_of set.depth set.spots.items) old new gives.1 (no_one_mark_of corpus set.depth set.spots.items parted.marked d is parted.spots parted.marks) adds;
+  group = chosen_group least set.depth (set_spots set) parted.marked (group_of set.depth (set_spots set)) old new gives.1 (no_one_mark_of corpus set.depth set.rows.items parted.marked d is parted.spots parted.marks) adds;
 }

@@ -5,16 +5,16 @@ use Rattle.std.proofs.lemmas.List.{length_push, take_more, map-append, get_or-ma
 use Rattle.std.proofs.lemmas.List.Elements.{filter-append}
 use Rattle.std.proofs.lemmas.Bool.{cases_eq}
 use Rattle.std.proofs.Math.Seq.{get_or-append_seam}
-use Rattle.cq_refine.specs.declared.spots.Spot.{Spot}
+use Rattle.cq_refine.specs.declared.spots.Row.{Row}
+use Rattle.cq_refine.specs.declared.spots.MarkedRow.{MarkedRow}
 use Rattle.std.proofs.lemmas.List.Quantifiers.{all_pairs_push}
 use Rattle.std.proofs.lemmas.List.Elements.{Contains-get_or}
 use Rattle.std.proofs.lemmas.Bool.{cases_lt, cases_order, le-leb, lt-leb, eq-eqb, ne_eqb}
 use Rattle.std.proofs.lemmas.List.Elements.{Contains-push, Contains-push_cases, Contains-append_left}
 use Rattle.std.proofs.lemmas.List.Sums.{sum_by_push}
 use Rattle.cq_base.proofs.Lists.{Contains-nil}
-use Rattle.cq_refine.specs.declared.spots.Marked.{Marked}
 use Rattle.cq_refine.specs.declared.spots.Set.{Set}
-use Rattle.cq_refine.specs.Sets.{part_of, AreByMark, IsPart, ArePartsOf, MayGive, AddsParts}
+use Rattle.cq_refine.specs.Sets.{set_spots, Marked, part_of, rows_of, AreByMark, IsPart, ArePartsOf, MayGive, AddsParts}
 
 -- the marks up to m, and those that are m + 1
 count_more : (m : ℕ) (marked : List Marked) → length (filter (λ x. nat_le x.mark m) marked) + length (part_of (m + 1) marked) ≤ length (filter (λ x. nat_le x.mark (m + 1)) marked)
@@ -41,26 +41,26 @@ count_more m (x ∷ xs) =
     other)
     (cases_order x.mark (m + 1))
 
--- ---- the spots of each mark
+-- ---- the rows of each mark
 
-take_more_is : (xs : List Marked) (i : ℕ) (x : Marked) → i < length xs → x ≡ get_or xs i x → take (i + 1) xs ≡ take i xs ++ x ∷ []
-take_more_is xs i x lt read = take_more xs i x lt ∙ ap (λ (y : Marked). take i xs ++ y ∷ []) (sym read)
+take_more_is : (xs : List MarkedRow) (i : ℕ) (x : MarkedRow) → i < length xs → x ≡ get_or xs i x → take (i + 1) xs ≡ take i xs ++ x ∷ []
+take_more_is xs i x lt read = take_more xs i x lt ∙ ap (λ (y : MarkedRow). take i xs ++ y ∷ []) (sym read)
 
-pub part_push : (m : ℕ) (xs : List Marked) (x : Marked) → part_of m (xs ++ x ∷ []) ≡ cond (eqb x.mark m) (part_of m xs ++ x.spot ∷ []) (part_of m xs)
-part_push m xs x =
-    ap (map (λ (z : Marked). z.spot)) (filter-append (λ (z : Marked). eqb z.mark m) xs (x ∷ []))
-    ∙ map-append (λ (z : Marked). z.spot) (filter (λ (z : Marked). eqb z.mark m) xs) (filter (λ (z : Marked). eqb z.mark m) (x ∷ []))
+pub rows_push : (m : ℕ) (xs : List MarkedRow) (x : MarkedRow) → rows_of m (xs ++ x ∷ []) ≡ cond (eqb x.mark m) (rows_of m xs ++ x.row ∷ []) (rows_of m xs)
+rows_push m xs x =
+    ap (map (λ (z : MarkedRow). z.row)) (filter-append (λ (z : MarkedRow). eqb z.mark m) xs (x ∷ []))
+    ∙ map-append (λ (z : MarkedRow). z.row) (filter (λ (z : MarkedRow). eqb z.mark m) xs) (filter (λ (z : MarkedRow). eqb z.mark m) (x ∷ []))
     ∙ by (eqb x.mark m)
   where
-    by : (b : Bool) → part_of m xs ++ map (λ (z : Marked). z.spot) (cond b (x ∷ []) []) ≡ cond b (part_of m xs ++ x.spot ∷ []) (part_of m xs)
+    by : (b : Bool) → rows_of m xs ++ map (λ (z : MarkedRow). z.row) (cond b (x ∷ []) []) ≡ cond b (rows_of m xs ++ x.row ∷ []) (rows_of m xs)
     by true = refl
-    by false = append-nil (part_of m xs)
+    by false = append-nil (rows_of m xs)
 
-pub part_read : (parts : List (Vec Spot Global)) (i : ℕ) (part : Vec Spot Global) → i < length parts → part ≡ get_or parts i part → part.items ≡ get_or (map (λ p. p.items) parts) i []
+pub part_read : (parts : List (Vec Row Global)) (i : ℕ) (part : Vec Row Global) → i < length parts → part ≡ get_or parts i part → part.items ≡ get_or (map (λ p. p.items) parts) i []
 part_read parts i part within read = ap (λ p. p.items) read ∙ sym (get_or-map (λ p. p.items) parts i part [] within)
 
--- one more mark, of no spot
-pub by_mark_none : (n : ℕ) (parts more : List (List Spot)) → more ≡ parts ++ [] ∷ [] → AreByMark n [] parts → AreByMark (n + 1) [] more
+-- one more mark, of no row
+pub by_mark_none : (n : ℕ) (parts more : List (List Row)) → more ≡ parts ++ [] ∷ [] → AreByMark n [] parts → AreByMark (n + 1) [] more
 by_mark_none n parts more is are = record {
   number = ap length is ∙ length_push parts [] ∙ ap (λ k. k + 1) are.number;
   each = λ m d lt. ap (λ ps. get_or ps m d) is ∙ ⊎_elim
@@ -69,61 +69,61 @@ by_mark_none n parts more is are = record {
       (cases_lt m n);
 }
 
--- a spot comes to the part of its mark
-pub by_mark_more : (n i : ℕ) (marked : List Marked) (x : Marked) (parts more : List (List Spot)) → i < length marked → x ≡ get_or marked i x → 0 < x.mark → x.mark ≤ n → more ≡ set parts (x.mark - 1) (get_or parts (x.mark - 1) [] ++ x.spot ∷ []) → AreByMark n (take i marked) parts → AreByMark n (take (i + 1) marked) more
+-- a row comes to the part of its mark
+pub by_mark_more : (n i : ℕ) (marked : List MarkedRow) (x : MarkedRow) (parts more : List (List Row)) → i < length marked → x ≡ get_or marked i x → 0 < x.mark → x.mark ≤ n → more ≡ set parts (x.mark - 1) (get_or parts (x.mark - 1) [] ++ x.row ∷ []) → AreByMark n (take i marked) parts → AreByMark n (take (i + 1) marked) more
 by_mark_more n i marked x parts more lt read some low is are = record {
   number = ap length is ∙ length-set parts (x.mark - 1) _ ∙ are.number;
   each = λ m d within. ap (λ ps. get_or ps m d) is ∙ ⊎_elim
       (λ same.
       let e : x.mark ≡ m + 1 = omega (arith, same, some) in
       let here : m < length parts = omega (arith, within, are.number) in
-      ap (λ k. get_or (set parts k (get_or parts k [] ++ x.spot ∷ [])) m d) (sym same)
+      ap (λ k. get_or (set parts k (get_or parts k [] ++ x.row ∷ [])) m d) (sym same)
       ∙ get_or-set_same parts m _ d here
-      ∙ ap (λ ss. ss ++ x.spot ∷ []) (are.each m [] within)
-      ∙ ap (λ b. cond b (part_of (m + 1) (take i marked) ++ x.spot ∷ []) (part_of (m + 1) (take i marked))) (sym (eq-eqb x.mark (m + 1) e))
-      ∙ sym (part_push (m + 1) (take i marked) x)
-      ∙ ap (part_of (m + 1)) (sym (take_more_is marked i x lt read)))
+      ∙ ap (λ ss. ss ++ x.row ∷ []) (are.each m [] within)
+      ∙ ap (λ b. cond b (rows_of (m + 1) (take i marked) ++ x.row ∷ []) (rows_of (m + 1) (take i marked))) (sym (eq-eqb x.mark (m + 1) e))
+      ∙ sym (rows_push (m + 1) (take i marked) x)
+      ∙ ap (rows_of (m + 1)) (sym (take_more_is marked i x lt read)))
       (λ other.
       let apart : eqb x.mark (m + 1) ≡ false = ne_eqb x.mark (m + 1) (λ e. other (omega (arith, e))) in
       get_or-set_other parts (x.mark - 1) m _ d other
       ∙ are.each m d within
-      ∙ ap (λ b. cond b (part_of (m + 1) (take i marked) ++ x.spot ∷ []) (part_of (m + 1) (take i marked))) (sym apart)
-      ∙ sym (part_push (m + 1) (take i marked) x)
-      ∙ ap (part_of (m + 1)) (sym (take_more_is marked i x lt read)))
+      ∙ ap (λ b. cond b (rows_of (m + 1) (take i marked) ++ x.row ∷ []) (rows_of (m + 1) (take i marked))) (sym apart)
+      ∙ sym (rows_push (m + 1) (take i marked) x)
+      ∙ ap (rows_of (m + 1)) (sym (take_more_is marked i x lt read)))
       (cases_eq m (x.mark - 1));
 }
 
--- a spot of no mark comes to none
-pub by_mark_same : (n i : ℕ) (marked : List Marked) (x : Marked) (parts : List (List Spot)) → i < length marked → x ≡ get_or marked i x → x.mark ≡ 0 → AreByMark n (take i marked) parts → AreByMark n (take (i + 1) marked) parts
+-- a row of no mark comes to none
+pub by_mark_same : (n i : ℕ) (marked : List MarkedRow) (x : MarkedRow) (parts : List (List Row)) → i < length marked → x ≡ get_or marked i x → x.mark ≡ 0 → AreByMark n (take i marked) parts → AreByMark n (take (i + 1) marked) parts
 by_mark_same n i marked x parts lt read none are = record {
   number = are.number;
   each = λ m d within.
       let apart : eqb x.mark (m + 1) ≡ false = ne_eqb x.mark (m + 1) (λ e. omega (arith, e, none)) in
       are.each m d within
-      ∙ ap (λ b. cond b (part_of (m + 1) (take i marked) ++ x.spot ∷ []) (part_of (m + 1) (take i marked))) (sym apart)
-      ∙ sym (part_push (m + 1) (take i marked) x)
-      ∙ ap (part_of (m + 1)) (sym (take_more_is marked i x lt read));
+      ∙ ap (λ b. cond b (rows_of (m + 1) (take i marked) ++ x.row ∷ []) (rows_of (m + 1) (take i marked))) (sym apart)
+      ∙ sym (rows_push (m + 1) (take i marked) x)
+      ∙ ap (rows_of (m + 1)) (sym (take_more_is marked i x lt read));
 }
 
 -- the parts of the marks above m are left
-pub record AreLeft (m highest : ℕ) (marked : List Marked) (rest : List (List Spot)) : Type 0 where
+pub record AreLeft (m highest : ℕ) (marked : List MarkedRow) (rest : List (List Row)) : Type 0 where
   pub number : m + length rest ≡ highest
-  pub each : (k : ℕ) (d : List Spot) → k < length rest → get_or rest k d ≡ part_of (m + k + 1) marked
+  pub each : (k : ℕ) (d : List Row) → k < length rest → get_or rest k d ≡ rows_of (m + k + 1) marked
 
-pub left_first : (highest : ℕ) (marked : List Marked) (parts : List (List Spot)) → AreByMark highest marked parts → AreLeft 0 highest marked parts
-left_first highest marked parts are = record { number = omega (arith, are.number); each = λ k d lt. are.each k d (omega (arith, lt, are.number)) ∙ ap (λ n. part_of n marked) (omega arith) }
+pub left_first : (highest : ℕ) (marked : List MarkedRow) (parts : List (List Row)) → AreByMark highest marked parts → AreLeft 0 highest marked parts
+left_first highest marked parts are = record { number = omega (arith, are.number); each = λ k d lt. are.each k d (omega (arith, lt, are.number)) ∙ ap (λ n. rows_of n marked) (omega arith) }
 
-pub left_next : (m highest : ℕ) (marked : List Marked) (part : List Spot) (rest : List (List Spot)) → AreLeft m highest marked (part ∷ rest) → (part ≡ part_of (m + 1) marked) × AreLeft (m + 1) highest marked rest
+pub left_next : (m highest : ℕ) (marked : List MarkedRow) (part : List Row) (rest : List (List Row)) → AreLeft m highest marked (part ∷ rest) → (part ≡ rows_of (m + 1) marked) × AreLeft (m + 1) highest marked rest
 left_next m highest marked part rest left = (
-  left.each 0 part (omega arith) ∙ ap (λ k. part_of k marked) (omega arith),
+  left.each 0 part (omega arith) ∙ ap (λ k. rows_of k marked) (omega arith),
   record {
     number = omega (arith, left.number);
-    each = λ k d lt. left.each (suc k) d (omega (arith, lt)) ∙ ap (λ n. part_of n marked) (omega arith);
+    each = λ k d lt. left.each (suc k) d (omega (arith, lt)) ∙ ap (λ n. rows_of n marked) (omega arith);
   },
 )
 
 -- at the end none are
-pub left_none : (m highest : ℕ) (marked : List Marked) → AreLeft m highest marked [] → m ≡ highest
+pub left_none : (m highest : ℕ) (marked : List MarkedRow) → AreLeft m highest marked [] → m ≡ highest
 left_none m highest marked left = omega (arith, left.number)
 
 pub no_parts : (depth : ℕ) (marked : List Marked) (old : List Set) → AddsParts depth marked 0 old old
@@ -145,7 +145,7 @@ higher : {depth m : ℕ} {marked : List Marked} {s : Set} → IsPart depth marke
 higher p = record { mark = p.mark; some = p.some; low = omega (arith, p.low); deeper = p.deeper; gives = p.gives; is = p.is }
 
 -- a part that may give groups is added
-pub part_more : (depth : ℕ) (marked : List Marked) (m : ℕ) (old new more : List Set) (s : Set) → s.depth ≡ depth → s.spots.items ≡ part_of (m + 1) marked → MayGive s.spots.items → more ≡ new ++ s ∷ [] → AddsParts depth marked m old new → AddsParts depth marked (m + 1) old more
+pub part_more : (depth : ℕ) (marked : List Marked) (m : ℕ) (old new more : List Set) (s : Set) → s.depth ≡ depth → (set_spots s) ≡ part_of (m + 1) marked → MayGive (set_spots s) → more ≡ new ++ s ∷ [] → AddsParts depth marked m old new → AddsParts depth marked (m + 1) old more
 part_more depth marked m old new more s s_depth s_is gives more_is before =
     let here : IsPart depth marked (m + 1) s = record { mark = m + 1; some = omega arith; low = omega arith; deeper = s_depth; gives = gives; is = s_is } in record {
       parts = before.parts ++ s ∷ [];
@@ -159,12 +159,12 @@ part_more depth marked m old new more s s_depth s_is gives more_is before =
             (λ k d lt. let p = before.are.each _ (Contains-get_or before.parts k d lt) in record { mark = p.mark; other = m + 1; some = p.some; differ = omega (arith, p.low); is = p.is; other_is = s_is });
         all = λ x c some low enough. ⊎_elim
             (λ lt. let (k, t, within, at, h) = before.are.all x c some (omega arith) enough in
-            any_of (λ z. (z.depth ≡ depth) × (z.spots.items ≡ part_of x.mark marked)) (before.parts ++ s ∷ []) t (Contains-append_left before.parts (s ∷ []) t (k, within, at)) h)
+            any_of (λ z. (z.depth ≡ depth) × ((set_spots z) ≡ part_of x.mark marked)) (before.parts ++ s ∷ []) t (Contains-append_left before.parts (s ∷ []) t (k, within, at)) h)
             (λ ge. let e : m + 1 ≡ x.mark = omega arith in
-            any_of (λ z. (z.depth ≡ depth) × (z.spots.items ≡ part_of x.mark marked)) (before.parts ++ s ∷ []) s (Contains-push before.parts s) (s_depth, s_is ∙ ap (λ k. part_of k marked) e))
+            any_of (λ z. (z.depth ≡ depth) × ((set_spots z) ≡ part_of x.mark marked)) (before.parts ++ s ∷ []) s (Contains-push before.parts s) (s_depth, s_is ∙ ap (λ k. part_of k marked) e))
             (cases_lt x.mark (m + 1));
       };
-      size = omega (arith, before.size, count_more m marked, sum_by_push (λ (z : Set). length z.spots.items) before.parts s, ap length s_is);
+      size = omega (arith, before.size, count_more m marked, sum_by_push (λ (z : Set). length (set_spots z)) before.parts s, ap length s_is);
     }
 
 -- another is not

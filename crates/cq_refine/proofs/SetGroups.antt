@@ -13,8 +13,7 @@ use Rattle.cq_base.proofs.Lists.{Contains-here, Contains-there, Contains-map, Co
 use Rattle.cq_clones.proofs.Order.{IsBefore-apart}
 use Rattle.cq_clones.proofs.GroupLaws.{within_from_standing, word_of_group}
 use Rattle.cq_refine.specs.declared.spots.Spot.{Spot}
-use Rattle.cq_refine.specs.declared.spots.Marked.{Marked}
-use Rattle.cq_refine.specs.Sets.{IsSpotBefore, AreSpots, AreMarked, IsWordSet, AreEntries, HaveOneLeft}
+use Rattle.cq_refine.specs.Sets.{Marked, IsSpotBefore, AreSpots, AreMarked, IsWordSet, AreEntries, HaveOneLeft}
 use Rattle.cq_refine.proofs.Marking.{same_from_marks}
 use Rattle.cq_refine.proofs.SetLaws.{two_places}
 use Rattle.cq_refine.proofs.Words.{stands_front}

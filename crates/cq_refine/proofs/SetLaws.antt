@@ -7,8 +7,7 @@ use Rattle.cq_base.specs.declared.group.Place.{Place}
 use Rattle.cq_clones.specs.Groups.{token_behind, token_before, AreSame}
 use Rattle.cq_base.proofs.Lists.{Contains-here, Contains-there}
 use Rattle.cq_tokens.proofs.Places.{AreSame-sym}
-use Rattle.cq_refine.specs.declared.spots.Marked.{Marked}
-use Rattle.cq_refine.specs.Sets.{IsMark, AreMarked}
+use Rattle.cq_refine.specs.Sets.{Marked, IsMark, AreMarked}
 use Rattle.cq_refine.proofs.Marking.{same_from_marks, marks_of_token}
 use Rattle.cq_refine.proofs.Pairs.{Fails, both_fail}
 

@@ -14,9 +14,8 @@ use Rattle.cq_base.specs.Places.{first_place}
 use Rattle.cq_base.proofs.Lists.{Contains-here, Contains-cases, Contains-nil, Contains-map, Contains-from_map, Contains-filter, Contains-from_filter, AllPairs-head, AllPairs-tail, AllPairs-append, AllPairs-from_map, AllPairs-front}
 use Rattle.cq_clones.proofs.GroupLaws.{within_from_standing, word_of_group}
 use Rattle.cq_refine.specs.declared.spots.Spot.{Spot}
-use Rattle.cq_refine.specs.declared.spots.Marked.{Marked}
 use Rattle.cq_refine.specs.declared.spots.Set.{Set}
-use Rattle.cq_refine.specs.Sets.{IsMark, AreOne, AreSpots, AreMarked, IsWordSet, AreEntries, IsGroupFrom, part_of, IsPart, ArePartsOf, AreParts, group_of, MayGive, IsChosen, IsSplit, AreFirst, AreAllOnce}
+use Rattle.cq_refine.specs.Sets.{set_spots, Marked, IsMark, AreOne, AreSpots, AreMarked, IsWordSet, AreEntries, IsGroupFrom, part_of, IsPart, ArePartsOf, AreParts, group_of, MayGive, IsChosen, IsSplit, AreFirst, AreAllOnce}
 use Rattle.cq_refine.proofs.Marking.{marks_of_token}
 use Rattle.cq_refine.proofs.SetGroups.{set_occurrences, set_is_maximal, IsGroupAt, places_of_set, differ_before, none_by_left, none_by_mark}
 use Rattle.cq_refine.proofs.WordSets.{part_is_word_set}
@@ -48,7 +47,7 @@ any_of P xs x (k, within, at) h = (k, x, within, at, h)
 -- the state of the walk
 
 abbrev pub places_of : Set → List Place
-places_of s = map (λ s. s.place) s.spots.items
+places_of s = map (λ s. s.place) (set_spots s)
 
 abbrev pub AreApart : Set → Set → Type 0
 AreApart s t = (p : Place) → Contains (places_of s) p → Contains (places_of t) p → ⊥
@@ -61,8 +60,8 @@ pub record Covers (s : Set) (g : Group) : Type 0 where
 -- The sets are those of different words, apart. Each group was found or can still be given by a set,
 -- and none of the found ones can.
 pub record Walk {T : Type 0} (corpus : List (List T)) (least : ℕ) (places : List Place) (all : List Spot) (sets : List Set) (groups : List Group) : Type 0 where
-  pub words : (s : Set) → Contains sets s → IsWordSet corpus all s.depth s.spots.items
-  pub gives : (s : Set) → Contains sets s → MayGive s.spots.items
+  pub words : (s : Set) → Contains sets s → IsWordSet corpus all s.depth (set_spots s)
+  pub gives : (s : Set) → Contains sets s → MayGive (set_spots s)
   pub apart : AllPairs AreApart sets
   pub sound : (g : Group) → Contains groups g → IsGroupFrom corpus least places g
   pub complete : (g : Group) → IsGroupFrom corpus least places g → Contains groups g ⊎ Any (λ s. Covers s g) sets
@@ -101,7 +100,7 @@ part_within m marked spots p are c =
     (t.0, f.0, eqb-true t.0.mark m f.1, place, subst (Contains (map (λ (s : Spot). s.place) spots)) place (Contains-map (λ (s : Spot). s.place) spots t.0.spot in_spots))
 
 -- parts of different marks are apart
-pub parts_apart : {T : Type 0} (corpus : List (List T)) (d : ℕ) (marked : List Marked) (spots : List Spot) (s t : Set) → map (λ x. x.spot) marked ≡ spots → AreMarked corpus d marked → 2 ≤ length s.spots.items → ArePartsOf marked s t → AreApart s t
+pub parts_apart : {T : Type 0} (corpus : List (List T)) (d : ℕ) (marked : List Marked) (spots : List Spot) (s t : Set) → map (λ x. x.spot) marked ≡ spots → AreMarked corpus d marked → 2 ≤ length (set_spots s) → ArePartsOf marked s t → AreApart s t
 parts_apart {T} corpus d marked spots s t spots_are are several parts p c e =
     let a = part_within parts.mark marked spots p spots_are (subst (λ (ss : List Spot). Contains (map (λ s. s.place) ss) p) parts.is c) in
     let b = part_within parts.other marked spots p spots_are (subst (λ (ss : List Spot). Contains (map (λ s. s.place) ss) p) parts.other_is e) in
@@ -185,11 +184,11 @@ front_of_group {T} corpus least d all spots g set is long here =
     sym set_stands ∙ ap (word_at corpus f) set.long ∙ stands_front corpus is.word d f (omega (arith, is.tokens, long)) f_stands
 
 -- a longer group of the set is one of a part
-deeper : {T : Type 0} (corpus : List (List T)) (least : ℕ) (places : List Place) (all : List Spot) (set : Set) (marked : List Marked) (highest : ℕ) (parts : List Set) (g : Group) → Given corpus least places all → (words : IsWordSet corpus all set.depth set.spots.items) → map (λ x. x.spot) marked ≡ set.spots.items → AreMarked corpus set.depth marked → All (λ x. x.mark ≤ highest) marked → AreParts (set.depth + 1) marked highest parts → IsGroupFrom corpus least places g → set.depth < g.tokens → Contains (places_of set) (first_place g) → Any (λ s. Covers s g) parts
+deeper : {T : Type 0} (corpus : List (List T)) (least : ℕ) (places : List Place) (all : List Spot) (set : Set) (marked : List Marked) (highest : ℕ) (parts : List Set) (g : Group) → Given corpus least places all → (words : IsWordSet corpus all set.depth (set_spots set)) → map (λ x. x.spot) marked ≡ (set_spots set) → AreMarked corpus set.depth marked → All (λ x. x.mark ≤ highest) marked → AreParts (set.depth + 1) marked highest parts → IsGroupFrom corpus least places g → set.depth < g.tokens → Contains (places_of set) (first_place g) → Any (λ s. Covers s g) parts
 deeper {T} corpus least places all set marked highest parts g given words spots_are marks low are (is, first) lt here =
     let d = set.depth in
     let w = is.word in
-    let front : words.word ≡ take d w = front_of_group corpus least d all set.spots.items g words is (omega (arith, lt)) here in
+    let front : words.word ≡ take d w = front_of_group corpus least d all (set_spots set) g words is (omega (arith, lt)) here in
     ⊎_elim
     (λ (t, inside, _, read).
     let e : take (d + 1) w ≡ words.word ++ t ∷ [] = take_more w d t inside ∙ ap₂ (λ u v. u ++ v ∷ []) (sym front) read in
@@ -209,7 +208,7 @@ deeper {T} corpus least places all set marked highest parts g given words spots_
         let s = spot_of places all f given.are first in
         let s_longer : StandsAt corpus (words.word ++ t ∷ []) s.0.place = subst (StandsAt corpus (words.word ++ t ∷ [])) (sym s.2) (longer f f_stands) in
         let less = stands_less corpus words.word t s.0.place s_longer in
-        let s_in : Contains set.spots.items s.0 = (words.exact.each s.0).1 (s.1, less.0) in
+        let s_in : Contains (set_spots set) s.0 = (words.exact.each s.0).1 (s.1, less.0) in
         let x = Contains-from_map (λ (z : Marked). z.spot) marked s.0 (subst (λ (ss : List Spot). Contains ss s.0) (sym spots_are) s_in) in
         let token : token_behind corpus x.0.spot.place d ≡ Some t =
         ap (λ (z : Spot). token_behind corpus z.place d) x.2 ∙ ap (token_behind corpus s.0.place) (sym words.long) ∙ less.1 in
@@ -217,7 +216,7 @@ deeper {T} corpus least places all set marked highest parts g given words spots_
         let part : (p : Place) → StandsAt corpus is.word p → (z : Spot) × Contains (part_of x.0.mark marked) z × (z.place ≡ p) × Contains all z =
         λ p stands.
         let z = spot_of places all p given.are (place_of_group corpus least places g p given.entries given.some is first stands) in
-        (z.0, in_part corpus all set.spots.items d x.0.mark marked t z.0 words spots_are marks mark z.1 (subst (StandsAt corpus (words.word ++ t ∷ [])) (sym z.2) (longer p stands)), z.2, z.1) in
+        (z.0, in_part corpus all (set_spots set) d x.0.mark marked t z.0 words spots_are marks mark z.1 (subst (StandsAt corpus (words.word ++ t ∷ [])) (sym z.2) (longer p stands)), z.2, z.1) in
         let (p, q, pair) = is.repeated in
         let a = part p pair.first in
         let b = part q pair.second in
@@ -239,26 +238,26 @@ deeper {T} corpus least places all set marked highest parts g given words spots_
         )
 
 -- a group of the set's own length is the set's
-own_group : {T : Type 0} (corpus : List (List T)) (least : ℕ) (places : List Place) (all : List Spot) (set : Set) (marked : List Marked) (g : Group) → Given corpus least places all → (words : IsWordSet corpus all set.depth set.spots.items) → map (λ x. x.spot) marked ≡ set.spots.items → AreMarked corpus set.depth marked → IsGroup corpus least g → g.tokens ≡ set.depth → Contains (places_of set) (first_place g) → IsChosen least set.depth set.spots.items marked × (group_of set.depth set.spots.items ≡ g)
+own_group : {T : Type 0} (corpus : List (List T)) (least : ℕ) (places : List Place) (all : List Spot) (set : Set) (marked : List Marked) (g : Group) → Given corpus least places all → (words : IsWordSet corpus all set.depth (set_spots set)) → map (λ x. x.spot) marked ≡ (set_spots set) → AreMarked corpus set.depth marked → IsGroup corpus least g → g.tokens ≡ set.depth → Contains (places_of set) (first_place g) → IsChosen least set.depth (set_spots set) marked × (group_of set.depth (set_spots set) ≡ g)
 own_group {T} corpus least places all set marked g given words spots_are marks is tokens here =
     let d = set.depth in
-    let at : IsGroupAt corpus least d set.spots.items g = record { is = is; tokens = tokens; first = here } in
+    let at : IsGroupAt corpus least d (set_spots set) g = record { is = is; tokens = tokens; first = here } in
     let long : least ≤ d = omega (arith, is.long, tokens) in
-    let places_are = places_of_set corpus least d places all set.spots.items g given.entries given.are words given.some long at in (
+    let places_are = places_of_set corpus least d places all (set_spots set) g given.entries given.are words given.some long at in (
       record {
         long = long;
-        left = λ (n, positive, one). none_by_left corpus least d n places all set.spots.items g given.entries given.are given.spots words given.some long positive one at;
-        right = λ (n, positive, one). none_by_mark corpus least d n places all set.spots.items marked g given.entries given.are words spots_are marks given.some long positive one at;
+        left = λ (n, positive, one). none_by_left corpus least d n places all (set_spots set) g given.entries given.are given.spots words given.some long positive one at;
+        right = λ (n, positive, one). none_by_mark corpus least d n places all (set_spots set) marked g given.entries given.are words spots_are marks given.some long positive one at;
         several = omega (arith, ap length places_are, is.several);
       },
       ap₂ (λ (n : ℕ) (ps : List Place). let made : Group = record { tokens = n; places = ps } in made) (sym tokens) (sym places_are),
     )
 
 -- a place of the made group
-made_from : {T : Type 0} (corpus : List (List T)) (least : ℕ) (places : List Place) (all : List Spot) (set : Set) (marked : List Marked) → Given corpus least places all → IsWordSet corpus all set.depth set.spots.items → map (λ x. x.spot) marked ≡ set.spots.items → AreMarked corpus set.depth marked → IsChosen least set.depth set.spots.items marked → IsGroupFrom corpus least places (group_of set.depth set.spots.items)
+made_from : {T : Type 0} (corpus : List (List T)) (least : ℕ) (places : List Place) (all : List Spot) (set : Set) (marked : List Marked) → Given corpus least places all → IsWordSet corpus all set.depth (set_spots set) → map (λ x. x.spot) marked ≡ (set_spots set) → AreMarked corpus set.depth marked → IsChosen least set.depth (set_spots set) marked → IsGroupFrom corpus least places (group_of set.depth (set_spots set))
 made_from corpus least places all set marked given words spots_are marks chosen =
     let d = set.depth in
-    let spots = set.spots.items in
+    let spots = (set_spots set) in
     let c = made_first d spots chosen.several in
     let r = Contains-from_map (λ (s : Spot). s.place) spots (first_place (group_of d spots)) c in (
       made_group corpus least places all d spots marked given.entries given.are given.spots given.some words spots_are marks chosen,
@@ -279,7 +278,7 @@ walk_step {T} corpus least places all sets rest more set old new given popped sp
       (AllPairs-front AreApart rest (set ∷ []) popped_apart)
       (λ i j d lt within.
       let ij = split.parts.are.apart i j d lt within in
-      parts_apart corpus set.depth split.marked set.spots.items _ _ split.spots split.marks (split.parts.are.each _ (Contains-get_or split.parts.parts i d (omega (arith, lt, within)))).gives.0 ij)
+      parts_apart corpus set.depth split.marked (set_spots set) _ _ split.spots split.marks (split.parts.are.each _ (Contains-get_or split.parts.parts i d (omega (arith, lt, within)))).gives.0 ij)
       (λ s t c e p in_s in_t. AllPairs-last AreApart rest set s popped_apart c p in_s (part_in t (split.parts.are.each t e) p in_t)));
   sound = λ g c. ⊎_elim
       (λ h. walk.sound g h)
@@ -299,7 +298,7 @@ walk_step {T} corpus least places all sets rest more set old new given popped sp
       let lt = walk.fresh g set g_old set_in (part_in s p (first_place g) first) in omega (arith, lt, p.deeper))
       (in_more s e))
       (λ (chosen, g_is).
-      let here = made_first set.depth set.spots.items chosen.several in
+      let here = made_first set.depth (set_spots set) chosen.several in
       let tokens : set.depth ≡ g.tokens = ap (λ z. z.tokens) g_is in
       ⊎_elim
       (λ s_rest. absurd (AllPairs-last AreApart rest set s popped_apart s_rest (first_place g) first (subst (λ z. Contains (places_of set) (first_place z)) g_is here)))
@@ -308,9 +307,9 @@ walk_step {T} corpus least places all sets rest more set old new given popped sp
       (in_new g c);
   different = ⊎_elim
       (λ (chosen, e). subst (AllPairs (λ (g h : Group). g ≢ h)) (sym e)
-      (all_pairs_push (λ (g h : Group). g ≢ h) old (group_of set.depth set.spots.items) walk.different
+      (all_pairs_push (λ (g h : Group). g ≢ h) old (group_of set.depth (set_spots set)) walk.different
       (λ k d lt same.
-      let here = made_first set.depth set.spots.items chosen.several in
+      let here = made_first set.depth (set_spots set) chosen.several in
       let less = walk.fresh (get_or old k d) set (Contains-get_or old k d lt) set_in (subst (λ z. Contains (places_of set) (first_place z)) (sym same) here) in
       let tokens : (get_or old k d).tokens ≡ set.depth = ap (λ z. z.tokens) same in
       omega (arith, less, tokens))))
@@ -321,7 +320,7 @@ walk_step {T} corpus least places all sets rest more set old new given popped sp
     set_in : Contains sets set
     set_in = subst (λ ss. Contains ss set) (sym popped) (Contains-push rest set)
 
-    set_words : IsWordSet corpus all set.depth set.spots.items
+    set_words : IsWordSet corpus all set.depth (set_spots set)
     set_words = walk.words set set_in
 
     in_rest : (s : Set) → Contains rest s → Contains sets s
@@ -338,27 +337,27 @@ walk_step {T} corpus least places all sets rest more set old new given popped sp
 
     part_in : (s : Set) → IsPart (set.depth + 1) split.marked split.highest s → (p : Place) → Contains (places_of s) p → Contains (places_of set) p
     part_in s part p c =
-        let h = part_within part.mark split.marked set.spots.items p split.spots (subst (λ (ss : List Spot). Contains (map (λ z. z.place) ss) p) part.is c) in h.4
+        let h = part_within part.mark split.marked (set_spots set) p split.spots (subst (λ (ss : List Spot). Contains (map (λ z. z.place) ss) p) part.is c) in h.4
 
-    part_words : (s : Set) → IsPart (set.depth + 1) split.marked split.highest s → IsWordSet corpus all s.depth s.spots.items
+    part_words : (s : Set) → IsPart (set.depth + 1) split.marked split.highest s → IsWordSet corpus all s.depth (set_spots s)
     part_words s part =
         let several : 2 ≤ length (part_of part.mark split.marked) = omega (arith, part.gives.0, ap length part.is) in
         let (t, is) = token_of_part corpus set.depth part.mark split.marked split.marks part.some several in
-        subst (λ n. IsWordSet corpus all n s.spots.items) (sym part.deeper)
+        subst (λ n. IsWordSet corpus all n (set_spots s)) (sym part.deeper)
         (subst (IsWordSet corpus all (set.depth + 1)) (sym part.is)
-        (part_is_word_set corpus all set.spots.items set.depth part.mark split.marked t set_words split.spots split.marks is several))
+        (part_is_word_set corpus all (set_spots set) set.depth part.mark split.marked t set_words split.spots split.marks is several))
 
-    in_new : (g : Group) → Contains new g → Contains old g ⊎ (IsChosen least set.depth set.spots.items split.marked × (group_of set.depth set.spots.items ≡ g))
+    in_new : (g : Group) → Contains new g → Contains old g ⊎ (IsChosen least set.depth (set_spots set) split.marked × (group_of set.depth (set_spots set) ≡ g))
     in_new g c =
         ⊎_elim
-        (λ (chosen, e). ⊎_elim (λ h. inl h) (λ same. inr (chosen, same)) (Contains-push_cases old (group_of set.depth set.spots.items) g (subst (λ gs. Contains gs g) e c)))
+        (λ (chosen, e). ⊎_elim (λ h. inl h) (λ same. inr (chosen, same)) (Contains-push_cases old (group_of set.depth (set_spots set)) g (subst (λ gs. Contains gs g) e c)))
         (λ (not_chosen, e). inl (subst (λ gs. Contains gs g) e c))
         split.group
 
     kept : (g : Group) → Contains old g → Contains new g
     kept g c =
         ⊎_elim
-        (λ (chosen, e). subst (λ gs. Contains gs g) (sym e) (Contains-append_left old (group_of set.depth set.spots.items ∷ []) g c))
+        (λ (chosen, e). subst (λ gs. Contains gs g) (sym e) (Contains-append_left old (group_of set.depth (set_spots set) ∷ []) g c))
         (λ (not_chosen, e). subst (λ gs. Contains gs g) (sym e) c)
         split.group
 
@@ -371,7 +370,7 @@ walk_step {T} corpus least places all sets rest more set old new given popped sp
         (λ ge.
         let own = own_group corpus least places all set split.marked g given set_words split.spots split.marks is.0 (omega (arith, ge, covers.long)) covers.here in
         inl (⊎_elim
-        (λ (chosen, e). subst (λ gs. Contains gs g) (sym e) (subst (Contains (old ++ group_of set.depth set.spots.items ∷ [])) own.1 (Contains-push old (group_of set.depth set.spots.items))))
+        (λ (chosen, e). subst (λ gs. Contains gs g) (sym e) (subst (Contains (old ++ group_of set.depth (set_spots set) ∷ [])) own.1 (Contains-push old (group_of set.depth (set_spots set)))))
         (λ (not_chosen, e). absurd (not_chosen own.0))
         split.group))
         (cases_lt set.depth g.tokens)
@@ -379,18 +378,18 @@ walk_step {T} corpus least places all sets rest more set old new given popped sp
 -- the beginning
 
 -- a set that is pushed where none was
-pub first_alone : (s : Set) (old new : List Set) → new ≡ old ++ s ∷ [] → old ≡ [] → s.depth ≡ 0 → (z : Set) × (z.depth ≡ 0) × (z.spots.items ≡ s.spots.items) × (new ≡ z ∷ [])
-first_alone s old new is none depth = (s, depth, refl, is ∙ ap (λ (ss : List Set). ss ++ s ∷ []) none)
+pub first_alone : (s : Set) (spots : List Spot) (old new : List Set) → new ≡ old ++ s ∷ [] → old ≡ [] → s.depth ≡ 0 → set_spots s ≡ spots → (z : Set) × (z.depth ≡ 0) × (set_spots z ≡ spots) × (new ≡ z ∷ [])
+first_alone s spots old new is none depth spots_are = (s, depth, spots_are, is ∙ ap (λ (ss : List Set). ss ++ s ∷ []) none)
 
 pub walk_begins : {T : Type 0} (corpus : List (List T)) (least : ℕ) (places : List Place) (all : List Spot) (sets : List Set) (groups : List Group) → Given corpus least places all → AreFirst all sets → groups ≡ [] → Walk corpus least places all sets groups
 walk_begins {T} corpus least places all sets groups given first none = record {
   words = λ s c. ⊎_elim
-      (λ (gives, (f, depth, spots, is)). subst (λ (z : Set). IsWordSet corpus all z.depth z.spots.items) (only f s (subst (λ ss. Contains ss s) is c))
-      (subst (λ n. IsWordSet corpus all n f.spots.items) (sym depth) (subst (IsWordSet corpus all 0) (sym spots) (all_words gives.0))))
+      (λ (gives, (f, depth, spots, is)). subst (λ (z : Set). IsWordSet corpus all z.depth (set_spots z)) (only f s (subst (λ ss. Contains ss s) is c))
+      (subst (λ n. IsWordSet corpus all n (set_spots f)) (sym depth) (subst (IsWordSet corpus all 0) (sym spots) (all_words gives.0))))
       (λ (few, is). absurd (Contains-nil s (subst (λ ss. Contains ss s) is c)))
       first;
   gives = λ s c. ⊎_elim
-      (λ (gives, (f, depth, spots, is)). subst (λ (z : Set). MayGive z.spots.items) (only f s (subst (λ ss. Contains ss s) is c)) (subst MayGive (sym spots) gives))
+      (λ (gives, (f, depth, spots, is)). subst (λ (z : Set). MayGive (set_spots z)) (only f s (subst (λ ss. Contains ss s) is c)) (subst MayGive (sym spots) gives))
       (λ (few, is). absurd (Contains-nil s (subst (λ ss. Contains ss s) is c)))
       first;
   apart = λ i j d lt within. ⊎_elim
@@ -478,8 +477,8 @@ walk_ends corpus least places all sets groups none walk = record {
 }
 
 -- the set that is taken
-pub popped_words : {T : Type 0} (corpus : List (List T)) (least : ℕ) (places : List Place) (all : List Spot) (sets rest : List Set) (set : Set) (groups : List Group) → sets ≡ rest ++ set ∷ [] → Walk corpus least places all sets groups → IsWordSet corpus all set.depth set.spots.items
+pub popped_words : {T : Type 0} (corpus : List (List T)) (least : ℕ) (places : List Place) (all : List Spot) (sets rest : List Set) (set : Set) (groups : List Group) → sets ≡ rest ++ set ∷ [] → Walk corpus least places all sets groups → IsWordSet corpus all set.depth (set_spots set)
 popped_words corpus least places all sets rest set groups popped walk = walk.words set (subst (λ ss. Contains ss set) (sym popped) (Contains-push rest set))
 
-pub popped_gives : {T : Type 0} (corpus : List (List T)) (least : ℕ) (places : List Place) (all : List Spot) (sets rest : List Set) (set : Set) (groups : List Group) → sets ≡ rest ++ set ∷ [] → Walk corpus least places all sets groups → MayGive set.spots.items
+pub popped_gives : {T : Type 0} (corpus : List (List T)) (least : ℕ) (places : List Place) (all : List Spot) (sets rest : List Set) (set : Set) (groups : List Group) → sets ≡ rest ++ set ∷ [] → Walk corpus least places all sets groups → MayGive (set_spots set)
 popped_gives corpus least places all sets rest set groups popped walk = walk.gives set (subst (λ ss. Contains ss set) (sym popped) (Contains-push rest set))

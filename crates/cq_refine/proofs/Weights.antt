@@ -11,16 +11,15 @@ use Rattle.cq_base.proofs.Lists.{Contains-here, Contains-there}
 use Rattle.cq_clones.proofs.Order.{IsBefore-apart}
 use Rattle.cq_clones.proofs.GroupLaws.{within_from_standing}
 use Rattle.cq_refine.specs.declared.spots.Spot.{Spot}
-use Rattle.cq_refine.specs.declared.spots.Marked.{Marked}
 use Rattle.cq_refine.specs.declared.spots.Set.{Set}
-use Rattle.cq_refine.specs.Sets.{AreSpots, IsWordSet, IsLongest, IsSplit, AreFirst}
+use Rattle.cq_refine.specs.Sets.{set_spots, Marked, AreSpots, IsWordSet, IsLongest, IsSplit, AreFirst}
 
 -- the spots of a set, once for each length that its words can still get
 abbrev pub weight : ℕ → Set → ℕ
-weight longest s = length s.spots.items * (longest + 1 - s.depth)
+weight longest s = length (set_spots s) * (longest + 1 - s.depth)
 
 abbrev pub size_of : Set → ℕ
-size_of s = length s.spots.items
+size_of s = length (set_spots s)
 
 -- all tokens of the corpus
 abbrev pub size_of_files : {T : Type 0} → List (List T) → ℕ
@@ -57,8 +56,8 @@ sum_weights longest d [] same = sym (zero-mul (longest + 1 - d))
 sum_weights longest d (s ∷ rest) same =
     let e = same s (Contains-here s rest) in
     let r = sum_weights longest d rest (λ t c. same t (Contains-there s t rest c)) in
-    let w : weight longest s ≡ length s.spots.items * (longest + 1 - d) = ap (λ k. length s.spots.items * (longest + 1 - k)) e in
-    sum_by-cons (weight longest) s rest ∙ ap₂ (λ a b. a + b) w r ∙ sym (add-mul (length s.spots.items) (sum_by size_of rest) (longest + 1 - d))
+    let w : weight longest s ≡ length (set_spots s) * (longest + 1 - d) = ap (λ k. length (set_spots s) * (longest + 1 - k)) e in
+    sum_by-cons (weight longest) s rest ∙ ap₂ (λ a b. a + b) w r ∙ sym (add-mul (length (set_spots s)) (sum_by size_of rest) (longest + 1 - d))
     ∙ ap (λ k. k * (longest + 1 - d)) (sym (sum_by-cons size_of s rest))
 
 filter_within : (p : Marked → Bool) (xs : List Marked) → length (filter p xs) ≤ length xs
@@ -68,9 +67,9 @@ filter_within p (x ∷ xs) =
     ⊎_elim (λ yes. rw yes (omega (arith, r))) (λ nay. rw nay (omega (arith, r))) (cases_Bool (p x))
 
 -- a set weighs more than its parts, by its spots
-pub split_weighs : {T : Type 0} (corpus : List (List T)) (least longest : ℕ) (set : Set) (sets rest more : List Set) (old new : List Group) → set.depth ≤ longest → sets ≡ rest ++ set ∷ [] → IsSplit corpus least set rest more old new → sum_by (weight longest) more + length set.spots.items ≤ sum_by (weight longest) sets
+pub split_weighs : {T : Type 0} (corpus : List (List T)) (least longest : ℕ) (set : Set) (sets rest more : List Set) (old new : List Group) → set.depth ≤ longest → sets ≡ rest ++ set ∷ [] → IsSplit corpus least set rest more old new → sum_by (weight longest) more + length (set_spots set) ≤ sum_by (weight longest) sets
 split_weighs corpus least longest set sets rest more old new low popped split =
-    let n = length set.spots.items in
+    let n = length (set_spots set) in
     let d = set.depth in
     let parts = split.parts.parts in
     let a : sum_by (weight longest) more ≡ sum_by (weight longest) rest + sum_by (weight longest) parts = ap (sum_by (weight longest)) split.parts.is ∙ sum_by-append (weight longest) rest parts in
@@ -85,9 +84,9 @@ split_weighs corpus least longest set sets rest more old new low popped split =
     omega (arith, a, b', e, f, h)
 
 -- what the set weighs, it can be read once
-pub set_weighs : (longest : ℕ) (set : Set) (sets rest : List Set) → set.depth ≤ longest → sets ≡ rest ++ set ∷ [] → length set.spots.items ≤ sum_by (weight longest) sets
+pub set_weighs : (longest : ℕ) (set : Set) (sets rest : List Set) → set.depth ≤ longest → sets ≡ rest ++ set ∷ [] → length (set_spots set) ≤ sum_by (weight longest) sets
 set_weighs longest set sets rest low popped =
-    let n = length set.spots.items in
+    let n = length (set_spots set) in
     let f : sum_by (weight longest) sets ≡ sum_by (weight longest) rest + weight longest set = ap (sum_by (weight longest)) popped ∙ sum_by_push (weight longest) rest set in
     let more_is : longest + 1 - set.depth ≡ (longest - set.depth) + 1 = omega (arith, low) in
     let h : weight longest set ≡ n * (longest - set.depth) + n = ap (λ k. n * k) more_is ∙ mul-add n (longest - set.depth) 1 ∙ ap (λ k. n * (longest - set.depth) + k) (mul-one n) in

@@ -7,8 +7,7 @@ use Rattle.std.proofs.lemmas.List.Kept.{AllPairs-filter}
 use Rattle.cq_clones.specs.Groups.{StandsAt, token_behind, token_ahead}
 use Rattle.cq_base.proofs.Lists.{Contains-map, Contains-from_map, Contains-filter, Contains-from_filter, AllPairs-map, AllPairs-from_map}
 use Rattle.cq_refine.specs.declared.spots.Spot.{Spot}
-use Rattle.cq_refine.specs.declared.spots.Marked.{Marked}
-use Rattle.cq_refine.specs.Sets.{IsMark, IsSpotBefore, AreMarked, IsWordSet, part_of}
+use Rattle.cq_refine.specs.Sets.{Marked, IsMark, IsSpotBefore, AreMarked, IsWordSet, part_of}
 use Rattle.cq_refine.proofs.Marking.{marks_of_token}
 use Rattle.cq_refine.proofs.Words.{stands_more, stands_less}
 

@@ -7,13 +7,42 @@ use Rattle.cq_tokens.specs.Packed.{norm_in, seen_cmp}
 use Rattle.cq_base.specs.declared.group.Place.{Place}
 use Rattle.cq_base.specs.declared.group.Group.{Group}
 use Rattle.cq_clones.specs.Lists.{AreAllInOrder}
-use Rattle.cq_clones.specs.Groups.{IsPlace, IsBefore, StandsAt, word_at, token_ahead, token_before, token_behind, file_at, AreSame, IsGroup, is_free, kept_of}
+use Rattle.cq_clones.specs.Groups.{IsPlace, IsBefore, StandsAt, word_at, token_ahead, token_before, token_behind, file_at, AreSame, IsGroup, is_free, kept_after, kept_of}
 use Rattle.cq_base.specs.Places.{first_place}
 use Rattle.cq_refine.specs.declared.differing.Difference.{Difference}
 use Rattle.cq_refine.specs.declared.spots.Spot.{Spot}
-use Rattle.cq_refine.specs.declared.spots.Marked.{Marked}
+use Rattle.cq_refine.specs.declared.spots.Row.{Row}
+use Rattle.cq_refine.specs.declared.spots.MarkedRow.{MarkedRow}
 use Rattle.cq_refine.specs.declared.spots.Set.{Set}
 use Rattle.cq_refine.specs.declared.parting.Parting.{Parting}
+use Rattle.cq_refine.specs.Rows.{further, row_spots, all_of, IsRow, AreRows}
+
+-- the spots of a set, in order
+abbrev pub set_spots : Set → List Spot
+set_spots s = all_of s.rows.items
+
+-- a row of these spots, within a word of `depth` tokens
+pub record IsRowOf (depth : ℕ) (spots : List Spot) (r : Row) : Type 0 where
+  pub spots_are : row_spots r ≡ spots
+  pub row : IsRow depth r
+
+-- the spots of the row are added in rows of which each goes on by one token of a word
+abbrev pub AddsRow : Row → List Row → List Row → Type 0
+AddsRow r old new = (all_of new ≡ all_of old ++ row_spots r) × ((depth : ℕ) → IsRow depth r → AreRows depth old → AreRows depth new)
+
+-- a spot with the mark of the token behind its word
+pub record Marked : Type 0 where
+  pub spot : Spot
+  pub mark : ℕ
+
+-- spots with one mark
+abbrev pub all_marked : ℕ → List Spot → List Marked
+all_marked m spots = map (λ (s : Spot). let x : Marked = record { spot = s; mark = m } in x) spots
+
+-- the spots of rows, each with the mark of its row
+abbrev pub spread : List MarkedRow → List Marked
+spread [] = []
+spread (x ∷ xs) = all_marked x.mark (row_spots x.row) ++ spread xs
 
 -- the mark of a token among different ones: its position there from 1 on, and 0 for no token
 pub record IsMark {T : Type 0} (seen : List T) (token : Option T) (mark : ℕ) : Type 0 where
@@ -73,6 +102,12 @@ pub record AreMarked {T : Type 0} (corpus : List (List T)) (n : ℕ) (marked : L
   pub apart : AllPairs (λ a b. a ≢ b) seen
   pub marks : (x : Marked) → Contains marked x → IsMark seen (token_behind corpus x.spot.place n) x.mark
 
+-- the marks are those of the tokens `n` behind the first spots of the rows
+pub record AreRowsMarked {T : Type 0} (corpus : List (List T)) (n : ℕ) (marked : List MarkedRow) : Type 0 where
+  pub seen : List T
+  pub apart : AllPairs (λ a b. a ≢ b) seen
+  pub marks : (x : MarkedRow) → Contains marked x → IsMark seen (token_behind corpus x.row.first.place n) x.mark
+
 -- all have one token
 abbrev pub AreOne : {X T : Type 0} → (X → Option T) → List X → Type 0
 AreOne {X} {T} token xs = (t : T) × All (λ x. token x ≡ Some t) xs
@@ -89,9 +124,13 @@ pub record IsDifference {X : Type 0} (token : X → Option Norm) (xs : List X) (
 abbrev pub IsInNumbers : ℕ → Difference → Type 0
 IsInNumbers n d = (IsSome (option_map norm_in d.first) → n + 1 < 2 ^ 32) × (IsSome (option_map norm_in d.last) → n + 1 < 2 ^ 32)
 
--- whether the spot at `k` is free of a word at the one at `i`
-abbrev pub IsFreeBehind : ℕ → List Spot → ℕ → ℕ → Spot → Bool → Type 0
-IsFreeBehind tokens spots i k d free = is_free tokens (Some (slice_index_or spots i d).place) (slice_index_or spots k d).place ≡ free
+-- whether a spot of the row, so many behind its first one, is free of a word at the last kept place
+abbrev pub IsFreeAt : ℕ → Option Place → Row → ℕ → Bool → Type 0
+IsFreeAt tokens last r k free = is_free tokens last (further r.first.place (k * r.gap)) ≡ free
+
+-- the kept places of the row come behind those before it, whatever places follow
+abbrev pub KeepsRow : ℕ → Row → Option Place → Option Place → List Place → List Place → Type 0
+KeepsRow tokens r last latest old new = (rest : List Place) → new ++ kept_after tokens latest rest ≡ old ++ kept_after tokens last (map (λ s. s.place) (row_spots r) ++ rest)
 
 -- the spots have the same first tokens, `n` of them
 abbrev pub AreAlike : {T : Type 0} → List (List T) → ℕ → List Spot → Type 0
@@ -103,6 +142,10 @@ pub record AreTwoMarks {T : Type 0} (a b : Option T) (m n : ℕ) : Type 0 where
   pub apart : AllPairs (λ x y. x ≢ y) seen
   pub first : IsMark seen a m
   pub second : IsMark seen b n
+
+-- each spot of the row has this mark
+abbrev pub HasLeft : ℕ → Row → Type 0
+HasLeft left r = (r.first.left ≡ left) × (0 < r.others → r.left ≡ left)
 
 -- the tokens before the spots are there and equal: no group has two of them that show it maximal
 abbrev pub HaveOneLeft : List Spot → Type 0
@@ -126,23 +169,27 @@ IsGroupFrom corpus least places group = IsGroup corpus least group × Contains p
 abbrev pub part_of : ℕ → List Marked → List Spot
 part_of mark marked = map (λ x. x.spot) (filter (λ x. x.mark == mark) marked)
 
--- the spots with other marks than one
-abbrev pub others_of : ℕ → List Marked → List Marked
+-- the rows with one mark
+abbrev pub rows_of : ℕ → List MarkedRow → List Row
+rows_of mark marked = map (λ x. x.row) (filter (λ x. x.mark == mark) marked)
+
+-- the rows with other marks than one
+abbrev pub others_of : ℕ → List MarkedRow → List MarkedRow
 others_of mark marked = filter (λ x. not (x.mark == mark)) marked
 
--- spots were parted: some stay, whose mark is one of a token, and the others have their marks
-pub record IsParting {T : Type 0} (corpus : List (List T)) (n : ℕ) (spots : List Spot) (parting : Parting) : Type 0 where
-  pub marked : List Marked
-  pub is : map (λ x. x.spot) marked ≡ spots
-  pub marks : AreMarked corpus n marked
+-- rows were parted: some stay, whose mark is one of a token, and the others have their marks
+pub record IsParting {T : Type 0} (corpus : List (List T)) (n : ℕ) (rows : List Row) (parting : Parting) : Type 0 where
+  pub marked : List MarkedRow
+  pub is : map (λ x. x.row) marked ≡ rows
+  pub marks : AreRowsMarked corpus n marked
   pub some : 0 < parting.mark
-  pub stay : parting.stay.items ≡ part_of parting.mark marked
+  pub stay : parting.stay.items ≡ rows_of parting.mark marked
   pub others : parting.others.items ≡ others_of parting.mark marked
 
--- the spots of each mark from 1 to the highest
-pub record AreByMark (highest : ℕ) (marked : List Marked) (parts : List (List Spot)) : Type 0 where
+-- the rows of each mark from 1 to the highest
+pub record AreByMark (highest : ℕ) (marked : List MarkedRow) (parts : List (List Row)) : Type 0 where
   pub number : length parts ≡ highest
-  pub each : (m : ℕ) (d : List Spot) → m < highest → slice_index_or parts m d ≡ part_of (m + 1) marked
+  pub each : (m : ℕ) (d : List Row) → m < highest → slice_index_or parts m d ≡ rows_of (m + 1) marked
 
 -- the spots of one mark, which may give groups
 pub record IsPart (depth : ℕ) (marked : List Marked) (highest : ℕ) (s : Set) : Type 0 where
@@ -150,8 +197,8 @@ pub record IsPart (depth : ℕ) (marked : List Marked) (highest : ℕ) (s : Set)
   pub some : 0 < mark
   pub low : mark ≤ highest
   pub deeper : s.depth ≡ depth
-  pub gives : MayGive s.spots.items
-  pub is : s.spots.items ≡ part_of mark marked
+  pub gives : MayGive (set_spots s)
+  pub is : set_spots s ≡ part_of mark marked
 
 -- the spots of two different marks
 pub record ArePartsOf (marked : List Marked) (s t : Set) : Type 0 where
@@ -159,25 +206,25 @@ pub record ArePartsOf (marked : List Marked) (s t : Set) : Type 0 where
   pub other : ℕ
   pub some : 0 < mark
   pub differ : mark < other
-  pub is : s.spots.items ≡ part_of mark marked
-  pub other_is : t.spots.items ≡ part_of other marked
+  pub is : set_spots s ≡ part_of mark marked
+  pub other_is : set_spots t ≡ part_of other marked
 
 -- the parts that may give groups
 pub record AreParts (depth : ℕ) (marked : List Marked) (highest : ℕ) (parts : List Set) : Type 0 where
   pub each : (s : Set) → Contains parts s → IsPart depth marked highest s
   pub apart : AllPairs (ArePartsOf marked) parts
-  pub all : (x : Marked) → Contains marked x → 0 < x.mark → x.mark ≤ highest → MayGive (part_of x.mark marked) → Any (λ s. (s.depth ≡ depth) × (s.spots.items ≡ part_of x.mark marked)) parts
+  pub all : (x : Marked) → Contains marked x → 0 < x.mark → x.mark ≤ highest → MayGive (part_of x.mark marked) → Any (λ s. (s.depth ≡ depth) × (set_spots s ≡ part_of x.mark marked)) parts
 
 pub record AddsParts (depth : ℕ) (marked : List Marked) (highest : ℕ) (old new : List Set) : Type 0 where
   pub parts : List Set
   pub is : new ≡ old ++ parts
   pub are : AreParts depth marked highest parts
-  pub size : sum_by (λ s. length s.spots.items) parts ≤ length (filter (λ x. nat_le x.mark highest) marked)
+  pub size : sum_by (λ s. length (set_spots s)) parts ≤ length (filter (λ x. nat_le x.mark highest) marked)
 
 -- the parts of a set, of which those that may give groups stand behind other sets
 pub record IsParted {T : Type 0} (corpus : List (List T)) (set : Set) (rest sets : List Set) : Type 0 where
   pub marked : List Marked
-  pub spots : map (λ x. x.spot) marked ≡ set.spots.items
+  pub spots : map (λ x. x.spot) marked ≡ set_spots set
   pub marks : AreMarked corpus set.depth marked
   pub highest : ℕ
   pub all : All (λ x. x.mark ≤ highest) marked
@@ -209,16 +256,16 @@ AddsGroup Chosen group old new = (Chosen × (new ≡ old ++ group ∷ [])) ⊎ (
 -- a set gave its group and its parts
 pub record IsSplit {T : Type 0} (corpus : List (List T)) (least : ℕ) (set : Set) (rest sets : List Set) (old new : List Group) : Type 0 where
   pub marked : List Marked
-  pub spots : map (λ x. x.spot) marked ≡ set.spots.items
+  pub spots : map (λ x. x.spot) marked ≡ set_spots set
   pub marks : AreMarked corpus set.depth marked
   pub highest : ℕ
   pub all : All (λ x. x.mark ≤ highest) marked
   pub parts : AddsParts (set.depth + 1) marked highest rest sets
-  pub group : AddsGroup (IsChosen least set.depth set.spots.items marked) (group_of set.depth set.spots.items) old new
+  pub group : AddsGroup (IsChosen least set.depth (set_spots set) marked) (group_of set.depth (set_spots set)) old new
 
 -- the one set of all spots, if they may give groups
 abbrev pub AreFirst : List Spot → List Set → Type 0
-AreFirst spots sets = (MayGive spots × ((s : Set) × (s.depth ≡ 0) × (s.spots.items ≡ spots) × (sets ≡ s ∷ []))) ⊎ ((MayGive spots → ⊥) × (sets ≡ []))
+AreFirst spots sets = (MayGive spots × ((s : Set) × (s.depth ≡ 0) × (set_spots s ≡ spots) × (sets ≡ s ∷ []))) ⊎ ((MayGive spots → ⊥) × (sets ≡ []))
 
 -- exactly the groups with a property, each once
 abbrev pub AreAllOnce : (Group → Type 0) → List Group → Type 0

@@ -1,13 +1,11 @@
-ghost use Rattle.std.specs.Prelude.{◌≡◌, ◌+◌, ◌-◌, ◌^◌, ◌<◌, ◌≤◌, ◌↔◌, length, option_map, IsTrue, IsSome, IfSome, IfNone, All};
+ghost use Rattle.std.specs.Prelude.{◌+◌, ◌-◌, ◌^◌, ◌<◌, ◌≤◌, ◌↔◌, length, option_map, IsTrue, IsSome, IfSome, IfNone, All};
 ghost use Rattle.cq_clones.specs.Groups.{IsPlace, token_before, AreSame};
-ghost use Rattle.cq_refine.specs.declared.spots.Spot.{Spot};
 ghost use Rattle.cq_tokens.specs.Packed.{norm_in};
 ghost use Rattle.cq_tokens.specs.Parts.{tokens_in};
-ghost use Rattle.cq_refine.specs.Gaps.{IsGap, AreInSteps};
-ghost use Rattle.cq_refine.specs.Differences.{GoOnApart, GoOnByOne, IsTokenBefore, IsTokenBehind};
-ghost use Rattle.cq_refine.specs.Sets.{AreOne, AreAlike, IsDifference, IsInNumbers};
+ghost use Rattle.cq_refine.specs.Differences.{GoOnApart, RowsGoOnByOne, IsTokenBefore, IsTokenBehind};
+ghost use Rattle.cq_refine.specs.Sets.{AreOne, IsDifference, IsInNumbers};
 
-use crate::spots::{Set, Spot};
+use crate::spots::Row;
 use cq_base::{Place, Steps};
 use cq_tokens::{FileList, Files, Seen};
 
@@ -59,74 +57,25 @@ pub(crate) fn difference_before<'a, F: Files>(
     None
 }
 
-/// How far behind the spot at `i` the next one stands in its file; 0 where it doesn't.
-fn gap_behind(spots: &[Spot], i: usize) -> u32
-    requires { i < length spots.now }
-    ensures { (d : Spot) → 0 < result → IsGap spots.now i result d }
-{
-    if i + 1 >= spots.len() || spots[i + 1].place.file != spots[i].place.file {
-        return 0;
-    }
-    spots[i + 1].place.at.saturating_sub(spots[i].place.at)
-}
-
-/// Whether there is a gap, and it is the known one.
-fn is_known(gap: u32, known: u32) -> bool
-    ensures { IsTrue result ↔ ((0 < gap) × (gap ≡ known)) }
-{
-    gap > 0 && gap == known
-}
-
-/// The gap by which all spots follow each other in one file, or 0. It looks no further than to where one doesn't.
-pub(crate) fn gap_of(spots: &[Spot]) -> u32
-    ensures { AreInSteps result spots.now }
-{
-    if spots.len() < 2 {
-        return 0;
-    }
-    let gap = gap_behind(spots, 0);
-    for i in 1..spots.len() - 1 {
-        if !is_known(gap_behind(spots, i), gap) {
-            return 0;
-        }
-    }
-    gap
-}
-
-/// The gap, if a word of `n` tokens reaches over it, and else 0.
-fn gap_within(gap: u32, n: u32) -> u32
-    ensures { 0 < result → (result ≡ gap) × (gap ≤ n) }
-{
-    if gap <= n { gap } else { 0 }
-}
-
-/// The first difference among the tokens `n` behind some spots with one word of `n` tokens; None where they are all there
-/// and the same. A spot that the next one follows within the word goes on by a token of the word itself, which is read
-/// once for all that follow each other by the same gap.
-fn difference_behind<'a, F: Files>(
+/// The first difference among the tokens `n` behind the first spots of rows; None where they are all there and the same.
+pub(crate) fn difference_behind<'a, F: Files>(
     files: &FileList<'a, F>,
-    spots: &[Spot],
+    rows: &[Row],
     n: u32,
     steps: &mut Steps<F::Reads>,
 ) -> Option<Difference<'a>>
-    requires several { 2 ≤ length spots.now }
-    requires places { All (λ s. IsPlace (tokens_in files.now) s.place) spots.now }
-    requires alike { AreAlike (tokens_in files.now) n spots.now }
-    ensures one { IfNone result (GoOnByOne (tokens_in files.now) n spots.now) }
+    requires several { 2 ≤ length rows.now }
+    requires places { All (λ r. IsPlace (tokens_in files.now) r.first.place) rows.now }
+    ensures one { IfNone result (RowsGoOnByOne (tokens_in files.now) n rows.now) }
     ensures fits { IfNone result (n + 1 < 2 ^ 32) }
     ensures numbers { IfSome result (IsInNumbers n) }
-    ensures differ { IfSome result (GoOnApart (tokens_in files.now) n spots.now) }
+    ensures differ { IfSome result (GoOnApart (tokens_in files.now) n rows.now) }
     ensures read { IfSome result (λ d. steps.new ≤ steps.old + d.read) }
-    ensures steps { steps.new ≤ steps.old + length spots.now }
+    ensures steps { steps.new ≤ steps.old + length rows.now }
 {
-    let first = files.token_behind(spots[0].place, n, steps);
-    let mut known = 0;
-    for i in 1..spots.len() {
-        let gap = gap_behind(spots, i);
-        if is_known(gap, known) {
-            continue;
-        }
-        let last = files.token_behind(spots[i].place, n, steps);
+    let first = files.token_behind(rows[0].first.place, n, steps);
+    for i in 1..rows.len() {
+        let last = files.token_behind(rows[i].first.place, n, steps);
         if !are_same(first, last) {
             return Some(Difference {
                 first,
@@ -134,64 +83,8 @@ fn difference_behind<'a, F: Files>(
                 read: i + 1,
             });
         }
-        known = gap_within(gap, n);
     }
     None
-}
-
-/// The same of spots that follow each other by one gap within the word: all but the last go on by one token of the word.
-fn difference_at_end<'a, F: Files>(
-    files: &FileList<'a, F>,
-    spots: &[Spot],
-    gap: u32,
-    n: u32,
-    steps: &mut Steps<F::Reads>,
-) -> Option<Difference<'a>>
-    requires several { 2 ≤ length spots.now }
-    requires places { All (λ s. IsPlace (tokens_in files.now) s.place) spots.now }
-    requires alike { AreAlike (tokens_in files.now) n spots.now }
-    requires in_steps { AreInSteps gap spots.now }
-    requires some { 0 < gap }
-    requires within { gap ≤ n }
-    ensures one { IfNone result (GoOnByOne (tokens_in files.now) n spots.now) }
-    ensures fits { IfNone result (n + 1 < 2 ^ 32) }
-    ensures numbers { IfSome result (IsInNumbers n) }
-    ensures differ { IfSome result (GoOnApart (tokens_in files.now) n spots.now) }
-    ensures read { IfSome result (λ d. steps.new ≤ steps.old + d.read) }
-    ensures steps { steps.new ≤ steps.old + length spots.now }
-{
-    let first = files.token_behind(spots[0].place, n, steps);
-    let last = files.token_behind(spots[spots.len() - 1].place, n, steps);
-    if are_same(first, last) {
-        return None;
-    }
-    Some(Difference {
-        first,
-        last,
-        read: spots.len(),
-    })
-}
-
-/// The first difference among the tokens behind the word of a set.
-pub(crate) fn difference_in<'a, F: Files>(
-    files: &FileList<'a, F>,
-    set: &Set,
-    steps: &mut Steps<F::Reads>,
-) -> Option<Difference<'a>>
-    requires several { 2 ≤ length set.now.spots.items }
-    requires places { All (λ s. IsPlace (tokens_in files.now) s.place) set.now.spots.items }
-    requires alike { AreAlike (tokens_in files.now) set.now.depth set.now.spots.items }
-    ensures one { IfNone result (GoOnByOne (tokens_in files.now) set.now.depth set.now.spots.items) }
-    ensures fits { IfNone result (set.now.depth + 1 < 2 ^ 32) }
-    ensures numbers { IfSome result (IsInNumbers set.now.depth) }
-    ensures differ { IfSome result (GoOnApart (tokens_in files.now) set.now.depth set.now.spots.items) }
-    ensures read { IfSome result (λ d. steps.new ≤ steps.old + d.read) }
-    ensures steps { steps.new ≤ steps.old + length set.now.spots.items }
-{
-    if set.gap > 0 && set.gap <= set.depth {
-        return difference_at_end(files, &set.spots, set.gap, set.depth, steps);
-    }
-    difference_behind(files, &set.spots, set.depth, steps)
 }
 
 /// The token before the place at `i`. It is read unless it was.
@@ -217,21 +110,21 @@ pub(crate) fn token_before_at<'a, F: Files>(
     files.token_before(places[i], steps)
 }
 
-/// The token `n` behind the spot at `i`. It is read unless it was.
+/// The token `n` behind the first spot of the row at `i`. It is read unless it was.
 pub(crate) fn token_behind_at<'a, F: Files>(
     files: &FileList<'a, F>,
-    spots: &[Spot],
+    rows: &[Row],
     i: usize,
     n: u32,
     difference: &Difference<'a>,
     steps: &mut Steps<F::Reads>,
 ) -> Option<Seen<'a>>
-    requires within { i < length spots.now }
-    requires places { All (λ s. IsPlace (tokens_in files.now) s.place) spots.now }
-    requires differ { GoOnApart (tokens_in files.now) n spots.now difference.now }
+    requires within { i < length rows.now }
+    requires places { All (λ r. IsPlace (tokens_in files.now) r.first.place) rows.now }
+    requires differ { GoOnApart (tokens_in files.now) n rows.now difference.now }
     requires numbers { IsInNumbers n difference.now }
     ensures fits { IsSome (option_map norm_in result) → n + 1 < 2 ^ 32 }
-    ensures token { IsTokenBehind (tokens_in files.now) n spots.now i (option_map norm_in result) }
+    ensures token { IsTokenBehind (tokens_in files.now) n rows.now i (option_map norm_in result) }
     ensures step { steps.new + (i - difference.now.read) ≤ steps.old + (i + 1 - difference.now.read) }
 {
     if i + 1 < difference.read {
@@ -240,5 +133,5 @@ pub(crate) fn token_behind_at<'a, F: Files>(
     if i < difference.read {
         return difference.last;
     }
-    files.token_behind(spots[i].place, n, steps)
+    files.token_behind(rows[i].first.place, n, steps)
 }

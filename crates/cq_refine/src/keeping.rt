@@ -1,10 +1,9 @@
-ghost use Rattle.std.specs.Prelude.{◌≡◌, ℕ, ◌<◌, ◌≤◌, length, true, false, Some, IfOk, AllPairs, map};
-ghost use Rattle.cq_base.specs.declared.group.Place.{Place};
+ghost use Rattle.std.specs.Prelude.{◌≡◌, ℕ, ◌+◌, ◌*◌, ◌^◌, ◌<◌, ◌≤◌, true, false, Some, IfOk, All, map};
 ghost use Rattle.cq_clones.specs.Groups.{is_free, kept_of};
-ghost use Rattle.cq_refine.specs.declared.spots.Spot.{Spot};
-ghost use Rattle.cq_refine.specs.Sets.{IsSpotBefore, IsFreeBehind};
+ghost use Rattle.cq_refine.specs.Rows.{further, all_of, IsRow};
+ghost use Rattle.cq_refine.specs.Sets.{IsFreeAt, KeepsRow};
 
-use crate::spots::Spot;
+use crate::spots::Row;
 use cq_base::{Memory, Place};
 use std::alloc::Global;
 
@@ -15,26 +14,50 @@ fn is_free_behind(tokens: u32, last: Place, p: Place) -> bool
     last.file != p.file || u64::from(last.at) + u64::from(tokens) <= u64::from(p.at)
 }
 
-/// The first spot behind the one at `i` that its word doesn't reach, or how many there are. It costs one look where that is
-/// the next one, and else a binary search.
-#[tactic(auto, using(crate::proofs::Kept::reached_before))]
-fn first_free(spots: &[Spot], i: usize, tokens: u32) -> usize
-    requires within { i < length spots.now }
-    requires ordered { AllPairs IsSpotBefore spots.now }
-    ensures later { i < result }
-    ensures end { result ≤ length spots.now }
-    ensures reached { (k : ℕ) (d : Spot) → i < k → k < result → IsFreeBehind tokens spots.now i k d false }
-    ensures free { (d : Spot) → result < length spots.now → IsFreeBehind tokens spots.now i result d true }
+/// Whether a place is kept behind the last one that was, if there is one.
+fn is_kept(tokens: u32, last: Option<Place>, p: Place) -> bool
+    ensures { result ≡ is_free tokens last p }
 {
-    let last = spots[i].place;
-    let mut low = i + 1;
-    let mut high = spots.len();
-    if low < high && is_free_behind(tokens, last, spots[low].place) {
+    let Some(kept) = last else {
+        return true;
+    };
+    is_free_behind(tokens, kept, p)
+}
+
+/// The place of a row's spot, so many behind its first one.
+fn place_in(row: &Row, k: usize) -> Place
+    requires within { k ≤ row.now.others }
+    requires inside { 0 < row.now.others → row.now.first.place.at + row.now.others * row.now.gap < 2 ^ 32 }
+    ensures { result ≡ further row.now.first.place (k * row.now.gap) }
+{
+    let place = row.first.place;
+    if k == 0 {
+        return place;
+    }
+    Place {
+        file: place.file,
+        at: place.at + k as u32 * row.gap,
+    }
+}
+
+/// The first of a row's spots from one on that is kept behind the last one that was, or how many there are. It costs one look
+/// where that is the next one, and else a binary search.
+fn first_kept(row: &Row, from: usize, last: Option<Place>, tokens: u32) -> usize
+    requires within { from ≤ row.now.others + 1 }
+    requires inside { 0 < row.now.others → row.now.first.place.at + row.now.others * row.now.gap < 2 ^ 32 }
+    ensures later { from ≤ result }
+    ensures end { result ≤ row.now.others + 1 }
+    ensures reached { (k : ℕ) → from ≤ k → k < result → IsFreeAt tokens last row.now k false }
+    ensures free { result ≤ row.now.others → IsFreeAt tokens last row.now result true }
+{
+    let mut low = from;
+    let mut high = row.others as usize + 1;
+    if low < high && is_kept(tokens, last, place_in(row, low)) {
         return low;
     }
     while low < high {
         let middle = low + (high - low) / 2;
-        if is_free_behind(tokens, last, spots[middle].place) {
+        if is_kept(tokens, last, place_in(row, middle)) {
             high = middle;
             continue;
         }
@@ -43,17 +66,37 @@ fn first_free(spots: &[Spot], i: usize, tokens: u32) -> usize
     low
 }
 
-/// Of the places of a word of `tokens` tokens those that are kept. It costs a binary search for each that is.
-#[tactic(auto, using(crate::proofs::Kept::kept_none, crate::proofs::Kept::kept_more, crate::proofs::Kept::kept_all))]
-pub(crate) fn kept_places(alloc: Global, tokens: u32, spots: &[Spot]) -> Result<Vec<Place>, Memory>
-    requires { AllPairs IsSpotBefore spots.now }
-    ensures { IfOk result (λ kept. kept.items ≡ kept_of tokens (map (λ s. s.place) spots.now)) }
+/// Adds the places of a row that are kept behind the last one that was, and returns the last one then. It costs a binary
+/// search for each that is kept.
+fn keep_row(
+    row: &Row,
+    tokens: u32,
+    last: Option<Place>,
+    kept: &mut Vec<Place>,
+) -> Result<Option<Place>, Memory>
+    requires { 0 < row.now.others → row.now.first.place.at + row.now.others * row.now.gap < 2 ^ 32 }
+    ensures { IfOk result (λ latest. KeepsRow tokens row.now last latest kept.old.items kept.new.items) }
+{
+    let mut latest = last;
+    let mut i = first_kept(row, 0, latest, tokens);
+    while i <= row.others as usize {
+        let place = place_in(row, i);
+        kept.push(place)?;
+        latest = Some(place);
+        i = first_kept(row, i + 1, latest, tokens);
+    }
+    Ok(latest)
+}
+
+/// Of the places of a word of `tokens` tokens those that are kept.
+pub(crate) fn kept_places(alloc: Global, tokens: u32, rows: &[Row]) -> Result<Vec<Place>, Memory>
+    requires { All (IsRow tokens) rows.now }
+    ensures { IfOk result (λ kept. kept.items ≡ kept_of tokens (map (λ s. s.place) (all_of rows.now))) }
 {
     let mut kept = Vec::new(alloc);
-    let mut i = 0;
-    while i < spots.len() {
-        kept.push(spots[i].place)?;
-        i = first_free(spots, i, tokens);
+    let mut last: Option<Place> = None;
+    for row in rows {
+        last = keep_row(row, tokens, last, &mut kept)?;
     }
     Ok(kept)
 }

@@ -1,14 +1,14 @@
 ghost use Rattle.std.specs.Prelude.{◌≡◌, ◌+◌, ◌^◌, ◌<◌, ◌≤◌, length, map, option_map, IfOk, All, Contains};
-ghost use Rattle.cq_refine.specs.declared.spots.Marked.{Marked};
+ghost use Rattle.cq_refine.specs.declared.spots.MarkedRow.{MarkedRow};
 ghost use Rattle.cq_clones.specs.Groups.{IsPlace, AreSame, token_before};
 ghost use Rattle.cq_tokens.specs.Parts.{tokens_in};
 ghost use Rattle.cq_tokens.specs.Packed.{norm_in};
 ghost use Rattle.cq_refine.specs.Differences.{GoOnApart};
 ghost use Rattle.cq_refine.specs.Steps.{MarksToken};
-ghost use Rattle.cq_refine.specs.Sets.{AreTwoMarks, IsDifference, IsInNumbers, AreSpots, AreMarked};
+ghost use Rattle.cq_refine.specs.Sets.{AreTwoMarks, IsDifference, IsInNumbers, AreSpots, AreRowsMarked};
 
 use crate::differing::{Difference, token_before_at, token_behind_at};
-use crate::spots::{Marked, Spot};
+use crate::spots::{MarkedRow, Row, Spot};
 use cq_base::{Memory, Place, Steps};
 use cq_tokens::{FileList, Files, Seen, equal_tokens_tie};
 use std::alloc::Global;
@@ -113,29 +113,29 @@ pub(crate) fn spots_of<'a, F: Files>(
     spots_by_map(alloc, files, places, difference, steps)
 }
 
-/// The spots with the marks of the tokens `n` behind them, of which some were read.
+/// The rows with the marks of the tokens `n` behind their spots, of which some were read.
 pub(crate) fn marked_of<'a, F: Files>(
     alloc: Global,
     files: &FileList<'a, F>,
-    spots: &[Spot],
+    rows: &[Row],
     n: u32,
     difference: &Difference<'a>,
     steps: &mut Steps<F::Reads>,
-) -> Result<Vec<Marked>, Memory>
-    requires places { All (λ s. IsPlace (tokens_in files.now) s.place) spots.now }
-    requires differ { GoOnApart (tokens_in files.now) n spots.now difference.now }
+) -> Result<Vec<MarkedRow>, Memory>
+    requires places { All (λ r. IsPlace (tokens_in files.now) r.first.place) rows.now }
+    requires differ { GoOnApart (tokens_in files.now) n rows.now difference.now }
     requires numbers { IsInNumbers n difference.now }
-    ensures spots { IfOk result (λ marked. map (λ x. x.spot) marked.items ≡ spots.now) }
-    ensures marks { IfOk result (λ marked. AreMarked (tokens_in files.now) n marked.items) }
-    ensures fits { IfOk result (λ marked. (x : Marked) → Contains marked.items x → 0 < x.mark → n + 1 < 2 ^ 32) }
-    ensures steps { steps.new + difference.now.read ≤ steps.old + length spots.now }
+    ensures rows { IfOk result (λ marked. map (λ x. x.row) marked.items ≡ rows.now) }
+    ensures marks { IfOk result (λ marked. AreRowsMarked (tokens_in files.now) n marked.items) }
+    ensures fits { IfOk result (λ marked. (x : MarkedRow) → Contains marked.items x → 0 < x.mark → n + 1 < 2 ^ 32) }
+    ensures steps { steps.new + difference.now.read ≤ steps.old + length rows.now }
 {
     let mut marks = BTreeMap::new(alloc);
-    let mut marked = Vec::with_capacity(alloc, spots.len())?;
-    for (i, s) in spots.iter().enumerate() {
-        let token = token_behind_at(files, spots, i, n, difference, steps);
+    let mut marked = Vec::with_capacity(alloc, rows.len())?;
+    for (i, r) in rows.iter().enumerate() {
+        let token = token_behind_at(files, rows, i, n, difference, steps);
         let mark = mark_of(&mut marks, token)?;
-        marked.push(Marked { spot: *s, mark })?;
+        marked.push(MarkedRow { row: *r, mark })?;
     }
     Ok(marked)
 }

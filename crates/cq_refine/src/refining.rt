@@ -1,13 +1,14 @@
-ghost use Rattle.std.specs.Prelude.{◌+◌, ◌<◌, ◌≤◌, length, IfOk, OnOk, All, AllPairs};
+ghost use Rattle.std.specs.Prelude.{◌+◌, ◌<◌, ◌≤◌, length, IfOk, OnOk, All};
 ghost use Rattle.cq_clones.specs.Groups.{IsPlace};
 ghost use Rattle.cq_tokens.specs.Parts.{tokens_in};
 ghost use Rattle.cq_refine.specs.Differences.{GoOnApart};
-ghost use Rattle.cq_refine.specs.Sets.{IsSpotBefore, AreEntries, IsGroupFrom, IsInNumbers, AreAlike, ReadsAtMost, MayGive, IsParted, AreFirst, AreAllOnce};
+ghost use Rattle.cq_refine.specs.Sets.{set_spots, AreEntries, IsGroupFrom, IsInNumbers, AreAlike, ReadsAtMost, MayGive, IsParted, AreFirst, AreAllOnce};
 ghost use Rattle.cq_refine.specs.Steps.{Splits};
 
-use crate::differing::{Difference, difference_before, difference_in, gap_of};
+use crate::differing::{Difference, difference_before, difference_behind};
 use crate::marks::{marked_of, spots_of};
-use crate::parting::{push_front, push_parting};
+use crate::parting::push_parting;
+use crate::rows::{further_on, is_pair, singles};
 use crate::sets::{add_group, highest, may_give, push_parts};
 use crate::spots::{Set, Spot};
 use cq_base::{Group, Memory, Place, Steps};
@@ -15,17 +16,14 @@ use cq_tokens::{FileList, Files};
 use std::alloc::Global;
 
 /// The set of all spots, if they may give groups.
+#[tactic(auto, using(crate::proofs::RowLaws::singles_are_rows))]
 fn first_sets(alloc: Global, spots: Vec<Spot>) -> Result<Vec<Set>, Memory>
     ensures { IfOk result (λ sets. AreFirst spots.items sets.items) }
 {
     let mut sets = Vec::new(alloc);
-    if may_give(&spots) {
-        let gap = gap_of(&spots);
-        sets.push(Set {
-            depth: 0,
-            gap,
-            spots,
-        })?;
+    let rows = singles(alloc, &spots)?;
+    if may_give(&rows) {
+        sets.push(Set { depth: 0, rows })?;
     }
     Ok(sets)
 }
@@ -39,13 +37,14 @@ fn push_marked<'a, F: Files>(
     sets: &mut Vec<Set>,
     steps: &mut Steps<F::Reads>,
 ) -> Result<(), Memory>
-    requires places { All (λ s. IsPlace (tokens_in files.now) s.place) set.now.spots.items }
-    requires differ { GoOnApart (tokens_in files.now) set.now.depth set.now.spots.items difference.now }
+    requires places { All (λ r. IsPlace (tokens_in files.now) r.first.place) set.now.rows.items }
+    requires alike { AreAlike (tokens_in files.now) set.now.depth (set_spots set.now) }
+    requires differ { GoOnApart (tokens_in files.now) set.now.depth set.now.rows.items difference.now }
     requires numbers { IsInNumbers set.now.depth difference.now }
     ensures parted { OnOk result (IsParted (tokens_in files.now) set.now sets.old.items sets.new.items) }
-    ensures steps { steps.new + difference.now.read ≤ steps.old + length set.now.spots.items }
+    ensures steps { steps.new + difference.now.read ≤ steps.old + length set.now.rows.items }
 {
-    let marked = marked_of(alloc, files, &set.spots, set.depth, difference, steps)?;
+    let marked = marked_of(alloc, files, &set.rows, set.depth, difference, steps)?;
     let highest = highest(&marked);
     if highest > 0 {
         push_parts(alloc, &marked, highest, set.depth + 1, sets)?;
@@ -53,8 +52,7 @@ fn push_marked<'a, F: Files>(
     Ok(())
 }
 
-/// Gives up a set whose places go on by different tokens for its group and its parts. Two places have no parts, and of a
-/// set whose last place alone goes on by another token the rest is kept as it stands.
+/// Gives up a set whose places go on by different tokens for its group and its parts. Two places have no parts.
 fn part<'a, F: Files>(
     alloc: Global,
     files: &FileList<'a, F>,
@@ -65,23 +63,20 @@ fn part<'a, F: Files>(
     groups: &mut Vec<Group>,
     steps: &mut Steps<F::Reads>,
 ) -> Result<(), Memory>
-    requires gives { MayGive set.spots.items }
-    requires ordered { AllPairs IsSpotBefore set.spots.items }
-    requires places { All (λ s. IsPlace (tokens_in files.now) s.place) set.spots.items }
-    requires differ { GoOnApart (tokens_in files.now) set.depth set.spots.items difference.now }
+    requires gives { MayGive (set_spots set) }
+    requires places { All (λ r. IsPlace (tokens_in files.now) r.first.place) set.rows.items }
+    requires alike { AreAlike (tokens_in files.now) set.depth (set_spots set) }
+    requires differ { GoOnApart (tokens_in files.now) set.depth set.rows.items difference.now }
     requires numbers { IsInNumbers set.depth difference.now }
     ensures split { OnOk result (Splits (tokens_in files.now) min set sets.old sets.new groups.old groups.new) }
-    ensures steps { steps.new + difference.now.read ≤ steps.old + length set.spots.items }
+    ensures steps { steps.new + difference.now.read ≤ steps.old + length set.rows.items }
 {
     add_group(alloc, &set, min, groups)?;
-    if set.spots.len() == 2 {
+    if is_pair(&set.rows) {
         return Ok(());
     }
     if difference.first.is_none() {
         return push_marked(alloc, files, &set, difference, sets, steps);
-    }
-    if difference.read == set.spots.len() {
-        return push_front(set, difference, sets);
     }
     push_parting(alloc, files, &set, difference, sets, steps)
 }
@@ -96,19 +91,15 @@ fn split<F: Files>(
     groups: &mut Vec<Group>,
     steps: &mut Steps<F::Reads>,
 ) -> Result<(), Memory>
-    requires gives { MayGive set.spots.items }
-    requires ordered { AllPairs IsSpotBefore set.spots.items }
-    requires places { All (λ s. IsPlace (tokens_in files.now) s.place) set.spots.items }
-    requires alike { AreAlike (tokens_in files.now) set.depth set.spots.items }
+    requires gives { MayGive (set_spots set) }
+    requires places { All (λ r. IsPlace (tokens_in files.now) r.first.place) set.rows.items }
+    requires alike { AreAlike (tokens_in files.now) set.depth (set_spots set) }
     ensures split { OnOk result (Splits (tokens_in files.now) min set sets.old sets.new groups.old groups.new) }
-    ensures steps { steps.new ≤ steps.old + length set.spots.items }
+    ensures steps { steps.new ≤ steps.old + length set.rows.items }
 {
-    let Some(difference) = difference_in(files, &set, steps) else {
-        sets.push(Set {
-            depth: set.depth + 1,
-            gap: set.gap,
-            spots: set.spots,
-        })?;
+    let Some(difference) = difference_behind(files, &set.rows, set.depth, steps) else {
+        let more = further_on(alloc, set)?;
+        sets.push(more)?;
         return Ok(());
     };
     part(alloc, files, set, &difference, min, sets, groups, steps)

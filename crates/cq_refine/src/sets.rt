@@ -1,33 +1,61 @@
-ghost use Rattle.std.specs.Prelude.{◌≡◌, ◌<◌, ◌≤◌, ◌↔◌, IsTrue, IfOk, OnOk, length, All, AllPairs, Any};
-ghost use Rattle.cq_refine.specs.Sets.{IsSpotBefore, AreByMark, AddsParts, HaveOneLeft, MayGive};
-ghost use Rattle.cq_refine.specs.Steps.{AddsAll, AddsGroupOf, lists_in};
+ghost use Rattle.std.specs.Prelude.{◌≡◌, ◌<◌, ◌≤◌, ◌↔◌, IsTrue, IfOk, OnOk, length, All, Any};
+ghost use Rattle.cq_refine.specs.Rows.{all_of, IsRow};
+ghost use Rattle.cq_refine.specs.Sets.{spread, HasLeft, AreByMark, AddsParts, HaveOneLeft, MayGive};
+ghost use Rattle.cq_refine.specs.Steps.{AddsAll, AddsGroupOf, ArePartRows, lists_in};
 
-use crate::differing::gap_of;
 use crate::keeping::kept_places;
-use crate::spots::{Marked, Set, Spot};
+use crate::rows::rows_of_part;
+use crate::spots::{MarkedRow, Row, Set};
 use cq_base::{Group, Memory, Places};
 use std::alloc::Global;
 
-/// Whether the mark is one of a token, and that of the token before each spot.
-fn have_left(spots: &[Spot], left: usize) -> bool
-    ensures { IsTrue result ↔ ((0 < left) × All (λ s. s.left ≡ left) spots.now) }
+/// Whether the mark is that of the token before each spot of a row.
+fn has_left(row: &Row, left: usize) -> bool
+    ensures { IsTrue result ↔ HasLeft left row.now }
 {
-    left > 0 && spots.iter().all(|s| s.left == left)
+    row.first.left == left && (row.others == 0 || row.left == left)
+}
+
+/// Whether the mark is one of a token, and that of the token before each spot.
+fn have_left(rows: &[Row], left: usize) -> bool
+    ensures { IsTrue result ↔ ((0 < left) × All (HasLeft left) rows.now) }
+{
+    left > 0 && rows.iter().all(|row| has_left(row, left))
 }
 
 /// Whether the tokens before the spots are there and equal.
-fn have_one_left(spots: &[Spot]) -> bool
-    requires { 0 < length spots.now }
-    ensures { IsTrue result ↔ HaveOneLeft spots.now }
+fn have_one_left(rows: &[Row]) -> bool
+    requires { 0 < length rows.now }
+    ensures { IsTrue result ↔ HaveOneLeft (all_of rows.now) }
 {
-    have_left(spots, spots[0].left)
+    have_left(rows, rows[0].first.left)
+}
+
+/// Whether a row has spots behind its first one.
+fn has_others(row: &Row) -> bool
+    ensures { IsTrue result ↔ 0 < row.now.others }
+{
+    row.others > 0
+}
+
+/// Whether there are two spots or more.
+fn are_several(rows: &[Row]) -> bool
+    ensures { IsTrue result ↔ 2 ≤ length (all_of rows.now) }
+{
+    if rows.len() > 1 {
+        return true;
+    }
+    if rows.len() < 1 {
+        return false;
+    }
+    has_others(&rows[0])
 }
 
 /// Whether they are two or more, and not all have one token before them.
-pub(crate) fn may_give(spots: &[Spot]) -> bool
-    ensures { IsTrue result ↔ MayGive spots.now }
+pub(crate) fn may_give(rows: &[Row]) -> bool
+    ensures { IsTrue result ↔ MayGive (all_of rows.now) }
 {
-    spots.len() > 1 && !have_one_left(spots)
+    are_several(rows) && !have_one_left(rows)
 }
 
 /// Adds the group of a set that stops here, if its word is long enough and two of its places are kept.
@@ -37,13 +65,12 @@ pub(crate) fn add_group(
     min: u32,
     groups: &mut Vec<Group>,
 ) -> Result<(), Memory>
-    requires { AllPairs IsSpotBefore set.now.spots.items }
     ensures { OnOk result (AddsGroupOf min set.now groups.old.items groups.new.items) }
 {
     if set.depth < min {
         return Ok(());
     }
-    let places = kept_places(alloc, set.depth, &set.spots)?;
+    let places = kept_places(alloc, set.depth, &set.rows)?;
     if places.len() < 2 {
         return Ok(());
     }
@@ -56,7 +83,7 @@ pub(crate) fn add_group(
 }
 
 /// The highest of the marks, or 0.
-pub(crate) fn highest(marked: &[Marked]) -> usize
+pub(crate) fn highest(marked: &[MarkedRow]) -> usize
     ensures all { All (λ x. x.mark ≤ result) marked.now }
     ensures one { 0 < result → Any (λ x. x.mark ≡ result) marked.now }
 {
@@ -67,12 +94,12 @@ pub(crate) fn highest(marked: &[Marked]) -> usize
     most
 }
 
-/// The spots of each mark, from 1 to the highest. It looks at each spot once.
+/// The rows of each mark, from 1 to the highest. It looks at each row once.
 pub(crate) fn parts_of(
     alloc: Global,
-    marked: &[Marked],
+    marked: &[MarkedRow],
     highest: usize,
-) -> Result<Vec<Vec<Spot>>, Memory>
+) -> Result<Vec<Vec<Row>>, Memory>
     requires { All (λ x. x.mark ≤ highest) marked.now }
     ensures { IfOk result (λ parts. AreByMark highest marked.now (lists_in parts.items)) }
 {
@@ -82,20 +109,26 @@ pub(crate) fn parts_of(
     }
     for x in marked {
         if x.mark > 0 {
-            parts[x.mark - 1].push(x.spot)?;
+            parts[x.mark - 1].push(x.row)?;
         }
     }
     Ok(parts)
 }
 
 /// Adds the parts that may give groups.
-pub(crate) fn push_all(parts: Vec<Vec<Spot>>, depth: u32, sets: &mut Vec<Set>) -> Result<(), Memory>
+pub(crate) fn push_all(
+    alloc: Global,
+    parts: Vec<Vec<Row>>,
+    depth: u32,
+    sets: &mut Vec<Set>,
+) -> Result<(), Memory>
+    requires { ArePartRows depth parts.items }
     ensures { OnOk result (AddsAll depth parts.items sets.old.items sets.new.items) }
 {
-    for spots in parts {
-        if may_give(&spots) {
-            let gap = gap_of(&spots);
-            sets.push(Set { depth, gap, spots })?;
+    for part in parts {
+        if may_give(&part) {
+            let rows = rows_of_part(alloc, depth, part)?;
+            sets.push(Set { depth, rows })?;
         }
     }
     Ok(())
@@ -104,14 +137,15 @@ pub(crate) fn push_all(parts: Vec<Vec<Spot>>, depth: u32, sets: &mut Vec<Set>) -
 /// Adds the parts with marks up to the highest that may give groups.
 pub(crate) fn push_parts(
     alloc: Global,
-    marked: &[Marked],
+    marked: &[MarkedRow],
     highest: usize,
     depth: u32,
     sets: &mut Vec<Set>,
 ) -> Result<(), Memory>
-    requires { All (λ x. x.mark ≤ highest) marked.now }
-    ensures { OnOk result (AddsParts depth marked.now highest sets.old.items sets.new.items) }
+    requires low { All (λ x. x.mark ≤ highest) marked.now }
+    requires rows { All (λ x. IsRow depth x.row) marked.now }
+    ensures { OnOk result (AddsParts depth (spread marked.now) highest sets.old.items sets.new.items) }
 {
     let parts = parts_of(alloc, marked, highest)?;
-    push_all(parts, depth, sets)
+    push_all(alloc, parts, depth, sets)
 }

@@ -1,9 +1,6 @@
-use Rattle.std.proofs.Common.{◌-◌, length}
-use Rattle.cq_refine.proofs.Kept.{KeptUpto}
+use Rattle.std.proofs.Common.{take}
+use Rattle.cq_refine.proofs.Kept.{AreKept}
 use Rattle.cq_refine.proofs.keeping.kept_places.Given as goal
 
-abbrev pub invariant-loop-i : goal.invariant-loop-i
-invariant-loop-i l = KeptUpto l.tokens l.spots l.i l.kept.items
-
-abbrev pub decreases-loop-i : goal.decreases-loop-i
-decreases-loop-i l = length l.spots - l.i
+abbrev pub invariant-loop-row : goal.invariant-loop-row
+invariant-loop-row l = AreKept l.tokens (take l.row-index l.rows) l.last l.kept.items

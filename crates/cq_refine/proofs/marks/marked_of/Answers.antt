@@ -7,8 +7,8 @@ use Rattle.std.proofs.lemmas.List.Elements.{Contains-push_cases}
 use Rattle.std.proofs.lemmas.List.{take_more}
 use Rattle.cq_clones.specs.Groups.{token_behind}
 use Rattle.cq_tokens.specs.Parts.{tokens_in}
-use Rattle.cq_refine.specs.declared.spots.Spot.{Spot}
-use Rattle.cq_refine.specs.declared.spots.Marked.{Marked}
+use Rattle.cq_refine.specs.declared.spots.Row.{Row}
+use Rattle.cq_refine.specs.declared.spots.MarkedRow.{MarkedRow}
 use Rattle.cq_refine.specs.Sets.{IsMarked}
 use Rattle.cq_refine.proofs.Marking.{marks_none, marking_none, marking_more, some_of_mark}
 use Rattle.cq_refine.proofs.marks.marked_of.Goals as goal
@@ -16,26 +16,26 @@ use Rattle.cq_refine.proofs.marks.marked_of.Goals as goal
 pub loop-i-preserved : goal.loop-i-preserved
 loop-i-preserved g c =
     let corpus = tokens_in c.args.files.now in
-    let spots = c.args.spots.now in
+    let rows = c.args.rows.now in
     let i = c.loop-i.i in
-    let origin : Spot = record { place = record { file = 0; at = 0 }; left = 0 } in
-    let s : Spot = get_or spots i origin in
-    let marked : Marked = record { spot = s; mark = c.in_ok-mark.mark } in
+    let origin : Row = record { first = record { place = record { file = 0; at = 0 }; left = 0 }; others = 0; gap = 0; left = 0 } in
+    let r : Row = get_or rows i origin in
+    let marked : MarkedRow = record { row = r; mark = c.in_ok-mark.mark } in
     let (seen, are, marking) = c.loop-i.invariant.0 in
-    let m : IsMarked seen c.mark_of.new.marks (token_behind corpus s.place c.args.n) c.in_ok-mark.mark = subst (λ t. IsMarked seen c.mark_of.new.marks t c.in_ok-mark.mark) (c.token_behind_at-token.ensures.token origin) (c.in_ok-mark.ensures seen are) in (
+    let m : IsMarked seen c.mark_of.new.marks (token_behind corpus r.first.place c.args.n) c.in_ok-mark.mark = subst (λ t. IsMarked seen c.mark_of.new.marks t c.in_ok-mark.mark) (c.token_behind_at-token.ensures.token origin) (c.in_ok-mark.ensures seen are) in (
       (
         m.tokens,
         m.are,
         rw c.in_ok-push.ensures.items
-            (marking_more (λ (x : Marked). token_behind corpus x.spot.place c.args.n) (λ x. x.spot) (λ x. x.mark) seen m.tokens (take i spots) _ c.loop-i.marked.items marked
+            (marking_more (λ (x : MarkedRow). token_behind corpus x.row.first.place c.args.n) (λ x. x.row) (λ x. x.mark) seen m.tokens (take i rows) _ c.loop-i.marked.items marked
             m.grows m.are.apart m.is
-            (take_more spots i origin c.loop-i-test.true) marking),
+            (take_more rows i origin c.loop-i-test.true) marking),
       ),
       omega (arith, c.token_behind_at-token.ensures.step, c.loop-i.invariant.1),
       rw c.in_ok-push.ensures.items
           (λ x here some. ⊎_elim
           (λ h. c.loop-i.invariant.2 x h some)
-          (λ e. c.token_behind_at-token.ensures.fits (some_of_mark (c.in_ok-mark.ensures seen are).tokens _ c.in_ok-mark.mark (c.in_ok-mark.ensures seen are).is (subst (λ (z : Marked). 0 < z.mark) (sym e) some)))
+          (λ e. c.token_behind_at-token.ensures.fits (some_of_mark (c.in_ok-mark.ensures seen are).tokens _ c.in_ok-mark.mark (c.in_ok-mark.ensures seen are).is (subst (λ (z : MarkedRow). 0 < z.mark) (sym e) some)))
           (Contains-push_cases c.loop-i.marked.items marked x here)),
     )
 
@@ -45,7 +45,7 @@ loop-i-init g c =
       (
         [],
         record { size = c.new-marks.ensures.len; apart = λ i j d less within. absurd (omega (arith, within)); each = marks_none norm_in (get seen_cmp c.new-marks.result) none },
-        rw c.in_ok-marked.ensures.items (marking_none (λ (x : Marked). token_behind (tokens_in c.args.files.now) x.spot.place c.args.n) (λ x. x.spot) (λ x. x.mark)),
+        rw c.in_ok-marked.ensures.items (marking_none (λ (x : MarkedRow). token_behind (tokens_in c.args.files.now) x.row.first.place c.args.n) (λ x. x.row) (λ x. x.mark)),
       ),
       omega arith,
       rw c.in_ok-marked.ensures.items (λ x here. absurd (Contains-nil x here)),

@@ -9,5 +9,5 @@ use Rattle.cq_refine.proofs.parting.parting_of.Given as goal
 
 abbrev pub invariant-loop-i : goal.invariant-loop-i
 invariant-loop-i g l =
-    ((seen : List Norm) × AreMarks l.marks seen × Apart (tokens_in l.files) l.n l.mark (option_map norm_in l.difference.first) seen (take l.i l.spots) l.stay.items l.others.items)
+    ((seen : List Norm) × AreMarks l.marks seen × Apart (tokens_in l.files) l.n l.mark (option_map norm_in l.difference.first) seen (take l.i l.rows) l.stay.items l.others.items)
     × (l.steps ≤ l.initial.steps + (l.i - l.difference.read))

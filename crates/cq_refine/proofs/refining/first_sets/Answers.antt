@@ -1,5 +1,6 @@
 use Rattle.std.proofs.lemmas.Bool.{iff_false}
-use Rattle.std.proofs.Common.{subst, sym, refl, inl, inr}
+use Rattle.std.proofs.Common.{ap, ◌∙◌, subst, sym, refl, inl, inr}
+use Rattle.cq_refine.specs.Rows.{all_of}
 use Rattle.cq_refine.specs.Sets.{MayGive}
 use Rattle.cq_refine.proofs.Walk.{first_alone}
 use Rattle.cq_refine.proofs.refining.first_sets.Goals as goal
@@ -7,9 +8,10 @@ use Rattle.cq_refine.proofs.refining.first_sets.Goals.{then-may_give+in_ok-push,
 
 pub returns : goal.returns
 returns c =
-    let is = c.deref.ensures.value in
+    let spots = c.in_ok-rows.ensures.spots ∙ c.deref.ensures.value in
+    let is = ap all_of c.deref-2.ensures.value ∙ spots in
     elim c.if-may_give.branch [
       | then-may_give+in_ok-push w ↦ rw w.sets-is
-          (inl (subst MayGive is (c.may_give.ensures.0 w.if-may_give.true), first_alone _ _ _ w.in_ok-push.ensures.items c.new-sets.ensures.items refl))
+          (inl (subst MayGive is (c.may_give.ensures.0 w.if-may_give.true), first_alone _ _ _ _ w.in_ok-push.ensures.items c.new-sets.ensures.items refl spots))
       | else-may_give w ↦ rw w.sets-is (inr (λ h. iff_false c.may_give.ensures w.if-may_give.false (subst MayGive (sym is) h), c.new-sets.ensures.items))
     ]

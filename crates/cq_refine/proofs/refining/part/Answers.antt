@@ -1,6 +1,8 @@
-use Rattle.std.proofs.Common.{arith}
+use Rattle.std.proofs.Common.{◌≡◌, List, length, subst}
+use Rattle.std.specs.Prelude.{All}
 use Rattle.std.proofs.lemmas.Result.{on_ok_weaker}
 use Rattle.cq_tokens.specs.Parts.{tokens_in}
+use Rattle.cq_refine.specs.declared.spots.Row.{Row}
 use Rattle.cq_refine.proofs.OneStep.{split_two, split_parts}
 use Rattle.cq_refine.proofs.refining.part.Goals as goal
 
@@ -18,15 +20,8 @@ returns-then-is_none-clause-split g c =
     c.requires.differ c.requires.gives parted c.in_ok-add_group.ensures)
     c.push_marked.ensures.parted
 
-pub returns-then-len-eq2-clause-split : goal.returns-then-len-eq2-clause-split
-returns-then-len-eq2-clause-split g c =
+pub returns-then-is_pair-clause-split : goal.returns-then-is_pair-clause-split
+returns-then-is_pair-clause-split g c =
+    let pair = subst (λ (rs : List Row). (length rs ≡ 2) × All (λ r. r.others ≡ 0) rs) c.deref.ensures.value (c.is_pair.ensures.0 c.if-is_pair.true) in
     split_two (tokens_in c.args.files.now) c.args.min c.args.set c.args.sets.now.items c.args.difference.now c.args.groups.now.items c.add_group.new.groups.items
-    c.requires.differ (omega (arith, c.if-len-eq2.true)) c.requires.gives c.in_ok-add_group.ensures
-
-pub returns-then-difference-len-clause-split : goal.returns-then-difference-len-clause-split
-returns-then-difference-len-clause-split g c =
-    let corpus = tokens_in c.args.files.now in
-    on_ok_weaker c.push_front.result
-    (λ parted. split_parts corpus c.args.min c.args.set c.args.sets.now.items c.push_front.new.sets.items c.args.difference.now c.args.groups.now.items c.add_group.new.groups.items
-    c.requires.differ c.requires.gives (parted corpus c.requires.differ) c.in_ok-add_group.ensures)
-    c.push_front.ensures
+    c.requires.differ pair.0 pair.1 c.requires.gives c.in_ok-add_group.ensures

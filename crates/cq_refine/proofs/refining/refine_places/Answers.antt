@@ -1,20 +1,24 @@
 use Rattle.std.proofs.Common.{arith, get_or, length}
 use Rattle.std.proofs.lemmas.List.Elements.{Contains-get_or}
 use Rattle.cq_tokens.specs.Parts.{tokens_in}
+use Rattle.cq_clones.specs.Groups.{IsPlace}
 use Rattle.cq_refine.specs.declared.spots.Spot.{Spot}
+use Rattle.cq_refine.specs.Sets.{set_spots}
 use Rattle.cq_refine.proofs.Walk.{Given, popped_words, popped_gives, walk_step, walk_begins, walk_ends, none_of_few, none_of_one}
 use Rattle.cq_refine.proofs.Weights.{size_of_files, split_weighs, set_weighs, first_weighs, depth_within, files_are_longest, places_size}
-use Rattle.cq_refine.proofs.Gaps.{alike_of_words}
+use Rattle.cq_refine.proofs.RowLaws.{rows_within, firsts_are}
+use Rattle.cq_refine.proofs.Alike.{alike_of_words}
 use Rattle.cq_refine.proofs.refining.refine_places.Goals as goal
 
 pub loop-set-init : goal.loop-set-init
 loop-set-init g c =
     let corpus = tokens_in c.args.files.now in
     let all = c.in_ok-spots.spots.items in
+    let first = c.in_ok-sets.ensures in
     let given : Given corpus c.args.min c.args.places.now all = record { entries = c.requires.entries; are = c.in_ok-spots.ensures.places; spots = c.in_ok-spots.ensures.marks; some = c.requires.some } in (
-      (all, given.are, given.spots, walk_begins corpus c.args.min c.args.places.now all c.in_ok-sets.sets.items c.new-groups.result.items given c.in_ok-sets.ensures c.new-groups.ensures.items),
+      (all, given.are, given.spots, walk_begins corpus c.args.min c.args.places.now all c.in_ok-sets.sets.items c.new-groups.result.items given first c.new-groups.ensures.items),
       λ longest is.
-          let h = first_weighs longest (length c.args.places.now) all c.in_ok-sets.sets.items (places_size (λ (s : Spot). s.place) all c.args.places.now given.are) c.in_ok-sets.ensures in
+          let h = first_weighs longest (length c.args.places.now) all c.in_ok-sets.sets.items (places_size (λ (s : Spot). s.place) all c.args.places.now given.are) first in
           omega (arith, h, c.spots_of.ensures.steps, c.in-Some.ensures.read),
     )
 
@@ -27,7 +31,9 @@ pub split-requires-clause-places : goal.split-requires-clause-places
 split-requires-clause-places g c =
     let (all, are, spots, walk) = c.loop-set.invariant.0 in
     let words = popped_words (tokens_in c.args.files.now) c.args.min c.args.places.now all c.loop-set.sets.items _ c.in-Some-pop.set c.loop-set.groups.items c.in-Some-pop.ensures.items walk in
-    λ k d lt. spots.places (get_or c.in-Some-pop.set.spots.items k d) ((words.exact.each _).0 (Contains-get_or c.in-Some-pop.set.spots.items k d lt)).0
+    let all_spots = set_spots c.in-Some-pop.set in
+    firsts_are (λ (s : Spot). IsPlace (tokens_in c.args.files.now) s.place) c.in-Some-pop.set.rows.items
+    (λ k d lt. spots.places (get_or all_spots k d) ((words.exact.each _).0 (Contains-get_or all_spots k d lt)).0)
 
 pub loop-set-preserved : goal.loop-set-preserved
 loop-set-preserved g c =
@@ -37,9 +43,9 @@ loop-set-preserved g c =
     let words = popped_words corpus c.args.min c.args.places.now all c.loop-set.sets.items _ c.in-Some-pop.set c.loop-set.groups.items c.in-Some-pop.ensures.items walk in (
       (all, are, spots, walk_step corpus c.args.min c.args.places.now all c.loop-set.sets.items _ c.split.new.sets.items c.in-Some-pop.set c.loop-set.groups.items c.split.new.groups.items given c.in-Some-pop.ensures.items c.in_ok-split.ensures.split walk),
       λ longest is.
-          let low = depth_within corpus all c.in-Some-pop.set.spots.items c.in-Some-pop.set.depth longest spots words is in
+          let low = depth_within corpus all (set_spots c.in-Some-pop.set) c.in-Some-pop.set.depth longest spots words is in
           let h = split_weighs corpus c.args.min longest c.in-Some-pop.set c.loop-set.sets.items _ c.split.new.sets.items c.loop-set.groups.items c.split.new.groups.items low c.in-Some-pop.ensures.items c.in_ok-split.ensures.split in
-          omega (arith, h, c.split.ensures.steps, c.loop-set.invariant.1 longest is),
+          omega (arith, h, rows_within c.in-Some-pop.set.rows.items, c.split.ensures.steps, c.loop-set.invariant.1 longest is),
     )
 
 pub loop-set-smaller : goal.loop-set-smaller
@@ -48,7 +54,7 @@ loop-set-smaller g c =
     let (all, are, spots, walk) = c.loop-set.invariant.0 in
     let longest = size_of_files corpus in
     let words = popped_words corpus c.args.min c.args.places.now all c.loop-set.sets.items _ c.in-Some-pop.set c.loop-set.groups.items c.in-Some-pop.ensures.items walk in
-    let low = depth_within corpus all c.in-Some-pop.set.spots.items c.in-Some-pop.set.depth longest spots words (files_are_longest corpus) in
+    let low = depth_within corpus all (set_spots c.in-Some-pop.set) c.in-Some-pop.set.depth longest spots words (files_are_longest corpus) in
     let h = split_weighs corpus c.args.min longest c.in-Some-pop.set c.loop-set.sets.items _ c.split.new.sets.items c.loop-set.groups.items c.split.new.groups.items low c.in-Some-pop.ensures.items c.in_ok-split.ensures.split in
     omega (arith, h, words.several)
 
@@ -66,9 +72,9 @@ returns-in_err-split-clause-bound g c = λ longest is.
     let corpus = tokens_in c.args.files.now in
     let (all, are, spots, walk) = c.loop-set.invariant.0 in
     let words = popped_words corpus c.args.min c.args.places.now all c.loop-set.sets.items _ c.in-Some-pop.set c.loop-set.groups.items c.in-Some-pop.ensures.items walk in
-    let low = depth_within corpus all c.in-Some-pop.set.spots.items c.in-Some-pop.set.depth longest spots words is in
+    let low = depth_within corpus all (set_spots c.in-Some-pop.set) c.in-Some-pop.set.depth longest spots words is in
     let h = set_weighs longest c.in-Some-pop.set c.loop-set.sets.items _ low c.in-Some-pop.ensures.items in
-    omega (arith, h, c.split.ensures.steps, c.loop-set.invariant.1 longest is)
+    omega (arith, h, rows_within c.in-Some-pop.set.rows.items, c.split.ensures.steps, c.loop-set.invariant.1 longest is)
 
 pub returns-then-places-lt2-clause-groups : goal.returns-then-places-lt2-clause-groups
 returns-then-places-lt2-clause-groups g c =
@@ -82,10 +88,4 @@ pub split-requires-clause-alike : goal.split-requires-clause-alike
 split-requires-clause-alike g c =
     let (all, are, spots, walk) = c.loop-set.invariant.0 in
     let words = popped_words (tokens_in c.args.files.now) c.args.min c.args.places.now all c.loop-set.sets.items _ c.in-Some-pop.set c.loop-set.groups.items c.in-Some-pop.ensures.items walk in
-    alike_of_words (tokens_in c.args.files.now) all c.in-Some-pop.set.spots.items c.in-Some-pop.set.depth words
-
-pub split-requires-clause-ordered : goal.split-requires-clause-ordered
-split-requires-clause-ordered g c =
-    let (all, are, spots, walk) = c.loop-set.invariant.0 in
-    let words = popped_words (tokens_in c.args.files.now) c.args.min c.args.places.now all c.loop-set.sets.items _ c.in-Some-pop.set c.loop-set.groups.items c.in-Some-pop.ensures.items walk in
-    words.exact.ordered
+    alike_of_words (tokens_in c.args.files.now) all (set_spots c.in-Some-pop.set) c.in-Some-pop.set.depth words
