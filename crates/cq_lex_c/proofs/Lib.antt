@@ -5,5 +5,6 @@ pub mod Splicing
 pub mod Fitting
 pub mod Elements
 pub mod Dispatch
+pub mod Blanks
 pub mod PunctuatorSteps
 pub mod OpenComments

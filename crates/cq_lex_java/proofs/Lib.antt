@@ -6,4 +6,5 @@ pub mod Translating
 pub mod Scalars
 pub mod NoEscapes
 pub mod Dispatch
+pub mod Blanks
 pub mod Counting

@@ -1,4 +1,5 @@
 pub mod Front
+pub mod Runs
 pub mod CommentScans
 pub mod Steps
 pub mod Tables
@@ -14,5 +15,6 @@ pub mod Joining
 pub mod Dispatch
 pub mod OneKind
 pub mod Marks
+pub mod Blanks
 pub mod MarkWords
 pub mod MarkOrder

@@ -1,4 +1,5 @@
 pub mod Longest
+pub mod Scans
 pub mod ByLength
 pub mod Pattern
 pub mod Digits

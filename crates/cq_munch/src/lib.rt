@@ -25,7 +25,7 @@ pub use comment::{longest_block_comment, longest_line_comment};
 pub use element::{Found, Spell};
 pub use ends::LineEnds;
 pub use lexis::{Lexis, Translated};
-pub use machine::{Machine, longest_spelling};
+pub use machine::{Machine, longest_spelling, longest_spelling_from};
 pub use mark::is_mark;
 pub use marking::the_last_word_counts;
 pub use munching::{Lexed, munch, one_answer};
