@@ -8,7 +8,8 @@ use Rattle.cq_munch.specs.Longest.{LongestAt}
 use Rattle.cq_munch.specs.declared.element.Found.{Found}
 use Rattle.cq_munch.specs.declared.element.Spell.TheVariants.{Blank}
 use Rattle.cq_munch.specs.declared.unit.Unit.{Unit}
-use Rattle.cq_munch.proofs.Blanks.{apart_by, no_mark, from_unit}
+use Rattle.cq_munch.proofs.Blanks.{no_mark, from_unit}
+use Rattle.cq_munch.proofs.CharacterTests.{apart_by}
 use Rattle.cq_munch.proofs.Dispatch.{one_of}
 use Rattle.cq_munch.proofs.Joining.{one_row_taken, takes_rest}
 use Rattle.cq_munch.proofs.Marks.{takes_unmarked}

@@ -1,10 +1,12 @@
-ghost use Rattle.std.specs.Prelude.{◌≡◌, ◌↔◌, IsTrue};
+ghost use Rattle.std.specs.Prelude.{◌≡◌, ◌↔◌, ◌==◌, ◌||◌, nat_le, IsTrue};
+ghost use Rattle.std.specs.Char.{is_ascii_alphabetic};
 ghost use Rattle.cq_munch.specs.Characters.{characters};
+ghost use Rattle.cq_munch.specs.Fronts.{starts};
 ghost use Rattle.cq_munch.specs.Longest.{LongestAt, IsAmong};
 ghost use Rattle.cq_lex_c.specs.Identifiers.{IsIdentifier, identifier_rest, keywords};
 
-use crate::characters::{begins_identifier, continues_identifier};
-use cq_munch::{Machine, Unit, ascii_bytes, is_listed, longest_spelling};
+use crate::characters::{begins_ascii, begins_identifier, continues_ascii, continues_identifier};
+use cq_munch::{Machine, Unit, ascii_bytes, is_listed, longest_spelling, longest_spelling_from};
 
 // `_Static_assert` has as many characters.
 const LONGEST_KEYWORD: usize = 14;
@@ -66,11 +68,47 @@ impl Machine for Identifier {
     }
 }
 
-/// The longest identifier at the front. Keywords are identifiers too.
+// Whether a character of ASCII at the front begins an identifier.
+fn begins_plainly(units: &[Unit]) -> bool
+    ensures { result ≡ starts (λ c. is_ascii_alphabetic c || ((c == 95) || (c == 36))) (characters units.now) }
+{
+    match units {
+        [first, ..] => begins_ascii(first.ch),
+        [] => false,
+    }
+}
+
+// Whether the machine has to tell of the character: a backslash, or one past ASCII.
+fn may_go_on(ch: char) -> bool
+    ensures { result ≡ ((ch == 92) || nat_le 128 ch) }
+{
+    ch == '\\' || ch as u32 >= 128
+}
+
+/// The longest identifier at the front. Keywords are identifiers too. As far as its characters are of ASCII they are
+/// looked up in a table; the machine goes on where a backslash stands, or a character past ASCII.
 pub(crate) fn longest_identifier(units: &[Unit]) -> Option<usize>
     ensures { LongestAt IsIdentifier (characters units.now) result }
 {
-    longest_spelling(Identifier::Before, units)
+    if !begins_plainly(units) {
+        return longest_spelling(Identifier::Before, units);
+    }
+    for at in 1..units.len() {
+        let ch = units[at].ch;
+        if !continues_ascii(ch) {
+            if !may_go_on(ch) {
+                return Some(at);
+            }
+            return longest_spelling_from(
+                Identifier::Before,
+                Identifier::Whole,
+                at,
+                Some(at),
+                units,
+            );
+        }
+    }
+    Some(units.len())
 }
 
 // The 44 keywords by their length.

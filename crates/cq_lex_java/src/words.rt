@@ -1,11 +1,12 @@
 ghost use Rattle.std.specs.Prelude.{◌≡◌, ◌==◌, ◌||◌, ◌↔◌, IsTrue};
 ghost use Rattle.std.specs.Char.{is_ascii_alphabetic, is_ascii_digit};
 ghost use Rattle.cq_munch.specs.Characters.{characters};
+ghost use Rattle.cq_munch.specs.Fronts.{starts};
 ghost use Rattle.cq_munch.specs.Longest.{LongestAt, IsAmong};
 ghost use Rattle.cq_lex_java.specs.NameStates.{identifier_rest};
 ghost use Rattle.cq_lex_java.specs.Words.{IsIdentifier, begins_identifier, continues_identifier, keywords};
 
-use cq_munch::{Machine, Unit, ascii_bytes, is_listed, longest_spelling};
+use cq_munch::{Machine, Unit, ascii_bytes, is_listed, longest_spelling, longest_spelling_from};
 
 // `synchronized` has as many letters.
 const LONGEST_KEYWORD: usize = 12;
@@ -17,11 +18,22 @@ fn begins_ascii(ch: char) -> bool
     ch.is_ascii_alphabetic() || ch == '_' || ch == '$'
 }
 
-// And these continue one.
+// Each character of ASCII that continues an identifier stands at its own place, and a comma at every other place.
+static CONTINUES: [u8; 128] = *b"\
+    ,,,,,,,,,,,,,,,,,,,,,,,,,,,,,,,,\
+    ,,,,$,,,,,,,,,,,0123456789,,,,,,\
+    ,ABCDEFGHIJKLMNOPQRSTUVWXYZ,,,,_\
+    ,abcdefghijklmnopqrstuvwxyz,,,,,";
+
+// Whether the character is one of ASCII that continues an identifier.
 fn continues_ascii(ch: char) -> bool
     ensures { result ≡ ((is_ascii_alphabetic ch || ((ch == 95) || (ch == 36))) || is_ascii_digit ch) }
 {
-    begins_ascii(ch) || ch.is_ascii_digit()
+    let code = ch as u32;
+    if code >= 128 {
+        return false;
+    }
+    CONTINUES[code as usize] != b','
 }
 
 /// Whether an identifier may begin with the character.
@@ -68,11 +80,40 @@ impl Machine for Identifier {
     }
 }
 
-/// The longest identifier at the front. Keywords are identifiers too.
+// Whether a character of ASCII at the front begins an identifier.
+fn begins_plainly(units: &[Unit]) -> bool
+    ensures { result ≡ starts (λ c. is_ascii_alphabetic c || ((c == 95) || (c == 36))) (characters units.now) }
+{
+    match units {
+        [first, ..] => begins_ascii(first.ch),
+        [] => false,
+    }
+}
+
+/// The longest identifier at the front. Keywords are identifiers too. As far as its characters are of ASCII they are
+/// looked up in a table; the machine goes on where one stands that is not.
 pub(crate) fn longest_identifier(units: &[Unit]) -> Option<usize>
     ensures { LongestAt IsIdentifier (characters units.now) result }
 {
-    longest_spelling(Identifier::Before, units)
+    if !begins_plainly(units) {
+        return longest_spelling(Identifier::Before, units);
+    }
+    for at in 1..units.len() {
+        let ch = units[at].ch;
+        if !continues_ascii(ch) {
+            if ch.is_ascii() {
+                return Some(at);
+            }
+            return longest_spelling_from(
+                Identifier::Before,
+                Identifier::Inside,
+                at,
+                Some(at),
+                units,
+            );
+        }
+    }
+    Some(units.len())
 }
 
 // The 51 keywords, and true, false and null, by their length.
