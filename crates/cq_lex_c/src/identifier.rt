@@ -6,10 +6,7 @@ ghost use Rattle.cq_munch.specs.Longest.{LongestAt, IsAmong};
 ghost use Rattle.cq_lex_c.specs.Identifiers.{IsIdentifier, identifier_rest, keywords};
 
 use crate::characters::{begins_ascii, begins_identifier, continues_ascii, continues_identifier};
-use cq_munch::{Machine, Unit, ascii_bytes, is_listed, longest_spelling, longest_spelling_from};
-
-// `_Static_assert` has as many characters.
-const LONGEST_KEYWORD: usize = 14;
+use cq_munch::{Machine, Unit, is_listed_by_letter, longest_spelling, longest_spelling_from};
 
 /// How far an identifier has come.
 #[derive(Clone, Copy, Debug, PartialEq, Eq)]
@@ -111,53 +108,53 @@ pub(crate) fn longest_identifier(units: &[Unit]) -> Option<usize>
     Some(units.len())
 }
 
-// The 44 keywords by their length.
-const RESERVED: [&[&[u8]]; 15] = [
+// The 44 keywords by their first letter.
+const RESERVED: [&[&[u8]]; 27] = [
+    &[b"auto"],
+    &[b"break"],
+    &[b"case", b"char", b"const", b"continue"],
+    &[b"default", b"do", b"double"],
+    &[b"else", b"enum", b"extern"],
+    &[b"float", b"for"],
+    &[b"goto"],
+    &[],
+    &[b"if", b"inline", b"int"],
     &[],
     &[],
-    &[b"do", b"if"],
-    &[b"for", b"int"],
+    &[b"long"],
+    &[],
+    &[],
+    &[],
+    &[],
+    &[],
+    &[b"register", b"restrict", b"return"],
     &[
-        b"auto", b"case", b"char", b"else", b"enum", b"goto", b"long", b"void",
+        b"short", b"signed", b"sizeof", b"static", b"struct", b"switch",
     ],
+    &[b"typedef"],
+    &[b"union", b"unsigned"],
+    &[b"void", b"volatile"],
+    &[b"while"],
+    &[],
+    &[],
+    &[],
     &[
-        b"break", b"const", b"float", b"short", b"union", b"while", b"_Bool",
-    ],
-    &[
-        b"double", b"extern", b"inline", b"return", b"signed", b"sizeof", b"static", b"struct",
-        b"switch",
-    ],
-    &[b"default", b"typedef", b"_Atomic"],
-    &[
-        b"continue",
-        b"register",
-        b"restrict",
-        b"unsigned",
-        b"volatile",
         b"_Alignas",
         b"_Alignof",
+        b"_Atomic",
+        b"_Bool",
         b"_Complex",
         b"_Generic",
+        b"_Imaginary",
+        b"_Noreturn",
+        b"_Static_assert",
+        b"_Thread_local",
     ],
-    &[b"_Noreturn"],
-    &[b"_Imaginary"],
-    &[],
-    &[],
-    &[b"_Thread_local"],
-    &[b"_Static_assert"],
 ];
-
-// Whether it is one of the 44 keywords.
-fn is_reserved(word: &[u8]) -> bool
-    ensures { IsTrue result ↔ IsAmong keywords word.now }
-{
-    is_listed(&RESERVED, word)
-}
 
 /// Whether the identifier is a keyword.
 pub(crate) fn is_keyword(name: &[Unit]) -> bool
     ensures { IsTrue result ↔ IsAmong keywords (characters name.now) }
 {
-    let mut word = [0; LONGEST_KEYWORD];
-    ascii_bytes(name, &mut word) && is_reserved(&word[..name.len()])
+    is_listed_by_letter(&RESERVED, name)
 }

@@ -6,11 +6,8 @@ ghost use Rattle.cq_munch.specs.Fronts.{starts};
 ghost use Rattle.cq_lex_go.specs.NameStates.{name_rest};
 ghost use Rattle.cq_lex_go.specs.Words.{IsName, is_letter, is_letter_or_digit, is_letter_category, is_digit_category, keywords};
 
-use cq_munch::{Machine, Unit, ascii_bytes, is_listed, longest_spelling, longest_spelling_from};
+use cq_munch::{Machine, Unit, is_listed_by_letter, longest_spelling, longest_spelling_from};
 use unicode::properties::GeneralCategory;
-
-// `fallthrough` has as many letters.
-const LONGEST_KEYWORD: usize = 11;
 
 fn is_letter_category(category: GeneralCategory) -> bool
     ensures { result ≡ is_letter_category category }
@@ -123,33 +120,35 @@ pub(crate) fn longest_name(units: &[Unit]) -> Option<usize>
     Some(units.len())
 }
 
-// The 25 keywords by their length.
-const RESERVED: [&[&[u8]]; 12] = [
+// The 25 keywords by their first letter.
+const RESERVED: [&[&[u8]]; 22] = [
+    &[],
+    &[b"break"],
+    &[b"case", b"chan", b"const", b"continue"],
+    &[b"default", b"defer"],
+    &[b"else"],
+    &[b"fallthrough", b"for", b"func"],
+    &[b"go", b"goto"],
+    &[],
+    &[b"if", b"import", b"interface"],
     &[],
     &[],
-    &[b"go", b"if"],
-    &[b"for", b"map", b"var"],
-    &[b"case", b"chan", b"else", b"func", b"goto", b"type"],
-    &[b"break", b"const", b"defer", b"range"],
-    &[b"import", b"return", b"select", b"struct", b"switch"],
-    &[b"default", b"package"],
-    &[b"continue"],
-    &[b"interface"],
     &[],
-    &[b"fallthrough"],
+    &[b"map"],
+    &[],
+    &[],
+    &[b"package"],
+    &[],
+    &[b"range", b"return"],
+    &[b"select", b"struct", b"switch"],
+    &[b"type"],
+    &[],
+    &[b"var"],
 ];
-
-// Whether it is one of the 25 keywords.
-fn is_reserved(word: &[u8]) -> bool
-    ensures { IsTrue result ↔ IsAmong keywords word.now }
-{
-    is_listed(&RESERVED, word)
-}
 
 /// Whether the name is a keyword.
 pub(crate) fn is_keyword(name: &[Unit]) -> bool
     ensures { IsTrue result ↔ IsAmong keywords (characters name.now) }
 {
-    let mut word = [0; LONGEST_KEYWORD];
-    ascii_bytes(name, &mut word) && is_reserved(&word[..name.len()])
+    is_listed_by_letter(&RESERVED, name)
 }

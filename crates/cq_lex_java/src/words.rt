@@ -6,10 +6,7 @@ ghost use Rattle.cq_munch.specs.Longest.{LongestAt, IsAmong};
 ghost use Rattle.cq_lex_java.specs.NameStates.{identifier_rest};
 ghost use Rattle.cq_lex_java.specs.Words.{IsIdentifier, begins_identifier, continues_identifier, keywords};
 
-use cq_munch::{Machine, Unit, ascii_bytes, is_listed, longest_spelling, longest_spelling_from};
-
-// `synchronized` has as many letters.
-const LONGEST_KEYWORD: usize = 12;
+use cq_munch::{Machine, Unit, is_listed_by_letter, longest_spelling, longest_spelling_from};
 
 // Of the characters of ASCII these begin an identifier.
 fn begins_ascii(ch: char) -> bool
@@ -116,45 +113,54 @@ pub(crate) fn longest_identifier(units: &[Unit]) -> Option<usize>
     Some(units.len())
 }
 
-// The 51 keywords, and true, false and null, by their length.
-const RESERVED: [&[&[u8]]; 13] = [
+// The 51 keywords, and true, false and null, by their first letter.
+const RESERVED: [&[&[u8]]; 27] = [
+    &[b"abstract", b"assert"],
+    &[b"boolean", b"break", b"byte"],
+    &[b"case", b"catch", b"char", b"class", b"const", b"continue"],
+    &[b"default", b"do", b"double"],
+    &[b"else", b"enum", b"extends"],
+    &[b"false", b"final", b"finally", b"float", b"for"],
+    &[b"goto"],
+    &[],
+    &[
+        b"if",
+        b"implements",
+        b"import",
+        b"instanceof",
+        b"int",
+        b"interface",
+    ],
+    &[],
+    &[],
+    &[b"long"],
+    &[],
+    &[b"native", b"new", b"null"],
+    &[],
+    &[b"package", b"private", b"protected", b"public"],
+    &[],
+    &[b"return"],
+    &[
+        b"short",
+        b"static",
+        b"strictfp",
+        b"super",
+        b"switch",
+        b"synchronized",
+    ],
+    &[b"this", b"throw", b"throws", b"transient", b"true", b"try"],
+    &[],
+    &[b"void", b"volatile"],
+    &[b"while"],
+    &[],
+    &[],
     &[],
     &[b"_"],
-    &[b"do", b"if"],
-    &[b"for", b"int", b"new", b"try"],
-    &[
-        b"byte", b"case", b"char", b"else", b"enum", b"goto", b"long", b"this", b"void", b"true",
-        b"null",
-    ],
-    &[
-        b"break", b"catch", b"class", b"const", b"final", b"float", b"short", b"super", b"throw",
-        b"while", b"false",
-    ],
-    &[
-        b"assert", b"double", b"import", b"native", b"public", b"return", b"static", b"switch",
-        b"throws",
-    ],
-    &[
-        b"boolean", b"default", b"extends", b"finally", b"package", b"private",
-    ],
-    &[b"abstract", b"continue", b"strictfp", b"volatile"],
-    &[b"interface", b"protected", b"transient"],
-    &[b"implements", b"instanceof"],
-    &[],
-    &[b"synchronized"],
 ];
-
-// Whether it is one of the 51 keywords, or true, false or null.
-fn is_reserved(word: &[u8]) -> bool
-    ensures { IsTrue result ↔ IsAmong keywords word.now }
-{
-    is_listed(&RESERVED, word)
-}
 
 /// Whether the identifier is a keyword, or true, false or null.
 pub(crate) fn is_keyword(name: &[Unit]) -> bool
     ensures { IsTrue result ↔ IsAmong keywords (characters name.now) }
 {
-    let mut word = [0; LONGEST_KEYWORD];
-    ascii_bytes(name, &mut word) && is_reserved(&word[..name.len()])
+    is_listed_by_letter(&RESERVED, name)
 }

@@ -1,6 +1,6 @@
 pub mod Longest
 pub mod Scans
-pub mod ByLength
+pub mod ByLetter
 pub mod Pattern
 pub mod Digits
 pub mod Behind

@@ -33,4 +33,4 @@ pub use plain::plain_units;
 pub use quoted::{Quote, longest_quoted, scan_quoted};
 pub use rows::{better, found_of, second_is};
 pub use unit::Unit;
-pub use words::{ascii_bytes, is_listed};
+pub use words::{ascii_bytes, is_listed_by_letter};
