@@ -1,9 +1,9 @@
 -- The scan of an identifier over characters of ASCII.
-use Rattle.std.proofs.Common.{◌≡◌, ℕ, ◌+◌, ◌<◌, ◌≤◌, Some, true, false, ◌||◌, ◌==◌, nat_le, List, [], ◌∷◌, ◌↔◌, length, refl, ◌∙◌, arith}
+use Rattle.std.proofs.Common.{◌≡◌, ℕ, ◌+◌, ◌<◌, ◌≤◌, Some, true, false, not, ◌||◌, ◌==◌, nat_lt, List, [], ◌∷◌, ◌↔◌, length, refl, ◌∙◌, arith}
 use Rattle.std.specs.Prelude.{IsTrue}
 use Rattle.std.specs.Char.{is_ascii_alphabetic, is_ascii_digit}
 use Rattle.std.specs.Int.{is_in_range}
-use Rattle.std.proofs.lemmas.Bool.{or_from, or_parts, both_ways, leb-false, MatchBool-at_false}
+use Rattle.std.proofs.lemmas.Bool.{or_from, or_parts, both_ways, not-false, ltb-true, MatchBool-at_false}
 use Rattle.cq_base.proofs.Bools.{MatchBool-from_false}
 use Rattle.cq_munch.specs.Characters.{characters}
 use Rattle.cq_munch.specs.Fronts.{starts}
@@ -43,10 +43,10 @@ stays c h s =
     )
 
 -- any other one of ASCII but a backslash
-pub ends : (c : ℕ) → ((c == 92) || nat_le 128 c) ≡ false → continues_ascii c ≡ false → (s : List ℕ) → IsTail part.Whole (c ∷ s) → ⊥
+pub ends : (c : ℕ) → ((c == 92) || not (nat_lt c 128)) ≡ false → continues_ascii c ≡ false → (s : List ℕ) → IsTail part.Whole (c ∷ s) → ⊥
 ends c plain fails s k =
-    let both = or_parts (c == 92) (nat_le 128 c) plain in
-    both_ways (continues_identifier c) (continues_below c (leb-false 128 c both.1) ∙ fails) (MatchBool-at_false (IsTail part.Mark s) (IsTrue (continues_identifier c) × IsTail part.Whole s) both.0 k).0
+    let both = or_parts (c == 92) (not (nat_lt c 128)) plain in
+    both_ways (continues_identifier c) (continues_below c (ltb-true c 128 (not-false (nat_lt c 128) both.1)) ∙ fails) (MatchBool-at_false (IsTail part.Mark s) (IsTrue (continues_identifier c) × IsTail part.Whole s) both.0 k).0
 
 -- so many characters of ASCII are an identifier, as far as it goes
 abbrev pub Named : List ℕ → ℕ → Type 0

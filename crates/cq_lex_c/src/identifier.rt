@@ -1,4 +1,4 @@
-ghost use Rattle.std.specs.Prelude.{◌≡◌, ◌↔◌, ◌==◌, ◌||◌, nat_le, IsTrue};
+ghost use Rattle.std.specs.Prelude.{◌≡◌, ◌↔◌, ◌==◌, ◌||◌, not, nat_lt, IsTrue};
 ghost use Rattle.std.specs.Char.{is_ascii_alphabetic};
 ghost use Rattle.cq_munch.specs.Characters.{characters};
 ghost use Rattle.cq_munch.specs.Fronts.{starts};
@@ -77,9 +77,9 @@ fn begins_plainly(units: &[Unit]) -> bool
 
 // Whether the machine has to tell of the character: a backslash, or one past ASCII.
 fn may_go_on(ch: char) -> bool
-    ensures { result ≡ ((ch == 92) || nat_le 128 ch) }
+    ensures { result ≡ ((ch == 92) || not (nat_lt ch 128)) }
 {
-    ch == '\\' || ch as u32 >= 128
+    ch == '\\' || !ch.is_ascii()
 }
 
 /// The longest identifier at the front. Keywords are identifiers too. As far as its characters are of ASCII they are

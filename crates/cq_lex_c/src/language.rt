@@ -21,8 +21,7 @@ pub struct C {
     unclosed: Unclosed,
 }
 
-// The element at a unit. It is kept out of the loop over the elements.
-#[inline(never)]
+// The element at a unit.
 fn taken_at(unclosed: &mut Unclosed, units: &[Unit], at: u32, mode: u8) -> Option<Found>
     requires inside { at < length units.now }
     requires short { length units.now < 2 ^ 32 }
@@ -72,7 +71,7 @@ impl Lexis for C {
         }
     }
 
-    // Inlined, so that a blank costs the loop over the elements no call.
+    // So that a blank costs the loop over the elements no call.
     #[inline(always)]
     fn longest(&mut self, units: &[Unit], at: u32, mode: u8) -> Option<Found> {
         let first = units[at as usize].ch;

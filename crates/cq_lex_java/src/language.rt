@@ -16,8 +16,7 @@ use std::alloc::Global;
 #[derive(Clone, Copy, Debug, PartialEq, Eq)]
 pub struct Java;
 
-// The element at a unit. It is kept out of the loop over the elements.
-#[inline(never)]
+// The element at a unit.
 fn taken_at(units: &[Unit], at: u32, mode: u8) -> Option<Found>
     requires inside { at < length units.now }
     requires short { length units.now < 2 ^ 32 }
@@ -56,7 +55,7 @@ impl Lexis for Java {
         Java
     }
 
-    // Inlined, so that a blank costs the loop over the elements no call.
+    // So that a blank costs the loop over the elements no call.
     #[inline(always)]
     fn longest(&mut self, units: &[Unit], at: u32, mode: u8) -> Option<Found> {
         if is_blank(units[at as usize].ch) {
