@@ -5,6 +5,7 @@ pub mod CommentScans
 pub mod Steps
 pub mod Tables
 pub mod WordLists
+pub mod AloneWords
 pub mod Reserved
 pub mod QuoteSteps
 pub mod OpenQuotes
