@@ -1,4 +1,5 @@
 pub mod NumberSteps
+pub mod Points
 pub mod NameScans
 pub mod Dispatch
 pub mod Blanks

@@ -1,4 +1,5 @@
 pub mod NumberSteps
+pub mod Points
 pub mod OperatorSteps
 pub mod Opening
 pub mod Spans
