@@ -4,6 +4,8 @@ pub mod NoSplices
 pub mod Splicing
 pub mod Fitting
 pub mod Elements
+pub mod NameScans
 pub mod Dispatch
+pub mod Blanks
 pub mod PunctuatorSteps
 pub mod OpenComments

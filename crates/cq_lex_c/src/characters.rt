@@ -2,18 +2,29 @@ ghost use Rattle.std.specs.Prelude.{◌≡◌, ◌==◌, ◌||◌};
 ghost use Rattle.std.specs.Char.{is_ascii_alphabetic, is_ascii_digit};
 ghost use Rattle.cq_lex_c.specs.Characters.{begins_identifier, continues_identifier};
 
-// Of the characters of ASCII these begin an identifier.
-fn begins_ascii(ch: char) -> bool
+/// Whether the character is one of ASCII that begins an identifier.
+pub(crate) fn begins_ascii(ch: char) -> bool
     ensures { result ≡ (is_ascii_alphabetic ch || ((ch == 95) || (ch == 36))) }
 {
     ch.is_ascii_alphabetic() || ch == '_' || ch == '$'
 }
 
-// And these continue one.
-fn continues_ascii(ch: char) -> bool
+// Each character of ASCII that continues an identifier stands at its own place, and a comma at every other place.
+static CONTINUES: [u8; 128] = *b"\
+    ,,,,,,,,,,,,,,,,,,,,,,,,,,,,,,,,\
+    ,,,,$,,,,,,,,,,,0123456789,,,,,,\
+    ,ABCDEFGHIJKLMNOPQRSTUVWXYZ,,,,_\
+    ,abcdefghijklmnopqrstuvwxyz,,,,,";
+
+/// Whether the character is one of ASCII that continues an identifier.
+pub(crate) fn continues_ascii(ch: char) -> bool
     ensures { result ≡ ((is_ascii_alphabetic ch || ((ch == 95) || (ch == 36))) || is_ascii_digit ch) }
 {
-    begins_ascii(ch) || ch.is_ascii_digit()
+    let code = ch as u32;
+    if code >= 128 {
+        return false;
+    }
+    CONTINUES[code as usize] != b','
 }
 
 /// Whether an identifier may begin with the character.

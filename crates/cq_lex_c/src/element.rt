@@ -4,7 +4,7 @@ ghost use Rattle.cq_munch.specs.Language.{Takes};
 ghost use Rattle.cq_munch.specs.Longest.{LongestAt};
 ghost use Rattle.cq_munch.specs.Table.{InTable, table};
 ghost use Rattle.cq_munch.specs.declared.element.Spell.TheVariants.{Token as token};
-ghost use Rattle.cq_lex_c.specs.C.{name_rows, others, unmarked, with_comments};
+ghost use Rattle.cq_lex_c.specs.C.{is_blank, name_rows, others, unmarked, with_comments};
 ghost use Rattle.cq_lex_c.specs.Fronts.{front_of, rows_of};
 ghost use Rattle.cq_lex_c.specs.Headers.{IsHeaderAt, has_header};
 ghost use Rattle.cq_lex_c.specs.Identifiers.{IsIdentifier};
@@ -56,6 +56,13 @@ fn front_of(ch: char) -> Front
             Front::Other
         },
     }
+}
+
+/// Whether the character is a blank.
+pub(crate) fn is_blank(ch: char) -> bool
+    ensures { result ≡ is_blank ch }
+{
+    ch == ' ' || ch == '\t' || ch == '\u{B}' || ch == '\u{C}' || ch == '\r' || ch == '\n'
 }
 
 fn class_of(name: &[Unit]) -> Class

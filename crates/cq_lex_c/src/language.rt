@@ -1,12 +1,14 @@
-ghost use Rattle.std.specs.Prelude.{Ok, length};
+ghost use Rattle.std.specs.Prelude.{◌<◌, ◌≤◌, ◌^◌, Ok, IfSome, length, drop};
 ghost use Rattle.std.proofs.Math.Nat.{le_refl};
+ghost use Rattle.cq_munch.specs.Characters.{characters};
+ghost use Rattle.cq_munch.specs.Language.{Takes};
 ghost use Rattle.cq_lex_c.specs.C.{c};
 ghost use Rattle.cq_lex_c.specs.OneKind.{one_kind_of_c};
 ghost use Rattle.cq_lex_c.specs.Splices.{spliced};
 ghost use Rattle.cq_lex_c.specs.Unclosed.{IsTrueOf};
 
-use crate::element::taken;
-use crate::mode::mode_behind;
+use crate::element::{is_blank, taken};
+use crate::mode::{mode_behind, mode_behind_blank};
 use crate::splice::unspliced;
 use crate::text::{Unclosed, nothing_known, prefixed_at, text_at};
 use cq_base::{Memory, Spelled, Text};
@@ -17,6 +19,36 @@ use std::alloc::Global;
 #[derive(Clone, Copy, Debug, PartialEq, Eq)]
 pub struct C {
     unclosed: Unclosed,
+}
+
+// The element at a unit.
+fn taken_at(unclosed: &mut Unclosed, units: &[Unit], at: u32, mode: u8) -> Option<Found>
+    requires inside { at < length units.now }
+    requires short { length units.now < 2 ^ 32 }
+    requires known { mode ≤ 3 }
+    requires remembered { IsTrueOf unclosed.old (characters units.now) }
+    ensures taken { Takes c at mode (drop at (characters units.now)) result }
+    ensures known { IfSome result (λ found. found.mode ≤ 3) }
+    ensures remembered { IsTrueOf unclosed.new (characters units.now) }
+{
+    let rest = &units[at as usize..];
+    if is_mark(units, at) {
+        return Some(Found {
+            spell: Spell::Blank,
+            units: 1,
+            mode,
+        });
+    }
+    let text = text_at(units, at as usize, unclosed);
+    let prefixed = prefixed_at(units, at as usize, unclosed);
+    match taken(rest, mode, text, prefixed) {
+        None => None,
+        Some(found) => Some(Found {
+            spell: found.spell,
+            units: found.units,
+            mode: mode_behind(mode, found.spell, &rest[..found.units as usize]),
+        }),
+    }
 }
 
 impl Lexis for C {
@@ -39,25 +71,18 @@ impl Lexis for C {
         }
     }
 
+    // So that a blank costs the loop over the elements no call.
+    #[inline(always)]
     fn longest(&mut self, units: &[Unit], at: u32, mode: u8) -> Option<Found> {
-        let rest = &units[at as usize..];
-        if is_mark(units, at) {
+        let first = units[at as usize].ch;
+        if is_blank(first) {
             return Some(Found {
                 spell: Spell::Blank,
                 units: 1,
-                mode,
+                mode: mode_behind_blank(mode, first),
             });
         }
-        let text = text_at(units, at as usize, &mut self.unclosed);
-        let prefixed = prefixed_at(units, at as usize, &mut self.unclosed);
-        match taken(rest, mode, text, prefixed) {
-            None => None,
-            Some(found) => Some(Found {
-                spell: found.spell,
-                units: found.units,
-                mode: mode_behind(mode, found.spell, &rest[..found.units as usize]),
-            }),
-        }
+        taken_at(&mut self.unclosed, units, at, mode)
     }
 
     fn complete(

@@ -1,6 +1,7 @@
 ghost use Rattle.std.specs.Prelude.{◌≡◌, ◌≤◌, ◌||◌, ◌∷◌, [], codes};
 ghost use Rattle.std.specs.Str.{bytes_eq};
 ghost use Rattle.cq_munch.specs.Characters.{characters};
+ghost use Rattle.cq_munch.specs.declared.element.Spell.TheVariants.{Blank};
 ghost use Rattle.cq_lex_c.specs.C.{is_hash, mode_behind};
 
 use cq_munch::{Spell, Unit, ascii_bytes};
@@ -29,6 +30,15 @@ fn is_feed(units: &[Unit]) -> bool
         [first] => first.ch == '\n',
         _ => false,
     }
+}
+
+/// The mode behind a blank of one character.
+pub(crate) fn mode_behind_blank(mode: u8, ch: char) -> u8
+    requires { mode ≤ 3 }
+    ensures mode { result ≡ mode_behind mode Blank (ch ∷ []) }
+    ensures known { result ≤ 3 }
+{
+    if ch == '\n' { 0 } else { mode }
 }
 
 /// The mode behind an element of these units.

@@ -1,9 +1,9 @@
-ghost use Rattle.std.specs.Prelude.{◌≡◌};
+ghost use Rattle.std.specs.Prelude.{◌≡◌, Some, IsTrue};
 ghost use Rattle.cq_munch.specs.Characters.{characters};
 ghost use Rattle.cq_munch.specs.Behind.{led};
 ghost use Rattle.cq_munch.specs.Longest.{LongestAt, IsAmong};
 ghost use Rattle.cq_lex_c.specs.Punctuators.{punctuators};
-ghost use Rattle.cq_lex_c.specs.declared.punctuator.Punctuator.TheVariants.{Start};
+ghost use Rattle.cq_lex_c.specs.declared.punctuator.Punctuator.TheVariants.{Start, Done};
 ghost use Rattle.cq_lex_c.specs.PunctuatorStates.{steps, may_end, punctuator_rest};
 
 use cq_munch::{Machine, Unit, longest_spelling};
@@ -100,9 +100,32 @@ impl Machine for Punctuator {
     }
 }
 
+// Whether the character is a punctuator with which no longer one begins.
+fn stands_alone(ch: char) -> bool
+    ensures { IsTrue result → led (steps Start) ch ≡ Some Done }
+{
+    match begun(ch) {
+        Some(Punctuator::Done) => true,
+        _ => false,
+    }
+}
+
+// Whether such a character stands at the front.
+fn begins_alone(units: &[Unit]) -> bool
+    ensures { IsTrue result → LongestAt (IsAmong punctuators) (characters units.now) (Some 1) }
+{
+    if units.is_empty() {
+        return false;
+    }
+    stands_alone(units[0].ch)
+}
+
 /// The longest punctuator of the standard at the front.
 pub(crate) fn longest_punctuator(units: &[Unit]) -> Option<usize>
     ensures { LongestAt (IsAmong punctuators) (characters units.now) result }
 {
+    if begins_alone(units) {
+        return Some(1);
+    }
     longest_spelling(Punctuator::Start, units)
 }

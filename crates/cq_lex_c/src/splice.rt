@@ -63,7 +63,7 @@ fn splice(alloc: Global, units: &[Unit]) -> Result<Vec<Unit>, Memory>
         } else {
             let len = splice_len(&units[i..]);
             if len == 0 {
-                out.push(*unit)?;
+                out.push_reserved(*unit);
             } else {
                 skip = len - 1;
             }

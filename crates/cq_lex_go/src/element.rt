@@ -1,4 +1,4 @@
-ghost use Rattle.std.specs.Prelude.{◌≡◌, ◌<◌, ◌^◌, ℕ, [], ◌∷◌, length, slice_index_or};
+ghost use Rattle.std.specs.Prelude.{◌≡◌, ◌<◌, ◌^◌, ◌==◌, ◌||◌, ℕ, [], ◌∷◌, length, slice_index_or};
 ghost use Rattle.cq_munch.specs.Characters.{characters};
 ghost use Rattle.cq_munch.specs.Language.{Takes};
 ghost use Rattle.cq_munch.specs.Table.{InTable, table};
@@ -51,6 +51,13 @@ fn front_of(ch: char) -> Front
             Front::Other
         },
     }
+}
+
+/// Whether the character is a blank.
+pub(crate) fn is_blank(ch: char) -> bool
+    ensures { result ≡ ((ch == 32) || ((ch == 9) || ((ch == 13) || (ch == 10)))) }
+{
+    ch == ' ' || ch == '\t' || ch == '\r' || ch == '\n'
 }
 
 fn class_of(name: &[Unit]) -> Class

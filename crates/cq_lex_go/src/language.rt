@@ -1,10 +1,12 @@
-ghost use Rattle.std.specs.Prelude.{Ok, ⊤};
+ghost use Rattle.std.specs.Prelude.{◌<◌, ◌≤◌, ◌^◌, Ok, ⊤, IfSome, length, drop};
+ghost use Rattle.cq_munch.specs.Characters.{characters};
+ghost use Rattle.cq_munch.specs.Language.{Takes};
 ghost use Rattle.cq_lex_go.specs.Go.{go};
 ghost use Rattle.cq_lex_go.specs.OneKind.{one_kind_of_go};
 ghost use Rattle.cq_lex_go.specs.NoneLost.{none_lost};
 ghost use Rattle.cq_lex_go.specs.Semicolons.{completed};
 
-use crate::element::taken;
+use crate::element::{is_blank, taken};
 use crate::semicolon::with_semicolons;
 use cq_base::{Memory, Spelled, Text};
 use cq_munch::{Found, Lexis, Spell, Translated, Unit, is_mark, plain_units};
@@ -13,6 +15,24 @@ use std::alloc::Global;
 /// The language Go.
 #[derive(Clone, Copy, Debug, PartialEq, Eq)]
 pub struct Go;
+
+// The element at a unit.
+fn taken_at(units: &[Unit], at: u32, mode: u8) -> Option<Found>
+    requires inside { at < length units.now }
+    requires short { length units.now < 2 ^ 32 }
+    requires known { mode ≤ 3 }
+    ensures taken { Takes go at mode (drop at (characters units.now)) result }
+    ensures known { IfSome result (λ found. found.mode ≤ 3) }
+{
+    if is_mark(units, at) {
+        return Some(Found {
+            spell: Spell::Blank,
+            units: 1,
+            mode,
+        });
+    }
+    taken(&units[at as usize..], mode)
+}
 
 impl Lexis for Go {
     ghost language = { go };
@@ -31,15 +51,17 @@ impl Lexis for Go {
         Go
     }
 
+    // So that a blank costs the loop over the elements no call.
+    #[inline(always)]
     fn longest(&mut self, units: &[Unit], at: u32, mode: u8) -> Option<Found> {
-        if is_mark(units, at) {
+        if is_blank(units[at as usize].ch) {
             return Some(Found {
                 spell: Spell::Blank,
                 units: 1,
                 mode,
             });
         }
-        taken(&units[at as usize..], mode)
+        taken_at(units, at, mode)
     }
 
     fn complete(alloc: Global, text: &Text, tokens: Vec<Spelled>) -> Result<Vec<Spelled>, Memory> {

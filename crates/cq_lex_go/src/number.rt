@@ -1,4 +1,4 @@
-ghost use Rattle.std.specs.Prelude.{◌≡◌, IfSome, map};
+ghost use Rattle.std.specs.Prelude.{◌≡◌, None, IfSome, IsTrue, map};
 ghost use Rattle.cq_munch.specs.Longest.{LongestAt};
 ghost use Rattle.cq_munch.specs.Pattern.{Spells};
 ghost use Rattle.cq_lex_go.specs.Numbers.{number};
@@ -240,9 +240,25 @@ impl Machine for Number {
     }
 }
 
+// Whether a point stands at the front, and behind it another character than a digit.
+fn is_point_alone(units: &[Unit]) -> bool
+    ensures { IsTrue result → LongestAt (Spells number) (map (λ u. u.ch) units.now) None }
+{
+    if units.len() < 2 {
+        return false;
+    }
+    if units[0].ch == '.' {
+        return !units[1].ch.is_ascii_digit();
+    }
+    false
+}
+
 /// The longest number at the front.
 pub(crate) fn longest_number(units: &[Unit]) -> Option<usize>
     ensures { LongestAt (Spells number) (map (λ u. u.ch) units.now) result }
 {
+    if is_point_alone(units) {
+        return None;
+    }
     longest_spelling(Number::Start, units)
 }

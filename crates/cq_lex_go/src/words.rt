@@ -1,15 +1,13 @@
 ghost use Rattle.std.specs.Prelude.{◌≡◌, ◌==◌, ◌||◌, ◌↔◌, IsTrue, map};
-ghost use Rattle.std.specs.Char.{is_ascii_alphabetic};
+ghost use Rattle.std.specs.Char.{is_ascii_alphabetic, is_ascii_digit};
 ghost use Rattle.cq_munch.specs.Longest.{LongestAt, IsAmong};
 ghost use Rattle.cq_munch.specs.Characters.{characters};
+ghost use Rattle.cq_munch.specs.Fronts.{starts};
 ghost use Rattle.cq_lex_go.specs.NameStates.{name_rest};
 ghost use Rattle.cq_lex_go.specs.Words.{IsName, is_letter, is_letter_or_digit, is_letter_category, is_digit_category, keywords};
 
-use cq_munch::{Machine, Unit, ascii_bytes, is_listed, longest_spelling};
+use cq_munch::{Machine, Unit, is_listed_by_letter, longest_spelling, longest_spelling_from};
 use unicode::properties::GeneralCategory;
-
-// `fallthrough` has as many letters.
-const LONGEST_KEYWORD: usize = 11;
 
 fn is_letter_category(category: GeneralCategory) -> bool
     ensures { result ≡ is_letter_category category }
@@ -41,10 +39,31 @@ pub(crate) fn is_letter(ch: char) -> bool
     ch == '_' || is_letter_category(GeneralCategory::for_char(ch))
 }
 
+// Each letter and digit of ASCII, and the underscore, stands at its own place, and a comma at every other place.
+static CONTINUES: [u8; 128] = *b"\
+    ,,,,,,,,,,,,,,,,,,,,,,,,,,,,,,,,\
+    ,,,,,,,,,,,,,,,,0123456789,,,,,,\
+    ,ABCDEFGHIJKLMNOPQRSTUVWXYZ,,,,_\
+    ,abcdefghijklmnopqrstuvwxyz,,,,,";
+
+// Whether the character is one of them.
+fn continues_ascii(ch: char) -> bool
+    ensures { result ≡ (((ch == 95) || is_ascii_alphabetic ch) || is_ascii_digit ch) }
+{
+    let code = ch as u32;
+    if code >= 128 {
+        return false;
+    }
+    CONTINUES[code as usize] != b','
+}
+
 #[tactic(auto, unfolding(crate::specs::Words::is_letter_or_digit))]
 fn is_letter_or_digit(ch: char) -> bool
     ensures { result ≡ is_letter_or_digit ch }
 {
+    if ch.is_ascii() {
+        return continues_ascii(ch);
+    }
     is_letter(ch) || GeneralCategory::for_char(ch) == GeneralCategory::DecimalNumber
 }
 
@@ -71,40 +90,65 @@ impl Machine for Name {
     }
 }
 
-/// The longest name at the front. Keywords are names too.
+// Whether a letter of ASCII or an underscore stands at the front.
+fn begins_plainly(units: &[Unit]) -> bool
+    ensures { result ≡ starts (λ c. (c == 95) || is_ascii_alphabetic c) (characters units.now) }
+{
+    match units {
+        [first, ..] => is_ascii_letter(first.ch),
+        [] => false,
+    }
+}
+
+/// The longest name at the front. Keywords are names too. As far as its characters are of ASCII they are looked up in a
+/// table; the machine goes on where one stands that is not.
 pub(crate) fn longest_name(units: &[Unit]) -> Option<usize>
     ensures { LongestAt IsName (map (λ u. u.ch) units.now) result }
 {
-    longest_spelling(Name::Before, units)
+    if !begins_plainly(units) {
+        return longest_spelling(Name::Before, units);
+    }
+    for at in 1..units.len() {
+        let ch = units[at].ch;
+        if !continues_ascii(ch) {
+            if ch.is_ascii() {
+                return Some(at);
+            }
+            return longest_spelling_from(Name::Before, Name::Inside, at, Some(at), units);
+        }
+    }
+    Some(units.len())
 }
 
-// The 25 keywords by their length.
-const RESERVED: [&[&[u8]]; 12] = [
+// The 25 keywords by their first letter.
+const RESERVED: [&[&[u8]]; 22] = [
+    &[],
+    &[b"break"],
+    &[b"case", b"chan", b"const", b"continue"],
+    &[b"default", b"defer"],
+    &[b"else"],
+    &[b"fallthrough", b"for", b"func"],
+    &[b"go", b"goto"],
+    &[],
+    &[b"if", b"import", b"interface"],
     &[],
     &[],
-    &[b"go", b"if"],
-    &[b"for", b"map", b"var"],
-    &[b"case", b"chan", b"else", b"func", b"goto", b"type"],
-    &[b"break", b"const", b"defer", b"range"],
-    &[b"import", b"return", b"select", b"struct", b"switch"],
-    &[b"default", b"package"],
-    &[b"continue"],
-    &[b"interface"],
     &[],
-    &[b"fallthrough"],
+    &[b"map"],
+    &[],
+    &[],
+    &[b"package"],
+    &[],
+    &[b"range", b"return"],
+    &[b"select", b"struct", b"switch"],
+    &[b"type"],
+    &[],
+    &[b"var"],
 ];
-
-// Whether it is one of the 25 keywords.
-fn is_reserved(word: &[u8]) -> bool
-    ensures { IsTrue result ↔ IsAmong keywords word.now }
-{
-    is_listed(&RESERVED, word)
-}
 
 /// Whether the name is a keyword.
 pub(crate) fn is_keyword(name: &[Unit]) -> bool
     ensures { IsTrue result ↔ IsAmong keywords (characters name.now) }
 {
-    let mut word = [0; LONGEST_KEYWORD];
-    ascii_bytes(name, &mut word) && is_reserved(&word[..name.len()])
+    is_listed_by_letter(&RESERVED, name)
 }

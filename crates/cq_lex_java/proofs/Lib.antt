@@ -1,9 +1,12 @@
 pub mod NumberSteps
+pub mod Points
 pub mod OperatorSteps
 pub mod Opening
 pub mod Spans
 pub mod Translating
 pub mod Scalars
 pub mod NoEscapes
+pub mod NameScans
 pub mod Dispatch
+pub mod Blanks
 pub mod Counting

@@ -1,10 +1,12 @@
-ghost use Rattle.std.specs.Prelude.{false, ⊤, length};
+ghost use Rattle.std.specs.Prelude.{◌<◌, ◌≤◌, ◌^◌, false, ⊤, IfSome, length, drop};
 ghost use Rattle.std.proofs.Math.Nat.{le_refl};
+ghost use Rattle.cq_munch.specs.Characters.{characters};
+ghost use Rattle.cq_munch.specs.Language.{Takes};
 ghost use Rattle.cq_lex_java.specs.Java.{java};
 ghost use Rattle.cq_lex_java.specs.OneKind.{one_kind_of_java};
 ghost use Rattle.cq_lex_java.specs.Translation.{translated};
 
-use crate::element::taken;
+use crate::element::{is_blank, taken};
 use crate::translation::{is_plain, unescaped};
 use cq_base::{Memory, Spelled, Text};
 use cq_munch::{Found, Lexis, Spell, Translated, Unit, is_mark, plain_units};
@@ -13,6 +15,24 @@ use std::alloc::Global;
 /// The language Java.
 #[derive(Clone, Copy, Debug, PartialEq, Eq)]
 pub struct Java;
+
+// The element at a unit.
+fn taken_at(units: &[Unit], at: u32, mode: u8) -> Option<Found>
+    requires inside { at < length units.now }
+    requires short { length units.now < 2 ^ 32 }
+    requires known { mode ≤ 3 }
+    ensures taken { Takes java at mode (drop at (characters units.now)) result }
+    ensures known { IfSome result (λ found. found.mode ≤ 3) }
+{
+    if is_mark(units, at) {
+        return Some(Found {
+            spell: Spell::Blank,
+            units: 1,
+            mode,
+        });
+    }
+    taken(&units[at as usize..], mode)
+}
 
 impl Lexis for Java {
     ghost language = { java };
@@ -35,15 +55,17 @@ impl Lexis for Java {
         Java
     }
 
+    // So that a blank costs the loop over the elements no call.
+    #[inline(always)]
     fn longest(&mut self, units: &[Unit], at: u32, mode: u8) -> Option<Found> {
-        if is_mark(units, at) {
+        if is_blank(units[at as usize].ch) {
             return Some(Found {
                 spell: Spell::Blank,
                 units: 1,
                 mode,
             });
         }
-        taken(&units[at as usize..], mode)
+        taken_at(units, at, mode)
     }
 
     fn complete(

@@ -1,4 +1,4 @@
-ghost use Rattle.std.specs.Prelude.{◌≡◌};
+ghost use Rattle.std.specs.Prelude.{◌≡◌, None, IsTrue};
 ghost use Rattle.cq_munch.specs.Behind.{SpellsAny};
 ghost use Rattle.cq_munch.specs.Characters.{characters};
 ghost use Rattle.cq_munch.specs.Longest.{LongestAt};
@@ -312,9 +312,25 @@ impl Machine for Number {
     }
 }
 
+// Whether a point stands at the front, and behind it another character than a digit.
+fn is_point_alone(units: &[Unit]) -> bool
+    ensures { IsTrue result → LongestAt (Spells number) (characters units.now) None }
+{
+    if units.len() < 2 {
+        return false;
+    }
+    if units[0].ch == '.' {
+        return !units[1].ch.is_ascii_digit();
+    }
+    false
+}
+
 /// The longest number at the front.
 pub(crate) fn longest_number(units: &[Unit]) -> Option<usize>
     ensures { LongestAt (Spells number) (characters units.now) result }
 {
+    if is_point_alone(units) {
+        return None;
+    }
     longest_spelling(Number::Start, units)
 }

@@ -1,9 +1,9 @@
-ghost use Rattle.std.specs.Prelude.{◌≡◌};
+ghost use Rattle.std.specs.Prelude.{◌≡◌, Some, IsTrue};
 ghost use Rattle.cq_munch.specs.Characters.{characters};
 ghost use Rattle.cq_munch.specs.Behind.{led};
 ghost use Rattle.cq_munch.specs.Longest.{LongestAt, IsAmong};
 ghost use Rattle.cq_lex_java.specs.Operators.{operators};
-ghost use Rattle.cq_lex_java.specs.declared.operator.Operator.TheVariants.{Start};
+ghost use Rattle.cq_lex_java.specs.declared.operator.Operator.TheVariants.{Start, Done};
 ghost use Rattle.cq_lex_java.specs.OperatorStates.{steps, may_end, operator_rest};
 
 use cq_munch::{Machine, Unit, longest_spelling};
@@ -94,9 +94,32 @@ impl Machine for Operator {
     }
 }
 
+// Whether the character is an operator with which no longer one begins.
+fn stands_alone(ch: char) -> bool
+    ensures { IsTrue result → led (steps Start) ch ≡ Some Done }
+{
+    match begun(ch) {
+        Some(Operator::Done) => true,
+        _ => false,
+    }
+}
+
+// Whether such a character stands at the front.
+fn begins_alone(units: &[Unit]) -> bool
+    ensures { IsTrue result → LongestAt (IsAmong operators) (characters units.now) (Some 1) }
+{
+    if units.is_empty() {
+        return false;
+    }
+    stands_alone(units[0].ch)
+}
+
 /// The longest separator or operator at the front.
 pub(crate) fn longest_operator(units: &[Unit]) -> Option<usize>
     ensures { LongestAt (IsAmong operators) (characters units.now) result }
 {
+    if begins_alone(units) {
+        return Some(1);
+    }
     longest_spelling(Operator::Start, units)
 }

@@ -11,7 +11,8 @@ use Rattle.cq_munch.specs.Lexed.{unit_at}
 use Rattle.cq_munch.specs.LineEnds.{ends_line}
 use Rattle.cq_munch.specs.Longest.{LongestAt}
 use Rattle.cq_munch.specs.Table.{begins}
-use Rattle.cq_munch.proofs.Front.{Scanned, scanned_none, scanned_kept, scanned_won, scanned_stopped, scanned_all, scanned_ended, ch_at, as_many}
+use Rattle.cq_munch.specs.Scans.{Scanned}
+use Rattle.cq_munch.proofs.Front.{scanned_none, scanned_kept, scanned_won, scanned_stopped, scanned_all, scanned_ended, ch_at, as_many}
 
 -- ---- two characters that open a comment
 

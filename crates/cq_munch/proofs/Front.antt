@@ -4,6 +4,7 @@ use Rattle.std.proofs.lemmas.List.{take-take, take_all, take_more, drop_more, ap
 use Rattle.std.proofs.lemmas.Bool.{cases_lt}
 use Rattle.cq_munch.specs.declared.unit.Unit.{Unit}
 use Rattle.cq_munch.specs.Longest.{LongestAt}
+use Rattle.cq_munch.specs.Scans.{Scanned}
 
 -- what holds of the first i characters alone
 module _ (set : List ℕ → Type 0) (text : List ℕ) (i : ℕ) (inside : i ≤ length text) where
@@ -56,11 +57,6 @@ kept set text i found h best none =
     (λ m more within spelled.
     let m_is : m ≡ i + 1 = omega (arith, length_is) in
     none (subst set (ap (λ k. take k (take (i + 1) text)) m_is ∙ take-take (i + 1) (i + 1) text (omega arith)) spelled))
-
--- a scan has read i characters: rest is what goes on from its state, and found the longest spelling so far
-pub record Scanned (set rest : List ℕ → Type 0) (text : List ℕ) (i : ℕ) (found : Option ℕ) : Type 0 where
-  pub goes : (s : List ℕ) → set (take i text ++ s) ↔ rest s
-  pub best : LongestAt set (take i text) found
 
 module _ {set rest : List ℕ → Type 0} {text : List ℕ} {i : ℕ} {found : Option ℕ} (so_far : Scanned set rest text i found) (c : ℕ) (inside : i < length text) (c_is : get_or text i 0 ≡ c) where
   one_more : take (i + 1) text ≡ take i text ++ c ∷ []

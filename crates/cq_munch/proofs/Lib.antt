@@ -1,8 +1,11 @@
 pub mod Front
+pub mod CharacterTests
+pub mod Runs
 pub mod CommentScans
 pub mod Steps
 pub mod Tables
 pub mod WordLists
+pub mod AloneWords
 pub mod Reserved
 pub mod QuoteSteps
 pub mod OpenQuotes
@@ -14,5 +17,6 @@ pub mod Joining
 pub mod Dispatch
 pub mod OneKind
 pub mod Marks
+pub mod Blanks
 pub mod MarkWords
 pub mod MarkOrder

@@ -16,7 +16,8 @@ use Rattle.cq_munch.specs.declared.quoted.Role.TheVariants as roles
 use Rattle.cq_munch.specs.declared.quoted.Place.{Place}
 use Rattle.cq_munch.specs.declared.quoted.Place.TheVariants as places
 use Rattle.cq_munch.specs.declared.quoted.Quoted.{Quoted}
-use Rattle.cq_munch.proofs.Front.{Scanned, scanned_none, scanned_kept, scanned_won, scanned_stopped, scanned_all, scanned_ended}
+use Rattle.cq_munch.specs.Scans.{Scanned}
+use Rattle.cq_munch.proofs.Front.{scanned_none, scanned_kept, scanned_won, scanned_stopped, scanned_all, scanned_ended}
 use Rattle.cq_munch.proofs.QuoteSteps.{at, quote_none, quote_next, starts, an_end}
 
 -- the spellings that go on from a place

@@ -1,5 +1,6 @@
 pub mod Longest
-pub mod ByLength
+pub mod Scans
+pub mod ByLetter
 pub mod Pattern
 pub mod Digits
 pub mod Behind

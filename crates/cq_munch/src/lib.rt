@@ -1,8 +1,8 @@
 //! A text cut into its longest elements, once for every language. A language's tables are sets of spellings; `munch`
 //! is proved to give exactly the tokens that they define, or the first fault, or that there are too many, for every
 //! `Lexis`. Beside it stand what a language's scanner is made of: machines that read a character at a time, comments,
-//! texts in quotes, and the joining of rows. A machine looks at each unit once; memory grows with the units and the
-//! tokens.
+//! texts in quotes, and the joining of rows. A machine looks at each unit once, or goes on behind units that were read
+//! without it; memory grows with the units and the tokens.
 #![tactic(auto)]
 
 mod comment;
@@ -25,7 +25,7 @@ pub use comment::{longest_block_comment, longest_line_comment};
 pub use element::{Found, Spell};
 pub use ends::LineEnds;
 pub use lexis::{Lexis, Translated};
-pub use machine::{Machine, longest_spelling};
+pub use machine::{Machine, longest_spelling, longest_spelling_from};
 pub use mark::is_mark;
 pub use marking::the_last_word_counts;
 pub use munching::{Lexed, munch, one_answer};
@@ -33,4 +33,4 @@ pub use plain::plain_units;
 pub use quoted::{Quote, longest_quoted, scan_quoted};
 pub use rows::{better, found_of, second_is};
 pub use unit::Unit;
-pub use words::{ascii_bytes, is_listed};
+pub use words::{ascii_bytes, is_listed_by_letter};

@@ -1,5 +1,6 @@
 ghost use Rattle.std.specs.Prelude.{◌≡◌, ℕ, List, [], ◌∷◌, ◌↔◌, IsTrue, IfSome, IfNone, map};
 ghost use Rattle.cq_munch.specs.Longest.{LongestAt};
+ghost use Rattle.cq_munch.specs.Scans.{Scanned};
 
 use crate::unit::Unit;
 
@@ -23,10 +24,25 @@ pub trait Machine: Copy {
 pub fn longest_spelling<M: Machine>(start: M, units: &[Unit]) -> Option<usize>
     ensures { LongestAt (M.rest start) (map (λ u. u.ch) units.now) result }
 {
-    let mut state = start;
-    let mut found = None;
-    for (i, unit) in units.iter().enumerate() {
-        match state.step(unit.ch) {
+    longest_spelling_from(start, start, 0, None, units)
+}
+
+/// The same, where the first `at` units were read elsewhere: they lead from `start` to `state`, and `found` is the
+/// longest spelling among them. They are not read again.
+pub fn longest_spelling_from<M: Machine>(
+    start: M,
+    state: M,
+    at: usize,
+    found: Option<usize>,
+    units: &[Unit],
+) -> Option<usize>
+    requires { Scanned (M.rest start) (M.rest state) (map (λ u. u.ch) units.now) at found }
+    ensures { LongestAt (M.rest start) (map (λ u. u.ch) units.now) result }
+{
+    let mut state = state;
+    let mut found = found;
+    for i in at..units.len() {
+        match state.step(units[i].ch) {
             None => return found,
             Some(next) => {
                 state = next;

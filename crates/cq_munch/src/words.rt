@@ -1,8 +1,8 @@
-ghost use Rattle.std.specs.Prelude.{◌≡◌, ◌↔◌, ◌<◌, ◌≤◌, length, take, All, IsTrue};
+ghost use Rattle.std.specs.Prelude.{◌≡◌, ◌↔◌, ◌<◌, ◌≤◌, length, take, slice_index_or, All, IsTrue};
 ghost use Rattle.std.specs.List.{list_any};
 ghost use Rattle.std.specs.Str.{bytes_eq};
-ghost use Rattle.cq_munch.specs.ByLength.{words_of_length};
 ghost use Rattle.cq_munch.specs.Characters.{characters, AreAscii};
+ghost use Rattle.cq_munch.specs.ByLetter.{row_of, words_beside};
 ghost use Rattle.cq_munch.specs.Longest.{IsAmong};
 
 use crate::unit::Unit;
@@ -28,34 +28,61 @@ pub fn ascii_bytes(units: &[Unit], room: &mut [u8]) -> bool
     true
 }
 
-// Whether the words are the same. Mostly their first bytes tell.
-fn is_same(a: &[u8], b: &[u8]) -> bool
-    ensures { result ≡ bytes_eq a.now b.now }
+// Whether the units spell the word. Mostly their number tells, or the first of them.
+fn is_spelled(word: &[u8], units: &[Unit]) -> bool
+    ensures { result ≡ bytes_eq word.now (characters units.now) }
 {
-    if a.is_empty() || b.is_empty() || a[0] == b[0] {
-        return a == b;
+    if word.len() != units.len() {
+        return false;
     }
-    false
+    for i in 0..word.len() {
+        if units[i].ch != char::from(word[i]) {
+            return false;
+        }
+    }
+    true
 }
 
-fn is_among(words: &[&[u8]], word: &[u8]) -> bool
-    ensures { result ≡ list_any (λ other. bytes_eq other.now word.now) words.now }
+fn is_among(words: &[&[u8]], name: &[Unit]) -> bool
+    ensures { result ≡ list_any (λ word. bytes_eq word.now (characters name.now)) words.now }
 {
-    for other in words {
-        if is_same(other, word) {
+    for word in words {
+        if is_spelled(word, name) {
             return true;
         }
     }
     false
 }
 
-/// Whether a word stands in the list of the words of its length. It costs a look at each of these, and mostly at one byte of
-/// it.
-pub fn is_listed(by_length: &[&[&[u8]]], word: &[u8]) -> bool
-    ensures { IsTrue result ↔ IsAmong (words_of_length by_length.now (length word.now)) word.now }
+// The row of the words that begin with a character: one for each small letter of ASCII, one for the underscore, and none
+// for any other.
+fn row_of(ch: char) -> usize
+    ensures { result ≡ row_of ch }
 {
-    match by_length.get(word.len()) {
-        Some(words) => is_among(words, word),
+    let code = ch as u32 as usize;
+    if ch.is_ascii_lowercase() {
+        return code - 97;
+    }
+    if ch == '_' { 26 } else { 27 }
+}
+
+// The row of the words that begin as the units do.
+fn row_beside(name: &[Unit]) -> usize
+    ensures { result ≡ row_of (slice_index_or (characters name.now) 0 0) }
+{
+    match name {
+        [first, ..] => row_of(first.ch),
+        [] => 27,
+    }
+}
+
+/// Whether the units spell a word of a table, whose rows are those of the words that begin with a, b and so on, and last
+/// with an underscore. It costs a look at the length of each word in the row, and mostly at one byte of those that fit.
+pub fn is_listed_by_letter(by_letter: &[&[&[u8]]], name: &[Unit]) -> bool
+    ensures { IsTrue result ↔ IsAmong (words_beside by_letter.now (characters name.now)) (characters name.now) }
+{
+    match by_letter.get(row_beside(name)) {
+        Some(words) => is_among(words, name),
         None => false,
     }
 }

@@ -1,7 +1,12 @@
-use Rattle.std.proofs.Common.{arith, refl}
-use Rattle.cq_munch.proofs.Reserved.{fits_room}
+use Rattle.std.proofs.Common.{map, refl}
+use Rattle.cq_munch.specs.Characters.{characters}
+use Rattle.cq_munch.proofs.Reserved.{by_letter_among}
 use Rattle.cq_lex_c.specs.Identifiers.{keywords}
+use Rattle.cq_lex_c.specs.declared.identifier.TheConstants.{RESERVED}
 use Rattle.cq_lex_c.proofs.identifier.is_keyword.Goals as goal
 
-pub returns-else-ascii_bytes : goal.returns-else-ascii_bytes
-returns-else-ascii_bytes c = (λ yes. absurd (cc), λ among. let fits = fits_room keywords 14 refl c.args.name.now among in c.ascii_bytes.ensures.all (omega (arith, fits.0)) fits.1)
+pub returns : goal.returns
+returns c =
+    let listed = c.is_listed_by_letter.ensures in
+    let same = by_letter_among keywords (map (λ row. map (λ w. w.now) row.now) RESERVED) refl refl (characters c.args.name.now) in
+    (λ h. same.0 (listed.0 h), λ among. listed.1 (same.1 among))

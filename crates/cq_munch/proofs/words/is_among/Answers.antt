@@ -1,12 +1,15 @@
 use Rattle.std.proofs.Common.{sym, ◌∙◌}
+use Rattle.cq_munch.specs.Characters.{characters}
 use Rattle.cq_munch.proofs.Reserved.{found_here, found_later, found_nowhere}
 use Rattle.cq_munch.proofs.words.is_among.Goals as goal
 
-pub returns-then-is_same : goal.returns-then-is_same
-returns-then-is_same c = found_here c.args.word.now c.args.words.now c.loop-other.other-index c.loop-other.invariant _ c.loop-other-test.true (sym c.is_same.ensures ∙ c.if-is_same.true)
+pub returns-then-is_spelled : goal.returns-then-is_spelled
+returns-then-is_spelled c =
+    found_here (characters c.args.name.now) c.args.words.now c.loop-word.word-index c.loop-word.invariant _ c.loop-word-test.true (sym c.is_spelled.ensures ∙ c.if-is_spelled.true)
 
-pub loop-other-preserved : goal.loop-other-preserved
-loop-other-preserved c = found_later c.args.word.now c.args.words.now c.loop-other.other-index c.loop-other.invariant _ c.loop-other-test.true (sym c.is_same.ensures ∙ c.if-is_same.false)
+pub loop-word-preserved : goal.loop-word-preserved
+loop-word-preserved c =
+    found_later (characters c.args.name.now) c.args.words.now c.loop-word.word-index c.loop-word.invariant _ c.loop-word-test.true (sym c.is_spelled.ensures ∙ c.if-is_spelled.false)
 
 pub returns : goal.returns
-returns c = found_nowhere c.args.word.now c.args.words.now c.loop-other.other-index c.loop-other.invariant c.loop-other-test.false
+returns c = found_nowhere (characters c.args.name.now) c.args.words.now c.loop-word.word-index c.loop-word.invariant c.loop-word-test.false

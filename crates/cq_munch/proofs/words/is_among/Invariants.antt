@@ -1,7 +1,9 @@
 use Rattle.std.proofs.Common.{◌≡◌, drop}
 use Rattle.std.specs.List.{list_any}
 use Rattle.std.specs.Str.{bytes_eq}
+use Rattle.cq_munch.specs.Characters.{characters}
 use Rattle.cq_munch.proofs.words.is_among.Given as goal
 
-abbrev pub invariant-loop-other : goal.invariant-loop-other
-invariant-loop-other l = list_any (λ other. bytes_eq other.now l.word) l.words ≡ list_any (λ other. bytes_eq other.now l.word) (drop l.other-index l.words)
+abbrev pub invariant-loop-word : goal.invariant-loop-word
+invariant-loop-word l =
+    list_any (λ word. bytes_eq word.now (characters l.name)) l.words ≡ list_any (λ word. bytes_eq word.now (characters l.name)) (drop l.word-index l.words)

@@ -1,6 +1,6 @@
 use Rattle.std.proofs.Common.{map}
-use Rattle.cq_munch.proofs.Front.{Scanned}
-use Rattle.cq_munch.proofs.machine.longest_spelling.Given as goal
+use Rattle.cq_munch.specs.Scans.{Scanned}
+use Rattle.cq_munch.proofs.machine.longest_spelling_from.Given as goal
 
 abbrev pub invariant-loop-i : goal.invariant-loop-i
 invariant-loop-i g l =

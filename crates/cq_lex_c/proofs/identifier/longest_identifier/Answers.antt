@@ -1,0 +1,23 @@
+use Rattle.std.proofs.Common.{sym, ◌∙◌}
+use Rattle.cq_munch.specs.Characters.{characters}
+use Rattle.cq_munch.specs.Lexed.{unit_at}
+use Rattle.cq_munch.proofs.Runs.{run_out, run_ended}
+use Rattle.cq_lex_c.proofs.NameScans.{named_one, named_more, ends}
+use Rattle.cq_lex_c.proofs.identifier.longest_identifier.Goals as goal
+
+pub loop-at-init : goal.loop-at-init
+loop-at-init c = named_one (characters c.args.units.now) (sym c.begins_plainly.ensures ∙ c.if-not-begins_plainly.false)
+
+pub loop-at-preserved : goal.loop-at-preserved
+loop-at-preserved c = named_more c.args.units.now c.loop-at.at c.loop-at-test.true c.loop-at.invariant (sym c.continues_ascii.ensures ∙ c.if-not-continues_ascii.false)
+
+pub longest_spelling_from-requires : goal.longest_spelling_from-requires
+longest_spelling_from-requires c = c.loop-at.invariant
+
+pub returns-then-not-may_go_on : goal.returns-then-not-may_go_on
+returns-then-not-may_go_on c =
+    run_ended c.args.units.now c.loop-at.at c.loop-at.invariant c.loop-at-test.true
+    (ends (unit_at c.args.units.now c.loop-at.at).ch (sym c.may_go_on.ensures ∙ c.if-not-may_go_on.true) (sym c.continues_ascii.ensures ∙ c.if-not-continues_ascii.true))
+
+pub returns : goal.returns
+returns c = run_out c.args.units.now c.loop-at.at c.loop-at.invariant c.loop-at-test.false
