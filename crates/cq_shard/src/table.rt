@@ -2,7 +2,7 @@ ghost use Rattle.std.specs.Prelude.{◌≡◌, ◌+◌, ◌<◌, ◌≤◌, ◌+
 ghost use Rattle.std.specs.List.{copy_within};
 ghost use Rattle.std.specs.List.Sorted.{IsStrictlyIncreasing};
 ghost use Rattle.cq_shard.specs.Stores.{those_of};
-ghost use Rattle.cq_shard.specs.Tables.{IsTable, IsUpTo, IsPart, is_among, staying, AreAmong, AreAlikeInFront, AreAlikeUpTo};
+ghost use Rattle.cq_shard.specs.Tables.{IsTable, IsUpTo, IsPart, is_among, staying, AreAmong, ClosesUp, AreAlikeInFront, AreAlikeUpTo};
 
 use crate::run::is_live;
 use cq_base::{Entry, Memory};
@@ -126,7 +126,7 @@ fn close_up(changes: &mut Vec<u64>, sizes: &mut Vec<u64>, keep: &[u64], number: 
     requires within { length keep.now + number ≤ length changes.old.items }
     requires part { IsPart (take (length keep.now + number) changes.old.items) keep.now number }
     ensures sized { length changes.new.items ≤ length sizes.new.items }
-    ensures left { changes.new.items ≡ keep.now ++ drop (length keep.now + number) changes.old.items }
+    ensures left { ClosesUp keep.now number changes.old.items changes.new.items }
 {
     let mut at = 0;
     let mut taken = 0u64;
