@@ -1,5 +1,5 @@
 -- What the changes of a batch make of a project's files: at each path that they name stands a file, or none.
-use Rattle.std.specs.Prelude.{◌≡◌, ℕ, ◌+◌, List, [], ◌∷◌, ◌++◌, length, map, take, option_map, unwrap_or, IfSome, Option, None, Some}
+use Rattle.std.specs.Prelude.{◌≡◌, ℕ, ◌+◌, List, [], ◌∷◌, ◌++◌, length, map, take, option_map, unwrap_or, IfSome, Option, None, Some, Vec}
 use Rattle.std.specs.Arc.{arc_value}
 use Rattle.std.specs.List.{AllByRecursion}
 use Rattle.std.specs.declared.sync.Arc.{Arc}
@@ -7,7 +7,7 @@ use Rattle.std.specs.declared.alloc.Global.{Global}
 use Rattle.cq_base.specs.declared.change.Condition.{Condition}
 use Rattle.cq_history.specs.Files.{File, with_file, without_file}
 use Rattle.cq_projects.specs.declared.merging.Named.{Named}
-use Rattle.cq_projects.specs.Projects.{ListedProject, path_of}
+use Rattle.cq_projects.specs.Projects.{ListedProject, held_in, path_of}
 use Rattle.cq_projects.specs.Ordered.{AreAbove, AreBelow}
 
 module _ {W : Type 0} where
@@ -73,6 +73,10 @@ module _ {W : Type 0} where
   abbrev pub edited_named : List (Arc (List ℕ) Global × Named W) → List (File W) → List (File W)
   edited_named entries files = edited_all (files_at entries) files
 
+  -- they are the files with what stands at each of the named paths
+  abbrev pub AreMerged : List (Arc (List ℕ) Global × Named W) → List (Arc (File W) Global) → Vec (Arc (File W) Global) Global → Type 0
+  AreMerged entries files all = held_in all.items ≡ edited_named entries (held_in files)
+
   -- of each path it is kept where the files are cut at it
   abbrev pub AreCut : List (File W) → List (Arc (List ℕ) Global × Named W) → Type 0
   AreCut files entries = AllByRecursion (λ (e : Arc (List ℕ) Global × Named W). IsCut (arc_value e.0) files e.1.before e.1.behind) entries
@@ -84,3 +88,7 @@ module _ {W : Type 0} where
   -- the project has at the named paths what stands there, and the conditions where there are any
   abbrev pub IsRevised : List (Arc (List ℕ) Global × Named W) → Option (Arc (List Condition) Global) → ListedProject W → ListedProject W → Type 0
   IsRevised entries conditions old new = new ≡ record { name = old.name; files = edited_named entries old.files; conditions = unwrap_or (option_map arc_value conditions) old.conditions }
+
+  -- the same of a project that has an owner
+  abbrev pub IsOwnerRevised : List (Arc (List ℕ) Global × Named W) → Option (Arc (List Condition) Global) → Arc (ListedProject W) Global → Arc (ListedProject W) Global → Type 0
+  IsOwnerRevised entries conditions old new = IsRevised entries conditions (arc_value old) (arc_value new)

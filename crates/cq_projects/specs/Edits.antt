@@ -28,6 +28,28 @@ module _ {W : Type 0} where
   replaced_by (Drop path) files = number_at (arc_value path) files
   replaced_by (Gate conditions) files = None
 
+  -- the project has the files, or the conditions, that an edit makes of what it had
+  abbrev pub EditsProjectFiles : ProjectEdit W → ListedProject W → ListedProject W → Type 0
+  EditsProjectFiles edit old new = new.files ≡ edited_files edit old.files
+
+  abbrev pub EditsProjectConditions : ProjectEdit W → ListedProject W → ListedProject W → Type 0
+  EditsProjectConditions edit old new = new.conditions ≡ edited_conditions edit old.conditions
+
+  -- the same of a project that has an owner
+  abbrev pub EditsOwnerFiles : ProjectEdit W → Arc (ListedProject W) Global → Arc (ListedProject W) Global → Type 0
+  EditsOwnerFiles edit old new = EditsProjectFiles edit (arc_value old) (arc_value new)
+
+  abbrev pub EditsOwnerConditions : ProjectEdit W → Arc (ListedProject W) Global → Arc (ListedProject W) Global → Type 0
+  EditsOwnerConditions edit old new = EditsProjectConditions edit (arc_value old) (arc_value new)
+
+  -- the number is that of the change whose file the edit replaces or drops in the project of this name, if there is one
+  abbrev pub IsReplacedIn : ProjectEdit W → List ℕ → List (ListedProject W) → Option ℕ → Type 0
+  IsReplacedIn edit name projects number = number ≡ replaced_by edit (files_in projects name)
+
+  -- the same of projects that have owners
+  abbrev pub IsReplacedInOwned : ProjectEdit W → List ℕ → List (Arc (ListedProject W) Global) → Option ℕ → Type 0
+  IsReplacedInOwned edit name owners number = IsReplacedIn edit name (projects_in owners) number
+
   -- the project of this name has the files, or the conditions, that an edit makes of what it had, and each other one what
   -- it had
   abbrev pub EditsFiles : List ℕ → ProjectEdit W → List (ListedProject W) → List (ListedProject W) → Type 0

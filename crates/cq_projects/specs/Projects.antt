@@ -57,9 +57,24 @@ module _ {W : Type 0} where
   abbrev pub owned_files : List (Arc (ListedProject W) Global) → List ℕ → List (File W)
   owned_files owners q = files_in (projects_in owners) q
 
+  -- the index of a project, or how many there are
+  abbrev pub owned_position : List ℕ → List (Arc (ListedProject W) Global) → ℕ
+  owned_position q owners = position_of q (projects_in owners)
+
+  -- the files that these owners hold
+  abbrev pub held_in : List (Arc (File W) Global) → List (File W)
+  held_in owners = map arc_value owners
+
   -- of each name they have the same files, and the same conditions
+  abbrev pub SameFilesByName : List (ListedProject W) → List (ListedProject W) → Type 0
+  SameFilesByName old new = (q : List ℕ) → files_in new q ≡ files_in old q
+
+  abbrev pub SameConditionsByName : List (ListedProject W) → List (ListedProject W) → Type 0
+  SameConditionsByName old new = (q : List ℕ) → conditions_in new q ≡ conditions_in old q
+
+  -- the same of projects that have owners
   abbrev pub HaveSameFiles : List (Arc (ListedProject W) Global) → List (Arc (ListedProject W) Global) → Type 0
-  HaveSameFiles old new = (q : List ℕ) → files_in (projects_in new) q ≡ files_in (projects_in old) q
+  HaveSameFiles old new = SameFilesByName (projects_in old) (projects_in new)
 
   abbrev pub HaveSameConditions : List (Arc (ListedProject W) Global) → List (Arc (ListedProject W) Global) → Type 0
-  HaveSameConditions old new = (q : List ℕ) → conditions_in (projects_in new) q ≡ conditions_in (projects_in old) q
+  HaveSameConditions old new = SameConditionsByName (projects_in old) (projects_in new)
