@@ -1,5 +1,5 @@
 -- What a later listing has of its own.
-use Rattle.std.specs.Prelude.{◌≡◌, ◌↔◌, ℕ, ◌+◌, ◌≤◌, not, nat_eq, List, [], ◌∷◌, ◌++◌, length, filter, Contains, Option, Some, None}
+use Rattle.std.specs.Prelude.{◌≡◌, ◌≢◌, ◌↔◌, ℕ, ◌+◌, ◌≤◌, not, nat_eq, List, [], ◌∷◌, ◌++◌, length, filter, Contains, Option, Some, None}
 use Rattle.std.specs.List.{list_any}
 use Rattle.std.specs.List.Sorted.{IsStrictlyIncreasing}
 use Rattle.cq_base.specs.declared.lang.Lang.{Lang}
@@ -20,6 +20,13 @@ from_option (Some r) = r ∷ []
 -- the numbers but for those that are gone
 abbrev pub left : List ℕ → List ℕ → List ℕ
 left numbers gone = filter (λ r. not (list_any (nat_eq r) gone)) numbers
+
+-- new numbers are the old ones but for one, or but for each of some
+abbrev pub LosesOne : ℕ → List ℕ → List ℕ → Type 0
+LosesOne number old new = (r : ℕ) → Contains new r ↔ (Contains old r × (number ≢ r))
+
+abbrev pub LosesEach : List ℕ → List ℕ → List ℕ → Type 0
+LosesEach gone old new = (r : ℕ) → Contains new r ↔ (Contains old r × (Contains gone r → ⊥))
 
 -- new numbers are old ones and those that were put, but for those that are gone
 abbrev pub AreTurned : List ℕ → List ℕ → List ℕ → List ℕ → Type 0
