@@ -1,5 +1,5 @@
 -- What a board's calls answer.
-use Rattle.std.specs.Prelude.{◌≡◌, ℕ, ◌+◌, nat_lt, Bool, true, if◌then◌else◌, List, length, take, fold, min, Option, Some, None, MatchOption, Result, MatchResult, ◌⊎◌}
+use Rattle.std.specs.Prelude.{◌≡◌, ℕ, ◌+◌, nat_lt, Bool, true, if◌then◌else◌, List, length, take, fold, min, Option, Some, None, Result, MatchResult, ◌⊎◌}
 use Rattle.std.specs.Arc.{arc_value}
 use Rattle.std.specs.declared.sync.Arc.{Arc}
 use Rattle.std.specs.declared.alloc.Global.{Global}
@@ -8,17 +8,14 @@ use Rattle.cq_base.specs.declared.settings.Settings.{Settings}
 use Rattle.cq_base.specs.declared.change.Change.{Change}
 use Rattle.cq_base.specs.declared.change.Change.TheVariants.{Put, Drop, Gate}
 use Rattle.cq_history.specs.Changes.{is_put, IsWorkFor}
-use Rattle.cq_history.specs.Gone.{IsGone, AreKeptPuts}
-use Rattle.cq_history.specs.declared.event.Event.TheVariants as event
-use Rattle.cq_history.specs.State.{State, IsAccepted, IsTakenBy, slot_of, ready, first_free, changes_in}
-use Rattle.cq_kept.specs.Accepted.{Accepted, bare_state}
+use Rattle.cq_history.specs.Gone.{IsGone}
+use Rattle.cq_history.specs.State.{State, IsAccepted, slot_of, ready, first_free, changes_in}
 use Rattle.cq_board.specs.declared.answers.Asked.{Asked}
 use Rattle.cq_board.specs.declared.answers.Job.{Job}
 use Rattle.cq_board.specs.declared.answers.Refused.{Refused}
 use Rattle.cq_board.specs.declared.answers.Refused.TheVariants.{Absent, FullChanges, FullText, Memory}
 use Rattle.cq_board.specs.declared.listing.View.{View}
 use Rattle.cq_board.specs.Listings.{IsListing}
-use Rattle.cq_board.specs.Stands.{BoardState, Adds, IsCaller}
 use Rattle.cq_history.specs.Lawful.{is_absent, is_full, is_long}
 
 -- the first cause that holds
@@ -28,10 +25,6 @@ cause_among absent full long = if absent then Some Absent else (if full then Som
 -- why a change is not accepted, if it is not
 abbrev pub refusal_of : Settings → State → Change → Option Refused
 refusal_of set s change = cause_among (is_absent s change) (is_full set s) (is_long set s change)
-
--- the same of changes that are held
-abbrev pub refusal_in : Accepted → Change → Option Refused
-refusal_in a change = refusal_of a.settings (bare_state a) change
 
 -- it is accepted only where nothing is against it; the answer is the first cause against it, or want of memory
 abbrev pub TellsCause : Settings → State → Change → Result ℕ Refused → Type 0
@@ -57,22 +50,6 @@ IsJobOf (Gate project conditions) job = ⊥
 abbrev pub IsJob : State → Job → Type 0
 IsJob s job = IsJobOf (slot_of s job.change).change job
 
--- it is the job of the change of this number
-abbrev pub IsJobAt : State → ℕ → Job → Type 0
-IsJobAt s r job = (job.change ≡ r) × IsJob s job
-
--- it is that of the first change that is neither done nor taken
-abbrev pub IsFirstJob : State → Job → Type 0
-IsFirstJob s job = job.change ≡ first_free s
-
--- there is this caller, and has the change, which is not done
-abbrev pub HasTaken : BoardState → ℕ → ℕ → Type 0
-HasTaken b by change = IsCaller b by × IsTakenBy b.state change by
-
--- the caller took the job's change
-abbrev pub AddsTaking : ℕ → BoardState → BoardState → Job → Type 0
-AddsTaking by old new job = Adds (event.Took by job.change) old new
-
 -- it is a put whose work was done
 abbrev pub IsDonePut : State → ℕ → Type 0
 IsDonePut s r = IsAccepted s r × (is_put (slot_of s r).change ≡ true) × ((slot_of s r).finished ≡ true)
@@ -85,25 +62,9 @@ IsKeptWork s r = IsDonePut s r × (IsGone (changes_in s) s.floor r → ⊥)
 abbrev pub IsWorkAt : {W : Type 0} → (Lang → List ℕ → W → Type 0) → State → ℕ → Arc W Global → Type 0
 IsWorkAt IsWork s r work = IsWorkFor IsWork (slot_of s r).change (arc_value work)
 
--- the same of a change on a board
-abbrev pub IsWorkOn : {W : Type 0} → (Settings → Lang → List ℕ → W → Type 0) → BoardState → ℕ → Arc W Global → Type 0
-IsWorkOn IsWorkOf b r work = IsWorkAt (IsWorkOf b.settings) b.state r work
-
--- and of one of the changes that are held
-abbrev pub IsWorkHeld : {W : Type 0} → (Settings → Lang → List ℕ → W → Type 0) → Accepted → ℕ → Arc W Global → Type 0
-IsWorkHeld IsWorkOf a r work = IsWorkAt (IsWorkOf a.settings) (bare_state a) r work
-
--- the puts up to the floor that it keeps are exactly these, ascending
-abbrev pub KeepsPuts : State → List ℕ → Type 0
-KeepsPuts s numbers = AreKeptPuts (changes_in s) s.floor numbers
-
 -- a change is accepted that is neither done nor taken
 abbrev pub HasFree : State → Type 0
 HasFree s = IsAccepted s (first_free s)
-
--- without a job nothing has changed, and there is one only where a change was free
-abbrev pub TellsFree : BoardState → BoardState → Option Job → Type 0
-TellsFree old new job = MatchOption job (new ≡ old) (λ _. HasFree old.state)
 
 -- the view shows the listing of its version
 abbrev pub IsViewOf : {W : Type 0} → (Lang → List ℕ → W → Type 0) → State → View W → Type 0

@@ -1,13 +1,11 @@
 -- What a listing has: the files and the conditions of each project, and the numbers of all files' changes.
 use Rattle.std.specs.Prelude.{◌≡◌, ◌↔◌, ℕ, List, Contains}
 use Rattle.std.specs.List.Sorted.{IsStrictlyIncreasing}
-use Rattle.std.specs.declared.sync.Arc.{Arc}
-use Rattle.std.specs.declared.alloc.Global.{Global}
 use Rattle.cq_base.specs.declared.lang.Lang.{Lang}
 use Rattle.cq_base.specs.declared.change.Change.{Change}
 use Rattle.cq_history.specs.Files.{Source, files_of, conditions_of}
 use Rattle.cq_history.specs.Standing.{Has}
-use Rattle.cq_projects.specs.Projects.{ListedProject, name_in, files_in, conditions_in, projects_in}
+use Rattle.cq_projects.specs.Projects.{ListedProject, name_in, files_in, conditions_in}
 use Rattle.cq_projects.specs.Ordered.{AreRising}
 use Rattle.cq_board.specs.Related.{AreSameFiles}
 
@@ -16,10 +14,6 @@ module _ {W : Type 0} where
   pub record HaveSame (old new : List (ListedProject W)) : Type 0 where
     pub files : (q : List ℕ) → files_in new q ≡ files_in old q
     pub conditions : (q : List ℕ) → conditions_in new q ≡ conditions_in old q
-
-  -- the same of projects that have owners
-  abbrev pub OwnersHaveSame : List (Arc (ListedProject W) Global) → List (Arc (ListedProject W) Global) → Type 0
-  OwnersHaveSame old new = HaveSame (projects_in old) (projects_in new)
 
 -- the number is that of a file of a project after the changes
 abbrev pub IsLive : List Change → ℕ → Type 0

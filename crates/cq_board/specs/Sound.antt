@@ -5,7 +5,6 @@ use Rattle.std.specs.Str.{IsUtf8}
 use Rattle.cq_base.specs.Changes.{IsSoundChange}
 use Rattle.cq_history.specs.State.{State, changes_in}
 use Rattle.cq_board.specs.declared.answers.Job.{Job}
-use Rattle.cq_board.specs.declared.listing.View.{View}
 use Rattle.cq_projects.specs.Projects.{conditions_in, ListedProject}
 
 -- each accepted change is sound
@@ -19,7 +18,3 @@ HasSoundText job = IsUtf8 (arc_value job.text) × (length (arc_value job.text) �
 -- no project has more than 32 conditions
 abbrev pub HaveFewConditions : {W : Type 0} → List (ListedProject W) → Type 0
 HaveFewConditions projects = (q : List ℕ) → length (conditions_in projects q) ≤ 32
-
--- nor has one that the view shows
-abbrev pub ShowsFewConditions : {W : Type 0} → View W → Type 0
-ShowsFewConditions view = HaveFewConditions (arc_value view.listing).projects

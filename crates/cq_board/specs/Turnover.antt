@@ -4,7 +4,7 @@ use Rattle.std.specs.List.{list_any}
 use Rattle.std.specs.List.Sorted.{IsStrictlyIncreasing}
 use Rattle.cq_base.specs.declared.lang.Lang.{Lang}
 use Rattle.cq_base.specs.declared.change.Change.{Change}
-use Rattle.cq_board.specs.Listings.{Listed, IsListing}
+use Rattle.cq_board.specs.Listings.{Listed, HaveSame, IsListing}
 use Rattle.cq_projects.specs.Projects.{ListedProject, projects_in}
 use Rattle.cq_board.specs.declared.live.Turnover.{Turnover}
 use Rattle.cq_kept.specs.declared.kept.Kept.{Kept}
@@ -67,3 +67,7 @@ module _ {W : Type 0} (IsWork : Lang → List ℕ → W → Type 0) (number : �
   -- whatever changes the listing was that of, it is that of one change more
   abbrev pub ListsKept : Kept W → Listed W → Listed W → Type 0
   ListsKept kept old new = (changes : List Change) → length changes + 1 ≡ number → IsListing IsWork changes old → IsListing IsWork (changes ++ change_of kept.change ∷ []) new
+
+-- of each project the owners' projects have the same files and conditions
+abbrev pub OwnersHaveSame : {W : Type 0} → List (Arc (ListedProject W) Global) → List (Arc (ListedProject W) Global) → Type 0
+OwnersHaveSame old new = HaveSame (projects_in old) (projects_in new)

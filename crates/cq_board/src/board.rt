@@ -2,10 +2,11 @@ ghost use Rattle.std.specs.Prelude.{◌≡◌, ◌+◌, ◌<◌, ◌≤◌, [], 
 ghost use Rattle.cq_history.specs.declared.event.Event.TheVariants as event;
 ghost use Rattle.std.specs.Bool.{OnTrue, OnFalse};
 ghost use Rattle.cq_history.specs.State.{first_free, ready, view_of, IsAccepted, IsDone, IsUndone};
-ghost use Rattle.cq_board.specs.Stands.{BoardState, StandsFor, Adds, Allows, IsCaller};
-ghost use Rattle.cq_board.specs.Answers.{asked_of, greatest_floor, lower, AddsTaking, HasTaken, IsFirstJob, IsJob, IsJobAt, IsKeptWork, IsWorkOn, IsViewOf, KeepsPuts, TellsCause, TellsFree};
+ghost use Rattle.cq_board.specs.Stands.{BoardState, StandsFor, Adds, IsCaller};
+ghost use Rattle.cq_board.specs.Answers.{asked_of, greatest_floor, lower, IsJob, IsKeptWork, IsViewOf, TellsCause};
+ghost use Rattle.cq_board.specs.Calls.{AddsTaking, Allows, HasTaken, IsFirstJob, IsJobAt, IsWorkOn, KeepsPuts, ShowsFewConditions, TellsFree};
 ghost use Rattle.cq_base.specs.Changes.{IsSoundChange};
-ghost use Rattle.cq_board.specs.Sound.{HasSoundText, ShowsFewConditions};
+ghost use Rattle.cq_board.specs.Sound.{HasSoundText};
 
 use crate::free::{FreeChanges, first_free, note_given_back, note_taken, pass_over};
 use crate::keep::Keep;

@@ -4,9 +4,8 @@ ghost use Rattle.cq_history.specs.State.{is_done};
 ghost use Rattle.cq_kept.specs.Slots.{slot_from, change_of, IsWorked};
 ghost use Rattle.cq_board.specs.Edits.{IsEditFor, project_named, put_by};
 ghost use Rattle.cq_projects.specs.Ordered.{AreRising};
-ghost use Rattle.cq_board.specs.Listings.{OwnersHaveSame};
 ghost use Rattle.cq_projects.specs.Projects.{owner_name, projects_in};
-ghost use Rattle.cq_board.specs.Turnover.{IsBefore, AddsKept, AddsOwned, from_option};
+ghost use Rattle.cq_board.specs.Turnover.{IsBefore, AddsKept, AddsOwned, OwnersHaveSame, from_option};
 
 use cq_base::{Memory, Settings, Text};
 use cq_kept::{Kept, Stored};

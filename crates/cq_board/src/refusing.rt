@@ -1,5 +1,5 @@
 ghost use Rattle.std.specs.Prelude.{◌≡◌};
-ghost use Rattle.cq_board.specs.Answers.{refusal_in};
+ghost use Rattle.cq_board.specs.Calls.{refusal_in};
 ghost use Rattle.cq_kept.specs.Slots.{change_of};
 
 use crate::Refused;

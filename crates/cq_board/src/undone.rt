@@ -3,7 +3,8 @@ ghost use Rattle.std.specs.List.{prefix_len};
 ghost use Rattle.cq_history.specs.Changes.{is_put};
 ghost use Rattle.cq_history.specs.State.{is_done, IsUndone, IsTakenBy};
 ghost use Rattle.cq_kept.specs.Accepted.{Holds, bare_state};
-ghost use Rattle.cq_board.specs.Answers.{IsJobOf, IsKeptWork, IsWorkHeld};
+ghost use Rattle.cq_board.specs.Answers.{IsJobOf, IsKeptWork};
+ghost use Rattle.cq_board.specs.Calls.{IsWorkHeld};
 ghost use Rattle.cq_kept.specs.Slots.{slot_from, slot_at, change_of, state_from};
 ghost use Rattle.cq_board.specs.Undone.{AreUndone, AreUndoneWith};
 

@@ -7,10 +7,14 @@ use Rattle.std.specs.declared.alloc.Global.{Global}
 use Rattle.cq_base.specs.declared.change.Condition.{Condition}
 use Rattle.cq_history.specs.Files.{File, with_file, without_file}
 use Rattle.cq_projects.specs.declared.merging.Named.{Named}
-use Rattle.cq_projects.specs.Projects.{ListedProject, held_in, path_of}
+use Rattle.cq_projects.specs.Projects.{ListedProject, path_of}
 use Rattle.cq_projects.specs.Ordered.{AreAbove, AreBelow}
 
 module _ {W : Type 0} where
+  -- the files that these owners hold
+  abbrev pub held_in : List (Arc (File W) Global) → List (File W)
+  held_in owners = map arc_value owners
+
   -- the files with what stands at a path: a file, or none
   abbrev pub edited_at : List ℕ → Option (Arc (File W) Global) → List (File W) → List (File W)
   edited_at p None files = without_file p files

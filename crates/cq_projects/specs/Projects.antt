@@ -1,5 +1,5 @@
 -- What projects are to their readers: by name, each with its files and conditions.
-use Rattle.std.specs.Prelude.{◌≡◌, ℕ, List, [], ◌∷◌, map, if◌then◌else◌, Option, Some, None}
+use Rattle.std.specs.Prelude.{ℕ, List, [], ◌∷◌, map, if◌then◌else◌, Option, Some, None}
 use Rattle.std.specs.Arc.{arc_value}
 use Rattle.std.specs.declared.sync.Arc.{Arc}
 use Rattle.std.specs.declared.alloc.Global.{Global}
@@ -56,25 +56,3 @@ module _ {W : Type 0} where
 
   abbrev pub owned_files : List (Arc (ListedProject W) Global) → List ℕ → List (File W)
   owned_files owners q = files_in (projects_in owners) q
-
-  -- the index of a project, or how many there are
-  abbrev pub owned_position : List ℕ → List (Arc (ListedProject W) Global) → ℕ
-  owned_position q owners = position_of q (projects_in owners)
-
-  -- the files that these owners hold
-  abbrev pub held_in : List (Arc (File W) Global) → List (File W)
-  held_in owners = map arc_value owners
-
-  -- of each name they have the same files, and the same conditions
-  abbrev pub SameFilesByName : List (ListedProject W) → List (ListedProject W) → Type 0
-  SameFilesByName old new = (q : List ℕ) → files_in new q ≡ files_in old q
-
-  abbrev pub SameConditionsByName : List (ListedProject W) → List (ListedProject W) → Type 0
-  SameConditionsByName old new = (q : List ℕ) → conditions_in new q ≡ conditions_in old q
-
-  -- the same of projects that have owners
-  abbrev pub HaveSameFiles : List (Arc (ListedProject W) Global) → List (Arc (ListedProject W) Global) → Type 0
-  HaveSameFiles old new = SameFilesByName (projects_in old) (projects_in new)
-
-  abbrev pub HaveSameConditions : List (Arc (ListedProject W) Global) → List (Arc (ListedProject W) Global) → Type 0
-  HaveSameConditions old new = SameConditionsByName (projects_in old) (projects_in new)

@@ -3,8 +3,8 @@ ghost use Rattle.std.specs.Arc.{arc_value};
 ghost use Rattle.std.specs.Ordering.{nat_cmp};
 ghost use Rattle.std.specs.Cmp.Lexicographic.{slice_cmp};
 ghost use Rattle.cq_projects.specs.Ordered.{AreRising, IsAt, IsGap};
-ghost use Rattle.cq_projects.specs.Projects.{owner_name, owner_files, owned_files, owned_position, HaveSameFiles, HaveSameConditions};
-ghost use Rattle.cq_projects.specs.Edits.{replaced_by, IsNewer, EditsProjectFiles, EditsProjectConditions, EditsOwnerFiles, EditsOwnerConditions, IsReplacedInOwned, EditsOwnedFiles, EditsOwnedConditions};
+ghost use Rattle.cq_projects.specs.Projects.{owner_name, owner_files, owned_files};
+ghost use Rattle.cq_projects.specs.Edits.{replaced_by, owned_position, HaveSameFiles, HaveSameConditions, IsNewer, EditsProjectFiles, EditsProjectConditions, EditsOwnerFiles, EditsOwnerConditions, IsReplacedInOwned, EditsOwnedFiles, EditsOwnedConditions};
 
 use crate::held::{Held, Project};
 use crate::project_files::ProjectFiles;

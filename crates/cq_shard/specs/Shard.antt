@@ -1,9 +1,8 @@
 -- What a shard is, and for which changes it stands.
-use Rattle.std.specs.Prelude.{◌≡◌, ◌↔◌, slice_get, slice_index_or, ℕ, ◌+◌, ◌<◌, ◌≤◌, ◌%◌, ◌==◌, nat_eq, ◌&&◌, if◌then◌else◌, Bool, List, [], ◌∷◌, ◌++◌, length, Contains, All, Option, Some, None, is_some, option_copied, IfSome, filter, ◌^◌}
+use Rattle.std.specs.Prelude.{◌≡◌, ◌↔◌, slice_get, slice_index_or, ℕ, ◌+◌, ◌<◌, ◌≤◌, ◌%◌, ◌==◌, nat_eq, ◌&&◌, if◌then◌else◌, Bool, List, [], ◌∷◌, ◌++◌, length, Contains, All, Option, Some, None, is_some, IfSome, ◌^◌}
 use Rattle.std.specs.List.{list_any}
 use Rattle.std.specs.List.Sorted.{IsStrictlyIncreasing}
 use Rattle.std.specs.Arc.{arc_value}
-use Rattle.std.specs.Borrow.{Bor}
 use Rattle.std.specs.declared.sync.Arc.{Arc}
 use Rattle.std.specs.declared.alloc.Global.{Global}
 use Rattle.cq_base.specs.declared.lang.Lang.{Lang}
@@ -16,7 +15,6 @@ use Rattle.cq_clones.specs.Windows.{EntryBefore}
 use Rattle.cq_history.specs.Changes.{IsWorkFor, change_at}
 use Rattle.cq_history.specs.Gone.{IsKept, IsPutAt}
 use Rattle.cq_history.specs.Shards.{Row, ShardHolds}
-use Rattle.cq_shard.specs.declared.indexed.Indexed.{Ghosts}
 use Rattle.cq_shard.specs.Runs.{AreDifferent}
 use Rattle.cq_shard.specs.Stores.{left_to}
 use Rattle.cq_shard.specs.Tables.{staying, AreAmong}
@@ -105,10 +103,6 @@ HaveTheirWorks {W} IsWork changes applied works = (i : ℕ) (d : Option W) → i
 abbrev pub is_asked : ℕ → List ℕ → Entry → Bool
 is_asked key live e = (e.key == key) && list_any (nat_eq e.change) live
 
--- behind the old entries stand those of some that are asked for
-abbrev pub AddsAsked : ℕ → List ℕ → List Entry → List Entry → List Entry → Type 0
-AddsAsked key live entries old new = new ≡ old ++ filter (is_asked key live) entries
-
 -- ---- what applying promises
 
 -- the same shard, swept as far
@@ -119,20 +113,6 @@ IsSameShard old new = (new.shard ≡ old.shard) × (new.shards ≡ old.shards) �
 abbrev pub StandsOnWith : {W : Type 0} → (W → List ℕ) → (Settings → Lang → List ℕ → W → Type 0) → ℕ → Option W → Contents → Contents → Type 0
 StandsOnWith keys_in IsWorkOf change work old new =
     (settings : Settings) (changes : List Change) → StandsFor (HasWindow keys_in IsWorkOf settings) changes old → HasItsWork (IsWorkOf settings) (change_at changes change) work → StandsFor (HasWindow keys_in IsWorkOf settings) changes new
-
--- ---- the same of a work that is lent
-
--- it stands as with this work
-abbrev pub StandsOnLent : {W : Type 0} → Ghosts W → ℕ → Option (Bor W) → Contents → Contents → Type 0
-StandsOnLent of change work old new = StandsOnWith of.keys_in of.IsWorkOf change (option_copied work) old new
-
--- the change stands behind the puts where it has a work
-abbrev pub NotesLent : {W : Type 0} → ℕ → Option (Bor W) → List ℕ → List ℕ → Type 0
-NotesLent change work old new = new ≡ old ++ put_of change (option_copied work)
-
--- how many entries the change brings to this shard
-abbrev pub cost_of : {W : Type 0} → (W → List ℕ) → Contents → ℕ → Option (Bor W) → ℕ
-cost_of keys_in c change work = length (brought keys_in change c.shard c.shards (option_copied work))
 
 -- ---- the same of works that have owners
 
@@ -148,22 +128,9 @@ IsOwnedOf IsWorkOf settings lang text work = IsWorkOf settings lang text (arc_va
 abbrev pub HaveFewKeys : {W : Type 0} → (W → List ℕ) → List (Option (Arc W Global)) → Type 0
 HaveFewKeys keys_in works = All (λ work. IfSome work (λ w. length (keys_in (arc_value w)) < 2 ^ 32)) works
 
--- For whichever settings and changes it stood, of which the next ones have these works, it stands now.
-abbrev pub StandsOnWithAll : {W : Type 0} → Ghosts W → List (Option (Arc W Global)) → Contents → Contents → Type 0
-StandsOnWithAll of works old new =
-    (settings : Settings) (changes : List Change) → StandsFor (HasWindow of.keys_in of.IsWorkOf settings) changes old → HaveTheirWorks (IsOwnedOf of.IsWorkOf settings) changes old.applied works → StandsFor (HasWindow of.keys_in of.IsWorkOf settings) changes new
-
--- the puts among the next changes, one for each of these works, stand behind the others
-abbrev pub NotesAll : {W : Type 0} → List (Option (Arc W Global)) → Contents → Contents → Type 0
-NotesAll works old new = new.puts ≡ old.puts ++ puts_among old.applied works
-
 -- the entries that the next changes bring to this shard, one for each of these works
 abbrev pub all_brought_to : {W : Type 0} → (W → List ℕ) → Contents → List (Option (Arc W Global)) → List Entry
 all_brought_to keys_in c works = all_brought (in_owned keys_in) c.applied c.shard c.shards works
-
--- how many they are
-abbrev pub cost_of_all : {W : Type 0} → (W → List ℕ) → Contents → List (Option (Arc W Global)) → ℕ
-cost_of_all keys_in c works = length (all_brought_to keys_in c works)
 
 -- ---- what a bucket is
 

@@ -1,5 +1,5 @@
 -- Numbers that rise, what is left of them, and a part of them beside them.
-use Rattle.std.specs.Prelude.{◌≡◌, ℕ, ◌+◌, ◌<◌, ◌≤◌, ◌||◌, Bool, nat_eq, nat_lt, List, ◌++◌, length, drop, slice_index, filter, Contains}
+use Rattle.std.specs.Prelude.{◌≡◌, ℕ, ◌+◌, ◌<◌, ◌≤◌, ◌||◌, Bool, nat_eq, nat_lt, List, length, slice_index, filter, Contains}
 use Rattle.std.specs.List.{list_any, AllWithin}
 use Rattle.std.specs.List.Sorted.{IsStrictlyIncreasing}
 
@@ -36,10 +36,6 @@ pub record IsPart (numbers part : List ℕ) (more : ℕ) : Type 0 where
   pub part_rises : IsStrictlyIncreasing part
   pub among : AreAmong part numbers
   pub number : length numbers ≡ length part + more
-
--- in front stand those to keep, and so many others that stood among them are gone
-abbrev pub ClosesUp : List ℕ → ℕ → List ℕ → List ℕ → Type 0
-ClosesUp keep gone old new = new ≡ keep ++ drop (length keep + gone) old
 
 -- what is to be kept at this place stands so many places further on among the changes
 abbrev pub IsAlike : List ℕ → List ℕ → ℕ → ℕ → Type 0

@@ -2,7 +2,8 @@ ghost use Rattle.std.specs.Prelude.{◌≡◌, if◌then◌else◌, ◌+◌, ◌
 ghost use Rattle.std.specs.Int.{IsPowerOfTwo};
 ghost use Rattle.std.specs.List.Sorted.{IsStrictlyIncreasing};
 ghost use Rattle.cq_shard.specs.Gathered.{AreGathered, AddsBrought, brought_for, cost_for};
-ghost use Rattle.cq_shard.specs.Shard.{NotesLent, puts_among};
+ghost use Rattle.cq_shard.specs.Calls.{NotesLent};
+ghost use Rattle.cq_shard.specs.Shard.{puts_among};
 
 use crate::indexed::Indexed;
 use crate::parting::room;

@@ -2,7 +2,8 @@ ghost use Rattle.std.specs.Prelude.{◌≡◌, ◌++◌, ◌∷◌, ◌+◌, ◌
 ghost use Rattle.std.specs.List.Sorted.{IsStrictlyIncreasing};
 ghost use Rattle.cq_base.specs.declared.entry.Entry.{Entry};
 ghost use Rattle.cq_clones.specs.Windows.{EntryBefore};
-ghost use Rattle.cq_shard.specs.Runs.{AreRuns, AreMergedBehind, AreAdded, AreDifferent, Precedes};
+ghost use Rattle.cq_shard.specs.Calls.{AreMergedBehind};
+ghost use Rattle.cq_shard.specs.Runs.{AreRuns, AreAdded, AreDifferent, Precedes};
 ghost use Rattle.cq_shard.specs.Shard.{AreAsked};
 ghost use Rattle.cq_shard.specs.Stores.{those_of, AreLeft};
 

@@ -1,6 +1,7 @@
 ghost use Rattle.std.specs.Prelude.{◌≡◌, ◌+◌, ◌<◌, ◌≤◌, ◌^◌, length, IfOk, OnOk, OnErr, IfSome};
 ghost use Rattle.std.specs.List.Sorted.{IsStrictlyIncreasing};
-ghost use Rattle.cq_shard.specs.Shard.{fresh_shard, StandsOnLent, NotesLent, StandsOnWithAll, NotesAll, IsSameShard, cost_of, cost_of_all, all_brought_to, AreAsked, AreKnown, swept};
+ghost use Rattle.cq_shard.specs.Calls.{StandsOnLent, NotesLent, cost_of, StandsOnWithAll, NotesAll, cost_of_all};
+ghost use Rattle.cq_shard.specs.Shard.{fresh_shard, IsSameShard, all_brought_to, AreAsked, AreKnown, swept};
 
 use crate::applying::{Part, add_work, puts_in};
 use crate::indexed::Indexed;

@@ -1,8 +1,9 @@
 ghost use Rattle.std.specs.Prelude.{◌≡◌, ◌+◌, ◌<◌, ◌≤◌, ◌++◌, [], length, take, OnOk, OnErr};
 ghost use Rattle.std.specs.List.{copy_within};
 ghost use Rattle.std.specs.List.Sorted.{IsStrictlyIncreasing};
+ghost use Rattle.cq_shard.specs.Calls.{ClosesUp};
 ghost use Rattle.cq_shard.specs.Stores.{those_of};
-ghost use Rattle.cq_shard.specs.Tables.{IsTable, IsUpTo, IsPart, is_among, staying, AreAmong, ClosesUp, AreAlikeInFront, AreAlikeUpTo};
+ghost use Rattle.cq_shard.specs.Tables.{IsTable, IsUpTo, IsPart, is_among, staying, AreAmong, AreAlikeInFront, AreAlikeUpTo};
 
 use crate::run::is_live;
 use cq_base::{Entry, Memory};

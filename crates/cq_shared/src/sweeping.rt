@@ -1,7 +1,7 @@
 ghost use Rattle.std.specs.Prelude.{◌≡◌, ◌<◌, IfOk};
 ghost use Rattle.cq_history.specs.Gone.{AreKeptPuts};
 ghost use Rattle.cq_history.specs.State.{accepted};
-ghost use Rattle.cq_board.specs.Answers.{KeepsPuts};
+ghost use Rattle.cq_board.specs.Calls.{KeepsPuts};
 ghost use Rattle.cq_cells.specs.Passes.{IsSameCaller};
 ghost use Rattle.cq_shared.specs.Answers.{RaisesFloor, KeepsAbove, Sweeps};
 ghost use Rattle.cq_shared.specs.SharedPasses.{IsPassOf, settings_of, state_of};
