@@ -7,8 +7,9 @@ use Rattle.std.specs.declared.sync.Arc.{Arc}
 use Rattle.std.specs.declared.alloc.Global.{Global}
 use Rattle.cq_base.specs.Changes.{IsSoundChange}
 use Rattle.cq_base.specs.declared.lang.Lang.{Lang}
+use Rattle.cq_base.specs.declared.settings.Settings.{Settings}
 use Rattle.cq_history.specs.Gone.{kept_count}
-use Rattle.cq_history.specs.State.{Slot, is_done}
+use Rattle.cq_history.specs.State.{is_done}
 use Rattle.cq_board.specs.declared.free.FreeChanges.{FreeChanges}
 use Rattle.cq_kept.specs.Accepted.{Accepted}
 use Rattle.cq_board.specs.Free.{AreFree, room_of}
@@ -17,9 +18,13 @@ use Rattle.cq_kept.specs.Slots.{changes_of}
 use Rattle.cq_board.specs.Undone.{AreUndone}
 
 module _ {W : Type 0} where
-  -- the listing is that of a version
-  abbrev pub IsListingAt : (Lang → List ℕ → W → Type 0) → List Slot → ℕ → Arc (Listed W) Global → Type 0
-  IsListingAt IsWork slots version listing = IsListing IsWork (take version (changes_of slots)) (arc_value listing)
+  -- the listing is that of a version of the changes
+  abbrev pub ListsVersion : (Settings → Lang → List ℕ → W → Type 0) → Accepted → ℕ → Listed W → Type 0
+  ListsVersion IsWorkOf a version l = IsListing (IsWorkOf a.settings) (take version (changes_of a.slots)) l
+
+  -- the same of a listing that has owners
+  abbrev pub OwnsVersion : (Settings → Lang → List ℕ → W → Type 0) → Accepted → ℕ → Arc (Listed W) Global → Type 0
+  OwnsVersion IsWorkOf a version owner = ListsVersion IsWorkOf a version (arc_value owner)
 
   pub record BoardOk (IsWork : Lang → List ℕ → W → Type 0) (a : Accepted) (undone : BTreeSet ℕ) (free : FreeChanges) (published listed : ℕ) (l : Listed W) (views : List (Option ℕ)) : Type 0 where
     pub sound : All IsSoundChange (changes_of a.slots)

@@ -1,5 +1,6 @@
 pub mod Answers
 pub mod Boards
+pub mod Calls
 pub mod Edits
 pub mod Entries
 pub mod Free

@@ -1,10 +1,10 @@
 -- What a later listing has of its own.
-use Rattle.std.specs.Prelude.{◌≡◌, ◌↔◌, ℕ, ◌+◌, ◌≤◌, not, nat_eq, List, [], ◌∷◌, ◌++◌, length, filter, Contains, Option, Some, None}
+use Rattle.std.specs.Prelude.{◌≡◌, ◌≢◌, ◌↔◌, ℕ, ◌+◌, ◌≤◌, not, nat_eq, List, [], ◌∷◌, ◌++◌, length, filter, Contains, Option, Some, None}
 use Rattle.std.specs.List.{list_any}
 use Rattle.std.specs.List.Sorted.{IsStrictlyIncreasing}
 use Rattle.cq_base.specs.declared.lang.Lang.{Lang}
 use Rattle.cq_base.specs.declared.change.Change.{Change}
-use Rattle.cq_board.specs.Listings.{Listed, IsListing}
+use Rattle.cq_board.specs.Listings.{Listed, HaveSame, IsListing}
 use Rattle.cq_projects.specs.Projects.{ListedProject, projects_in}
 use Rattle.cq_board.specs.declared.live.Turnover.{Turnover}
 use Rattle.cq_kept.specs.declared.kept.Kept.{Kept}
@@ -20,6 +20,13 @@ from_option (Some r) = r ∷ []
 -- the numbers but for those that are gone
 abbrev pub left : List ℕ → List ℕ → List ℕ
 left numbers gone = filter (λ r. not (list_any (nat_eq r) gone)) numbers
+
+-- new numbers are the old ones but for one, or but for each of some
+abbrev pub LosesOne : ℕ → List ℕ → List ℕ → Type 0
+LosesOne number old new = (r : ℕ) → Contains new r ↔ (Contains old r × (number ≢ r))
+
+abbrev pub LosesEach : List ℕ → List ℕ → List ℕ → Type 0
+LosesEach gone old new = (r : ℕ) → Contains new r ↔ (Contains old r × (Contains gone r → ⊥))
 
 -- new numbers are old ones and those that were put, but for those that are gone
 abbrev pub AreTurned : List ℕ → List ℕ → List ℕ → List ℕ → Type 0
@@ -60,3 +67,7 @@ module _ {W : Type 0} (IsWork : Lang → List ℕ → W → Type 0) (number : �
   -- whatever changes the listing was that of, it is that of one change more
   abbrev pub ListsKept : Kept W → Listed W → Listed W → Type 0
   ListsKept kept old new = (changes : List Change) → length changes + 1 ≡ number → IsListing IsWork changes old → IsListing IsWork (changes ++ change_of kept.change ∷ []) new
+
+-- of each project the owners' projects have the same files and conditions
+abbrev pub OwnersHaveSame : {W : Type 0} → List (Arc (ListedProject W) Global) → List (Arc (ListedProject W) Global) → Type 0
+OwnersHaveSame old new = HaveSame (projects_in old) (projects_in new)

@@ -1,15 +1,12 @@
-ghost use Rattle.std.specs.Prelude.{◌≡◌, ◌+◌, ◌<◌, ◌≤◌, [], length, OnOk, IfOk, OnErr, IfSome, MatchOption, None, IsSome, IsTrue, IsNone, false, ◌↔◌, take, fold, replicate};
+ghost use Rattle.std.specs.Prelude.{◌≡◌, ◌+◌, ◌<◌, ◌≤◌, [], length, OnOk, IfOk, OnErr, IfSome, None, IsSome, IsTrue, IsNone, false, ◌↔◌, take, fold, replicate};
 ghost use Rattle.cq_history.specs.declared.event.Event.TheVariants as event;
-ghost use Rattle.std.specs.Arc.{arc_value};
 ghost use Rattle.std.specs.Bool.{OnTrue, OnFalse};
-ghost use Rattle.cq_history.specs.Lawful.{Permits};
-ghost use Rattle.cq_history.specs.Gone.{AreKeptPuts};
-ghost use Rattle.cq_history.specs.State.{changes_in, first_free, ready, view_of, slot_of, IsAccepted, IsDone, IsUndone, IsTakenBy};
+ghost use Rattle.cq_history.specs.State.{first_free, ready, view_of, IsAccepted, IsDone, IsUndone};
 ghost use Rattle.cq_board.specs.Stands.{BoardState, StandsFor, Adds, IsCaller};
-ghost use Rattle.cq_board.specs.Answers.{asked_of, greatest_floor, lower, IsJob, IsKeptWork, IsWorkAt, HasFree, IsViewOf, TellsCause};
-ghost use Rattle.cq_history.specs.Changes.{IsWorkFor};
+ghost use Rattle.cq_board.specs.Answers.{asked_of, greatest_floor, lower, IsJob, IsKeptWork, IsViewOf, TellsCause};
+ghost use Rattle.cq_board.specs.Calls.{AddsTaking, Allows, HasTaken, IsFirstJob, IsJobAt, IsWorkOn, KeepsPuts, ShowsFewConditions, TellsFree};
 ghost use Rattle.cq_base.specs.Changes.{IsSoundChange};
-ghost use Rattle.cq_board.specs.Sound.{HasSoundText, HaveFewConditions};
+ghost use Rattle.cq_board.specs.Sound.{HasSoundText};
 
 use crate::free::{FreeChanges, first_free, note_given_back, note_taken, pass_over};
 use crate::keep::Keep;
@@ -81,7 +78,7 @@ impl<W: Indexed> Board<W> {
     pub fn job(&self, change: u64) -> Result<Option<Job>, Memory>
         requires { IsAccepted self.now.state change }
         ensures none { IfOk result (λ job. IsNone job ↔ IsDone self.now.state change) }
-        ensures job { IfOk result (λ job. IfSome job (λ j. (j.change ≡ change) × IsJob self.now.state j)) }
+        ensures job { IfOk result (λ job. IfSome job (IsJobAt self.now.state change)) }
         ensures text { IfOk result (λ job. IfSome job HasSoundText) }
     {
         match undone_at(&self.changes, change) {
@@ -100,7 +97,7 @@ impl<W: Indexed> Board<W> {
     /// The work of a done put that the floor keeps, and None for any other number.
     pub fn finished_work(&self, change: u64) -> Result<Option<Arc<W, Global>>, Memory>
         ensures some { IfOk result (λ work. IsSome work ↔ IsKeptWork self.now.state change) }
-        ensures work { IfOk result (λ work. IfSome work (IsWorkAt (W.IsWorkOf self.now.settings) self.now.state change)) }
+        ensures work { IfOk result (λ work. IfSome work (IsWorkOn W.IsWorkOf self.now change)) }
     {
         match work_at(&self.changes, change) {
             Some(work) => Ok(Some(Arc::try_clone(work)?)),
@@ -162,7 +159,7 @@ impl<W: Indexed> Board<W> {
     /// its listing, and cost an owner of it. Else, and where memory was refused in the middle of the last publication,
     /// they are listed by a look at each change that it keeps up to there.
     pub fn keep(&self, alloc: Global) -> Result<Keep<W>, Memory>
-        ensures { IfOk result (λ keep. AreKeptPuts (changes_in self.now.state) self.now.state.floor keep) }
+        ensures { IfOk result (KeepsPuts self.now.state) }
     {
         let floor = self.changes.floor();
         if self.listed == floor {
@@ -177,7 +174,7 @@ impl<W: Indexed> Board<W> {
     /// a search among those that were given back.
     pub fn back(&mut self, by: u32, change: u64) -> bool
         ensures adds { OnTrue result (Adds (event.Back by change) self.old self.new) }
-        ensures taken { IsTrue result ↔ (IsCaller self.old by × IsTakenBy self.old.state change by) }
+        ensures taken { IsTrue result ↔ HasTaken self.old by change }
         ensures unchanged { OnFalse result (self.new ≡ self.old) }
     {
         if by as usize >= self.views.len() {
@@ -247,12 +244,12 @@ impl<W: Indexed> Board<W> {
     /// done since, once: at most as many as were held at once.
     pub fn take(&mut self, by: u32) -> Result<Option<Job>, Memory>
         requires { IsCaller self.old by }
-        ensures taken { IfOk result (λ job. IfSome job (λ j. Adds (event.Took by j.change) self.old self.new)) }
+        ensures taken { IfOk result (λ job. IfSome job (AddsTaking by self.old self.new)) }
         ensures job { IfOk result (λ job. IfSome job (IsJob self.old.state)) }
         ensures text { IfOk result (λ job. IfSome job HasSoundText) }
-        ensures first { IfOk result (λ job. IfSome job (λ j. j.change ≡ first_free self.old.state)) }
+        ensures first { IfOk result (λ job. IfSome job (IsFirstJob self.old.state)) }
         ensures none { result ≡ Ok None → length self.old.state.slots < first_free self.old.state }
-        ensures unchanged { IfOk result (λ job. MatchOption job (self.new ≡ self.old) (λ _. HasFree self.old.state)) }
+        ensures unchanged { IfOk result (TellsFree self.old self.new) }
         ensures err { OnErr result (self.new ≡ self.old) }
     {
         let i = first_free(&self.changes, &self.undone, &mut self.free);
@@ -311,7 +308,7 @@ impl<W: Indexed> Board<W> {
         ensures adds { IfOk result (λ view. Adds (event.Open by view.version) self.old self.new) }
         ensures version { IfOk result (λ view. view.version ≡ self.old.state.published) }
         ensures listing { IfOk result (IsViewOf (W.IsWorkOf self.old.settings) self.old.state) }
-        ensures conditions { IfOk result (λ view. HaveFewConditions (arc_value view.listing).projects) }
+        ensures conditions { IfOk result ShowsFewConditions }
         ensures err { OnErr result (self.new ≡ self.old) }
     {
         if self.listed != self.published {
@@ -341,7 +338,7 @@ impl<W: Indexed> Board<W> {
     /// each caller's view, and takes no memory.
     pub fn set_floor(&mut self, version: u64) -> bool
         ensures adds { OnTrue result (Adds (event.Floor version) self.old self.new) }
-        ensures lawful { IsTrue result ↔ Permits self.old.settings self.old.state (event.Floor version) }
+        ensures lawful { IsTrue result ↔ Allows self.old (event.Floor version) }
         ensures unchanged { OnFalse result (self.new ≡ self.old) }
     {
         if version <= self.changes.floor() {
@@ -360,7 +357,7 @@ impl<W: Indexed> Board<W> {
     pub fn done(&mut self, by: u32, change: u64, work: Arc<W, Global>) -> Finished
         requires caller { IsCaller self.old by }
         requires accepted { IsAccepted self.old.state change }
-        requires work { IsWorkFor (W.IsWorkOf self.old.settings) (slot_of self.old.state change).change (arc_value work) }
+        requires work { IsWorkOn W.IsWorkOf self.old change work }
         ensures adds { result ≡ Finished.Done → Adds (event.Done by change) self.old self.new }
         ensures already { (result ≡ Finished.Already) ↔ IsDone self.old.state change }
         ensures unchanged { result ≡ Finished.Already → self.new ≡ self.old }

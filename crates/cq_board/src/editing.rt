@@ -4,9 +4,8 @@ ghost use Rattle.cq_history.specs.State.{is_done};
 ghost use Rattle.cq_kept.specs.Slots.{slot_from, change_of, IsWorked};
 ghost use Rattle.cq_board.specs.Edits.{IsEditFor, project_named, put_by};
 ghost use Rattle.cq_projects.specs.Ordered.{AreRising};
-ghost use Rattle.cq_board.specs.Listings.{HaveSame};
 ghost use Rattle.cq_projects.specs.Projects.{owner_name, projects_in};
-ghost use Rattle.cq_board.specs.Turnover.{IsBefore, AddsKept, AddsOwned, from_option};
+ghost use Rattle.cq_board.specs.Turnover.{IsBefore, AddsKept, AddsOwned, OwnersHaveSame, from_option};
 
 use cq_base::{Memory, Settings, Text};
 use cq_kept::{Kept, Stored};
@@ -81,8 +80,9 @@ pub fn apply_change<W: Indexed>(
     requires work { IsWorked (W.IsWorkOf settings.now) kept.now }
     requires before { IsBefore (W.IsWorkOf settings.now) number (projects_in owners.old.items) }
     ensures names { AreRising owner_name owners.new.items }
-    ensures next { IfOk result (AddsOwned (W.IsWorkOf settings.now) number kept.now owners.old.items owners.new.items) }
-    ensures unchanged { OnErr result (HaveSame (projects_in owners.old.items) (projects_in owners.new.items)) }
+    ensures next { IfOk result
+        (AddsOwned (W.IsWorkOf settings.now) number kept.now owners.old.items owners.new.items) }
+    ensures unchanged { OnErr result (OwnersHaveSame owners.old.items owners.new.items) }
 {
     let edit = edit_of(alloc, settings, number, kept)?;
     edit_in(alloc, owners, project_of(&kept.change), edit)
@@ -100,7 +100,8 @@ pub fn draft_change<W: Indexed>(
     requires done { is_done (slot_from kept.now) ≡ true }
     requires work { IsWorked (W.IsWorkOf settings.now) kept.now }
     requires before { IsBefore (W.IsWorkOf settings.now) number drafts.old.items }
-    ensures next { IfOk result (AddsKept (W.IsWorkOf settings.now) number kept.now drafts.old.items drafts.new.items) }
+    ensures next { IfOk result
+        (AddsKept (W.IsWorkOf settings.now) number kept.now drafts.old.items drafts.new.items) }
 {
     let edit = edit_of(alloc, settings, number, kept)?;
     edit_draft(alloc, drafts, project_of(&kept.change), edit)

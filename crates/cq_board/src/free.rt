@@ -1,9 +1,8 @@
-ghost use Rattle.std.specs.Prelude.{◌≡◌, ◌<◌, ◌≤◌, ◌^◌, ◌+◌, ◌-◌, ℕ, [], List, All, length, IfOk, IfSome, IsNone, false, true, is_none, slice_index_or, slice_set};
-ghost use Rattle.std.specs.List.{position_or_len, prefix_len};
-ghost use Rattle.cq_history.specs.State.{Slot, no_slot, is_done, is_free};
+ghost use Rattle.std.specs.Prelude.{◌≡◌, ◌<◌, ◌≤◌, ◌^◌, ◌+◌, ◌-◌, [], length, IfOk, IfSome, IsNone, false, is_none, slice_index_or};
+ghost use Rattle.std.specs.List.{position_or_len};
+ghost use Rattle.cq_history.specs.State.{no_slot, is_free};
 ghost use Rattle.cq_board.specs.Undone.{AreUndone};
-ghost use Rattle.cq_board.specs.Free.{AreFree, IsNext, IsNoneBefore, least_first, room_of};
-ghost use Rattle.std.specs.BinaryHeap.{IsHeap, heap_items};
+ghost use Rattle.cq_board.specs.Free.{AreFree, AreFreeOnceGiven, AreFreeStill, AreHeaped, AreBehind, IsNext, IsNoneBefore, IsNoneHeldFrom, TakesFirst, RisesTo, room_of};
 
 use cq_base::Memory;
 use cq_kept::{Changes, is_free};
@@ -94,7 +93,7 @@ fn is_free_at<W: Indexed>(changes: &Changes<W>, i: u64) -> bool
 fn first_untaken<W: Indexed>(changes: &Changes<W>, undone: &BTreeSet<u64>, start: u64) -> u64
     requires undone { AreUndone changes.now.slots undone.now }
     requires before { IsNoneBefore changes.now.slots start }
-    requires behind { (i : ℕ) → start ≤ i → is_none (slice_index_or changes.now.slots i no_slot).holder ≡ true }
+    requires behind { IsNoneHeldFrom changes.now.slots start }
     requires start { start ≤ length changes.now.slots }
     ensures first { result ≡ position_or_len is_free changes.now.slots }
     ensures within { result ≤ length changes.now.slots }
@@ -110,8 +109,7 @@ fn first_untaken<W: Indexed>(changes: &Changes<W>, undone: &BTreeSet<u64>, start
 pub fn note_taken(free: &mut FreeChanges, i: u64)
     requires next { IsNext free.old i }
     requires few { i + 1 < 2 ^ 64 }
-    ensures taken { (slots : List Slot) (floor : ℕ) (slot : Slot) → AreFree slots floor free.old → i ≡ position_or_len is_free slots → i < length slots
-        → is_none slot.holder ≡ false → AreFree (slice_set slots i slot) floor free.new }
+    ensures taken { TakesFirst i free.old free.new }
     ensures room { room_of free.new ≡ room_of free.old }
 {
     if i < free.untaken {
@@ -131,7 +129,7 @@ pub fn note_given_back<W: Indexed>(changes: &Changes<W>, free: &mut FreeChanges,
     requires held { is_none (slice_index_or changes.now.slots i no_slot).holder ≡ false }
     requires free { AreFree changes.now.slots changes.now.floor free.old }
     requires room { length changes.now.slots - changes.now.floor ≤ room_of free.old }
-    ensures given { (slot : Slot) → is_none slot.holder ≡ true → AreFree (slice_set changes.now.slots i slot) changes.now.floor free.new }
+    ensures given { AreFreeOnceGiven changes.now.slots changes.now.floor i free.new }
     ensures room { room_of free.old ≤ room_of free.new }
 {
     match free.given_back.push(Reverse(i)) {
@@ -142,7 +140,7 @@ pub fn note_given_back<W: Indexed>(changes: &Changes<W>, free: &mut FreeChanges,
 
 /// Forgets those that a higher floor has passed, all of which are done. It takes no memory, and costs a search for each.
 pub fn pass_over(free: &mut FreeChanges, floor: u64)
-    ensures passed { (slots : List Slot) (low : ℕ) → low ≤ floor → floor ≤ prefix_len is_done slots → AreFree slots low free.old → AreFree slots floor free.new }
+    ensures passed { RisesTo floor free.old free.new }
     ensures room { room_of free.new ≡ room_of free.old }
 {
     drop_passed(free, floor);
@@ -151,8 +149,8 @@ pub fn pass_over(free: &mut FreeChanges, floor: u64)
 
 // The least ones go up to the first that is behind the floor.
 fn drop_passed(free: &mut FreeChanges, floor: u64)
-    ensures free { (slots : List Slot) (low : ℕ) → floor ≤ prefix_len is_done slots → AreFree slots low free.old → AreFree slots low free.new }
-    ensures passed { IsHeap least_first (heap_items free.old.given_back) → All (λ given. floor ≤ given.0) (heap_items free.new.given_back) }
+    ensures free { AreFreeStill floor free.old free.new }
+    ensures passed { AreHeaped free.old → AreBehind floor free.new }
     ensures untaken { free.new.untaken ≡ free.old.untaken }
     ensures room { room_of free.new ≡ room_of free.old }
 {

@@ -1,11 +1,11 @@
-ghost use Rattle.std.specs.Prelude.{◌≡◌, ◌⊎◌, ◌+◌, ◌<◌, ◌≤◌, ℕ, [], IfOk, OnOk, OnErr, IfSome, IsNone, true, take, map, length};
+ghost use Rattle.std.specs.Prelude.{◌≡◌, ◌⊎◌, ◌+◌, ◌≤◌, [], IfOk, OnOk, OnErr, IfSome, IsNone, true, map, length};
 ghost use Rattle.std.specs.Arc.{arc_value};
 ghost use Rattle.std.specs.List.{prefix_len};
 ghost use Rattle.cq_history.specs.State.{is_done};
-ghost use Rattle.cq_kept.specs.Accepted.{Holds, IsNextHeld};
-ghost use Rattle.cq_kept.specs.Slots.{slot_from, slot_at, changes_of, IsWorked};
-ghost use Rattle.cq_board.specs.Boards.{IsListingAt};
-ghost use Rattle.cq_board.specs.Listings.{IsListing, ListsTheSame, listed};
+ghost use Rattle.cq_kept.specs.Accepted.{Holds, HoldsNoneBetween, IsNextHeld};
+ghost use Rattle.cq_kept.specs.Slots.{slot_from, slot_at, IsWorked};
+ghost use Rattle.cq_board.specs.Boards.{ListsVersion, OwnsVersion};
+ghost use Rattle.cq_board.specs.Listings.{ListsTheSame, listed};
 ghost use Rattle.cq_projects.specs.Projects.{files_in, conditions_in};
 ghost use Rattle.cq_board.specs.Turnover.{IsListingBefore, ListsKept};
 
@@ -125,7 +125,7 @@ fn next_up_to<W: Indexed>(changes: &Changes<W>, after: u64, version: u64) -> Opt
     ensures within { IfSome result (λ p. p.0 ≤ version) }
     ensures slot { IfSome result (λ p. slot_from p.1.now ≡ slot_at changes.now.slots p.0) }
     ensures work { IfSome result (λ p. IsWorked (W.IsWorkOf changes.now.settings) p.1.now) }
-    ensures none { IsNone result → (number : ℕ) → after < number → number ≤ version → Holds changes.now number → ⊥ }
+    ensures none { IsNone result → HoldsNoneBetween changes.now after version }
 {
     match changes.next(after) {
         Some((number, kept)) => {
@@ -153,8 +153,8 @@ fn next_listing<W: Indexed>(
     requires from { (changes.now.floor ≤ before) ⊎ (before ≡ 0) }
     requires floor { changes.now.floor ≤ version }
     requires done { version ≤ prefix_len is_done changes.now.slots }
-    requires listing { IsListing (W.IsWorkOf changes.now.settings) (take before (changes_of changes.now.slots)) (listed drafts.items live.items) }
-    ensures { IfOk result (IsListing (W.IsWorkOf changes.now.settings) (take version (changes_of changes.now.slots))) }
+    requires listing { ListsVersion W.IsWorkOf changes.now before (listed drafts.items live.items) }
+    ensures { IfOk result (ListsVersion W.IsWorkOf changes.now version) }
 {
     let mut turnover = Turnover::new(alloc);
     let mut at = before;
@@ -185,7 +185,8 @@ fn advance_own<W: Indexed>(
     requires done { is_done (slot_from kept.now) ≡ true }
     requires work { IsWorked (W.IsWorkOf settings.now) kept.now }
     requires listing { IsListingBefore (W.IsWorkOf settings.now) number own.old }
-    ensures next { OnOk result (ListsKept (W.IsWorkOf settings.now) number kept.now own.old own.new) }
+    ensures next { OnOk result
+        (ListsKept (W.IsWorkOf settings.now) number kept.now own.old own.new) }
     ensures unchanged { OnErr result (ListsTheSame (W.IsWorkOf settings.now) own.old own.new) }
 {
     own.live.reserve(1)?;
@@ -207,8 +208,8 @@ fn advanced<W: Indexed>(
     requires from { (changes.now.floor ≤ before) ⊎ (before ≡ 0) }
     requires floor { changes.now.floor ≤ version }
     requires done { version ≤ prefix_len is_done changes.now.slots }
-    requires listing { IsListing (W.IsWorkOf changes.now.settings) (take before (changes_of changes.now.slots)) old }
-    ensures { IfOk result (IsListing (W.IsWorkOf changes.now.settings) (take version (changes_of changes.now.slots))) }
+    requires listing { ListsVersion W.IsWorkOf changes.now before old }
+    ensures { IfOk result (ListsVersion W.IsWorkOf changes.now version) }
 {
     let Listing {
         projects,
@@ -232,8 +233,8 @@ fn advanced_copy<W: Indexed>(
     requires from { (changes.now.floor ≤ before) ⊎ (before ≡ 0) }
     requires floor { changes.now.floor ≤ version }
     requires done { version ≤ prefix_len is_done changes.now.slots }
-    requires listing { IsListing (W.IsWorkOf changes.now.settings) (take before (changes_of changes.now.slots)) old.now }
-    ensures { IfOk result (IsListing (W.IsWorkOf changes.now.settings) (take version (changes_of changes.now.slots))) }
+    requires listing { ListsVersion W.IsWorkOf changes.now before old.now }
+    ensures { IfOk result (ListsVersion W.IsWorkOf changes.now version) }
 {
     let drafts = drafts_of(alloc, &old.projects)?;
     let live = Vec::from_slice(alloc, &old.live)?;
@@ -252,8 +253,8 @@ fn advance_all<W: Indexed>(
     requires from { (changes.now.floor ≤ before) ⊎ (before ≡ 0) }
     requires floor { changes.now.floor ≤ version }
     requires done { version ≤ prefix_len is_done changes.now.slots }
-    requires listing { IsListing (W.IsWorkOf changes.now.settings) (take before (changes_of changes.now.slots)) own.old }
-    ensures next { OnOk result (IsListing (W.IsWorkOf changes.now.settings) (take version (changes_of changes.now.slots)) own.new) }
+    requires listing { ListsVersion W.IsWorkOf changes.now before own.old }
+    ensures next { OnOk result (ListsVersion W.IsWorkOf changes.now version own.new) }
     ensures emptied { OnErr result (own.new ≡ listed [] []) }
 {
     let old = mem::replace(own, Listing::new(alloc));
@@ -273,9 +274,9 @@ fn advance_copied<W: Indexed>(
     requires from { (changes.now.floor ≤ before) ⊎ (before ≡ 0) }
     requires floor { changes.now.floor ≤ version }
     requires done { version ≤ prefix_len is_done changes.now.slots }
-    requires listing { IsListingAt (W.IsWorkOf changes.now.settings) changes.now.slots before listing.old }
-    ensures next { OnOk result (IsListingAt (W.IsWorkOf changes.now.settings) changes.now.slots version listing.new) }
-    ensures unchanged { OnErr result (IsListingAt (W.IsWorkOf changes.now.settings) changes.now.slots before listing.new) }
+    requires listing { OwnsVersion W.IsWorkOf changes.now before listing.old }
+    ensures next { OnOk result (OwnsVersion W.IsWorkOf changes.now version listing.new) }
+    ensures unchanged { OnErr result (OwnsVersion W.IsWorkOf changes.now before listing.new) }
 {
     let own = advanced_copy(alloc, changes, listing, before, version)?;
     *listing = Arc::new(alloc, own)?;
@@ -295,8 +296,8 @@ fn advance_many<W: Indexed>(
     requires from { (changes.now.floor ≤ at.old) ⊎ (at.old ≡ 0) }
     requires floor { changes.now.floor ≤ version }
     requires done { version ≤ prefix_len is_done changes.now.slots }
-    requires listing { IsListingAt (W.IsWorkOf changes.now.settings) changes.now.slots at.old listing.old }
-    ensures listing { IsListingAt (W.IsWorkOf changes.now.settings) changes.now.slots at.new listing.new }
+    requires listing { OwnsVersion W.IsWorkOf changes.now at.old listing.old }
+    ensures listing { OwnsVersion W.IsWorkOf changes.now at.new listing.new }
     ensures next { OnOk result (at.new ≡ version) }
     ensures back { OnErr result ((at.new ≡ at.old) ⊎ (at.new ≡ 0)) }
 {
@@ -327,9 +328,9 @@ fn advance_one<W: Indexed>(
     requires one { before + 1 ≡ version }
     requires behind { changes.now.floor ≤ before }
     requires done { version ≤ prefix_len is_done changes.now.slots }
-    requires listing { IsListingAt (W.IsWorkOf changes.now.settings) changes.now.slots before listing.old }
-    ensures next { OnOk result (IsListingAt (W.IsWorkOf changes.now.settings) changes.now.slots version listing.new) }
-    ensures unchanged { OnErr result (IsListingAt (W.IsWorkOf changes.now.settings) changes.now.slots before listing.new) }
+    requires listing { OwnsVersion W.IsWorkOf changes.now before listing.old }
+    ensures next { OnOk result (OwnsVersion W.IsWorkOf changes.now version listing.new) }
+    ensures unchanged { OnErr result (OwnsVersion W.IsWorkOf changes.now before listing.new) }
 {
     match Arc::get_mut(listing) {
         Some(own) => advance_own(
@@ -359,8 +360,8 @@ pub fn advance_to<W: Indexed>(
     requires from { (changes.now.floor ≤ at.old) ⊎ (at.old ≡ 0) }
     requires floor { changes.now.floor ≤ version }
     requires done { version ≤ prefix_len is_done changes.now.slots }
-    requires listing { IsListingAt (W.IsWorkOf changes.now.settings) changes.now.slots at.old listing.old }
-    ensures listing { IsListingAt (W.IsWorkOf changes.now.settings) changes.now.slots at.new listing.new }
+    requires listing { OwnsVersion W.IsWorkOf changes.now at.old listing.old }
+    ensures listing { OwnsVersion W.IsWorkOf changes.now at.new listing.new }
     ensures next { OnOk result (at.new ≡ version) }
     ensures back { OnErr result ((at.new ≡ at.old) ⊎ (at.new ≡ 0)) }
 {

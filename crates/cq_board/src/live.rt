@@ -1,9 +1,9 @@
-ghost use Rattle.std.specs.Prelude.{◌≡◌, ◌≢◌, ◌++◌, ◌+◌, ◌≤◌, ◌↔◌, ℕ, [], Contains, nat_eq, OnOk, OnErr};
+ghost use Rattle.std.specs.Prelude.{◌≡◌, ◌++◌, ◌+◌, ◌≤◌, [], nat_eq, OnOk, OnErr};
 ghost use Rattle.std.specs.Ordering.{nat_cmp};
 ghost use Rattle.std.specs.Vec.{vec_len, vec_capacity};
 ghost use Rattle.std.specs.List.{list_any};
 ghost use Rattle.std.specs.List.Sorted.{IsStrictlyIncreasing, IsSorted};
-ghost use Rattle.cq_board.specs.Turnover.{from_option, AreTurned, TurnsOver};
+ghost use Rattle.cq_board.specs.Turnover.{from_option, AreTurned, LosesOne, LosesEach, TurnsOver};
 
 use cq_base::Memory;
 use std::alloc::Global;
@@ -45,7 +45,7 @@ pub fn note(gone: &mut Vec<u64>, number: Option<u64>) -> Result<(), Memory>
 fn take_out(live: &mut Vec<u64>, number: u64)
     requires { IsStrictlyIncreasing live.old.items }
     ensures rising { IsStrictlyIncreasing live.new.items }
-    ensures others { (r : ℕ) → Contains live.new.items r ↔ (Contains live.old.items r × (number ≢ r)) }
+    ensures others { LosesOne number live.old.items live.new.items }
 {
     if let Ok(i) = live.binary_search(&number) {
         live.remove(i);
@@ -56,7 +56,7 @@ fn take_out(live: &mut Vec<u64>, number: u64)
 fn take_out_each(live: &mut Vec<u64>, gone: &[u64])
     requires { IsStrictlyIncreasing live.old.items }
     ensures rising { IsStrictlyIncreasing live.new.items }
-    ensures others { (r : ℕ) → Contains live.new.items r ↔ (Contains live.old.items r × (Contains gone.now r → ⊥)) }
+    ensures others { LosesEach gone.now live.old.items live.new.items }
 {
     for number in gone {
         take_out(live, *number);
@@ -75,7 +75,7 @@ fn is_among(gone: &[u64], number: u64) -> bool
 fn take_out_all(live: &mut Vec<u64>, mut gone: Vec<u64>)
     requires { IsStrictlyIncreasing live.old.items }
     ensures rising { IsStrictlyIncreasing live.new.items }
-    ensures others { (r : ℕ) → Contains live.new.items r ↔ (Contains live.old.items r × (Contains gone.items r → ⊥)) }
+    ensures others { LosesEach gone.items live.old.items live.new.items }
 {
     gone.sort_unstable();
     let gone = gone.as_slice();

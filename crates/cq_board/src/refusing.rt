@@ -1,6 +1,6 @@
-ghost use Rattle.std.specs.Prelude.{◌≡◌, []};
-ghost use Rattle.cq_board.specs.Answers.{refusal_of};
-ghost use Rattle.cq_kept.specs.Slots.{change_of, state_from};
+ghost use Rattle.std.specs.Prelude.{◌≡◌};
+ghost use Rattle.cq_board.specs.Calls.{refusal_in};
+ghost use Rattle.cq_kept.specs.Slots.{change_of};
 
 use crate::Refused;
 use cq_kept::{Changes, Stored};
@@ -8,7 +8,7 @@ use cq_shard::Indexed;
 
 /// Why a change is not accepted, if it is not.
 pub fn refusal<W: Indexed>(changes: &Changes<W>, change: &Stored) -> Option<Refused>
-    ensures { result ≡ refusal_of changes.now.settings (state_from changes.now.slots 0 changes.now.floor []) (change_of change.now) }
+    ensures { result ≡ refusal_in changes.now (change_of change.now) }
 {
     if changes.is_absent(change) {
         return Some(Refused::Absent);

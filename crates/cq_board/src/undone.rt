@@ -1,11 +1,12 @@
-ghost use Rattle.std.specs.Prelude.{◌≡◌, ◌≤◌, ◌++◌, ◌∷◌, [], ◌↔◌, true, length, IfOk, IfSome, IsSome, IsTrue, OnOk, OnErr};
+ghost use Rattle.std.specs.Prelude.{◌≡◌, ◌≤◌, [], ◌↔◌, true, length, IfOk, IfSome, IsSome, IsTrue, OnOk, OnErr};
 ghost use Rattle.std.specs.List.{prefix_len};
 ghost use Rattle.cq_history.specs.Changes.{is_put};
-ghost use Rattle.cq_history.specs.State.{is_done, new_slot, IsUndone, IsTakenBy};
-ghost use Rattle.cq_kept.specs.Accepted.{Holds};
-ghost use Rattle.cq_board.specs.Answers.{IsJobOf, IsKeptWork, IsWorkAt};
+ghost use Rattle.cq_history.specs.State.{is_done, IsUndone, IsTakenBy};
+ghost use Rattle.cq_kept.specs.Accepted.{Holds, bare_state};
+ghost use Rattle.cq_board.specs.Answers.{IsJobOf, IsKeptWork};
+ghost use Rattle.cq_board.specs.Calls.{IsWorkHeld};
 ghost use Rattle.cq_kept.specs.Slots.{slot_from, slot_at, change_of, state_from};
-ghost use Rattle.cq_board.specs.Undone.{AreUndone};
+ghost use Rattle.cq_board.specs.Undone.{AreUndone, AreUndoneWith};
 
 use crate::Job;
 use cq_base::Memory;
@@ -65,8 +66,8 @@ pub fn job_at<W: Indexed>(changes: &Changes<W>, number: u64) -> Result<Job, Memo
 
 /// The work of a done put that is kept, and None for any other number. It costs a search.
 pub fn work_at<W: Indexed>(changes: &Changes<W>, number: u64) -> Option<&Arc<W, Global>>
-    ensures some { IsSome result ↔ IsKeptWork (state_from changes.now.slots 0 changes.now.floor []) number }
-    ensures work { IfSome result (λ work. IsWorkAt (W.IsWorkOf changes.now.settings) (state_from changes.now.slots 0 changes.now.floor []) number work.now) }
+    ensures some { IsSome result ↔ IsKeptWork (bare_state changes.now) number }
+    ensures work { IfSome result (λ work. IsWorkHeld W.IsWorkOf changes.now number work.now) }
 {
     match changes.get(number) {
         Some(kept) => kept.work.as_ref(),
@@ -81,7 +82,7 @@ pub fn note_undone<W: Indexed>(
     change: &Stored,
 ) -> Result<(), Memory>
     requires { AreUndone changes.now.slots undone.old }
-    ensures more { OnOk result (AreUndone (changes.now.slots ++ new_slot (change_of change.now) ∷ []) undone.new) }
+    ensures more { OnOk result (AreUndoneWith changes.now.slots change.now undone.new) }
     ensures same { OnErr result (AreUndone changes.now.slots undone.new) }
 {
     match change {

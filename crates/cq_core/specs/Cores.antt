@@ -1,5 +1,5 @@
 -- What a core is to its callers, and for which core of the history it stands.
-use Rattle.std.specs.Prelude.{◌≡◌, ℕ, ◌<◌, ◌≤◌, List, [], length, map, All, slice_index_or, slice_index}
+use Rattle.std.specs.Prelude.{◌≡◌, ℕ, ◌<◌, ◌≤◌, List, length, map, All, slice_index_or, slice_index}
 use Rattle.cq_base.specs.declared.lang.Lang.{Lang}
 use Rattle.cq_base.specs.declared.settings.Settings.{Settings}
 use Rattle.cq_history.specs.State.{changes_in}
@@ -27,7 +27,7 @@ pub record AreNumbered (number : ℕ) (shards : List shard.Contents) : Type 0 wh
 -- shards that have applied nothing
 pub record AreFresh (number : ℕ) (shards : List shard.Contents) : Type 0 where
   pub number_is : length shards ≡ number
-  pub each : (i : ℕ) (d : shard.Contents) → i < length shards → slice_index_or shards i d ≡ record { shard = i; shards = number; applied = 0; floor = 0; puts = []; entries = [] }
+  pub each : (i : ℕ) (d : shard.Contents) → i < length shards → slice_index_or shards i d ≡ shard.fresh_shard i number
 
 -- the core is this sound one of the history, and each shard stands for the changes
 pub record StandsFor (IsWindow : Lang → List ℕ → ℕ → ℕ → Type 0) (k : history.Core) (c : CoreState) : Type 0 where

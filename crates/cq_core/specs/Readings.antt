@@ -1,5 +1,5 @@
 -- The entries that a caller reads of its open version.
-use Rattle.std.specs.Prelude.{◌≡◌, ℕ, List, Vec, Option, Some, IfSome}
+use Rattle.std.specs.Prelude.{◌≡◌, ◌↔◌, ℕ, List, Vec, Option, Some, IfSome, IsNone}
 use Rattle.std.specs.declared.alloc.Global.{Global}
 use Rattle.cq_base.specs.declared.lang.Lang.{Lang}
 use Rattle.cq_base.specs.declared.settings.Settings.{Settings}
@@ -20,6 +20,10 @@ AreRead keys_in IsWorkOf c by shard key entries =
 abbrev pub AreWorked : {W : Type 0} → (Lang → List ℕ → W → Type 0) → CoreState → ℕ → Type 0
 AreWorked {W} IsWork c by =
     (version : ℕ) (project : List ℕ) (file : Source) → view_of c.board.state by ≡ Some version → Has (files_at (changes_in c.board.state) version project) file → (work : W) × IsWork file.lang file.body work
+
+-- there is no answer exactly where the caller has no view open
+abbrev pub IsNoneWhereShut : {X : Type 0} → CoreState → ℕ → Option X → Type 0
+IsNoneWhereShut c by answer = IsNone answer ↔ IsNone (view_of c.board.state by)
 
 -- where there is an answer, these are its entries
 abbrev pub IsRead : {W : Type 0} → (W → List ℕ) → (Settings → Lang → List ℕ → W → Type 0) → CoreState → ℕ → ℕ → ℕ → Option (Vec Entry Global) → Type 0

@@ -11,6 +11,7 @@ use Rattle.cq_history.specs.Changes.{change_at, IsWorkFor}
 use Rattle.cq_history.specs.State.{changes_in, first_free, ready, view_of, slot_of, IsAccepted, IsUndone, IsTakenBy}
 use Rattle.cq_history.specs.Core as history
 use Rattle.cq_history.specs.Lawful.{IsBelow}
+use Rattle.cq_shard.specs.declared.indexed.Indexed.{Ghosts}
 use Rattle.cq_shard.specs.Shard.{HasWindow}
 use Rattle.cq_board.specs.Answers.{refusal_of}
 use Rattle.cq_board.specs.declared.answers.Refused.{Refused}
@@ -79,6 +80,10 @@ module _ {W : Type 0} where
   HasWork IsWork c (Shut by) = Unit {0}
   HasWork IsWork c (Floor version) = Unit {0}
   HasWork IsWork c (Sweep shard) = Unit {0}
+
+  -- it is so under the settings of the core
+  abbrev pub BringsItsWork : (Settings → Lang → List ℕ → W → Type 0) → CoreState → Step W → Type 0
+  BringsItsWork IsWorkOf c step = HasWork (IsWorkOf c.board.settings) c step
 
   -- what the step is to the history
   abbrev pub step_of : CoreState → Step W → history.Step
@@ -167,3 +172,21 @@ module _ {W : Type 0} (keys_in : W → List ℕ) (IsWorkOf : Settings → Lang �
   CountsSome old (Shut by) before now = now ≡ before
   CountsSome old (Floor version) before now = now ≡ before
   CountsSome old (Sweep shard) before now = now ≡ before
+
+-- the same of a kind of work
+module _ {W : Type 0} (of : Ghosts W) where
+  abbrev pub Does : CoreState → CoreState → Step W → Outcome → Type 0
+  Does old new step o = DoesStep of.keys_in of.IsWorkOf old new step o
+
+  abbrev pub CountsFor : CoreState → Step W → ℕ → ℕ → Outcome → Type 0
+  CountsFor old step before now o = Counts of.keys_in of.IsWorkOf old step o before now
+
+  abbrev pub CountsSomeFor : CoreState → Step W → ℕ → ℕ → Type 0
+  CountsSomeFor old step before now = CountsSome of.keys_in of.IsWorkOf old step before now
+
+  -- of the shard that applies the next change
+  abbrev pub CountsNext : CoreState → ℕ → ℕ → ℕ → Outcome → Type 0
+  CountsNext old shard before now o = CountsFor old (Apply shard) before now o
+
+  abbrev pub CountsSomeNext : CoreState → ℕ → ℕ → ℕ → Type 0
+  CountsSomeNext old shard before now = CountsSomeFor old (Apply shard) before now

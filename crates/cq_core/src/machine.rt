@@ -1,6 +1,5 @@
-ghost use Rattle.std.specs.Prelude.{◌≡◌, ◌+◌, ◌<◌, ◌≤◌, ◌↔◌, ℕ, [], IfOk, OnOk, OnErr, IfSome, IsNone, IsSome, IsTrue, All, MatchOption, length, map, replicate, option_map, Some, None};
+ghost use Rattle.std.specs.Prelude.{◌≡◌, ◌+◌, ◌<◌, ◌≤◌, ◌↔◌, ℕ, [], IfOk, OnOk, OnErr, IfSome, IsSome, IsTrue, All, MatchOption, length, map, replicate, option_map, Some, None};
 ghost use Rattle.std.specs.Prelude.{List};
-ghost use Rattle.std.specs.Arc.{arc_value};
 ghost use Rattle.cq_base.specs.declared.settings.Settings.{Settings};
 ghost use Rattle.cq_base.specs.declared.change.Change.{Change};
 ghost use Rattle.cq_history.specs.Changes.{change_at};
@@ -8,13 +7,13 @@ ghost use Rattle.cq_shard.specs.Shard.{HasWindow};
 ghost use Rattle.cq_history.specs.declared.event.Event.TheVariants as event;
 ghost use Rattle.cq_history.specs.State.{view_of, first_free, ready, IsUndone};
 ghost use Rattle.cq_base.specs.Changes.{IsSoundChange};
-ghost use Rattle.cq_board.specs.Answers.{IsJob};
+ghost use Rattle.cq_board.specs.Calls.{IsJobAt, ShowsFewConditions};
 ghost use Rattle.cq_board.specs.Stands.{Adds};
-ghost use Rattle.cq_board.specs.Sound.{HasSoundText, HaveFewConditions};
+ghost use Rattle.cq_board.specs.Sound.{HasSoundText};
 ghost use Rattle.cq_core.specs.Cores.{CoreState, StandsAtFirst, IsCaller, IsShard, AreFresh};
-ghost use Rattle.cq_core.specs.Steps.{IsNamed, IsSoundStep, HasWork, IsOutcome, DoesStep, Counts, CountsSome};
-ghost use Rattle.cq_core.specs.Readings.{IsRead, IsWorked};
-ghost use Rattle.cq_core.specs.Views.{IsView};
+ghost use Rattle.cq_core.specs.Steps.{IsNamed, IsSoundStep, BringsItsWork, IsOutcome, Does, CountsFor, CountsSomeFor, CountsNext, CountsSomeNext};
+ghost use Rattle.cq_core.specs.Readings.{IsNoneWhereShut, IsRead, IsWorked};
+ghost use Rattle.cq_core.specs.Views.{IsViewOn};
 ghost use Rattle.cq_core.specs.declared.step.Step.TheVariants as step;
 
 use crate::step::{Outcome, Step};
@@ -71,7 +70,7 @@ impl<W: Indexed> Core<W> {
     /// The job of a change, for anybody who helps; none where the change is not accepted or done.
     pub fn job(&self, change: u64) -> Result<Option<Job>, Memory>
         ensures some { IfOk result (λ job. IsSome job ↔ IsUndone self.now.board.state change) }
-        ensures job { IfOk result (λ job. IfSome job (λ j. (j.change ≡ change) × IsJob self.now.board.state j)) }
+        ensures job { IfOk result (λ job. IfSome job (IsJobAt self.now.board.state change)) }
         ensures text { IfOk result (λ job. IfSome job HasSoundText) }
     {
         if !self.board.is_undone(change) {
@@ -84,8 +83,8 @@ impl<W: Indexed> Core<W> {
     pub fn view(&self, by: u32) -> Option<&View<W>>
         requires { IsCaller self.now by }
         ensures version { option_map (λ v. v.now.version) result ≡ view_of self.now.board.state by }
-        ensures listing { IfSome result (λ v. IsView (W.IsWorkOf self.now.board.settings) self.now.board.state v.now) }
-        ensures conditions { IfSome result (λ v. HaveFewConditions (arc_value v.now.listing).projects) }
+        ensures listing { IfSome result (λ v. IsViewOn W.IsWorkOf self.now.board v.now) }
+        ensures conditions { IfSome result (λ v. ShowsFewConditions v.now) }
     {
         match &self.views[by as usize] {
             Some(view) => Some(view),
@@ -104,7 +103,7 @@ impl<W: Indexed> Core<W> {
     ) -> Result<Option<Vec<Entry>>, Memory>
         requires caller { IsCaller self.now by }
         requires shard { IsShard self.now shard }
-        ensures none { IfOk result (λ entries. IsNone entries ↔ IsNone (view_of self.now.board.state by)) }
+        ensures none { IfOk result (IsNoneWhereShut self.now by) }
         ensures entries { IfOk result (IsRead W.keys_in W.IsWorkOf self.now by shard key) }
         ensures worked { IfOk result (IsWorked W.IsWorkOf self.now by) }
     {
@@ -127,11 +126,11 @@ impl<W: Indexed> Core<W> {
     ) -> Result<Outcome, Memory>
         requires named { IsNamed self.old step }
         requires sound { IsSoundStep step }
-        requires work { HasWork (W.IsWorkOf self.old.board.settings) self.old step }
+        requires work { BringsItsWork W.IsWorkOf self.old step }
         ensures outcome { IfOk result (IsOutcome self.old self.new step) }
-        ensures steps { IfOk result (DoesStep W.keys_in W.IsWorkOf self.old self.new step) }
-        ensures counts { IfOk result (λ o. Counts W.keys_in W.IsWorkOf self.old step o steps.old steps.new) }
-        ensures some { OnErr result (CountsSome W.keys_in W.IsWorkOf self.old step steps.old steps.new) }
+        ensures steps { IfOk result (Does W.Indexed self.old self.new step) }
+        ensures counts { IfOk result (CountsFor W.Indexed self.old step steps.old steps.new) }
+        ensures some { OnErr result (CountsSomeFor W.Indexed self.old step steps.old steps.new) }
         ensures err { OnErr result (self.new ≡ self.old) }
     {
         match step {
@@ -152,8 +151,9 @@ impl<W: Indexed> Core<W> {
     fn accept(&mut self, alloc: Global, by: u32, change: Change) -> Result<Outcome, Memory>
         requires caller { IsCaller self.old by }
         requires sound { IsSoundChange change }
-        ensures outcome { IfOk result (IsOutcome {W = W} self.old self.new (step.Accept by change)) }
-        ensures steps { IfOk result (DoesStep W.keys_in W.IsWorkOf self.old self.new (step.Accept by change)) }
+        ensures outcome { IfOk result
+            (IsOutcome {W = W} self.old self.new (step.Accept by change)) }
+        ensures steps { IfOk result (Does W.Indexed self.old self.new (step.Accept by change)) }
         ensures err { OnErr result (self.new ≡ self.old) }
     {
         it_stands_on::<W>();
@@ -167,7 +167,7 @@ impl<W: Indexed> Core<W> {
     fn ask(&mut self, by: u32) -> Outcome
         requires caller { IsCaller self.old by }
         ensures outcome { IsOutcome {W = W} self.old self.new (step.Ask by) result }
-        ensures steps { DoesStep W.keys_in W.IsWorkOf self.old self.new (step.Ask by) result }
+        ensures steps { Does W.Indexed self.old self.new (step.Ask by) result }
     {
         it_stands_on::<W>();
         let asked = self.board.ask(by);
@@ -177,7 +177,7 @@ impl<W: Indexed> Core<W> {
     fn take(&mut self, by: u32) -> Result<Outcome, Memory>
         requires caller { IsCaller self.old by }
         ensures outcome { IfOk result (IsOutcome {W = W} self.old self.new (step.Took by)) }
-        ensures steps { IfOk result (DoesStep W.keys_in W.IsWorkOf self.old self.new (step.Took by)) }
+        ensures steps { IfOk result (Does W.Indexed self.old self.new (step.Took by)) }
         ensures err { OnErr result (self.new ≡ self.old) }
     {
         it_stands_on::<W>();
@@ -190,7 +190,7 @@ impl<W: Indexed> Core<W> {
     fn back(&mut self, by: u32, change: u64) -> Outcome
         requires caller { IsCaller self.old by }
         ensures outcome { IsOutcome {W = W} self.old self.new (step.Back by change) result }
-        ensures steps { DoesStep W.keys_in W.IsWorkOf self.old self.new (step.Back by change) result }
+        ensures steps { Does W.Indexed self.old self.new (step.Back by change) result }
     {
         it_stands_on::<W>();
         if self.board.back(by, change) {
@@ -202,9 +202,9 @@ impl<W: Indexed> Core<W> {
 
     fn done(&mut self, by: u32, change: u64, work: Arc<W, Global>) -> Outcome
         requires caller { IsCaller self.old by }
-        requires work { HasWork (W.IsWorkOf self.old.board.settings) self.old (step.Done by change work) }
+        requires work { BringsItsWork W.IsWorkOf self.old (step.Done by change work) }
         ensures outcome { IsOutcome {W = W} self.old self.new (step.Done by change work) result }
-        ensures steps { DoesStep W.keys_in W.IsWorkOf self.old self.new (step.Done by change work) result }
+        ensures steps { Does W.Indexed self.old self.new (step.Done by change work) result }
     {
         it_stands_on::<W>();
         if !self.board.is_undone(change) {
@@ -219,9 +219,9 @@ impl<W: Indexed> Core<W> {
     fn apply<L: Ledger>(&mut self, shard: u32, steps: &mut Steps<L>) -> Result<Outcome, Memory>
         requires { IsShard self.old shard }
         ensures outcome { IfOk result (IsOutcome {W = W} self.old self.new (step.Apply shard)) }
-        ensures steps { IfOk result (DoesStep W.keys_in W.IsWorkOf self.old self.new (step.Apply shard)) }
-        ensures counts { IfOk result (λ o. Counts W.keys_in W.IsWorkOf self.old (step.Apply shard) o steps.old steps.new) }
-        ensures some { OnErr result (CountsSome W.keys_in W.IsWorkOf self.old (step.Apply shard) steps.old steps.new) }
+        ensures steps { IfOk result (Does W.Indexed self.old self.new (step.Apply shard)) }
+        ensures counts { IfOk result (CountsNext W.Indexed self.old shard steps.old steps.new) }
+        ensures some { OnErr result (CountsSomeNext W.Indexed self.old shard steps.old steps.new) }
         ensures err { OnErr result (self.new ≡ self.old) }
     {
         let i = shard as usize;
@@ -238,7 +238,7 @@ impl<W: Indexed> Core<W> {
 
     fn publish(&mut self, alloc: Global, version: u64) -> Result<Outcome, Memory>
         ensures outcome { IfOk result (IsOutcome {W = W} self.old self.new (step.Publish version)) }
-        ensures steps { IfOk result (DoesStep W.keys_in W.IsWorkOf self.old self.new (step.Publish version)) }
+        ensures steps { IfOk result (Does W.Indexed self.old self.new (step.Publish version)) }
         ensures err { OnErr result (self.new ≡ self.old) }
     {
         it_stands_on::<W>();
@@ -255,7 +255,7 @@ impl<W: Indexed> Core<W> {
     fn open(&mut self, by: u32) -> Result<Outcome, Memory>
         requires caller { IsCaller self.old by }
         ensures outcome { IfOk result (IsOutcome {W = W} self.old self.new (step.Open by)) }
-        ensures steps { IfOk result (DoesStep W.keys_in W.IsWorkOf self.old self.new (step.Open by)) }
+        ensures steps { IfOk result (Does W.Indexed self.old self.new (step.Open by)) }
         ensures err { OnErr result (self.new ≡ self.old) }
     {
         it_stands_on::<W>();
@@ -271,7 +271,7 @@ impl<W: Indexed> Core<W> {
     fn shut(&mut self, by: u32) -> Outcome
         requires caller { IsCaller self.old by }
         ensures outcome { IsOutcome {W = W} self.old self.new (step.Shut by) result }
-        ensures steps { DoesStep W.keys_in W.IsWorkOf self.old self.new (step.Shut by) result }
+        ensures steps { Does W.Indexed self.old self.new (step.Shut by) result }
     {
         it_stands_on::<W>();
         if self.views[by as usize].is_none() {
@@ -284,7 +284,7 @@ impl<W: Indexed> Core<W> {
 
     fn set_floor(&mut self, version: u64) -> Outcome
         ensures outcome { IsOutcome {W = W} self.old self.new (step.Floor version) result }
-        ensures steps { DoesStep W.keys_in W.IsWorkOf self.old self.new (step.Floor version) result }
+        ensures steps { Does W.Indexed self.old self.new (step.Floor version) result }
     {
         it_stands_on::<W>();
         if self.board.set_floor(version) {
@@ -298,7 +298,7 @@ impl<W: Indexed> Core<W> {
     fn sweep(&mut self, alloc: Global, shard: u32) -> Result<Outcome, Memory>
         requires { IsShard self.old shard }
         ensures outcome { IfOk result (IsOutcome {W = W} self.old self.new (step.Sweep shard)) }
-        ensures steps { IfOk result (DoesStep W.keys_in W.IsWorkOf self.old self.new (step.Sweep shard)) }
+        ensures steps { IfOk result (Does W.Indexed self.old self.new (step.Sweep shard)) }
         ensures err { OnErr result (self.new ≡ self.old) }
     {
         it_stands_swept::<W>();
@@ -323,8 +323,8 @@ fn open_listed<W: Indexed>(board: &mut Board<W>, by: u32) -> Result<View<W>, Mem
     requires closed { view_of board.old.state by ≡ None }
     ensures adds { IfOk result (λ view. Adds (event.Open by view.version) board.old board.new) }
     ensures version { IfOk result (λ view. view.version ≡ board.old.state.published) }
-    ensures listing { IfOk result (IsView (W.IsWorkOf board.old.settings) board.old.state) }
-    ensures conditions { IfOk result (λ view. HaveFewConditions (arc_value view.listing).projects) }
+    ensures listing { IfOk result (IsViewOn W.IsWorkOf board.old) }
+    ensures conditions { IfOk result ShowsFewConditions }
     ensures err { OnErr result (board.new ≡ board.old) }
 {
     board.relist()?;

@@ -1,7 +1,8 @@
 -- What a board holds of the accepted changes.
-use Rattle.std.specs.Prelude.{◌≡◌, ℕ, ◌^◌, ◌<◌, ◌≤◌, nat_eq, nat_le, nat_lt, Bool, false, not, ◌&&◌, List, [], length, sum_by, filter, All, Contains, Option, Some}
+use Rattle.std.specs.Prelude.{◌≡◌, ℕ, ◌^◌, ◌<◌, ◌≤◌, nat_eq, nat_le, nat_lt, Bool, false, not, ◌&&◌, List, [], length, sum_by, filter, All, Contains, Option, Some, None}
 use Rattle.std.specs.List.{list_any}
-use Rattle.std.specs.BTreeMap.{BTreeMap, keys, values, get, is_at}
+use Rattle.std.specs.Arc.{arc_value}
+use Rattle.std.specs.BTreeMap.{BTreeMap, keys, values, get, insert_entry, is_at}
 use Rattle.std.specs.Map.{set_value}
 use Rattle.std.specs.Ordering.{nat_cmp}
 use Rattle.std.specs.declared.sync.Arc.{Arc}
@@ -9,15 +10,16 @@ use Rattle.std.specs.declared.alloc.Global.{Global}
 use Rattle.cq_base.specs.declared.settings.Settings.{Settings}
 use Rattle.cq_base.specs.declared.change.Change.{Change}
 use Rattle.cq_base.specs.declared.lang.Lang.{Lang}
-use Rattle.cq_history.specs.Changes.{text_len}
-use Rattle.cq_history.specs.Gone.{IsKept, kept_numbers}
+use Rattle.cq_history.specs.Changes.{IsWorkFor, text_len}
+use Rattle.cq_history.specs.Gone.{IsKept, AreKeptPuts, kept_numbers}
 use Rattle.cq_history.specs.Lawful.{is_absent, is_full, is_long}
-use Rattle.cq_history.specs.State.{Slot}
+use Rattle.cq_history.specs.State.{State, Slot}
 use Rattle.cq_kept.specs.declared.kept.Kept.{Kept}
+use Rattle.cq_kept.specs.declared.kept.Stored.{Stored}
 use Rattle.cq_kept.specs.declared.over.Over.{Over}
 use Rattle.cq_kept.specs.declared.presence.Presence.{Presence}
 use Rattle.cq_kept.specs.Presence.{IsPresence}
-use Rattle.cq_kept.specs.Slots.{slot_from, slot_at, change_of, changes_of, state_from, IsWorked}
+use Rattle.cq_kept.specs.Slots.{slot_from, slot_at, change_of, changes_of, state_from, with_change, IsWorked}
 
 -- the settings, the slots of all accepted changes, and the floor
 pub record Accepted : Type 0 where
@@ -28,13 +30,36 @@ pub record Accepted : Type 0 where
 abbrev pub accepted_from : Settings → List Slot → ℕ → Accepted
 accepted_from settings slots floor = record { settings = settings; slots = slots; floor = floor }
 
+-- the same with other slots
+abbrev pub with_slots : Accepted → List Slot → Accepted
+with_slots a slots = accepted_from a.settings slots a.floor
+
+-- the same with one change more
+abbrev pub with_accepted : Accepted → Change → Accepted
+with_accepted a change = with_slots a (with_change a.slots change)
+
+-- the state in which there is nothing else: no version is published, and no view is open
+abbrev pub bare_state : Accepted → State
+bare_state a = state_from a.slots 0 a.floor []
+
 -- the change of this number is held
 abbrev pub Holds : Accepted → ℕ → Type 0
 Holds a number = IsKept (changes_of a.slots) a.floor number
 
+-- no change behind a number is held, or none of those up to another one
+abbrev pub HoldsNoneBehind : Accepted → ℕ → Type 0
+HoldsNoneBehind a after = (number : ℕ) → after < number → Holds a number → ⊥
+
+abbrev pub HoldsNoneBetween : Accepted → ℕ → ℕ → Type 0
+HoldsNoneBetween a after last = (number : ℕ) → after < number → number ≤ last → Holds a number → ⊥
+
+-- the puts up to the floor that are held are exactly these, ascending
+abbrev pub HoldsPuts : Accepted → List ℕ → Type 0
+HoldsPuts a numbers = AreKeptPuts (changes_of a.slots) a.floor numbers
+
 -- nothing is against accepting the change
 abbrev pub MayAccept : Accepted → Change → Type 0
-MayAccept a change = (is_absent (state_from a.slots 0 a.floor []) change ≡ false) × (is_full a.settings (state_from a.slots 0 a.floor []) ≡ false) × (is_long a.settings (state_from a.slots 0 a.floor []) change ≡ false)
+MayAccept a change = (is_absent (bare_state a) change ≡ false) × (is_full a.settings (bare_state a) ≡ false) × (is_long a.settings (bare_state a) change ≡ false)
 
 -- the next change that is held behind a number
 pub record IsNextHeld (a : Accepted) (after number : ℕ) : Type 0 where
@@ -58,6 +83,14 @@ module _ {W : Type 0} where
   -- how many bytes the texts have
   abbrev pub text_in : BTreeMap ℕ (Kept W) → ℕ
   text_in kept = sum_by (λ (k : Kept W). text_len (change_of k.change)) (values kept)
+
+  -- the work is that of the change with this number
+  abbrev pub IsItsWork : (Settings → Lang → List ℕ → W → Type 0) → Accepted → ℕ → Arc W Global → Type 0
+  IsItsWork IsWorkOf a number work = IsWorkFor (IsWorkOf a.settings) (slot_at a.slots number).change (arc_value work)
+
+  -- the change is held by this number, and nobody has it, nor is its work done
+  abbrev pub IsInserted : ℕ → Stored → BTreeMap ℕ (Kept W) → BTreeMap ℕ (Kept W) → Type 0
+  IsInserted number change old new = new.entries ≡ insert_entry nat_cmp old.entries number (record { change = change; work = None; holder = None })
 
   -- the change of a number has another holder, where it was held
   abbrev pub IsHeldBy : ℕ → Option ℕ → BTreeMap ℕ (Kept W) → BTreeMap ℕ (Kept W) → Type 0

@@ -44,3 +44,11 @@ pub record IsPresence (changes : List Change) (floor : ℕ) (there : Presence) :
 -- whatever changes and floor it was the presence of, where this number is the next one's, it is that of one change more
 abbrev pub AddsPlace : ℕ → Change → Presence → Presence → Type 0
 AddsPlace number change old new = (changes : List Change) (floor : ℕ) → length changes + 1 ≡ number → floor ≤ length changes → IsPresence changes floor old → IsPresence (changes ++ change ∷ []) floor new
+
+-- whatever changes it is the presence of, this is whether a file stands at the place after them
+abbrev pub TellsIfThere : Presence → FileKey → Bool → Type 0
+TellsIfThere there file told = (changes : List Change) (floor : ℕ) → IsPresence changes floor there → told ≡ is_there changes file
+
+-- whatever changes the one is the presence of, so is the other
+abbrev pub ShowsTheSame : Presence → Presence → Type 0
+ShowsTheSame old new = (changes : List Change) (floor : ℕ) → IsPresence changes floor old → IsPresence changes floor new

@@ -1,11 +1,11 @@
 -- The slot that is kept of a change, and the slots of all changes.
-use Rattle.std.specs.Prelude.{ℕ, ◌-◌, true, List, [], ◌∷◌, map, is_some, Option, IfSome, slice_index_or, slice_set}
+use Rattle.std.specs.Prelude.{◌≡◌, ℕ, ◌-◌, true, List, [], ◌∷◌, ◌++◌, map, is_some, Option, IfSome, slice_index_or, slice_set}
 use Rattle.std.specs.Arc.{arc_value}
 use Rattle.cq_base.specs.declared.change.Change.{Change}
 use Rattle.cq_base.specs.declared.change.Change.TheVariants as change
 use Rattle.cq_base.specs.declared.lang.Lang.{Lang}
 use Rattle.cq_history.specs.Changes.{IsWorkFor}
-use Rattle.cq_history.specs.State.{State, Slot, no_slot}
+use Rattle.cq_history.specs.State.{State, Slot, new_slot, no_slot}
 use Rattle.cq_kept.specs.declared.kept.Stored.{Stored}
 use Rattle.cq_kept.specs.declared.kept.Stored.TheVariants.{Put, Drop, Gate}
 use Rattle.cq_kept.specs.declared.kept.Kept.{Kept}
@@ -33,6 +33,10 @@ state_from slots published floor views = record { slots = slots; published = pub
 abbrev pub slot_at : List Slot → ℕ → Slot
 slot_at slots number = slice_index_or slots (number - 1) no_slot
 
+-- the slots, and that of one change more
+abbrev pub with_change : List Slot → Change → List Slot
+with_change slots change = slots ++ new_slot change ∷ []
+
 -- the slots, where the change with this number has another holder
 abbrev pub with_holder : List Slot → ℕ → Option ℕ → List Slot
 with_holder slots number holder = slice_set slots (number - 1) (record { change = (slot_at slots number).change; finished = (slot_at slots number).finished; holder = holder })
@@ -46,3 +50,7 @@ abbrev pub put_by : Change → ℕ → List ℕ
 put_by (change.Put project path lang text) r = r ∷ []
 put_by (change.Drop project path) r = []
 put_by (change.Gate project conditions) r = []
+
+-- behind the numbers stands this one, where the change with it puts a file
+abbrev pub NotesPut : Change → ℕ → List ℕ → List ℕ → Type 0
+NotesPut change number old new = new ≡ old ++ put_by change number

@@ -1,13 +1,10 @@
-ghost use Rattle.std.specs.Prelude.{◌≡◌, ◌↔◌, ◌+◌, ◌<◌, ◌≤◌, ◌++◌, ◌∷◌, ◌^◌, ◌||◌, nat_le, nat_lt, ℕ, List, [], length, IfOk, OnOk, OnErr, IfSome, IsSome, IsNone, None};
-ghost use Rattle.std.specs.Arc.{arc_value};
-ghost use Rattle.std.specs.BTreeMap.{get, insert_entry};
+ghost use Rattle.std.specs.Prelude.{◌≡◌, ◌↔◌, ◌≤◌, ◌^◌, ◌||◌, nat_le, nat_lt, [], length, IfOk, OnOk, OnErr, IfSome, IsSome, IsNone, None};
+ghost use Rattle.std.specs.BTreeMap.{get};
 ghost use Rattle.std.specs.Ordering.{nat_cmp};
-ghost use Rattle.cq_history.specs.Changes.{IsWorkFor, text_len};
-ghost use Rattle.cq_history.specs.Gone.{AreKeptPuts};
+ghost use Rattle.cq_history.specs.Changes.{text_len};
 ghost use Rattle.cq_history.specs.Lawful.{is_absent, is_full, is_long};
-ghost use Rattle.cq_history.specs.State.{new_slot};
-ghost use Rattle.cq_kept.specs.Accepted.{accepted_from, Holds, MayAccept, IsNextHeld, IsHeldBy, IsWorkedAs};
-ghost use Rattle.cq_kept.specs.Slots.{slot_from, slot_at, change_of, changes_of, put_by, state_from, with_holder, with_work, IsWorked};
+ghost use Rattle.cq_kept.specs.Accepted.{accepted_from, with_slots, with_accepted, bare_state, Holds, HoldsNoneBehind, HoldsPuts, MayAccept, IsNextHeld, IsItsWork, IsInserted, IsHeldBy, IsWorkedAs};
+ghost use Rattle.cq_kept.specs.Slots.{slot_from, slot_at, change_of, with_holder, with_work, NotesPut, IsWorked};
 
 use crate::accepting::text_len;
 use crate::forgetting::forget;
@@ -100,7 +97,7 @@ impl<W: Indexed> Changes<W> {
         ensures next { IfSome result (λ p. IsNextHeld self.now after p.0) }
         ensures slot { IfSome result (λ p. slot_from p.1.now ≡ slot_at self.now.slots p.0) }
         ensures work { IfSome result (λ p. IsWorked (W.IsWorkOf self.now.settings) p.1.now) }
-        ensures none { IsNone result → (number : ℕ) → after < number → Holds self.now number → ⊥ }
+        ensures none { IsNone result → HoldsNoneBehind self.now after }
     {
         match self.kept.range(after + 1..).next() {
             Some((number, kept)) => Some((*number, kept)),
@@ -110,7 +107,7 @@ impl<W: Indexed> Changes<W> {
 
     /// The puts up to the floor that it keeps, ascending. It looks at each change that it keeps up to there.
     pub fn keep(&self, alloc: Global) -> Result<Vec<u64>, Memory>
-        ensures { IfOk result (λ keep. AreKeptPuts (changes_of self.now.slots) self.now.floor keep.items) }
+        ensures { IfOk result (λ keep. HoldsPuts self.now keep.items) }
     {
         let mut keep = Vec::new(alloc);
         for (number, kept) in self.kept.range(..=self.floor) {
@@ -121,7 +118,7 @@ impl<W: Indexed> Changes<W> {
 
     /// Whether a change drops a path at which no file stands.
     pub fn is_absent(&self, change: &Stored) -> bool
-        ensures { result ≡ is_absent (state_from self.now.slots 0 self.now.floor []) (change_of change.now) }
+        ensures { result ≡ is_absent (bare_state self.now) (change_of change.now) }
     {
         match change {
             Stored::Drop { file } => !self.there.has(file),
@@ -132,7 +129,7 @@ impl<W: Indexed> Changes<W> {
 
     /// Whether as many are kept as may be, or as many were accepted.
     pub fn is_full(&self) -> bool
-        ensures { result ≡ is_full self.now.settings (state_from self.now.slots 0 self.now.floor []) }
+        ensures { result ≡ is_full self.now.settings (bare_state self.now) }
     {
         are_most(
             self.settings.change_limit,
@@ -143,7 +140,7 @@ impl<W: Indexed> Changes<W> {
 
     /// Whether the text of a change and all kept texts have more bytes than may be.
     pub fn is_long(&self, change: &Stored) -> bool
-        ensures { result ≡ is_long self.now.settings (state_from self.now.slots 0 self.now.floor []) (change_of change.now) }
+        ensures { result ≡ is_long self.now.settings (bare_state self.now) (change_of change.now) }
     {
         has_more(self.settings.text_limit - self.text_bytes, change)
     }
@@ -152,7 +149,7 @@ impl<W: Indexed> Changes<W> {
     /// need of memory for it is taken here.
     pub fn accept(&mut self, change: Stored) -> Result<(), Memory>
         requires { MayAccept self.old (change_of change) }
-        ensures more { OnOk result (self.new ≡ accepted_from self.old.settings (self.old.slots ++ new_slot (change_of change) ∷ []) self.old.floor) }
+        ensures more { OnOk result (self.new ≡ with_accepted self.old (change_of change)) }
         ensures err { OnErr result (self.new ≡ self.old) }
     {
         let number = self.accepted + 1;
@@ -174,7 +171,7 @@ impl<W: Indexed> Changes<W> {
     /// The change of a number has another holder. It takes no memory.
     pub fn hold(&mut self, number: u64, holder: Option<u32>)
         requires { Holds self.old number }
-        ensures { self.new ≡ accepted_from self.old.settings (with_holder self.old.slots number holder) self.old.floor }
+        ensures { self.new ≡ with_slots self.old (with_holder self.old.slots number holder) }
     {
         set_holder(&mut self.kept, number, holder);
         self.past = self.past.held(number, holder);
@@ -183,8 +180,8 @@ impl<W: Indexed> Changes<W> {
     /// The change of a number has its work. It takes no memory.
     pub fn finish(&mut self, number: u64, work: Arc<W, Global>)
         requires held { Holds self.old number }
-        requires work { IsWorkFor (W.IsWorkOf self.old.settings) (slot_at self.old.slots number).change (arc_value work) }
-        ensures { self.new ≡ accepted_from self.old.settings (with_work self.old.slots number) self.old.floor }
+        requires work { IsItsWork W.IsWorkOf self.old number work }
+        ensures { self.new ≡ with_slots self.old (with_work self.old.slots number) }
     {
         set_work(&mut self.kept, number, work);
         self.past = self.past.finished(number);
@@ -219,7 +216,7 @@ fn has_more(room: u64, change: &Stored) -> bool
 
 // One number more, where the change is a put.
 fn note_put(keep: &mut Vec<u64>, number: u64, change: &Stored) -> Result<(), Memory>
-    ensures { OnOk result (keep.new.items ≡ keep.old.items ++ put_by (change_of change.now) number) }
+    ensures { OnOk result (NotesPut (change_of change.now) number keep.old.items keep.new.items) }
 {
     match change {
         Stored::Put { .. } => {
@@ -238,7 +235,7 @@ fn insert<W: Drop>(
     change: Stored,
 ) -> Result<(), Memory>
     requires { get nat_cmp kept.old number ≡ None }
-    ensures more { OnOk result (kept.new.entries ≡ insert_entry nat_cmp kept.old.entries number (record { change = change; work = None; holder = None })) }
+    ensures more { OnOk result (IsInserted number change kept.old kept.new) }
     ensures same { OnErr result (kept.new.entries ≡ kept.old.entries) }
 {
     let slot = Kept {

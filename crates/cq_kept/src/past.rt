@@ -1,7 +1,7 @@
-ghost use Rattle.std.specs.Prelude.{◌≡◌, ◌++◌, ◌∷◌, List, []};
+ghost use Rattle.std.specs.Prelude.{◌≡◌, List};
 ghost use base.Fml.{ftrue};
-ghost use Rattle.cq_history.specs.State.{Slot, new_slot};
-ghost use Rattle.cq_kept.specs.Slots.{change_of, with_holder, with_work};
+ghost use Rattle.cq_history.specs.State.{Slot};
+ghost use Rattle.cq_kept.specs.Slots.{change_of, with_change, with_holder, with_work};
 
 use crate::kept::Stored;
 use std::marker::{Model, PhantomData};
@@ -34,8 +34,8 @@ impl Past {
     // One change more.
     pub(crate) fn accepted(&self, change: &Stored) -> Past
         ghost slots: { List Slot }
-        requires { slots ≡ self.now.slots ++ new_slot (change_of change.now) ∷ [] }
-        ensures { result.slots ≡ self.now.slots ++ new_slot (change_of change.now) ∷ [] }
+        requires { slots ≡ with_change self.now.slots (change_of change.now) }
+        ensures { result.slots ≡ with_change self.now.slots (change_of change.now) }
     {
         let _ = self;
         let _ = change;

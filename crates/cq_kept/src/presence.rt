@@ -1,7 +1,6 @@
-ghost use Rattle.std.specs.Prelude.{◌≡◌, [], ℕ, List, IfOk, OnOk, OnErr};
-ghost use Rattle.cq_base.specs.declared.change.Change.{Change};
+ghost use Rattle.std.specs.Prelude.{[], OnOk, OnErr};
 ghost use Rattle.cq_kept.specs.Slots.{change_of};
-ghost use Rattle.cq_kept.specs.Presence.{IsPresence, AddsPlace, is_there};
+ghost use Rattle.cq_kept.specs.Presence.{IsPresence, AddsPlace, TellsIfThere, ShowsTheSame};
 
 use crate::kept::{FileKey, ProjectKey, Stored};
 use crate::over::{Over, note_over};
@@ -32,7 +31,7 @@ impl Presence {
 
     /// Whether a file stands at a place.
     pub fn has(&self, file: &FileKey) -> bool
-        ensures { (changes : List Change) (floor : ℕ) → IsPresence changes floor self.now → result ≡ is_there changes file.now }
+        ensures { TellsIfThere self.now file.now result }
     {
         self.puts.contains_key(file)
     }
@@ -41,7 +40,7 @@ impl Presence {
 /// Where files stand behind one change more, of this number, and what is over then. Where memory is refused it is as before.
 pub fn note(there: &mut Presence, number: u64, change: &Stored) -> Result<(), Memory>
     ensures more { OnOk result (AddsPlace number (change_of change.now) there.old there.new) }
-    ensures same { OnErr result ((changes : List Change) (floor : ℕ) → IsPresence changes floor there.old → IsPresence changes floor there.new) }
+    ensures same { OnErr result (ShowsTheSame there.old there.new) }
 {
     there.over.reserve(2)?;
     match change {

@@ -1,5 +1,5 @@
 -- What the changes of a batch make of a project's files: at each path that they name stands a file, or none.
-use Rattle.std.specs.Prelude.{◌≡◌, ℕ, ◌+◌, List, [], ◌∷◌, ◌++◌, length, map, take, option_map, unwrap_or, IfSome, Option, None, Some}
+use Rattle.std.specs.Prelude.{◌≡◌, ℕ, ◌+◌, List, [], ◌∷◌, ◌++◌, length, map, take, option_map, unwrap_or, IfSome, Option, None, Some, Vec}
 use Rattle.std.specs.Arc.{arc_value}
 use Rattle.std.specs.List.{AllByRecursion}
 use Rattle.std.specs.declared.sync.Arc.{Arc}
@@ -11,6 +11,10 @@ use Rattle.cq_projects.specs.Projects.{ListedProject, path_of}
 use Rattle.cq_projects.specs.Ordered.{AreAbove, AreBelow}
 
 module _ {W : Type 0} where
+  -- the files that these owners hold
+  abbrev pub held_in : List (Arc (File W) Global) → List (File W)
+  held_in owners = map arc_value owners
+
   -- the files with what stands at a path: a file, or none
   abbrev pub edited_at : List ℕ → Option (Arc (File W) Global) → List (File W) → List (File W)
   edited_at p None files = without_file p files
@@ -73,6 +77,10 @@ module _ {W : Type 0} where
   abbrev pub edited_named : List (Arc (List ℕ) Global × Named W) → List (File W) → List (File W)
   edited_named entries files = edited_all (files_at entries) files
 
+  -- they are the files with what stands at each of the named paths
+  abbrev pub AreMerged : List (Arc (List ℕ) Global × Named W) → List (Arc (File W) Global) → Vec (Arc (File W) Global) Global → Type 0
+  AreMerged entries files all = held_in all.items ≡ edited_named entries (held_in files)
+
   -- of each path it is kept where the files are cut at it
   abbrev pub AreCut : List (File W) → List (Arc (List ℕ) Global × Named W) → Type 0
   AreCut files entries = AllByRecursion (λ (e : Arc (List ℕ) Global × Named W). IsCut (arc_value e.0) files e.1.before e.1.behind) entries
@@ -84,3 +92,7 @@ module _ {W : Type 0} where
   -- the project has at the named paths what stands there, and the conditions where there are any
   abbrev pub IsRevised : List (Arc (List ℕ) Global × Named W) → Option (Arc (List Condition) Global) → ListedProject W → ListedProject W → Type 0
   IsRevised entries conditions old new = new ≡ record { name = old.name; files = edited_named entries old.files; conditions = unwrap_or (option_map arc_value conditions) old.conditions }
+
+  -- the same of a project that has an owner
+  abbrev pub IsOwnerRevised : List (Arc (List ℕ) Global × Named W) → Option (Arc (List Condition) Global) → Arc (ListedProject W) Global → Arc (ListedProject W) Global → Type 0
+  IsOwnerRevised entries conditions old new = IsRevised entries conditions (arc_value old) (arc_value new)

@@ -8,7 +8,7 @@ use Rattle.cq_base.specs.declared.change.Condition.{Condition}
 use Rattle.cq_history.specs.Files.{File, with_file, without_file}
 use Rattle.cq_projects.specs.declared.projects.ProjectEdit.{ProjectEdit}
 use Rattle.cq_projects.specs.declared.projects.ProjectEdit.TheVariants.{Put, Drop, Gate}
-use Rattle.cq_projects.specs.Projects.{path_in, number_at, ListedProject, files_in, conditions_in, projects_in}
+use Rattle.cq_projects.specs.Projects.{path_in, number_at, ListedProject, files_in, conditions_in, position_of, projects_in}
 use Rattle.cq_projects.specs.Spotted.{AreOlder}
 
 module _ {W : Type 0} where
@@ -27,6 +27,46 @@ module _ {W : Type 0} where
   replaced_by (Put held) files = number_at (path_in held) files
   replaced_by (Drop path) files = number_at (arc_value path) files
   replaced_by (Gate conditions) files = None
+
+  -- of each name they have the same files, and the same conditions
+  abbrev pub SameFilesByName : List (ListedProject W) → List (ListedProject W) → Type 0
+  SameFilesByName old new = (q : List ℕ) → files_in new q ≡ files_in old q
+
+  abbrev pub SameConditionsByName : List (ListedProject W) → List (ListedProject W) → Type 0
+  SameConditionsByName old new = (q : List ℕ) → conditions_in new q ≡ conditions_in old q
+
+  -- the same of projects that have owners
+  abbrev pub HaveSameFiles : List (Arc (ListedProject W) Global) → List (Arc (ListedProject W) Global) → Type 0
+  HaveSameFiles old new = SameFilesByName (projects_in old) (projects_in new)
+
+  abbrev pub HaveSameConditions : List (Arc (ListedProject W) Global) → List (Arc (ListedProject W) Global) → Type 0
+  HaveSameConditions old new = SameConditionsByName (projects_in old) (projects_in new)
+
+  -- the index of a project among those that have owners, or how many there are
+  abbrev pub owned_position : List ℕ → List (Arc (ListedProject W) Global) → ℕ
+  owned_position q owners = position_of q (projects_in owners)
+
+  -- the project has the files, or the conditions, that an edit makes of what it had
+  abbrev pub EditsProjectFiles : ProjectEdit W → ListedProject W → ListedProject W → Type 0
+  EditsProjectFiles edit old new = new.files ≡ edited_files edit old.files
+
+  abbrev pub EditsProjectConditions : ProjectEdit W → ListedProject W → ListedProject W → Type 0
+  EditsProjectConditions edit old new = new.conditions ≡ edited_conditions edit old.conditions
+
+  -- the same of a project that has an owner
+  abbrev pub EditsOwnerFiles : ProjectEdit W → Arc (ListedProject W) Global → Arc (ListedProject W) Global → Type 0
+  EditsOwnerFiles edit old new = EditsProjectFiles edit (arc_value old) (arc_value new)
+
+  abbrev pub EditsOwnerConditions : ProjectEdit W → Arc (ListedProject W) Global → Arc (ListedProject W) Global → Type 0
+  EditsOwnerConditions edit old new = EditsProjectConditions edit (arc_value old) (arc_value new)
+
+  -- the number is that of the change whose file the edit replaces or drops in the project of this name, if there is one
+  abbrev pub IsReplacedIn : ProjectEdit W → List ℕ → List (ListedProject W) → Option ℕ → Type 0
+  IsReplacedIn edit name projects number = number ≡ replaced_by edit (files_in projects name)
+
+  -- the same among projects that have owners
+  abbrev pub IsReplacedInOwned : ProjectEdit W → List ℕ → List (Arc (ListedProject W) Global) → Option ℕ → Type 0
+  IsReplacedInOwned edit name owners number = IsReplacedIn edit name (projects_in owners) number
 
   -- the project of this name has the files, or the conditions, that an edit makes of what it had, and each other one what
   -- it had

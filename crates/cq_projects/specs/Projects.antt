@@ -1,5 +1,5 @@
 -- What projects are to their readers: by name, each with its files and conditions.
-use Rattle.std.specs.Prelude.{◌≡◌, ℕ, List, [], ◌∷◌, map, if◌then◌else◌, Option, Some, None}
+use Rattle.std.specs.Prelude.{ℕ, List, [], ◌∷◌, map, if◌then◌else◌, Option, Some, None}
 use Rattle.std.specs.Arc.{arc_value}
 use Rattle.std.specs.declared.sync.Arc.{Arc}
 use Rattle.std.specs.declared.alloc.Global.{Global}
@@ -56,10 +56,3 @@ module _ {W : Type 0} where
 
   abbrev pub owned_files : List (Arc (ListedProject W) Global) → List ℕ → List (File W)
   owned_files owners q = files_in (projects_in owners) q
-
-  -- of each name they have the same files, and the same conditions
-  abbrev pub HaveSameFiles : List (Arc (ListedProject W) Global) → List (Arc (ListedProject W) Global) → Type 0
-  HaveSameFiles old new = (q : List ℕ) → files_in (projects_in new) q ≡ files_in (projects_in old) q
-
-  abbrev pub HaveSameConditions : List (Arc (ListedProject W) Global) → List (Arc (ListedProject W) Global) → Type 0
-  HaveSameConditions old new = (q : List ℕ) → conditions_in (projects_in new) q ≡ conditions_in (projects_in old) q

@@ -1,13 +1,13 @@
 //! The next listing while a batch of changes is gathered: what stands at each path that the batch names is kept beside
 //! each project, and made in its list at once, in path order.
-ghost use Rattle.std.specs.Prelude.{◌≡◌, ◌<◌, ℕ, List, All, length, map, option_map, IfOk, IfErr, OnOk};
+ghost use Rattle.std.specs.Prelude.{◌≡◌, ◌<◌, All, length, map, option_map, IfOk, IfErr, OnOk};
 ghost use Rattle.std.specs.Arc.{arc_value};
 ghost use Rattle.std.specs.Ordering.{nat_cmp};
 ghost use Rattle.std.specs.Cmp.Lexicographic.{slice_cmp};
-ghost use Rattle.cq_projects.specs.Drafts.{IsOwn, IsSetAt, IsRevised, number_in, edited_named, files_at, AreOwn, AreCut};
+ghost use Rattle.cq_projects.specs.Drafts.{IsOwn, IsSetAt, IsRevised, IsOwnerRevised, number_in, edited_named, files_at, AreOwn, AreCut};
 ghost use Rattle.cq_projects.specs.Spotted.{AreApart, AreApartIn};
-ghost use Rattle.cq_projects.specs.Edits.{edited_files, edited_conditions, replaced_by, EditsFiles, EditsConditions};
-ghost use Rattle.cq_projects.specs.Projects.{number_at, name_in, files_in, conditions_in, position_of, owner_files};
+ghost use Rattle.cq_projects.specs.Edits.{replaced_by, SameFilesByName, SameConditionsByName, EditsProjectFiles, EditsProjectConditions, IsReplacedIn, EditsFiles, EditsConditions};
+ghost use Rattle.cq_projects.specs.Projects.{number_at, name_in, position_of, owner_files};
 ghost use Rattle.cq_projects.specs.Ordered.{AreRising, IsAt, IsGap};
 
 use crate::files::Cut;
@@ -64,7 +64,7 @@ impl<W: Drop> Draft<W> {
     ) -> Result<Option<u64>, Memory>
         requires { IsOwn (arc_value path) file }
         ensures set { OnOk result (IsSetAt (arc_value path) file self.old self.new) }
-        ensures number { IfOk result (λ number. number ≡ number_at (arc_value path) self.old.files) }
+        ensures number { IfOk result (λ n. n ≡ number_at (arc_value path) self.old.files) }
     {
         let Cut {
             before,
@@ -85,8 +85,8 @@ impl<W: Drop> Draft<W> {
     // Edits it, and answers the change whose file that replaces or drops, if there was one.
     fn edit(&mut self, edit: ProjectEdit<W>) -> Result<Option<u64>, Memory>
         ensures name { OnOk result (self.new.name ≡ self.old.name) }
-        ensures files { OnOk result (self.new.files ≡ edited_files edit self.old.files) }
-        ensures conditions { OnOk result (self.new.conditions ≡ edited_conditions edit self.old.conditions) }
+        ensures files { OnOk result (EditsProjectFiles edit self.old self.new) }
+        ensures conditions { OnOk result (EditsProjectConditions edit self.old self.new) }
         ensures number { IfOk result (λ n. n ≡ replaced_by edit self.old.files) }
     {
         match edit {
@@ -151,7 +151,7 @@ fn revise_shared<W: Drop>(
     requires cut { AreCut (owner_files project.old) paths.entries }
     requires own { AreOwn (files_at paths.entries) }
     requires apart { AreApartIn (edited_named paths.entries (owner_files project.old)) }
-    ensures { OnOk result (IsRevised paths.entries conditions (arc_value project.old) (arc_value project.new)) }
+    ensures { OnOk result (IsOwnerRevised paths.entries conditions project.old project.new) }
 {
     match Arc::get_mut(project) {
         Some(own) => revise(alloc, own, paths, conditions),
@@ -245,8 +245,8 @@ fn draft_at<W: Drop>(
     ensures names { AreRising name_in drafts.new.items }
     ensures first { IfOk result (λ i. i ≡ position_of (arc_value name.now) drafts.new.items) }
     ensures within { IfOk result (λ i. i < length drafts.new.items) }
-    ensures files { (q : List ℕ) → files_in drafts.new.items q ≡ files_in drafts.old.items q }
-    ensures conditions { (q : List ℕ) → conditions_in drafts.new.items q ≡ conditions_in drafts.old.items q }
+    ensures files { SameFilesByName drafts.old.items drafts.new.items }
+    ensures conditions { SameConditionsByName drafts.old.items drafts.new.items }
 {
     match find(drafts, name) {
         Ok(i) => Ok(i),
@@ -276,9 +276,11 @@ pub fn edit_draft<W: Drop>(
 ) -> Result<Option<u64>, Memory>
     requires { AreRising name_in drafts.old.items }
     ensures names { OnOk result (AreRising name_in drafts.new.items) }
-    ensures number { IfOk result (λ n. n ≡ replaced_by edit (files_in drafts.old.items (arc_value name.now))) }
-    ensures files { OnOk result (EditsFiles (arc_value name.now) edit drafts.old.items drafts.new.items) }
-    ensures conditions { OnOk result (EditsConditions (arc_value name.now) edit drafts.old.items drafts.new.items) }
+    ensures number { IfOk result (IsReplacedIn edit (arc_value name.now) drafts.old.items) }
+    ensures files { OnOk result
+        (EditsFiles (arc_value name.now) edit drafts.old.items drafts.new.items) }
+    ensures conditions { OnOk result
+        (EditsConditions (arc_value name.now) edit drafts.old.items drafts.new.items) }
 {
     let i = draft_at(alloc, drafts, name)?;
     drafts[i].edit(edit)

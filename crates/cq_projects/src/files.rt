@@ -1,10 +1,9 @@
-ghost use Rattle.std.specs.Prelude.{◌≡◌, ◌<◌, ◌≤◌, ◌++◌, IfOk, IfErr, OnOk, IsTrue, insert, map, length, take, drop};
-ghost use Rattle.std.specs.Arc.{arc_value};
+ghost use Rattle.std.specs.Prelude.{◌≡◌, ◌<◌, ◌≤◌, ◌++◌, IfOk, IfErr, OnOk, IsTrue, insert, length, take, drop};
 ghost use Rattle.std.specs.Vec.{vec_len, vec_capacity};
 ghost use Rattle.std.specs.Ordering.{nat_cmp};
 ghost use Rattle.std.specs.Cmp.Lexicographic.{slice_cmp};
 ghost use Rattle.cq_projects.specs.Ordered.{AreRising, AreBelow, AreAbove, IsAt, IsGap};
-ghost use Rattle.cq_projects.specs.Drafts.{IsCut};
+ghost use Rattle.cq_projects.specs.Drafts.{held_in, IsCut};
 ghost use Rattle.cq_projects.specs.Projects.{path_in, path_of, number_at};
 
 use crate::held::Held;
@@ -94,10 +93,10 @@ pub struct Cut {
 
 /// Cuts files at a path, which is looked for from one place up to another, and among all files where it can't be there.
 pub fn cut_at<W>(files: &[Arc<Held<W>, Global>], path: &Text, from: usize, to: usize) -> Cut
-    requires rising { AreRising path_of (map arc_value files.now) }
+    requires rising { AreRising path_of (held_in files.now) }
     requires bound { (from ≤ to) × (to ≤ length files.now) }
-    ensures cut { IsCut path.now (map arc_value files.now) result.before result.behind }
-    ensures change { result.change ≡ number_at path.now (map arc_value files.now) }
+    ensures cut { IsCut path.now (held_in files.now) result.before result.behind }
+    ensures change { result.change ≡ number_at path.now (held_in files.now) }
 {
     match find_between(files, path, from, to) {
         Ok(i) => Cut {
@@ -118,7 +117,7 @@ pub fn append_shared<W: Drop>(
     all: &mut Vec<Arc<Held<W>, Global>>,
     files: &[Arc<Held<W>, Global>],
 ) -> Result<(), Memory>
-    ensures { OnOk result (map arc_value all.new.items ≡ map arc_value all.old.items ++ map arc_value files.now) }
+    ensures { OnOk result (held_in all.new.items ≡ held_in all.old.items ++ held_in files.now) }
 {
     for f in files {
         let f = Arc::try_clone(f)?;
@@ -132,7 +131,7 @@ pub fn shared_files<W: Drop>(
     alloc: Global,
     files: &[Arc<Held<W>, Global>],
 ) -> Result<Vec<Arc<Held<W>, Global>>, Memory>
-    ensures { IfOk result (λ all. map arc_value all.items ≡ map arc_value files.now) }
+    ensures { IfOk result (λ all. held_in all.items ≡ held_in files.now) }
 {
     let mut all = Vec::with_capacity(alloc, files.len())?;
     append_shared(&mut all, files)?;

@@ -1,8 +1,7 @@
 //! The list of a project's files with a batch of edits, made in one walk in path order.
-ghost use Rattle.std.specs.Prelude.{◌≡◌, ◌≤◌, ◌++◌, ◌-◌, map, take, drop, IfOk, OnOk};
-ghost use Rattle.std.specs.Arc.{arc_value};
+ghost use Rattle.std.specs.Prelude.{◌≡◌, ◌≤◌, ◌++◌, ◌-◌, take, drop, IfOk, OnOk};
 ghost use Rattle.std.specs.Vec.Iter.{into_iter_items};
-ghost use Rattle.cq_projects.specs.Drafts.{edited_named, files_at, AreOwn, AreCut, Joins};
+ghost use Rattle.cq_projects.specs.Drafts.{files_at, held_in, AreOwn, AreCut, AreMerged, Joins};
 
 use crate::held::Held;
 use cq_base::{Memory, Text};
@@ -26,7 +25,8 @@ fn append_moved<W: Drop>(
     rest: &mut IntoIter<Arc<Held<W>, Global>, Global>,
     count: usize,
 ) -> Result<(), Memory>
-    ensures moved { OnOk result (done.new.items ≡ done.old.items ++ take count (into_iter_items rest.old)) }
+    ensures moved { OnOk result
+        (done.new.items ≡ done.old.items ++ take count (into_iter_items rest.old)) }
     ensures left { OnOk result (into_iter_items rest.new ≡ drop count (into_iter_items rest.old)) }
 {
     for _step in 0..count {
@@ -54,8 +54,10 @@ fn merge_one<W: Drop>(
     gone: usize,
     file: Option<Arc<Held<W>, Global>>,
 ) -> Result<(), Memory>
-    ensures joined { OnOk result (Joins before file (into_iter_items rest.old) done.old.items done.new.items) }
-    ensures left { OnOk result (into_iter_items rest.new ≡ drop gone (drop before (into_iter_items rest.old))) }
+    ensures joined { OnOk result
+        (Joins before file (into_iter_items rest.old) done.old.items done.new.items) }
+    ensures left { OnOk result
+        (into_iter_items rest.new ≡ drop gone (drop before (into_iter_items rest.old))) }
 {
     append_moved(done, rest, before)?;
     let_go(rest, gone);
@@ -71,9 +73,9 @@ pub fn merged<W: Drop>(
     files: Vec<Arc<Held<W>, Global>>,
     mut paths: BTreeMap<Arc<Text, Global>, Named<W>>,
 ) -> Result<Vec<Arc<Held<W>, Global>>, Memory>
-    requires cut { AreCut (map arc_value files.items) paths.entries }
+    requires cut { AreCut (held_in files.items) paths.entries }
     requires own { AreOwn (files_at paths.entries) }
-    ensures { IfOk result (λ all. map arc_value all.items ≡ edited_named paths.entries (map arc_value files.items)) }
+    ensures { IfOk result (AreMerged paths.entries files.items) }
 {
     let len = files.len();
     let mut done = Vec::with_capacity(alloc, len.saturating_add(paths.len()))?;

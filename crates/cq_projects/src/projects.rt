@@ -3,8 +3,8 @@ ghost use Rattle.std.specs.Arc.{arc_value};
 ghost use Rattle.std.specs.Ordering.{nat_cmp};
 ghost use Rattle.std.specs.Cmp.Lexicographic.{slice_cmp};
 ghost use Rattle.cq_projects.specs.Ordered.{AreRising, IsAt, IsGap};
-ghost use Rattle.cq_projects.specs.Projects.{owner_name, projects_in, position_of, owner_files, owner_conditions, owned_files, HaveSameFiles, HaveSameConditions};
-ghost use Rattle.cq_projects.specs.Edits.{edited_files, edited_conditions, replaced_by, IsNewer, EditsOwnedFiles, EditsOwnedConditions};
+ghost use Rattle.cq_projects.specs.Projects.{owner_name, owner_files, owned_files};
+ghost use Rattle.cq_projects.specs.Edits.{replaced_by, owned_position, HaveSameFiles, HaveSameConditions, IsNewer, EditsProjectFiles, EditsProjectConditions, EditsOwnerFiles, EditsOwnerConditions, IsReplacedInOwned, EditsOwnedFiles, EditsOwnedConditions};
 
 use crate::held::{Held, Project};
 use crate::project_files::ProjectFiles;
@@ -58,8 +58,8 @@ pub(crate) fn copied<W: Drop>(alloc: Global, project: &Project<W>) -> Result<Pro
 fn edit_own<W: Drop>(project: &mut Project<W>, edit: ProjectEdit<W>) -> Result<Option<u64>, Memory>
     requires newer { IsNewer edit project.old.files }
     ensures name { project.new.name ≡ project.old.name }
-    ensures files { OnOk result (project.new.files ≡ edited_files edit project.old.files) }
-    ensures conditions { OnOk result (project.new.conditions ≡ edited_conditions edit project.old.conditions) }
+    ensures files { OnOk result (EditsProjectFiles edit project.old project.new) }
+    ensures conditions { OnOk result (EditsProjectConditions edit project.old project.new) }
     ensures number { IfOk result (λ n. n ≡ replaced_by edit project.old.files) }
     ensures unchanged { OnErr result (project.new ≡ project.old) }
 {
@@ -81,8 +81,8 @@ fn edit_shared<W: Drop>(
 ) -> Result<Option<u64>, Memory>
     requires newer { IsNewer edit (owner_files project.old) }
     ensures name { owner_name project.new ≡ owner_name project.old }
-    ensures files { OnOk result (owner_files project.new ≡ edited_files edit (owner_files project.old)) }
-    ensures conditions { OnOk result (owner_conditions project.new ≡ edited_conditions edit (owner_conditions project.old)) }
+    ensures files { OnOk result (EditsOwnerFiles edit project.old project.new) }
+    ensures conditions { OnOk result (EditsOwnerConditions edit project.old project.new) }
     ensures number { IfOk result (λ n. n ≡ replaced_by edit (owner_files project.old)) }
     ensures unchanged { OnErr result (arc_value project.new ≡ arc_value project.old) }
 {
@@ -105,7 +105,7 @@ fn project_at<W: Drop>(
 ) -> Result<usize, Memory>
     requires { AreRising owner_name projects.old.items }
     ensures names { AreRising owner_name projects.new.items }
-    ensures first { IfOk result (λ i. i ≡ position_of (arc_value name.now) (projects_in projects.new.items)) }
+    ensures first { IfOk result (λ i. i ≡ owned_position (arc_value name.now) projects.new.items) }
     ensures within { IfOk result (λ i. i < length projects.new.items) }
     ensures files { HaveSameFiles projects.old.items projects.new.items }
     ensures conditions { HaveSameConditions projects.old.items projects.new.items }
@@ -140,11 +140,14 @@ pub fn edit_in<W: Drop>(
     requires names { AreRising owner_name projects.old.items }
     requires newer { IsNewer edit (owned_files projects.old.items (arc_value name.now)) }
     ensures names { AreRising owner_name projects.new.items }
-    ensures number { IfOk result (λ n. n ≡ replaced_by edit (owned_files projects.old.items (arc_value name.now))) }
-    ensures files { OnOk result (EditsOwnedFiles (arc_value name.now) edit projects.old.items projects.new.items) }
-    ensures conditions { OnOk result (EditsOwnedConditions (arc_value name.now) edit projects.old.items projects.new.items) }
+    ensures number { IfOk result (IsReplacedInOwned edit (arc_value name.now) projects.old.items) }
+    ensures files { OnOk result
+        (EditsOwnedFiles (arc_value name.now) edit projects.old.items projects.new.items) }
+    ensures conditions { OnOk result
+        (EditsOwnedConditions (arc_value name.now) edit projects.old.items projects.new.items) }
     ensures same_files { OnErr result (HaveSameFiles projects.old.items projects.new.items) }
-    ensures same_conditions { OnErr result (HaveSameConditions projects.old.items projects.new.items) }
+    ensures same_conditions { OnErr result
+        (HaveSameConditions projects.old.items projects.new.items) }
 {
     let i = project_at(alloc, projects, name)?;
     edit_shared(alloc, &mut projects[i], edit)

@@ -1,6 +1,7 @@
 -- What a reader may rely on of a shard, over a relation which says of a text that it has at a place a window with a key.
 use Rattle.std.specs.Prelude.{◌≡◌, ◌⊎◌, ◌↔◌, ℕ, ◌+◌, ◌%◌, ◌≤◌, List, [], ◌++◌, length, Contains, Some}
 use Rattle.cq_base.specs.declared.lang.Lang.{Lang}
+use Rattle.cq_base.specs.declared.settings.Settings.{Settings}
 use Rattle.cq_base.specs.declared.entry.Entry.{Entry}
 use Rattle.cq_base.specs.declared.change.Change.{Change}
 use Rattle.cq_base.specs.declared.change.Change.TheVariants.{Put}
@@ -11,7 +12,12 @@ use Rattle.cq_history.specs.State.{accepted}
 use Rattle.cq_history.specs.Changes.{change_at, IsNumber}
 use Rattle.cq_history.specs.Shards.{Row, IsLastOfFile, ShardHolds}
 use Rattle.cq_history.specs.Gone.{AreKeptPuts}
-use Rattle.cq_shard.specs.Shard.{Contents, StandsFor, Holds, AreKnown, swept}
+use Rattle.cq_shard.specs.declared.indexed.Indexed.{Ghosts}
+use Rattle.cq_shard.specs.Shard.{Contents, StandsFor, Holds, HasWindow, AreKnown, swept}
+
+-- whatever the settings, the law is so of the windows of such works
+abbrev pub WithAllSettings : {W : Type 0} → Ghosts W → ((Lang → List ℕ → ℕ → ℕ → Type 0) → Type 0) → Type 0
+WithAllSettings of Law = (settings : Settings) → Law (HasWindow of.keys_in of.IsWorkOf settings)
 
 module _ (IsWindow : Lang → List ℕ → ℕ → ℕ → Type 0) where
   -- what is accepted later changes nothing of what a shard holds

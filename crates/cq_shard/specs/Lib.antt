@@ -1,4 +1,5 @@
 pub mod Laws
+pub mod Calls
 pub mod Gathered
 pub mod Parts
 pub mod Marks

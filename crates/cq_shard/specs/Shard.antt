@@ -28,6 +28,10 @@ pub record Contents : Type 0 where
   pub puts : List ℕ
   pub entries : List Entry
 
+-- a shard of this number, of so many, that has applied nothing
+abbrev pub fresh_shard : ℕ → ℕ → Contents
+fresh_shard shard shards = record { shard = shard; shards = shards; applied = 0; floor = 0; puts = []; entries = [] }
+
 -- it is one of the shards; its puts ascend, and its entries stand each once; all are of applied changes
 pub record IsShard (c : Contents) : Type 0 where
   pub mine : c.shard < c.shards
@@ -110,10 +114,6 @@ abbrev pub StandsOnWith : {W : Type 0} → (W → List ℕ) → (Settings → La
 StandsOnWith keys_in IsWorkOf change work old new =
     (settings : Settings) (changes : List Change) → StandsFor (HasWindow keys_in IsWorkOf settings) changes old → HasItsWork (IsWorkOf settings) (change_at changes change) work → StandsFor (HasWindow keys_in IsWorkOf settings) changes new
 
--- how many entries a change brings to this shard
-abbrev pub cost_of : {W : Type 0} → (W → List ℕ) → Contents → ℕ → Option W → ℕ
-cost_of keys_in c change work = length (brought keys_in change c.shard c.shards work)
-
 -- ---- the same of works that have owners
 
 -- what an owned work has
@@ -127,11 +127,6 @@ IsOwnedOf IsWorkOf settings lang text work = IsWorkOf settings lang text (arc_va
 -- each work has fewer than 2^32 keys
 abbrev pub HaveFewKeys : {W : Type 0} → (W → List ℕ) → List (Option (Arc W Global)) → Type 0
 HaveFewKeys keys_in works = All (λ work. IfSome work (λ w. length (keys_in (arc_value w)) < 2 ^ 32)) works
-
--- For whichever settings and changes it stood, of which the next ones have these works, it stands now.
-abbrev pub StandsOnWithAll : {W : Type 0} → (W → List ℕ) → (Settings → Lang → List ℕ → W → Type 0) → List (Option (Arc W Global)) → Contents → Contents → Type 0
-StandsOnWithAll keys_in IsWorkOf works old new =
-    (settings : Settings) (changes : List Change) → StandsFor (HasWindow keys_in IsWorkOf settings) changes old → HaveTheirWorks (IsOwnedOf IsWorkOf settings) changes old.applied works → StandsFor (HasWindow keys_in IsWorkOf settings) changes new
 
 -- the entries that the next changes bring to this shard, one for each of these works
 abbrev pub all_brought_to : {W : Type 0} → (W → List ℕ) → Contents → List (Option (Arc W Global)) → List Entry

@@ -1,9 +1,9 @@
-ghost use Rattle.std.specs.Prelude.{◌≡◌, if◌then◌else◌, ◌+◌, ◌<◌, ◌≤◌, ◌^◌, ◌%◌, ◌++◌, [], length, option_copied, is_some, All, IfOk, OnOk, OnErr, IfSome};
+ghost use Rattle.std.specs.Prelude.{◌≡◌, if◌then◌else◌, ◌+◌, ◌<◌, ◌≤◌, ◌^◌, ◌%◌, [], length, option_copied, is_some, All, IfOk, OnOk, OnErr, IfSome};
 ghost use Rattle.std.specs.Int.{IsPowerOfTwo};
 ghost use Rattle.std.specs.List.Sorted.{IsStrictlyIncreasing};
-ghost use Rattle.cq_shard.specs.Runs.{AreAdded};
-ghost use Rattle.cq_shard.specs.Gathered.{AreGathered, brought_for};
-ghost use Rattle.cq_shard.specs.Shard.{put_of, puts_among};
+ghost use Rattle.cq_shard.specs.Gathered.{AreGathered, AddsBrought, brought_for, cost_for};
+ghost use Rattle.cq_shard.specs.Calls.{NotesLent};
+ghost use Rattle.cq_shard.specs.Shard.{puts_among};
 
 use crate::indexed::Indexed;
 use crate::parting::room;
@@ -64,7 +64,7 @@ pub(crate) fn entries_for<W: Indexed>(
 ) -> Result<Vec<Entry>, Memory>
     requires few { IfSome work (λ w. length (W.keys_in w.now) < 2 ^ 32) }
     requires some { 0 < part.shards }
-    ensures { IfOk result (λ entries. entries.items ≡ brought_for W.keys_in part (option_copied work.entry)) }
+    ensures { IfOk result (λ entries. entries.items ≡ brought_for W.keys_in part work.entry) }
 {
     let mut entries = Vec::new(alloc);
     if let Some(work) = work {
@@ -119,11 +119,11 @@ pub(crate) fn add_work<W: Indexed, L: Ledger>(
     requires rising { IsStrictlyIncreasing store.old.puts }
     requires known { All (λ n. n ≤ store.old.applied) store.old.puts }
     ensures applied { OnOk result (store.new.applied ≡ part.change) }
-    ensures noted { OnOk result (store.new.puts ≡ store.old.puts ++ put_of part.change (option_copied work.entry)) }
-    ensures added { OnOk result (AreAdded store.old.entries (brought_for W.keys_in part (option_copied work.entry)) store.new.entries) }
+    ensures noted { OnOk result (NotesLent part.change work.entry store.old.puts store.new.puts) }
+    ensures added { OnOk result (AddsBrought W.keys_in part work.entry store.old store.new) }
     ensures same { OnErr result (store.new ≡ store.old) }
-    ensures steps { OnOk result (steps.new ≡ steps.old + length (brought_for W.keys_in part (option_copied work.entry))) }
-    ensures most { steps.new ≤ steps.old + length (brought_for W.keys_in part (option_copied work.entry)) }
+    ensures steps { OnOk result (steps.new ≡ steps.old + cost_for W.keys_in part work.entry) }
+    ensures most { steps.new ≤ steps.old + cost_for W.keys_in part work.entry }
 {
     let entries = entries_for(alloc, part, work)?;
     let number = [part.change];

@@ -2,7 +2,8 @@ ghost use Rattle.std.specs.Prelude.{◌≡◌, ◌++◌, ◌∷◌, ◌+◌, ◌
 ghost use Rattle.std.specs.List.Sorted.{IsStrictlyIncreasing};
 ghost use Rattle.cq_base.specs.declared.entry.Entry.{Entry};
 ghost use Rattle.cq_clones.specs.Windows.{EntryBefore};
-ghost use Rattle.cq_shard.specs.Runs.{AreRuns, AreRunsWith, AreAdded, AreDifferent, Precedes};
+ghost use Rattle.cq_shard.specs.Calls.{AreMergedBehind};
+ghost use Rattle.cq_shard.specs.Runs.{AreRuns, AreAdded, AreDifferent, Precedes};
 ghost use Rattle.cq_shard.specs.Shard.{AreAsked};
 ghost use Rattle.cq_shard.specs.Stores.{those_of, AreLeft};
 
@@ -131,7 +132,7 @@ fn keep_last(runs: &mut Vec<Run>, changes: &Table, added: usize) -> u64
 fn gather(alloc: Global, runs: &[Run], rows: Vec<Entry>) -> Result<(usize, Vec<Entry>), Memory>
     requires { AreRuns (runs.now ++ rows.items ∷ []) }
     ensures kept { IfOk result (λ g. g.0 ≤ length runs.now) }
-    ensures runs { IfOk result (λ g. AreRunsWith runs.now rows.items (take g.0 runs.now ++ g.1.items ∷ [])) }
+    ensures runs { IfOk result (AreMergedBehind runs.now rows.items) }
 {
     let mut kept = runs.len();
     let mut rows = rows;

@@ -1,6 +1,7 @@
-ghost use Rattle.std.specs.Prelude.{◌≡◌, ◌+◌, ◌<◌, ◌≤◌, ◌^◌, ◌++◌, [], length, option_copied, IfOk, OnOk, OnErr, IfSome};
+ghost use Rattle.std.specs.Prelude.{◌≡◌, ◌+◌, ◌<◌, ◌≤◌, ◌^◌, length, IfOk, OnOk, OnErr, IfSome};
 ghost use Rattle.std.specs.List.Sorted.{IsStrictlyIncreasing};
-ghost use Rattle.cq_shard.specs.Shard.{StandsOnWith, StandsOnWithAll, IsSameShard, cost_of, put_of, puts_among, all_brought_to, AreAsked, AreKnown, swept};
+ghost use Rattle.cq_shard.specs.Calls.{StandsOnLent, NotesLent, cost_of, StandsOnWithAll, NotesAll, cost_of_all};
+ghost use Rattle.cq_shard.specs.Shard.{fresh_shard, IsSameShard, all_brought_to, AreAsked, AreKnown, swept};
 
 use crate::applying::{Part, add_work, puts_in};
 use crate::indexed::Indexed;
@@ -36,7 +37,7 @@ impl Shard {
     /// The shard of this number, from 0, which has applied nothing. It takes no memory.
     pub fn new(alloc: Global, shard: u32, shards: u32) -> Shard
         requires { shard < shards }
-        ensures { result ≡ record { shard = shard; shards = shards; applied = 0; floor = 0; puts = []; entries = [] } }
+        ensures { result ≡ fresh_shard shard shards }
     {
         Shard {
             shard,
@@ -73,13 +74,14 @@ impl Shard {
     ) -> Result<(), Memory>
         requires next { change ≡ self.old.applied + 1 }
         requires few { IfSome work (λ w. length (W.keys_in w.now) < 2 ^ 32) }
-        ensures stands { OnOk result (StandsOnWith W.keys_in W.IsWorkOf change (option_copied work.entry) self.old self.new) }
+        ensures stands { OnOk result (StandsOnLent W.Indexed change work.entry self.old self.new) }
         ensures applied { OnOk result (self.new.applied ≡ change) }
         ensures kept { OnOk result (IsSameShard self.old self.new) }
-        ensures noted { OnOk result (self.new.puts ≡ self.old.puts ++ put_of change (option_copied work.entry)) }
+        ensures noted { OnOk result (NotesLent change work.entry self.old.puts self.new.puts) }
         ensures same { OnErr result (self.new ≡ self.old) }
-        ensures steps { OnOk result (steps.new ≡ steps.old + cost_of W.keys_in self.old change (option_copied work.entry)) }
-        ensures most { steps.new ≤ steps.old + cost_of W.keys_in self.old change (option_copied work.entry) }
+        ensures steps { OnOk result
+            (steps.new ≡ steps.old + cost_of W.keys_in self.old change work.entry) }
+        ensures most { steps.new ≤ steps.old + cost_of W.keys_in self.old change work.entry }
     {
         applying_adds_its_rows::<W>();
         let part = Part {
@@ -102,13 +104,14 @@ impl Shard {
     ) -> Result<(), Memory>
         requires room { self.old.applied + length works.now < 2 ^ 64 }
         requires part { part.items ≡ all_brought_to W.keys_in self.old works.now }
-        ensures stands { OnOk result (StandsOnWithAll W.keys_in W.IsWorkOf works.now self.old self.new) }
+        ensures stands { OnOk result (StandsOnWithAll W.Indexed works.now self.old self.new) }
         ensures applied { OnOk result (self.new.applied ≡ self.old.applied + length works.now) }
         ensures kept { OnOk result (IsSameShard self.old self.new) }
-        ensures noted { OnOk result (self.new.puts ≡ self.old.puts ++ puts_among self.old.applied works.now) }
+        ensures noted { OnOk result (NotesAll works.now self.old self.new) }
         ensures same { OnErr result (self.new ≡ self.old) }
-        ensures steps { OnOk result (steps.new ≡ steps.old + length (all_brought_to W.keys_in self.old works.now)) }
-        ensures most { steps.new ≤ steps.old + length (all_brought_to W.keys_in self.old works.now) }
+        ensures steps { OnOk result
+            (steps.new ≡ steps.old + cost_of_all W.keys_in self.old works.now) }
+        ensures most { steps.new ≤ steps.old + cost_of_all W.keys_in self.old works.now }
     {
         applying_adds_its_rows::<W>();
         let before = self.store.applied();

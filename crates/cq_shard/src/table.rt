@@ -1,6 +1,7 @@
-ghost use Rattle.std.specs.Prelude.{◌≡◌, ◌+◌, ◌<◌, ◌≤◌, ◌++◌, [], length, take, drop, OnOk, OnErr};
+ghost use Rattle.std.specs.Prelude.{◌≡◌, ◌+◌, ◌<◌, ◌≤◌, ◌++◌, [], length, take, OnOk, OnErr};
 ghost use Rattle.std.specs.List.{copy_within};
 ghost use Rattle.std.specs.List.Sorted.{IsStrictlyIncreasing};
+ghost use Rattle.cq_shard.specs.Calls.{ClosesUp};
 ghost use Rattle.cq_shard.specs.Stores.{those_of};
 ghost use Rattle.cq_shard.specs.Tables.{IsTable, IsUpTo, IsPart, is_among, staying, AreAmong, AreAlikeInFront, AreAlikeUpTo};
 
@@ -126,7 +127,7 @@ fn close_up(changes: &mut Vec<u64>, sizes: &mut Vec<u64>, keep: &[u64], number: 
     requires within { length keep.now + number ≤ length changes.old.items }
     requires part { IsPart (take (length keep.now + number) changes.old.items) keep.now number }
     ensures sized { length changes.new.items ≤ length sizes.new.items }
-    ensures left { changes.new.items ≡ keep.now ++ drop (length keep.now + number) changes.old.items }
+    ensures left { ClosesUp keep.now number changes.old.items changes.new.items }
 {
     let mut at = 0;
     let mut taken = 0u64;

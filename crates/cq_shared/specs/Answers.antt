@@ -1,20 +1,20 @@
 -- What each call of a shared hub answers, and what it asks for.
-use Rattle.std.specs.Prelude.{◌≡◌, ℕ, List, [], ◌∷◌, Result, IfOk, Option, MatchOption}
+use Rattle.std.specs.Prelude.{◌≡◌, ℕ, ◌<◌, List, [], ◌∷◌, Result, IfOk, Option, MatchOption, Vec}
 use Rattle.std.specs.Arc.{arc_value}
 use Rattle.std.specs.declared.sync.Arc.{Arc}
 use Rattle.std.specs.declared.alloc.Global.{Global}
 use Rattle.cq_base.specs.declared.lang.Lang.{Lang}
-use Rattle.cq_base.specs.declared.entry.Entry.{Entry}
 use Rattle.cq_base.specs.declared.change.Change.{Change}
+use Rattle.cq_base.specs.declared.entry.Entry.{Entry}
+use Rattle.cq_base.specs.declared.memory.Memory.{Memory}
 use Rattle.cq_base.specs.declared.settings.Settings.{Settings}
-use Rattle.cq_clones.specs.Lists.{AreAllInOrder}
-use Rattle.cq_clones.specs.Windows.{EntryBefore}
 use Rattle.cq_history.specs.declared.event.Event.TheVariants as event
 use Rattle.cq_history.specs.Changes.{IsWorkFor}
+use Rattle.cq_history.specs.Gone.{AreKeptPuts}
 use Rattle.cq_history.specs.State.{accepted, slot_of, IsAccepted, IsDone, IsUndone, IsTakenBy}
+use Rattle.cq_shard.specs.declared.indexed.Indexed.{Ghosts}
 use Rattle.cq_shard.specs.Shard.{HasWindow}
-use Rattle.cq_board.specs.Answers.{asked_of}
-use Rattle.cq_board.specs.Entries.{IsEntryAt}
+use Rattle.cq_board.specs.Answers.{asked_of, greatest_floor}
 use Rattle.cq_board.specs.declared.answers.Asked.{Asked}
 use Rattle.cq_board.specs.declared.answers.Job.{Job}
 use Rattle.cq_board.specs.declared.answers.Refused.{Refused}
@@ -22,7 +22,7 @@ use Rattle.cq_board.specs.declared.listing.View.{View}
 use Rattle.cq_cells.specs.Passes.{by_of}
 use Rattle.cq_chain.specs.Passes.{BoardPass}
 use Rattle.cq_hub.specs.Hubs.{Extends, HasSeen, Never}
-use Rattle.cq_hub.specs.Says.{IsAcceptedAs, IsRefusedFor, IsFirstFree, IsNoneFree}
+use Rattle.cq_hub.specs.Says.{IsAcceptedAs, IsRefusedFor, IsFirstFree, IsNoneFree, IsJobFor, HasPublished, HasGreatestFloor, AreEntriesWith}
 use Rattle.cq_hub.specs.Views.{IsLatest, IsOpen}
 use Rattle.cq_shared.specs.declared.shared.Shared.{Shared}
 use Rattle.cq_shared.specs.SharedPasses.{SharedStands, settings_of, callers_of, state_of}
@@ -50,6 +50,10 @@ module _ {W R : Type 0} (hub : Shared W R) (p q : BoardPass) where
       MatchOption job (Calls hub p q [] (λ mid. IsNoneFree (state_of hub mid)))
       (λ j. Calls hub p q (event.Took (by_of p) j.change ∷ []) (λ mid. IsFirstFree (state_of hub mid) j))
 
+  -- where there is an answer, it is the job of the change, or none where that is done
+  abbrev pub FindsJob : ℕ → Result (Option Job) Memory → Type 0
+  FindsJob change result = Calls hub p q [] (λ mid. IfOk result (IsJobFor (state_of hub mid) change))
+
   -- the caller had the change, undone, and gave it back, or it didn't have it
   abbrev pub GivesBack : ℕ → Type 0
   GivesBack change = Calls hub p q (event.Back (by_of p) change ∷ []) (λ mid. IsTakenBy (state_of hub mid) change (by_of p))
@@ -64,13 +68,29 @@ module _ {W R : Type 0} (hub : Shared W R) (p q : BoardPass) where
   abbrev pub FindsDone : ℕ → Type 0
   FindsDone change = Calls hub p q [] (λ mid. IsDone (state_of hub mid) change)
 
+  -- where there is an answer, it is the last published version, and at least this one
+  abbrev pub Publishes : ℕ → Result ℕ Memory → Type 0
+  Publishes to result = Calls hub p q [] (λ mid. IfOk result (HasPublished (state_of hub mid) to))
+
   -- the caller opened this view, which is of the last published version
   abbrev pub Opens : (Settings → Lang → List ℕ → W → Type 0) → View W → Type 0
   Opens IsWorkOf view = Calls hub p q (event.Open (by_of p) view.version ∷ []) (λ mid. IsLatest (IsWorkOf (settings_of hub)) (state_of hub mid) view)
 
+  -- where there is an answer, its items are the entries with the key in all files of the view's version, by change and place
+  abbrev pub Reads : Ghosts W → View W → ℕ → Result (Vec Entry Global) Memory → Type 0
+  Reads of view key result =
+      Calls hub p q [] (λ mid. IfOk result (λ entries. AreEntriesWith (HasWindow of.keys_in of.IsWorkOf (settings_of hub)) (accepted mid) view.version key entries.items))
+
   -- the caller shut its view
   abbrev pub Shuts : Type 0
   Shuts = Calls hub p q (event.Shut (by_of p) ∷ []) (λ _. Unit {0})
+
+  -- the floor is the least of the published version and the open ones, and where there is an answer, it is that floor
+  abbrev pub RaisesFloor : Type 0
+  RaisesFloor = Calls hub p q [] (λ mid. (state_of hub mid).floor ≡ greatest_floor (state_of hub mid))
+
+  abbrev pub Sweeps : Result ℕ Memory → Type 0
+  Sweeps result = Calls hub p q [] (λ mid. HasGreatestFloor (state_of hub mid) result)
 
   -- the same as the trait of hubs says it
   abbrev pub ExtendsByDone : ℕ → Type 0
@@ -93,7 +113,6 @@ module _ {W R : Type 0} (hub : Shared W R) (p : BoardPass) where
   HasSeenItsWork IsWorkOf change work =
       HasSeen SharedStands hub p (λ _ h. IsAccepted (state_of hub h) change × IsWorkFor (IsWorkOf (settings_of hub)) (slot_of (state_of hub h) change).change (arc_value work))
 
--- where there is an answer, its items are the entries with the key in all files of the version, by change and place
-abbrev pub Reads : {W R V E : Type 0} → Shared W R → BoardPass → BoardPass → Result V E → (V → List Entry) → (W → List ℕ) → (Settings → Lang → List ℕ → W → Type 0) → ℕ → ℕ → Type 0
-Reads hub p q answer items keys_in IsWorkOf version key =
-    Calls hub p q [] (λ mid. IfOk answer (λ v. AreAllInOrder EntryBefore (IsEntryAt (HasWindow keys_in IsWorkOf (settings_of hub)) (accepted mid) version key) (items v)))
+-- a floor, and, where it is above another one, the puts that it keeps of what the pass has seen
+abbrev pub KeepsAbove : ℕ → BoardPass → ℕ × List ℕ → Type 0
+KeepsAbove above p kept = above < kept.0 → AreKeptPuts (accepted p.seen) kept.0 kept.1

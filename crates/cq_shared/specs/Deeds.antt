@@ -1,5 +1,5 @@
 -- The events of a caller, but for the acceptances.
-use Rattle.std.specs.Prelude.{ℕ, List, [], ◌∷◌, Option, Some, None, option_to_list}
+use Rattle.std.specs.Prelude.{ℕ, List, [], ◌∷◌, ◌++◌, Option, Some, None, option_to_list}
 use Rattle.cq_base.specs.declared.change.Change.{Change}
 use Rattle.cq_history.specs.declared.event.Event.{Event}
 use Rattle.cq_history.specs.declared.event.Event.TheVariants as event
@@ -37,3 +37,11 @@ acceptance p change = event.Accept (by_of p) change ∷ []
 -- the event of the pass's caller, if there is one
 abbrev pub events_of : BoardPass → Deed → List Event
 events_of p deed = option_to_list (event_of (by_of p) deed)
+
+-- what the pass has seen, and its caller's event behind that
+abbrev pub seen_with : BoardPass → Deed → List Event
+seen_with p deed = p.seen ++ events_of p deed
+
+-- what it has seen, and its caller's acceptance of a change
+abbrev pub seen_accepting : BoardPass → Change → List Event
+seen_accepting p change = p.seen ++ acceptance p change

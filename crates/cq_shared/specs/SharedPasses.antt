@@ -1,12 +1,13 @@
 -- What a shared hub and its passes are, and for which histories a pass stands.
-use Rattle.std.proofs.Common.{◌≡◌, ℕ, ◌<◌, List, drop, subst}
-use Rattle.std.specs.Prelude.{All}
+use Rattle.std.proofs.Common.{◌≡◌, ℕ, ◌+◌, ◌-◌, ◌<◌, ◌≤◌, List, [], ◌∷◌, drop, subst}
+use Rattle.std.specs.Prelude.{◌⊎◌, All}
+use mathlib.Core.List.{IsPrefix}
 use Rattle.cq_base.specs.declared.settings.Settings.{Settings}
 use Rattle.cq_base.specs.Changes.{IsSoundChange}
 use Rattle.cq_history.specs.declared.event.Event.{Event}
 use Rattle.cq_history.specs.State.{State, state, accepted}
 use Rattle.cq_history.specs.Lawful.{Lawful}
-use Rattle.cq_cells.specs.Passes.{IsFree, by_of}
+use Rattle.cq_cells.specs.Passes.{IsFree, by_of, least}
 use Rattle.cq_chain.specs.declared.about.About.{About}
 use Rattle.cq_chain.specs.Passes as chain
 use Rattle.cq_chain.specs.Passes.{BoardCells, BoardPass}
@@ -31,6 +32,10 @@ module _ {W R : Type 0} where
   -- the state that a history of it leaves
   abbrev pub state_of : Shared W R → List Event → State
   state_of hub h = state (callers_of hub) h
+
+  -- each shard has applied so many changes, as far as the pass knows
+  abbrev pub HaveApplied : Shared W R → BoardPass → ℕ → Type 0
+  HaveApplied hub p to = (s : ℕ) → s < (settings_of hub).shards → to ≤ least p s
 
   -- the pass is of this hub, which has some shards, and holds no cell of it
   pub record IsPassOf (hub : Shared W R) (p : BoardPass) : Type 0 where
@@ -61,3 +66,19 @@ asked_by p = p.asked
 -- the callers that ended in the pass
 abbrev pub ended_in : BoardPass → List ℕ
 ended_in p = drop 1 p.callers
+
+-- the shards from one on and before another have applied so many changes, as far as the pass knows
+abbrev pub HaveAppliedBetween : ℕ → ℕ → BoardPass → ℕ → Type 0
+HaveAppliedBetween from until p to = (s : ℕ) → from ≤ s → s < until → to ≤ least p s
+
+-- the pass, where the next caller is made
+abbrev pub with_child : BoardPass → BoardPass
+with_child p = record p { next = p.next + 1; room = p.room - 1 }
+
+-- the pass of that caller, which has seen the same, and has asked for no bucket
+abbrev pub child_of : BoardPass → BoardPass
+child_of p = record p { callers = p.next ∷ []; next = 0; room = 0; asked = 0 }
+
+-- one of two histories begins with the other
+abbrev pub AreOneHistory : List Event → List Event → Type 0
+AreOneHistory h other = IsPrefix h other ⊎ IsPrefix other h

@@ -1,11 +1,11 @@
-ghost use Rattle.std.specs.Prelude.{◌≡◌, ◌+◌, ◌-◌, ◌<◌, ◌≤◌, ◌^◌, ℕ, true, [], length, All, IfOk, IfSome, OnOk, OnErr};
-ghost use Rattle.std.specs.Arc.{arc_value};
+ghost use Rattle.std.specs.Prelude.{◌≡◌, ◌+◌, ◌<◌, ◌≤◌, ◌^◌, ℕ, true, [], length, IfOk, OnOk, OnErr};
 ghost use Rattle.cq_history.specs.State.{ready};
 ghost use Rattle.cq_cells.specs.Passes.{IsSameCaller, least};
-ghost use Rattle.cq_shard.specs.Shard.{IsSameShard};
-ghost use Rattle.cq_shared.specs.Advancing.{HasWorksFrom, HasPublished, StandsWithWorks};
+ghost use Rattle.cq_shard.specs.Shard.{HaveFewKeys, IsSameShard};
+ghost use Rattle.cq_shared.specs.Advancing.{HasWorksFrom, HasWorksUpTo, StandsAfter, GoesFurther};
+ghost use Rattle.cq_shared.specs.Answers.{Publishes};
 ghost use Rattle.cq_shared.specs.Calls.{Calls};
-ghost use Rattle.cq_shared.specs.SharedPasses.{IsPassOf, settings_of, state_of};
+ghost use Rattle.cq_shared.specs.SharedPasses.{IsPassOf, HaveApplied, HaveAppliedBetween, settings_of, state_of};
 
 use crate::deed::Deed;
 use crate::shared::Shared;
@@ -39,7 +39,7 @@ impl<W: Indexed, R: Wait> Shared<W, R> {
     ) -> Result<u64, Memory>
         requires of { IsPassOf self.now pass.old }
         requires done { to ≤ ready (state_of self.now pass.old.seen) }
-        ensures published { Calls self.now pass.old pass.new [] (λ mid. IfOk result (HasPublished (state_of self.now mid) to)) }
+        ensures published { Publishes self.now pass.old pass.new to result }
         ensures asked { pass.new.asked ≡ pass.old.asked }
     {
         let (base, works) = self.works_up_to(alloc, to, pass)?;
@@ -62,7 +62,7 @@ impl<W: Indexed, R: Wait> Shared<W, R> {
         requires done { to ≤ ready (state_of self.now pass.old.seen) }
         ensures calls { Calls self.now pass.old pass.new [] (λ _. Unit {0}) }
         ensures base { IfOk result (λ r. r.0 ≡ (state_of self.now pass.new.seen).published) }
-        ensures works { IfOk result (λ r. HasWorksFrom self.now pass.new W.keys_in W.IsWorkOf r.0 to r.1.items) }
+        ensures works { IfOk result (HasWorksUpTo self.now pass.new W.Indexed to) }
         ensures asked { pass.new.asked ≡ pass.old.asked }
     {
         let mut board = self.cells.enter_board(pass);
@@ -87,10 +87,10 @@ impl<W: Indexed, R: Wait> Shared<W, R> {
         requires of { IsPassOf self.now pass.old }
         requires base { (base < to) × (base ≤ (state_of self.now pass.old.seen).published) }
         requires done { to ≤ ready (state_of self.now pass.old.seen) }
-        requires works { HasWorksFrom self.now pass.old W.keys_in W.IsWorkOf base to works.now.items }
+        requires works { HasWorksFrom self.now pass.old W.Indexed base to works.now.items }
         ensures of { IsPassOf self.now pass.new × IsSameCaller pass.old pass.new }
         ensures seen { pass.new.seen ≡ pass.old.seen }
-        ensures applied { OnOk result ((s : ℕ) → s < (settings_of self.now).shards → to ≤ least pass.new s) }
+        ensures applied { OnOk result (HaveApplied self.now pass.new to) }
     {
         let first = first_shard(pass.by(), self.shards);
         if pass.by() % 2 == 0 {
@@ -117,11 +117,11 @@ impl<W: Indexed, R: Wait> Shared<W, R> {
         requires until { until ≤ (settings_of self.now).shards }
         requires base { (base < to) × (base ≤ (state_of self.now pass.old.seen).published) }
         requires done { to ≤ ready (state_of self.now pass.old.seen) }
-        requires works { HasWorksFrom self.now pass.old W.keys_in W.IsWorkOf base to works.now.items }
+        requires works { HasWorksFrom self.now pass.old W.Indexed base to works.now.items }
         ensures of { IsPassOf self.now pass.new × IsSameCaller pass.old pass.new }
         ensures seen { pass.new.seen ≡ pass.old.seen }
         ensures more { (s : ℕ) → least pass.old s ≤ least pass.new s }
-        ensures applied { OnOk result ((s : ℕ) → from ≤ s → s < until → to ≤ least pass.new s) }
+        ensures applied { OnOk result (HaveAppliedBetween from until pass.new to) }
     {
         let mut low = from;
         let mut high = until;
@@ -151,7 +151,7 @@ impl<W: Indexed, R: Wait> Shared<W, R> {
         requires number { number < (settings_of self.now).shards }
         requires base { (base < to) × (base ≤ (state_of self.now pass.old.seen).published) }
         requires done { to ≤ ready (state_of self.now pass.old.seen) }
-        requires works { HasWorksFrom self.now pass.old W.keys_in W.IsWorkOf base to works.now.items }
+        requires works { HasWorksFrom self.now pass.old W.Indexed base to works.now.items }
         ensures of { IsPassOf self.now pass.new × IsSameCaller pass.old pass.new }
         ensures seen { pass.new.seen ≡ pass.old.seen }
         ensures more { (s : ℕ) → least pass.old s ≤ least pass.new s }
@@ -178,13 +178,13 @@ impl<W: Indexed, R: Wait> Shared<W, R> {
         requires number { number < (settings_of self.now).shards }
         requires base { (base < to) × (base ≤ (state_of self.now pass.old.seen).published) }
         requires done { to ≤ ready (state_of self.now pass.old.seen) }
-        requires works { HasWorksFrom self.now pass.old W.keys_in W.IsWorkOf base to works.now.items }
+        requires works { HasWorksFrom self.now pass.old W.Indexed base to works.now.items }
         ensures of { IsPassOf self.now pass.new × IsSameCaller pass.old pass.new }
         ensures seen { pass.new.seen ≡ pass.old.seen }
         ensures more { (s : ℕ) → least pass.old s ≤ least pass.new s }
         ensures all { IfOk result (λ all. all ≡ true → to ≤ least pass.new number) }
         ensures first { OnOk result (base + 1 ≤ least pass.new number) }
-        ensures next { OnOk result ((n : ℕ) → n ≤ least pass.old number → n < to → n + 1 ≤ least pass.new number) }
+        ensures next { OnOk result (GoesFurther number to pass.old pass.new) }
     {
         let mut shard = self.cells.enter_shard(number, pass);
         let applied = shard.applied();
@@ -203,8 +203,8 @@ impl<W: Indexed, R: Wait> Shared<W, R> {
     fn publish(&self, alloc: Global, to: u64, pass: &mut Pass<W>) -> Result<u64, Memory>
         requires of { IsPassOf self.now pass.old }
         requires done { to ≤ ready (state_of self.now pass.old.seen) }
-        requires applied { (s : ℕ) → s < (settings_of self.now).shards → to ≤ least pass.old s }
-        ensures published { Calls self.now pass.old pass.new [] (λ mid. IfOk result (HasPublished (state_of self.now mid) to)) }
+        requires applied { HaveApplied self.now pass.old to }
+        ensures published { Publishes self.now pass.old pass.new to result }
         ensures asked { pass.new.asked ≡ pass.old.asked }
     {
         let mut board = self.cells.enter_board(pass);
@@ -252,8 +252,8 @@ fn first_shard(caller: u32, shards: u32) -> u32
 fn apply_next<W: Indexed>(shard: &mut Shard, work: &[Option<Arc<W, Global>>]) -> Result<(), Memory>
     requires one { length work.now ≡ 1 }
     requires room { shard.old.applied + 1 < 2 ^ 64 }
-    requires few { All (λ work. IfSome work (λ w. length (W.keys_in (arc_value w)) < 2 ^ 32)) work.now }
-    ensures stands { StandsWithWorks W.keys_in W.IsWorkOf shard.old work.now (OnOk result) shard.new }
+    requires few { HaveFewKeys W.keys_in work.now }
+    ensures stands { StandsAfter W.Indexed shard.old work.now (OnOk result) shard.new }
     ensures applied { OnOk result (shard.new.applied ≡ shard.old.applied + 1) }
     ensures kept { OnOk result (IsSameShard shard.old shard.new) }
     ensures same { OnErr result (shard.new ≡ shard.old) }
@@ -271,8 +271,8 @@ fn apply_counted<W: Indexed, L: Ledger>(
     requires parts { blank.parts ≡ L.parts }
     requires one { length work.now ≡ 1 }
     requires room { shard.old.applied + 1 < 2 ^ 64 }
-    requires few { All (λ work. IfSome work (λ w. length (W.keys_in (arc_value w)) < 2 ^ 32)) work.now }
-    ensures stands { StandsWithWorks W.keys_in W.IsWorkOf shard.old work.now (OnOk result) shard.new }
+    requires few { HaveFewKeys W.keys_in work.now }
+    ensures stands { StandsAfter W.Indexed shard.old work.now (OnOk result) shard.new }
     ensures applied { OnOk result (shard.new.applied ≡ shard.old.applied + 1) }
     ensures kept { OnOk result (IsSameShard shard.old shard.new) }
     ensures same { OnErr result (shard.new ≡ shard.old) }

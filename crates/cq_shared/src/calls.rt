@@ -1,4 +1,4 @@
-ghost use Rattle.std.specs.Prelude.{◌≡◌, ◌%◌, ◌<◌, ◌≤◌, ℕ, [], ◌∷◌, ◌++◌, IfOk, IfErr, OnErr, IsSome, Option, Some, None};
+ghost use Rattle.std.specs.Prelude.{◌≡◌, ◌%◌, ◌≤◌, IfOk, IfErr, OnErr, IsSome, Option, Some, None};
 ghost use Rattle.std.specs.Bool.{OnTrue, OnFalse};
 ghost use Rattle.cq_base.specs.Changes.{IsSoundChange};
 ghost use Rattle.cq_history.specs.declared.event.Event.{Event as Happened};
@@ -9,11 +9,9 @@ ghost use Rattle.cq_cells.specs.Passes.{IsFree, IsSameCaller, HasBoard, by_of, l
 ghost use Rattle.cq_chain.specs.Held.{IsBoard};
 ghost use Rattle.cq_chain.specs.Passes as chain;
 ghost use Rattle.cq_hub.specs.Hubs.{one_more};
-ghost use Rattle.cq_hub.specs.Says.{IsJobFor};
-ghost use Rattle.cq_shared.specs.Answers.{SeesMore, IsTold, Accepts, Refuses, Takes, GivesBack, HasNot, Does, FindsDone, Opens, Shuts, IsItsWork, IsViewing, Reads};
-ghost use Rattle.cq_shared.specs.Calls.{Calls};
-ghost use Rattle.cq_shared.specs.Deeds.{event_of, events_of, acceptance, asks_of};
-ghost use Rattle.cq_shared.specs.SharedPasses.{IsPassOf, cells_of, about_of, settings_of, state_of};
+ghost use Rattle.cq_shared.specs.Answers.{SeesMore, IsTold, Accepts, Refuses, Takes, FindsJob, GivesBack, HasNot, Does, FindsDone, Opens, Shuts, IsItsWork, IsViewing, Reads};
+ghost use Rattle.cq_shared.specs.Deeds.{event_of, seen_with, seen_accepting, asks_of};
+ghost use Rattle.cq_shared.specs.SharedPasses.{IsPassOf, HaveApplied, cells_of, about_of, settings_of, state_of};
 
 use crate::deed::Deed;
 use crate::shared::Shared;
@@ -32,12 +30,12 @@ impl<W: Indexed, R> Shared<W, R> {
         requires event { event ≡ event_of (by_of pass.old) deed }
         requires of { chain.IsPassOf (cells_of self.now) pass.old }
         requires hand { (b : BoardState) × HasBoard pass.old b }
-        requires applied { (s : ℕ) → s < (settings_of self.now).shards → asks_of deed ≤ least pass.old s }
-        requires board { IsBoard (about_of self.now) (pass.old.seen ++ events_of pass.old deed) board }
+        requires applied { HaveApplied self.now pass.old (asks_of deed) }
+        requires board { IsBoard (about_of self.now) (seen_with pass.old deed) board }
         ensures of { chain.IsPassOf (cells_of self.now) pass.new }
         ensures same { IsSameCaller pass.old pass.new }
         ensures free { IsFree pass.new }
-        ensures seen { pass.new.seen ≡ pass.old.seen ++ events_of pass.old deed }
+        ensures seen { pass.new.seen ≡ seen_with pass.old deed }
     {
         let _deed = deed;
         self.cells.leave_board(board, pass);
@@ -49,11 +47,12 @@ impl<W: Indexed, R> Shared<W, R> {
         requires event { event ≡ Some (happened.Accept (by_of pass.old) change.now.value) }
         requires of { chain.IsPassOf (cells_of self.now) pass.old }
         requires hand { (b : BoardState) × HasBoard pass.old b }
-        requires board { IsBoard (about_of self.now) (pass.old.seen ++ acceptance pass.old change.now.value) board }
+        requires board { IsBoard (about_of self.now)
+            (seen_accepting pass.old change.now.value) board }
         ensures of { chain.IsPassOf (cells_of self.now) pass.new }
         ensures same { IsSameCaller pass.old pass.new }
         ensures free { IsFree pass.new }
-        ensures seen { pass.new.seen ≡ pass.old.seen ++ acceptance pass.old change.now.value }
+        ensures seen { pass.new.seen ≡ seen_accepting pass.old change.now.value }
     {
         self.cells.leave_board(board, pass);
     }
@@ -125,7 +124,7 @@ impl<W: Indexed, R: Wait> Shared<W, R> {
     pub fn job(&self, change: u64, pass: &mut Pass<W>) -> Result<Option<Job>, Memory>
         requires of { IsPassOf self.now pass.old }
         requires accepted { IsAccepted (state_of self.now pass.old.seen) change }
-        ensures job { Calls self.now pass.old pass.new [] (λ mid. IfOk result (IsJobFor (state_of self.now mid) change)) }
+        ensures job { FindsJob self.now pass.old pass.new change result }
         ensures asked { pass.new.asked ≡ pass.old.asked }
     {
         let board = self.cells.enter_board(pass);
@@ -221,7 +220,7 @@ impl<W: Indexed, R: Wait> Shared<W, R> {
     ) -> Result<Vec<Entry>, Memory>
         requires of { IsPassOf self.now pass.old }
         requires viewing { IsViewing self.now pass.old W.IsWorkOf view.now }
-        ensures reads { Reads self.now pass.old pass.new result (λ v. v.items) W.keys_in W.IsWorkOf view.now.version key }
+        ensures reads { Reads self.now pass.old pass.new W.Indexed view.now key result }
         ensures reached { view.now.version ≤ least pass.new (key % (settings_of self.now).shards) }
         ensures asked { pass.new.asked ≡ one_more pass.old.asked }
     {

@@ -1,13 +1,10 @@
-ghost use Rattle.std.specs.Prelude.{◌≡◌, ◌⊎◌, ◌+◌, ◌-◌, ◌<◌, ◌≤◌, ◌^◌, [], ◌∷◌, ◌++◌, IfOk, IsSome};
-ghost use mathlib.Core.List.{IsPrefix};
+ghost use Rattle.std.specs.Prelude.{◌≡◌, ◌-◌, ◌<◌, ◌≤◌, ◌^◌, [], ◌++◌, IfOk};
 ghost use Rattle.cq_cells.specs.Callers.{longer};
 ghost use Rattle.cq_cells.specs.Passes.{by_of};
 ghost use Rattle.cq_chain.specs.Passes.{IsOwn, HasNoneFrom};
-ghost use Rattle.cq_history.specs.declared.event.Event.TheVariants as event;
-ghost use Rattle.cq_history.specs.State.{view_of};
-ghost use Rattle.cq_hub.specs.Hubs.{Extends, HasSeen, Never};
+ghost use Rattle.cq_hub.specs.Answers.{HasViewOpen, Shuts};
 ghost use Rattle.cq_shared.specs.Answers.{HasSeenItsWork, ExtendsByDone, ExtendsWhereDone};
-ghost use Rattle.cq_shared.specs.SharedPasses.{IsPassOf, SharedStands, cells_of, settings_of, callers_of, state_of, asked_by};
+ghost use Rattle.cq_shared.specs.SharedPasses.{IsPassOf, SharedStands, AreOneHistory, cells_of, settings_of, callers_of, with_child, child_of, asked_by};
 
 use cq_base::{Change, Entry, Memory, Settings};
 use cq_board::{Asked, Board, Finished, Job, Refused, View};
@@ -71,8 +68,8 @@ impl<W: Indexed, R> Shared<W, R> {
         requires of { IsPassOf self.now pass.old }
         requires room { 0 < pass.old.room }
         ensures of { IsPassOf self.now pass.new × IsPassOf self.now result }
-        ensures same { pass.new ≡ record pass.old { next = pass.old.next + 1; room = pass.old.room - 1 } }
-        ensures child { result ≡ record pass.old { callers = pass.old.next ∷ []; next = 0; room = 0; asked = 0 } }
+        ensures same { pass.new ≡ with_child pass.old }
+        ensures child { result ≡ child_of pass.old }
     {
         self.cells.split_pass(pass)
     }
@@ -83,7 +80,7 @@ impl<W: Indexed, R> Shared<W, R> {
         requires of { IsPassOf self.now pass.old × IsPassOf self.now other }
         ensures of { IsPassOf self.now pass.new }
         ensures seen { pass.new.seen ≡ longer pass.old.seen other.seen }
-        ensures one_history { IsPrefix pass.old.seen other.seen ⊎ IsPrefix other.seen pass.old.seen }
+        ensures one_history { AreOneHistory pass.old.seen other.seen }
         ensures callers { pass.new.callers ≡ pass.old.callers ++ other.callers }
         ensures room { (pass.new.next ≡ pass.old.next) × (pass.new.room ≡ pass.old.room) }
         ensures own { IsOwn pass.old pass.new.seen × IsOwn other pass.new.seen }
@@ -138,7 +135,8 @@ impl<W: Indexed, R: Wait> Hub<W> for Shared<W, R> {
     fn finish(&self, change: u64, work: Arc<W, Global>, pass: &mut Pass<W>) -> Finished
         requires work { HasSeenItsWork self.now pass.old W.IsWorkOf change work }
         ensures done { result ≡ Finished.Done → ExtendsByDone self.now pass.old pass.new change }
-        ensures already { result ≡ Finished.Already → ExtendsWhereDone self.now pass.old pass.new change }
+        ensures already { result ≡ Finished.Already
+            → ExtendsWhereDone self.now pass.old pass.new change }
         ensures asked { asked_by pass.new ≡ asked_by pass.old }
     {
         self.finish(change, work, pass)
@@ -169,8 +167,8 @@ impl<W: Indexed, R: Wait> Hub<W> for Shared<W, R> {
     }
 
     fn close_view(&self, view: View<W>, pass: &mut Pass<W>)
-        requires viewing { HasSeen SharedStands self.now pass.old (λ c h. IsSome (view_of (state_of self.now h) c)) }
-        ensures shut { Extends SharedStands ⊥ Never self.now pass.old pass.new (λ c. event.Shut c ∷ []) (λ _ _. Unit {0}) }
+        requires viewing { HasViewOpen SharedStands settings_of callers_of self.now pass.old }
+        ensures shut { Shuts SharedStands ⊥ settings_of callers_of self.now pass.old pass.new }
         ensures asked { asked_by pass.new ≡ asked_by pass.old }
     {
         self.close_view(view, pass)

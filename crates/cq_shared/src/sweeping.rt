@@ -1,10 +1,9 @@
-ghost use Rattle.std.specs.Prelude.{◌≡◌, ◌<◌, [], IfOk};
+ghost use Rattle.std.specs.Prelude.{◌≡◌, ◌<◌, IfOk};
 ghost use Rattle.cq_history.specs.Gone.{AreKeptPuts};
-ghost use Rattle.cq_history.specs.State.{accepted, changes_in};
-ghost use Rattle.cq_board.specs.Answers.{greatest_floor};
+ghost use Rattle.cq_history.specs.State.{accepted};
+ghost use Rattle.cq_board.specs.Calls.{KeepsPuts};
 ghost use Rattle.cq_cells.specs.Passes.{IsSameCaller};
-ghost use Rattle.cq_hub.specs.Says.{HasGreatestFloor};
-ghost use Rattle.cq_shared.specs.Calls.{Calls};
+ghost use Rattle.cq_shared.specs.Answers.{RaisesFloor, KeepsAbove, Sweeps};
 ghost use Rattle.cq_shared.specs.SharedPasses.{IsPassOf, settings_of, state_of};
 
 use crate::deed::Deed;
@@ -25,7 +24,7 @@ impl<W: Indexed, R: Wait> Shared<W, R> {
     /// shard is swept. The listing that has those puts' numbers has an owner more until all shards are swept.
     pub fn sweep(&self, alloc: Global, pass: &mut Pass<W>) -> Result<u64, Memory>
         requires of { IsPassOf self.now pass.old }
-        ensures swept { Calls self.now pass.old pass.new [] (λ mid. HasGreatestFloor (state_of self.now mid) result) }
+        ensures swept { Sweeps self.now pass.old pass.new result }
         ensures asked { pass.new.asked ≡ pass.old.asked }
     {
         let above = self.swept.load(Ordering::SeqCst);
@@ -48,9 +47,9 @@ impl<W: Indexed, R: Wait> Shared<W, R> {
         pass: &mut Pass<W>,
     ) -> Result<(u64, Keep<W>), Memory>
         requires of { IsPassOf self.now pass.old }
-        ensures calls { Calls self.now pass.old pass.new [] (λ mid. (state_of self.now mid).floor ≡ greatest_floor (state_of self.now mid)) }
+        ensures calls { RaisesFloor self.now pass.old pass.new }
         ensures floor { IfOk result (λ r. r.0 ≡ (state_of self.now pass.new.seen).floor) }
-        ensures keep { IfOk result (λ r. above < r.0 → AreKeptPuts (accepted pass.new.seen) r.0 r.1) }
+        ensures keep { IfOk result (KeepsAbove above pass.new) }
         ensures asked { pass.new.asked ≡ pass.old.asked }
     {
         let mut board = self.cells.enter_board(pass);
@@ -95,7 +94,7 @@ impl<W: Indexed, R: Wait> Shared<W, R> {
 
 // The puts that the board's floor keeps. Where it is no higher than another one, nothing is looked for, and no memory taken.
 fn keep_above<W: Indexed>(alloc: Global, board: &Board<W>, above: u64) -> Result<Keep<W>, Memory>
-    ensures { IfOk result (λ keep. above < board.now.state.floor → AreKeptPuts (changes_in board.now.state) board.now.state.floor keep) }
+    ensures { IfOk result (λ keep. above < board.now.state.floor → KeepsPuts board.now.state keep) }
 {
     if board.floor() <= above {
         return Ok(Keep::new(alloc));
