@@ -7,3 +7,5 @@ mod holding;
 mod meeting;
 #[cfg(test)]
 mod serving;
+#[cfg(test)]
+mod turning;

@@ -11,6 +11,3 @@ pub use answers::Turn;
 pub use bell::{Bell, RingingGate};
 pub use taking::turn;
 pub use working::work;
-
-#[cfg(test)]
-mod tests;

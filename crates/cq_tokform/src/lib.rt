@@ -32,6 +32,3 @@ pub use laws::{
 pub use numbers::{put_u32, put_u64};
 pub use tokens::{put_token, put_tokens, read_token, read_tokens};
 pub use unread::Unread;
-
-#[cfg(test)]
-mod tests;

@@ -2,12 +2,12 @@ ghost use Rattle.std.specs.Prelude.{◌≡◌, ◌≤◌, length, IfOk};
 ghost use Rattle.cq_base.specs.Settings.{IsInRange};
 ghost use Rattle.cq_base.specs.Changes.{IsSoundChange};
 
-use super::*;
 use cq_base::{Change, Lang, Memory, Settings, Text};
 use cq_board::Refused;
 use cq_hub::{Hub, Solo, SoloPass};
 use cq_io::{Gate, OpenGate};
 use cq_key::{Keyer, plain_key};
+use cq_serve::{Bell, RingingGate, Turn, turn};
 use cq_work::Work;
 use std::alloc::Global;
 use std::marker::Brand;

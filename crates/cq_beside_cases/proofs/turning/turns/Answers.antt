@@ -1,6 +1,6 @@
 use Rattle.std.proofs.Common.{[], ◌∷◌, ◌++◌}
 use Rattle.cq_history.specs.declared.event.Event.TheVariants as event
-use Rattle.cq_serve.proofs.tests.turns.Goals as goal
+use Rattle.cq_beside_cases.proofs.turning.turns.Goals as goal
 
 pub turn-first-requires-clause-stands : goal.turn-first-requires-clause-stands
 turn-first-requires-clause-stands c =

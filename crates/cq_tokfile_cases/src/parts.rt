@@ -1,5 +1,8 @@
-use super::*;
 use cq_base::{Class, Compare, Condition, Metric, Settings};
+use cq_tokform::{
+    put_condition, put_token, read_condition, read_conditions, read_files, read_frame,
+    read_functions, read_head, read_token, read_whole,
+};
 use std::test::*;
 
 const SETTINGS: Settings = Settings {
