@@ -2,6 +2,7 @@ pub mod Leaving
 pub mod Staying
 pub mod NoSplices
 pub mod Splicing
+pub mod HeaderNames
 pub mod Fitting
 pub mod Elements
 pub mod NameScans

@@ -7,6 +7,7 @@ pub mod Texts
 pub mod Unclosed
 pub mod Quoting
 pub mod Headers
+pub mod HeaderNames
 pub mod Punctuators
 pub mod PunctuatorStates
 pub mod C

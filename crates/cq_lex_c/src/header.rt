@@ -1,6 +1,7 @@
 ghost use Rattle.std.specs.Prelude.{◌≡◌};
 ghost use Rattle.cq_munch.specs.Characters.{characters};
 ghost use Rattle.cq_munch.specs.Longest.{LongestAt};
+ghost use Rattle.cq_lex_c.specs.HeaderNames.{HeaderNamesAreEnclosed};
 ghost use Rattle.cq_lex_c.specs.Headers.{IsHeader, header_rest};
 
 use cq_munch::{Machine, Unit, longest_spelling};
@@ -48,3 +49,8 @@ pub(crate) fn longest_header(units: &[Unit]) -> Option<usize>
 {
     longest_spelling(Header::Before, units)
 }
+
+/// A header name is one or more characters in angle brackets or in double quotes, none of them a line feed or what closes it.
+pub fn header_names_are_enclosed()
+    ensures { HeaderNamesAreEnclosed }
+{}

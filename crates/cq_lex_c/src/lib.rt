@@ -21,5 +21,6 @@ mod splice;
 mod text;
 
 pub use faults::only_open_comments_are_faults;
+pub use header::header_names_are_enclosed;
 pub use language::C;
 pub use splice::only_splices_are_left_out;

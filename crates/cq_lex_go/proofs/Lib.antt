@@ -4,4 +4,5 @@ pub mod NameScans
 pub mod Dispatch
 pub mod Blanks
 pub mod Inserting
+pub mod FinalTokens
 pub mod OperatorSteps

@@ -10,5 +10,6 @@ pub mod Ascii
 pub mod Starts
 pub mod Semicolons
 pub mod NoneLost
+pub mod FinalTokens
 pub mod OneKind
 pub mod OperatorStates

@@ -15,3 +15,4 @@ mod semicolon;
 mod words;
 
 pub use language::Go;
+pub use semicolon::semicolons_end_lines;

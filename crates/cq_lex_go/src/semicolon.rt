@@ -1,6 +1,7 @@
 ghost use Rattle.std.specs.Prelude.{◌≡◌, ◌+◌, ◌≤◌, ◌++◌, length, IfOk, IfSome, OnOk};
 ghost use Rattle.std.specs.Str.{bytes_eq};
 ghost use Rattle.cq_munch.specs.Lexed.{TokensFollow};
+ghost use Rattle.cq_lex_go.specs.FinalTokens.{SemicolonsEndLines};
 ghost use Rattle.cq_lex_go.specs.Semicolons as spec;
 
 use cq_base::{Class, Memory, Spelled, Text, Token};
@@ -109,3 +110,9 @@ pub(crate) fn with_semicolons(
     }
     Ok(all)
 }
+
+/// A semicolon is inserted directly behind a token exactly where it is the last one of its line, and a statement may end
+/// with it.
+pub fn semicolons_end_lines()
+    ensures { SemicolonsEndLines }
+{}

@@ -10,3 +10,4 @@ pub mod NameScans
 pub mod Dispatch
 pub mod Blanks
 pub mod Counting
+pub mod TextBlocks

@@ -9,6 +9,7 @@ pub mod Operators
 pub mod OperatorStates
 pub mod Openers
 pub mod Blocks
+pub mod TextBlocks
 pub mod Java
 pub mod Fronts
 pub mod Ascii

@@ -2,6 +2,7 @@ ghost use Rattle.std.specs.Prelude.{◌≡◌};
 ghost use Rattle.cq_munch.specs.Characters.{characters};
 ghost use Rattle.cq_munch.specs.Longest.{LongestAt};
 ghost use Rattle.cq_lex_java.specs.Blocks.{IsTextBlock, block_rest, is_line_end, is_space, opens, opening};
+ghost use Rattle.cq_lex_java.specs.TextBlocks.{TextBlocksAreWritten};
 
 use cq_munch::{Machine, Unit, longest_spelling};
 
@@ -112,3 +113,9 @@ pub(crate) fn longest_text_block(units: &[Unit]) -> Option<usize>
 {
     longest_spelling(Block::Before, units)
 }
+
+/// A text block is exactly three quotes, blanks, a line end, a content in which no three quotes stand but behind a backslash,
+/// and three quotes.
+pub fn text_blocks_are_written()
+    ensures { TextBlocksAreWritten }
+{}

@@ -16,5 +16,6 @@ mod operator;
 mod translation;
 mod words;
 
+pub use block::text_blocks_are_written;
 pub use language::Java;
 pub use translation::escapes_go_by_count;
