@@ -1,4 +1,4 @@
-ghost use Rattle.std.specs.Prelude.{◌≡◌, ◌≤◌, IfOk, length, map, option_map, unwrap_or};
+ghost use Rattle.std.specs.Prelude.{◌≡◌, ◌≤◌, IfOk, length, map, option_copied, unwrap_or};
 ghost use Rattle.std.specs.List.Sorted.{IsNonDecreasingBy};
 ghost use Rattle.cq_normal.specs.Kept.{kept, spans_of};
 ghost use Rattle.cq_normal.specs.Normal as spec;
@@ -16,8 +16,7 @@ pub struct Normal {
 
 /// What a digraph of C stands for, if the spelling is one.
 pub fn meaning(spelling: &[u8]) -> Option<&'static str>
-    ensures { unwrap_or (option_map (λ s. s.now) result) spelling.now
-        ≡ spec.undigraphed spelling.now }
+    ensures { unwrap_or (option_copied result) spelling.now ≡ spec.undigraphed spelling.now }
 {
     match spelling {
         b"<:" => Some("["),
