@@ -1,5 +1,5 @@
 -- Tokens whose texts lie one behind the other.
-use Rattle.std.specs.Prelude.{◌≡◌, ℕ, zero, suc, ◌-◌, ◌≤◌, List, [], ◌∷◌, length, slice_get, sum_by, take, drop, Option, option_map}
+use Rattle.std.specs.Prelude.{ℕ, zero, suc, ◌-◌, ◌≤◌, List, [], ◌∷◌, length, sum_by, take, drop}
 use Rattle.cq_base.specs.declared.norm.Norm.{Norm}
 use Rattle.cq_tokens.specs.declared.seen.Seen.{Seen}
 use Rattle.cq_tokens.specs.declared.packed.Mark.{Mark}
@@ -26,10 +26,6 @@ bytes_between start end bytes = take (end - start) (drop start bytes)
 abbrev pub norms_from : ℕ → List Mark → List ℕ → List Norm
 norms_from start [] bytes = []
 norms_from start (m ∷ marks) bytes = record { lang = m.lang; class = m.class; text = bytes_between start m.end bytes } ∷ norms_from m.end marks bytes
-
--- what is seen is the token at a position, if there is one
-abbrev pub IsSeenAt : List Mark → List ℕ → ℕ → Option Seen → Type 0
-IsSeenAt marks bytes i seen = option_map norm_in seen ≡ slice_get (norms_from 0 marks bytes) i
 
 -- no text ends before it begins, or behind the last byte
 abbrev pub AreEnds : ℕ → List Mark → ℕ → Type 0

@@ -1,4 +1,4 @@
-ghost use Rattle.std.specs.Prelude.{◌≡◌, ◌≤◌, ◌<◌, ◌^◌, ◌↔◌, length, vec_len, IsNone, IfOk};
+ghost use Rattle.std.specs.Prelude.{◌≡◌, ◌≤◌, ◌<◌, ◌^◌, ◌↔◌, length, vec_len, slice_get, option_map, IsNone, IfOk};
 ghost use Rattle.cq_tokens.specs.Packed as spec;
 
 use crate::seen::Seen;
@@ -64,7 +64,8 @@ fn start_at(marks: &[Mark], i: usize) -> u32
 /// The token at `i`, from 0.
 pub(crate) fn seen_at<'a>(marks: &'a [Mark], bytes: &'a [u8], i: usize) -> Option<Seen<'a>>
     requires { spec.AreEnds 0 marks.now (length bytes.now) }
-    ensures token { spec.IsSeenAt marks.now bytes.now i result }
+    ensures token { option_map spec.norm_in result
+        ≡ slice_get (spec.norms_from 0 marks.now bytes.now) i }
     ensures none { IsNone result ↔ (length marks.now ≤ i) }
 {
     if i >= marks.len() {
