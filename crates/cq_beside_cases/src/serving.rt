@@ -61,7 +61,7 @@ fn served<Q: Threads + Wait + Sync, L: Ledger + Send + Sync, S: Source, K: Sink,
     requires few { workers ≤ 64 }
     ensures beside { IfOk result
         (λ end. ServesLines S.Source K.Sink line_of (AreBeside settings.now)
-            settings.now.byte_limit source.old source.new sink.old sink.new end) }
+        settings.now.byte_limit source.old source.new sink.old sink.new end) }
 {
     let of = *settings;
     let key = Box::new(alloc, move |codes: &[u64]| plain_key(&of, codes))?;

@@ -49,8 +49,7 @@ fn measures_in(reply: &Reply) -> &Measures
 
 fn rows_in(reply: &Reply) -> &[FileRow]
     requires { ShowsFiles reply.now }
-    ensures { (rows : List FileRow) (v : ℕ)
-        → reply.now ≡ told.Files rows v → result.now ≡ rows }
+    ensures { (rows : List FileRow) (v : ℕ) → reply.now ≡ told.Files rows v → result.now ≡ rows }
 {
     match reply {
         Reply::Files { files, .. } => files.as_slice(),

@@ -186,9 +186,8 @@ fn min_or(settings: &Settings, value: &Value) -> u32
 }
 
 fn query_of(alloc: Global, settings: &Settings, kind: Kind, value: &Value) -> Result<Query, Memory>
-    requires accepted {
-        spec.why_refused settings.now.chunk (spec.op_asking kind) (view value.now) ≡ None
-    }
+    requires accepted { spec.why_refused settings.now.chunk (spec.op_asking kind) (view value.now)
+        ≡ None }
     ensures query { IfOk result (λ q. q ≡ spec.query_of settings.now.chunk kind (view value.now)) }
     ensures sound { IfOk result (IsSoundQuery settings.now.chunk) }
 {

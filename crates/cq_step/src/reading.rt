@@ -30,9 +30,8 @@ fn by_of(value: &Value) -> u32
 }
 
 fn shard_of(settings: &Settings, value: &Value) -> u32
-    requires there {
-        is_some (spec.below_at settings.now.shards (codes "shard") (view value.now)) ≡ true
-    }
+    requires there { is_some
+        (spec.below_at settings.now.shards (codes "shard") (view value.now)) ≡ true }
     ensures shard { result ≡ spec.shard_of settings.now.shards (view value.now) }
     ensures less { result < settings.now.shards }
 {

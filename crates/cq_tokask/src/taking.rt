@@ -46,8 +46,7 @@ fn read_at<S: Source>(
     ensures within { IfOk result (λ n. n ≤ want) }
     ensures len { vec_len piece.new ≡ vec_len piece.old }
     ensures front { take at piece.new.items ≡ take at piece.old.items }
-    ensures bytes { ReadsAt at want (S.rest source.old) (S.rest source.new)
-        piece.new.items result }
+    ensures bytes { ReadsAt at want (S.rest source.old) (S.rest source.new) piece.new.items result }
     ensures cause { HasCause (S.faults source.old) (S.faults source.new) result }
 {
     source.read(&mut piece[at..at + want])

@@ -57,9 +57,8 @@ pub fn read_head<'a>(
     settings: &Settings,
     bytes: &'a [u8],
 ) -> Result<(Head, &'a [u8]), Unread>
-    ensures reads {
-        ReadsValue (spell.head settings.now) (IsSoundHead settings.now) bytes.now result
-    }
+    ensures reads { ReadsValue (spell.head settings.now) (IsSoundHead settings.now)
+        bytes.now result }
 {
     head_of(alloc, settings, bytes)
 }
