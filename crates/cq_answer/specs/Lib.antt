@@ -4,6 +4,7 @@ pub mod Rows
 pub mod Reply
 pub mod Questions
 pub mod Works
+pub mod Calls
 pub mod Versions
 pub mod Given
 pub mod Refusals

@@ -102,13 +102,16 @@ pub fn answer<R: Threads + Sync, B: Buckets, L: Ledger>(
     requires for_keys { B.file_keys buckets.old ≡ keys_in files.now }
     requires ready { B.ready buckets.old }
     ensures given { IfOk result (IsReplyOf files.now conditions.now query.now version) }
-    ensures reply { IfOk result (IsReplyOn settings.now version query.now files.now conditions.now) }
+    ensures reply { IfOk result
+        (IsReplyOn settings.now version query.now files.now conditions.now) }
     ensures texts { IfOk result IsReplyText }
     ensures asks { OnOk result (AsksGiven B.Buckets files.now query.now buckets.old buckets.new) }
     ensures asks_most { AsksGivenAtMost B.Buckets files.now query.now buckets.old buckets.new }
     ensures reads_most { ReadsGiven files.now query.now steps.old steps.new }
-    ensures asked { OnOk result (AsksOn B.Buckets settings.now version query.now files.now buckets.old buckets.new) }
-    ensures asked_most { AsksAtMostOn B.Buckets settings.now version query.now files.now buckets.old buckets.new }
+    ensures asked { OnOk result
+        (AsksOn B.Buckets settings.now version query.now files.now buckets.old buckets.new) }
+    ensures asked_most { AsksAtMostOn B.Buckets settings.now version query.now files.now
+        buckets.old buckets.new }
     ensures same_changes { B.file_changes buckets.new ≡ B.file_changes buckets.old }
     ensures same_keys { B.file_keys buckets.new ≡ B.file_keys buckets.old }
     ensures ready { B.ready buckets.new }

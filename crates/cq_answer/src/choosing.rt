@@ -57,7 +57,8 @@ pub(crate) fn chosen_by<L: Ledger>(
 ) -> Result<Vec<u32>, Memory>
     requires few { length files.now ≤ 262144 }
     requires scope { IsPattern query.now.scope }
-    ensures chosen { IfOk result (λ v. v.items ≡ spec.chosen query.now.scope query.now.since (works_in files.now)) }
+    ensures chosen { IfOk result
+        (λ v. v.items ≡ spec.chosen query.now.scope query.now.since (works_in files.now)) }
     ensures ascending { IfOk result (λ v. IsStrictlyIncreasing v.items) }
     ensures inside { IfOk result (λ v. All (λ i. i < length files.now) v.items) }
 {

@@ -80,8 +80,10 @@ pub(crate) fn functions_in<L: Ledger>(
 ) -> Result<(FunctionRows, Option<u32>), Memory>
     requires within { IsWithin (length files.now) part }
     requires few { spec.AreFewFunctions (facts_in (works_in files.now)) }
-    ensures functions { IfOk result (λ r. r.0 ≡ spec.functions_of (facts_in (works_in files.now)) part) }
-    ensures worst { IfOk result (λ r. r.1 ≡ spec.worst_of (spec.functions_of (facts_in (works_in files.now)) part)) }
+    ensures functions { IfOk result
+        (λ r. r.0 ≡ spec.functions_of (facts_in (works_in files.now)) part) }
+    ensures worst { IfOk result
+        (λ r. r.1 ≡ spec.worst_of (spec.functions_of (facts_in (works_in files.now)) part)) }
 {
     match part {
         Part::Alone(file) => {

@@ -30,9 +30,12 @@ pub(crate) fn groups_of<B: Buckets, L: Ledger>(
     requires for_changes { B.file_changes buckets.old ≡ numbers_in files.now }
     requires for_keys { B.file_keys buckets.old ≡ keys_in files.now }
     requires ready { B.ready buckets.old }
-    ensures groups { IfOk result (λ groups. AreGroupsOf (norms_in files.now) min part groups.items) }
-    ensures asked { OnOk result (AsksPart (keys_in files.now) part (B.asked buckets.old) (B.asked buckets.new)) }
-    ensures asked_most { AsksPartAtMost (keys_in files.now) part (B.asked buckets.old) (B.asked buckets.new) }
+    ensures groups { IfOk result
+        (λ groups. AreGroupsOf (norms_in files.now) min part groups.items) }
+    ensures asked { OnOk result
+        (AsksPart (keys_in files.now) part (B.asked buckets.old) (B.asked buckets.new)) }
+    ensures asked_most { AsksPartAtMost (keys_in files.now) part
+        (B.asked buckets.old) (B.asked buckets.new) }
     ensures same_changes { B.file_changes buckets.new ≡ B.file_changes buckets.old }
     ensures same_keys { B.file_keys buckets.new ≡ B.file_keys buckets.old }
     ensures ready { B.ready buckets.new }

@@ -1,8 +1,9 @@
 ghost use Rattle.std.specs.Prelude.{◌≡◌, ◌<◌, length, IfOk};
-ghost use Rattle.cq_measures.specs.Measures.{counts_of, spans_of, project_measures, file_measures};
+ghost use Rattle.cq_measures.specs.Measures.{counts_of, spans_of};
+ghost use Rattle.cq_answer.specs.Calls.{AreMeasuresAt, AreMeasuresOf, AreMeasuresOfAll};
 ghost use Rattle.cq_answer.specs.Parts.{IsPattern, IsWithin};
 ghost use Rattle.cq_answer.specs.Rows as spec;
-ghost use Rattle.cq_answer.specs.Works.{works_in, work_in, facts_in, chosen_in, AreNumbered};
+ghost use Rattle.cq_answer.specs.Works.{works_in, work_in, facts_in, AreNumbered};
 ghost use Rattle.cq_answer.specs.declared.part.Part.TheVariants as variant;
 
 use crate::choosing::{chosen_by, is_counted, is_of_all};
@@ -64,7 +65,7 @@ fn measures_of_all<R: Threads + Sync, L: Ledger>(
     groups: &[Group],
 ) -> Result<Measures, Memory>
     requires { spec.AreShowable (facts_in (works_in files.now)) groups.now }
-    ensures { IfOk result (λ m. m ≡ project_measures (facts_in (works_in files.now)).counts (facts_in (works_in files.now)).spans groups.now) }
+    ensures { IfOk result (AreMeasuresOfAll files.now groups.now) }
 {
     project_measures(rt, alloc, &lines_of(alloc, files)?, groups)
 }
@@ -78,7 +79,7 @@ fn measures_of_chosen<L: Ledger>(
 ) -> Result<Measures, Memory>
     requires scope { IsPattern query.now.scope }
     requires measurable { spec.AreShowable (facts_in (works_in files.now)) groups.now }
-    ensures { IfOk result (λ m. m ≡ spec.measures_of (facts_in (works_in files.now)) groups.now (chosen_in (works_in files.now) query.now) variant.Whole) }
+    ensures { IfOk result (AreMeasuresOf files.now query.now variant.Whole groups.now) }
 {
     let chosen = chosen_by(alloc, files, query)?;
     chosen_measures(alloc, &lines_of(alloc, files)?, &chosen, groups)
@@ -95,7 +96,7 @@ fn measures_of_whole<R: Threads + Sync, L: Ledger>(
     requires scope { IsPattern query.now.scope }
     requires numbered { AreNumbered (works_in files.now) }
     requires measurable { spec.AreShowable (facts_in (works_in files.now)) groups.now }
-    ensures { IfOk result (λ m. m ≡ spec.measures_of (facts_in (works_in files.now)) groups.now (chosen_in (works_in files.now) query.now) variant.Whole) }
+    ensures { IfOk result (AreMeasuresOf files.now query.now variant.Whole groups.now) }
 {
     if is_of_all(query) {
         measures_of_all(rt, alloc, files, groups)
@@ -113,7 +114,7 @@ fn measures_at<L: Ledger>(
 ) -> Result<Measures, Memory>
     requires within { file < length files.now }
     requires measurable { spec.AreShowable (facts_in (works_in files.now)) groups.now }
-    ensures { IfOk result (λ m. m ≡ file_measures (facts_in (works_in files.now)).counts (facts_in (works_in files.now)).spans file groups.now) }
+    ensures { IfOk result (AreMeasuresAt files.now file groups.now) }
 {
     file_measures(alloc, file, &lines_in(&files[file as usize]), groups)
 }
@@ -129,7 +130,7 @@ fn measures_of_file<L: Ledger>(
     requires within { file < length files.now }
     requires scope { IsPattern query.now.scope }
     requires measurable { spec.AreShowable (facts_in (works_in files.now)) groups.now }
-    ensures { IfOk result (λ m. m ≡ spec.measures_of (facts_in (works_in files.now)) groups.now (chosen_in (works_in files.now) query.now) (variant.File file)) }
+    ensures { IfOk result (AreMeasuresOf files.now query.now (variant.File file) groups.now) }
 {
     let is_chosen = is_counted(alloc, files, query, file)?;
     if is_chosen {
@@ -152,7 +153,7 @@ pub(crate) fn measures_of<R: Threads + Sync, L: Ledger>(
     requires scope { IsPattern query.now.scope }
     requires numbered { AreNumbered (works_in files.now) }
     requires measurable { spec.AreShowable (facts_in (works_in files.now)) groups.now }
-    ensures { IfOk result (λ m. m ≡ spec.measures_of (facts_in (works_in files.now)) groups.now (chosen_in (works_in files.now) query.now) part) }
+    ensures { IfOk result (AreMeasuresOf files.now query.now part groups.now) }
 {
     match part {
         Part::Whole => measures_of_whole(rt, alloc, files, query, groups),

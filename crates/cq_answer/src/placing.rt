@@ -22,7 +22,8 @@ fn place_row<L: Ledger>(
 ) -> Result<PlaceRow, Memory>
     requires some { 1 ≤ tokens }
     requires inside { IsInside (facts_in (works_in files.now)).spans tokens place }
-    ensures { IfOk result (λ row. row ≡ spec.place_row (facts_in (works_in files.now)) tokens place) }
+    ensures { IfOk result (λ row. row
+        ≡ spec.place_row (facts_in (works_in files.now)) tokens place) }
 {
     let file = &files[place.file as usize];
     let spans = &work_of(file).spans;
@@ -42,7 +43,8 @@ fn place_rows<L: Ledger>(
     places: &[Place],
 ) -> Result<PlaceRows, Memory>
     requires some { 1 ≤ tokens }
-    requires inside { (p : Place) → Contains places.now p → IsInside (facts_in (works_in files.now)).spans tokens p }
+    requires inside { (p : Place) → Contains places.now p
+        → IsInside (facts_in (works_in files.now)).spans tokens p }
     ensures { IfOk result (λ rows. rows
         ≡ map (spec.place_row (facts_in (works_in files.now)) tokens) places.now) }
 {
@@ -74,7 +76,8 @@ pub(crate) fn group_rows<L: Ledger>(
     groups: &[Group],
 ) -> Result<GroupRows, Memory>
     requires { AreGroupsInside (facts_in (works_in files.now)).spans groups.now }
-    ensures { IfOk result (λ rows. rows ≡ map (spec.group_row (facts_in (works_in files.now))) groups.now) }
+    ensures { IfOk result (λ rows. rows
+        ≡ map (spec.group_row (facts_in (works_in files.now))) groups.now) }
 {
     let mut rows = Vec::new(alloc);
     for group in groups {

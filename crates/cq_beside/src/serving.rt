@@ -134,9 +134,11 @@ pub fn serve_one<
     requires of { IsPassOf hub.now pass }
     requires room { workers < pass.room }
     requires unmade { HasNoneFrom pass.next pass.seen }
-    ensures served { IsServed S.Source K.Sink settings.now (callers_of hub.now) (pass.next + workers)
-        pass.seen steps.old steps.new lines.old.limit source.old source.new sink.old sink.new result }
-    ensures beside { IsFirst hub.now pass → ServesLines S.Source K.Sink line_of (AreBeside settings.now)
+    ensures served { IsServed S.Source K.Sink settings.now
+        (callers_of hub.now) (pass.next + workers) pass.seen steps.old steps.new
+        lines.old.limit source.old source.new sink.old sink.new result }
+    ensures beside { IsFirst hub.now pass
+        → ServesLines S.Source K.Sink line_of (AreBeside settings.now)
         lines.old.limit source.old source.new sink.old sink.new result }
     ensures cause { HasCauseOfEnd S.Source K.Sink source.old source.new sink.old sink.new result }
 {

@@ -59,7 +59,8 @@ fn served<Q: Threads + Wait + Sync, L: Ledger + Send + Sync, S: Source, K: Sink,
     requires parts { blank.parts ≡ L.parts }
     requires in_range { IsInRange settings.now }
     requires few { workers ≤ 64 }
-    ensures beside { IfOk result (λ end. ServesLines S.Source K.Sink line_of (AreBeside settings.now)
+    ensures beside { IfOk result
+        (λ end. ServesLines S.Source K.Sink line_of (AreBeside settings.now)
         settings.now.byte_limit source.old source.new sink.old sink.new end) }
 {
     let of = *settings;

@@ -29,6 +29,10 @@ pub record PassState (I E K : Type 0) : Type 0 where
   pub room : ℕ
   pub asked : ℕ
 
+-- the cells were made with this, and so many callers there may be
+abbrev pub AreMadeWith : {K : Type 0} → K → ℕ → CellsState K → Type 0
+AreMadeWith about callers cells = (cells.about ≡ about) × (cells.callers ≡ callers)
+
 abbrev pub cells_state : {K : Type 0} → TableId → K → ℕ → ℕ → CellsState K
 cells_state table about count callers = record { table = table; about = about; shards = count - 1; callers = callers }
 
@@ -66,6 +70,13 @@ module _ {I E K : Type 0} where
   -- the pass of the first caller, as it is made
   abbrev pub first_pass : CellsState K → PassState I E K
   first_pass cells = record { table = cells.table; about = Some cells.about; callers = 0 ∷ []; seen = []; hand = Free; known = []; next = 1; room = cells.callers - 1; asked = 0 }
+
+  -- the pass, where the next caller is made, and the pass of that caller, which has seen as much
+  abbrev pub with_child : PassState I E K → PassState I E K
+  with_child p = record p { next = p.next + 1; room = p.room - 1 }
+
+  abbrev pub child_of : PassState I E K → PassState I E K
+  child_of p = record p { callers = p.next ∷ []; next = 0; room = 0; asked = 0 }
 
   -- the pass holds no cell
   abbrev pub IsFree : PassState I E K → Type 0

@@ -87,6 +87,18 @@ module _ {I E K : Type 0} where
   abbrev pub KeepsAndAdds : View I E K → List ℕ → View I E K → Type 0
   KeepsAndAdds v more w = (w.callers ≡ v.callers ++ more) × (w.next ≡ v.next) × (w.room ≡ v.room) × (w.about ≡ v.about)
 
+  -- what it has seen and knows is as before
+  abbrev pub KeepsSeen : View I E K → View I E K → Type 0
+  KeepsSeen v w = (w.seen ≡ v.seen) × (w.known ≡ v.known)
+
+  -- what was noted with the hand comes behind what it has seen
+  abbrev pub SeesNoted : View I E K → View I E K → Type 0
+  SeesNoted v w = w.seen ≡ v.seen ++ option_to_list (noted_of v.hand)
+
+  -- of its numbers the history has the events that it has seen, and no other
+  abbrev pub HasOwn : (E → Option ℕ) → View I E K → List E → Type 0
+  HasOwn caller v log = OwnSame caller v.callers log v.seen
+
   abbrev pub IsCompared : View I E K → Type 0
   IsCompared v = (v.beside ≡ []) × (v.joined ≡ [])
 

@@ -1,8 +1,9 @@
-ghost use Rattle.std.specs.Prelude.{◌≡◌, ◌≢◌, ◌⊎◌, ℕ, ◌+◌, ◌-◌, ◌^◌, ◌%◌, ◌<◌, ◌≤◌, max, List, [], ◌∷◌, ◌++◌, map, length, Option, None, Some, IfOk, IfSome, option_to_list};
+ghost use Rattle.std.specs.Prelude.{◌≡◌, ◌≢◌, ℕ, ◌+◌, ◌^◌, ◌%◌, ◌<◌, ◌≤◌, max, List, [], ◌∷◌, ◌++◌, map, length, Option, None, Some, IfOk, IfSome, option_to_list};
 ghost use mathlib.Core.List.{IsPrefix};
 ghost use Rattle.cq_cells.specs.Callers.{Differ, NoneFrom, longer};
 ghost use Rattle.cq_cells.specs.declared.item.Item.TheVariants as item;
-ghost use Rattle.cq_cells.specs.Passes.{CellsState, IsPassOf, IsFree, IsSameCaller, IsOwn, HasBoard, HasShard, MayAdd, MayLeave, IsFound, HasReached, AreFresh, first_pass, least};
+ghost use Rattle.cq_cells.specs.Passes.{CellsState, AreMadeWith, IsPassOf, IsFree, IsSameCaller, IsOwn, HasBoard, HasShard, MayAdd, MayLeave, IsFound, HasReached, AreFresh, first_pass, with_child, child_of, least};
+ghost use Rattle.cq_cells.specs.Steps.{AreOneHistory};
 
 use crate::item::Item;
 use crate::law::{ByCell, Law};
@@ -56,7 +57,8 @@ impl<B, S, E, K, L: Law<B, S, E, K>, R: Wait> Cells<B, S, E, K, L, R> {
         ensures of { IsPassOf self.now pass.new × IsSameCaller pass.old pass.new }
         ensures hand { HasShard pass.new shard result }
         ensures seen { pass.new.seen ≡ pass.old.seen }
-        ensures shard { IsFound (L.lawful self.now.about) (L.shard self.now.about) L.caller shard result pass.old pass.new }
+        ensures shard { IsFound (L.lawful self.now.about) (L.shard self.now.about) L.caller
+            shard result pass.old pass.new }
     {
         match self.locked.take(shard as usize + 1, &mut pass.seat) {
             Item::Shard(shard) => shard,
@@ -71,7 +73,8 @@ impl<B, S, E, K, L: Law<B, S, E, K>, R> Cells<B, S, E, K, L, R> {
         ghost event: { Option E }
         requires of { IsPassOf self.now pass.old }
         requires hand { (b : B) × HasBoard pass.old b }
-        requires event { IfSome event (MayAdd (L.lawful self.now.about) L.asks L.caller self.now pass.old) }
+        requires event { IfSome event
+            (MayAdd (L.lawful self.now.about) L.asks L.caller self.now pass.old) }
         requires events { events ≡ length (pass.old.seen ++ option_to_list event) % 2 ^ 63 }
         requires board { L.board self.now.about (pass.old.seen ++ option_to_list event) board }
         ensures of { IsPassOf self.now pass.new × IsSameCaller pass.old pass.new }
@@ -89,7 +92,8 @@ impl<B, S, E, K, L: Law<B, S, E, K>, R> Cells<B, S, E, K, L, R> {
         requires of { IsPassOf self.now pass.old }
         requires shard { shard < self.now.shards }
         requires hand { (x : S) × HasShard pass.old shard x }
-        requires step { MayLeave (L.lawful self.now.about) (L.shard self.now.about) pass.old shard applied value }
+        requires step { MayLeave (L.lawful self.now.about) (L.shard self.now.about)
+            pass.old shard applied value }
         requires small { applied < 2 ^ 63 }
         ensures of { IsPassOf self.now pass.new × IsSameCaller pass.old pass.new }
         ensures free { IsFree pass.new }
@@ -110,8 +114,8 @@ impl<B, S, E, K, L: Law<B, S, E, K>, R> Cells<B, S, E, K, L, R> {
         requires free { IsFree pass.old }
         requires room { 0 < pass.old.room }
         ensures of { IsPassOf self.now pass.new × IsPassOf self.now result }
-        ensures same { pass.new ≡ record pass.old { next = pass.old.next + 1; room = pass.old.room - 1 } }
-        ensures child { result ≡ record pass.old { callers = pass.old.next ∷ []; next = 0; room = 0; asked = 0 } }
+        ensures same { pass.new ≡ with_child pass.old }
+        ensures child { result ≡ child_of pass.old }
     {
         let seat = self.locked.split(&mut pass.seat);
         let by = pass.next;
@@ -131,7 +135,7 @@ impl<B, S, E, K, L: Law<B, S, E, K>, R> Cells<B, S, E, K, L, R> {
         requires free { IsFree pass.old × IsFree other }
         ensures of { IsPassOf self.now pass.new × IsFree pass.new }
         ensures seen { pass.new.seen ≡ longer pass.old.seen other.seen }
-        ensures one_history { IsPrefix pass.old.seen other.seen ⊎ IsPrefix other.seen pass.old.seen }
+        ensures one_history { AreOneHistory pass.old.seen other.seen }
         ensures callers { pass.new.callers ≡ pass.old.callers ++ other.callers }
         ensures apart { Differ pass.new.callers }
         ensures room { (pass.new.next ≡ pass.old.next) × (pass.new.room ≡ pass.old.room) }
@@ -165,7 +169,7 @@ impl<B, S, E, K, L: Law<B, S, E, K>, R> Cells<B, S, E, K, L, R> {
         requires lawful { L.lawful about.now [] }
         requires board { L.board about.now [] board }
         requires shards { AreFresh (L.shard about.now) 0 shards.items }
-        ensures about { IfOk result (λ c. (c.0.about ≡ about.now) × (c.0.callers ≡ L.callers about.now)) }
+        ensures about { IfOk result (λ c. AreMadeWith about.now (L.callers about.now) c.0) }
         ensures shards { IfOk result (λ c. c.0.shards ≡ length shards.items) }
         ensures of { IfOk result (λ c. IsPassOf c.0 c.1) }
         ensures first { IfOk result (λ c. c.1 ≡ first_pass c.0) }

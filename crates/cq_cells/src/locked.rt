@@ -1,9 +1,9 @@
 // The cells by their numbers, and the eight kinds of atomic step on them.
-ghost use Rattle.std.specs.Prelude.{◌≡◌, ◌≢◌, ◌⊎◌, ℕ, ◌-◌, ◌^◌, ◌<◌, ◌≤◌, List, [], ◌∷◌, ◌++◌, length, Option, None, Some, IfOk, option_to_list, map};
+ghost use Rattle.std.specs.Prelude.{◌≡◌, ◌≢◌, ◌⊎◌, ℕ, ◌-◌, ◌^◌, ◌<◌, ◌≤◌, List, [], ◌∷◌, ◌++◌, length, Option, None, Some, IfOk, map};
 ghost use mathlib.Core.List.{IsPrefix};
-ghost use Rattle.cq_cells.specs.Callers.{Differ, OwnSame, NoneFrom, longer};
+ghost use Rattle.cq_cells.specs.Callers.{Differ, NoneFrom, longer};
 ghost use Rattle.cq_cells.specs.Counts.{least_of, more_known};
-ghost use Rattle.cq_cells.specs.Steps.{IsIdle, HasEmpty, IsSameSeat, KeepsCaller, KeepsAndAdds, AreOneHistory, IsOf, Finds, MayNoteHere, FitsBack, first_view, view, less, child, noted_of, AllFit};
+ghost use Rattle.cq_cells.specs.Steps.{IsIdle, HasEmpty, HasOwn, IsSameSeat, KeepsCaller, KeepsSeen, KeepsAndAdds, SeesNoted, AreOneHistory, IsOf, Finds, MayNoteHere, FitsBack, first_view, view, less, child, AllFit};
 
 use crate::law::{CellLaw, Noting};
 use crate::rule::{Beside, CellRule, Compare, NewCaller, Note, Release, Take};
@@ -33,12 +33,14 @@ pub struct Locked<I, E, K, L: CellLaw<I, E, K>, R> {
 impl<I, E, K, L: CellLaw<I, E, K>, R: Wait> Locked<I, E, K, L, R> {
     /// Takes the cell, and waits while another pass holds it.
     pub fn take(&self, cell: usize, pass: &mut Seated<I, E, K>) -> I
-        requires own { IsOf self.now.table.shared.table_id self.now.table.shared.key pass.old × (cell < self.now.count) }
+        requires own { IsOf self.now.table.shared.table_id self.now.table.shared.key pass.old
+            × (cell < self.now.count) }
         requires free { IsIdle pass.old }
         ensures own { IsSameSeat pass.old pass.new × KeepsCaller (view pass.old) (view pass.new) }
         ensures hand { HasEmpty pass.new cell result None }
         ensures seen { IsPrefix (view pass.old).seen (view pass.new).seen }
-        ensures value { Finds L.lawful L.fits L.caller self.now.table.shared.key cell result pass.old pass.new }
+        ensures value { Finds L.lawful L.fits L.caller self.now.table.shared.key
+            cell result pass.old pass.new }
     {
         for _ in self.rt.forever() {
             let found = self.table.shared.peek(cell);
@@ -87,12 +89,14 @@ impl<I, E, K, L: CellLaw<I, E, K>, R> Locked<I, E, K, L, R> {
 
     /// Notes an event on the board in hand, or none. A load, whose number is ignored.
     pub fn note<N: Noting<E>>(&self, cell: usize, pass: &mut Seated<I, E, K>)
-        requires own { IsOf self.now.table.shared.table_id self.now.table.shared.key pass.old × (cell < self.now.count) }
+        requires own { IsOf self.now.table.shared.table_id self.now.table.shared.key pass.old
+            × (cell < self.now.count) }
         requires hand { (x : I) × HasEmpty pass.old cell x None }
-        requires lawful { MayNoteHere L.lawful L.asks L.caller self.now.table.shared.key self.now.count cell pass.old N.event }
+        requires lawful { MayNoteHere L.lawful L.asks L.caller self.now.table.shared.key
+            self.now.count cell pass.old N.event }
         ensures own { IsSameSeat pass.old pass.new × KeepsCaller (view pass.old) (view pass.new) }
         ensures hand { (x : I) → HasEmpty pass.old cell x None → HasEmpty pass.new cell x N.event }
-        ensures seen { ((view pass.new).seen ≡ (view pass.old).seen) × ((view pass.new).known ≡ (view pass.old).known) }
+        ensures seen { KeepsSeen (view pass.old) (view pass.new) }
     {
         self.table.shared.load::<Note<N>>(pass, cell);
     }
@@ -108,13 +112,15 @@ impl<I, E, K, L: CellLaw<I, E, K>, R> Locked<I, E, K, L, R> {
 
     /// Puts a value into the cell in hand, releases it with this count, and wakes one that waits for it, if any waits.
     pub fn release(&self, cell: usize, value: I, count: u64, pass: &mut Seated<I, E, K>)
-        requires own { IsOf self.now.table.shared.table_id self.now.table.shared.key pass.old × (cell < self.now.count) }
+        requires own { IsOf self.now.table.shared.table_id self.now.table.shared.key pass.old
+            × (cell < self.now.count) }
         requires hand { (x : I) × (event : Option E) × HasEmpty pass.old cell x event }
         requires count { count < 2 ^ 63 }
-        requires fits { FitsBack L.lawful L.fits self.now.table.shared.key cell count value pass.old }
+        requires fits { FitsBack L.lawful L.fits self.now.table.shared.key
+            cell count value pass.old }
         ensures own { IsSameSeat pass.old pass.new × KeepsCaller (view pass.old) (view pass.new) }
         ensures free { IsIdle pass.new }
-        ensures seen { (view pass.new).seen ≡ (view pass.old).seen ++ option_to_list (noted_of (view pass.old).hand) }
+        ensures seen { SeesNoted (view pass.old) (view pass.new) }
         ensures known { (view pass.new).known ≡ more_known cell count (view pass.old).known }
         ensures reached { cell ≢ 0 → least_of cell (view pass.old).known ≤ count }
     {
@@ -131,7 +137,8 @@ impl<I, E, K, L: CellLaw<I, E, K>, R> Locked<I, E, K, L, R> {
         requires own { IsOf self.now.table.shared.table_id self.now.table.shared.key pass.old }
         requires free { IsIdle pass.old }
         requires room { 0 < (view pass.old).room }
-        ensures same { IsSameSeat pass.old pass.new × IsIdle pass.new × (view pass.new ≡ less (view pass.old)) }
+        ensures same { IsSameSeat pass.old pass.new × IsIdle pass.new
+            × (view pass.new ≡ less (view pass.old)) }
         ensures new { IsOf self.now.table.shared.table_id self.now.table.shared.key result }
         ensures child { IsIdle result × (view result ≡ child (view pass.old)) }
     {
@@ -147,10 +154,11 @@ impl<I, E, K, L: CellLaw<I, E, K>, R> Locked<I, E, K, L, R> {
         ensures seen { (view pass.new).seen ≡ longer (view pass.old).seen (view other).seen }
         ensures one_history { AreOneHistory (view pass.old).seen (view other).seen }
         ensures callers { KeepsAndAdds (view pass.old) (view other).callers (view pass.new) }
-        ensures mine { OwnSame L.caller (view pass.old).callers (view pass.new).seen (view pass.old).seen }
-        ensures theirs { OwnSame L.caller (view other).callers (view pass.new).seen (view other).seen }
+        ensures mine { HasOwn L.caller (view pass.old) (view pass.new).seen }
+        ensures theirs { HasOwn L.caller (view other) (view pass.new).seen }
         ensures apart { Differ (view pass.new).callers }
-        ensures fresh { 0 < (view pass.new).next → NoneFrom L.caller (view pass.new).next (view pass.new).seen }
+        ensures fresh { 0 < (view pass.new).next
+            → NoneFrom L.caller (view pass.new).next (view pass.new).seen }
         ensures known { (view pass.new).known ≡ (view pass.old).known ++ (view other).known }
     {
         self.table.shared.join_seat::<Beside>(pass, other);
@@ -173,7 +181,8 @@ impl<I, E, K, L: CellLaw<I, E, K>, R> Locked<I, E, K, L, R> {
         ensures of { IfOk result (λ c. IsOf c.0.table.shared.table_id c.0.table.shared.key c.1) }
         ensures about { IfOk result (λ c. c.0.table.shared.key ≡ about.now) }
         ensures count { IfOk result (λ c. c.0.count ≡ length values.items) }
-        ensures first { IfOk result (λ c. IsIdle c.1 × (view c.1 ≡ first_view (L.total about.now) about.now)) }
+        ensures first { IfOk result
+            (λ c. IsIdle c.1 × (view c.1 ≡ first_view (L.total about.now) about.now)) }
     {
         let count = values.len();
         let words = Vec::from_elem(alloc, 0u64, count)?;

@@ -1,11 +1,12 @@
-ghost use Rattle.std.specs.Prelude.{◌≡◌, ◌⊎◌, ℕ, ◌+◌, ◌-◌, ◌^◌, ◌<◌, ◌≤◌, max, List, [], ◌∷◌, ◌++◌, length, Option, IfOk, IfSome, option_to_list};
+ghost use Rattle.std.specs.Prelude.{◌≡◌, ℕ, ◌+◌, ◌^◌, ◌<◌, ◌≤◌, max, List, [], ◌++◌, length, Option, IfOk, IfSome, option_to_list};
 ghost use mathlib.Core.List.{IsPrefix};
 ghost use Rattle.cq_history.specs.declared.event.Event.{Event as Happened};
 ghost use Rattle.cq_history.specs.State.{view_of};
 ghost use Rattle.cq_history.specs.Lawful.{IsBelow};
 ghost use Rattle.cq_board.specs.Stands.{BoardState, StandsFor};
 ghost use Rattle.cq_cells.specs.Callers.{longer};
-ghost use Rattle.cq_cells.specs.Passes.{IsFree, IsSameCaller, HasBoard, HasShard, HasReached, by_of, least, first_pass};
+ghost use Rattle.cq_cells.specs.Passes.{IsFree, IsSameCaller, HasBoard, HasShard, HasReached, by_of, least, first_pass, with_child, child_of};
+ghost use Rattle.cq_cells.specs.Steps.{AreOneHistory};
 ghost use Rattle.cq_chain.specs.Held.{IsBoard, state_in};
 ghost use Rattle.cq_chain.specs.Passes.{IsPassOf, IsOwn, HasNoneFrom, MayAdd, IsFound, MayLeave, AreFresh};
 
@@ -69,7 +70,8 @@ impl<W: Indexed, R: Wait> Cells<W, R> {
         ensures seen { pass.new.seen ≡ pass.old.seen }
         ensures shard { IsFound W.keys_in W.IsWorkOf self.now.about pass.old shard result }
         ensures published { (state_in self.now.about pass.old.seen).published ≤ result.applied }
-        ensures swept { IsBelow result.floor (view_of (state_in self.now.about pass.old.seen) (by_of pass.old)) }
+        ensures swept { IsBelow result.floor
+            (view_of (state_in self.now.about pass.old.seen) (by_of pass.old)) }
         ensures reached { HasReached shard result.applied pass.old pass.new }
         ensures small { result.applied < 2 ^ 63 }
     {
@@ -116,8 +118,8 @@ impl<W: Indexed, R> Cells<W, R> {
         requires free { IsFree pass.old }
         requires room { 0 < pass.old.room }
         ensures of { IsPassOf self.now pass.new × IsPassOf self.now result }
-        ensures same { pass.new ≡ record pass.old { next = pass.old.next + 1; room = pass.old.room - 1 } }
-        ensures child { result ≡ record pass.old { callers = pass.old.next ∷ []; next = 0; room = 0; asked = 0 } }
+        ensures same { pass.new ≡ with_child pass.old }
+        ensures child { result ≡ child_of pass.old }
     {
         self.cells.split_pass(pass)
     }
@@ -130,7 +132,7 @@ impl<W: Indexed, R> Cells<W, R> {
         ensures of { IsPassOf self.now pass.new }
         ensures free { IsFree pass.new }
         ensures seen { pass.new.seen ≡ longer pass.old.seen other.seen }
-        ensures one_history { IsPrefix pass.old.seen other.seen ⊎ IsPrefix other.seen pass.old.seen }
+        ensures one_history { AreOneHistory pass.old.seen other.seen }
         ensures callers { pass.new.callers ≡ pass.old.callers ++ other.callers }
         ensures room { (pass.new.next ≡ pass.old.next) × (pass.new.room ≡ pass.old.room) }
         ensures own { IsOwn pass.old pass.new.seen × IsOwn other pass.new.seen }

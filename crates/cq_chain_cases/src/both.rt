@@ -61,7 +61,8 @@ pub(crate) fn accept_both<Q: Threads, W: Indexed + Send + Sync, R: Wait + Sync>(
     ensures of { IsPassOf cells.now pass.new }
     ensures free { IsFree pass.new }
     ensures first { IfOk result.0 (λ _. Accepts pass.old.next first pass.old.seen pass.new.seen) }
-    ensures second { IfOk result.1 (λ _. Accepts (pass.old.next + 1) second pass.old.seen pass.new.seen) }
+    ensures second { IfOk result.1
+        (λ _. Accepts (pass.old.next + 1) second pass.old.seen pass.new.seen) }
 {
     let one = cells.split_pass(pass);
     let two = cells.split_pass(pass);
@@ -98,7 +99,8 @@ fn leave_accepted<W: Indexed, R>(
     ensures of { IsPassOf cells.now pass.new }
     ensures same { IsSameCaller pass.old pass.new }
     ensures free { IsFree pass.new }
-    ensures seen { pass.new.seen ≡ pass.old.seen ++ happened.Accept (by_of pass.old) said.now.value ∷ [] }
+    ensures seen { pass.new.seen
+        ≡ pass.old.seen ++ happened.Accept (by_of pass.old) said.now.value ∷ [] }
 {
     cells.leave_board(board, pass);
 }

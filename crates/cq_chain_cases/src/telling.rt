@@ -1,7 +1,6 @@
 ghost use Rattle.std.specs.Prelude.{◌≡◌, ℕ, ◌+◌, ◌%◌, ◌^◌, ◌<◌, ◌≤◌, List, [], ◌∷◌, ◌++◌, length, Some};
-ghost use Rattle.cq_cells.specs.Callers.{own};
 ghost use Rattle.cq_cells.specs.Passes.{IsPassOf, IsFree, IsSameCaller, HasBoard, by_of, least};
-ghost use Rattle.cq_chain_cases.specs.declared.telling.Told.{Told as Event};
+ghost use Rattle.cq_chain_cases.specs.Telling.{TellsOnce};
 
 use cq_cells::{Cells, Law, Pass};
 use std::sync::Wait;
@@ -83,7 +82,7 @@ fn add<R>(cells: &Bench<R>, mut tally: Tally, pass: &mut Token)
 fn tell<R: Wait>(cells: &Bench<R>, pass: &mut Token)
     requires of { IsPassOf cells.now pass.old × IsFree pass.old }
     ensures of { IsPassOf cells.now pass.new × IsFree pass.new × IsSameCaller pass.old pass.new }
-    ensures told { own (λ (e : Event). Some e.by) (by_of pass.old) pass.new.seen ≡ own (λ (e : Event). Some e.by) (by_of pass.old) pass.old.seen ++ record { by = by_of pass.old; after = 0 } ∷ [] }
+    ensures told { TellsOnce (by_of pass.old) pass.old.seen pass.new.seen }
 {
     let tally = cells.enter_board(pass);
     add(cells, tally, pass);
@@ -159,7 +158,8 @@ fn tell_by_four<Q: Threads + Sync, R: Wait + Sync>(
     times: u32,
 ) -> Token
     requires first { IsPassOf cells.now one × IsFree one × IsPassOf cells.now two × IsFree two }
-    requires second { IsPassOf cells.now three × IsFree three × IsPassOf cells.now four × IsFree four }
+    requires second { IsPassOf cells.now three × IsFree three
+        × IsPassOf cells.now four × IsFree four }
     ensures of { IsPassOf cells.now result × IsFree result }
 {
     let (mut first, second) = join(
@@ -169,7 +169,8 @@ fn tell_by_four<Q: Threads + Sync, R: Wait + Sync>(
             ensures { IsPassOf cells.entry.now result × IsFree result }
         { tell_by_two(rt, cells, one, two, times) },
         move || -> Token
-            requires { IsPassOf cells.now three × IsFree three × IsPassOf cells.now four × IsFree four }
+            requires { IsPassOf cells.now three × IsFree three
+                × IsPassOf cells.now four × IsFree four }
             ensures { IsPassOf cells.entry.now result × IsFree result }
         { tell_by_two(rt, cells, three, four, times) },
     );
@@ -198,11 +199,13 @@ fn told_by_eight<Q: Threads + Sync, R: Wait + Sync>(
     let (first, second) = join(
         rt,
         move || -> Token
-            requires { IsPassOf cells.now a × IsFree a × IsPassOf cells.now b × IsFree b × IsPassOf cells.now c × IsFree c × IsPassOf cells.now d × IsFree d }
+            requires { IsPassOf cells.now a × IsFree a × IsPassOf cells.now b × IsFree b
+                × IsPassOf cells.now c × IsFree c × IsPassOf cells.now d × IsFree d }
             ensures { IsPassOf cells.entry.now result × IsFree result }
         { tell_by_four(rt, cells, a, b, c, d, times) },
         move || -> Token
-            requires { IsPassOf cells.now e × IsFree e × IsPassOf cells.now f × IsFree f × IsPassOf cells.now g × IsFree g × IsPassOf cells.now h × IsFree h }
+            requires { IsPassOf cells.now e × IsFree e × IsPassOf cells.now f × IsFree f
+                × IsPassOf cells.now g × IsFree g × IsPassOf cells.now h × IsFree h }
             ensures { IsPassOf cells.entry.now result × IsFree result }
         { tell_by_four(rt, cells, e, f, g, h, times) },
     );

@@ -1,10 +1,9 @@
-ghost use Rattle.std.specs.Prelude.{◌≡◌, IfOk, None};
+ghost use Rattle.std.specs.Prelude.{IfOk};
 ghost use Rattle.cq_ask.specs.Moves.{Moves};
 ghost use Rattle.cq_ask.specs.Projects.{keys_in_files, IsReady};
 ghost use Rattle.cq_projects.specs.Spotted.{numbers_of};
 ghost use Rattle.cq_clones.specs.Windows.{IsBucket};
-ghost use Rattle.cq_history.specs.State.{state, view_of};
-ghost use Rattle.cq_hub.specs.Hubs.{HasSeen};
+ghost use Rattle.cq_hub.specs.Answers.{HasNoView};
 
 use crate::made::{Apart, Made, SETTINGS, accept, finish, letter};
 use cq_ask::PassBuckets;
@@ -26,9 +25,12 @@ fn bucket<'a, W: Made, H: Hub<W>>(
     key: u64,
     pass: &mut H::Pass,
 ) -> Result<Vec<Entry>, Memory>
-    requires { IsReady H.Stands (H.callers hub.now) (W.IsWorkOf (H.settings hub.now)) hub.now view.now pass.old files.now }
-    ensures bucket { IfOk result (λ entries. IsBucket (numbers_of files.now) (keys_in_files W.keys_in files.now) key entries.items) }
-    ensures moves { Moves H.Stands (H.callers hub.now) H.alone (W.IsWorkOf (H.settings hub.now)) hub.now view.now pass.old pass.new }
+    requires { IsReady H.Stands (H.callers hub.now) (W.IsWorkOf (H.settings hub.now))
+        hub.now view.now pass.old files.now }
+    ensures bucket { IfOk result (λ entries. IsBucket
+        (numbers_of files.now) (keys_in_files W.keys_in files.now) key entries.items) }
+    ensures moves { Moves H.Stands (H.callers hub.now) H.alone (W.IsWorkOf (H.settings hub.now))
+        hub.now view.now pass.old pass.new }
 {
     let mut buckets = PassBuckets {
         hub,
@@ -47,7 +49,7 @@ fn read<W: Made, H: Hub<W>>(
     key: u64,
     pass: &mut H::Pass,
 ) -> Result<Vec<Entry>, Memory>
-    requires { HasSeen H.Stands hub.now pass.old (λ c h. view_of (state (H.callers hub.now) h) c ≡ None) }
+    requires { HasNoView H.Stands H.settings H.callers hub.now pass.old }
 {
     let asked = hub.ask(pass);
     hub.advance(alloc, asked.done, &OpenGate, pass)?;

@@ -1,6 +1,6 @@
-ghost use Rattle.std.specs.Prelude.{◌≡◌, ◌≤◌, OnOk, None};
-ghost use Rattle.cq_history.specs.State.{state, view_of};
-ghost use Rattle.cq_hub.specs.Hubs.{HasSeen, IsPassOf};
+ghost use Rattle.std.specs.Prelude.{◌≤◌, OnOk};
+ghost use Rattle.cq_hub.specs.Answers.{HasNoView};
+ghost use Rattle.cq_hub.specs.Hubs.{IsPassOf};
 
 use crate::made::{Alike, Apart, Made, SETTINGS, accept, finish};
 use cq_base::{Entry, Memory, Settings};
@@ -51,7 +51,7 @@ pub fn read<W: Made, H: Hub<W>>(
     key: u64,
     pass: &mut H::Pass,
 ) -> Result<(u64, Vec<Entry>), Memory>
-    requires { HasSeen H.Stands hub.now pass.old (λ c h. view_of (state (H.callers hub.now) h) c ≡ None) }
+    requires { HasNoView H.Stands H.settings H.callers hub.now pass.old }
     ensures { OnOk result (IsPassOf H.Stands hub.now pass.new) }
 {
     let asked = hub.ask(pass);
@@ -78,7 +78,7 @@ fn take<W: Made, H: Hub<W>>(
     hub: &H,
     pass: &mut H::Pass,
 ) -> Result<(bool, Option<u64>, bool), Refused>
-    requires { HasSeen H.Stands hub.now pass.old (λ c h. view_of (state (H.callers hub.now) h) c ≡ None) }
+    requires { HasNoView H.Stands H.settings H.callers hub.now pass.old }
 {
     let number = accept(alloc, b'p', hub, pass)?;
     let helps = hub.job(number, pass)?.is_some();
@@ -99,7 +99,7 @@ pub fn looks<H: Hub<Counted>>(
     hub: &H,
     pass: &mut H::Pass,
 ) -> Result<(u64, u64), Refused>
-    requires { HasSeen H.Stands hub.now pass.old (λ c h. view_of (state (H.callers hub.now) h) c ≡ None) }
+    requires { HasNoView H.Stands H.settings H.callers hub.now pass.old }
 {
     let first = Arc::new(alloc, Counted::made())?;
     let second = Arc::new(alloc, Counted::made())?;

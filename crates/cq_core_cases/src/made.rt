@@ -1,12 +1,12 @@
-ghost use Rattle.std.specs.Prelude.{◌≡◌, ◌<◌, ◌≤◌, ℕ, List, length, IfOk, OnOk, None, true};
+ghost use Rattle.std.specs.Prelude.{◌≡◌, ◌<◌, ◌≤◌, ℕ, List, length, IfOk, OnOk, true};
 ghost use Rattle.std.specs.Arc.{arc_value};
 ghost use Rattle.std.specs.Str.{IsUtf8};
 ghost use Rattle.cq_base.specs.declared.lang.Lang.{Lang};
 ghost use Rattle.cq_base.specs.declared.settings.Settings.{Settings};
 ghost use Rattle.cq_base.specs.Changes.{IsSoundChange};
 ghost use Rattle.cq_history.specs.Changes.{is_put};
-ghost use Rattle.cq_history.specs.State.{state, slot_of, view_of, IsAccepted};
-ghost use Rattle.cq_hub.specs.Hubs.{HasSeen};
+ghost use Rattle.cq_hub.specs.Answers.{HasNoView};
+ghost use Rattle.cq_core_cases.specs.Puts.{HasSeenPut};
 
 use cq_base::{Change, Lang, Memory, Settings, Text};
 use cq_board::{Finished, Refused};
@@ -18,7 +18,8 @@ use std::sync::Arc;
 /// A work that is that of every text.
 pub trait Made: Indexed {
     fn made() -> Self
-        ensures { (settings : Settings) (lang : Lang) (text : List ℕ) → Self.IsWorkOf settings lang text result };
+        ensures { (settings : Settings) (lang : Lang) (text : List ℕ)
+            → Self.IsWorkOf settings lang text result };
 }
 
 /// Its two windows have different keys.
@@ -123,8 +124,8 @@ pub fn accept<W: Made, H: Hub<W>>(
     pass: &mut H::Pass,
 ) -> Result<u64, Refused>
     requires letter { project < 128 }
-    requires closed { HasSeen H.Stands hub.now pass.old (λ c h. view_of (state (H.callers hub.now) h) c ≡ None) }
-    ensures { IfOk result (λ number. HasSeen H.Stands hub.now pass.new (λ c h. IsAccepted (state (H.callers hub.now) h) number × (is_put (slot_of (state (H.callers hub.now) h) number).change ≡ true) × (view_of (state (H.callers hub.now) h) c ≡ None))) }
+    requires closed { HasNoView H.Stands H.settings H.callers hub.now pass.old }
+    ensures { IfOk result (HasSeenPut H.Hub hub.now pass.new) }
 {
     let change = put(alloc, project)?;
     match hub.accept(alloc, change, pass) {
@@ -140,9 +141,10 @@ pub fn finish<W: Indexed, H: Hub<W>>(
     work: Arc<W, Global>,
     pass: &mut H::Pass,
 ) -> Result<Finished, Memory>
-    requires made { (settings : Settings) (lang : Lang) (text : List ℕ) → W.IsWorkOf settings lang text (arc_value work) }
-    requires seen { HasSeen H.Stands hub.now pass.old (λ c h. IsAccepted (state (H.callers hub.now) h) number × (is_put (slot_of (state (H.callers hub.now) h) number).change ≡ true) × (view_of (state (H.callers hub.now) h) c ≡ None)) }
-    ensures { OnOk result (HasSeen H.Stands hub.now pass.new (λ c h. view_of (state (H.callers hub.now) h) c ≡ None)) }
+    requires made { (settings : Settings) (lang : Lang) (text : List ℕ)
+        → W.IsWorkOf settings lang text (arc_value work) }
+    requires seen { HasSeenPut H.Hub hub.now pass.old number }
+    ensures { OnOk result (HasNoView H.Stands H.settings H.callers hub.now pass.new) }
 {
     match hub.finish(number, work, pass) {
         Finished::Done => Ok(Finished::Done),

@@ -1,5 +1,6 @@
 ghost use Rattle.std.specs.Prelude.{◌≡◌, ◌<◌, length, OnOk};
 ghost use Rattle.cq_core.specs.Steps.{IsNamed, IsSoundStep, HasWork};
+ghost use Rattle.cq_core_cases.specs.Callers.{KeepsCallers};
 
 use crate::made::{Apart, SETTINGS, put};
 use cq_base::{Memory, Steps};
@@ -19,7 +20,7 @@ fn step<L: Ledger>(
     requires named { IsNamed core.old step }
     requires sound { IsSoundStep step }
     requires work { HasWork (λ lang text work. Unit {0}) core.old step }
-    ensures callers { OnOk result (length core.new.board.state.views ≡ length core.old.board.state.views) }
+    ensures callers { OnOk result (KeepsCallers core.old core.new) }
     ensures settings { OnOk result (core.new.board.settings ≡ core.old.board.settings) }
 {
     core.step(alloc, step, steps)
@@ -34,7 +35,7 @@ fn put_and_applied<L: Ledger>(
 ) -> Result<(), Memory>
     requires caller { 0 < length core.old.board.state.views }
     requires shards { core.old.board.settings.shards ≡ 2 }
-    ensures callers { OnOk result (length core.new.board.state.views ≡ length core.old.board.state.views) }
+    ensures callers { OnOk result (KeepsCallers core.old core.new) }
     ensures settings { OnOk result (core.new.board.settings ≡ core.old.board.settings) }
 {
     let change = put(alloc, b'p')?;
@@ -77,7 +78,7 @@ fn first_published<L: Ledger>(
 ) -> Result<(), Memory>
     requires caller { 0 < length core.old.board.state.views }
     requires shards { core.old.board.settings.shards ≡ 2 }
-    ensures callers { OnOk result (length core.new.board.state.views ≡ length core.old.board.state.views) }
+    ensures callers { OnOk result (KeepsCallers core.old core.new) }
     ensures settings { OnOk result (core.new.board.settings ≡ core.old.board.settings) }
 {
     put_and_applied(alloc, core, 1, steps)?;
@@ -95,7 +96,7 @@ fn while_lagging<L: Ledger>(
 ) -> Result<(Outcome, Vec<u64>), Memory>
     requires caller { 0 < length core.old.board.state.views }
     requires shards { core.old.board.settings.shards ≡ 2 }
-    ensures callers { OnOk result (length core.new.board.state.views ≡ length core.old.board.state.views) }
+    ensures callers { OnOk result (KeepsCallers core.old core.new) }
     ensures settings { OnOk result (core.new.board.settings ≡ core.old.board.settings) }
 {
     put_and_applied(alloc, core, 2, steps)?;
@@ -112,7 +113,7 @@ fn once_caught_up<L: Ledger>(
 ) -> Result<(Outcome, Vec<u64>), Memory>
     requires caller { 0 < length core.old.board.state.views }
     requires shards { core.old.board.settings.shards ≡ 2 }
-    ensures callers { OnOk result (length core.new.board.state.views ≡ length core.old.board.state.views) }
+    ensures callers { OnOk result (KeepsCallers core.old core.new) }
     ensures settings { OnOk result (core.new.board.settings ≡ core.old.board.settings) }
 {
     step(alloc, core, Step::Apply { shard: 1 }, steps)?;

@@ -1,6 +1,6 @@
-ghost use Rattle.std.specs.Prelude.{◌≡◌, ◌<◌, [], OnOk, None};
-ghost use Rattle.cq_history.specs.State.{state, view_of};
-ghost use Rattle.cq_hub.specs.Hubs.{HasSeen, IsPassOf};
+ghost use Rattle.std.specs.Prelude.{◌≡◌, ◌<◌, [], OnOk};
+ghost use Rattle.cq_hub.specs.Answers.{HasNoView};
+ghost use Rattle.cq_hub.specs.Hubs.{IsPassOf};
 ghost use Rattle.cq_shared.specs.SharedPasses as shared;
 
 use crate::hubs::read;
@@ -17,8 +17,8 @@ use std::sync::{Arc, Wait};
 
 // A put of one file is accepted, and its work finished.
 fn put_file<H: Hub<Apart>>(alloc: Global, hub: &H, pass: &mut H::Pass) -> Result<(), Refused>
-    requires { HasSeen H.Stands hub.now pass.old (λ c h. view_of (state (H.callers hub.now) h) c ≡ None) }
-    ensures { OnOk result (HasSeen H.Stands hub.now pass.new (λ c h. view_of (state (H.callers hub.now) h) c ≡ None)) }
+    requires { HasNoView H.Stands H.settings H.callers hub.now pass.old }
+    ensures { OnOk result (HasNoView H.Stands H.settings H.callers hub.now pass.new) }
 {
     let number = accept(alloc, b'p', hub, pass)?;
     let work = Arc::new(alloc, Apart::made())?;
@@ -28,8 +28,8 @@ fn put_file<H: Hub<Apart>>(alloc: Global, hub: &H, pass: &mut H::Pass) -> Result
 
 // All that is done is published.
 fn publish<W: Indexed, H: Hub<W>>(alloc: Global, hub: &H, pass: &mut H::Pass) -> Result<(), Memory>
-    requires { HasSeen H.Stands hub.now pass.old (λ c h. view_of (state (H.callers hub.now) h) c ≡ None) }
-    ensures { OnOk result (HasSeen H.Stands hub.now pass.new (λ c h. view_of (state (H.callers hub.now) h) c ≡ None)) }
+    requires { HasNoView H.Stands H.settings H.callers hub.now pass.old }
+    ensures { OnOk result (HasNoView H.Stands H.settings H.callers hub.now pass.new) }
 {
     let asked = hub.ask(pass);
     hub.advance(alloc, asked.done, &OpenGate, pass)?;
@@ -43,8 +43,8 @@ fn sweep_viewed<W: Indexed, H: Hub<W>>(
     hub: &H,
     pass: &mut H::Pass,
 ) -> Result<(u64, Vec<Entry>, u64), Memory>
-    requires { HasSeen H.Stands hub.now pass.old (λ c h. view_of (state (H.callers hub.now) h) c ≡ None) }
-    ensures { OnOk result (HasSeen H.Stands hub.now pass.new (λ c h. view_of (state (H.callers hub.now) h) c ≡ None)) }
+    requires { HasNoView H.Stands H.settings H.callers hub.now pass.old }
+    ensures { OnOk result (HasNoView H.Stands H.settings H.callers hub.now pass.new) }
 {
     let asked = hub.ask(pass);
     let view = hub.open_view(pass)?;
@@ -67,7 +67,7 @@ struct Swept {
 }
 
 fn sweep_both<H: Hub<Apart>>(alloc: Global, hub: &H, pass: &mut H::Pass) -> Result<Swept, Refused>
-    requires { HasSeen H.Stands hub.now pass.old (λ c h. view_of (state (H.callers hub.now) h) c ≡ None) }
+    requires { HasNoView H.Stands H.settings H.callers hub.now pass.old }
     ensures { OnOk result (IsPassOf H.Stands hub.now pass.new) }
 {
     put_file(alloc, hub, pass)?;

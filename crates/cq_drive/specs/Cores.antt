@@ -62,6 +62,10 @@ module _ (L : Type 0) (set : Settings) where
   abbrev pub StepLed : CoreState → CoreState → ScriptStep → ScriptOutcome → Type 0
   StepLed old new step o = Led old new (λ k later. StepComesTo set k step o later)
 
+  -- of a step that leaves the core as it is
+  abbrev pub StepTold : CoreState → ScriptStep → ScriptOutcome → Type 0
+  StepTold core step o = StepLed core core step o
+
   abbrev pub SaidLed : CoreState → CoreState → List ℕ → ScriptOutcome → Type 0
   SaidLed old new line o = Led old new (λ k later. SaidComesTo set k (step_read set line) o later)
 

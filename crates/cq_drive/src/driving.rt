@@ -39,7 +39,8 @@ fn turn<R: Threads + Sync, L: Ledger, K: Sink>(
     requires settings { keyer.now.settings ≡ settings.now }
     requires driven { IsDriven L settings.now core.old }
     requires short { length line.now ≤ line_limit }
-    ensures sent { LineSent L settings.now core.old core.new line.now (K.written sink.old) (K.written sink.new) result }
+    ensures sent { LineSent L settings.now core.old core.new line.now
+        (K.written sink.old) (K.written sink.new) result }
     ensures cause { HasCause (K.faults sink.old) (K.faults sink.new) result }
 {
     let told = outcome_line(rt, alloc, settings, keyer, core, line, steps);
@@ -70,7 +71,8 @@ fn run<R: Threads + Sync, L: Ledger, S: Source, K: Sink>(
     requires in_range { IsInRange settings.now }
     requires settings { keyer.now.settings ≡ settings.now }
     requires driven { IsDriven L settings.now core.old }
-    ensures served { HasServed L settings.now core.old S.Source K.Sink lines.old source.old source.new sink.old sink.new result }
+    ensures served { HasServed L settings.now core.old S.Source K.Sink lines.old
+        source.old source.new sink.old sink.new result }
     ensures cause { HasCauseOfEnd S.Source K.Sink source.old source.new sink.old sink.new result }
 {
     'lines: loop {
@@ -106,8 +108,10 @@ pub fn drive<R: Threads + Sync, L: Ledger, S: Source, K: Sink>(
     requires fresh { IsFresh lines.old }
     requires in_range { IsInRange settings.now }
     requires settings { keyer.now.settings ≡ settings.now }
-    ensures script { IfOk result (Plays S.Source K.Sink settings.now lines.old source.old source.new sink.old sink.new) }
-    ensures cause { IfOk result (HasCauseOfEnd S.Source K.Sink source.old source.new sink.old sink.new) }
+    ensures script { IfOk result (Plays S.Source K.Sink settings.now lines.old
+        source.old source.new sink.old sink.new) }
+    ensures cause { IfOk result
+        (HasCauseOfEnd S.Source K.Sink source.old source.new sink.old sink.new) }
     ensures lines { OnErr result (lines.new ≡ lines.old) }
     ensures source { OnErr result (source.new ≡ source.old) }
     ensures sink { OnErr result (sink.new ≡ sink.old) }

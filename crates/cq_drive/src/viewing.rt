@@ -4,7 +4,7 @@ ghost use Rattle.cq_answer.specs.Parts.{HasPath, HasScope};
 ghost use Rattle.cq_base.specs.Settings.{IsInRange};
 ghost use Rattle.cq_board.specs.Sound.{HaveFewConditions};
 ghost use Rattle.cq_core.specs.Views.{IsView};
-ghost use Rattle.cq_drive.specs.Cores.{IsDriven, StepLed};
+ghost use Rattle.cq_drive.specs.Cores.{IsDriven, StepTold};
 ghost use Rattle.cq_drive.specs.Script.{callers};
 ghost use Rattle.cq_history.specs.State.{view_of};
 ghost use Rattle.cq_outcome.specs.Outcomes.{IsOutcomeText};
@@ -35,7 +35,7 @@ pub(crate) fn read<L: Ledger>(
     requires driven { IsDriven L settings.now core.now }
     requires caller { by < callers }
     requires shard { shard < settings.now.shards }
-    ensures led { IfOk result (StepLed L settings.now core.now core.now (script.Read by shard key)) }
+    ensures led { IfOk result (StepTold L settings.now core.now (script.Read by shard key)) }
     ensures text { IfOk result IsOutcomeText }
 {
     match core.read(alloc, by, shard, key)? {
@@ -64,7 +64,7 @@ fn answered<R: Threads + Sync, L: Ledger>(
     requires opened { view_of core.now.board.state by ≡ Some view.now.version }
     requires listing { IsView (IsWorkOf core.now.board.settings) core.now.board.state view.now }
     requires few { HaveFewConditions (arc_value view.now.listing).projects }
-    ensures led { IfOk result (StepLed L settings.now core.now core.now (script.Reply by query.now)) }
+    ensures led { IfOk result (StepTold L settings.now core.now (script.Reply by query.now)) }
     ensures text { IfOk result IsOutcomeText }
 {
     let files = view.listing.project(&query.project);
@@ -106,7 +106,7 @@ pub(crate) fn reply<R: Threads + Sync, L: Ledger>(
     requires long { settings.now.chunk ≤ query.now.min }
     requires path { HasPath query.now.kind query.now.path }
     requires scope { HasScope query.now.path query.now.scope }
-    ensures led { IfOk result (StepLed L settings.now core.now core.now (script.Reply by query.now)) }
+    ensures led { IfOk result (StepTold L settings.now core.now (script.Reply by query.now)) }
     ensures text { IfOk result IsOutcomeText }
 {
     match core.view(by) {

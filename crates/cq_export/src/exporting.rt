@@ -46,7 +46,8 @@ fn made<L: Ledger>(
     requires holds { Holds settings.now board.old }
     requires named { All IsNamed (changes_in board.old.state) }
     requires project { is_project project.now ≡ true }
-    ensures of_changes { IfOk result (IsOfChanges settings.now (changes_in board.old.state) project.now) }
+    ensures of_changes { IfOk result
+        (IsOfChanges settings.now (changes_in board.old.state) project.now) }
     ensures sound { IfOk result (IsSoundSnapshot settings.now) }
 {
     make_all(alloc, settings, keyer, board)?;
@@ -89,7 +90,8 @@ pub fn export<L: Ledger, S: Source, K: Sink>(
     requires in_range { IsInRange settings.now }
     requires settings { keyer.now.settings ≡ settings.now }
     requires project { is_project project.now ≡ true }
-    ensures exports { IfOk result (Exports L S.Source K.Sink settings.now project.now source.old source.new sink.old sink.new) }
+    ensures exports { IfOk result (Exports L S.Source K.Sink settings.now project.now
+        source.old source.new sink.old sink.new) }
     ensures unwritten { OnErr result (sink.new ≡ sink.old) }
 {
     let mut board: Board<Work<L>> = Board::new(alloc, settings, 1)?;

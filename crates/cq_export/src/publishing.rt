@@ -60,7 +60,8 @@ fn shown<L: Ledger>(
     ensures shows { IfOk result (λ snapshot. (settings : Settings) (changes : List Change)
         → IsViewOfAll settings changes view.now
         → IsOfChanges settings changes project.now snapshot) }
-    ensures conditions { IfOk result (λ snapshot. AllByRecursion IsSoundCondition snapshot.conditions.items) }
+    ensures conditions { IfOk result
+        (λ snapshot. AllByRecursion IsSoundCondition snapshot.conditions.items) }
 {
     let files = shared(alloc, view.listing.project(project))?;
     let conditions = copied(alloc, view.listing.conditions(project))?;
@@ -82,8 +83,10 @@ pub(crate) fn last_version<L: Ledger>(
 ) -> Result<Snapshot<L>, Memory>
     requires holds { Holds settings.now board.old }
     requires all { length (changes_in board.old.state) ≤ ready board.old.state }
-    ensures of_changes { IfOk result (IsOfChanges settings.now (changes_in board.old.state) project.now) }
-    ensures conditions { IfOk result (λ snapshot. AllByRecursion IsSoundCondition snapshot.conditions.items) }
+    ensures of_changes { IfOk result
+        (IsOfChanges settings.now (changes_in board.old.state) project.now) }
+    ensures conditions { IfOk result
+        (λ snapshot. AllByRecursion IsSoundCondition snapshot.conditions.items) }
 {
     let view = last_view(alloc, settings, board)?;
     shown(alloc, &view, project)

@@ -59,7 +59,8 @@ pub(crate) fn take_changes<W: Indexed, S: Source>(
     requires fresh { IsFresh lines.old }
     requires limit { lines.old.limit ≡ settings.now.byte_limit }
     requires nothing { HasAccepted settings.now [] board.old }
-    ensures takes { IfOk result (Takes settings.now (S.rest source.old) (S.rest source.new) board.new) }
+    ensures takes { IfOk result
+        (Takes settings.now (S.rest source.old) (S.rest source.new) board.new) }
     ensures cause { IfOk result (HasCauseOfTaking (S.faults source.old) (S.faults source.new)) }
 {
     'lines: loop {

@@ -1,5 +1,6 @@
 -- What is looked up of each token, as lists of numbers.
-use Rattle.std.specs.Prelude.{◌≡◌, ℕ, ◌<◌, ◌≤◌, ◌==◌, List, length, slice_index, codes, if◌then◌else◌}
+use Rattle.std.specs.Prelude.{◌≡◌, ℕ, ◌<◌, ◌≤◌, ◌==◌, List, length, map, slice_index, codes, if◌then◌else◌}
+use Rattle.std.specs.List.{range_with_len}
 use Rattle.cq_base.specs.declared.lang.Lang.{Lang}
 use Rattle.cq_base.specs.declared.lang.Lang.TheVariants as lang
 use Rattle.cq_base.specs.declared.token.Spelled.{Spelled}
@@ -26,8 +27,11 @@ AreAbove wanted marks table =
 abbrev pub AreFirst : List ℕ → ℕ → List ℕ → Type 0
 AreFirst marks width table = Tells (λ v. place_below (λ j. slice_index marks j == v) (length marks)) width table
 
--- ---- Go
+-- what a mark tells of each token
+abbrev pub marks_by : (ℕ → ℕ) → List Spelled → List ℕ
+marks_by mark ts = map mark (range_with_len 0 (length ts))
 
+-- ---- Go
 abbrev pub AreEnds : List Spelled → List ℕ → Type 0
 AreEnds ts table = Tells (go_end ts) (length ts) table
 

@@ -72,8 +72,10 @@ fn one_if(holds: bool) -> u32
 // The level behind a token of this sign.
 fn next_level(kind: Kind, sign: u8, level: u32) -> u32
     requires high { level ≤ 1000000 }
-    requires low { (if spec.closes_with kind sign then 1 else 0) ≤ level + (if spec.opens_with kind sign then 1 else 0) }
-    ensures { result + (if spec.closes_with kind sign then 1 else 0) ≡ level + (if spec.opens_with kind sign then 1 else 0) }
+    requires low { (if spec.closes_with kind sign then 1 else 0)
+        ≤ level + (if spec.opens_with kind sign then 1 else 0) }
+    ensures { result + (if spec.closes_with kind sign then 1 else 0)
+        ≡ level + (if spec.opens_with kind sign then 1 else 0) }
 {
     level + one_if(opens_with(kind, sign)) - one_if(closes_with(kind, sign))
 }

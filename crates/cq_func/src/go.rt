@@ -1,5 +1,4 @@
-ghost use Rattle.std.specs.Prelude.{◌≡◌, ◌≤◌, ◌<◌, ◌+◌, IfOk, length, map};
-ghost use Rattle.std.specs.List.{range_with_len};
+ghost use Rattle.std.specs.Prelude.{◌≡◌, ◌≤◌, ◌<◌, ◌+◌, IfOk, length};
 ghost use Rattle.cq_base.specs.declared.lang.Lang.TheVariants as lang;
 ghost use Rattle.cq_func.specs.declared.brackets.Kind.TheVariants as kind;
 ghost use Rattle.cq_func.specs.Functions as spec;
@@ -58,7 +57,7 @@ fn name_marks(
     requires counted { level.AreLevels lang.Go kind.All tokens.now levels.now }
     requires rounds { table.ArePartners lang.Go kind.Round tokens.now round.now }
     requires few { length tokens.now ≤ 262144 }
-    ensures { IfOk result (λ v. v.items ≡ map (names.go_name tokens.now) (range_with_len 0 (length tokens.now))) }
+    ensures { IfOk result (λ v. v.items ≡ table.marks_by (names.go_name tokens.now) tokens.now) }
 {
     let mut marks = Vec::with_capacity(alloc, tokens.len())?;
     for at in 0..tokens.len() {
@@ -101,7 +100,7 @@ fn end_mark(tokens: &[Spelled], levels: &[u32], at: usize) -> u32
 fn end_marks(alloc: Global, tokens: &[Spelled], levels: &[u32]) -> Result<Vec<u32>, Memory>
     requires counted { level.AreLevels lang.Go kind.All tokens.now levels.now }
     requires few { length tokens.now ≤ 262144 }
-    ensures { IfOk result (λ v. v.items ≡ map (level.end_mark tokens.now) (range_with_len 0 (length tokens.now))) }
+    ensures { IfOk result (λ v. v.items ≡ table.marks_by (level.end_mark tokens.now) tokens.now) }
 {
     let mut marks = Vec::with_capacity(alloc, tokens.len())?;
     for at in 0..tokens.len() {
@@ -138,7 +137,7 @@ fn open_mark(tokens: &[Spelled], curly: &[u32], at: usize) -> u32
 fn open_marks(alloc: Global, tokens: &[Spelled], curly: &[u32]) -> Result<Vec<u32>, Memory>
     requires curlies { table.ArePartners lang.Go kind.Curly tokens.now curly.now }
     requires few { length tokens.now ≤ 262144 }
-    ensures { IfOk result (λ v. v.items ≡ map (table.open_mark tokens.now) (range_with_len 0 (length tokens.now))) }
+    ensures { IfOk result (λ v. v.items ≡ table.marks_by (table.open_mark tokens.now) tokens.now) }
 {
     let mut marks = Vec::with_capacity(alloc, tokens.len())?;
     for at in 0..tokens.len() {

@@ -42,7 +42,8 @@ fn closes(alloc: Global, many: usize, functions: &[Found]) -> Result<Vec<u32>, M
 fn note(own: &mut Vec<u32>, stack: &[usize], decides: bool)
     requires within { All (λ b. b < length own.old.items) stack.now }
     requires few { All (λ n. n ≤ 262144) own.old.items }
-    ensures { own.new.items ≡ (if decides then walk.noted (reverse stack.now) own.old.items else own.old.items) }
+    ensures { own.new.items
+        ≡ (if decides then walk.noted (reverse stack.now) own.old.items else own.old.items) }
 {
     if !decides {
         return;
@@ -56,7 +57,8 @@ fn note(own: &mut Vec<u32>, stack: &[usize], decides: bool)
 fn move_on(stack: &mut Vec<usize>, closes: &[u32], at: usize) -> Result<(), Memory>
     requires within { All (λ b. b < length closes.now) stack.old.items }
     requires inside { at < length closes.now }
-    ensures { OnOk result (reverse stack.new.items ≡ walk.moved closes.now at (reverse stack.old.items)) }
+    ensures { OnOk result
+        (reverse stack.new.items ≡ walk.moved closes.now at (reverse stack.old.items)) }
 {
     if (closes[at] as usize) < closes.len() {
         stack.push(at)?;
@@ -79,7 +81,8 @@ pub(crate) fn own_decisions(
 ) -> Result<Vec<u32>, Memory>
     requires few { length tokens.now ≤ 262144 }
     requires bodies { walk.AreBodies (length tokens.now) functions.now }
-    ensures { IfOk result (λ t. walk.AreOwn lang tokens.now functions.now (length tokens.now) t.items) }
+    ensures { IfOk result
+        (λ t. walk.AreOwn lang tokens.now functions.now (length tokens.now) t.items) }
 {
     let closes = closes(alloc, tokens.len(), functions)?;
     let mut stack = Vec::new(alloc);

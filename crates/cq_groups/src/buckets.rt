@@ -24,7 +24,8 @@ pub trait Buckets {
     /// All entries of the files with the key, by change and then place.
     fn bucket(&mut self, alloc: Global, key: u64) -> Result<Vec<Entry>, Memory>
         requires { ready self.old }
-        ensures bucket { IfOk result (λ bucket. IsBucket (file_changes self.old) (file_keys self.old) key bucket.items) }
+        ensures bucket { IfOk result
+            (λ bucket. IsBucket (file_changes self.old) (file_keys self.old) key bucket.items) }
         ensures same_changes { file_changes self.new ≡ file_changes self.old }
         ensures same_keys { file_keys self.new ≡ file_keys self.old }
         ensures asked { Rises (asked self.old) (asked self.new) 1 }

@@ -25,8 +25,10 @@ fn list_keys<B: Buckets, F: Files>(
     requires for_keys { B.file_keys buckets.old ≡ keys_in index.now.corpus }
     requires ready { B.ready buckets.old }
     requires rising { AllPairs (λ a b. a < b) keys.now }
-    ensures groups { IfOk result (λ groups. AreGroupsOfKeys index.now.corpus min keys.now groups.items) }
-    ensures asked { OnOk result (Rises (B.asked buckets.old) (B.asked buckets.new) (length keys.now)) }
+    ensures groups { IfOk result
+        (λ groups. AreGroupsOfKeys index.now.corpus min keys.now groups.items) }
+    ensures asked { OnOk result
+        (Rises (B.asked buckets.old) (B.asked buckets.new) (length keys.now)) }
     ensures asked_most { RisesAtMost (B.asked buckets.old) (B.asked buckets.new) (length keys.now) }
     ensures same_changes { B.file_changes buckets.new ≡ B.file_changes buckets.old }
     ensures same_keys { B.file_keys buckets.new ≡ B.file_keys buckets.old }
@@ -55,9 +57,12 @@ pub fn list_all<B: Buckets, F: Files>(
     requires for_changes { B.file_changes buckets.old ≡ changes_in index.now.corpus }
     requires for_keys { B.file_keys buckets.old ≡ keys_in index.now.corpus }
     requires ready { B.ready buckets.old }
-    ensures groups { IfOk result (λ groups. AreGroups (tokens_in index.now.corpus.files) min groups.items) }
-    ensures asked { OnOk result (AsksEachKey index.now.corpus (B.asked buckets.old) (B.asked buckets.new)) }
-    ensures asked_most { AsksKeysAtMost index.now.corpus (B.asked buckets.old) (B.asked buckets.new) }
+    ensures groups { IfOk result
+        (λ groups. AreGroups (tokens_in index.now.corpus.files) min groups.items) }
+    ensures asked { OnOk result
+        (AsksEachKey index.now.corpus (B.asked buckets.old) (B.asked buckets.new)) }
+    ensures asked_most { AsksKeysAtMost index.now.corpus
+        (B.asked buckets.old) (B.asked buckets.new) }
     ensures same_changes { B.file_changes buckets.new ≡ B.file_changes buckets.old }
     ensures same_keys { B.file_keys buckets.new ≡ B.file_keys buckets.old }
     ensures ready { B.ready buckets.new }
@@ -108,9 +113,12 @@ pub fn list_file<B: Buckets, F: Files>(
     requires for_changes { B.file_changes buckets.old ≡ changes_in index.now.corpus }
     requires for_keys { B.file_keys buckets.old ≡ keys_in index.now.corpus }
     requires ready { B.ready buckets.old }
-    ensures groups { IfOk result (λ groups. AreGroupsIn (tokens_in index.now.corpus.files) min file groups.items) }
-    ensures asked { OnOk result (AsksEachKeyIn index.now.corpus file (B.asked buckets.old) (B.asked buckets.new)) }
-    ensures asked_most { AsksKeysAtMostIn index.now.corpus file (B.asked buckets.old) (B.asked buckets.new) }
+    ensures groups { IfOk result
+        (λ groups. AreGroupsIn (tokens_in index.now.corpus.files) min file groups.items) }
+    ensures asked { OnOk result
+        (AsksEachKeyIn index.now.corpus file (B.asked buckets.old) (B.asked buckets.new)) }
+    ensures asked_most { AsksKeysAtMostIn index.now.corpus file
+        (B.asked buckets.old) (B.asked buckets.new) }
     ensures same_changes { B.file_changes buckets.new ≡ B.file_changes buckets.old }
     ensures same_keys { B.file_keys buckets.new ≡ B.file_keys buckets.old }
     ensures ready { B.ready buckets.new }

@@ -32,7 +32,8 @@ fn push_entries(entries: &mut Vec<Entry>, change: u64, keys: &[u64], key: u64) -
 /// All entries of the files with the key, in order.
 fn entries_of<F: Files>(alloc: Global, files: &F, key: u64) -> Result<Vec<Entry>, Memory>
     requires { AllPairs (λ a b. a ≢ b) (F.changes files.now) }
-    ensures { IfOk result (λ entries. IsBucket (F.changes files.now) (F.keys files.now) key entries.items) }
+    ensures { IfOk result
+        (λ entries. IsBucket (F.changes files.now) (F.keys files.now) key entries.items) }
 {
     let mut entries = Vec::new(alloc);
     for file in 0..files.len() {

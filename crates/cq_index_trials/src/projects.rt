@@ -28,7 +28,8 @@ fn drawn_token(alloc: Global, draws: &mut Draws) -> Result<Norm, Memory>
 // Up to a dozen tokens.
 #[tactic(auto, using(std::proofs::lemmas::List::Sums::sum_by_push))]
 fn drawn_tokens(alloc: Global, draws: &mut Draws) -> Result<Vec<Norm>, Memory>
-    ensures { IfOk result (λ norms. (vec_len norms < 2 ^ 32) × (spelling_bytes norms.items < 2 ^ 32)) }
+    ensures { IfOk result
+        (λ norms. (vec_len norms < 2 ^ 32) × (spelling_bytes norms.items < 2 ^ 32)) }
 {
     let mut norms = Vec::new(alloc);
     for _token in 0..draws.below(13) {
@@ -48,7 +49,8 @@ fn file_of<L: Ledger>(
     requires short { spelling_bytes norms.now < 2 ^ 32 }
     requires some { 1 ≤ keyer.now.settings.chunk }
     ensures change { IfOk result (λ file. file.change ≡ change) }
-    ensures keys { IfOk result (λ file. arc_value file.keys ≡ window_keys keyer.now.settings (arc_value file.tokens)) }
+    ensures keys { IfOk result
+        (λ file. arc_value file.keys ≡ window_keys keyer.now.settings (arc_value file.tokens)) }
 {
     let keys = keyer.keys(alloc, norms)?;
     Ok(FileTokens {

@@ -32,7 +32,8 @@ impl Keyer {
     }
 
     fn key(&self, codes: &[u64]) -> u64
-        ensures { length codes.now ≡ self.now.settings.chunk → result ≡ spec.key_of self.now.settings codes.now }
+        ensures { length codes.now ≡ self.now.settings.chunk
+            → result ≡ spec.key_of self.now.settings codes.now }
     {
         (self.key)(codes)
     }

@@ -12,7 +12,8 @@ use Rattle.cq_munch.specs.Scans.{Scanned}
 use Rattle.cq_munch.specs.declared.unit.Unit.{Unit}
 use Rattle.cq_munch.proofs.CharacterTests.{apart_by, range_past, other_past, low_by}
 use Rattle.cq_munch.proofs.Runs.{run_begun, run_on}
-use Rattle.cq_lex_c.specs.Ascii.{begins_ascii, continues_ascii, begins_below, continues_below}
+use Rattle.cq_lex_c.specs.Ascii.{begins_below, continues_below}
+use Rattle.cq_lex_c.specs.AsciiNames.{begins_ascii, continues_ascii}
 use Rattle.cq_lex_c.specs.Characters.{begins_identifier, continues_identifier}
 use Rattle.cq_lex_c.specs.Identifiers.{IsTail, IsIdentifier}
 use Rattle.cq_lex_c.specs.declared.identifier.Identifier.TheVariants as part

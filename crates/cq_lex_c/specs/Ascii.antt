@@ -1,7 +1,6 @@
--- Which ASCII characters begin and continue an identifier.
+-- That the characters of ASCII which begin and continue an identifier are these.
 use Rattle.std.proofs.Common.{◌≡◌, ℕ, ◌<◌, Bool, true, false, ◌&&◌, ◌||◌, ◌==◌, not, nat_lt, List, [], ◌∷◌, refl, ◌∙◌}
 use Rattle.std.proofs.lemmas.Bool.{ltb-true, not-true, and_parts}
-use Rattle.std.specs.Char.{is_ascii_alphabetic, is_ascii_digit}
 use Rattle.std.specs.Bool.{beq}
 use Rattle.std.specs.Prelude.{IsTrue}
 use Rattle.std.specs.List.{list_all}
@@ -12,15 +11,10 @@ use Rattle.ucd_derived.proofs.BinaryLemmas.{is_xid_start_stepped, is_xid_continu
 use Rattle.unicode_ident.specs.Ident.{is_xid_start, is_xid_continue}
 use Rattle.cq_munch.specs.Longest.{IsAmong}
 use Rattle.cq_munch.proofs.WordLists.{among_passes}
+use Rattle.cq_lex_c.specs.AsciiNames.{begins_ascii, continues_ascii}
 use Rattle.cq_lex_c.specs.Characters.{begins_identifier, continues_identifier}
 use Rattle.cq_lex_c.specs.Identifiers.{IsTail, IsIdentifier, keywords}
 use Rattle.cq_lex_c.specs.declared.identifier.Identifier.TheVariants as at
-
-abbrev pub begins_ascii : ℕ → Bool
-begins_ascii c = is_ascii_alphabetic c || ((c == 95) || (c == 36))
-
-abbrev pub continues_ascii : ℕ → Bool
-continues_ascii c = begins_ascii c || is_ascii_digit c
 
 pub begins_below : (c : ℕ) → c < 128 → begins_identifier c ≡ begins_ascii c
 unfolding tables begins_identifier is_xid_start_stepped

@@ -1,4 +1,5 @@
 pub mod Characters
+pub mod AsciiNames
 pub mod Splices
 pub mod Staying
 pub mod Identifiers

@@ -11,7 +11,8 @@ use Rattle.cq_munch.specs.declared.quoted.Quote.TheVariants.{Double, Single}
 use Rattle.cq_munch.specs.Language.{HasOneKind}
 use Rattle.cq_munch.proofs.OneKind.{OneKind, one_row, one_more, two_apart, by_fronts, no_word_spelled, of_table, of_first, of_commented, of_marked}
 use Rattle.cq_munch.proofs.WordLists.{among_passes}
-use Rattle.cq_lex_c.specs.Ascii.{continues_ascii, continues_below, keyword_is_identifier}
+use Rattle.cq_lex_c.specs.Ascii.{continues_below, keyword_is_identifier}
+use Rattle.cq_lex_c.specs.AsciiNames.{continues_ascii}
 use Rattle.cq_lex_c.specs.C.{c as c_language, is_blank, is_other, IsOther, rows, identifiers, reserved, blanks, numbers, texts, prefixed, marks, others, headers, opens_header, with_comments, unmarked, moded}
 use Rattle.cq_lex_c.specs.Characters.{begins_identifier, continues_identifier}
 use Rattle.cq_lex_c.specs.Fronts.{front_of, placed, rows_of}

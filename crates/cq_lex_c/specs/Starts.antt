@@ -9,7 +9,8 @@ use Rattle.cq_munch.specs.Quotes.{quoted}
 use Rattle.cq_munch.specs.declared.ends.LineEnds.TheVariants.{ReturnOrFeed}
 use Rattle.cq_munch.specs.declared.quoted.Quote.TheVariants.{Double, Single}
 use Rattle.cq_munch.proofs.Dispatch.{Known, char_stands, letter_stands, this_stands, words_stand, pattern_stands, same_test, letter_test}
-use Rattle.cq_lex_c.specs.Ascii.{begins_ascii, begins_below, keyword_is_identifier}
+use Rattle.cq_lex_c.specs.Ascii.{begins_below, keyword_is_identifier}
+use Rattle.cq_lex_c.specs.AsciiNames.{begins_ascii}
 use Rattle.cq_lex_c.specs.C.{is_blank, is_other, IsOther, blank_characters, blanks, marks}
 use Rattle.cq_lex_c.specs.Fronts.{front_table, front_of, placed, at_letter, at_identifier, at_blank, at_digit, at_number, at_quote, at_mark, at_other}
 use Rattle.cq_lex_c.specs.Identifiers.{IsTail, IsIdentifier}

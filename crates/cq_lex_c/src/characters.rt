@@ -1,10 +1,10 @@
-ghost use Rattle.std.specs.Prelude.{◌≡◌, ◌==◌, ◌||◌};
-ghost use Rattle.std.specs.Char.{is_ascii_alphabetic, is_ascii_digit};
+ghost use Rattle.std.specs.Prelude.{◌≡◌};
+ghost use Rattle.cq_lex_c.specs.AsciiNames.{begins_ascii, continues_ascii};
 ghost use Rattle.cq_lex_c.specs.Characters.{begins_identifier, continues_identifier};
 
 /// Whether the character is one of ASCII that begins an identifier.
 pub(crate) fn begins_ascii(ch: char) -> bool
-    ensures { result ≡ (is_ascii_alphabetic ch || ((ch == 95) || (ch == 36))) }
+    ensures { result ≡ begins_ascii ch }
 {
     ch.is_ascii_alphabetic() || ch == '_' || ch == '$'
 }
@@ -18,7 +18,7 @@ static CONTINUES: [u8; 128] = *b"\
 
 /// Whether the character is one of ASCII that continues an identifier.
 pub(crate) fn continues_ascii(ch: char) -> bool
-    ensures { result ≡ ((is_ascii_alphabetic ch || ((ch == 95) || (ch == 36))) || is_ascii_digit ch) }
+    ensures { result ≡ continues_ascii ch }
 {
     let code = ch as u32;
     if code >= 128 {

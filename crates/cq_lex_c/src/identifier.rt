@@ -1,8 +1,8 @@
 ghost use Rattle.std.specs.Prelude.{◌≡◌, ◌↔◌, ◌==◌, ◌||◌, not, nat_lt, IsTrue};
-ghost use Rattle.std.specs.Char.{is_ascii_alphabetic};
 ghost use Rattle.cq_munch.specs.Characters.{characters};
 ghost use Rattle.cq_munch.specs.Fronts.{starts};
 ghost use Rattle.cq_munch.specs.Longest.{LongestAt, IsAmong};
+ghost use Rattle.cq_lex_c.specs.AsciiNames.{begins_ascii};
 ghost use Rattle.cq_lex_c.specs.Identifiers.{IsIdentifier, identifier_rest, keywords};
 
 use crate::characters::{begins_ascii, begins_identifier, continues_ascii, continues_identifier};
@@ -67,7 +67,7 @@ impl Machine for Identifier {
 
 // Whether a character of ASCII at the front begins an identifier.
 fn begins_plainly(units: &[Unit]) -> bool
-    ensures { result ≡ starts (λ c. is_ascii_alphabetic c || ((c == 95) || (c == 36))) (characters units.now) }
+    ensures { result ≡ starts begins_ascii (characters units.now) }
 {
     match units {
         [first, ..] => begins_ascii(first.ch),

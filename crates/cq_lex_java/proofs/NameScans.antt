@@ -12,7 +12,8 @@ use Rattle.cq_munch.specs.Scans.{Scanned}
 use Rattle.cq_munch.specs.declared.unit.Unit.{Unit}
 use Rattle.cq_munch.proofs.CharacterTests.{range_past, other_past, low_by}
 use Rattle.cq_munch.proofs.Runs.{run_begun, run_on}
-use Rattle.cq_lex_java.specs.Ascii.{begins_ascii, continues_ascii, begins_below, continues_below}
+use Rattle.cq_lex_java.specs.Ascii.{begins_below, continues_below}
+use Rattle.cq_lex_java.specs.AsciiNames.{begins_ascii, continues_ascii}
 use Rattle.cq_lex_java.specs.Words.{IsIdentifier, continues_identifier}
 
 begins_past : (c : ℕ) → 128 ≤ c → begins_ascii c ≡ false

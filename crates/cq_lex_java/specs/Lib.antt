@@ -1,4 +1,5 @@
 pub mod Words
+pub mod AsciiNames
 pub mod Escapes
 pub mod Translation
 pub mod Eligible

@@ -5,7 +5,8 @@ use Rattle.cq_munch.specs.Quotes.{quoted}
 use Rattle.cq_munch.specs.declared.ends.LineEnds.TheVariants.{ReturnOrFeed}
 use Rattle.cq_munch.specs.declared.quoted.Quote.TheVariants.{Double, Single}
 use Rattle.cq_munch.proofs.Dispatch.{Known, letter_stands, words_stand, pattern_stands}
-use Rattle.cq_lex_java.specs.Ascii.{begins_ascii, begins_below, keyword_is_identifier}
+use Rattle.cq_lex_java.specs.Ascii.{begins_below, keyword_is_identifier}
+use Rattle.cq_lex_java.specs.AsciiNames.{begins_ascii}
 use Rattle.cq_lex_java.specs.Fronts.{front_table, front_of, placed, at_letter, at_blank, at_number, at_double, at_single, at_mark}
 use Rattle.cq_lex_java.specs.Java.{blanks, numbers, strings, chars, marks}
 use Rattle.cq_lex_java.specs.Numbers.{number}

@@ -1,8 +1,8 @@
-ghost use Rattle.std.specs.Prelude.{◌≡◌, ◌==◌, ◌||◌, ◌↔◌, IsTrue};
-ghost use Rattle.std.specs.Char.{is_ascii_alphabetic, is_ascii_digit};
+ghost use Rattle.std.specs.Prelude.{◌≡◌, ◌↔◌, IsTrue};
 ghost use Rattle.cq_munch.specs.Characters.{characters};
 ghost use Rattle.cq_munch.specs.Fronts.{starts};
 ghost use Rattle.cq_munch.specs.Longest.{LongestAt, IsAmong};
+ghost use Rattle.cq_lex_java.specs.AsciiNames.{begins_ascii, continues_ascii};
 ghost use Rattle.cq_lex_java.specs.NameStates.{identifier_rest};
 ghost use Rattle.cq_lex_java.specs.Words.{IsIdentifier, begins_identifier, continues_identifier, keywords};
 
@@ -10,7 +10,7 @@ use cq_munch::{Machine, Unit, is_listed_by_letter, longest_spelling, longest_spe
 
 // Of the characters of ASCII these begin an identifier.
 fn begins_ascii(ch: char) -> bool
-    ensures { result ≡ (is_ascii_alphabetic ch || ((ch == 95) || (ch == 36))) }
+    ensures { result ≡ begins_ascii ch }
 {
     ch.is_ascii_alphabetic() || ch == '_' || ch == '$'
 }
@@ -24,7 +24,7 @@ static CONTINUES: [u8; 128] = *b"\
 
 // Whether the character is one of ASCII that continues an identifier.
 fn continues_ascii(ch: char) -> bool
-    ensures { result ≡ ((is_ascii_alphabetic ch || ((ch == 95) || (ch == 36))) || is_ascii_digit ch) }
+    ensures { result ≡ continues_ascii ch }
 {
     let code = ch as u32;
     if code >= 128 {
@@ -79,7 +79,7 @@ impl Machine for Identifier {
 
 // Whether a character of ASCII at the front begins an identifier.
 fn begins_plainly(units: &[Unit]) -> bool
-    ensures { result ≡ starts (λ c. is_ascii_alphabetic c || ((c == 95) || (c == 36))) (characters units.now) }
+    ensures { result ≡ starts begins_ascii (characters units.now) }
 {
     match units {
         [first, ..] => begins_ascii(first.ch),

@@ -52,7 +52,8 @@ pub(crate) fn reply_of<R: Threads + Sync, L: Ledger>(
     requires settings { keyer.now.settings ≡ settings.now }
     requires hub_settings { ⟦<Solo<Work<L>> as Hub<Work<L>>>⟧.settings hub.now ≡ settings.now }
     requires closed { MayLead ⟦<Solo<Work<L>> as Hub<Work<L>>>⟧.Stands 1 hub.now pass.old Always }
-    ensures reply { IfOk result (Answers ⟦<Solo<Work<L>> as Hub<Work<L>>>⟧ hub.now pass.old pass.new settings.now kind) }
+    ensures reply { IfOk result (Answers ⟦<Solo<Work<L>> as Hub<Work<L>>>⟧
+        hub.now pass.old pass.new settings.now kind) }
 {
     let query = question(alloc, kind)?;
     query_reply(

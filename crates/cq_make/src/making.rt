@@ -27,7 +27,8 @@ use std::thread::Threads;
 
 fn group_count(reply: &Reply) -> u64
     requires { ShowsGroups reply.now }
-    ensures { (rows : List GroupRow) (v : ℕ) → reply.now ≡ told.Groups rows v → result ≡ length rows }
+    ensures { (rows : List GroupRow) (v : ℕ)
+        → reply.now ≡ told.Groups rows v → result ≡ length rows }
 {
     match reply {
         Reply::Groups { groups, .. } => groups.as_slice().len() as u64,
@@ -37,7 +38,8 @@ fn group_count(reply: &Reply) -> u64
 
 fn measures_in(reply: &Reply) -> &Measures
     requires { ShowsMeasures reply.now }
-    ensures { (measures : Measures) (v : ℕ) → reply.now ≡ told.Measures measures v → result.now ≡ measures }
+    ensures { (measures : Measures) (v : ℕ)
+        → reply.now ≡ told.Measures measures v → result.now ≡ measures }
 {
     match reply {
         Reply::Measures { measures, .. } => measures,
@@ -66,9 +68,12 @@ fn line_told(
     rows: &Reply,
 ) -> Result<Text, Memory>
     requires few { files ≤ 262144 }
-    requires groups { IsReply settings.now (puts_to number files) files (question kind.Groups) groups.now }
-    requires measures { IsReply settings.now (puts_to number files) files (question kind.Measures) measures.now }
-    requires rows { IsReply settings.now (puts_to number files) files (question kind.Files) rows.now }
+    requires groups { IsReply settings.now (puts_to number files) files
+        (question kind.Groups) groups.now }
+    requires measures { IsReply settings.now (puts_to number files) files
+        (question kind.Measures) measures.now }
+    requires rows { IsReply settings.now (puts_to number files) files
+        (question kind.Files) rows.now }
     ensures { IfOk result (IsSummary settings.now number files) }
 {
     let groups = group_count(groups);
@@ -145,7 +150,8 @@ pub fn make<R: Threads + Sync, K: Sink, L: Ledger>(
     requires short { settings.now.chunk ≤ 50 }
     requires few { files ≤ settings.now.change_limit }
     requires room { 280 * files ≤ settings.now.text_limit }
-    ensures line { IfOk result (Makes settings.now number files (K.written sink.old) (K.written sink.new)) }
+    ensures line { IfOk result
+        (Makes settings.now number files (K.written sink.old) (K.written sink.new)) }
     ensures cause { IfOk result (HasCause (K.faults sink.old) (K.faults sink.new)) }
     ensures memory { OnErr result (sink.new ≡ sink.old) }
 {

@@ -21,7 +21,8 @@ fn put_one<W: Indexed>(
     requires few { file + 1 ≤ (⟦<Solo<W> as Hub<W>>⟧.settings hub.now).change_limit }
     requires room { 280 * (file + 1) ≤ (⟦<Solo<W> as Hub<W>>⟧.settings hub.now).text_limit }
     requires put { HasPut ⟦<Solo<W> as Hub<W>>⟧.Stands hub.now pass.old number file }
-    ensures put { IfOk result (λ _. HasPut ⟦<Solo<W> as Hub<W>>⟧.Stands hub.now pass.new number (file + 1)) }
+    ensures put { IfOk result
+        (λ _. HasPut ⟦<Solo<W> as Hub<W>>⟧.Stands hub.now pass.new number (file + 1)) }
 {
     let change = put_of(alloc, number, file)?;
     match hub.accept(alloc, change, pass) {
@@ -43,8 +44,10 @@ pub(crate) fn put_all<W: Indexed>(
 ) -> Result<(), Memory>
     requires few { files ≤ (⟦<Solo<W> as Hub<W>>⟧.settings hub.now).change_limit }
     requires room { 280 * files ≤ (⟦<Solo<W> as Hub<W>>⟧.settings hub.now).text_limit }
-    requires empty { MayLead ⟦<Solo<W> as Hub<W>>⟧.Stands 1 hub.now pass.old (λ h. accepted h ≡ []) }
-    ensures put { IfOk result (λ _. HasPut ⟦<Solo<W> as Hub<W>>⟧.Stands hub.now pass.new number files) }
+    requires empty { MayLead ⟦<Solo<W> as Hub<W>>⟧.Stands 1 hub.now pass.old
+        (λ h. accepted h ≡ []) }
+    ensures put { IfOk result
+        (λ _. HasPut ⟦<Solo<W> as Hub<W>>⟧.Stands hub.now pass.new number files) }
 {
     for file in 0..files {
         put_one(alloc, hub, number, file, pass)?;

@@ -37,6 +37,10 @@ pub record AreLonger (more : ℕ → List Run) (old new : List (List Run)) : Typ
   pub as_many : length new ≡ length old
   pub each : (i : ℕ) (d : List Run) → i < length old → slice_index_or new i d ≡ slice_index_or old i d ++ more i
 
+-- the list of each file has the places of one more group in it behind
+abbrev pub AddsGroup : Group → List (Vec Run Global) → List (Vec Run Global) → Type 0
+AddsGroup g old new = AreLonger (λ file. group_runs file g.tokens g.places) (map (λ part. part.items) old) (map (λ part. part.items) new)
+
 abbrev pub ArePlacesBelow : ℕ → Group → Type 0
 ArePlacesBelow files g = All (λ p. p.file < files) g.places
 
@@ -71,6 +75,10 @@ pub record IsPartTally (files : List FileLines) (parts : List (Vec Run Global)) 
 
 abbrev pub tally_at : List Tally → ℕ → Tally
 tally_at tallies i = slice_index_or tallies i (record { lines = 0; extents = 0; files = 0 })
+
+-- each is what the runs of its file come to
+abbrev pub ArePartTallies : List FileLines → List (Vec Run Global) → List Tally → Type 0
+ArePartTallies files parts tallies = (i : ℕ) → i < length files → IsPartTally files parts i (tally_at tallies i)
 
 -- ---- what the files come to together
 

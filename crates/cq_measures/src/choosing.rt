@@ -42,7 +42,8 @@ fn add_extent(
     requires ascending { IsStrictlyIncreasing chosen.now }
     requires some { 1 ≤ tokens }
     requires inside { spec.IsInside (spec.spans_of files.now) tokens place }
-    ensures { OnOk result (spec.AddsPlace files.now chosen.now tokens place extents.old.items extents.new.items) }
+    ensures { OnOk result
+        (spec.AddsPlace files.now chosen.now tokens place extents.old.items extents.new.items) }
 {
     if is_among(chosen, place.file) {
         extents.push(extent_of(files, tokens, place))?;
@@ -59,7 +60,8 @@ fn add_extents(
 ) -> Result<(), Memory>
     requires ascending { IsStrictlyIncreasing chosen.now }
     requires inside { spec.IsGroupInside (spec.spans_of files.now) group.now }
-    ensures { OnOk result (spec.AddsPlaces files.now chosen.now group.now extents.old.items extents.new.items) }
+    ensures { OnOk result
+        (spec.AddsPlaces files.now chosen.now group.now extents.old.items extents.new.items) }
 {
     for place in group.places.as_slice() {
         add_extent(files, chosen, group.tokens, *place, extents)?;
@@ -76,7 +78,8 @@ pub(crate) fn chosen_extents(
 ) -> Result<Vec<Extent>, Memory>
     requires ascending { IsStrictlyIncreasing chosen.now }
     requires inside { spec.AreGroupsInside (spec.spans_of files.now) groups.now }
-    ensures extents { IfOk result (λ v. v.items ≡ spec.chosen_extents chosen.now (spec.spans_of files.now) groups.now) }
+    ensures extents { IfOk result
+        (λ v. v.items ≡ spec.chosen_extents chosen.now (spec.spans_of files.now) groups.now) }
     ensures below { (n : ℕ) → length files.now ≤ n → IfOk result (λ v. AreBelow n v.items) }
 {
     let mut extents = Vec::new(alloc);
@@ -100,7 +103,8 @@ pub(crate) fn chosen_files<'a>(
     chosen: &[u32],
 ) -> Result<Vec<FileLines<'a>>, Memory>
     requires { All (λ file. file < length files.now) chosen.now }
-    ensures { IfOk result (λ v. spec.counts_of v.items ≡ spec.counts_at (spec.counts_of files.now) chosen.now) }
+    ensures { IfOk result
+        (λ v. spec.counts_of v.items ≡ spec.counts_at (spec.counts_of files.now) chosen.now) }
 {
     let mut all = Vec::with_capacity(alloc, chosen.len())?;
     for file in chosen {

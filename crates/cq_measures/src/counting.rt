@@ -94,7 +94,8 @@ pub(crate) fn count_up(extents: Vec<Extent>) -> Tally
 }
 
 fn code_extents(alloc: Global, tokens: &[Token]) -> Result<Vec<Extent>, Memory>
-    ensures { IfOk result (λ v. v.items ≡ map spec.extent_of_token (filter spec.has_bytes tokens.now)) }
+    ensures { IfOk result
+        (λ v. v.items ≡ map spec.extent_of_token (filter spec.has_bytes tokens.now)) }
 {
     let mut extents = Vec::new(alloc);
     for token in tokens {

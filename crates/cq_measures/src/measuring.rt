@@ -1,8 +1,7 @@
-ghost use Rattle.std.specs.Prelude.{◌≡◌, ◌≤◌, ◌<◌, ◌^◌, List, length, All, IfOk};
+ghost use Rattle.std.specs.Prelude.{◌≡◌, ◌≤◌, ◌<◌, ◌^◌, length, All, IfOk};
 ghost use Rattle.std.specs.List.Sorted.{IsStrictlyIncreasing};
+ghost use Rattle.cq_measures.specs.Calls.{AreMeasurable, AreMeasuresBy};
 ghost use Rattle.cq_measures.specs.Measures as spec;
-ghost use Rattle.cq_measures.specs.declared.extent.Extent.{Extent};
-ghost use Rattle.cq_measures.specs.Counts.{IsTallyOf};
 ghost use Rattle.cq_measures.specs.Parted.{AreRunsInside, runs_in};
 
 use crate::choosing::{chosen_extents, chosen_files};
@@ -47,7 +46,7 @@ fn total(files: &[FileLines]) -> FileCounts
 // The measures of `files` files with these counts, whose places have these extents.
 fn measures_of(files: u64, counts: FileCounts, tally: Tally) -> Measures
     requires { tally.lines ≤ 2 ^ 50 }
-    ensures { (extents : List Extent) → IsTallyOf extents tally → result ≡ spec.measures_of files counts extents }
+    ensures { AreMeasuresBy files counts tally result }
 {
     Measures {
         lines: counts.lines,
@@ -70,7 +69,7 @@ pub fn project_measures<R: Threads + Sync>(
     files: &[FileLines],
     groups: &[Group],
 ) -> Result<Measures, Memory>
-    requires { spec.IsMeasurable (spec.counts_of files.now) (spec.spans_of files.now) groups.now }
+    requires { AreMeasurable files.now groups.now }
     ensures { IfOk result (λ m. m ≡ spec.measures_of_project files.now groups.now) }
 {
     let parts = parted(alloc, files.len(), groups)?;
@@ -106,7 +105,7 @@ pub fn chosen_measures(
     chosen: &[u32],
     groups: &[Group],
 ) -> Result<Measures, Memory>
-    requires measurable { spec.IsMeasurable (spec.counts_of files.now) (spec.spans_of files.now) groups.now }
+    requires measurable { AreMeasurable files.now groups.now }
     requires ascending { IsStrictlyIncreasing chosen.now }
     requires inside { All (λ file. file < length files.now) chosen.now }
     ensures { IfOk result (λ m. m ≡ spec.measures_of_chosen files.now chosen.now groups.now) }

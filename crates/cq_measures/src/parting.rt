@@ -25,7 +25,7 @@ fn empty(alloc: Global, files: usize) -> Result<Vec<Vec<Run>>, Memory>
 // Puts each place of a group behind those of its file.
 fn part(group: &Group, parts: &mut Vec<Vec<Run>>) -> Result<(), Memory>
     requires { spec.ArePlacesBelow (length parts.old.items) group.now }
-    ensures { OnOk result (spec.AreLonger (λ file. spec.group_runs file group.now.tokens group.now.places) (map (λ part. part.items) parts.old.items) (map (λ part. part.items) parts.new.items)) }
+    ensures { OnOk result (spec.AddsGroup group.now parts.old.items parts.new.items) }
 {
     for place in group.places.as_slice() {
         parts[place.file as usize].push(Run {

@@ -1,9 +1,8 @@
-ghost use Rattle.std.specs.Prelude.{◌≡◌, ℕ, ◌<◌, ◌≤◌, ◌^◌, List, length, map, IfOk};
+ghost use Rattle.std.specs.Prelude.{◌≡◌, ℕ, ◌<◌, ◌≤◌, ◌^◌, length, map, IfOk};
+ghost use Rattle.cq_measures.specs.Calls.{IsSumOf};
+ghost use Rattle.cq_measures.specs.Counts.{IsTallyOf};
 ghost use Rattle.cq_measures.specs.Measures.{spans_of};
 ghost use Rattle.cq_measures.specs.Parted as spec;
-ghost use Rattle.cq_measures.specs.Sorted.{AreBelow};
-ghost use Rattle.cq_measures.specs.declared.extent.Extent.{Extent};
-ghost use Rattle.cq_measures.specs.Counts.{IsTallyOf};
 
 use crate::counting::{Tally, count_up};
 use crate::extent::{Extent, FileLines};
@@ -78,14 +77,15 @@ pub(crate) fn tallies_of<R: Threads + Sync>(
     requires number { length parts.now ≡ length files.now }
     requires inside { (i : ℕ) → i < length files.now → spec.ArePartInside files.now parts.now i }
     ensures number { IfOk result (λ v. length v.items ≡ length files.now) }
-    ensures each { IfOk result (λ v. (i : ℕ) → i < length files.now → spec.IsPartTally files.now parts.now i (spec.tally_at v.items i)) }
+    ensures each { IfOk result (λ v. spec.ArePartTallies files.now parts.now v.items) }
 {
     (0..files.len())
         .into_par_iter()
         .with_min_len(least)
         .map(
             |i: usize| -> Result<Tally, Memory>
-                requires { (i < length files.now) × (i < length parts.now) × (i < 262144) × spec.ArePartInside files.now parts.now i }
+                requires { (i < length files.now) × (i < length parts.now)
+                    × (i < 262144) × spec.ArePartInside files.now parts.now i }
                 ensures { IfOk result (spec.IsPartTally files.entry.now parts.entry.now i) }
             { file_tally(alloc, i as u32, files[i].spans, &parts[i]) },
         )
@@ -96,7 +96,7 @@ pub(crate) fn tallies_of<R: Threads + Sync>(
 pub(crate) fn added(tallies: &[Tally]) -> Result<Tally, Memory>
     requires few { length tallies.now ≤ 262144 }
     requires small { spec.AreSmallTallies tallies.now }
-    ensures sums { IfOk result (λ t. (extents : List Extent) → AreBelow (length tallies.now) extents → spec.AreTallies extents tallies.now → IsTallyOf extents t) }
+    ensures sums { IfOk result (IsSumOf tallies.now) }
     ensures within { IfOk result (λ t. t.lines ≤ 2 ^ 50) }
 {
     let mut all = Tally {

@@ -2,6 +2,7 @@
 use Rattle.std.specs.Prelude.{ℕ, ◌-◌, ◌==◌, if◌then◌else◌, List, [], map, slice_index_or}
 use Rattle.std.specs.Borrow.{Bor}
 use Rattle.std.specs.Char.{is_ascii_lowercase}
+use Rattle.cq_munch.specs.Longest.{IsAmong}
 
 -- the row of the words that begin with a character: one for each small letter, one for the underscore, and none for others
 abbrev pub row_of : ℕ → ℕ
@@ -14,3 +15,7 @@ words_in_row rows n = slice_index_or (map (λ words. map (λ word. word.now) wor
 -- the words of the row in which a text would stand
 abbrev pub words_beside : List (Bor (List (Bor (List ℕ)))) → List ℕ → List (List ℕ)
 words_beside rows s = words_in_row rows (row_of (slice_index_or s 0 0))
+
+-- the text is one of them
+abbrev pub IsListedByLetter : List (Bor (List (Bor (List ℕ)))) → List ℕ → Type 0
+IsListedByLetter rows s = IsAmong (words_beside rows s) s

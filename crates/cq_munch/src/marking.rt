@@ -78,7 +78,8 @@ fn said(units: &[Unit]) -> Option<bool>
 /// Adds the mark that a comment is, if one of the two words stands in it.
 pub(crate) fn add_mark(marks: &mut Vec<Mark>, units: &[Unit]) -> Result<(), Memory>
     requires { 0 < length units.now }
-    ensures { IfOk result (λ _. marks.new.items ≡ marks.old.items ++ cons_option (spec.mark_of Comment units.now) []) }
+    ensures { IfOk result (λ _. marks.new.items
+        ≡ marks.old.items ++ cons_option (spec.mark_of Comment units.now) []) }
 {
     if let Some(on) = said(units) {
         let at = units[0].start;

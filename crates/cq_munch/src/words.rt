@@ -2,8 +2,7 @@ ghost use Rattle.std.specs.Prelude.{◌≡◌, ◌↔◌, ◌<◌, ◌≤◌, le
 ghost use Rattle.std.specs.List.{list_any};
 ghost use Rattle.std.specs.Str.{bytes_eq};
 ghost use Rattle.cq_munch.specs.Characters.{characters, AreAscii};
-ghost use Rattle.cq_munch.specs.ByLetter.{row_of, words_beside};
-ghost use Rattle.cq_munch.specs.Longest.{IsAmong};
+ghost use Rattle.cq_munch.specs.ByLetter.{row_of, IsListedByLetter};
 
 use crate::unit::Unit;
 
@@ -79,7 +78,7 @@ fn row_beside(name: &[Unit]) -> usize
 /// Whether the units spell a word of a table, whose rows are those of the words that begin with a, b and so on, and last
 /// with an underscore. It costs a look at the length of each word in the row, and mostly at one byte of those that fit.
 pub fn is_listed_by_letter(by_letter: &[&[&[u8]]], name: &[Unit]) -> bool
-    ensures { IsTrue result ↔ IsAmong (words_beside by_letter.now (characters name.now)) (characters name.now) }
+    ensures { IsTrue result ↔ IsListedByLetter by_letter.now (characters name.now) }
 {
     match by_letter.get(row_beside(name)) {
         Some(words) => is_among(words, name),

@@ -1,4 +1,4 @@
-ghost use Rattle.std.specs.Prelude.{◌≡◌, ◌≤◌, IfOk, length, map, option_map, unwrap_or};
+ghost use Rattle.std.specs.Prelude.{◌≡◌, ◌≤◌, IfOk, length, map, option_copied, unwrap_or};
 ghost use Rattle.std.specs.List.Sorted.{IsNonDecreasingBy};
 ghost use Rattle.cq_normal.specs.Kept.{kept, spans_of};
 ghost use Rattle.cq_normal.specs.Normal as spec;
@@ -16,7 +16,7 @@ pub struct Normal {
 
 /// What a digraph of C stands for, if the spelling is one.
 pub fn meaning(spelling: &[u8]) -> Option<&'static str>
-    ensures { unwrap_or (option_map (λ s. s.now) result) spelling.now ≡ spec.undigraphed spelling.now }
+    ensures { unwrap_or (option_copied result) spelling.now ≡ spec.undigraphed spelling.now }
 {
     match spelling {
         b"<:" => Some("["),
@@ -108,7 +108,8 @@ pub fn normalise(
     marks: &[Mark],
 ) -> Result<Normal, Memory>
     requires ascending { IsNonDecreasingBy (λ m. m.at) marks.now }
-    ensures norms { IfOk result (λ n. n.norms.items ≡ spec.normal settings.now lang (kept marks.now tokens.items)) }
+    ensures norms { IfOk result
+        (λ n. n.norms.items ≡ spec.normal settings.now lang (kept marks.now tokens.items)) }
     ensures spans { IfOk result (λ n. n.spans.items ≡ spans_of (kept marks.now tokens.items)) }
     ensures no_more { IfOk result (λ n. length n.norms.items ≤ length tokens.items) }
     ensures no_longer { IfOk result (λ n. spec.AreNoLonger tokens.items n.norms.items) }

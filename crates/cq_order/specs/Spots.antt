@@ -21,6 +21,10 @@ pub record AreSpots (changes : List ℕ) (spots : List Spot) : Type 0 where
   pub rising : AllPairs SpotBefore spots
   pub each : (change : ℕ) → IsPositionOf changes change (spot_of spots change)
 
+-- it is the position of the change in whichever list these are the spots of
+abbrev pub IsPositionBySpots : List Spot → ℕ → Option ℕ → Type 0
+IsPositionBySpots spots change position = (changes : List ℕ) → AreSpots changes spots → IsPositionOf changes change position
+
 -- the test of the order
 abbrev pub is_spot_before : Spot → Spot → Bool
 is_spot_before a b = nat_lt a.change b.change
@@ -33,6 +37,10 @@ with_positions file (change ∷ changes) = record { change = change; file = file
 -- By change, from 0, each has its position in the list, where that is one of so many at the front.
 abbrev pub AreTheirPositions : ℕ → List ℕ → List (Option ℕ) → Type 0
 AreTheirPositions n changes positions = (change file : ℕ) → (get_or positions change None ≡ Some file) ↔ ((file < n) × (slice_get changes file ≡ Some change))
+
+-- the same of all of the list
+abbrev pub AreAllTheirPositions : List ℕ → List (Option ℕ) → Type 0
+AreAllTheirPositions changes positions = AreTheirPositions (length changes) changes positions
 
 -- the spots that positions by change are, of which the first is that of this change
 abbrev pub spots_by_change : ℕ → List (Option ℕ) → List Spot

@@ -1,7 +1,7 @@
-ghost use Rattle.std.specs.Prelude.{◌≡◌, ◌≢◌, ◌+◌, ◌++◌, ◌∷◌, [], ◌<◌, ◌≤◌, ◌^◌, ℕ, List, length, map, remove, All, AllPairs, IfOk, OnOk, OnErr};
+ghost use Rattle.std.specs.Prelude.{◌≡◌, ◌≢◌, ◌+◌, ◌++◌, ◌∷◌, [], ◌<◌, ◌≤◌, ◌^◌, length, map, remove, All, AllPairs, IfOk, OnOk, OnErr};
 ghost use Rattle.std.specs.Ordering.{is_lt};
 ghost use Rattle.cq_order.specs.Order.{IsOrderOf};
-ghost use Rattle.cq_order.specs.Spots.{AreSpots, IsPositionOf, SpotBefore, spot_of, is_spot_before, with_positions, changes_of, Replaces, Inserts, Removes, opened, closed};
+ghost use Rattle.cq_order.specs.Spots.{AreSpots, IsPositionOf, IsPositionBySpots, SpotBefore, spot_of, is_spot_before, with_positions, changes_of, Replaces, Inserts, Removes, opened, closed};
 
 use crate::counting::{counted, greatest};
 use crate::rising::reach;
@@ -162,7 +162,7 @@ fn place_of(numbers: &[u64], number: u64) -> Option<usize>
 pub fn spot_of(spots: &Spots, change: u64) -> Option<u32>
     requires rising { AllPairs SpotBefore spots.now }
     ensures spot { result ≡ spot_of spots.now change }
-    ensures position { (changes : List ℕ) → AreSpots changes spots.now → IsPositionOf changes change result }
+    ensures position { IsPositionBySpots spots.now change result }
 {
     match spots.index_of(change) {
         Some(i) => Some(spots.files[i]),

@@ -49,7 +49,8 @@ fn serve<R: Threads + Sync, S: Source, K: Sink, G: Gate, L: Ledger>(
         × (K.faults sink.new ≡ K.faults sink.old) }
     ensures spent { result ≡ 6 → (S.faults source.new ≡ S.faults source.old)
         × (K.faults sink.new ≡ K.faults sink.old) }
-    ensures runs { Runs S.Source K.Sink settings.now steps.old steps.new source.old source.new sink.old sink.new result }
+    ensures runs { Runs S.Source K.Sink settings.now steps.old steps.new
+        source.old source.new sink.old sink.new result }
 {
     let of = *settings;
     let Ok(key) = Box::new(alloc, move |codes: &[u64]| plain_key(&of, codes)) else {
@@ -93,7 +94,8 @@ fn run_with<Q: Threads + Wait + Sync, S: Source, K: Sink, G: Gate + Sync, L: Led
         × (K.faults sink.new ≡ K.faults sink.old) }
     ensures spent { result ≡ 6 → (S.faults source.new ≡ S.faults source.old)
         × (K.faults sink.new ≡ K.faults sink.old) }
-    ensures runs { RunsAsked S.Source K.Sink asked steps.old steps.new source.old source.new sink.old sink.new result }
+    ensures runs { RunsAsked S.Source K.Sink asked steps.old steps.new
+        source.old source.new sink.old sink.new result }
 {
     let Run { settings, workers } = asked;
     if workers == 0 {
@@ -121,7 +123,8 @@ fn driven<R: Threads + Sync, S: Source, K: Sink, L: Ledger>(
         × (K.faults sink.new ≡ K.faults sink.old) }
     ensures spent { result ≡ 6 → (S.faults source.new ≡ S.faults source.old)
         × (K.faults sink.new ≡ K.faults sink.old) }
-    ensures drives { Drives S.Source K.Sink settings.now source.old source.new sink.old sink.new result }
+    ensures drives { Drives S.Source K.Sink settings.now
+        source.old source.new sink.old sink.new result }
 {
     let of = *settings;
     let Ok(key) = Box::new(alloc, move |codes: &[u64]| plain_key(&of, codes)) else {
@@ -181,14 +184,16 @@ fn kept<R: Threads + Sync, S: Source, K: Sink, L: Ledger>(
     requires in_range { IsInRange settings.now }
     ensures others { (result ≢ 1) × (result ≢ 5) × (result ≢ 7) × (result ≢ 9) }
     ensures memory { result ≡ 4 → sink.new ≡ sink.old }
-    ensures no_file { result ≡ 8 → (S.faults source.new ≡ S.faults source.old) × (sink.new ≡ sink.old) }
+    ensures no_file { result ≡ 8 → (S.faults source.new ≡ S.faults source.old)
+        × (sink.new ≡ sink.old) }
     ensures read_fault { result ≡ 2 → Rose (S.faults source.old) (S.faults source.new) }
     ensures write_fault { result ≡ 3 → Rose (K.faults sink.old) (K.faults sink.new) }
     ensures finished { result ≡ 0 → (S.faults source.new ≡ S.faults source.old)
         × (K.faults sink.new ≡ K.faults sink.old) }
     ensures spent { result ≡ 6 → (S.faults source.new ≡ S.faults source.old)
         × (K.faults sink.new ≡ K.faults sink.old) }
-    ensures asks { AsksFile L S.Source K.Sink settings.now source.old source.new sink.old sink.new result }
+    ensures asks { AsksFile L S.Source K.Sink settings.now
+        source.old source.new sink.old sink.new result }
     ensures no_line { result ≡ 4 → TakesNoLine L S.Source settings.now source.old source.new }
 {
     let of = *settings;
@@ -214,15 +219,18 @@ fn exported<S: Source, K: Sink, L: Ledger>(
     requires project { is_project asked.now.project ≡ true }
     ensures others { (result ≢ 1) × (result ≢ 5) × (result ≢ 8) }
     ensures memory { result ≡ 4 → sink.new ≡ sink.old }
-    ensures refused { result ≡ 7 → (S.faults source.new ≡ S.faults source.old) × (sink.new ≡ sink.old) }
-    ensures too_large { result ≡ 9 → (S.faults source.new ≡ S.faults source.old) × (sink.new ≡ sink.old) }
+    ensures refused { result ≡ 7 → (S.faults source.new ≡ S.faults source.old)
+        × (sink.new ≡ sink.old) }
+    ensures too_large { result ≡ 9 → (S.faults source.new ≡ S.faults source.old)
+        × (sink.new ≡ sink.old) }
     ensures read_fault { result ≡ 2 → Rose (S.faults source.old) (S.faults source.new) }
     ensures write_fault { result ≡ 3 → Rose (K.faults sink.old) (K.faults sink.new) }
     ensures finished { result ≡ 0 → (S.faults source.new ≡ S.faults source.old)
         × (K.faults sink.new ≡ K.faults sink.old) }
     ensures spent { result ≡ 6 → (S.faults source.new ≡ S.faults source.old)
         × (K.faults sink.new ≡ K.faults sink.old) }
-    ensures exports { ExportsFile L S.Source K.Sink asked.now source.old source.new sink.old sink.new result }
+    ensures exports { ExportsFile L S.Source K.Sink asked.now
+        source.old source.new sink.old sink.new result }
 {
     let of = asked.settings;
     let Ok(key) = Box::new(alloc, move |codes: &[u64]| plain_key(&of, codes)) else {
@@ -277,7 +285,8 @@ pub fn top<
     // 4 for want of memory before a byte is written, and before a line is read or a connection is taken. `ask` may have taken
     // bytes of the file then, none behind it, and `export` bytes of the lines.
     ensures memory { result ≡ 4 → sink.new ≡ sink.old }
-    ensures untaken { result ≡ 4 → takes_first (command_of words.now) ≡ false → source.new ≡ source.old }
+    ensures untaken { result ≡ 4 → takes_first (command_of words.now) ≡ false
+        → source.new ≡ source.old }
     ensures unasked { result ≡ 4 → (D.faults doors.new ≡ D.faults doors.old)
         × (D.left doors.new ≡ D.left doors.old) }
 
@@ -291,13 +300,16 @@ pub fn top<
         × (K.faults sink.new ≡ K.faults sink.old) × (D.faults doors.new ≡ D.faults doors.old) }
 
     // 8 for `ask` alone, and nothing is written then, and no fault rose.
-    ensures no_file { result ≡ 8 → (is_ask (command_of words.now) ≡ true) × (S.faults source.new ≡ S.faults source.old)
+    ensures no_file { result ≡ 8 → (is_ask (command_of words.now) ≡ true)
+        × (S.faults source.new ≡ S.faults source.old)
         × (sink.new ≡ sink.old) × (D.faults doors.new ≡ D.faults doors.old) }
 
     // 7 and 9 for `export` alone, and nothing is written then, and no fault rose.
-    ensures no_changes { result ≡ 7 → (is_export (command_of words.now) ≡ true) × (S.faults source.new ≡ S.faults source.old)
+    ensures no_changes { result ≡ 7 → (is_export (command_of words.now) ≡ true)
+        × (S.faults source.new ≡ S.faults source.old)
         × (sink.new ≡ sink.old) × (D.faults doors.new ≡ D.faults doors.old) }
-    ensures too_large { result ≡ 9 → (is_export (command_of words.now) ≡ true) × (S.faults source.new ≡ S.faults source.old)
+    ensures too_large { result ≡ 9 → (is_export (command_of words.now) ≡ true)
+        × (S.faults source.new ≡ S.faults source.old)
         × (sink.new ≡ sink.old) × (D.faults doors.new ≡ D.faults doors.old) }
 
     // The doors are for `listen` alone, and the source and the sink are for the others. With 0 the doors of `listen` are bound
@@ -310,18 +322,22 @@ pub fn top<
 
     // Every status of `run` but 4 is that of a session over all lines of the source: alone where there is no worker, and
     // else with workers beside it.
-    ensures runs { RunsFor S.Source K.Sink words.now steps.old steps.new source.old source.new sink.old sink.new result }
+    ensures runs { RunsFor S.Source K.Sink words.now steps.old steps.new
+        source.old source.new sink.old sink.new result }
 
     // Every status of `drive` but 4 is that of a script of all lines of the source.
-    ensures drives { DrivesFor S.Source K.Sink words.now source.old source.new sink.old sink.new result }
+    ensures drives { DrivesFor S.Source K.Sink words.now
+        source.old source.new sink.old sink.new result }
 
     // 8 of `ask` is that the source begins with no token file of the settings; every other status but 4 is that of a kept
     // version, asked by all lines of the source behind its file, or of a read that failed before the file was whole.
-    ensures asks { AsksFor L S.Source K.Sink words.now source.old source.new sink.old sink.new result }
+    ensures asks { AsksFor L S.Source K.Sink words.now
+        source.old source.new sink.old sink.new result }
     ensures no_line { TakesNoLineFor L S.Source K.Sink words.now source.old source.new result }
 
     // Every status of `export` but 4 is that of writing the version of the changes that all lines of the source say.
-    ensures exports { ExportsFor L S.Source K.Sink words.now source.old source.new sink.old sink.new result }
+    ensures exports { ExportsFor L S.Source K.Sink words.now
+        source.old source.new sink.old sink.new result }
 
     // Every status of `make` but 4 is that of sending the line of the project, and nothing is read.
     ensures makes { MakesFor K.Sink words.now sink.old sink.new result }

@@ -45,7 +45,8 @@ pub(crate) fn serve_with_workers<
         × (K.faults sink.new ≡ K.faults sink.old) }
     ensures spent { result ≡ 6 → (S.faults source.new ≡ S.faults source.old)
         × (K.faults sink.new ≡ K.faults sink.old) }
-    ensures runs { RunsBeside S.Source K.Sink settings.now source.old source.new sink.old sink.new result }
+    ensures runs { RunsBeside S.Source K.Sink settings.now
+        source.old source.new sink.old sink.new result }
 {
     let of = *settings;
     let Ok(key) = Box::new(alloc, move |codes: &[u64]| plain_key(&of, codes)) else {

@@ -1,4 +1,4 @@
-ghost use Rattle.std.specs.Prelude.{◌≡◌, [], codes, option_map, unwrap_or};
+ghost use Rattle.std.specs.Prelude.{◌≡◌, [], codes, option_copied, option_map, unwrap_or};
 ghost use Rattle.std.specs.Str.{IsUtf8};
 ghost use Rattle.serde_json.specs.Find.{get, as_str};
 ghost use Rattle.serde_json.specs.View.{view, items_view};
@@ -20,7 +20,7 @@ pub(crate) fn member_count(value: &Value) -> usize
 
 /// The member of this name, where it is a text.
 pub fn text_at<'v>(value: &'v Value, key: &str) -> Option<&'v str>
-    ensures { option_map (λ s. s.now) result ≡ members.text_at key.now (view value.now) }
+    ensures { option_copied result ≡ members.text_at key.now (view value.now) }
 {
     value.get(key)?.as_str()
 }
@@ -41,7 +41,8 @@ pub(crate) fn flag_at(value: &Value, key: &str) -> Option<bool>
 
 /// The member of this name, where it is a list.
 pub(crate) fn list_at<'v>(value: &'v Value, key: &str) -> Option<&'v Vec<Value>>
-    ensures { option_map (λ vs. items_view vs.now.items) result ≡ members.list_at key.now (view value.now) }
+    ensures { option_map (λ vs. items_view vs.now.items) result
+        ≡ members.list_at key.now (view value.now) }
 {
     value.get(key)?.as_array()
 }

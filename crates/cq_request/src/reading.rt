@@ -33,7 +33,8 @@ fn lang_named(name: &str) -> Option<Lang>
 }
 
 fn lang_passes(value: &Value) -> bool
-    ensures { result ≡ spec.text_passes (λ name. is_some (spec.lang_named name)) (codes "lang") (view value.now) }
+    ensures { result ≡ spec.text_passes
+        (λ name. is_some (spec.lang_named name)) (codes "lang") (view value.now) }
 {
     match text_at(value, "lang") {
         Some(name) => lang_named(name).is_some(),
@@ -79,7 +80,8 @@ fn has_path(value: &Value) -> bool
 
 // Whether a scope is a path, and stands beside none.
 fn is_lone_path(scope: &str, value: &Value) -> bool
-    ensures { result ≡ (names.is_path_text scope.now && not (is_some (members.text_at (codes "path") (view value.now)))) }
+    ensures { result ≡ (names.is_path_text scope.now
+        && not (is_some (members.text_at (codes "path") (view value.now)))) }
 {
     is_path_text(scope) && !has_path(value)
 }
@@ -121,7 +123,8 @@ fn why_refused(
     op: Op,
     value: &Value,
 ) -> Result<Option<Refusal>, Memory>
-    ensures refused { IfOk result (λ r. r ≡ spec.why_refused settings.now.chunk op (view value.now)) }
+    ensures refused { IfOk result
+        (λ r. r ≡ spec.why_refused settings.now.chunk op (view value.now)) }
     ensures named { IfOk result (λ r. IfSome r IsSoundRefusal) }
 {
     match fault_of(op, value) {
@@ -183,7 +186,8 @@ fn min_or(settings: &Settings, value: &Value) -> u32
 }
 
 fn query_of(alloc: Global, settings: &Settings, kind: Kind, value: &Value) -> Result<Query, Memory>
-    requires accepted { spec.why_refused settings.now.chunk (spec.op_asking kind) (view value.now) ≡ None }
+    requires accepted { spec.why_refused settings.now.chunk (spec.op_asking kind) (view value.now)
+        ≡ None }
     ensures query { IfOk result (λ q. q ≡ spec.query_of settings.now.chunk kind (view value.now)) }
     ensures sound { IfOk result (IsSoundQuery settings.now.chunk) }
 {

@@ -1,4 +1,4 @@
-ghost use Rattle.std.specs.Prelude.{◌≡◌, option_map};
+ghost use Rattle.std.specs.Prelude.{◌≡◌, option_copied};
 ghost use Rattle.serde_json.specs.View.{view};
 ghost use Rattle.cq_request.specs.declared.row.Name.TheVariants as name;
 ghost use Rattle.cq_request.specs.Rows as rows;
@@ -230,7 +230,7 @@ impl Ruled for Field {
 
 /// The member for which an object is refused that asks for this, if there is one.
 pub(crate) fn fault_of<'v>(op: Op, value: &'v Value) -> Option<&'v str>
-    ensures { option_map (λ s. s.now) result ≡ rows.fault_of op (view value.now) }
+    ensures { option_copied result ≡ rows.fault_of op (view value.now) }
 {
     fault_in("op", row_of(op), value)
 }

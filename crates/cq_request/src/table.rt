@@ -1,4 +1,4 @@
-ghost use Rattle.std.specs.Prelude.{◌≡◌, List, ℕ, map, option_map};
+ghost use Rattle.std.specs.Prelude.{◌≡◌, List, ℕ, map, option_copied};
 ghost use Rattle.std.specs.List.{list_any};
 ghost use Rattle.std.specs.Str.{bytes_eq};
 ghost use Rattle.serde_json.specs.View.{view};
@@ -25,7 +25,8 @@ pub trait Ruled {
 }
 
 fn is_good<F: Ruled>(field: &F, value: &Value) -> bool
-    ensures { result ≡ spec.is_good (F.rule field.now) (get (F.rule field.now).key (view value.now)) }
+    ensures { result
+        ≡ spec.is_good (F.rule field.now) (get (F.rule field.now).key (view value.now)) }
 {
     match value.get(field.key()) {
         Some(member) => field.is_of_form(member),
@@ -34,7 +35,7 @@ fn is_good<F: Ruled>(field: &F, value: &Value) -> bool
 }
 
 fn bad_field<F: Ruled>(row: &[F], value: &Value) -> Option<&'static str>
-    ensures { option_map (λ s. s.now) result ≡ spec.bad_field (map F.rule row.now) (view value.now) }
+    ensures { option_copied result ≡ spec.bad_field (map F.rule row.now) (view value.now) }
 {
     for field in row {
         if !is_good(field, value) {
@@ -63,7 +64,7 @@ fn is_of_row<F: Ruled>(head: &str, row: &[F], key: &str) -> bool
 
 // The members stand in the order of their keys, so that the first is the least.
 fn other_key<'v, F: Ruled>(head: &str, row: &[F], value: &'v Value) -> Option<&'v str>
-    ensures { option_map (λ s. s.now) result ≡ spec.other_key head.now (map F.rule row.now) (view value.now) }
+    ensures { option_copied result ≡ spec.other_key head.now (map F.rule row.now) (view value.now) }
 {
     let members = value.as_object()?;
     for name in members.keys() {
@@ -77,7 +78,7 @@ fn other_key<'v, F: Ruled>(head: &str, row: &[F], value: &'v Value) -> Option<&'
 /// The member for which an object is refused that is to have the fields of a row: the first field that is missing or
 /// not of its form, or else the least key by bytes that is neither `head` nor in the row.
 pub fn fault_in<'v, F: Ruled>(head: &str, row: &[F], value: &'v Value) -> Option<&'v str>
-    ensures { option_map (λ s. s.now) result ≡ spec.fault_in head.now (map F.rule row.now) (view value.now) }
+    ensures { option_copied result ≡ spec.fault_in head.now (map F.rule row.now) (view value.now) }
 {
     match bad_field(row, value) {
         Some(name) => Some(name),

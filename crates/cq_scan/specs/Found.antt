@@ -44,6 +44,10 @@ pub record AreFound {T : Type 0} (corpus : List (List T)) (least : ℕ) (groups 
   pub ordered : AllPairs (AreOrdered ComesBefore) groups
   pub each : (g : Group) → Contains groups g → IsGroup corpus least g
 
+-- the `n` tokens from the first place on are maximal at both
+abbrev pub IsMaximalWord : {T : Type 0} → List (List T) → ℕ → Place → Place → Type 0
+IsMaximalWord corpus n p q = IsMaximalAt corpus (word_at corpus p n) p q
+
 -- the new list has what the old one has and the groups with the property, each once
 abbrev pub Adds : (Group → Type 0) → List Group → List Group → Type 0
 Adds Is old new = AreAllInOrder (AreOrdered ComesBefore) (λ g. Contains old g ⊎ Is g) new

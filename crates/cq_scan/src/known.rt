@@ -51,7 +51,8 @@ pub(crate) fn is_known<F: Files>(
 ) -> bool
     requires p_in { IsPlace (tokens_in files.now) p }
     requires within { p.at + tokens ≤ length (file_at (tokens_in files.now) p.file) }
-    requires groups { (g : Group) → Contains groups.now g → IsPlace (tokens_in files.now) (first_place g) }
+    requires groups { (g : Group) → Contains groups.now g
+        → IsPlace (tokens_in files.now) (first_place g) }
     ensures { IsTrue result ↔ Any (IsOfWord (tokens_in files.now) p tokens) groups.now }
 {
     for group in groups {

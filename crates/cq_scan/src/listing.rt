@@ -1,7 +1,7 @@
 ghost use Rattle.std.specs.Prelude.{◌≡◌, ◌+◌, ◌<◌, ◌≤◌, length, slice_index_or, IfOk, OnOk};
-ghost use Rattle.cq_clones.specs.Groups.{file_at, word_at, IsPlace, IsMaximalAt, AreGroups};
+ghost use Rattle.cq_clones.specs.Groups.{file_at, IsPlace, AreGroups};
 ghost use Rattle.cq_tokens.specs.Parts.{tokens_in};
-ghost use Rattle.cq_scan.specs.Found.{AreAllPlaces, AreFound};
+ghost use Rattle.cq_scan.specs.Found.{AreAllPlaces, AreFound, IsMaximalWord};
 ghost use Rattle.cq_scan.specs.Pairs.{AddsPair, AddsLater};
 
 use crate::corpus::{are_same_before, match_len};
@@ -37,7 +37,7 @@ impl<'a, F: Files> PairScan<'a, F> {
         requires p_in { IsPlace (tokens_in self.now.files.now) p }
         requires within { p.at + tokens ≤ length (file_at (tokens_in self.now.files.now) p.file) }
         requires long { self.now.min ≤ tokens }
-        requires maximal { IsMaximalAt (tokens_in self.now.files.now) (word_at (tokens_in self.now.files.now) p tokens) p q }
+        requires maximal { IsMaximalWord (tokens_in self.now.files.now) tokens p q }
         requires found { AreFound (tokens_in self.now.files.now) self.now.min groups.old.items }
         ensures { OnOk result (AddsPair self.now p q groups.old.items groups.new.items) }
     {
@@ -104,7 +104,8 @@ impl<'a, F: Files> PairScan<'a, F> {
     fn groups(&self, steps: &mut Steps<F::Reads>) -> Result<Vec<Group>, Memory>
         requires some { 1 ≤ self.now.min }
         requires places { AreAllPlaces (tokens_in self.now.files.now) self.now.places.now }
-        ensures { IfOk result (λ groups. AreGroups (tokens_in self.now.files.now) self.now.min groups.items) }
+        ensures { IfOk result
+            (λ groups. AreGroups (tokens_in self.now.files.now) self.now.min groups.items) }
     {
         let mut groups = Vec::new(self.alloc);
         for i in 0..self.places.len() {

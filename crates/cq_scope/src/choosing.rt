@@ -1,4 +1,4 @@
-ghost use Rattle.std.specs.Prelude.{◌≡◌, ◌<◌, ◌^◌, IfOk, Some, length, map, option_map, All};
+ghost use Rattle.std.specs.Prelude.{◌≡◌, ◌<◌, ◌^◌, IfOk, Some, length, map, option_copied, All};
 ghost use Rattle.std.specs.List.Sorted.{IsStrictlyIncreasing};
 ghost use Rattle.std.specs.Arc.{arc_value};
 ghost use Rattle.cq_scope.specs.Chosen as spec;
@@ -21,7 +21,7 @@ fn is_fit(pattern: &Pattern, path: &Text) -> bool
 
 // Whether the text is a path that fits the pattern, where there is one.
 fn is_in_scope(scope: Option<&Pattern>, path: &Text) -> bool
-    ensures { result ≡ spec.is_in_scope (option_map (λ p. p.now) scope.entry) path.now }
+    ensures { result ≡ spec.is_in_scope (option_copied scope.entry) path.now }
 {
     match scope {
         Some(pattern) => is_fit(pattern, path),
@@ -32,7 +32,7 @@ fn is_in_scope(scope: Option<&Pattern>, path: &Text) -> bool
 /// Whether a file's path fits the pattern, where there is one, and a change above `since` put the file. Its path is looked
 /// at only where it changed.
 pub fn is_chosen<W>(scope: Option<&Pattern>, since: u64, file: &Arc<Held<W>, Global>) -> bool
-    ensures { result ≡ spec.is_chosen (option_map (λ p. p.now) scope.entry) since (arc_value file.now) }
+    ensures { result ≡ spec.is_chosen (option_copied scope.entry) since (arc_value file.now) }
 {
     since < file.change && is_in_scope(scope, &file.path)
 }
@@ -46,7 +46,8 @@ pub fn choose<W>(
     since: u64,
 ) -> Result<Vec<u32>, Memory>
     requires { length files.now < 2 ^ 32 }
-    ensures chosen { IfOk result (λ v. v.items ≡ spec.chosen (option_map (λ p. p.now) scope.entry) since (map arc_value files.now)) }
+    ensures chosen { IfOk result
+        (λ v. v.items ≡ spec.chosen (option_copied scope.entry) since (map arc_value files.now)) }
     ensures ascending { IfOk result (λ v. IsStrictlyIncreasing v.items) }
     ensures inside { IfOk result (λ v. All (λ i. i < length files.now) v.items) }
 {

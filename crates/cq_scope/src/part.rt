@@ -39,7 +39,8 @@ fn pass(row: &mut [bool], symbol: char, name: &str)
 
 fn advance(row: &mut [bool], symbol: char, name: &str)
     requires { length (chars name.now) < length row.old }
-    ensures { row.new ≡ rows.advanced (symbol == 42) (spec.one_fits symbol) row.old (chars name.now) }
+    ensures { row.new
+        ≡ rows.advanced (symbol == 42) (spec.one_fits symbol) row.old (chars name.now) }
 {
     if symbol == '*' {
         spread(row);

@@ -33,7 +33,8 @@ fn goes_on(is_set: bool, part: &str, name: &str, places: &mut [bool]) -> bool
 fn pass(row: &mut [bool], part: &str, path: &str, places: &mut [bool])
     requires room { length (parts path.now) < length row.old }
     requires places { length path.now < length places.old }
-    ensures passed { row.new ≡ rows.passed (spec.name_fits part.now) false row.old (parts path.now) }
+    ensures passed { row.new
+        ≡ rows.passed (spec.name_fits part.now) false row.old (parts path.now) }
     ensures same_room { length places.new ≡ length places.old }
 {
     let mut was_set = false;
@@ -50,7 +51,8 @@ fn pass(row: &mut [bool], part: &str, path: &str, places: &mut [bool])
 fn advance(row: &mut [bool], part: &str, path: &str, places: &mut [bool])
     requires room { length (parts path.now) < length row.old }
     requires places { length path.now < length places.old }
-    ensures advanced { row.new ≡ rows.advanced (bytes_eq part.now (codes "**")) (spec.name_fits part.now) row.old (parts path.now) }
+    ensures advanced { row.new ≡ rows.advanced
+        (bytes_eq part.now (codes "**")) (spec.name_fits part.now) row.old (parts path.now) }
     ensures same_room { length places.new ≡ length places.old }
 {
     if part == "**" {

@@ -83,9 +83,11 @@ pub fn query_reply<R: Threads + Sync, L: Ledger, H: Hub<Work<L>>, G: Gate>(
     requires path { HasPath query.now.kind query.now.path }
     requires scope { HasScope query.now.path query.now.scope }
     requires closed { HasAccepted H.Hub hub.now pass.old seen }
-    ensures replies { IfOk result (HasAnswered H.Hub hub.now pass.old pass.new steps.old steps.new seen query.now) }
+    ensures replies { IfOk result
+        (HasAnswered H.Hub hub.now pass.old pass.new steps.old steps.new seen query.now) }
     ensures text { IfOk result IsReplyText }
-    ensures refused { OnErr result (GivesUp H.Hub hub.now pass.old pass.new steps.old steps.new seen query.now) }
+    ensures refused { OnErr result
+        (GivesUp H.Hub hub.now pass.old pass.new steps.old steps.new seen query.now) }
 {
     let asked = hub.ask(pass);
     if query.at > asked.accepted {
@@ -141,9 +143,11 @@ pub(crate) fn reply_to<R: Threads + Sync, L: Ledger, H: Hub<Work<L>>, G: Gate>(
     requires settings { keyer.now.settings ≡ settings.now }
     requires hub_settings { H.settings hub.now ≡ settings.now }
     requires closed { HasAccepted H.Hub hub.now pass.old seen }
-    ensures replies { IfOk result (Replies H.Hub hub.now pass.old pass.new steps.old steps.new seen settings.now line.now) }
+    ensures replies { IfOk result (Replies H.Hub hub.now pass.old pass.new
+        steps.old steps.new seen settings.now line.now) }
     ensures text { IfOk result IsReplyText }
-    ensures refused { OnErr result (Begins H.Hub hub.now pass.old pass.new steps.old steps.new seen settings.now line.now) }
+    ensures refused { OnErr result (Begins H.Hub hub.now pass.old pass.new
+        steps.old steps.new seen settings.now line.now) }
 {
     match read_request(alloc, settings, line) {
         Ok(Request::Change(change)) => change_reply(alloc, hub, change, gate, pass),

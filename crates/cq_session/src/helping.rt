@@ -47,7 +47,8 @@ fn help_one<L: Ledger, H: Hub<Work<L>>, G: Gate>(
     requires hub_settings { H.settings hub.now ≡ settings.now }
     requires accepted { HasChange H.Hub hub.now pass.old change }
     ensures done { OnOk result (HasDone H.Hub hub.now pass.old pass.new change) }
-    ensures refused { OnErr result (HasHelped H.Hub hub.now pass.old pass.new Always change Always) }
+    ensures refused { OnErr result
+        (HasHelped H.Hub hub.now pass.old pass.new Always change Always) }
     ensures asked { H.asked pass.new ≡ H.asked pass.old }
 {
     match hub.job(change, pass) {

@@ -47,7 +47,8 @@ pub(crate) fn told<R: Threads + Sync, L: Ledger, H: Hub<Work<L>>, G: Gate>(
     requires settings { keyer.now.settings ≡ settings.now }
     requires hub_settings { H.settings hub.now ≡ settings.now }
     requires closed { HasAccepted H.Hub hub.now pass.old seen }
-    ensures { HasLine H.Hub hub.now pass.old pass.new steps.old steps.new seen settings.now line.now result }
+    ensures { HasLine H.Hub hub.now pass.old pass.new
+        steps.old steps.new seen settings.now line.now result }
 {
     match reply_to(
         rt, alloc, settings, keyer, hub, line, seen, gate, pass, steps,

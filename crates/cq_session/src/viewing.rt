@@ -39,7 +39,8 @@ fn reply_in<R: Threads + Sync, L: Ledger, H: Hub<Work<L>>>(
     requires viewing { HasOpen H.Hub hub.now IsWorkOf view.now pass.old }
     ensures reply { IfOk result (ShowsOpen H.Hub hub.now IsWorkOf view.now pass.old query.now) }
     ensures text { IfOk result IsReplyText }
-    ensures costs { CostsOpen H.Hub hub.now IsWorkOf view.now pass.old pass.new steps.old steps.new query.now result }
+    ensures costs { CostsOpen H.Hub hub.now IsWorkOf view.now pass.old pass.new
+        steps.old steps.new query.now result }
     ensures moves { KeepsOpen H.Hub hub.now IsWorkOf view.now pass.old pass.new }
 {
     let files = view.listing.project(&query.project);
@@ -108,9 +109,11 @@ pub(crate) fn view_reply<R: Threads + Sync, L: Ledger, H: Hub<Work<L>>, G: Gate>
     requires path { HasPath query.now.kind query.now.path }
     requires scope { HasScope query.now.path query.now.scope }
     requires ready { HasReady H.Hub hub.now pass.old to }
-    ensures shown { IfOk result (HasShown H.Hub hub.now pass.old pass.new steps.old steps.new to query.now) }
+    ensures shown { IfOk result
+        (HasShown H.Hub hub.now pass.old pass.new steps.old steps.new to query.now) }
     ensures text { IfOk result IsReplyText }
-    ensures refused { OnErr result (HasViewedOrNot H.Hub hub.now pass.old pass.new steps.old steps.new to query.now) }
+    ensures refused { OnErr result
+        (HasViewedOrNot H.Hub hub.now pass.old pass.new steps.old steps.new to query.now) }
 {
     match hub.advance(alloc, to, gate, pass) {
         Ok(_published) => {}

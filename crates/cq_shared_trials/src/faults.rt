@@ -43,7 +43,8 @@ fn two_sessions<Q: Threads + Sync, L: Ledger + Send + Sync, R: Wait + Sync>(
     let (broken, whole) = join(
         rt,
         move || -> Result<(End, Vec<u8>), Memory>
-            requires { IsInRange settings.now × (settings_of hub.now ≡ settings.now) × IsPassOf hub.now one × (one.seen ≡ []) }
+            requires { IsInRange settings.now × (settings_of hub.now ≡ settings.now)
+                × IsPassOf hub.now one × (one.seen ≡ []) }
         {
             ended(
                 rt,
@@ -58,7 +59,8 @@ fn two_sessions<Q: Threads + Sync, L: Ledger + Send + Sync, R: Wait + Sync>(
             )
         },
         move || -> Result<(End, Vec<u8>), Memory>
-            requires { IsInRange settings.now × (settings_of hub.now ≡ settings.now) × IsPassOf hub.now two × (two.seen ≡ []) }
+            requires { IsInRange settings.now × (settings_of hub.now ≡ settings.now)
+                × IsPassOf hub.now two × (two.seen ≡ []) }
         {
             ended(
                 rt,

@@ -119,7 +119,8 @@ fn two_sessions<Q: Threads + Sync, L: Ledger + Send + Sync, R: Wait + Sync, G: G
     let (one, two) = join(
         rt,
         move || -> Result<(End, Vec<u8>), Memory>
-            requires { IsInRange settings.now × (settings_of hub.now ≡ settings.now) × IsPassOf hub.now one × (one.seen ≡ []) }
+            requires { IsInRange settings.now × (settings_of hub.now ≡ settings.now)
+                × IsPassOf hub.now one × (one.seen ≡ []) }
         {
             ended(
                 rt,
@@ -134,7 +135,8 @@ fn two_sessions<Q: Threads + Sync, L: Ledger + Send + Sync, R: Wait + Sync, G: G
             )
         },
         move || -> Result<(End, Vec<u8>), Memory>
-            requires { IsInRange settings.now × (settings_of hub.now ≡ settings.now) × IsPassOf hub.now two × (two.seen ≡ []) }
+            requires { IsInRange settings.now × (settings_of hub.now ≡ settings.now)
+                × IsPassOf hub.now two × (two.seen ≡ []) }
         {
             ended(
                 rt,

@@ -143,10 +143,12 @@ fn two_talks<Q: Threads + Sync, L: Ledger + Send + Sync, R: Wait + Sync, G: Gate
     join(
         rt,
         move || -> Result<Talk, Memory>
-            requires { IsInRange settings.now × (settings_of hub.now ≡ settings.now) × IsPassOf hub.now one × (one.seen ≡ []) }
+            requires { IsInRange settings.now × (settings_of hub.now ≡ settings.now)
+                × IsPassOf hub.now one × (one.seen ≡ []) }
         { session_talk(rt, alloc, settings, hub, counters, gate, plan, one) },
         move || -> Result<Talk, Memory>
-            requires { IsInRange settings.now × (settings_of hub.now ≡ settings.now) × IsPassOf hub.now two × (two.seen ≡ []) }
+            requires { IsInRange settings.now × (settings_of hub.now ≡ settings.now)
+                × IsPassOf hub.now two × (two.seen ≡ []) }
         { session_talk(rt, alloc, settings, hub, counters, gate, plan_two, two) },
     )
 }
@@ -181,10 +183,14 @@ fn four_talks<Q: Threads + Sync, L: Ledger + Send + Sync, R: Wait + Sync, G: Gat
     join(
         rt,
         move || -> (Result<Talk, Memory>, Result<Talk, Memory>)
-            requires { IsInRange settings.now × (settings_of hub.now ≡ settings.now) × (IsPassOf hub.now one × (one.seen ≡ [])) × (IsPassOf hub.now two × (two.seen ≡ [])) }
+            requires { IsInRange settings.now × (settings_of hub.now ≡ settings.now)
+                × (IsPassOf hub.now one × (one.seen ≡ []))
+                × (IsPassOf hub.now two × (two.seen ≡ [])) }
         { two_talks(rt, alloc, settings, hub, counters, gate, seed, one, two) },
         move || -> (Result<Talk, Memory>, Result<Talk, Memory>)
-            requires { IsInRange settings.now × (settings_of hub.now ≡ settings.now) × (IsPassOf hub.now three × (three.seen ≡ [])) × (IsPassOf hub.now four × (four.seen ≡ [])) }
+            requires { IsInRange settings.now × (settings_of hub.now ≡ settings.now)
+                × (IsPassOf hub.now three × (three.seen ≡ []))
+                × (IsPassOf hub.now four × (four.seen ≡ [])) }
         {
             two_talks(
                 rt, alloc, settings, hub, counters, gate, seed_two, three, four,

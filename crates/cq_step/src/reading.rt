@@ -30,7 +30,8 @@ fn by_of(value: &Value) -> u32
 }
 
 fn shard_of(settings: &Settings, value: &Value) -> u32
-    requires there { is_some (spec.below_at settings.now.shards (codes "shard") (view value.now)) ≡ true }
+    requires there { is_some
+        (spec.below_at settings.now.shards (codes "shard") (view value.now)) ≡ true }
     ensures shard { result ≡ spec.shard_of settings.now.shards (view value.now) }
     ensures less { result < settings.now.shards }
 {
@@ -141,7 +142,8 @@ fn fault_named(
     kind: StepKind,
     value: &Value,
 ) -> Result<Option<Text>, Memory>
-    ensures fault { IfOk result (λ name. name ≡ fault_of settings.now.shards kind (view value.now)) }
+    ensures fault { IfOk result
+        (λ name. name ≡ fault_of settings.now.shards kind (view value.now)) }
     ensures utf8 { IfOk result (λ name. IfSome name IsUtf8) }
 {
     match fault_of(settings, kind, value) {

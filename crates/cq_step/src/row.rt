@@ -1,4 +1,4 @@
-ghost use Rattle.std.specs.Prelude.{◌≡◌, ◌<◌, IfSome, option_map};
+ghost use Rattle.std.specs.Prelude.{◌≡◌, ◌<◌, IfSome, option_copied};
 ghost use Rattle.serde_json.specs.View.{view};
 ghost use Rattle.cq_step.specs.Rows as rows;
 
@@ -150,7 +150,7 @@ impl Ruled for Field {
 
 /// The member for which an object is refused that tells this, if there is one.
 pub(crate) fn fault_of<'v>(settings: &Settings, kind: StepKind, value: &'v Value) -> Option<&'v str>
-    ensures { option_map (λ s. s.now) result ≡ rows.fault_of settings.now.shards kind (view value.now) }
+    ensures { option_copied result ≡ rows.fault_of settings.now.shards kind (view value.now) }
 {
     let shard = Field::Shard(settings.shards);
     match kind {

@@ -103,7 +103,8 @@ pub(crate) fn reply_to<R: Threads + Sync, L: Ledger>(
     requires in_range { IsInRange settings.now }
     requires sound { IsSoundSnapshot settings.now snapshot.now }
     requires loaded { IsLoadedOf snapshot.now.files loaded.old }
-    ensures answers { IfOk result (AnswersSaid snapshot.now (Read (line_says settings.now.chunk line.now))) }
+    ensures answers { IfOk result
+        (AnswersSaid snapshot.now (Read (line_says settings.now.chunk line.now))) }
     ensures text { IfOk result IsReplyText }
     ensures loaded { IsLoadedOf snapshot.now.files loaded.new }
 {

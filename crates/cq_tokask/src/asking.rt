@@ -71,7 +71,8 @@ pub fn ask_lines<R: Threads + Sync, L: Ledger, S: Source, K: Sink>(
     requires in_range { IsInRange settings.now }
     requires sound { IsSoundSnapshot settings.now snapshot.now }
     requires loaded { IsLoadedOf snapshot.now.files loaded.old }
-    ensures served { ServesLines S.Source K.Sink line_of (AnswersLines snapshot.now settings.now) lines.old.limit source.old source.new sink.old sink.new result }
+    ensures served { ServesLines S.Source K.Sink line_of (AnswersLines snapshot.now settings.now)
+        lines.old.limit source.old source.new sink.old sink.new result }
     ensures cause { HasCauseOfEnd S.Source K.Sink source.old source.new sink.old sink.new result }
 {
     'lines: loop {

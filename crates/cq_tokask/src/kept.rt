@@ -36,7 +36,8 @@ pub fn ask<R: Threads + Sync, L: Ledger, S: Source, K: Sink>(
 ) -> Result<Asked, Memory>
     requires in_range { IsInRange settings.now }
     requires settings { keyer.now.settings ≡ settings.now }
-    ensures asks { IfOk result (Asks L S.Source K.Sink settings.now source.old source.new sink.old sink.new) }
+    ensures asks { IfOk result
+        (Asks L S.Source K.Sink settings.now source.old source.new sink.old sink.new) }
     ensures no_line { OnErr result (TakesNoLine L S.Source settings.now source.old source.new) }
     ensures unwritten { OnErr result (sink.new ≡ sink.old) }
 {

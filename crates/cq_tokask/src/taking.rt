@@ -1,6 +1,6 @@
-ghost use Rattle.std.specs.Prelude.{◌≡◌, ◌≤◌, ◌<◌, ◌+◌, length, take, drop, vec_len, IfOk, OnErr};
-ghost use Rattle.std.specs.Io.KnownBytes.{ReadConsumes};
+ghost use Rattle.std.specs.Prelude.{◌≡◌, ◌≤◌, ◌<◌, ◌+◌, length, take, vec_len, IfOk, OnErr};
 ghost use Rattle.cq_io.specs.Causes.{HasCause};
+ghost use Rattle.cq_lines.specs.Calls.{ReadsAt};
 ghost use Rattle.cq_tokask.specs.Taken.{AreBytes, HasNoneBehind, TakesBytes, TakesFile, TakesSome, TakesSuch, TakesUpTo};
 ghost use Rattle.cq_tokform.specs.Reading as reading;
 
@@ -46,7 +46,7 @@ fn read_at<S: Source>(
     ensures within { IfOk result (λ n. n ≤ want) }
     ensures len { vec_len piece.new ≡ vec_len piece.old }
     ensures front { take at piece.new.items ≡ take at piece.old.items }
-    ensures bytes { ReadConsumes (S.rest source.old) (S.rest source.new) result (take want (drop at piece.new.items)) }
+    ensures bytes { ReadsAt at want (S.rest source.old) (S.rest source.new) piece.new.items result }
     ensures cause { HasCause (S.faults source.old) (S.faults source.new) result }
 {
     source.read(&mut piece[at..at + want])
@@ -63,7 +63,8 @@ fn take_some<S: Source>(
     requires room { 0 < vec_len piece.old }
     requires some { 0 < want }
     ensures len { vec_len piece.new ≡ vec_len piece.old }
-    ensures bytes { IfOk result (TakesSome S.Source source.old source.new out.old.items out.new.items want) }
+    ensures bytes { IfOk result
+        (TakesSome S.Source source.old source.new out.old.items out.new.items want) }
     ensures few { OnErr result (TakesUpTo S.Source source.old source.new want) }
 {
     let size = want.min(piece.len());
@@ -85,7 +86,8 @@ fn take<S: Source>(
 ) -> Result<Taken, Memory>
     requires room { 0 < vec_len piece.old }
     ensures len { vec_len piece.new ≡ vec_len piece.old }
-    ensures bytes { IfOk result (TakesBytes S.Source source.old source.new out.old.items out.new.items count) }
+    ensures bytes { IfOk result
+        (TakesBytes S.Source source.old source.new out.old.items out.new.items count) }
     ensures few { OnErr result (TakesUpTo S.Source source.old source.new count) }
 {
     let mut left = count;

@@ -30,7 +30,8 @@ pub(crate) fn told<R: Threads + Sync, L: Ledger>(
     requires sound { IsSoundSnapshot settings.now snapshot.now }
     requires loaded { IsLoadedOf snapshot.now.files loaded.old }
     requires short { length line.now ≤ line_limit }
-    ensures told { (reply : Reply) × AnswersLine snapshot.now settings.now line.now reply × (bytes_of result ≡ line_of reply) }
+    ensures told { (reply : Reply) × AnswersLine snapshot.now settings.now line.now reply
+        × (bytes_of result ≡ line_of reply) }
     ensures loaded { IsLoadedOf snapshot.now.files loaded.new }
 {
     match reply_to(rt, alloc, settings, snapshot, loaded, line, steps) {

@@ -64,7 +64,8 @@ fn start_at(marks: &[Mark], i: usize) -> u32
 /// The token at `i`, from 0.
 pub(crate) fn seen_at<'a>(marks: &'a [Mark], bytes: &'a [u8], i: usize) -> Option<Seen<'a>>
     requires { spec.AreEnds 0 marks.now (length bytes.now) }
-    ensures token { option_map spec.norm_in result ≡ slice_get (spec.norms_from 0 marks.now bytes.now) i }
+    ensures token { option_map spec.norm_in result
+        ≡ slice_get (spec.norms_from 0 marks.now bytes.now) i }
     ensures none { IsNone result ↔ (length marks.now ≤ i) }
 {
     if i >= marks.len() {

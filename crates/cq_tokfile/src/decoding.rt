@@ -55,7 +55,8 @@ fn keyed<L: Ledger>(
     requires few { length tokens.items ≤ 262144 }
     requires short { spelled_bytes tokens.items ≤ 268435456 }
     ensures tokens { IfOk result (λ made. made.0 ≡ map (spec.norm_in lang) tokens.items) }
-    ensures keys { IfOk result (λ made. made.1 ≡ window_keys keyer.now.settings (map (spec.norm_in lang) tokens.items)) }
+    ensures keys { IfOk result (λ made. made.1
+        ≡ window_keys keyer.now.settings (map (spec.norm_in lang) tokens.items)) }
 {
     let norms = norms_of(alloc, lang, tokens)?;
     let keys = keyer.keys(alloc, &norms)?;
@@ -115,7 +116,8 @@ fn held_all<L: Ledger>(
     requires some { 1 ≤ keyer.now.settings.chunk }
     requires few { spec.HaveFewTokens (map recorded files.items) }
     requires short { spec.HaveShortTokens (map recorded files.items) }
-    ensures { IfOk result (λ held. spec.AreMadeOf keyer.now.settings (map recorded files.items) (map arc_value held.items)) }
+    ensures { IfOk result (λ held. spec.AreMadeOf keyer.now.settings
+        (map recorded files.items) (map arc_value held.items)) }
 {
     let mut all = Vec::with_capacity(alloc, files.len())?;
     for file in files {

@@ -1,7 +1,8 @@
-ghost use Rattle.std.specs.Prelude.{◌≡◌, ◌<◌, ◌^◌, ◌++◌, length, map, slice_index_or, All, IfOk, OnOk};
+ghost use Rattle.std.specs.Prelude.{◌≡◌, ◌<◌, ◌^◌, length, map, slice_index_or, All, IfOk, OnOk};
 ghost use Rattle.cq_base.specs.declared.token.Spelled.{Spelled};
 ghost use Rattle.cq_tokform.specs.Spelling as spell;
 ghost use Rattle.cq_tokform.specs.Sound.{HasSpelling};
+ghost use Rattle.cq_tokform.specs.Writing.{AddsBytes};
 ghost use Rattle.cq_tokfile.specs.Snapshot as spec;
 
 use crate::lengths::{body_length, seen_at};
@@ -36,7 +37,9 @@ fn put_token_at<L: Ledger>(
     requires within { i < length tokens.now }
     requires same { length spans.now ≡ length tokens.now }
     requires short { All (λ n. length n.text < 2 ^ 32) tokens.now }
-    ensures { OnOk result ((d : Spelled) → out.new.items ≡ out.old.items ++ spell.token (slice_index_or (spec.spelled_of spans.now tokens.now) i d)) }
+    ensures { OnOk result ((d : Spelled) → AddsBytes
+        (spell.token (slice_index_or (spec.spelled_of spans.now tokens.now) i d))
+        out.old out.new) }
 {
     let seen = seen_at(tokens, i, steps);
     put_token(out, spans[i as usize], seen.text)?;
@@ -52,7 +55,8 @@ fn put_spelled<L: Ledger>(
 ) -> Result<(), Memory>
     requires same { length spans.now ≡ length tokens.now }
     requires short { All (λ n. length n.text < 2 ^ 32) tokens.now }
-    ensures { OnOk result (out.new.items ≡ out.old.items ++ spell.counted spell.token (spec.spelled_of spans.now tokens.now)) }
+    ensures { OnOk result (AddsBytes
+        (spell.counted spell.token (spec.spelled_of spans.now tokens.now)) out.old out.new) }
 {
     put_u32(out, tokens.len())?;
     for i in 0..tokens.len() {
@@ -69,7 +73,7 @@ fn put_held<L: Ledger>(
 ) -> Result<(), Memory>
     requires spelled { HasSpelling (spec.record_of held.now) }
     requires parts { spec.HasTokenForEachPlace held.now }
-    ensures { OnOk result (out.new.items ≡ out.old.items ++ spell.file (spec.record_of held.now)) }
+    ensures { OnOk result (AddsBytes (spell.file (spec.record_of held.now)) out.old out.new) }
 {
     let work = &held.work;
     put_front(
@@ -93,7 +97,8 @@ fn put_all<L: Ledger>(
 ) -> Result<(), Memory>
     requires spelled { All (λ f. HasSpelling (spec.record_of f)) files.now }
     requires parts { All spec.HasTokenForEachPlace files.now }
-    ensures { OnOk result (out.new.items ≡ out.old.items ++ spell.counted spell.file (map spec.record_of files.now)) }
+    ensures { OnOk result (AddsBytes
+        (spell.counted spell.file (map spec.record_of files.now)) out.old out.new) }
 {
     put_u32(out, files.len())?;
     for i in 0..files.len() {
@@ -110,7 +115,8 @@ fn put_body<L: Ledger>(
     steps: &mut Steps<L>,
 ) -> Result<(), Memory>
     requires { spec.IsSoundSnapshot settings.now snapshot.now }
-    ensures { OnOk result (out.new.items ≡ out.old.items ++ spell.body settings.now (spec.contents_of snapshot.now)) }
+    ensures { OnOk result
+        (AddsBytes (spell.body settings.now (spec.contents_of snapshot.now)) out.old out.new) }
 {
     put_head_of(out, settings, snapshot.version, &snapshot.project)?;
     put_conditions(out, snapshot.conditions.as_slice())?;

@@ -67,7 +67,8 @@ fn push_entries(entries: &mut Vec<Entry>, change: u64, keys: &[u64]) -> Result<(
     requires few { length keys.now < 2 ^ 32 }
     requires apart { AllPairs (λ a b. a ≢ b) entries.old.items }
     requires others { (e : Entry) → Contains entries.old.items e → e.change ≢ change }
-    ensures { OnOk result (spec.AddsAllEntries change keys.now entries.old.items entries.new.items) }
+    ensures { OnOk result
+        (spec.AddsAllEntries change keys.now entries.old.items entries.new.items) }
 {
     for at in 0..keys.len() {
         entries.push(Entry {
@@ -102,7 +103,8 @@ fn sort_keyed(entries: &mut Vec<Entry>)
 // All entries of the files, in order.
 fn entries_of<L: Ledger>(alloc: Global, files: &[FileTokens<L>]) -> Result<Vec<Entry>, Memory>
     requires { AllPairs (λ a b. a ≢ b) (changes_of files.now) }
-    ensures { IfOk result (λ entries. spec.AreIndexed (changes_of files.now) (keys_of files.now) entries.items) }
+    ensures { IfOk result
+        (λ entries. spec.AreIndexed (changes_of files.now) (keys_of files.now) entries.items) }
 {
     let mut entries = Vec::new(alloc);
     for file in files {

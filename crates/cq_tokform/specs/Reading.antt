@@ -1,5 +1,7 @@
 -- Reading from left to right: each reader answers the value at the front and the bytes behind it, or None.
-use Rattle.std.specs.Prelude.{◌≡◌, ℕ, zero, suc, List, [], ◌∷◌, ◌++◌, length, take, drop, Option, Some, None, Result, Ok, Err, nat_lt, ◌==◌, if◌then◌else◌}
+use Rattle.std.specs.Prelude.{◌≡◌, ℕ, zero, suc, List, [], ◌∷◌, ◌++◌, length, map, take, drop, Vec, Option, Some, None, Result, Ok, Err, nat_lt, ◌==◌, if◌then◌else◌}
+use Rattle.std.specs.Borrow.{Bor}
+use Rattle.std.specs.declared.alloc.Global.{Global}
 use Rattle.std.specs.Int.{Width, w32, w64, byte_len, from_be_bytes}
 use Rattle.std.specs.Str.{bytes_eq, is_utf8}
 use Rattle.cq_base.specs.declared.settings.Settings.{Settings}
@@ -18,11 +20,12 @@ use Rattle.cq_base.specs.declared.token.Token.{Token}
 use Rattle.cq_func.specs.declared.function.Function.{Function}
 use Rattle.cq_work.specs.declared.work.State.{State}
 use Rattle.cq_work.specs.declared.work.State.TheVariants as states
+use Rattle.cq_tokform.specs.declared.file.FileRecord.{FileRecord}
 use Rattle.cq_tokform.specs.declared.head.Head.{Head}
 use Rattle.cq_tokform.specs.declared.unread.Unread.{Unread}
 use Rattle.cq_tokform.specs.declared.unread.Unread.TheVariants as unread
-use Rattle.cq_tokform.specs.Spelling.{Recorded, Contents, mark}
-use Rattle.cq_tokform.specs.Sound.{is_sound_token, is_sound_function, is_sound_file, is_sound_head, is_sound_contents}
+use Rattle.cq_tokform.specs.Spelling.{Recorded, Contents, counted, mark, recorded}
+use Rattle.cq_tokform.specs.Sound.{AreCounted, is_sound_token, is_sound_function, is_sound_file, is_sound_head, is_sound_contents}
 
 -- What a reader promises, where `spell` gives the bytes of a value, and `IsSound` says which values may be read: where it
 -- reads, the bytes are those of a sound value and what is behind, and where it refuses, they begin with those of none.
@@ -30,6 +33,15 @@ abbrev pub Reads : {A X : Type 0} → (A → List ℕ) → (A → Type 0) → (X
 Reads spell IsSound view bytes (Ok x) = IsSound (view x).0 × (bytes ≡ spell (view x).0 ++ (view x).1)
 Reads {A = A} spell IsSound view bytes (Err unread.Refused) = (a : A) (rest : List ℕ) → IsSound a → bytes ≡ spell a ++ rest → ⊥
 Reads spell IsSound view bytes (Err unread.Memory) = Unit {0}
+
+module _ {A : Type 0} where
+  -- the same of a value, where the bytes behind it are lent
+  abbrev pub ReadsValue : (A → List ℕ) → (A → Type 0) → List ℕ → Result (A × Bor (List ℕ)) Unread → Type 0
+  ReadsValue spell IsSound bytes result = Reads spell IsSound (λ (x : A × Bor (List ℕ)). (x.0, x.1.now)) bytes result
+
+  -- and of a list of such values
+  abbrev pub ReadsList : (A → List ℕ) → (A → Type 0) → List ℕ → Result (Vec A Global × Bor (List ℕ)) Unread → Type 0
+  ReadsList spell IsSound bytes result = Reads (counted spell) (AreCounted IsSound) (λ (x : Vec A Global × Bor (List ℕ)). (x.0.items, x.1.now)) bytes result
 
 infixl 10 ◌>>=◌
 abbrev pub ◌>>=◌ : {A B : Type 0} → Option A → (A → Option B) → Option B
@@ -44,6 +56,18 @@ Fails unread.Refused read = read ≡ None
 abbrev pub Gives : {X Y : Type 0} → (X → Y) → Result X Unread → Option Y → Type 0
 Gives view (Ok x) read = read ≡ Some (view x)
 Gives view (Err e) read = Fails e read
+
+module _ {A : Type 0} where
+  -- the same of a value, or a list of values, where the bytes behind it are lent
+  abbrev pub GivesValue : Option (A × List ℕ) → Result (A × Bor (List ℕ)) Unread → Type 0
+  GivesValue read result = Gives (λ (x : A × Bor (List ℕ)). (x.0, x.1.now)) result read
+
+  abbrev pub GivesList : Option (List A × List ℕ) → Result (Vec A Global × Bor (List ℕ)) Unread → Type 0
+  GivesList read result = Gives (λ (x : Vec A Global × Bor (List ℕ)). (x.0.items, x.1.now)) result read
+
+-- of files, each as it is recorded
+abbrev pub GivesFiles : Option (List Recorded × List ℕ) → Result (Vec FileRecord Global × Bor (List ℕ)) Unread → Type 0
+GivesFiles read result = Gives (λ (x : Vec FileRecord Global × Bor (List ℕ)). (map recorded x.0.items, x.1.now)) result read
 
 abbrev pub byte_at : List ℕ → Option (ℕ × List ℕ)
 byte_at [] = None

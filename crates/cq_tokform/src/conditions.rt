@@ -1,8 +1,8 @@
-ghost use Rattle.std.specs.Prelude.{◌≡◌, ◌<◌, ◌^◌, ◌++◌, length, OnOk, OnErr};
+ghost use Rattle.std.specs.Prelude.{◌≡◌, ◌<◌, ◌^◌, length, OnOk, OnErr};
 ghost use Rattle.cq_tokform.specs.Spelling as spell;
-ghost use Rattle.cq_tokform.specs.Sound.{AreCounted, IsSoundCondition};
-ghost use Rattle.cq_tokform.specs.Reading.{Gives, Reads, metric_of, compare_of, condition_at, counted_at, items_at};
-ghost use Rattle.cq_tokform.specs.Writing.{IsFrontOf};
+ghost use Rattle.cq_tokform.specs.Sound.{IsSoundCondition};
+ghost use Rattle.cq_tokform.specs.Reading.{GivesList, GivesValue, ReadsList, ReadsValue, metric_of, compare_of, condition_at, counted_at, items_at};
+ghost use Rattle.cq_tokform.specs.Writing.{AddsBytes, IsFrontOf};
 
 use crate::numbers::{put_u32, u8_at, u32_at, u64_at};
 use crate::unread::Unread;
@@ -61,7 +61,7 @@ fn compare_byte(op: Compare) -> u8
 
 #[tactic(auto, unfolding(crate::specs::Reading::condition_at))]
 fn condition_of(bytes: &[u8]) -> Result<(Condition, &[u8]), Unread>
-    ensures { Gives (λ x. (x.0, x.1.now)) result (condition_at bytes.now) }
+    ensures { GivesValue (condition_at bytes.now) result }
 {
     let (metric, rest) = u8_at(bytes)?;
     let metric = metric_of(metric).ok_or(Unread::Refused)?;
@@ -73,7 +73,7 @@ fn condition_of(bytes: &[u8]) -> Result<(Condition, &[u8]), Unread>
 
 /// The condition at the front, and the bytes behind it.
 pub fn read_condition(bytes: &[u8]) -> Result<(Condition, &[u8]), Unread>
-    ensures reads { Reads spell.condition IsSoundCondition (λ x. (x.0, x.1.now)) bytes.now result }
+    ensures reads { ReadsValue spell.condition IsSoundCondition bytes.now result }
 {
     condition_of(bytes)
 }
@@ -81,7 +81,7 @@ pub fn read_condition(bytes: &[u8]) -> Result<(Condition, &[u8]), Unread>
 /// Writes a condition at the end.
 /// Where memory is refused, some more bytes may stand behind those that were there.
 pub fn put_condition(out: &mut Vec<u8>, condition: &Condition) -> Result<(), Memory>
-    ensures written { OnOk result (out.new.items ≡ out.old.items ++ spell.condition condition.now) }
+    ensures written { OnOk result (AddsBytes (spell.condition condition.now) out.old out.new) }
     ensures front { OnErr result (IsFrontOf out.old.items out.new.items) }
 {
     out.push(metric_byte(condition.metric))?;
@@ -92,7 +92,7 @@ pub fn put_condition(out: &mut Vec<u8>, condition: &Condition) -> Result<(), Mem
 
 // So many conditions, one behind the other. No memory is taken ahead of them.
 fn conditions_at(alloc: Global, count: u32, bytes: &[u8]) -> Result<(Vec<Condition>, &[u8]), Unread>
-    ensures { Gives (λ x. (x.0.items, x.1.now)) result (items_at condition_at count bytes.now) }
+    ensures { GivesList (items_at condition_at count bytes.now) result }
 {
     let mut conditions = Vec::new(alloc);
     let mut rest = bytes;
@@ -106,7 +106,7 @@ fn conditions_at(alloc: Global, count: u32, bytes: &[u8]) -> Result<(Vec<Conditi
 
 #[tactic(auto, unfolding(crate::specs::Reading::counted_at))]
 pub(crate) fn conditions_of(alloc: Global, bytes: &[u8]) -> Result<(Vec<Condition>, &[u8]), Unread>
-    ensures { Gives (λ x. (x.0.items, x.1.now)) result (counted_at condition_at bytes.now) }
+    ensures { GivesList (counted_at condition_at bytes.now) result }
 {
     let (count, rest) = u32_at(bytes)?;
     conditions_at(alloc, count, rest)
@@ -114,7 +114,7 @@ pub(crate) fn conditions_of(alloc: Global, bytes: &[u8]) -> Result<(Vec<Conditio
 
 /// The list of conditions at the front, and the bytes behind it.
 pub fn read_conditions(alloc: Global, bytes: &[u8]) -> Result<(Vec<Condition>, &[u8]), Unread>
-    ensures reads { Reads (spell.counted spell.condition) (AreCounted IsSoundCondition) (λ x. (x.0.items, x.1.now)) bytes.now result }
+    ensures reads { ReadsList spell.condition IsSoundCondition bytes.now result }
 {
     conditions_of(alloc, bytes)
 }
@@ -123,7 +123,8 @@ pub fn read_conditions(alloc: Global, bytes: &[u8]) -> Result<(Vec<Condition>, &
 /// Where memory is refused, some more bytes may stand behind those that were there.
 pub fn put_conditions(out: &mut Vec<u8>, conditions: &[Condition]) -> Result<(), Memory>
     requires { length conditions.now < 2 ^ 32 }
-    ensures written { OnOk result (out.new.items ≡ out.old.items ++ spell.counted spell.condition conditions.now) }
+    ensures written { OnOk result
+        (AddsBytes (spell.counted spell.condition conditions.now) out.old out.new) }
     ensures front { OnErr result (IsFrontOf out.old.items out.new.items) }
 {
     put_u32(out, conditions.len() as u32)?;

@@ -104,7 +104,8 @@ pub fn read_whole<'a>(
     settings: &Settings,
     bytes: &'a [u8],
 ) -> Result<(ContentsRecord, &'a [u8]), Unread>
-    ensures reads { Reads (spell.whole settings.now) (IsSoundWhole settings.now) (λ x. (listed x.0, x.1.now)) bytes.now result }
+    ensures reads { Reads (spell.whole settings.now) (IsSoundWhole settings.now)
+        (λ x. (listed x.0, x.1.now)) bytes.now result }
 {
     whole_of(alloc, settings, bytes)
 }

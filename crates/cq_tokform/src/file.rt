@@ -1,11 +1,11 @@
-ghost use Rattle.std.specs.Prelude.{◌≡◌, ◌<◌, ◌^◌, ◌++◌, length, OnOk, OnErr};
+ghost use Rattle.std.specs.Prelude.{◌≡◌, ◌<◌, ◌^◌, length, OnOk, OnErr};
 ghost use Rattle.cq_key.specs.Keys.{lang_code};
 ghost use Rattle.cq_tokform.specs.Spelling as spell;
 ghost use Rattle.cq_tokform.specs.Spelling.{recorded};
 ghost use Rattle.cq_tokform.specs.Sound.{HasSpelling, IsSoundFile, is_sound_file};
 ghost use Rattle.cq_work.specs.Bounds.{has_tokens};
-ghost use Rattle.cq_tokform.specs.Reading.{Gives, Reads, counts_at, file_at, lang_at, lang_of, state_at};
-ghost use Rattle.cq_tokform.specs.Writing.{IsFrontOf};
+ghost use Rattle.cq_tokform.specs.Reading.{Gives, GivesValue, Reads, counts_at, file_at, lang_at, lang_of, state_at};
+ghost use Rattle.cq_tokform.specs.Writing.{AddsBytes, IsFrontOf};
 
 use crate::functions::{functions_of, put_functions};
 use crate::numbers::{put_text, put_u8, put_u32, put_u64, text_of, u8_at, u32_at, u64_at};
@@ -43,7 +43,7 @@ fn lang_of(byte: u8) -> Option<Lang>
 
 #[tactic(auto, unfolding(crate::specs::Reading::lang_at))]
 fn language_of(bytes: &[u8]) -> Result<(Lang, &[u8]), Unread>
-    ensures { Gives (λ x. (x.0, x.1.now)) result (lang_at bytes.now) }
+    ensures { GivesValue (lang_at bytes.now) result }
 {
     let (byte, rest) = u8_at(bytes)?;
     let lang = lang_of(byte).ok_or(Unread::Refused)?;
@@ -52,7 +52,7 @@ fn language_of(bytes: &[u8]) -> Result<(Lang, &[u8]), Unread>
 
 #[tactic(auto, unfolding(crate::specs::Reading::state_at))]
 fn state_of(bytes: &[u8]) -> Result<(State, &[u8]), Unread>
-    ensures { Gives (λ x. (x.0, x.1.now)) result (state_at bytes.now) }
+    ensures { GivesValue (state_at bytes.now) result }
 {
     match bytes {
         [] => Err(Unread::Refused),
@@ -68,7 +68,7 @@ fn state_of(bytes: &[u8]) -> Result<(State, &[u8]), Unread>
 
 #[tactic(auto, unfolding(crate::specs::Reading::counts_at))]
 fn counts_of(bytes: &[u8]) -> Result<(FileCounts, &[u8]), Unread>
-    ensures { Gives (λ x. (x.0, x.1.now)) result (counts_at bytes.now) }
+    ensures { GivesValue (counts_at bytes.now) result }
 {
     let (lines, rest) = u64_at(bytes)?;
     let (ncloc, rest) = u64_at(rest)?;
@@ -143,7 +143,8 @@ pub fn read_file<'a>(
     version: u64,
     bytes: &'a [u8],
 ) -> Result<(FileRecord, &'a [u8]), Unread>
-    ensures reads { Reads spell.file (IsSoundFile settings.now version) (λ x. (recorded x.0, x.1.now)) bytes.now result }
+    ensures reads { Reads spell.file (IsSoundFile settings.now version)
+        (λ x. (recorded x.0, x.1.now)) bytes.now result }
 {
     file_of(alloc, settings, version, bytes)
 }
@@ -160,7 +161,7 @@ fn lang_byte(lang: Lang) -> u8
 }
 
 fn put_state(out: &mut Vec<u8>, state: State) -> Result<(), Memory>
-    ensures written { OnOk result (out.new.items ≡ out.old.items ++ spell.outcome state) }
+    ensures written { OnOk result (AddsBytes (spell.outcome state) out.old out.new) }
     ensures front { OnErr result (IsFrontOf out.old.items out.new.items) }
 {
     match state {
@@ -174,7 +175,7 @@ fn put_state(out: &mut Vec<u8>, state: State) -> Result<(), Memory>
 }
 
 fn put_counts(out: &mut Vec<u8>, counts: FileCounts) -> Result<(), Memory>
-    ensures written { OnOk result (out.new.items ≡ out.old.items ++ spell.counts counts) }
+    ensures written { OnOk result (AddsBytes (spell.counts counts) out.old out.new) }
     ensures front { OnErr result (IsFrontOf out.old.items out.new.items) }
 {
     put_u64(out, counts.lines)?;
@@ -194,7 +195,8 @@ pub fn put_front(
     counts: FileCounts,
 ) -> Result<(), Memory>
     requires { length path.now < 2 ^ 32 }
-    ensures written { OnOk result (out.new.items ≡ out.old.items ++ spell.front path.now change lang state counts) }
+    ensures written { OnOk result
+        (AddsBytes (spell.front path.now change lang state counts) out.old out.new) }
     ensures front { OnErr result (IsFrontOf out.old.items out.new.items) }
 {
     put_text(out, path.as_bytes())?;
@@ -209,7 +211,7 @@ pub fn put_front(
 /// Where memory is refused, some more bytes may stand behind those that were there.
 pub fn put_file(out: &mut Vec<u8>, file: &FileRecord) -> Result<(), Memory>
     requires { HasSpelling (recorded file.now) }
-    ensures written { OnOk result (out.new.items ≡ out.old.items ++ spell.file (recorded file.now)) }
+    ensures written { OnOk result (AddsBytes (spell.file (recorded file.now)) out.old out.new) }
     ensures front { OnErr result (IsFrontOf out.old.items out.new.items) }
 {
     put_text(out, file.path.as_bytes())?;

@@ -1,9 +1,9 @@
-ghost use Rattle.std.specs.Prelude.{◌≡◌, ◌<◌, ◌^◌, ◌++◌, length, map, All, OnOk, OnErr};
+ghost use Rattle.std.specs.Prelude.{◌<◌, ◌^◌, length, map, All, OnOk, OnErr};
 ghost use Rattle.cq_tokform.specs.Spelling as spell;
 ghost use Rattle.cq_tokform.specs.Spelling.{recorded};
 ghost use Rattle.cq_tokform.specs.Sound.{AreCounted, HasSpelling, IsSoundFile};
-ghost use Rattle.cq_tokform.specs.Reading.{Gives, Reads, counted_at, file_at, items_at};
-ghost use Rattle.cq_tokform.specs.Writing.{IsFrontOf};
+ghost use Rattle.cq_tokform.specs.Reading.{GivesFiles, Reads, counted_at, file_at, items_at};
+ghost use Rattle.cq_tokform.specs.Writing.{AddsBytes, IsFrontOf};
 
 use crate::file::{FileRecord, file_of, put_file};
 use crate::numbers::{put_u32, u32_at};
@@ -19,7 +19,7 @@ fn files_at<'a>(
     count: u32,
     bytes: &'a [u8],
 ) -> Result<(Vec<FileRecord>, &'a [u8]), Unread>
-    ensures { Gives (λ x. (map recorded x.0.items, x.1.now)) result (items_at (file_at settings.now version) count bytes.now) }
+    ensures { GivesFiles (items_at (file_at settings.now version) count bytes.now) result }
 {
     let mut files = Vec::new(alloc);
     let mut rest = bytes;
@@ -38,7 +38,7 @@ pub(crate) fn files_of<'a>(
     version: u64,
     bytes: &'a [u8],
 ) -> Result<(Vec<FileRecord>, &'a [u8]), Unread>
-    ensures { Gives (λ x. (map recorded x.0.items, x.1.now)) result (counted_at (file_at settings.now version) bytes.now) }
+    ensures { GivesFiles (counted_at (file_at settings.now version) bytes.now) result }
 {
     let (count, rest) = u32_at(bytes)?;
     files_at(alloc, settings, version, count, rest)
@@ -51,7 +51,8 @@ pub fn read_files<'a>(
     version: u64,
     bytes: &'a [u8],
 ) -> Result<(Vec<FileRecord>, &'a [u8]), Unread>
-    ensures reads { Reads (spell.counted spell.file) (AreCounted (IsSoundFile settings.now version)) (λ x. (map recorded x.0.items, x.1.now)) bytes.now result }
+    ensures reads { Reads (spell.counted spell.file) (AreCounted (IsSoundFile settings.now version))
+        (λ x. (map recorded x.0.items, x.1.now)) bytes.now result }
 {
     files_of(alloc, settings, version, bytes)
 }
@@ -61,7 +62,8 @@ pub fn read_files<'a>(
 pub fn put_files(out: &mut Vec<u8>, files: &[FileRecord]) -> Result<(), Memory>
     requires few { length files.now < 2 ^ 32 }
     requires spelled { All (λ f. HasSpelling (recorded f)) files.now }
-    ensures written { OnOk result (out.new.items ≡ out.old.items ++ spell.counted (λ f. spell.file (recorded f)) files.now) }
+    ensures written { OnOk result
+        (AddsBytes (spell.counted (λ f. spell.file (recorded f)) files.now) out.old out.new) }
     ensures front { OnErr result (IsFrontOf out.old.items out.new.items) }
 {
     put_u32(out, files.len() as u32)?;

@@ -1,8 +1,8 @@
-ghost use Rattle.std.specs.Prelude.{◌≡◌, ◌++◌, length, OnOk, OnErr};
+ghost use Rattle.std.specs.Prelude.{◌≡◌, length, OnOk, OnErr};
 ghost use Rattle.cq_tokform.specs.Spelling as spell;
 ghost use Rattle.cq_tokform.specs.Sound.{IsSoundBody};
 ghost use Rattle.cq_tokform.specs.Reading.{Gives, Reads, announced, behind_mark, body_at, frame_at};
-ghost use Rattle.cq_tokform.specs.Writing.{IsFrontOf};
+ghost use Rattle.cq_tokform.specs.Writing.{AddsBytes, IsFrontOf};
 
 use crate::numbers::{put_u64, u64_at};
 use crate::unread::Unread;
@@ -75,7 +75,7 @@ pub fn announced(bytes: &[u8]) -> Option<usize>
 /// Writes what each token file begins with at the end.
 /// Where memory is refused, some more bytes may stand behind those that were there.
 pub fn put_mark(out: &mut Vec<u8>) -> Result<(), Memory>
-    ensures written { OnOk result (out.new.items ≡ out.old.items ++ spell.mark) }
+    ensures written { OnOk result (AddsBytes spell.mark out.old out.new) }
     ensures front { OnErr result (IsFrontOf out.old.items out.new.items) }
 {
     out.extend_from_slice(MARK.as_slice())?;
@@ -86,7 +86,7 @@ pub fn put_mark(out: &mut Vec<u8>) -> Result<(), Memory>
 /// Where memory is refused, some more bytes may stand behind those that were there.
 pub fn put_frame(out: &mut Vec<u8>, body: &[u8]) -> Result<(), Memory>
     requires { IsSoundBody body.now }
-    ensures written { OnOk result (out.new.items ≡ out.old.items ++ spell.framed body.now) }
+    ensures written { OnOk result (AddsBytes (spell.framed body.now) out.old out.new) }
     ensures front { OnErr result (IsFrontOf out.old.items out.new.items) }
 {
     out.extend_from_slice(MARK.as_slice())?;

@@ -1,8 +1,8 @@
-ghost use Rattle.std.specs.Prelude.{◌≡◌, ◌<◌, ◌^◌, ◌++◌, length, All, OnOk, OnErr};
+ghost use Rattle.std.specs.Prelude.{◌≡◌, ◌<◌, ◌^◌, length, All, OnOk, OnErr};
 ghost use Rattle.cq_tokform.specs.Spelling as spell;
-ghost use Rattle.cq_tokform.specs.Sound.{AreCounted, IsSoundFunction, is_sound_function};
-ghost use Rattle.cq_tokform.specs.Reading.{Gives, Reads, counted_at, function_at, items_at};
-ghost use Rattle.cq_tokform.specs.Writing.{IsFrontOf};
+ghost use Rattle.cq_tokform.specs.Sound.{IsSoundFunction, is_sound_function};
+ghost use Rattle.cq_tokform.specs.Reading.{GivesList, GivesValue, ReadsList, ReadsValue, counted_at, function_at, items_at};
+ghost use Rattle.cq_tokform.specs.Writing.{AddsBytes, IsFrontOf};
 
 use crate::numbers::{put_text, put_u32, text_of, u32_at};
 use crate::unread::Unread;
@@ -19,7 +19,7 @@ fn is_sound(lines: u64, function: &Function) -> bool
 
 #[tactic(auto, unfolding(crate::specs::Reading::function_at))]
 fn function_of(alloc: Global, lines: u64, bytes: &[u8]) -> Result<(Function, &[u8]), Unread>
-    ensures { Gives (λ x. (x.0, x.1.now)) result (function_at lines bytes.now) }
+    ensures { GivesValue (function_at lines bytes.now) result }
 {
     let (name, rest) = text_of(alloc, bytes)?;
     let (first, rest) = u32_at(rest)?;
@@ -39,7 +39,7 @@ fn function_of(alloc: Global, lines: u64, bytes: &[u8]) -> Result<(Function, &[u
 
 /// The function at the front that may stand in a file of so many lines, and the bytes behind it.
 pub fn read_function(alloc: Global, lines: u64, bytes: &[u8]) -> Result<(Function, &[u8]), Unread>
-    ensures reads { Reads spell.function (IsSoundFunction lines) (λ x. (x.0, x.1.now)) bytes.now result }
+    ensures reads { ReadsValue spell.function (IsSoundFunction lines) bytes.now result }
 {
     function_of(alloc, lines, bytes)
 }
@@ -51,7 +51,7 @@ fn functions_at(
     count: u32,
     bytes: &[u8],
 ) -> Result<(Vec<Function>, &[u8]), Unread>
-    ensures { Gives (λ x. (x.0.items, x.1.now)) result (items_at (function_at lines) count bytes.now) }
+    ensures { GivesList (items_at (function_at lines) count bytes.now) result }
 {
     let mut functions = Vec::new(alloc);
     let mut rest = bytes;
@@ -69,7 +69,7 @@ pub(crate) fn functions_of(
     lines: u64,
     bytes: &[u8],
 ) -> Result<(Vec<Function>, &[u8]), Unread>
-    ensures { Gives (λ x. (x.0.items, x.1.now)) result (counted_at (function_at lines) bytes.now) }
+    ensures { GivesList (counted_at (function_at lines) bytes.now) result }
 {
     let (count, rest) = u32_at(bytes)?;
     functions_at(alloc, lines, count, rest)
@@ -81,7 +81,7 @@ pub fn read_functions(
     lines: u64,
     bytes: &[u8],
 ) -> Result<(Vec<Function>, &[u8]), Unread>
-    ensures reads { Reads (spell.counted spell.function) (AreCounted (IsSoundFunction lines)) (λ x. (x.0.items, x.1.now)) bytes.now result }
+    ensures reads { ReadsList spell.function (IsSoundFunction lines) bytes.now result }
 {
     functions_of(alloc, lines, bytes)
 }
@@ -90,7 +90,7 @@ pub fn read_functions(
 /// Where memory is refused, some more bytes may stand behind those that were there.
 pub fn put_function(out: &mut Vec<u8>, function: &Function) -> Result<(), Memory>
     requires { length function.now.name < 2 ^ 32 }
-    ensures written { OnOk result (out.new.items ≡ out.old.items ++ spell.function function.now) }
+    ensures written { OnOk result (AddsBytes (spell.function function.now) out.old out.new) }
     ensures front { OnErr result (IsFrontOf out.old.items out.new.items) }
 {
     put_text(out, function.name.as_bytes())?;
@@ -105,7 +105,8 @@ pub fn put_function(out: &mut Vec<u8>, function: &Function) -> Result<(), Memory
 pub fn put_functions(out: &mut Vec<u8>, functions: &[Function]) -> Result<(), Memory>
     requires few { length functions.now < 2 ^ 32 }
     requires short { All (λ s. length s.name < 2 ^ 32) functions.now }
-    ensures written { OnOk result (out.new.items ≡ out.old.items ++ spell.counted spell.function functions.now) }
+    ensures written { OnOk result
+        (AddsBytes (spell.counted spell.function functions.now) out.old out.new) }
     ensures front { OnErr result (IsFrontOf out.old.items out.new.items) }
 {
     put_u32(out, functions.len() as u32)?;

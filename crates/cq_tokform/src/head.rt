@@ -1,8 +1,8 @@
-ghost use Rattle.std.specs.Prelude.{◌≡◌, ◌<◌, ◌^◌, ◌++◌, length, OnOk, OnErr};
+ghost use Rattle.std.specs.Prelude.{◌≡◌, ◌<◌, ◌^◌, length, OnOk, OnErr};
 ghost use Rattle.cq_tokform.specs.Spelling as spell;
 ghost use Rattle.cq_tokform.specs.Sound.{IsSoundHead, is_sound_head};
-ghost use Rattle.cq_tokform.specs.Reading.{Gives, Reads, head_at};
-ghost use Rattle.cq_tokform.specs.Writing.{IsFrontOf};
+ghost use Rattle.cq_tokform.specs.Reading.{GivesValue, ReadsValue, head_at};
+ghost use Rattle.cq_tokform.specs.Writing.{AddsBytes, IsFrontOf};
 
 use crate::numbers::{put_text, put_u8, put_u32, put_u64, text_of, u8_at, u32_at, u64_at};
 use crate::unread::Unread;
@@ -38,7 +38,7 @@ pub(crate) fn head_of<'a>(
     settings: &Settings,
     bytes: &'a [u8],
 ) -> Result<(Head, &'a [u8]), Unread>
-    ensures { Gives (λ x. (x.0, x.1.now)) result (head_at settings.now bytes.now) }
+    ensures { GivesValue (head_at settings.now bytes.now) result }
 {
     let (version, rest) = u64_at(bytes)?;
     let (chunk, rest) = u32_at(rest)?;
@@ -57,7 +57,8 @@ pub fn read_head<'a>(
     settings: &Settings,
     bytes: &'a [u8],
 ) -> Result<(Head, &'a [u8]), Unread>
-    ensures reads { Reads (spell.head settings.now) (IsSoundHead settings.now) (λ x. (x.0, x.1.now)) bytes.now result }
+    ensures reads { ReadsValue (spell.head settings.now) (IsSoundHead settings.now)
+        bytes.now result }
 {
     head_of(alloc, settings, bytes)
 }
@@ -71,7 +72,9 @@ pub fn put_head_of(
     project: &Text,
 ) -> Result<(), Memory>
     requires { length project.now < 2 ^ 32 }
-    ensures written { OnOk result (out.new.items ≡ out.old.items ++ spell.head settings.now (record { version = version; project = project.now })) }
+    ensures written { OnOk result (AddsBytes
+        (spell.head settings.now (record { version = version; project = project.now }))
+        out.old out.new) }
     ensures front { OnErr result (IsFrontOf out.old.items out.new.items) }
 {
     put_u64(out, version)?;
@@ -86,7 +89,7 @@ pub fn put_head_of(
 /// Where memory is refused, some more bytes may stand behind those that were there.
 pub fn put_head(out: &mut Vec<u8>, settings: &Settings, head: &Head) -> Result<(), Memory>
     requires { length head.now.project < 2 ^ 32 }
-    ensures written { OnOk result (out.new.items ≡ out.old.items ++ spell.head settings.now head.now) }
+    ensures written { OnOk result (AddsBytes (spell.head settings.now head.now) out.old out.new) }
     ensures front { OnErr result (IsFrontOf out.old.items out.new.items) }
 {
     put_head_of(out, settings, head.version, &head.project)

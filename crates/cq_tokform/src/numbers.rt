@@ -1,9 +1,9 @@
-ghost use Rattle.std.specs.Prelude.{◌≡◌, ◌<◌, ◌^◌, ◌++◌, List, [], ◌∷◌, length, OnOk, OnErr};
+ghost use Rattle.std.specs.Prelude.{◌≡◌, ◌<◌, ◌^◌, List, [], ◌∷◌, length, OnOk, OnErr};
 ghost use Rattle.std.specs.Int.{w32, w64, to_be_bytes};
 ghost use Rattle.std.specs.Str.{is_utf8};
 ghost use Rattle.cq_tokform.specs.Spelling as spell;
-ghost use Rattle.cq_tokform.specs.Reading.{Gives, byte_at, number_at, text_at};
-ghost use Rattle.cq_tokform.specs.Writing.{IsFrontOf};
+ghost use Rattle.cq_tokform.specs.Reading.{GivesValue, byte_at, number_at, text_at};
+ghost use Rattle.cq_tokform.specs.Writing.{AddsBytes, IsFrontOf};
 
 use crate::unread::Unread;
 use cq_base::{Memory, Text};
@@ -11,7 +11,7 @@ use std::alloc::Global;
 
 /// The byte at the front.
 pub(crate) fn u8_at(bytes: &[u8]) -> Result<(u8, &[u8]), Unread>
-    ensures { Gives (λ x. (x.0, x.1.now)) result (byte_at bytes.now) }
+    ensures { GivesValue (byte_at bytes.now) result }
 {
     match bytes {
         [] => Err(Unread::Refused),
@@ -21,7 +21,7 @@ pub(crate) fn u8_at(bytes: &[u8]) -> Result<(u8, &[u8]), Unread>
 
 /// The number of four bytes at the front.
 pub(crate) fn u32_at(bytes: &[u8]) -> Result<(u32, &[u8]), Unread>
-    ensures { Gives (λ x. (x.0, x.1.now)) result (number_at w32 bytes.now) }
+    ensures { GivesValue (number_at w32 bytes.now) result }
 {
     if bytes.len() < 4 {
         return Err(Unread::Refused);
@@ -33,7 +33,7 @@ pub(crate) fn u32_at(bytes: &[u8]) -> Result<(u32, &[u8]), Unread>
 
 /// The number of eight bytes at the front.
 pub(crate) fn u64_at(bytes: &[u8]) -> Result<(u64, &[u8]), Unread>
-    ensures { Gives (λ x. (x.0, x.1.now)) result (number_at w64 bytes.now) }
+    ensures { GivesValue (number_at w64 bytes.now) result }
 {
     if bytes.len() < 8 {
         return Err(Unread::Refused);
@@ -57,7 +57,7 @@ fn is_utf8(bytes: &[u8]) -> bool
 /// The text at the front. Its length is believed only as far as bytes are there.
 #[tactic(auto, unfolding(crate::specs::Reading::text_at))]
 pub(crate) fn text_of(alloc: Global, bytes: &[u8]) -> Result<(Text, &[u8]), Unread>
-    ensures { Gives (λ x. (x.0, x.1.now)) result (text_at bytes.now) }
+    ensures { GivesValue (text_at bytes.now) result }
 {
     let (len, rest) = u32_at(bytes)?;
     let len = len as usize;
@@ -74,7 +74,7 @@ pub(crate) fn text_of(alloc: Global, bytes: &[u8]) -> Result<(Text, &[u8]), Unre
 /// Writes a byte at the end.
 /// Where memory is refused, some more bytes may stand behind those that were there.
 pub(crate) fn put_u8(out: &mut Vec<u8>, byte: u8) -> Result<(), Memory>
-    ensures written { OnOk result (out.new.items ≡ out.old.items ++ byte ∷ []) }
+    ensures written { OnOk result (AddsBytes (byte ∷ []) out.old out.new) }
     ensures front { OnErr result (IsFrontOf out.old.items out.new.items) }
 {
     out.push(byte)?;
@@ -84,7 +84,7 @@ pub(crate) fn put_u8(out: &mut Vec<u8>, byte: u8) -> Result<(), Memory>
 /// Writes a number of four bytes at the end.
 /// Where memory is refused, some more bytes may stand behind those that were there.
 pub fn put_u32(out: &mut Vec<u8>, number: u32) -> Result<(), Memory>
-    ensures written { OnOk result (out.new.items ≡ out.old.items ++ to_be_bytes w32 number) }
+    ensures written { OnOk result (AddsBytes (to_be_bytes w32 number) out.old out.new) }
     ensures front { OnErr result (IsFrontOf out.old.items out.new.items) }
 {
     out.extend_from_slice(&number.to_be_bytes())?;
@@ -94,7 +94,7 @@ pub fn put_u32(out: &mut Vec<u8>, number: u32) -> Result<(), Memory>
 /// Writes a number of eight bytes at the end.
 /// Where memory is refused, some more bytes may stand behind those that were there.
 pub fn put_u64(out: &mut Vec<u8>, number: u64) -> Result<(), Memory>
-    ensures written { OnOk result (out.new.items ≡ out.old.items ++ to_be_bytes w64 number) }
+    ensures written { OnOk result (AddsBytes (to_be_bytes w64 number) out.old out.new) }
     ensures front { OnErr result (IsFrontOf out.old.items out.new.items) }
 {
     out.extend_from_slice(&number.to_be_bytes())?;
@@ -105,7 +105,7 @@ pub fn put_u64(out: &mut Vec<u8>, number: u64) -> Result<(), Memory>
 /// Where memory is refused, some more bytes may stand behind those that were there.
 pub(crate) fn put_text(out: &mut Vec<u8>, text: &[u8]) -> Result<(), Memory>
     requires { length text.now < 2 ^ 32 }
-    ensures written { OnOk result (out.new.items ≡ out.old.items ++ spell.text text.now) }
+    ensures written { OnOk result (AddsBytes (spell.text text.now) out.old out.new) }
     ensures front { OnErr result (IsFrontOf out.old.items out.new.items) }
 {
     put_u32(out, text.len() as u32)?;

@@ -17,7 +17,8 @@ fn is_before(path: &Text, other: &Text) -> bool
 // Whether the path of a file is before that of the next one.
 fn is_before_next(files: &[FileRecord], at: usize) -> bool
     requires { at + 1 < length files.now }
-    ensures { (d : FileRecord) → result ≡ is_before (slice_index_or files.now at d).path (slice_index_or files.now (at + 1) d).path }
+    ensures { (d : FileRecord) → result ≡ is_before
+        (slice_index_or files.now at d).path (slice_index_or files.now (at + 1) d).path }
 {
     let next = at + 1;
     is_before(&files[at].path, &files[next].path)

@@ -1,10 +1,10 @@
-ghost use Rattle.std.specs.Prelude.{◌≡◌, ◌<◌, ◌^◌, ◌++◌, length, All, OnOk, OnErr};
+ghost use Rattle.std.specs.Prelude.{◌≡◌, ◌<◌, ◌^◌, length, All, OnOk, OnErr};
 ghost use Rattle.cq_key.specs.Keys.{class_code};
 ghost use Rattle.cq_tokform.specs.Spelling as spell;
-ghost use Rattle.cq_tokform.specs.Sound.{AreCounted, IsSoundToken, is_sound_token};
+ghost use Rattle.cq_tokform.specs.Sound.{IsSoundToken, is_sound_token};
 ghost use Rattle.cq_work.specs.Bounds.{is_ignored};
-ghost use Rattle.cq_tokform.specs.Reading.{Gives, Reads, class_of, counted_at, items_at, place_at, token_at};
-ghost use Rattle.cq_tokform.specs.Writing.{IsFrontOf};
+ghost use Rattle.cq_tokform.specs.Reading.{GivesList, GivesValue, ReadsList, ReadsValue, class_of, counted_at, items_at, place_at, token_at};
+ghost use Rattle.cq_tokform.specs.Writing.{AddsBytes, IsFrontOf};
 
 use crate::numbers::{put_text, put_u8, put_u32, text_of, u8_at, u32_at};
 use crate::unread::Unread;
@@ -58,7 +58,7 @@ fn is_sound(settings: &Settings, lines: u64, spelled: &Spelled) -> bool
 
 #[tactic(auto, unfolding(crate::specs::Reading::place_at))]
 fn place_of(bytes: &[u8]) -> Result<(Token, &[u8]), Unread>
-    ensures { Gives (λ x. (x.0, x.1.now)) result (place_at bytes.now) }
+    ensures { GivesValue (place_at bytes.now) result }
 {
     let (class, rest) = u8_at(bytes)?;
     let class = class_of(class).ok_or(Unread::Refused)?;
@@ -83,7 +83,7 @@ fn token_of<'a>(
     lines: u64,
     bytes: &'a [u8],
 ) -> Result<(Spelled, &'a [u8]), Unread>
-    ensures { Gives (λ x. (x.0, x.1.now)) result (token_at settings.now lines bytes.now) }
+    ensures { GivesValue (token_at settings.now lines bytes.now) result }
 {
     let (token, rest) = place_of(bytes)?;
     let (text, rest) = text_of(alloc, rest)?;
@@ -101,7 +101,7 @@ pub fn read_token<'a>(
     lines: u64,
     bytes: &'a [u8],
 ) -> Result<(Spelled, &'a [u8]), Unread>
-    ensures reads { Reads spell.token (IsSoundToken settings.now lines) (λ x. (x.0, x.1.now)) bytes.now result }
+    ensures reads { ReadsValue spell.token (IsSoundToken settings.now lines) bytes.now result }
 {
     token_of(alloc, settings, lines, bytes)
 }
@@ -114,7 +114,7 @@ fn tokens_at<'a>(
     count: u32,
     bytes: &'a [u8],
 ) -> Result<(Vec<Spelled>, &'a [u8]), Unread>
-    ensures { Gives (λ x. (x.0.items, x.1.now)) result (items_at (token_at settings.now lines) count bytes.now) }
+    ensures { GivesList (items_at (token_at settings.now lines) count bytes.now) result }
 {
     let mut tokens = Vec::new(alloc);
     let mut rest = bytes;
@@ -133,7 +133,7 @@ pub(crate) fn tokens_of<'a>(
     lines: u64,
     bytes: &'a [u8],
 ) -> Result<(Vec<Spelled>, &'a [u8]), Unread>
-    ensures { Gives (λ x. (x.0.items, x.1.now)) result (counted_at (token_at settings.now lines) bytes.now) }
+    ensures { GivesList (counted_at (token_at settings.now lines) bytes.now) result }
 {
     let (count, rest) = u32_at(bytes)?;
     tokens_at(alloc, settings, lines, count, rest)
@@ -146,13 +146,13 @@ pub fn read_tokens<'a>(
     lines: u64,
     bytes: &'a [u8],
 ) -> Result<(Vec<Spelled>, &'a [u8]), Unread>
-    ensures reads { Reads (spell.counted spell.token) (AreCounted (IsSoundToken settings.now lines)) (λ x. (x.0.items, x.1.now)) bytes.now result }
+    ensures reads { ReadsList spell.token (IsSoundToken settings.now lines) bytes.now result }
 {
     tokens_of(alloc, settings, lines, bytes)
 }
 
 fn put_place(out: &mut Vec<u8>, token: Token) -> Result<(), Memory>
-    ensures written { OnOk result (out.new.items ≡ out.old.items ++ spell.place token) }
+    ensures written { OnOk result (AddsBytes (spell.place token) out.old out.new) }
     ensures front { OnErr result (IsFrontOf out.old.items out.new.items) }
 {
     put_u8(out, class_byte(token.class))?;
@@ -167,7 +167,8 @@ fn put_place(out: &mut Vec<u8>, token: Token) -> Result<(), Memory>
 /// Where memory is refused, some more bytes may stand behind those that were there.
 pub fn put_token(out: &mut Vec<u8>, token: Token, text: &[u8]) -> Result<(), Memory>
     requires { length text.now < 2 ^ 32 }
-    ensures written { OnOk result (out.new.items ≡ out.old.items ++ spell.token (record { token = token; text = text.now })) }
+    ensures written { OnOk result
+        (AddsBytes (spell.token (record { token = token; text = text.now })) out.old out.new) }
     ensures front { OnErr result (IsFrontOf out.old.items out.new.items) }
 {
     put_place(out, token)?;
@@ -179,7 +180,8 @@ pub fn put_token(out: &mut Vec<u8>, token: Token, text: &[u8]) -> Result<(), Mem
 pub fn put_tokens(out: &mut Vec<u8>, tokens: &[Spelled]) -> Result<(), Memory>
     requires few { length tokens.now < 2 ^ 32 }
     requires short { All (λ s. length s.text < 2 ^ 32) tokens.now }
-    ensures written { OnOk result (out.new.items ≡ out.old.items ++ spell.counted spell.token tokens.now) }
+    ensures written { OnOk result
+        (AddsBytes (spell.counted spell.token tokens.now) out.old out.new) }
     ensures front { OnErr result (IsFrontOf out.old.items out.new.items) }
 {
     put_u32(out, tokens.len() as u32)?;

@@ -49,6 +49,10 @@ all_handed words = if list_all is_asked words then Some words else None
 abbrev pub rows_for : App → List (List ℕ) → Option (List Entry)
 rows_for app words = when (fault_of app words) (Some (matches_of app words))
 
+-- the entries that it found
+abbrev pub entries_of : ArgMatches → List Entry
+entries_of found = rows_of (found_of found)
+
 abbrev pub rows_in : Option ArgMatches → Option (List Entry)
 rows_in found = option_map (λ m. rows_of (found_of m)) found
 

@@ -27,7 +27,8 @@ fn text_of_word<'a>(word: &'a Text) -> Option<&'a str>
 
 /// All of them, or none where one is not to be handed on.
 pub(crate) fn texts_of<'a>(alloc: Global, words: &'a [Text]) -> Result<Option<Vec<&'a str>>, Memory>
-    ensures { IfOk result (λ r. option_map (λ v. texts v.items) r ≡ spec.all_handed words.entry.now) }
+    ensures { IfOk result
+        (λ r. option_map (λ v. texts v.items) r ≡ spec.all_handed words.entry.now) }
 {
     let mut handed = Vec::new(alloc);
     for word in words {
@@ -44,7 +45,8 @@ fn with_option<'a>(
     command: Command<'a>,
     name: &'a str,
 ) -> Result<Command<'a>, AllocError>
-    ensures { IfOk result (λ c. app_of c ≡ with_rule (app_of command.entry) (spec.option_arg name.entry.now)) }
+    ensures { IfOk result
+        (λ c. app_of c ≡ with_rule (app_of command.entry) (spec.option_arg name.entry.now)) }
 {
     command.arg(Arg::new(alloc, name).long(name))
 }
@@ -54,7 +56,8 @@ fn with_flag<'a>(
     command: Command<'a>,
     name: &'a str,
 ) -> Result<Command<'a>, AllocError>
-    ensures { IfOk result (λ c. app_of c ≡ with_rule (app_of command.entry) (spec.flag_arg name.entry.now)) }
+    ensures { IfOk result
+        (λ c. app_of c ≡ with_rule (app_of command.entry) (spec.flag_arg name.entry.now)) }
 {
     command.arg(Arg::new(alloc, name).long(name).action(ArgAction::SetTrue))
 }
@@ -72,7 +75,8 @@ fn with_positional<'a>(
     command: Command<'a>,
     name: &'a str,
 ) -> Result<Command<'a>, AllocError>
-    ensures { IfOk result (λ c. app_of c ≡ with_rule (app_of command.entry) (spec.positional_arg name.entry.now)) }
+    ensures { IfOk result
+        (λ c. app_of c ≡ with_rule (app_of command.entry) (spec.positional_arg name.entry.now)) }
 {
     command.arg(Arg::new(alloc, name).required(true))
 }
@@ -136,7 +140,8 @@ pub(crate) fn matches_in<'a>(
     words: &'a [&'a str],
 ) -> Result<Option<ArgMatches<'a>>, Memory>
     requires { is_simple_and_free (app_of command) ≡ true }
-    ensures { IfOk result (λ r. spec.rows_in r ≡ spec.rows_for (app_of command.entry) (texts words.entry.now)) }
+    ensures { IfOk result
+        (λ r. spec.rows_in r ≡ spec.rows_for (app_of command.entry) (texts words.entry.now)) }
 {
     match command.try_get_matches_from(words) {
         Ok(matches) => Ok(Some(matches)),

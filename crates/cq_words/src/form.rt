@@ -98,7 +98,8 @@ pub(crate) struct Front<'a> {
 }
 
 fn joined_front<'a>(name: &'a [u8], value: &'a [u8], left: Left<'a>) -> Option<Front<'a>>
-    ensures { IsFront result left.entry (named_in left.entry name.entry.now (Some value.entry.now)) }
+    ensures { IsFront result left.entry
+        (named_in left.entry name.entry.now (Some value.entry.now)) }
 {
     if !has_param(options_of(left.verb), name) {
         return None;
@@ -311,7 +312,8 @@ fn is_text_given(all: Left<'_>, param: Param) -> bool
 // Whether each of these numbers is given so.
 fn are_given(all: Left<'_>, params: &[Param]) -> bool
     requires { is_some (read_in all None) ≡ true }
-    ensures { result ≡ list_all (λ p. is_some (table.number_from p (items_in all.entry))) params.now }
+    ensures { result
+        ≡ list_all (λ p. is_some (table.number_from p (items_in all.entry))) params.now }
 {
     for param in params {
         if !is_given(all, *param) {

@@ -1,7 +1,8 @@
-ghost use Rattle.std.specs.Prelude.{◌≡◌, ◌≤◌, true, is_some, IfOk, IfSome, OnErr, option_map};
-ghost use Rattle.clap.specs.Words.{first_of, found_of, rows_of};
+ghost use Rattle.std.specs.Prelude.{◌≡◌, ◌≤◌, true, is_some, IfOk, IfSome, OnErr, option_copied};
+ghost use Rattle.clap.specs.Words.{first_of};
 ghost use Rattle.cq_base.specs.Settings.{IsInRange};
 ghost use Rattle.cq_words.specs.Asked as spec;
+ghost use Rattle.cq_words.specs.Asked.{entries_of};
 ghost use Rattle.cq_words.specs.Command.{command_after, command_of, connections_of, default_settings, HasRanges};
 ghost use Rattle.cq_words.specs.Table as table;
 ghost use Rattle.cq_words.specs.declared.table.Verb.TheVariants as verb;
@@ -17,13 +18,13 @@ use std::alloc::Global;
 
 /// The first value of this name, as text.
 fn text_of<'a>(matches: &ArgMatches<'a>, name: &str) -> Option<&'a str>
-    ensures { option_map (λ s. s.now) result ≡ first_of name.now (rows_of (found_of matches.now)) }
+    ensures { option_copied result ≡ first_of name.now (entries_of matches.now) }
 {
     matches.get_str(name)
 }
 
 fn number_read(matches: &ArgMatches, param: Param) -> Option<u64>
-    ensures value { result ≡ spec.number_read param (rows_of (found_of matches.now)) }
+    ensures value { result ≡ spec.number_read param (entries_of matches.now) }
     ensures most { IfSome result (λ n. n ≤ (table.range_of param).high) }
     ensures least { IfSome result (λ n. (table.range_of param).low ≤ n) }
 {
@@ -35,7 +36,7 @@ fn number_read(matches: &ArgMatches, param: Param) -> Option<u64>
 }
 
 fn text_read<'a>(matches: &ArgMatches<'a>, param: Param) -> Option<&'a str>
-    ensures { option_map (λ s. s.now) result ≡ spec.text_read param (rows_of (found_of matches.now)) }
+    ensures { option_copied result ≡ spec.text_read param (entries_of matches.now) }
 {
     let text = text_of(matches, param_name(param))?;
     text_taken(param, text)
@@ -65,7 +66,7 @@ pub fn default_settings() -> Settings
 }
 
 fn is_set(matches: &ArgMatches, flag: Flag) -> bool
-    ensures { result ≡ spec.flag_read flag (rows_of (found_of matches.now)) }
+    ensures { result ≡ spec.flag_read flag (entries_of matches.now) }
 {
     match text_of(matches, flag_name(flag)) {
         Some(text) => text == "true",
@@ -74,7 +75,7 @@ fn is_set(matches: &ArgMatches, flag: Flag) -> bool
 }
 
 fn settings_read(matches: &ArgMatches) -> Option<Settings>
-    ensures settings { result ≡ spec.settings_read (rows_of (found_of matches.now)) }
+    ensures settings { result ≡ spec.settings_read (entries_of matches.now) }
     ensures in_range { IfSome result IsInRange }
 {
     let chunk = number_read(matches, Param::Chunk)?;
@@ -96,7 +97,7 @@ fn settings_read(matches: &ArgMatches) -> Option<Settings>
 }
 
 fn run_read(matches: &ArgMatches) -> Option<Command>
-    ensures command { result ≡ spec.command_read verb.Run (rows_of (found_of matches.now)) }
+    ensures command { result ≡ spec.command_read verb.Run (entries_of matches.now) }
     ensures in_range { IfSome result HasRanges }
 {
     let settings = settings_read(matches)?;
@@ -108,7 +109,8 @@ fn run_read(matches: &ArgMatches) -> Option<Command>
 }
 
 fn listen_read(alloc: Global, matches: &ArgMatches) -> Result<Option<Command>, Memory>
-    ensures command { IfOk result (λ r. r ≡ spec.command_read verb.Listen (rows_of (found_of matches.now))) }
+    ensures command { IfOk result
+        (λ r. r ≡ spec.command_read verb.Listen (entries_of matches.now)) }
     ensures in_range { IfOk result (λ r. IfSome r HasRanges) }
 {
     let Some(settings) = settings_read(matches) else {
@@ -136,7 +138,7 @@ fn listen_read(alloc: Global, matches: &ArgMatches) -> Result<Option<Command>, M
 }
 
 fn drive_read(matches: &ArgMatches) -> Option<Command>
-    ensures command { result ≡ spec.command_read verb.Drive (rows_of (found_of matches.now)) }
+    ensures command { result ≡ spec.command_read verb.Drive (entries_of matches.now) }
     ensures in_range { IfSome result HasRanges }
 {
     let settings = settings_read(matches)?;
@@ -144,7 +146,8 @@ fn drive_read(matches: &ArgMatches) -> Option<Command>
 }
 
 fn export_read(alloc: Global, matches: &ArgMatches) -> Result<Option<Command>, Memory>
-    ensures command { IfOk result (λ r. r ≡ spec.command_read verb.Export (rows_of (found_of matches.now))) }
+    ensures command { IfOk result
+        (λ r. r ≡ spec.command_read verb.Export (entries_of matches.now)) }
     ensures in_range { IfOk result (λ r. IfSome r HasRanges) }
 {
     let Some(settings) = settings_read(matches) else {
@@ -160,7 +163,7 @@ fn export_read(alloc: Global, matches: &ArgMatches) -> Result<Option<Command>, M
 }
 
 fn ask_read(matches: &ArgMatches) -> Option<Command>
-    ensures command { result ≡ spec.command_read verb.Ask (rows_of (found_of matches.now)) }
+    ensures command { result ≡ spec.command_read verb.Ask (entries_of matches.now) }
     ensures in_range { IfSome result HasRanges }
 {
     let settings = settings_read(matches)?;
@@ -168,7 +171,7 @@ fn ask_read(matches: &ArgMatches) -> Option<Command>
 }
 
 fn make_read(matches: &ArgMatches) -> Option<Command>
-    ensures command { result ≡ spec.command_read verb.Make (rows_of (found_of matches.now)) }
+    ensures command { result ≡ spec.command_read verb.Make (entries_of matches.now) }
     ensures in_range { IfSome result HasRanges }
 {
     let number = number_read(matches, Param::Number)?;
@@ -180,7 +183,7 @@ fn make_read(matches: &ArgMatches) -> Option<Command>
 }
 
 fn command_read(alloc: Global, verb: Verb, matches: &ArgMatches) -> Result<Option<Command>, Memory>
-    ensures command { IfOk result (λ r. r ≡ spec.command_read verb (rows_of (found_of matches.now))) }
+    ensures command { IfOk result (λ r. r ≡ spec.command_read verb (entries_of matches.now)) }
     ensures in_range { IfOk result (λ r. IfSome r HasRanges) }
 {
     match verb {

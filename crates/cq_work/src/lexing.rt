@@ -36,7 +36,8 @@ pub(crate) fn lexed(alloc: Global, lang: Lang, text: &Text) -> Result<Lexed, Mem
     ensures lexes { IfOk result (LexesTo lang text.now) }
     ensures in_order { IfOk result AreMarkedInOrder }
     ensures few { IfOk result (λ a. length (spec.tokens_in a) ≤ 262144) }
-    ensures short { IfOk result (λ a. spec.spelled_bytes (spec.tokens_in a) ≤ 4 * length text.now + 262144) }
+    ensures short { IfOk result
+        (λ a. spec.spelled_bytes (spec.tokens_in a) ≤ 4 * length text.now + 262144) }
 {
     lexed_by(alloc, lang, text)
 }

@@ -57,7 +57,8 @@ fn texts_of(alloc: Global, words: &[String]) -> Result<Vec<Text>, Memory>
 
 // The words behind the program's name.
 fn words_of(alloc: Global, args: env::Args) -> Result<Vec<Text>, Memory>
-    ensures { IfOk result (λ words. words.items ≡ map string_bytes (drop 1 (into_iter_items args))) }
+    ensures { IfOk result
+        (λ words. words.items ≡ map string_bytes (drop 1 (into_iter_items args))) }
 {
     let words: Vec<String> = args.skip(1).collect(alloc)?;
     texts_of(alloc, &words)

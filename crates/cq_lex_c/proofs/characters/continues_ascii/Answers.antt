@@ -1,6 +1,6 @@
 use Rattle.std.proofs.Common.{not, nat_eq, get_or, refl, sym, arith}
 use Rattle.std.proofs.lemmas.Bool.{agree_below_at}
-use Rattle.cq_lex_c.specs.Ascii.{continues_ascii}
+use Rattle.cq_lex_c.specs.AsciiNames.{continues_ascii}
 use Rattle.cq_lex_c.specs.declared.characters.TheConstants.{CONTINUES}
 use Rattle.cq_lex_c.proofs.NameScans.{continues_past}
 use Rattle.cq_lex_c.proofs.characters.continues_ascii.Goals as goal
