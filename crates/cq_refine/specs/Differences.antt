@@ -4,7 +4,6 @@ use Rattle.cq_base.specs.declared.norm.Norm.{Norm}
 use Rattle.cq_base.specs.declared.group.Place.{Place}
 use Rattle.cq_clones.specs.Groups.{token_before, token_behind}
 use Rattle.cq_refine.specs.declared.differing.Difference.{Difference}
-use Rattle.cq_refine.specs.declared.spots.Spot.{Spot}
 use Rattle.cq_refine.specs.declared.spots.Row.{Row}
 use Rattle.cq_refine.specs.Sets.{AreOne, IsDifference}
 
@@ -16,11 +15,7 @@ IsTokenBefore corpus places i token = (p : Place) → token ≡ token_before cor
 abbrev pub IsTokenBehind : {T : Type 0} → List (List T) → ℕ → List Row → ℕ → Option T → Type 0
 IsTokenBehind corpus n rows i token = (r : Row) → token ≡ token_behind corpus (slice_index_or rows i r).first.place n
 
--- the spots go on by one token, `n` behind each
-abbrev pub GoOnByOne : {T : Type 0} → List (List T) → ℕ → List Spot → Type 0
-GoOnByOne corpus n spots = AreOne (λ s. token_behind corpus s.place n) spots
-
--- the first spots of the rows do
+-- the first spots of the rows go on by one token, `n` behind each
 abbrev pub RowsGoOnByOne : {T : Type 0} → List (List T) → ℕ → List Row → Type 0
 RowsGoOnByOne corpus n rows = AreOne (λ r. token_behind corpus r.first.place n) rows
 

@@ -18,10 +18,10 @@ fn is_free_behind(tokens: u32, last: Place, p: Place) -> bool
 fn is_kept(tokens: u32, last: Option<Place>, p: Place) -> bool
     ensures { result ≡ is_free tokens last p }
 {
-    let Some(kept) = last else {
-        return true;
-    };
-    is_free_behind(tokens, kept, p)
+    match last {
+        None => true,
+        Some(kept) => is_free_behind(tokens, kept, p),
+    }
 }
 
 /// The place of a row's spot, so many behind its first one.
@@ -31,7 +31,7 @@ fn place_in(row: &Row, k: usize) -> Place
     ensures { result ≡ further row.now.first.place (k * row.now.gap) }
 {
     let place = row.first.place;
-    if k == 0 {
+    if row.others == 0 {
         return place;
     }
     Place {

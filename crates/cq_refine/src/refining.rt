@@ -16,7 +16,6 @@ use cq_tokens::{FileList, Files};
 use std::alloc::Global;
 
 /// The set of all spots, if they may give groups.
-#[tactic(auto, using(crate::proofs::RowLaws::singles_are_rows))]
 fn first_sets(alloc: Global, spots: Vec<Spot>) -> Result<Vec<Set>, Memory>
     ensures { IfOk result (λ sets. AreFirst spots.items sets.items) }
 {

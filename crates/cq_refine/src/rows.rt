@@ -117,10 +117,11 @@ fn push_row(rows: &mut Vec<Row>, row: Row) -> Result<(), Memory>
         rows.push(row)?;
         return Ok(());
     }
+    let at = last_at(&row);
     let last = Spot {
         place: Place {
             file: row.first.place.file,
-            at: last_at(&row),
+            at,
         },
         left: row.left,
     };
@@ -163,42 +164,38 @@ fn rows_at(alloc: Global, depth: u32, rows: &[Row]) -> Result<Vec<Row>, Memory>
     Ok(made)
 }
 
-/// Whether rows are joined at this depth: at each power of two, so that a row is joined before the depth is twice its gap.
-fn is_joined_at(depth: u32) -> bool {
-    depth.is_power_of_two()
+/// Whether rows are joined at this depth: three or more, at each power of two, so that a row is joined before the depth is
+/// twice its gap.
+fn are_joined_at(depth: u32, rows: &[Row]) -> bool {
+    rows.len() > 2 && depth.is_power_of_two()
 }
 
 /// The rows of a part of a set, so that each goes on by one token again. They stay as they are where each has one spot,
-/// unless rows are joined at this depth.
+/// unless they are joined at this depth.
 pub(crate) fn rows_of_part(alloc: Global, depth: u32, rows: Vec<Row>) -> Result<Vec<Row>, Memory>
     requires { All (IsRow depth) rows.items }
     ensures spots { IfOk result (λ made. all_of made.items ≡ all_of rows.items) }
     ensures rows { IfOk result (λ made. AreRows depth made.items) }
 {
-    if is_joined_at(depth) {
-        return rows_at(alloc, depth, &rows);
-    }
-    if are_single(&rows) {
+    if !are_joined_at(depth, &rows) && are_single(&rows) {
         return Ok(rows);
     }
     rows_at(alloc, depth, &rows)
 }
 
-/// The set one token further, where all its spots go on by one token. It stands as it is, unless rows are joined at this
-/// depth.
-#[tactic(auto, using(crate::proofs::RowLaws::rows_deeper))]
+/// The set one token further, where all its spots go on by one token. It stands as it is, unless its rows are joined there.
 pub(crate) fn further_on(alloc: Global, set: Set) -> Result<Set, Memory>
     requires { set.depth + 1 < 2 ^ 32 }
     ensures depth { IfOk result (λ more. more.depth ≡ set.depth + 1) }
     ensures spots { IfOk result (λ more. set_spots more ≡ set_spots set) }
 {
     let depth = set.depth + 1;
-    if is_joined_at(depth) {
-        let rows = rows_at(alloc, depth, &set.rows)?;
-        return Ok(Set { depth, rows });
+    if !are_joined_at(depth, &set.rows) {
+        return Ok(Set {
+            depth,
+            rows: set.rows,
+        });
     }
-    Ok(Set {
-        depth,
-        rows: set.rows,
-    })
+    let rows = rows_at(alloc, depth, &set.rows)?;
+    Ok(Set { depth, rows })
 }
