@@ -1,4 +1,4 @@
-use Rattle.std.proofs.Common.{◌≤◌, length, get_or, subst}
+use Rattle.std.proofs.Common.{ℕ, ◌≤◌, length, get_or, subst}
 use Rattle.std.specs.Prelude.{Some}
 use Rattle.std.specs.Slice.{IsItemAt}
 use Rattle.cq_munch.specs.ByLetter.{row_of}
@@ -9,10 +9,10 @@ use Rattle.cq_munch.proofs.words.is_listed_by_letter.Goals as goal
 pub returns-in-Some : goal.returns-in-Some
 returns-in-Some c =
     let name = characters c.args.name.now in
-    let item = subst (λ n. IsItemAt c.args.by_letter.now n (Some c.in-Some.words)) c.row_beside.ensures c.in-Some.ensures.lookup in
-    listed-among c.args.by_letter.now (row_of (get_or name 0 0)) name c.in-Some.words c.is_among.result item c.is_among.ensures
+    listed-among c.args.by_letter.now (row_of (get_or name 0 0)) name c.in-Some.words c.is_among.result
+    (subst (λ (n : ℕ). IsItemAt c.args.by_letter.now n (Some c.in-Some.words)) c.row_beside.ensures c.in-Some.ensures.lookup) c.is_among.ensures
 
 pub returns-in-None : goal.returns-in-None
 returns-in-None c =
     let name = characters c.args.name.now in
-    listed-nowhere c.args.by_letter.now (row_of (get_or name 0 0)) name (subst (λ n. length c.args.by_letter.now ≤ n) c.row_beside.ensures c.in-None.ensures.lookup.3)
+    listed-nowhere c.args.by_letter.now (row_of (get_or name 0 0)) name (subst (λ (n : ℕ). length c.args.by_letter.now ≤ n) c.row_beside.ensures c.in-None.ensures.lookup.3)
