@@ -22,7 +22,8 @@ fn first_sets(alloc: Global, spots: Vec<Spot>) -> Result<Vec<Set>, Memory>
     let mut sets = Vec::new(alloc);
     let rows = singles(alloc, &spots)?;
     if may_give(&rows) {
-        sets.push(Set { depth: 0, rows })?;
+        let set = Set { depth: 0, rows };
+        sets.push(set)?;
     }
     Ok(sets)
 }

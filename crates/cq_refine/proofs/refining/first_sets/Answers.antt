@@ -2,9 +2,13 @@ use Rattle.std.proofs.lemmas.Bool.{iff_false}
 use Rattle.std.proofs.Common.{ap, ◌∙◌, subst, sym, refl, inl, inr}
 use Rattle.cq_refine.specs.Rows.{all_of}
 use Rattle.cq_refine.specs.Sets.{MayGive}
+use Rattle.cq_refine.proofs.RowLaws.{singles_are_rows}
 use Rattle.cq_refine.proofs.Walk.{first_alone}
 use Rattle.cq_refine.proofs.refining.first_sets.Goals as goal
 use Rattle.cq_refine.proofs.refining.first_sets.Goals.{then-may_give+in_ok-push, else-may_give}
+
+pub invariant_of-set : goal.invariant_of-set
+invariant_of-set c = record { rows_are = singles_are_rows 0 c.in_ok-rows.rows.items c.in_ok-rows.ensures.single }
 
 pub returns : goal.returns
 returns c =

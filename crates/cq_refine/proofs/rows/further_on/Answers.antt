@@ -4,8 +4,8 @@ use Rattle.cq_refine.specs.Rows.{IsRow}
 use Rattle.cq_refine.proofs.RowLaws.{rows_each, each_deeper, rows_deeper}
 use Rattle.cq_refine.proofs.rows.further_on.Goals as goal
 
-pub invariant_of-result-then-not-are_joined_at : goal.invariant_of-result-then-not-are_joined_at
-invariant_of-result-then-not-are_joined_at c = rows_deeper c.args.set.depth c.args.set.rows.items c.args.set.rows_are
+pub invariant_of-result : goal.invariant_of-result
+invariant_of-result c = record { rows_are = rows_deeper c.args.set.depth c.args.set.rows.items c.args.set.rows_are }
 
 pub rows_at-requires : goal.rows_at-requires
 rows_at-requires c =
