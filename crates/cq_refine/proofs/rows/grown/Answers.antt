@@ -10,7 +10,7 @@ overflow_add-result c =
     let o = one-mul row.gap in
     let inside : c.args.spot.place.at < 2 ^ 32 = search rules in
     let h = at_most_times (row.others + 1) row.gap c.requires.steps.some in
-    omega (arith, m, o, h, c.last_at-last.ensures, c.if-spot-last.false, c.if-spot-row-3.false, inside)
+    omega (arith, m, o, h, c.last_at-last.ensures, c.if-spot-last.false, c.if-spot-last-2.false, inside)
 
 pub returns : goal.returns
 returns c =
@@ -18,5 +18,5 @@ returns c =
     row_grown c.args.row.now c.args.spot c.args.depth c.requires.steps
     c.if-spot-row.false
     c.if-spot-row-2.false
-    (omega (arith, c.last_at-last.ensures, c.if-spot-last.false, c.if-spot-row-3.false))
+    (omega (arith, c.last_at-last.ensures, c.if-spot-last.false, c.if-spot-last-2.false))
     inside

@@ -23,8 +23,8 @@ loop-part-init c =
 pub rows_of_part-requires : goal.rows_of_part-requires
 rows_of_part-requires c = part_rows_head c.args.depth c.in-Some.part _ (subst (ArePartRows c.args.depth) c.in-Some.ensures.steps.0 c.loop-part.invariant.1)
 
-pub loop-part-preserved-in-Continue-1 : goal.loop-part-preserved-in-Continue-1
-loop-part-preserved-in-Continue-1 c = (
+pub loop-part-preserved-in-Continue-branch-2 : goal.loop-part-preserved-in-Continue-branch-2
+loop-part-preserved-in-Continue-branch-2 c = (
   λ highest marked are.
       let (m, before, left) = c.loop-part.invariant.0 highest marked are in
       let steps = ap (map (λ part. part.items)) c.in-Some.ensures.steps.0 in
