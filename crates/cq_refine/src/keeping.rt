@@ -77,9 +77,10 @@ fn keep_row(
     requires { 0 < row.now.others → row.now.first.place.at + row.now.others * row.now.gap < 2 ^ 32 }
     ensures { IfOk result (λ latest. KeepsRow tokens row.now last latest kept.old.items kept.new.items) }
 {
+    let others = row.others as usize;
     let mut latest = last;
     let mut i = first_kept(row, 0, latest, tokens);
-    while i <= row.others as usize {
+    while i <= others {
         let place = place_in(row, i);
         kept.push(place)?;
         latest = Some(place);
