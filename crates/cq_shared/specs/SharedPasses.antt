@@ -1,7 +1,6 @@
 -- What a shared hub and its passes are, and for which histories a pass stands.
-use Rattle.std.proofs.Common.{◌≡◌, ℕ, ◌+◌, ◌-◌, ◌<◌, ◌≤◌, List, [], ◌∷◌, drop, subst}
-use Rattle.std.specs.Prelude.{◌⊎◌, All}
-use mathlib.Core.List.{IsPrefix}
+use Rattle.std.proofs.Common.{◌≡◌, ℕ, ◌<◌, ◌≤◌, List, drop, subst}
+use Rattle.std.specs.Prelude.{All}
 use Rattle.cq_base.specs.declared.settings.Settings.{Settings}
 use Rattle.cq_base.specs.Changes.{IsSoundChange}
 use Rattle.cq_history.specs.declared.event.Event.{Event}
@@ -70,15 +69,3 @@ ended_in p = drop 1 p.callers
 -- the shards from one on and before another have applied so many changes, as far as the pass knows
 abbrev pub HaveAppliedBetween : ℕ → ℕ → BoardPass → ℕ → Type 0
 HaveAppliedBetween from until p to = (s : ℕ) → from ≤ s → s < until → to ≤ least p s
-
--- the pass, where the next caller is made
-abbrev pub with_child : BoardPass → BoardPass
-with_child p = record p { next = p.next + 1; room = p.room - 1 }
-
--- the pass of that caller, which has seen the same, and has asked for no bucket
-abbrev pub child_of : BoardPass → BoardPass
-child_of p = record p { callers = p.next ∷ []; next = 0; room = 0; asked = 0 }
-
--- one of two histories begins with the other
-abbrev pub AreOneHistory : List Event → List Event → Type 0
-AreOneHistory h other = IsPrefix h other ⊎ IsPrefix other h

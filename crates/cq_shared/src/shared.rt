@@ -1,10 +1,11 @@
 ghost use Rattle.std.specs.Prelude.{◌≡◌, ◌-◌, ◌<◌, ◌≤◌, ◌^◌, [], ◌++◌, IfOk};
 ghost use Rattle.cq_cells.specs.Callers.{longer};
-ghost use Rattle.cq_cells.specs.Passes.{by_of};
+ghost use Rattle.cq_cells.specs.Passes.{by_of, with_child, child_of};
+ghost use Rattle.cq_cells.specs.Steps.{AreOneHistory};
 ghost use Rattle.cq_chain.specs.Passes.{IsOwn, HasNoneFrom};
 ghost use Rattle.cq_hub.specs.Answers.{HasViewOpen, Shuts};
 ghost use Rattle.cq_shared.specs.Answers.{HasSeenItsWork, ExtendsByDone, ExtendsWhereDone};
-ghost use Rattle.cq_shared.specs.SharedPasses.{IsPassOf, SharedStands, AreOneHistory, cells_of, settings_of, callers_of, with_child, child_of, asked_by};
+ghost use Rattle.cq_shared.specs.SharedPasses.{IsPassOf, SharedStands, cells_of, settings_of, callers_of, asked_by};
 
 use cq_base::{Change, Entry, Memory, Settings};
 use cq_board::{Asked, Board, Finished, Job, Refused, View};
