@@ -15,12 +15,12 @@ Follows closed some close c s = MatchBool closed (IsTrue some × (s ≡ [])) (Is
 
 body_of : (close : ℕ) (some : Bool) (s : List ℕ) → EndsAt close some s → HasBody close some s
 body_of close some [] h = absurd h
-body_of close some (c ∷ s) h = by (c == close) refl h
+body_of close some (c ∷ s) h = by (c == close) refl h (λ k. body_of close true s k)
   where
-    by : (b : Bool) → (c == close) ≡ b → Follows b some close c s → HasBody close some (c ∷ s)
-    by true e k = ([], ap₂ (λ x xs. x ∷ xs) (eqb-true c close e) k.1, inl k.0, tt)
-    by false e k =
-        let rest = body_of close true s k.1 in
+    by : (b : Bool) → (c == close) ≡ b → Follows b some close c s → (EndsAt close true s → HasBody close true s) → HasBody close some (c ∷ s)
+    by true e k next = ([], ap₂ (λ x xs. x ∷ xs) (eqb-true c close e) k.1, inl k.0, tt)
+    by false e k next =
+        let rest = next k.1 in
         let more : 0 < suc (length rest.0) = omega arith in
         (c ∷ rest.0, ap (λ xs. c ∷ xs) rest.1, inr more, ((k.0, e), rest.3))
 

@@ -35,28 +35,31 @@ not_second p (r ∷ ps) e = ap (λ b. b && is_quote r) e
 
 -- ---- one part more, behind no quote, one and two
 
+text_more : (p : Part) (s : List ℕ) (parts : List Part) → s ≡ spells parts ++ closing → spelled p ++ s ≡ spells (p ∷ parts) ++ closing
+text_more p s parts e = ap (λ t. spelled p ++ t) e ∙ sym (append_assoc (spelled p) (spells parts) closing)
+
 one_more : (p : Part) (s : List ℕ) → IsPart p → IsFalse (is_quote p) → Content s → Content (spelled p ++ s)
 one_more p s is e h = record {
   parts = p ∷ h.parts;
-  text = ap (λ t. spelled p ++ t) h.text ∙ sym (append_assoc (spelled p) (spells h.parts) closing);
+  text = text_more p s h.parts h.text;
   each = (is, h.each);
   is_open = (not_first p (h.parts ++ two) e, h.is_open);
 }
 
 behind_one : (p : Part) (s : List ℕ) → IsPart p → IsFalse (is_quote p) → Content s → Content (34 ∷ spelled p ++ s)
-behind_one p s is e h = let more = one_more p s is e h in record {
+behind_one p s is e h = record {
   parts = plain 34 ∷ p ∷ h.parts;
-  text = ap (λ t. 34 ∷ t) more.text;
-  each = (refl, is, h.each);
-  is_open = (not_second p (h.parts ++ two) e, not_first p (h.parts ++ two) e, h.is_open);
+  text = ap (λ t. 34 ∷ t) (text_more p s h.parts h.text);
+  each = (refl, (is, h.each));
+  is_open = (not_second p (h.parts ++ two) e, (not_first p (h.parts ++ two) e, h.is_open));
 }
 
 behind_two : (p : Part) (s : List ℕ) → IsPart p → IsFalse (is_quote p) → Content s → Content (34 ∷ 34 ∷ spelled p ++ s)
-behind_two p s is e h = let more = one_more p s is e h in record {
+behind_two p s is e h = record {
   parts = plain 34 ∷ plain 34 ∷ p ∷ h.parts;
-  text = ap (λ t. 34 ∷ 34 ∷ t) more.text;
-  each = (refl, refl, is, h.each);
-  is_open = (e, not_second p (h.parts ++ two) e, not_first p (h.parts ++ two) e, h.is_open);
+  text = ap (λ t. 34 ∷ 34 ∷ t) (text_more p s h.parts h.text);
+  each = (refl, (refl, (is, h.each)));
+  is_open = (e, (not_second p (h.parts ++ two) e, (not_first p (h.parts ++ two) e, h.is_open)));
 }
 
 -- ---- from the scan
@@ -75,7 +78,7 @@ HasContent at.Escape s = BehindOne s
 HasContent _ s = ⊤
 
 -- a character behind some quotes
-read : (quotes : List ℕ) → ((p : Part) (s : List ℕ) → IsPart p → IsFalse (is_quote p) → Content s → Content (quotes ++ spelled p ++ s))
+read : (quotes : List ℕ) → ((p : Part) (s : List ℕ) → IsPart p → IsFalse (is_quote p) → Content s → Content (quotes ++ (spelled p ++ s)))
     → {Quote : Type 0} (c : ℕ) (s : List ℕ) (a b : Bool) → (c == 34) ≡ a → (c == 92) ≡ b
     → MatchBool a Quote (MatchBool b (EndsAtQuotes at.Escape s) (EndsAtQuotes at.Inside s))
     → (Quote → Content (quotes ++ 34 ∷ s)) → (EndsAtQuotes at.Escape s → BehindOne s) → (EndsAtQuotes at.Inside s → Content s) → Content (quotes ++ c ∷ s)
@@ -88,7 +91,7 @@ read quotes more c s false true e f h quote escape inside = subst (λ d. Content
 read quotes more c s false false e f h quote escape inside = more (plain c) s f e (inside h)
 
 closed : (s : List ℕ) → s ≡ [] → Content (34 ∷ 34 ∷ 34 ∷ s)
-closed s e = record { parts = []; text = ap (λ t. 34 ∷ 34 ∷ 34 ∷ t) e; each = tt; is_open = (refl, refl, tt) }
+closed s e = record { parts = []; text = ap (λ t. 34 ∷ 34 ∷ 34 ∷ t) e; each = tt; is_open = (refl, (refl, tt)) }
 
 content_of : (b : Block) (s : List ℕ) → EndsAtQuotes b s → HasContent b s
 content_of at.Before s h = tt
@@ -120,11 +123,11 @@ record Opened (s : List ℕ) : Type 0 where
 
 opened : (s : List ℕ) → EndsAtQuotes at.Opening s → Opened s
 opened [] h = absurd h
-opened (c ∷ s) h = by (is_line_end c) refl h
+opened (c ∷ s) h = by (is_line_end c) refl h (λ k. opened s k)
   where
-    by : (b : Bool) → is_line_end c ≡ b → MatchBool b (EndsAtQuotes at.Inside s) (IsTrue (is_space c) × EndsAtQuotes at.Opening s) → Opened (c ∷ s)
-    by true e k = record { blanks = []; line_end = c; rest = s; text = refl; are_blanks = tt; ends_line = e; inside = k }
-    by false e k = let more = opened s k.1 in record {
+    by : (b : Bool) → is_line_end c ≡ b → MatchBool b (EndsAtQuotes at.Inside s) (IsTrue (is_space c) × EndsAtQuotes at.Opening s) → (EndsAtQuotes at.Opening s → Opened s) → Opened (c ∷ s)
+    by true e k next = record { blanks = []; line_end = c; rest = s; text = refl; are_blanks = tt; ends_line = e; inside = k }
+    by false e k next = let more = next k.1 in record {
       blanks = c ∷ more.blanks;
       line_end = more.line_end;
       rest = more.rest;
@@ -139,7 +142,7 @@ written_behind s h = let content = content_of at.Inside h.rest h.inside in recor
   blanks = h.blanks;
   line_end = h.line_end;
   content = content.parts;
-  text = ap (λ t. 34 ∷ 34 ∷ 34 ∷ t) (h.text ∙ ap (λ t. h.blanks ++ h.line_end ∷ t) content.text);
+  text = ap (λ t. 34 ∷ 34 ∷ 34 ∷ t) (h.text ∙ ap (λ t. h.blanks ++ h.line_end ∷ t) content.text ∙ sym (append_assoc h.blanks (h.line_end ∷ spells content.parts) closing));
   are_blanks = h.are_blanks;
   ends_line = h.ends_line;
   is_content = (content.each, content.is_open);
@@ -156,10 +159,11 @@ written (a ∷ b ∷ c ∷ s) h =
 
 -- ---- to the scan
 
-by_character : {A B C : Type 0} (a b : Bool) → b ≡ false → (a ≡ true → A) → (a ≡ false → C) → MatchBool a A (MatchBool b B C)
-by_character true b none yes no = yes refl
-by_character false true none yes no = absurd (cc)
-by_character false false none yes no = no refl
+by_character : (Quote : Type 0) (s : List ℕ) (a b : Bool) → b ≡ false → (a ≡ true → Quote) → (a ≡ false → EndsAtQuotes at.Inside s)
+    → MatchBool a Quote (MatchBool b (EndsAtQuotes at.Escape s) (EndsAtQuotes at.Inside s))
+by_character Quote s true b none quote other = quote refl
+by_character Quote s false true none quote other = absurd (cc)
+by_character Quote s false false none quote other = other refl
 
 -- the scan ends where parts are closed, by the quotes that it has read before
 abbrev Scans : Block → List Part → Type 0
@@ -183,15 +187,15 @@ scans at.Inside [] each = λ is_open. refl
 scans at.OneQuote [] each = λ is_open. no_third true is_open.0 refl
 scans at.TwoQuotes [] each = λ is_open. no_third true is_open.0 refl
 scans at.Inside (plain c ∷ ps) each = λ is_open.
-    by_character (c == 34) (c == 92) each.0
+    by_character (EndsAtQuotes at.OneQuote (spells ps ++ closing)) (spells ps ++ closing) (c == 34) (c == 92) each.0
     (λ e. scans at.OneQuote ps each.1 (subst (λ d. IsOpen (plain d ∷ ps ++ two)) (eqb-true c 34 e) is_open))
     (λ e. scans at.Inside ps each.1 is_open.1)
 scans at.OneQuote (plain c ∷ ps) each = λ is_open.
-    by_character (c == 34) (c == 92) each.0
+    by_character (EndsAtQuotes at.TwoQuotes (spells ps ++ closing)) (spells ps ++ closing) (c == 34) (c == 92) each.0
     (λ e. scans at.TwoQuotes ps each.1 (subst (λ d. IsOpen (plain 34 ∷ plain d ∷ ps ++ two)) (eqb-true c 34 e) is_open))
     (λ e. scans at.Inside ps each.1 is_open.1.1)
 scans at.TwoQuotes (plain c ∷ ps) each = λ is_open.
-    by_character (c == 34) (c == 92) each.0
+    by_character (spells ps ++ closing ≡ []) (spells ps ++ closing) (c == 34) (c == 92) each.0
     (λ e. no_third (c == 34) is_open.0 e)
     (λ e. scans at.Inside ps each.1 is_open.1.1.1)
 scans at.Inside (escaped c ∷ ps) each = λ is_open. scans at.Inside ps each.1 is_open.1
@@ -217,7 +221,7 @@ opens_again (c ∷ cs) end rest are is inside =
 block_of : (s : List ℕ) → IsWritten s → IsTextBlock s
 block_of s h =
     let inside = scans at.Inside h.content h.is_content.0 h.is_content.1 in
-    subst IsTextBlock (sym h.text) (refl, refl, refl, opens_again h.blanks h.line_end (spells h.content ++ closing) h.are_blanks h.ends_line inside)
+    subst IsTextBlock (sym h.text) (refl, (refl, (refl, subst (EndsAtQuotes at.Opening) (sym (append_assoc h.blanks (h.line_end ∷ spells h.content) closing)) (opens_again h.blanks h.line_end (spells h.content ++ closing) h.are_blanks h.ends_line inside))))
 
 pub are_written : TextBlocksAreWritten
 are_written s = (written s, block_of s)
