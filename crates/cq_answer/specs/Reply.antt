@@ -4,7 +4,7 @@ use Rattle.cq_base.specs.declared.settings.Settings.{Settings}
 use Rattle.cq_base.specs.declared.change.Change.{Change}
 use Rattle.cq_base.specs.declared.change.Condition.{Condition}
 use Rattle.cq_base.specs.declared.group.Group.{Group}
-use Rattle.cq_gate.specs.Verdict.{verdict_of}
+use Rattle.cq_measures.specs.Verdict.{verdict_of}
 use Rattle.cq_history.specs.Files.{conditions_at}
 use Rattle.cq_reply.specs.declared.reply.Reply.{Reply}
 use Rattle.cq_reply.specs.declared.reply.Reply.TheVariants as reply

@@ -14,7 +14,7 @@ use crate::part::{Part, part_of};
 use crate::placing::group_rows;
 use crate::showing::file_rows;
 use cq_base::{Condition, Group, Memory, Settings, Steps};
-use cq_gate::verdict;
+use cq_measures::verdict;
 use cq_groups::Buckets;
 use cq_projects::{Held, ProjectFiles};
 use cq_reply::Reply;

@@ -1,3 +1,4 @@
+pub mod Gathered
 pub mod Order
 pub mod Lines
 pub mod Sweep

@@ -1,3 +1,4 @@
+pub mod Verdict
 pub mod Calls
 pub mod Counts
 pub mod Decisions

@@ -1,5 +1,5 @@
 use cq_base::{Compare, Condition, Measures, Memory, Metric};
-use cq_gate::{Verdict, met, verdict};
+use cq_measures::{Verdict, met, verdict};
 
 const MEASURES: Measures = Measures {
     lines: 10,

@@ -3,8 +3,8 @@ use Rattle.std.proofs.Common.{ℕ, ◌≤◌, List, [], ◌∷◌, map, Option, 
 use Rattle.serde_json.specs.Data.{Data, depth, items_depth}
 use Rattle.serde_json.specs.Read.{max_depth}
 use Rattle.serde_json.specs.View.{items_of}
-use Rattle.cq_gate.specs.declared.outcome.Verdict.{Verdict}
-use Rattle.cq_gate.specs.declared.outcome.Verdict.TheVariants as verdict
+use Rattle.cq_measures.specs.declared.outcome.Verdict.{Verdict}
+use Rattle.cq_measures.specs.declared.outcome.Verdict.TheVariants as verdict
 use Rattle.cq_reply.specs.declared.reply.GroupRow.{GroupRow}
 use Rattle.cq_reply.specs.declared.reply.FileRow.{FileRow}
 use Rattle.cq_reply.specs.declared.reply.Shown.{Shown}

@@ -2,7 +2,7 @@ ghost use Rattle.std.specs.Prelude.{◌≡◌};
 
 use cq_base::{Lang, Measures, Text};
 use cq_func::Function;
-use cq_gate::Verdict;
+use cq_measures::Verdict;
 use std::marker::Model;
 
 /// Where a group stands: the path of its file, its first token there from 0, and its first and last line from 1.

@@ -9,7 +9,7 @@ ghost use Rattle.cq_reply.specs.Written.{word_of, position_data, function_data, 
 use crate::reply::{FileRow, GroupRow, PlaceRow, Reply, Shown};
 use cq_base::{Lang, Measures, Text};
 use cq_func::Function;
-use cq_gate::Verdict;
+use cq_measures::Verdict;
 use serde_json::{Value, json};
 use std::alloc::{AllocError, Global};
 use std::str;

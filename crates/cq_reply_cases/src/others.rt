@@ -2,7 +2,7 @@ ghost use Rattle.cq_reply.specs.Written.{IsReplyText};
 
 use crate::writing::is_written;
 use cq_base::{Measures, Memory, Text};
-use cq_gate::{Positions, Verdict};
+use cq_measures::{Positions, Verdict};
 use cq_reply::{Reply, Short, fixed};
 use std::alloc::Global;
 

@@ -1,5 +1,5 @@
 ghost use Rattle.std.specs.Prelude.{◌≡◌};
-ghost use Rattle.cq_gate.specs.Verdict as spec;
+ghost use Rattle.cq_measures.specs.Verdict as spec;
 
 use cq_base::{Compare, Condition, Measures, Metric};
 

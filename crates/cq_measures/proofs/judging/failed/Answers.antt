@@ -1,9 +1,9 @@
 use Rattle.std.proofs.Common.{◌≡◌, true, false, length, rules}
 use Rattle.std.proofs.lemmas.Option.{slice_get-get_or}
-use Rattle.cq_gate.specs.Verdict.{is_met_at, failed}
-use Rattle.cq_gate.proofs.Gathered.{gathered_with, gathered_without}
-use Rattle.cq_gate.proofs.judging.failed.Goals.{then-met+in_ok-push, else-met}
-use Rattle.cq_gate.proofs.judging.failed.Goals as goal
+use Rattle.cq_measures.specs.Verdict.{is_met_at, failed}
+use Rattle.cq_measures.proofs.Gathered.{gathered_with, gathered_without}
+use Rattle.cq_measures.proofs.judging.failed.Goals.{then-met+in_ok-push, else-met}
+use Rattle.cq_measures.proofs.judging.failed.Goals as goal
 
 pub loop-i-preserved : goal.loop-i-preserved
 loop-i-preserved c =

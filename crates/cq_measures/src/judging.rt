@@ -1,5 +1,5 @@
 ghost use Rattle.std.specs.Prelude.{◌≡◌, ◌<◌, ◌^◌, length, IfOk};
-ghost use Rattle.cq_gate.specs.Verdict as spec;
+ghost use Rattle.cq_measures.specs.Verdict as spec;
 
 use crate::comparing::met;
 use crate::outcome::{Positions, Verdict};

@@ -7,8 +7,8 @@ use Rattle.cq_base.specs.declared.change.Compare.{Compare}
 use Rattle.cq_base.specs.declared.change.Compare.TheVariants as compare
 use Rattle.cq_base.specs.declared.change.Condition.{Condition}
 use Rattle.cq_base.specs.declared.measures.Measures.{Measures}
-use Rattle.cq_gate.specs.declared.outcome.Verdict.{Verdict}
-use Rattle.cq_gate.specs.declared.outcome.Verdict.TheVariants as verdict
+use Rattle.cq_measures.specs.declared.outcome.Verdict.{Verdict}
+use Rattle.cq_measures.specs.declared.outcome.Verdict.TheVariants as verdict
 
 abbrev pub measure_of : Metric → Measures → ℕ
 measure_of metric.Lines m = m.lines
