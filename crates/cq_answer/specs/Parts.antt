@@ -7,7 +7,7 @@ use Rattle.cq_base.specs.declared.group.Place.{Place}
 use Rattle.cq_base.specs.declared.norm.Norm.{Norm}
 use Rattle.cq_clones.specs.Groups.{AreGroups, AreGroupsIn}
 use Rattle.cq_groups.specs.Listing.{IsKey, IsKeyIn, AreAllRising, AreWindows, AreReached, Rises, RisesAtMost}
-use Rattle.cq_refine.specs.Sets.{IsLongest}
+use Rattle.cq_groups.specs.Sets.{IsLongest}
 use Rattle.cq_request.specs.declared.request.Kind.{Kind}
 use Rattle.cq_request.specs.declared.request.Kind.TheVariants as kind
 use Rattle.cq_names.specs.Names.{is_path}

@@ -8,7 +8,7 @@ use crate::works::WorkFiles;
 use cq_base::{Group, Memory, Settings, Steps};
 use cq_groups::{Buckets, list_all, list_file};
 use cq_projects::ProjectFiles;
-use cq_refine::Index;
+use cq_groups::Index;
 use cq_tokens::Corpus;
 use cq_work::Work;
 use std::alloc::Global;

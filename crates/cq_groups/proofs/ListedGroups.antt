@@ -16,10 +16,10 @@ use Rattle.cq_clones.proofs.GroupLaws.{within_from_standing, word_of_group, grou
 use Rattle.cq_clones.specs.Windows.{key_at, HasKey, AreKeyed}
 use Rattle.cq_order.specs.Order.{IsOrderOf}
 use Rattle.cq_groups.proofs.Sorted.{groups_sorted}
-use Rattle.cq_refine.specs.Sets.{AreAllOnce}
-use Rattle.cq_refine.specs.Places.{IsGroupOfKey}
-use Rattle.cq_refine.proofs.Words.{stands_front}
-use Rattle.cq_refine.proofs.KeyPlaces.{key_of_window}
+use Rattle.cq_groups.specs.Sets.{AreAllOnce}
+use Rattle.cq_groups.specs.Places.{IsGroupOfKey}
+use Rattle.cq_groups.proofs.Words.{stands_front}
+use Rattle.cq_groups.proofs.KeyPlaces.{key_of_window}
 use Rattle.cq_groups.specs.Listing.{HasOneOf, IsGroupOfKeys, IsKey, IsKeyIn, AreAllRising, has_file}
 
 any_key : (P : ℕ → Type 0) (ks : List ℕ) (k : ℕ) → Contains ks k → P k → Any P ks

@@ -10,7 +10,7 @@ use Rattle.cq_clones.specs.Windows.{EntryBefore}
 use Rattle.cq_clones.proofs.Order.{ComesBefore-ties}
 use Rattle.cq_order.specs.Order.{IsOrderOf, comes_before, is_entry_before}
 use Rattle.cq_order.proofs.Orders.{comes_before-says, is_entry_before-says}
-use Rattle.cq_refine.proofs.Places.{sorted_once}
+use Rattle.cq_groups.proofs.Places.{sorted_once}
 
 group_or_not : (g h : Group) → ComesBefore g h ⊎ (ComesBefore g h → ⊥)
 group_or_not g h = ⊎_elim (λ e. inl ((comes_before-says g h).0 e)) (λ e. inr (λ k. true≢false (sym ((comes_before-says g h).1 k) ∙ e))) (cases_Bool (comes_before g h))

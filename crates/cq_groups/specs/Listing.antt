@@ -11,7 +11,7 @@ use Rattle.cq_clones.specs.Windows.{HasKey}
 use Rattle.cq_tokens.specs.declared.files.Files as files
 use Rattle.cq_tokens.specs.declared.corpus.Corpus.{Corpus}
 use Rattle.cq_tokens.specs.Parts.{tokens_in, keys_in}
-use Rattle.cq_refine.specs.Sets.{AreAllOnce, ReadsAtMost}
+use Rattle.cq_groups.specs.Sets.{AreAllOnce, ReadsAtMost}
 
 -- the place's window has one of the keys
 abbrev pub HasOneOf : List (List ℕ) → List ℕ → Place → Type 0

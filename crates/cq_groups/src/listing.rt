@@ -7,7 +7,7 @@ use crate::buckets::Buckets;
 use crate::keys::{all_keys, file_keys};
 use cq_base::{Group, Memory, Steps};
 use cq_order::order;
-use cq_refine::{Index, refine};
+use crate::{Index, refine};
 use cq_tokens::Files;
 use std::alloc::Global;
 

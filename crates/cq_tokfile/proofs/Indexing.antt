@@ -18,8 +18,8 @@ use Rattle.cq_order.specs.declared.spots.Spot.{Spot}
 use Rattle.cq_order.proofs.Sorting.{weak_order}
 use Rattle.cq_history.specs.Files.{File}
 use Rattle.cq_projects.specs.Spotted.{numbers_of}
-use Rattle.cq_refine.proofs.KeyPlaces.{one_position}
-use Rattle.cq_refine.proofs.Places.{sorted_once}
+use Rattle.cq_groups.proofs.KeyPlaces.{one_position}
+use Rattle.cq_groups.proofs.Places.{sorted_once}
 use Rattle.cq_tokens.specs.Corpus.{changes_of, keys_of}
 use Rattle.cq_tokens.specs.declared.plain.FileTokens.{FileTokens}
 use Rattle.cq_tokfile.specs.Loaded.{KeyedBefore, is_keyed_before, AreIndexed, AddsAllEntries, AreThoseOf, IsFirst, keys_in}

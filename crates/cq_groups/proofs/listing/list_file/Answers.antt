@@ -2,7 +2,7 @@ use Rattle.std.proofs.Common.{◌≡◌, ap, length, sym, ◌∙◌, subst, List
 use Rattle.std.proofs.lemmas.Result.{IfOk-weaker}
 use Rattle.std.specs.Prelude.{filter, Any, Bool}
 use Rattle.cq_base.specs.declared.group.Group.{Group}
-use Rattle.cq_refine.specs.Sets.{AreAllOnce}
+use Rattle.cq_groups.specs.Sets.{AreAllOnce}
 use Rattle.cq_tokens.specs.Parts.{tokens_in, keys_in}
 use Rattle.cq_groups.specs.Listing.{IsKeyIn, IsGroupOfKeys, AreAllRising, Rises, has_file}
 use Rattle.cq_groups.proofs.KeyLists.{one_list, most_to, on_ok, rises_none}

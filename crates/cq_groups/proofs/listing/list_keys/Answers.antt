@@ -5,7 +5,7 @@ use Rattle.std.proofs.lemmas.List.Elements.{Contains-get_or}
 use Rattle.cq_base.specs.declared.entry.Entry.{Entry}
 use Rattle.cq_tokens.specs.Parts.{tokens_in, changes_in, keys_in}
 use Rattle.cq_clones.specs.Windows.{IsBucket}
-use Rattle.cq_refine.specs.Sets.{AreAllOnce}
+use Rattle.cq_groups.specs.Sets.{AreAllOnce}
 use Rattle.cq_groups.specs.Listing.{IsGroupOfKeys}
 use Rattle.cq_groups.proofs.Counting.{count, with_key, with_key-is, count_next, first_counts_within}
 use Rattle.cq_groups.proofs.KeyLists.{rises_more, rises_to, rises_most, reads_more, reads_within}

@@ -4,7 +4,7 @@ use Rattle.cq_base.specs.declared.group.Place.{Place}
 use Rattle.cq_clones.specs.Lists.{AreAllInOrder}
 use Rattle.cq_clones.specs.Groups.{IsBefore}
 use Rattle.cq_tokens.specs.Parts.{tokens_in, changes_in, keys_in}
-use Rattle.cq_refine.specs.Sets.{ReadsAtMost, AreAllOnce}
+use Rattle.cq_groups.specs.Sets.{ReadsAtMost, AreAllOnce}
 use Rattle.cq_groups.specs.Listing.{HasOneOf, IsGroupOfKeys, Rises}
 use Rattle.cq_groups.proofs.Counting.{count}
 use Rattle.cq_groups.proofs.listing.list_keys.Given as goal

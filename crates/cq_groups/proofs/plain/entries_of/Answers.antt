@@ -1,5 +1,5 @@
 use Rattle.std.proofs.Common.{arith, sym}
-use Rattle.cq_groups.proofs.Entries.{files_none, files_others, files_more, files_all}
+use Rattle.cq_groups.proofs.BucketEntries.{files_none, files_others, files_more, files_all}
 use Rattle.cq_groups.proofs.plain.entries_of.Goals as goal
 
 pub loop-file-init : goal.loop-file-init

@@ -1,4 +1,4 @@
-use Rattle.cq_groups.proofs.Entries.{AreOfFiles}
+use Rattle.cq_groups.proofs.BucketEntries.{AreOfFiles}
 use Rattle.cq_groups.proofs.plain.entries_of.Given as goal
 
 abbrev pub invariant-loop-file : goal.invariant-loop-file

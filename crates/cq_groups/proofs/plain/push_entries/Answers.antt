@@ -1,6 +1,6 @@
 use Rattle.std.proofs.Common.{refl}
 use Rattle.cq_base.specs.declared.entry.Entry.{Entry}
-use Rattle.cq_groups.proofs.Entries.{pushed_none, pushed_more, pushed_skip, pushed_all}
+use Rattle.cq_groups.proofs.BucketEntries.{pushed_none, pushed_more, pushed_skip, pushed_all}
 use Rattle.cq_groups.proofs.plain.push_entries.Goals as goal
 use Rattle.cq_groups.proofs.plain.push_entries.Goals.{then-k-key+in_ok-push, else-k-key}
 

@@ -1,0 +1,14 @@
+use Rattle.std.proofs.Common.{◌≡◌, ℕ, ◌+◌, ◌<◌, ◌≤◌, get_or, IsSome}
+use Rattle.std.specs.Prelude.{option_map}
+use Rattle.cq_groups.specs.declared.spots.Row.{Row}
+use Rattle.cq_clones.specs.Groups.{token_behind}
+use Rattle.cq_tokens.specs.Packed.{norm_in}
+use Rattle.cq_tokens.specs.Parts.{tokens_in}
+use Rattle.cq_groups.proofs.differing.difference_behind.Given as goal
+
+-- each row that was read has the first token
+abbrev pub invariant-loop-i : goal.invariant-loop-i
+invariant-loop-i g l =
+    ((k : ℕ) (d : Row) → k < l.i → token_behind (tokens_in l.files) (get_or l.rows k d).first.place l.n ≡ option_map norm_in l.first)
+    × (1 < l.i → IsSome (option_map norm_in l.first))
+    × (l.steps ≤ l.fn.steps + l.i)
