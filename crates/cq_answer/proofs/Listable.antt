@@ -17,7 +17,7 @@ use Rattle.cq_board.specs.Related.{AreSameFiles}
 use Rattle.cq_clones.specs.Windows.{AreKeyed}
 use Rattle.cq_func.specs.declared.function.Function.{Function}
 use Rattle.cq_history.specs.Files.{File, Source, files_at, conditions_at}
-use Rattle.cq_key.proofs.Keyed.{keyed_by_windows}
+use Rattle.cq_work.proofs.Keyed.{keyed_by_windows}
 use Rattle.cq_measures.specs.Measures.{AreGroupsInside}
 use Rattle.cq_reply.specs.declared.reply.Reply.{Reply}
 use Rattle.cq_reply.specs.Written.{IsFileText, IsPlaceText, IsGroupText, IsFunctionText, IsReplyText}

@@ -8,7 +8,7 @@ use Rattle.cq_base.specs.declared.token.Token.{Token}
 use Rattle.cq_func.specs.Functions.{functions}
 use Rattle.cq_func.specs.declared.function.Function.{Function}
 use Rattle.cq_history.specs.Files.{Source, files_at}
-use Rattle.cq_key.specs.Keys.{window_keys}
+use Rattle.cq_work.specs.Keys.{window_keys}
 use Rattle.cq_munch.specs.declared.munching.Lexed.{Lexed}
 use Rattle.cq_normal.specs.Kept.{spans_of}
 use Rattle.cq_normal.specs.Normal.{normal}

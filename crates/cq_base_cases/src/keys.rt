@@ -1,7 +1,7 @@
 ghost use Rattle.std.specs.Prelude.{◌≡◌, ◌≤◌, ◌<◌, ◌^◌, length, IfOk};
 
 use cq_base::{Class, Keys, Lang, Memory, Norm, Settings, Text};
-use cq_key::{Keyer, plain_key};
+use cq_work::{Keyer, plain_key};
 use std::alloc::Global;
 use std::sync::Arc;
 use std::sync::atomic::AtomicU64;

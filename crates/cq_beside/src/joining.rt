@@ -12,7 +12,7 @@ ghost use Rattle.cq_beside.specs.Besides.{Besides, Worked};
 use cq_base::Settings;
 use cq_chain::Pass;
 use cq_io::Gate;
-use cq_key::{Keyer, plain_key};
+use cq_work::{Keyer, plain_key};
 use cq_serve::{Bell, work};
 use cq_shared::Shared;
 use cq_work::Work;

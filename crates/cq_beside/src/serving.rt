@@ -12,7 +12,7 @@ use crate::joining::{Talker, beside};
 use cq_base::{Settings, Steps};
 use cq_chain::Pass;
 use cq_io::{Gate, Sink, Source};
-use cq_key::Keyer;
+use cq_work::Keyer;
 use cq_lines::{End, Lines};
 use cq_serve::{Bell, RingingGate};
 use cq_session::session;

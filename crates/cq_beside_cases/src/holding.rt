@@ -8,7 +8,7 @@ use crate::serving::SETTINGS;
 use cq_base::{Counters, Memory, Settings, Steps};
 use cq_chain::Pass;
 use cq_io::{Gate, OpenGate};
-use cq_key::{Keyer, plain_key};
+use cq_work::{Keyer, plain_key};
 use cq_lines::End;
 use cq_serve::{Bell, RingingGate, work};
 use cq_session_trials::written;

@@ -9,7 +9,7 @@ use cq_base::{Counters, Memory, Settings, Steps};
 use cq_beside::serve_one;
 use cq_chain::Pass;
 use cq_io::{Gate, MemSink, MemSource, OpenGate, Sink, Source};
-use cq_key::{Keyer, plain_key};
+use cq_work::{Keyer, plain_key};
 use cq_lines::{End, Lines};
 use cq_shared::Shared;
 use cq_work::Work;

@@ -6,7 +6,7 @@ use cq_base::{Change, Lang, Memory, Settings, Text};
 use cq_board::Refused;
 use cq_hub::{Hub, Solo, SoloPass};
 use cq_io::{Gate, OpenGate};
-use cq_key::{Keyer, plain_key};
+use cq_work::{Keyer, plain_key};
 use cq_serve::{Bell, RingingGate, Turn, turn};
 use cq_work::Work;
 use std::alloc::Global;

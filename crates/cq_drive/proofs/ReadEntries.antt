@@ -12,7 +12,7 @@ use Rattle.cq_history.proofs.Prefixes.{changes_in-state}
 use Rattle.cq_history.specs.Files.{Source, files_at}
 use Rattle.cq_history.specs.Standing.{Has}
 use Rattle.cq_history.specs.State.{State, accepted, changes_in, view_of}
-use Rattle.cq_key.specs.Keys.{window_keys}
+use Rattle.cq_work.specs.Keys.{window_keys}
 use Rattle.cq_normal.specs.Normal.{normal}
 use Rattle.cq_outcome.specs.declared.outcome.ScriptOutcome.TheVariants as outcome
 use Rattle.cq_shard.specs.Shard.{HasWindow}

@@ -13,7 +13,7 @@ use crate::telling::outcome_line;
 use cq_base::{Memory, Settings, Steps};
 use cq_core::Core;
 use cq_io::{Failed, Sink, Source, send};
-use cq_key::Keyer;
+use cq_work::Keyer;
 use cq_lines::{Cut, End, Lines};
 use cq_reply::{Short, fixed};
 use cq_work::Work;

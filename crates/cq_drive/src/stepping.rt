@@ -12,7 +12,7 @@ ghost use Rattle.cq_work.specs.Work.{IsWorkOf};
 use cq_answer::cause_told;
 use cq_base::{Memory, Settings, Steps};
 use cq_core::{Core, Outcome, Step};
-use cq_key::Keyer;
+use cq_work::Keyer;
 use cq_outcome::ScriptOutcome;
 use cq_work::{Work, work_of};
 use std::alloc::Global;

@@ -10,7 +10,7 @@ use crate::viewing::{read, reply};
 use cq_answer::refused_as;
 use cq_base::{Memory, Settings, Steps};
 use cq_core::{Core, Step};
-use cq_key::Keyer;
+use cq_work::Keyer;
 use cq_outcome::{ScriptOutcome, line_of};
 use cq_reply::{Line, Short, fixed};
 use cq_step::{ScriptStep, read_step};

@@ -4,7 +4,7 @@ ghost use Rattle.cq_base.specs.Settings.{IsInRange};
 use cq_base::{Memory, Settings, Steps};
 use cq_drive::drive;
 use cq_io::{MemSink, MemSource};
-use cq_key::{Keyer, plain_key};
+use cq_work::{Keyer, plain_key};
 use cq_lines::{End, Lines};
 use std::alloc::Global;
 use std::marker::Brand;

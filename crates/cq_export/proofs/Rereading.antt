@@ -13,7 +13,7 @@ use Rattle.cq_base.specs.declared.token.Token.{Token}
 use Rattle.cq_board.specs.Related.{AreSameFiles}
 use Rattle.cq_history.specs.Files.{File, Source, files_at}
 use Rattle.cq_measures.specs.Measures.{AreSmall}
-use Rattle.cq_key.specs.Keys.{window_keys}
+use Rattle.cq_work.specs.Keys.{window_keys}
 use Rattle.cq_tokask.specs.Exported.{IsOfChanges}
 use Rattle.cq_tokform.proofs.Fields.{one_form}
 use Rattle.cq_tokform.proofs.Wholes.{wholes}

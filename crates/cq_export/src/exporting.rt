@@ -14,7 +14,7 @@ use crate::working::make_all;
 use cq_base::{Memory, Settings, Steps, Text};
 use cq_board::Board;
 use cq_io::{Failed, Sink, Source, send};
-use cq_key::Keyer;
+use cq_work::Keyer;
 use cq_lines::{End, Lines};
 use cq_tokfile::{Encoded, Snapshot, encode};
 use cq_work::Work;

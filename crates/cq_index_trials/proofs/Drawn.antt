@@ -9,7 +9,7 @@ use Rattle.cq_base.specs.declared.settings.Settings.{Settings}
 use Rattle.cq_base.specs.declared.norm.Norm.{Norm}
 use Rattle.cq_tokens.specs.declared.FileTokens.{FileTokens}
 use Rattle.cq_tokens.specs.Corpus.{changes_of, corpus_of, keys_of}
-use Rattle.cq_key.specs.Keys.{window_keys}
+use Rattle.cq_work.specs.Keys.{window_keys}
 use Rattle.cq_index_trials.specs.Project.{IsProject}
 
 pub project_none : {L : Type 0} (settings : Settings) (files : List (FileTokens L)) → files ≡ [] → IsProject settings files

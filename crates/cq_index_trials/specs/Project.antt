@@ -3,7 +3,7 @@ use Rattle.std.specs.Prelude.{◌≡◌, ◌≢◌, ◌<◌, ◌≤◌, ◌^◌,
 use Rattle.cq_base.specs.declared.settings.Settings.{Settings}
 use Rattle.cq_tokens.specs.declared.FileTokens.{FileTokens}
 use Rattle.cq_tokens.specs.Corpus.{changes_of, corpus_of, keys_of}
-use Rattle.cq_key.specs.Keys.{window_keys}
+use Rattle.cq_work.specs.Keys.{window_keys}
 
 pub record IsProject {L : Type 0} (settings : Settings) (files : List (FileTokens L)) : Type 0 where
   pub few : length files < 2 ^ 32

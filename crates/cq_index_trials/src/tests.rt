@@ -5,7 +5,7 @@ use crate::draws::Draws;
 use crate::projects::drawn_project;
 use cq_base::{Group, Memory, Settings, Steps};
 use cq_groups::{Buckets, PlainBuckets, list_all, list_file};
-use cq_key::{Keyer, files_are_keyed_by_their_windows, plain_key};
+use cq_work::{Keyer, files_are_keyed_by_their_windows, plain_key};
 use cq_order::order;
 use cq_groups::{Index, refine, spots_in};
 use cq_scan::scan;

@@ -7,7 +7,7 @@ use crate::workers::Worker;
 use cq_base::{Memory, Settings};
 use cq_chain::Pass;
 use cq_io::Gate;
-use cq_key::Keyer;
+use cq_work::Keyer;
 use cq_serve::{Bell, work};
 use cq_shared::Shared;
 use cq_work::Work;

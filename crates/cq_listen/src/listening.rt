@@ -13,7 +13,7 @@ use crate::workers::{Worker, serve_beside_workers};
 use cq_base::{Counters, Memory, Settings};
 use cq_chain::Pass;
 use cq_io::{Doors, Gate, Sink, Source};
-use cq_key::{Keyer, plain_key};
+use cq_work::{Keyer, plain_key};
 use cq_serve::{Bell, RingingGate};
 use cq_shared::Shared;
 use cq_work::Work;

@@ -8,7 +8,7 @@ use crate::sessions::Attendant;
 use cq_base::{Counters, Memory, Settings};
 use cq_chain::Pass;
 use cq_io::{Gate, Sink, Source};
-use cq_key::Keyer;
+use cq_work::Keyer;
 use cq_lines::Lines;
 use cq_session::session;
 use cq_shared::Shared;

@@ -4,7 +4,7 @@ ghost use Rattle.cq_base.specs.declared.settings.Settings.{Settings as Told};
 
 use crate::doorway::Arrivals;
 use crate::queue::Queue;
-use cq_key::Keyer;
+use cq_work::Keyer;
 use std::sync::Wait;
 use std::thread;
 use std::thread::{Scope, Threads};

@@ -2,7 +2,7 @@ use crate::doorway::Arrivals;
 use crate::queue::Queue;
 use crate::sessions::{Attendant, serve_arrivals};
 use cq_base::{Memory, Settings};
-use cq_key::{Keyer, plain_key};
+use cq_work::{Keyer, plain_key};
 use std::thread::Threads;
 
 const SETTINGS: Settings = Settings {

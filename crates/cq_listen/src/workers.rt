@@ -4,7 +4,7 @@ ghost use Rattle.cq_base.specs.declared.settings.Settings.{Settings as Told};
 use crate::doorway::Arrivals;
 use crate::queue::Queue;
 use crate::sessions::{Attendant, serve_arrivals};
-use cq_key::Keyer;
+use cq_work::Keyer;
 use cq_serve::Bell;
 use std::sync::Wait;
 use std::thread;

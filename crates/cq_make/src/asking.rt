@@ -9,7 +9,7 @@ use crate::generator::PROJECT;
 use cq_base::{Memory, Settings, Steps, Text};
 use cq_hub::{Hub, Solo, SoloPass};
 use cq_io::OpenGate;
-use cq_key::Keyer;
+use cq_work::Keyer;
 use cq_reply::Reply;
 use cq_request::{Kind, Query};
 use cq_session::query_reply;

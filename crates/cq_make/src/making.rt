@@ -17,7 +17,7 @@ use crate::summary::{summary_line, token_count};
 use cq_base::{Measures, Memory, Settings, Steps, Text};
 use cq_hub::{Hub, Solo, SoloPass};
 use cq_io::{Failed, Sink, send};
-use cq_key::{Keyer, plain_key};
+use cq_work::{Keyer, plain_key};
 use cq_reply::{FileRow, Reply};
 use cq_request::Kind;
 use cq_work::Work;

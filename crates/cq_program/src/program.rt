@@ -17,7 +17,7 @@ use cq_drive::drive;
 use cq_export::export;
 use cq_hub::{Solo, SoloPass};
 use cq_io::{Doors, Failed, Gate, Sink, Source};
-use cq_key::{Keyer, plain_key};
+use cq_work::{Keyer, plain_key};
 use cq_lines::{End, Lines};
 use cq_make::make;
 use cq_session::session;

@@ -8,7 +8,7 @@ use cq_base::{Memory, Settings, Steps};
 use cq_beside::serve_one;
 use cq_chain::Pass;
 use cq_io::{Gate, Sink, Source};
-use cq_key::{Keyer, plain_key};
+use cq_work::{Keyer, plain_key};
 use cq_lines::Lines;
 use cq_shared::Shared;
 use cq_work::Work;

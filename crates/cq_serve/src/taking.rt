@@ -11,7 +11,7 @@ use cq_base::{Memory, Settings};
 use cq_board::{Finished, Job};
 use cq_hub::Hub;
 use cq_io::Gate;
-use cq_key::Keyer;
+use cq_work::Keyer;
 use cq_work::{Work, work_of};
 use std::alloc::Global;
 use std::sync::Arc;

@@ -9,7 +9,7 @@ use crate::taking::turn;
 use cq_base::Settings;
 use cq_hub::Hub;
 use cq_io::Gate;
-use cq_key::Keyer;
+use cq_work::Keyer;
 use cq_work::Work;
 use std::alloc::Global;
 use std::sync::Wait;

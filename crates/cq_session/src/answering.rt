@@ -13,7 +13,7 @@ use cq_base::{Change, Memory, Settings, Steps};
 use cq_board::Refused;
 use cq_hub::Hub;
 use cq_io::Gate;
-use cq_key::Keyer;
+use cq_work::Keyer;
 use cq_reply::Reply;
 use cq_request::{Query, Request, read_request};
 use cq_shard::Indexed;

@@ -14,7 +14,7 @@ use crate::telling::told;
 use cq_base::{Settings, Steps};
 use cq_hub::Hub;
 use cq_io::{Failed, Gate, Sink, Source, send};
-use cq_key::Keyer;
+use cq_work::Keyer;
 use cq_lines::{Cut, End, Lines};
 use cq_reply::{Short, fixed};
 use cq_work::Work;

@@ -7,7 +7,7 @@ use crate::answering::reply_to;
 use cq_base::{Memory, Settings, Steps};
 use cq_hub::Hub;
 use cq_io::Gate;
-use cq_key::Keyer;
+use cq_work::Keyer;
 use cq_reply::{Line, Reply, Short, fixed, line_of};
 use cq_work::Work;
 use std::alloc::Global;

@@ -5,7 +5,7 @@ use crate::running::written;
 use cq_base::{Memory, Settings, Steps};
 use cq_hub::{Solo, SoloPass};
 use cq_io::Gate;
-use cq_key::{Keyer, plain_key};
+use cq_work::{Keyer, plain_key};
 use cq_lines::End;
 use cq_work::Work;
 use std::alloc::Global;

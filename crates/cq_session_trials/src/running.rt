@@ -5,7 +5,7 @@ ghost use Rattle.cq_talk.specs.Steps.{Always, MayLead};
 use cq_base::{Memory, Settings, Steps};
 use cq_hub::Hub;
 use cq_io::{Gate, MemSink, MemSource};
-use cq_key::Keyer;
+use cq_work::Keyer;
 use cq_lines::{End, Lines};
 use cq_session::session;
 use cq_work::Work;

@@ -7,7 +7,7 @@ use cq_base::{Memory, Settings, Steps};
 use cq_chain::Pass;
 use cq_hub::{Hub, Solo, SoloPass};
 use cq_io::OpenGate;
-use cq_key::{Keyer, plain_key};
+use cq_work::{Keyer, plain_key};
 use cq_lines::End;
 use cq_shared::Shared;
 use cq_talk_model::{Draws, Model, drawn_lines};

@@ -5,7 +5,7 @@ ghost use Rattle.cq_shared.specs.SharedPasses.{IsPassOf, settings_of};
 use cq_base::{Counters, Memory, Settings, Steps};
 use cq_chain::Pass;
 use cq_io::{Gate, MemSink, MemSource};
-use cq_key::{Keyer, plain_key};
+use cq_work::{Keyer, plain_key};
 use cq_lines::{End, Lines};
 use cq_session::session;
 use cq_shared::Shared;

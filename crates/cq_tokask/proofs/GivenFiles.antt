@@ -13,8 +13,8 @@ use Rattle.cq_base.specs.declared.settings.Settings.{Settings}
 use Rattle.cq_clones.specs.Windows.{AreKeyed}
 use Rattle.cq_func.specs.declared.function.Function.{Function}
 use Rattle.cq_history.specs.Files.{File}
-use Rattle.cq_key.specs.Keys.{window_keys}
-use Rattle.cq_key.proofs.Keyed.{keyed_by_windows}
+use Rattle.cq_work.specs.Keys.{window_keys}
+use Rattle.cq_work.proofs.Keyed.{keyed_by_windows}
 use Rattle.cq_measures.specs.Measures.{AreSmall}
 use Rattle.cq_reply.specs.Written.{IsFunctionText}
 use Rattle.cq_tokfile.specs.declared.snapshot.Snapshot.{Snapshot}

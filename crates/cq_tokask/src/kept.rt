@@ -6,7 +6,7 @@ use crate::asking::ask_lines;
 use crate::taking::{Front, take_front};
 use cq_base::{Memory, Settings, Steps};
 use cq_io::{Sink, Source};
-use cq_key::Keyer;
+use cq_work::Keyer;
 use cq_lines::{End, Lines};
 use cq_tokfile::{Loaded, Snapshot, decode};
 use std::alloc::Global;

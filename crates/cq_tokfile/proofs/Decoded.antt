@@ -14,7 +14,7 @@ use Rattle.cq_base.specs.declared.settings.Settings.{Settings}
 use Rattle.cq_base.specs.declared.token.Spelled.{Spelled}
 use Rattle.cq_base.specs.declared.token.Token.{Token}
 use Rattle.cq_history.specs.Files.{File, is_before}
-use Rattle.cq_key.specs.Keys.{window_keys}
+use Rattle.cq_work.specs.Keys.{window_keys}
 use Rattle.cq_normal.specs.Kept.{spans_of}
 use Rattle.cq_projects.specs.Ordered.{AreRising}
 use Rattle.cq_projects.specs.Projects.{path_of}

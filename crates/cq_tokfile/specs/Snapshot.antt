@@ -9,7 +9,7 @@ use Rattle.cq_base.specs.declared.token.Spelled.{Spelled}
 use Rattle.cq_base.specs.declared.token.Token.{Token}
 use Rattle.cq_func.specs.declared.function.Function.{Function}
 use Rattle.cq_history.specs.Files.{File}
-use Rattle.cq_key.specs.Keys.{window_keys}
+use Rattle.cq_work.specs.Keys.{window_keys}
 use Rattle.cq_work.specs.declared.work.Work.{Work}
 use Rattle.cq_work.specs.Lexing.{spelled_bytes}
 use Rattle.cq_tokfile.specs.declared.encoding.Encoded.{Encoded}

@@ -1,6 +1,6 @@
 ghost use Rattle.std.specs.Prelude.{◌≡◌, ◌≤◌, ◌<◌, ◌^◌, length, map, IfOk};
 ghost use Rattle.std.specs.Arc.{arc_value};
-ghost use Rattle.cq_key.specs.Keys.{window_keys};
+ghost use Rattle.cq_work.specs.Keys.{window_keys};
 ghost use Rattle.cq_tokens.specs.Packed.{spelling_bytes};
 ghost use Rattle.cq_work.specs.Lexing.{spelled_bytes};
 ghost use Rattle.cq_tokform.specs.Spelling.{listed, recorded};
@@ -9,7 +9,7 @@ ghost use Rattle.cq_tokfile.specs.Snapshot as spec;
 
 use crate::snapshot::Snapshot;
 use cq_base::{Keys, Lang, Memory, Norm, Settings, Spelled};
-use cq_key::Keyer;
+use cq_work::Keyer;
 use cq_normal::spans_of;
 use cq_projects::{Held, ProjectFiles};
 use cq_tokens::Tokens;

@@ -2,7 +2,7 @@ ghost use Rattle.std.specs.Prelude.{◌≡◌};
 
 use cq_base::{Memory, Settings, Steps};
 use cq_groups::Buckets;
-use cq_key::{Keyer, plain_key};
+use cq_work::{Keyer, plain_key};
 use cq_tokfile::{Encoded, Loaded, Snapshot, decode, encode};
 use std::alloc::Global;
 use std::marker::Brand;

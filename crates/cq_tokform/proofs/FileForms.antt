@@ -7,7 +7,7 @@ use Rattle.cq_base.specs.declared.settings.Settings.{Settings}
 use Rattle.cq_base.specs.declared.lang.Lang.{Lang}
 use Rattle.cq_base.specs.declared.lang.Lang.TheVariants as lang
 use Rattle.cq_base.specs.declared.measures.FileCounts.{FileCounts}
-use Rattle.cq_key.specs.Keys.{lang_code}
+use Rattle.cq_work.specs.Keys.{lang_code}
 use Rattle.cq_work.specs.declared.work.State.{State}
 use Rattle.cq_work.specs.declared.work.State.TheVariants as states
 use Rattle.cq_tokform.specs.Spelling.{text, counted, token, function, language, outcome, Recorded, file}

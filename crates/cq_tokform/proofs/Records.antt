@@ -14,7 +14,7 @@ use Rattle.cq_base.specs.declared.token.Class.TheVariants as class
 use Rattle.cq_base.specs.declared.token.Spelled.{Spelled}
 use Rattle.cq_base.specs.declared.token.Token.{Token}
 use Rattle.cq_func.specs.declared.function.Function.{Function}
-use Rattle.cq_key.specs.Keys.{class_code}
+use Rattle.cq_work.specs.Keys.{class_code}
 use Rattle.cq_tokform.specs.Spelling.{text, metric_byte, compare_byte, condition, place, token, function}
 use Rattle.cq_tokform.specs.Sound.{IsSoundText, IsSoundCondition, IsSoundToken, IsSoundFunction, is_sound_token, is_sound_function}
 use Rattle.cq_work.specs.Bounds.{is_ignored}

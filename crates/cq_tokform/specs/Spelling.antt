@@ -13,7 +13,7 @@ use Rattle.cq_base.specs.declared.measures.FileCounts.{FileCounts}
 use Rattle.cq_base.specs.declared.token.Spelled.{Spelled}
 use Rattle.cq_base.specs.declared.token.Token.{Token}
 use Rattle.cq_func.specs.declared.function.Function.{Function}
-use Rattle.cq_key.specs.Keys.{class_code, lang_code}
+use Rattle.cq_work.specs.Keys.{class_code, lang_code}
 use Rattle.cq_work.specs.declared.work.State.{State}
 use Rattle.cq_work.specs.declared.work.State.TheVariants as states
 use Rattle.cq_tokform.specs.declared.contents.ContentsRecord.{ContentsRecord}

@@ -1,5 +1,5 @@
 ghost use Rattle.std.specs.Prelude.{◌≡◌, ◌<◌, ◌^◌, length, OnOk, OnErr};
-ghost use Rattle.cq_key.specs.Keys.{lang_code};
+ghost use Rattle.cq_work.specs.Keys.{lang_code};
 ghost use Rattle.cq_tokform.specs.Spelling as spell;
 ghost use Rattle.cq_tokform.specs.Spelling.{recorded};
 ghost use Rattle.cq_tokform.specs.Sound.{HasSpelling, IsSoundFile, is_sound_file};

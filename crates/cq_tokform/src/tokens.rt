@@ -1,5 +1,5 @@
 ghost use Rattle.std.specs.Prelude.{◌≡◌, ◌<◌, ◌^◌, length, All, OnOk, OnErr};
-ghost use Rattle.cq_key.specs.Keys.{class_code};
+ghost use Rattle.cq_work.specs.Keys.{class_code};
 ghost use Rattle.cq_tokform.specs.Spelling as spell;
 ghost use Rattle.cq_tokform.specs.Sound.{IsSoundToken, is_sound_token};
 ghost use Rattle.cq_work.specs.Bounds.{is_ignored};

@@ -15,7 +15,7 @@ use Rattle.cq_base.specs.declared.token.Spelled.{Spelled}
 use Rattle.cq_base.specs.declared.token.Token.{Token}
 use Rattle.cq_func.specs.declared.function.Function.{Function}
 use Rattle.cq_func.specs.Functions.{functions}
-use Rattle.cq_key.specs.Keys.{window_keys}
+use Rattle.cq_work.specs.Keys.{window_keys}
 use Rattle.cq_measures.specs.Decisions.{decisions_after, is_decision}
 use Rattle.cq_munch.specs.declared.munching.Lexed.{Lexed}
 use Rattle.cq_munch.specs.declared.munching.Lexed.TheVariants as lexed

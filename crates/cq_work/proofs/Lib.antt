@@ -1,3 +1,6 @@
+pub mod Keyed
+pub mod Windows
+pub mod NextKeys
 mod Spellings
 mod TextLines
 mod Scalars

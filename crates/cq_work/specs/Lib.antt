@@ -1,3 +1,5 @@
+pub mod Keys
+pub mod Laws
 pub mod Counts
 pub mod Lexing
 pub mod Work

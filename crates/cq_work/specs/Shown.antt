@@ -23,7 +23,7 @@ use Rattle.cq_lex_c.specs.Splices.{spliced}
 use Rattle.cq_lex_java.specs.Java.{java}
 use Rattle.cq_lex_java.specs.OneKind.{one_kind_of_java}
 use Rattle.cq_lex_java.specs.Translation.{translated}
-use Rattle.cq_key.specs.Keys.{code_of, key_of, keys_of, window_keys}
+use Rattle.cq_work.specs.Keys.{code_of, key_of, keys_of, window_keys}
 use Rattle.cq_normal.specs.Kept.{is_on, kept}
 use Rattle.cq_normal.specs.Normal.{norm_of, normal}
 use Rattle.cq_work.specs.declared.work.Work.{Work}

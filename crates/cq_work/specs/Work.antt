@@ -4,7 +4,7 @@ use Rattle.std.specs.Arc.{arc_value}
 use Rattle.cq_base.specs.declared.settings.Settings.{Settings}
 use Rattle.cq_base.specs.declared.lang.Lang.{Lang}
 use Rattle.cq_func.specs.Functions.{functions}
-use Rattle.cq_key.specs.Keys.{window_keys}
+use Rattle.cq_work.specs.Keys.{window_keys}
 use Rattle.cq_measures.specs.Measures.{AreSmall}
 use Rattle.cq_munch.specs.declared.munching.Lexed.{Lexed}
 use Rattle.cq_normal.specs.Kept.{spans_of}

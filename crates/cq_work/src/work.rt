@@ -5,7 +5,7 @@ use crate::counting::{counts_of, early_counts};
 use crate::lexing::{lexed, parts_of, state_of};
 use cq_base::{FileCounts, Keys, Lang, Memory, Settings, Text, Token};
 use cq_func::{Function, functions};
-use cq_key::Keyer;
+use crate::Keyer;
 use cq_normal::{Normal, normalise};
 use cq_tokens::Tokens;
 use std::alloc::Global;

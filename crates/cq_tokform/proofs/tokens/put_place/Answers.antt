@@ -1,6 +1,6 @@
 use Rattle.std.proofs.Common.{◌∙◌, ◌∷◌, [], ap, ◌++◌}
 use Rattle.std.specs.Int.{w32, to_be_bytes}
-use Rattle.cq_key.specs.Keys.{class_code}
+use Rattle.cq_work.specs.Keys.{class_code}
 use Rattle.cq_tokform.proofs.Appended.{five}
 use Rattle.cq_tokform.proofs.tokens.put_place.Goals as goal
 

@@ -8,8 +8,8 @@ use Rattle.cq_base.specs.declared.norm.Norm.{Norm}
 use Rattle.cq_base.specs.declared.group.Place.{Place}
 use Rattle.cq_clones.specs.Groups.{file_at, word_at}
 use Rattle.cq_clones.specs.Windows.{key_at, AreKeyed}
-use Rattle.cq_key.specs.Keys.{code_of, key_of, keys_of, window_keys}
-use Rattle.cq_key.proofs.Windows.{keys_short, keys_first}
+use Rattle.cq_work.specs.Keys.{code_of, key_of, keys_of, window_keys}
+use Rattle.cq_work.proofs.Windows.{keys_short, keys_first}
 
 -- a key for each window
 keys_number : (s : Settings) (codes : List ℕ) → 1 ≤ s.chunk → length (keys_of s codes) ≡ length codes + 1 - s.chunk

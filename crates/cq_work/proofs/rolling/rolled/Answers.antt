@@ -1,7 +1,7 @@
 use Rattle.std.proofs.Common.{◌+◌, ◌∙◌, ap, sym}
 use Rattle.std.specs.Prelude.{◌*◌, ◌^◌, ◌%◌}
-use Rattle.cq_key.proofs.NextKeys.{rolls}
-use Rattle.cq_key.proofs.rolling.rolled.Goals as goal
+use Rattle.cq_work.proofs.NextKeys.{rolls}
+use Rattle.cq_work.proofs.rolling.rolled.Goals as goal
 
 pub returns : goal.returns
 returns c = λ rest size key_is.

@@ -7,7 +7,7 @@ use Rattle.std.proofs.lemmas.Bool.{cases_lt}
 use Rattle.std.proofs.lemmas.Nat.{mul-mod_first, mod_below, pow-add, pow_pos}
 use Rattle.std.proofs.lemmas.List.Sums.{fold-append}
 use Rattle.cq_base.specs.declared.settings.Settings.{Settings}
-use Rattle.cq_key.specs.Keys.{factor, folded, lowest, key_of, weight, Rolls}
+use Rattle.cq_work.specs.Keys.{factor, folded, lowest, key_of, weight, Rolls}
 
 -- one code more, with nothing cut off
 abbrev grown : ℕ → ℕ → ℕ → ℕ

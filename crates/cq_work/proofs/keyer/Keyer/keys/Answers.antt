@@ -1,8 +1,8 @@
 use Rattle.std.proofs.Common.{length, ap, ◌∙◌, arith}
 use Rattle.std.proofs.lemmas.List.{length-map}
-use Rattle.cq_key.specs.Keys.{code_of}
-use Rattle.cq_key.proofs.Windows.{keys_few}
-use Rattle.cq_key.proofs.keyer.Keyer.keys.Goals as goal
+use Rattle.cq_work.specs.Keys.{code_of}
+use Rattle.cq_work.proofs.Windows.{keys_few}
+use Rattle.cq_work.proofs.keyer.Keyer.keys.Goals as goal
 
 pub from_vec-requires : goal.from_vec-requires
 from_vec-requires g c =

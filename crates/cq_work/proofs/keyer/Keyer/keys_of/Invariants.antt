@@ -1,6 +1,6 @@
 use Rattle.std.proofs.Common.{◌≡◌, ◌+◌, ◌++◌, take, drop}
-use Rattle.cq_key.specs.Keys.{key_of, keys_of}
-use Rattle.cq_key.proofs.keyer.Keyer.keys_of.Given as goal
+use Rattle.cq_work.specs.Keys.{key_of, keys_of}
+use Rattle.cq_work.proofs.keyer.Keyer.keys_of.Given as goal
 
 abbrev pub invariant-windows : goal.invariant-windows
 invariant-windows g l = record {

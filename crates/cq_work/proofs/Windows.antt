@@ -5,7 +5,7 @@ use Rattle.std.proofs.lemmas.Grind.{common_steps}
 use Rattle.std.proofs.Common.{append-nil}
 use Rattle.std.proofs.lemmas.List.{length-drop, drop-drop, drop_more, take_more, get_or-drop}
 use Rattle.cq_base.specs.declared.settings.Settings.{Settings}
-use Rattle.cq_key.specs.Keys.{key_of, keys_of, Rolls}
+use Rattle.cq_work.specs.Keys.{key_of, keys_of, Rolls}
 
 by_test : (b : Bool) (xs ys : List ℕ) → b ≡ true → cond b xs ys ≡ xs
 by_test true xs ys e = refl

@@ -1,6 +1,6 @@
 use Rattle.std.proofs.Common.{◌^◌, ◌<◌, ◌≤◌, sym, arith}
 use Rattle.std.proofs.Math.Nat.{pow-le-pow_right, mod-eq_of_lt}
-use Rattle.cq_key.proofs.plain.lowest_bits.Goals as goal
+use Rattle.cq_work.proofs.plain.lowest_bits.Goals as goal
 
 pub returns-then-bits-ge64 : goal.returns-then-bits-ge64
 returns-then-bits-ge64 c =

@@ -1,5 +1,5 @@
 ghost use Rattle.std.specs.Prelude.{◌≡◌, fold};
-ghost use Rattle.cq_key.specs.Keys as spec;
+ghost use Rattle.cq_work.specs.Keys as spec;
 
 use crate::code::folded;
 use cq_base::Settings;

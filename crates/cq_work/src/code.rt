@@ -1,5 +1,5 @@
 ghost use Rattle.std.specs.Prelude.{◌≡◌, fold, map, IfOk};
-ghost use Rattle.cq_key.specs.Keys as spec;
+ghost use Rattle.cq_work.specs.Keys as spec;
 
 use cq_base::{Class, Lang, Memory, Norm};
 use std::alloc::Global;

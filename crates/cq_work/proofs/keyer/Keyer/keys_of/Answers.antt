@@ -1,7 +1,7 @@
 use Rattle.std.proofs.Common.{ℕ, ◌+◌, ◌<◌, length, get_or, subst, arith, rules}
-use Rattle.cq_key.specs.Keys.{Rolls}
-use Rattle.cq_key.proofs.Windows.{keys_short, keys_more, keys_all, key_on}
-use Rattle.cq_key.proofs.keyer.Keyer.keys_of.Goals as goal
+use Rattle.cq_work.specs.Keys.{Rolls}
+use Rattle.cq_work.proofs.Windows.{keys_short, keys_more, keys_all, key_on}
+use Rattle.cq_work.proofs.keyer.Keyer.keys_of.Goals as goal
 
 pub returns-then-codes-chunk : goal.returns-then-codes-chunk
 returns-then-codes-chunk g c = search (rules, keys_short c.args.self.now.settings c.args.codes.now (omega (arith, c.if-codes-chunk.true, c.chunk-chunk.ensures)))

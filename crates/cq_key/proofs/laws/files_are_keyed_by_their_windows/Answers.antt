@@ -1,5 +1,0 @@
-use Rattle.cq_key.proofs.Keyed.{keyed_by_windows}
-use Rattle.cq_key.proofs.laws.files_are_keyed_by_their_windows.Goals as goal
-
-pub returns : goal.returns
-returns c = keyed_by_windows
