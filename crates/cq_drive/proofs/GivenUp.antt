@@ -5,14 +5,14 @@ use Rattle.cq_history.specs.Core.{Core, Step}
 use Rattle.cq_history.specs.Core.Step.{Adds, Applies}
 use Rattle.cq_history.specs.State.{first_free}
 use Rattle.cq_history.specs.declared.event.Event.TheVariants as event
-use Rattle.cq_outcome.specs.Outcomes.{line_of, NeedsMemory}
-use Rattle.cq_outcome.specs.declared.outcome.ScriptOutcome.{ScriptOutcome}
-use Rattle.cq_outcome.specs.declared.outcome.ScriptOutcome.TheVariants as outcome
+use Rattle.cq_drive.specs.Outcomes.{line_of, NeedsMemory}
+use Rattle.cq_drive.specs.declared.outcome.ScriptOutcome.{ScriptOutcome}
+use Rattle.cq_drive.specs.declared.outcome.ScriptOutcome.TheVariants as outcome
 use Rattle.cq_reply.specs.declared.reply.Reply.TheVariants as reply
 use Rattle.cq_request.specs.declared.request.Refusal.{Refusal}
-use Rattle.cq_step.specs.Reading.{step_read}
-use Rattle.cq_step.specs.declared.step.ScriptStep.{ScriptStep}
-use Rattle.cq_step.specs.declared.step.ScriptStep.TheVariants as script
+use Rattle.cq_drive.specs.Reading.{step_read}
+use Rattle.cq_drive.specs.declared.step.ScriptStep.{ScriptStep}
+use Rattle.cq_drive.specs.declared.step.ScriptStep.TheVariants as script
 use Rattle.cq_drive.specs.Cores.{IsToldBy}
 use Rattle.cq_drive.specs.Script.{now, StepsWhere, StepComesTo, SaidComesTo, ReadComesTo}
 

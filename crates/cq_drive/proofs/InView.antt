@@ -27,11 +27,11 @@ use Rattle.cq_history.proofs.Prefixes.{changes_in-state}
 use Rattle.cq_history.specs.Files.{File, files_at}
 use Rattle.cq_history.specs.Lawful.{Lawful}
 use Rattle.cq_history.specs.State.{State, state, accepted, changes_in, view_of}
-use Rattle.cq_outcome.specs.declared.outcome.ScriptOutcome.TheVariants as outcome
+use Rattle.cq_drive.specs.declared.outcome.ScriptOutcome.TheVariants as outcome
 use Rattle.cq_reply.specs.declared.reply.Reply.{Reply}
 use Rattle.cq_request.specs.declared.request.Query.{Query}
 use Rattle.cq_shard.specs.Shard.{HasWindow}
-use Rattle.cq_step.specs.declared.step.ScriptStep.TheVariants as script
+use Rattle.cq_drive.specs.declared.step.ScriptStep.TheVariants as script
 use Rattle.cq_work.specs.Shown.{keys_determined}
 use Rattle.cq_work.specs.Work.{IsWorkOf}
 use Rattle.cq_work.specs.declared.work.Work.{Work}

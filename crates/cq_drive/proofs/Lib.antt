@@ -1,3 +1,4 @@
+mod Lines
 pub mod Taken
 pub mod ReadEntries
 pub mod InView

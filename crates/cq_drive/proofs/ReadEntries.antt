@@ -14,9 +14,9 @@ use Rattle.cq_history.specs.Standing.{Has}
 use Rattle.cq_history.specs.State.{State, accepted, changes_in, view_of}
 use Rattle.cq_work.specs.Keys.{window_keys}
 use Rattle.cq_normal.specs.Normal.{normal}
-use Rattle.cq_outcome.specs.declared.outcome.ScriptOutcome.TheVariants as outcome
+use Rattle.cq_drive.specs.declared.outcome.ScriptOutcome.TheVariants as outcome
 use Rattle.cq_shard.specs.Shard.{HasWindow}
-use Rattle.cq_step.specs.declared.step.ScriptStep.TheVariants as script
+use Rattle.cq_drive.specs.declared.step.ScriptStep.TheVariants as script
 use Rattle.cq_work.specs.Shown.{same_kept}
 use Rattle.cq_work.specs.Work.{IsWorkOf}
 use Rattle.cq_work.specs.declared.work.Work.{Work}

@@ -11,8 +11,8 @@ use Rattle.cq_lines.specs.Runs.{IsFresh}
 use Rattle.cq_lines.specs.Serving.{RepliedSoFar}
 use Rattle.cq_lines.specs.declared.ending.End.TheVariants as end
 use Rattle.cq_lines.specs.declared.lines.Cut.TheVariants as cut
-use Rattle.cq_outcome.specs.Outcomes.{line_of}
-use Rattle.cq_outcome.specs.declared.outcome.ScriptOutcome.{ScriptOutcome}
+use Rattle.cq_drive.specs.Outcomes.{line_of}
+use Rattle.cq_drive.specs.declared.outcome.ScriptOutcome.{ScriptOutcome}
 use Rattle.cq_drive.specs.Cores.{IsDriven, Led, RunServes, RunSoFar, Stands}
 use Rattle.cq_drive.specs.Script.{LineComesTo, ComeTo, ComeFrom}
 use Rattle.cq_drive.proofs.Taken.{led_same}

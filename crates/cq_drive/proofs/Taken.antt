@@ -16,10 +16,10 @@ use Rattle.cq_history.specs.Core as history
 use Rattle.cq_history.specs.Lawful.{IsBelow}
 use Rattle.cq_history.specs.State.{State, state, accepted, first_free, ready, view_of, IsAccepted, IsTakenBy, IsUndone}
 use Rattle.cq_history.specs.declared.event.Event.TheVariants as event
-use Rattle.cq_outcome.specs.declared.outcome.ScriptOutcome.TheVariants as outcome
+use Rattle.cq_drive.specs.declared.outcome.ScriptOutcome.TheVariants as outcome
 use Rattle.cq_shard.specs.Shard.{HasWindow}
-use Rattle.cq_step.specs.Sound.{IsSoundStep as IsSound}
-use Rattle.cq_step.specs.declared.step.ScriptStep.TheVariants as script
+use Rattle.cq_drive.specs.Sound.{IsSoundStep as IsSound}
+use Rattle.cq_drive.specs.declared.step.ScriptStep.TheVariants as script
 use Rattle.cq_work.specs.Work.{IsWorkOf}
 use Rattle.cq_work.specs.declared.work.Work.{Work}
 use Rattle.cq_drive.specs.Cores.{IsDriven, keys_of, Stands, Leads, Led, StepLed, told, script_step}

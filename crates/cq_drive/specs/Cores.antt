@@ -15,14 +15,14 @@ use Rattle.cq_io.specs.declared.source.Source as source
 use Rattle.cq_lines.specs.Held.{Held}
 use Rattle.cq_lines.specs.Serving.{RepliedSoFar, Serves, ServesLines}
 use Rattle.cq_lines.specs.declared.ending.End.{End}
-use Rattle.cq_outcome.specs.Outcomes.{line_of, NeedsMemory}
-use Rattle.cq_outcome.specs.declared.outcome.ScriptOutcome.{ScriptOutcome}
-use Rattle.cq_outcome.specs.declared.outcome.ScriptOutcome.TheVariants as outcome
+use Rattle.cq_drive.specs.Outcomes.{line_of, NeedsMemory}
+use Rattle.cq_drive.specs.declared.outcome.ScriptOutcome.{ScriptOutcome}
+use Rattle.cq_drive.specs.declared.outcome.ScriptOutcome.TheVariants as outcome
 use Rattle.cq_reply.specs.declared.reply.Reply.TheVariants as reply
 use Rattle.cq_shard.specs.Shard.{HasWindow}
-use Rattle.cq_step.specs.Reading.{step_read}
-use Rattle.cq_step.specs.declared.step.ScriptStep.{ScriptStep}
-use Rattle.cq_step.specs.declared.step.ScriptStep.TheVariants as script
+use Rattle.cq_drive.specs.Reading.{step_read}
+use Rattle.cq_drive.specs.declared.step.ScriptStep.{ScriptStep}
+use Rattle.cq_drive.specs.declared.step.ScriptStep.TheVariants as script
 use Rattle.cq_work.specs.Work.{IsWorkOf}
 use Rattle.cq_work.specs.declared.work.Work.{Work}
 use Rattle.cq_drive.specs.Script.{callers, IsScript, StepComesTo, SaidComesTo, ReadComesTo, LineComesTo, ComeTo, ComeFrom}

@@ -1,3 +1,7 @@
+pub mod Outcomes
+pub mod Rows
+pub mod Sound
+pub mod Reading
 pub mod Windows
 pub mod Script
 pub mod Cores

@@ -14,14 +14,14 @@ use Rattle.cq_history.specs.Lawful.{IsBelow}
 use Rattle.cq_history.specs.State.{State, accepted, first_free, ready, view_of, IsAccepted, IsTakenBy, IsUndone}
 use Rattle.cq_history.specs.declared.event.Event.TheVariants as event
 use Rattle.cq_lines.specs.Pieces.{line_limit}
-use Rattle.cq_outcome.specs.declared.outcome.ScriptOutcome.{ScriptOutcome}
-use Rattle.cq_outcome.specs.declared.outcome.ScriptOutcome.TheVariants as outcome
+use Rattle.cq_drive.specs.declared.outcome.ScriptOutcome.{ScriptOutcome}
+use Rattle.cq_drive.specs.declared.outcome.ScriptOutcome.TheVariants as outcome
 use Rattle.cq_reply.specs.declared.reply.Reply.{Reply}
 use Rattle.cq_reply.specs.declared.reply.Reply.TheVariants as reply
 use Rattle.cq_request.specs.declared.request.Refusal.{Refusal}
-use Rattle.cq_step.specs.Reading.{step_read}
-use Rattle.cq_step.specs.declared.step.ScriptStep.{ScriptStep}
-use Rattle.cq_step.specs.declared.step.ScriptStep.TheVariants.{Accept, Ask, Took, Back, Done, Apply, Publish, Open, Read, Reply as Answer, Shut, Floor, Sweep}
+use Rattle.cq_drive.specs.Reading.{step_read}
+use Rattle.cq_drive.specs.declared.step.ScriptStep.{ScriptStep}
+use Rattle.cq_drive.specs.declared.step.ScriptStep.TheVariants.{Accept, Ask, Took, Back, Done, Apply, Publish, Open, Read, Reply as Answer, Shut, Floor, Sweep}
 use Rattle.cq_drive.specs.Windows.{HasKeyAt}
 
 -- how many callers a script has

@@ -5,10 +5,10 @@ use Rattle.cq_history.specs.Core.{Core}
 use Rattle.cq_history.specs.Script.{script, script_settings, text_put}
 use Rattle.cq_history.specs.declared.event.Event.{Event}
 use Rattle.cq_history.specs.declared.event.Event.TheVariants as event
-use Rattle.cq_outcome.specs.declared.outcome.ScriptOutcome.TheVariants as outcome
+use Rattle.cq_drive.specs.declared.outcome.ScriptOutcome.TheVariants as outcome
 use Rattle.cq_reply.specs.declared.reply.Reply.TheVariants as reply
 use Rattle.cq_base.specs.declared.change.Change.TheVariants as change
-use Rattle.cq_step.specs.declared.step.ScriptStep.TheVariants as step
+use Rattle.cq_drive.specs.declared.step.ScriptStep.TheVariants as step
 use Rattle.cq_drive.specs.Script.{StepComesTo}
 
 abbrev pub lagging : Core

@@ -1,9 +1,9 @@
 ghost use Rattle.std.specs.Prelude.{◌≡◌, IfOk, OnErr};
 ghost use Rattle.cq_base.specs.Settings.{IsInRange};
 ghost use Rattle.cq_drive.specs.Cores.{IsDriven, IsToldBy, StepLed, SaidLed, LineLed};
-ghost use Rattle.cq_outcome.specs.Outcomes.{IsOutcomeText};
+ghost use Rattle.cq_drive.specs.Outcomes.{IsOutcomeText};
 ghost use Rattle.cq_reply.specs.Lines.{bytes_of};
-ghost use Rattle.cq_step.specs.Sound.{IsSoundStep};
+ghost use Rattle.cq_drive.specs.Sound.{IsSoundStep};
 
 use crate::stepping::{finished, stepped};
 use crate::viewing::{read, reply};
@@ -11,9 +11,9 @@ use cq_answer::refused_as;
 use cq_base::{Memory, Settings, Steps};
 use cq_core::{Core, Step};
 use cq_work::Keyer;
-use cq_outcome::{ScriptOutcome, line_of};
+use crate::{ScriptOutcome, line_of};
 use cq_reply::{Line, Short, fixed};
-use cq_step::{ScriptStep, read_step};
+use crate::{ScriptStep, read_step};
 use cq_work::Work;
 use std::alloc::Global;
 use std::sync::ledger::Ledger;

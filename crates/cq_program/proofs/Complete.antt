@@ -16,7 +16,7 @@ use Rattle.cq_beside.specs.Replies.{AreBeside}
 use Rattle.cq_lines.specs.Serving.{Serves, HasEndCause}
 use Rattle.cq_lines.specs.declared.ending.End.{End}
 use Rattle.cq_lines.specs.declared.ending.End.TheVariants as end
-use Rattle.cq_outcome.specs.Outcomes.{line_of as outcome_line}
+use Rattle.cq_drive.specs.Outcomes.{line_of as outcome_line}
 use Rattle.cq_reply.specs.Written.{line_of as reply_line}
 use Rattle.cq_export.specs.Exports.{Exports}
 use Rattle.cq_export.specs.declared.exporting.Exported.{Exported}

@@ -1,7 +1,7 @@
-ghost use Rattle.cq_outcome.specs.Outcomes.{IsOutcomeText};
+ghost use Rattle.cq_drive.specs.Outcomes.{IsOutcomeText};
 
 use cq_base::{Entry, Memory};
-use cq_outcome::{Entries, ScriptOutcome, line_of};
+use cq_drive::{Entries, ScriptOutcome, line_of};
 use cq_reply::Reply;
 use std::alloc::Global;
 

@@ -1,6 +1,6 @@
 use Rattle.std.proofs.Common.{◌∙◌, refl, inl}
 use Rattle.cq_lines.proofs.Whole.{fewer}
-use Rattle.cq_outcome.specs.declared.outcome.ScriptOutcome.TheVariants as outcome
+use Rattle.cq_drive.specs.declared.outcome.ScriptOutcome.TheVariants as outcome
 use Rattle.cq_reply.specs.declared.reply.Reply.TheVariants as reply
 use Rattle.cq_drive.proofs.Runs.{none_so_far, one_more, cut_off, at_end, at_limit, at_fault}
 use Rattle.cq_drive.proofs.Taken.{led_same}

@@ -1,7 +1,7 @@
 use Rattle.std.proofs.Common.{sym, subst}
 use Rattle.cq_base.specs.declared.settings.Settings.{Settings}
 use Rattle.cq_core.specs.Steps.{HasWork}
-use Rattle.cq_outcome.specs.declared.outcome.ScriptOutcome.{ScriptOutcome}
+use Rattle.cq_drive.specs.declared.outcome.ScriptOutcome.{ScriptOutcome}
 use Rattle.cq_work.specs.Work.{IsWorkOf}
 use Rattle.cq_drive.specs.Cores.{StepLed, script_step}
 use Rattle.cq_drive.proofs.Taken.{is_named, is_sound, step_led}

@@ -1,6 +1,6 @@
 use Rattle.std.proofs.Common.{refl, sym, subst, inl}
 use Rattle.cq_core.specs.Cores.{CoreState}
-use Rattle.cq_outcome.specs.declared.outcome.ScriptOutcome.TheVariants as outcome
+use Rattle.cq_drive.specs.declared.outcome.ScriptOutcome.TheVariants as outcome
 use Rattle.cq_reply.specs.Lines.{bytes_of}
 use Rattle.cq_reply.specs.declared.line.Line.TheVariants as line
 use Rattle.cq_reply.specs.declared.reply.Reply.TheVariants as reply

@@ -1,7 +1,7 @@
 use Rattle.std.proofs.Common.{subst}
 use Rattle.cq_answer.proofs.Asked.{path_asked, scope_asked}
-use Rattle.cq_step.specs.Sound.{IsSoundStep}
-use Rattle.cq_step.specs.declared.step.ScriptStep.TheVariants as script
+use Rattle.cq_drive.specs.Sound.{IsSoundStep}
+use Rattle.cq_drive.specs.declared.step.ScriptStep.TheVariants as script
 use Rattle.cq_drive.proofs.telling.outcome_of.Goals as goal
 
 pub reply-requires-clause-path : goal.reply-requires-clause-path

@@ -1,10 +1,10 @@
 use Rattle.std.proofs.lemmas.Result.{IfOk-weaker}
 use Rattle.std.proofs.Common.{Result, refl, sym, ap, subst}
 use Rattle.cq_answer.proofs.Told.{refusal_said}
-use Rattle.cq_outcome.specs.declared.outcome.ScriptOutcome.TheVariants as outcome
+use Rattle.cq_drive.specs.declared.outcome.ScriptOutcome.TheVariants as outcome
 use Rattle.cq_request.specs.declared.request.Refusal.{Refusal}
-use Rattle.cq_step.specs.Reading.{step_read}
-use Rattle.cq_step.specs.declared.step.ScriptStep.{ScriptStep}
+use Rattle.cq_drive.specs.Reading.{step_read}
+use Rattle.cq_drive.specs.declared.step.ScriptStep.{ScriptStep}
 use Rattle.cq_drive.specs.Script.{SaidComesTo}
 use Rattle.cq_drive.proofs.Taken.{led_same, led_weaker}
 use Rattle.cq_drive.proofs.telling.said.Goals as goal

@@ -3,8 +3,8 @@ use Rattle.std.specs.Prelude.{IfSome, IsNone}
 use Rattle.cq_base.specs.declared.entry.Entry.{Entry}
 use Rattle.cq_core.specs.Readings.{AreRead, AreWorked}
 use Rattle.cq_history.specs.State.{view_of}
-use Rattle.cq_outcome.specs.declared.outcome.ScriptOutcome.TheVariants as outcome
-use Rattle.cq_step.specs.declared.step.ScriptStep.TheVariants as script
+use Rattle.cq_drive.specs.declared.outcome.ScriptOutcome.TheVariants as outcome
+use Rattle.cq_drive.specs.declared.step.ScriptStep.TheVariants as script
 use Rattle.cq_work.specs.Work.{IsWorkOf}
 use Rattle.cq_work.specs.declared.work.Work.{Work}
 use Rattle.cq_drive.specs.Cores.{keys_of, StepLed}

@@ -1,7 +1,7 @@
 use Rattle.std.proofs.Common.{◌∙◌, sym, ap}
-use Rattle.cq_outcome.specs.Outcomes.{line_of as line_of_outcome}
-use Rattle.cq_outcome.proofs.Lines.{done_line, value_line, no_job_line, no_line}
-use Rattle.cq_outcome.proofs.write.line_of.Goals as goal
+use Rattle.cq_drive.specs.Outcomes.{line_of as line_of_outcome}
+use Rattle.cq_drive.proofs.Lines.{done_line, value_line, no_job_line, no_line}
+use Rattle.cq_drive.proofs.write.line_of.Goals as goal
 
 pub returns-in-Done-clause-line : goal.returns-in-Done-clause-line
 returns-in-Done-clause-line c = c.of_parts.ensures ∙ done_line ∙ ap line_of_outcome (sym c.in-Done.is)

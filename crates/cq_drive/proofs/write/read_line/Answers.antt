@@ -1,9 +1,9 @@
 use Rattle.std.proofs.Common.{◌≡◌, false, [], ◌∷◌, ◌++◌, ap, ◌∙◌}
 use Rattle.serde_json.specs.View.{view}
 use Rattle.serde_json.specs.Written.{has_float, compact_text}
-use Rattle.cq_outcome.specs.Outcomes.{read_data}
-use Rattle.cq_outcome.proofs.Lines.{read_no_float}
-use Rattle.cq_outcome.proofs.write.read_line.Goals as goal
+use Rattle.cq_drive.specs.Outcomes.{read_data}
+use Rattle.cq_drive.proofs.Lines.{read_no_float}
+use Rattle.cq_drive.proofs.write.read_line.Goals as goal
 
 pub returns : goal.returns
 returns c =

@@ -3,10 +3,10 @@ ghost use Rattle.std.specs.Str.{IsUtf8};
 ghost use Rattle.serde_json.specs.View.{view};
 ghost use Rattle.cq_request.specs.Sound.{IsSoundRefusal};
 ghost use Rattle.cq_request.specs.Reading.{UnlessMemory};
-ghost use Rattle.cq_step.specs.Rows.{fault_of};
-ghost use Rattle.cq_step.specs.Sound.{IsSoundStep};
-ghost use Rattle.cq_step.specs.Reading as spec;
-ghost use Rattle.cq_step.specs.Reading.{step_read};
+ghost use Rattle.cq_drive.specs.Rows.{fault_of};
+ghost use Rattle.cq_drive.specs.Sound.{IsSoundStep};
+ghost use Rattle.cq_drive.specs.Reading as spec;
+ghost use Rattle.cq_drive.specs.Reading.{step_read};
 
 use crate::row::{CALLERS, StepKind, below, fault_of, kind_of};
 use crate::step::ScriptStep;

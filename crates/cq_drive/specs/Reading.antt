@@ -10,11 +10,11 @@ use Rattle.cq_request.specs.declared.request.Refusal.TheVariants as refusal
 use Rattle.cq_request.specs.Members.{number_at}
 use Rattle.cq_request.specs.Spelled.{spelled}
 use Rattle.cq_request.specs.Reading.{value_says, of_spelled}
-use Rattle.cq_step.specs.declared.row.StepKind.{StepKind}
-use Rattle.cq_step.specs.declared.row.StepKind.TheVariants as kind
-use Rattle.cq_step.specs.declared.step.ScriptStep.{ScriptStep}
-use Rattle.cq_step.specs.declared.step.ScriptStep.TheVariants as step
-use Rattle.cq_step.specs.Rows.{below, fault_of, kind_of}
+use Rattle.cq_drive.specs.declared.row.StepKind.{StepKind}
+use Rattle.cq_drive.specs.declared.row.StepKind.TheVariants as kind
+use Rattle.cq_drive.specs.declared.step.ScriptStep.{ScriptStep}
+use Rattle.cq_drive.specs.declared.step.ScriptStep.TheVariants as step
+use Rattle.cq_drive.specs.Rows.{below, fault_of, kind_of}
 
 -- ---- the members of an object that has all fields of its row
 

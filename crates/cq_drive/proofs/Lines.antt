@@ -6,8 +6,8 @@ use Rattle.serde_json.proofs.OnLiterals.{serde_json_on_literals}
 use Rattle.serde_json.specs.View.{items_of}
 use Rattle.serde_json.specs.Written.{has_float, items_have_float}
 use Rattle.cq_base.specs.declared.entry.Entry.{Entry}
-use Rattle.cq_outcome.specs.Outcomes.{entry_data, read_data, line_of}
-use Rattle.cq_outcome.specs.declared.outcome.ScriptOutcome.TheVariants as outcome
+use Rattle.cq_drive.specs.Outcomes.{entry_data, read_data, line_of}
+use Rattle.cq_drive.specs.declared.outcome.ScriptOutcome.TheVariants as outcome
 
 pub done_line : codes "{\"ok\":true}\n" ≡ line_of outcome.Done
 unfolding serde_json_on_literals digits

@@ -1,6 +1,6 @@
 ghost use Rattle.std.specs.Prelude.{◌≡◌, ◌<◌, IfSome, option_copied};
 ghost use Rattle.serde_json.specs.View.{view};
-ghost use Rattle.cq_step.specs.Rows as rows;
+ghost use Rattle.cq_drive.specs.Rows as rows;
 
 use cq_base::Settings;
 use cq_request::{Op, Ruled, fault_in, op_of, text_at};

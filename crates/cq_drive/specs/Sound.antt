@@ -3,8 +3,8 @@ use Rattle.std.specs.Prelude.{◌<◌, ⊤}
 use Rattle.cq_base.specs.declared.settings.Settings.{Settings}
 use Rattle.cq_base.specs.Changes.{IsSoundChange}
 use Rattle.cq_request.specs.Sound.{IsSoundQuery}
-use Rattle.cq_step.specs.declared.step.ScriptStep.{ScriptStep}
-use Rattle.cq_step.specs.declared.step.ScriptStep.TheVariants as step
+use Rattle.cq_drive.specs.declared.step.ScriptStep.{ScriptStep}
+use Rattle.cq_drive.specs.declared.step.ScriptStep.TheVariants as step
 
 abbrev pub IsSoundStep : Settings → ScriptStep → Type 0
 IsSoundStep s (step.Accept by change) = (by < 16) × IsSoundChange change

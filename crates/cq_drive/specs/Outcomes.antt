@@ -6,8 +6,8 @@ use Rattle.serde_json.specs.Written.{compact_text}
 use Rattle.cq_base.specs.declared.entry.Entry.{Entry}
 use Rattle.cq_reply.specs.Lines.{NeedsMemory as reply_needs_memory}
 use Rattle.cq_reply.specs.Written.{count, reply_data, IsReplyText}
-use Rattle.cq_outcome.specs.declared.outcome.ScriptOutcome.{ScriptOutcome}
-use Rattle.cq_outcome.specs.declared.outcome.ScriptOutcome.TheVariants as outcome
+use Rattle.cq_drive.specs.declared.outcome.ScriptOutcome.{ScriptOutcome}
+use Rattle.cq_drive.specs.declared.outcome.ScriptOutcome.TheVariants as outcome
 
 -- its change and its place
 abbrev pub entry_data : Entry → Data

@@ -7,10 +7,10 @@ use Rattle.cq_request.specs.declared.row.Op.TheVariants as op
 use Rattle.cq_request.specs.Members.{text_at, number_of}
 use Rattle.cq_request.specs.Tables.{Rule, fault_in}
 use Rattle.cq_request.specs.Rows.{op_of}
-use Rattle.cq_step.specs.declared.row.StepKind.{StepKind}
-use Rattle.cq_step.specs.declared.row.StepKind.TheVariants as kind
-use Rattle.cq_step.specs.declared.row.Field.{Field}
-use Rattle.cq_step.specs.declared.row.Field.TheVariants as field
+use Rattle.cq_drive.specs.declared.row.StepKind.{StepKind}
+use Rattle.cq_drive.specs.declared.row.StepKind.TheVariants as kind
+use Rattle.cq_drive.specs.declared.row.Field.{Field}
+use Rattle.cq_drive.specs.declared.row.Field.TheVariants as field
 
 -- the fields, where the index has so many shards
 abbrev pub row_of : ℕ → StepKind → List Field
