@@ -8,7 +8,7 @@ use Rattle.cq_history.specs.Lawful.{Lawful}
 use Rattle.cq_board.specs.declared.listing.View.{View}
 use Rattle.cq_hub.specs.Hubs.{Calls}
 use Rattle.cq_hub.specs.Views.{IsOpen}
-use Rattle.cq_ask.specs.Moving.{open_stays}
+use Rattle.cq_session.specs.Moving.{open_stays}
 
 -- behind a call that adds no event of the caller's own
 pub open_behind : {S P W : Type 0} (Stands : S → P → ℕ → List Event → Type 0) (alone : Type 0) (May : Event → Type 0) (IsWork : Lang → List ℕ → W → Type 0) (set : Settings) (callers c : ℕ) (hub : S) (pass : P) (v : View W) (h : List Event) (Says : List Event → Type 0)

@@ -1,12 +1,12 @@
 ghost use Rattle.std.specs.Prelude.{IfOk};
-ghost use Rattle.cq_ask.specs.Moves.{Moves};
-ghost use Rattle.cq_ask.specs.Projects.{keys_in_files, IsReady};
+ghost use Rattle.cq_session.specs.Moves.{Moves};
+ghost use Rattle.cq_session.specs.Projects.{keys_in_files, IsReady};
 ghost use Rattle.cq_projects.specs.Spotted.{numbers_of};
 ghost use Rattle.cq_clones.specs.Windows.{IsBucket};
 ghost use Rattle.cq_hub.specs.Answers.{HasNoView};
 
 use crate::made::{Apart, Made, SETTINGS, accept, finish, letter};
-use cq_ask::PassBuckets;
+use cq_session::PassBuckets;
 use cq_base::{Entry, Memory, Text};
 use cq_board::{Refused, View};
 use cq_groups::Buckets;

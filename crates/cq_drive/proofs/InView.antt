@@ -4,8 +4,8 @@ use Rattle.std.specs.Arc.{arc_value}
 use Rattle.std.specs.List.{list_any}
 use Rattle.cq_answer.specs.Reply.{IsReply}
 use Rattle.cq_answer.specs.Versions.{AreOfVersion, HaveVersion, IsReplyOn}
-use Rattle.cq_ask.proofs.ProjectEntries.{project_bucket}
-use Rattle.cq_ask.specs.Projects.{keys_in_files}
+use Rattle.cq_session.proofs.ProjectEntries.{project_bucket}
+use Rattle.cq_session.specs.Projects.{keys_in_files}
 use Rattle.cq_base.specs.Settings.{IsInRange}
 use Rattle.cq_base.specs.declared.change.Change.{Change}
 use Rattle.cq_base.specs.declared.change.Condition.{Condition}

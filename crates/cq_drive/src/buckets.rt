@@ -1,4 +1,4 @@
-use cq_ask::keep;
+use cq_session::keep;
 use cq_base::{Entry, Memory, Settings};
 use cq_core::Core;
 use cq_groups::Buckets;
@@ -19,7 +19,7 @@ pub(crate) struct CoreBuckets<'a, L: Ledger> {
 }
 
 impl<'a, L: Ledger> Buckets for CoreBuckets<'a, L> {
-    ghost use Rattle.cq_ask.specs.Projects.{keys_in_files};
+    ghost use Rattle.cq_session.specs.Projects.{keys_in_files};
     ghost use Rattle.cq_projects.specs.Spotted.{numbers_of};
     ghost use Rattle.cq_drive.specs.Cores.{keys_of};
     ghost use Rattle.cq_drive.specs.Views.{IsInView};

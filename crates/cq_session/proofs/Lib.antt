@@ -1,3 +1,5 @@
+pub mod PassReads
+pub mod ProjectEntries
 pub mod Answered
 pub mod Spending
 pub mod LineCosts

@@ -5,7 +5,7 @@ use Rattle.cq_base.specs.declared.lang.Lang.{Lang}
 use Rattle.cq_base.specs.declared.memory.Memory.{Memory}
 use Rattle.cq_base.specs.declared.settings.Settings.{Settings}
 use Rattle.cq_answer.specs.Reply.{IsReply}
-use Rattle.cq_ask.specs.Moves.{Later}
+use Rattle.cq_session.specs.Moves.{Later}
 use Rattle.cq_board.specs.declared.listing.View.{View}
 use Rattle.cq_history.specs.declared.event.Event.{Event}
 use Rattle.cq_history.specs.declared.event.Event.TheVariants.{Open, Shut}

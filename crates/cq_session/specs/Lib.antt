@@ -1,3 +1,6 @@
+pub mod Moves
+pub mod Moving
+pub mod Projects
 pub mod Costs
 pub mod Viewing
 pub mod Turn

@@ -2,7 +2,7 @@
 use Rattle.std.specs.Prelude.{◌≤◌, ℕ, List, [], ◌∷◌, length, Option, Result, IsSome, Ok as ok}
 use Rattle.std.specs.Result.{is_ok}
 use Rattle.cq_answer.specs.Reply.{IsReply}
-use Rattle.cq_ask.specs.Moves.{Moves}
+use Rattle.cq_session.specs.Moves.{Moves}
 use Rattle.cq_base.specs.declared.change.Change.{Change}
 use Rattle.cq_base.specs.declared.lang.Lang.{Lang}
 use Rattle.cq_base.specs.declared.settings.Settings.{Settings}

@@ -3,13 +3,20 @@
 //! the greatest number that was named. An upload costs one reading of its line; a query that may finish works costs
 //! these works, and a listing what `cq_answer` costs; behind an answer the hub is swept. A change that was accepted is told
 //! without memory.
+//!
+//! The buckets of one project's files in an open view of any hub: a question goes to the hub, and the entries of other
+//! projects are taken out of its answer where they stand, each by a binary search among the changes of the project's files, and nothing is made for it.
 #![tactic(auto)]
 
 mod answering;
+mod buckets;
 mod helping;
+mod project;
 mod serving;
 mod telling;
 mod viewing;
 
 pub use answering::query_reply;
+pub use buckets::PassBuckets;
+pub use project::keep;
 pub use serving::session;

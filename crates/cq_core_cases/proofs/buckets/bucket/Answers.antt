@@ -1,5 +1,5 @@
 use Rattle.std.proofs.Common.{sym, subst}
-use Rattle.cq_ask.specs.Moves.{Moves}
+use Rattle.cq_session.specs.Moves.{Moves}
 use Rattle.cq_core_cases.proofs.buckets.bucket.Goals as goal
 
 pub returns-clause-moves : goal.returns-clause-moves

@@ -3,7 +3,7 @@ use Rattle.std.specs.Result.{is_ok}
 use Rattle.std.proofs.lemmas.Result.{IfOk-weaker, on_ok_weaker}
 use Rattle.cq_answer.specs.Reply.{IsReply}
 use Rattle.cq_answer.proofs.Listable.{given_version}
-use Rattle.cq_ask.specs.Moves.{Moves}
+use Rattle.cq_session.specs.Moves.{Moves}
 use Rattle.cq_base.specs.declared.settings.Settings.{Settings}
 use Rattle.cq_board.specs.Listings.{Listed}
 use Rattle.cq_projects.specs.Projects.{files_in, conditions_in}

@@ -1,6 +1,6 @@
 use Rattle.std.proofs.Common.{◌%◌, sym, subst}
 use Rattle.std.specs.Prelude.{IfSome}
-use Rattle.cq_ask.specs.Projects.{keys_in_files}
+use Rattle.cq_session.specs.Projects.{keys_in_files}
 use Rattle.cq_projects.specs.Spotted.{numbers_of}
 use Rattle.cq_clones.specs.Windows.{IsBucket}
 use Rattle.cq_core.specs.Readings.{AreRead}

@@ -1,10 +1,10 @@
 use Rattle.std.proofs.Common.{refl, sym, subst, arith}
 use Rattle.cq_clones.specs.Windows.{IsBucket}
 use Rattle.cq_projects.specs.Spotted.{numbers_of}
-use Rattle.cq_ask.specs.Projects.{keys_in_files}
-use Rattle.cq_ask.proofs.PassReads.{read_later, ready_again, open_again, open_files}
-use Rattle.cq_ask.proofs.ProjectEntries.{project_bucket}
-use Rattle.cq_ask.proofs.buckets.PassBucketsBuckets.bucket.Goals as goal
+use Rattle.cq_session.specs.Projects.{keys_in_files}
+use Rattle.cq_session.proofs.PassReads.{read_later, ready_again, open_again, open_files}
+use Rattle.cq_session.proofs.ProjectEntries.{project_bucket}
+use Rattle.cq_session.proofs.buckets.PassBucketsBuckets.bucket.Goals as goal
 
 pub returns-in_err-entries-clause-ready : goal.returns-in_err-entries-clause-ready
 returns-in_err-entries-clause-ready g c =

@@ -13,9 +13,9 @@ use Rattle.cq_projects.specs.Projects.{files_in}
 use Rattle.cq_board.specs.Related.{AreSameFiles}
 use Rattle.cq_hub.specs.Hubs.{Calls, Never}
 use Rattle.cq_hub.specs.Views.{IsOpen}
-use Rattle.cq_ask.specs.Moves.{Later}
-use Rattle.cq_ask.specs.Moving.{open_stays}
-use Rattle.cq_ask.specs.Projects.{IsReady}
+use Rattle.cq_session.specs.Moves.{Later}
+use Rattle.cq_session.specs.Moving.{open_stays}
+use Rattle.cq_session.specs.Projects.{IsReady}
 
 module _ {S P W : Type 0} (Stands : S → P → ℕ → List Event → Type 0) (settings : S → Settings) (callers : S → ℕ) (alone : Type 0) (IsWork : Settings → Lang → List ℕ → W → Type 0)
     (lawful : (hub : S) (pass : P) (c : ℕ) (h : List Event) → Stands hub pass c h → Lawful (settings hub) (callers hub) h) (hub : S) (v : View W) (old new : P) where

@@ -19,9 +19,9 @@ pub struct PassBuckets<'a, W: Indexed, H: Hub<W>> {
 
 impl<'a, W: Indexed, H: Hub<W>> Buckets for PassBuckets<'a, W, H> {
     ghost use Rattle.cq_projects.specs.Spotted.{numbers_of};
-    ghost use Rattle.cq_ask.specs.Projects.{keys_in_files, IsReady};
-    ghost use Rattle.cq_ask.specs.Moves.{MovesTo};
-    ghost use Rattle.cq_ask.specs.Moving.{moves_none, moves_then};
+    ghost use Rattle.cq_session.specs.Projects.{keys_in_files, IsReady};
+    ghost use Rattle.cq_session.specs.Moves.{MovesTo};
+    ghost use Rattle.cq_session.specs.Moving.{moves_none, moves_then};
 
     ghost file_changes = { λ b. numbers_of b.files.now };
 

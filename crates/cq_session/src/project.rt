@@ -1,7 +1,7 @@
 ghost use Rattle.std.specs.Prelude.{◌≡◌, nat_eq};
 ghost use Rattle.std.specs.List.{list_any};
 ghost use Rattle.cq_projects.specs.Spotted.{numbers_of};
-ghost use Rattle.cq_ask.specs.Projects.{entries_of};
+ghost use Rattle.cq_session.specs.Projects.{entries_of};
 
 use cq_base::Entry;
 use cq_projects::ProjectFiles;

@@ -16,7 +16,7 @@ use Rattle.cq_hub.specs.Hubs.{Grows, Never}
 use Rattle.cq_hub.specs.Views.{IsOpen}
 use Rattle.cq_history.proofs.Doing.{slots_number}
 use Rattle.cq_hub.proofs.Growing.{grows_none, grows_then, view_grows, more_accepted}
-use Rattle.cq_ask.specs.Moves.{Carried, Moves, MovesTo}
+use Rattle.cq_session.specs.Moves.{Carried, Moves, MovesTo}
 
 -- an open version is one of the accepted changes
 pub open_within : {W : Type 0} (IsWork : Lang → List ℕ → W → Type 0) (set : Settings) (callers c : ℕ) (v : View W) (h : List Event) → Lawful set callers h → IsOpen IsWork (state callers h) c v → v.version ≤ length (accepted h)

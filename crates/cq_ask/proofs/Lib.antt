@@ -1,2 +1,0 @@
-pub mod PassReads
-pub mod ProjectEntries
