@@ -6,13 +6,13 @@ ghost use Rattle.cq_clones.specs.Windows.{IsBucket};
 ghost use Rattle.cq_hub.specs.Answers.{HasNoView};
 
 use crate::made::{Apart, Made, SETTINGS, accept, finish, letter};
-use cq_session::PassBuckets;
 use cq_base::{Entry, Memory, Text};
 use cq_board::{Refused, View};
 use cq_groups::Buckets;
 use cq_hub::{Hub, Solo};
 use cq_io::OpenGate;
 use cq_projects::ProjectFiles;
+use cq_session::PassBuckets;
 use std::alloc::Global;
 use std::sync::Arc;
 

@@ -1,8 +1,8 @@
-use cq_session::keep;
 use cq_base::{Entry, Memory, Settings};
 use cq_core::Core;
 use cq_groups::Buckets;
 use cq_projects::ProjectFiles;
+use cq_session::keep;
 use cq_work::Work;
 use std::alloc::Global;
 use std::sync::ledger::Ledger;

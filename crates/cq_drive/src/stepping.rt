@@ -9,12 +9,11 @@ ghost use Rattle.cq_drive.specs.Sound.{IsSoundStep};
 ghost use Rattle.cq_drive.specs.declared.step.ScriptStep.TheVariants as script;
 ghost use Rattle.cq_work.specs.Work.{IsWorkOf};
 
+use crate::ScriptOutcome;
 use cq_answer::cause_told;
 use cq_base::{Memory, Settings, Steps};
 use cq_core::{Core, Outcome, Step};
-use cq_work::Keyer;
-use crate::ScriptOutcome;
-use cq_work::{Work, work_of};
+use cq_work::{Keyer, Work, work_of};
 use std::alloc::Global;
 use std::sync::Arc;
 use std::sync::ledger::Ledger;

@@ -7,14 +7,12 @@ ghost use Rattle.cq_drive.specs.Sound.{IsSoundStep};
 
 use crate::stepping::{finished, stepped};
 use crate::viewing::{read, reply};
+use crate::{ScriptOutcome, ScriptStep, line_of, read_step};
 use cq_answer::refused_as;
 use cq_base::{Memory, Settings, Steps};
 use cq_core::{Core, Step};
-use cq_work::Keyer;
-use crate::{ScriptOutcome, line_of};
 use cq_reply::{Line, Short, fixed};
-use crate::{ScriptStep, read_step};
-use cq_work::Work;
+use cq_work::{Keyer, Work};
 use std::alloc::Global;
 use std::sync::ledger::Ledger;
 use std::thread::Threads;

@@ -12,11 +12,11 @@ ghost use Rattle.cq_drive.specs.declared.step.ScriptStep.TheVariants as script;
 ghost use Rattle.cq_work.specs.Work.{IsWorkOf};
 
 use crate::buckets::CoreBuckets;
+use crate::{Entries, ScriptOutcome};
 use cq_answer::answer;
 use cq_base::{Memory, Settings, Steps};
 use cq_board::View;
 use cq_core::Core;
-use crate::{Entries, ScriptOutcome};
 use cq_request::Query;
 use cq_work::Work;
 use std::alloc::Global;

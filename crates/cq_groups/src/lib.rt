@@ -4,7 +4,7 @@
 //!
 //! A list is made over an `Index`, which lends the files and the spots of their changes. A list of n windows copies their
 //! keys and sorts them, n log n comparisons. It reads at most as many tokens as the answers have windows, times two more
-//! than the longest repeat; an answer of n entries is sorted, and split as `cq_groups` says; g groups are sorted, g log g
+//! than the longest repeat; an answer of n entries is sorted, and split as the last paragraphs say; g groups are sorted, g log g
 //! comparisons, and the list of one file first looks through the places of its groups for that file. It keeps the keys and
 //! its groups, and an answer until the next question.
 //!

@@ -5,9 +5,9 @@ ghost use Rattle.cq_groups.specs.Listing.{AreGroupsOfKeys, AsksEachKey, AsksKeys
 
 use crate::buckets::Buckets;
 use crate::keys::{all_keys, file_keys};
+use crate::{Index, refine};
 use cq_base::{Group, Memory, Steps};
 use cq_order::order;
-use crate::{Index, refine};
 use cq_tokens::Files;
 use std::alloc::Global;
 

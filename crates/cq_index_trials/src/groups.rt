@@ -3,8 +3,7 @@ ghost use Rattle.cq_groups.specs.Plain.{HasOneKey};
 
 use crate::scans::{is_listed, token};
 use cq_base::{Group, Keys, Memory, Steps};
-use cq_groups::{PlainBuckets, list_all};
-use cq_groups::{Index, spots_in};
+use cq_groups::{Index, PlainBuckets, list_all, spots_in};
 use cq_tokens::{Corpus, FileTokens, PlainFiles, Tokens};
 use std::alloc::Global;
 use std::marker::Brand;

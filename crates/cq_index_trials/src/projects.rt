@@ -7,8 +7,8 @@ ghost use Rattle.cq_index_trials.specs.Project.{IsProject};
 
 use crate::draws::Draws;
 use cq_base::{Class, Lang, Memory, Norm, Text};
-use cq_work::Keyer;
 use cq_tokens::{FileTokens, Tokens};
+use cq_work::Keyer;
 use std::alloc::Global;
 use std::sync::Arc;
 use std::sync::ledger::Ledger;

@@ -1,8 +1,7 @@
 ghost use Rattle.std.specs.Prelude.{◌≡◌, ◌≤◌};
 
 use cq_base::{Lang, Memory, Settings, Text};
-use cq_work::{Keyer, plain_key};
-use cq_work::{State, work_of};
+use cq_work::{Keyer, State, plain_key, work_of};
 use std::alloc::Global;
 use std::marker::Brand;
 

@@ -6,8 +6,8 @@ ghost use Rattle.cq_reply.specs.Written.{IsReplyText};
 ghost use Rattle.cq_work.specs.Work.{IsWorkOf};
 ghost use Rattle.cq_session.specs.Passes.{CostsOpen, HasOpen, HasReady, HasShown, HasShut, HasSwept, HasViewOpen, HasViewedOrNot, KeepsOpen, ShowsOpen};
 
-use cq_answer::answer;
 use crate::PassBuckets;
+use cq_answer::answer;
 use cq_base::{Memory, Settings, Steps};
 use cq_board::View;
 use cq_hub::Hub;

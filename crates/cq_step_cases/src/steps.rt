@@ -1,7 +1,7 @@
 use crate::telling::{SETTINGS, all_tell};
 use cq_base::{Change, Lang, Text};
-use cq_request::{Query, Refusal};
 use cq_drive::{ScriptStep, read_step};
+use cq_request::{Query, Refusal};
 use std::alloc::Global;
 
 // Each line of a table is a word, as `tells` has it, and the line that is read.

@@ -1,6 +1,6 @@
 use cq_base::{Change, Memory, Settings};
-use cq_request::{Kind, Refusal};
 use cq_drive::{ScriptStep, read_step};
+use cq_request::{Kind, Refusal};
 use std::alloc::Global;
 
 /// The settings that lines are read with.

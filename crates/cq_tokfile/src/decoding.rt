@@ -9,12 +9,11 @@ ghost use Rattle.cq_tokfile.specs.Snapshot as spec;
 
 use crate::snapshot::Snapshot;
 use cq_base::{Keys, Lang, Memory, Norm, Settings, Spelled};
-use cq_work::Keyer;
 use cq_normal::spans_of;
 use cq_projects::{Held, ProjectFiles};
 use cq_tokens::Tokens;
 use cq_tokform::{ContentsRecord, FileRecord, Unread, read_whole};
-use cq_work::Work;
+use cq_work::{Keyer, Work};
 use std::alloc::Global;
 use std::sync::Arc;
 use std::sync::ledger::Ledger;

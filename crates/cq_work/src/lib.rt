@@ -11,16 +11,16 @@
 mod code;
 mod counting;
 mod keyer;
+mod keying;
 mod laws;
 mod lexing;
 mod plain;
 mod rolling;
 mod shown;
-mod keying;
 mod work;
 
 pub use keyer::Keyer;
+pub use keying::files_are_keyed_by_their_windows;
 pub use laws::works_are_bounded;
 pub use plain::plain_key;
-pub use keying::files_are_keyed_by_their_windows;
 pub use work::{State, Work, work_of};

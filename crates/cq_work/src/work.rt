@@ -1,11 +1,11 @@
 ghost use Rattle.std.specs.Prelude.{◌≡◌, ◌≤◌, length, IfOk, IsUtf8};
 ghost use Rattle.cq_work.specs.Work.{IsWorkOf};
 
+use crate::Keyer;
 use crate::counting::{counts_of, early_counts};
 use crate::lexing::{lexed, parts_of, state_of};
 use cq_base::{FileCounts, Keys, Lang, Memory, Settings, Text, Token};
 use cq_func::{Function, functions};
-use crate::Keyer;
 use cq_normal::{Normal, normalise};
 use cq_tokens::Tokens;
 use std::alloc::Global;
