@@ -1,5 +1,5 @@
 -- The passes with which sessions and workers begin, and those that their threads have.
-use Rattle.std.specs.Prelude.{◌≡◌, [], None}
+use Rattle.std.specs.Prelude.{◌≡◌, ℕ, [], None}
 use Rattle.cq_base.specs.declared.settings.Settings.{Settings}
 use Rattle.cq_base.specs.Settings.{IsInRange}
 use Rattle.cq_cells.specs.Passes.{by_of}
@@ -19,3 +19,8 @@ pub record IsSeated {W R : Type 0} (set : Settings) (hub : Shared W R) (p : Boar
   pub settings : settings_of hub ≡ set
   pub of : IsPassOf hub p
   pub closed : view_of (state_of hub p.seen) (by_of p) ≡ None
+
+-- it is so, and a cutter takes at most as many bytes of a connection as the settings allow
+pub record IsFurnished {W R : Type 0} (set : Settings) (hub : Shared W R) (p : BoardPass) (limit : ℕ) : Type 0 where
+  pub seated : IsSeated set hub p
+  pub limit_is : limit ≡ set.byte_limit

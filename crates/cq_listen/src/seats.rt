@@ -19,8 +19,8 @@ use std::sync::Wait;
 use std::sync::ledger::Ledger;
 use std::thread::Threads;
 
-/// What a thread of the sessions has of its own: a pass with no view open, and a cutter. Contracts see it as the
-/// settings of its hub.
+/// What a thread of the sessions has of its own: a pass with no view open, and a cutter with the limit of the settings.
+/// Contracts see it as the settings of its hub.
 #[derive(Drop)]
 pub(crate) struct Seat<'a, L: Ledger, R, G> {
     alloc: Global,
@@ -34,13 +34,13 @@ pub(crate) struct Seat<'a, L: Ledger, R, G> {
 
 impl<'a, L: Ledger, R, G> Model for Seat<'a, L, R, G> {
     ghost use Rattle.cq_base.specs.declared.settings.Settings.{Settings as Told};
-    ghost use Rattle.cq_listen.specs.Seats.{IsSeated};
+    ghost use Rattle.cq_listen.specs.Seats.{IsFurnished};
 
     ghost Value = { Told };
 
     ghost view = { λ s. s.settings.now };
 
-    ghost invariant = { λ s. IsSeated s.settings.now s.hub.now s.pass };
+    ghost invariant = { λ s. IsFurnished s.settings.now s.hub.now s.pass s.lines.limit };
 }
 
 impl<'a, L: Ledger, R, G> Seat<'a, L, R, G> {
