@@ -21,7 +21,7 @@ pub(crate) struct Part {
     pub change: u64,
 }
 
-/// The key modulo the number of shards. If that is a power of two it needs no division.
+/// The key modulo the number of shards. If that is `power` it needs no division.
 #[tactic(auto, using(crate::proofs::Masks::mask_is_remainder))]
 pub(crate) fn remainder(key: u64, shards: u64, power: u64) -> u64
     requires some { 0 < shards }
