@@ -58,7 +58,7 @@ pub(crate) fn number_within(low: u64, high: u64, bytes: &[u8]) -> Option<u64>
     }
 }
 
-// Whether there are this many bytes.
+// Whether the number of bytes is in the range.
 fn is_count_within(low: u64, high: u64, bytes: &[u8]) -> bool
     ensures { result ≡ is_some (table.text_within low high bytes.now) }
 {
