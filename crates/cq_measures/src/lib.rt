@@ -1,7 +1,7 @@
 //! Measures: lines of code and decisions of a file, and the eight measures of a project, of one of its files, or of some of
-//! them. Where places of groups overlap, each line, each extent of lines and each file counts once. A project's places are
-//! parted among the files in one walk, and counted file by file, in threads where they are many: n places in a file cost
-//! n log n comparisons and the memory of n extents. So do those of chosen files, all together in one list. No walk goes over
+//! them. If places of groups overlap, each line, each extent of lines and each file counts once. A project's places are
+//! divided among the files in one walk, and counted file by file, in threads if they are many: n places in a file cost n
+//! log n comparisons and the memory of n extents. So do those of chosen files, all together in one list. No walk goes over
 //! the lines of a place.
 //!
 //! Gates: whether a condition is met by some measures, and the verdict of a list of conditions. Metrics and operators are

@@ -1,5 +1,5 @@
 //! The whole work of an upload: its text is lexed by its language, and its tokens are normalised and keyed. What is
-//! made is made once, and shared behind `Arc`s. It costs one reading of the text, one move of each token, and a fold
+//! made is made once, and shared through `Arc`s. It costs one reading of the text, one move of each token, and a fold
 //! over `chunk` codes for each window.
 //!
 //! The keys of a file's windows: for every run of `chunk` neighbouring tokens a number of at most 64 bits. Equal windows
