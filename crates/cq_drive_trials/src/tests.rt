@@ -1,8 +1,8 @@
 use crate::asking::drawn_lines;
-use crate::lines::Lines;
 use crate::running::written_here;
 use cq_base::{Memory, Settings};
 use cq_lines::End;
+use cq_talk_model::Lines;
 use std::alloc::Global;
 use std::thread::Threads;
 

@@ -12,6 +12,8 @@ mod faults;
 #[cfg(test)]
 mod helping;
 #[cfg(test)]
+mod histories;
+#[cfg(test)]
 mod late;
 #[cfg(test)]
 mod running;

@@ -70,6 +70,29 @@ fn a_turn_makes_the_work_that_is_left(rt: HostRuntime) -> Result<(), Refused> {
     Ok(())
 }
 
+// Whether a first turn that finds no memory gives the change back or takes none, and a second one then makes the work. With
+// memory for all, the first makes it.
+fn is_made(turns: (Turn, Turn, u64, u64)) -> bool {
+    match turns {
+        (Turn::Worked(1), Turn::Idle, 1, 1) => true,
+        (Turn::Worked(1), Turn::Idle, 1, 0) => true,
+        (Turn::GaveBack(1), Turn::Worked(1), 1, _published) => true,
+        (Turn::Memory, Turn::Worked(1), 1, _published) => true,
+        _ => false,
+    }
+}
+
+// To be tried with `rt try --test --fail-alloc N`, by which one allocation fails: some of them are the work's.
+#[test]
+fn a_turn_without_memory_leaves_the_change_to_the_next(rt: HostRuntime) {
+    match turns_here(rt.alloc(), &SETTINGS) {
+        Ok(Some(turns)) => assert!(rt; is_made(turns), "{turns:?}"),
+        Ok(None) => assert!(rt; false),
+        Err(Refused::Memory) => {}
+        Err(_refused) => assert!(rt; false),
+    }
+}
+
 #[test]
 fn a_gate_rings_the_bell_for_each_change(rt: HostRuntime) {
     let bell = Bell::new();
