@@ -52,12 +52,12 @@ module _ {I E K : Type 0} where
   abbrev pub let_go : ℕ → ℕ → View I E K → View I E K
   let_go k count v = record v { seen = v.seen ++ option_to_list (noted_of v.hand); hand = Free; known = more_known k count v.known }
 
-  -- the cell was taken where its word was found as expected, and else nothing changed
+  -- The cell was taken if its word was found as expected, and else nothing changed. The history of the first seat has no event of a number that is not made
   abbrev pub taken : (K → List E → Type 0) → (K → List E → ℕ → ℕ → I → Type 0) → (E → Option ℕ) → Step (Option I) → Sat I E K → ℕ → Sat I E K → Type 0
   taken lawful fits caller st m r m' =
       (r ≡ st.first → (x : I) × (log : List E) × (seen : List E) × (m' ≡ (took st.word x seen (r / 2) m.0, (st.word, Some x) ∷ m.1))
       × IsPrefix m.0.seen seen × IsPrefix seen log × IfSome m.0.about (λ key. lawful key log × fits key log st.word (r / 2) x) × (st.word ≡ 0 → seen ≡ log) × (st.word ≢ 0 → seen ≡ m.0.seen)
-      × OwnSame caller m.0.callers log m.0.seen × (least_of st.word m.0.known ≤ r / 2))
+      × OwnSame caller m.0.callers log m.0.seen × (least_of st.word m.0.known ≤ r / 2) × (0 < m.0.next → NoneFrom caller m.0.next log))
       × (r ≢ st.first → m' ≡ m)
 
   abbrev pub noted : Option E → Step (Option I) → Sat I E K → ℕ → Sat I E K → Type 0
@@ -136,6 +136,7 @@ module _ {I E K : Type 0} (lawful : K → List E → Type 0) where
   Finds fits caller key k x p q =
       (log : List E) × (c : ℕ) × IsPrefix (view q).seen log × lawful key log × fits key log k c x × (k ≡ 0 → (view q).seen ≡ log) × (k ≢ 0 → (view q).seen ≡ (view p).seen)
       × ((view q).known ≡ more_known k c (view p).known) × OwnSame caller (view p).callers log (view p).seen × (c < 2 ^ 63) × (least_of k (view p).known ≤ c)
+      × (0 < (view p).next → NoneFrom caller (view p).next log)
 
   -- the pass may note the event, if there is one: the cell is the board's
   abbrev pub MayNoteHere : (E → ℕ) → (E → Option ℕ) → K → ℕ → ℕ → Seat (Option I) (View I E K) → Option E → Type 0

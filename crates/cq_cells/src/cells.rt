@@ -41,6 +41,7 @@ impl<B, S, E, K, L: Law<B, S, E, K>, R: Wait> Cells<B, S, E, K, L, R> {
         ensures lawful { L.lawful self.now.about pass.new.seen }
         ensures board { L.board self.now.about pass.new.seen result }
         ensures own { IsOwn L.caller pass.old pass.new.seen }
+        ensures unmade { 0 < pass.new.next → NoneFrom L.caller pass.new.next pass.new.seen }
         ensures known { pass.new.known ≡ pass.old.known }
     {
         match self.locked.take(0, &mut pass.seat) {

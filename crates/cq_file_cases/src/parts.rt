@@ -1,8 +1,6 @@
-use cq_base::{Class, Compare, Condition, Metric, Settings};
-use cq_tokform::{
-    put_condition, put_token, read_condition, read_conditions, read_files, read_frame,
-    read_functions, read_head, read_token, read_whole,
-};
+use cq_base::{Class, Compare, Condition, Metric, Settings, Text, Token};
+use cq_func::Function;
+use cq_tokform::{put_condition, put_function, put_token, read_whole};
 use std::test::*;
 
 const SETTINGS: Settings = Settings {
@@ -24,79 +22,58 @@ const FILE: [u8; 112] = [
     0, 0, 0, 1, 0, 0, 0, 1, 0, 0, 0, 1, 0, 0, 0, 1, 97, 0, 0, 0, 0,
 ];
 
-// The name `a` at the start of a text, and a byte behind it.
-const TOKEN: [u8; 23] = [
-    0, 0, 0, 0, 0, 0, 0, 0, 1, 0, 0, 0, 1, 0, 0, 0, 1, 0, 0, 0, 1, 97, 7,
-];
-
 #[test]
-fn the_parts_of_a_file_of_112_bytes(rt: HostRuntime) -> Result<(), Fail> {
-    let (body, behind) = read_frame(&FILE).ok().ok_or("a body in its frame")?;
-    assert_eq!(rt; body.len(), 96);
-    assert_eq!(rt; behind.len(), 0);
-    let (head, rest) = read_head(rt.alloc(), &SETTINGS, body).ok().ok_or("a head")?;
-    assert_eq!(rt; head.version, 1);
-    assert_eq!(rt; head.project.as_bytes(), b"p".as_slice());
-    let (conditions, rest) = read_conditions(rt.alloc(), rest)
-        .ok()
-        .ok_or("a list of conditions")?;
-    assert_eq!(rt; conditions.len(), 0);
-    let (files, rest) = read_files(rt.alloc(), &SETTINGS, 1, rest)
-        .ok()
-        .ok_or("a list of files")?;
-    assert_eq!(rt; rest.len(), 0);
-    assert_eq!(rt; files.len(), 1);
-    Ok(())
-}
-
-#[test]
-fn a_token_and_what_is_behind(rt: HostRuntime) -> Result<(), Fail> {
-    let read = read_token(rt.alloc(), &SETTINGS, 1, &TOKEN);
-    let (spelled, rest) = read.ok().ok_or("the bytes begin with a token")?;
-    assert_eq!(rt; spelled.token.class, Class::Ident);
-    assert_eq!(rt; spelled.text.as_bytes(), b"a".as_slice());
-    assert_eq!(rt; rest.len(), 1);
+fn a_token_is_written(rt: HostRuntime) -> Result<(), Fail> {
+    let token = Token {
+        class: Class::Ident,
+        start: 0,
+        len: 1,
+        first_line: 1,
+        last_line: 1,
+    };
     let mut out = Vec::new(rt.alloc());
-    put_token(&mut out, spelled.token, b"a")
+    put_token(&mut out, token, b"a")
         .ok()
         .ok_or("memory is there")?;
-    assert_eq!(rt; out.as_slice(), &TOKEN[..22]);
-    Ok(())
-}
-
-#[test]
-fn a_function_in_a_list(rt: HostRuntime) -> Result<(), Fail> {
-    let bytes = [
-        0, 0, 0, 1, 0, 0, 0, 1, 102, 0, 0, 0, 2, 0, 0, 0, 3, 0, 0, 0, 4,
+    let want = [
+        0, 0, 0, 0, 0, 0, 0, 0, 1, 0, 0, 0, 1, 0, 0, 0, 1, 0, 0, 0, 1, 97,
     ];
-    let (functions, rest) = read_functions(rt.alloc(), 3, &bytes)
-        .ok()
-        .ok_or("a function of lines 2 and 3")?;
-    assert_eq!(rt; rest.len(), 0);
-    for function in &functions {
-        assert_eq!(rt; function.name.as_bytes(), b"f".as_slice());
-        assert_eq!(rt; function.complexity, 4);
-    }
-    assert_eq!(rt; functions.len(), 1);
+    assert_eq!(rt; out.as_slice(), want.as_slice());
     Ok(())
 }
 
 #[test]
-fn a_condition(rt: HostRuntime) -> Result<(), Fail> {
-    let bytes = [7, 1, 0, 0, 0, 0, 0, 0, 1, 2];
-    let (condition, rest) = read_condition(&bytes).ok().ok_or("density below 258")?;
-    let want = Condition {
+fn a_function_is_written(rt: HostRuntime) -> Result<(), Fail> {
+    let name = Text::from_bytes(rt.alloc(), b"f")
+        .ok()
+        .ok_or("memory is there")?;
+    let function = Function {
+        name,
+        first: 2,
+        last: 3,
+        complexity: 4,
+    };
+    let mut out = Vec::new(rt.alloc());
+    put_function(&mut out, &function)
+        .ok()
+        .ok_or("memory is there")?;
+    let want = [0, 0, 0, 1, 102, 0, 0, 0, 2, 0, 0, 0, 3, 0, 0, 0, 4];
+    assert_eq!(rt; out.as_slice(), want.as_slice());
+    Ok(())
+}
+
+#[test]
+fn a_condition_is_written(rt: HostRuntime) -> Result<(), Fail> {
+    let condition = Condition {
         metric: Metric::Density,
         op: Compare::Lt,
         error: 258,
     };
-    assert_eq!(rt; condition, want);
-    assert_eq!(rt; rest.len(), 0);
     let mut out = Vec::new(rt.alloc());
-    put_condition(&mut out, &want)
+    put_condition(&mut out, &condition)
         .ok()
         .ok_or("memory is there")?;
-    assert_eq!(rt; out.as_slice(), bytes.as_slice());
+    assert_eq!(rt; out.as_slice(), [7, 1, 0, 0, 0, 0, 0, 0, 1, 2].as_slice());
     Ok(())
 }
 
@@ -111,6 +88,7 @@ fn a_whole_file_and_what_is_behind(rt: HostRuntime) -> Result<(), Fail> {
         .ok_or("a whole file")?;
     assert_eq!(rt; rest.len(), 1);
     assert_eq!(rt; contents.head.version, 1);
+    assert_eq!(rt; contents.head.project.as_bytes(), b"p".as_slice());
     assert_eq!(rt; contents.conditions.len(), 0);
     assert_eq!(rt; contents.files.len(), 1);
     assert!(rt; read_whole(rt.alloc(), &SETTINGS, &FILE[..111]).is_err());
