@@ -7,6 +7,7 @@
 mod asking;
 mod changes;
 mod counts;
+mod differing;
 mod draws;
 mod groups;
 mod model;
@@ -17,6 +18,7 @@ mod texts;
 
 pub use asking::{Lines, drawn_lines, tell_query_at};
 pub use changes::{Accepted, Change, Put, Query, Refusal, file_at};
+pub use differing::difference;
 pub use draws::Draws;
 pub use groups::{Token, tokens_of};
 pub use model::Model;

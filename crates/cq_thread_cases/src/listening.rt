@@ -32,14 +32,14 @@ pub struct Run<'a> {
 /// How it went.
 #[derive(Clone, Copy, Debug, PartialEq, Eq)]
 pub enum Went {
-    /// Each client was told its replies, and the server ended as the doors did.
+    /// Each client was told its replies, and the server ended as the doors did, and was made as it was to be.
     AsWanted,
     /// Settings, workers or sessions are out of range, or no address can be bound.
     NotBegun,
     /// This one waited in vain.
     InVain(Late),
-    /// A call of the doors failed and the server ended otherwise, or the other way round.
-    EndedOtherwise,
+    /// The server ended so.
+    EndedOtherwise(Served),
     /// This client was told something else, from 0.
     ToldOtherwise(usize),
 }
@@ -121,8 +121,14 @@ pub fn goes<Q: Threads + Wait + Clock + Sync>(
     if let Some(late) = stage.late() {
         return Ok(Went::InVain(late));
     }
-    if served.failed != (run.failing > 0) {
-        return Ok(Went::EndedOtherwise);
+    let wanted = Served {
+        failed: run.failing > 0,
+        settings: SETTINGS,
+        workers: run.workers as usize,
+        sessions: run.sessions as usize,
+    };
+    if served != wanted {
+        return Ok(Went::EndedOtherwise(served));
     }
     match stage.told_otherwise(run.clients, run.replies) {
         Some(client) => Ok(Went::ToldOtherwise(client)),
