@@ -185,7 +185,9 @@ impl<'a, R: Wait + Clock> Stage<'a, R> {
             return self.log.is_told(number, replies.as_bytes());
         }
         self.log.is_told_at_first(number, replies.as_bytes())
-            && self.log.is_told_at_last(number, client.until_told.as_bytes())
+            && self
+                .log
+                .is_told_at_last(number, client.until_told.as_bytes())
     }
 
     /// The first client who was told otherwise than it was to be, from 0.

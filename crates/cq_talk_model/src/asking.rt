@@ -1,8 +1,8 @@
+use crate::changes::{Change, Condition, Put, Query, conditions_at, files_at};
 use crate::counts::counts_of;
 use crate::draws::Draws;
 use crate::groups::{Token, runs_of, tokens_of};
 use crate::model::Model;
-use crate::changes::{Change, Condition, Put, Query, conditions_at, files_at};
 use crate::requests::{Kind, Request, drawn_request, tell_bad, write_line};
 use crate::telling::{
     tell_change, tell_counts, tell_files, tell_refusal, tell_runs, tell_state, tell_verdict,

@@ -1,5 +1,5 @@
-use crate::draws::Draws;
 use crate::changes::{Change, Condition, Put, Query};
+use crate::draws::Draws;
 use crate::scopes::scope_name;
 use crate::telling::path_name;
 use crate::texts::{drawn_words, write_words};

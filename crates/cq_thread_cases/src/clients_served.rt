@@ -2,8 +2,7 @@ use crate::listening::{Run, Went, goes};
 use cq_base::Memory;
 use cq_stage::{Client, Hold, Until};
 
-const UPLOAD: &str =
-    r#"{"op":"put","project":"p","path":"a","lang":"any","text":"x y z x y z"}
+const UPLOAD: &str = r#"{"op":"put","project":"p","path":"a","lang":"any","text":"x y z x y z"}
 {"op":"groups","project":"p","min":3}
 "#;
 
@@ -48,7 +47,15 @@ fn one_after_the_other(rt: HostRuntime) -> Result<(), Memory> {
         assert_eq!(rt; goes(&rt, rt.alloc(), &run)?, Went::AsWanted);
     }
     assert_eq!(rt;
-        goes(&rt, rt.alloc(), &Run { workers: 2, sessions: 3, ..RUN })?,
+        goes(
+            &rt,
+            rt.alloc(),
+            &Run {
+                workers: 2,
+                sessions: 3,
+                ..RUN
+            }
+        )?,
         Went::AsWanted
     );
     Ok(())
@@ -64,7 +71,10 @@ fn a_door_that_fails(rt: HostRuntime) -> Result<(), Memory> {
         ..RUN
     };
     for workers in [0, 2] {
-        assert_eq!(rt; goes(&rt, rt.alloc(), &Run { workers, ..run })?, Went::AsWanted);
+        assert_eq!(rt;
+            goes(&rt, rt.alloc(), &Run { workers, ..run })?,
+            Went::AsWanted
+        );
     }
     Ok(())
 }
@@ -120,8 +130,7 @@ const TWICE_AT_ONE: &str = r#"{"change":1,"ok":true}
 {"groups":[{"places":[{"at":0,"first":1,"last":1,"path":"a"},{"at":3,"first":1,"last":1,"path":"a"}],"tokens":3}],"ok":true,"total":1,"version":1}
 "#;
 
-const ANOTHER_UPLOAD: &str =
-    r#"{"op":"put","project":"p","path":"b","lang":"any","text":"x y z"}
+const ANOTHER_UPLOAD: &str = r#"{"op":"put","project":"p","path":"b","lang":"any","text":"x y z"}
 {"op":"groups","project":"p","min":3}
 "#;
 
@@ -165,36 +174,30 @@ fn a_query_within_a_commit(rt: HostRuntime) -> Result<(), Memory> {
     Ok(())
 }
 
-const PUT: &str =
-    r#"{"op":"put","project":"p","path":"a","lang":"any","text":"x y z"}
+const PUT: &str = r#"{"op":"put","project":"p","path":"a","lang":"any","text":"x y z"}
 "#;
 
-const TWO_PUTS: &str =
-    r#"{"op":"put","project":"p","path":"a","lang":"any","text":"x y z"}
+const TWO_PUTS: &str = r#"{"op":"put","project":"p","path":"a","lang":"any","text":"x y z"}
 {"op":"put","project":"p","path":"b","lang":"any","text":"x y z"}
 "#;
 
-const FOUR_PUTS: &str =
-    r#"{"op":"put","project":"p","path":"a","lang":"any","text":"x y z"}
+const FOUR_PUTS: &str = r#"{"op":"put","project":"p","path":"a","lang":"any","text":"x y z"}
 {"op":"put","project":"p","path":"b","lang":"any","text":"x y z"}
 {"op":"put","project":"p","path":"c","lang":"any","text":"x y z"}
 {"op":"put","project":"p","path":"d","lang":"any","text":"x y z"}
 "#;
 
-const TWO_UPLOADED: &str =
-    r#"{"change":1,"ok":true}
+const TWO_UPLOADED: &str = r#"{"change":1,"ok":true}
 {"change":2,"ok":true}
 "#;
 
-const FOUR_UPLOADED: &str =
-    r#"{"change":1,"ok":true}
+const FOUR_UPLOADED: &str = r#"{"change":1,"ok":true}
 {"change":2,"ok":true}
 {"change":3,"ok":true}
 {"change":4,"ok":true}
 "#;
 
-const NO_GROUP: &str =
-    r#"{"groups":[],"ok":true,"total":0,"version":1}
+const NO_GROUP: &str = r#"{"groups":[],"ok":true,"total":0,"version":1}
 "#;
 
 const GROUP_OF_TWO: &str =

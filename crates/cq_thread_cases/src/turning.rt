@@ -6,9 +6,8 @@ use cq_base::{Change, Lang, Memory, Settings, Text};
 use cq_board::Refused;
 use cq_hub::{Hub, Solo, SoloPass};
 use cq_io::{Gate, OpenGate};
-use cq_work::{Keyer, plain_key};
 use cq_serve::{Bell, RingingGate, Turn, turn};
-use cq_work::Work;
+use cq_work::{Keyer, Work, plain_key};
 use std::alloc::Global;
 use std::marker::Brand;
 

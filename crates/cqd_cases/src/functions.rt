@@ -2,8 +2,7 @@ use crate::cases::first_otherwise;
 use cq_base::Memory;
 
 // The second is the worst; of equal ones the first is; files without functions; and functions that marks leave out.
-const FUNCTIONS: &str =
-    r#"$ run --chunk 2 --shards 1
+const FUNCTIONS: &str = r#"$ run --chunk 2 --shards 1
 {"op":"put","project":"p","path":"a.go","lang":"go","text":"func f() int { return 1 }\nfunc (r T) g() interface{} { if r.x && true { return nil }; return 1 }\n"} -> {"change":1,"ok":true}
 {"op":"functions","project":"p","path":"a.go"} -> {"functions":[{"complexity":1,"first":1,"last":1,"name":"f"},{"complexity":3,"first":2,"last":2,"name":"g"}],"ok":true,"version":1,"worst":1}
 $ run --chunk 2 --shards 1

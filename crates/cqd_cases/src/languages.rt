@@ -2,8 +2,7 @@ use crate::cases::first_otherwise;
 use cq_base::Memory;
 
 // Semicolons of Go at line ends; digraphs and a splice of C; an escape of Java that is a quote; and a comment without an end.
-const LISTINGS: &str =
-    r#"$ run --chunk 2 --shards 1
+const LISTINGS: &str = r#"$ run --chunk 2 --shards 1
 {"op":"put","project":"p","path":"a.go","lang":"go","text":"func f() int { return 1 }"} -> {"change":1,"ok":true}
 {"op":"put","project":"p","path":"b.go","lang":"go","text":"func f() int {\n\treturn 1\n}\n"} -> {"change":2,"ok":true}
 {"op":"groups","project":"p","min":8} -> {"groups":[{"places":[{"at":0,"first":1,"last":1,"path":"a.go"},{"at":0,"first":1,"last":2,"path":"b.go"}],"tokens":8}],"ok":true,"total":1,"version":2}

@@ -7,6 +7,8 @@ mod cases;
 #[cfg(test)]
 mod clients;
 #[cfg(test)]
+mod densities;
+#[cfg(test)]
 mod exported;
 #[cfg(test)]
 mod failing;

@@ -3,8 +3,7 @@ use cq_base::Memory;
 
 // A project without files, at version 0; three files, of which any two have a run in common; and the same with one key for all
 // windows, in sixteen shards.
-const LISTINGS: &str =
-    r#"$ run --chunk 2 --shards 1
+const LISTINGS: &str = r#"$ run --chunk 2 --shards 1
 {"op":"groups","project":"none","min":3} -> {"groups":[],"ok":true,"total":0,"version":0}
 $ run --chunk 2 --shards 1
 {"op":"put","project":"p","path":"f1","lang":"any","text":"a m n x"} -> {"change":1,"ok":true}

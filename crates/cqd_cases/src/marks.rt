@@ -2,8 +2,7 @@ use crate::cases::first_otherwise;
 use cq_base::Memory;
 
 // A run of tokens crosses what is left out; two places are on both sides of it; and marks without their others.
-const MARKS: &str =
-    r#"$ run --chunk 2 --shards 1
+const MARKS: &str = r#"$ run --chunk 2 --shards 1
 {"op":"put","project":"p","path":"a.c","lang":"c","text":"int a; // CPD-OFF\nint b;\n// CPD-ON\nint c;\n"} -> {"change":1,"ok":true}
 {"op":"put","project":"p","path":"b.c","lang":"c","text":"int a; int c;"} -> {"change":2,"ok":true}
 {"op":"groups","project":"p","min":6} -> {"groups":[{"places":[{"at":0,"first":1,"last":4,"path":"a.c"},{"at":0,"first":1,"last":1,"path":"b.c"}],"tokens":6}],"ok":true,"total":1,"version":2}

@@ -17,13 +17,11 @@ struct Given {
     status: u8,
 }
 
-const REPEATED: &str =
-    r#"{"op":"put","project":"p","path":"t","lang":"any","text":"a b x a b"}
+const REPEATED: &str = r#"{"op":"put","project":"p","path":"t","lang":"any","text":"a b x a b"}
 {"op":"groups","project":"p","min":2}
 "#;
 
-const REPEATED_TOLD: &str =
-    r#"{"change":1,"ok":true}
+const REPEATED_TOLD: &str = r#"{"change":1,"ok":true}
 {"groups":[{"places":[{"at":0,"first":1,"last":1,"path":"t"},{"at":3,"first":1,"last":1,"path":"t"}],"tokens":2}],"ok":true,"total":1,"version":1}
 "#;
 
@@ -37,33 +35,27 @@ const TWO_LITERALS: &str =
 {"op":"groups","project":"p","min":4}
 "#;
 
-const ALIKE_TOLD: &str =
-    r#"{"change":1,"ok":true}
+const ALIKE_TOLD: &str = r#"{"change":1,"ok":true}
 {"groups":[{"places":[{"at":0,"first":1,"last":1,"path":"A.java"},{"at":4,"first":1,"last":1,"path":"A.java"}],"tokens":4}],"ok":true,"total":1,"version":1}
 "#;
 
-const TWO_PUTS: &str =
-    r#"{"op":"put","project":"p","path":"t","lang":"any","text":"aaaaa"}
+const TWO_PUTS: &str = r#"{"op":"put","project":"p","path":"t","lang":"any","text":"aaaaa"}
 {"op":"put","project":"p","path":"u","lang":"any","text":"bbbb"}
 "#;
 
-const FULL_CHANGES: &str =
-    r#"{"change":1,"ok":true}
+const FULL_CHANGES: &str = r#"{"change":1,"ok":true}
 {"code":10,"error":"full-changes","ok":false}
 "#;
 
-const FULL_TEXT: &str =
-    r#"{"change":1,"ok":true}
+const FULL_TEXT: &str = r#"{"change":1,"ok":true}
 {"code":11,"error":"full-text","ok":false}
 "#;
 
-const TWO_STATES: &str =
-    r#"{"op":"state"}
+const TWO_STATES: &str = r#"{"op":"state"}
 {"op":"state"}
 "#;
 
-const ONE_STATE: &str =
-    r#"{"accepted":0,"done":0,"ok":true,"published":0}
+const ONE_STATE: &str = r#"{"accepted":0,"done":0,"ok":true,"published":0}
 "#;
 
 const REPEAT: Given = Given {

@@ -9,8 +9,7 @@ const WORDS: [&str; 5] = ["run", "--chunk", "2", "--shards", "1"];
 
 // The groups are those of all files, whichever are measured; a file that is put again is new; files are chosen by directories; and
 // the density is that of the chosen files: one duplicated line of two, of a project that has two of six.
-const MEASURED: &str =
-    r#"$ run --chunk 2 --shards 1
+const MEASURED: &str = r#"$ run --chunk 2 --shards 1
 {"op":"put","project":"p","path":"f1","lang":"any","text":"a m n x"} -> {"change":1,"ok":true}
 {"op":"put","project":"p","path":"f2","lang":"any","text":"a m n y"} -> {"change":2,"ok":true}
 {"op":"put","project":"p","path":"f3","lang":"any","text":"b m n x"} -> {"change":3,"ok":true}
@@ -52,8 +51,7 @@ fn chosen_files_are_measured(rt: HostRuntime) -> Result<(), Memory> {
 }
 
 // Stars first, last, on both sides and alone, one that stands for nothing, and a character of three bytes.
-const PATTERNS: &str =
-    r#"$ run --chunk 2 --shards 1
+const PATTERNS: &str = r#"$ run --chunk 2 --shards 1
 {"op":"put","project":"p","path":"a/b.txt","lang":"any","text":"x"} -> {"change":1,"ok":true}
 {"op":"put","project":"p","path":"a/c/d.txt","lang":"any","text":"y"} -> {"change":2,"ok":true}
 {"op":"put","project":"p","path":"漢.txt","lang":"any","text":"z"} -> {"change":3,"ok":true}

@@ -99,7 +99,18 @@ fn a_file_with_too_many_tokens_is_large(rt: HostRuntime) -> Result<(), Memory> {
         let text = vec![in alloc; b';'; tokens]?;
         input.extend_from_slice(&text)?;
         input.extend_from_slice(FILES.as_bytes())?;
-        assert!(rt; ends_with(&rt, alloc, &WORDS, &input, 65_536, (0, 0), output.as_bytes(), 0)?);
+        assert!(rt;
+            ends_with(
+                &rt,
+                alloc,
+                &WORDS,
+                &input,
+                65_536,
+                (0, 0),
+                output.as_bytes(),
+                0
+            )?
+        );
     }
     Ok(())
 }

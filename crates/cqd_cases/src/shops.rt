@@ -65,13 +65,19 @@ fn tell_changes(text: &mut Vec<u8>) -> Result<(), Memory> {
 // The one group: in each file all after the number that differs, from the semicolon on its line.
 fn tell_groups(text: &mut Vec<u8>) -> Result<(), Memory> {
     for shop in 0..40 {
-        text.extend_from_slice(if shop == 0 { br#"{"groups":[{"places":["# } else { b"," })?;
+        text.extend_from_slice(if shop == 0 {
+            br#"{"groups":[{"places":["#
+        } else {
+            b","
+        })?;
         text.extend_from_slice(br#"{"at":14,"first":5,"last":25,"path":"src/Shop"#)?;
         put_digits(text, shop)?;
         text.extend_from_slice(br#".java"}"#)?;
     }
-    text.extend_from_slice(br#"],"tokens":109}],"ok":true,"total":1,"version":40}
-"#)?;
+    text.extend_from_slice(
+        br#"],"tokens":109}],"ok":true,"total":1,"version":40}
+"#,
+    )?;
     Ok(())
 }
 
