@@ -168,7 +168,7 @@ fn serve_keyed<
 ///
 /// The calling thread alone asks the doors. It hands each connection over by a queue with as many places as there are
 /// sessions, and asks for the next one only where a place is free. So a client that sends nothing, or half a line, or never
-/// reads, keeps one thread, and nobody else. Where no thread can be made for a session, the calling thread serves each
+/// reads, keeps one thread, and nobody else. With no session, or if no thread can be made for one, the calling thread serves each
 /// connection itself before it asks for the next one; a worker for which none can be made doesn't work.
 ///
 /// Each worker, each thread of the sessions and the calling thread has a caller of the hub: the pass makes them, and is the
@@ -201,7 +201,7 @@ pub fn serve<
     requires idle { IsIdle hub.now pass }
     requires room { workers + sessions ≤ pass.room }
     requires bound { IsSome (D.bound doors.old) }
-    requires sessions { (1 ≤ sessions) × (sessions ≤ 64) }
+    requires sessions { sessions ≤ 64 }
     requires workers { workers ≤ 64 }
     ensures ended { IfOk result (λ served. HasEnded (D.faults doors.old) (D.faults doors.new)
         (D.left doors.old) (D.left doors.new) served.failed) }

@@ -3,7 +3,7 @@ use Rattle.cq_history.specs.State.{view_of}
 use Rattle.cq_history.proofs.Bounds.{no_view}
 use Rattle.cq_cells.specs.Passes.{by_of}
 use Rattle.cq_shared.specs.SharedPasses.{callers_of, state_of}
-use Rattle.cq_talk_trials.proofs.ending.ended.Goals as goal
+use Rattle.cq_talk_trials.proofs.ending.conversed.Goals as goal
 
 pub session-end-requires-clause-closed : goal.session-end-requires-clause-closed
 session-end-requires-clause-closed g c κs lives =

@@ -1,9 +1,8 @@
-use crate::asking::tell_query_at;
-use crate::draws::Draws;
-use crate::model::{Change, Query, Refusal, file_at};
-use crate::requests::{Kind, Request, drawn_request, tell_bad, write_request};
-use crate::telling::{tell_change, tell_refusal, tell_state};
 use cq_base::Memory;
+use cq_talk_model::{
+    Change, Draws, Kind, Query, Refusal, Request, drawn_request, file_at, tell_bad, tell_change,
+    tell_query_at, tell_refusal, tell_state, write_line,
+};
 use std::alloc::Global;
 
 /// What a caller asks.
@@ -67,7 +66,7 @@ fn planned_requests(alloc: Global, plan: &Plan) -> Result<Vec<Request>, Memory> 
 pub fn planned_lines(alloc: Global, plan: &Plan) -> Result<String, Memory> {
     let mut asked = String::new(alloc);
     for request in planned_requests(alloc, plan)? {
-        write_request(&request, &mut asked)?;
+        write_line(&request, &mut asked)?;
     }
     Ok(asked)
 }
