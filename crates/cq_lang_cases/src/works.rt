@@ -26,7 +26,7 @@ fn works(
     keys: usize,
     functions: usize,
 ) -> Result<bool, Memory> {
-    if text.len() > 100 {
+    if text.len() > 1_048_576 {
         return Ok(false);
     }
     let key = Box::new(alloc, |codes: &[u64]| plain_key(&SETTINGS, codes))?;
@@ -55,6 +55,20 @@ fn texts_are_worked_by_their_language(rt: HostRuntime) -> Result<(), Memory> {
     assert!(rt; works(alloc, Lang::Go, "x/*CPD-OFF*/\ny\n", State::Ok, 2, 1, 0)?);
     assert!(rt; works(alloc, Lang::Any, "x/*CPD-OFF*/y", State::Ok, 9, 8, 0)?);
     assert!(rt; works(alloc, Lang::Java, "int a; /* b", State::Fault(7), 0, 0, 0)?);
+    Ok(())
+}
+
+// One token more than a file may have.
+#[test]
+fn a_text_with_too_many_tokens_is_large(rt: HostRuntime) -> Result<(), Memory> {
+    let alloc = rt.alloc();
+    let mut text = String::new(alloc);
+    for _token in 0..262_144 {
+        text.push(';')?;
+    }
+    assert!(rt; works(alloc, Lang::Any, &text, State::Ok, 262_144, 262_143, 0)?);
+    text.push(';')?;
+    assert!(rt; works(alloc, Lang::Any, &text, State::Large, 0, 0, 0)?);
     Ok(())
 }
 

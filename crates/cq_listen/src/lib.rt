@@ -17,6 +17,3 @@ mod sessions;
 mod workers;
 
 pub use listening::{Served, serve};
-
-#[cfg(test)]
-mod tests;

@@ -94,7 +94,16 @@ impl<'a, R: Wait> Log<'a, R> {
         }
     }
 
-    /// Whether what was written to the connection with this number, from 0, ends with these bytes.
+    /// Whether what was written to the connection with this number, from 0, begins with these bytes.
+    pub fn is_told_at_first(&self, number: usize, bytes: &[u8]) -> bool {
+        let pages = self.pages.lock(self.rt);
+        match pages.get(number) {
+            Some(page) => page.bytes.starts_with(bytes),
+            None => false,
+        }
+    }
+
+    /// Whether it ends with these bytes.
     pub fn is_told_at_last(&self, number: usize, bytes: &[u8]) -> bool {
         let pages = self.pages.lock(self.rt);
         match pages.get(number) {

@@ -34,6 +34,7 @@ impl<'a, R: Wait + Clock> Gate for Scene<'a, R> {
     }
 
     fn after_shard(&self, shard: u32) {
+        self.stage.bring_up(shard);
         if let Hold::Commit(views, until) = self.hold {
             if shard == 0 && self.stage.opened() >= views && self.stage.commit() {
                 self.stage.wait(Who::Committer, until);

@@ -52,11 +52,15 @@ impl<'a, R: Wait + Clock> ClientSource<'a, R> {
                 self.left = self.client.sends.as_bytes();
             }
             1 => {
-                self.stage.wait(Who::Client(self.number), self.client.then_until);
+                self.stage
+                    .wait(Who::Client(self.number), self.client.then_until);
                 self.left = self.client.then_sends.as_bytes();
             }
             round => {
-                if self.stage.is_asked_again(self.number, round, self.client.until_told) {
+                if self
+                    .stage
+                    .is_asked_again(self.number, round, self.client.until_told)
+                {
                     self.left = self.client.then_sends.as_bytes();
                 }
             }

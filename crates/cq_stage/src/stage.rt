@@ -1,3 +1,4 @@
+use crate::client::Client;
 use crate::log::Log;
 use cq_base::Memory;
 use std::alloc::Global;
@@ -62,6 +63,8 @@ struct Notes {
 pub struct Stage<'a, R> {
     pub log: Log<'a, R>,
     opened: AtomicU64,
+    // One more than the greatest number of a shard that was brought up.
+    shards: AtomicU64,
     is_committing: AtomicBool,
     notes: Mutex<Notes>,
     rt: &'a R,
@@ -73,6 +76,7 @@ impl<'a, R: Wait + Clock> Stage<'a, R> {
         Ok(Stage {
             log: Log::new(rt, alloc, clients, ROOM)?,
             opened: AtomicU64::new(0),
+            shards: AtomicU64::new(0),
             is_committing: AtomicBool::new(false),
             notes: Mutex::new(Notes {
                 begun: [false; 9],
@@ -155,15 +159,41 @@ impl<'a, R: Wait + Clock> Stage<'a, R> {
         self.opened.load(Ordering::SeqCst)
     }
 
+    /// A shard was brought up, by its number from 0.
+    pub fn bring_up(&self, shard: u32) {
+        let notes = self.notes.lock(self.rt);
+        let shards = u64::from(shard).saturating_add(1);
+        if self.shards() < shards {
+            self.shards.store(shards, Ordering::SeqCst);
+        }
+        drop(notes);
+    }
+
+    /// How many shards there are, as far as some were brought up.
+    pub fn shards(&self) -> u64 {
+        self.shards.load(Ordering::SeqCst)
+    }
+
     /// A commit has come between two shards. It says whether that is the first time.
     pub fn commit(&self) -> bool {
         !self.is_committing.swap(true, Ordering::SeqCst)
     }
 
-    /// The first client who was not told its replies, or more, from 0.
-    pub fn told_otherwise(&self, replies: &[&str]) -> Option<usize> {
-        for (number, reply) in replies.iter().enumerate() {
-            if !self.log.is_told(number, reply.as_bytes()) {
+    // Whether a client was told its replies and no more; one that asks again, its replies and at last what it waits for.
+    fn is_told(&self, number: usize, client: &Client, replies: &str) -> bool {
+        if client.until_told.is_empty() {
+            return self.log.is_told(number, replies.as_bytes());
+        }
+        self.log.is_told_at_first(number, replies.as_bytes())
+            && self
+                .log
+                .is_told_at_last(number, client.until_told.as_bytes())
+    }
+
+    /// The first client who was told otherwise than it was to be, from 0.
+    pub fn told_otherwise(&self, clients: &[Client], replies: &[&str]) -> Option<usize> {
+        for (number, (client, replies)) in clients.iter().zip(replies.iter()).enumerate() {
+            if !self.is_told(number, client, replies) {
                 return Some(number);
             }
         }

@@ -11,6 +11,11 @@ mod ending;
 mod faults;
 #[cfg(test)]
 mod helping;
+#[cfg(test)]
+mod histories;
+#[cfg(test)]
+mod late;
+#[cfg(test)]
 mod running;
 #[cfg(test)]
 mod talking;
@@ -18,5 +23,3 @@ mod talking;
 mod tests;
 #[cfg(test)]
 mod threads;
-
-pub use running::written;

@@ -7,37 +7,17 @@ use cq_base::{Memory, Settings, Steps};
 use cq_chain::Pass;
 use cq_hub::{Hub, Solo, SoloPass};
 use cq_io::OpenGate;
-use cq_work::{Keyer, plain_key};
 use cq_lines::End;
 use cq_shared::Shared;
-use cq_talk_model::{Draws, Model, drawn_lines};
-use cq_work::Work;
+use cq_talk_model::{Draws, Model, difference, drawn_lines};
+use cq_work::{Keyer, Work, plain_key};
 use std::alloc::Global;
 use std::marker::Brand;
 use std::sync::Wait;
 use std::sync::ledger::{Blank, Ledger};
 use std::thread::Threads;
 
-// The line, from 1, in which what was written first differs from what was to be written.
-fn difference(written: &[u8], wanted: &[u8]) -> Option<u64> {
-    let mut line = 1u64;
-    let mut left = wanted.iter();
-    for byte in written {
-        if left.next() != Some(byte) {
-            return Some(line);
-        }
-        if *byte == b'\n' {
-            line = line.saturating_add(1);
-        }
-    }
-    if left.next().is_some() {
-        Some(line)
-    } else {
-        None
-    }
-}
-
-// The same, and 0 for a talk that did not finish.
+// The line, from 1, in which what was written first differs from what was to be written, and 0 for a talk that did not finish.
 fn parted(end: End, written: &[u8], wanted: &[u8]) -> Option<u64> {
     match end {
         End::Finished => difference(written, wanted),

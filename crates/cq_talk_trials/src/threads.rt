@@ -3,14 +3,14 @@ ghost use Rattle.cq_base.specs.Settings.{IsInRange};
 ghost use Rattle.cq_shared.specs.SharedPasses.{IsPassOf, settings_of};
 
 use crate::ending::ended;
+use crate::histories::{
+    Plan, Talk, first_change, first_fault, first_fault_at_end, history_of, planned_lines,
+};
 use cq_base::{Counters, Memory, Settings};
 use cq_chain::Pass;
 use cq_io::Gate;
 use cq_lines::End;
 use cq_shared::Shared;
-use cq_talk_model::{
-    Plan, Talk, first_change, first_fault, first_fault_at_end, history_of, planned_lines,
-};
 use cq_work::Work;
 use std::alloc::Global;
 use std::marker::Brand;

@@ -1,23 +1,20 @@
-ghost use Rattle.std.specs.Prelude.{◌≡◌, ◌≤◌, IfOk};
+ghost use Rattle.std.specs.Prelude.{◌≡◌, ◌≤◌};
 ghost use Rattle.cq_base.specs.Settings.{IsInRange};
-ghost use Rattle.cq_beside.specs.Replies.{AreBeside};
-ghost use Rattle.cq_lines.specs.Serving.{ServesLines};
-ghost use Rattle.cq_reply.specs.Written.{line_of};
 
-use crate::meeting::{Begun, Meeting};
 use cq_base::{Counters, Memory, Settings, Steps};
 use cq_beside::serve_one;
 use cq_chain::Pass;
-use cq_io::{Gate, MemSink, MemSource, OpenGate, Sink, Source};
-use cq_work::{Keyer, plain_key};
+use cq_io::{Gate, MemSink, MemSource, Sink, Source};
 use cq_lines::{End, Lines};
 use cq_shared::Shared;
-use cq_work::Work;
+use cq_stage::{Hold, Late, Scene, Stage, Until};
+use cq_work::{Keyer, Work, plain_key};
 use std::alloc::Global;
 use std::marker::Brand;
 use std::sync::Wait;
 use std::sync::ledger::{Blank, Ledger};
 use std::thread::Threads;
+use std::time::Clock;
 
 pub const SETTINGS: Settings = Settings {
     chunk: 2,
@@ -44,7 +41,7 @@ const OUTPUT: &str = "{\"change\":1,\"ok\":true}
 {\"accepted\":2,\"done\":2,\"ok\":true,\"published\":2}
 ";
 
-// A session of a new hub, with so many workers beside it: what it writes is what a server with workers may write.
+// How a session of a new hub ends, with so many workers beside it.
 fn served<Q: Threads + Wait + Sync, L: Ledger + Send + Sync, S: Source, K: Sink, G: Gate + Sync>(
     rt: &Q,
     alloc: Global,
@@ -59,9 +56,6 @@ fn served<Q: Threads + Wait + Sync, L: Ledger + Send + Sync, S: Source, K: Sink,
     requires parts { blank.parts ≡ L.parts }
     requires in_range { IsInRange settings.now }
     requires few { workers ≤ 64 }
-    ensures beside { IfOk result
-        (λ end. ServesLines S.Source K.Sink line_of (AreBeside settings.now)
-        settings.now.byte_limit source.old source.new sink.old sink.new end) }
 {
     let of = *settings;
     let key = Box::new(alloc, move |codes: &[u64]| plain_key(&of, codes))?;
@@ -78,58 +72,49 @@ fn served<Q: Threads + Wait + Sync, L: Ledger + Send + Sync, S: Source, K: Sink,
     Ok(end)
 }
 
-// Whether it ends with the input, and writes the output.
-fn serves<Q: Threads + Wait + Sync, G: Gate + Sync>(
+// Whether it ends with the input and writes the output, over a gate that holds these, and who waited in vain.
+fn serves<Q: Threads + Wait + Clock + Sync>(
     rt: &Q,
     alloc: Global,
-    gate: &G,
+    hold: Hold,
     workers: u32,
-) -> Result<bool, Memory>
+) -> Result<(bool, Option<Late>), Memory>
     requires few { workers ≤ 64 }
 {
     let settings = SETTINGS;
     if settings.check().is_some() {
-        return Ok(false);
+        return Ok((false, None));
     }
+    let stage = Stage::new(rt, alloc, 0)?;
+    let gate = Scene {
+        stage: &stage,
+        hold,
+    };
     let bytes = Vec::from_slice(alloc, INPUT.as_bytes())?;
     let mut source = MemSource::new(bytes, 97, Vec::new(alloc));
     let mut sink = MemSink::new(alloc, 65_536, 89, Vec::new(alloc))?;
-    let end = served::<Q, Brand, _, _, G>(
+    let end = served::<Q, Brand, _, _, _>(
         rt,
         alloc,
         &settings,
         &mut source,
         &mut sink,
-        gate,
+        &gate,
         workers,
         Blank::new(1),
     )?;
-    Ok(end == End::Finished && sink.written() == OUTPUT.as_bytes())
+    let is_told = end == End::Finished && sink.written() == OUTPUT.as_bytes();
+    Ok((is_told, stage.late()))
 }
 
-// Each work waits until the other was begun: so two threads make them at once.
+// With two workers each work is held until the other is begun too: so two threads make them at once.
 #[test]
-fn two_works(rt: HostRuntime) -> Result<(), Memory> {
-    let gate = Meeting::new(&rt);
-    assert!(rt; serves(&rt, rt.alloc(), &gate, 2)?);
-    assert_eq!(rt;
-        gate.begun(),
-        Begun {
-            first: true,
-            second: true
-        }
-    );
-    Ok(())
-}
-
-#[test]
-fn with_no_worker(rt: HostRuntime) -> Result<(), Memory> {
-    assert!(rt; serves(&rt, rt.alloc(), &OpenGate, 0)?);
-    Ok(())
-}
-
-#[test]
-fn with_eight_workers(rt: HostRuntime) -> Result<(), Memory> {
-    assert!(rt; serves(&rt, rt.alloc(), &OpenGate, 8)?);
+fn a_session_with_workers_beside_it(rt: HostRuntime) -> Result<(), Memory> {
+    let both = Hold::Works(2, Until::Begun(2));
+    assert_eq!(rt; serves(&rt, rt.alloc(), both, 2)?, (true, None));
+    for workers in [0, 8] {
+        let told = serves(&rt, rt.alloc(), Hold::Nobody, workers)?;
+        assert_eq!(rt; told, (true, None));
+    }
     Ok(())
 }

@@ -9,21 +9,11 @@ mod both;
 #[cfg(test)]
 mod cells;
 #[cfg(test)]
-mod clients;
-#[cfg(test)]
 mod clients_served;
-#[cfg(test)]
-mod gates;
-#[cfg(test)]
-mod held_works;
 #[cfg(test)]
 mod listening;
 #[cfg(test)]
 mod loopback;
-#[cfg(test)]
-mod meeting;
-#[cfg(test)]
-mod stage;
 #[cfg(test)]
 mod telling;
 #[cfg(test)]

@@ -6,9 +6,8 @@ use cq_base::{Change, Lang, Memory, Settings, Text};
 use cq_board::Refused;
 use cq_hub::{Hub, Solo, SoloPass};
 use cq_io::{Gate, OpenGate};
-use cq_work::{Keyer, plain_key};
 use cq_serve::{Bell, RingingGate, Turn, turn};
-use cq_work::Work;
+use cq_work::{Keyer, Work, plain_key};
 use std::alloc::Global;
 use std::marker::Brand;
 
@@ -68,6 +67,28 @@ fn a_turn_makes_the_work_that_is_left(rt: HostRuntime) -> Result<(), Refused> {
     let turns = turns_here(rt.alloc(), &SETTINGS)?;
     assert_eq!(rt; turns, Some((Turn::Worked(1), Turn::Idle, 1, 1)));
     Ok(())
+}
+
+// Whether a first turn that finds no memory gives the change back or takes none, and a second one then makes the work. With
+// memory for all, the first makes it.
+fn is_made(turns: (Turn, Turn, u64, u64)) -> bool {
+    match turns {
+        (Turn::Worked(1), _second, 1, _published) => true,
+        (Turn::GaveBack(1), Turn::Worked(1), 1, _published) => true,
+        (Turn::Memory, Turn::Worked(1), 1, _published) => true,
+        _ => false,
+    }
+}
+
+// To be tried with `rt try --test --fail-alloc N`, by which one allocation fails: some of them are the work's.
+#[test]
+fn a_turn_without_memory_leaves_the_change_to_the_next(rt: HostRuntime) {
+    match turns_here(rt.alloc(), &SETTINGS) {
+        Ok(Some(turns)) => assert!(rt; is_made(turns), "{turns:?}"),
+        Ok(None) => assert!(rt; false),
+        Err(Refused::Memory) => {}
+        Err(_refused) => assert!(rt; false),
+    }
 }
 
 #[test]
