@@ -14,10 +14,9 @@ use crate::working::make_all;
 use cq_base::{Memory, Settings, Steps, Text};
 use cq_board::Board;
 use cq_io::{Failed, Sink, Source, send};
-use cq_work::Keyer;
 use cq_lines::{End, Lines};
 use cq_tokfile::{Encoded, Snapshot, encode};
-use cq_work::Work;
+use cq_work::{Keyer, Work};
 use std::alloc::Global;
 use std::sync::ledger::Ledger;
 

@@ -2,8 +2,8 @@ ghost use Rattle.std.specs.Prelude.{◌≡◌};
 
 use cq_base::{Memory, Settings, Steps};
 use cq_groups::Buckets;
-use cq_work::{Keyer, plain_key};
 use cq_tokfile::{Encoded, Loaded, Snapshot, decode, encode};
+use cq_work::{Keyer, plain_key};
 use std::alloc::Global;
 use std::marker::Brand;
 use std::sync::ledger::{Blank, Ledger};
