@@ -1,0 +1,1 @@
+"""A client of cqd: uploads source files, asks what is duplicated in them, and whether the project passes its gate."""
