@@ -92,7 +92,7 @@ def about(options: argparse.Namespace, root: Path) -> About:
     pairs = tuple((f"--{name.replace('_', '-')}", ", ".join(map(str, value)) if isinstance(value, list) else "" if value is True else str(value))
                   for name, value in named.items())
     when = datetime.datetime.fromtimestamp(int(os.environ.get("SOURCE_DATE_EPOCH", time.time())), datetime.timezone.utc)
-    return About(commit, branch, when.strftime("%Y-%m-%d %H:%M UTC"), servers.version_of(options), pairs)
+    return About(commit, branch, when.strftime("%Y-%m-%dT%H:%M:%SZ"), servers.version_of(options), pairs)
 
 
 def run(options: argparse.Namespace, notes: Notes) -> int:

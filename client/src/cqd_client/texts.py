@@ -6,9 +6,9 @@ import hashlib
 from typing import Optional
 
 from .faults import Misuse
-from .notes import counted
 from .patterns import LONGEST
 from .tree import Source, Tree, name_of
+from .wording import counted
 
 # A line of such a text has at most six times its bytes and a path, which is below the most that a request's line may have.
 LONGEST_TEXT = 1_048_576

@@ -13,8 +13,9 @@ from typing import Any, Optional
 from . import git
 from .faults import Fault, Misuse
 from .findings import Skipped
-from .notes import Notes, counted
+from .notes import Notes
 from .patterns import Patterns
+from .wording import counted
 
 LANGUAGES = {".java": "java", ".go": "go", ".c": "c", ".h": "c"}
 NAMES = ("any", "go", "c", "java")

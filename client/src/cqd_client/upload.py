@@ -8,11 +8,12 @@ from typing import Optional
 
 from .faults import Fault, Restarted
 from .findings import File, Skipped, files_of, member
-from .notes import Notes, counted
+from .notes import Notes
 from .protocol import Reply, Request, Server
 from .state import Known, State
 from .texts import Binary, Unfit, decoded, hash_of, text_of
 from .tree import Choice, Source, Tree, tree_of
+from .wording import counted
 
 # How often all is compared again, if the server lost files meanwhile or another client uploaded them.
 PASSES = 3
