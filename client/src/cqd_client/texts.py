@@ -27,11 +27,13 @@ class Binary(Exception):
 
 def known_encoding(name: str) -> str:
     try:
-        # it has to read bytes, as `rot13` and `base64` do not
-        b"".decode(name)
-        return name
-    except (LookupError, UnicodeError) as error:
+        # of no bytes, every name would do
+        b"a".decode(name)
+    except LookupError as error:
         raise Misuse(f"--encoding {name}: Python knows no such encoding of text") from error
+    except UnicodeError:
+        pass
+    return name
 
 
 def text_of(tree: Tree, source: Source, encoding: Optional[str]) -> str:

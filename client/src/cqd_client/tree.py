@@ -158,7 +158,7 @@ def relative(root: Path, path: Path) -> str:
 def below_root(root: Path, name: bytes) -> str:
     """The path of a file of this name, whether or not there is one."""
     folder, last = os.path.split(name)
-    whole, top = os.path.join(real_folder(folder), last), os.path.join(os.fsencode(root), b"")
+    whole, top = os.path.join(real_folder(os.path.join(os.getcwdb(), folder)), last), os.path.join(os.fsencode(root), b"")
     if not whole.startswith(top):
         raise Misuse(f"{path_of(name)} is not below the root {root}; --root names another")
     return path_of(whole[len(top):])
@@ -166,7 +166,7 @@ def below_root(root: Path, name: bytes) -> str:
 
 @functools.lru_cache(maxsize=1024)
 def real_folder(folder: bytes) -> bytes:
-    return os.path.realpath(folder or b".")
+    return os.path.realpath(folder)
 
 
 def names_of(listing: bytes) -> list[bytes]:

@@ -53,7 +53,7 @@ def upload(server: Server, project: str, tree: Tree, state: Optional[State], not
     """Uploads the files that the server does not have as they are, and drops those that an earlier call uploaded from the same
     folders and that are there no more. With `once`, of files with the same language and text only the first is uploaded."""
     for _ in range(PASSES):
-        done = Upload(tree, encoding)
+        done = Upload(tree, encoding, skipped=list(tree.skipped))
         generation = server.generation
         try:
             one_pass(server, project, done, state, notes, once)
