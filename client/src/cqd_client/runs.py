@@ -76,10 +76,10 @@ class Sources:
         tokens = source.tokens[place.at:place.at + group.tokens]
         if len(tokens) < group.tokens:
             return None
-        start, end = tokens[0].start, tokens[-1].end
+        start, end = tokens[0][0], tokens[-1][1]
         if source.line_at(start) != place.first or source.line_at(max(start, end - 1)) != place.last:
             return None
-        return Run(tuple(source.text[token.start:token.end] for token in tokens), start - source.starts[place.first - 1],
+        return Run(tuple(source.text[first:last] for first, last in tokens), start - source.starts[place.first - 1],
                    end - source.starts[place.last - 1])
 
     def identity(self, group: Group, place: Place) -> str:

@@ -8,14 +8,10 @@ from __future__ import annotations
 
 import bisect
 import re
-from typing import Iterator, NamedTuple
+from typing import Iterator, Tuple
 
-
-class Token(NamedTuple):
-    """A token as a range of characters of its text. An inserted semicolon of Go is empty."""
-    start: int
-    end: int
-
+# A token as a range of characters of its text: where it begins, and where it ends. An inserted semicolon of Go is empty.
+Token = Tuple[int, int]
 
 STRING = r'"(?:\\.|[^"\\\n\r])*"'
 CHARACTER = r"'(?:\\.|[^'\\\n\r])+'"
@@ -57,39 +53,43 @@ GO_KEYWORDS = frozenset("""case chan const default defer else for func go goto i
 def tokens_of(text: str, lang: str) -> list[Token]:
     """The tokens that the server lists, in their order: those between `CPD-OFF` and `CPD-ON` are left out."""
     if text.startswith("\ufeff"):
-        return [Token(start + 1, end + 1) for start, end in tokens_of(text[1:], lang)]
+        return [(start + 1, end + 1) for start, end in tokens_of(text[1:], lang)]
     if lang == "c" and SPLICE.search(text):
         return unspliced(text)
-    found = listed(text, PATTERNS[lang])
-    return list(with_semicolons(text, found)) if lang == "go" else [token for token, _ in found]
+    pattern = PATTERNS[lang]
+    if lang == "go":
+        return list(with_semicolons(text, all_tokens(text, pattern)))
+    if lang != "c" and "CPD-O" not in text:
+        return [match.span() for match in pattern.finditer(text) if match.lastgroup == "token"]
+    return [token for token, is_listed in all_tokens(text, pattern) if is_listed]
 
 
-def listed(text: str, pattern: re.Pattern[str]) -> list[tuple[Token, bool]]:
-    """Each token with whether it is listed; those of the languages without inserted tokens only if they are."""
+def all_tokens(text: str, pattern: re.Pattern[str]) -> list[tuple[Token, bool]]:
+    """Each token with whether it is listed."""
     found = []
     is_listed = True
     for match in pattern.finditer(text):
         kind = match.lastgroup
-        if kind == "comment":
-            if "CPD-O" in match.group():
-                is_listed = MARK.findall(match.group())[-1:] != ["OFF"]
-        elif kind == "token":
-            found.append((Token(*match.span()), is_listed))
+        if kind == "token":
+            found.append((match.span(), is_listed))
+        elif kind == "comment":
+            words = MARK.findall(match.group())
+            is_listed = words[-1] == "ON" if words else is_listed
         else:
-            found.extend((Token(*match.span(part)), is_listed) for part in ("hash", "include", "header"))
-    return found if pattern is GO else [(token, True) for token, is_kept in found if is_kept]
+            found.extend((match.span(part), is_listed) for part in ("hash", "include", "header"))
+    return found
 
 
 def with_semicolons(text: str, found: list[tuple[Token, bool]]) -> Iterator[Token]:
     """The tokens of Go that are listed, with the semicolons that line ends insert."""
-    for position, (token, is_listed) in enumerate(found):
+    for position, ((start, end), is_listed) in enumerate(found):
         if is_listed:
-            yield token
-            spelling = text[token.start:token.end]
-            following = found[position + 1][0].start if position + 1 < len(found) else None
-            is_line_end = following is None or "\n" in text[token.end:following]
+            yield start, end
+            following = found[position + 1][0][0] if position + 1 < len(found) else len(text)
+            is_line_end = following == len(text) or text.find("\n", end, following) >= 0
+            spelling = text[start:end]
             if is_line_end and GO_LAST.match(spelling) and spelling not in GO_KEYWORDS:
-                yield Token(token.end, token.end)
+                yield end, end
 
 
 def unspliced(text: str) -> list[Token]:
@@ -106,5 +106,5 @@ def unspliced(text: str) -> list[Token]:
         passed = (bisect.bisect_left if is_end else bisect.bisect_right)(kept_until, at)
         return at + (removed[passed - 1] if passed else 0)
 
-    found = listed(SPLICE.sub("", text), C)
-    return [Token(place(token.start, False), place(token.end, True)) for token, _ in found]
+    found = all_tokens(SPLICE.sub("", text), C)
+    return [(place(start, False), place(end, True)) for (start, end), is_listed in found if is_listed]
