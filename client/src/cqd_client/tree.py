@@ -35,14 +35,17 @@ class Choice:
     include: Patterns = field(default_factory=lambda: Patterns([]))
     exclude: Patterns = field(default_factory=lambda: Patterns([]))
     maps: Patterns = field(default_factory=lambda: Patterns([]))
+    plain: Patterns = field(default_factory=lambda: Patterns([]))
     languages: dict[str, str] = field(default_factory=dict)
     reads_ignores: bool = True
     own: frozenset[str] = frozenset()
 
     def language(self, path: str) -> Optional[str]:
-        """The language of the first pattern of --map that fits, or the one of the name's ending."""
+        """The language of the first pattern of --map that fits, or the one of the name's ending, or `any` for --any."""
         pattern = self.maps.first(path)
-        return self.languages[pattern] if pattern is not None else LANGUAGES.get(os.path.splitext(path)[1])
+        if pattern is not None:
+            return self.languages[pattern]
+        return LANGUAGES.get(os.path.splitext(path)[1]) or ("any" if self.plain.fit(path) else None)
 
 
 @dataclass
@@ -256,7 +259,8 @@ def is_ignored(path: str, ignores: tuple[tuple[str, Any], ...]) -> bool:
 
 def tell_unused(choice: Choice, notes: Notes) -> None:
     """Says which patterns fit no file: most often they are not what was meant."""
-    for option, patterns in (("--include", choice.include), ("--exclude", choice.exclude), ("--map", choice.maps)):
+    for option, patterns in (("--include", choice.include), ("--exclude", choice.exclude), ("--map", choice.maps),
+                             ("--any", choice.plain)):
         for pattern in patterns.unused():
             hint = "" if pattern.endswith(("/", "/**")) else f"; all files below a folder are '{pattern}/'"
             notes.say(f"{option} {pattern!r} fits no file{hint}")
