@@ -16,31 +16,35 @@ Token = Tuple[int, int]
 STRING = r'"(?:\\.|[^"\\\n\r])*"'
 CHARACTER = r"'(?:\\.|[^'\\\n\r])+'"
 COMMENT = r"(?P<comment>//[^\n{line_end}]*|/\*.*?\*/)"
+# the numbers of the groups `comment` and `token` in each pattern
+COMMENTS, TOKENS = 1, 2
 
-JAVA = re.compile(COMMENT.format(line_end=r"\r") + r"""|(?P<token>
-    \"\"\"[ \t\f]*[\r\n](?:\\.|[^\\])*?\"\"\"|""" + STRING + "|" + CHARACTER + r"""
+JAVA = re.compile(r"\s*(?:" + COMMENT.format(line_end=r"\r") + r"""|(?P<token>
+    [^\W\d$][\w$]*|[(){}\[\];,@~?]|\$[\w$]*
+    |\"\"\"[ \t\f]*[\r\n](?:\\.|[^\\])*?\"\"\"|""" + STRING + "|" + CHARACTER + r"""
     |0[xX](?:[0-9a-fA-F_]+\.?[0-9a-fA-F_]*|\.[0-9a-fA-F_]+)(?:[pP][+-]?[0-9_]+)?[lLfFdD]?|0[bB][01_]+[lL]?
     |\.[0-9][0-9_]*(?:[eE][+-]?[0-9][0-9_]*)?[fFdD]?
     |[0-9][0-9_]*(?:\.(?:[0-9][0-9_]*)?)?(?:[eE][+-]?[0-9][0-9_]*)?[lLfFdD]?
-    |[^\W\d$][\w$]*|\$[\w$]*
-    |>>>=|>>=|<<=|->|::|\.\.\.|\+\+|--|&&|\|\||[=!<>+\-*/&|^%]=|<<|[^\s\x1a])""", re.DOTALL | re.VERBOSE)
+    |>>>=|>>=|<<=|->|::|\.\.\.|\+\+|--|&&|\|\||[=!<>+\-*/&|^%]=|<<|[^\s\x1a]))""", re.DOTALL | re.VERBOSE)
 
-GO = re.compile(COMMENT.format(line_end="") + r"""|(?P<token>
-    `[^`]*`|"(?:\\.|[^"\\\n])*"|'(?:\\.|[^'\\\n])+'
+GO = re.compile(r"\s*(?:" + COMMENT.format(line_end="") + r"""|(?P<token>
+    [^\W\d]\w*|[(){}\[\];,~]|`[^`]*`|"(?:\\.|[^"\\\n])*"|'(?:\\.|[^'\\\n])+'
     |0[xX](?:_?[0-9a-fA-F])+(?:\.(?:[0-9a-fA-F](?:_?[0-9a-fA-F])*)?)?(?:[pP][+-]?[0-9](?:_?[0-9])*)?i?
     |0[bB](?:_?[01])+i?|0[oO](?:_?[0-7])+i?
     |\.[0-9](?:_?[0-9])*(?:[eE][+-]?[0-9](?:_?[0-9])*)?i?
     |[0-9](?:_?[0-9])*(?:\.(?:[0-9](?:_?[0-9])*)?)?(?:[eE][+-]?[0-9](?:_?[0-9])*)?i?
-    |[^\W\d]\w*
-    |<<=|>>=|&\^=|\.\.\.|&&|\|\||<-|\+\+|--|[=!<>:+\-*/%&|^]=|<<|>>|&\^|[^\s])""", re.DOTALL | re.VERBOSE)
+    |<<=|>>=|&\^=|\.\.\.|&&|\|\||<-|\+\+|--|[=!<>:+\-*/%&|^]=|<<|>>|&\^|[^\s]))""", re.DOTALL | re.VERBOSE)
 
-C = re.compile(COMMENT.format(line_end="") + r"""
-    |(?<![^\n])[ \t\v\f\r]*(?P<hash>\#|%:)[ \t\v\f\r]*(?P<include>include)[ \t\v\f\r]*(?P<header><[^>\n]+>|"[^"\n]+")
-    |(?P<token>(?:u8|[uUL])?""" + STRING + "|[uUL]?" + CHARACTER + r"""
-    |\.?[0-9](?:[eEpP][+-]|[\w.$])*|(?:[^\W\d]|\$|\\u[0-9a-fA-F]{4}|\\U[0-9a-fA-F]{8})(?:[\w$]|\\u[0-9a-fA-F]{4}|\\U[0-9a-fA-F]{8})*
-    |%:%:|\.\.\.|<<=|>>=|->|\+\+|--|<<|>>|[<>=!*/%+\-&^|]=|&&|\|\||\#\#|<:|:>|<%|%>|%:|[^\s])""", re.DOTALL | re.VERBOSE)
+# A header name is read only where the line begins with `#include`, so blanks are not part of a match here.
+C = re.compile(COMMENT.format(line_end="") + r"""|(?P<token>(?!(?<![^\n])(?:\#|%:))(?:
+    (?:u8|[uUL])?""" + STRING + "|[uUL]?" + CHARACTER + r"""
+    |(?:[^\W\d]|\$|\\u[0-9a-fA-F]{4}|\\U[0-9a-fA-F]{8})(?:[\w$]|\\u[0-9a-fA-F]{4}|\\U[0-9a-fA-F]{8})*
+    |\.?[0-9](?:[eEpP][+-]|[\w.$])*
+    |%:%:|\.\.\.|<<=|>>=|->|\+\+|--|<<|>>|[<>=!*/%+\-&^|]=|&&|\|\||\#\#|<:|:>|<%|%>|%:|[^\s]))
+    |(?<![^\n])[ \t\v\f\r]*(?P<hash>\#\#|\#|%:%:|%:)(?:[ \t\v\f\r]*(?P<include>include)[ \t\v\f\r]*(?P<header><[^>\n]+>|"[^"\n]+"))?
+    """, re.DOTALL | re.VERBOSE)
 
-ANY = re.compile(r"(?P<comment>(?!))|(?P<token>\w+|[^\w\s])")
+ANY = re.compile(r"\s*(?:(?P<comment>(?!))|(?P<token>\w+|[^\w\s]))")
 
 PATTERNS = {"java": JAVA, "go": GO, "c": C, "any": ANY}
 MARK = re.compile("CPD-(OFF|ON)")
@@ -60,7 +64,7 @@ def tokens_of(text: str, lang: str) -> list[Token]:
     if lang == "go":
         return list(with_semicolons(text, all_tokens(text, pattern)))
     if lang != "c" and "CPD-O" not in text:
-        return [match.span() for match in pattern.finditer(text) if match.lastgroup == "token"]
+        return [match.span(TOKENS) for match in pattern.finditer(text) if match.lastindex == TOKENS]
     return [token for token, is_listed in all_tokens(text, pattern) if is_listed]
 
 
@@ -69,14 +73,13 @@ def all_tokens(text: str, pattern: re.Pattern[str]) -> list[tuple[Token, bool]]:
     found = []
     is_listed = True
     for match in pattern.finditer(text):
-        kind = match.lastgroup
-        if kind == "token":
-            found.append((match.span(), is_listed))
-        elif kind == "comment":
+        if match.lastindex == TOKENS:
+            found.append((match.span(TOKENS), is_listed))
+        elif match.lastindex == COMMENTS:
             words = MARK.findall(match.group())
             is_listed = words[-1] == "ON" if words else is_listed
         else:
-            found.extend((match.span(part), is_listed) for part in ("hash", "include", "header"))
+            found.extend((match.span(part), is_listed) for part in ("hash", "include", "header") if match.group(part))
     return found
 
 

@@ -10,16 +10,15 @@ from typing import Any, Iterator, TextIO
 import jinja2
 from markupsafe import Markup
 
-from ..findings import DENSITY, Condition, Function, Group, Place, Report
-from ..wording import counted, extent, label, percent, requirement, shown, value_text
+from ..findings import DENSITY, Condition, Function, Report
+from ..wording import counted, label, percent, requirement, shown, value_text
 from .listing import Listing, duplicated_lines
 from .treemap import Cell, Rectangle, cells_of
 
-# How many rows of files and functions are shown, and how many places a group's heading and its list name.
+# How many rows of files and functions are shown, and how many places of a group if scripts may not run.
 MOST_FILES = 12
 MOST_FUNCTIONS = 12
-MOST_HEADING_PLACES = 3
-MOST_LISTED_PLACES = 100
+MOST_LISTED_PLACES = 10
 
 METRICS_SHOWN = ("duplicated_lines", "duplicated_blocks", "duplicated_files", "files", "lines", "ncloc", "complexity")
 
@@ -142,18 +141,9 @@ def write(report: Report, out: TextIO) -> None:
         "density": percent(getattr(report.measures, DENSITY)) if report.measures else "",
         "density_bar": min(100, round(getattr(report.measures, DENSITY) / 100)) if report.measures else 0,
         "omissions": list(omissions(report)), "date": date_text(report.about.date),
-        "most_heading": MOST_HEADING_PLACES, "most_listed": MOST_LISTED_PLACES,
+        "most_listed": MOST_LISTED_PLACES,
     }
     ENVIRONMENT.get_template("page.html").stream(context).dump(out)
 
 
-def tokens_text(group: Group) -> str:
-    return f"{group.tokens:,}"
-
-
-def place_parts(place: Place) -> tuple[str, str, str]:
-    """The folder, the name and the lines of a place."""
-    return (*split(place.path), extent(place).replace("-", "\u2013"))
-
-
-ENVIRONMENT.filters.update(shown=shown, counted=counted, percent=percent, tokens_text=tokens_text, place_parts=place_parts)
+ENVIRONMENT.filters.update(shown=shown, counted=counted, percent=percent)

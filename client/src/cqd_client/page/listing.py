@@ -6,7 +6,7 @@ from __future__ import annotations
 
 import bisect
 import collections
-from typing import Any, Iterable
+from typing import Any, Iterable, Iterator
 
 from ..findings import Group, Place, Report
 from ..runs import Source, Sources
@@ -53,39 +53,39 @@ def digit(value: int) -> str:
     return chr(0x3D + value) if value < 31 else chr(0xA1 - 31 + value)
 
 
+DIGITS = tuple(digit(value) for value in range(LONGEST_MARKED + 2))
+
+
 def units(line: str, column: int) -> int:
     """The column as JavaScript counts it, in UTF-16 code units."""
     return column if line.isascii() else len(line[:column].encode("utf-16-le", "surrogatepass")) // 2
 
 
-class Marker:
-    """Writes where the tokens of a source's lines are."""
+def marks_of(source: Source, first: int, lines: list[str]) -> Iterator[str]:
+    """Of each line, from line `first` on, its tokens: of each the distance from the one before, and its length.
 
-    def __init__(self, source: Source) -> None:
-        self.source = source
-        self.tokens = source.tokens or ()
-        self.starts = [start for start, _ in self.tokens]
-
-    def marks(self, number: int, line: str) -> str:
-        """The tokens of a line, each as the distance from the one before and its length.
-
-        A token that began on an earlier line is `!` and its length here; a token that goes on ends with the line.
-        """
-        begin = self.source.starts[number - 1]
+    A token that began on an earlier line is `!` and its length here; a token that goes on ends with the line.
+    """
+    tokens = source.tokens or ()
+    position = bisect.bisect_left(tokens, (source.starts[first - 1], 0)) if lines else 0
+    for line, begin in zip(lines, source.starts[first - 1:]):
         end = begin + len(line)
-        if len(line) > LONGEST_MARKED:
-            return ""
-        first = bisect.bisect_left(self.starts, begin)
         found = []
-        at = 0
-        if first > 0 and self.tokens[first - 1][1] > begin:
-            at = units(line, min(self.tokens[first - 1][1], end) - begin)
-            found.append(CONTINUED + digit(at))
-        for start, stop in self.tokens[first:bisect.bisect_left(self.starts, end + 1)]:
-            column, last = units(line, start - begin), units(line, min(stop, end) - begin)
-            found.append(digit(column - at) + digit(last - column))
-            at = last
-        return "".join(found)
+        at = begin
+        if position and tokens[position - 1][1] > begin:
+            at = min(tokens[position - 1][1], end)
+            found.append(CONTINUED + DIGITS[min(units(line, at - begin), LONGEST_MARKED)])
+        while position < len(tokens) and tokens[position][0] <= end:
+            start, stop = tokens[position]
+            stop = min(stop, end)
+            if line.isascii():
+                found.append(DIGITS[min(start - at, LONGEST_MARKED)] + DIGITS[min(stop - start, LONGEST_MARKED)])
+            else:
+                found.append(digit(units(line, start - begin) - units(line, at - begin))
+                             + digit(units(line, stop - begin) - units(line, start - begin)))
+            at = stop
+            position += 1
+        yield "".join(found) if len(line) <= LONGEST_MARKED else ""
 
 
 # ----------------------------------------------------------------------------------------------------- data
@@ -99,7 +99,6 @@ class Listing:
         self.groups = largest_first(report.groups)
         self.paths = sorted({place.path for group in self.groups for place in group.places})
         self.number = {path: number for number, path in enumerate(self.paths)}
-        self.markers: dict[str, Marker] = {}
 
     def columns(self, group: Group, place: Place) -> tuple[int, int]:
         """Where the run begins in its first line and ends in its last, or -1 twice if that is not known."""
@@ -144,10 +143,7 @@ class Listing:
     def extent(self, path: str, first: int, last: int) -> tuple[int, str, str]:
         source = self.sources.source(path)
         lines = source.lines(first, last) if source else []
-        marks = ""
-        if source and source.tokens is not None:
-            marker = self.markers.get(path) or self.markers.setdefault(path, Marker(source))
-            marks = "\n".join(marker.marks(number, line) for number, line in enumerate(lines, first))
+        marks = "\n".join(marks_of(source, first, lines)) if source and source.tokens is not None else ""
         return first, "\n".join(cut(line) for line in lines), marks
 
 

@@ -14,6 +14,9 @@ LEAST_DIVIDED = 0.04
 WIDE = (1200.0, 380.0)
 NARROW = (328.0, 460.0)
 
+# A name is shown in a cell of at least this many pixels, and the share below it in one of twice the height.
+LEAST_WIDTH, LEAST_HEIGHT = 52.0, 24.0
+
 # The shares, in hundredths of a percent, from which the tints 1 to 5 apply.
 TINTS = (1, 300, 1_000, 2_000, 4_000)
 
@@ -53,6 +56,16 @@ class Cell:
     tint: int
     wide: Rectangle
     narrow: Rectangle
+
+    @property
+    def room(self) -> str:
+        """The classes of a cell that has no room for its name (0), or only for that (1), in either layout."""
+        return f" wide-{room(self.wide, WIDE)} narrow-{room(self.narrow, NARROW)}"
+
+
+def room(rectangle: Rectangle, layout: tuple[float, float]) -> int:
+    width, height = rectangle.width * layout[0] / 100, rectangle.height * layout[1] / 100
+    return 0 if width < LEAST_WIDTH or height < LEAST_HEIGHT else 1 if height < 2 * LEAST_HEIGHT else 2
 
 
 def folders_of(files: Iterable[File], duplicated: Mapping[str, int]) -> Folder:
