@@ -2,6 +2,7 @@
 from __future__ import annotations
 
 import argparse
+import dataclasses
 from collections.abc import Iterable, Iterator
 from dataclasses import dataclass, field
 from typing import Any, Optional
@@ -46,8 +47,9 @@ class Call:
 
     def report(self, **replies: Any) -> Report:
         done = self.done
-        return report_of(self.project, about=self.about, skipped=done.skipped if done else (),
-                         text_of=done.text_of if done else no_text, **replies)
+        report = report_of(self.project, about=self.about, skipped=done.skipped if done else (),
+                           text_of=done.text_of if done else no_text, **replies)
+        return dataclasses.replace(report, files=self.files)
 
     def each(self, server: Server, operation: str, paths: Iterable[str]) -> Iterator[tuple[str, dict[str, Any]]]:
         """What the server answers about each of these paths."""

@@ -41,8 +41,7 @@ def checked(server: Server, call: Call) -> Report:
            "conditions": [dataclasses.asdict(condition) for condition in conditions],
            "changed": {"files": len(lines), "lines": measures.lines}, "ok": True}
     report = call.report(functions=failed, conditions=conditions, raw=json.dumps(raw, ensure_ascii=False).encode() + b"\n")
-    return dataclasses.replace(report, groups=tuple(groups), total=len(groups), verdict=word, conditions=tuple(conditions),
-                               files=call.files)
+    return dataclasses.replace(report, groups=tuple(groups), total=len(groups), verdict=word, conditions=tuple(conditions))
 
 
 def bounded(lines: Lines, last: int) -> Lines:

@@ -46,10 +46,8 @@ def choice_of(options: argparse.Namespace, own: Sequence[Path]) -> Choice:
         if not pattern or lang not in NAMES:
             raise Misuse(f"--map {word!r} is not PATTERN=LANG, with LANG one of {', '.join(NAMES)}")
         languages.setdefault(pattern, lang)
-    for pattern in options.any or []:
-        languages.setdefault(pattern, "any")
-    return Choice(Patterns(options.include or []), Patterns(options.exclude or []), Patterns(languages), languages,
-                  not options.no_ignore, frozenset(str(file.resolve()) for file in own))
+    return Choice(Patterns(options.include or []), Patterns(options.exclude or []), Patterns(languages), Patterns(options.any or []),
+                  languages, not options.no_ignore, frozenset(str(file.resolve()) for file in own))
 
 
 def tree_asked(options: argparse.Namespace, root: Path, own: Sequence[Path], notes: Notes) -> Optional[Tree]:
@@ -92,7 +90,7 @@ def about(options: argparse.Namespace, root: Path) -> About:
     pairs = tuple((f"--{name.replace('_', '-')}", ", ".join(map(str, value)) if isinstance(value, list) else "" if value is True else str(value))
                   for name, value in named.items())
     when = datetime.datetime.fromtimestamp(int(os.environ.get("SOURCE_DATE_EPOCH", time.time())), datetime.timezone.utc)
-    return About(commit, branch, when.strftime("%Y-%m-%d %H:%M UTC"), servers.version_of(options), pairs)
+    return About(commit, branch, when.strftime("%Y-%m-%dT%H:%M:%SZ"), servers.version_of(options), pairs)
 
 
 def run(options: argparse.Namespace, notes: Notes) -> int:

@@ -150,7 +150,7 @@ class Report:
 
 def member(value: Any, name: str, kind: type) -> Any:
     """A member of a reply, which has to be of this type."""
-    found = value.get(name) if isinstance(value, Mapping) else None
+    found = value.get(name) if isinstance(value, dict) else None
     if not isinstance(found, kind) or (kind is int and isinstance(found, bool)):
         raise Malformed(f"the server's reply has no member {name} of the documented type")
     return found

@@ -61,19 +61,6 @@ def known_gate(conditions: Sequence[Condition], state: Optional[State], project:
     return known
 
 
-def value_text(metric: str, value: int) -> str:
-    return f"{value // 100}.{value % 100:02}%" if metric == DENSITY else f"{value:,}"
-
-
-def in_words(condition: Condition) -> str:
-    """A condition that failed, with its value if it is known."""
-    if not condition.op:
-        return condition.metric
-    value = f"{value_text(condition.metric, condition.value)}, " if condition.value is not None else ""
-    bound = "more" if condition.op == "GT" else "less"
-    return f"{condition.metric} is {value}{bound} than {value_text(condition.metric, condition.bound)}"
-
-
 def failed_by(condition: Condition, value: int) -> bool:
     return value > condition.bound if condition.op == "GT" else value < condition.bound
 

@@ -5,32 +5,13 @@ import contextlib
 import sys
 import threading
 import time
-import unicodedata
 from collections.abc import Iterator, Sequence
+
+from .wording import counted, shown
 
 # How many files of one kind are named before the rest is only counted.
 MOST_NAMED = 20
 REDRAW_SECONDS = 0.1
-
-
-def shown(text: str) -> str:
-    """The text with every character escaped that has no shape of its own or turns its neighbours around."""
-    if text.replace("\t", " ").isprintable():
-        return text
-    return "".join(character.encode("unicode_escape").decode("ascii") if is_hidden(character) else character
-                   for character in text)
-
-
-def is_hidden(character: str) -> bool:
-    return character != "\t" and unicodedata.category(character) in ("Cc", "Cf", "Cs", "Zl", "Zp")
-
-
-def counted(count: int, noun: str) -> str:
-    return f"{count:,} {noun}" if count == 1 else f"{count:,} {noun}s"
-
-
-def megabytes(size: int) -> str:
-    return f"{size / 1_000_000:,.1f} MB"
 
 
 class Notes:

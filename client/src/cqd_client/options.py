@@ -136,7 +136,7 @@ def add_files(one: argparse.ArgumentParser) -> None:
     group.add_argument("--exclude", metavar="PATTERN", type=text, action="append", help="no files that fit; repeatable")
     group.add_argument("--map", metavar="PATTERN=LANG", type=text, action="append",
                        help="read files that fit as any, go, c or java, as '*.kt=java'; repeatable")
-    group.add_argument("--any", metavar="PATTERN", type=text, action="append", help="the same as --map PATTERN=any; repeatable")
+    group.add_argument("--any", metavar="PATTERN", type=text, action="append", help="also upload files that fit, as plain text, if their ending has no language; repeatable")
     group.add_argument("--encoding", metavar="NAME", help="the encoding of files that are not UTF-8, as latin-1")
     group.add_argument("--skip-duplicate-files", action="store_true", help="upload only the first of identical files")
     group.add_argument("--no-ignore", action="store_true", help="read all files of the folders, also those that git ignores")

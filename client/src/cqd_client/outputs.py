@@ -3,6 +3,7 @@ from __future__ import annotations
 
 import argparse
 import contextlib
+import dataclasses
 import io
 import os
 import sys
@@ -14,8 +15,7 @@ from typing import TextIO, cast
 from . import formats, page
 from .faults import FAILED, PASSED, UNKNOWN, Fault
 from .findings import Measures, Report, arranged
-from .gate import in_words, value_text
-from .notes import counted, shown
+from .wording import shown, value_text
 
 WORDS = {PASSED: "OK", FAILED: "ERROR", UNKNOWN: "UNKNOWN"}
 
@@ -49,7 +49,7 @@ def write(report: Report, options: argparse.Namespace) -> None:
         write_one(ordered, names[-1], options.command, whole)
         sys.stdout.write(whole.getvalue())
     elif report.verdict:
-        print("\n".join(verdict_lines(report)))
+        formats.write(dataclasses.replace(report, groups=(), total=0, functions=()), "text", sys.stdout)
 
 
 @contextlib.contextmanager
@@ -83,27 +83,16 @@ def umask() -> int:
 
 
 def write_one(report: Report, name: str, command: str, out: TextIO) -> None:
-    if name != "text":
-        formats.write(report, name, out)
-        return
-    if command in ("groups", "check"):
-        formats.write(report, name, out)
-        if not report.groups and not report.verdict:
-            out.write("no duplicates\n")
-        if len(report.groups) < report.total:
-            out.write(f"and {counted(report.total - len(report.groups), 'more duplicate')}\n")
-    if command == "measures" and report.measures:
+    if name == "text" and command == "measures" and report.measures:
         out.writelines(measure_lines(report.measures))
-    if command == "report":
+    elif name == "text" and command == "report":
+        # the duplicates are on the page
         out.writelines(function_lines(report))
-    if report.verdict:
-        out.write("\n".join(verdict_lines(report)) + "\n")
-
-
-def verdict_lines(report: Report) -> Iterator[str]:
-    yield report.verdict if report.verdict != WORDS[UNKNOWN] else f"UNKNOWN: {counted(len(report.skipped), 'file')} left out"
-    for condition in report.failed:
-        yield "  " + in_words(condition)
+        formats.write(dataclasses.replace(report, groups=(), total=0), name, out)
+    else:
+        formats.write(report, name, out)
+        if name == "text" and not report.groups and not report.verdict:
+            out.write("no duplicates\n")
 
 
 def measure_lines(measures: Measures) -> Iterator[str]:

@@ -43,8 +43,10 @@ def compiled(pattern: str) -> re.Pattern[str]:
             return "(?:[^/]+/)*"
         symbols = {"*": "[^/]*", "?": "[^/]"}
         return "".join(symbols.get(character) or re.escape(character) for character in re.sub(r"\*+", "*", part)) + "/"
-    parts = re.sub(r"(\*\*/)+", "**/", pattern + "/")[:-1]
-    return re.compile("".join(map(part_form, parts.split("/"))), re.DOTALL)
+    parts = pattern.split("/")
+    # any number of parts, and again any number, is any number once
+    once = [part for part, before in zip(parts, ["", *parts]) if not part == before == "**"]
+    return re.compile("".join(map(part_form, once)), re.DOTALL)
 
 
 class Patterns:

@@ -34,8 +34,9 @@ class Source:
 
 @dataclass(frozen=True)
 class Run:
-    """The tokens of one place of a group, with where they begin and end: lines from 1, columns from 0, in characters."""
-    spellings: tuple[str, ...]
+    """Where the tokens of one place begin and end: offsets in the text, and columns of its first and last line, from 0."""
+    start: int
+    end: int
     first_column: int
     end_column: int
 
@@ -71,30 +72,26 @@ class Sources:
     def run(self, group: Group, place: Place) -> Optional[Run]:
         """The run at this place, or None unless its tokens are known to lie on the lines that the server reported."""
         source = self.source(place.path)
-        if source is None or source.tokens is None:
+        if source is None or source.tokens is None or place.at + group.tokens > len(source.tokens):
             return None
-        tokens = source.tokens[place.at:place.at + group.tokens]
-        if len(tokens) < group.tokens:
-            return None
-        start, end = tokens[0].start, tokens[-1].end
+        start, end = source.tokens[place.at][0], source.tokens[place.at + group.tokens - 1][1]
         if source.line_at(start) != place.first or source.line_at(max(start, end - 1)) != place.last:
             return None
-        return Run(tuple(source.text[token.start:token.end] for token in tokens), start - source.starts[place.first - 1],
-                   end - source.starts[place.last - 1])
+        return Run(start, end, start - source.starts[place.first - 1], end - source.starts[place.last - 1])
 
     def identity(self, group: Group, place: Place) -> str:
         """A hash of the run's tokens, which stays when the run moves or is laid out otherwise.
 
         Without the tokens it is of the lines' words; without the text, of the path and the number of tokens.
         """
-        run = self.run(group, place)
         source = self.source(place.path)
-        if run:
-            content = " ".join(run.spellings)
-        elif source:
-            content = " ".join(" ".join(source.lines(place.first, place.last)).split())
-        else:
+        if source is None:
             content = f"{place.path} {group.tokens}"
+        elif source.tokens is not None and self.run(group, place):
+            tokens = source.tokens[place.at:place.at + group.tokens]
+            content = " ".join([source.text[start:end] for start, end in tokens])
+        else:
+            content = " ".join(" ".join(source.lines(place.first, place.last)).split())
         return hashlib.sha256(content.encode("utf-8", "surrogatepass")).hexdigest()
 
     def identified(self) -> Iterator[tuple[Group, Place, str]]:

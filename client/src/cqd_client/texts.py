@@ -6,9 +6,9 @@ import hashlib
 from typing import Optional
 
 from .faults import Misuse
-from .notes import counted
 from .patterns import LONGEST
 from .tree import Source, Tree, name_of
+from .wording import counted
 
 # A line of such a text has at most six times its bytes and a path, which is below the most that a request's line may have.
 LONGEST_TEXT = 1_048_576
@@ -27,11 +27,13 @@ class Binary(Exception):
 
 def known_encoding(name: str) -> str:
     try:
-        # it has to read bytes, as `rot13` and `base64` do not
-        b"".decode(name)
-        return name
-    except (LookupError, UnicodeError) as error:
+        # of no bytes, every name would do
+        b"a".decode(name)
+    except LookupError as error:
         raise Misuse(f"--encoding {name}: Python knows no such encoding of text") from error
+    except UnicodeError:
+        pass
+    return name
 
 
 def text_of(tree: Tree, source: Source, encoding: Optional[str]) -> str:

@@ -13,8 +13,9 @@ from typing import Any, Optional
 from . import git
 from .faults import Fault, Misuse
 from .findings import Skipped
-from .notes import Notes, counted
+from .notes import Notes
 from .patterns import Patterns
+from .wording import counted
 
 LANGUAGES = {".java": "java", ".go": "go", ".c": "c", ".h": "c"}
 NAMES = ("any", "go", "c", "java")
@@ -34,14 +35,17 @@ class Choice:
     include: Patterns = field(default_factory=lambda: Patterns([]))
     exclude: Patterns = field(default_factory=lambda: Patterns([]))
     maps: Patterns = field(default_factory=lambda: Patterns([]))
+    plain: Patterns = field(default_factory=lambda: Patterns([]))
     languages: dict[str, str] = field(default_factory=dict)
     reads_ignores: bool = True
     own: frozenset[str] = frozenset()
 
     def language(self, path: str) -> Optional[str]:
-        """The language of the first pattern of --map that fits, or the one of the name's ending."""
+        """The language of the first pattern of --map that fits, or the one of the name's ending, or `any` for --any."""
         pattern = self.maps.first(path)
-        return self.languages[pattern] if pattern is not None else LANGUAGES.get(os.path.splitext(path)[1])
+        if pattern is not None:
+            return self.languages[pattern]
+        return LANGUAGES.get(os.path.splitext(path)[1]) or ("any" if self.plain.fit(path) else None)
 
 
 @dataclass
@@ -157,7 +161,7 @@ def relative(root: Path, path: Path) -> str:
 def below_root(root: Path, name: bytes) -> str:
     """The path of a file of this name, whether or not there is one."""
     folder, last = os.path.split(name)
-    whole, top = os.path.join(real_folder(folder), last), os.path.join(os.fsencode(root), b"")
+    whole, top = os.path.join(real_folder(os.path.join(os.getcwdb(), folder)), last), os.path.join(os.fsencode(root), b"")
     if not whole.startswith(top):
         raise Misuse(f"{path_of(name)} is not below the root {root}; --root names another")
     return path_of(whole[len(top):])
@@ -165,7 +169,7 @@ def below_root(root: Path, name: bytes) -> str:
 
 @functools.lru_cache(maxsize=1024)
 def real_folder(folder: bytes) -> bytes:
-    return os.path.realpath(folder or b".")
+    return os.path.realpath(folder)
 
 
 def names_of(listing: bytes) -> list[bytes]:
@@ -255,7 +259,8 @@ def is_ignored(path: str, ignores: tuple[tuple[str, Any], ...]) -> bool:
 
 def tell_unused(choice: Choice, notes: Notes) -> None:
     """Says which patterns fit no file: most often they are not what was meant."""
-    for option, patterns in (("--include", choice.include), ("--exclude", choice.exclude), ("--map", choice.maps)):
+    for option, patterns in (("--include", choice.include), ("--exclude", choice.exclude), ("--map", choice.maps),
+                             ("--any", choice.plain)):
         for pattern in patterns.unused():
             hint = "" if pattern.endswith(("/", "/**")) else f"; all files below a folder are '{pattern}/'"
             notes.say(f"{option} {pattern!r} fits no file{hint}")

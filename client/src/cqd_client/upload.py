@@ -8,11 +8,12 @@ from typing import Optional
 
 from .faults import Fault, Restarted
 from .findings import File, Skipped, files_of, member
-from .notes import Notes, counted
+from .notes import Notes
 from .protocol import Reply, Request, Server
 from .state import Known, State
-from .texts import Binary, Unfit, decoded, hash_of, text_of
-from .tree import Choice, Source, Tree, tree_of
+from .texts import Binary, Unfit, hash_of, text_of
+from .tree import Choice, Tree, tree_of
+from .wording import counted
 
 # How often all is compared again, if the server lost files meanwhile or another client uploaded them.
 PASSES = 3
@@ -52,7 +53,7 @@ def upload(server: Server, project: str, tree: Tree, state: Optional[State], not
     """Uploads the files that the server does not have as they are, and drops those that an earlier call uploaded from the same
     folders and that are there no more. With `once`, of files with the same language and text only the first is uploaded."""
     for _ in range(PASSES):
-        done = Upload(tree, encoding)
+        done = Upload(tree, encoding, skipped=list(tree.skipped))
         generation = server.generation
         try:
             one_pass(server, project, done, state, notes, once)
@@ -168,11 +169,9 @@ def faults_of(done: Upload) -> Iterator[str]:
             yield f"{file.path}: it has more than 262,144 tokens, so no duplicate is found in it"
 
 
-def folder_puts(folder: Path, project: str, notes: Optional[Notes] = None) -> Iterator[Request]:
-    """The requests that upload a folder as the command does without options. What no request can hold is left out."""
-    notes = notes or Notes()
-    root = folder.resolve()
-    yield from puts(project, Upload(tree_of(root, [root], None, Choice(), notes)), {}, notes, False)
-
-
-__all__ = ["Source", "Upload", "decoded", "folder_puts", "tell", "upload"]
+def folder_puts(folder: Path, project: str, choice: Optional[Choice] = None) -> Iterator[Request]:
+    """The requests that upload a folder. What no request can hold is said and left out."""
+    notes, root = Notes(), folder.resolve()
+    done = Upload(tree_of(root, [root], None, choice or Choice(), notes))
+    yield from puts(project, done, {}, notes, False)
+    tell(done, notes)
