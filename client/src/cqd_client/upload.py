@@ -86,8 +86,8 @@ def one_pass(server: Server, project: str, done: Upload, state: Optional[State],
             done.put.add(path)
             done.known[path] = entry[path] = Known(hash_of(request["lang"], request["text"]), member(reply.members, "change", int))
         elif reply.error in ("full-text", "full-changes"):
-            raise Fault(f"{reply.refusal()}: {counted(len(done.known), 'file')} of {len(done.tree.sources):,} are uploaded. Choose fewer by "
-                        "--exclude, or use a further server")
+            raise Fault(f"{reply.refusal()}: {len(done.known):,} of {len(done.tree.sources):,} files are uploaded. Choose fewer by --exclude, "
+                        "or use a further server")
         else:
             done.skipped.append(Skipped(path, reply.refusal()))
     if not done.known:
