@@ -5,6 +5,7 @@ import argparse
 import contextlib
 import dataclasses
 import datetime
+import io
 import os
 import re
 import signal
@@ -209,10 +210,12 @@ def interrupted(_signal: int, _frame: Any) -> NoReturn:
 
 def main(words: Optional[Sequence[str]] = None) -> int:
     """The exit status. A fault of this program itself must not look like a verdict, as Python's own status would."""
+    # a stream that the caller closed is none
+    sys.stdout, sys.stderr = (stream or open(os.devnull, "w", encoding="utf-8") for stream in (sys.stdout, sys.stderr))
     notes = Notes()
     try:
         signal.signal(signal.SIGTERM, interrupted)
-        if hasattr(sys.stdout, "reconfigure"):
+        if isinstance(sys.stdout, io.TextIOWrapper):
             sys.stdout.reconfigure(encoding="utf-8", errors="backslashreplace")
         status = run(options_of(words), notes)
         sys.stdout.flush()
