@@ -1,4 +1,4 @@
--- What each step does to a seat's view, and what it tells.
+-- What each step does to a seat's view, and what it shows.
 use Rattle.std.specs.Prelude.{◌≡◌, ◌≢◌, ◌⊎◌, ℕ, ◌+◌, ◌-◌, ◌/◌, ◌^◌, ◌<◌, ◌≤◌, List, [], ◌∷◌, ◌++◌, Option, Some, None, IfSome, option_to_list}
 use mathlib.Core.List.{IsPrefix}
 use Rattle.atomic_table.specs.Table.{Me, Step, rest}
@@ -83,7 +83,7 @@ module _ {I E K : Type 0} where
   abbrev pub KeepsCaller : View I E K → View I E K → Type 0
   KeepsCaller v w = (w.about ≡ v.about) × (w.callers ≡ v.callers) × (w.next ≡ v.next) × (w.room ≡ v.room)
 
-  -- the numbers of another view come behind its own, and all else of its caller is as before
+  -- the numbers of another view come after its own, and all else of its caller is as before
   abbrev pub KeepsAndAdds : View I E K → List ℕ → View I E K → Type 0
   KeepsAndAdds v more w = (w.callers ≡ v.callers ++ more) × (w.next ≡ v.next) × (w.room ≡ v.room) × (w.about ≡ v.about)
 
@@ -91,7 +91,7 @@ module _ {I E K : Type 0} where
   abbrev pub KeepsSeen : View I E K → View I E K → Type 0
   KeepsSeen v w = (w.seen ≡ v.seen) × (w.known ≡ v.known)
 
-  -- what was noted with the hand comes behind what it has seen
+  -- what was noted with the hand comes after what it has seen
   abbrev pub SeesNoted : View I E K → View I E K → Type 0
   SeesNoted v w = w.seen ≡ v.seen ++ option_to_list (noted_of v.hand)
 

@@ -129,7 +129,7 @@ impl<B, S, E, K, L: Law<B, S, E, K>, R> Cells<B, S, E, K, L, R> {
         }
     }
 
-    /// Ends the callers of another pass: this one has then seen what either had, and has their numbers. Where the other is
+    /// Ends the callers of another pass: this one has then seen what either had, and has their numbers. If the other is
     /// the first pass, no more callers are made.
     pub fn join_pass(&self, pass: &mut Pass<B, S, E, K>, other: Pass<B, S, E, K>)
         requires of { IsPassOf self.now pass.old × IsPassOf self.now other }

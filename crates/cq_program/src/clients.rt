@@ -75,7 +75,11 @@ fn serve_clients<
     match serve(
         rt, alloc, settings, &counters, &hub, pass, doors, gate, workers, sessions,
     ) {
-        Ok(served) => if has_failed(words, served) { DOORS_FAILED } else { 0 },
+        Ok(served) => if has_failed(words, served) {
+            DOORS_FAILED
+        } else {
+            0
+        },
         Err(Memory) => 4,
     }
 }

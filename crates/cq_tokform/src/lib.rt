@@ -1,7 +1,7 @@
 //! The byte form of a token file: what it has of a version of a project, part by part and whole. What is read is sound and
-//! spelled so, what is sound and spelled so is read unless memory is refused, and no form of what is sound begins another's.
-//! A reader never goes back in the bytes, and takes memory only for elements that it has read, whatever number of them is
-//! claimed. A writer adds at the end, and leaves what stands in front as it is, also where memory is refused.
+//! spelled so; what is sound and spelled so is read unless memory is refused; and no form of a sound value is the beginning
+//! of another's. A reader never goes back in the bytes, and takes memory only for elements that it has read, whatever
+//! number of them is claimed. A writer adds at the end, and leaves what comes before as it is, even if memory is refused.
 #![tactic(auto)]
 
 mod apart;

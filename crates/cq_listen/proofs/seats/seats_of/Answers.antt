@@ -21,5 +21,9 @@ seats-preserved g c =
 
 pub new-requires-clause-idle : goal.new-requires-clause-idle
 new-requires-clause-idle g c =
+    let i = c.seats.invariant in
     let split = c.split_pass-own.ensures in
-    child_idle c.args.hub.now c.seats.pass c.split_pass-own.result split.child split.of.1 c.seats.invariant.idle (omega (arith, room_left))
+    let below = c.seats-test.true in
+    let had = i.room in
+    let most = c.requires.room in
+    child_idle c.args.hub.now c.seats.pass c.split_pass-own.result split.child split.of.1 i.idle (omega (arith, had, most, below))
