@@ -189,6 +189,9 @@ pub fn ask_look(
             let read = drawn_read(alloc, settings, by, draws, model)?;
             ask_read(&read, model, lines)
         }
-        _ => ask_reply(alloc, by, draws, model, lines),
+        _ => {
+            let by = drawn_viewer(by, draws, model);
+            ask_reply(alloc, by, draws, model, lines)
+        }
     }
 }

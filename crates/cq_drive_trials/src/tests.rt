@@ -31,37 +31,37 @@ enum Went {
 }
 
 // The kinds of outcomes: a step, a piece of its outcome, and how often it comes in the three scripts together, which
-// have 986 lines. An outcome is of the first kind that it fits; a refusal is counted whatever its line is.
-const KINDS: &str = r#""accept" | "value": | 105
-"ask" | "value": | 13
-"took" | null | 11
-"took" | "value": | 26
-"back" | "ok":true | 5
-"back" | {"ok":false} | 28
-"done" | "ok":true | 52
-"done" | {"ok":false} | 38
-"apply" | "value": | 121
-"apply" | {"ok":false} | 26
-"publish" | "ok":true | 24
-"publish" | {"ok":false} | 36
+// have 970 lines. An outcome is of the first kind that it fits; a refusal is counted whatever its line is.
+const KINDS: &str = r#""accept" | "value": | 111
+"ask" | "value": | 16
+"took" | null | 12
+"took" | "value": | 33
+"back" | "ok":true | 9
+"back" | {"ok":false} | 27
+"done" | "ok":true | 42
+"done" | {"ok":false} | 20
+"apply" | "value": | 101
+"apply" | {"ok":false} | 43
+"publish" | "ok":true | 27
+"publish" | {"ok":false} | 32
 "floor" | "ok":true | 7
 "floor" | {"ok":false} | 27
-"sweep" | "ok":true | 43
-"open" | "value": | 23
-"open" | {"ok":false} | 5
+"sweep" | "ok":true | 35
+"open" | "value": | 22
+"open" | {"ok":false} | 9
 "read" | "value":[] | 37
-"read" | "value":[[ | 30
-"read" | {"ok":false} | 76
-"reply" | "files":[] | 7
-"reply" | "files":[{ | 4
-"reply" | "groups":[] | 8
-"reply" | "groups":[{ | 3
-"reply" | "measures": | 3
+"read" | "value":[[ | 19
+"read" | {"ok":false} | 62
+"reply" | "files":[] | 9
+"reply" | "files":[{ | 8
+"reply" | "groups":[] | 22
+"reply" | "groups":[{ | 2
+"reply" | "measures": | 25
 "reply" | "OK" | 8
-"reply" | "ERROR" | 2
-"reply" | {"ok":false} | 68
-"shut" | "ok":true | 19
-"shut" | {"ok":false} | 19
+"reply" | "ERROR" | 5
+"reply" | {"ok":false} | 40
+"shut" | "ok":true | 18
+"shut" | {"ok":false} | 13
  | "code":1, | 9
  | "code":2, | 12
  | "code":3, | 39
@@ -69,9 +69,9 @@ const KINDS: &str = r#""accept" | "value": | 105
  | "code":5, | 6
  | "code":6, | 3
  | "code":7, | 6
- | "code":9, | 9
- | "code":10, | 11
- | "code":11, | 2
+ | "code":9, | 13
+ | "code":10, | 16
+ | "code":11, | 10
  | "code":13, | 3
  | "code":15, | 6
 "#;
@@ -152,10 +152,10 @@ fn script_goes<R: Threads + Sync>(
 fn scripts_go_as_told(rt: HostRuntime) -> Result<(), Memory> {
     let alloc = rt.alloc();
     let mut kinds = Vec::new(alloc);
-    assert_eq!(rt; script_goes(&rt, alloc, 0, 33, &mut kinds)?, Went::AsTold);
-    assert_eq!(rt; script_goes(&rt, alloc, 3, 22, &mut kinds)?, Went::AsTold);
-    assert_eq!(rt; script_goes(&rt, alloc, 64, 32, &mut kinds)?, Went::AsTold);
-    assert_eq!(rt; kinds.len(), 986);
+    assert_eq!(rt; script_goes(&rt, alloc, 0, 3, &mut kinds)?, Went::AsTold);
+    assert_eq!(rt; script_goes(&rt, alloc, 3, 49, &mut kinds)?, Went::AsTold);
+    assert_eq!(rt; script_goes(&rt, alloc, 64, 76, &mut kinds)?, Went::AsTold);
+    assert_eq!(rt; kinds.len(), 970);
     assert_eq!(rt; first_otherwise(&kinds), None);
     Ok(())
 }

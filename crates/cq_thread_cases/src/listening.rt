@@ -83,7 +83,12 @@ fn served_here<Q: Threads + Wait + Clock + Sync>(
     run: &Run<'_>,
 ) -> Result<Option<Served>, Memory> {
     let settings = SETTINGS;
-    if settings.check().is_some() || run.workers > 64 || run.sessions > 64 {
+    let workers = run.workers;
+    let sessions = run.sessions;
+    if settings.check().is_some() {
+        return Ok(None);
+    }
+    if workers > 64 || sessions > 64 {
         return Ok(None);
     }
     let mut doors = LogDoors::new(stage, alloc, run.clients, run.failing)?;
@@ -101,8 +106,8 @@ fn served_here<Q: Threads + Wait + Clock + Sync>(
         &settings,
         &mut doors,
         &gate,
-        run.workers,
-        run.sessions,
+        workers,
+        sessions,
         Blank::new(1),
     )?;
     Ok(Some(served))
