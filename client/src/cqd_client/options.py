@@ -189,8 +189,6 @@ def conflict(options: argparse.Namespace) -> Optional[str]:
     """What doesn't go together."""
     def has(name: str) -> Any:
         return vars(options).get(name)
-    if has("local") and has("addr"):
-        return "--local and --addr don't go together"
     own = [name for name in ("cqd", "chunk", "ignore_ids", "ignore_literals") if has(name)] + ["workers"] * (has("workers") is not None)
     if has("addr"):
         if own:
