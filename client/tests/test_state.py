@@ -18,8 +18,8 @@ SIDE_BY_SIDE = 24
 def keep(file: Path, number: int, shares_a_project: bool) -> None:
     state = State(file, "server:1", "p" if shares_a_project else f"p{number}", Notes())
     state.begin("life")
-    for i in range(20):
-        state.entry.files[f"{number}/{i}"] = Known("0" * 64, number * 20 + i + 1)
+    for i in range(8):
+        state.entry.files[f"{number}/{i}"] = Known("0" * 64, number * 8 + i + 1)
         state.keep()
     state.entry.gate = [Condition("lines", "GT", number)]
     state.keep()
@@ -36,7 +36,7 @@ def test_24_calls_at_once_lose_nothing(tmp_path: Path, shares_a_project: bool) -
     assert [caller.exitcode for caller in callers] == [0] * SIDE_BY_SIDE
     projects = json.loads(file.read_text())["servers"]["server:1"]
     paths = [path for entry in projects.values() for path in entry["files"]]
-    assert sorted(paths) == sorted(f"{number}/{i}" for number in range(SIDE_BY_SIDE) for i in range(20))
+    assert sorted(paths) == sorted(f"{number}/{i}" for number in range(SIDE_BY_SIDE) for i in range(8))
     assert all(entry["gate"] for entry in projects.values())
 
 

@@ -42,8 +42,8 @@ def answered(server: Server, call: Call) -> Report:
 
 
 def needs_groups(call: Call) -> bool:
-    """Whether a format was asked for that lists groups."""
-    return any(name not in ("text", "json", "junit", "metrics") for name in call.options.format or [])
+    """Whether a format was asked for that lists or counts groups."""
+    return any(name not in ("text", "json", "junit") for name in call.options.format or [])
 
 
 def verdict(server: Server, call: Call, conditions: Sequence[Condition]) -> tuple[Reply, Reply]:

@@ -173,11 +173,12 @@ def concluded(call: Call, report: Optional[Report]) -> int:
     if left_out:
         status = UNKNOWN
         report = dataclasses.replace(report, verdict=outputs.WORDS[UNKNOWN] if report.verdict else "")
-    outputs.write(report, options)
     if call.state:
         if options.command == "verdict" and status == PASSED and (options.new or not options.since):
             call.state.entry.passed[options.scope or ""] = call.judged_at
         call.state.keep()
+    # last, so that nothing can fail after it has said OK
+    outputs.write(report, options)
     if left_out:
         call.notes.say("files were left out, so this is not about the whole project")
     return status

@@ -52,6 +52,8 @@ def read_file(file: Path) -> dict[str, Any]:
 def complete(options: argparse.Namespace, known: dict[str, argparse.Action]) -> None:
     """Fills in what the command line left out: first from CQD_ADDR, then from the configuration. `known` has every option of every
     command by its name; what the command at hand does not have is passed over."""
+    if vars(options).get("local") and options.addr:
+        raise Misuse("--local and --addr don't go together")
     if vars(options).get("addr") is None and os.environ.get("CQD_ADDR") and hasattr(options, "addr"):
         options.addr = checked("CQD_ADDR", known["addr"], os.environ["CQD_ADDR"].split(","))
     file = found_file(options.config)

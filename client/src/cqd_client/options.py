@@ -108,8 +108,9 @@ def add_questions(one: argparse.ArgumentParser, command: str) -> None:
     if command in ("groups", "measures"):
         one.add_argument("--path", metavar="FILE", type=text, help="only of this file of the project")
     if command in ("check", "groups", "verdict", "report"):
-        one.add_argument("--gate", metavar="CONDITION", type=text, action="append",
-                         help=f"what fails the gate, as '{DENSITY}>3' (in percent) or 'complexity>5000'; repeatable")
+        gate = f"what fails the gate, as '{DENSITY}>3' (in percent) or 'complexity>5000'; repeatable" if command != "check" else \
+            f"what fails the check, over the changed lines, as '{DENSITY}>3' (in percent); default any duplicate; repeatable"
+        one.add_argument("--gate", metavar="CONDITION", type=text, action="append", help=gate)
         one.add_argument("--fail-on", metavar="WHAT", choices=("any-duplicate", "fault"), action="append",
                          help="any-duplicate: also fail on any duplicate; fault: also fail on a file whose language can't be read")
     if command in ("measures", "verdict"):
@@ -189,8 +190,6 @@ def conflict(options: argparse.Namespace) -> Optional[str]:
     """What doesn't go together."""
     def has(name: str) -> Any:
         return vars(options).get(name)
-    if has("local") and has("addr"):
-        return "--local and --addr don't go together"
     own = [name for name in ("cqd", "chunk", "ignore_ids", "ignore_literals") if has(name)] + ["workers"] * (has("workers") is not None)
     if has("addr"):
         if own:

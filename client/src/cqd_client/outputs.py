@@ -29,7 +29,7 @@ def targets(options: argparse.Namespace) -> list[Path]:
 
 def check_targets(options: argparse.Namespace) -> None:
     """What can't be written is told before anything is done."""
-    if options.page and not importlib.util.find_spec("jinja2"):
+    if vars(options).get("page") and not importlib.util.find_spec("jinja2"):
         raise Fault("python3-jinja2 is needed to write a page: install it")
     for target in targets(options):
         if target.is_dir() or not target.parent.is_dir() or not os.access(target if target.exists() else target.parent, os.W_OK):

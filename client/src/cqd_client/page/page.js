@@ -96,13 +96,21 @@
     });
   }
 
-  // Pairs of lines that begin with the same token of the run. A line without a partner stands alone.
+  // Whether two lines stand beside each other: both without tokens of the run, or with at least half of one's in the other.
+  function isPair(a, b) {
+    if (!a.isMarked || !b.isMarked) return true;
+    if (!a.count || !b.count) return !a.count && !b.count && a.before === b.before;
+    const shared = Math.min(a.before + a.count, b.before + b.count) - Math.max(a.before, b.before);
+    return shared * 2 >= Math.min(a.count, b.count);
+  }
+
+  // The lines of two places in pairs. A line without a partner stands alone.
   function aligned(left, right) {
     const pairs = [];
     let i = 0, j = 0;
     while (i < left.length || j < right.length) {
       const a = left[i], b = right[j];
-      if (a && b && (!a.isMarked || !b.isMarked || (a.before === b.before && !a.count === !b.count))) {
+      if (a && b && isPair(a, b)) {
         pairs.push([a, b]); i++; j++;
       } else if (!b || (a && (a.before < b.before || (a.before === b.before && !a.count)))) {
         pairs.push([a, null]); i++;
