@@ -117,3 +117,13 @@ def test_new_judges_what_was_uploaded_since_the_last_verdict_that_passed(client:
     assert client(*words).returncode == 1
     (tmp_path / "c.c").unlink()
     assert client(*words).returncode == 0
+
+
+def test_a_gate_that_a_configuration_has_and_one_file(client: Client, tmp_path: Path) -> None:
+    duplicates(tmp_path)
+    (tmp_path / ".cqd.toml").write_text("gate = 'lines>0'\n")
+    assert client("groups", ".").returncode == 1
+    assert client("groups", ".", "--path", "a.c").returncode == 0
+    assert client("groups", ".", "--path", "a.c", "--gate", "lines>0").returncode == 3
+    assert client("measures", ".", "--path", "a.c").returncode == 0
+    assert client("report", "out.html", ".", "--min", "50").returncode == 1

@@ -8,7 +8,7 @@ from collections.abc import Sequence
 from .call import Call
 from .check import checked
 from .faults import Fault
-from .findings import Condition, Function, Report, measures_of, verdict_of
+from .findings import Condition, Function, Report, measures_of, member, verdict_of
 from .gate import failed_by, known_gate, request_of
 from .protocol import Reply, Server
 from .upload import PASSES
@@ -56,6 +56,7 @@ def verdict(server: Server, call: Call, conditions: Sequence[Condition]) -> tupl
         values = measures_of(measures.members)
         ours = tuple(position for position, condition in enumerate(conditions) if failed_by(condition, getattr(values, condition.metric)))
         if verdict_of(reply.members)[1] == ours:
+            call.judged_at = member(reply.members, "version", int)
             if call.state:
                 call.state.entry.gate = list(conditions)
             return reply, measures

@@ -17,6 +17,10 @@ from .state import State
 from .upload import Upload
 
 
+# Which options are members of which query.
+MEMBERS = {"groups": ("min", "path"), "measures": ("min", "path", "scope", "since"), "verdict": ("min", "scope", "since"), "functions": ()}
+
+
 @dataclass
 class Call:
     """One call: its options, the gate of its arguments, and, after the upload, what was uploaded and what the project has."""
@@ -28,18 +32,17 @@ class Call:
     lines: dict[str, Lines] = field(default_factory=dict)
     about: About = About()
     done: Optional[Upload] = None
+    # the version of the last verdict
+    judged_at: int = 0
     files: tuple[File, ...] = ()
 
     def query(self, operation: str, **more: Any) -> Request:
-        request: Request = {"op": operation, "project": self.project, "finish": True, **more}
-        for name in ("min", "path", "scope", "since"):
+        request: Request = {"op": operation, "project": self.project, "finish": True}
+        for name in MEMBERS[operation]:
             value = vars(self.options).get(name)
             if value is not None:
                 request[name] = expanded(value) if name == "scope" else value
-        if operation == "groups":
-            request.pop("scope", None)
-            request.pop("since", None)
-        return request
+        return {**request, **more}
 
     def ask(self, server: Server, request: Request) -> Reply:
         with self.notes.waiting(f"waiting for the server: {request['op']}"):

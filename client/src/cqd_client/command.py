@@ -5,6 +5,7 @@ import argparse
 import contextlib
 import dataclasses
 import datetime
+import io
 import os
 import re
 import signal
@@ -37,6 +38,9 @@ TEXT_LIMIT = 67_108_864
 CHANGE_LIMIT = 262_144
 STATE = ".cqd-state.json"
 TIMEOUT = 600.0
+# The options that a report names: those on which its content depends.
+SHOWN = ("any", "base", "chunk", "encoding", "exclude", "fail_on", "gate", "ignore_ids", "ignore_literals", "include", "map",
+         "max_complexity", "min", "new", "no_ignore", "scope", "since", "skip_duplicate_files")
 
 
 def choice_of(options: argparse.Namespace, own: Sequence[Path]) -> Choice:
@@ -57,15 +61,16 @@ def tree_asked(options: argparse.Namespace, root: Path, own: Sequence[Path], not
         if options.command == "check":
             paths = [root]
         elif not options.addr or options.command == "put":
-            raise Misuse(f"{options.command} needs a PATH or --files-from: what is uploaded" + ("" if options.addr else "; without --addr "
-                         "nothing is uploaded yet"))
+            hint = "" if options.addr else ": a server of this call alone has nothing yet"
+            raise Misuse(f"{options.command} needs a PATH or --files-from{hint}")
         else:
             return None
     tree = tree_of(root, paths, read_listing(listing) if listing else None, choice_of(options, own), notes)
     if not tree.sources:
         raise Fault(f"there are no source files in {', '.join(map(str, paths)) or listing}: nothing was uploaded or dropped")
     if len(tree.sources) > CHANGE_LIMIT - 2:
-        raise Fault(f"{len(tree.sources):,} source files, and a server holds at most {CHANGE_LIMIT - 2:,}: choose fewer by --include and --exclude")
+        raise Fault(f"{len(tree.sources):,} source files, and a server holds at most {CHANGE_LIMIT - 2:,}: choose fewer by --include and "
+                    "--exclude")
     large = too_large(tree, TEXT_LIMIT)
     if large:
         raise Fault(large)
@@ -85,10 +90,8 @@ def project_of(options: argparse.Namespace, root: Path) -> str:
 
 def about(options: argparse.Namespace, root: Path) -> About:
     commit, branch = git.described(root)
-    named = {name: value for name, value in sorted(vars(options).items())
-             if value and name not in ("command", "config", "output", "page", "project", "paths", "format", "json", "state", "timeout")}
     pairs = tuple((f"--{name.replace('_', '-')}", ", ".join(map(str, value)) if isinstance(value, list) else "" if value is True else str(value))
-                  for name, value in named.items())
+                  for name, value in sorted(vars(options).items()) if value and name in SHOWN)
     when = datetime.datetime.fromtimestamp(int(os.environ.get("SOURCE_DATE_EPOCH", time.time())), datetime.timezone.utc)
     return About(commit, branch, when.strftime("%Y-%m-%dT%H:%M:%SZ"), servers.version_of(options), pairs)
 
@@ -173,7 +176,7 @@ def concluded(call: Call, report: Optional[Report]) -> int:
     outputs.write(report, options)
     if call.state:
         if options.command == "verdict" and status == PASSED and (options.new or not options.since):
-            call.state.entry.passed[options.scope or ""] = report.version
+            call.state.entry.passed[options.scope or ""] = call.judged_at
         call.state.keep()
     if left_out:
         call.notes.say("files were left out, so this is not about the whole project")
@@ -207,10 +210,12 @@ def interrupted(_signal: int, _frame: Any) -> NoReturn:
 
 def main(words: Optional[Sequence[str]] = None) -> int:
     """The exit status. A fault of this program itself must not look like a verdict, as Python's own status would."""
+    # a stream that the caller closed is none
+    sys.stdout, sys.stderr = (stream or open(os.devnull, "w", encoding="utf-8") for stream in (sys.stdout, sys.stderr))
     notes = Notes()
     try:
         signal.signal(signal.SIGTERM, interrupted)
-        if hasattr(sys.stdout, "reconfigure"):
+        if isinstance(sys.stdout, io.TextIOWrapper):
             sys.stdout.reconfigure(encoding="utf-8", errors="backslashreplace")
         status = run(options_of(words), notes)
         sys.stdout.flush()

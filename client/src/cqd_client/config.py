@@ -73,7 +73,10 @@ def complete(options: argparse.Namespace, known: dict[str, argparse.Action]) -> 
     if vars(options).get("local"):
         options.addr = None
     # a file may have both what a server of one call needs and what one that runs does: what isn't needed here changes no answer
-    needless = ("cqd", "workers") if vars(options).get("addr") else ("state", "tls", "tls_ca", "tls_cert", "tls_key")
+    needless = ["cqd", "workers"] if vars(options).get("addr") else ["state", "tls", "tls_ca", "tls_cert", "tls_key"]
+    if options.command == "check" or vars(options).get("path"):
+        # the gate of a project is neither about changed lines nor about one file
+        needless += ["gate", "fail_on"]
     for dest in filled.intersection(needless):
         setattr(options, dest, None)
 

@@ -3,7 +3,6 @@ from __future__ import annotations
 
 import argparse
 import re
-import sys
 from pathlib import Path
 from typing import Any, Callable, NoReturn, Optional
 
@@ -15,6 +14,9 @@ from .link import Address
 DESCRIPTION = """Uploads source files to cqd, and asks what is duplicated in them and whether the project passes its quality gate.
 Without --addr each call starts a server of its own and ends it; with --addr it speaks with one that runs.
 Options can also be given in .cqd.toml."""
+
+PATTERNS = """Patterns: * is any characters but /, ? is one, ** is any folders. Without a slash a pattern is looked for in every folder; a
+slash at its front means the root, one at its end all files below."""
 
 COMMANDS = {
     "check": "fail if code that changed since a commit has duplicates or is too complex: the check for pull requests",
@@ -34,8 +36,7 @@ class Parser(argparse.ArgumentParser):
     """Refuses arguments with a status of their own."""
 
     def error(self, message: str) -> NoReturn:
-        self.print_usage(sys.stderr)
-        self.exit(MISUSED, f"cqd-client: {message}\n")
+        self.exit(MISUSED, f"{self.prog}: {message.removeprefix('argument ')}; {self.prog} --help describes the arguments\n")
 
 
 def number(least: int, greatest: int) -> Callable[[str], int]:
@@ -81,11 +82,12 @@ def parser() -> Parser:
     whole.add_argument("--version", action="version", version=f"cqd-client {__version__}")
     commands = whole.add_subparsers(dest="command", required=True, metavar="COMMAND", parser_class=Parser)
     for command, what in COMMANDS.items():
-        one = commands.add_parser(command, help=what, description=what[0].upper() + what[1:] + ".", epilog=STATUSES, allow_abbrev=False)
+        one = commands.add_parser(command, help=what, description=what[0].upper() + what[1:] + ".", epilog=STATUSES,
+                                  allow_abbrev=False)
         if command == "report":
             one.add_argument("page", metavar="OUT.html", type=Path, help="the page")
         if command in UPLOADING:
-            one.add_argument("paths", metavar="PATH", type=Path, nargs="*", help="a folder or file to upload")
+            one.add_argument("paths", metavar="PATH", type=Path, nargs="*", default=[], help="a folder or file to upload")
         one.add_argument("--project", metavar="NAME", type=project_name, help="the project; without --addr, the root folder's name")
         one.add_argument("--config", metavar="FILE", help="the configuration; default .cqd.toml here or in a folder above")
         if command in ASKING:
@@ -120,7 +122,8 @@ def add_questions(one: argparse.ArgumentParser, command: str) -> None:
 def add_outputs(one: argparse.ArgumentParser, command: str) -> None:
     group = one.add_argument_group("output")
     group.add_argument("--format", choices=formats.NAMES, action="append", help="the format; default text; repeatable with --output")
-    group.add_argument("--output", metavar="FILE", type=Path, action="append", help="where to write it instead of standard output; repeatable")
+    group.add_argument("--output", metavar="FILE", type=Path, action="append",
+                       help="where to write it instead of standard output; repeatable")
     group.add_argument("--json", action="store_true", help="the same as --format json: the server's reply as it came")
     if command != "report":
         group.add_argument("--page", metavar="FILE", type=Path, help="also write an HTML page")
@@ -129,9 +132,9 @@ def add_outputs(one: argparse.ArgumentParser, command: str) -> None:
 
 
 def add_files(one: argparse.ArgumentParser) -> None:
-    group = one.add_argument_group("files", "Patterns: * is any characters but /, ? is one, ** is any folders. Without a slash a pattern is "
-                                   "looked for in every folder; a slash at its front means the root, one at its end all files below.")
-    group.add_argument("--files-from", metavar="FILE", type=text, help="upload the files that are named in FILE (- is standard input), by line or NUL")
+    group = one.add_argument_group("files", PATTERNS)
+    group.add_argument("--files-from", metavar="FILE", type=text,
+                       help="upload the files that are named in FILE (- is standard input), by line or NUL")
     group.add_argument("--include", metavar="PATTERN", type=text, action="append", help="only files that fit; repeatable")
     group.add_argument("--exclude", metavar="PATTERN", type=text, action="append", help="no files that fit; repeatable")
     group.add_argument("--map", metavar="PATTERN=LANG", type=text, action="append",
@@ -147,7 +150,8 @@ def add_files(one: argparse.ArgumentParser) -> None:
 def add_program(one: argparse.ArgumentParser) -> None:
     group = one.add_argument_group("a server of this call alone")
     group.add_argument("--cqd", metavar="PROGRAM", help="the program; default what CQD names, or cqd on PATH")
-    group.add_argument("--chunk", metavar="N", type=number(1, 1000), help="tokens of a window of its index; default 20, or --min if that is less")
+    group.add_argument("--chunk", metavar="N", type=number(1, 1000),
+                       help="tokens of a window of its index; default 20, or --min if that is less")
     group.add_argument("--local", action="store_true", help="start one even if CQD_ADDR or .cqd.toml names one that runs")
     group.add_argument("--workers", metavar="N", type=number(0, 64), help="its threads for the analysis; default one per processor")
     group.add_argument("--ignore-ids", action="store_true", help="all identifiers are equal")
@@ -159,12 +163,15 @@ def add_server(one: argparse.ArgumentParser, command: str) -> None:
     group.add_argument("--addr", metavar="HOST:PORT", type=address, action="append",
                        help="the server; default what CQD_ADDR names; of several, each has its share of the projects")
     if command != "status":
-        group.add_argument("--state", metavar="FILE", type=Path, help="where calls keep what they uploaded; default .cqd-state.json in the root")
+        group.add_argument("--state", metavar="FILE", type=Path,
+                           help="where calls keep what they uploaded; default .cqd-state.json in the root")
     group.add_argument("--tls", action="store_true", help="speak TLS")
-    group.add_argument("--tls-ca", metavar="FILE", type=Path, help="the authority that signed the server's certificate; default the system's")
+    group.add_argument("--tls-ca", metavar="FILE", type=Path,
+                       help="the authority that signed the server's certificate; default the system's")
     group.add_argument("--tls-cert", metavar="FILE", type=Path, help="the client's certificate")
     group.add_argument("--tls-key", metavar="FILE", type=Path, help="its key, if it is not in the same file")
-    group.add_argument("--timeout", metavar="SECONDS", type=seconds, help="give up if the server takes longer for one reply; default 600")
+    group.add_argument("--timeout", metavar="SECONDS", type=seconds,
+                       help="give up if the server takes longer for one reply; default 600")
 
 
 def by_name(whole: argparse.ArgumentParser) -> dict[str, argparse.Action]:
@@ -191,9 +198,9 @@ def conflict(options: argparse.Namespace) -> Optional[str]:
         if not has("project") and options.command != "status":
             return "--project is needed with --addr: others use the server too"
     else:
-        for name in ("state", "tls", "tls_ca", "tls_cert", "tls_key", "new", "since"):
+        for name in ("state", "new", "since", "tls", "tls_ca", "tls_cert", "tls_key"):
             if has(name):
-                return f"--{name.replace('_', '-')} needs --addr: a server of this call alone has forgotten everything afterwards"
+                return f"--{name.replace('_', '-')} needs --addr: it is about a server that runs"
         if options.command in ("status", "remove"):
             return f"{options.command} needs --addr"
     if has("tls_key") and not has("tls_cert"):
@@ -202,6 +209,8 @@ def conflict(options: argparse.Namespace) -> Optional[str]:
         return "--tls-ca and --tls-cert need --tls"
     if has("scope") and has("path"):
         return "--scope and --path don't go together"
+    if has("path") and (has("gate") or has("fail_on")):
+        return "--path and a gate don't go together: a gate is about the whole project"
     if has("new") and has("since"):
         return "--new and --since don't go together"
     if has("chunk") and has("min") and options.min < options.chunk:

@@ -4,6 +4,7 @@ from __future__ import annotations
 import argparse
 import contextlib
 import dataclasses
+import importlib.util
 import io
 import os
 import sys
@@ -12,7 +13,7 @@ from collections.abc import Iterator
 from pathlib import Path
 from typing import TextIO, cast
 
-from . import formats, page
+from . import formats
 from .faults import FAILED, PASSED, UNKNOWN, Fault
 from .findings import Measures, Report, arranged
 from .wording import shown, value_text
@@ -27,7 +28,9 @@ def targets(options: argparse.Namespace) -> list[Path]:
 
 
 def check_targets(options: argparse.Namespace) -> None:
-    """A file that can't be written is told before anything is done."""
+    """What can't be written is told before anything is done."""
+    if vars(options).get("page") and not importlib.util.find_spec("jinja2"):
+        raise Fault("python3-jinja2 is needed to write a page: install it")
     for target in targets(options):
         if target.is_dir() or not target.parent.is_dir() or not os.access(target if target.exists() else target.parent, os.W_OK):
             raise Fault(f"{target} can't be written: " + ("it is a folder" if target.is_dir() else "no such folder, or no permission"))
@@ -37,6 +40,7 @@ def write(report: Report, options: argparse.Namespace) -> None:
     """Writes the report. Files appear as a whole, and what stood there stays if that fails."""
     ordered = arranged(report, options.sort or "", options.top)
     if options.page:
+        from . import page  # pylint: disable=import-outside-toplevel
         with replaced(options.page) as out:
             page.write(report, out)
     names = options.format or ["text"]

@@ -16,8 +16,8 @@ from .findings import member
 from .link import Address, Link, Program, Tls, connected
 
 # So many requests are under way at a time, and so many bytes. Either they or their replies are short, so that the short ones
-# fit in what a connection holds, and neither end waits for the other.
-AHEAD = 32
+# fit in what a connection holds (more than 250 of them, each sent on its own), and neither end waits for the other.
+AHEAD = 128
 BYTES_AHEAD = 4 << 20
 # How often in a call a request is sent again that the server had no memory for, or whose analysis wasn't finished.
 PAUSES = 50

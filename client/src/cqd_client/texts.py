@@ -47,9 +47,12 @@ def text_of(tree: Tree, source: Source, encoding: Optional[str]) -> str:
         raise Unfit(f"its path has {len(name):,} bytes, and at most {LONGEST} are taken")
     if any(byte < 32 or byte == 127 for byte in name):
         raise Unfit("its name has control characters")
+    if source.size > 2 * LONGEST_TEXT + 2:
+        # even as UTF-16 it has more than a request holds
+        raise Unfit(f"it has more than {LONGEST_TEXT:,} bytes; exclude it, or split it")
     try:
-        with open(tree.file(source.path), "rb") as file:
-            data = file.read(2 * LONGEST_TEXT + 3)
+        with open(tree.file(source.path), "rb", buffering=0) as file:
+            data = file.readall()
     except OSError as error:
         raise Unfit(str(error.strerror)) from None
     text = decoded(data, encoding)
@@ -95,7 +98,8 @@ def too_large(tree: Tree, most: int) -> str:
     fitting = [folder for folder, size in sizes.items() if tree.size - size <= most and size < tree.size]
     if fitting:
         least = min(fitting, key=lambda folder: (sizes[folder], folder))
-        return f"{whole}: leave out {least} by --exclude '/{least}/' ({sizes[least]:,} bytes), or split the sources into several projects on further servers"
+        return (f"{whole}: leave out {least} by --exclude '/{least}/' ({sizes[least]:,} bytes), or split the sources into several projects "
+                "on further servers")
     large = [folder for folder, size in sizes.items() if size < tree.size]
     largest = max(large, key=lambda folder: (sizes[folder], folder), default="")
     named = f" (the largest folder, {largest}, has {sizes[largest]:,})" if largest else ""

@@ -30,6 +30,7 @@ class Upload:
     skipped: list[Skipped] = field(default_factory=list)
     binary: list[str] = field(default_factory=list)
     alike: list[str] = field(default_factory=list)
+    hashes: dict[str, str] = field(default_factory=dict)
     files: tuple[File, ...] = ()
 
     def text_of(self, path: str) -> Optional[str]:
@@ -84,10 +85,10 @@ def one_pass(server: Server, project: str, done: Upload, state: Optional[State],
         path = request["path"]
         if reply.is_ok:
             done.put.add(path)
-            done.known[path] = entry[path] = Known(hash_of(request["lang"], request["text"]), member(reply.members, "change", int))
+            done.known[path] = entry[path] = Known(done.hashes[path], member(reply.members, "change", int))
         elif reply.error in ("full-text", "full-changes"):
-            raise Fault(f"{reply.refusal()}: {counted(len(done.known), 'file')} of {len(done.tree.sources):,} are uploaded. Choose fewer by "
-                        "--exclude, or use a further server")
+            raise Fault(f"{reply.refusal()}: {len(done.known):,} of {len(done.tree.sources):,} files are uploaded. Choose fewer by --exclude, "
+                        "or use a further server")
         else:
             done.skipped.append(Skipped(path, reply.refusal()))
     if not done.known:
@@ -121,7 +122,7 @@ def puts(project: str, done: Upload, entry: dict[str, Known], notes: Notes, once
         except Unfit as why:
             done.skipped.append(Skipped(source.path, str(why)))
             continue
-        text_hash = hash_of(source.lang, text)
+        done.hashes[source.path] = text_hash = hash_of(source.lang, text)
         if once and first.setdefault(text_hash, source.path) != source.path:
             done.alike.append(source.path)
             continue

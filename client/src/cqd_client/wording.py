@@ -3,7 +3,7 @@ from __future__ import annotations
 
 import unicodedata
 
-from .findings import DENSITY, Condition, Function, Group, Place
+from .findings import DENSITY, Condition, Function, Group, Place, Report
 
 LABELS = {
     "complexity": "Complexity", "duplicated_blocks": "Duplicated blocks", "duplicated_files": "Files with duplicates",
@@ -63,6 +63,11 @@ def duplicate_message(group: Group, place: Place, most: int = 0) -> str:
 
 def function_message(function: Function) -> str:
     return f"complexity {function.complexity:,} of {shown(function.name)}"
+
+
+def left_out(report: Report) -> str:
+    """Why the verdict is unknown."""
+    return f"{counted(len(report.skipped), 'file')} left out, the first is {shown(report.skipped[0].path)}" if report.skipped else "files are missing"
 
 
 def requirement(condition: Condition) -> str:

@@ -4,7 +4,7 @@ from __future__ import annotations
 from typing import Iterable, Iterator, TextIO
 
 from ..findings import Group, Place, Report
-from ..wording import counted, extent, percent, shown, value_text, violation
+from ..wording import counted, extent, left_out, percent, shown, value_text, violation
 
 # A reader of a pull request looks at a few; the page and the other formats have all.
 MOST_GROUPS = 10
@@ -27,10 +27,14 @@ def code(text: str) -> str:
 def head(report: Report) -> Iterator[str]:
     yield MARK
     if report.verdict:
-        yield f"### {'✅ Quality gate passed' if report.verdict == 'OK' else '❌ Quality gate failed'}: {code(report.project)}"
+        heads = {"OK": "✅ Quality gate passed", "ERROR": "❌ Quality gate failed"}
+        yield f"### {heads.get(report.verdict, '⚠️ Quality gate could not be determined')}: {code(report.project)}"
     else:
         yield f"### Duplicated code in {code(report.project)}"
     yield ""
+    if report.verdict == "UNKNOWN":
+        yield f"- **{left_out(report)}**"
+        yield ""
     for condition in report.failed:
         yield f"- **{violation(condition)}**"
     if report.failed:

@@ -15,7 +15,7 @@ def write(report: Report, out: TextIO) -> None:
             percentage = metric == DENSITY
             values.append((f"cqd_{metric}{'_percent' if percentage else ''}",
                            f"{value // 100}.{value % 100:02}" if percentage else str(value)))
-    if report.verdict:
+    if report.verdict in ("OK", "ERROR"):
         values.append(("cqd_gate_failed", str(int(report.verdict == "ERROR"))))
     for name, value in values:
         out.write(f"# TYPE {name} gauge\n{name} {value}\n")

@@ -4,7 +4,7 @@ from __future__ import annotations
 from typing import TextIO
 
 from ..findings import Report
-from ..wording import counted, duplicate_message, function_message, location, shown, violation
+from ..wording import counted, duplicate_message, function_message, left_out, location, shown, violation
 
 
 def write(report: Report, out: TextIO) -> None:
@@ -17,6 +17,6 @@ def write(report: Report, out: TextIO) -> None:
     for function in report.complex_functions:
         out.write(f"{shown(function.path)}:{function.first}: {function_message(function)}\n")
     if report.verdict:
-        out.write(f"{report.verdict}\n")
+        out.write(f"{report.verdict}{': ' + left_out(report) if report.verdict == 'UNKNOWN' else ''}\n")
         for condition in report.failed:
             out.write(f"  {violation(condition)}\n")

@@ -45,6 +45,18 @@ def merged(extents: list[tuple[int, int]]) -> list[tuple[int, int]]:
     return found
 
 
+def extents_of(lines: bytearray) -> list[tuple[int, int]]:
+    """The runs of lines that are set, with the number of their first and last."""
+    found = []
+    first = lines.find(1)
+    while first >= 0:
+        end = lines.find(0, first)
+        end = len(lines) if end < 0 else end
+        found.append((first, end - 1))
+        first = lines.find(1, end)
+    return found
+
+
 # --------------------------------------------------------------------------------------------------- tokens
 
 
@@ -105,6 +117,8 @@ class Listing:
         run, source = self.sources.run(group, place), self.sources.source(place.path)
         if not run or not source:
             return -1, -1
+        if source.text.isascii():
+            return run.first_column, run.end_column
         first, last = source.lines(place.first, place.first)[0], source.lines(place.last, place.last)[0]
         return units(first, run.first_column), units(last, run.end_column)
 
@@ -118,26 +132,26 @@ class Listing:
 
     def shown_extents(self) -> dict[str, list[tuple[int, int]]]:
         """Of each file the lines that are kept: of the largest groups first, while the budget lasts."""
-        extents: dict[str, list[tuple[int, int]]] = collections.defaultdict(list)
+        kept: dict[str, bytearray] = {}
         left = SOURCE_BUDGET
         for group in self.groups:
             for place in group.places:
                 source = self.sources.source(place.path)
                 if source is None:
                     continue
-                last = min(place.last, place.first + LINES_SHOWN - 1)
-                if any(first <= place.first and last <= end for first, end in extents[place.path]):
-                    continue
-                left -= source.starts[min(last, len(source.starts) - 1)] - source.starts[min(place.first, len(source.starts)) - 1]
-                if left < 0:
-                    return extents
-                extents[place.path].append((place.first, last))
-        return extents
+                lines = kept.setdefault(place.path, bytearray(len(source.starts) + 1))
+                first, end = place.first, min(place.last, place.first + LINES_SHOWN - 1, len(source.starts)) + 1
+                if 0 in lines[first:end]:
+                    left -= (source.starts[end - 1] if end <= len(source.starts) else len(source.text)) - source.starts[first - 1]
+                    lines[first:end] = b"\1" * (end - first)
+            if left < 0:
+                break
+        return {path: extents_of(lines) for path, lines in kept.items()}
 
     def texts(self) -> list[list[Any]]:
         """Of each path its kept extents: the first line's number, the lines, and the tokens of each line."""
         extents = self.shown_extents()
-        return [[part for first, last in merged(extents.get(path, [])) for part in self.extent(path, first, last)]
+        return [[part for first, last in extents.get(path, []) for part in self.extent(path, first, last)]
                 for path in self.paths]
 
     def extent(self, path: str, first: int, last: int) -> tuple[int, str, str]:

@@ -8,7 +8,7 @@
   if (!list) return;
   const index = JSON.parse(byId("index").textContent);
   const PLACE = 5;
-  const ROWS = 60, NAMED_PLACES = 3;
+  const ROWS = 30, NAMED_PLACES = 3;
   // Of a longer duplicate the first lines are drawn, and the others when they are asked for.
   const ALL_DRAWN = 40, FIRST_DRAWN = 28;
   const KEYWORDS = new Set(("abstract assert auto bool boolean break byte case catch chan char class const continue default " +
@@ -33,12 +33,14 @@
 
   // ---------------------------------------------------------------------------------------------------- data
 
-  function places(group) {
+  // The places of a group, or the first of them.
+  function places(group, most) {
     const flat = index.groups[group];
+    const end = Math.min(flat.length, 1 + (most || Infinity) * PLACE);
     const found = [];
-    for (let at = 1; at < flat.length; at += PLACE) {
-      const [file, first, last, column, end] = flat.slice(at, at + PLACE);
-      found.push({ file, path: index.paths[file], first, last, column, end });
+    for (let at = 1; at < end; at += PLACE) {
+      found.push({ file: flat[at], path: index.paths[flat[at]], first: flat[at + 1], last: flat[at + 2], column: flat[at + 3],
+        end: flat[at + 4] });
     }
     return found;
   }
@@ -94,13 +96,21 @@
     });
   }
 
-  // Pairs of lines that begin with the same token of the run. A line without a partner stands alone.
+  // Whether two lines stand beside each other: both without tokens of the run, or with at least half of one's in the other.
+  function isPair(a, b) {
+    if (!a.isMarked || !b.isMarked) return true;
+    if (!a.count || !b.count) return !a.count && !b.count && a.before === b.before;
+    const shared = Math.min(a.before + a.count, b.before + b.count) - Math.max(a.before, b.before);
+    return shared * 2 >= Math.min(a.count, b.count);
+  }
+
+  // The lines of two places in pairs. A line without a partner stands alone.
   function aligned(left, right) {
     const pairs = [];
     let i = 0, j = 0;
     while (i < left.length || j < right.length) {
       const a = left[i], b = right[j];
-      if (a && b && (!a.isMarked || !b.isMarked || (a.before === b.before && !a.count === !b.count))) {
+      if (a && b && isPair(a, b)) {
         pairs.push([a, b]); i++; j++;
       } else if (!b || (a && (a.before < b.before || (a.before === b.before && !a.count)))) {
         pairs.push([a, null]); i++;
@@ -245,7 +255,8 @@
 
   function row(group) {
     if (rows[group]) return rows[group];
-    const found = places(group);
+    const found = places(group, NAMED_PLACES);
+    const others = (index.groups[group].length - 1) / PLACE - found.length;
     const made = element("li");
     made.id = "g" + (group + 1);
     const anchor = element("a", "anchor", group + 1);
@@ -254,8 +265,8 @@
     const size = element("span", "size");
     size.append(element("b", "", number(index.groups[group][0])), " tokens");
     const where = element("span", "where");
-    where.append(...found.slice(0, NAMED_PLACES).map(placeName));
-    if (found.length > NAMED_PLACES) where.append(element("span", "more", "and " + counted(found.length - NAMED_PLACES, "more place")));
+    where.append(...found.map(placeName));
+    if (others) where.append(element("span", "more", "and " + counted(others, "more place")));
     const summary = element("summary");
     summary.append(size, " ", element("span", "extent", counted(found[0].last - found[0].first + 1, "line")), " ", where);
     const details = element("details");
