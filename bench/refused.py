@@ -1,10 +1,11 @@
 #!/usr/bin/env python3
-"""Runs each command but `export` once for each of its allocations, with that one refused, and checks how it ends and what it wrote.
+"""Runs each command once for each of its allocations, with that one refused, and checks how it ends and what it wrote.
 
-usage: bench/refused.py [--only NAME] [--every N] [--and-behind]
+usage: bench/refused.py [--only NAME] [--every N] [--short] [--and-after]
 
-One allocation is refused of a run, by its number from 1, until the number is past the last; with --and-behind all from that
-one on are. A run ends with 4 and has written nothing, or with 0. Then each of its lines is the reply that it has with enough
+One allocation is refused of a run, by its number from 1, until the number is past the last; with --and-after all from that
+one on are. --short refuses every 25th, which takes a few minutes. A run ends with 4 and has written nothing, or with 0. `export`
+has then written the same file as with enough memory; the others go on. Then each of its lines is the reply that it has with enough
 memory, or tells of its line that memory was refused, and a run without the lines that were told so, with enough memory, writes
 all other replies: so nothing was changed by such a line. A refused query may have made works and published a version, which
 `state` tells: of `state` only `accepted` is compared, and that neither of the others is lower. A server of `listen` may end
@@ -84,6 +85,7 @@ class Ended(NamedTuple):
     status: int
     lines: list[dict]
     allocations: int
+    file: bytes = b""  # what `export` wrote, which is no lines
 
 
 class Broken(Exception):
@@ -109,6 +111,13 @@ LINES = [
     put("c", "int main(void) { return 0; }", "c"), put("g", "package main\nfunc f() { for {} }\n", "go"),
     put("t", "q r s q r s"), line(op="measures", project="p", min=2, path="t"), line(op="groups", project="p", min=2),
     line(op="state"),
+]
+# What `export` reads: each line is a change that is accepted.
+CHANGES = [
+    put("t", "a b c x a b c y"), put("A.java", JAVA, "java"), put("c", "int main(void) { return 0; }", "c"),
+    put("g", "package main\nfunc f() { for {} }\n", "go"), put("other", "a b", project="q"), put("u", "a b c x"),
+    line(op="gate", project="p", conditions=[{"metric": "duplicated_lines_density", "op": "GT", "error": 300}]),
+    line(op="drop", project="p", path="u"), put("t", "q r s q r s"),
 ]
 # Version 2 of `p` with a gate: `t` with the one token `a`, and `u` with none.
 FILE = bytes.fromhex(
@@ -158,6 +167,8 @@ class Refusing:
     def run(self, words, given, first=0, last=0):
         process, count = self.start(words, first, last)
         out, _ = process.communicate(b"".join(given), timeout=SECONDS)
+        if words[0] == "export":
+            return ended(process, b"", count)._replace(file=out)
         return ended(process, out, count)
 
     def listen(self, words, given, first=0, last=0):
@@ -223,6 +234,7 @@ CASES = {
     "drive": Case(["drive", "--chunk", "2", "--shards", "1", "--key-bits", "0"], STEPS),
     "make": Case(["make", "7", "3"], []),
     "ask": Case(["ask", "--chunk", "2"], ASKED, front=FILE),
+    "export": Case(["export", "p", "--chunk", "2"], CHANGES),
     "listen": Case(["listen", *SETTINGS, "--workers", "0", "--sessions", "1", "--connections", "1"], LINES, over_sockets=True),
     "listen with workers": Case(["listen", *SETTINGS, "--workers", "2", "--sessions", "2", "--connections", "1"], LINES,
                                 over_sockets=True, has_workers=True),
@@ -240,12 +252,16 @@ def is_same(request, wanted, told, case):
 
 def check(run, case, wanted, told):
     """Holds a run with a refused allocation to the one with enough memory."""
-    if told.status in (4, 5) and not told.lines:
+    if told.status in (4, 5) and not told.lines and not told.file:
         if told.status == 5 and not case.over_sockets:
             raise Broken("it ended with 5")
         return f"ended with {told.status}"
     if told.status != 0:
-        raise Broken(f"it ended with {told.status} behind {len(told.lines)} lines")
+        raise Broken(f"it ended with {told.status} after {len(told.lines)} lines and {len(told.file)} bytes of a file")
+    if told.file != wanted.file:
+        raise Broken(f"it wrote a file of {len(told.file)} bytes, and not that of {len(wanted.file)}")
+    if case.words[0] == "export":
+        return "the whole file"
     if len(told.lines) != len(wanted.lines):
         raise Broken(f"it wrote {len(told.lines)} lines, and not {len(wanted.lines)}")
     refused = [at for at, it in enumerate(told.lines) if it == MEMORY]
@@ -267,7 +283,8 @@ def try_each(refusing, case, every, is_open):
         return over(words, [case.front, *lines], first, last)
 
     wanted = run(case.words, case.given)
-    if wanted.status != 0 or MEMORY in wanted.lines or len(wanted.lines) != max(len(case.given), 1):
+    count = 0 if wanted.file else max(len(case.given), 1)
+    if wanted.status != 0 or MEMORY in wanted.lines or len(wanted.lines) != count:
         raise Broken(f"with enough memory it ended with {wanted.status} and {len(wanted.lines)} lines")
 
     def one(number):
@@ -293,14 +310,15 @@ def try_each(refusing, case, every, is_open):
 def main():
     parser = argparse.ArgumentParser(description=__doc__, formatter_class=argparse.RawDescriptionHelpFormatter)
     parser.add_argument("--only", choices=list(CASES))
-    parser.add_argument("--every", type=int, default=1, help="each so many allocations alone")
-    parser.add_argument("--and-behind", action="store_true", help="refuse all allocations from that one on")
+    parser.add_argument("--every", type=int, default=1, help="refuse only every so many allocations")
+    parser.add_argument("--short", action="store_const", dest="every", const=25, help="as --every 25")
+    parser.add_argument("--and-after", action="store_true", help="refuse all allocations from that one on")
     given = parser.parse_args()
     is_broken, total = False, 0
     with tempfile.TemporaryDirectory() as folder:
         refusing = Refusing(Path(folder))
         for name in [given.only] if given.only else CASES:
-            allocations, counted, faults = try_each(refusing, CASES[name], given.every, given.and_behind)
+            allocations, counted, faults = try_each(refusing, CASES[name], given.every, given.and_after)
             told = ", ".join(f"{how}: {count}" for how, count in sorted(counted.items()))
             print(f"{name}: {allocations} allocations; {sum(counted.values())} runs with one refused: {told}", flush=True)
             for fault in faults[:5]:

@@ -15,7 +15,7 @@ use Rattle.cq_work.specs.declared.work.Work.{Work}
 use Rattle.cq_answer.specs.Versions.{AreOfVersion}
 use Rattle.cq_answer.specs.Works.{numbers_in}
 
--- a file: one of so many changes put it, its path is UTF-8, and its work is within its bounds
+-- a file: one of this many changes put it, its path is UTF-8, and its work is within its bounds
 pub record IsFileOf {L : Type 0} (set : Settings) (version : ℕ) (f : File (Work L)) : Type 0 where
   pub utf8 : IsUtf8 f.path
   pub first_change : 1 ≤ f.number
@@ -37,7 +37,7 @@ abbrev pub VersionsAreBounded : Type 0 → Type 0
 VersionsAreBounded L = (set : Settings) (changes : List Change) (version : ℕ) (project : List ℕ) (files : List (File (Work L))) (conditions : List Condition)
     → All IsSoundChange changes → AreOfVersion set changes version project files conditions → AreFilesOf set version files
 
--- and where each change is named, each has the path of a file
+-- and if each change is named, each has the path of a file
 abbrev pub PathsAreNamed : Type 0 → Type 0
 PathsAreNamed L = (set : Settings) (changes : List Change) (version : ℕ) (project : List ℕ) (files : List (File (Work L))) (conditions : List Condition)
     → All IsNamed changes → AreOfVersion set changes version project files conditions → AllByRecursion (λ (f : File (Work L)). is_path_text f.path ≡ true) files

@@ -32,9 +32,9 @@ pub record IsReplyBy (facts : Facts) (corpus : List (List Norm)) (conditions : L
 abbrev pub IsReplyOf : {L : Type 0} → List (File (Work L)) → List Condition → Query → ℕ → Reply → Type 0
 IsReplyOf files conditions q version reply = IsReplyBy (facts_in files) (norms_in files) conditions version q (chosen_in files q) reply
 
--- What is asked of such files and conditions: what a listing needs, counts of texts, a place for each token, as many
--- functions as four bytes tell, changes from 1 on, paths and names of functions that are texts, and as many conditions as a
--- gate may have.
+-- What is required of such files and conditions: what a listing needs, counts of texts, a place for each token, no more
+-- functions than four bytes can count, changes from 1 on, paths and names of functions that are texts, and no more
+-- conditions than a gate may have.
 pub record AreGiven {L : Type 0} (set : Settings) (files : List (File (Work L))) (conditions : List Condition) : Type 0 where
   pub listable : AreListable set files
   pub small : All AreSmall (counts_in files)

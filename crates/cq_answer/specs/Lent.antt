@@ -1,4 +1,4 @@
--- As many keys as changes.
+-- The number of keys is that of changes.
 use Rattle.std.specs.Prelude.{◌≡◌, List, length}
 use Rattle.std.specs.Arc.{arc_value}
 use Rattle.std.proofs.Common.{sym, ◌∙◌}

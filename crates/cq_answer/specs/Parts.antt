@@ -18,7 +18,7 @@ abbrev pub file_part : Option ℕ → Part
 file_part None = part.Nothing
 file_part (Some i) = part.File i
 
--- the whole project where no path is asked for, and else the file with that path, if there is one
+-- the whole project if no path is asked for, else the file with that path, if there is one
 abbrev pub part_at : List (List ℕ) → Option (List ℕ) → Part
 part_at paths None = part.Whole
 part_at paths (Some path) = file_part (position (λ (p : List ℕ). bytes_eq p path) paths)
@@ -50,7 +50,7 @@ HasPath kind.Functions path = IsSome path
 abbrev pub IsPattern : Option (List ℕ) → Type 0
 IsPattern scope = IfSome scope (λ s. IsTrue (is_path s))
 
--- it is one, and stands beside no path
+-- it is one, and comes without a path
 abbrev pub HasScope : Option (List ℕ) → Option (List ℕ) → Type 0
 HasScope path scope = IsPattern scope × IfSome scope (λ s. path ≡ None)
 
@@ -59,7 +59,7 @@ abbrev pub chooses_all : Option (List ℕ) → ℕ → Bool
 chooses_all None since = since == 0
 chooses_all (Some s) since = false
 
--- a file of the part is one of so many
+-- a file of the part is one of this many
 abbrev pub IsWithin : ℕ → Part → Type 0
 IsWithin files part.Whole = Unit {0}
 IsWithin files (part.File i) = i < files
@@ -87,7 +87,7 @@ AreWindowsOf keys (part.File i) windows = AreReached keys i windows
 AreWindowsOf keys (part.Alone i) windows = windows ≡ []
 AreWindowsOf keys part.Nothing windows = windows ≡ []
 
--- so many reads of tokens: for each of these windows as many as the longest repeat has tokens, and two
+-- this many reads of tokens: for each of these windows the tokens of the longest repeat, and two more
 pub record AreReadsOf (corpus : List (List Norm)) (keys : List (List ℕ)) (p : Part) (reads : ℕ) : Type 0 where
   pub longest : ℕ
   pub is_longest : IsLongest corpus longest
@@ -95,7 +95,7 @@ pub record AreReadsOf (corpus : List (List Norm)) (keys : List (List ℕ)) (p : 
   pub are_windows : AreWindowsOf keys p windows
   pub reads_are : reads ≡ length windows * (longest + 2)
 
--- where nothing is listed, none
+-- if nothing is listed, none
 abbrev pub AreMostReads : List (List Norm) → List (List ℕ) → Part → ℕ → Type 0
 AreMostReads corpus keys part.Whole reads = AreReadsOf corpus keys part.Whole reads
 AreMostReads corpus keys (part.File i) reads = AreReadsOf corpus keys (part.File i) reads

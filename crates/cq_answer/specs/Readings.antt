@@ -39,7 +39,7 @@ corpus_read set readings = map (norms_read set) readings
 abbrev pub keys_read : Settings → List Reading → List (List ℕ)
 keys_read set readings = map (window_keys set) (corpus_read set readings)
 
--- where these tokens of each stand, and what is counted of it: of all its tokens, also of those that are not listed
+-- where these tokens of each are, and what is counted of it: of all its tokens, also of those that are not listed
 abbrev pub spans_read : List Reading → List (List Token)
 spans_read readings = map (λ (r : Reading). spans_of (kept_in r.answer)) readings
 

@@ -31,7 +31,7 @@ shown_in state.Large = shown.Large
 abbrev pub file_row : Reading → FileRow
 file_row r = record { path = r.file.path; change = r.file.number; lang = r.file.lang; lines = lines_of r.file.body; shown = shown_in (state_of r.answer); tokens = length (kept_in r.answer) }
 
--- what a reply shows of some files: their rows, and of each its path, where its listed tokens stand, what is counted of it,
+-- what a reply shows of some files: their rows, and of each its path, where its listed tokens are, what is counted of it,
 -- and its functions
 pub record Facts : Type 0 where
   pub rows : List FileRow
@@ -57,7 +57,7 @@ no_measures = record { lines = 0; ncloc = 0; files = 0; complexity = 0; dup_line
 abbrev pub chosen_of : Facts → (ℕ → Bool) → List ℕ
 chosen_of facts is_chosen = filter is_chosen (range_with_len 0 (length facts.counts))
 
--- those of the chosen files of the whole, or those of one file where it is chosen, with the places that the groups of all
+-- those of the chosen files of the whole, or those of one file if it is chosen, with the places that the groups of all
 -- files have in them; of nothing all are 0
 abbrev pub measures_of : Facts → List Group → (ℕ → Bool) → Part → Measures
 measures_of facts groups is_chosen part.Whole = chosen_measures facts.counts facts.spans (chosen_of facts is_chosen) groups
@@ -67,7 +67,7 @@ measures_of facts groups is_chosen part.Nothing = no_measures
 
 -- ---- functions
 
--- those of the file that stands alone
+-- those of the file when only it is shown
 abbrev pub functions_of : Facts → Part → List Function
 functions_of facts part.Whole = []
 functions_of facts (part.File i) = []
@@ -88,7 +88,7 @@ worst_of fs = position (λ f. f.complexity == greatest_complexity fs) fs
 abbrev pub AreShowable : Facts → List Group → Type 0
 AreShowable facts groups = IsMeasurable facts.counts facts.spans groups
 
--- each file has fewer functions than four bytes tell
+-- each file has fewer functions than four bytes can count
 abbrev pub AreFewFunctions : Facts → Type 0
 AreFewFunctions facts = All (λ fs. length fs < 2 ^ 32) facts.functions
 

@@ -14,7 +14,7 @@ use Rattle.cq_scope.specs.Chosen.{is_chosen_at}
 use Rattle.cq_work.specs.declared.work.Work.{Work}
 use Rattle.cq_answer.specs.Rows.{Facts, shown_in}
 
--- a file of a listing behind its owner, and what it is: a path, a number, a language and a work
+-- a file of a listing, held by its owner, and what it is: a path, a number, a language and a work
 abbrev pub Owner : Type 0 → Type 0
 Owner L = Arc (File (Work L)) Global
 

@@ -75,13 +75,13 @@ fn reply_of<R: Threads + Sync, L: Ledger>(
     }
 }
 
-/// The reply to a query on the files of one project with their works, and on its conditions, at a version. Where they are
-/// those of a version of some changes, it is the reply by these. Want of memory leaves the buckets fit for the next question.
-/// With a path that is there, the index is asked for the keys of that file's windows
-/// alone; for the list of files, for functions, and for a path that is not there, it is not asked and no token is read.
-/// Measures of chosen files are by the groups of the whole project, and cost one look for each file, the comparison of its
-/// path where it changed, and a search among the chosen ones for each place. The measures of a whole project of many places
-/// are counted in threads; all else is done on the caller's.
+/// The reply to a query on the files of one project with their works, and on its conditions, at a version. If they are
+/// those of a version of some changes, it is the reply by these. If memory is refused, the buckets can still answer the
+/// next question. With a path that exists, the index is asked only for the keys of that file's windows. For the list of
+/// files, for functions, and for a path that does not exist, it is not asked and no token is read. Measures of chosen files
+/// are by the groups of the whole project, and cost one look for each file, the comparison of its path if it changed, and a
+/// search among the chosen ones for each place. The measures of a whole project of many places are counted in threads; all
+/// else is done on the caller's.
 pub fn answer<R: Threads + Sync, B: Buckets, L: Ledger>(
     rt: &R,
     alloc: Global,

@@ -8,7 +8,7 @@ pub fn versions_are_bounded<L: Ledger>()
     ensures { VersionsAreBounded L }
 {}
 
-/// Where each change is named as a request names it, each of these files has the path of a file.
+/// If each change is named as a request names it, each of these files has the path of a file.
 pub fn paths_are_named<L: Ledger>()
     ensures { PathsAreNamed L }
 {}

@@ -30,7 +30,7 @@ const NO_MEASURES: Measures = Measures {
     density: 0,
 };
 
-// What is counted of the files, and where their tokens stand, which are lent.
+// What is counted of the files, and where their tokens are, which are lent.
 fn lines_of<'a, L: Ledger>(
     alloc: Global,
     files: &'a [Arc<Held<Work<L>>, Global>],
@@ -85,7 +85,7 @@ fn measures_of_chosen<L: Ledger>(
     chosen_measures(alloc, &lines_of(alloc, files)?, &chosen, groups)
 }
 
-// Those of the whole project: in threads where every file is chosen.
+// Those of the whole project: in threads if every file is chosen.
 fn measures_of_whole<R: Threads + Sync, L: Ledger>(
     rt: &R,
     alloc: Global,
@@ -119,7 +119,7 @@ fn measures_at<L: Ledger>(
     file_measures(alloc, file, &lines_in(&files[file as usize]), groups)
 }
 
-// Those of one file where the query chooses it.
+// Those of one file if the query chooses it.
 fn measures_of_file<L: Ledger>(
     alloc: Global,
     files: &[Arc<Held<Work<L>>, Global>],

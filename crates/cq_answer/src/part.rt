@@ -45,7 +45,7 @@ fn alone(part: Part) -> Part
     }
 }
 
-/// What a query lists of some files. It costs a binary search where it has a path.
+/// What a query lists of some files. It costs a binary search if it has a path.
 pub(crate) fn part_of<L: Ledger>(files: &ProjectFiles<Work<L>>, query: &Query) -> Part
     ensures part { result ≡ spec.part_of (paths_in files.now) query.now.kind query.now.path }
     ensures within { spec.IsWithin (length files.now) result }

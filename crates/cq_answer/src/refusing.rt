@@ -10,7 +10,7 @@ use cq_board::Refused;
 use cq_reply::Reply;
 use cq_request::Refusal;
 
-/// The reply that tells why a line is refused.
+/// The reply that says why a line is refused.
 pub fn refused_as(why: Refusal) -> Result<Reply, Memory>
     requires { IsSoundRefusal why }
     ensures reply { IfOk result (λ r. r ≡ spec.refused_as why) }
@@ -31,7 +31,7 @@ pub fn refused_as(why: Refusal) -> Result<Reply, Memory>
     }
 }
 
-/// The reply that tells why a change is not accepted.
+/// The reply that says why a change is not accepted.
 pub fn cause_told(cause: Refused) -> Reply
     ensures reply { result ≡ spec.cause_told cause }
     ensures text { IsReplyText result }

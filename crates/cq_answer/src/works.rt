@@ -7,7 +7,7 @@ use cq_tokens::{Files, Tokens};
 use cq_work::Work;
 use std::sync::ledger::Ledger;
 
-/// The files of a project, lent to a listing where they lie.
+/// The files of a project, lent to a listing where they are.
 #[derive(Drop)]
 pub(crate) struct WorkFiles<'a, L: Ledger> {
     pub files: &'a ProjectFiles<Work<L>>,

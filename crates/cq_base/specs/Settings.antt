@@ -8,7 +8,7 @@ use Rattle.cq_base.specs.declared.settings.Field.TheVariants.{Chunk, Shards, Key
 abbrev pub is_within : ℕ → ℕ → ℕ → Bool
 is_within low high n = nat_le low n && nat_le n high
 
--- this field where it is out of its range, and else the first of the later ones
+-- this field if it is out of its range, else the first of the later ones
 abbrev pub unless_within : Bool → Field → Option Field → Option Field
 unless_within ok field later = if ok then later else Some field
 

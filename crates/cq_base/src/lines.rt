@@ -10,7 +10,7 @@ fn line_feeds(bytes: &[u8]) -> usize
     bytes.iter().filter(|b| **b == b'\n').count()
 }
 
-// Whether bytes stand behind the last line feed.
+// Whether there are bytes after the last line feed.
 fn is_open(bytes: &[u8]) -> bool
     ensures { result ≡ is_open bytes.now }
 {
@@ -20,7 +20,7 @@ fn is_open(bytes: &[u8]) -> bool
     }
 }
 
-/// The line, from 1, on which byte `at` of the text stands. It walks the bytes before it.
+/// The line, from 1, that byte `at` of the text is on. It walks the bytes before it.
 pub fn line_of(text: &Text, at: u32) -> u32
     requires short { length text.now ≤ 1048576 }
     requires within { at ≤ length text.now }
@@ -30,7 +30,7 @@ pub fn line_of(text: &Text, at: u32) -> u32
     1 + line_feeds(before) as u32
 }
 
-/// The line of byte `to`, counted on from byte `from`, which stands on `line`. It walks the bytes between the two.
+/// The line of byte `to`, counted from byte `from`, which is on `line`. It walks the bytes between the two.
 pub fn line_further(text: &Text, line: u32, from: u32, to: u32) -> u32
     requires short { length text.now ≤ 1048576 }
     requires known { line ≡ line_at text.now from }

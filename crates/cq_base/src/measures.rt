@@ -1,11 +1,11 @@
-/// What is counted of one file alone.
+/// What is counted in one file, whatever the others have.
 #[derive(Clone, Copy, Debug, PartialEq, Eq)]
 pub struct FileCounts {
     /// Lines of its text.
     pub lines: u64,
-    /// Lines with a token that is no comment; 0 where the file contributes no tokens.
+    /// Lines with a token that is not a comment; 0 if the file contributes no tokens.
     pub ncloc: u64,
-    /// 1 and its decisions; 0 where the file contributes no tokens.
+    /// 1 plus its decisions; 0 if the file contributes no tokens.
     pub complexity: u64,
 }
 

@@ -2,7 +2,7 @@ ghost use Rattle.std.specs.Prelude.{◌≡◌, IsTrue, ◌↔◌};
 
 use crate::{Class, Lang, Text};
 
-/// A token as it is compared: two are the same where language, class and text are.
+/// A token as it is compared: two are the same if their language, class and text are.
 #[derive(Debug, Drop)]
 pub struct Norm {
     pub lang: Lang,

@@ -36,7 +36,7 @@ pub enum Field {
 }
 
 impl Settings {
-    /// The first field that is out of its range, in the order of the struct; None where all are within.
+    /// The first field that is out of its range, in the order of the struct; None if all are in range.
     pub fn check(&self) -> Option<Field>
         ensures first { result ≡ first_out_of_range self.now }
         ensures in_range { IsNone result ↔ IsInRange self.now }

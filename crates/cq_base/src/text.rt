@@ -12,7 +12,7 @@ use std::alloc::Global;
 use std::cmp::{Ord, Ordering};
 use std::marker::Model;
 
-// A text of at most so many bytes, as most tokens are, takes no memory beside itself.
+// A text of at most this many bytes, as most tokens are, is held in place and allocates nothing.
 const SHORT: usize = 16;
 
 /// The bytes of a text. Contracts see it as their list.

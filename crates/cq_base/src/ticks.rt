@@ -3,7 +3,7 @@ ghost use base.Fml.{ftrue};
 
 use std::marker::{Model, PhantomData};
 
-// A number that clauses alone see. It takes no bytes. Its two functions are proved by hand, since they set it.
+// A number that only clauses see. It takes no bytes. Its two functions are proved by hand, since they set it.
 #[derive(Drop)]
 pub(crate) struct Ticks {
     marker: PhantomData<()>,

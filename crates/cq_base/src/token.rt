@@ -13,8 +13,8 @@ pub enum Class {
     Punct,
 }
 
-/// Where a token stands: `start` and `len` in bytes from the start of its text, lines from 1. Its last line is
-/// that of its last byte.
+/// Where a token is: `start` and `len` in bytes from the start of its text, lines from 1. Its last line is that of
+/// its last byte.
 #[derive(Clone, Copy, Debug, PartialEq, Eq)]
 pub struct Token {
     pub class: Class,

@@ -10,17 +10,16 @@ use Rattle.cq_cells.specs.Passes.{by_of}
 use Rattle.cq_cells.proofs.Fronts.{prefix_trans, prefix_self, left_longer, right_longer}
 use Rattle.cq_chain.specs.Passes.{BoardPass, IsOwn, HasNoneFrom}
 use Rattle.cq_history.specs.declared.event.Event.{Event}
-use Rattle.cq_history.specs.State.{state, own, view_of}
-use Rattle.cq_history.proofs.Bounds.{no_view}
+use Rattle.cq_history.specs.State.{own}
 use Rattle.cq_history.proofs.Prefixes.{own-append}
-use Rattle.cq_hub.specs.Hubs.{Never}
-use Rattle.cq_hub.proofs.Growing.{view_grows, all-append}
+use Rattle.cq_hub.proofs.Growing.{all-append}
 use Rattle.cq_shared.specs.declared.shared.Shared.{Shared}
 use Rattle.cq_shared.specs.SharedPasses.{IsPassOf, callers_of}
 use Rattle.cq_talk.specs.Gathered.{IsQuiet, StaysQuiet}
 use Rattle.cq_talk.specs.Steps.{IsClosed}
 use Rattle.cq_beside.specs.Besides.{Besides, Worked}
 use Rattle.cq_serve.specs.Labours.{IsOfTurn, Labour}
+use Rattle.cq_serve.proofs.Easing.{unmade_closed}
 
 -- ---- a worker accepts nothing, and opens no view
 
@@ -72,12 +71,6 @@ longer_begins : (xs ys : List Event) → IsPrefix xs ys ⊎ IsPrefix ys xs → I
 longer_begins xs ys (inl begins) = (left_longer xs ys ys begins (prefix_self ys), right_longer xs ys ys begins (prefix_self ys))
 longer_begins xs ys (inr begins) = (left_longer xs ys xs (prefix_self xs) begins, right_longer xs ys xs (prefix_self xs) begins)
 
--- ---- a caller that was not made yet
-
--- it has no view open
-pub unmade_closed : (callers c : ℕ) (h : List Event) → own c h ≡ [] → view_of (state callers h) c ≡ None
-unmade_closed callers c h none = view_grows callers ⊥ Never c [] h [] (record { more = h; after_is = refl; own_is = none; alone_is = λ never. absurd never }) tt ∙ no_view callers c
-
 -- ---- a pass that is split off
 
 -- it, and what is left of the pass
@@ -92,14 +85,14 @@ pub child_unasked : (p child : BoardPass) → child ≡ child_of p → child.ask
 child_unasked p child child_is = ap (λ (z : BoardPass). z.asked) child_is
 
 module _ {W R : Type 0} (hub : Shared W R) where
-  -- it has no view open
-  pub child_closed : (p child : BoardPass) → child ≡ child_of p → HasNoneFrom p.next p.seen → IsClosed (callers_of hub) (by_of child) child.seen
-  child_closed p child child_is none_from =
-      subst (λ (z : BoardPass). IsClosed (callers_of hub) (by_of z) z.seen) (sym child_is) (unmade_closed (callers_of hub) p.next p.seen (none_from p.next (omega arith)))
-
-  -- there is a next number where there is room
+  -- there is a next number if there is room
   pub some_next : (p : BoardPass) → IsPassOf hub p → 0 < p.room → 0 < p.next
   some_next p of room = ⊎_elim (λ (none : p.next ≡ 0). let full = of.of.of.later none in absurd (omega (arith, room, full))) (λ (some : 0 < p.next). some) (none_or_some p.next)
+
+  -- it has no view open
+  pub child_closed : (p child : BoardPass) → child ≡ child_of p → IsPassOf hub p → 0 < p.room → IsClosed (callers_of hub) (by_of child) child.seen
+  child_closed p child child_is of room =
+      subst (λ (z : BoardPass). IsClosed (callers_of hub) (by_of z) z.seen) (sym child_is) (unmade_closed (callers_of hub) p.next p.seen (of.of.unmade (some_next p of room) p.next (omega arith)))
 
   module _ (Said : ℕ → List Event → List Event → ℕ → Type 0) where
     -- a talk with no worker: one is what is left of the pass, child what was split off for the talk, own what became of that,

@@ -1,5 +1,5 @@
 -- A session beside which no other caller accepts a change.
-use Rattle.std.proofs.Common.{◌≡◌, ◌⊎◌, ℕ, ◌+◌, ◌<◌, ◌≤◌, List, map, sym, subst, arith, inl, inr, ⊎_elim, refl}
+use Rattle.std.proofs.Common.{◌≡◌, ◌⊎◌, ℕ, ◌+◌, ◌<◌, ◌≤◌, List, map, sym, subst, subst₂, arith, inl, inr, ⊎_elim, refl}
 use Rattle.std.specs.List.{AllByRecursion}
 use Rattle.std.proofs.lemmas.Bool.{cases_lt, cases_eq}
 use Rattle.cq_base.specs.declared.settings.Settings.{Settings}
@@ -17,7 +17,7 @@ use Rattle.cq_reply.specs.declared.reply.Reply.{Reply}
 use Rattle.cq_session.specs.Costs.{counted}
 use Rattle.cq_session.specs.Turn.{CountedTalk}
 use Rattle.cq_shared.specs.declared.shared.Shared.{Shared}
-use Rattle.cq_shared.specs.SharedPasses.{IsPassOf, settings_of, callers_of, shared_lawful}
+use Rattle.cq_shared.specs.SharedPasses.{IsPassOf, settings_of, callers_of}
 use Rattle.cq_talk.specs.Gathered.{IsQuiet, StaysQuiet}
 use Rattle.cq_talk.specs.Laws.{ActsBy}
 use Rattle.cq_talk.specs.Said.{said}
@@ -26,15 +26,17 @@ use Rattle.cq_talk.proofs.BesideRows.{all_before}
 use Rattle.cq_talk.proofs.BesideTalk.{beside_from_nothing}
 use Rattle.cq_talk.proofs.Gathering.{only_by}
 use Rattle.cq_beside.specs.Besides.{Besides}
-use Rattle.cq_beside.specs.Replies.{AreBeside}
+use Rattle.cq_beside.specs.Replies.{AreBeside, AreWithWorkers}
 use Rattle.cq_beside.specs.Served.{IsFirst, IsTold}
 use Rattle.cq_beside.proofs.Gathering.{some_next}
 use Rattle.cq_lines.proofs.Serving.{serves_as}
 
-module _ {W R : Type 0} (hub : Shared W R) (p q : BoardPass) (workers : ℕ) (Said : ℕ → List Event → List Event → ℕ → Type 0) (is : IsPassOf hub p) (room : workers < p.room) (made : IsFirst hub p) (b : Besides hub p workers q Said) where
-  law : Lawful (settings_of hub) (callers_of hub) q.seen
-  law = shared_lawful hub q (by_of q) q.seen (record { is = b.of; caller = refl; seen = refl })
+-- the history of the talk is a beginning of what the pass has seen by then, so it is lawful
+pub heard_lawful : {W R : Type 0} (hub : Shared W R) (p q : BoardPass) (workers : ℕ) (Said : ℕ → List Event → List Event → ℕ → Type 0) (b : Besides hub p workers q Said) (set : Settings) → settings_of hub ≡ set → Lawful set (callers_of hub) b.heard
+heard_lawful hub p q workers Said b set same =
+    subst (λ s. Lawful s (callers_of hub) b.heard) same (Lawful-prefix (settings_of hub) (callers_of hub) b.heard b.front.0 (subst (Lawful (settings_of hub) (callers_of hub)) (sym b.front.1) b.of.of.law.lawful))
 
+module _ {W R : Type 0} (hub : Shared W R) (p q : BoardPass) (workers : ℕ) (Said : ℕ → List Event → List Event → ℕ → Type 0) (is : IsPassOf hub p) (room : workers < p.room) (made : IsFirst hub p) (b : Besides hub p workers q Said) where
   one : p.next ≡ 1
   one =
       let some = some_next hub p is (omega (arith, room)) in
@@ -62,13 +64,23 @@ module _ {W R : Type 0} (hub : Shared W R) (p q : BoardPass) (workers : ℕ) (Sa
 
   are_beside : (set : Settings) → settings_of hub ≡ set → (lines : List (List ℕ)) (replies : List Reply) → Talk set (callers_of hub) ⊥ (p.next + workers) 0 p.seen (map (said set.chunk) lines) replies b.heard → AreBeside set lines replies
   are_beside set same lines replies talk =
-      let heard_law : Lawful set (callers_of hub) b.heard = subst (λ s. Lawful s (callers_of hub) b.heard) same (Lawful-prefix (settings_of hub) (callers_of hub) b.heard b.front.0 (subst (Lawful (settings_of hub) (callers_of hub)) (sym b.front.1) law)) in
-      beside_from_nothing set (callers_of hub) ⊥ (p.next + workers) b.heard (map (said set.chunk) lines) replies (subst (λ h. Talk set (callers_of hub) ⊥ (p.next + workers) 0 h (map (said set.chunk) lines) replies b.heard) made.none talk) heard_law
+      beside_from_nothing set (callers_of hub) ⊥ (p.next + workers) b.heard (map (said set.chunk) lines) replies (subst (λ h. Talk set (callers_of hub) ⊥ (p.next + workers) 0 h (map (said set.chunk) lines) replies b.heard) made.none talk) (heard_lawful hub p q workers Said b set same)
       (all_before (ActsBy (p.next + workers)) b.heard b.front.0 (subst (AllByRecursion (ActsBy (p.next + workers))) (sym b.front.1) (only_by (p.next + workers) q.seen others)))
 
+  are_with_workers : (set : Settings) → settings_of hub ≡ set → (reads reads_now : ℕ) (lines : List (List ℕ)) (replies : List Reply) → CountedTalk set (callers_of hub) ⊥ (p.next + workers) p.seen (counted reads reads_now 0 b.asked) b.heard lines replies → AreWithWorkers set (callers_of hub) workers reads reads_now lines replies
+  are_with_workers set same reads reads_now lines replies talk =
+      let number : p.next + workers ≡ workers + 1 = omega (arith, one) in
+      record {
+        heard = b.heard;
+        asked = b.asked;
+        lawful = heard_lawful hub p q workers Said b set same;
+        talk = subst₂ (λ (c : ℕ) (h : List Event). CountedTalk set (callers_of hub) ⊥ c h (counted reads reads_now 0 b.asked) b.heard lines replies) number made.none talk;
+        beside = are_beside set same lines replies talk.talk;
+      }
+
   -- so are the replies to the lines of a source that were served
-  pub serves_beside : {S K : Type 0} (from : source.Ghosts S) (onto : sink.Ghosts K) (set : Settings) → settings_of hub ≡ set → (reads reads_now limit : ℕ) (read read_now : S) (written written_now : K) (by : End)
-      → IsTold from onto set (callers_of hub) (p.next + workers) p.seen reads reads_now b.heard b.asked limit read read_now written written_now by → ServesLines from onto line_of (AreBeside set) limit read read_now written written_now by
-  serves_beside from onto set same reads reads_now limit read read_now written written_now by told =
-      serves_as line_of (CountedTalk set (callers_of hub) ⊥ (p.next + workers) p.seen (counted reads reads_now 0 b.asked) b.heard) (AreBeside set) (λ lines replies talk. are_beside set same lines replies talk.talk)
+  pub serves_with_workers : {S K : Type 0} (from : source.Ghosts S) (onto : sink.Ghosts K) (set : Settings) → settings_of hub ≡ set → (reads reads_now limit : ℕ) (read read_now : S) (written written_now : K) (by : End)
+      → IsTold from onto set (callers_of hub) (p.next + workers) p.seen reads reads_now b.heard b.asked limit read read_now written written_now by → ServesLines from onto line_of (AreWithWorkers set (callers_of hub) workers reads reads_now) limit read read_now written written_now by
+  serves_with_workers from onto set same reads reads_now limit read read_now written written_now by told =
+      serves_as line_of (CountedTalk set (callers_of hub) ⊥ (p.next + workers) p.seen (counted reads reads_now 0 b.asked) b.heard) (AreWithWorkers set (callers_of hub) workers reads reads_now) (are_with_workers set same reads reads_now)
       limit (from.rest read) (from.rest read_now) (onto.written written) (onto.written written_now) by told

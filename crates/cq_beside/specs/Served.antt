@@ -4,6 +4,7 @@ use Rattle.cq_base.specs.declared.settings.Settings.{Settings}
 use Rattle.cq_cells.specs.Passes.{by_of}
 use Rattle.cq_chain.specs.Passes.{BoardPass}
 use Rattle.cq_history.specs.declared.event.Event.{Event}
+use Rattle.cq_history.specs.Lawful.{Lawful}
 use Rattle.cq_io.specs.declared.sink.Sink as sink
 use Rattle.cq_io.specs.declared.source.Source as source
 use Rattle.cq_lines.specs.Serving.{ServesLines}
@@ -20,10 +21,11 @@ module _ {S K : Type 0} (from : source.Ghosts S) (onto : sink.Ghosts K) (set : S
   abbrev pub IsTold : List Event → ℕ → ℕ → S → S → K → K → End → Type 0
   IsTold heard asked limit read read_now written written_now by = ServesLines from onto line_of (CountedTalk set callers ⊥ c h (counted reads reads_now 0 asked) heard) limit read read_now written written_now by
 
-  -- they were by a talk to some history
+  -- they were by a talk to some history, which may be
   pub record IsServed (limit : ℕ) (read read_now : S) (written written_now : K) (by : End) : Type 0 where
     pub heard : List Event
     pub asked : ℕ
+    pub lawful : Lawful set callers heard
     pub told : IsTold heard asked limit read read_now written written_now by
 
 -- nothing has happened yet, and no other caller's pass was made

@@ -3,7 +3,6 @@ ghost use Rattle.std.specs.Thread.{IsSync};
 ghost use Rattle.cq_base.specs.Settings.{IsInRange};
 ghost use Rattle.cq_base.specs.declared.settings.Settings.{Settings as HubSettings};
 ghost use Rattle.cq_cells.specs.Passes.{by_of};
-ghost use Rattle.cq_chain.specs.Passes.{HasNoneFrom};
 ghost use Rattle.cq_history.specs.declared.event.Event.{Event as Happened};
 ghost use Rattle.cq_history.specs.State.{view_of};
 ghost use Rattle.cq_shared.specs.SharedPasses.{IsPassOf, settings_of, callers_of, state_of};
@@ -12,10 +11,9 @@ ghost use Rattle.cq_beside.specs.Besides.{Besides, Worked};
 use cq_base::Settings;
 use cq_chain::Pass;
 use cq_io::Gate;
-use cq_work::{Keyer, plain_key};
 use cq_serve::{Bell, work};
 use cq_shared::Shared;
-use cq_work::Work;
+use cq_work::{Keyer, Work, plain_key};
 use std::alloc::Global;
 use std::sync::Wait;
 use std::sync::ledger::Ledger;
@@ -88,7 +86,6 @@ fn apart<Q: Threads + Wait + Sync, L: Ledger, R: Wait, T: Talker<L, R>>(
     requires talks { settings_of hub.now ≡ T.settings talker }
     requires of { IsPassOf hub.now pass }
     requires room { 0 < pass.room }
-    requires unmade { HasNoneFrom pass.next pass.seen }
     ensures besides { Besides hub.now pass 0 result.1
         (T.Said talker result.0 (callers_of hub.now)) }
 {
@@ -125,7 +122,6 @@ pub(crate) fn beside<
     requires talks { settings_of hub.now ≡ T.settings talker }
     requires of { IsPassOf hub.now pass }
     requires room { workers < pass.room }
-    requires unmade { HasNoneFrom pass.next pass.seen }
     ensures besides { Besides hub.now pass workers result.1
         (T.Said talker result.0 (callers_of hub.now)) }
 {
@@ -145,7 +141,7 @@ pub(crate) fn beside<
         move || -> (T::Told, Pass<Work<L>>)
             requires { IsInRange settings.now × (settings_of hub.now ≡ settings.now)
                 × T.MayTalk talker × (settings_of hub.now ≡ T.settings talker)
-                × IsPassOf hub.now pass × (fewer < pass.room) × HasNoneFrom pass.next pass.seen }
+                × IsPassOf hub.now pass × (fewer < pass.room) }
             ensures { Besides hub.entry.now pass fewer result.1
                 (T.Said talker result.0 (callers_of hub.entry.now)) }
         { beside(rt, alloc, settings, hub, gate, bell, fewer, talker, pass) },

@@ -1,23 +1,21 @@
 ghost use Rattle.std.specs.Prelude.{◌≡◌, ◌+◌, ◌<◌};
 ghost use Rattle.cq_base.specs.Settings.{IsInRange};
-ghost use Rattle.cq_chain.specs.Passes.{HasNoneFrom};
 ghost use Rattle.cq_lines.specs.Runs.{IsFresh};
 ghost use Rattle.cq_lines.specs.Serving.{HasCauseOfEnd, ServesLines};
 ghost use Rattle.cq_reply.specs.Written.{line_of};
 ghost use Rattle.cq_shared.specs.SharedPasses.{IsPassOf, settings_of, callers_of};
-ghost use Rattle.cq_beside.specs.Replies.{AreBeside};
+ghost use Rattle.cq_beside.specs.Replies.{AreWithWorkers};
 ghost use Rattle.cq_beside.specs.Served.{IsServed, IsFirst};
 
 use crate::joining::{Talker, beside};
 use cq_base::{Settings, Steps};
 use cq_chain::Pass;
 use cq_io::{Gate, Sink, Source};
-use cq_work::Keyer;
 use cq_lines::{End, Lines};
 use cq_serve::{Bell, RingingGate};
 use cq_session::session;
 use cq_shared::Shared;
-use cq_work::Work;
+use cq_work::{Keyer, Work};
 use std::alloc::Global;
 use std::sync::Wait;
 use std::sync::ledger::Ledger;
@@ -133,12 +131,12 @@ pub fn serve_one<
     requires hub_settings { settings_of hub.now ≡ settings.now }
     requires of { IsPassOf hub.now pass }
     requires room { workers < pass.room }
-    requires unmade { HasNoneFrom pass.next pass.seen }
     ensures served { IsServed S.Source K.Sink settings.now
         (callers_of hub.now) (pass.next + workers) pass.seen steps.old steps.new
         lines.old.limit source.old source.new sink.old sink.new result }
     ensures beside { IsFirst hub.now pass
-        → ServesLines S.Source K.Sink line_of (AreBeside settings.now)
+        → ServesLines S.Source K.Sink line_of
+        (AreWithWorkers settings.now (callers_of hub.now) workers steps.old steps.new)
         lines.old.limit source.old source.new sink.old sink.new result }
     ensures cause { HasCauseOfEnd S.Source K.Sink source.old source.new sink.old sink.new result }
 {

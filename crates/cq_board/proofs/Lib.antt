@@ -16,4 +16,5 @@ pub mod Sounding
 pub mod Turning
 pub mod Undoing
 pub mod VersionEntries
+mod WorkedCases
 pub mod Works

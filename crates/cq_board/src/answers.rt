@@ -1,6 +1,7 @@
 use cq_base::{Lang, Memory, Text};
 use std::alloc::{AllocError, AllocFailed, Global};
 use std::sync::Arc;
+use thiserror::Error;
 
 /// What a caller is told of the changes: how many are accepted, up to which all are done, the first that is not done, and
 /// the last published version.
@@ -21,14 +22,18 @@ pub struct Job {
 }
 
 /// Why a change is not accepted.
-#[derive(Clone, Copy, Debug, PartialEq, Eq)]
+#[derive(Clone, Copy, Debug, PartialEq, Eq, Error)]
 pub enum Refused {
     /// It drops a path whose last put or drop is no put.
+    #[error("there is no file at the path to drop")]
     Absent,
     /// So many changes are kept as may be, or so many were accepted.
+    #[error("too many changes")]
     FullChanges,
     /// Its text and all kept texts have more bytes than may be.
+    #[error("the kept texts would have too many bytes")]
     FullText,
+    #[error("out of memory")]
     Memory,
 }
 

@@ -358,7 +358,7 @@ module _ {I E K : Type 0} (lawful_by : K → List E → Type 0) (fits_by : K →
               known = reached_more words' k c m.0.known (λ _. subst (λ (n : ℕ). c ≤ n / 2) (sym now) (omega arith)) (reached_on s.words k (found + 1) up near m.0.known mine.known);
               room = mine.room;
             },
-        ((λ _. (y, r.log, seen, refl, from, to, by_key (λ a. lawful_by a r.log × fits_by a r.log k c y) (r.law, t.2) m.0.about mine.about, whole, same, each_map _ (λ c. own caller c r.log ≡ own caller c m.0.seen) m.0.callers (λ c p. p.2) mine.callers, reached_least s.words k m.0.known mine.known)), λ ne. absurd (ne is)),
+        ((λ _. (y, r.log, seen, refl, from, to, by_key (λ a. lawful_by a r.log × fits_by a r.log k c y) (r.law, t.2) m.0.about mine.about, whole, same, each_map _ (λ c. own caller c r.log ≡ own caller c m.0.seen) m.0.callers (λ c p. p.2) mine.callers, reached_least s.words k m.0.known mine.known, λ pos c l. let room = (mine.room.0 pos).1 in r.fresh c (omega arith))), λ ne. absurd (ne is)),
       )
 
   pub takes_cell : (n id : ℕ) (m : Sat) (k found : ℕ) (said : maybe.Option (Option I)) → k < n → m.0.hand ≡ Free → found % 2 ≡ 0

@@ -5,12 +5,12 @@ abbrev pub Each : {A : Type 0} → (A → Type 0) → List A → Type 0
 Each P [] = Unit {0}
 Each P (x ∷ xs) = P x × Each P xs
 
--- no number stands there twice
+-- no number is there twice
 abbrev pub Differ : List ℕ → Type 0
 Differ [] = Unit {0}
 Differ (c ∷ cs) = Each (λ d. c ≢ d) cs × Differ cs
 
--- the number stands there
+-- the number is there
 abbrev pub Among : ℕ → List ℕ → Type 0
 Among c [] = ⊥
 Among c (d ∷ ds) = (c ≡ d) ⊎ Among c ds
@@ -37,6 +37,6 @@ OwnSame caller callers new old = Each (λ c. own caller c new ≡ own caller c o
 abbrev pub NoneFrom : {E : Type 0} → (E → Option ℕ) → ℕ → List E → Type 0
 NoneFrom caller next log = (c : ℕ) → next ≤ c → own caller c log ≡ []
 
--- the second where it is longer, and else the first
+-- the second if it is longer, else the first
 abbrev pub longer : {A : Type 0} → List A → List A → List A
 longer xs ys = cond (nat_lt (length xs) (length ys)) ys xs

@@ -1,4 +1,4 @@
--- What is known of the counts of cells. A count stands in the upper 63 bits of the cell's word.
+-- What is known of the counts of cells. A count is in the upper 63 bits of the cell's word.
 use Rattle.std.specs.Prelude.{◌≢◌, ℕ, ◌/◌, ◌≤◌, ◌==◌, max, List, [], ◌∷◌, slice_index, cond}
 use Rattle.cq_cells.specs.Callers.{Each}
 

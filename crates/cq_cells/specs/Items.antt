@@ -12,7 +12,7 @@ module _ {B S E : Type 0} (board : List E → B → Type 0) (shard : List E → 
   Fits log (suc s) c (item.Shard x) = shard log s c x
 
 module _ {B S E : Type 0} (lawful : List E → Type 0) (board : List E → B → Type 0) (shard : List E → ℕ → ℕ → S → Type 0) (asks : E → ℕ) where
-  -- what is in a shard's cell stays right where each shard does
+  -- what is in a shard's cell stays right if each shard does
   pub fits_last : ((log : List E) (e : E) (s a : ℕ) (x : S) → lawful (log ++ e ∷ []) → asks e ≤ a → shard log s a x → shard (log ++ e ∷ []) s a x)
       → (log : List E) (e : E) (k c : ℕ) (x : Item B S) → k ≢ 0 → lawful (log ++ e ∷ []) → asks e ≤ c → Fits board shard log k c x → Fits board shard (log ++ e ∷ []) k c x
   fits_last lasts log e zero c x other law ask h = absurd (other refl)

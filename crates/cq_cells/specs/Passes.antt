@@ -29,7 +29,7 @@ pub record PassState (I E K : Type 0) : Type 0 where
   pub room : ℕ
   pub asked : ℕ
 
--- the cells were made with this, and so many callers there may be
+-- the cells were made with this, for this many callers
 abbrev pub AreMadeWith : {K : Type 0} → K → ℕ → CellsState K → Type 0
 AreMadeWith about callers cells = (cells.about ≡ about) × (cells.callers ≡ callers)
 
@@ -71,7 +71,7 @@ module _ {I E K : Type 0} where
   abbrev pub first_pass : CellsState K → PassState I E K
   first_pass cells = record { table = cells.table; about = Some cells.about; callers = 0 ∷ []; seen = []; hand = Free; known = []; next = 1; room = cells.callers - 1; asked = 0 }
 
-  -- the pass, where the next caller is made, and the pass of that caller, which has seen as much
+  -- the pass, if the next caller is made, and the pass of that caller, which has seen as much
   abbrev pub with_child : PassState I E K → PassState I E K
   with_child p = record p { next = p.next + 1; room = p.room - 1 }
 

@@ -29,7 +29,8 @@ module _ {I E K : Type 0} where
   MayNote lawful asks caller cells v seen e = lawful (seen ++ e ∷ []) × MayCall (caller e) v.callers × ((k : ℕ) → 0 < k → k < cells → asks e ≤ least_of k v.known)
 
   module _ (lawful : List E → Type 0) (fits : List E → ℕ → ℕ → I → Type 0) (asks : E → ℕ) (caller : E → Option ℕ) (log : List E) (words : List ℕ) (owner : ℕ → ℕ) (seat : ℕ) (v : View I E K) where
-    -- a hand with a cell: the cell is held, by this seat alone; the value as it was taken is right, as one in a free cell; and the holder of the board has seen the whole history
+    -- a hand with a cell: the cell is held, and only by this seat; the value as it was taken is right, as one in a free
+    -- cell; and the holder of the board has seen the whole history
     abbrev pub HandOk : Hand I E → Type 0
     HandOk Free = Unit {0}
     HandOk (Has k x noted) =
@@ -50,7 +51,7 @@ pub record Knows {I E K : Type 0} (lawful : List E → Type 0) (fits : List E �
   pub known : Reached words v.known
   pub room : RoomOk total made seat v
 
--- the rule. The history, who holds a held cell, whose a number is, and how many numbers are made exist in the proof alone
+-- the rule. The history, who holds a held cell, whose a number is, and how many numbers are made exist only in the proof
 pub record Kept {I E K : Type 0} (lawful : List E → Type 0) (fits : List E → ℕ → ℕ → I → Type 0) (asks : E → ℕ) (caller : E → Option ℕ) (total : ℕ) (key : K) (s : State (Option I) (View I E K)) : Type 0 where
   pub log : List E
   pub owner : ℕ → ℕ

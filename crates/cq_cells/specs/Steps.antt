@@ -1,4 +1,4 @@
--- What each step does to a seat's view, and what it tells.
+-- What each step does to a seat's view, and what it shows.
 use Rattle.std.specs.Prelude.{◌≡◌, ◌≢◌, ◌⊎◌, ℕ, ◌+◌, ◌-◌, ◌/◌, ◌^◌, ◌<◌, ◌≤◌, List, [], ◌∷◌, ◌++◌, Option, Some, None, IfSome, option_to_list}
 use mathlib.Core.List.{IsPrefix}
 use Rattle.atomic_table.specs.Table.{Me, Step, rest}
@@ -52,12 +52,12 @@ module _ {I E K : Type 0} where
   abbrev pub let_go : ℕ → ℕ → View I E K → View I E K
   let_go k count v = record v { seen = v.seen ++ option_to_list (noted_of v.hand); hand = Free; known = more_known k count v.known }
 
-  -- the cell was taken where its word was found as expected, and else nothing changed
+  -- The cell was taken if its word was found as expected, and else nothing changed. The history of the first seat has no event of a number that is not made
   abbrev pub taken : (K → List E → Type 0) → (K → List E → ℕ → ℕ → I → Type 0) → (E → Option ℕ) → Step (Option I) → Sat I E K → ℕ → Sat I E K → Type 0
   taken lawful fits caller st m r m' =
       (r ≡ st.first → (x : I) × (log : List E) × (seen : List E) × (m' ≡ (took st.word x seen (r / 2) m.0, (st.word, Some x) ∷ m.1))
       × IsPrefix m.0.seen seen × IsPrefix seen log × IfSome m.0.about (λ key. lawful key log × fits key log st.word (r / 2) x) × (st.word ≡ 0 → seen ≡ log) × (st.word ≢ 0 → seen ≡ m.0.seen)
-      × OwnSame caller m.0.callers log m.0.seen × (least_of st.word m.0.known ≤ r / 2))
+      × OwnSame caller m.0.callers log m.0.seen × (least_of st.word m.0.known ≤ r / 2) × (0 < m.0.next → NoneFrom caller m.0.next log))
       × (r ≢ st.first → m' ≡ m)
 
   abbrev pub noted : Option E → Step (Option I) → Sat I E K → ℕ → Sat I E K → Type 0
@@ -83,7 +83,7 @@ module _ {I E K : Type 0} where
   abbrev pub KeepsCaller : View I E K → View I E K → Type 0
   KeepsCaller v w = (w.about ≡ v.about) × (w.callers ≡ v.callers) × (w.next ≡ v.next) × (w.room ≡ v.room)
 
-  -- the numbers of another view come behind its own, and all else of its caller is as before
+  -- the numbers of another view come after its own, and all else of its caller is as before
   abbrev pub KeepsAndAdds : View I E K → List ℕ → View I E K → Type 0
   KeepsAndAdds v more w = (w.callers ≡ v.callers ++ more) × (w.next ≡ v.next) × (w.room ≡ v.room) × (w.about ≡ v.about)
 
@@ -91,7 +91,7 @@ module _ {I E K : Type 0} where
   abbrev pub KeepsSeen : View I E K → View I E K → Type 0
   KeepsSeen v w = (w.seen ≡ v.seen) × (w.known ≡ v.known)
 
-  -- what was noted with the hand comes behind what it has seen
+  -- what was noted with the hand comes after what it has seen
   abbrev pub SeesNoted : View I E K → View I E K → Type 0
   SeesNoted v w = w.seen ≡ v.seen ++ option_to_list (noted_of v.hand)
 
@@ -136,6 +136,7 @@ module _ {I E K : Type 0} (lawful : K → List E → Type 0) where
   Finds fits caller key k x p q =
       (log : List E) × (c : ℕ) × IsPrefix (view q).seen log × lawful key log × fits key log k c x × (k ≡ 0 → (view q).seen ≡ log) × (k ≢ 0 → (view q).seen ≡ (view p).seen)
       × ((view q).known ≡ more_known k c (view p).known) × OwnSame caller (view p).callers log (view p).seen × (c < 2 ^ 63) × (least_of k (view p).known ≤ c)
+      × (0 < (view p).next → NoneFrom caller (view p).next log)
 
   -- the pass may note the event, if there is one: the cell is the board's
   abbrev pub MayNoteHere : (E → ℕ) → (E → Option ℕ) → K → ℕ → ℕ → Seat (Option I) (View I E K) → Option E → Type 0

@@ -41,6 +41,7 @@ impl<B, S, E, K, L: Law<B, S, E, K>, R: Wait> Cells<B, S, E, K, L, R> {
         ensures lawful { L.lawful self.now.about pass.new.seen }
         ensures board { L.board self.now.about pass.new.seen result }
         ensures own { IsOwn L.caller pass.old pass.new.seen }
+        ensures unmade { 0 < pass.new.next → NoneFrom L.caller pass.new.next pass.new.seen }
         ensures known { pass.new.known ≡ pass.old.known }
     {
         match self.locked.take(0, &mut pass.seat) {
@@ -128,7 +129,7 @@ impl<B, S, E, K, L: Law<B, S, E, K>, R> Cells<B, S, E, K, L, R> {
         }
     }
 
-    /// Ends the callers of another pass: this one has then seen what either had, and has their numbers. Where the other is
+    /// Ends the callers of another pass: this one has then seen what either had, and has their numbers. If the other is
     /// the first pass, no more callers are made.
     pub fn join_pass(&self, pass: &mut Pass<B, S, E, K>, other: Pass<B, S, E, K>)
         requires of { IsPassOf self.now pass.old × IsPassOf self.now other }

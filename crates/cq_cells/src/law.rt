@@ -24,7 +24,7 @@ pub trait Law<B, S, E, K> {
     // How many changes each shard must have applied before this event.
     ghost asks: { E → ℕ };
 
-    // A shard stays right after one event more, where it has applied what the event asks for.
+    // A shard stays right after one event more, if it has applied what the event asks for.
     ghost lasts: { (key : K) (log : List E) (e : E) (s a : ℕ) (x : S) → lawful key (log ++ e ∷ []) → asks e ≤ a → shard key log s a x → shard key (log ++ e ∷ []) s a x };
 }
 
@@ -35,7 +35,7 @@ pub trait CellLaw<I, E, K> {
 
     ghost lawful: { K → List E → Type 0 };
 
-    // The value of the cell with this number, after this history, where its word's half is this count.
+    // The value of the cell with this number, after this history, if its word's half is this count.
     ghost fits: { K → List E → ℕ → ℕ → I → Type 0 };
 
     ghost caller: { E → Option ℕ };

@@ -6,7 +6,7 @@
 //!
 //! A cell is a word and a slot of `atomic_table`. The upper 63 bits of the word are a count, of events in the
 //! board's, modulo 2^63, and of applied changes in a shard's; the lowest bit is 1 while a pass holds the cell, whose
-//! value is then out of the slot. The history exists in the proof alone. Between any two atomic steps of any passes,
+//! value is then out of the slot. The history exists only in the proof. Between any two atomic steps of any passes,
 //! `Kept` of specs/Rule.antt is true:
 //!
 //! - The history is lawful. What a pass has seen is a front of it, and some pass has seen it whole.
@@ -19,7 +19,7 @@
 //! - A count that a pass knows a shard to have reached is no more than that shard's. Counts of shards never fall.
 //! - The first pass makes the numbers; its room is the callers less the numbers made.
 //!
-//! A pass also counts the questions that were asked with it. The count stands beside the pass's seat and is no part of the
+//! A pass also counts the questions that were asked with it. The count is beside the pass's seat and is not part of the
 //! rule.
 //!
 //! # The steps
@@ -33,16 +33,15 @@
 //! | note | a load of the board's word | puts the event into the holder's view |
 //! | release | a store, of twice the count | the event is the history's, the value is free |
 //!
-//! An event is noted only where the history stays lawful, its maker is the holder's caller, and the holder knows each
+//! An event is noted only if the history stays lawful, its maker is the holder's caller, and the holder knows each
 //! shard to have reached what the event asks for. So no pass ever holds two cells, and still board and shards agree:
 //! a pass that takes a shard finds it right for some history that begins with what it has seen.
 //!
-//! Three steps are not what one might write down first. A join is two loads, since what a join tells may go by the
-//! two views alone, and that one history begins with the other is known only to the rule: the first load puts the
-//! other view beside this one, the second compares them. A release is one store of the whole word, and not one more
-//! or one less: the count goes by the value that is put back, and the same step serves with an event and without.
-//! What was done to a shard is not noted but owed at its release, for each history that may be by then; no other pass
-//! can tell the difference.
+//! Three steps are not what one might write down first. A join is two loads, since a join may only use the two views,
+//! and only the rule knows that one history begins with the other: the first load puts the other view beside this
+//! one, the second compares them. A release is one store of the whole word, and not one more or one less: the count
+//! goes by the value that is put back, and the same step serves with an event and without. What was done to a shard
+//! is not noted but owed at its release, for each history that may be by then; no other pass can see the difference.
 //!
 //! # Waiting
 //!

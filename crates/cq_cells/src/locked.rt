@@ -56,9 +56,9 @@ impl<I, E, K, L: CellLaw<I, E, K>, R: Wait> Locked<I, E, K, L, R> {
         unreachable!()
     }
 
-    // Looks at the word until it is no longer as it was found, or so often in vain that a sleep costs less; then sleeps
-    // while the word is so, until a wake. It counts among those that wait before the word is looked at once more, and
-    // whoever releases the cell changes the word before it looks at the count: so one of the two sees the other.
+    // Watches the word until it changes, or for so long that a sleep costs less; then sleeps while the word is
+    // unchanged, until a wake. It counts itself among those that wait before it looks at the word once more, and
+    // whoever releases the cell changes the word before looking at the count: so one of the two sees the other.
     fn wait(&self, cell: usize, found: u64)
         requires { cell < self.now.count }
     {

@@ -1,4 +1,4 @@
-// The rule of the table, and what each step on a word tells.
+// The rule of the table, and what each step on a word shows.
 ghost use Rattle.cq_cells.specs.Rule.{Kept};
 ghost use Rattle.cq_cells.specs.Steps.{taken, noted, released, compared, first_view, spent, less, child, beside_of};
 

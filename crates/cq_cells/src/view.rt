@@ -8,7 +8,7 @@ pub enum Hand<I, E> {
 }
 
 pub struct View<I, E, K> {
-    // What the cells were made with. A pass that was joined into another does not tell it.
+    // What the cells were made with. It is not reported by a pass that was joined into another.
     pub about: Option<K>,
     // Its caller's number, and then those of the callers that were joined into it. Joined into another, it has none.
     pub callers: LinkedList<u64>,

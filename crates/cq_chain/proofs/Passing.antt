@@ -1,6 +1,7 @@
 -- Passes over a board and its shards.
-use Rattle.std.proofs.Common.{◌≡◌, ℕ, suc, ◌+◌, ◌<◌, ◌≤◌, ◌^◌, ◌%◌, cond, List, [], ◌∷◌, ◌++◌, length, get_or, Option, Some, None, refl, sym, ap, ◌∙◌, subst, inl, inr, ⊎_elim, arith}
-use Rattle.std.specs.Prelude.{All, IfSome, option_to_list}
+use Rattle.std.proofs.Common.{◌≡◌, ◌≢◌, ℕ, suc, ◌+◌, ◌<◌, ◌≤◌, ◌^◌, ◌%◌, cond, List, [], ◌∷◌, ◌++◌, length, get_or, Option, Some, None, refl, sym, ap, ◌∙◌, subst, subst₂, inl, inr, ⊎_elim, arith, append-nil, ne_eqb}
+use Rattle.std.specs.Prelude.{All, IfSome, option_to_list, slice_index}
+use Rattle.std.proofs.lemmas.Bool.{cases_lt}
 use Rattle.std.proofs.lemmas.List.Elements.{All-nil}
 use Rattle.std.proofs.lemmas.List.Sums.{prefix_len-le-length}
 use mathlib.Core.List.{IsPrefix}
@@ -14,7 +15,7 @@ use Rattle.cq_history.specs.Lawful.{Lawful, IsBelow}
 use Rattle.cq_history.specs.Lasts.{view_in}
 use Rattle.cq_history.specs.Core.{IsReached}
 use Rattle.cq_history.proofs.States.{Lawful-prefix}
-use Rattle.cq_history.proofs.Prefixes.{changes_in-state}
+use Rattle.cq_history.proofs.Prefixes.{changes_in-state, own-append}
 use Rattle.cq_history.proofs.Falling.{never_falls}
 use Rattle.cq_history.proofs.Bounds.{views_above_floor}
 use Rattle.cq_history.proofs.Openings.{view_is, view_own}
@@ -30,7 +31,7 @@ use Rattle.cq_cells.specs.declared.view.Hand.TheVariants.{Free, Has}
 use Rattle.cq_cells.specs.Callers as callers
 use Rattle.cq_cells.specs.Callers.{Each, Differ, OwnSame, NoneFrom, MayCall, longer}
 use Rattle.cq_cells.specs.Passes as passes
-use Rattle.cq_cells.specs.Passes.{IsFree, HasBoard, HasShard, HasReached, by_of, least}
+use Rattle.cq_cells.specs.Passes.{IsFree, IsSameCaller, HasBoard, HasShard, HasReached, by_of, least}
 use Rattle.cq_cells.proofs.Fronts.{longer_case}
 use Rattle.cq_chain.specs.declared.about.About.{About}
 use Rattle.cq_chain.specs.Held.{IsLawful, IsBoard, IsShardOf, IsShardAt, state_in, asks}
@@ -55,6 +56,48 @@ is_own p log h = record { by = sym (own_same (by_of p) log) ∙ h.by ∙ own_sam
 
 pub none_from : (next : ℕ) (log : List Event) → NoneFrom maker next log → HasNoneFrom next log
 none_from next log h c from = sym (own_same c log) ∙ h c from
+
+-- ---- callers that are still to be made
+
+first_stays : (xs ys : List ℕ) → 0 < length xs → slice_index (xs ++ ys) 0 ≡ slice_index xs 0
+first_stays [] ys some_x = absurd (omega arith)
+first_stays (x ∷ xs) ys some_x = refl
+
+-- an event that another made, or nobody
+not_own : (c by : ℕ) (e : Event) (m : Option ℕ) → IfSome m (λ d. d ≡ by) → c ≢ by → cond (history.is_by c m) (e ∷ []) [] ≡ []
+not_own c by e None mine other = refl
+not_own c by e (Some d) mine other = ap (λ b. cond b (e ∷ []) []) (ne_eqb c d (λ same. other (same ∙ mine)))
+
+own_after : (cells : BoardCells) (p : BoardPass) (event : Option Event) → IfSome event (MayAdd cells p) → (c : ℕ) → c ≢ by_of p → own c (p.seen ++ option_to_list event) ≡ own c p.seen
+own_after cells p None may c other = ap (own c) (append-nil p.seen)
+own_after cells p (Some e) may c other = own-append c p.seen (e ∷ []) ∙ (ap (λ l. own c p.seen ++ l) (not_own c (by_of p) e (maker e) may.maker other) ∙ append-nil (own c p.seen))
+
+module _ (p q : BoardPass) where
+  same_next : q.next ≡ p.next → 0 < q.next → 0 < p.next
+  same_next next pos = subst (λ (n : ℕ). 0 < n) next pos
+
+  pub made_same : IsSameCaller p q → (0 < p.next → by_of p < p.next) → 0 < q.next → by_of q < q.next
+  made_same same made pos = subst₂ (λ (cs : List ℕ) (n : ℕ). slice_index cs 0 < n) (sym same.callers) (sym same.next) (made (same_next same.next pos))
+
+  pub made_joined : (others : List ℕ) → 0 < length p.callers → q.callers ≡ p.callers ++ others → q.next ≡ p.next → (0 < p.next → by_of p < p.next) → 0 < q.next → by_of q < q.next
+  made_joined others has_caller callers next made pos =
+      subst₂ (λ (c n : ℕ). c < n) (sym (ap (λ (cs : List ℕ). slice_index cs 0) callers ∙ first_stays p.callers others has_caller)) (sym next) (made (same_next next pos))
+
+  pub unmade_same : IsSameCaller p q → q.seen ≡ p.seen → (0 < p.next → HasNoneFrom p.next p.seen) → 0 < q.next → HasNoneFrom q.next q.seen
+  unmade_same same seen unmade pos = subst₂ HasNoneFrom (sym same.next) (sym seen) (unmade (same_next same.next pos))
+
+  -- behind an event of its own, or of nobody
+  pub unmade_more : (cells : BoardCells) (event : Option Event) → IfSome event (MayAdd cells p) → IsSameCaller p q → q.seen ≡ p.seen ++ option_to_list event
+      → (0 < p.next → by_of p < p.next) → (0 < p.next → HasNoneFrom p.next p.seen) → 0 < q.next → HasNoneFrom q.next q.seen
+  unmade_more cells event may same seen made unmade pos c from =
+      let pos_p = same_next same.next pos in
+      let from_p : p.next ≤ c = let e = same.next in omega (arith, from, e) in
+      let below = made pos_p in
+      ap (own c) seen ∙ own_after cells p event may c (λ e. absurd (omega (arith, e, below, from_p))) ∙ unmade pos_p c from_p
+
+-- whose pass makes callers has a number to give
+pub makes : (next room : ℕ) → (next ≡ 0 → room ≡ 0) → 0 < room → 0 < next
+makes next room later some_room = ⊎_elim (λ lt. lt) (λ ge. let none : next ≡ 0 = omega (arith, ge) in absurd (let e = later none in omega (arith, e, some_room))) (cases_lt 0 next)
 
 -- ---- the cell in hand
 
@@ -86,8 +129,8 @@ few_shard p t y here few s x has = subst (λ (z : Contents). z.applied < 2 ^ 63)
 -- ---- passes
 
 pub is_pass : (here cells : BoardCells) (q : BoardPass) → here ≡ cells → here.callers ≡ here.about.callers → passes.IsPassOf here q → IsLawful cells.about q.seen → Differ q.callers
-    → ((s : ℕ) (x : Contents) → HasShard q s x → x.applied < 2 ^ 63) → IsPassOf cells q
-is_pass here cells q is many mine law apart few =
+    → ((s : ℕ) (x : Contents) → HasShard q s x → x.applied < 2 ^ 63) → (0 < q.next → by_of q < q.next) → (0 < q.next → HasNoneFrom q.next q.seen) → IsPassOf cells q
+is_pass here cells q is many mine law apart few made unmade =
     let of_them : passes.IsPassOf cells q = subst (λ (z : BoardCells). passes.IsPassOf z q) is mine in
     let all : cells.callers ≡ cells.about.callers = subst (λ (z : BoardCells). z.callers ≡ z.about.callers) is many in
     record {
@@ -97,6 +140,8 @@ is_pass here cells q is many mine law apart few =
       apart = apart;
       room = λ some_room. of_them.first some_room ∙ all;
       few = few;
+      made = made;
+      unmade = unmade;
     }
 
 pub longer_lawful : (about : About) (seen more : List Event) → IsLawful about seen → IsLawful about more → IsLawful about (longer seen more)

@@ -23,8 +23,13 @@ BoardCells = CellsState About
 abbrev pub BoardPass : Type 0
 BoardPass = PassState (Item BoardState Contents) Event About
 
--- the pass is of these cells and has seen a lawful history; its caller is one of the board's, and its callers differ. A
--- shard that it holds is counted in 63 bits
+-- no caller with this number or a greater one has an event
+abbrev pub HasNoneFrom : ℕ → List Event → Type 0
+HasNoneFrom next log = (c : ℕ) → next ≤ c → own c log ≡ []
+
+-- The pass is of these cells and has seen a lawful history; its caller is one of the board's, and its callers differ. A
+-- shard that it holds is counted in 63 bits. The first pass makes the callers in order, after its own, and has seen no event
+-- of one that it has not made.
 pub record IsPassOf (cells : BoardCells) (p : BoardPass) : Type 0 where
   pub of : passes.IsPassOf cells p
   pub law : IsLawful cells.about p.seen
@@ -33,16 +38,14 @@ pub record IsPassOf (cells : BoardCells) (p : BoardPass) : Type 0 where
   -- the first pass may make as many more callers as the board has
   pub room : 0 < p.next → p.next + p.room ≡ cells.about.callers
   pub few : (s : ℕ) (x : Contents) → HasShard p s x → x.applied < 2 ^ 63
+  pub made : 0 < p.next → by_of p < p.next
+  pub unmade : 0 < p.next → HasNoneFrom p.next p.seen
 
 -- the history has the events of the pass's caller that the pass has seen and no other of them, and so of each caller that
 -- ended in it
 pub record IsOwn (p : BoardPass) (log : List Event) : Type 0 where
   pub by : own (by_of p) log ≡ own (by_of p) p.seen
   pub all : Each (λ c. own c log ≡ own c p.seen) p.callers
-
--- no caller with this number or a greater one has an event
-abbrev pub HasNoneFrom : ℕ → List Event → Type 0
-HasNoneFrom next log = (c : ℕ) → next ≤ c → own c log ≡ []
 
 -- the event is that of the pass's caller or nobody's, and each shard is known to have applied what it publishes
 pub record MayAdd (cells : BoardCells) (p : BoardPass) (e : Event) : Type 0 where

@@ -1,10 +1,10 @@
 //! A board and its shards in locked cells, which the passes of any number of threads share. These are the cells of
-//! cq_cells, over one law: what a board and a shard are after a history of events. No call takes memory but `new`, and only
-//! the two that enter may wait.
+//! cq_cells, over one law: what a board and a shard are after a history of events. No call takes memory except `new`, and
+//! only the two that enter may wait.
 //!
 //! # The rule
 //!
-//! One history runs through all cells, and exists in the proof alone. Between any two atomic steps of any passes:
+//! One history runs through all cells, and exists only in the proof. Between any two atomic steps of any passes:
 //!
 //! - The history is lawful for the board's settings and callers, and each change that it accepts is sound. What a pass has
 //!   seen is a front of it, and some pass has seen it whole.
@@ -20,8 +20,8 @@
 //! # What a holder finds, and what it owes
 //!
 //! Whoever enters the board finds what the whole history left, and has seen that history then. It may do one thing that the
-//! board allows, and leaves with that event: of its own caller, or of nobody, as a publication and a floor are. A version is
-//! published only where the pass knows each shard to have applied it. It knows so because it was there: it need not hold
+//! board allows, and leaves with that event: of its own caller, or of nobody, as a publication and a floor are. A version
+//! is published only if the pass knows each shard to have applied it. It knows so because it was there: it need not hold
 //! the shards, since they don't go back.
 //!
 //! Whoever enters a shard finds it right for some history that begins with what it has seen. Others may have gone on from
@@ -34,13 +34,13 @@
 //! A split makes the next caller's pass, which has seen as much. A join ends the callers of another pass: of the two
 //! histories, one is a front of the other, and the longer is kept.
 //!
-//! A pass also counts the questions that were asked with it. The count is no part of the rule.
+//! A pass also counts the questions that were asked with it. The count is not part of the rule.
 //!
 //! # Waiting, and cost
 //!
-//! A pass that finds a cell held parks until a release wakes it. Nothing is proved of who goes first, nor that any does. A
-//! pass that is dropped while it holds a cell leaves the cell held for ever. A call moves the board or the shard out of its
-//! slot or into it, and takes a few atomic steps; the cells take a word and a slot each.
+//! A pass that finds a cell held parks until a release wakes it. Nothing is proved about who goes first, nor that any does.
+//! A pass that is dropped while it holds a cell leaves the cell held for ever. A call moves the board or the shard out of
+//! its slot or into it, and takes a few atomic steps; the cells take a word and a slot each.
 #![tactic(auto)]
 
 mod about;

@@ -1,16 +1,16 @@
--- The groups of repeated words of a corpus. A corpus is a list of files, and a file is a list of tokens.
--- Tokens are equal where they are the same value.
+-- The groups of repeated words of a corpus. A corpus is a list of files, and a file is a list of tokens. Tokens are
+-- equal if they are the same value.
 use Rattle.std.specs.Prelude.{◌≡◌, ◌≢◌, ◌⊎◌, ℕ, zero, suc, ◌+◌, ◌<◌, ◌≤◌, ◌==◌, nat_le, ◌||◌, not, Bool, true, if◌then◌else◌, List, [], ◌∷◌, ◌++◌, length, take, drop, slice_get, slice_index_or, Option, Some, None, IsSome, Any}
 use Rattle.cq_base.specs.declared.group.Place.{Place}
 use Rattle.cq_base.specs.declared.group.Group.{Group}
 use Rattle.cq_base.specs.Places.{first_place}
 use Rattle.cq_clones.specs.Lists.{AreAllInOrder}
 
--- the tokens of a file; none where there is no such file
+-- the tokens of a file; none if there is no such file
 abbrev pub file_at : {T : Type 0} → List (List T) → ℕ → List T
 file_at corpus file = slice_index_or corpus file []
 
--- a token of the corpus stands at the place
+-- there is a token of the corpus at the place
 abbrev pub IsPlace : {T : Type 0} → List (List T) → Place → Type 0
 IsPlace corpus p = p.at < length (file_at corpus p.file)
 
@@ -18,15 +18,15 @@ IsPlace corpus p = p.at < length (file_at corpus p.file)
 abbrev pub IsBefore : Place → Place → Type 0
 IsBefore p q = (p.file < q.file) ⊎ ((p.file ≡ q.file) × (p.at < q.at))
 
--- the `n` tokens from a place on, or as many as the file has there
+-- the `n` tokens from a place on, or those that the file has there if they are fewer
 abbrev pub word_at : {T : Type 0} → List (List T) → Place → ℕ → List T
 word_at corpus p n = take n (drop p.at (file_at corpus p.file))
 
--- the word stands at the place: its tokens are those from there on
+-- the word is at the place: its tokens are those from there on
 abbrev pub StandsAt : {T : Type 0} → List (List T) → List T → Place → Type 0
 StandsAt corpus word p = word_at corpus p (length word) ≡ word
 
--- the token `n` behind a place, if there is one
+-- the token `n` after a place, if there is one
 abbrev pub token_behind : {T : Type 0} → List (List T) → Place → ℕ → Option T
 token_behind corpus p n = slice_get (file_at corpus p.file) (p.at + n)
 
@@ -42,8 +42,8 @@ token_before corpus p = token_ahead (file_at corpus p.file) p.at
 abbrev pub AreSame : {T : Type 0} → Option T → Option T → Type 0
 AreSame a b = IsSome a × (a ≡ b)
 
--- The word stands at two different places and goes on from neither to the left nor to the right:
--- the tokens before differ or one is missing, and so do the tokens behind the word.
+-- The word occurs at two different places and can be extended from them neither to the left nor to the right: the
+-- tokens before differ or one is missing, and so do the tokens after the word.
 pub record IsMaximalAt {T : Type 0} (corpus : List (List T)) (word : List T) (p q : Place) : Type 0 where
   pub different : p ≢ q
   pub first : StandsAt corpus word p

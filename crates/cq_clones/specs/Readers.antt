@@ -22,13 +22,14 @@ LiesIn g p = (k : Place) × Contains g.places k × Covers g.tokens k p
 abbrev pub AreApart : ℕ → Place → Place → Type 0
 AreApart n p q = (p.file ≡ q.file) → (p.at + n ≤ q.at) ⊎ (q.at + n ≤ p.at)
 
--- Every match is listed: where a word of at least the least length is maximal at two places that do not overlap, some
+-- Every match is listed: if a word of at least the least length is maximal at two places that do not overlap, some
 -- group of that word has both places in it.
 abbrev pub ListsEveryMatch : Type 0
 ListsEveryMatch = (corpus : List (List Norm)) (least : ℕ) (groups : List Group) → 1 ≤ least → AreGroups corpus least groups → (word : List Norm) (p q : Place) → IsMaximalAt corpus word p q → least ≤ length word → AreApart (length word) p q →
     (g : Group) × Contains groups g × (word_at corpus (first_place g) g.tokens ≡ word) × LiesIn g p × LiesIn g q
 
--- Nothing else is: each listed place has as many tokens in its file as the group says, and they are the group's.
+-- Nothing else is listed: at each listed place the file has the number of tokens that the group says, and they are
+-- the group's.
 abbrev pub ShowsItsTokens : Type 0
 ShowsItsTokens = (corpus : List (List Norm)) (least : ℕ) (groups : List Group) → 1 ≤ least → AreGroups corpus least groups → (g : Group) (p : Place) → Contains groups g → Contains g.places p →
     (p.at + g.tokens ≤ length (file_at corpus p.file)) × (word_at corpus p g.tokens ≡ word_at corpus (first_place g) g.tokens)

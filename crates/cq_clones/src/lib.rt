@@ -1,5 +1,5 @@
-//! The definitions of clone detection, alone: what the groups of a corpus are, over lists of tokens of any type, and
-//! what the keys of its windows say. The listings above are proved to give exactly these. The functions have no body:
+//! The definitions of clone detection: what the groups of a corpus are, over lists of tokens of any type, and what
+//! the keys of its windows say. The listings above are proved to give exactly these. The functions have no body:
 //! their contracts are laws of the definitions, for a reader and for the proofs above.
 #![tactic(auto)]
 

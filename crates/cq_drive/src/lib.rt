@@ -1,15 +1,15 @@
-//! A core stepped by a script: each line of the source is one step of one of sixteen callers, and has one outcome. What
-//! is written is defined by the lines and by the history that their steps make; what is read in an open view is that of
-//! its version, whatever is applied, published and swept meanwhile. A step costs what `cq_core` says of it, the work of a
-//! change once, and a reply what `cq_answer` costs; a step that was taken is told without memory.
+//! A core that is stepped by a script, to play the orders in which clients, workers and versions may meet. Each line is
+//! one step of one of sixteen callers, in JSON, and is answered by one line: the outcome of the step.
 //!
-//! Steps of a script, read from lines of JSON. What a line tells is one table of steps and one order of refusals, over
-//! `serde_json`'s own reading of bytes, and `read_step` answers exactly that, want of memory apart. A line is parsed
-//! once, and the request in it is moved out of what was parsed.
+//! `read_step` reads a line by one table of the steps and their fields, with one order of refusals, over `serde_json`'s own
+//! reading of bytes. A line is parsed once, and the request in it is moved out of what was parsed.
 //!
-//! What the lines of a script come to, written as lines of JSON. The line of an outcome is one definition over
-//! `serde_json`'s own compact text; the outcome of each step that changes something is written without memory, so that
-//! what was done is always told. A list of n entries is written once, into one buffer.
+//! `drive` takes the steps. What it writes is defined by the lines and by the history that their steps make. What is read
+//! in an open view is what its version has, whatever is applied, published and swept meanwhile. A step costs what
+//! `cq_core` says of it, a change is analysed once, and a reply costs what `cq_answer` says.
+//!
+//! `line_of` writes an outcome as `serde_json`'s compact text. The outcome of a step that changed something is written
+//! without memory, so what was done is always reported. A list of n entries is written once, into one buffer.
 #![tactic(auto)]
 
 mod buckets;

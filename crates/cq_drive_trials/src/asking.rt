@@ -1,12 +1,10 @@
-use crate::draws::Draws;
-use crate::files::{Put, drawn_text, write_text};
-use crate::lines::{Lines, ask_plainly, drawn_change, drawn_project};
+use crate::lines::{ask_plainly, drawn_number};
 use crate::looking::ask_look;
-use crate::measures::NAMES;
-use crate::model::{Change, Condition, Model, Taken};
 use crate::refused::{ask_badly, ask_in_a_long_line, ask_with_a_long_text};
-use crate::telling::{path_name, project_name, tell_change, tell_done, tell_taken, tell_value};
+use crate::steps::{Drive, Taken};
+use crate::telling::{tell_change, tell_done, tell_taken, tell_value};
 use cq_base::{Memory, Settings};
+use cq_talk_model::{Draws, Lines, Request, drawn_change, write_request};
 use std::alloc::Global;
 use std::fmt::Write;
 
@@ -20,125 +18,46 @@ fn drawn_caller(draws: &mut Draws) -> u32 {
 }
 
 // Mostly the first that is not done.
-fn drawn_job(draws: &mut Draws, model: &Model) -> u64 {
+fn drawn_job(draws: &mut Draws, model: &Drive) -> u64 {
     if draws.below(3) == 0 {
-        drawn_change(draws, model)
+        drawn_number(draws, model)
     } else {
         model.ready().saturating_add(1)
     }
 }
 
-fn ask_put(
+fn ask_accept(
     alloc: Global,
     by: u32,
     draws: &mut Draws,
-    model: &mut Model,
+    model: &mut Drive,
     lines: &mut Lines,
 ) -> Result<(), Memory> {
-    let put = Put {
-        number: model.accepted().saturating_add(1),
-        project: drawn_project(draws),
-        path: draws.below(3),
-        is_java: draws.below(3) == 0,
-        text: drawn_text(alloc, draws)?,
-    };
-    let asked = &mut lines.asked;
-    let project = project_name(put.project);
-    let path = path_name(put.path);
-    let lang = if put.is_java { "java" } else { "any" };
-    write!(asked, "{{\"step\":\"accept\",\"by\":{by},\"request\":")?;
-    write!(
-        asked,
-        "{{\"op\":\"put\",\"project\":\"{project}\",\"path\":\"{path}\",\"lang\":\"{lang}\","
-    )?;
-    asked.push_str("\"text\":\"")?;
-    write_text(&put.text, asked)?;
-    asked.push_str("\"}}\n")?;
-    let refusal = model.accept(Change::Put(put))?;
-    tell_change(refusal, model.accepted(), &mut lines.told)
-}
-
-fn ask_drop(
-    by: u32,
-    draws: &mut Draws,
-    model: &mut Model,
-    lines: &mut Lines,
-) -> Result<(), Memory> {
-    let project = drawn_project(draws);
-    let path = draws.below(3);
-    let name = project_name(project);
-    let at = path_name(path);
+    let of_nine = draws.below(9);
+    let request = Request::Change(drawn_change(alloc, draws, of_nine)?);
     write!(
         lines.asked,
-        "{{\"step\":\"accept\",\"by\":{by},\"request\":{{\"op\":\"drop\",\"project\":\"{name}\",\"path\":\"{at}\"}}}}\n"
+        "{{\"step\":\"accept\",\"by\":{by},\"request\":"
     )?;
-    let refusal = model.accept(Change::Drop { project, path })?;
-    tell_change(refusal, model.accepted(), &mut lines.told)
-}
-
-fn metric_name(metric: u32) -> &'static str {
-    match NAMES.get(metric as usize) {
-        Some(name) => *name,
-        None => "",
+    write_request(&request, &mut lines.asked)?;
+    lines.asked.push_str("}\n")?;
+    match request {
+        Request::Change(change) => {
+            let refusal = model.accept(change)?;
+            tell_change(refusal, model.accepted.count(), &mut lines.told)
+        }
+        _ => Ok(()),
     }
 }
 
-// Adds some conditions to a gate, and writes them.
-fn ask_conditions(
-    draws: &mut Draws,
-    conditions: &mut Vec<Condition>,
-    asked: &mut String,
-) -> Result<(), Memory> {
-    for i in 0..draws.below(4) {
-        let condition = Condition {
-            metric: draws.below(8),
-            is_greater: draws.below(3) > 0,
-            error: u64::from(draws.below(7)),
-        };
-        let comma = if i == 0 { "" } else { "," };
-        let metric = metric_name(condition.metric);
-        let op = if condition.is_greater { "GT" } else { "LT" };
-        let error = condition.error;
-        write!(
-            asked,
-            "{comma}{{\"metric\":\"{metric}\",\"op\":\"{op}\",\"error\":{error}}}"
-        )?;
-        conditions.push(condition)?;
-    }
-    Ok(())
-}
-
-fn ask_gate(
-    alloc: Global,
-    by: u32,
-    draws: &mut Draws,
-    model: &mut Model,
-    lines: &mut Lines,
-) -> Result<(), Memory> {
-    let project = drawn_project(draws);
-    let name = project_name(project);
-    write!(
-        lines.asked,
-        "{{\"step\":\"accept\",\"by\":{by},\"request\":{{\"op\":\"gate\",\"project\":\"{name}\",\"conditions\":["
-    )?;
-    let mut conditions = Vec::new(alloc);
-    ask_conditions(draws, &mut conditions, &mut lines.asked)?;
-    lines.asked.push_str("]}}\n")?;
-    let refusal = model.accept(Change::Gate {
-        project,
-        conditions,
-    })?;
-    tell_change(refusal, model.accepted(), &mut lines.told)
-}
-
-fn ask_took(by: u32, model: &mut Model, lines: &mut Lines) -> Result<(), Memory> {
+fn ask_took(by: u32, model: &mut Drive, lines: &mut Lines) -> Result<(), Memory> {
     ask_plainly("took", by, &mut lines.asked)?;
     let taken = model.take(by)?;
     tell_taken(taken, &mut lines.told)
 }
 
 // Often what was taken last.
-fn drawn_taken(by: u32, draws: &mut Draws, model: &Model) -> Taken {
+fn drawn_taken(by: u32, draws: &mut Draws, model: &Drive) -> Taken {
     let change = drawn_job(draws, model);
     match model.last_taken() {
         Some(taken) if draws.below(2) == 0 => taken,
@@ -149,7 +68,7 @@ fn drawn_taken(by: u32, draws: &mut Draws, model: &Model) -> Taken {
 fn ask_back(
     by: u32,
     draws: &mut Draws,
-    model: &mut Model,
+    model: &mut Drive,
     lines: &mut Lines,
 ) -> Result<(), Memory> {
     let Taken { by, change } = drawn_taken(by, draws, model);
@@ -163,7 +82,7 @@ fn ask_back(
 fn ask_done(
     by: u32,
     draws: &mut Draws,
-    model: &mut Model,
+    model: &mut Drive,
     lines: &mut Lines,
 ) -> Result<(), Memory> {
     let change = drawn_job(draws, model);
@@ -180,19 +99,17 @@ fn ask_change(
     alloc: Global,
     by: u32,
     draws: &mut Draws,
-    model: &mut Model,
+    model: &mut Drive,
     lines: &mut Lines,
 ) -> Result<(), Memory> {
     match draws.below(24) {
-        0..=5 => ask_put(alloc, by, draws, model, lines),
-        6..=8 => ask_drop(by, draws, model, lines),
-        9..=10 => ask_gate(alloc, by, draws, model, lines),
+        0..=10 => ask_accept(alloc, by, draws, model, lines),
         11..=13 => ask_took(by, model, lines),
         14..=16 => ask_back(by, draws, model, lines),
         17..=22 => ask_done(by, draws, model, lines),
         _ => {
             ask_plainly("ask", by, &mut lines.asked)?;
-            tell_value(model.accepted(), &mut lines.told)
+            tell_value(model.accepted.count(), &mut lines.told)
         }
     }
 }
@@ -203,7 +120,7 @@ fn ask(
     settings: &Settings,
     i: u32,
     draws: &mut Draws,
-    model: &mut Model,
+    model: &mut Drive,
     lines: &mut Lines,
 ) -> Result<(), Memory> {
     if i == 159 {
@@ -235,12 +152,7 @@ pub fn drawn_lines(
         told: String::new(alloc),
     };
     let mut draws = Draws::new(seed);
-    let mut model = Model::new(
-        alloc,
-        settings.shards,
-        settings.change_limit,
-        settings.text_limit,
-    );
+    let mut model = Drive::new(alloc, settings);
     for i in 0..count {
         ask(alloc, settings, i, &mut draws, &mut model, &mut lines)?;
     }

@@ -1,23 +1,11 @@
-use crate::draws::Draws;
-use crate::model::Model;
+use crate::steps::Drive;
 use cq_base::Memory;
+use cq_talk_model::Draws;
 use std::fmt::Write;
 
-/// The lines of a script as they are drawn, and what is to be written for them.
-#[derive(Drop)]
-pub struct Lines {
-    pub asked: String,
-    pub told: String,
-}
-
-/// The second project comes now and then.
-pub fn drawn_project(draws: &mut Draws) -> u32 {
-    if draws.below(5) == 0 { 1 } else { 0 }
-}
-
 /// A number up to the next one.
-pub fn drawn_change(draws: &mut Draws, model: &Model) -> u64 {
-    u64::from(draws.below(512)) % model.accepted().saturating_add(2)
+pub fn drawn_number(draws: &mut Draws, model: &Drive) -> u64 {
+    u64::from(draws.below(512)) % model.accepted.count().saturating_add(2)
 }
 
 /// A step that has but its caller, by its name.

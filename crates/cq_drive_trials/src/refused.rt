@@ -1,5 +1,5 @@
-use crate::lines::Lines;
 use cq_base::Memory;
+use cq_talk_model::Lines;
 
 // Lines that are no steps, and steps whose request is refused, each with its outcome behind a tab.
 const REFUSED: &str = "\

@@ -1,31 +1,7 @@
 use crate::keys::Window;
-use crate::model::Refusal;
 use cq_base::Memory;
+use cq_talk_model::{Refusal, tell_refusal};
 use std::fmt::Write;
-
-/// The least path comes first.
-pub fn path_name(path: u32) -> &'static str {
-    match path {
-        0 => "a",
-        1 => "a.java",
-        _ => "src/b",
-    }
-}
-
-pub fn project_name(project: u32) -> &'static str {
-    match project {
-        0 => "p",
-        _ => "q.2",
-    }
-}
-
-/// What stands before the element of a list with this position: a comma, unless it is the first.
-pub fn tell_comma(i: usize, out: &mut String) -> Result<(), Memory> {
-    if i > 0 {
-        out.push_str(",")?;
-    }
-    Ok(())
-}
 
 /// The outcome of a step without a value: whether it is allowed.
 pub fn tell_done(is_allowed: bool, out: &mut String) -> Result<(), Memory> {
@@ -66,10 +42,10 @@ pub fn tell_bucket(windows: &[Window], key: u64, out: &mut String) -> Result<(),
     let mut told = 0usize;
     for window in windows {
         if window.key == key {
-            tell_comma(told, out)?;
+            let comma = if told == 0 { "" } else { "," };
             let change = window.change;
             let at = window.at;
-            write!(out, "[{change},{at}]")?;
+            write!(out, "{comma}[{change},{at}]")?;
             told = told.saturating_add(1);
         }
     }
@@ -79,15 +55,8 @@ pub fn tell_bucket(windows: &[Window], key: u64, out: &mut String) -> Result<(),
 
 /// What comes of a change: why it is refused, or else its number.
 pub fn tell_change(refusal: Option<Refusal>, number: u64, out: &mut String) -> Result<(), Memory> {
-    let (code, word) = match refusal {
-        None => return tell_value(number, out),
-        Some(Refusal::Absent) => (9, "absent"),
-        Some(Refusal::FullChanges) => (10, "full-changes"),
-        Some(Refusal::FullText) => (11, "full-text"),
-    };
-    write!(
-        out,
-        "{{\"code\":{code},\"error\":\"{word}\",\"ok\":false}}\n"
-    )?;
-    Ok(())
+    match refusal {
+        Some(refusal) => tell_refusal(refusal, out),
+        None => tell_value(number, out),
+    }
 }

@@ -1,8 +1,8 @@
 use crate::asking::drawn_lines;
-use crate::lines::Lines;
 use crate::running::written_here;
 use cq_base::{Memory, Settings};
 use cq_lines::End;
+use cq_talk_model::{Lines, difference};
 use std::alloc::Global;
 use std::thread::Threads;
 
@@ -28,25 +28,6 @@ enum Went {
     Unfinished,
     /// It differs from the model in this line, from 1.
     Otherwise(u64),
-}
-
-// The line, from 1, in which what was written first differs from what was to be written.
-fn difference(written: &[u8], wanted: &[u8]) -> Option<u64> {
-    let mut line = 1u64;
-    let mut left = wanted.iter();
-    for byte in written {
-        if left.next() != Some(byte) {
-            return Some(line);
-        }
-        if *byte == b'\n' {
-            line = line.saturating_add(1);
-        }
-    }
-    if left.next().is_some() {
-        Some(line)
-    } else {
-        None
-    }
 }
 
 // The kinds of outcomes: a step, a piece of its outcome, and how often it comes in the three scripts together, which

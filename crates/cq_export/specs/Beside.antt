@@ -19,8 +19,8 @@ abbrev pub numbers_behind : ℕ → List (List ℕ) → List Reply
 numbers_behind n [] = []
 numbers_behind n (line ∷ lines) = reply.Change (n + 1) ∷ numbers_behind (n + 1) lines
 
--- a session with workers beside it tells the number of each change, and then what is asked of the token file of the version
--- that these changes make
+-- a session with workers beside it replies with the number of each change, and then with what the token file of the version
+-- that these changes make answers
 abbrev pub AsksAsBeside : Type 0 → Type 0
 AsksAsBeside L = (set : Settings) (changes : List Change) (project : List ℕ) (written read : Snapshot L) (file : List ℕ) (lines questions : List (List ℕ)) (asked served : List Reply)
     → SayChanges set.chunk lines changes → AreAccepted set changes → IsOfChanges set changes project written → IsTokenFile set written file → IsTokenFile set read file

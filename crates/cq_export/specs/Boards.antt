@@ -21,7 +21,7 @@ pub record Holds (set : Settings) (b : BoardState) : Type 0 where
   pub unfloored : b.state.floor ≡ 0
   pub closed : view_of b.state 0 ≡ None
 
--- it goes on so with the same changes, of which no fewer are done
+-- it continues with the same changes, of which no fewer are done
 pub record GoesOn (set : Settings) (old new : BoardState) : Type 0 where
   pub holds : Holds set new
   pub same : changes_in new.state ≡ changes_in old.state

@@ -17,7 +17,7 @@ use Rattle.cq_tokform.specs.Spelling.{body}
 use Rattle.cq_tokfile.specs.declared.snapshot.Snapshot.{Snapshot}
 
 module _ {K : Type 0} (onto : sink.Ghosts K) (set : Settings) where
-  -- the file of the snapshot, or a front of it where the sink failed, or nothing where its body would be too large
+  -- the file of the snapshot, or a front of it if the sink failed, or nothing if its body would be too large
   abbrev pub Writes : {L : Type 0} → Snapshot L → K → K → Exported → Type 0
   Writes s written written_now exported.Refused = ⊥
   Writes s written written_now exported.TooLarge = (IsSoundBody (body set (contents_of s)) → ⊥) × (written_now ≡ written)

@@ -23,11 +23,12 @@ pub record IsQuestion (chunk : ℕ) (project : List ℕ) (count : ℕ) (line : L
   pub now : query.at ≤ count
   pub finishes : query.finish ≡ true
 
--- no reply tells want of memory
+-- no reply reports out of memory
 abbrev pub AreTold : List Reply → Type 0
 AreTold replies = AllByRecursion (λ (r : Reply). r ≢ reply.Memory) replies
 
--- what is asked of the token file of the version that some lines make has the replies that a session gives behind these lines
+-- what is asked of the token file of the version that some lines make has the replies that a session gives after these
+-- lines
 abbrev pub AsksAsASession : Type 0 → Type 0
 AsksAsASession L = (set : Settings) (changes : List Change) (project : List ℕ) (written read : Snapshot L) (file : List ℕ) (lines questions : List (List ℕ)) (asked served : List Reply)
     → SayChanges set.chunk lines changes → AreAccepted set changes → IsOfChanges set changes project written → IsTokenFile set written file → IsTokenFile set read file

@@ -1,4 +1,4 @@
--- The lines of a source as changes, each accepted behind those before it.
+-- The lines of a source as changes, each accepted after those before it.
 use Rattle.std.specs.Prelude.{All, ◌≡◌, ◌⊎◌, ◌<◌, ◌≤◌, ℕ, Bool, true, false, List, ◌∷◌, [], ◌++◌, length, map, Option, Some, None, IsSome, Result, Ok, Err}
 use Rattle.std.specs.Io.KnownBytes.{Consumes, IsAtEnd}
 use Rattle.std.specs.List.{AllZip}
@@ -28,17 +28,17 @@ Says chunk line change = said chunk line ≡ Read (Ok (request.Change change))
 abbrev pub SayChanges : ℕ → List (List ℕ) → List Change → Type 0
 SayChanges chunk lines changes = AllZip (Says chunk) lines changes
 
--- behind these changes, of which no floor lets any go, there is no cause against the first, nor against any other behind it and
--- those before
+-- after these changes, of which no floor forgets any, there is no cause against the first, nor against any other after it
+-- and those before
 abbrev pub AreAcceptedBehind : Settings → List Change → List Change → Type 0
 AreAcceptedBehind set before [] = Unit {0}
 AreAcceptedBehind set before (change ∷ changes) = (cause set before 0 change ≡ None) × AreAcceptedBehind set (before ++ change ∷ []) changes
 
--- each is accepted behind those before it, where nothing was accepted before
+-- each is accepted after those before it, if nothing was accepted before
 abbrev pub AreAccepted : Settings → List Change → Type 0
 AreAccepted set changes = AreAcceptedBehind set [] changes
 
--- it is too long, refused, no change, or one that there is a cause against behind these
+-- it is too long, refused, no change, or one that there is a cause against after these
 abbrev pub IsRefused : Settings → List Change → Said → Type 0
 IsRefused set changes TooLong = Unit {0}
 IsRefused set changes (Read (Ok (request.Change change))) = IsSome (cause set changes 0 change)
@@ -65,7 +65,7 @@ module _ (set : Settings) (rest rest_now : Option (List ℕ)) (changes : List Ch
     pub say : SayChanges set.chunk (closed_lines got) changes
     pub accepted : AreAccepted set changes
 
-  -- as many bytes as may be taken
+  -- the limit on the bytes was reached
   abbrev pub TakesMost : Type 0
   TakesMost = (closed : TakesClosed) × (length closed.got ≡ set.byte_limit)
 
@@ -107,7 +107,7 @@ pub record HasAccepted (set : Settings) (changes : List Change) (b : BoardState)
   pub accepted : AreAccepted set changes
   pub named : All IsNamed changes
 
--- behind these changes, the line's was accepted, or the line is refused
+-- after these changes, the line's was accepted, or the line is refused
 abbrev pub TakesBehind : Settings → List Change → List ℕ → BoardState → Bool → Type 0
 TakesBehind set changes line new true = (change : Change) × Says set.chunk line change × HasAccepted set (changes ++ change ∷ []) new
 TakesBehind set changes line new false = IsRefused set changes (said set.chunk line)
@@ -123,7 +123,7 @@ pub record TakenSoFar (set : Settings) (rest rest_now : Option (List ℕ)) (held
   pub say : SayChanges set.chunk lines changes
   pub accepted : HasAccepted set changes b
 
--- by how it ended: where all lines were taken, the board has accepted their changes
+-- by how it ended: if all lines were taken, the board has accepted their changes
 abbrev pub Takes : Settings → Option (List ℕ) → Option (List ℕ) → BoardState → Taken → Type 0
 Takes set rest rest_now b taken.All = (changes : List Change) × TakesAll set rest rest_now changes × HasAccepted set changes b
 Takes set rest rest_now b taken.Spent = (changes : List Change) × TakesMost set rest rest_now changes

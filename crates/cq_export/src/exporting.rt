@@ -14,10 +14,9 @@ use crate::working::make_all;
 use cq_base::{Memory, Settings, Steps, Text};
 use cq_board::Board;
 use cq_io::{Failed, Sink, Source, send};
-use cq_work::Keyer;
 use cq_lines::{End, Lines};
 use cq_tokfile::{Encoded, Snapshot, encode};
-use cq_work::Work;
+use cq_work::{Keyer, Work};
 use std::alloc::Global;
 use std::sync::ledger::Ledger;
 
@@ -28,12 +27,12 @@ pub enum Exported {
     Refused,
     /// The file's body would have more than 268,435,456 bytes, and nothing was written.
     TooLarge,
-    /// The lines, or the writing of the file behind them, ended so. Nothing was written where the lines did not end with the
+    /// The lines, or the writing of the file after them, ended so. Nothing was written if the lines did not end with the
     /// source.
     Ended(End),
 }
 
-// The snapshot of a project behind the changes that a board has accepted.
+// The snapshot of a project after the changes that a board has accepted.
 fn made<L: Ledger>(
     alloc: Global,
     settings: &Settings,
@@ -77,7 +76,7 @@ fn write<L: Ledger, K: Sink>(
 }
 
 /// Writes the file of a project at the version of all changes that the lines of a source say, if each of them is accepted
-/// behind those before it. Where memory is refused, nothing is written; bytes may have been taken.
+/// after those before it. If memory is refused, nothing is written; bytes may have been taken.
 pub fn export<L: Ledger, S: Source, K: Sink>(
     alloc: Global,
     settings: &Settings,

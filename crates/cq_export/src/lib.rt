@@ -1,7 +1,7 @@
 //! A version of one project, written as its token file. The lines of a source are changes, which a board of its own takes;
-//! the works are made once all lines were taken, and nothing is indexed. What is written is defined by these changes alone.
-//! It costs the works of all texts that were put, one publication, and what `cq_tokfile` says of writing a file; the file is
-//! held whole before its first byte is written.
+//! the works are made once all lines were taken, and nothing is indexed. What is written is defined only by these changes.
+//! It costs the works of all texts that were put, one publication, and what `cq_tokfile` says of writing a file; the file
+//! is held whole before its first byte is written.
 #![tactic(auto)]
 
 mod exporting;

@@ -16,7 +16,7 @@ use cq_work::Work;
 use std::alloc::Global;
 use std::sync::ledger::Ledger;
 
-// The version of all changes is published. There is nothing to publish where there are none.
+// The version of all changes is published. There is nothing to publish if there are none.
 fn publish_all<W: Indexed>(
     alloc: Global,
     settings: &Settings,

@@ -8,7 +8,7 @@ use cq_base::{Change, Memory, Settings};
 use cq_request::{Request, read_request};
 use std::alloc::Global;
 
-/// The change that a line asks for, and None where it says anything else.
+/// The change that a line asks for, and None if it says anything else.
 pub(crate) fn change_said(
     alloc: Global,
     settings: &Settings,

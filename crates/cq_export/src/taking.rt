@@ -17,7 +17,7 @@ use std::alloc::Global;
 pub(crate) enum Taken {
     /// The source is at its end, and all lines were accepted.
     All,
-    /// As many bytes were taken as may be.
+    /// The limit on the bytes was reached.
     Spent,
     /// A read failed.
     Failed,

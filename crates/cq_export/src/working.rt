@@ -8,8 +8,7 @@ ghost use Rattle.cq_work.specs.Work.{IsWorkOf};
 
 use cq_base::{Memory, Settings};
 use cq_board::{Board, Finished, Job};
-use cq_work::Keyer;
-use cq_work::{Work, work_of};
+use cq_work::{Keyer, Work, work_of};
 use std::alloc::Global;
 use std::sync::Arc;
 use std::sync::ledger::Ledger;

@@ -1,5 +1,5 @@
--- Spellings of tokens, and brackets and their partners. A place of a token counts from 0; where a place does not exist, the
--- number of tokens stands for it, at which nothing stands.
+-- Spellings of tokens, and brackets and their partners. A place of a token counts from 0. For a place that does not exist
+-- the number of tokens is given, where there is no token.
 use Rattle.std.specs.Prelude.{ℕ, ◌+◌, ◌-◌, ◌==◌, ◌||◌, ◌&&◌, nat_lt, Bool, false, Option, Some, None, List, [], ◌∷◌, length, take, drop, slice_get, count_by, codes}
 use Rattle.std.specs.Str.{bytes_eq}
 use Rattle.cq_base.specs.declared.lang.Lang.{Lang}
@@ -13,7 +13,7 @@ use Rattle.cq_func.specs.Places.{place_above}
 
 -- ---- spellings
 
--- as tokens are compared where nothing is ignored: a digraph of C has the spelling that it stands for
+-- as tokens are compared if nothing is ignored: a digraph of C has the spelling that it stands for
 abbrev pub spelling_of : Lang → Class → List ℕ → List ℕ
 spelling_of l class.Ident text = text
 spelling_of l class.Word text = text
@@ -50,7 +50,7 @@ closes l kind.Square t = is_spelled l (codes "]") t
 closes l kind.Curly t = is_spelled l (codes "}") t
 closes l kind.All t = is_spelled l (codes ")") t || (is_spelled l (codes "]") t || is_spelled l (codes "}") t)
 
--- The sign of a token: the byte of its spelling, where it has one alone, else 0. It tells brackets.
+-- The sign of a token: the byte of its spelling if it has only one, else 0. It identifies brackets.
 abbrev pub only_byte : List ℕ → ℕ
 only_byte [] = 0
 only_byte (b ∷ []) = b
@@ -72,7 +72,7 @@ closes_with kind.Square b = b == 93
 closes_with kind.Curly b = b == 125
 closes_with kind.All b = (b == 41) || ((b == 93) || (b == 125))
 
--- they hold as many openings as closings
+-- they hold equally many openings and closings
 abbrev pub are_even : Lang → Kind → List Spelled → Bool
 are_even l k ts = count_by (opens l k) ts == count_by (closes l k) ts
 
@@ -86,7 +86,7 @@ from_to ts i j = take (j + 1 - i) (drop i ts)
 abbrev pub between : List Spelled → ℕ → ℕ → List Spelled
 between ts i j = take (j - (i + 1)) (drop (i + 1) ts)
 
--- The partner of a bracket that opens: the least place above it such that the tokens from the one to the other hold as many
--- openings as closings of its kind.
+-- The partner of a bracket that opens: the least place above it such that the tokens from the one to the other hold equally
+-- many openings and closings of its kind.
 unfoldable pub partner : Lang → Kind → List Spelled → ℕ → ℕ
 partner l k ts at = place_above (λ j. are_even l k (from_to ts at j)) at (length ts)

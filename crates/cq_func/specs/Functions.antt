@@ -29,7 +29,7 @@ text_before ts at = (slice_index_or (no_token ∷ ts) at no_token).text
 abbrev pub decides : Lang → List Spelled → ℕ → Bool
 decides l ts at = is_decision l (text_before ts at) (token_at ts at).text
 
--- The body has the token at this place: it reaches from behind its `{` to its `}`. Neither of these decides.
+-- The body has the token at this place: it reaches from after its `{` to its `}`. Neither of these decides.
 abbrev pub has : Found → ℕ → Bool
 has f at = nat_lt f.brace at && nat_le at f.close
 
@@ -47,7 +47,7 @@ own_decisions l ts fs f = count_by (λ at. decides l ts at && is_own fs f at) (r
 
 -- ---- what is listed
 
--- a function with so many decisions of its own: its complexity is 1 more
+-- a function with this many decisions of its own: its complexity is 1 more
 abbrev pub described : List Spelled → Found → ℕ → Function
 described ts f own =
     record {

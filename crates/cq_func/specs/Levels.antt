@@ -1,5 +1,5 @@
--- Levels of brackets, by which partners are found: two places have one level where the tokens between them hold as many
--- openings as closings.
+-- Levels of brackets, by which partners are found: two places have one level if the tokens between them hold equally
+-- many openings and closings.
 use Rattle.std.specs.Prelude.{◌≡◌, ℕ, ◌+◌, ◌-◌, ◌*◌, ◌≤◌, List, length, slice_index, count_by, codes, if◌then◌else◌}
 use Rattle.cq_base.specs.declared.lang.Lang.{Lang}
 use Rattle.cq_base.specs.declared.lang.Lang.TheVariants as lang
@@ -12,7 +12,7 @@ use Rattle.cq_func.specs.Brackets.{opens, closes, stands, before}
 unfoldable pub level : Lang → Kind → List Spelled → ℕ → ℕ
 level l k ts at = length ts + count_by (opens l k) (before ts at) - count_by (closes l k) (before ts at)
 
--- those before each token, and behind the last
+-- those before each token, and after the last
 pub record AreLevels (l : Lang) (k : Kind) (ts : List Spelled) (levels : List ℕ) : Type 0 where
   pub many : length levels ≡ length ts + 1
   pub each : (at : ℕ) → at ≤ length ts → slice_index levels at ≡ level l k ts at

@@ -16,15 +16,15 @@ is_ident class.Word = false
 is_ident class.Literal = false
 is_ident class.Punct = false
 
--- an identifier stands at the place
+-- there is an identifier at the place
 abbrev pub is_name : List Spelled → ℕ → Bool
 is_name ts at = holds (λ t. is_ident t.token.class) (slice_get ts at)
 
--- an identifier, and directly behind it a parenthesis that opens
+-- an identifier, and directly after it a parenthesis that opens
 abbrev pub is_called : Lang → List Spelled → ℕ → Bool
 is_called l ts name = is_name ts name && stands l ts (name + 1) (codes "(")
 
--- a function of this name, where the body's `{` stands at this place and has a partner
+-- a function of this name, if the body's `{` is at this place and has a partner
 abbrev pub with_body : Lang → List Spelled → ℕ → ℕ → Option Found
 with_body l ts name brace =
     if stands l ts brace (codes "{") && nat_lt (partner l kind.Curly ts brace) (length ts)
@@ -33,26 +33,26 @@ with_body l ts name brace =
 
 -- ---- Java
 
--- a use of a name that is no method: behind `new`, a dot, a comma or `@`, or that of a record
+-- a use of a name that is not a method: after `new`, a dot, a comma or `@`, or that of a record
 abbrev pub is_no_method : List Spelled → ℕ → Bool
 is_no_method ts name =
     stands_before lang.Java ts name (codes "new") || (stands_before lang.Java ts name (codes ".")
     || (stands_before lang.Java ts name (codes ",") || (stands_before lang.Java ts name (codes "@")
     || (is_name ts (name - 1) && stands_before lang.Java ts name (codes "record")))))
 
--- what can't stand among the types behind `throws`
+-- what cannot be among the types after `throws`
 abbrev pub ends_throws : List Spelled → ℕ → Bool
 ends_throws ts at =
     stands lang.Java ts at (codes "{") || (stands lang.Java ts at (codes "}") || (stands lang.Java ts at (codes ";")
     || (stands lang.Java ts at (codes "(") || stands lang.Java ts at (codes ")"))))
 
--- behind `throws` at this place and at least one token more
+-- after `throws` at this place and at least one token more
 abbrev pub behind_throws : List Spelled → ℕ → ℕ
 behind_throws ts at =
     let end = place_above (ends_throws ts) at (length ts) in
     if nat_lt (at + 1) end then end else length ts
 
--- where the body is to begin, behind the parenthesis that closes at this place
+-- where the body is to begin, after the parenthesis that closes at this place
 abbrev pub java_open : List Spelled → ℕ → ℕ
 java_open ts close = if stands lang.Java ts (close + 1) (codes "throws") then behind_throws ts (close + 1) else close + 1
 
@@ -73,12 +73,12 @@ c_function ts name =
 
 -- ---- Go
 
--- a declaration begins: at the first token or behind a semicolon, where as many brackets are closed as opened
+-- a declaration begins: at the first token or after a semicolon, if equally many brackets are closed and opened
 abbrev pub go_begins : List Spelled → ℕ → Bool
 go_begins ts at =
     stands lang.Go ts at (codes "func") && ((at == 0 || stands_before lang.Go ts at (codes ";")) && are_even lang.Go kind.All (before ts at))
 
--- where the name of that declaration stands, behind its receiver where it has one
+-- where the name of that declaration is, after its receiver if it has one
 abbrev pub go_name : List Spelled → ℕ → ℕ
 go_name ts at =
     if go_begins ts at
@@ -86,14 +86,14 @@ go_name ts at =
     else (if stands lang.Go ts (at + 1) (codes "(") then partner lang.Go kind.Round ts (at + 1) + 1 else length ts))
     else length ts
 
--- the `func` whose name stands at this place
+-- the `func` whose name is at this place
 unfoldable pub go_func : List Spelled → ℕ → ℕ
 go_func ts name = place_below (λ at. go_name ts at == name) (length ts)
 
 abbrev pub go_is_named : List Spelled → ℕ → Bool
 go_is_named ts name = is_name ts name && nat_lt (go_func ts name) (length ts)
 
--- where the parameters begin, behind the type parameters where there are some
+-- where the parameters begin, after the type parameters if there are some
 abbrev pub go_parameters : List Spelled → ℕ → ℕ
 go_parameters ts name =
     if stands lang.Go ts (name + 1) (codes "[") then partner lang.Go kind.Square ts (name + 1) + 1 else name + 1
@@ -102,7 +102,7 @@ go_parameters ts name =
 unfoldable pub go_end : List Spelled → ℕ → ℕ
 go_end ts close = place_above (λ q. stands lang.Go ts q (codes ";") && are_even lang.Go kind.All (between ts close q)) close (length ts)
 
--- the brace whose partner stands at this place
+-- the brace whose partner is at this place
 unfoldable pub go_open : List Spelled → ℕ → ℕ
 go_open ts close = place_below (λ b. stands lang.Go ts b (codes "{") && (partner lang.Go kind.Curly ts b == close)) (length ts)
 
@@ -110,7 +110,7 @@ go_open ts close = place_below (λ b. stands lang.Go ts b (codes "{") && (partne
 abbrev pub is_type : List Spelled → ℕ → Bool
 is_type ts brace = stands_before lang.Go ts brace (codes "interface") || stands_before lang.Go ts brace (codes "struct")
 
--- behind the parenthesis that closes at this place, the braces that stand directly before the semicolon that ends the declaration
+-- after the parenthesis that closes at this place, the braces directly before the semicolon that ends the declaration
 abbrev pub go_body : List Spelled → ℕ → ℕ → Option Found
 go_body ts name close =
     let end = go_end ts close in
@@ -129,7 +129,7 @@ go_function ts name =
 
 -- ---- all languages
 
--- the function whose name stands at this place, if one does
+-- the function whose name is at this place, if there is one
 abbrev pub function_at : Lang → List Spelled → ℕ → Option Found
 function_at lang.Any ts name = None
 function_at lang.Go ts name = go_function ts name

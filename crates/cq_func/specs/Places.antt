@@ -1,7 +1,7 @@
 -- The first of some places that passes a test.
 use Rattle.std.specs.Prelude.{ℕ, zero, suc, ◌+◌, ◌-◌, Bool, if◌then◌else◌}
 
--- the least of `many` places from `from` on that passes, or the place behind them where none does
+-- the least of `many` places from `from` on that passes, or the place after them if none does
 abbrev pub first_place : (ℕ → Bool) → ℕ → ℕ → ℕ
 first_place test from zero = from
 first_place test from (suc many) = if test from then from else first_place test (from + 1) many

@@ -27,7 +27,7 @@ AreAbove wanted marks table =
 abbrev pub AreFirst : List ℕ → ℕ → List ℕ → Type 0
 AreFirst marks width table = Tells (λ v. place_below (λ j. slice_index marks j == v) (length marks)) width table
 
--- what a mark tells of each token
+-- what a mark says about each token
 abbrev pub marks_by : (ℕ → ℕ) → List Spelled → List ℕ
 marks_by mark ts = map mark (range_with_len 0 (length ts))
 

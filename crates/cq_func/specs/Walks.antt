@@ -13,7 +13,7 @@ pub record AreBodies (many : ℕ) (fs : List Found) : Type 0 where
   pub same : (f g : Found) → Contains fs f → Contains fs g → f.brace ≡ g.brace → f.close ≡ g.close
   pub nested : (f g : Found) → Contains fs f → Contains fs g → f.brace < g.brace → g.brace ≤ f.close → g.close < f.close
 
--- for each place where a body begins, where it ends, and for each other place the number of places
+-- for each place at which a body begins, where it ends, and for each other place the number of places
 pub record AreCloses (fs : List Found) (many : ℕ) (closes : List ℕ) : Type 0 where
   pub long : length closes ≡ many
   pub each : (f : Found) → Contains fs f → slice_index closes f.brace ≡ f.close

@@ -52,7 +52,7 @@ fn sign(lang: Lang, token: &Spelled) -> u8
     }
 }
 
-/// The sign of each token, which tells brackets: the byte of its spelling, where it has one alone, else 0.
+/// The sign of each token, which identifies brackets: the byte of its spelling if it has only one, else 0.
 pub(crate) fn signs(alloc: Global, lang: Lang, tokens: &[Spelled]) -> Result<Vec<u8>, Memory>
     ensures { IfOk result (λ v. v.items ≡ map (spec.sign_of lang) tokens.now) }
 {
@@ -69,7 +69,7 @@ fn one_if(holds: bool) -> u32
     if holds { 1 } else { 0 }
 }
 
-// The level behind a token of this sign.
+// The level after a token of this sign.
 fn next_level(kind: Kind, sign: u8, level: u32) -> u32
     requires high { level ≤ 1000000 }
     requires low { (if spec.closes_with kind sign then 1 else 0)
@@ -80,7 +80,8 @@ fn next_level(kind: Kind, sign: u8, level: u32) -> u32
     level + one_if(opens_with(kind, sign)) - one_if(closes_with(kind, sign))
 }
 
-/// The level before each token, and behind the last: the number of tokens, and the openings less the closings before it.
+/// The level before each token, and after the last: the number of tokens, plus the openings and less the closings before
+/// it.
 pub(crate) fn levels(
     alloc: Global,
     lang: Lang,
@@ -102,7 +103,7 @@ pub(crate) fn levels(
     Ok(levels)
 }
 
-/// Whether the tokens before a place hold as many openings as closings.
+/// Whether the tokens before a place hold equally many openings and closings.
 pub(crate) fn is_even(lang: Lang, kind: Kind, tokens: &[Spelled], levels: &[u32], at: usize) -> bool
     requires counted { level.AreLevels lang kind tokens.now levels.now }
     requires within { at ≤ length tokens.now }
@@ -120,7 +121,7 @@ fn before_each(levels: &[u32]) -> &[u32]
     &levels[..levels.len() - 1]
 }
 
-/// The levels behind the tokens.
+/// The levels after the tokens.
 pub(crate) fn behind_each(levels: &[u32]) -> &[u32]
     requires { 1 ≤ length levels.now }
     ensures { result.now ≡ drop 1 levels.now }

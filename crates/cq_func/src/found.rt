@@ -8,7 +8,7 @@ use crate::brackets::{Kind, partner};
 use crate::spelling::stands;
 use cq_base::{Lang, Memory, Spelled};
 
-/// Where a function's name stands, and where its body begins and ends, as places of tokens.
+/// Where a function's name is, and where its body begins and ends, as places of tokens.
 #[derive(Clone, Copy, Debug, PartialEq, Eq)]
 pub(crate) struct Found {
     pub name: usize,

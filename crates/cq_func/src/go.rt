@@ -146,7 +146,7 @@ fn open_marks(alloc: Global, tokens: &[Spelled], curly: &[u32]) -> Result<Vec<u3
     Ok(marks)
 }
 
-// The brace whose partner stands at each place.
+// The brace whose partner is at each place.
 fn opens(alloc: Global, tokens: &[Spelled], curly: &[u32]) -> Result<Vec<u32>, Memory>
     requires curlies { table.ArePartners lang.Go kind.Curly tokens.now curly.now }
     requires few { length tokens.now ≤ 262144 }

@@ -25,7 +25,7 @@ fn decides(lang: Lang, tokens: &[Spelled], at: usize) -> bool
     is_decision(lang, text_before(tokens, at), tokens[at].text.as_bytes())
 }
 
-// For each place where a body begins, where it ends.
+// For each place at which a body begins, where it ends.
 fn closes(alloc: Global, many: usize, functions: &[Found]) -> Result<Vec<u32>, Memory>
     requires few { many ≤ 262144 }
     requires bodies { walk.AreBodies many functions.now }
@@ -72,7 +72,7 @@ fn move_on(stack: &mut Vec<usize>, closes: &[u32], at: usize) -> Result<(), Memo
     Ok(())
 }
 
-/// For each place where a body begins, the decisions that are that function's own. Each token is looked at once.
+/// For each place at which a body begins, the decisions that are that function's own. Each token is looked at once.
 pub(crate) fn own_decisions(
     alloc: Global,
     lang: Lang,

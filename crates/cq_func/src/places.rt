@@ -11,7 +11,7 @@ pub(crate) fn repeated(alloc: Global, number: u32, many: usize) -> Result<Vec<u3
     Ok(vec![in alloc; number; many]?)
 }
 
-/// For each place the least one above it whose mark is what it looks for, or the number of places where there is none.
+/// For each place the least one above it whose mark is what it looks for, or the number of places if there is none.
 /// Marks are below `width`. It goes once through the places, from the last to the first, and keeps for each mark the
 /// nearest place that has it.
 pub(crate) fn places_above(
@@ -37,7 +37,7 @@ pub(crate) fn places_above(
     Ok(found)
 }
 
-/// For each number below `width` the least place that has it as its mark, or the number of places where there is none.
+/// For each number below `width` the least place that has it as its mark, or the number of places if there is none.
 pub(crate) fn first_places(alloc: Global, marks: &[u32], width: usize) -> Result<Vec<u32>, Memory>
     requires few { length marks.now ≤ 262144 }
     requires marked { All (λ m. m < width) marks.now }

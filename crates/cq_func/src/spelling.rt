@@ -18,7 +18,7 @@ fn punctuation(lang: Lang, text: &[u8]) -> &[u8]
     }
 }
 
-/// As the token is compared where nothing is ignored.
+/// As the token is compared if nothing is ignored.
 pub(crate) fn spelling(lang: Lang, token: &Spelled) -> &[u8]
     ensures { result.now ≡ spec.spelling_of lang token.now.token.class token.now.text }
 {
@@ -34,7 +34,7 @@ pub(crate) fn is_spelled(lang: Lang, word: &[u8], token: &Spelled) -> bool
     spelling(lang, token) == word
 }
 
-/// Whether a token stands at the place and is spelled so.
+/// Whether there is a token at the place and it is spelled so.
 pub(crate) fn stands(lang: Lang, tokens: &[Spelled], at: usize, word: &[u8]) -> bool
     ensures is { result ≡ spec.stands lang tokens.now at word.now }
     ensures within { IsTrue result → at < length tokens.now }
@@ -45,14 +45,14 @@ pub(crate) fn stands(lang: Lang, tokens: &[Spelled], at: usize, word: &[u8]) -> 
     }
 }
 
-/// Whether a token stands before the place and is spelled so.
+/// Whether there is a token before the place and it is spelled so.
 pub(crate) fn stands_before(lang: Lang, tokens: &[Spelled], at: usize, word: &[u8]) -> bool
     ensures { result ≡ spec.stands_before lang tokens.now at word.now }
 {
     at > 0 && stands(lang, tokens, at - 1, word)
 }
 
-/// Whether an identifier stands at the place.
+/// Whether there is an identifier at the place.
 pub(crate) fn is_name(tokens: &[Spelled], at: usize) -> bool
     ensures is { result ≡ names.is_name tokens.now at }
     ensures within { IsTrue result → at < length tokens.now }
@@ -63,7 +63,7 @@ pub(crate) fn is_name(tokens: &[Spelled], at: usize) -> bool
     }
 }
 
-/// Whether an identifier stands at the place, and directly behind it a parenthesis that opens.
+/// Whether there is an identifier at the place, and directly after it a parenthesis that opens.
 pub(crate) fn is_called(lang: Lang, tokens: &[Spelled], name: usize) -> bool
     requires { name < length tokens.now }
     ensures is { result ≡ names.is_called lang tokens.now name }

@@ -1,27 +1,25 @@
-//! The groups of all files or of one, from an index of windows by their keys (Hummel et al., ICSM 2010): one question
-//! for each different key of a window that concerns the list, and the groups of each answer, sorted once. What stands
-//! behind the questions is the caller's; `PlainBuckets` reads all keys of all files at each.
+//! The groups of all files, or of one, from an index of windows by their keys (Hummel et al., ICSM 2010). `list_all` and
+//! `list_file` ask for one bucket per key that concerns them, `refine` makes the groups of a bucket, and the list is
+//! sorted once. The buckets are the caller's; `PlainBuckets` reads all keys of all files for each.
 //!
-//! A list is made over an `Index`, which lends the files and the spots of their changes. A list of n windows copies their
-//! keys and sorts them, n log n comparisons. It reads at most as many tokens as the answers have windows, times two more
-//! than the longest repeat; an answer of n entries is sorted, and split as the last paragraphs say; g groups are sorted, g log g
-//! comparisons, and the list of one file first looks through the places of its groups for that file. It keeps the keys and
-//! its groups, and an answer until the next question.
+//! A list of n windows copies their keys and sorts them in n log n comparisons. It reads at most as many tokens as the
+//! buckets have windows, times two more than the longest repeat. It sorts its g groups in g log g comparisons, and keeps
+//! the keys, the groups and one bucket at a time. The list of one file first drops the groups that have no place in it.
 //!
-//! The groups of one key: sets of places that share their first tokens, split by the next token until none is left. It
-//! needs no recursion, reads each token at most once for each set that a place is in, and the token before a place once; a
-//! place that is alone in its set costs nothing more, and a bucket of one entry nothing at all. A set whose places all have
-//! the same token before them gives no group, nor do its parts: it is never kept, and where it is the first one, nothing is
-//! made but the places.
+//! A bucket is refined by sets of places that share their first tokens. A set is split by the next token until no set is
+//! left, without recursion. Each token is read at most once for each set that a place is in, and the token before a place
+//! once. A place that is alone in its set costs nothing more, and a bucket of one entry costs nothing at all. A set whose
+//! places all have the same token before them gives no group, and neither do its parts: it is never kept.
 //!
-//! Places that follow each other by one gap in a file, within the word, are a row: all but the last go on by one token of the
-//! word, which is read once. So a set has its places in rows, and a depth costs as much as it has rows, as few as two for a
-//! file of equal tokens. Of n rows that go on by one token the set grows where it stands, n reads at most. Else those that go
-//! on as the first one does stay together, and each other one is searched among the k different tokens of the others, in a
-//! map; two places need none. Rows are joined where the depth is a power of two. The kept places of a group are found row by
-//! row, a binary search each. No token is copied: memory is linear in the entries of the bucket.
+//! Places of a file that follow each other at one distance, each within the word of the one before, are a row. All but
+//! the last place of a row go on by the same token, which is read once. A set keeps its places in rows, so a depth costs
+//! as much as the set has rows: as few as two for a file of equal tokens. If all n rows go on by one token, the set
+//! grows in place, with n reads at most. Otherwise the rows that go on as the first one does stay together, and each
+//! other row is looked up among the k different tokens of the others in a map; two places need no map. Rows are joined
+//! at each depth that is a power of two. The kept places of a group are found by one binary search a row. No token is
+//! copied, and memory is linear in the entries of the bucket.
 //!
-//! An `Index` lends the spots of its corpus's changes: the file of an entry is found by a binary search, and nothing that
+//! An `Index` lends the spots of its corpus's changes, so the file of an entry is found by binary search, and nothing that
 //! grows with the corpus is made for a bucket.
 #![tactic(auto)]
 

@@ -32,7 +32,7 @@ is_gate_of q (Gate project conditions) = bytes_eq q project
 abbrev pub IsNumber : {A : Type 0} → List A → ℕ → Type 0
 IsNumber changes r = (0 < r) × (r ≤ length changes)
 
--- what stands for a change where there is none
+-- the stand-in for a change that does not exist
 abbrev pub no_change : Change
 no_change = Gate [] []
 

@@ -28,7 +28,7 @@ pub data Step : Type 0 where
   Applies : (shard : ℕ) → Step
   Sweeps : (shard to : ℕ) → Step
 
--- a version is published where each shard has applied it
+-- a version is published only when each shard has applied it
 abbrev pub IsAppliedFor : List ℕ → Event → Type 0
 IsAppliedFor applied (Accept by change) = Unit {0}
 IsAppliedFor applied (Ask by) = Unit {0}

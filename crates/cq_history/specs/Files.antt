@@ -58,7 +58,7 @@ files_of q changes = files_from q 1 [] changes
 abbrev pub files_at : List Change → ℕ → List ℕ → List Source
 files_at changes version q = files_of q (take version changes)
 
--- whether a file is there behind a change, where it was there before or not
+-- whether a file exists after a change, whether it existed before or not
 abbrev pub is_path_put : List ℕ → List ℕ → Bool → Change → Bool
 is_path_put q p was (Put project path lang text) = was || bytes_eq q project && bytes_eq p path
 is_path_put q p was (Drop project path) = was && not (bytes_eq q project && bytes_eq p path)

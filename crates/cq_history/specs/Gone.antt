@@ -1,4 +1,4 @@
--- Which of the accepted changes a floor lets go of, since no version from the floor on needs them, and which are kept.
+-- Which of the accepted changes a floor forgets, since no version from the floor on needs them, and which are kept.
 use Rattle.std.specs.Prelude.{◌≡◌, ◌↔◌, ℕ, ◌-◌, ◌<◌, ◌≤◌, nat_le, Bool, true, not, ◌&&◌, List, length, take, drop, filter, sum_by, slice_index_or, Contains, Some}
 use Rattle.std.specs.List.{list_any, range_with_len}
 use Rattle.std.specs.List.Sorted.{IsStrictlyIncreasing}
@@ -22,7 +22,7 @@ IsOver changes floor number (Put project path lang text) = IsFollowed (is_of_fil
 IsOver changes floor number (Drop project path) = Unit {0}
 IsOver changes floor number (Gate project conditions) = IsFollowed (is_gate_of project) changes floor number
 
--- the change of this number is one of those that the floor lets go of
+-- the change of this number is one of those that the floor forgets
 pub record IsGone (changes : List Change) (floor number : ℕ) : Type 0 where
   pub change : Change
   pub accepted : IsNumber changes number

@@ -10,7 +10,7 @@ kept_script = Put (codes "p") (codes "t") Any (codes "abc") ∷ Put (codes "p") 
 
 pub record IsKeptAsWorkedOut : Type 0 where
   pub all : kept_numbers kept_script 0 ≡ 1 ∷ 2 ∷ 3 ∷ 4 ∷ 5 ∷ 6 ∷ []
-  -- the second put stands above this floor, so the first one is still needed
+  -- the second put is above this floor, so the first one is still needed
   pub first : kept_numbers kept_script 1 ≡ 1 ∷ 2 ∷ 3 ∷ 4 ∷ 5 ∷ 6 ∷ []
   pub second : kept_numbers kept_script 2 ≡ 2 ∷ 3 ∷ 4 ∷ 5 ∷ 6 ∷ []
   pub gate : kept_numbers kept_script 3 ≡ 2 ∷ 3 ∷ 4 ∷ 5 ∷ 6 ∷ []

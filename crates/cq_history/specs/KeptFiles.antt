@@ -1,11 +1,11 @@
--- What the kept changes alone leave: the files and the conditions of each version from the floor on.
+-- The kept changes are enough: they give the files and the conditions of each version from the floor on.
 use Rattle.std.specs.Prelude.{◌≡◌, ℕ, ◌+◌, ◌≤◌, not, List, [], ◌∷◌, take, filter}
 use Rattle.cq_base.specs.declared.change.Change.{Change}
 use Rattle.cq_base.specs.declared.change.Condition.{Condition}
 use Rattle.cq_history.specs.Files.{Source, files_after, files_at, conditions_after, conditions_at}
 use Rattle.cq_history.specs.Gone.{is_gone}
 
--- the changes, each with its number, where the first has this one
+-- the changes, each with its number, if the first has this one
 abbrev pub numbered : ℕ → List Change → List (ℕ × Change)
 numbered number [] = []
 numbered number (c ∷ cs) = (number, c) ∷ numbered (number + 1) cs

@@ -22,7 +22,7 @@ kept_changes s = kept_count (changes_in s) s.floor
 abbrev pub kept_text_bytes : State → ℕ
 kept_text_bytes s = kept_bytes (changes_in s) s.floor
 
--- no further change is accepted: as many are kept as may be, or as many were accepted as are counted
+-- no further change is accepted: the most that may be kept are kept, or the most that can be numbered were accepted
 abbrev pub is_full : Settings → State → Bool
 is_full set s = nat_le set.change_limit (kept_changes s) || nat_le (2 ^ 60) (length s.slots)
 

@@ -21,7 +21,7 @@ BeginningsAreLawful = (settings : Settings) (callers : ℕ) (h later : List Even
 abbrev pub OpenVersionsAreKept : Type 0
 OpenVersionsAreKept = (settings : Settings) (callers : ℕ) (h : List Event) → Lawful settings callers h → (by version : ℕ) → view_of (state callers h) by ≡ Some version → ((state callers h).floor ≤ version) × (version ≤ (state callers h).published)
 
--- what is ready, published and given up stand in order
+-- what is ready, published and given up is in order
 abbrev pub StandInOrder : Type 0
 StandInOrder = (settings : Settings) (callers : ℕ) (h : List Event) → Lawful settings callers h → ((state callers h).floor ≤ (state callers h).published) × ((state callers h).published ≤ ready (state callers h))
 
@@ -34,7 +34,7 @@ NothingFalls = (settings : Settings) (callers : ℕ) (h later : List Event) → 
 abbrev pub ChangesAreAccepted : Type 0
 ChangesAreAccepted = (callers : ℕ) (h : List Event) → changes_in (state callers h) ≡ accepted h
 
--- the files and the conditions of a version depend on nothing behind its acceptance
+-- the files and the conditions of a version depend on nothing after its acceptance
 abbrev pub VersionsStay : Type 0
 VersionsStay = (h later : List Event) (version : ℕ) (project : List ℕ) → version ≤ length (accepted h) →
     (files_at (accepted (h ++ later)) version project ≡ files_at (accepted h) version project) × (conditions_at (accepted (h ++ later)) version project ≡ conditions_at (accepted h) version project)
@@ -49,7 +49,7 @@ IsPartOf [] ys = Unit {0}
 IsPartOf (x ∷ xs) [] = ⊥
 IsPartOf (x ∷ xs) (y ∷ ys) = ((x ≡ y) × IsPartOf xs ys) ⊎ IsPartOf (x ∷ xs) ys
 
--- the events of a caller are a part of the history, in its order, and later ones come behind
+-- the events of a caller are a part of the history, in its order, and later ones come after
 abbrev pub OwnEventsAreAPart : Type 0
 OwnEventsAreAPart = (by : ℕ) (h later : List Event) → IsPartOf (own by h) h × (own by (h ++ later) ≡ own by h ++ own by later)
 
@@ -61,11 +61,11 @@ CoresStaySound = (settings : Settings) (callers shards : ℕ) → IsSound settin
 abbrev pub HoldersTookLast : Type 0
 HoldersTookLast = (settings : Settings) (callers : ℕ) (h : List Event) (r : ℕ) → Lawful settings callers h → 0 < r → (slot_of (state callers h) r).holder ≡ holder_in r h
 
--- the files of a project are exactly those of the last put at each path, where no later change drops it, in path order
+-- the files of a project are exactly those of the last put at each path, unless a later change drops it, in path order
 abbrev pub FilesAreTheLastPuts : Type 0
 FilesAreTheLastPuts = (changes : List Change) (project : List ℕ) → AreStanding changes project (files_of project changes)
 
--- whether a file is there behind a change, by whether it was there before
+-- whether a file exists after a change, by whether it existed before
 abbrev pub PresenceGoesByChanges : Type 0
 PresenceGoesByChanges = (project path : List ℕ) (number : ℕ) (files : List Source) (c : Change) → has_file path (files_after project number files c) ≡ is_path_put project path (has_file path files) c
 
@@ -73,12 +73,12 @@ PresenceGoesByChanges = (project path : List ℕ) (number : ℕ) (files : List S
 abbrev pub CallersAreThere : Type 0
 CallersAreThere = (settings : Settings) (callers : ℕ) (h : List Event) (e : Event) → Lawful settings callers h → Contains h e → IfSome (maker e) (λ by. by < callers)
 
--- the version that a caller has open is that of its last opening, unless it shut its view since; so it goes by the caller's
--- own events alone
+-- the version that a caller has open is that of its last opening, unless it shut its view since; so only the caller's own
+-- events matter
 abbrev pub OpenVersionsGoByOwnEvents : Type 0
 OpenVersionsGoByOwnEvents = (settings : Settings) (callers : ℕ) (h : List Event) (by : ℕ) → Lawful settings callers h → (view_of (state callers h) by ≡ view_in by h) × (view_in by h ≡ view_in by (own by h))
 
--- an accepted change is done where it is no put, or some event did it
+-- an accepted change is done if it is not a put, or some event did it
 abbrev pub DoneIsWhatWasDone : Type 0
 DoneIsWhatWasDone = (settings : Settings) (callers : ℕ) (h : List Event) (r : ℕ) → Lawful settings callers h → IsDone (state callers h) r ↔ (IsAccepted (state callers h) r × ((is_put (slot_of (state callers h) r).change ≡ false) ⊎ IsDoneIn r h))
 
@@ -94,11 +94,11 @@ ReadyIsTheGreatest = (s : State) → AreDoneUpTo s (ready s) × ((d : ℕ) → A
 abbrev pub ConditionsAreTheLastGates : Type 0
 ConditionsAreTheLastGates = (changes : List Change) (project : List ℕ) → AreConditions changes project (conditions_of project changes)
 
--- a state has the accepted changes, and no more than there may be
+-- a state has the accepted changes, and no more than the limit allows
 abbrev pub FewAreAccepted : Type 0
 FewAreAccepted = (settings : Settings) (callers : ℕ) (h : List Event) → Lawful settings callers h → (length (state callers h).slots ≡ length (accepted h)) × (length (accepted h) ≤ 2 ^ 60)
 
--- the floor keeps no more changes, and no more bytes of texts, than there may be
+-- the floor keeps no more changes, and no more bytes of texts, than the limits allow
 abbrev pub FewAreKept : Type 0
 FewAreKept = (settings : Settings) (callers : ℕ) (h : List Event) → Lawful settings callers h →
     (kept_count (accepted h) (state callers h).floor ≤ settings.change_limit) × (kept_bytes (accepted h) (state callers h).floor ≤ settings.text_limit)

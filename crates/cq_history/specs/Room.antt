@@ -1,4 +1,4 @@
--- Histories that were worked out by hand: two changes may be kept, and a view's floor makes room for more.
+-- Histories that were worked out by hand: at most two changes are kept, and a view's floor makes room for more.
 use Rattle.std.specs.Prelude.{◌≡◌, ◌^◌, true, false, List, [], ◌∷◌, ◌++◌, codes}
 use Rattle.cq_base.specs.declared.settings.Settings.{Settings}
 use Rattle.cq_base.specs.declared.change.Change.TheVariants.{Drop}
@@ -11,7 +11,7 @@ use Rattle.cq_history.specs.Script.{text_put}
 abbrev pub room_settings : Settings
 room_settings = record { chunk = 2; shards = 1; key_bits = 64; ignore_ids = false; ignore_lits = false; change_limit = 2; text_limit = 8; byte_limit = 2 ^ 60 }
 
--- a text is put, and put anew
+-- a text is put, and put again
 abbrev pub two_puts : List Event
 two_puts = Accept 0 (text_put (codes "aaaa")) ∷ Done 0 1 ∷ Accept 0 (text_put (codes "bbb")) ∷ Done 0 2 ∷ []
 
@@ -19,7 +19,7 @@ two_puts = Accept 0 (text_put (codes "aaaa")) ∷ Done 0 1 ∷ Accept 0 (text_pu
 abbrev pub put_and_drop : List Event
 put_and_drop = Accept 0 (text_put (codes "aaaa")) ∷ Done 0 1 ∷ Accept 0 (Drop (codes "p") (codes "t")) ∷ []
 
--- the limits before and behind the floors 1 and 2
+-- the limits before and after the floors 1 and 2
 pub record IsRoomAsWorkedOut : Type 0 where
   pub full : is_full room_settings (state 1 two_puts) ≡ true
   pub full_when_published : is_full room_settings (state 1 (two_puts ++ Publish 2 ∷ [])) ≡ true

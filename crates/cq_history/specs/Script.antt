@@ -1,5 +1,5 @@
 -- A history that was worked out by hand: one file put twice by a first caller, a second one's view between, and the floor
--- behind it.
+-- after it.
 use Rattle.std.specs.Prelude.{◌≡◌, ℕ, ◌^◌, false, List, [], ◌∷◌, ◌++◌, map, Some, codes}
 use Rattle.cq_base.specs.declared.lang.Lang.TheVariants.{Any}
 use Rattle.cq_base.specs.declared.settings.Settings.{Settings}

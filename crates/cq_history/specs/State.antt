@@ -33,7 +33,7 @@ slot_of s r = slice_index_or s.slots (r - 1) no_slot
 abbrev pub with_slot : State → ℕ → Slot → State
 with_slot s r slot = record { slots = slice_set s.slots (r - 1) slot; published = s.published; floor = s.floor; views = s.views }
 
--- the state of so many callers before any event
+-- the state of this many callers before any event
 abbrev pub start : ℕ → State
 start callers = record { slots = []; published = 0; floor = 0; views = replicate callers None }
 
@@ -84,7 +84,7 @@ ready s = prefix_len is_done s.slots
 abbrev pub AreDoneUpTo : State → ℕ → Type 0
 AreDoneUpTo s d = (r : ℕ) → 0 < r → r ≤ d → IsDone s r
 
--- the least number of a change that is neither done nor taken; past the last change where there is none
+-- the least number of a change that is neither done nor taken; past the last change if there is none
 abbrev pub first_free : State → ℕ
 first_free s = position_or_len is_free s.slots + 1
 

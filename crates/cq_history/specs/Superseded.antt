@@ -1,4 +1,4 @@
--- Which puts a floor lets go of: those that a later change of their file, numbered at most the floor, replaced or dropped.
+-- Which puts a floor forgets: those that a later change of their file, numbered at most the floor, replaced or dropped.
 use Rattle.std.specs.Prelude.{◌≡◌, ◌↔◌, ℕ, ◌<◌, ◌≤◌, true, List, Contains, Some}
 use Rattle.std.specs.List.Sorted.{IsStrictlyIncreasing}
 use Rattle.cq_base.specs.declared.lang.Lang.{Lang}

@@ -1,7 +1,7 @@
 use cq_base::Change;
 
-/// What one activity does at one time. A caller is a session or a worker, by its number; a change is told by its number,
-/// from 1, over all projects.
+/// What one activity does at one time. A caller is a session or a worker, by its number; a change is named by its
+/// number, from 1, over all projects.
 #[derive(Debug, Drop)]
 pub enum Event {
     /// A change is accepted, with the next number.
@@ -20,6 +20,6 @@ pub enum Event {
     Open { by: u32, version: u64 },
     /// It shuts its view.
     Shut { by: u32 },
-    /// Versions below this one are given up.
+    /// Versions below this one can no longer be asked for.
     Floor { version: u64 },
 }

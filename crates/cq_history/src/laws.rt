@@ -31,7 +31,7 @@ pub fn changes_are_accepted()
     ensures { law.ChangesAreAccepted }
 {}
 
-/// The files and the conditions of a version depend on no event behind the acceptance of its last change.
+/// The files and the conditions of a version depend on no event after the acceptance of its last change.
 pub fn versions_stay()
     ensures { law.VersionsStay }
 {}
@@ -57,12 +57,12 @@ pub fn holders_took_last()
     ensures { law.HoldersTookLast }
 {}
 
-/// The files of a project are exactly those of the last put at each path, where no later change drops it, in path order.
+/// The files of a project are exactly those of the last put at each path, unless a later change drops it, in path order.
 pub fn files_are_the_last_puts()
     ensures { law.FilesAreTheLastPuts }
 {}
 
-/// Whether a file is there behind a change depends on the change, and on whether it was there before.
+/// Whether a file exists after a change depends on the change, and on whether it existed before.
 pub fn presence_goes_by_changes()
     ensures { law.PresenceGoesByChanges }
 {}
@@ -72,13 +72,13 @@ pub fn callers_are_there()
     ensures { law.CallersAreThere }
 {}
 
-/// The version that a caller has open is that of its last opening, unless it shut its view since, and goes by the caller's
-/// own events alone.
+/// The version that a caller has open is that of its last opening, unless it shut its view since. Only the caller's own
+/// events matter.
 pub fn open_versions_go_by_own_events()
     ensures { law.OpenVersionsGoByOwnEvents }
 {}
 
-/// An accepted change is done where it is no put, or some event did it.
+/// An accepted change is done if it is not a put, or if some event did it.
 pub fn done_is_what_was_done()
     ensures { law.DoneIsWhatWasDone }
 {}
@@ -98,12 +98,12 @@ pub fn conditions_are_the_last_gates()
     ensures { law.ConditionsAreTheLastGates }
 {}
 
-/// A state has the accepted changes, and no more than there may be.
+/// A state has the accepted changes, and no more than the limit allows.
 pub fn few_are_accepted()
     ensures { law.FewAreAccepted }
 {}
 
-/// The floor keeps no more changes, and no more bytes of their texts, than there may be.
+/// The floor keeps no more changes, and no more bytes of their texts, than the limits allow.
 pub fn few_are_kept()
     ensures { law.FewAreKept }
 {}
@@ -173,7 +173,7 @@ pub fn files_are_few()
     ensures { kept.FilesAreFew }
 {}
 
-/// The kept changes alone leave the files of each version from the floor on.
+/// The kept changes are enough for the files of each version from the floor on.
 pub fn kept_leave_the_files()
     ensures { KeptLeaveTheFiles }
 {}

@@ -1,5 +1,5 @@
 -- What a call of a hub does to the history for which a pass stands.
-use Rattle.std.specs.Prelude.{◌≡◌, ◌⊎◌, ℕ, ◌+◌, ◌-◌, ◌^◌, min, List, [], ◌++◌, Some}
+use Rattle.std.specs.Prelude.{◌≡◌, ◌⊎◌, ℕ, ◌+◌, ◌-◌, ◌^◌, min, List, [], ◌∷◌, ◌++◌, Some}
 use Rattle.std.specs.List.{AllByRecursion}
 use Rattle.cq_history.specs.declared.event.Event.{Event}
 use Rattle.cq_history.specs.declared.event.Event.TheVariants.{Accept, Ask, Took, Back, Done, Publish, Open, Shut, Floor}
@@ -64,6 +64,11 @@ module _ {S P : Type 0} (Stands : S → P → ℕ → List Event → Type 0) whe
   abbrev pub Extends : Type 0 → (Event → Type 0) → S → P → P → (ℕ → List Event) → (ℕ → List Event → Type 0) → Type 0
   Extends alone May hub old new events Says =
       (c : ℕ) (h : List Event) → Stands hub old c h → Calls alone May c hub new h (events c) (Says c)
+
+  -- if nobody else calls the hub, the history is the same, or has one floor more
+  abbrev pub RaisesOnce : Type 0 → S → P → P → Type 0
+  RaisesOnce alone hub old new =
+      alone → (c : ℕ) (h : List Event) → Stands hub old c h → Stands hub new c h ⊎ ((f : ℕ) × Stands hub new c (h ++ Floor f ∷ []))
 
 -- it is one more, up to its last value
 abbrev pub one_more : ℕ → ℕ

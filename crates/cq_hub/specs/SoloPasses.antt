@@ -1,5 +1,5 @@
 -- What a plain hub and its pass are, and for which histories the pass stands.
-use Rattle.std.specs.Prelude.{◌≡◌, ◌⊎◌, ℕ, ◌<◌, List, [], ◌∷◌, ◌++◌, All, Result}
+use Rattle.std.specs.Prelude.{◌≡◌, ℕ, ◌<◌, List, All, Result}
 use Rattle.std.specs.declared.alloc.Global.{Global}
 use Rattle.std.specs.declared.sync.Arc.{Arc}
 use Rattle.cq_base.specs.declared.lang.Lang.{Lang}
@@ -7,12 +7,12 @@ use Rattle.cq_base.specs.declared.memory.Memory.{Memory}
 use Rattle.cq_base.specs.declared.settings.Settings.{Settings}
 use Rattle.cq_base.specs.Changes.{IsSoundChange}
 use Rattle.cq_history.specs.declared.event.Event.{Event}
-use Rattle.cq_history.specs.declared.event.Event.TheVariants.{Floor}
 use Rattle.cq_history.specs.State.{accepted}
 use Rattle.cq_history.specs.Lawful.{Lawful}
 use Rattle.cq_shard.specs.Shard.{Contents, HasWindow}
 use Rattle.cq_hub.specs.declared.solo.Solo.{Solo}
 use Rattle.cq_hub.specs.declared.solo.SoloPass.{SoloPass}
+use Rattle.cq_hub.specs.Hubs.{RaisesOnce}
 use Rattle.cq_hub.specs.Answers.{HasSeenItsWork, HasViewOpen, Does, SeesDone, Shuts, Sweeps}
 use Rattle.cq_hub.specs.Solos.{IsSoloOf, solo_lawful, solo_sound, solo_caller}
 
@@ -52,9 +52,8 @@ module _ {W : Type 0} (keys_in : W → List ℕ) (IsWorkOf : Settings → Lang �
   abbrev pub SoloSweeps : SoloPass W → SoloPass W → Result ℕ Memory → Type 0
   SoloSweeps old new result = Sweeps (SoloStands keys_in IsWorkOf) (Unit {0}) settings_of callers_of hub old new result
 
-  -- the history is the same, or has one floor more
-  abbrev pub RaisesOnce : SoloPass W → SoloPass W → Type 0
-  RaisesOnce old new = (c : ℕ) (h : List Event) → SoloStands keys_in IsWorkOf hub old c h → SoloStands keys_in IsWorkOf hub new c h ⊎ ((f : ℕ) × SoloStands keys_in IsWorkOf hub new c (h ++ Floor f ∷ []))
+  abbrev pub SoloRaisesOnce : SoloPass W → SoloPass W → Type 0
+  SoloRaisesOnce old new = RaisesOnce (SoloStands keys_in IsWorkOf) (Unit {0}) hub old new
 
   abbrev pub SoloShuts : SoloPass W → SoloPass W → Type 0
   SoloShuts old new = Shuts (SoloStands keys_in IsWorkOf) (Unit {0}) settings_of callers_of hub old new

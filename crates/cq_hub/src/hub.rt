@@ -5,7 +5,7 @@ ghost use Rattle.cq_base.specs.Changes.{IsSoundChange};
 ghost use Rattle.cq_history.specs.declared.event.Event.{Event};
 ghost use Rattle.cq_history.specs.State.{accepted};
 ghost use Rattle.cq_history.specs.Lawful.{Lawful};
-ghost use Rattle.cq_hub.specs.Hubs.{IsPassOf, WhereStands, one_more};
+ghost use Rattle.cq_hub.specs.Hubs.{IsPassOf, WhereStands, RaisesOnce, one_more};
 ghost use Rattle.cq_hub.specs.Answers.{HasSeenChange, HasSeenItsWork, HasSeenReady, HasNoView, HasViewOpen, HasOpen, SeesMore, Accepts, Refuses, IsTold, Takes, FindsJob, GivesBack, HasNot, Does, SeesDone, Publishes, Opens, Reads, Shuts, Sweeps};
 
 use cq_base::{Change, Entry, Memory};
@@ -132,10 +132,12 @@ pub trait Hub<W: Indexed> {
         ensures asked { asked pass.new ≡ asked pass.old };
 
     /// Gives up the versions below the published one and each open one, lets go of what they alone need, and answers the least
-    /// that is left. Where memory is refused, they are given up, and some of it may be let go.
+    /// that is left. Where memory is refused, they are given up, and some of it may be let go. The floor is raised once at
+    /// most.
     fn sweep(&self, alloc: Global, pass: &mut Self::Pass) -> Result<u64, Memory>
         requires stands { IsPassOf Stands self.now pass.old }
         ensures swept { Sweeps Stands alone settings callers self.now pass.old pass.new result }
+        ensures once { RaisesOnce Stands alone self.now pass.old pass.new }
         ensures asked { asked pass.new ≡ asked pass.old };
 
     ghost lawful: { WhereStands Stands (λ hub _ h. Lawful (settings hub) (callers hub) h) };

@@ -1,6 +1,6 @@
 ghost use Rattle.std.specs.Prelude.{◌≡◌, [], ◌≤◌, IfOk};
 ghost use Rattle.cq_hub.specs.Hubs.{IsPassOf};
-ghost use Rattle.cq_hub.specs.SoloPasses.{SoloStands, SoloSweeps, RaisesOnce, AreSweptTo, asked_by};
+ghost use Rattle.cq_hub.specs.SoloPasses.{SoloStands, SoloSweeps, SoloRaisesOnce, AreSweptTo, asked_by};
 
 use crate::applying::{apply_up_to, shards_of};
 use crate::hub::Hub;
@@ -58,7 +58,7 @@ impl<W: Indexed> Solo<W> {
     pub fn sweep(&self, alloc: Global, pass: &mut SoloPass<W>) -> Result<u64, Memory>
         requires stands { IsPassOf (SoloStands W.keys_in W.IsWorkOf) self.now pass.old }
         ensures swept { SoloSweeps W.keys_in W.IsWorkOf self.now pass.old pass.new result }
-        ensures once { RaisesOnce W.keys_in W.IsWorkOf self.now pass.old pass.new }
+        ensures once { SoloRaisesOnce W.keys_in W.IsWorkOf self.now pass.old pass.new }
         ensures shards { IfOk result (AreSweptTo pass.new) }
         ensures asked { asked_by pass.new ≡ asked_by pass.old }
     {

@@ -5,8 +5,8 @@ ghost use Rattle.cq_tokens.specs.Corpus.{changes_of, corpus_of, keys_of};
 ghost use Rattle.cq_tokens.specs.Packed.{spelling_bytes};
 ghost use Rattle.cq_index_trials.specs.Project.{IsProject};
 
-use crate::draws::Draws;
 use cq_base::{Class, Lang, Memory, Norm, Text};
+use cq_talk_model::Draws;
 use cq_tokens::{FileTokens, Tokens};
 use cq_work::Keyer;
 use std::alloc::Global;

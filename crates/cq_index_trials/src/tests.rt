@@ -1,12 +1,12 @@
 ghost use Rattle.std.specs.Prelude.{◌≡◌, ◌≤◌, length};
 ghost use Rattle.cq_index_trials.specs.Project.{IsProject};
 
-use crate::draws::Draws;
 use crate::projects::drawn_project;
 use cq_base::{Group, Memory, Settings, Steps};
 use cq_groups::{Buckets, Index, PlainBuckets, list_all, list_file, refine, spots_in};
 use cq_order::order;
 use cq_scan::scan;
+use cq_talk_model::Draws;
 use cq_tokens::{Corpus, FileTokens, PlainFiles};
 use cq_work::{Keyer, files_are_keyed_by_their_windows, plain_key};
 use std::alloc::Global;

@@ -1,4 +1,4 @@
--- What the ends over std's readers and writers tell: their faults, and nothing of their bytes.
+-- What the ends over std's readers and writers report: their faults, and nothing about their bytes.
 use Rattle.std.specs.Prelude.{ℕ}
 use Rattle.cq_io.specs.declared.standard.StdSource.{StdSource}
 use Rattle.cq_io.specs.declared.standard.StdSink.{StdSink}

@@ -21,7 +21,7 @@ pub trait Doors {
     /// The address of the last `bind` that succeeded, if there was one.
     ghost bound: { Self → Option (List ℕ) };
 
-    /// How many connections are still to come, where the doors tell it.
+    /// How many connections are still to come, if the doors report it.
     ghost left: { Self → Option ℕ };
 
     /// Listens at an address. After `Failed` the doors are bound as before.
@@ -31,7 +31,7 @@ pub trait Doors {
         ensures left { left self.new ≡ left self.old }
         ensures cause { HasCause (faults self.old) (faults self.new) result };
 
-    /// The next connection, and None where no more will come. After `Failed` as many are to come as before.
+    /// The next connection, and None if no more will come. After `Failed` the number still to come is as before.
     fn next_door(&mut self) -> Result<Option<(Self::In, Self::Out)>, Failed>
         requires { IsSome (bound self.old) }
         ensures bound { bound self.new ≡ bound self.old }

@@ -1,7 +1,7 @@
 //! The outside: where bytes come from and go to, where connections come from, and where a test may look on. Each end
-//! counts its faults, answers `Failed` only where that count rose, and says what was read or taken to the byte where
-//! it tells its bytes. There are ends in memory, which tell everything, and ends over std's readers and writers, which
-//! tell nothing: those few lines are trusted to be what the operating system did. A call costs what it copies.
+//! counts its faults and answers `Failed` only if that count rose. The ends in memory report every byte that was read
+//! or taken. The ends over std's readers and writers report no bytes: those few lines are trusted to be what the
+//! operating system did. A call costs what it copies.
 #![tactic(auto)]
 
 mod door;

@@ -6,7 +6,7 @@ use crate::source::{Failed, Source};
 use cq_base::Memory;
 use std::alloc::Global;
 
-/// A source in memory. Its calls are counted from 1, and those with a number in `failing` fail. It tells its bytes.
+/// A source in memory. Its calls are counted from 1, and those with a number in `failing` fail. It reports its bytes.
 #[derive(Drop)]
 pub struct MemSource {
     bytes: Vec<u8>,
@@ -60,8 +60,8 @@ impl Source for MemSource {
     }
 }
 
-/// A sink in memory with room for a stated number of bytes, whose memory it takes when it is made: a write takes
-/// none. With no room left it fails. It tells its bytes.
+/// A sink in memory with room for a given number of bytes. It takes its memory when it is made, and none for a write.
+/// With no room left it fails. It reports its bytes.
 #[derive(Drop)]
 pub struct MemSink {
     written: Vec<u8>,

@@ -7,7 +7,7 @@ use crate::source::Failed;
 
 /// Where bytes go.
 pub trait Sink {
-    /// The bytes that were written, where the sink tells them.
+    /// The bytes that were written, if the sink reports them.
     ghost written: { Self → Option (List ℕ) };
 
     /// How often it has failed. It never falls.

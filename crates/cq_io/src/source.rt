@@ -4,20 +4,20 @@ ghost use Rattle.cq_io.specs.Causes.{HasCause};
 
 use thiserror::Error;
 
-/// A call to the outside failed. It is answered only where the end's count of faults rose in that call.
+/// A call to the outside failed. It is answered only if the end's count of faults rose in that call.
 #[derive(Clone, Copy, Debug, PartialEq, Eq, Error)]
 #[error("a call to the outside failed")]
 pub struct Failed;
 
 /// Where bytes come from.
 pub trait Source {
-    /// The bytes that are left, where the source tells them.
+    /// The bytes that are left, if the source reports them.
     ghost rest: { Self → Option (List ℕ) };
 
     /// How often it has failed. It never falls.
     ghost faults: { Self → ℕ };
 
-    /// Puts the next bytes at the front of `out` and says how many. It answers 0 only where none are left. After
+    /// Puts the next bytes at the front of `out` and returns how many. It answers 0 only if none are left. After
     /// `Failed` the bytes that are left are as before.
     fn read(&mut self, out: &mut [u8]) -> Result<usize, Failed>
         requires { 0 < length out.old }

@@ -4,8 +4,8 @@ use crate::sink::Sink;
 use crate::source::{Failed, Source};
 use std::io::{ErrorKind, Read, Write};
 
-/// Any reader of std, with a count of the calls that failed. A call that was interrupted is made again. It tells
-/// nothing of its bytes.
+/// Any reader of std, with a count of the calls that failed. A call that was interrupted is made again. It reports
+/// nothing about its bytes.
 #[derive(Drop)]
 pub struct StdSource<R: Read + Drop> {
     reader: R,
@@ -23,7 +23,7 @@ impl<R: Read + Drop> StdSource<R> {
     }
 }
 
-// Reads once, and again where the call was interrupted.
+// Reads once, and again if the call was interrupted.
 fn read_through<R: Read>(reader: &mut R, out: &mut [u8]) -> Option<usize>
     ensures { IfSome result (λ n. n ≤ length out.old) }
 {
@@ -59,7 +59,7 @@ impl<R: Read + Drop> Source for StdSource<R> {
 }
 
 /// Any writer of std, with a count of the calls that failed. A call that was interrupted is made again. It is flushed
-/// after each write, and tells nothing of its bytes.
+/// after each write, and reports nothing about its bytes.
 #[derive(Drop)]
 pub struct StdSink<W: Write + Drop> {
     writer: W,
@@ -77,7 +77,7 @@ impl<W: Write + Drop> StdSink<W> {
     }
 }
 
-// Flushes, and again where the call was interrupted. It says whether that was done.
+// Flushes, and again if the call was interrupted. It returns whether that was done.
 fn flush_through<W: Write>(writer: &mut W) -> bool {
     for _ in 0..u64::MAX {
         match writer.flush() {
@@ -92,7 +92,7 @@ fn flush_through<W: Write>(writer: &mut W) -> bool {
     false
 }
 
-// How many bytes the writer took and flushed, where that is at least one.
+// How many bytes the writer took and flushed, if that is at least one.
 fn write_through<W: Write>(writer: &mut W, piece: &[u8]) -> Option<usize>
     ensures { IfSome result (λ n. (0 < n) × (n ≤ length piece.now)) }
 {

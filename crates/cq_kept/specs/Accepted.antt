@@ -46,7 +46,7 @@ bare_state a = state_from a.slots 0 a.floor []
 abbrev pub Holds : Accepted → ℕ → Type 0
 Holds a number = IsKept (changes_of a.slots) a.floor number
 
--- no change behind a number is held, or none of those up to another one
+-- no change after a number is held, or none of those up to another one
 abbrev pub HoldsNoneBehind : Accepted → ℕ → Type 0
 HoldsNoneBehind a after = (number : ℕ) → after < number → Holds a number → ⊥
 
@@ -61,7 +61,7 @@ HoldsPuts a numbers = AreKeptPuts (changes_of a.slots) a.floor numbers
 abbrev pub MayAccept : Accepted → Change → Type 0
 MayAccept a change = (is_absent (bare_state a) change ≡ false) × (is_full a.settings (bare_state a) ≡ false) × (is_long a.settings (bare_state a) change ≡ false)
 
--- the next change that is held behind a number
+-- the next change that is held after a number
 pub record IsNextHeld (a : Accepted) (after number : ℕ) : Type 0 where
   pub behind : after < number
   pub held : Holds a number
@@ -75,7 +75,7 @@ is_over_at all floor number = list_any (λ (o : Over). nat_le o.by floor && nat_
 abbrev pub not_over : List Over → ℕ → List ℕ → List ℕ
 not_over all floor numbers = filter (λ (n : ℕ). not (is_over_at all floor n)) numbers
 
--- those that are over behind the floor alone
+-- only those that are over at no floor up to this one
 abbrev pub over_behind : ℕ → List Over → List Over
 over_behind floor all = filter (λ (o : Over). nat_lt floor o.by) all
 
@@ -92,11 +92,11 @@ module _ {W : Type 0} where
   abbrev pub IsInserted : ℕ → Stored → BTreeMap ℕ (Kept W) → BTreeMap ℕ (Kept W) → Type 0
   IsInserted number change old new = new.entries ≡ insert_entry nat_cmp old.entries number (record { change = change; work = None; holder = None })
 
-  -- the change of a number has another holder, where it was held
+  -- the change of a number has another holder, if it was held
   abbrev pub IsHeldBy : ℕ → Option ℕ → BTreeMap ℕ (Kept W) → BTreeMap ℕ (Kept W) → Type 0
   IsHeldBy number holder old new = (was : Kept W) → get nat_cmp old number ≡ Some was → new.entries ≡ set_value (is_at (nat_cmp number)) old.entries (record { change = was.change; work = was.work; holder = holder })
 
-  -- it has this work, where it was held
+  -- it has this work, if it was held
   abbrev pub IsWorkedAs : ℕ → Arc W Global → BTreeMap ℕ (Kept W) → BTreeMap ℕ (Kept W) → Type 0
   IsWorkedAs number work old new = (was : Kept W) → get nat_cmp old number ≡ Some was → new.entries ≡ set_value (is_at (nat_cmp number)) old.entries (record { change = was.change; work = Some work; holder = was.holder })
 
@@ -104,7 +104,7 @@ module _ {W : Type 0} where
   abbrev pub IsPartOf : BTreeMap ℕ (Kept W) → BTreeMap ℕ (Kept W) → Type 0
   IsPartOf old new = (e : ℕ × Kept W) → Contains new.entries e → Contains old.entries e
 
-  -- the slot of the number, with its work where it is done
+  -- the slot of the number, with its work if it is done
   abbrev pub IsHeldAs : (Lang → List ℕ → W → Type 0) → List Slot → ℕ × Kept W → Type 0
   IsHeldAs IsWork slots e = (slot_from e.1 ≡ slot_at slots e.0) × IsWorked IsWork e.1
 

@@ -1,4 +1,4 @@
--- Where files stand, which gate each project has, and what is over.
+-- Where files are, which gate each project has, and what is over.
 use Rattle.std.specs.Prelude.{◌≡◌, ℕ, ◌+◌, ◌≤◌, Bool, if◌then◌else◌, List, [], ◌∷◌, ◌++◌, length, Option, Some, None}
 use Rattle.std.specs.Arc.{arc_value}
 use Rattle.std.specs.BTreeMap.{get}
@@ -22,11 +22,11 @@ key_cmp = key_order.ghosts.cmp
 abbrev pub project_cmp : ProjectKey → ProjectKey → Ordering
 project_cmp = project_order.ghosts.cmp
 
--- whether a file stands at the place after the changes
+-- whether there is a file at the place after the changes
 abbrev pub is_there : List Change → FileKey → Bool
 is_there changes k = has_file (arc_value k.path) (files_of (arc_value k.project) changes)
 
--- the number of the project's last gate, where the first of the changes has this one
+-- the number of the project's last gate, if the first of the changes has this one
 abbrev pub gate_from : List ℕ → ℕ → Option ℕ → List Change → Option ℕ
 gate_from q r was [] = was
 gate_from q r was (c ∷ cs) = gate_from q (r + 1) (if is_gate_of q c then Some r else was) cs
@@ -34,18 +34,18 @@ gate_from q r was (c ∷ cs) = gate_from q (r + 1) (if is_gate_of q c then Some 
 abbrev pub gate_at : List ℕ → List Change → Option ℕ
 gate_at q changes = gate_from q 1 None changes
 
--- At each place stands the change that put the file there, and none where there is no file. Each project has the number of its
--- last gate. What is over behind the floor is noted.
+-- Each place has the change that put the file there, and none if there is no file. Each project has the number of its last
+-- gate. What becomes over after the floor is noted.
 pub record IsPresence (changes : List Change) (floor : ℕ) (there : Presence) : Type 0 where
   pub puts : (k : FileKey) → get key_cmp there.puts k ≡ number_at (arc_value k.path) (files_of (arc_value k.project) changes)
   pub gates : (k : ProjectKey) → get project_cmp there.gates k ≡ gate_at (arc_value k.project) changes
   pub over : AreNoted changes floor there.over.items
 
--- whatever changes and floor it was the presence of, where this number is the next one's, it is that of one change more
+-- whatever changes and floor it was the presence of, if this number is the next one's, it is that of one change more
 abbrev pub AddsPlace : ℕ → Change → Presence → Presence → Type 0
 AddsPlace number change old new = (changes : List Change) (floor : ℕ) → length changes + 1 ≡ number → floor ≤ length changes → IsPresence changes floor old → IsPresence (changes ++ change ∷ []) floor new
 
--- whatever changes it is the presence of, this is whether a file stands at the place after them
+-- whatever changes it is the presence of, this is whether there is a file at the place after them
 abbrev pub TellsIfThere : Presence → FileKey → Bool → Type 0
 TellsIfThere there file told = (changes : List Change) (floor : ℕ) → IsPresence changes floor there → told ≡ is_there changes file
 

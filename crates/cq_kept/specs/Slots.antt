@@ -37,11 +37,11 @@ slot_at slots number = slice_index_or slots (number - 1) no_slot
 abbrev pub with_change : List Slot → Change → List Slot
 with_change slots change = slots ++ new_slot change ∷ []
 
--- the slots, where the change with this number has another holder
+-- the slots, if the change with this number has another holder
 abbrev pub with_holder : List Slot → ℕ → Option ℕ → List Slot
 with_holder slots number holder = slice_set slots (number - 1) (record { change = (slot_at slots number).change; finished = (slot_at slots number).finished; holder = holder })
 
--- the slots, where the work of the change with this number is done
+-- the slots, if the work of the change with this number is done
 abbrev pub with_work : List Slot → ℕ → List Slot
 with_work slots number = slice_set slots (number - 1) (record { change = (slot_at slots number).change; finished = true; holder = (slot_at slots number).holder })
 
@@ -51,6 +51,6 @@ put_by (change.Put project path lang text) r = r ∷ []
 put_by (change.Drop project path) r = []
 put_by (change.Gate project conditions) r = []
 
--- behind the numbers stands this one, where the change with it puts a file
+-- after the numbers comes this one, if the change with it puts a file
 abbrev pub NotesPut : Change → ℕ → List ℕ → List ℕ → Type 0
 NotesPut change number old new = new ≡ old ++ put_by change number

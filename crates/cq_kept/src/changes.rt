@@ -18,11 +18,11 @@ use std::collections::BTreeMap;
 use std::marker::Model;
 use std::sync::Arc;
 
-// So many changes are accepted at most.
+// At most this many changes are accepted.
 const MOST: u64 = 1 << 60;
 
-/// The accepted changes: those that the floor keeps, each found by its number, and how many there were. What no version from
-/// the floor on needs is forgotten as the floor rises; clauses alone speak of it then.
+/// The accepted changes: those that the floor keeps, each found by its number, and how many there were. What no version
+/// from the floor on needs is forgotten as the floor rises; then only clauses speak of it.
 #[derive(Drop)]
 pub struct Changes<W: Indexed> {
     settings: Settings,
@@ -75,14 +75,14 @@ impl<W: Indexed> Changes<W> {
         self.accepted
     }
 
-    /// Up to which change those alone are kept that some version from there on needs.
+    /// Up to which change only those are kept that some version from there on needs.
     pub fn floor(&self) -> u64
         ensures { result ≡ self.now.floor }
     {
         self.floor
     }
 
-    /// The change of a number, and None where it was not accepted or is forgotten. It costs a search.
+    /// The change of a number, and None if it was not accepted or is forgotten. It costs a search.
     pub fn get(&self, number: u64) -> Option<&Kept<W>>
         ensures some { IsSome result ↔ Holds self.now number }
         ensures slot { IfSome result (λ kept. slot_from kept.now ≡ slot_at self.now.slots number) }
@@ -91,7 +91,7 @@ impl<W: Indexed> Changes<W> {
         self.kept.get(&number)
     }
 
-    /// The next change that is kept behind a number, and its own. It costs a search.
+    /// The next change that is kept after a number, and its own. It costs a search.
     pub fn next(&self, after: u64) -> Option<(u64, &Kept<W>)>
         requires { after ≤ length self.now.slots }
         ensures next { IfSome result (λ p. IsNextHeld self.now after p.0) }
@@ -116,7 +116,7 @@ impl<W: Indexed> Changes<W> {
         Ok(keep)
     }
 
-    /// Whether a change drops a path at which no file stands.
+    /// Whether a change drops a path that has no file.
     pub fn is_absent(&self, change: &Stored) -> bool
         ensures { result ≡ is_absent (bare_state self.now) (change_of change.now) }
     {
@@ -127,7 +127,7 @@ impl<W: Indexed> Changes<W> {
         }
     }
 
-    /// Whether as many are kept as may be, or as many were accepted.
+    /// Whether a limit is reached: on how many are kept, or on how many were accepted.
     pub fn is_full(&self) -> bool
         ensures { result ≡ is_full self.now.settings (bare_state self.now) }
     {
@@ -138,15 +138,15 @@ impl<W: Indexed> Changes<W> {
         )
     }
 
-    /// Whether the text of a change and all kept texts have more bytes than may be.
+    /// Whether the text of a change and all kept texts together exceed the limit on bytes.
     pub fn is_long(&self, change: &Stored) -> bool
         ensures { result ≡ is_long self.now.settings (bare_state self.now) (change_of change.now) }
     {
         has_more(self.settings.text_limit - self.text_bytes, change)
     }
 
-    /// One change more, against which nothing is. Where memory is refused all is as before. What `hold`, `finish` and `set_floor`
-    /// need of memory for it is taken here.
+    /// One change more, which nothing is against. If memory is refused all is as before. The memory that `hold`, `finish`
+    /// and `set_floor` need for it is taken here.
     pub fn accept(&mut self, change: Stored) -> Result<(), Memory>
         requires { MayAccept self.old (change_of change) }
         ensures more { OnOk result (self.new ≡ with_accepted self.old (change_of change)) }
@@ -200,7 +200,7 @@ impl<W: Indexed> Changes<W> {
     }
 }
 
-// Whether so many are kept as may be, or so many were accepted.
+// Whether a limit is reached: on how many are kept, or on how many were accepted.
 fn are_most(most: u64, kept: u64, accepted: u64) -> bool
     ensures { result ≡ (nat_le most kept || nat_le (2 ^ 60) accepted) }
 {
@@ -214,7 +214,7 @@ fn has_more(room: u64, change: &Stored) -> bool
     text_len(change) > room
 }
 
-// One number more, where the change is a put.
+// One number more, if the change is a put.
 fn note_put(keep: &mut Vec<u64>, number: u64, change: &Stored) -> Result<(), Memory>
     ensures { OnOk result (NotesPut (change_of change.now) number keep.old.items keep.new.items) }
 {

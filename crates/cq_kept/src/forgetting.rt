@@ -9,8 +9,8 @@ use crate::kept::Kept;
 use crate::over::Over;
 use std::collections::{BTreeMap, VecDeque};
 
-/// Takes out each change that is over at a floor, and tells how many bytes their texts had. It takes no memory, and costs a
-/// search for each.
+/// Takes out each change that is over at a floor, and returns how many bytes their texts had. It takes no memory, and costs
+/// a search for each.
 pub fn forget<W: Drop>(
     kept: &mut BTreeMap<u64, Kept<W>>,
     over: &mut VecDeque<Over>,
@@ -37,7 +37,7 @@ pub fn forget<W: Drop>(
     bytes
 }
 
-// Takes a change out, and tells how many bytes of text it had.
+// Takes a change out, and returns how many bytes of text it had.
 fn take_out<W: Drop>(kept: &mut BTreeMap<u64, Kept<W>>, number: u64) -> u64
     requires { IsStrictlyIncreasing (keys kept.old) }
     ensures numbers { keys kept.new ≡ filter (λ n. not (nat_eq number n)) (keys kept.old) }

@@ -6,7 +6,7 @@ use cq_base::{Conditions, Lang, Memory, Text};
 use std::alloc::Global;
 use std::sync::Arc;
 
-/// Where a file stands: its project and its path there. They are ordered by project and then path, byte by byte.
+/// Where a file is: its project and its path there. They are ordered by project and then path, byte by byte.
 #[derive(PartialEq, Eq, PartialOrd, Ord, Drop)]
 pub struct FileKey {
     pub project: Arc<Text, Global>,

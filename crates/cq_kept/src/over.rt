@@ -11,7 +11,7 @@ pub struct Over {
     pub number: u64,
 }
 
-/// One more, where the change made another one over. It takes no memory.
+/// One more, if the change made another one over. It takes no memory.
 pub fn note_over(all: &mut VecDeque<Over>, by: u64, number: Option<u64>)
     requires { deque_len all.old < deque_capacity all.old }
     ensures items { all.new.items ≡ all.old.items ++ noted by number }

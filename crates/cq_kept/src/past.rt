@@ -6,7 +6,7 @@ ghost use Rattle.cq_kept.specs.Slots.{change_of, with_change, with_holder, with_
 use crate::kept::Stored;
 use std::marker::{Model, PhantomData};
 
-// The slots of all changes that were accepted, also of those that are forgotten, as clauses alone see them. It takes no bytes.
+// The slots of all changes that were accepted, also of those that are forgotten, which only clauses see. It takes no bytes.
 // Its function `of` is proved by hand, since it sets it.
 #[derive(Drop)]
 pub(crate) struct Past {

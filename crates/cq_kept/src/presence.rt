@@ -8,7 +8,7 @@ use cq_base::Memory;
 use std::alloc::Global;
 use std::collections::{BTreeMap, VecDeque};
 
-/// At each place where a file stands the change that put it there, the last gate of each project that has one, and the
+/// For each place that has a file, the change that put it there; the last gate of each project that has one; and the
 /// changes that are over, in the order of those that made them so.
 #[derive(Drop)]
 pub struct Presence {
@@ -29,7 +29,7 @@ impl Presence {
         }
     }
 
-    /// Whether a file stands at a place.
+    /// Whether there is a file at a place.
     pub fn has(&self, file: &FileKey) -> bool
         ensures { TellsIfThere self.now file.now result }
     {
@@ -37,7 +37,7 @@ impl Presence {
     }
 }
 
-/// Where files stand behind one change more, of this number, and what is over then. Where memory is refused it is as before.
+/// Where files are after one change more, of this number, and what is over then. If memory is refused it is as before.
 pub fn note(there: &mut Presence, number: u64, change: &Stored) -> Result<(), Memory>
     ensures more { OnOk result (AddsPlace number (change_of change.now) there.old there.new) }
     ensures same { OnErr result (ShowsTheSame there.old there.new) }

@@ -37,14 +37,14 @@ Rows (Token Literal) s = IsRun s × IsTrue (begins_with_digit s)
 Rows (Token Punct) s = IsOne (λ c. IsFalse (is_whitespace c) × IsFalse (is_xid_continue c)) s
 Rows (Token Word) s = ⊥
 
--- the rows, where no mark stands
+-- the rows, if there is no mark
 abbrev pub plain : Language
 plain = record { tried = λ at mode text spell s. Rows spell s; mode_behind = λ mode spell s. mode }
 
 abbrev pub any : Language
 any = marked plain
 
--- what goes on from a run's state
+-- what continues from a run's state
 abbrev pub run_rest : Run → List ℕ → Type 0
 run_rest Before s = IsRun s
 run_rest Inside s = AllByRecursion Continues s

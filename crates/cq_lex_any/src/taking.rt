@@ -28,7 +28,7 @@ fn class_of(first: char) -> Class
     }
 }
 
-/// The element at the front, where no byte order mark stands.
+/// The element at the front, if there is no byte order mark.
 pub(crate) fn element(rest: &[Unit], mode: u8) -> Found
     requires some { 0 < length rest.now }
     requires short { length rest.now < 2 ^ 32 }

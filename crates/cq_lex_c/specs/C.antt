@@ -1,5 +1,5 @@
--- The table of C's elements, and its modes. Mode 0 stands at the beginning of a line, mode 1 behind a hash that begins
--- one, mode 2 behind the word include after that, and mode 3 anywhere else.
+-- The table of C's elements, and its modes. Mode 0 is at the beginning of a line, mode 1 after a hash that begins one,
+-- mode 2 after the word include that follows it, and mode 3 anywhere else.
 use Rattle.std.specs.Prelude.{ℕ, Bool, ◌&&◌, ◌||◌, ◌==◌, not, if◌then◌else◌, List, [], ◌∷◌, IsTrue, codes}
 use Rattle.std.specs.Str.{bytes_eq}
 use Rattle.std.specs.Char.{is_ascii_digit}
@@ -68,11 +68,11 @@ rows = identifiers ∷ reserved ∷ blanks ∷ numbers ∷ texts ∷ prefixed �
 abbrev pub headers : Row
 headers = record { spell = Token Word; set = IsHeader }
 
--- a header name stands there, in mode 2 alone
+-- there is a header name here, which only mode 2 allows
 abbrev pub opens_header : ℕ → ℕ → List ℕ → Bool
 opens_header at mode text = (mode == 2) && has_header text
 
--- Where a header name stands or a comment is opened, only its own row is tried.
+-- At a header name, or if a comment is opened, only its own row is tried.
 abbrev pub with_comments : Language
 with_comments = commented Feed (table rows)
 
@@ -83,7 +83,7 @@ unmarked = first opens_header (headers ∷ []) with_comments
 abbrev pub is_hash : List ℕ → Bool
 is_hash s = bytes_eq s (codes "#") || bytes_eq s (codes "%:")
 
--- the mode behind an element
+-- the mode after an element
 abbrev pub mode_of_token : ℕ → List ℕ → ℕ
 mode_of_token mode s =
     if (mode == 0) && is_hash s then 1 else if (mode == 1) && bytes_eq s (codes "include") then 2 else 3

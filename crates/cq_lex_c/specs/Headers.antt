@@ -4,7 +4,7 @@ use Rattle.cq_munch.specs.Longest.{IsLongest}
 use Rattle.cq_lex_c.specs.declared.header.Header.{Header}
 use Rattle.cq_lex_c.specs.declared.header.Header.TheVariants as at
 
--- characters but a line feed, up to the first that closes, and no more; the flag tells whether there is one before
+-- characters but a line feed, up to the first that closes, and no more; the flag says whether there is one before
 abbrev pub EndsAt : ℕ → Bool → List ℕ → Type 0
 EndsAt close some [] = ⊥
 EndsAt close some (c ∷ s) = MatchBool (c == close) (IsTrue some × (s ≡ [])) (IsFalse (c == 10) × EndsAt close true s)
@@ -19,7 +19,7 @@ header_rest at.Before s = IsHeader s
 header_rest (at.Opened close some) s = EndsAt close some s
 header_rest at.Closed s = s ≡ []
 
--- whether a header name stands at the front
+-- whether there is a header name at the front
 abbrev pub closes : ℕ → Bool → List ℕ → Bool
 closes close some [] = false
 closes close some (c ∷ s) = if c == close then some else not (c == 10) && closes close true s
@@ -28,6 +28,6 @@ abbrev pub has_header : List ℕ → Bool
 has_header [] = false
 has_header (c ∷ s) = if c == 60 then closes 62 false s else (c == 34) && closes 34 false s
 
--- in mode 2 one stands there, of so many characters
+-- in mode 2 there is one, of this many characters
 abbrev pub IsHeaderAt : ℕ → List ℕ → ℕ → Type 0
 IsHeaderAt mode text n = IsTrue ((mode == 2) && has_header text) × IsLongest IsHeader text n

@@ -5,7 +5,7 @@ use Rattle.cq_lex_c.specs.Characters.{begins_identifier, continues_identifier}
 use Rattle.cq_lex_c.specs.declared.identifier.Identifier.{Identifier}
 use Rattle.cq_lex_c.specs.declared.identifier.Identifier.TheVariants as at
 
--- so many digits of a universal character name are to come
+-- this many digits of a universal character name are to come
 abbrev pub digits_to_come : ℕ → Identifier
 digits_to_come n = if nat_le n 1 then at.Whole else at.Digits (n - 1)
 

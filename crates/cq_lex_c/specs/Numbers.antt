@@ -5,12 +5,12 @@ use Rattle.cq_lex_c.specs.Characters.{continues_identifier, is_sign, is_exponent
 use Rattle.cq_lex_c.specs.declared.number.Number.{Number}
 use Rattle.cq_lex_c.specs.declared.number.Number.TheVariants as at
 
--- so many digits of a universal character name are to come, of which the next is c
+-- this many digits of a universal character name are to come, of which the next is c
 abbrev pub digits_to_come : ℕ → ℕ → Number
 digits_to_come n c = if nat_le n 1 then at.Whole ((c == 101) || (c == 69)) else at.Digits (n - 1)
 
 -- What may follow in a number: points, characters that continue an identifier, universal character names, and a sign
--- where the character before it is e, E, p or P.
+-- if the character before it is e, E, p or P.
 abbrev pub IsTail : Number → List ℕ → Type 0
 IsTail at.Before s = ⊥
 IsTail at.Point s = ⊥

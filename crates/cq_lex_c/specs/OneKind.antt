@@ -1,4 +1,4 @@
--- No spelling is of two kinds: at each first character the rows that can stand there are apart.
+-- No spelling is of two kinds: at each first character the rows that are possible there are apart.
 use Rattle.std.proofs.Common.{◌≡◌, ℕ, ◌<◌, Bool, true, false, ◌&&◌, ◌||◌, ◌==◌, not, List, [], ◌∷◌, refl, sym, subst, ap, ◌∙◌, inl, inr, ⊎_elim, arith}
 use Rattle.std.specs.Char.{is_ascii_digit}
 use Rattle.std.proofs.lemmas.Bool.{eqb-true, or_parts, or_left, or_right, and_from, not-true, both_ways}
@@ -40,7 +40,7 @@ no_text : (s : List ℕ) → IsTail at.Whole s → IsText s → ⊥
 no_text [] h text = ⊎_elim (λ e. omega (arith, e)) (λ e. omega (arith, e)) (text_first [] text)
 no_text (c ∷ s) h text = ⊎_elim (λ e. no_quote 34 c s (omega arith) refl refl e h) (λ e. no_quote 39 c s (omega arith) refl refl e h) (text_first (c ∷ s) text)
 
--- what goes on behind a letter
+-- what follows a letter
 behind : (n c : ℕ) (s : List ℕ) → (c == n) ≡ true → IsIdentifier (c ∷ s) → IsIdentifier (n ∷ s)
 behind n c s is h = subst (λ d. IsIdentifier (d ∷ s)) (eqb-true c n is) h
 

@@ -10,7 +10,7 @@ use Rattle.cq_munch.specs.Table.{begins}
 use Rattle.cq_lex_c.specs.C.{c}
 use Rattle.cq_lex_c.specs.Splices.{spliced}
 
--- at the unit of this byte stand a slash and a star, and no star with a slash behind it closes them
+-- there are a slash and a star at the unit of this byte, and no star followed by a slash closes them
 pub record IsOpenComment (units : List Unit) (byte : ℕ) : Type 0 where
   pub at : ℕ
   pub inside : at < length units

@@ -7,7 +7,7 @@ use Rattle.cq_lex_c.specs.Punctuators.{punctuators}
 use Rattle.cq_lex_c.specs.declared.punctuator.Punctuator.{Punctuator}
 use Rattle.cq_lex_c.specs.declared.punctuator.Punctuator.TheVariants as states
 
--- the characters that lead on from a state, each to the state behind it
+-- the characters that lead on from a state, each to the state after it
 abbrev pub steps : Punctuator → List (List Range × Punctuator)
 steps states.Start =
     (each_of (codes "+"), states.Plus) ∷ (each_of (codes "-"), states.Minus) ∷ (each_of (codes "&"), states.And)
@@ -37,7 +37,7 @@ may_end states.PercentColonPercent = false
 may_end states.DotDot = false
 may_end _ = true
 
--- what goes on from the state
+-- what continues from the state
 abbrev pub words_of : Punctuator → List (List ℕ)
 words_of states.Start = punctuators
 words_of states.Plus = [] ∷ codes "+" ∷ codes "=" ∷ []

@@ -1,4 +1,4 @@
--- A backslash and a line end behind it are left out (C11 5.1.1.2, phase 2).
+-- A backslash and a line end after it are removed (C11 5.1.1.2, phase 2).
 use Rattle.std.specs.Prelude.{ℕ, zero, suc, ◌-◌, Bool, false, ◌&&◌, ◌||◌, ◌==◌, List, [], ◌∷◌, if◌then◌else◌}
 use Rattle.cq_munch.specs.declared.unit.Unit.{Unit}
 
@@ -6,7 +6,7 @@ abbrev pub begins_with_lf : List Unit → Bool
 begins_with_lf [] = false
 begins_with_lf (u ∷ us) = u.ch == 10
 
--- how many units of a splice stand at the front: a backslash and LF, or a backslash, CR and LF, or none
+-- how many units of a splice are at the front: a backslash and LF, or a backslash, CR and LF, or none
 abbrev pub splice_len : List Unit → ℕ
 splice_len [] = 0
 splice_len (u ∷ []) = 0
@@ -15,23 +15,23 @@ splice_len (u ∷ v ∷ us) =
     else (if (u.ch == 92) && ((v.ch == 13) && begins_with_lf us) then 3
     else 0)
 
--- what is kept at a unit, where no splice has it
+-- what is kept at a unit, if no splice has it
 abbrev pub kept : ℕ → Unit → List Unit → List Unit → List Unit
 kept zero u whole rest = u ∷ whole
 kept (suc n) u whole rest = rest
 
--- the units without the splices, behind so many that belong to one
+-- the units without the splices, after this many that belong to one
 unfoldable pub spliced : ℕ → List Unit → List Unit
 spliced n [] = []
 spliced (suc n) (u ∷ us) = spliced n us
 spliced zero (u ∷ us) = let n = splice_len (u ∷ us) in kept n u (spliced 0 us) (spliced (n - 1) us)
 
--- whether a line feed or a carriage return stands at the front
+-- whether there is a line feed or a carriage return at the front
 abbrev pub begins_line_end : List Unit → Bool
 begins_line_end [] = false
 begins_line_end (u ∷ us) = (u.ch == 10) || (u.ch == 13)
 
--- whether a line ends directly behind a backslash, and whether one stands before these units
+-- whether a line ends directly after a backslash, and whether there is one before these units
 abbrev pub has_splice : Bool → List Unit → Bool
 has_splice behind [] = false
 has_splice behind (u ∷ us) = (behind && ((u.ch == 10) || (u.ch == 13))) || has_splice (u.ch == 92) us

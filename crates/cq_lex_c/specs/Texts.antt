@@ -13,10 +13,10 @@ IsString s = Spells (quoted Double ReturnOrFeed) s
 abbrev pub IsText : List ℕ → Type 0
 IsText s = IsString s ⊎ Spells (quoted Single ReturnOrFeed) s
 
--- behind a small u: a text, or an 8 and a string
+-- after a small u: a text, or an 8 and a string
 abbrev pub IsSmall : List ℕ → Type 0
 IsSmall s = IsText s ⊎ IsAfter 56 IsString s
 
--- behind u, u8, U or L
+-- after u, u8, U or L
 abbrev pub IsPrefixed : List ℕ → Type 0
 IsPrefixed s = IsAfter 117 IsSmall s ⊎ (IsAfter 85 IsText s ⊎ IsAfter 76 IsText s)

@@ -9,7 +9,7 @@ pub(crate) fn begins_ascii(ch: char) -> bool
     ch.is_ascii_alphabetic() || ch == '_' || ch == '$'
 }
 
-// Each character of ASCII that continues an identifier stands at its own place, and a comma at every other place.
+// Each character of ASCII that continues an identifier is at its own place, and a comma at every other place.
 static CONTINUES: [u8; 128] = *b"\
     ,,,,,,,,,,,,,,,,,,,,,,,,,,,,,,,,\
     ,,,,$,,,,,,,,,,,0123456789,,,,,,\
@@ -38,7 +38,7 @@ pub(crate) fn begins_identifier(ch: char) -> bool
     unicode_ident::is_xid_start(ch) || ch == '_' || ch == '$'
 }
 
-/// Whether an identifier may go on with the character.
+/// Whether an identifier may continue with the character.
 #[tactic(auto, unfolding(crate::specs::Characters::continues_identifier))]
 pub(crate) fn continues_identifier(ch: char) -> bool
     ensures { result ≡ continues_identifier ch }

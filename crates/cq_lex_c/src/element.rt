@@ -22,7 +22,7 @@ use cq_munch::{
     second_is,
 };
 
-/// What a first character tells of the element that begins with it.
+/// What a first character says about the element that begins with it.
 #[derive(Clone, Copy, Debug, PartialEq, Eq)]
 enum Front {
     Blank,
@@ -33,9 +33,9 @@ enum Front {
     Point,
     /// A comment, or a punctuator.
     Slash,
-    /// A text, or a quote alone.
+    /// A text, or only a quote.
     Quote,
-    /// An identifier, or a backslash alone.
+    /// An identifier, or only a backslash.
     Backslash,
     Other,
 }
@@ -90,7 +90,7 @@ fn name(units: &[Unit], mode: u8) -> Option<Found>
     }
 }
 
-// The punctuator at the front, or the character there alone.
+// The punctuator at the front, or else the one character there.
 fn punctuator(units: &[Unit], mode: u8) -> Option<Found>
     requires short { length units.now < 2 ^ 32 }
     requires other { others.set (slice_index_or (characters units.now) 0 0 ∷ []) }
@@ -124,7 +124,7 @@ fn behind_slash(units: &[Unit], mode: u8) -> Option<Found>
     punctuator(units, mode)
 }
 
-// The element at the front, where no header name is looked for. Its first character tells which scanners to ask; the
+// The element at the front, when no header name is looked for. Its first character decides which scanners to ask; the
 // texts there, with a prefix and without, are given.
 fn element(units: &[Unit], mode: u8, text: Option<usize>, prefixed: Option<usize>) -> Option<Found>
     requires some { 0 < length units.now }
@@ -150,7 +150,7 @@ fn element(units: &[Unit], mode: u8, text: Option<usize>, prefixed: Option<usize
     }
 }
 
-// The header name at the front, where one is looked for.
+// The header name at the front, when one is looked for.
 fn header_at(units: &[Unit], mode: u8) -> Option<usize>
     ensures some { IfSome result (IsHeaderAt mode (characters units.now)) }
     ensures none { IfNone result (IsFalse ((mode == 2) && has_header (characters units.now))) }
@@ -162,8 +162,8 @@ fn header_at(units: &[Unit], mode: u8) -> Option<usize>
     }
 }
 
-/// The element at the front, where no byte order mark stands. In mode 2 a header name comes before anything
-/// else. The texts there, with a prefix and without, are given.
+/// The element at the front, if there is no byte order mark. In mode 2 a header name comes before anything else. The
+/// texts there, with a prefix and without, are given.
 pub(crate) fn taken(
     units: &[Unit],
     mode: u8,

@@ -10,7 +10,7 @@ use cq_munch::{Machine, Unit, longest_spelling};
 #[derive(Clone, Copy, Debug, PartialEq, Eq)]
 enum Header {
     Before,
-    /// What closes it, and whether a character stands before that.
+    /// What closes it, and whether there is a character before that.
     Opened(char, bool),
     Closed,
 }

@@ -14,9 +14,9 @@ enum Identifier {
     Before,
     /// It may end here.
     Whole,
-    /// Behind the backslash of a universal character name.
+    /// After the backslash of a universal character name.
     Mark,
-    /// So many digits of a universal character name are to come.
+    /// This many digits of a universal character name are to come.
     Digits(u8),
 }
 
@@ -75,15 +75,15 @@ fn begins_plainly(units: &[Unit]) -> bool
     }
 }
 
-// Whether the machine has to tell of the character: a backslash, or one past ASCII.
+// Whether the machine has to decide about the character: a backslash, or one past ASCII.
 fn may_go_on(ch: char) -> bool
     ensures { result ≡ ((ch == 92) || not (nat_lt ch 128)) }
 {
     ch == '\\' || !ch.is_ascii()
 }
 
-/// The longest identifier at the front. Keywords are identifiers too. As far as its characters are of ASCII they are
-/// looked up in a table; the machine goes on where a backslash stands, or a character past ASCII.
+/// The longest identifier at the front. Keywords are identifiers too. Characters of ASCII are looked up in a table;
+/// the machine continues from the first backslash or character past ASCII.
 pub(crate) fn longest_identifier(units: &[Unit]) -> Option<usize>
     ensures { LongestAt IsIdentifier (characters units.now) result }
 {

@@ -15,7 +15,8 @@ use cq_base::{Memory, Spelled, Text};
 use cq_munch::{Found, Lexis, Spell, Translated, Unit, is_mark, plain_units};
 use std::alloc::Global;
 
-/// The language C. It remembers where quotes were looked at that nothing closes, so that a line of them is read once.
+/// The language C. It remembers the quotes that were looked at and that nothing closes, so that a line of them is
+/// read once.
 #[derive(Clone, Copy, Debug, PartialEq, Eq)]
 pub struct C {
     unclosed: Unclosed,

@@ -1,11 +1,11 @@
-//! The language C: its names, keywords, numbers, texts, header names, punctuators, comments and blanks as a
-//! preprocessor reads them (C11 6.4), behind the removal of line splices. A blank is told first, by one test. The first
-//! character of any other element tells its scanner, which looks at each unit once, up to the first that cannot go on; a
-//! point, a quote and a prefix are looked at by two, and a header name twice. A character of ASCII in a name costs a look
-//! into a table, and the name is compared with the keywords of its first letter and its length. A quote that nothing
-//! closes on its line is looked for once, and the others of its kind behind it on the line are known by that. It takes
-//! no memory but for the units, of which a text of n bytes has at most n, of 12 bytes each, twice while splices are
-//! taken out; those of a text without splices are looked at once, and kept.
+//! The language C: its names, keywords, numbers, texts, header names, punctuators, comments and blanks as a preprocessor
+//! reads them (C11 6.4), after line splices are removed. One test recognises a blank first. The first character of any
+//! other element selects its scanner, which looks at each unit once, up to the first that cannot continue it. Two
+//! scanners look at a point, a quote and a prefix, and a header name is read twice. A character of ASCII in a name costs
+//! a look into a table, and the name is compared with the keywords of its first letter and its length. A quote that
+//! nothing closes on its line is searched for once, which decides for all later ones of its kind on the line. It takes no
+//! memory except for the units, of which a text of n bytes has at most n, of 12 bytes each, twice while splices are taken
+//! out; those of a text without splices are looked at once, and kept.
 #![tactic(auto)]
 
 mod characters;

@@ -32,7 +32,7 @@ fn is_feed(units: &[Unit]) -> bool
     }
 }
 
-/// The mode behind a blank of one character.
+/// The mode after a blank of one character.
 pub(crate) fn mode_behind_blank(mode: u8, ch: char) -> u8
     requires { mode ≤ 3 }
     ensures mode { result ≡ mode_behind mode Blank (ch ∷ []) }
@@ -41,7 +41,7 @@ pub(crate) fn mode_behind_blank(mode: u8, ch: char) -> u8
     if ch == '\n' { 0 } else { mode }
 }
 
-/// The mode behind an element of these units.
+/// The mode after an element of these units.
 pub(crate) fn mode_behind(mode: u8, spell: Spell, units: &[Unit]) -> u8
     requires { mode ≤ 3 }
     ensures mode { result ≡ mode_behind mode spell (characters units.now) }

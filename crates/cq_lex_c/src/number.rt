@@ -10,13 +10,13 @@ use cq_munch::{Machine, Unit, longest_spelling};
 #[derive(Clone, Copy, Debug, PartialEq, Eq)]
 enum Number {
     Before,
-    /// Behind a point with which it begins.
+    /// After a point with which it begins.
     Point,
     /// It may end here; whether a sign may follow.
     Whole(bool),
-    /// Behind the backslash of a universal character name.
+    /// After the backslash of a universal character name.
     Mark,
-    /// So many digits of a universal character name are to come.
+    /// This many digits of a universal character name are to come.
     Digits(u8),
 }
 

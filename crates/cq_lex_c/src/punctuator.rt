@@ -31,7 +31,7 @@ enum Punctuator {
     Done,
 }
 
-// The state behind the first character.
+// The state after the first character.
 fn begun(ch: char) -> Option<Punctuator>
     ensures { result ≡ led (steps Start) ch }
 {
@@ -52,7 +52,7 @@ fn begun(ch: char) -> Option<Punctuator>
     }
 }
 
-// The state behind a character.
+// The state after a character.
 fn next_of(state: Punctuator, ch: char) -> Option<Punctuator>
     ensures { result ≡ led (steps state) ch }
 {
@@ -110,7 +110,7 @@ fn stands_alone(ch: char) -> bool
     }
 }
 
-// Whether such a character stands at the front.
+// Whether there is such a character at the front.
 fn begins_alone(units: &[Unit]) -> bool
     ensures { IsTrue result → LongestAt (IsAmong punctuators) (characters units.now) (Some 1) }
 {

@@ -6,7 +6,7 @@ use cq_base::Memory;
 use cq_munch::Unit;
 use std::alloc::Global;
 
-// How many units of a splice stand at the front.
+// How many units of a splice are at the front.
 fn splice_len(units: &[Unit]) -> usize
     ensures { result ≡ splice_len units.now }
 {
@@ -22,7 +22,7 @@ fn splice_len(units: &[Unit]) -> usize
     0
 }
 
-// Whether a line feed or a carriage return stands at the front.
+// Whether there is a line feed or a carriage return at the front.
 fn begins_line_end(units: &[Unit]) -> bool
     ensures { result ≡ begins_line_end units.now }
 {
@@ -39,7 +39,7 @@ fn begins_splice(ch: char, behind: &[Unit]) -> bool
     ch == '\\' && begins_line_end(behind)
 }
 
-// Whether a line ends directly behind a backslash. Where none does, nothing is left out.
+// Whether a line ends directly after a backslash. If none does, nothing is removed.
 fn has_splice(units: &[Unit]) -> bool
     ensures { IsFalse result → units.now ≡ spliced 0 units.now }
 {
@@ -51,7 +51,7 @@ fn has_splice(units: &[Unit]) -> bool
     false
 }
 
-// The units without the splices. Each is looked at once, and once more behind a backslash.
+// The units without the splices. Each is looked at once, and once more after a backslash.
 fn splice(alloc: Global, units: &[Unit]) -> Result<Vec<Unit>, Memory>
     ensures { IfOk result (λ v. v.items ≡ spliced 0 units.now) }
 {
@@ -82,7 +82,7 @@ pub(crate) fn unspliced(alloc: Global, units: Vec<Unit>) -> Result<Vec<Unit>, Me
     Ok(units)
 }
 
-/// Of a text exactly the backslashes with a line end directly behind them, and these line ends, are left out.
+/// Exactly the backslashes of a text with a line end directly after them, and these line ends, are removed.
 pub fn only_splices_are_left_out()
     ensures { OnlySplicesAreLeftOut }
 {}

@@ -34,7 +34,7 @@ pub(crate) fn nothing_known() -> Unclosed
     }
 }
 
-// The text in these quotes at a unit. The units of a scan in vain are not scanned again.
+// The text in these quotes at a unit. The units of a scan that found no end are not scanned again.
 fn quoted_at(quote: Quote, units: &[Unit], at: usize, known: &mut Span) -> Option<usize>
     requires inside { at ≤ length units.now }
     requires known { NoneIn quote known.old (characters units.now) }
@@ -87,7 +87,7 @@ fn and_one(len: Option<usize>) -> Option<usize>
     }
 }
 
-// What may stand behind a small u, from a unit on.
+// What may follow a small u, from a unit on.
 fn small_at(units: &[Unit], at: usize, unclosed: &mut Unclosed) -> Option<usize>
     requires inside { at ≤ length units.now }
     requires known { IsTrueOf unclosed.old (characters units.now) }

@@ -46,7 +46,7 @@ raws = record { spell = Token Literal; set = IsRawString }
 abbrev pub opens_raw : ℕ → ℕ → List ℕ → Bool
 opens_raw at mode text = begins (96 ∷ []) text
 
--- Where a raw string or a comment is opened, only its own row is tried.
+-- If a raw string or a comment is opened, only its own row is tried.
 abbrev pub with_raws : Language
 with_raws = first opens_raw (raws ∷ []) (table rows)
 

@@ -61,7 +61,7 @@ decimal = kinds.Zero ∷ kinds.One ∷ kinds.Octal ∷ kinds.Decimal ∷ []
 abbrev pub hex : List Kind
 hex = kinds.Zero ∷ kinds.One ∷ kinds.Octal ∷ kinds.Decimal ∷ kinds.B ∷ kinds.E ∷ kinds.Hex ∷ []
 
--- the kinds that lead on from a state, each to the state behind it
+-- the kinds that lead on from a state, each to the state after it
 abbrev pub steps : Number → List (List Kind × Number)
 steps states.Start =
     (kinds.Zero ∷ [], states.Zero) ∷ (kinds.One ∷ kinds.Octal ∷ kinds.Decimal ∷ [], states.Whole) ∷ (kinds.Dot ∷ [], states.Point) ∷ []
@@ -156,6 +156,6 @@ reached states.HexPoint = codes "0x."
 reached states.HexWholePoint = codes "0x0."
 reached states.HexFraction = codes "0x.0"
 
--- what goes on from the state
+-- what continues from the state
 unfoldable pub rest_of : Number → List Pattern
 rest_of state = after (reached state) (number ∷ [])

@@ -46,6 +46,6 @@ hex_float = zero_digit ▸ one_of 120 88 ▸ mantissa ▸ one_of 112 80 ▸ opti
 abbrev pub real : Pattern
 real = decimal ∣ binary ∣ octal ∣ hex ∣ decimal_float ∣ hex_float
 
--- a number, or one with an i behind it
+-- a number, or one followed by an i
 unfoldable pub number : Pattern
 number = real ∣ (real ∣ digits decimal_digit) ▸ only 105

@@ -1,4 +1,4 @@
--- No spelling is of two kinds: at each first character the rows that can stand there are apart.
+-- No spelling is of two kinds: at each first character the rows that are possible there are apart.
 use Rattle.std.proofs.Common.{refl}
 use Rattle.cq_munch.specs.Language.{HasOneKind}
 use Rattle.cq_munch.proofs.OneKind.{OneKind, no_kind, one_row, two_apart, by_fronts, no_word_spelled, of_table, of_first, of_commented, of_marked}

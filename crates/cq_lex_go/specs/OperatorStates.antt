@@ -7,7 +7,7 @@ use Rattle.cq_lex_go.specs.Words.{punctuation}
 use Rattle.cq_lex_go.specs.declared.operator.Operator.{Operator}
 use Rattle.cq_lex_go.specs.declared.operator.Operator.TheVariants as states
 
--- the characters that lead on from a state, each to the state behind it
+-- the characters that lead on from a state, each to the state after it
 abbrev pub steps : Operator → List (List Range × Operator)
 steps states.Start =
     (each_of (codes "+"), states.Plus) ∷ (each_of (codes "-"), states.Minus) ∷ (each_of (codes "&"), states.And)
@@ -30,7 +30,7 @@ may_end states.Start = false
 may_end states.DotDot = false
 may_end _ = true
 
--- what goes on from the state
+-- what continues from the state
 abbrev pub words_of : Operator → List (List ℕ)
 words_of states.Start = punctuation
 words_of states.Plus = [] ∷ codes "=" ∷ codes "+" ∷ []

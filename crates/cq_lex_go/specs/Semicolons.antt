@@ -14,15 +14,15 @@ may_end Literal s = true
 may_end Word s = bytes_eq s (codes "break") || bytes_eq s (codes "continue") || bytes_eq s (codes "fallthrough") || bytes_eq s (codes "return")
 may_end Punct s = bytes_eq s (codes "++") || bytes_eq s (codes "--") || bytes_eq s (codes ")") || bytes_eq s (codes "]") || bytes_eq s (codes "}")
 
--- the byte behind a token
+-- the byte after a token
 abbrev pub end_of : Token → ℕ
 end_of t = t.start + t.len
 
--- a line feed stands from a byte up to another
+-- there is a line feed between a byte and another
 abbrev pub has_feed : List ℕ → ℕ → ℕ → Bool
 has_feed text from to = list_any (λ b. b == 10) (take (to - from) (drop from text))
 
--- no bytes directly behind the token, on the line where it ends
+-- no bytes directly after the token, on the line where it ends
 abbrev pub semicolon_behind : Token → Spelled
 semicolon_behind t = record {
   token = record { class = Punct; start = end_of t; len = 0; first_line = t.last_line; last_line = t.last_line };
@@ -38,17 +38,17 @@ abbrev pub between : List ℕ → Option Token → ℕ → List Spelled
 between text None to = []
 between text (Some last) to = if has_feed text (end_of last) to then semicolon_behind last ∷ [] else []
 
--- what comes behind the last token
+-- what comes after the last token
 abbrev pub behind_last : Option Token → List Spelled
 behind_last None = []
 behind_last (Some last) = semicolon_behind last ∷ []
 
--- the tokens behind one with which a statement may end, or may not
+-- the tokens after one with which a statement may end, or may not
 abbrev pub completed_from : List ℕ → Option Token → List Spelled → List Spelled
 completed_from text last [] = behind_last last
 completed_from text last (t ∷ ts) = between text last t.token.start ++ t ∷ completed_from text (ending t) ts
 
--- A semicolon is inserted behind a token with which a statement may end, where a line feed stands before the next
+-- A semicolon is inserted after a token with which a statement may end, if there is a line feed before the next
 -- token, or no token follows.
 abbrev pub completed : List ℕ → List Spelled → List Spelled
 completed text tokens = completed_from text None tokens

@@ -18,7 +18,7 @@ use cq_munch::{
     longest_line_comment, longest_quoted, second_is,
 };
 
-/// What a first character tells of the element that begins with it.
+/// What a first character says about the element that begins with it.
 #[derive(Clone, Copy, Debug, PartialEq, Eq)]
 enum Front {
     Blank,
@@ -113,7 +113,7 @@ fn behind_slash(units: &[Unit], mode: u8) -> Option<Found>
     operator(units, mode)
 }
 
-/// The element at the front, where no byte order mark stands. Its first character tells which scanners there are to ask.
+/// The element at the front, if there is no byte order mark. Its first character decides which scanners to ask.
 pub(crate) fn taken(units: &[Unit], mode: u8) -> Option<Found>
     requires some { 0 < length units.now }
     requires short { length units.now < 2 ^ 32 }

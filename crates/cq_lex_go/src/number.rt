@@ -7,7 +7,7 @@ ghost use Rattle.cq_munch.specs.Behind.{SpellsAny};
 
 use cq_munch::{Machine, Unit, longest_spelling};
 
-/// What the rows of numbers tell apart.
+/// The kinds of character that the rows of numbers distinguish.
 #[derive(Clone, Copy)]
 enum Kind {
     Zero,
@@ -82,7 +82,7 @@ fn kind_of(ch: char) -> Kind
     }
 }
 
-/// The state behind a character of a kind.
+/// The state after a character of a kind.
 fn next_of(state: Number, kind: Kind) -> Option<Number>
     ensures { result ≡ next_of state kind }
 {
@@ -240,7 +240,7 @@ impl Machine for Number {
     }
 }
 
-// Whether a point stands at the front, and behind it another character than a digit.
+// Whether there is a point at the front, and after it a character that is not a digit.
 fn is_point_alone(units: &[Unit]) -> bool
     ensures { IsTrue result → LongestAt (Spells number) (map (λ u. u.ch) units.now) None }
 {

@@ -25,7 +25,7 @@ enum Operator {
     Done,
 }
 
-// The state behind the first character.
+// The state after the first character.
 fn begun(ch: char) -> Option<Operator>
     ensures { result ≡ led (steps Start) ch }
 {
@@ -43,7 +43,7 @@ fn begun(ch: char) -> Option<Operator>
     }
 }
 
-// The state behind a character.
+// The state after a character.
 fn next_of(state: Operator, ch: char) -> Option<Operator>
     ensures { result ≡ led (steps state) ch }
 {
@@ -93,7 +93,7 @@ fn stands_alone(ch: char) -> bool
     }
 }
 
-// Whether such a character stands at the front.
+// Whether there is such a character at the front.
 fn begins_alone(units: &[Unit]) -> bool
     ensures { IsTrue result → LongestAt (IsAmong punctuation) (map (λ u. u.ch) units.now) (Some 1) }
 {

@@ -50,7 +50,7 @@ fn has_feed(text: &Text, from: u32, to: u32) -> bool
         .any(|b| *b == b'\n')
 }
 
-// A semicolon of no bytes directly behind a token.
+// A semicolon of no bytes directly after a token.
 fn semicolon_behind(alloc: Global, token: Token) -> Result<Spelled, Memory>
     requires { token.start + token.len ≤ 1048576 }
     ensures { IfOk result (λ s. s ≡ spec.semicolon_behind token) }
@@ -111,7 +111,7 @@ pub(crate) fn with_semicolons(
     Ok(all)
 }
 
-/// A semicolon is inserted directly behind a token exactly where it is the last one of its line, and a statement may end
+/// A semicolon is inserted directly after a token exactly if it is the last one of its line, and a statement may end
 /// with it.
 pub fn semicolons_end_lines()
     ensures { SemicolonsEndLines }

@@ -39,7 +39,7 @@ pub(crate) fn is_letter(ch: char) -> bool
     ch == '_' || is_letter_category(GeneralCategory::for_char(ch))
 }
 
-// Each letter and digit of ASCII, and the underscore, stands at its own place, and a comma at every other place.
+// Each letter and digit of ASCII, and the underscore, is at its own place, and a comma at every other place.
 static CONTINUES: [u8; 128] = *b"\
     ,,,,,,,,,,,,,,,,,,,,,,,,,,,,,,,,\
     ,,,,,,,,,,,,,,,,0123456789,,,,,,\
@@ -90,7 +90,7 @@ impl Machine for Name {
     }
 }
 
-// Whether a letter of ASCII or an underscore stands at the front.
+// Whether there is a letter of ASCII or an underscore at the front.
 fn begins_plainly(units: &[Unit]) -> bool
     ensures { result ≡ starts (λ c. (c == 95) || is_ascii_alphabetic c) (characters units.now) }
 {
@@ -100,8 +100,8 @@ fn begins_plainly(units: &[Unit]) -> bool
     }
 }
 
-/// The longest name at the front. Keywords are names too. As far as its characters are of ASCII they are looked up in a
-/// table; the machine goes on where one stands that is not.
+/// The longest name at the front. Keywords are names too. Characters of ASCII are looked up in a table; the machine
+/// continues from the first one that is not.
 pub(crate) fn longest_name(units: &[Unit]) -> Option<usize>
     ensures { LongestAt IsName (map (λ u. u.ch) units.now) result }
 {

@@ -12,7 +12,7 @@ abbrev pub is_space : ℕ → Bool
 is_space c = ((c == 32) || (c == 9)) || (c == 12)
 
 -- What may follow in a text block, up to the first three quotes of which no backslash took the first, and no more. The
--- state tells how many quotes stand directly before, or that a backslash does.
+-- state says how many quotes come directly before, or that a backslash does.
 abbrev pub EndsAtQuotes : Block → List ℕ → Type 0
 EndsAtQuotes at.Before s = ⊥
 EndsAtQuotes at.First s = ⊥

@@ -1,4 +1,4 @@
--- Unicode escapes (JLS 3.3): what a backslash is read as, before which an even number of backslashes stands.
+-- Unicode escapes (JLS 3.3): what a backslash is read as if an even number of backslashes comes before it.
 use Rattle.std.specs.Prelude.{ℕ, ◌+◌, ◌-◌, ◌*◌, ◌≤◌, Bool, true, false, ◌&&◌, ◌||◌, ◌==◌, nat_le, nat_lt, if◌then◌else◌, Option, Some, None, List, [], ◌∷◌, drop, ⊤}
 use Rattle.std.specs.Char.{digit_value}
 use Rattle.cq_munch.specs.declared.unit.Unit.{Unit}
@@ -7,7 +7,7 @@ use Rattle.cq_lex_java.specs.declared.escape.Escape.TheVariants as escapes
 use Rattle.cq_lex_java.specs.declared.escape.Step.{Step}
 use Rattle.cq_lex_java.specs.declared.escape.Step.TheVariants as steps
 
--- how many u stand at the front
+-- how many u are at the front
 abbrev pub marks_of : List Unit → ℕ
 marks_of [] = 0
 marks_of (u ∷ us) = if u.ch == 117 then 1 + marks_of us else 0
@@ -65,12 +65,12 @@ by_escape (escapes.Code code len) units = by_scalar (scalar code) code len (esca
 abbrev pub step_at : List Unit → Step
 step_at units = by_escape (escape_at units) units
 
--- whether a u stands at the front
+-- whether there is a u at the front
 abbrev pub begins_mark : List Unit → Bool
 begins_mark [] = false
 begins_mark (u ∷ us) = u.ch == 117
 
--- whether a u stands directly behind a backslash, and whether one stands before these units
+-- whether a u comes directly after a backslash, and whether there is one before these units
 abbrev pub has_escape : Bool → List Unit → Bool
 has_escape behind [] = false
 has_escape behind (u ∷ us) = (behind && (u.ch == 117)) || has_escape (u.ch == 92) us

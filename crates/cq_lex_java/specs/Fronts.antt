@@ -1,4 +1,4 @@
--- Which rows can stand at a place, by the first character there.
+-- Which rows are possible at a place, by the first character there.
 use Rattle.std.specs.Prelude.{ℕ, Bool, true, false, List, [], ◌∷◌}
 use Rattle.cq_munch.specs.Fronts.{FrontTable, front_in, Placed, rows_at}
 use Rattle.cq_munch.specs.Table.{Row}
@@ -19,7 +19,7 @@ front_table = record {
 abbrev pub front_of : ℕ → Front
 front_of c = front_in front_table c
 
--- where a row can stand
+-- where a row is possible
 abbrev pub at_letter : Front → Bool
 at_letter fronts.Letter = true
 at_letter _ = false
@@ -47,7 +47,7 @@ at_mark fronts.Slash = true
 at_mark fronts.Other = true
 at_mark _ = false
 
--- where a comment can be opened, and where the text's end may stand
+-- where a comment can be opened, and where the text's end may be
 abbrev pub at_slash : Front → Bool
 at_slash fronts.Slash = true
 at_slash _ = false

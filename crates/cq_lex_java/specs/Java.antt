@@ -51,11 +51,11 @@ ends = record { spell = Blank; set = λ s. s ≡ 26 ∷ [] }
 abbrev pub opens_text : ℕ → ℕ → List ℕ → Bool
 opens_text at mode text = opens text
 
--- the character U+001A is a blank where nothing follows (JLS 3.5)
+-- the character U+001A is a blank if nothing follows (JLS 3.5)
 abbrev pub opens_end : ℕ → ℕ → List ℕ → Bool
 opens_end at mode text = is_end text
 
--- Where one of these or a comment is opened, only its own row is tried.
+-- If one of these or a comment is opened, only its own row is tried.
 abbrev pub with_end : Language
 with_end = first opens_end (ends ∷ []) (table rows)
 

@@ -58,7 +58,7 @@ decimal = kinds.Zero ∷ kinds.One ∷ kinds.Octal ∷ kinds.Decimal ∷ []
 abbrev pub hex : List Kind
 hex = kinds.Zero ∷ kinds.One ∷ kinds.Octal ∷ kinds.Decimal ∷ kinds.B ∷ kinds.E ∷ kinds.Hex ∷ kinds.Suffix ∷ []
 
--- the kinds that lead on from a state, each to the state behind it
+-- the kinds that lead on from a state, each to the state after it
 abbrev pub steps : Number → List (List Kind × Number)
 steps states.Start =
     (kinds.Zero ∷ [], states.Zero) ∷ (kinds.One ∷ kinds.Octal ∷ kinds.Decimal ∷ [], states.Whole) ∷ (kinds.Dot ∷ [], states.Point) ∷ []

@@ -7,7 +7,7 @@ use Rattle.cq_munch.specs.Pattern.{Pattern, among, ◌▸◌, ◌∣◌, many, o
 abbrev pub digits : Pattern → Pattern
 digits digit = digit ∣ digit ▸ many (digit ∣ underscore) ▸ digit
 
--- integers, with or without an L behind them
+-- integers, with or without an L after them
 abbrev pub long_suffix : Pattern
 long_suffix = optional (one_of 108 76)
 

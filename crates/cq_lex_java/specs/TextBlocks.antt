@@ -3,7 +3,7 @@ use Rattle.std.specs.Prelude.{◌≡◌, ◌↔◌, ℕ, ◌==◌, ◌&&◌, Boo
 use Rattle.std.specs.List.{AllByRecursion}
 use Rattle.cq_lex_java.specs.Blocks.{is_line_end, is_space, IsTextBlock}
 
--- a part of the content: a character, or a backslash with the character behind it
+-- a part of the content: a character, or a backslash with the character after it
 pub data Part : Type 0 where
   plain : ℕ → Part
   escaped : ℕ → Part
@@ -16,7 +16,7 @@ abbrev pub spells : List Part → List ℕ
 spells [] = []
 spells (p ∷ ps) = spelled p ++ spells ps
 
--- a backslash takes the character behind it
+-- a backslash takes the character after it
 abbrev pub IsPart : Part → Type 0
 IsPart (plain c) = IsFalse (c == 92)
 IsPart (escaped c) = ⊤
@@ -25,12 +25,12 @@ abbrev pub is_quote : Part → Bool
 is_quote (plain c) = c == 34
 is_quote (escaped c) = false
 
--- whether three quotes stand at the front
+-- whether there are three quotes at the front
 abbrev pub begins_closing : List Part → Bool
 begins_closing (p ∷ q ∷ r ∷ ps) = is_quote p && (is_quote q && is_quote r)
 begins_closing _ = false
 
--- three quotes stand nowhere, one behind the other
+-- there are nowhere three quotes in a row
 abbrev pub IsOpen : List Part → Type 0
 IsOpen [] = ⊤
 IsOpen (p ∷ ps) = IsFalse (begins_closing (p ∷ ps)) × IsOpen ps

@@ -27,11 +27,11 @@ by_step steps.Plain u us plain behind = before u plain
 by_step steps.Fault u us plain behind = Err u.start
 by_step (steps.One ch len) u us plain behind = before (spanning ch (u ∷ us) len) behind
 
--- what a backslash is read as where an odd number stands before it, or else
+-- what a backslash is read as if an odd number comes before it, or else
 abbrev pub read_at : Bool → List Unit → Step
 read_at odd units = if odd then steps.Plain else step_at units
 
--- behind so many units that belong to an escape, and behind an odd number of backslashes or not
+-- after this many units that belong to an escape, and after an odd number of backslashes or not
 unfoldable pub translated : ℕ → Bool → List Unit → Result (List Unit) ℕ
 translated skip odd [] = Ok []
 translated (suc n) odd (u ∷ us) = translated n odd us

@@ -12,7 +12,7 @@ enum Block {
     Before,
     First,
     Second,
-    /// Behind the three quotes, up to the line's end.
+    /// After the three quotes, up to the line's end.
     Opening,
     Inside,
     OneQuote,
@@ -79,7 +79,7 @@ fn is_space(ch: char) -> bool
     ch == ' ' || ch == '\t' || ch == '\u{C}'
 }
 
-// Whether blanks and a line's end stand at the front.
+// Whether there are blanks and a line's end at the front.
 fn ends_opening(units: &[Unit]) -> bool
     ensures { result ≡ opening (characters units.now) }
 {
@@ -114,8 +114,8 @@ pub(crate) fn longest_text_block(units: &[Unit]) -> Option<usize>
     longest_spelling(Block::Before, units)
 }
 
-/// A text block is exactly three quotes, blanks, a line end, a content in which no three quotes stand but behind a backslash,
-/// and three quotes.
+/// A text block is exactly three quotes, blanks, a line end, a content with no three quotes except after a backslash, and
+/// three quotes.
 pub fn text_blocks_are_written()
     ensures { TextBlocksAreWritten }
 {}

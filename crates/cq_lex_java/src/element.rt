@@ -18,7 +18,7 @@ use cq_munch::{
     longest_line_comment, longest_quoted, second_is,
 };
 
-/// What a first character tells of the element that begins with it.
+/// What a first character says about the element that begins with it.
 #[derive(Clone, Copy, Debug, PartialEq, Eq)]
 enum Front {
     Blank,
@@ -133,7 +133,7 @@ fn behind_quote(units: &[Unit], mode: u8) -> Option<Found>
     )
 }
 
-// The blank at the front, which is U+001A, where nothing follows.
+// The blank at the front, which is U+001A, if nothing follows.
 fn at_end(units: &[Unit], mode: u8) -> Option<Found>
     requires some { 0 < length units.now }
     requires end { slice_index_or (characters units.now) 0 0 ≡ 26 }
@@ -146,7 +146,7 @@ fn at_end(units: &[Unit], mode: u8) -> Option<Found>
     }
 }
 
-/// The element at the front, where no byte order mark stands. Its first character tells which scanners there are to ask.
+/// The element at the front, if there is no byte order mark. Its first character decides which scanners to ask.
 pub(crate) fn taken(units: &[Unit], mode: u8) -> Option<Found>
     requires some { 0 < length units.now }
     requires short { length units.now < 2 ^ 32 }

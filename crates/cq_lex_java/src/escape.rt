@@ -3,7 +3,7 @@ ghost use Rattle.cq_lex_java.specs.Escapes.{marks_of, hex_value, four_digits, es
 
 use cq_munch::Unit;
 
-/// What stands at a backslash.
+/// What a backslash begins.
 #[derive(Clone, Copy, Debug, PartialEq, Eq)]
 enum Escape {
     /// No Unicode escape is begun.
@@ -21,11 +21,11 @@ pub(crate) enum Step {
     Plain,
     /// A fault.
     Fault,
-    /// This character, which so many units spell.
+    /// This character, which this many units spell.
     One(char, usize),
 }
 
-// How many u stand at the front.
+// How many u are at the front.
 fn marks_of(units: &[Unit]) -> usize
     ensures marks { result ≡ marks_of units.now }
     ensures within { result ≤ length units.now }
@@ -103,7 +103,7 @@ fn joined(high: u32, low: u32) -> Option<char>
     }
 }
 
-// The character of a high surrogate that so many units spell, and of the low one behind it.
+// The character of a high surrogate that this many units spell, and of the low one after it.
 fn pair_at(high: u32, len: usize, rest: &[Unit]) -> Step
     requires { len < 2 ^ 63 }
     ensures { result ≡ pair_of high len (escape_at rest.now) }
@@ -117,7 +117,7 @@ fn pair_at(high: u32, len: usize, rest: &[Unit]) -> Step
     }
 }
 
-/// What the backslash at the front is read as, where an even number of backslashes stands before it.
+/// What the backslash at the front is read as, if an even number of backslashes comes before it.
 pub(crate) fn step_at(units: &[Unit]) -> Step
     ensures step { result ≡ step_at units.now }
     ensures within { IsStepWithin (length units.now) result }

@@ -8,7 +8,7 @@ ghost use Rattle.cq_lex_java.specs.NumberStates.{kind_of, may_end, next_of, rest
 
 use cq_munch::{Machine, Unit, longest_spelling};
 
-/// What the rows of numbers tell apart.
+/// The kinds of character that the rows of numbers distinguish.
 #[derive(Clone, Copy, Debug, PartialEq, Eq)]
 enum Kind {
     Zero,
@@ -28,7 +28,7 @@ enum Kind {
     Other,
 }
 
-/// How far a number has come. A gap is behind an underscore.
+/// How far a number has come. A gap is after an underscore.
 #[derive(Clone, Copy, Debug, PartialEq, Eq)]
 enum Number {
     Start,
@@ -86,7 +86,7 @@ fn kind_of(ch: char) -> Kind
     }
 }
 
-/// The state behind a character of a kind.
+/// The state after a character of a kind.
 fn next_of(state: Number, kind: Kind) -> Option<Number>
     ensures { result ≡ next_of state kind }
 {
@@ -312,7 +312,7 @@ impl Machine for Number {
     }
 }
 
-// Whether a point stands at the front, and behind it another character than a digit.
+// Whether there is a point at the front, and after it a character that is not a digit.
 fn is_point_alone(units: &[Unit]) -> bool
     ensures { IsTrue result → LongestAt (Spells number) (characters units.now) None }
 {

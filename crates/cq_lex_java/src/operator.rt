@@ -29,7 +29,7 @@ enum Operator {
     Done,
 }
 
-// The state behind the first character.
+// The state after the first character.
 fn begun(ch: char) -> Option<Operator>
     ensures { result ≡ led (steps Start) ch }
 {
@@ -48,7 +48,7 @@ fn begun(ch: char) -> Option<Operator>
     }
 }
 
-// The state behind a character.
+// The state after a character.
 fn next_of(state: Operator, ch: char) -> Option<Operator>
     ensures { result ≡ led (steps state) ch }
 {
@@ -104,7 +104,7 @@ fn stands_alone(ch: char) -> bool
     }
 }
 
-// Whether such a character stands at the front.
+// Whether there is such a character at the front.
 fn begins_alone(units: &[Unit]) -> bool
     ensures { IsTrue result → LongestAt (IsAmong operators) (characters units.now) (Some 1) }
 {

@@ -26,7 +26,7 @@ fn spanning(ch: char, units: &[Unit], len: usize) -> Unit
     }
 }
 
-// What the unit at the front is read as, behind an odd number of backslashes or not.
+// What the unit at the front is read as, after an odd number of backslashes or not.
 fn read_at(odd: bool, units: &[Unit]) -> Step
     ensures step { result ≡ read_at odd units.now }
     ensures within { IsStepWithin (length units.now) result }
@@ -34,14 +34,14 @@ fn read_at(odd: bool, units: &[Unit]) -> Step
     if odd { Step::Plain } else { step_at(units) }
 }
 
-// Whether an odd number of backslashes stands before the next unit.
+// Whether an odd number of backslashes comes before the next unit.
 fn odd_behind(odd: bool, ch: char) -> bool
     ensures { result ≡ ((ch == 92) && not odd) }
 {
     ch == '\\' && !odd
 }
 
-// Whether a u stands at the front.
+// Whether there is a u at the front.
 fn begins_mark(units: &[Unit]) -> bool
     ensures { result ≡ begins_mark units.now }
 {
@@ -58,7 +58,7 @@ fn begins_escape(ch: char, behind: &[Unit]) -> bool
     ch == '\\' && begins_mark(behind)
 }
 
-// Whether a u stands directly behind a backslash. Where none does, nothing is translated.
+// Whether a u comes directly after a backslash. If none does, nothing is translated.
 fn has_escape(units: &[Unit]) -> bool
     ensures { IsFalse result → Ok units.now ≡ translated 0 false units.now }
 {
@@ -124,7 +124,7 @@ pub(crate) fn unescaped(alloc: Global, units: Vec<Unit>) -> Result<Translated, M
     Ok(Translated::Units(units))
 }
 
-/// A backslash begins a Unicode escape only where an even number of backslashes of the text stands directly before it.
+/// A backslash begins a Unicode escape only if an even number of backslashes of the text comes directly before it.
 pub fn escapes_go_by_count()
     ensures { EscapesGoByCount }
 {}

@@ -15,7 +15,7 @@ fn begins_ascii(ch: char) -> bool
     ch.is_ascii_alphabetic() || ch == '_' || ch == '$'
 }
 
-// Each character of ASCII that continues an identifier stands at its own place, and a comma at every other place.
+// Each character of ASCII that continues an identifier is at its own place, and a comma at every other place.
 static CONTINUES: [u8; 128] = *b"\
     ,,,,,,,,,,,,,,,,,,,,,,,,,,,,,,,,\
     ,,,,$,,,,,,,,,,,0123456789,,,,,,\
@@ -87,8 +87,8 @@ fn begins_plainly(units: &[Unit]) -> bool
     }
 }
 
-/// The longest identifier at the front. Keywords are identifiers too. As far as its characters are of ASCII they are
-/// looked up in a table; the machine goes on where one stands that is not.
+/// The longest identifier at the front. Keywords are identifiers too. Characters of ASCII are looked up in a table;
+/// the machine continues from the first one that is not.
 pub(crate) fn longest_identifier(units: &[Unit]) -> Option<usize>
     ensures { LongestAt IsIdentifier (characters units.now) result }
 {

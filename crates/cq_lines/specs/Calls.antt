@@ -4,14 +4,14 @@ use Rattle.std.specs.Io.KnownBytes.{ReadConsumes}
 use Rattle.cq_lines.specs.Held.{Held}
 use Rattle.cq_lines.specs.Pieces.{HasNoFeedBetween}
 
--- nothing was taken yet, and so many bytes may be
+-- nothing was taken yet, and this many bytes may be
 abbrev pub fresh_held : ℕ → Held
 fresh_held limit = record { pending = []; taken = 0; limit = limit; over = false }
 
--- no line feed stands from this place on
+-- there is no line feed from this place on
 abbrev pub HasNoFeedFrom : ℕ → List ℕ → Type 0
 HasNoFeedFrom from bytes = HasNoFeedBetween from (length bytes) bytes
 
--- a read of up to so many bytes gave those that stand in a buffer from this place on
+-- a read of up to this many bytes gave those that are in a buffer from this place on
 abbrev pub ReadsAt : {E : Type 0} → ℕ → ℕ → Option (List ℕ) → Option (List ℕ) → List ℕ → Result ℕ E → Type 0
 ReadsAt at want before after buffer result = ReadConsumes before after result (take want (drop at buffer))

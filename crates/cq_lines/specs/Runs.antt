@@ -63,7 +63,7 @@ abbrev pub RunsEnd : Type 0
 RunsEnd =
     (limit : ℕ) (a b c : Option (List ℕ)) (x y : Held) (lines : List (List ℕ)) (found : Cut) → CutTo limit a b x lines → Cuts b c x found y → RunEnds limit a c lines found
 
--- once as many bytes are taken as may be, each further call finds that again, and takes none
+-- once the limit on the bytes is reached, each further call finds that again, and takes none
 abbrev pub SpentComesAgain : Type 0
 SpentComesAgain = (a b : Option (List ℕ)) (x y : Held) (found : Cut) → IsSpent x → Cuts a b x found y → IsSpentFound found × IsSpent y × (y.taken ≡ x.taken)
 

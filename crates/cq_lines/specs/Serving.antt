@@ -62,6 +62,6 @@ module _ {S K : Type 0} (from : source.Ghosts S) (onto : sink.Ghosts K) where
   abbrev pub ServesLines : {R : Type 0} → (R → List ℕ) → (List (List ℕ) → List R → Type 0) → ℕ → S → S → K → K → End → Type 0
   ServesLines line_of AreReplies limit read read_now written written_now by = Serves line_of AreReplies limit (from.rest read) (from.rest read_now) (onto.written written) (onto.written written_now) by
 
-  -- their counts of faults tell how it ended
+  -- their counts of faults show how it ended
   abbrev pub HasCauseOfEnd : S → S → K → K → End → Type 0
   HasCauseOfEnd read read_now written written_now by = HasEndCause (from.faults read) (from.faults read_now) (onto.faults written) (onto.faults written_now) by

@@ -7,6 +7,6 @@ pub enum End {
     ReadFault,
     /// The sink failed, and what was written is a front of the replies.
     WriteFault,
-    /// As many bytes were taken as may be, and every whole line of them has its reply.
+    /// The limit on the bytes was reached, and every whole line of those taken has its reply.
     Spent,
 }

@@ -1,14 +1,17 @@
--- The passes of seats: as they are made, and behind a session.
-use Rattle.std.proofs.Common.{◌≡◌, ◌+◌, ◌-◌, ℕ, List, [], ◌∷◌, ◌++◌, All, None, refl, sym, ap, subst, subst₂, ◌∙◌}
+-- The passes of seats: as they are made, and after a session.
+use Rattle.std.proofs.Common.{◌≡◌, ◌-◌, ◌<◌, ℕ, zero, suc, List, [], ◌∷◌, ◌++◌, All, None, refl, sym, ap, subst, subst₂, arith}
 use Rattle.std.proofs.lemmas.List.Elements.{All-push, All-tail}
 use Rattle.cq_base.specs.declared.settings.Settings.{Settings}
-use Rattle.cq_cells.specs.Passes.{by_of}
+use Rattle.cq_cells.specs.Passes.{by_of, with_child, child_of}
 use Rattle.cq_chain.specs.Passes.{BoardPass}
 use Rattle.cq_history.specs.declared.event.Event.{Event}
 use Rattle.cq_history.specs.State.{state, view_of}
 use Rattle.cq_shared.specs.declared.shared.Shared.{Shared}
-use Rattle.cq_shared.specs.SharedPasses.{IsPassOf, SharedStands, callers_of}
-use Rattle.cq_listen.specs.Seats.{IsNew, IsSeated}
+use Rattle.cq_shared.specs.SharedPasses.{IsPassOf, SharedStands, callers_of, state_of}
+use Rattle.cq_lines.specs.Calls.{fresh_held}
+use Rattle.cq_lines.specs.Held.{Held}
+use Rattle.cq_serve.proofs.Easing.{unmade_closed}
+use Rattle.cq_listen.specs.Seats.{IsIdle, IsSeated}
 
 module _ (set : Settings) where
   -- one more that is of these settings
@@ -20,10 +23,22 @@ pub rest_of : {N : Type 0} (settings : N → Settings) (set : Settings) (old res
 rest_of settings set old rest x same all = All-tail (λ n. settings n ≡ set) x rest (subst (All (λ n. settings n ≡ set)) same all)
 
 -- the room that a split leaves
-pub room_after : (p q : BoardPass) → q ≡ record p { next = p.next + 1; room = p.room - 1 } → q.room ≡ p.room - 1
+pub room_after : (p q : BoardPass) → q ≡ with_child p → q.room ≡ p.room - 1
 room_after p q same = ap (λ (z : BoardPass). z.room) same
 
+-- there is a next number if there is room
+some_next : (next room : ℕ) → (next ≡ 0 → room ≡ 0) → 0 < room → 0 < next
+some_next zero room later some = absurd (omega (arith, later refl, some))
+some_next (suc n) room later some = omega arith
+
+-- the limit of a cutter that was restarted
+pub limit_of : (held : Held) (limit : ℕ) → held ≡ fresh_held limit → held.limit ≡ limit
+limit_of held limit is = ap (λ (h : Held). h.limit) is
+
 module _ {W R : Type 0} (hub : Shared W R) where
+  IsClosed : BoardPass → Type 0
+  IsClosed p = view_of (state_of hub p.seen) (by_of p) ≡ None
+
   -- it stands for what it has seen
   pub stands : (p : BoardPass) → IsPassOf hub p → SharedStands hub p (by_of p) p.seen
   stands p of = record { is = of; caller = refl; seen = refl }
@@ -33,10 +48,14 @@ module _ {W R : Type 0} (hub : Shared W R) where
   seated_behind set p q c h is new closed = record {
     in_range = is.in_range;
     settings = is.settings;
-    of = new.is;
-    closed = subst₂ (λ (h : List Event) (n : ℕ). view_of (state (callers_of hub) h) n ≡ None) (sym new.seen) (sym new.caller) closed;
+    idle = record { of = new.is; closed = subst₂ (λ (h : List Event) (n : ℕ). view_of (state (callers_of hub) h) n ≡ None) (sym new.seen) (sym new.caller) closed };
   }
 
   -- what a split leaves
-  pub new_after : (p q : BoardPass) → q ≡ record p { next = p.next + 1; room = p.room - 1 } → IsPassOf hub q → IsNew hub p → IsNew hub q
-  new_after p q same of new = record { of = of; none = ap (λ (z : BoardPass). z.seen) same ∙ new.none }
+  pub idle_after : (p q : BoardPass) → q ≡ with_child p → IsPassOf hub q → IsIdle hub p → IsIdle hub q
+  idle_after p q same of idle = record { of = of; closed = subst IsClosed (sym same) idle.closed }
+
+  -- and the pass of the caller that is made, of whom there is no event
+  pub child_idle : (p child : BoardPass) → child ≡ child_of p → IsPassOf hub child → IsIdle hub p → 0 < p.room → IsIdle hub child
+  child_idle p child same of idle room =
+      record { of = of; closed = subst IsClosed (sym same) (unmade_closed (callers_of hub) p.next p.seen (idle.of.of.unmade (some_next p.next p.room idle.of.of.of.later room) p.next (omega arith))) }

@@ -1,5 +1,5 @@
 -- The passes with which sessions and workers begin, and those that their threads have.
-use Rattle.std.specs.Prelude.{◌≡◌, [], None}
+use Rattle.std.specs.Prelude.{◌≡◌, ℕ, None}
 use Rattle.cq_base.specs.declared.settings.Settings.{Settings}
 use Rattle.cq_base.specs.Settings.{IsInRange}
 use Rattle.cq_cells.specs.Passes.{by_of}
@@ -8,14 +8,18 @@ use Rattle.cq_history.specs.State.{view_of}
 use Rattle.cq_shared.specs.declared.shared.Shared.{Shared}
 use Rattle.cq_shared.specs.SharedPasses.{IsPassOf, settings_of, state_of}
 
--- the pass is of the hub, holds nothing of it, and has seen nothing
-pub record IsNew {W R : Type 0} (hub : Shared W R) (p : BoardPass) : Type 0 where
+-- the pass is of the hub, and has no view open
+pub record IsIdle {W R : Type 0} (hub : Shared W R) (p : BoardPass) : Type 0 where
   pub of : IsPassOf hub p
-  pub none : p.seen ≡ []
+  pub closed : view_of (state_of hub p.seen) (by_of p) ≡ None
 
--- the settings are the hub's, and the pass is of the hub and has no view open
+-- it is so, and the settings are the hub's
 pub record IsSeated {W R : Type 0} (set : Settings) (hub : Shared W R) (p : BoardPass) : Type 0 where
   pub in_range : IsInRange set
   pub settings : settings_of hub ≡ set
-  pub of : IsPassOf hub p
-  pub closed : view_of (state_of hub p.seen) (by_of p) ≡ None
+  pub idle : IsIdle hub p
+
+-- it is so, and a cutter takes at most as many bytes of a connection as the settings allow
+pub record IsFurnished {W R : Type 0} (set : Settings) (hub : Shared W R) (p : BoardPass) (limit : ℕ) : Type 0 where
+  pub seated : IsSeated set hub p
+  pub limit_is : limit ≡ set.byte_limit

@@ -1,16 +1,15 @@
 ghost use Rattle.std.specs.Prelude.{◌≡◌, ◌+◌, ◌≤◌, vec_len, All, IfOk, OnOk};
 ghost use Rattle.cq_base.specs.Settings.{IsInRange};
 ghost use Rattle.cq_shared.specs.SharedPasses.{settings_of};
-ghost use Rattle.cq_listen.specs.Seats.{IsNew};
+ghost use Rattle.cq_listen.specs.Seats.{IsIdle};
 
 use crate::workers::Worker;
 use cq_base::{Memory, Settings};
 use cq_chain::Pass;
 use cq_io::Gate;
-use cq_work::Keyer;
 use cq_serve::{Bell, work};
 use cq_shared::Shared;
-use cq_work::Work;
+use cq_work::{Keyer, Work};
 use std::alloc::Global;
 use std::marker::Model;
 use std::sync::Wait;
@@ -41,9 +40,9 @@ impl<'a, L: Ledger, R, G> Bench<'a, L, R, G> {
     ghost use Rattle.std.specs.Prelude.{◌≡◌};
     ghost use Rattle.cq_base.specs.Settings.{IsInRange};
     ghost use Rattle.cq_shared.specs.SharedPasses.{settings_of};
-    ghost use Rattle.cq_listen.specs.Seats.{IsNew};
+    ghost use Rattle.cq_listen.specs.Seats.{IsIdle};
 
-    /// The bench of a pass that has seen nothing.
+    /// The bench of a pass that has no view open.
     fn new(
         alloc: Global,
         settings: &'a Settings,
@@ -53,7 +52,7 @@ impl<'a, L: Ledger, R, G> Bench<'a, L, R, G> {
     ) -> Self
         requires in_range { IsInRange settings.now }
         requires settings { settings_of hub.now ≡ settings.now }
-        requires new { IsNew hub.now pass }
+        requires idle { IsIdle hub.now pass }
         ensures { result ≡ settings.now }
     {
         Bench {
@@ -104,9 +103,9 @@ pub(crate) fn benches_of<'a, L: Ledger, R, G>(
 ) -> Result<Vec<Bench<'a, L, R, G>>, Memory>
     requires in_range { IsInRange settings.now }
     requires settings { settings_of hub.now ≡ settings.now }
-    requires new { IsNew hub.now pass.old }
+    requires idle { IsIdle hub.now pass.old }
     requires room { number ≤ pass.old.room }
-    ensures new { IsNew hub.now pass.new }
+    ensures idle { IsIdle hub.now pass.new }
     ensures room { OnOk result (pass.new.room + number ≡ pass.old.room) }
     ensures number { IfOk result (λ benches. vec_len benches ≡ number) }
     ensures settings { IfOk result (λ benches. All (λ bench. bench ≡ settings.now) benches.items) }

@@ -1,7 +1,8 @@
-ghost use Rattle.std.specs.Prelude.{◌≡◌, ◌+◌, ◌≤◌, [], All, IsSome, IfOk, OnErr};
+ghost use Rattle.std.specs.Prelude.{◌≡◌, ◌+◌, ◌≤◌, vec_len, All, IsSome, IfOk, OnErr};
 ghost use Rattle.cq_base.specs.Settings.{IsInRange};
-ghost use Rattle.cq_shared.specs.SharedPasses.{SharedStands, settings_of};
-ghost use Rattle.cq_listen.specs.Endings.{HasEnded};
+ghost use Rattle.cq_shared.specs.SharedPasses.{settings_of};
+ghost use Rattle.cq_listen.specs.Endings.{HasEnded, IsServedWith};
+ghost use Rattle.cq_listen.specs.Seats.{IsIdle};
 
 use crate::benches::benches_of;
 use crate::connection::Connection;
@@ -13,20 +14,25 @@ use crate::workers::{Worker, serve_beside_workers};
 use cq_base::{Counters, Memory, Settings};
 use cq_chain::Pass;
 use cq_io::{Doors, Gate, Sink, Source};
-use cq_work::{Keyer, plain_key};
 use cq_serve::{Bell, RingingGate};
 use cq_shared::Shared;
-use cq_work::Work;
+use cq_work::{Keyer, Work, plain_key};
 use std::alloc::Global;
 use std::sync::Wait;
 use std::sync::ledger::Ledger;
 use std::thread::Threads;
 
-/// How the serving of connections ended.
+/// How the serving of connections ended, and what it was done with.
 #[derive(Clone, Copy, Debug, PartialEq, Eq)]
 pub struct Served {
-    /// A call of the doors failed. Where none did, no more connections will come.
+    /// A call of the doors failed. If none did, no more connections will come.
     pub failed: bool,
+    /// The settings by which lines were answered and works made.
+    pub settings: Settings,
+    /// How many workers there were.
+    pub workers: usize,
+    /// How many connections could be served at the same time.
+    pub sessions: usize,
 }
 
 // Does nothing: by this use, the borrow checker ties the doors to the parameter that lent them.
@@ -51,7 +57,7 @@ fn serve_rest<Q: Threads + Sync, C, N: Attendant<C> + Drop>(
     rest.destroy_empty();
 }
 
-// Serves what comes by the doors, and says whether a call of them failed.
+// Serves what comes by the doors, and says how that ended.
 fn serve_doors<
     Q: Threads + Wait + Sync,
     S: Source + Send,
@@ -68,15 +74,18 @@ fn serve_doors<
     own: N,
     queue: Queue<Connection<S, K>>,
     doors: &mut D,
-) -> bool
+) -> Served
     requires workers { All (λ m. M.settings m ≡ keyer.now.settings) workers.items }
     requires attendants { All (λ n. N.settings n ≡ keyer.now.settings) attendants.items }
     requires own { N.settings own ≡ keyer.now.settings }
     requires bound { IsSome (D.bound doors.old) }
     ensures ended { HasEnded (D.faults doors.old) (D.faults doors.new)
-        (D.left doors.old) (D.left doors.new) result }
+        (D.left doors.old) (D.left doors.new) result.failed }
+    ensures made { IsServedWith keyer.now.settings (vec_len workers) (vec_len attendants) result }
     ensures bound { D.bound doors.new ≡ D.bound doors.old }
 {
+    let workers_made = workers.len();
+    let sessions_made = attendants.len();
     let (doorway, own) = serve_beside_workers(
         rt,
         keyer,
@@ -93,7 +102,12 @@ fn serve_doors<
     let Doorway { doors, failed } = doorway;
     take_back(doors);
     serve_rest(rt, keyer, own, queue);
-    failed
+    Served {
+        failed,
+        settings: keyer.settings,
+        workers: workers_made,
+        sessions: sessions_made,
+    }
 }
 
 // The same with a keyer, before any other memory is taken.
@@ -121,11 +135,12 @@ fn serve_keyed<
     requires in_range { IsInRange settings.now }
     requires keyed { keyer.now.settings ≡ settings.now }
     requires settings { settings_of hub.now ≡ settings.now }
-    requires new { SharedStands hub.now pass 0 [] }
+    requires idle { IsIdle hub.now pass }
     requires room { workers + sessions ≤ pass.room }
     requires bound { IsSome (D.bound doors.old) }
     ensures ended { IfOk result (λ served. HasEnded (D.faults doors.old) (D.faults doors.new)
         (D.left doors.old) (D.left doors.new) served.failed) }
+    ensures made { IfOk result (IsServedWith settings.now workers sessions) }
     ensures refused { OnErr result (doors.new ≡ doors.old) }
     ensures bound { D.bound doors.new ≡ D.bound doors.old }
 {
@@ -142,8 +157,7 @@ fn serve_keyed<
     )?;
     let own = Seat::new(alloc, settings, counters, hub, &ringing, pass)?;
     let queue: Queue<Connection<S, K>> = Queue::new(alloc, sessions)?;
-    let failed = serve_doors(rt, keyer, benches, &bell, seats, own, queue, doors);
-    Ok(Served { failed })
+    Ok(serve_doors(rt, keyer, benches, &bell, seats, own, queue, doors))
 }
 
 /// Serves the connections that the doors give, each by a session over the hub, until no more will come or a call of the doors
@@ -153,12 +167,14 @@ fn serve_keyed<
 ///
 /// The calling thread alone asks the doors. It hands each connection over by a queue with as many places as there are
 /// sessions, and asks for the next one only where a place is free. So a client that sends nothing, or half a line, or never
-/// reads, keeps one thread, and nobody else. Where no thread can be made for a session, the calling thread serves each
+/// reads, keeps one thread, and nobody else. With no session, or if no thread can be made for one, the calling thread serves each
 /// connection itself before it asks for the next one; a worker for which none can be made doesn't work.
 ///
 /// Each worker, each thread of the sessions and the calling thread has a caller of the hub: the pass makes them, and is the
-/// calling thread's then. `Memory` comes before the first door alone, and the doors are as before then: it is taken for a
-/// cutter for each session and for the calling thread, for a keyer, and for the queue.
+/// calling thread's then. It may have seen any history in which its caller has no view open. `Memory` comes only before the
+/// first door, and the doors are as before then: it is taken for a cutter for each session and for the calling thread, for a
+/// keyer, and for the queue. What comes back says with what connections were served: the settings, and how many workers and
+/// sessions there were.
 pub fn serve<
     Q: Threads + Wait + Sync,
     L: Ledger + Send + Sync,
@@ -181,13 +197,14 @@ pub fn serve<
 ) -> Result<Served, Memory>
     requires in_range { IsInRange settings.now }
     requires settings { settings_of hub.now ≡ settings.now }
-    requires new { SharedStands hub.now pass 0 [] }
+    requires idle { IsIdle hub.now pass }
     requires room { workers + sessions ≤ pass.room }
     requires bound { IsSome (D.bound doors.old) }
-    requires sessions { (1 ≤ sessions) × (sessions ≤ 64) }
+    requires sessions { sessions ≤ 64 }
     requires workers { workers ≤ 64 }
     ensures ended { IfOk result (λ served. HasEnded (D.faults doors.old) (D.faults doors.new)
         (D.left doors.old) (D.left doors.new) served.failed) }
+    ensures made { IfOk result (IsServedWith settings.now workers sessions) }
     ensures refused { OnErr result (doors.new ≡ doors.old) }
     ensures bound { D.bound doors.new ≡ D.bound doors.old }
 {

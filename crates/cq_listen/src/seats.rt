@@ -1,26 +1,25 @@
 ghost use Rattle.std.specs.Prelude.{◌≡◌, ◌+◌, ◌≤◌, vec_len, All, IfOk, OnOk};
 ghost use Rattle.cq_base.specs.Settings.{IsInRange};
 ghost use Rattle.cq_shared.specs.SharedPasses.{settings_of};
-ghost use Rattle.cq_listen.specs.Seats.{IsNew};
+ghost use Rattle.cq_listen.specs.Seats.{IsIdle};
 
 use crate::connection::Connection;
 use crate::sessions::Attendant;
 use cq_base::{Counters, Memory, Settings};
 use cq_chain::Pass;
 use cq_io::{Gate, Sink, Source};
-use cq_work::Keyer;
 use cq_lines::Lines;
 use cq_session::session;
 use cq_shared::Shared;
-use cq_work::Work;
+use cq_work::{Keyer, Work};
 use std::alloc::Global;
 use std::marker::Model;
 use std::sync::Wait;
 use std::sync::ledger::Ledger;
 use std::thread::Threads;
 
-/// What a thread of the sessions has of its own: a pass with no view open, and a cutter. Contracts see it as the
-/// settings of its hub.
+/// What a thread of the sessions has of its own: a pass with no view open, and a cutter with the limit of the settings.
+/// Contracts see it as the settings of its hub.
 #[derive(Drop)]
 pub(crate) struct Seat<'a, L: Ledger, R, G> {
     alloc: Global,
@@ -34,22 +33,22 @@ pub(crate) struct Seat<'a, L: Ledger, R, G> {
 
 impl<'a, L: Ledger, R, G> Model for Seat<'a, L, R, G> {
     ghost use Rattle.cq_base.specs.declared.settings.Settings.{Settings as Told};
-    ghost use Rattle.cq_listen.specs.Seats.{IsSeated};
+    ghost use Rattle.cq_listen.specs.Seats.{IsFurnished};
 
     ghost Value = { Told };
 
     ghost view = { λ s. s.settings.now };
 
-    ghost invariant = { λ s. IsSeated s.settings.now s.hub.now s.pass };
+    ghost invariant = { λ s. IsFurnished s.settings.now s.hub.now s.pass s.lines.limit };
 }
 
 impl<'a, L: Ledger, R, G> Seat<'a, L, R, G> {
     ghost use Rattle.std.specs.Prelude.{◌≡◌, IfOk};
     ghost use Rattle.cq_base.specs.Settings.{IsInRange};
     ghost use Rattle.cq_shared.specs.SharedPasses.{settings_of};
-    ghost use Rattle.cq_listen.specs.Seats.{IsNew};
+    ghost use Rattle.cq_listen.specs.Seats.{IsIdle};
 
-    /// The seat of a pass that has seen nothing. It takes memory for its cutter.
+    /// The seat of a pass that has no view open. It takes memory for its cutter.
     pub(crate) fn new(
         alloc: Global,
         settings: &'a Settings,
@@ -60,7 +59,7 @@ impl<'a, L: Ledger, R, G> Seat<'a, L, R, G> {
     ) -> Result<Self, Memory>
         requires in_range { IsInRange settings.now }
         requires settings { settings_of hub.now ≡ settings.now }
-        requires new { IsNew hub.now pass }
+        requires idle { IsIdle hub.now pass }
         ensures { IfOk result (λ seat. seat ≡ settings.now) }
     {
         let lines = Lines::new(alloc, settings.byte_limit)?;
@@ -127,9 +126,9 @@ pub(crate) fn seats_of<'a, L: Ledger, R, G>(
 ) -> Result<Vec<Seat<'a, L, R, G>>, Memory>
     requires in_range { IsInRange settings.now }
     requires settings { settings_of hub.now ≡ settings.now }
-    requires new { IsNew hub.now pass.old }
+    requires idle { IsIdle hub.now pass.old }
     requires room { number ≤ pass.old.room }
-    ensures new { IsNew hub.now pass.new }
+    ensures idle { IsIdle hub.now pass.new }
     ensures room { OnOk result (pass.new.room + number ≡ pass.old.room) }
     ensures number { IfOk result (λ seats. vec_len seats ≡ number) }
     ensures settings { IfOk result (λ seats. All (λ seat. seat ≡ settings.now) seats.items) }

@@ -32,8 +32,8 @@ summary_data groups measures tokens version =
 abbrev pub summary_line : ℕ → Measures → ℕ → ℕ → List ℕ
 summary_line groups measures tokens version = compact_text (summary_data groups measures tokens version) ++ 10 ∷ []
 
--- The line tells how many groups the project has, its measures, the tokens of its files and its version: what a client
--- is told who puts the files one by one and then asks for groups, measures and files.
+-- The line has the number of the project's groups, its measures, the tokens of its files and its version: what a
+-- client is told who puts the files one by one and then asks for groups, measures and files.
 pub record IsSummary (set : Settings) (number files : ℕ) (line : List ℕ) : Type 0 where
   pub groups : List GroupRow
   pub groups_are : IsReply set (puts_to number files) files (question kind.Groups) (reply.Groups groups files)

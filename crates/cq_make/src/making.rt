@@ -17,10 +17,9 @@ use crate::summary::{summary_line, token_count};
 use cq_base::{Measures, Memory, Settings, Steps, Text};
 use cq_hub::{Hub, Solo, SoloPass};
 use cq_io::{Failed, Sink, send};
-use cq_work::{Keyer, plain_key};
 use cq_reply::{FileRow, Reply};
 use cq_request::Kind;
-use cq_work::Work;
+use cq_work::{Keyer, Work, plain_key};
 use std::alloc::Global;
 use std::sync::ledger::Ledger;
 use std::thread::Threads;
@@ -57,7 +56,7 @@ fn rows_in(reply: &Reply) -> &[FileRow]
     }
 }
 
-// The line that tells what these replies show, which are those to the questions at the last version.
+// The line that shows these replies, which are those to the questions at the last version.
 fn line_told(
     alloc: Global,
     settings: &Settings,
@@ -81,7 +80,7 @@ fn line_told(
     summary_line(alloc, groups, measures_in(measures), tokens, files as u64)
 }
 
-// The line of the project, which a hub of its own has told.
+// The line of the project, as a hub of its own answers.
 fn line_made<R: Threads + Sync, L: Ledger>(
     rt: &R,
     alloc: Global,
@@ -135,8 +134,9 @@ fn line_made<R: Threads + Sync, L: Ledger>(
     line_told(alloc, settings, number, files, &groups, &measures, &rows)
 }
 
-/// Makes the project of a number, of so many files, and writes the one line that tells of it: how many groups it has of at
-/// least 50 tokens, its measures, the tokens of its files and its version. Memory is wanted only before a byte is written.
+/// Makes the project of a number, of this many files, and writes the one line that describes it: how many groups it has of
+/// at least 50 tokens, its measures, the tokens of its files and its version. Memory is needed only before a byte is
+/// written.
 pub fn make<R: Threads + Sync, K: Sink, L: Ledger>(
     rt: &R,
     alloc: Global,

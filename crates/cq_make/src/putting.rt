@@ -10,7 +10,7 @@ use cq_hub::{Hub, Solo, SoloPass};
 use cq_shard::Indexed;
 use std::alloc::Global;
 
-// Puts a file behind those before it.
+// Puts a file after those before it.
 fn put_one<W: Indexed>(
     alloc: Global,
     hub: &Solo<W>,

@@ -1,11 +1,14 @@
-//! Measures: lines of code and decisions of a file, and the eight measures of a project, of one of its files, or of some of
-//! them. Where places of groups overlap, each line, each extent of lines and each file counts once. A project's places are
-//! parted among the files in one walk, and counted file by file, in threads where they are many: n places in a file cost
-//! n log n comparisons and the memory of n extents. So do those of chosen files, all together in one list. No walk goes over
+//! Measures and gates, as SonarQube names them.
+//!
+//! `ncloc` and `complexity` count the lines of code and the decisions of a file. `project_measures`, `file_measures` and
+//! `chosen_measures` give the eight measures of a project, of one of its files, or of some of them. Each line, each extent
+//! of lines and each file counts once, however many groups have places there. The places of a project are parted among
+//! its files in one walk and counted file by file, on several threads if there are many. Those of chosen files are counted
+//! together in one list. Either way n places cost n log n comparisons and the memory of n extents, and no walk goes over
 //! the lines of a place.
 //!
-//! Gates: whether a condition is met by some measures, and the verdict of a list of conditions. Metrics and operators are
-//! those of SonarQube's quality gates. A verdict looks once at each condition.
+//! `met` says whether some measures meet a condition, and `verdict` gives the verdict of a list of conditions. A verdict
+//! looks at each condition once.
 #![tactic(auto)]
 
 mod choosing;

@@ -27,7 +27,7 @@ abbrev pub joined_each : List Pattern → Pattern → List Pattern
 joined_each [] q = []
 joined_each (p ∷ ps) q = joined p q ∷ joined_each ps q
 
--- what may stand behind a first character c
+-- what may follow a first character c
 abbrev pub behind : ℕ → Pattern → List Pattern
 behind c never = []
 behind c empty = []
@@ -74,12 +74,12 @@ abbrev pub distinct : List Pattern → List Pattern
 distinct [] = []
 distinct (p ∷ ps) = let rest = distinct ps in cond (has rest p) rest (p ∷ rest)
 
--- what may stand behind a text
+-- what may follow a text
 abbrev pub after : List ℕ → List Pattern → List Pattern
 after [] ps = ps
 after (c ∷ cs) ps = after cs (distinct (behind_each c ps))
 
--- no class of the pattern tells the two characters apart
+-- no class of the pattern distinguishes the two characters
 abbrev pub agree : ℕ → ℕ → Pattern → Bool
 agree c d never = true
 agree c d empty = true
@@ -93,22 +93,22 @@ abbrev pub agree_each : ℕ → ℕ → List Pattern → Bool
 agree_each c d [] = true
 agree_each c d (p ∷ ps) = agree c d p && agree_each c d ps
 
--- an entry of a table: behind c, the patterns ps leave these, or None where nothing is left
+-- an entry of a table: after c, the patterns ps leave these, or None if nothing is left
 abbrev pub entry_ok : List Pattern → ℕ → Option (List Pattern) → Bool
 entry_ok ps c None = covers (behind_each c ps) []
 entry_ok ps c (Some qs) = covers (behind_each c ps) qs && covers qs (behind_each c ps)
 
--- the classes of characters that a table tells apart: the first row that has the character, else the default
+-- the classes of characters that a table distinguishes: the first row that has the character, else the default
 abbrev pub class_in : {K : Type 0} → List (List Range × K) → K → ℕ → K
 class_in [] other c = other
 class_in (row ∷ rows) other c = if in_ranges row.0 c then row.1 else class_in rows other c
 
--- the states behind the characters of a table: that of the first row that has the character, or none
+-- the states after the characters of a table: that of the first row that has the character, or none
 abbrev pub led : {S : Type 0} → List (List Range × S) → ℕ → Option S
 led [] c = None
 led (row ∷ rows) c = if in_ranges row.0 c then Some row.1 else led rows c
 
--- the same by kinds, which a character of each tells apart
+-- the same by kinds, compared by a sample character of each
 abbrev pub is_kind_of : {K : Type 0} → (K → ℕ) → List K → K → Bool
 is_kind_of sample [] k = false
 is_kind_of sample (j ∷ js) k = (sample k == sample j) || is_kind_of sample js k

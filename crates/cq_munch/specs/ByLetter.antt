@@ -12,7 +12,7 @@ row_of c = if is_ascii_lowercase c then c - 97 else (if c == 95 then 26 else 27)
 abbrev pub words_in_row : List (Bor (List (Bor (List ℕ)))) → ℕ → List (List ℕ)
 words_in_row rows n = slice_index_or (map (λ words. map (λ word. word.now) words.now) rows) n []
 
--- the words of the row in which a text would stand
+-- the words of the row that a text would be in
 abbrev pub words_beside : List (Bor (List (Bor (List ℕ)))) → List ℕ → List (List ℕ)
 words_beside rows s = words_in_row rows (row_of (slice_index_or s 0 0))
 

@@ -19,6 +19,6 @@ opens_block at mode text = begins (47 ∷ 42 ∷ []) text
 abbrev pub opens_line : ℕ → ℕ → List ℕ → Bool
 opens_line at mode text = begins (47 ∷ 47 ∷ []) text
 
--- where a comment is opened, nothing else is tried
+-- if a comment is opened, nothing else is tried
 abbrev pub commented : LineEnds → Language → Language
 commented ends lang = first opens_block (blocks ∷ []) (first opens_line (lines ends ∷ []) lang)

@@ -1,4 +1,4 @@
--- Comments in slashes and stars, and behind two slashes. They don't nest.
+-- Comments in slashes and stars, and after two slashes. They don't nest.
 use Rattle.std.specs.Prelude.{◌≡◌, ℕ, ◌==◌, Bool, true, false, List, [], ◌∷◌, IsTrue, IsFalse, MatchBool}
 use Rattle.std.specs.List.{AllByRecursion}
 use Rattle.cq_munch.specs.LineEnds.{ends_line}
@@ -17,12 +17,12 @@ IsOneLine ends s = AllByRecursion (λ c. IsFalse (ends_line ends c)) s
 abbrev pub IsLineComment : LineEnds → List ℕ → Type 0
 IsLineComment ends s = IsAfter 47 (IsAfter 47 (IsOneLine ends)) s
 
--- characters up to the first star with a slash behind it, and no more; the flag tells whether a star stands before them
+-- characters up to the first star followed by a slash, and no more; the flag says whether a star comes before them
 abbrev pub EndsAtClose : Bool → List ℕ → Type 0
 EndsAtClose star [] = ⊥
 EndsAtClose true (c ∷ s) = MatchBool (c == 47) (s ≡ []) (EndsAtClose (c == 42) s)
 EndsAtClose false (c ∷ s) = EndsAtClose (c == 42) s
 
--- a slash and a star, and then up to the first star with a slash behind it
+-- a slash and a star, and then up to the first star followed by a slash
 abbrev pub IsBlockComment : List ℕ → Type 0
 IsBlockComment s = IsAfter 47 (IsAfter 42 (EndsAtClose false)) s

@@ -1,4 +1,4 @@
--- Which rows of a table can stand at a place, by what the first character there tells: its front.
+-- Which rows of a table are possible at a place, by the kind of its first character: its front.
 use Rattle.std.specs.Prelude.{ℕ, Bool, true, false, if◌then◌else◌, List, [], ◌∷◌, IsTrue, ⊤}
 use Rattle.cq_munch.specs.Behind.{class_in}
 use Rattle.cq_munch.specs.Pattern.{Range}
@@ -14,7 +14,7 @@ pub record FrontTable (F : Type 0) : Type 0 where
 abbrev pub front_in : {F : Type 0} → FrontTable F → ℕ → F
 front_in table c = class_in table.rows (if table.is_letter c then table.letter else table.other) c
 
--- a row, and a test of the fronts at which it can stand
+-- a row, and a test of the fronts at which it is possible
 pub record Placed (F : Type 0) : Type 1 where
   pub row : Row
   pub at : F → Bool
@@ -27,7 +27,7 @@ abbrev pub kept : Bool → Row → List Row → List Row
 kept true row rows = row ∷ rows
 kept false row rows = rows
 
--- the rows that can stand at a front
+-- the rows that are possible at a front
 abbrev pub rows_at : {F : Type 0} → List (Placed F) → F → List Row
 rows_at [] f = []
 rows_at (p ∷ ps) f = kept (p.at f) p.row (rows_at ps f)
@@ -41,7 +41,7 @@ starts test (c ∷ s) = test c
 abbrev pub StartAt : {F : Type 0} → (ℕ → F) → (F → Bool) → (List ℕ → Type 0) → Type 0
 StartAt front at set = (s : List ℕ) → set s → IsTrue (starts (λ c. at (front c)) s)
 
--- and so do those of each row, where it can stand
+-- and so do those of each row, wherever it is possible
 abbrev pub AllStart : {F : Type 0} → (ℕ → F) → List (Placed F) → Type 0
 AllStart front [] = ⊤
 AllStart front (p ∷ ps) = StartAt front p.at p.row.set × AllStart front ps

@@ -8,7 +8,7 @@ use Rattle.cq_munch.specs.declared.element.Found.{Found}
 pub record Language : Type 1 where
   -- the rows that are tried at a unit, in a mode, before the characters that are left: what they spell, and as what
   pub tried : ℕ → ℕ → List ℕ → Spell → List ℕ → Type 0
-  -- the mode behind an element of this spelling
+  -- the mode after an element of this spelling
   pub mode_behind : ℕ → Spell → List ℕ → ℕ
 
 -- A byte order mark that is the first character of a text is a blank, and no row is tried there.
@@ -26,7 +26,7 @@ marked lang = record {
 abbrev pub Allows : Language → ℕ → ℕ → List ℕ → List ℕ → Type 0
 Allows lang at mode text s = (spell : Spell) × lang.tried at mode text spell s
 
--- The element at a place is the longest spelling that a row allows there, or nothing where no row allows one.
+-- The element at a place is the longest spelling that a row allows there, or nothing if no row allows one.
 abbrev pub Takes : Language → ℕ → ℕ → List ℕ → Option Found → Type 0
 Takes lang at mode text None = LongestAt (Allows lang at mode text) text None
 Takes lang at mode text (Some found) =

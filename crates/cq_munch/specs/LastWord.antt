@@ -2,7 +2,7 @@
 use Rattle.std.specs.Prelude.{◌≡◌, ◌↔◌, ℕ, ◌<◌, Bool, Some, None, List, drop}
 use Rattle.cq_munch.specs.ListingMarks.{said, said_at}
 
--- one of the words stands at a place and says so, and none stands behind it
+-- one of the words is at a place and says so, and none comes after it
 pub record SaysLast (text : List ℕ) (on : Bool) : Type 0 where
   pub at : ℕ
   pub says : said_at (drop at text) ≡ Some on

@@ -36,12 +36,12 @@ abbrev pub translation : Translated → Result (List Unit) ℕ
 translation (Units v) = Ok v.items
 translation (Fault at) = Err at
 
--- the units lie one behind the other, each of at least one byte, from the first byte to the last
+-- the units follow each other, each of at least one byte, from the first byte to the last
 abbrev pub InOrder : ℕ → List Unit → ℕ → Type 0
 InOrder from [] to = from ≤ to
 InOrder from (u ∷ us) to = (from ≤ u.start) × (0 < u.len) × InOrder (u.start + u.len) us to
 
--- of a translation: its units lie so from the first byte to one, and they are at most so many
+-- of a translation: its units follow each other so from the first byte to one, and they are at most this many
 abbrev pub UnitsInOrder : ℕ → Translated → Type 0
 UnitsInOrder to t = IfOk (translation t) (λ units. InOrder 0 units to)
 
@@ -51,7 +51,7 @@ UnitsWithin most t = IfOk (translation t) (λ units. length units ≤ most)
 abbrev pub unit_at : List Unit → ℕ → Unit
 unit_at units i = slice_index_or units i (record { ch = 0; start = 0; len = 0 })
 
--- the byte behind the last unit
+-- the byte after the last unit
 abbrev pub end_of : List Unit → ℕ
 end_of units = (unit_at units (length units - 1)).start + (unit_at units (length units - 1)).len
 
@@ -71,23 +71,23 @@ token_of bytes Blank units = []
 token_of bytes Comment units = []
 token_of bytes (TokenOf class) units = spelled_of bytes class units ∷ []
 
--- the tokens of elements that stand one behind the other from a unit on
+-- the tokens of elements that follow each other from a unit on
 abbrev pub tokens_of : List ℕ → List Unit → ℕ → List Found → List Spelled
 tokens_of bytes units at [] = []
 tokens_of bytes units at (f ∷ fs) = token_of bytes f.spell (take f.units (drop at units)) ++ tokens_of bytes units (at + f.units) fs
 
--- A comment in which one of the two words stands is a mark, at its first byte. The last such word tells whether it is on.
+-- A comment that contains one of the two words is a mark, at its first byte. The last such word decides whether it is on.
 abbrev pub mark_of : Spell → List Unit → Option Mark
 mark_of Blank units = None
 mark_of Comment units = option_map (λ on. record { at = (unit_at units 0).start; on = on }) (said (characters units))
 mark_of (TokenOf class) units = None
 
--- the marks of elements that stand one behind the other from a unit on
+-- the marks of elements that follow each other from a unit on
 abbrev pub marks_of : List Unit → ℕ → List Found → List Mark
 marks_of units at [] = []
 marks_of units at (f ∷ fs) = cons_option (mark_of f.spell (take f.units (drop at units))) (marks_of units (at + f.units) fs)
 
--- tokens stand one behind the other, each of at least one byte, from a byte to another
+-- tokens follow each other, each of at least one byte, from a byte to another
 abbrev pub TokensFollow : ℕ → List Spelled → ℕ → Type 0
 TokensFollow from [] to = from ≤ to
 TokensFollow from (t ∷ ts) to = (from ≤ t.token.start) × (0 < t.token.len) × TokensFollow (t.token.start + t.token.len) ts to
@@ -96,7 +96,7 @@ TokensFollow from (t ∷ ts) to = (from ≤ t.token.start) × (0 < t.token.len) 
 abbrev pub TakesNoneAway : (List ℕ → List Spelled → List Spelled) → Type 0
 TakesNoneAway completed = (text : List ℕ) (tokens : List Spelled) → length tokens ≤ length (completed text tokens)
 
--- the elements stand one behind the other, from a unit and a mode to a unit and a mode
+-- the elements follow each other, from a unit and a mode to a unit and a mode
 abbrev pub Follow : Language → List ℕ → ℕ → ℕ → List Found → ℕ → ℕ → Type 0
 Follow lang text at mode [] end last = (at ≡ end) × (mode ≡ last)
 Follow lang text at mode (f ∷ fs) end last =
@@ -137,7 +137,7 @@ IsCut lang bytes units (cuts.Tokens v marks) =
 IsCut lang bytes units (cuts.Fault byte) = EndsAt lang units byte
 IsCut lang bytes units cuts.Large = (fs : List Found) × IsWhole lang units fs × (262144 < length (tokens_of bytes units 0 fs))
 
--- no mark begins before one that stands before it
+-- no mark begins before an earlier one
 abbrev pub AreInOrder : List Mark → Type 0
 AreInOrder marks = IsNonDecreasingBy (λ (m : Mark). m.at) marks
 
@@ -146,8 +146,8 @@ AreCutInOrder to (cuts.Tokens v marks) = TokensFollow 0 v.items to × AreInOrder
 AreCutInOrder to (cuts.Fault byte) = ⊤
 AreCutInOrder to cuts.Large = ⊤
 
--- A fault of the translation is the answer. Otherwise it is the first place where nothing is taken. Otherwise the
--- text is large where it has more tokens than 262,144, and else these tokens are the answer, with the marks of its comments.
+-- A fault of the translation is the answer. Otherwise it is the first place where nothing is taken. Otherwise the text is
+-- large if it has more than 262,144 tokens, and else these tokens are the answer, with the marks of its comments.
 abbrev pub IsLexed : Language → (List Unit → Result (List Unit) ℕ) → (List ℕ → List Spelled → List Spelled) → List ℕ → Lexed → Type 0
 IsLexed lang translated completed bytes (lexed.Fault byte) =
     MatchResult (translated (units_of bytes)) (λ units. EndsAt lang units byte) (λ at. byte ≡ at)

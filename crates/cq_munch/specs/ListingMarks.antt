@@ -7,7 +7,7 @@ use Rattle.cq_munch.specs.Table.{begins}
 abbrev pub said_at : List ℕ → Option Bool
 said_at text = if begins (codes "CPD-OFF") text then Some false else (if begins (codes "CPD-ON") text then Some true else None)
 
--- what the last such word says, wherever it stands
+-- what the last such word says, wherever it is
 abbrev pub said : List ℕ → Option Bool
 said [] = None
 said (c ∷ text) = option_or (said text) (said_at (c ∷ text))

@@ -20,7 +20,7 @@ unfoldable pub quoted : Quote → LineEnds → Pattern
 quoted quotes.Double ends = only 34 ▸ many (item 34 ends) ▸ only 34
 quoted quotes.Single ends = only 39 ▸ (item 39 ends ▸ many (item 39 ends)) ▸ only 39
 
--- the longest text in these quotes at the front, or None where none stands there
+-- the longest text in these quotes at the front, or None if there is none
 abbrev pub QuotedAt : Quote → LineEnds → List ℕ → Option ℕ → Type 0
 QuotedAt quote ends text len = LongestAt (Spells (quoted quote ends)) text len
 

@@ -13,11 +13,11 @@ abbrev pub InTable : List Row → Spell → List ℕ → Type 0
 InTable [] spell s = ⊥
 InTable (row ∷ rows) spell s = ((spell ≡ row.spell) × row.set s) ⊎ InTable rows spell s
 
--- the language of a table alone, with one mode
+-- the language that is just a table, with one mode
 abbrev pub table : List Row → Language
 table rows = record { tried = λ at mode text spell s. InTable rows spell s; mode_behind = λ mode spell s. mode }
 
--- Where the test passes, at a unit, in a mode, before a text, only these rows are tried.
+-- If the test passes, at a unit, in a mode, before a text, only these rows are tried.
 abbrev pub first : (ℕ → ℕ → List ℕ → Bool) → List Row → Language → Language
 first test rows lang = record {
   tried = λ at mode text spell s. MatchBool (test at mode text) (InTable rows spell s) (lang.tried at mode text spell s);

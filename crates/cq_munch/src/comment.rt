@@ -17,15 +17,15 @@ fn opens(units: &[Unit], second: char) -> bool
     }
 }
 
-// Whether the character closes a comment behind the one before it.
+// Whether the character closes a comment after the one before it.
 fn closes(before: char, ch: char) -> bool
     ensures { result ≡ ((ch == 47) && (before == 42)) }
 {
     ch == '/' && before == '*'
 }
 
-/// The comment in slashes and stars at the front, if it is closed. Behind a character that is no star the next but one is
-/// looked at, since no slash between them closes the comment.
+/// The comment in slashes and stars at the front, if it is closed. After a character that is not a star it looks at the
+/// next but one, since no slash between them closes the comment.
 pub fn longest_block_comment(units: &[Unit]) -> Option<usize>
     ensures { LongestAt IsBlockComment (characters units.now) result }
 {
@@ -47,7 +47,7 @@ pub fn longest_block_comment(units: &[Unit]) -> Option<usize>
     None
 }
 
-/// The comment behind two slashes at the front. What ends its line is no part of it.
+/// The comment after two slashes at the front. What ends its line is not part of it.
 pub fn longest_line_comment(ends: LineEnds, units: &[Unit]) -> Option<usize>
     ensures { LongestAt (IsLineComment ends) (characters units.now) result }
 {

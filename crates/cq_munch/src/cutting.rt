@@ -43,7 +43,7 @@ fn fault_from<X: Lexis>(lexis: X, units: &[Unit], at: usize, mode: u8) -> Option
     None
 }
 
-/// Takes elements one behind the other, from the first unit on.
+/// Takes elements one after the other, from the first unit on.
 pub(crate) fn cut_up<X: Lexis>(alloc: Global, text: &Text, units: &[Unit]) -> Result<Cut, Memory>
     requires text_short { length text.now ≤ 1048576 }
     requires in_order { InOrder 0 units.now (length text.now) }

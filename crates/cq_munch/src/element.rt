@@ -8,7 +8,7 @@ pub enum Spell {
     Token(Class),
 }
 
-/// An element at a place: how many units it has, and the mode behind it.
+/// An element at a place: how many units it has, and the mode after it.
 #[derive(Clone, Copy, Debug, PartialEq, Eq)]
 pub struct Found {
     pub spell: Spell,

@@ -17,7 +17,7 @@ pub enum Translated {
     Fault(u32),
 }
 
-/// A language. Its value is what it remembers of a text while elements are taken from it one behind the other, so that
+/// A language. Its value is what it remembers of a text while elements are taken from it one after the other, so that
 /// no unit is looked at again and again.
 pub trait Lexis: Copy {
     /// Its tables.
@@ -44,7 +44,7 @@ pub trait Lexis: Copy {
     fn new() -> Self
         ensures { (text : List ℕ) → is_true_of result text };
 
-    /// The element at a unit, in a mode; None exactly where the tables allow none. It takes no memory.
+    /// The element at a unit, in a mode; None exactly if the tables allow none. It takes no memory.
     fn longest(&mut self, units: &[Unit], at: u32, mode: u8) -> Option<Found>
         requires inside { at < length units.now }
         requires short { length units.now < 2 ^ 32 }

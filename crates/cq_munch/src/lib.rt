@@ -1,8 +1,8 @@
 //! A text cut into its longest elements, once for every language. A language's tables are sets of spellings; `munch`
 //! is proved to give exactly the tokens that they define, or the first fault, or that there are too many, for every
-//! `Lexis`. Beside it stand what a language's scanner is made of: machines that read a character at a time, comments,
-//! texts in quotes, and the joining of rows. A machine looks at each unit once, or goes on behind units that were read
-//! without it; memory grows with the units and the tokens.
+//! `Lexis`. Beside it is what a language's scanner is made of: machines that read a character at a time, comments,
+//! quoted texts, and the joining of rows. A machine looks at each unit once, or continues after units that were read
+//! without it. Memory grows with the units and the tokens.
 #![tactic(auto)]
 
 mod comment;

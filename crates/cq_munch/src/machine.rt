@@ -6,10 +6,10 @@ use crate::unit::Unit;
 
 /// A scanner of one set of spellings, which reads one character after the other.
 pub trait Machine: Copy {
-    /// The spellings that go on from this state.
+    /// The spellings that continue from this state.
     ghost rest: { Self → List ℕ → Type 0 };
 
-    /// The state behind a character, or None where no spelling goes on with it.
+    /// The state after a character, or None if no spelling continues with it.
     fn step(self, ch: char) -> Option<Self>
         ensures none { IfNone result ((s : List ℕ) → rest self (ch ∷ s) → ⊥) }
         ensures next { IfSome result (λ next. (s : List ℕ) → rest self (ch ∷ s) ↔ rest next s) };
@@ -19,15 +19,15 @@ pub trait Machine: Copy {
         ensures { IsTrue result ↔ rest self [] };
 }
 
-/// How many units the longest spelling at the front has; None exactly where none of at least one unit stands there.
-/// It reads up to the first unit with which no spelling goes on, each once.
+/// How many units the longest spelling at the front has; None exactly if there is none of at least one unit. It reads
+/// up to the first unit with which no spelling continues, each once.
 pub fn longest_spelling<M: Machine>(start: M, units: &[Unit]) -> Option<usize>
     ensures { LongestAt (M.rest start) (map (λ u. u.ch) units.now) result }
 {
     longest_spelling_from(start, start, 0, None, units)
 }
 
-/// The same, where the first `at` units were read elsewhere: they lead from `start` to `state`, and `found` is the
+/// The same, if the first `at` units were read elsewhere: they lead from `start` to `state`, and `found` is the
 /// longest spelling among them. They are not read again.
 pub fn longest_spelling_from<M: Machine>(
     start: M,

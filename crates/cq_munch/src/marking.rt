@@ -57,8 +57,8 @@ fn leads(ch: char) -> bool
     ch == 'C' || ch == 'P' || ch == 'D' || ch == '-' || ch == 'O'
 }
 
-// What the last of the two words says, if one stands there. Neither begins at one of five characters of which the last is
-// none of their first five: so mostly one of five is looked at.
+// What the last of the two words says, if there is one. If the fifth character from here is none of the words' first
+// five, no word begins at any of the five: so mostly one character in five is looked at.
 fn said(units: &[Unit]) -> Option<bool>
     ensures { result ≡ said (characters units.now) }
 {
@@ -75,7 +75,7 @@ fn said(units: &[Unit]) -> Option<bool>
     last
 }
 
-/// Adds the mark that a comment is, if one of the two words stands in it.
+/// Adds the mark that a comment is, if one of the two words is in it.
 pub(crate) fn add_mark(marks: &mut Vec<Mark>, units: &[Unit]) -> Result<(), Memory>
     requires { 0 < length units.now }
     ensures { IfOk result (λ _. marks.new.items
@@ -88,7 +88,7 @@ pub(crate) fn add_mark(marks: &mut Vec<Mark>, units: &[Unit]) -> Result<(), Memo
     Ok(())
 }
 
-/// Of the words in a comment the last one counts, wherever it stands: the definition says just that.
+/// Of the words in a comment the last one counts, wherever it is: the definition says just that.
 pub fn the_last_word_counts()
     ensures { TheLastWordCounts }
 {}

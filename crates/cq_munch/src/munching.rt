@@ -18,8 +18,8 @@ pub enum Lexed {
 }
 
 /// The tokens of a text with the marks of its comments, or its first fault, or that there are too many. The text is
-/// translated first; then the longest element is taken, one behind the other. Behind the first 262,145 tokens no more are
-/// spelled out: what is left is read for faults alone.
+/// translated first; then the longest element is taken, one after the other. After the first 262,145 tokens no more are
+/// spelled out: the rest is read only for faults.
 pub fn munch<X: Lexis>(alloc: Global, text: &Text) -> Result<Lexed, Memory>
     requires utf8 { IsUtf8 text.now }
     requires short { length text.now ≤ 1048576 }

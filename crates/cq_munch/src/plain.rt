@@ -21,7 +21,7 @@ pub fn plain_units(alloc: Global, text: &Text) -> Result<Vec<Unit>, Memory>
     }
 }
 
-// The units of a text of ASCII, of which each byte is a character; None where another byte stands there.
+// The units of a text of ASCII, of which each byte is a character; None if another byte is found.
 fn of_ascii(alloc: Global, bytes: &[u8]) -> Result<Option<Vec<Unit>>, Memory>
     requires short { length bytes.now ≤ 1048576 }
     ensures units { IfOk result (λ r. IfSome r (λ v. v.items ≡ units_of bytes.now)) }

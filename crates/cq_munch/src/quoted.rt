@@ -8,7 +8,7 @@ use crate::ends::LineEnds;
 use crate::machine::{Machine, longest_spelling};
 use crate::unit::Unit;
 
-/// What stands around a text.
+/// What is around a quoted text.
 #[derive(Clone, Copy, Debug, PartialEq, Eq)]
 pub enum Quote {
     /// Double quotes, which may be empty.
@@ -17,7 +17,7 @@ pub enum Quote {
     Single,
 }
 
-/// The characters that texts in quotes tell apart.
+/// The kinds of character that quoted texts distinguish.
 #[derive(Clone, Copy, Debug, PartialEq, Eq)]
 enum Mark {
     Double,
@@ -138,8 +138,9 @@ pub fn longest_quoted(quote: Quote, ends: LineEnds, units: &[Unit]) -> Option<us
     )
 }
 
-/// The text in these quotes at the front, or how many units were read in vain: none of them begins a text in these
-/// quotes, since a quote among them stands behind a backslash, and a text from there would go on as this one did.
+/// The text in these quotes at the front, or how many units were read without finding its end: none of them begins a
+/// text in these quotes, since a quote among them comes after a backslash, and a text from there would continue as
+/// this one did.
 pub fn scan_quoted(quote: Quote, ends: LineEnds, units: &[Unit]) -> Result<usize, usize>
     ensures closed { IfOk result (λ n. QuotedAt quote ends (characters units.now) (Some n)) }
     ensures none { IfErr result (λ read. QuotedAt quote ends (characters units.now) None) }

@@ -31,7 +31,7 @@ pub fn found_of(spell: Spell, mode: u8, len: Option<usize>) -> Option<Found>
     }
 }
 
-/// Whether this character stands behind the slash at the front.
+/// Whether this character follows the slash at the front.
 pub fn second_is(units: &[Unit], ch: char) -> bool
     requires slash { slice_index_or (characters units.now) 0 0 ≡ 47 }
     ensures { result ≡ begins (47 ∷ ch ∷ []) (characters units.now) }

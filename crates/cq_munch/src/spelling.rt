@@ -22,7 +22,7 @@ fn of_units(alloc: Global, units: &[Unit]) -> Result<Text, Memory>
     of_many(alloc, units)
 }
 
-// The same, where they may be many.
+// The same, if they may be many.
 fn of_many(alloc: Global, units: &[Unit]) -> Result<Text, Memory>
     ensures { IfOk result (λ t. t ≡ utf8_of units.now) }
 {
@@ -36,7 +36,7 @@ fn of_many(alloc: Global, units: &[Unit]) -> Result<Text, Memory>
     Ok(Text::from_vec(bytes))
 }
 
-// The same, where they are not all ASCII.
+// The same, if they are not all ASCII.
 fn of_any(alloc: Global, units: &[Unit]) -> Result<Text, Memory>
     ensures { IfOk result (λ t. t ≡ utf8_of units.now) }
 {
@@ -48,7 +48,7 @@ fn of_any(alloc: Global, units: &[Unit]) -> Result<Text, Memory>
 }
 
 /// The token of some units. `line` is that of the byte before `end`, where the token before this one ends; lines are
-/// counted on from there.
+/// counted from there.
 pub(crate) fn spell_out(
     alloc: Global,
     text: &Text,

@@ -6,8 +6,9 @@ ghost use Rattle.cq_munch.specs.ByLetter.{row_of, IsListedByLetter};
 
 use crate::unit::Unit;
 
-/// Puts the characters as bytes at the front of a buffer, where all of them are ASCII and there is room; else the
-/// answer is no, and the buffer has something of them. It costs one look at each unit, as far as they go.
+/// Writes the characters as bytes at the front of a buffer if all of them are ASCII and there is room; else the
+/// answer is no, and the buffer may hold some of them. It costs one look at each unit, up to the first that doesn't
+/// fit.
 pub fn ascii_bytes(units: &[Unit], room: &mut [u8]) -> bool
     ensures fits { IsTrue result → length units.now ≤ length room.old }
     ensures bytes { IsTrue result → take (length units.now) room.new ≡ characters units.now }
@@ -27,7 +28,7 @@ pub fn ascii_bytes(units: &[Unit], room: &mut [u8]) -> bool
     true
 }
 
-// Whether the units spell the word. Mostly their number tells, or the first of them.
+// Whether the units spell the word. Mostly their number decides, or the first of them.
 fn is_spelled(word: &[u8], units: &[Unit]) -> bool
     ensures { result ≡ bytes_eq word.now (characters units.now) }
 {

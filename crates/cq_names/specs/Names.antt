@@ -11,7 +11,7 @@ is_name_byte b = (nat_le 65 b && nat_le b 90) || (nat_le 97 b && nat_le b 122) |
 abbrev pub is_project : List ℕ → Bool
 is_project name = nat_le 1 (length name) && nat_le (length name) 64 && list_all is_name_byte name
 
--- what stands between the `/` of a text
+-- the parts of a text between its `/`
 abbrev pub parts : List ℕ → List (List ℕ)
 parts text = slice_split (λ b. b == 47) text
 

@@ -26,7 +26,7 @@ punctuation lang.Go text = text
 punctuation lang.C text = undigraphed text
 punctuation lang.Java text = text
 
--- no spelling where the class is ignored
+-- no spelling if the class is ignored
 abbrev pub unless_ignored : Bool → List ℕ → List ℕ
 unless_ignored ignored text = if ignored then [] else text
 

@@ -5,7 +5,7 @@ ghost use Rattle.cq_normal.specs.Kept as spec;
 use cq_base::{Mark, Memory, Spelled, Token};
 use std::alloc::Global;
 
-// Whether the last mark that begins before this byte is on, or none begins before it. It searches by halves.
+// Whether the last mark that begins before this byte is on, or none begins before it. It is a binary search.
 fn is_on(marks: &[Mark], byte: u32) -> bool
     requires { IsNonDecreasingBy (λ m. m.at) marks.now }
     ensures { result ≡ spec.is_on true marks.now byte }
@@ -30,7 +30,7 @@ pub(crate) fn kept(marks: &[Mark], tokens: Vec<Spelled>) -> Vec<Spelled>
     tokens
 }
 
-/// Where tokens stand.
+/// Where tokens are.
 pub fn spans_of(alloc: Global, tokens: &[Spelled]) -> Result<Vec<Token>, Memory>
     ensures { IfOk result (λ v. v.items ≡ spec.spans_of tokens.now) }
 {

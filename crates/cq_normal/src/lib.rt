@@ -1,6 +1,6 @@
-//! Tokens as they are compared: those that the marks in comments leave in, each as language, class and spelling, with the
-//! spelling left out where its class is ignored. It costs one move of each token, and where there are marks a search among
-//! them; a digraph of C is spelled anew, in a byte or two.
+//! Tokens as they are compared: those that the marks in comments keep, each as language, class and spelling. The spelling
+//! is dropped if its class is ignored. It costs one move of each token, and a search among the marks if there are any; a
+//! digraph of C is spelled out again, in a byte or two.
 #![tactic(auto)]
 
 mod keeping;

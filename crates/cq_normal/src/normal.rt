@@ -7,7 +7,7 @@ use crate::keeping::{kept, spans_of};
 use cq_base::{Class, Lang, Mark, Memory, Norm, Settings, Spelled, Text, Token};
 use std::alloc::Global;
 
-/// The tokens of a text that are compared, one for one with where they stand.
+/// The tokens of a text that are compared, one for one with where they are.
 #[derive(Debug, Drop)]
 pub struct Normal {
     pub norms: Vec<Norm>,
@@ -98,8 +98,8 @@ fn norms_of(
     Ok(norms)
 }
 
-/// The tokens of a text of this language as they are compared, without those that its marks leave out. Spellings are
-/// moved. Where there are marks it costs a search among them for each token.
+/// The tokens of a text of this language as they are compared, without those that its marks skip. Spellings are
+/// moved. If there are marks, it costs a search among them for each token.
 pub fn normalise(
     alloc: Global,
     settings: &Settings,

@@ -1,4 +1,4 @@
--- Where a number can stand among so many whole numbers that rise strictly, of which these are the first and the last.
+-- Where a number can be among this many whole numbers that rise strictly, of which these are the first and the last.
 use Rattle.std.specs.Prelude.{ℕ, ◌+◌, ◌-◌, ◌<◌, ◌≤◌}
 
 -- at this place, from 0: it differs from the first by the places between them or more, and so from the last

@@ -1,4 +1,4 @@
--- Where each change of a list stands.
+-- Where each change of a list is.
 use Rattle.std.specs.Prelude.{◌≡◌, ◌↔◌, ◌<◌, ◌==◌, ℕ, ◌+◌, ◌-◌, Bool, nat_lt, List, [], ◌∷◌, length, map, get_or, slice_get, slice_set, insert, remove, Option, Some, None, All, AllPairs, if◌then◌else◌}
 use Rattle.cq_order.specs.declared.spots.Spot.{Spot}
 
@@ -11,7 +11,7 @@ abbrev pub spot_of : List Spot → ℕ → Option ℕ
 spot_of [] change = None
 spot_of (s ∷ spots) change = if s.change == change then Some s.file else spot_of spots change
 
--- the position of a change, and none exactly where the list doesn't have it
+-- the position of a change, and none exactly if the list doesn't have it
 abbrev pub IsPositionOf : List ℕ → ℕ → Option ℕ → Type 0
 IsPositionOf changes change position = (file : ℕ) → (position ≡ Some file) ↔ (slice_get changes file ≡ Some change)
 
@@ -34,7 +34,7 @@ abbrev pub with_positions : ℕ → List ℕ → List Spot
 with_positions file [] = []
 with_positions file (change ∷ changes) = record { change = change; file = file } ∷ with_positions (file + 1) changes
 
--- By change, from 0, each has its position in the list, where that is one of so many at the front.
+-- By change, from 0, each has its position in the list, if that is one of this many at the front.
 abbrev pub AreTheirPositions : ℕ → List ℕ → List (Option ℕ) → Type 0
 AreTheirPositions n changes positions = (change file : ℕ) → (get_or positions change None ≡ Some file) ↔ ((file < n) × (slice_get changes file ≡ Some change))
 
@@ -48,7 +48,7 @@ spots_by_change change [] = []
 spots_by_change change (None ∷ positions) = spots_by_change (change + 1) positions
 spots_by_change change (Some file ∷ positions) = record { change = change; file = file } ∷ spots_by_change (change + 1) positions
 
--- changes with their positions, where both are kept apart
+-- changes with their positions, when both are kept apart
 abbrev pub paired : List ℕ → List ℕ → List Spot
 paired [] files = []
 paired (change ∷ changes) [] = []
@@ -59,11 +59,11 @@ changes_of spots = map (λ (s : Spot). s.change) spots
 
 -- ---- the spots where one file is edited, whatever the numbers of the files' changes are
 
--- the spot's change, which is the latest, stands in the place of this one
+-- the spot's change, which is the latest, takes the place of this one
 abbrev pub Replaces : ℕ → Spot → List Spot → List Spot → Type 0
 Replaces gone s old new = (changes : List ℕ) → AreSpots changes old → slice_get changes s.file ≡ Some gone → All (λ c. c < s.change) changes → AreSpots (slice_set changes s.file s.change) new
 
--- the spot's change, which is the latest, is put in at its file among so many
+-- the spot's change, which is the latest, is put in at its file among this many
 abbrev pub Inserts : ℕ → Spot → List Spot → List Spot → Type 0
 Inserts len s old new = (changes : List ℕ) → AreSpots changes old → length changes ≡ len → All (λ c. c < s.change) changes → AreSpots (insert changes s.file s.change) new
 
@@ -71,7 +71,7 @@ Inserts len s old new = (changes : List ℕ) → AreSpots changes old → length
 abbrev pub Removes : Spot → List Spot → List Spot → Type 0
 Removes s old new = (changes : List ℕ) → AreSpots changes old → slice_get changes s.file ≡ Some s.change → AreSpots (remove changes s.file) new
 
--- where a file's position comes to, when one is put in at a position or taken out there
+-- the new position of a file, when one is put in at a position or taken out there
 abbrev pub opened : ℕ → ℕ → ℕ
 opened at file = if nat_lt file at then file else file + 1
 

@@ -15,7 +15,7 @@ fn compare_groups(g: &Group, h: &Group) -> Ordering
     compare_places(g.first_place(), h.first_place()).then(h.tokens.cmp(&g.tokens))
 }
 
-/// Groups in order: by the first place, and longer first. They are given up on a refusal.
+/// Groups in order: by the first place, and longer first. They are dropped if memory is refused.
 pub fn order(groups: Vec<Group>) -> Result<Vec<Group>, Memory>
     ensures { IfOk result (λ sorted. IsOrderOf ComesBefore groups.items sorted.items) }
 {

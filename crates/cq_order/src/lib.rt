@@ -1,8 +1,8 @@
-//! Places, entries and groups in their order, the occurrences of a word that are kept, and the spots of a list's
-//! changes. Both the plain listing and the listing by index stand on these, so that they agree on order and on
-//! overlaps. A sort of n items costs n log n comparisons; `kept` one walk; `spot_of` a binary search between the two
-//! places that `reach` gives in constant time, and nothing is made for it. `spots_of` is a walk where the greatest change
-//! is less than four times how many there are, and a sort where it isn't. Spots are edited in place, one file at a time.
+//! Places, entries and groups in their order, the occurrences of a word that are kept, and the spots of a list's changes.
+//! Both the plain listing and the listing by index rest on these, so that they agree on order and on overlaps. A sort of
+//! n items costs n log n comparisons; `kept` one walk; `spot_of` a binary search between the two places that `reach`
+//! gives in constant time, and nothing is made for it. `spots_of` is a walk if the greatest change is less than four
+//! times the number of changes, and a sort otherwise. Spots are edited in place, one file at a time.
 #![tactic(auto)]
 
 mod counting;

@@ -1,10 +1,10 @@
 ghost use Rattle.std.specs.Prelude.{ℕ, ◌+◌, ◌-◌, ◌<◌, ◌≤◌};
 ghost use Rattle.cq_order.specs.Reach.{CanStandAt};
 
-/// The places, from one up to before another, at which a number can stand among so many whole numbers that rise
-/// strictly, of which these are the first and the last. Such numbers differ by the places between them, or more, so it
-/// is as far from either end as it differs from what stands there, or less. Where they have few gaps that leaves a
-/// place or two.
+/// The places, from one up to before another, that a number can have among this many whole numbers that rise strictly,
+/// of which these are the first and the last. Such numbers differ by at least the number of places between them, so
+/// the number is at most as far from either end as it differs from what is there. If the numbers have few gaps, that
+/// leaves a place or two.
 pub fn reach(first: u64, last: u64, len: usize, number: u64) -> (usize, usize)
     requires some { 0 < len }
     requires spread { first + (len - 1) ≤ last }

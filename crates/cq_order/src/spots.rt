@@ -10,17 +10,17 @@ use std::alloc::Global;
 use std::cmp::Ordering;
 use std::marker::Model;
 
-// A walk over so many numbers a file costs less than a sort.
+// A walk over at most this many numbers a file costs less than a sort.
 const NUMBERS_A_FILE: u64 = 4;
 
-/// Where the file that a change put stands among the files of its project: its position, from 0.
+/// Where the file that a change put is among the files of its project: its position, from 0.
 #[derive(Clone, Copy, Debug, PartialEq, Eq)]
 pub struct Spot {
     pub change: u64,
     pub file: u32,
 }
 
-/// The spots of changes, by change. The positions are a list of their own: where a file is put in or taken out, a walk
+/// The spots of changes, by change. The positions are a list of their own: when a file is put in or taken out, a walk
 /// over 4 bytes a file moves those of later files. Contracts see the list of spots.
 #[derive(Drop)]
 pub struct Spots {
@@ -60,7 +60,7 @@ impl Spots {
         Ok(Spots { changes, files })
     }
 
-    /// One more, behind all others.
+    /// One more, after all others.
     pub(crate) fn push(&mut self, spot: Spot) -> Result<(), Memory>
         ensures pushed { OnOk result (self.new ≡ self.old ++ spot ∷ []) }
         ensures unchanged { OnErr result (self.new ≡ self.old) }
@@ -73,7 +73,7 @@ impl Spots {
         Ok(())
     }
 
-    // Where a change stands among them, if it is there.
+    // Where a change is among them, if it is there.
     fn index_of(&self, change: u64) -> Option<usize>
         requires { AllPairs SpotBefore self.now }
         ensures { IsPositionOf (changes_of self.now) change result }
@@ -106,8 +106,8 @@ impl Spots {
         }
     }
 
-    /// Puts the latest change in at its file, among so many: those of later files are one further. It costs a walk, and
-    /// none where the file comes last.
+    /// Puts the latest change in at its file, among this many: those of later files move by one. It costs a walk, and
+    /// none if the file comes last.
     pub fn insert(&mut self, len: usize, spot: Spot) -> Result<(), Memory>
         requires within { spot.file ≤ len }
         requires few { len + 1 < 2 ^ 32 }
@@ -140,7 +140,7 @@ impl Spots {
     }
 }
 
-// The place of a number among rising ones, if it is there: a binary search of the places where it can stand.
+// The place of a number among rising ones, if it is there: a binary search of the places that it can have.
 fn place_of(numbers: &[u64], number: u64) -> Option<usize>
     requires { AllPairs (λ a b. a < b) numbers.now }
     ensures { IsPositionOf numbers.now number result }
@@ -157,8 +157,8 @@ fn place_of(numbers: &[u64], number: u64) -> Option<usize>
     }
 }
 
-/// The position of the file that a change put, if it is among them. It is a binary search of the places where the
-/// change can stand.
+/// The position of the file that a change put, if it is among them. It is a binary search of the places that the
+/// change can have.
 pub fn spot_of(spots: &Spots, change: u64) -> Option<u32>
     requires rising { AllPairs SpotBefore spots.now }
     ensures spot { result ≡ spot_of spots.now change }
@@ -254,8 +254,8 @@ fn sorted(alloc: Global, changes: &[u64]) -> Result<Spots, Memory>
     apart(alloc, &spots)
 }
 
-/// The spots of different changes. It costs a sort of them, and where the greatest is less than four times how many there
-/// are, in its place a walk over the numbers up to it.
+/// The spots of different changes. It costs a sort of them; if the greatest is less than four times the number of
+/// changes, it costs a walk over the numbers up to it instead.
 pub fn spots_of(alloc: Global, changes: &[u64]) -> Result<Spots, Memory>
     requires few { length changes.now < 2 ^ 32 }
     requires apart { AllPairs (λ a b. a ≢ b) changes.now }

@@ -1,5 +1,5 @@
 -- What `export`, `ask` and `run` have written where each ended with 0.
-use Rattle.std.proofs.Common.{◌≡◌, ◌≢◌, ◌⊎◌, ◌==◌, ℕ, Bool, true, false, MatchBool, List, [], ◌∷◌, ◌++◌, length, flat_map, Option, Some, None, refl, sym, ap, ◌∙◌, subst, inl, inr, arith}
+use Rattle.std.proofs.Common.{◌≡◌, ◌≢◌, ◌⊎◌, ◌==◌, ℕ, ◌+◌, Bool, true, false, MatchBool, List, [], ◌∷◌, ◌++◌, length, flat_map, Option, Some, None, refl, sym, ap, ◌∙◌, subst, inl, inr, arith}
 use Rattle.std.specs.Prelude.{codes}
 use Rattle.std.specs.Io.KnownBytes.{Appends, Consumes, IsAtEnd}
 use Rattle.std.specs.List.{AllByRecursion}
@@ -8,7 +8,7 @@ use Rattle.std.proofs.lemmas.List.{append-nil, append_cancel_left}
 use Rattle.std.proofs.lemmas.Slice.Zip.{AllZip-long}
 use Rattle.cq_base.specs.declared.change.Change.{Change}
 use Rattle.cq_base.specs.declared.settings.Settings.{Settings}
-use Rattle.cq_beside.specs.Replies.{AreBeside}
+use Rattle.cq_beside.specs.Replies.{AreBeside, AreWithWorkers}
 use Rattle.cq_export.proofs.Rereading.{one_front}
 use Rattle.cq_export.specs.Beside.{numbers_behind, AsksAsBeside}
 use Rattle.cq_export.specs.Exports.{Exports}
@@ -130,7 +130,8 @@ module _ {S K : Type 0} (from : source.Ghosts S) (onto : sink.Ghosts K) where
             record { replies = told.replies; talk = told.talk.beside; output_is = told.output_is }
         | inr runs ↦
             let s = runs (not_four 0 refl) in
-            served (AreBeside set) set.byte_limit (from.rest e.read) (from.rest e.read_now) (onto.written e.written) (onto.written e.written_now) s.by input e.before output e.input_is e.before_is e.output_is (sym s.status_is) s.serves
+            let told = served (AreWithWorkers set (ran.workers + 2) ran.workers ran.reads ran.reads_now) set.byte_limit (from.rest e.read) (from.rest e.read_now) (onto.written e.written) (onto.written e.written_now) s.by input e.before output e.input_is e.before_is e.output_is (sym s.status_is) s.serves in
+            record { replies = told.replies; talk = told.talk.beside; output_is = told.output_is }
       ]
 
 -- `export`: the output is the token file of the version of the changes that the lines say

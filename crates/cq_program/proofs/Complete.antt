@@ -1,5 +1,5 @@
 -- A command that no end failed is done, unless memory was refused.
-use Rattle.std.proofs.Common.{◌≡◌, ◌⊎◌, ◌<◌, ◌||◌, ℕ, Bool, true, false, List, length, Option, Some, None, Result, Ok, Err, refl, ap, ◌∙◌, subst, inl, inr, ⊎_elim, arith, length-append}
+use Rattle.std.proofs.Common.{◌≡◌, ◌⊎◌, ◌<◌, ◌||◌, ℕ, ◌+◌, Bool, true, false, List, length, Option, Some, None, Result, Ok, Err, refl, ap, ◌∙◌, subst, inl, inr, ⊎_elim, arith, length-append}
 use Rattle.std.proofs.lemmas.Bool.{eqb-true}
 use Rattle.std.specs.Io.KnownBytes.{Consumes}
 use Rattle.cq_base.specs.declared.settings.Settings.{Settings}
@@ -12,7 +12,7 @@ use Rattle.cq_tokask.specs.Kept.{Asks}
 use Rattle.cq_tokask.specs.declared.kept.Asked.{Asked}
 use Rattle.cq_tokask.specs.declared.kept.Asked.TheVariants as kept
 use Rattle.cq_drive.specs.Script.{IsScript}
-use Rattle.cq_beside.specs.Replies.{AreBeside}
+use Rattle.cq_beside.specs.Replies.{AreWithWorkers}
 use Rattle.cq_lines.specs.Serving.{Serves, HasEndCause}
 use Rattle.cq_lines.specs.declared.ending.End.{End}
 use Rattle.cq_lines.specs.declared.ending.End.TheVariants as end
@@ -57,9 +57,9 @@ sessions_complete set reads reads_now rest rest_now before written_now source so
     s.status_is ∙ done_by reply_line (AreAlone set reads reads_now) set.byte_limit rest rest_now before written_now source source_now sink sink_now s.by s.serves s.cause read written few
 
 pub sessions_beside_complete : SessionsBesideComplete
-sessions_beside_complete set rest rest_now before written_now source source_now sink sink_now status is read written few other =
+sessions_beside_complete set workers reads reads_now rest rest_now before written_now source source_now sink sink_now status is read written few other =
     let s = is other in
-    s.status_is ∙ done_by reply_line (AreBeside set) set.byte_limit rest rest_now before written_now source source_now sink sink_now s.by s.serves s.cause read written few
+    s.status_is ∙ done_by reply_line (AreWithWorkers set (workers + 2) workers reads reads_now) set.byte_limit rest rest_now before written_now source source_now sink sink_now s.by s.serves s.cause read written few
 
 pub scripts_complete : ScriptsComplete
 scripts_complete set rest rest_now before written_now source source_now sink sink_now status is read written few other =

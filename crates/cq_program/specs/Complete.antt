@@ -27,8 +27,8 @@ SessionsComplete = (set : Settings) (reads reads_now : ℕ) (rest rest_now befor
 
 -- and so has one with workers beside it
 abbrev pub SessionsBesideComplete : Type 0
-SessionsBesideComplete = (set : Settings) (rest rest_now before written_now : Option (List ℕ)) (source source_now sink sink_now status : ℕ) →
-    (status ≢ 4 → IsSessionBeside set rest rest_now before written_now source source_now sink sink_now status) →
+SessionsBesideComplete = (set : Settings) (workers reads reads_now : ℕ) (rest rest_now before written_now : Option (List ℕ)) (source source_now sink sink_now status : ℕ) →
+    (status ≢ 4 → IsSessionBeside set workers reads reads_now rest rest_now before written_now source source_now sink sink_now status) →
     IsQuiet source source_now → IsQuiet sink sink_now → HasFewer set.byte_limit rest → IsDone status
 
 -- and a script

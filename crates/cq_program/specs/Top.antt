@@ -1,12 +1,13 @@
 -- What the top call does, by its status.
-use Rattle.std.specs.Prelude.{◌≡◌, ◌≢◌, ◌==◌, ◌||◌, ℕ, Bool, true, false, MatchBool, List, [], map, Option, Some, None, IfSome, Result, Ok, Err}
+use Rattle.std.specs.Prelude.{◌≡◌, ◌≢◌, ◌==◌, ◌||◌, ℕ, ◌+◌, Bool, true, false, MatchBool, List, [], map, Option, Some, None, IfSome, Result, Ok, Err}
 use Rattle.cq_base.specs.declared.settings.Settings.{Settings}
-use Rattle.cq_beside.specs.Replies.{AreBeside}
+use Rattle.cq_beside.specs.Replies.{AreWithWorkers}
 use Rattle.cq_drive.specs.Script.{IsScript}
 use Rattle.cq_export.specs.Exports.{Exports}
 use Rattle.cq_export.specs.declared.exporting.Exported.{Exported}
 use Rattle.cq_export.specs.declared.exporting.Exported.TheVariants as exported
 use Rattle.cq_history.specs.declared.event.Event.{Event}
+use Rattle.cq_history.specs.Lawful.{Lawful}
 use Rattle.cq_io.specs.Causes.{HasCause}
 use Rattle.cq_io.specs.declared.sink.Sink as sink
 use Rattle.cq_io.specs.declared.source.Failed.{Failed}
@@ -81,12 +82,13 @@ abbrev pub end_of : {E : Type 0} → Result (Unit {0}) E → End
 end_of (Ok sent) = end.Finished
 end_of (Err failed) = end.WriteFault
 
--- One reply for each line, from nothing on, by a server to which nobody else speaks: by a history of its own events alone,
+-- One reply for each line, from nothing on, by a server to which nobody else speaks: by a lawful history of its own events alone,
 -- where so many tokens were read before and now, and an index was asked so often; up to the first that tells want of memory,
 -- those of a server alone; and throughout, those that a server may give beside which works are made.
 pub record AreAlone (settings : Settings) (reads reads_now : ℕ) (lines : List (List ℕ)) (replies : List Reply) : Type 0 where
   pub after : List Event
   pub asked : ℕ
+  pub lawful : Lawful settings 1 after
   pub talk : CountedTalk settings 1 (Unit {0}) 0 [] (counted reads reads_now 0 asked) after lines replies
   pub alone : IsAloneUpToMemory settings no_walk (map (said settings.chunk) lines) replies
   pub beside : IsBeside settings nothing_known (map (said settings.chunk) lines) replies
@@ -98,11 +100,12 @@ pub record IsSession (settings : Settings) (reads reads_now : ℕ) (rest rest_no
   pub serves : Serves reply_line (AreAlone settings reads reads_now) settings.byte_limit rest rest_now before written_now by
   pub cause : HasEndCause source source_now sink sink_now by
 
--- the same with workers beside it: the replies are those that a server may give beside which works are made
-pub record IsSessionBeside (settings : Settings) (rest rest_now before written_now : Option (List ℕ)) (source source_now sink sink_now status : ℕ) : Type 0 where
+-- the same with so many workers beside it, each a caller of the history: the replies are those that a server may give beside
+-- which works are made
+pub record IsSessionBeside (settings : Settings) (workers reads reads_now : ℕ) (rest rest_now before written_now : Option (List ℕ)) (source source_now sink sink_now status : ℕ) : Type 0 where
   pub by : End
   pub status_is : status ≡ status_of by
-  pub serves : Serves reply_line (AreBeside settings) settings.byte_limit rest rest_now before written_now by
+  pub serves : Serves reply_line (AreWithWorkers settings (workers + 2) workers reads reads_now) settings.byte_limit rest rest_now before written_now by
   pub cause : HasEndCause source source_now sink sink_now by
 
 -- a whole script, stepped from nothing accepted on, whose end gives the status
@@ -127,17 +130,17 @@ module _ {S K : Type 0} (from : source.Ghosts S) (onto : sink.Ghosts K) where
   Runs settings reads reads_now read read_now written written_now status =
       status ≢ 4 → IsSession settings reads reads_now (from.rest read) (from.rest read_now) (onto.written written) (onto.written written_now) (from.faults read) (from.faults read_now) (onto.faults written) (onto.faults written_now) status
 
-  -- or of one with workers beside it
-  abbrev pub RunsBeside : Settings → S → S → K → K → ℕ → Type 0
-  RunsBeside settings read read_now written written_now status =
-      status ≢ 4 → IsSessionBeside settings (from.rest read) (from.rest read_now) (onto.written written) (onto.written written_now) (from.faults read) (from.faults read_now) (onto.faults written) (onto.faults written_now) status
+  -- or of one with so many workers beside it
+  abbrev pub RunsBeside : Run → ℕ → ℕ → S → S → K → K → ℕ → Type 0
+  RunsBeside asked reads reads_now read read_now written written_now status =
+      status ≢ 4 → IsSessionBeside asked.settings asked.workers reads reads_now (from.rest read) (from.rest read_now) (onto.written written) (onto.written written_now) (from.faults read) (from.faults read_now) (onto.faults written) (onto.faults written_now) status
 
   -- a session alone where no worker is asked for, and else one with workers beside it
   abbrev pub RunsAsked : Run → ℕ → ℕ → S → S → K → K → ℕ → Type 0
   RunsAsked asked reads reads_now read read_now written written_now status =
       MatchBool (asked.workers == 0)
       (Runs asked.settings reads reads_now read read_now written written_now status)
-      (RunsBeside asked.settings read read_now written written_now status)
+      (RunsBeside asked reads reads_now read read_now written written_now status)
 
   -- each status but 4 is that of a whole script
   abbrev pub Drives : Settings → S → S → K → K → ℕ → Type 0
@@ -200,6 +203,11 @@ module _ (L : Type 0) {S K : Type 0} (from : source.Ghosts S) (onto : sink.Ghost
 -- the statuses of `listen`: no more connections will come, memory was refused before the first, a call of the doors failed
 abbrev pub is_listen_status : ℕ → Bool
 is_listen_status status = status == 0 || (status == 4 || status == 5)
+
+-- the words ask to listen under these settings, with so many workers and so many sessions
+abbrev pub AskToListen : List (List ℕ) → Settings → ℕ → ℕ → Type 0
+AskToListen words settings workers sessions =
+    (asked : Listen) × (command_of words ≡ Some (command.Listen asked)) × (asked.settings ≡ settings) × (asked.workers ≡ workers) × (asked.sessions ≡ sessions)
 
 -- With 0 the doors are bound to the address, and no connection is still to come, where they tell it.
 abbrev pub HasListened : List ℕ → Option (List ℕ) → Option ℕ → Option ℕ → ℕ → Type 0

@@ -1,12 +1,14 @@
 ghost use Rattle.std.specs.Prelude.{◌≡◌, ◌≢◌, ◌≤◌, List, ℕ, IsSome, Some};
 ghost use Rattle.cq_base.specs.Settings.{IsInRange};
 ghost use Rattle.cq_io.specs.Causes.{Rose};
-ghost use Rattle.cq_program.specs.Top.{HasListened};
+ghost use Rattle.cq_words.specs.Command.{command_of};
+ghost use Rattle.cq_words.specs.declared.command.Command.TheVariants as command;
+ghost use Rattle.cq_program.specs.Top.{AskToListen, HasListened};
 
-use cq_base::{Counters, Memory, Settings};
+use cq_base::{Counters, Memory, Settings, Text};
 use cq_chain::Pass;
 use cq_io::{Doors, Failed, Gate, Sink, Source};
-use cq_listen::serve;
+use cq_listen::{Served, serve};
 use cq_shared::Shared;
 use cq_words::Listen;
 use cq_work::Work;
@@ -16,8 +18,17 @@ use std::sync::Wait;
 use std::sync::ledger::{Blank, Ledger};
 use std::thread::Threads;
 
-/// The status where a call of the doors failed.
+/// The status if a call of the doors failed.
 const DOORS_FAILED: u8 = 5;
+
+// Whether a call of the doors failed while they were served. They were served as the words ask: by their settings, with as
+// many workers and as many sessions.
+fn has_failed(_words: &[Text], served: Served) -> bool
+    requires as_asked { AskToListen _words.now served.settings served.workers served.sessions }
+    ensures { result ≡ served.failed }
+{
+    served.failed
+}
 
 // Serves the connections of doors that are bound, over a shared hub that is made for them, and answers the status.
 fn serve_clients<
@@ -30,6 +41,7 @@ fn serve_clients<
 >(
     rt: &Q,
     alloc: Global,
+    words: &[Text],
     settings: &Settings,
     doors: &mut D,
     gate: &G,
@@ -39,6 +51,7 @@ fn serve_clients<
 ) -> u8
     requires name { blank.name ≡ L.name }
     requires parts { blank.parts ≡ L.parts }
+    requires asked { AskToListen words.now settings.now workers sessions }
     requires in_range { IsInRange settings.now }
     requires bound { IsSome (D.bound doors.old) }
     requires workers { workers ≤ 64 }
@@ -62,7 +75,11 @@ fn serve_clients<
     match serve(
         rt, alloc, settings, &counters, &hub, pass, doors, gate, workers, sessions,
     ) {
-        Ok(served) => { if served.failed { DOORS_FAILED } else { 0 } }
+        Ok(served) => if has_failed(words, served) {
+            DOORS_FAILED
+        } else {
+            0
+        },
         Err(Memory) => 4,
     }
 }
@@ -76,7 +93,8 @@ pub(crate) fn listen<
     O: Sink + Send + Drop,
     D: Doors<In = I, Out = O>,
     G: Gate + Sync,
->(rt: &Q, alloc: Global, asked: Listen, doors: &mut D, gate: &G) -> u8
+>(rt: &Q, alloc: Global, words: &[Text], asked: Listen, doors: &mut D, gate: &G) -> u8
+    requires words { command_of words.now ≡ Some (command.Listen asked) }
     requires in_range { IsInRange asked.settings }
     requires workers { asked.workers ≤ 64 }
     requires sessions { (1 ≤ asked.sessions) × (asked.sessions ≤ 64) }
@@ -99,6 +117,7 @@ pub(crate) fn listen<
         Ok(()) => serve_clients::<Q, Brand, I, O, D, G>(
             rt,
             alloc,
+            words,
             &settings,
             doors,
             gate,

@@ -1,5 +1,5 @@
-//! The whole program as one call, `top`, over a runtime, words, a source, a sink, doors, a gate and a counter that it is
-//! handed. `cqd` calls it with the real ones, and `cqd_cases` with ends in memory.
+//! The whole program as one call, `top`, over the runtime, arguments, source, sink, doors, gate and counter that it is
+//! given. `cqd` calls it with the real ones, and `cqd_cases` with ends in memory.
 #![tactic(auto)]
 
 mod clients;

@@ -96,11 +96,10 @@ fn run_with<Q: Threads + Wait + Sync, S: Source, K: Sink, G: Gate + Sync, L: Led
     ensures runs { RunsAsked S.Source K.Sink asked steps.old steps.new
         source.old source.new sink.old sink.new result }
 {
-    let Run { settings, workers } = asked;
-    if workers == 0 {
-        serve(rt, alloc, &settings, source, sink, gate, steps)
+    if asked.workers == 0 {
+        serve(rt, alloc, &asked.settings, source, sink, gate, steps)
     } else {
-        serve_with_workers(rt, alloc, &settings, workers, source, sink, gate, steps)
+        serve_with_workers(rt, alloc, &asked, source, sink, gate, steps)
     }
 }
 
@@ -348,7 +347,7 @@ pub fn top<
     }
     match read_command(alloc, words) {
         Ok(Some(Command::Run(run))) => run_with(rt, alloc, run, source, sink, gate, steps),
-        Ok(Some(Command::Listen(asked))) => listen(rt, alloc, asked, doors, gate),
+        Ok(Some(Command::Listen(asked))) => listen(rt, alloc, words, asked, doors, gate),
         Ok(Some(Command::Drive(settings))) => driven(rt, alloc, &settings, source, sink, steps),
         Ok(Some(Command::Make(asked))) => made(rt, alloc, asked, sink, steps),
         Ok(Some(Command::Export(asked))) => exported(alloc, &asked, source, sink, steps),

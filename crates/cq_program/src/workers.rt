@@ -4,12 +4,13 @@ ghost use Rattle.cq_io.specs.Causes.{Rose};
 ghost use Rattle.cq_program.specs.Top.{RunsBeside};
 
 use crate::status::status_of;
-use cq_base::{Memory, Settings, Steps};
+use cq_base::{Memory, Steps};
 use cq_beside::serve_one;
 use cq_chain::Pass;
 use cq_io::{Gate, Sink, Source};
 use cq_lines::Lines;
 use cq_shared::Shared;
+use cq_words::Run;
 use cq_work::{Keyer, Work, plain_key};
 use std::alloc::Global;
 use std::sync::Wait;
@@ -27,15 +28,14 @@ pub(crate) fn serve_with_workers<
 >(
     rt: &Q,
     alloc: Global,
-    settings: &Settings,
-    workers: u32,
+    asked: &Run,
     source: &mut S,
     sink: &mut K,
     gate: &G,
     steps: &mut Steps<L>,
 ) -> u8
-    requires in_range { IsInRange settings.now }
-    requires few { workers ≤ 64 }
+    requires in_range { IsInRange asked.now.settings }
+    requires few { asked.now.workers ≤ 64 }
     ensures others { (result ≢ 1) × (result ≢ 5) × (result ≤ 6) }
     ensures memory { result ≡ 4 → (source.new ≡ source.old) × (sink.new ≡ sink.old) }
     ensures read_fault { result ≡ 2 → Rose (S.faults source.old) (S.faults source.new) }
@@ -44,9 +44,11 @@ pub(crate) fn serve_with_workers<
         × (K.faults sink.new ≡ K.faults sink.old) }
     ensures spent { result ≡ 6 → (S.faults source.new ≡ S.faults source.old)
         × (K.faults sink.new ≡ K.faults sink.old) }
-    ensures runs { RunsBeside S.Source K.Sink settings.now
+    ensures runs { RunsBeside S.Source K.Sink asked.now steps.old steps.new
         source.old source.new sink.old sink.new result }
 {
+    let settings = &asked.settings;
+    let workers = asked.workers;
     let of = *settings;
     let Ok(key) = Box::new(alloc, move |codes: &[u64]| plain_key(&of, codes)) else {
         return 4;

@@ -20,7 +20,7 @@ module _ {W : Type 0} where
     pub are_spots : AreSpots (numbers_of files) spots
     pub few : length files < 2 ^ 32
 
-  -- the position of the file at a path, and none exactly where there is none
+  -- the position of the file at a path, and none exactly if there is none
   abbrev pub IsPositionOfPath : List (File W) → List ℕ → Option ℕ → Type 0
   IsPositionOfPath files path position = (i : ℕ) → (position ≡ Some i) ↔ (slice_get (paths_of files) i ≡ Some path)
 

@@ -1,5 +1,5 @@
-//! The next listing while a batch of changes is gathered: what stands at each path that the batch names is kept beside
-//! each project, and made in its list at once, in path order.
+//! The next listing while a batch of changes is gathered: what is to be at each path that the batch names is kept
+//! beside each project, and put into its list at once, in path order.
 ghost use Rattle.std.specs.Prelude.{◌≡◌, ◌<◌, All, length, map, option_map, IfOk, IfErr, OnOk};
 ghost use Rattle.std.specs.Arc.{arc_value};
 ghost use Rattle.std.specs.Ordering.{nat_cmp};
@@ -22,8 +22,8 @@ use std::collections::BTreeMap;
 use std::marker::Model;
 use std::sync::Arc;
 
-/// A project of the next listing: what it was, the file that stands at each path that the batch names, none where its
-/// last change there drops it, and the conditions where the batch sets them.
+/// A project of the next listing: what it was, the file that is to be at each path that the batch names (none if its
+/// last change there drops it), and the conditions if the batch sets them.
 #[derive(Drop)]
 pub struct Draft<W> {
     project: Arc<Project<W>, Global>,
@@ -56,7 +56,7 @@ impl<W: Drop> Draft<W> {
         }
     }
 
-    // Sets what stands at a path, and answers the change whose file that replaces or drops, if there was one.
+    // Sets what is at a path, and answers the change whose file that replaces or drops, if there was one.
     fn set(
         &mut self,
         path: Arc<Text, Global>,
@@ -102,7 +102,7 @@ impl<W: Drop> Draft<W> {
         }
     }
 
-    // The project with what the batch makes of it: the same one where it changes nothing. Where nobody else has it, it is
+    // The project with what the batch makes of it: the same one if it changes nothing. If nobody else holds it, it is
     // changed in place.
     fn finished(self, alloc: Global) -> Result<Arc<Project<W>, Global>, Memory>
         requires apart { AreApart self }
@@ -121,8 +121,7 @@ impl<W: Drop> Draft<W> {
     }
 }
 
-// Revises a project: the files that stand at some paths, and the conditions where there are any. Where memory is refused,
-// it has no files.
+// Revises a project: the files at some paths, and the conditions if there are any. If memory is refused, it has no files.
 fn revise<W: Drop>(
     alloc: Global,
     project: &mut Project<W>,
@@ -141,7 +140,7 @@ fn revise<W: Drop>(
     Ok(())
 }
 
-// Revises a project in place where nobody else has it, else a copy that takes its place.
+// Revises a project in place if nobody else holds it, else a copy that takes its place.
 fn revise_shared<W: Drop>(
     alloc: Global,
     project: &mut Arc<Project<W>, Global>,
@@ -189,7 +188,7 @@ pub fn drafts_of<W: Drop>(
     Ok(drafts)
 }
 
-/// The drafts of projects whose owners are given up, so that one that nobody else has is changed in place.
+/// The drafts of projects. Their owners are given up, so a project that nobody else holds is changed in place.
 pub fn own_drafts<W: Drop>(
     alloc: Global,
     projects: Vec<Arc<Project<W>, Global>>,
@@ -235,7 +234,7 @@ fn find<W>(drafts: &[Draft<W>], name: &Text) -> Result<usize, usize>
     drafts.binary_search_by(|draft| compare(draft, name))
 }
 
-// The index of the draft of this name, which is added where it is not there.
+// The index of the draft of this name, which is added if it is not there.
 fn draft_at<W: Drop>(
     alloc: Global,
     drafts: &mut Vec<Draft<W>>,

@@ -28,7 +28,7 @@ pub fn find<W>(files: &[Arc<Held<W>, Global>], path: &Text) -> Result<usize, usi
     files.binary_search_by(|f| compare(f, path))
 }
 
-// Whether a path is behind all before a place.
+// Whether a path comes after all before a place.
 fn is_behind<W>(files: &[Arc<Held<W>, Global>], path: &Text, place: usize) -> bool
     requires rising { AreRising path_in files.now }
     requires within { place ≤ length files.now }
@@ -47,7 +47,7 @@ fn is_ahead<W>(files: &[Arc<Held<W>, Global>], path: &Text, place: usize) -> boo
 }
 
 /// Where the path is among files in path order, or where it belongs: looked for from one place up to another, and among
-/// all files where it can't be there.
+/// all files if it can't be there.
 pub fn find_between<W>(
     files: &[Arc<Held<W>, Global>],
     path: &Text,
@@ -68,7 +68,7 @@ pub fn find_between<W>(
     find(files, path)
 }
 
-/// Puts a file in at an index, where there is room for it. It takes no memory.
+/// Puts a file in at an index, if there is room for it. It takes no memory.
 pub fn insert_within<W: Drop>(
     files: &mut Vec<Arc<Held<W>, Global>>,
     i: usize,
@@ -91,7 +91,7 @@ pub struct Cut {
     pub change: Option<u64>,
 }
 
-/// Cuts files at a path, which is looked for from one place up to another, and among all files where it can't be there.
+/// Cuts files at a path, which is looked for from one place up to another, and among all files if it can't be there.
 pub fn cut_at<W>(files: &[Arc<Held<W>, Global>], path: &Text, from: usize, to: usize) -> Cut
     requires rising { AreRising path_of (held_in files.now) }
     requires bound { (from ≤ to) × (to ≤ length files.now) }
@@ -112,7 +112,7 @@ pub fn cut_at<W>(files: &[Arc<Held<W>, Global>], path: &Text, from: usize, to: u
     }
 }
 
-/// Puts the files behind those of a list, an owner more for each.
+/// Puts the files after those of a list, an owner more for each.
 pub fn append_shared<W: Drop>(
     all: &mut Vec<Arc<Held<W>, Global>>,
     files: &[Arc<Held<W>, Global>],

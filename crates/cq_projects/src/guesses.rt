@@ -1,5 +1,5 @@
-//! Where a path is likely to stand among a project's files. What is told is a guess: who asks looks there first, and
-//! elsewhere where the path can't stand there.
+//! Where a path is likely to be among a project's files. The answer is a guess: the caller looks there first, and
+//! elsewhere if the path can't be there.
 ghost use Rattle.std.specs.Prelude.{◌≤◌};
 
 use crate::held::Held;
@@ -15,12 +15,12 @@ const BYTES: usize = 8;
 // Fewer files than these are searched as fast without words.
 const FEW: usize = 64;
 
-// Where a batch names fewer files than one of so many, no words are made for all.
+// If a batch names fewer than one file in this many, no words are made for all.
 const FILES_A_PATH: usize = 16;
 
-/// A word for each file, in path order: eight bytes of its path behind those with which all paths began when the words
-/// were made. A search among them reads 8 bytes a file that lie side by side, where one among the files follows three
-/// owners a file. Where the words are not as many as the files, they tell nothing.
+/// A word for each file, in path order: eight bytes of its path after the front that all paths shared when the words
+/// were made. A search among them reads 8 adjacent bytes a file; one among the files follows three owners a file. If
+/// there are not as many words as files, the words are not used.
 #[derive(Drop)]
 pub struct Guesses {
     skip: usize,
@@ -55,7 +55,7 @@ impl Guesses {
         })
     }
 
-    /// From where up to where a path is likely to stand among so many files, or belongs.
+    /// From where up to where a path is likely to be among this many files, or belongs.
     pub fn reach(&self, path: &Text, len: usize) -> (usize, usize)
         ensures { (result.0 ≤ result.1) × (result.1 ≤ len) }
     {
@@ -68,7 +68,7 @@ impl Guesses {
         (from.min(to), to)
     }
 
-    /// The words with those of the files that stand at some paths, in place of those that stood there.
+    /// The words with those of the files that are to be at some paths, in place of those that were there.
     pub fn merged<W>(
         &self,
         alloc: Global,
@@ -93,8 +93,8 @@ impl Guesses {
         })
     }
 
-    /// These where they fit the files, of which a batch named so many. Else those of the files where they and what the
-    /// batch named are many, and none where they are few.
+    /// These if they fit the files, of which a batch named this many. Otherwise the words of the files if both the
+    /// files and the named ones are many, and none if they are few.
     pub fn fitted<W>(
         self,
         alloc: Global,
@@ -114,7 +114,7 @@ impl Guesses {
     }
 }
 
-// Puts a part of some words behind others.
+// Puts a part of some words after others.
 fn append(words: &mut Vec<u64>, old: &[u64], from: usize, to: usize) -> Result<(), Memory> {
     if from <= to && to <= old.len() {
         words.extend_from_slice(&old[from..to])?;

@@ -10,8 +10,8 @@ use std::collections::BTreeMap;
 use std::sync::Arc;
 use std::vec::IntoIter;
 
-/// What a batch makes of a path: the file that stands there, none where its last change there drops it. It keeps how many
-/// of the project's files are before the path, and how many with the one that is there.
+/// What a batch makes of a path: the file there, or none if its last change there drops it. It keeps how many of the
+/// project's files are before the path, and how many with the one that is there.
 #[derive(Drop)]
 pub struct Named<W> {
     pub before: usize,
@@ -19,7 +19,7 @@ pub struct Named<W> {
     pub file: Option<Arc<Held<W>, Global>>,
 }
 
-// Moves so many of the files that are left behind those that are done.
+// Moves this many of the files that are left after those that are done.
 fn append_moved<W: Drop>(
     done: &mut Vec<Arc<Held<W>, Global>>,
     rest: &mut IntoIter<Arc<Held<W>, Global>, Global>,
@@ -37,7 +37,7 @@ fn append_moved<W: Drop>(
     Ok(())
 }
 
-// Lets so many of the files that are left go.
+// Drops this many of the files that are left.
 fn let_go<W: Drop>(rest: &mut IntoIter<Arc<Held<W>, Global>, Global>, count: usize)
     ensures { into_iter_items rest.new ≡ drop count (into_iter_items rest.old) }
 {
@@ -46,7 +46,8 @@ fn let_go<W: Drop>(rest: &mut IntoIter<Arc<Held<W>, Global>, Global>, count: usi
     }
 }
 
-// Moves the files before a path behind those that are done, and puts what stands there. Those that stood there go.
+// Moves the files before a path after those that are done, and puts the file that is to be there. The one that was
+// there is dropped.
 fn merge_one<W: Drop>(
     done: &mut Vec<Arc<Held<W>, Global>>,
     rest: &mut IntoIter<Arc<Held<W>, Global>, Global>,
@@ -67,7 +68,7 @@ fn merge_one<W: Drop>(
     Ok(())
 }
 
-/// The files of a project with what stands at some paths. Each owner is moved; it makes a list anew, 8 bytes a file.
+/// The files of a project with what is to be at some paths. Each owner is moved; it makes a new list, 8 bytes a file.
 pub fn merged<W: Drop>(
     alloc: Global,
     files: Vec<Arc<Held<W>, Global>>,

@@ -94,7 +94,7 @@ impl<W> ProjectFiles<W> {
         }
     }
 
-    /// Cuts them at a path. It is a binary search, from where the path is likely to stand.
+    /// Cuts them at a path. It is a binary search, from where the path is likely to be.
     pub(crate) fn cut_at(&self, path: &Text) -> Cut
         ensures cut { IsCut path.now self.now result.before result.behind }
         ensures change { result.change ≡ number_at path.now self.now }
@@ -126,7 +126,7 @@ impl<W: Drop> ProjectFiles<W> {
         ProjectFiles::guessed(alloc, items, Guesses::new(alloc), named)
     }
 
-    // The same with guesses that may fit them, of which a batch named so many.
+    // The same with guesses that may fit them, of which a batch named this many.
     fn guessed(
         alloc: Global,
         items: Vec<Arc<Held<W>, Global>>,
@@ -149,7 +149,7 @@ impl<W: Drop> ProjectFiles<W> {
         })
     }
 
-    // These with what stands at some paths.
+    // These with what is to be at some paths.
     fn merged(
         self,
         alloc: Global,
@@ -171,8 +171,9 @@ impl<W: Drop> ProjectFiles<W> {
         ProjectFiles::guessed(alloc, items, guesses, named)
     }
 
-    /// Puts what stands at some paths, in one walk over all, and drops what is to stand there no more. It takes a list
-    /// more, 8 bytes a file, one of their spots, and one of a word a file; where memory is refused, no files are left.
+    /// Puts what is to be at some paths, in one walk over all, and drops what is no longer to be there. It takes
+    /// another list, 8 bytes a file, one of their spots, and one of a word a file; if memory is refused, no files are
+    /// left.
     pub(crate) fn merge(
         &mut self,
         alloc: Global,
@@ -203,7 +204,7 @@ impl<W: Drop> ProjectFiles<W> {
     }
 
     /// Takes out the file at the path, and answers the change that put it, if there is one. It costs a search and a
-    /// move of what is behind it.
+    /// move of what comes after it.
     pub(crate) fn remove(&mut self, path: &Text) -> Option<u64>
         ensures files { self.new ≡ without_file path.now self.old }
         ensures number { result ≡ number_at path.now self.old }
@@ -222,8 +223,8 @@ impl<W: Drop> ProjectFiles<W> {
         }
     }
 
-    /// Puts a file of a later change than all others at its place, in place of the one at its path, and answers the
-    /// change that had put that one, if there was one. It costs a search, and a move of what is behind its place. Where
+    /// Puts a file of a later change than all others at its place, replacing the one at its path, and answers the
+    /// change that had put that one, if there was one. It costs a search, and a move of what comes after its place. If
     /// memory is refused, the files are as before.
     pub(crate) fn put(&mut self, held: Arc<Held<W>, Global>) -> Result<Option<u64>, Memory>
         requires older { AreOlder (arc_value held).number self.old }

@@ -73,7 +73,7 @@ fn edit_own<W: Drop>(project: &mut Project<W>, edit: ProjectEdit<W>) -> Result<O
     }
 }
 
-// Edits a project in place where nobody else has it, else a copy that takes its place.
+// Edits a project in place if nobody else holds it, else a copy that takes its place.
 fn edit_shared<W: Drop>(
     alloc: Global,
     project: &mut Arc<Project<W>, Global>,
@@ -97,7 +97,7 @@ fn edit_shared<W: Drop>(
     }
 }
 
-// The index of the project of this name, which is added where it is not there.
+// The index of the project of this name, which is added if it is not there.
 fn project_at<W: Drop>(
     alloc: Global,
     projects: &mut Vec<Arc<Project<W>, Global>>,
@@ -129,8 +129,8 @@ fn project_at<W: Drop>(
 }
 
 /// Edits the project of a name, and answers the change whose file it replaced or dropped, if there was one. It costs a
-/// search among the projects, one among its files, and a move in that list; where somebody else has the project, a copy
-/// of that list, with an owner for each file. Where memory is refused, all have the files and conditions that they had.
+/// search among the projects, one among its files, and a move in that list; if someone else holds the project, a copy
+/// of that list, with an owner for each file. If memory is refused, all have the files and conditions that they had.
 pub fn edit_in<W: Drop>(
     alloc: Global,
     projects: &mut Vec<Arc<Project<W>, Global>>,

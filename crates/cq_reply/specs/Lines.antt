@@ -1,4 +1,4 @@
--- A line that tells a reply, and which of them need memory.
+-- The line of a reply, and which of them need memory.
 use Rattle.std.specs.Prelude.{ℕ, List}
 use Rattle.cq_reply.specs.declared.reply.Reply.{Reply}
 use Rattle.cq_reply.specs.declared.reply.Reply.TheVariants as reply
@@ -10,7 +10,7 @@ abbrev pub bytes_of : Line → List ℕ
 bytes_of (line.Made text) = text
 bytes_of (line.Short text) = text
 
--- its line is made in memory, and so it may be given up
+-- its line is made in memory, and so it may fail
 abbrev pub NeedsMemory : Reply → Type 0
 NeedsMemory (reply.Change n) = ⊥
 NeedsMemory (reply.Pending n) = ⊥

@@ -21,7 +21,7 @@ impl Model for Fixed {
 }
 
 impl Fixed {
-    /// Three parts, one behind the other.
+    /// Three parts, one after the other.
     pub fn of_parts(front: &str, middle: &str, back: &str) -> Fixed
         requires { length front.now + length middle.now + length back.now ≤ 96 }
         ensures { result ≡ front.now ++ middle.now ++ back.now }

@@ -5,7 +5,7 @@ use cq_func::Function;
 use cq_measures::Verdict;
 use std::marker::Model;
 
-/// Where a group stands: the path of its file, its first token there from 0, and its first and last line from 1.
+/// A place of a group: the path of its file, its first token there from 0, and its first and last line from 1.
 #[derive(Drop)]
 pub struct PlaceRow {
     pub path: Text,
@@ -43,7 +43,7 @@ impl PlaceRows {
     }
 }
 
-/// A run of tokens that stands at several places.
+/// A run of tokens that occurs at several places.
 #[derive(Drop)]
 pub struct GroupRow {
     pub tokens: u32,
@@ -84,7 +84,7 @@ impl GroupRows {
 pub enum Shown {
     /// Its tokens.
     Ok,
-    /// No element of the language stands at this byte, from 0.
+    /// There is no element of the language at this byte, from 0.
     Fault(u32),
     /// More tokens than a file may have.
     Large,
@@ -210,13 +210,13 @@ pub enum Reply {
     TooMuchText,
     /// The least length is out of its range.
     Min,
-    /// The scope is no path, or stands beside a path.
+    /// The scope is not a path, or is given beside a path.
     Scope,
     /// The version that is asked for is above this count of accepted changes.
     Future(u64),
     /// There is no file to drop.
     Absent,
-    /// As many changes are kept as may be, or 2^60 were accepted.
+    /// The limit on kept changes is reached, or 2^60 were accepted.
     FullChanges,
     /// The text and all kept texts have more bytes than they may.
     FullText,

@@ -78,7 +78,7 @@ fn word_of(lang: Lang) -> &'static str
     }
 }
 
-// A file that is told with no more than its state.
+// A file that is shown with no more than its state.
 fn plain_file_value(alloc: Global, row: &FileRow, state: &str) -> Result<Value, AllocError>
     requires { IsFileText row.now }
     ensures { IfOk result (λ v. view v ≡ object (file_members row.now state.now)) }

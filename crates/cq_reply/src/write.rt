@@ -20,7 +20,7 @@ pub fn write_reply(alloc: Global, reply: &Reply) -> Result<Text, Memory>
     Ok(Text::from_vec(line))
 }
 
-/// The line of a reply. Whether a change was accepted is told without memory, and so is a change that is not done.
+/// The line of a reply. Whether a change was accepted is written without memory, and so is a change that is not done.
 pub fn line_of(alloc: Global, reply: &Reply) -> Result<Line, Memory>
     requires { IsReplyText reply.now }
     ensures line { IfOk result (λ line. bytes_of line ≡ line_of reply.now) }

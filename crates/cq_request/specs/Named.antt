@@ -6,7 +6,7 @@ use Rattle.cq_request.specs.declared.request.Request.TheVariants as request
 use Rattle.cq_request.specs.Reading.{line_says}
 use Rattle.cq_names.specs.Names.{is_path_text, is_project}
 
--- they are those of a project, and of a file where it is of one
+-- they are those of a project, and of a file if it is of one
 abbrev pub IsNamed : Change → Type 0
 IsNamed (Put project path lang text) = (is_project project ≡ true) × (is_path_text path ≡ true)
 IsNamed (Drop project path) = (is_project project ≡ true) × (is_path_text path ≡ true)

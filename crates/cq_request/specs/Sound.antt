@@ -1,6 +1,6 @@
--- What a request that was read has: a sound change, or texts that are UTF-8, a least length no shorter than a window,
--- a path only where a part of a project is shown, and one where the functions of a file are; a scope that is a path, and
--- only where no path is.
+-- What a request that was read has: a sound change, or texts that are UTF-8, a least length no shorter than a window, a
+-- path only if a part of a project is shown, and one if the functions of a file are; a scope that is a path, and only if
+-- there is no path.
 use Rattle.std.specs.Prelude.{◌≡◌, ◌≤◌, ℕ, List, Option, None, IfSome, IsSome, IsTrue, ⊤}
 use Rattle.std.specs.Str.{IsUtf8}
 use Rattle.cq_base.specs.Changes.{IsSoundChange}
@@ -21,7 +21,7 @@ IsPathOf kind.Measures path = ⊤
 IsPathOf kind.Verdict path = path ≡ None
 IsPathOf kind.Functions path = IsSome path
 
--- a scope is a path in UTF-8, and stands beside no path
+-- a scope is a path in UTF-8, and comes without a path
 abbrev pub IsScopeBeside : Option (List ℕ) → List ℕ → Type 0
 IsScopeBeside path scope = IsUtf8 scope × IsTrue (is_path_text scope) × (path ≡ None)
 

@@ -13,7 +13,7 @@ pub record Rule : Type 0 where
   pub is_needed : Bool
   pub is_of_form : Data → Bool
 
--- the field is there and of its form, or it may be left out and is
+-- the field is there and valid, or it is optional and absent
 abbrev pub is_good : Rule → Option Data → Bool
 is_good r None = not r.is_needed
 is_good r (Some v) = r.is_of_form v
@@ -23,7 +23,7 @@ abbrev pub bad_field : List Rule → Data → Option (List ℕ)
 bad_field [] d = None
 bad_field (r ∷ row) d = if is_good r (get r.key d) then bad_field row d else Some r.key
 
--- the key that tells of which row an object is, or a key of the row
+-- the key that says which row an object is, or a key of the row
 abbrev pub is_of_row : List ℕ → List Rule → List ℕ → Bool
 is_of_row head row key = bytes_eq key head || list_any (λ r. bytes_eq key r.key) row
 

@@ -18,28 +18,28 @@ pub(crate) fn member_count(value: &Value) -> usize
     }
 }
 
-/// The member of this name, where it is a text.
+/// The member of this name, if it is a string.
 pub fn text_at<'v>(value: &'v Value, key: &str) -> Option<&'v str>
     ensures { option_copied result ≡ members.text_at key.now (view value.now) }
 {
     value.get(key)?.as_str()
 }
 
-/// The member of this name, where it is a number.
+/// The member of this name, if it is a number.
 pub fn number_at(value: &Value, key: &str) -> Option<u64>
     ensures { result ≡ members.number_at key.now (view value.now) }
 {
     value.get(key)?.as_u64()
 }
 
-/// The member of this name, where it is true or false.
+/// The member of this name, if it is true or false.
 pub(crate) fn flag_at(value: &Value, key: &str) -> Option<bool>
     ensures { result ≡ members.flag_at key.now (view value.now) }
 {
     value.get(key)?.as_bool()
 }
 
-/// The member of this name, where it is a list.
+/// The member of this name, if it is a list.
 pub(crate) fn list_at<'v>(value: &'v Value, key: &str) -> Option<&'v Vec<Value>>
     ensures { option_map (λ vs. items_view vs.now.items) result
         ≡ members.list_at key.now (view value.now) }

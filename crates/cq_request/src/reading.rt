@@ -78,7 +78,7 @@ fn has_path(value: &Value) -> bool
     }
 }
 
-// Whether a scope is a path, and stands beside none.
+// Whether a scope is a path, and no path is given beside it.
 fn is_lone_path(scope: &str, value: &Value) -> bool
     ensures { result ≡ (names.is_path_text scope.now
         && not (is_some (members.text_at (codes "path") (view value.now)))) }
@@ -260,8 +260,8 @@ fn request_of(alloc: Global, settings: &Settings, op: Op, value: Value) -> Resul
     }
 }
 
-/// The request that a value is, or why it is refused. `Json` comes exactly where it is no object; the other refusals
-/// stand in the order of the enum. The value's text is moved into the request.
+/// The request that a value is, or why it is refused. `Json` comes exactly if it is not an object; the other refusals
+/// come in the order of the enum. The value's text is moved into the request.
 pub fn read_value(alloc: Global, settings: &Settings, value: Value) -> Result<Request, Refusal>
     ensures says { UnlessMemory result (value_says settings.now.chunk (view value)) }
     ensures sound { IfOk result (IsSound settings.now.chunk) }
@@ -279,7 +279,7 @@ pub fn read_value(alloc: Global, settings: &Settings, value: Value) -> Result<Re
     }
 }
 
-/// The value that a line spells. `Json` comes exactly where `serde_json` gives none for another cause than memory.
+/// The value that a line spells. `Json` comes exactly if `serde_json` gives none for a cause other than memory.
 pub fn parsed(alloc: Global, line: &[u8]) -> Result<Value, Refusal>
     ensures spelled { IfOk result (λ v. spelled line.now ≡ Some (view v)) }
     ensures refused { IfErr result (IsNoJson line.now) }
@@ -295,8 +295,8 @@ pub fn parsed(alloc: Global, line: &[u8]) -> Result<Value, Refusal>
     }
 }
 
-/// The request that a line spells, or why it is refused: `Json` exactly where `serde_json` gives no value for it, or
-/// one that is no object.
+/// The request that a line spells, or why it is refused: `Json` exactly if `serde_json` gives no value for it, or one
+/// that is not an object.
 pub fn read_request(alloc: Global, settings: &Settings, line: &[u8]) -> Result<Request, Refusal>
     ensures says { UnlessMemory result (line_says settings.now.chunk line.now) }
     ensures sound { IfOk result (IsSound settings.now.chunk) }

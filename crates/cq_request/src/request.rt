@@ -17,7 +17,7 @@ pub enum Kind {
 pub struct Query {
     pub kind: Kind,
     pub project: Text,
-    /// The file that is asked about; the whole project where there is none. Functions are always asked of a file.
+    /// The file that is asked about; the whole project if there is none. Functions are always asked of a file.
     pub path: Option<Text>,
     /// The least number of tokens of a run.
     pub min: u32,
@@ -25,8 +25,8 @@ pub struct Query {
     pub at: u64,
     /// Whether work that is left is to be done first.
     pub finish: bool,
-    /// The pattern that a file's path has to fit to be measured; all files where there is none. It is a path, and stands
-    /// beside no path.
+    /// The pattern that a file's path has to fit to be measured; all files if there is none. It is a path, and comes
+    /// without a path.
     pub scope: Option<Text>,
     /// The version above which a file's change has to be for the file to be measured.
     pub since: u64,
@@ -58,7 +58,7 @@ pub enum Refusal {
     TooMuchText,
     /// The least length is out of its range.
     Min,
-    /// The scope is no path, or stands beside a path.
+    /// The scope is not a path, or is given beside a path.
     Scope,
     /// Memory was refused.
     Memory,

@@ -45,7 +45,7 @@ pub(crate) struct Field {
     pub is_needed: bool,
 }
 
-// Those that have to be there, and those that may be left out.
+// Those that are required, and those that are optional.
 
 const PROJECT: Field = Field {
     name: Name::Project,

@@ -62,7 +62,7 @@ fn is_of_row<F: Ruled>(head: &str, row: &[F], key: &str) -> bool
     key == head || has_field(row, key)
 }
 
-// The members stand in the order of their keys, so that the first is the least.
+// The members are in the order of their keys, so that the first is the least.
 fn other_key<'v, F: Ruled>(head: &str, row: &[F], value: &'v Value) -> Option<&'v str>
     ensures { option_copied result ≡ spec.other_key head.now (map F.rule row.now) (view value.now) }
 {

@@ -20,7 +20,7 @@ AreAllPlaces corpus places = AreAllInOrder IsBefore (IsPlace corpus) places
 abbrev pub AddsPlacesOf : {T : Type 0} → List (List T) → ℕ → List Place → List Place → Type 0
 AddsPlacesOf corpus file old new = AreAllInOrder IsBefore (λ z. Contains old z ⊎ (IsPlace corpus z × (z.file ≡ file))) new
 
--- all places at which the `n` tokens from this one on stand, in order
+-- all places at which the `n` tokens from this one on occur, in order
 abbrev pub AreOccurrences : {T : Type 0} → List (List T) → Place → ℕ → List Place → Type 0
 AreOccurrences corpus p n places = AreAllInOrder IsBefore (StandsAt corpus (word_at corpus p n)) places
 

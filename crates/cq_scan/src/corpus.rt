@@ -17,7 +17,7 @@ fn are_equal(a: Option<Seen<'_>>, b: Option<Seen<'_>>) -> bool
     }
 }
 
-/// Whether the tokens `n` behind two places are there and equal.
+/// Whether the tokens `n` after two places are there and equal.
 fn are_same<F: Files>(
     files: &FileList<'_, F>,
     p: Place,
@@ -74,7 +74,7 @@ pub(crate) fn match_len<F: Files>(
     most
 }
 
-/// Whether the word of `n` tokens at `p` stands at `q` too.
+/// Whether the word of `n` tokens at `p` is at `q` too.
 #[tactic(auto, using(cq_tokens::proofs::Places::file_of_place))]
 pub(crate) fn stands_at<F: Files>(
     files: &FileList<'_, F>,

@@ -9,7 +9,7 @@ use cq_base::{Memory, Place, Steps};
 use cq_tokens::{FileList, Files};
 use std::alloc::Global;
 
-// Adds the places of a file, behind those of the files before it.
+// Adds the places of a file, after those of the files before it.
 fn push_places<F: Files>(
     files: &FileList<'_, F>,
     file: u32,
@@ -40,7 +40,7 @@ pub(crate) fn all_places<F: Files>(
     Ok(all)
 }
 
-/// The places at which the word of `n` tokens at `p` stands, in order: those of all places of the files.
+/// The places of the word of `n` tokens at `p`, in order: those of all places of the files.
 pub(crate) fn occurrences<F: Files>(
     alloc: Global,
     files: &FileList<'_, F>,

@@ -4,7 +4,7 @@ use Rattle.std.specs.List.{list_any}
 use Rattle.std.specs.Str.{chars, bytes_eq}
 use Rattle.cq_names.specs.Names.{parts}
 
--- what follows in a list: all of it, what is behind its first element, and so on, and nothing at last
+-- what follows in a list: all of it, what comes after its first element, and so on, and nothing at last
 abbrev pub suffixes : {X : Type 0} → List X → List (List X)
 suffixes [] = [] ∷ []
 suffixes (x ∷ xs) = (x ∷ xs) ∷ suffixes xs
@@ -13,12 +13,12 @@ abbrev pub is_nothing : {X : Type 0} → List X → Bool
 is_nothing [] = true
 is_nothing (x ∷ xs) = false
 
--- there is a first element, which fits, and the rest fits behind it
+-- there is a first element, which fits, and the rest fits after it
 abbrev pub begins : {X : Type 0} → (X → Bool) → (List X → Bool) → List X → Bool
 begins first rest [] = false
 begins first rest (x ∷ xs) = first x && rest xs
 
--- a star and a rest fit where the rest fits what follows somewhere; anything else and a rest fit where both fit
+-- a star and a rest fit if the rest fits what follows somewhere; anything else and a rest fit if both fit
 abbrev pub leads : {X : Type 0} → Bool → (X → Bool) → (List X → Bool) → List X → Bool
 leads is_star first rest xs = if is_star then list_any rest (suffixes xs) else begins first rest xs
 

@@ -19,7 +19,7 @@ fn is_fit(pattern: &Pattern, path: &Text) -> bool
     fits(pattern, path)
 }
 
-// Whether the text is a path that fits the pattern, where there is one.
+// Whether the text is a path that fits the pattern, if there is one.
 fn is_in_scope(scope: Option<&Pattern>, path: &Text) -> bool
     ensures { result ≡ spec.is_in_scope (option_copied scope.entry) path.now }
 {
@@ -29,16 +29,16 @@ fn is_in_scope(scope: Option<&Pattern>, path: &Text) -> bool
     }
 }
 
-/// Whether a file's path fits the pattern, where there is one, and a change above `since` put the file. Its path is looked
-/// at only where it changed.
+/// Whether a file's path fits the pattern, if there is one, and a change above `since` put the file. Its path is looked at
+/// only if it changed.
 pub fn is_chosen<W>(scope: Option<&Pattern>, since: u64, file: &Arc<Held<W>, Global>) -> bool
     ensures { result ≡ spec.is_chosen (option_copied scope.entry) since (arc_value file.now) }
 {
     since < file.change && is_in_scope(scope, &file.path)
 }
 
-/// The positions of the files whose path fits the pattern, or of all where there is none, and that a change above `since`
-/// put. What is no path fits no pattern. Each file's path is compared once at most.
+/// The positions of the files whose path fits the pattern, or of all if there is none, and that a change above `since`
+/// put. What is not a path fits no pattern. Each file's path is compared once at most.
 pub fn choose<W>(
     alloc: Global,
     files: &[Arc<Held<W>, Global>],

@@ -1,7 +1,8 @@
 //! Patterns of paths: `*` stands for any characters of one part of a path, `?` for one of them, and the part `**` for any
-//! parts, none among them. Whether a path fits a pattern is told without memory and without recursion, by rows of a table
-//! of 513 places, at a cost that grows with the product of both lengths at most. Of the files of a version those are chosen
-//! whose path fits and that changed since another version, at that cost for each that did, and one look for each other.
+//! number of parts, or none. Whether a path fits a pattern is decided without memory and without recursion, by rows of a
+//! table of 513 places, at a cost that grows at most with the product of both lengths. Of the files of a version, those are
+//! chosen whose path fits and that changed since another version, at that cost for each that did, and one look for each
+//! other.
 #![tactic(auto)]
 
 mod choosing;

@@ -21,7 +21,7 @@ fn one_fits(symbol: char, c: char) -> bool
     symbol == '?' || symbol == c
 }
 
-// Moves each place that is set on by one character, where that fits the symbol.
+// Moves each place that is set on by one character, if that fits the symbol.
 fn pass(row: &mut [bool], symbol: char, name: &str)
     requires { length (chars name.now) < length row.old }
     ensures { row.new ≡ rows.passed (spec.one_fits symbol) false row.old (chars name.now) }
@@ -50,7 +50,7 @@ fn advance(row: &mut [bool], symbol: char, name: &str)
 }
 
 /// Whether a part of a path fits a part of a pattern. A place of the row stands for the characters of the name before it:
-/// it is set where these fit what was read of the part.
+/// it is set if these fit what was read of the part.
 pub(crate) fn part_fits(part: &str, name: &str, places: &mut [bool]) -> bool
     requires { length name.now < length places.old }
     ensures fits { result ≡ spec.part_fits (chars part.now) (chars name.now) }

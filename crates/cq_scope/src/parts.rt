@@ -17,7 +17,7 @@ fn part_count(path: &str) -> usize
     count
 }
 
-// Whether a place is set and the part of the path behind it fits, which is asked only then.
+// Whether a place is set and the part of the path after it fits, which is asked only then.
 fn goes_on(is_set: bool, part: &str, name: &str, places: &mut [bool]) -> bool
     requires { length name.now < length places.old }
     ensures passed { result ≡ (is_set && spec.name_fits part.now name.now) }
@@ -29,7 +29,7 @@ fn goes_on(is_set: bool, part: &str, name: &str, places: &mut [bool]) -> bool
     part_fits(part, name, places)
 }
 
-// Moves each place that is set on by one part of the path, where that fits the part of the pattern.
+// Moves each place that is set on by one part of the path, if that fits the part of the pattern.
 fn pass(row: &mut [bool], part: &str, path: &str, places: &mut [bool])
     requires room { length (parts path.now) < length row.old }
     requires places { length path.now < length places.old }
@@ -62,7 +62,7 @@ fn advance(row: &mut [bool], part: &str, path: &str, places: &mut [bool])
     }
 }
 
-/// Whether a path fits a pattern. A place of the row stands for the parts of the path before it: it is set where these fit
+/// Whether a path fits a pattern. A place of the row stands for the parts of the path before it: it is set if these fit
 /// what was read of the pattern. The other places are lent to each part.
 pub(crate) fn parts_fit(pattern: &str, path: &str, row: &mut [bool], places: &mut [bool]) -> bool
     requires room { length (parts path.now) < length row.old }

@@ -10,7 +10,7 @@ use std::alloc::Global;
 use std::marker::Model;
 use std::str;
 
-// A path has at most 512 characters, and as many parts.
+// A path has at most 512 characters, and no more parts than that.
 const PLACES: usize = 513;
 
 /// A pattern of paths, which has the form of a path. Contracts see it as its bytes.
@@ -31,7 +31,7 @@ impl Model for Pattern {
 }
 
 impl Pattern {
-    /// The pattern that a text is, or none where the text isn't a path. It has a copy of the text, and is read in one walk.
+    /// The pattern that a text is, or none if the text isn't a path. It has a copy of the text, and is read in one walk.
     pub fn read(alloc: Global, text: &Text) -> Result<Option<Pattern>, Memory>
         ensures { IfOk result (λ p. p ≡ path_in text.now) }
     {

@@ -12,7 +12,7 @@ pub(crate) fn begin(row: &mut [bool])
     }
 }
 
-/// Sets each place behind one that is set.
+/// Sets each place after one that is set.
 pub(crate) fn spread(row: &mut [bool])
     ensures { row.new ≡ rows.spread false row.old }
 {

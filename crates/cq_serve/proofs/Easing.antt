@@ -6,18 +6,23 @@ use Rattle.std.proofs.lemmas.List.Sums.{fold_push, fold-append}
 use Rattle.cq_base.specs.declared.settings.Settings.{Settings}
 use Rattle.cq_history.specs.declared.event.Event.{Event}
 use Rattle.cq_history.specs.declared.event.Event.TheVariants.{Ask, Took, Back, Done}
-use Rattle.cq_history.specs.State.{State, Slot, state, slot_of, no_slot, own, is_done, IsAccepted, IsDone, IsUndone, IsTakenBy}
+use Rattle.cq_history.specs.State.{State, Slot, state, slot_of, no_slot, own, view_of, is_done, IsAccepted, IsDone, IsUndone, IsTakenBy}
 use Rattle.cq_history.specs.Lasts.{holder_after, holder_in}
 use Rattle.cq_history.specs.Lawful.{Lawful}
+use Rattle.cq_history.proofs.Bounds.{no_view}
 use Rattle.cq_history.proofs.Doing.{done_stays}
 use Rattle.cq_history.proofs.Holders.{took_last}
 use Rattle.cq_history.proofs.Numbers.{same_number}
 use Rattle.cq_history.proofs.Prefixes.{own-append}
 use Rattle.cq_history.proofs.States.{Lawful-prefix}
-use Rattle.cq_hub.specs.Hubs.{Grows}
+use Rattle.cq_hub.specs.Hubs.{Grows, Never}
 use Rattle.cq_hub.proofs.Growing.{KeepsView, view_grows}
 use Rattle.cq_serve.specs.Turns.{AtEase}
 use Rattle.cq_serve.proofs.Hands.{hand_own, own_hand}
+
+-- a caller of whom there is no event has no view open
+pub unmade_closed : (callers c : ℕ) (h : List Event) → own c h ≡ [] → view_of (state callers h) c ≡ None
+unmade_closed callers c h none = view_grows callers ⊥ Never c [] h [] (record { more = h; after_is = refl; own_is = none; alone_is = λ never. absurd never }) tt ∙ no_view callers c
 
 held_there : (xs : List Slot) (i c : ℕ) → (get_or xs i no_slot).holder ≡ Some c → i < length xs
 held_there [] zero c is = absurd (cc)

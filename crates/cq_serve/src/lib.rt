@@ -1,5 +1,5 @@
 //! A worker beside a session: it takes accepted changes one by one, makes their works and publishes what is done, on a
-//! pass of its own, and sleeps where there is nothing to do until a bell rings.
+//! pass of its own, and sleeps when there is nothing to do until a bell rings.
 #![tactic(auto)]
 
 mod answers;

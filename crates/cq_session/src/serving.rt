@@ -63,7 +63,8 @@ fn turn_long<K: Sink>(sink: &mut K) -> Result<(), Failed>
 /// `keyer`. Each whole reply is handed to the sink before the next line is cut. Afterwards the pass stands for the
 /// history to which the talk came, with no view open. Behind each answer by a view, and before it is written, the hub is
 /// swept; want of memory there is let go. The gate is told of each accepted change, of each work before it is
-/// made, of each shard that was brought up and of each view that was opened.
+/// made, of each shard that was brought up and of each view that was opened. The cutter keeps its limit, so that it may be
+/// restarted for another source.
 pub fn session<R: Threads + Sync, L: Ledger, H: Hub<Work<L>>, S: Source, K: Sink, G: Gate>(
     rt: &R,
     alloc: Global,
@@ -85,6 +86,7 @@ pub fn session<R: Threads + Sync, L: Ledger, H: Hub<Work<L>>, S: Source, K: Sink
     ensures served { HasServed H.Hub hub.now pass.old pass.new steps.old steps.new S.Source K.Sink
         settings.now lines.old.limit source.old source.new sink.old sink.new result }
     ensures cause { HasCauseOfEnd S.Source K.Sink source.old source.new sink.old sink.new result }
+    ensures limit { lines.new.limit ≡ lines.old.limit }
 {
     let mut seen = 0u64;
     'lines: loop {

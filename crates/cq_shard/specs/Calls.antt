@@ -1,4 +1,4 @@
--- What the calls of a shard and of its parts promise of the works that come, and of its entries.
+-- What the calls of a shard and of its parts promise about the works that come, and about its entries.
 use Rattle.std.specs.Prelude.{◌≡◌, ℕ, ◌+◌, List, [], ◌∷◌, ◌++◌, length, take, drop, filter, option_copied, Option, Vec}
 use Rattle.std.specs.Borrow.{Bor}
 use Rattle.std.specs.declared.sync.Arc.{Arc}
@@ -12,11 +12,11 @@ use Rattle.cq_shard.specs.Shard.{Contents, StandsFor, StandsOnWith, HasWindow, H
 
 -- ---- a work that is lent
 
--- For whichever settings and changes it stood, of which the one with this number has this work, it stands now.
+-- Whatever settings and changes it stood for, if the change with this number has this work, it stands for them now.
 abbrev pub StandsOnLent : {W : Type 0} → Ghosts W → ℕ → Option (Bor W) → Contents → Contents → Type 0
 StandsOnLent of change work old new = StandsOnWith of.keys_in of.IsWorkOf change (option_copied work) old new
 
--- the change stands behind the puts where it has a work
+-- the change comes after the puts if it has a work
 abbrev pub NotesLent : {W : Type 0} → ℕ → Option (Bor W) → List ℕ → List ℕ → Type 0
 NotesLent change work old new = new ≡ old ++ put_of change (option_copied work)
 
@@ -26,12 +26,12 @@ cost_of keys_in c change work = length (brought keys_in change c.shard c.shards 
 
 -- ---- works that have owners, one for each of the next changes
 
--- For whichever settings and changes it stood, of which the next ones have these works, it stands now.
+-- Whatever settings and changes it stood for, if the next changes have these works, it stands for them now.
 abbrev pub StandsOnWithAll : {W : Type 0} → Ghosts W → List (Option (Arc W Global)) → Contents → Contents → Type 0
 StandsOnWithAll of works old new =
     (settings : Settings) (changes : List Change) → StandsFor (HasWindow of.keys_in of.IsWorkOf settings) changes old → HaveTheirWorks (IsOwnedOf of.IsWorkOf settings) changes old.applied works → StandsFor (HasWindow of.keys_in of.IsWorkOf settings) changes new
 
--- the puts among the changes stand behind the others
+-- the puts among the changes come after the others
 abbrev pub NotesAll : {W : Type 0} → List (Option (Arc W Global)) → Contents → Contents → Type 0
 NotesAll works old new = new.puts ≡ old.puts ++ puts_among old.applied works
 
@@ -41,14 +41,15 @@ cost_of_all keys_in c works = length (all_brought_to keys_in c works)
 
 -- ---- its entries and puts
 
--- behind the old entries stand those of some that have the key, and whose change is one of `live`
+-- after the old entries come those of some that have the key, and whose change is one of `live`
 abbrev pub AddsAsked : ℕ → List ℕ → List Entry → List Entry → List Entry → Type 0
 AddsAsked key live entries old new = new ≡ old ++ filter (is_asked key live) entries
 
--- so many of the runs stay, and one of these entries comes behind them: they have the entries of all runs and those added
+-- this many of the runs stay, and one of these entries comes after them: they have the entries of all runs and those
+-- added
 abbrev pub AreMergedBehind : List (List Entry) → List Entry → ℕ × Vec Entry Global → Type 0
 AreMergedBehind runs added merged = AreRunsWith runs added (take merged.0 runs ++ merged.1.items ∷ [])
 
--- in front stand those to keep, and so many others that stood among them are gone
+-- in front are those to keep, and this many others that were among them are gone
 abbrev pub ClosesUp : List ℕ → ℕ → List ℕ → List ℕ → Type 0
 ClosesUp keep gone old new = new ≡ keep ++ drop (length keep + gone) old

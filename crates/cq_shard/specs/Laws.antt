@@ -25,7 +25,7 @@ module _ (IsWindow : Lang → List ℕ → ℕ → ℕ → Type 0) where
   ShardsStay = (shards : ℕ) (h later : List Event) (shard applied floor : ℕ) (row : Row) → applied ≤ length (accepted h) → floor ≤ length (accepted h) →
       ShardHolds IsWindow shards (accepted (h ++ later)) shard applied floor row ↔ ShardHolds IsWindow shards (accepted h) shard applied floor row
 
-  -- Applying the next change keeps what a shard holds, and adds rows of that change alone: those of the windows of its text
+  -- Applying the next change keeps what a shard holds, and adds only rows of that change: those of the windows of its text
   -- that are the shard's.
   pub record Applies (shards : ℕ) (changes : List Change) (shard applied floor : ℕ) : Type 0 where
     pub keeps : (row : Row) → ShardHolds IsWindow shards changes shard applied floor row → ShardHolds IsWindow shards changes shard (applied + 1) floor row
@@ -47,7 +47,7 @@ module _ (IsWindow : Lang → List ℕ → ℕ → ℕ → Type 0) where
   abbrev pub StandsAtFirst : Type 0
   StandsAtFirst = (changes : List Change) (c : Contents) → c.applied ≡ 0 → c.puts ≡ [] → c.entries ≡ [] → StandsFor IsWindow changes c
 
-  -- later changes alter nothing of what it stands for
+  -- later changes alter nothing in what it stands for
   abbrev pub StandsOn : Type 0
   StandsOn = (changes later : List Change) (c : Contents) → c.floor ≤ c.applied → StandsFor IsWindow changes c → StandsFor IsWindow (changes ++ later) c
 
@@ -57,7 +57,8 @@ module _ (IsWindow : Lang → List ℕ → ℕ → ℕ → Type 0) where
       AreAllInOrder EntryBefore (λ e. (e.key ≡ key) × Contains live e.change × Contains c.entries e) bucket →
       AreAllInOrder EntryBefore (λ e. (e.key ≡ key) × Contains live e.change × Holds IsWindow changes c e) bucket
 
-  -- swept up to a new floor but for exactly the puts that this keeps, a shard stands for the changes that it stood for
+  -- swept up to a new floor, except for exactly the puts that this keeps, a shard stands for the changes that it stood
+  -- for
   abbrev pub StandsSwept : Type 0
   StandsSwept = (changes : List Change) (c : Contents) (floor : ℕ) (keep : List ℕ) → c.floor ≤ floor → AreKeptPuts changes floor keep → StandsFor IsWindow changes c → StandsFor IsWindow changes (swept floor keep c)
 

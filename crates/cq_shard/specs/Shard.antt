@@ -1,4 +1,4 @@
--- What a shard is, and for which changes it stands.
+-- What a shard is, and which changes it stands for.
 use Rattle.std.specs.Prelude.{◌≡◌, ◌↔◌, slice_get, slice_index_or, ℕ, ◌+◌, ◌<◌, ◌≤◌, ◌%◌, ◌==◌, nat_eq, ◌&&◌, if◌then◌else◌, Bool, List, [], ◌∷◌, ◌++◌, length, Contains, All, Option, Some, None, is_some, IfSome, ◌^◌}
 use Rattle.std.specs.List.{list_any}
 use Rattle.std.specs.List.Sorted.{IsStrictlyIncreasing}
@@ -28,11 +28,11 @@ pub record Contents : Type 0 where
   pub puts : List ℕ
   pub entries : List Entry
 
--- a shard of this number, of so many, that has applied nothing
+-- a shard of this number, of this many, that has applied nothing
 abbrev pub fresh_shard : ℕ → ℕ → Contents
 fresh_shard shard shards = record { shard = shard; shards = shards; applied = 0; floor = 0; puts = []; entries = [] }
 
--- it is one of the shards; its puts ascend, and its entries stand each once; all are of applied changes
+-- it is one of the shards; its puts ascend, and each entry is there once; all are of applied changes
 pub record IsShard (c : Contents) : Type 0 where
   pub mine : c.shard < c.shards
   pub passed : c.floor ≤ c.applied
@@ -81,7 +81,7 @@ abbrev pub brought : {W : Type 0} → (W → List ℕ) → ℕ → ℕ → ℕ �
 brought keys_in change shard shards None = []
 brought keys_in change shard shards (Some work) = entries_of change shard shards 0 (keys_in work)
 
--- the entries that the changes behind so many bring to a shard, a change for each work
+-- the entries that the changes after this many bring to a shard, a change for each work
 abbrev pub all_brought : {W : Type 0} → (W → List ℕ) → ℕ → ℕ → ℕ → List (Option W) → List Entry
 all_brought keys_in applied shard shards [] = []
 all_brought keys_in applied shard shards (work ∷ works) = brought keys_in (applied + 1) shard shards work ++ all_brought keys_in (applied + 1) shard shards works
@@ -90,12 +90,12 @@ all_brought keys_in applied shard shards (work ∷ works) = brought keys_in (app
 abbrev pub put_of : {W : Type 0} → ℕ → Option W → List ℕ
 put_of change work = if is_some work then change ∷ [] else []
 
--- the numbers of those changes behind so many that have one, a change for each work
+-- the numbers of those changes after this many that have one, a change for each work
 abbrev pub puts_among : {W : Type 0} → ℕ → List (Option W) → List ℕ
 puts_among applied [] = []
 puts_among applied (work ∷ works) = put_of (applied + 1) work ++ puts_among (applied + 1) works
 
--- the changes behind so many have the works that they come with
+-- the changes after this many have the works that they come with
 abbrev pub HaveTheirWorks : {W : Type 0} → (Lang → List ℕ → W → Type 0) → List Change → ℕ → List (Option W) → Type 0
 HaveTheirWorks {W} IsWork changes applied works = (i : ℕ) (d : Option W) → i < length works → HasItsWork IsWork (change_at changes (applied + i + 1)) (slice_index_or works i d)
 
@@ -109,7 +109,7 @@ is_asked key live e = (e.key == key) && list_any (nat_eq e.change) live
 abbrev pub IsSameShard : Contents → Contents → Type 0
 IsSameShard old new = (new.shard ≡ old.shard) × (new.shards ≡ old.shards) × (new.floor ≡ old.floor)
 
--- For whichever settings and changes it stood, of which the one with this number has this work, it stands now.
+-- Whatever settings and changes it stood for, if the change with this number has this work, it stands for them now.
 abbrev pub StandsOnWith : {W : Type 0} → (W → List ℕ) → (Settings → Lang → List ℕ → W → Type 0) → ℕ → Option W → Contents → Contents → Type 0
 StandsOnWith keys_in IsWorkOf change work old new =
     (settings : Settings) (changes : List Change) → StandsFor (HasWindow keys_in IsWorkOf settings) changes old → HasItsWork (IsWorkOf settings) (change_at changes change) work → StandsFor (HasWindow keys_in IsWorkOf settings) changes new

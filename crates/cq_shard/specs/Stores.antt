@@ -13,7 +13,7 @@ those_of changes entries = filter (λ (e : Entry). is_among changes e.change) en
 abbrev pub left_to : ℕ → List ℕ → List Entry → List Entry
 left_to floor keep entries = filter (λ (e : Entry). stays floor keep e.change) entries
 
--- a run as it was, or its entries of these changes alone
+-- a run as it was, or only its entries of these changes
 abbrev pub IsLeft : List ℕ → List Entry → List Entry → Type 0
 IsLeft changes old new = (new ≡ old) ⊎ (new ≡ those_of changes old)
 
@@ -35,14 +35,14 @@ stored applied changes rows = record { applied = applied; puts = changes; entrie
 abbrev pub left_by : ℕ → List ℕ → Stored → Stored
 left_by floor keep s = record { applied = s.applied; puts = staying floor keep s.puts; entries = left_to floor keep s.entries }
 
--- puts behind all so far and up to a change, ascending, and entries of these
+-- puts after all so far and up to a change, ascending, and entries of these
 pub record AreNext (s : Stored) (applied : ℕ) (puts : List ℕ) (entries : List Entry) : Type 0 where
   pub rising : IsStrictlyIncreasing (s.puts ++ puts)
   pub later : All (λ n. s.applied < n) puts
   pub known : All (λ n. n ≤ applied) puts
   pub each : All (λ e. Contains puts e.change) entries
 
--- The entries that lie there are of the changes so far. Where none of them is known to be gone, all are of changes that stand.
+-- The entries are of the changes so far. If none of them is known to be gone, all are of changes that are still there.
 pub record IsStore (applied : ℕ) (changes : List ℕ) (rows : List Entry) (gone : ℕ) : Type 0 where
   pub known : All (λ n. n ≤ applied) changes
   pub brought : All (λ e. e.change ≤ applied) rows

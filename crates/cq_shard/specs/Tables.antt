@@ -24,24 +24,24 @@ pub record IsTable (changes sizes : List ℕ) : Type 0 where
   pub rising : IsStrictlyIncreasing changes
   pub sized : length changes ≤ length sizes
 
--- so many of the numbers are at most the floor, and all behind them are above it
+-- this many of the numbers are at most the floor, and all after them are above it
 pub record IsUpTo (numbers : List ℕ) (floor many : ℕ) : Type 0 where
   pub within : many ≤ length numbers
   pub low : AllWithin (λ n. n ≤ floor) numbers 0 many
   pub high : AllWithin (λ n. floor < n) numbers many (length numbers)
 
--- Both rise, and the second are a part of the first, of which there are so many more.
+-- Both rise, and the second are some of the first, of which there are this many more.
 pub record IsPart (numbers part : List ℕ) (more : ℕ) : Type 0 where
   pub rising : IsStrictlyIncreasing numbers
   pub part_rises : IsStrictlyIncreasing part
   pub among : AreAmong part numbers
   pub number : length numbers ≡ length part + more
 
--- what is to be kept at this place stands so many places further on among the changes
+-- what is to be kept at this place is this many places further on among the changes
 abbrev pub IsAlike : List ℕ → List ℕ → ℕ → ℕ → Type 0
 IsAlike changes keep gone i = slice_index changes (i + gone) ≡ slice_index keep i
 
--- from a place on, where they are alike they are so at each place before
+-- from a place on, if they are alike they are so at each place before
 abbrev pub AreAlikeInFront : List ℕ → List ℕ → ℕ → ℕ → Type 0
 AreAlikeInFront changes keep gone from = (i j : ℕ) → from ≤ i → i ≤ j → j < length keep → IsAlike changes keep gone j → IsAlike changes keep gone i
 

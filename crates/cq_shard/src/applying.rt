@@ -21,7 +21,7 @@ pub(crate) struct Part {
     pub change: u64,
 }
 
-/// The key modulo the number of shards. Where that is the power of two it needs no division.
+/// The key modulo the number of shards. If that is `power` it needs no division.
 #[tactic(auto, using(crate::proofs::Masks::mask_is_remainder))]
 pub(crate) fn remainder(key: u64, shards: u64, power: u64) -> u64
     requires some { 0 < shards }
@@ -35,7 +35,7 @@ pub(crate) fn remainder(key: u64, shards: u64, power: u64) -> u64
     }
 }
 
-// Puts the entries that the change brings, where its windows have these keys, behind others, by place.
+// Puts the entries that the change brings, if its windows have these keys, after others, by place.
 fn gather(part: Part, keys: &[u64], entries: &mut Vec<Entry>) -> Result<(), Memory>
     requires few { length keys.now < 2 ^ 32 }
     requires some { 0 < part.shards }
@@ -75,7 +75,7 @@ pub(crate) fn entries_for<W: Indexed>(
     Ok(entries)
 }
 
-/// The numbers of the puts among the changes behind so many, which alone have works.
+/// The numbers of the puts among the changes after this many; only puts have works.
 pub(crate) fn puts_in<W: Indexed>(
     alloc: Global,
     applied: u64,
@@ -95,7 +95,7 @@ pub(crate) fn puts_in<W: Indexed>(
     Ok(puts)
 }
 
-// The numbers, where there is a work.
+// The numbers, if there is a work.
 fn where_some<'a, W>(numbers: &'a [u64], work: Option<&W>) -> &'a [u64]
     ensures { result.now ≡ (if is_some (option_copied work.entry) then numbers.now else []) }
 {
@@ -105,7 +105,7 @@ fn where_some<'a, W>(numbers: &'a [u64], work: Option<&W>) -> &'a [u64]
     }
 }
 
-/// The change more, which is a put where it has a work, and the entries that it brings to the shard, or nothing.
+/// Adds the change, which is a put if it has a work, and the entries that it brings to the shard, or nothing.
 pub(crate) fn add_work<W: Indexed, L: Ledger>(
     alloc: Global,
     store: &mut Store,

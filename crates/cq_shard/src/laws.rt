@@ -23,7 +23,7 @@ pub fn shards_stay<W: Indexed>()
     ensures { law.WithAllSettings W.Indexed law.ShardsStay }
 {}
 
-/// Applying the next change keeps what a shard holds, and adds the rows of that change alone.
+/// Applying the next change keeps what a shard holds, and adds only the rows of that change.
 pub fn applying_adds_its_rows<W: Indexed>()
     ensures { law.WithAllSettings W.Indexed law.ApplyingAddsItsRows }
 {}
@@ -39,7 +39,7 @@ pub fn it_knows_what_is_kept<W: Indexed>()
     ensures { law.WithAllSettings W.Indexed law.KnowsWhatIsKept }
 {}
 
-/// Swept up to a new floor but for the puts that this keeps, a shard stands for the changes that it stood for.
+/// Swept up to a new floor, except for the puts that this keeps, a shard stands for the changes that it stood for.
 pub fn it_stands_swept<W: Indexed>()
     ensures { law.WithAllSettings W.Indexed law.StandsSwept }
 {}

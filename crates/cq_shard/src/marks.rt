@@ -8,8 +8,8 @@ use std::alloc::Global;
 // About for how many entries there is a word of 64 bits.
 const ENTRIES: usize = 8;
 
-/// Which keys some entries may have, by a word of 64 bits for four to eight of them where they are many: where a key's bit
-/// is not set, no entry has it.
+/// Which keys some entries may have, by a word of 64 bits for four to eight of them if they are many: if a key's bit is
+/// not set, no entry has it.
 #[derive(Drop)]
 pub(crate) struct Marks {
     pub words: Vec<u64>,
@@ -18,7 +18,7 @@ pub(crate) struct Marks {
 }
 
 impl Marks {
-    /// Those of these entries. It looks at each of them. Where they come by key, it writes word by word.
+    /// Those of these entries. It looks at each of them. If they come by key, it writes word by word.
     pub fn of(alloc: Global, rows: &[Entry]) -> Result<Marks, Memory>
         ensures { IfOk result (AreMarks rows.now) }
     {
@@ -54,7 +54,7 @@ impl Marks {
         self.words[at] |= 1u64 << bit(key);
     }
 
-    // Which word has the key's bit. The upper bits of a key tell it.
+    // Which word has the key's bit. The upper bits of a key decide it.
     fn word(&self, key: u64) -> usize
         requires { HasWords self.now }
         ensures word { result ≡ word_of self.now key }
@@ -64,7 +64,7 @@ impl Marks {
     }
 }
 
-// Which bit of its word is the key's. It is told by bits that tell neither the word nor the shard.
+// Which bit of its word is the key's. It is decided by bits that decide neither the word nor the shard.
 fn bit(key: u64) -> u32
     ensures bit { result ≡ bit_of key }
     ensures within { result < 64 }

@@ -8,8 +8,8 @@ use cq_base::{Entry, Memory};
 use std::alloc::Global;
 use std::sync::Arc;
 
-/// The entries that the changes behind so many bring to each of the shards, a change for each work, by change and place. It
-/// looks at each key once, whatever the number of shards, and takes an entry for each, and a list for each shard.
+/// The entries that the changes after this many bring to each of the shards, a change for each work, by change and place.
+/// It looks at each key once, whatever the number of shards, and takes an entry for each, and a list for each shard.
 pub fn parted<W: Indexed>(
     alloc: Global,
     applied: u64,
@@ -32,8 +32,9 @@ pub fn parted<W: Indexed>(
     Ok(parts)
 }
 
-/// For how many entries a shard's list gets room, of so many keys that are spread evenly. Most lists then never grow: to grow
-/// one means to have it copied, and, where another thread had the list's memory before, to wait for that thread's.
+/// The number of entries for which a shard's list gets room, if this many keys are spread evenly. Most lists then never
+/// grow. To grow one means to copy it, and to wait for another thread's allocator if that thread had the list's memory
+/// before.
 pub(crate) fn room(keys: usize, shards: u32) -> usize
     requires { 0 < shards }
 {
@@ -41,7 +42,7 @@ pub(crate) fn room(keys: usize, shards: u32) -> usize
     even.saturating_add(even / 4 + 8)
 }
 
-// So many lists without an entry.
+// This many lists without an entry.
 fn empty(alloc: Global, shards: u32) -> Result<Vec<Vec<Entry>>, Memory>
     ensures { IfOk result (λ parts. map (λ part. part.items) parts.items ≡ replicate shards []) }
 {
@@ -52,7 +53,7 @@ fn empty(alloc: Global, shards: u32) -> Result<Vec<Vec<Entry>>, Memory>
     Ok(parts)
 }
 
-// Puts each entry that the change brings, where its windows have these keys, behind those of its shard, by place.
+// Puts each entry that the change brings, if its windows have these keys, after those of its shard, by place.
 fn part(change: u64, shards: u32, keys: &[u64], parts: &mut Vec<Vec<Entry>>) -> Result<(), Memory>
     requires few { length keys.now < 2 ^ 32 }
     requires some { 0 < shards }

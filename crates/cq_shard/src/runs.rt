@@ -15,8 +15,8 @@ use std::marker::Model;
 use std::sync::ledger::Ledger;
 
 /// The entries of a shard, as runs of changes that follow each other. Each run was made with at least twice the entries of
-/// the one behind it, so there are at most as many as the logarithm of the entries that they were made with, and an entry
-/// is moved about as often.
+/// the one after it, so there are at most as many runs as the logarithm of the entries that they were made with, and an
+/// entry is moved about as often.
 #[derive(Drop)]
 pub(crate) struct Runs {
     runs: Vec<Run>,
@@ -44,7 +44,7 @@ impl Runs {
         }
     }
 
-    /// These entries more, of changes later than all before; none of them where memory is refused. Each is one step, and
+    /// Adds these entries, of changes later than all before; none of them if memory is refused. Each is one step, and
     /// what merging moves is none.
     pub fn add<L: Ledger>(
         &mut self,
@@ -82,15 +82,15 @@ impl Runs {
         Ok(bucket)
     }
 
-    /// The entries of these changes alone. It looks at each entry, and takes no memory.
+    /// Only the entries of these changes. It looks at each entry, and takes no memory.
     pub fn keep(&mut self, changes: &Table)
         ensures { self.new ≡ those_of changes.now self.old }
     {
         keep_each(&mut self.runs, changes);
     }
 
-    /// The entries of these changes alone in those runs with which as many entries more will be merged, and how many went. It
-    /// looks at the entries of these runs, and takes no memory.
+    /// Only the entries of these changes, in those runs with which this many more entries will be merged, and how many
+    /// went. It looks at the entries of these runs, and takes no memory.
     pub fn keep_last(&mut self, changes: &Table, added: usize) -> u64
         ensures those { those_of changes.now self.new ≡ those_of changes.now self.old }
         ensures fewer { (e : Entry) → Contains self.new e → Contains self.old e }
@@ -100,7 +100,7 @@ impl Runs {
     }
 }
 
-// The entries of these changes alone, in each run.
+// Only the entries of these changes, in each run.
 fn keep_each(runs: &mut Vec<Run>, changes: &Table)
     ensures { runs.new.items ≡ map (those_of changes.now) runs.old.items }
 {
@@ -109,7 +109,8 @@ fn keep_each(runs: &mut Vec<Run>, changes: &Table)
     }
 }
 
-// The entries of these changes alone in each run with which a run of so many entries will be merged, and how many went.
+// Only the entries of these changes, in each run with which a run of this many entries will be merged, and how many
+// went.
 fn keep_last(runs: &mut Vec<Run>, changes: &Table, added: usize) -> u64
     ensures { AreLeft changes.now runs.old.items runs.new.items }
 {
@@ -127,8 +128,8 @@ fn keep_last(runs: &mut Vec<Run>, changes: &Table, added: usize) -> u64
     taken
 }
 
-// These rows merged with the runs before them that they have half as many entries as, or more: how many runs stay, and the
-// rows that come behind them.
+// These rows merged with the runs before them that have less than twice their entries: how many runs stay, and the rows
+// that come after them.
 fn gather(alloc: Global, runs: &[Run], rows: Vec<Entry>) -> Result<(usize, Vec<Entry>), Memory>
     requires { AreRuns (runs.now ++ rows.items ∷ []) }
     ensures kept { IfOk result (λ g. g.0 ≤ length runs.now) }
@@ -143,7 +144,7 @@ fn gather(alloc: Global, runs: &[Run], rows: Vec<Entry>) -> Result<(usize, Vec<E
     Ok((kept, rows))
 }
 
-// The run in place of all behind the first `kept`.
+// Replaces all runs after the first `kept` by this one.
 fn put(runs: &mut Vec<Run>, kept: usize, run: Run) -> Result<(), Memory>
     requires { kept ≤ length runs.old.items }
     ensures put { OnOk result (runs.new.items ≡ take kept runs.old.items ++ run ∷ []) }
@@ -158,7 +159,7 @@ fn put(runs: &mut Vec<Run>, kept: usize, run: Run) -> Result<(), Memory>
     Ok(())
 }
 
-// So many steps.
+// This many steps.
 fn count<L: Ledger>(number: usize, steps: &mut Steps<L>)
     ensures { steps.new ≡ steps.old + number }
 {

@@ -3,11 +3,11 @@ ghost use Rattle.cq_shard.specs.Runs.{IsRun, IsNear};
 
 use cq_base::Entry;
 
-// How many entries are looked at, at most, before the rest is searched by halves.
+// How many entries are looked at, at most, before the rest is left to a binary search.
 const STEPS: u32 = 8;
 
-/// Behind how many entries, all with lesser keys, those with this key or a greater one stand. Where keys are spread evenly
-/// it looks at a few entries that stand side by side, however many there are; else it is a binary search at most, and a few
+/// The number of entries before the first with this key or a greater one; all of them have lesser keys. If keys are spread
+/// evenly it looks at a few adjacent entries, however many there are; otherwise it is a binary search at most, and a few
 /// steps more.
 pub(crate) fn first_at(rows: &[Entry], key: u64) -> usize
     requires { IsRun rows.now }
@@ -19,9 +19,9 @@ pub(crate) fn first_at(rows: &[Entry], key: u64) -> usize
     from + rows[from..to].partition_point(|row| row.key < key)
 }
 
-// From where on up to where the first with the key, or with a greater one, can stand. The key tells about where, and the
-// key found there how far beside; from then on steps double until one goes past. Keys that are not spread make the steps
-// useless, and leave all to the search behind them.
+// The range in which the first entry with the key, or with a greater one, can be. The key gives a first guess, and the
+// key found there says how far off it is; from then on steps double until one goes past. If keys are not spread evenly,
+// the steps are useless and the search after them does everything.
 fn near(rows: &[Entry], key: u64) -> (usize, usize)
     requires { IsRun rows.now }
     ensures { IsNear rows.now key result.0 result.1 }
@@ -52,7 +52,7 @@ fn near(rows: &[Entry], key: u64) -> (usize, usize)
     (from, to)
 }
 
-// About how many of so many entries have keys within such a distance, where 2^64 keys are spread evenly among them.
+// About how many of this many entries have keys within a distance, if 2^64 keys are spread evenly among them.
 fn share(distance: u64, entries: usize) -> usize {
     ((distance >> 32).saturating_mul(entries as u64) >> 32) as usize
 }

@@ -55,17 +55,17 @@ impl Shard {
         self.store.applied()
     }
 
-    /// Of the changes up to this one, the puts alone are held that it keeps.
+    /// Of the changes up to this one, it holds only the puts that it keeps.
     pub fn floor(&self) -> u64
         ensures { result ≡ self.now.floor }
     {
         self.floor
     }
 
-    /// Applies the next change, whose work is given exactly where it is a put. Where memory is refused, nothing has
-    /// changed. It looks at each key of the work; each that is the shard's costs a step and an entry. Beside that, runs
-    /// of entries are merged: over all applications each entry is moved about as often as the logarithm of their number.
-    /// A put costs 16 bytes as long as the shard knows it, even where no key is the shard's.
+    /// Applies the next change, whose work is given exactly if it is a put. If memory is refused, nothing has changed.
+    /// It looks at each key of the work; each that is the shard's costs a step and an entry. Beside that, runs of
+    /// entries are merged: over all applications each entry is moved about as often as the logarithm of their number. A
+    /// put costs 16 bytes as long as the shard knows it, even if no key is the shard's.
     pub fn apply<W: Indexed, L: Ledger>(
         &mut self,
         change: u64,
@@ -93,9 +93,9 @@ impl Shard {
         Ok(())
     }
 
-    /// Applies the next changes, one for each of these works, which are given exactly where the changes are puts, and of which
-    /// these are the entries that are the shard's. Where memory is refused, nothing has changed. Each entry costs a step; they
-    /// are sorted where they stand and merged once, as one run.
+    /// Applies the next changes, one for each of these works, which are given exactly if the changes are puts, and of which
+    /// these are the entries that are the shard's. If memory is refused, nothing has changed. Each entry costs a step; they
+    /// are sorted in place and merged once, as one run.
     pub fn apply_all<W: Indexed, L: Ledger>(
         &mut self,
         works: &[Option<Arc<W, Global>>],
@@ -131,9 +131,9 @@ impl Shard {
         self.store.bucket(alloc, key, live)
     }
 
-    /// Takes all puts up to the new floor out, with their entries, but for those to keep, which are the puts that this
+    /// Takes all puts up to the new floor out, with their entries, except for those to keep, which are the puts that this
     /// floor keeps, so that the shard knows them all. It is two searches among the puts, and one more for each that goes;
-    /// what stands behind that moves up. It takes no memory.
+    /// what comes after that moves up. It takes no memory.
     pub fn sweep(&mut self, floor: u64, keep: &[u64])
         requires low { self.old.floor ≤ floor }
         requires high { floor ≤ self.old.applied }

@@ -14,9 +14,9 @@ use std::alloc::Global;
 use std::marker::Model;
 use std::sync::ledger::Ledger;
 
-/// The puts of a shard that no sweep took out, and their entries. What entries a sweep takes out stay in their run until
-/// that is merged with another, or until all that stays so is as much as what stands; then the runs are cleared where
-/// they stand. So sweeping takes no memory, and a run has what was taken out since it was made, and nothing older.
+/// The puts of a shard that no sweep took out, and their entries. The entries that a sweep takes out stay in their run
+/// until that is merged with another, or until they are as many as those that are left; then the runs are cleared in
+/// place. So sweeping takes no memory, and a run has what was taken out since it was made, and nothing older.
 #[derive(Drop)]
 pub(crate) struct Store {
     runs: Runs,
@@ -57,7 +57,7 @@ impl Store {
         self.applied
     }
 
-    /// The puts of the changes up to this one more, and their entries by change and place; none of them where memory is
+    /// Adds the puts of the changes up to this one, and their entries by change and place; none of them if memory is
     /// refused. Each entry is one step.
     pub fn add<L: Ledger>(
         &mut self,
@@ -94,7 +94,7 @@ impl Store {
     }
 
     /// Those with the key whose change is one of `live`, by change and place. It searches each run that may have the key,
-    /// `live` for each entry with it, and the puts that stand for each of a live one, where some are gone.
+    /// `live` for each entry with it, and, if some puts are gone, the remaining puts for each entry of a live one.
     pub fn bucket(&self, alloc: Global, key: u64, live: &[u64]) -> Result<Vec<Entry>, Memory>
         requires { IsStrictlyIncreasing live.now }
         ensures { IfOk result (λ bucket. AreAsked key live.now self.now.entries bucket.items) }
@@ -107,9 +107,10 @@ impl Store {
         Ok(bucket)
     }
 
-    /// Takes the puts up to the floor out, with their entries, but for those to keep. It is a search for each that goes,
-    /// two more, and a move of those behind; and, where as much has gone as stands, a search for each entry of all runs.
-    /// It takes no memory. Towards that what goes counts as its entries, and as its puts where these are more.
+    /// Takes the puts up to the floor out, with their entries, except for those to keep. It is a search for each that
+    /// goes, two more, and a move of those after them; and, once as much has gone as is left, a search for each entry of
+    /// all runs. It takes no memory. For that comparison, what goes counts as its entries, or as its puts if these are
+    /// more.
     pub fn sweep(&mut self, floor: u64, keep: &[u64])
         requires rising { IsStrictlyIncreasing keep.now }
         requires known { AreAmong keep.now self.old.puts }
@@ -126,8 +127,8 @@ impl Store {
     }
 }
 
-// Clears the runs with which so many entries more will be merged of what a sweep took out, where there is any, and tells how
-// much is still there. It is counted as one where all of it may have gone.
+// Clears the runs with which this many more entries will be merged of what a sweep took out, if there is any, and returns
+// how much is still there. It is counted as one if all of it may have gone.
 fn cleared(runs: &mut Runs, table: &Table, added: usize, gone: u64) -> u64
     ensures those { those_of table.now runs.new ≡ those_of table.now runs.old }
     ensures fewer { (e : Entry) → Contains runs.new e → Contains runs.old e }
@@ -141,7 +142,8 @@ fn cleared(runs: &mut Runs, table: &Table, added: usize, gone: u64) -> u64
     gone.saturating_sub(taken).max(1)
 }
 
-// The entries more in the runs, and the puts in the table; where memory is refused, none or in the table alone.
+// Adds the entries to the runs, and the puts to the table; if memory is refused, nothing or only the table is
+// changed.
 fn put<L: Ledger>(
     alloc: Global,
     runs: &mut Runs,

@@ -73,15 +73,15 @@ impl Table {
         Ok(())
     }
 
-    /// The first so many puts alone.
+    /// Only the first puts, this many.
     pub fn cut(&mut self, number: usize)
         ensures { self.new ≡ take number self.old }
     {
         self.changes.truncate(number);
     }
 
-    /// Takes the puts up to the floor out but for those to keep, and tells how many went, and how many entries they had.
-    /// It is two searches, and one more for each that goes. What stands between two that go, or behind the last, moves up
+    /// Takes the puts up to the floor out except for those to keep, and returns how many went, and how many entries they
+    /// had. It is two searches, and one more for each that goes. What is between two that go, or after the last, moves up
     /// at once.
     pub fn take_out(&mut self, floor: u64, keep: &[u64]) -> (usize, u64)
         requires keep { IsStrictlyIncreasing keep.now }
@@ -98,7 +98,7 @@ impl Table {
     }
 }
 
-// For each of the puts how many of the entries it has, behind other numbers. The entries come by change.
+// For each of the puts how many of the entries it has, after other numbers. The entries come by change.
 fn count(sizes: &mut Vec<u64>, puts: &[u64], entries: &[Entry]) -> Result<(), Memory>
     ensures long { length sizes.old.items ≤ length sizes.new.items }
     ensures each { OnOk result (length sizes.new.items ≡ length sizes.old.items + length puts.now) }
@@ -120,8 +120,8 @@ fn up_to(numbers: &[u64], floor: u64) -> usize
     numbers.partition_point(|number| *number <= floor)
 }
 
-// Takes so many changes out, which stand among those to keep, up to the last of these or behind it, and tells how many
-// entries they had.
+// Takes this many changes out, which are among those to keep, up to the last of these or after it, and returns how
+// many entries they had.
 fn close_up(changes: &mut Vec<u64>, sizes: &mut Vec<u64>, keep: &[u64], number: usize) -> u64
     requires sized { length changes.old.items ≤ length sizes.old.items }
     requires within { length keep.now + number ≤ length changes.old.items }
@@ -145,8 +145,8 @@ fn close_up(changes: &mut Vec<u64>, sizes: &mut Vec<u64>, keep: &[u64], number: 
     taken
 }
 
-// Up to where, from a place on, what is to be kept stands so many places further on among the changes. It searches by
-// halves.
+// Up to where, from a place on, what is to be kept is this many places further on among the changes. It is a binary
+// search.
 fn alike(changes: &[u64], keep: &[u64], from: usize, gone: usize) -> usize
     requires from { from ≤ length keep.now }
     requires within { length keep.now + gone ≤ length changes.now }
@@ -176,7 +176,7 @@ fn between(low: usize, high: usize) -> usize
     low + (high - low) / 2
 }
 
-// Moves so many numbers from one place on to an earlier one, over those that stand there.
+// Moves this many numbers from one place on to an earlier one, over those that are there.
 fn move_up(numbers: &mut Vec<u64>, from: usize, many: usize, to: usize)
     requires earlier { to ≤ from }
     requires within { from + many ≤ length numbers.old.items }

@@ -1,6 +1,6 @@
-ghost use Rattle.std.specs.Prelude.{◌≡◌, ◌-◌, ◌<◌, ◌≤◌, ◌^◌, [], ◌++◌, IfOk};
+ghost use Rattle.std.specs.Prelude.{◌≡◌, ◌-◌, ◌<◌, ◌≤◌, ◌^◌, ℕ, max, [], ◌++◌, IfOk};
 ghost use Rattle.cq_cells.specs.Callers.{longer};
-ghost use Rattle.cq_cells.specs.Passes.{by_of, with_child, child_of};
+ghost use Rattle.cq_cells.specs.Passes.{by_of, least, with_child, child_of};
 ghost use Rattle.cq_cells.specs.Steps.{AreOneHistory};
 ghost use Rattle.cq_chain.specs.Passes.{IsOwn, HasNoneFrom};
 ghost use Rattle.cq_hub.specs.Answers.{HasViewOpen, Shuts};
@@ -86,6 +86,7 @@ impl<W: Indexed, R> Shared<W, R> {
         ensures room { (pass.new.next ≡ pass.old.next) × (pass.new.room ≡ pass.old.room) }
         ensures own { IsOwn pass.old pass.new.seen × IsOwn other pass.new.seen }
         ensures unmade { 0 < pass.new.next → HasNoneFrom pass.new.next pass.new.seen }
+        ensures least { (s : ℕ) → least pass.new s ≡ max (least pass.old s) (least other s) }
         ensures asked { pass.new.asked ≡ pass.old.asked }
     {
         self.cells.join_pass(pass, other);

@@ -14,9 +14,10 @@ struct Listening {
 }
 
 /// Connections of TCP, as many as were stated, and then no more. A call that was interrupted is made again, and so is one
-/// that fails because the peer that it was to connect went away. Any other failure is a fault of the doors: an address that
-/// can't be bound or is none, and a connection for which the operating system has no room. What happens to a connection
-/// later is a fault of its own source or sink. Its replies are sent at once, and none waits for another to be acknowledged.
+/// that reports what happened to a connection before it was accepted. A connection is dropped if too many files are open for
+/// a second handle on it, and the next one is waited for. Any other failure is a fault of the doors: an address that can't be
+/// bound or is none, and a connection for which the operating system has no room. What happens to a connection later is a
+/// fault of its own source or sink. Its replies are sent at once, and none waits for another to be acknowledged.
 #[derive(Drop)]
 pub struct TcpDoors<'a, R> {
     net: &'a R,
@@ -52,18 +53,52 @@ fn listener_at<R: Net<Listener = TcpListener, Stream = TcpStream>>(
     TcpListener::bind(net, text).ok()
 }
 
-// Whether the call may succeed when it is made again: it was interrupted, or its peer went away.
+// Linux's numbers of errors for which `ErrorKind` has no variant of their own.
+const ENONET: i32 = 64;
+
+const EPROTO: i32 = 71;
+
+const ENOPROTOOPT: i32 = 92;
+
+const EOPNOTSUPP: i32 = 95;
+
+const EHOSTDOWN: i32 = 112;
+
+// Whether `accept` may succeed when it is called again: it was interrupted, or it reports an error of the network that was
+// pending on the new connection. accept(2) of Linux lists these, and says to treat them so.
 fn is_passing(error: &io::Error) -> bool {
     matches!(
         error.kind(),
-        ErrorKind::Interrupted | ErrorKind::ConnectionAborted | ErrorKind::ConnectionReset
+        ErrorKind::Interrupted
+            | ErrorKind::ConnectionAborted
+            | ErrorKind::ConnectionReset
+            | ErrorKind::NetworkDown
+            | ErrorKind::NetworkUnreachable
+            | ErrorKind::HostUnreachable
+    ) || matches!(
+        error.raw_os_error(),
+        Some(ENONET | EPROTO | ENOPROTOOPT | EOPNOTSUPP | EHOSTDOWN)
     )
 }
 
-fn accepted(listener: &TcpListener) -> Option<TcpStream> {
+// A connection for a reader and for a writer, unless too many files are open for a second handle on it.
+fn ends_of(stream: TcpStream) -> Option<(TcpStream, TcpStream)> {
+    // If it can't be set, replies are only slower.
+    let _ = stream.set_nodelay(true);
+    let reader = stream.try_clone().ok()?;
+    Some((reader, stream))
+}
+
+// The next connection. One that has only one handle is dropped, and the next one is waited for.
+fn next_ends(listener: &TcpListener) -> Option<(TcpStream, TcpStream)> {
     for _ in 0..u64::MAX {
         match listener.accept() {
-            Ok((stream, _)) => return Some(stream),
+            Ok((stream, _)) => {
+                let ends = ends_of(stream);
+                if ends.is_some() {
+                    return ends;
+                }
+            }
             Err(error) => {
                 if !is_passing(&error) {
                     return None;
@@ -72,15 +107,6 @@ fn accepted(listener: &TcpListener) -> Option<TcpStream> {
         }
     }
     None
-}
-
-// The next connection, for a reader and for a writer.
-fn ends_of(listener: &TcpListener) -> Option<(TcpStream, TcpStream)> {
-    let stream = accepted(listener)?;
-    // Where it can't be set, replies are only slower.
-    let _ = stream.set_nodelay(true);
-    let reader = stream.try_clone().ok()?;
-    Some((reader, stream))
 }
 
 impl<'a, R: Net<Listener = TcpListener, Stream = TcpStream>> Doors for TcpDoors<'a, R> {
@@ -115,7 +141,7 @@ impl<'a, R: Net<Listener = TcpListener, Stream = TcpStream>> Doors for TcpDoors<
         let Some(listening) = &self.listening else {
             unreachable!()
         };
-        let Some((reader, writer)) = ends_of(&listening.listener) else {
+        let Some((reader, writer)) = next_ends(&listening.listener) else {
             self.faults = self.faults.saturating_add(1);
             return Err(Failed);
         };

@@ -1,4 +1,4 @@
--- What a user of a server may be told while workers go on beside it: the replies are walked from line to line.
+-- What a user of a server may be told while workers run beside it: the replies are walked from line to line.
 use Rattle.std.specs.Prelude.{◌≡◌, ◌⊎◌, ℕ, ◌+◌, ◌-◌, ◌<◌, ◌≤◌, true, false, max, List, [], ◌∷◌, ◌++◌, length, slice_index_or, None, Ok, Err}
 use Rattle.cq_base.specs.declared.settings.Settings.{Settings}
 use Rattle.cq_base.specs.declared.change.Change.{Change}
@@ -26,7 +26,7 @@ pub record Known : Type 0 where
 abbrev pub nothing_known : Known
 nothing_known = record { changes = []; version = 0; answered = 0 }
 
--- a change whose number is told is accepted, and no other is
+-- a change whose number is reported is accepted, and no other is
 abbrev pub with_told : List Change → Change → Reply → List Change
 with_told changes change (reply.Change n) = changes ++ change ∷ []
 with_told changes change _ = changes
@@ -41,11 +41,12 @@ changes_then changes (Read (Ok request.State)) r = changes
 abbrev pub known_then : Known → Said → Reply → Known
 known_then k l r = record { changes = changes_then k.changes l r; version = max k.version (version_in r); answered = max k.answered (answered_in r) }
 
--- it drops a path whose last put or drop is no put, and is told so
+-- it drops a path whose last put or drop is no put, and is refused so
 abbrev pub IsAbsentBeside : Known → Change → Reply → Type 0
 IsAbsentBeside k change r = (is_absent (state_at k.changes k.answered) change ≡ true) × (r ≡ cause_told Absent)
 
--- It is told that there are too many changes. Then so many would be kept with the floor at the last version that was answered.
+-- It is refused since there are too many changes. Then that many would be kept with the floor at the last version that was
+-- answered.
 abbrev pub IsFullBeside : Settings → Known → Change → Reply → Type 0
 IsFullBeside set k change r = (is_absent (state_at k.changes k.answered) change ≡ false) × (is_full set (state_at k.changes k.answered) ≡ true) × (r ≡ cause_told FullChanges)
 
@@ -64,11 +65,11 @@ IsChangedBeside set k change r = IsAbsentBeside k change r ⊎ (IsFullBeside set
 abbrev pub IsPut : List Change → ℕ → Type 0
 IsPut changes n = IsNumber changes n × (is_put (slice_index_or changes (n - 1) no_slot.change) ≡ true)
 
--- it asks for more changes than were accepted, and is told how many there are
+-- it asks for more changes than were accepted, and the reply says how many there are
 abbrev pub IsFutureBeside : Known → Query → Reply → Type 0
 IsFutureBeside k q r = (length k.changes < q.at) × (r ≡ reply.Future (length k.changes))
 
--- It is not to finish works, and is told of a put that is above each version named before.
+-- It is not to finish works, and the reply names a put that is above each version named before.
 pub record IsPendingBeside (k : Known) (q : Query) (r : Reply) : Type 0 where
   pub within : q.at ≤ length k.changes
   pub no_work : q.finish ≡ false
@@ -100,7 +101,7 @@ IsReplyBeside set k (Read (Ok (request.Change change))) r = IsChangedBeside set 
 IsReplyBeside set k (Read (Ok (request.Query q))) r = IsAnsweredBeside set k q r
 IsReplyBeside set k (Read (Ok request.State)) r = IsToldBeside k r
 
--- One reply for each line, in order. Any line that was read may be told of want of memory.
+-- One reply for each line, in order. Any line that was read may be answered with out of memory.
 abbrev pub IsBeside : Settings → Known → List Said → List Reply → Type 0
 IsBeside set k [] [] = Unit {0}
 IsBeside set k [] (r ∷ replies) = ⊥

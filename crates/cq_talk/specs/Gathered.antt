@@ -57,7 +57,7 @@ GatheredAlone = (c : ℕ) (after : List Event) → Gathered c after (c ∷ []) a
 abbrev pub GatheredMore : Type 0
 GatheredMore = (c : ℕ) (after seen other new : List Event) (mine theirs : List ℕ) → Gathered c after mine seen → Joins mine seen theirs other new → AllByRecursion (StaysQuiet other) theirs → Gathered c after (mine ++ theirs) new
 
--- Where all others were joined into the talk's pass, and none accepted a change or opened a view, the talk is one with workers
+-- If all others were joined into the talk's pass, and none accepted a change or opened a view, the talk is one with workers
 -- beside it.
 abbrev pub TalksBesideWorkers : Type 0
 TalksBesideWorkers =

@@ -35,7 +35,7 @@ pub record BesideGives (set : Settings) (k : Known) : Type 0 where
   pub kept : (a d p b e s : ℕ) → IsBeside set k (asks_state ∷ asks_state ∷ []) (reply.State a d p ∷ reply.State b e s ∷ []) → (p ≤ s) × (p ≤ e) × (a ≡ b)
   -- what was answered once is not pending again
   pub answered : (first second : Query) (r : Reply) (n : ℕ) → IsBeside set k (asks first ∷ asks second ∷ []) (r ∷ reply.Pending n ∷ []) → 0 < version_in r → ⊥
-  -- who asks that works be finished is not told to wait
+  -- a client that asks for works to be finished is not told to wait
   pub waits : (q : Query) (n : ℕ) → IsBeside set k (asks q ∷ []) (reply.Pending n ∷ []) → q.finish ≡ false
   -- a line that is too long is told so
   pub too_long : (r : Reply) → IsBeside set k (TooLong ∷ []) (r ∷ []) → r ≡ reply.Long
@@ -43,7 +43,7 @@ pub record BesideGives (set : Settings) (k : Known) : Type 0 where
 pub record AloneGives (set : Settings) (k : Walk) : Type 0 where
   -- there is one reply for each line
   pub one_each : (lines : List Said) (replies : List Reply) → IsAloneUpToMemory set k lines replies → length replies ≡ length lines
-  -- the state that is told is that of the walk
+  -- the state that is reported is that of the walk
   pub told : (a d p : ℕ) → IsAloneUpToMemory set k (asks_state ∷ []) (reply.State a d p ∷ []) → (a ≡ length k.changes) × (d ≡ k.done) × (p ≡ k.published)
   -- an accepted change has the next number and counts at once; what is published stays
   pub accepted : (change : Change) (n a d p : ℕ) → IsAloneUpToMemory set k (changes change ∷ asks_state ∷ []) (reply.Change n ∷ reply.State a d p ∷ []) → (n ≡ length k.changes + 1) × ((a ≡ length (k.changes ++ change ∷ [])) × (d ≡ done_with k change) × (p ≡ k.published))
@@ -51,5 +51,5 @@ pub record AloneGives (set : Settings) (k : Walk) : Type 0 where
   pub refused : (change : Change) (why : Refused) (a d p : ℕ) → (cause_told why ≡ reply.Memory → ⊥) → IsAloneUpToMemory set k (changes change ∷ asks_state ∷ []) (cause_told why ∷ reply.State a d p ∷ []) → (a ≡ length k.changes) × (d ≡ k.done) × (p ≡ k.published)
   -- an answer is of all changes, which are done and published then
   pub answered : (q : Query) (r : Reply) (a d p : ℕ) → 0 < version_in r → IsAloneUpToMemory set k (asks q ∷ asks_state ∷ []) (r ∷ reply.State a d p ∷ []) → (version_in r ≡ length k.changes) × ((a ≡ length k.changes) × (d ≡ length k.changes) × (p ≡ length k.changes))
-  -- who is told to wait did not ask that works be finished, and is told the first change that isn't done
+  -- a client that is told to wait did not ask for works to be finished, and is told the first change that isn't done
   pub waits : (q : Query) (n : ℕ) → IsAloneUpToMemory set k (asks q ∷ []) (reply.Pending n ∷ []) → (q.finish ≡ false) × (n ≡ k.done + 1) × (k.done < length k.changes)

@@ -25,11 +25,11 @@ ActsBy c (Open by p) = by ≡ c
 ActsBy c (Shut by) = Unit {0}
 ActsBy c (Floor f) = Unit {0}
 
--- with a hub that is alone, its replies are those of a server alone
+-- with a hub that nobody else calls, its replies are those of a server alone
 abbrev pub TalksAlone : Type 0
 TalksAlone = (set : Settings) (callers c : ℕ) (after : List Event) (lines : List Said) (replies : List Reply) → Talk set callers (Unit {0}) c 0 [] lines replies after → Lawful set callers after → IsAloneUpToMemory set no_walk lines replies
 
--- where the hub's other callers accept no changes and open no views, they are those of a server with workers beside it
+-- if the hub's other callers accept no changes and open no views, they are those of a server with workers beside it
 abbrev pub TalksBeside : Type 0
 TalksBeside = (set : Settings) (callers c : ℕ) (after : List Event) (lines : List Said) (replies : List Reply) → Talk set callers ⊥ c 0 [] lines replies after → Lawful set callers after → AllByRecursion (ActsBy c) after → IsBeside set nothing_known lines replies
 

@@ -10,7 +10,7 @@ pub data Said : Type 0 where
   TooLong : Said
   Read : (says : Result Request Refusal) → Said
 
--- what a line says, where a window has so many tokens
+-- what a line says, if a window has this many tokens
 abbrev pub said : ℕ → List ℕ → Said
 said chunk line = if nat_lt line_limit (length line) then TooLong else Read (line_says chunk line)
 

@@ -23,7 +23,7 @@ module _ {S P : Type 0} (Stands : S → P → ℕ → List Event → Type 0) (ca
     pub closed : IsClosed callers c after
     pub holds : Holds after
 
-  -- For each caller and history that the pass stood for with no view open, where this held of the history, the pass
+  -- For each caller and history that the pass stood for with no view open, if this held of the history, the pass
   -- stands for one after it of which that holds.
   abbrev pub Led : S → P → P → (List Event → Type 0) → (ℕ → List Event → List Event → Type 0) → Type 0
   Led hub old new If Row = (c : ℕ) (h : List Event) → Stands hub old c h → IsClosed callers c h → If h → Leads c hub new (Row c h)
@@ -39,7 +39,7 @@ pub record Helps (alone : Type 0) (c to : ℕ) (h : List Event) (Holds : List Ev
   pub grows : Grows alone Never c h after (map (λ r. event.Done c r) finished)
   pub so : Holds after
 
--- a version was published, and a view of one that is not below it opened, shut and swept behind, or neither
+-- a version was published, a view of one that is not below it opened and shut, and a sweep followed, or neither
 pub record Views (alone : Type 0) (c to : ℕ) (h : List Event) (view : Option ℕ) (after : List Event) : Type 0 where
   pub helped : List Event
   pub helps : Grows alone IsPublication c h helped []

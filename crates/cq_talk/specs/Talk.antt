@@ -18,8 +18,8 @@ use Rattle.cq_hub.specs.Hubs.{Grows, IsFloor, IsPublication, Never}
 use Rattle.cq_talk.specs.Said.{Said, TooLong, Read}
 use Rattle.cq_talk.specs.Replies.{named}
 
--- The floor of a query: the greatest of what was named before, the version that it asks for, and, where it may work, how
--- many changes there are at its question.
+-- The floor of a query: the greatest of what was named before, the version that it asks for, and, if it may finish
+-- works, how many changes there are at its question.
 abbrev pub floor_of : ℕ → Query → State → ℕ
 floor_of seen q s = max (max seen q.at) (if q.finish then length s.slots else 0)
 
@@ -32,7 +32,7 @@ abbrev pub viewed : ℕ → Option ℕ → List Event
 viewed c None = []
 viewed c (Some v) = event.Open c v ∷ event.Shut c ∷ []
 
--- nobody's events that may come behind a view that was shut: floors; where no view was opened, none
+-- nobody's events that may follow a view that was shut: floors; if no view was opened, none
 abbrev pub MayFollow : Option ℕ → Event → Type 0
 MayFollow None = Never
 MayFollow (Some v) = IsFloor
@@ -47,7 +47,7 @@ module _ (alone : Type 0) (c : ℕ) where
   abbrev pub Waits : List Event → List Event → Type 0
   Waits h after = Grows alone Never c h after []
 
-  -- the caller's question alone, behind this history
+  -- only the caller's question, after this history
   pub record Asks (h after : List Event) : Type 0 where
     pub mid : List Event
     pub waits : Waits h mid
@@ -65,7 +65,7 @@ module _ (set : Settings) (callers : ℕ) (alone : Type 0) (c : ℕ) where
     pub accepts : after ≡ mid ++ event.Accept c change ∷ []
     pub reply_is : r ≡ reply.Change (length (accepted mid) + 1)
 
-  -- the first cause against it is told, in the history that the refusing call had seen
+  -- the reply is the first cause against it, in the history that the refusing call had seen
   pub record Refuses (h : List Event) (change : Change) (r : Reply) (after : List Event) : Type 0 where
     pub waits : Waits alone c h after
     pub cause : Refused
@@ -77,20 +77,21 @@ module _ (set : Settings) (callers : ℕ) (alone : Type 0) (c : ℕ) where
 
   -- ---- the state
 
-  -- the numbers at the question are told
+  -- the numbers at the question are reported
   pub record Tells (h : List Event) (r : Reply) (after : List Event) : Type 0 where
     pub asks : Asks alone c h after
     pub reply_is : r ≡ reply.State (length (state callers asks.mid).slots) (ready (state callers asks.mid)) (state callers asks.mid).published
 
   -- ---- queries
 
-  -- It asks for more changes than there are at its question, and is told how many there are.
+  -- It asks for more changes than there are at its question, and the reply says how many there are.
   pub record IsFuture (h : List Event) (q : Query) (r : Reply) (after : List Event) : Type 0 where
     pub asks : Asks alone c h after
     pub above : length (state callers asks.mid).slots < q.at
     pub reply_is : r ≡ reply.Future (length (state callers asks.mid).slots)
 
-  -- It is not to finish works, and some change up to its floor is not done at its question: the least such one is told.
+  -- It is not to finish works, and some change up to its floor is not done at its question: the reply names the least
+  -- such one.
   pub record IsPending (seen : ℕ) (h : List Event) (q : Query) (r : Reply) (after : List Event) : Type 0 where
     pub asks : Asks alone c h after
     pub within : q.at ≤ length (state callers asks.mid).slots
@@ -100,7 +101,7 @@ module _ (set : Settings) (callers : ℕ) (alone : Type 0) (c : ℕ) where
     pub reply_is : r ≡ reply.Pending (ready (state callers asks.mid) + 1)
 
   -- What a query does that is not refused, as far as it came: its question; the works that it did, of changes up to its
-  -- floor; a view of a version that is not below its floor, which is shut again; and a sweep behind that.
+  -- floor; a view of a version that is not below its floor, which is shut again; and a sweep after that.
   pub record IsServed (seen : ℕ) (q : Query) (h after : List Event) (view : Option ℕ) : Type 0 where
     pub asked : List Event
     pub asks : Asks alone c h asked
@@ -115,8 +116,8 @@ module _ (set : Settings) (callers : ℕ) (alone : Type 0) (c : ℕ) where
     pub recent : IfSome view (λ v. floor_of seen q (state callers asks.mid) ≤ v)
     pub sweeps : Grows alone (MayFollow view) c shut after []
 
-  -- It is answered by the changes up to the version of its view. Behind the view, and before the caller's next event, the
-  -- floor stands at the least of the published version and the open ones.
+  -- It is answered by the changes up to the version of its view. After the view, and before the caller's next event, the
+  -- floor is the least of the published version and the open ones.
   pub record IsShown (seen : ℕ) (h : List Event) (q : Query) (r : Reply) (after : List Event) : Type 0 where
     pub version : ℕ
     pub served : IsServed seen q h after (Some version)
@@ -137,8 +138,8 @@ module _ (set : Settings) (callers : ℕ) (alone : Type 0) (c : ℕ) where
   IsAnswer seen h (Read (Ok (request.Query q))) r after = IsAnswered seen h q r after
   IsAnswer seen h (Read (Ok request.State)) r after = Tells h r after
 
-  -- How far a line came where memory was refused: what it did is a beginning of what it does, it accepted nothing, and
-  -- no view is open.
+  -- How far a line came if memory was refused: what it did is a beginning of what it does, it accepted nothing, and no
+  -- view is open.
   abbrev pub IsGivenUp : ℕ → List Event → Said → List Event → Type 0
   IsGivenUp seen h TooLong after = ⊥
   IsGivenUp seen h (Read (Err why)) after = Waits alone c h after

@@ -1,14 +1,14 @@
 ghost use Rattle.cq_talk.specs.Gathered as gathered;
 ghost use Rattle.cq_talk.specs.Laws as law;
 
-/// A talk with a hub that is alone, from the empty history on, is that of a server alone, up to the first reply that tells
-/// want of memory.
+/// A talk with a hub that nobody else calls, from the empty history on, is that of a server alone, up to the first reply
+/// that reports out of memory.
 pub fn talks_alone()
     ensures { law.TalksAlone }
 {}
 
-/// A talk with a hub whose other callers accept no changes and open no views, from the empty history on, is that of a server
-/// with workers beside it, throughout; so is one with a hub that is alone.
+/// A talk with a hub whose other callers accept no changes and open no views, from the empty history on, is that of a
+/// server with workers beside it, throughout; so is one with a hub that nobody else calls.
 pub fn talks_beside()
     ensures beside { law.TalksBeside }
     ensures alone { law.TalksAloneBeside }
@@ -29,7 +29,7 @@ pub fn alone_gives()
     ensures { law.AllGivenAlone }
 {}
 
-/// A talk is one with workers beside it where all passes are joined at the end, and those of the others accepted no change and
+/// A talk is one with workers beside it if all passes are joined at the end, and those of the others accepted no change and
 /// opened no view.
 pub fn talks_beside_workers()
     ensures first { gathered.GatheredAlone }

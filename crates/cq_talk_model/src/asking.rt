@@ -1,8 +1,9 @@
+use crate::changes::{Change, Condition, Put, Query, conditions_at, files_at};
 use crate::counts::counts_of;
 use crate::draws::Draws;
 use crate::groups::{Token, runs_of, tokens_of};
-use crate::model::{Change, Condition, Model, Put, Query, conditions_at, files_at};
-use crate::requests::{Kind, Request, drawn_request, tell_bad, write_request};
+use crate::model::Model;
+use crate::requests::{Kind, Request, drawn_request, tell_bad, write_line};
 use crate::telling::{
     tell_change, tell_counts, tell_files, tell_refusal, tell_runs, tell_state, tell_verdict,
     tell_version,
@@ -21,7 +22,7 @@ pub struct Lines {
 fn accept(model: &mut Model, change: Change, lines: &mut Lines) -> Result<(), Memory> {
     match model.accept(change)? {
         Some(refusal) => tell_refusal(refusal, &mut lines.told),
-        None => tell_change(model.accepted(), &mut lines.told),
+        None => tell_change(model.accepted.count(), &mut lines.told),
     }
 }
 
@@ -73,7 +74,7 @@ fn tell_query(
     told: &mut String,
 ) -> Result<(), Memory> {
     match model.answer(query) {
-        Ok(version) => tell_query_at(alloc, kind, query, &model.changes, version, told),
+        Ok(version) => tell_query_at(alloc, kind, query, &model.accepted.changes, version, told),
         Err(refusal) => tell_refusal(refusal, told),
     }
 }
@@ -85,13 +86,18 @@ fn ask(
     model: &mut Model,
     lines: &mut Lines,
 ) -> Result<(), Memory> {
-    let request = drawn_request(alloc, draws, model.accepted())?;
-    write_request(&request, &mut lines.asked)?;
+    let request = drawn_request(alloc, draws, model.accepted.count())?;
+    write_line(&request, &mut lines.asked)?;
     match request {
         Request::Change(change) => accept(model, change, lines),
         Request::State => {
             let published = model.look();
-            tell_state(model.accepted(), model.done(), published, &mut lines.told)
+            tell_state(
+                model.accepted.count(),
+                model.done(),
+                published,
+                &mut lines.told,
+            )
         }
         Request::Query(kind, query) => tell_query(alloc, kind, &query, model, &mut lines.told),
         Request::Bad(at) => tell_bad(at, &mut lines.told),

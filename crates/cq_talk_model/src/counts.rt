@@ -1,5 +1,5 @@
+use crate::changes::{Condition, Put, Query};
 use crate::groups::{Run, Token};
-use crate::model::{Condition, Put, Query};
 use crate::scopes::is_in_scope;
 use crate::texts::{Spelling, lines_of};
 use cq_base::Memory;

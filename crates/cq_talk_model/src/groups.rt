@@ -1,4 +1,4 @@
-use crate::model::Put;
+use crate::changes::Put;
 use crate::texts::Spelling;
 use cq_base::Memory;
 use std::alloc::Global;

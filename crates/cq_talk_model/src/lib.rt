@@ -1,23 +1,29 @@
-//! The plain model that trials of talks share, which rests on docs/PROTOCOL.md alone: lines drawn at random, what one talk is
-//! told of them, and which replies one history allows to talks at the same time. It shares no code with what is tried: it
-//! writes the text of each line and that of its reply itself, cuts a text into words as it makes it, and finds groups by
-//! trying each run of tokens at each place. A reply costs a walk over all changes, and each pair of tokens of a project.
+//! The plain model that trials of talks and of scripts share, which rests on docs/PROTOCOL.md alone: lines drawn at random, what
+//! one talk is told of them, and what a project is at each version. It shares no code with what is tried: it writes the text of
+//! each line and that of its reply itself, cuts a text into words as it makes it, and finds groups by trying each run of tokens
+//! at each place. A reply costs a walk over all changes, and each pair of tokens of a project.
 #![tactic(auto)]
 
 mod asking;
+mod changes;
 mod counts;
+mod differing;
 mod draws;
 mod groups;
 mod model;
-mod replies;
 mod requests;
 mod scopes;
 mod telling;
 mod texts;
 
-pub use asking::{Lines, drawn_lines};
+pub use asking::{Lines, drawn_lines, tell_query_at};
+pub use changes::{Accepted, Change, Put, Query, Refusal, file_at};
+pub use differing::difference;
 pub use draws::Draws;
-pub use model::{Change, Model};
-pub use replies::{
-    Plan, Talk, first_change, first_fault, first_fault_at_end, history_of, planned_lines,
+pub use groups::{Token, tokens_of};
+pub use model::Model;
+pub use requests::{
+    Kind, Request, drawn_change, drawn_question, drawn_request, tell_bad, write_line, write_request,
 };
+pub use telling::{tell_change, tell_refusal, tell_state};
+pub use texts::Spelling;

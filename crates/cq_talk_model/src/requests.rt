@@ -1,5 +1,5 @@
+use crate::changes::{Change, Condition, Put, Query};
 use crate::draws::Draws;
-use crate::model::{Change, Condition, Put, Query};
 use crate::scopes::scope_name;
 use crate::telling::path_name;
 use crate::texts::{drawn_words, write_words};
@@ -158,8 +158,8 @@ fn drawn_query(draws: &mut Draws, accepted: u64) -> Query {
     }
 }
 
-// Some kinds leave out what they do not have.
-fn drawn_of_a_kind(draws: &mut Draws, accepted: u64) -> Request {
+/// Draws what is asked of a project, about when so many changes are accepted. Some kinds leave out what they don't have.
+pub fn drawn_question(draws: &mut Draws, accepted: u64) -> (Kind, Query) {
     let query = drawn_query(draws, accepted);
     match draws.below(8) {
         0..=1 => {
@@ -170,21 +170,21 @@ fn drawn_of_a_kind(draws: &mut Draws, accepted: u64) -> Request {
                 since: None,
                 ..query
             };
-            Request::Query(Kind::Files, query)
+            (Kind::Files, query)
         }
         2 => {
             let query = Query {
                 path: None,
                 ..query
             };
-            Request::Query(Kind::Verdict, query)
+            (Kind::Verdict, query)
         }
         3..=4 => {
             let scope = match query.path {
                 Some(_) => None,
                 None => query.scope,
             };
-            Request::Query(Kind::Measures, Query { scope, ..query })
+            (Kind::Measures, Query { scope, ..query })
         }
         _ => {
             let query = Query {
@@ -192,20 +192,30 @@ fn drawn_of_a_kind(draws: &mut Draws, accepted: u64) -> Request {
                 since: None,
                 ..query
             };
-            Request::Query(Kind::Groups, query)
+            (Kind::Groups, query)
         }
     }
 }
 
-/// Draws a line, about where so many changes are accepted.
+/// Draws a change: six uploads of nine, two drops and a gate, by a number below nine.
+pub fn drawn_change(alloc: Global, draws: &mut Draws, of_nine: u32) -> Result<Change, Memory> {
+    match of_nine {
+        0..=5 => Ok(Change::Put(drawn_put(alloc, draws)?)),
+        6..=7 => Ok(drawn_drop(draws)),
+        _ => drawn_gate(alloc, draws),
+    }
+}
+
+/// Draws a line, about when so many changes are accepted.
 pub fn drawn_request(alloc: Global, draws: &mut Draws, accepted: u64) -> Result<Request, Memory> {
     match draws.below(20) {
-        0..=5 => Ok(Request::Change(Change::Put(drawn_put(alloc, draws)?))),
-        6..=7 => Ok(Request::Change(drawn_drop(draws))),
-        8 => Ok(Request::Change(drawn_gate(alloc, draws)?)),
+        of_nine @ 0..=8 => Ok(Request::Change(drawn_change(alloc, draws, of_nine)?)),
         9 => Ok(Request::State),
         10 => Ok(Request::Bad(draws.below(14))),
-        _ => Ok(drawn_of_a_kind(draws, accepted)),
+        _ => {
+            let (kind, query) = drawn_question(draws, accepted);
+            Ok(Request::Query(kind, query))
+        }
     }
 }
 
@@ -219,7 +229,7 @@ fn write_put(put: &Put, asked: &mut String) -> Result<(), Memory> {
     )?;
     asked.push_str("\"text\":\"")?;
     write_words(&put.words, asked)?;
-    asked.push_str("\"}\n")?;
+    asked.push_str("\"}")?;
     Ok(())
 }
 
@@ -228,7 +238,7 @@ fn write_drop(project: u32, path: u32, asked: &mut String) -> Result<(), Memory>
     let path = path_name(path);
     write!(
         asked,
-        "{{\"op\":\"drop\",\"project\":\"{project}\",\"path\":\"{path}\"}}\n"
+        "{{\"op\":\"drop\",\"project\":\"{project}\",\"path\":\"{path}\"}}"
     )?;
     Ok(())
 }
@@ -254,7 +264,7 @@ fn write_gate(project: u32, conditions: &[Condition], asked: &mut String) -> Res
         "{{\"op\":\"gate\",\"project\":\"{project}\",\"conditions\":["
     )?;
     write_conditions(conditions, asked)?;
-    asked.push_str("]}\n")?;
+    asked.push_str("]}")?;
     Ok(())
 }
 
@@ -289,7 +299,7 @@ fn write_query(kind: Kind, query: &Query, asked: &mut String) -> Result<(), Memo
         write!(asked, ",\"finish\":{finish}")?;
     }
     write_choice(query, asked)?;
-    asked.push_str("}\n")?;
+    asked.push_str("}")?;
     Ok(())
 }
 
@@ -303,7 +313,6 @@ fn write_bad(at: u32, asked: &mut String) -> Result<(), Memory> {
     if let Some((line, _)) = bad_line(at) {
         asked.push_str(line)?;
     }
-    asked.push_str("\n")?;
     Ok(())
 }
 
@@ -316,7 +325,7 @@ pub fn tell_bad(at: u32, told: &mut String) -> Result<(), Memory> {
     Ok(())
 }
 
-/// Adds its line.
+/// Adds it as it stands in a line.
 pub fn write_request(request: &Request, asked: &mut String) -> Result<(), Memory> {
     match request {
         Request::Change(Change::Put(put)) => write_put(put, asked),
@@ -328,10 +337,17 @@ pub fn write_request(request: &Request, asked: &mut String) -> Result<(), Memory
             },
         ) => write_gate(*project, conditions, asked),
         Request::State => {
-            asked.push_str("{\"op\":\"state\"}\n")?;
+            asked.push_str("{\"op\":\"state\"}")?;
             Ok(())
         }
         Request::Query(kind, query) => write_query(*kind, query, asked),
         Request::Bad(at) => write_bad(*at, asked),
     }
+}
+
+/// Adds its line.
+pub fn write_line(request: &Request, asked: &mut String) -> Result<(), Memory> {
+    write_request(request, asked)?;
+    asked.push_str("\n")?;
+    Ok(())
 }

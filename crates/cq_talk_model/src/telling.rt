@@ -1,6 +1,6 @@
+use crate::changes::{Condition, Put, Refusal};
 use crate::counts::Counts;
 use crate::groups::{Run, Token};
-use crate::model::{Condition, Put, Refusal};
 use crate::texts::lines_of;
 use cq_base::Memory;
 use std::fmt::Write;

@@ -39,7 +39,7 @@ module _ {L : Type 0} (s : Snapshot L) where
   AnswersSaid (Read (Ok request)) r = AnswersRequest request r
   AnswersSaid (Read (Err why)) r = r ≡ refused_as why
 
-  -- the reply to a line; where it isn't too long, it may tell that memory was refused
+  -- the reply to a line; if it isn't too long, the reply may be that memory was refused
   abbrev pub AnswersLine : Settings → List ℕ → Reply → Type 0
   AnswersLine set line r = AnswersSaid (said set.chunk line) r ⊎ (WasRead (said set.chunk line) × (r ≡ reply.Memory))
 

@@ -15,7 +15,7 @@ use Rattle.cq_reply.specs.Written.{line_of}
 use Rattle.cq_tokfile.specs.declared.snapshot.Snapshot.{Snapshot}
 use Rattle.cq_tokfile.specs.Snapshot.{IsTokenFile}
 
--- memory was refused: where what was taken begins with a token file of these settings, nothing behind it was taken
+-- memory was refused: if what was taken begins with a token file of these settings, nothing after it was taken
 pub record TakesNoLine (L : Type 0) {S : Type 0} (from : source.Ghosts S) (set : Settings) (read read_now : S) : Type 0 where
   pub got : List ℕ
   pub taken : Consumes (from.rest read) (from.rest read_now) got
@@ -26,7 +26,7 @@ module _ (L : Type 0) {S K : Type 0} (from : source.Ghosts S) (onto : sink.Ghost
   abbrev pub BeginsWithNoFile : List ℕ → Type 0
   BeginsWithNoFile bytes = (s : Snapshot L) (file rest : List ℕ) → bytes ≡ file ++ rest → IsTokenFile set s file → ⊥
 
-  -- the file at the front was taken, and the lines behind it have their replies from its snapshot
+  -- the file at the front was taken, and the lines after it have their replies from its snapshot
   pub record Answers (read read_now : S) (written written_now : K) (by : End) : Type 0 where
     pub snapshot : Snapshot L
     pub file : List ℕ

@@ -55,7 +55,7 @@ fn turn_long<K: Sink>(sink: &mut K) -> Result<(), Failed>
 }
 
 /// Answers the lines of a source by a kept version, of which these are the buckets. The replies are written in the order of
-/// the lines, each whole but the last where the sink fails.
+/// the lines, each whole except the last if the sink fails.
 pub fn ask_lines<R: Threads + Sync, L: Ledger, S: Source, K: Sink>(
     rt: &R,
     alloc: Global,

@@ -6,9 +6,9 @@ use crate::asking::ask_lines;
 use crate::taking::{Front, take_front};
 use cq_base::{Memory, Settings, Steps};
 use cq_io::{Sink, Source};
-use cq_work::Keyer;
 use cq_lines::{End, Lines};
 use cq_tokfile::{Loaded, Snapshot, decode};
+use cq_work::Keyer;
 use std::alloc::Global;
 use std::sync::ledger::Ledger;
 use std::thread::Threads;
@@ -18,13 +18,13 @@ use std::thread::Threads;
 pub enum Asked {
     /// The source doesn't begin with a token file of the settings, and nothing was written.
     Refused,
-    /// The lines behind it ended so; or a read failed before the file was whole, and nothing was written.
+    /// The lines after it ended so; or a read failed before the file was whole, and nothing was written.
     Ended(End),
 }
 
-/// Answers the lines behind the token file that a source begins with, by its version. `byte_limit` counts the bytes behind
-/// the file. Where memory is refused before the first of these lines is read, nothing is written, and of what was taken
-/// nothing stands behind such a file; behind that, a reply tells it.
+/// Answers the lines after the token file that a source begins with, by its version. `byte_limit` counts the bytes after
+/// the file. If memory is refused before the first of these lines is read, nothing is written and no byte after such a
+/// file was taken; after that, a reply reports it.
 pub fn ask<R: Threads + Sync, L: Ledger, S: Source, K: Sink>(
     rt: &R,
     alloc: Global,

@@ -1,7 +1,7 @@
 //! A kept version of one project, asked by the lines of a source. A line is a query, answered on the version's files with
-//! their works; any other request is refused. What is written is defined by the snapshot and the lines alone, but that a
-//! reply may tell want of memory. A query costs what `cq_answer` says of it, over an index of the version's windows that is
-//! made once. The file before the lines is taken in pieces, and memory only for what has come of it.
+//! their works; any other request is refused. What is written is defined only by the snapshot and the lines, except that a
+//! reply may report out of memory. A query costs what `cq_answer` says of it, over an index of the version's windows that
+//! is made once. The file before the lines is taken in pieces, with memory only for what has come of it.
 #![tactic(auto)]
 
 mod answering;

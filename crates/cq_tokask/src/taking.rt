@@ -12,7 +12,7 @@ use std::alloc::Global;
 // How many bytes are asked for at once.
 const PIECE: usize = 65_536;
 
-/// How the taking of so many bytes ended.
+/// How the taking of this many bytes ended.
 #[derive(Clone, Copy, Debug, PartialEq, Eq)]
 pub(crate) enum Taken {
     /// All of them were taken.
@@ -23,14 +23,14 @@ pub(crate) enum Taken {
     Failed,
 }
 
-/// What stands at the front of a source.
+/// What is at the front of a source.
 #[derive(Debug, Drop)]
 pub(crate) enum Front {
     /// A body in its frame: these bytes, which were taken.
     Framed(Vec<u8>),
     /// Anything else.
     Other,
-    /// A read failed before that could be told.
+    /// A read failed before that could be decided.
     Failed,
 }
 
@@ -52,8 +52,8 @@ fn read_at<S: Source>(
     source.read(&mut piece[at..at + want])
 }
 
-// Takes some of the next bytes, as many as are wanted or fewer, and none where none are left. They come behind those that
-// are there; where memory for them is refused, they are lost.
+// Takes some of the next bytes, as many as are wanted or fewer, and none if none are left. They come after those that are
+// there; if memory for them is refused, they are lost.
 fn take_some<S: Source>(
     source: &mut S,
     piece: &mut Vec<u8>,
@@ -77,7 +77,8 @@ fn take_some<S: Source>(
     }
 }
 
-// Takes so many of the next bytes, and never more. Memory is taken for what has come alone, whatever number is wanted.
+// Takes this many of the next bytes, and never more. Memory is taken only for what has come, whatever number is
+// wanted.
 fn take<S: Source>(
     source: &mut S,
     piece: &mut Vec<u8>,
@@ -110,8 +111,8 @@ fn length_told(bytes: &[u8]) -> Option<usize>
     announced(bytes)
 }
 
-/// Takes the body in its frame that stands at the front of a source. No byte behind it is taken, whatever fails. Where
-/// something else stands there, some bytes may have been taken.
+/// Takes the body in its frame at the front of a source. No byte after it is taken, whatever fails. If something else
+/// is there, some bytes may have been taken.
 pub(crate) fn take_front<S: Source>(alloc: Global, source: &mut S) -> Result<Front, Memory>
     ensures takes { IfOk result (TakesFile S.Source source.old source.new) }
     ensures none_behind { OnErr result (TakesSuch S.Source source.old source.new HasNoneBehind) }

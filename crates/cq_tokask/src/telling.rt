@@ -16,7 +16,7 @@ use std::alloc::Global;
 use std::sync::ledger::Ledger;
 use std::thread::Threads;
 
-/// The line that tells the reply to a line, which is not too long.
+/// The line of the reply to a line, which is not too long.
 pub(crate) fn told<R: Threads + Sync, L: Ledger>(
     rt: &R,
     alloc: Global,

@@ -1,4 +1,4 @@
--- Tokens whose texts lie one behind the other.
+-- Tokens whose texts are stored one after the other.
 use Rattle.std.specs.Prelude.{ℕ, zero, suc, ◌-◌, ◌≤◌, List, [], ◌∷◌, length, sum_by, take, drop}
 use Rattle.cq_base.specs.declared.norm.Norm.{Norm}
 use Rattle.cq_tokens.specs.declared.seen.Seen.{Seen}
@@ -27,7 +27,7 @@ abbrev pub norms_from : ℕ → List Mark → List ℕ → List Norm
 norms_from start [] bytes = []
 norms_from start (m ∷ marks) bytes = record { lang = m.lang; class = m.class; text = bytes_between start m.end bytes } ∷ norms_from m.end marks bytes
 
--- no text ends before it begins, or behind the last byte
+-- no text ends before it begins, or after the last byte
 abbrev pub AreEnds : ℕ → List Mark → ℕ → Type 0
 AreEnds start [] last = start ≤ last
 AreEnds start (m ∷ marks) last = (start ≤ m.end) × AreEnds m.end marks last

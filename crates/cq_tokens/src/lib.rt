@@ -1,7 +1,7 @@
-//! The tokens of a file, and the files that are read or listed together: `FileList` and a `Corpus` are made where what is
-//! always asked of such files holds, and keep it. `Tokens::at` is the only way to read a token, and each read is one step on a counter of
-//! the tokens' own ledger, so a caller's counter bounds what was read. A read costs a look into two lists and takes no
-//! memory. A file's tokens take 8 bytes each, and the bytes of their texts.
+//! The tokens of a file, and the files that are read or listed together. A `FileList` and a `Corpus` are made only if what
+//! is always asked of such files holds, and they keep it. `Tokens::at` is the only way to read a token, and each read is
+//! one step on a counter of the tokens' own ledger, so a caller's counter bounds what was read. A read costs a look into
+//! two lists and takes no memory. A file's tokens take 8 bytes each, and the bytes of their texts.
 #![tactic(auto)]
 
 mod corpus;

@@ -13,7 +13,7 @@ pub(crate) struct Mark {
     pub end: u32,
 }
 
-/// Tokens whose texts lie one behind the other.
+/// Tokens whose texts are stored one after the other.
 #[derive(Drop)]
 pub(crate) struct Packed {
     pub marks: Vec<Mark>,

@@ -35,7 +35,7 @@ impl<'a, F: Files> FileList<'a, F> {
         self.items.tokens(file).len()
     }
 
-    /// The token `n` behind a place, if there is one. It is a step at most.
+    /// The token `n` after a place, if there is one. It is a step at most.
     pub fn token_behind(&self, p: Place, n: u32, steps: &mut Steps<F::Reads>) -> Option<Seen<'a>>
         requires { p.file < length (tokens_in self.now) }
         ensures token { option_map norm_in result ≡ token_behind (tokens_in self.now) p n }

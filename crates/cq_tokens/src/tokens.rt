@@ -8,8 +8,8 @@ use std::alloc::Global;
 use std::marker::{Model, PhantomData};
 use std::sync::ledger::Ledger;
 
-/// The tokens of a file, fewer than 2^32. Their texts lie one behind the other, and take 8 bytes a token beside them.
-/// Their reads are steps of the ledger `L`.
+/// The tokens of a file, fewer than 2^32. Their texts are stored one after the other, with 8 bytes a token beside
+/// them. Their reads are steps of the ledger `L`.
 #[derive(Drop)]
 pub struct Tokens<L: Ledger> {
     packed: Packed,
@@ -49,7 +49,7 @@ impl<L: Ledger> Tokens<L> {
         self.packed.marks.len() as u32
     }
 
-    /// The token at `i`, from 0, and None exactly where there is none. It is one step.
+    /// The token at `i`, from 0, and None exactly if there is none. It is one step.
     pub fn at(&self, i: u32, steps: &mut Steps<L>) -> Option<Seen<'_>>
         ensures token { option_map norm_in result ≡ slice_get self.now i }
         ensures none { IsNone result ↔ (length self.now ≤ i) }

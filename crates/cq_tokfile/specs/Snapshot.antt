@@ -18,7 +18,7 @@ use Rattle.cq_tokfile.specs.declared.snapshot.Snapshot.{Snapshot}
 use Rattle.cq_tokform.specs.Spelling.{Recorded, Contents, outcome, body, whole}
 use Rattle.cq_tokform.specs.Sound.{IsSoundContents, IsSoundBody}
 
--- tokens with the places at which they stand, one for one
+-- tokens with their places, one for one
 abbrev pub spelled_of : List Token → List Norm → List Spelled
 spelled_of [] norms = []
 spelled_of (t ∷ spans) [] = []
@@ -54,13 +54,13 @@ pub record IsSoundSnapshot {L : Type 0} (settings : Settings) (s : Snapshot L) :
   pub contents : IsSoundContents settings (contents_of s)
   pub parts : All (IsOneFile settings) s.files
 
--- the bytes are the token file of a sound snapshot, whose body has the length that stands before it
+-- the bytes are the token file of a sound snapshot, whose body has the length that is written before it
 pub record IsTokenFile {L : Type 0} (settings : Settings) (s : Snapshot L) (bytes : List ℕ) : Type 0 where
   pub sound : IsSoundSnapshot settings s
   pub fits : IsSoundBody (body settings (contents_of s))
   pub is : bytes ≡ whole settings (contents_of s)
 
--- the bytes are read to the snapshot whose token file they are, and to none where they are no token file
+-- the bytes are read to the snapshot whose token file they are, and to none if they are not a token file
 abbrev pub Decodes : {L : Type 0} → Settings → List ℕ → Option (Snapshot L) → Type 0
 Decodes settings bytes (Some s) = IsTokenFile settings s bytes
 Decodes {L} settings bytes None = (s : Snapshot L) → IsTokenFile settings s bytes → ⊥

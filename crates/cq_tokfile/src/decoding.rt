@@ -62,7 +62,7 @@ fn keyed<L: Ledger>(
     Ok((Tokens::new(alloc, &norms)?, keys))
 }
 
-// The file with its work, which a record tells but for its keys: these are made of its tokens.
+// The file with its work. A record has all of it but its keys: these are computed from its tokens.
 fn held_of<L: Ledger>(
     alloc: Global,
     keyer: &Keyer,
@@ -154,9 +154,9 @@ fn snapshot_of<L: Ledger>(
     })
 }
 
-/// The snapshot whose token file under these settings the bytes are, and None where they are none. The keys are made anew
-/// of the tokens that were read. It costs one walk over the bytes, a sort of the files' changes, and what keying costs,
-/// and takes memory only for what it has read.
+/// The snapshot whose token file under these settings the bytes are, and None if they are none. The keys are computed
+/// again from the tokens that were read. It costs one walk over the bytes, a sort of the files' changes, and what keying
+/// costs, and takes memory only for what it has read.
 pub fn decode<L: Ledger>(
     alloc: Global,
     settings: &Settings,

@@ -124,8 +124,8 @@ fn put_body<L: Ledger>(
     Ok(())
 }
 
-/// The token file of a snapshot under these settings, or that its body would be too large, which is told before a byte is
-/// written. It costs two reads of each token, and memory for the file alone.
+/// The token file of a snapshot under these settings, or that its body would be too large, which is decided before a byte
+/// is written. It costs two reads of each token, and memory only for the file.
 pub fn encode<L: Ledger>(
     alloc: Global,
     settings: &Settings,

@@ -1,4 +1,4 @@
-//! How many bytes the body of a snapshot has, told before a byte of it is written.
+//! How many bytes the body of a snapshot has, computed before a byte of it is written.
 ghost use Rattle.std.specs.Prelude.{◌≡◌, ◌+◌, ◌≤◌, ◌<◌, length, slice_index_or};
 ghost use Rattle.cq_base.specs.declared.norm.Norm.{Norm};
 ghost use Rattle.cq_tokens.specs.Packed.{norm_in};

@@ -1,6 +1,6 @@
-//! Token files: a version of a project with the works of its files as bytes. `decode` keys the tokens anew that it reads, and
-//! `encode` reads each token twice and takes memory for the file alone. `Loaded` is an index of the windows by key, 24 bytes
-//! for each.
+//! Token files: a version of a project with the works of its files as bytes. `decode` computes the keys of the tokens that
+//! it reads again, and `encode` reads each token twice and takes memory only for the file. `Loaded` is an index of the
+//! windows by key, 24 bytes for each.
 #![tactic(auto)]
 
 mod decoding;

@@ -20,13 +20,13 @@ use std::sync::Arc;
 use std::sync::ledger::Ledger;
 
 /// The buckets of a snapshot's files. It has owners of its own of their tokens and keys, and borrows nothing, so that the
-/// snapshot's files can be lent beside it. It keeps an entry for each window, by key: a question costs a search and a copy of
-/// the answer, and no search where its key is the next one behind that of the last question.
+/// snapshot's files can be lent beside it. It keeps an entry for each window, by key: a question costs a search and a copy
+/// of the answer, and no search if its key is the next one after that of the last question.
 #[derive(Drop)]
 pub struct Loaded<L: Ledger> {
     files: Vec<FileTokens<L>>,
     entries: Vec<Entry>,
-    // behind those that were told last
+    // after those that were returned last
     near: usize,
     asked: u64,
 }
@@ -128,7 +128,8 @@ fn is_first(entries: &[Entry], at: usize, key: u64) -> bool
     at == entries.len() || entries[at].key >= key
 }
 
-// The place before which keys are lesser, and from which on none is. It is searched where it is not the one that is tried.
+// The place before which keys are lesser, and from which on none is. It is searched for if it is not the one that is
+// tried.
 fn first_at(entries: &[Entry], near: usize, key: u64) -> usize
     requires { AllPairs spec.KeyedBefore entries.now }
     ensures { spec.IsFirst key entries.now result }
@@ -139,7 +140,7 @@ fn first_at(entries: &[Entry], near: usize, key: u64) -> usize
     entries.partition_point(|e| e.key < key)
 }
 
-// The place behind those with the key, each of which is looked at.
+// The place after those with the key, each of which is looked at.
 fn end_of(entries: &[Entry], from: usize, key: u64) -> usize
     requires ordered { AllPairs spec.KeyedBefore entries.now }
     requires first { spec.IsFirst key entries.now from }
@@ -153,7 +154,7 @@ fn end_of(entries: &[Entry], from: usize, key: u64) -> usize
     to
 }
 
-// The entries with the key among entries in order, and the place behind them. That before them is tried first.
+// The entries with the key among entries in order, and the place after them. The one before them is tried first.
 fn with_key(
     alloc: Global,
     entries: &[Entry],

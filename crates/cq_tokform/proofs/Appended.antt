@@ -15,12 +15,6 @@ four o p q r s a b c d e f g h = two o p s a (b ++ (c ++ d)) e (three p q r s b 
 pub five : (o p q r s t a b c d k : List ℕ) → p ≡ o ++ a → q ≡ p ++ b → r ≡ q ++ c → s ≡ r ++ d → t ≡ s ++ k → t ≡ o ++ (a ++ (b ++ (c ++ (d ++ k))))
 five o p q r s t a b c d k e f g h i = two o p t a (b ++ (c ++ (d ++ k))) e (four p q r s t b c d k f g h i)
 
-pub six : (o p q r s t u a b c d k l : List ℕ) → p ≡ o ++ a → q ≡ p ++ b → r ≡ q ++ c → s ≡ r ++ d → t ≡ s ++ k → u ≡ t ++ l → u ≡ o ++ (a ++ (b ++ (c ++ (d ++ (k ++ l)))))
-six o p q r s t u a b c d k l e f g h i j = two o p u a (b ++ (c ++ (d ++ (k ++ l)))) e (five p q r s t u b c d k l f g h i j)
-
-pub seven : (o p q r s t u v a b c d k l m : List ℕ) → p ≡ o ++ a → q ≡ p ++ b → r ≡ q ++ c → s ≡ r ++ d → t ≡ s ++ k → u ≡ t ++ l → v ≡ u ++ m → v ≡ o ++ (a ++ (b ++ (c ++ (d ++ (k ++ (l ++ m))))))
-seven o p q r s t u v a b c d k l m e f g h i j n = two o p v a (b ++ (c ++ (d ++ (k ++ (l ++ m))))) e (six p q r s t u v b c d k l m f g h i j n)
-
 -- one element more of a list, behind those before it
 pub written_on : {A : Type 0} (spell : A → List ℕ) (xs : List A) (i : ℕ) (item d : A) (front before behind : List ℕ) → i < length xs → item ≡ get_or xs i d
     → before ≡ front ++ flat_map spell (take i xs) → behind ≡ before ++ spell item → behind ≡ front ++ flat_map spell (take (i + 1) xs)

@@ -24,8 +24,8 @@ use Rattle.cq_tokform.specs.declared.file.FileRecord.{FileRecord}
 use Rattle.cq_tokform.specs.declared.head.Head.{Head}
 use Rattle.cq_tokform.specs.declared.unread.Unread.{Unread}
 use Rattle.cq_tokform.specs.declared.unread.Unread.TheVariants as unread
-use Rattle.cq_tokform.specs.Spelling.{Recorded, Contents, counted, mark, recorded}
-use Rattle.cq_tokform.specs.Sound.{AreCounted, is_sound_token, is_sound_function, is_sound_file, is_sound_head, is_sound_contents}
+use Rattle.cq_tokform.specs.Spelling.{Recorded, Contents, mark, recorded}
+use Rattle.cq_tokform.specs.Sound.{is_sound_token, is_sound_function, is_sound_file, is_sound_head, is_sound_contents}
 
 -- What a reader promises, where `spell` gives the bytes of a value, and `IsSound` says which values may be read: where it
 -- reads, the bytes are those of a sound value and what is behind, and where it refuses, they begin with those of none.
@@ -33,15 +33,6 @@ abbrev pub Reads : {A X : Type 0} → (A → List ℕ) → (A → Type 0) → (X
 Reads spell IsSound view bytes (Ok x) = IsSound (view x).0 × (bytes ≡ spell (view x).0 ++ (view x).1)
 Reads {A = A} spell IsSound view bytes (Err unread.Refused) = (a : A) (rest : List ℕ) → IsSound a → bytes ≡ spell a ++ rest → ⊥
 Reads spell IsSound view bytes (Err unread.Memory) = Unit {0}
-
-module _ {A : Type 0} where
-  -- the same of a value, where the bytes behind it are lent
-  abbrev pub ReadsValue : (A → List ℕ) → (A → Type 0) → List ℕ → Result (A × Bor (List ℕ)) Unread → Type 0
-  ReadsValue spell IsSound bytes result = Reads spell IsSound (λ (x : A × Bor (List ℕ)). (x.0, x.1.now)) bytes result
-
-  -- and of a list of such values
-  abbrev pub ReadsList : (A → List ℕ) → (A → Type 0) → List ℕ → Result (Vec A Global × Bor (List ℕ)) Unread → Type 0
-  ReadsList spell IsSound bytes result = Reads (counted spell) (AreCounted IsSound) (λ (x : Vec A Global × Bor (List ℕ)). (x.0.items, x.1.now)) bytes result
 
 infixl 10 ◌>>=◌
 abbrev pub ◌>>=◌ : {A B : Type 0} → Option A → (A → Option B) → Option B

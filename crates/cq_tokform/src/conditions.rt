@@ -1,7 +1,6 @@
 ghost use Rattle.std.specs.Prelude.{◌≡◌, ◌<◌, ◌^◌, length, OnOk, OnErr};
 ghost use Rattle.cq_tokform.specs.Spelling as spell;
-ghost use Rattle.cq_tokform.specs.Sound.{IsSoundCondition};
-ghost use Rattle.cq_tokform.specs.Reading.{GivesList, GivesValue, ReadsList, ReadsValue, metric_of, compare_of, condition_at, counted_at, items_at};
+ghost use Rattle.cq_tokform.specs.Reading.{GivesList, GivesValue, metric_of, compare_of, condition_at, counted_at, items_at};
 ghost use Rattle.cq_tokform.specs.Writing.{AddsBytes, IsFrontOf};
 
 use crate::numbers::{put_u32, u8_at, u32_at, u64_at};
@@ -71,13 +70,6 @@ fn condition_of(bytes: &[u8]) -> Result<(Condition, &[u8]), Unread>
     Ok((Condition { metric, op, error }, rest))
 }
 
-/// The condition at the front, and the bytes behind it.
-pub fn read_condition(bytes: &[u8]) -> Result<(Condition, &[u8]), Unread>
-    ensures reads { ReadsValue spell.condition IsSoundCondition bytes.now result }
-{
-    condition_of(bytes)
-}
-
 /// Writes a condition at the end.
 /// Where memory is refused, some more bytes may stand behind those that were there.
 pub fn put_condition(out: &mut Vec<u8>, condition: &Condition) -> Result<(), Memory>
@@ -110,13 +102,6 @@ pub(crate) fn conditions_of(alloc: Global, bytes: &[u8]) -> Result<(Vec<Conditio
 {
     let (count, rest) = u32_at(bytes)?;
     conditions_at(alloc, count, rest)
-}
-
-/// The list of conditions at the front, and the bytes behind it.
-pub fn read_conditions(alloc: Global, bytes: &[u8]) -> Result<(Vec<Condition>, &[u8]), Unread>
-    ensures reads { ReadsList spell.condition IsSoundCondition bytes.now result }
-{
-    conditions_of(alloc, bytes)
 }
 
 /// Writes how many conditions there are, and each of them, at the end.

@@ -2,14 +2,14 @@ ghost use Rattle.std.specs.Prelude.{◌≡◌, ◌<◌, ◌^◌, length, OnOk, O
 ghost use Rattle.cq_work.specs.Keys.{lang_code};
 ghost use Rattle.cq_tokform.specs.Spelling as spell;
 ghost use Rattle.cq_tokform.specs.Spelling.{recorded};
-ghost use Rattle.cq_tokform.specs.Sound.{HasSpelling, IsSoundFile, is_sound_file};
+ghost use Rattle.cq_tokform.specs.Sound.{is_sound_file};
 ghost use Rattle.cq_work.specs.Bounds.{has_tokens};
-ghost use Rattle.cq_tokform.specs.Reading.{Gives, GivesValue, Reads, counts_at, file_at, lang_at, lang_of, state_at};
+ghost use Rattle.cq_tokform.specs.Reading.{Gives, GivesValue, counts_at, file_at, lang_at, lang_of, state_at};
 ghost use Rattle.cq_tokform.specs.Writing.{AddsBytes, IsFrontOf};
 
-use crate::functions::{functions_of, put_functions};
+use crate::functions::functions_of;
 use crate::numbers::{put_text, put_u8, put_u32, put_u64, text_of, u8_at, u32_at, u64_at};
-use crate::tokens::{put_tokens, tokens_of};
+use crate::tokens::tokens_of;
 use crate::unread::Unread;
 use cq_base::{FileCounts, Lang, Memory, Settings, Spelled, Text};
 use cq_func::Function;
@@ -136,19 +136,6 @@ pub(crate) fn file_of<'a>(
     Ok((file, rest))
 }
 
-/// The file at the front that may stand at this version, and the bytes behind it.
-pub fn read_file<'a>(
-    alloc: Global,
-    settings: &Settings,
-    version: u64,
-    bytes: &'a [u8],
-) -> Result<(FileRecord, &'a [u8]), Unread>
-    ensures reads { Reads spell.file (IsSoundFile settings.now version)
-        (λ x. (recorded x.0, x.1.now)) bytes.now result }
-{
-    file_of(alloc, settings, version, bytes)
-}
-
 fn lang_byte(lang: Lang) -> u8
     ensures { result ≡ lang_code lang }
 {
@@ -204,22 +191,5 @@ pub fn put_front(
     put_u8(out, lang_byte(lang))?;
     put_state(out, state)?;
     put_counts(out, counts)?;
-    Ok(())
-}
-
-/// Writes a file at the end.
-/// Where memory is refused, some more bytes may stand behind those that were there.
-pub fn put_file(out: &mut Vec<u8>, file: &FileRecord) -> Result<(), Memory>
-    requires { HasSpelling (recorded file.now) }
-    ensures written { OnOk result (AddsBytes (spell.file (recorded file.now)) out.old out.new) }
-    ensures front { OnErr result (IsFrontOf out.old.items out.new.items) }
-{
-    put_text(out, file.path.as_bytes())?;
-    put_u64(out, file.change)?;
-    put_u8(out, lang_byte(file.lang))?;
-    put_state(out, file.state)?;
-    put_counts(out, file.counts)?;
-    put_tokens(out, file.tokens.as_slice())?;
-    put_functions(out, file.functions.as_slice())?;
     Ok(())
 }

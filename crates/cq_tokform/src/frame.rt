@@ -1,10 +1,9 @@
 ghost use Rattle.std.specs.Prelude.{◌≡◌, length, OnOk, OnErr};
 ghost use Rattle.cq_tokform.specs.Spelling as spell;
-ghost use Rattle.cq_tokform.specs.Sound.{IsSoundBody};
-ghost use Rattle.cq_tokform.specs.Reading.{Gives, Reads, announced, behind_mark, body_at, frame_at};
+ghost use Rattle.cq_tokform.specs.Reading.{Gives, announced, behind_mark, body_at, frame_at};
 ghost use Rattle.cq_tokform.specs.Writing.{AddsBytes, IsFrontOf};
 
-use crate::numbers::{put_u64, u64_at};
+use crate::numbers::u64_at;
 use crate::unread::Unread;
 use cq_base::Memory;
 
@@ -47,13 +46,6 @@ pub(crate) fn frame_of(bytes: &[u8]) -> Result<(&[u8], &[u8]), Unread>
     body_of(len, rest)
 }
 
-/// The body of the token file at the front, which is lent, and the bytes behind the file.
-pub fn read_frame(bytes: &[u8]) -> Result<(&[u8], &[u8]), Unread>
-    ensures reads { Reads spell.framed IsSoundBody (λ x. (x.0.now, x.1.now)) bytes.now result }
-{
-    frame_of(bytes)
-}
-
 /// How many bytes the body has that the 16 bytes before it announce, if they begin a token file.
 pub fn announced(bytes: &[u8]) -> Option<usize>
     requires { length bytes.now ≡ 16 }
@@ -79,18 +71,5 @@ pub fn put_mark(out: &mut Vec<u8>) -> Result<(), Memory>
     ensures front { OnErr result (IsFrontOf out.old.items out.new.items) }
 {
     out.extend_from_slice(MARK.as_slice())?;
-    Ok(())
-}
-
-/// Writes a body with its frame at the end.
-/// Where memory is refused, some more bytes may stand behind those that were there.
-pub fn put_frame(out: &mut Vec<u8>, body: &[u8]) -> Result<(), Memory>
-    requires { IsSoundBody body.now }
-    ensures written { OnOk result (AddsBytes (spell.framed body.now) out.old out.new) }
-    ensures front { OnErr result (IsFrontOf out.old.items out.new.items) }
-{
-    out.extend_from_slice(MARK.as_slice())?;
-    put_u64(out, body.len() as u64)?;
-    out.extend_from_slice(body)?;
     Ok(())
 }

@@ -1,7 +1,7 @@
 ghost use Rattle.std.specs.Prelude.{◌≡◌, ◌<◌, ◌^◌, length, All, OnOk, OnErr};
 ghost use Rattle.cq_tokform.specs.Spelling as spell;
-ghost use Rattle.cq_tokform.specs.Sound.{IsSoundFunction, is_sound_function};
-ghost use Rattle.cq_tokform.specs.Reading.{GivesList, GivesValue, ReadsList, ReadsValue, counted_at, function_at, items_at};
+ghost use Rattle.cq_tokform.specs.Sound.{is_sound_function};
+ghost use Rattle.cq_tokform.specs.Reading.{GivesList, GivesValue, counted_at, function_at, items_at};
 ghost use Rattle.cq_tokform.specs.Writing.{AddsBytes, IsFrontOf};
 
 use crate::numbers::{put_text, put_u32, text_of, u32_at};
@@ -37,13 +37,6 @@ fn function_of(alloc: Global, lines: u64, bytes: &[u8]) -> Result<(Function, &[u
     Ok((function, rest))
 }
 
-/// The function at the front that may stand in a file of so many lines, and the bytes behind it.
-pub fn read_function(alloc: Global, lines: u64, bytes: &[u8]) -> Result<(Function, &[u8]), Unread>
-    ensures reads { ReadsValue spell.function (IsSoundFunction lines) bytes.now result }
-{
-    function_of(alloc, lines, bytes)
-}
-
 // So many functions, one behind the other. No memory is taken ahead of them.
 fn functions_at(
     alloc: Global,
@@ -73,17 +66,6 @@ pub(crate) fn functions_of(
 {
     let (count, rest) = u32_at(bytes)?;
     functions_at(alloc, lines, count, rest)
-}
-
-/// The list of functions at the front that may stand in a file of so many lines, and the bytes behind it.
-pub fn read_functions(
-    alloc: Global,
-    lines: u64,
-    bytes: &[u8],
-) -> Result<(Vec<Function>, &[u8]), Unread>
-    ensures reads { ReadsList spell.function (IsSoundFunction lines) bytes.now result }
-{
-    functions_of(alloc, lines, bytes)
 }
 
 /// Writes a function at the end.

@@ -1,7 +1,7 @@
 ghost use Rattle.std.specs.Prelude.{◌≡◌, ◌<◌, ◌^◌, length, OnOk, OnErr};
 ghost use Rattle.cq_tokform.specs.Spelling as spell;
-ghost use Rattle.cq_tokform.specs.Sound.{IsSoundHead, is_sound_head};
-ghost use Rattle.cq_tokform.specs.Reading.{GivesValue, ReadsValue, head_at};
+ghost use Rattle.cq_tokform.specs.Sound.{is_sound_head};
+ghost use Rattle.cq_tokform.specs.Reading.{GivesValue, head_at};
 ghost use Rattle.cq_tokform.specs.Writing.{AddsBytes, IsFrontOf};
 
 use crate::numbers::{put_text, put_u8, put_u32, put_u64, text_of, u8_at, u32_at, u64_at};
@@ -51,18 +51,6 @@ pub(crate) fn head_of<'a>(
     Ok((Head { version, project }, rest))
 }
 
-/// The head of a body of these settings, and the bytes behind it.
-pub fn read_head<'a>(
-    alloc: Global,
-    settings: &Settings,
-    bytes: &'a [u8],
-) -> Result<(Head, &'a [u8]), Unread>
-    ensures reads { ReadsValue (spell.head settings.now) (IsSoundHead settings.now)
-        bytes.now result }
-{
-    head_of(alloc, settings, bytes)
-}
-
 /// Writes the head of a version of a project with these settings at the end.
 /// Where memory is refused, some more bytes may stand behind those that were there.
 pub fn put_head_of(
@@ -83,14 +71,4 @@ pub fn put_head_of(
     put_u8(out, flag(settings.ignore_lits))?;
     put_text(out, project.as_bytes())?;
     Ok(())
-}
-
-/// Writes a head with these settings at the end.
-/// Where memory is refused, some more bytes may stand behind those that were there.
-pub fn put_head(out: &mut Vec<u8>, settings: &Settings, head: &Head) -> Result<(), Memory>
-    requires { length head.now.project < 2 ^ 32 }
-    ensures written { OnOk result (AddsBytes (spell.head settings.now head.now) out.old out.new) }
-    ensures front { OnErr result (IsFrontOf out.old.items out.new.items) }
-{
-    put_head_of(out, settings, head.version, &head.project)
 }

@@ -1,9 +1,9 @@
-ghost use Rattle.std.specs.Prelude.{◌≡◌, ◌<◌, ◌^◌, length, All, OnOk, OnErr};
+ghost use Rattle.std.specs.Prelude.{◌≡◌, ◌<◌, ◌^◌, length, OnOk, OnErr};
 ghost use Rattle.cq_work.specs.Keys.{class_code};
 ghost use Rattle.cq_tokform.specs.Spelling as spell;
-ghost use Rattle.cq_tokform.specs.Sound.{IsSoundToken, is_sound_token};
+ghost use Rattle.cq_tokform.specs.Sound.{is_sound_token};
 ghost use Rattle.cq_work.specs.Bounds.{is_ignored};
-ghost use Rattle.cq_tokform.specs.Reading.{GivesList, GivesValue, ReadsList, ReadsValue, class_of, counted_at, items_at, place_at, token_at};
+ghost use Rattle.cq_tokform.specs.Reading.{GivesList, GivesValue, class_of, counted_at, items_at, place_at, token_at};
 ghost use Rattle.cq_tokform.specs.Writing.{AddsBytes, IsFrontOf};
 
 use crate::numbers::{put_text, put_u8, put_u32, text_of, u8_at, u32_at};
@@ -94,18 +94,6 @@ fn token_of<'a>(
     Ok((spelled, rest))
 }
 
-/// The token at the front that may stand in a file of so many lines, and the bytes behind it.
-pub fn read_token<'a>(
-    alloc: Global,
-    settings: &Settings,
-    lines: u64,
-    bytes: &'a [u8],
-) -> Result<(Spelled, &'a [u8]), Unread>
-    ensures reads { ReadsValue spell.token (IsSoundToken settings.now lines) bytes.now result }
-{
-    token_of(alloc, settings, lines, bytes)
-}
-
 // So many tokens, one behind the other. No memory is taken ahead of them.
 fn tokens_at<'a>(
     alloc: Global,
@@ -139,18 +127,6 @@ pub(crate) fn tokens_of<'a>(
     tokens_at(alloc, settings, lines, count, rest)
 }
 
-/// The list of tokens at the front that may stand in a file of so many lines, and the bytes behind it.
-pub fn read_tokens<'a>(
-    alloc: Global,
-    settings: &Settings,
-    lines: u64,
-    bytes: &'a [u8],
-) -> Result<(Vec<Spelled>, &'a [u8]), Unread>
-    ensures reads { ReadsList spell.token (IsSoundToken settings.now lines) bytes.now result }
-{
-    tokens_of(alloc, settings, lines, bytes)
-}
-
 fn put_place(out: &mut Vec<u8>, token: Token) -> Result<(), Memory>
     ensures written { OnOk result (AddsBytes (spell.place token) out.old out.new) }
     ensures front { OnErr result (IsFrontOf out.old.items out.new.items) }
@@ -173,20 +149,4 @@ pub fn put_token(out: &mut Vec<u8>, token: Token, text: &[u8]) -> Result<(), Mem
 {
     put_place(out, token)?;
     put_text(out, text)
-}
-
-/// Writes how many tokens there are, and each of them, at the end.
-/// Where memory is refused, some more bytes may stand behind those that were there.
-pub fn put_tokens(out: &mut Vec<u8>, tokens: &[Spelled]) -> Result<(), Memory>
-    requires few { length tokens.now < 2 ^ 32 }
-    requires short { All (λ s. length s.text < 2 ^ 32) tokens.now }
-    ensures written { OnOk result
-        (AddsBytes (spell.counted spell.token tokens.now) out.old out.new) }
-    ensures front { OnErr result (IsFrontOf out.old.items out.new.items) }
-{
-    put_u32(out, tokens.len() as u32)?;
-    for spelled in tokens {
-        put_token(out, spelled.token, spelled.text.as_bytes())?;
-    }
-    Ok(())
 }

@@ -24,12 +24,12 @@ use Rattle.cq_words.specs.declared.table.Range.{Range}
 use Rattle.cq_words.specs.declared.command.Command.{Command}
 use Rattle.cq_words.specs.declared.command.Command.TheVariants as command
 
--- the value, where no kind of error comes
+-- the value, if no kind of error comes
 abbrev pub when : {X : Type 0} → Kinds → Option X → Option X
 when [] x = x
 when (k ∷ ks) x = None
 
--- `-` alone or `--` alone
+-- just `-` or just `--`
 abbrev pub is_lone : List ℕ → Bool
 is_lone word = bytes_eq word (45 ∷ []) || bytes_eq word (45 ∷ 45 ∷ [])
 
@@ -37,15 +37,15 @@ is_lone word = bytes_eq word (45 ∷ []) || bytes_eq word (45 ∷ 45 ∷ [])
 abbrev pub is_asked : List ℕ → Bool
 is_asked word = is_utf8 word && not (is_lone word)
 
--- the word itself where it is handed on, and else none
+-- the word itself if it is handed on, else none
 abbrev pub IsHanded : List ℕ → Option (Bor (List ℕ)) → Type 0
 IsHanded word text = MatchOption text (is_asked word ≡ false) (λ t. (t.now ≡ word) × (is_asked word ≡ true))
 
--- all of them, or none where one is not
+-- all of them, or none if one is not
 abbrev pub all_handed : List (List ℕ) → Option (List (List ℕ))
 all_handed words = if list_all is_asked words then Some words else None
 
--- what `clap` finds in the words, or none where it refuses them
+-- what `clap` finds in the words, or none if it refuses them
 abbrev pub rows_for : App → List (List ℕ) → Option (List Entry)
 rows_for app words = when (fault_of app words) (Some (matches_of app words))
 

@@ -16,7 +16,7 @@ use Rattle.cq_words.specs.declared.command.Export.{Export}
 use Rattle.cq_words.specs.declared.command.Command.{Command}
 use Rattle.cq_words.specs.declared.command.Command.TheVariants as command
 
--- all of it, where each number is in its range
+-- all of it, if each number is in its range
 abbrev pub settings_made : Option ℕ → Option ℕ → Option ℕ → Option ℕ → Option ℕ → Option ℕ → Bool → Bool → Option Settings
 settings_made chunk shards key_bits change_limit text_limit byte_limit ignore_ids ignore_literals =
     option_and_then (λ chunk. option_and_then (λ shards. option_and_then (λ key_bits.
@@ -62,7 +62,7 @@ settings_from items = settings_made
     (has_flag flag.IgnoreIds items)
     (has_flag flag.IgnoreLiterals items)
 
--- the settings where no option and no flag is given
+-- the settings if no option and no flag is given
 abbrev pub default_settings : Settings
 default_settings = record {
   chunk = default_of param.Chunk;
@@ -89,16 +89,16 @@ command_from verb.Make items = option_map command.Make (make_made (number_from p
 command_from verb.Export items = option_map command.Export (export_made (settings_from items) (text_from param.Project items))
 command_from verb.Ask items = option_map command.Ask (settings_from items)
 
--- what the words behind a command's name give
+-- what the words after a command's name give
 abbrev pub command_after : Verb → List Word → Option Command
 command_after v words = option_and_then (command_from v) (items_of (row_of v) words)
 
--- what the words give where they are in form
+-- what the words give if they are valid
 abbrev pub command_of : List Word → Option Command
 command_of [] = None
 command_of (word ∷ words) = option_and_then (λ v. command_after v words) (verb_named word)
 
--- after how many connections the doors are to end, where the command is `listen`
+-- after how many connections the doors are to end, if the command is `listen`
 abbrev pub connections_in : Command → Option ℕ
 connections_in (command.Run run) = None
 connections_in (command.Listen listen) = Some listen.connections

@@ -30,7 +30,7 @@ places_in l = drop l.placed (row_of l.verb).positionals
 abbrev pub read_in : Left → Option Word → Option (List Item)
 read_in l waits = items_from (row_of l.verb) l.words.now (places_in l) waits
 
--- the same behind a name, behind a word that is no option's, and behind any word
+-- the same after a name, after a word that is no option's, and after any word
 abbrev pub named_in : Left → Word → Option Word → Option (List Item)
 named_in l name value = named_read (row_of l.verb) (items_from (row_of l.verb) l.words.now) (places_in l) name value
 
@@ -43,12 +43,12 @@ word_in l word look = word_read (row_of l.verb) (items_from (row_of l.verb) l.wo
 abbrev pub item_in : Front → Item
 item_in f = (f.name.now, option_map (λ v. v.now) f.value)
 
--- what is read begins with the item, and goes on with the words behind it, which are no more than these
+-- what is read begins with the item, and continues with the words after it, which are no more than these
 abbrev pub IsFront : Option Front → Left → Option (List Item) → Type 0
 IsFront None l read = read ≡ None
 IsFront (Some f) l read = (read ≡ with_item (item_in f) (read_in f.left None)) × (length f.left.words.now ≤ length l.words.now)
 
--- the same of what is read of the words that are left, of which fewer are left behind it
+-- the same of what is read of the words that are left, of which fewer are left after it
 abbrev pub IsFrontOf : Option Front → Left → Type 0
 IsFrontOf None l = read_in l None ≡ None
 IsFrontOf (Some f) l = (read_in l None ≡ with_item (item_in f) (read_in f.left None)) × (length f.left.words.now < length l.words.now)

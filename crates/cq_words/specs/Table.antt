@@ -78,7 +78,7 @@ abbrev pub flag_name : Flag → Word
 flag_name flag.IgnoreIds = codes "ignore-ids"
 flag_name flag.IgnoreLiterals = codes "ignore-literals"
 
--- an option may be left out, and then has its default; a positional has to be there
+-- an option is optional, and then has its default; a positional is required
 abbrev pub option_range : ℕ → ℕ → ℕ → Range
 option_range low high otherwise = record { low = low; high = high; otherwise = Some otherwise }
 
@@ -105,7 +105,7 @@ range_of param.Files = positional_range 0 10000
 abbrev pub row_of : Verb → Row
 row_of v = record { options = map param_name (options_of v); flags = map flag_name (flags_of v); positionals = map param_name (positionals_of v) }
 
--- the number of an item in its range; the default where the item is not there
+-- the number of an item in its range; the default if the item is not there
 abbrev pub number_or : Range → Option Item → Option ℕ
 number_or range None = range.otherwise
 number_or range (Some item) = option_and_then (number_within range.low range.high) item.1
@@ -113,11 +113,11 @@ number_or range (Some item) = option_and_then (number_within range.low range.hig
 abbrev pub number_from : Param → List Item → Option ℕ
 number_from p items = number_or (range_of p) (item_of (param_name p) items)
 
--- a text of so many bytes
+-- a text of this many bytes
 abbrev pub text_within : ℕ → ℕ → Word → Option Word
 text_within low high word = if nat_le low (length word) && nat_le (length word) high then Some word else None
 
--- a text that a positional takes: the name of a project, or so many bytes of an address
+-- a text that a positional takes: the name of a project, or an address of this many bytes
 abbrev pub text_taken : Param → Word → Option Word
 text_taken param.Project word = if is_project word then Some word else None
 text_taken p word = text_within (range_of p).low (range_of p).high word

@@ -12,7 +12,7 @@ use cq_base::{Memory, Text};
 use std::alloc::{AllocError, Global};
 use std::str;
 
-/// The word as `clap` takes it, or none where it is no UTF-8, or is `-` or `--` alone.
+/// The word as `clap` takes it, or none if it is not UTF-8, or is just `-` or `--`.
 fn text_of_word<'a>(word: &'a Text) -> Option<&'a str>
     ensures { spec.IsHanded word.entry.now result }
 {
@@ -25,7 +25,7 @@ fn text_of_word<'a>(word: &'a Text) -> Option<&'a str>
     Some(text)
 }
 
-/// All of them, or none where one is not to be handed on.
+/// All of them, or none if one is not to be handed on.
 pub(crate) fn texts_of<'a>(alloc: Global, words: &'a [Text]) -> Result<Option<Vec<&'a str>>, Memory>
     ensures { IfOk result
         (λ r. option_map (λ v. texts v.items) r ≡ spec.all_handed words.entry.now) }
@@ -134,7 +134,7 @@ pub(crate) fn command_asked<'a>(alloc: Global, verb: Verb) -> Result<Command<'a>
     with_positionals(alloc, command, positionals_of(verb))
 }
 
-/// What `clap` finds in the words, or none where it refuses them.
+/// What `clap` finds in the words, or none if it refuses them.
 pub(crate) fn matches_in<'a>(
     command: Command<'a>,
     words: &'a [&'a str],

@@ -52,6 +52,6 @@ pub enum Command {
     Make(Make),
     /// The version of a project that the changes of the input make, written as its token file.
     Export(Export),
-    /// A kept version, which the input begins with, asked by the lines behind it.
+    /// A kept version, which the input begins with, asked by the lines after it.
     Ask(Settings),
 }

@@ -23,7 +23,7 @@ pub(crate) enum Look<'a> {
     Plain,
 }
 
-// The place of the first `=`, or behind the last byte where there is none.
+// The place of the first `=`, or after the last byte if there is none.
 fn equals_at(bytes: &[u8]) -> usize
     ensures { result ≡ position_or_len grammar.is_equals bytes.now }
 {
@@ -81,7 +81,7 @@ fn has_flag(flags: &[Flag], name: &[u8]) -> bool
     false
 }
 
-/// The words of a command that are left, behind so many positionals.
+/// The words of a command that are left, after this many positionals.
 #[derive(Clone, Copy)]
 pub(crate) struct Left<'a> {
     pub verb: Verb,
@@ -89,7 +89,7 @@ pub(crate) struct Left<'a> {
     pub placed: usize,
 }
 
-/// An option with its value, a flag or a positional, and the words behind it.
+/// An option with its value, a flag or a positional, and the words after it.
 #[derive(Clone, Copy)]
 pub(crate) struct Front<'a> {
     pub name: &'a [u8],
@@ -199,7 +199,7 @@ fn front_of<'a>(left: Left<'a>) -> Option<Front<'a>>
     front_behind(look_of(word.as_bytes()), word.as_bytes(), behind)
 }
 
-// Whether the words are items, one behind the other.
+// Whether the words are items, one after the other.
 fn are_items(all: Left<'_>) -> bool
     ensures { result ≡ is_some (read_in all.entry None) }
 {
@@ -286,7 +286,7 @@ fn item_named<'a>(all: Left<'a>, name: &[u8]) -> Option<Front<'a>>
     None
 }
 
-// Whether the number of this name lies in its range, or may be left out and is.
+// Whether the number of this name is in its range, or is optional and absent.
 fn is_given(all: Left<'_>, param: Param) -> bool
     requires { is_some (read_in all None) ≡ true }
     ensures { result ≡ is_some (table.number_from param (items_in all.entry)) }

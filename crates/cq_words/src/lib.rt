@@ -1,7 +1,7 @@
-//! The words of the command line. Which words are in form is a grammar of our own over a command's row of options and
-//! flags; `clap` decides, and is proved to decide just so. It costs a walk over the words for each word, and memory for
-//! what `clap` keeps of them. Whether words are in form is also told without memory, so that words out of form are
-//! refused as such whatever memory there is.
+//! The command-line arguments, which are called words here. Which are valid is a grammar of our own over a command's
+//! row of options and flags; `clap` decides, and is proved to decide just so. It costs a walk over the words for each
+//! word, and memory for what `clap` keeps of them. Whether words are valid is also decided without memory, so that
+//! invalid ones are refused as such whatever memory there is.
 #![tactic(auto)]
 
 mod asked;

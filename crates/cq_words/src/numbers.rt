@@ -44,7 +44,7 @@ fn number_of(bytes: &[u8]) -> Option<u64>
     }
 }
 
-/// The number of 1 to 19 digits, where it lies in its range.
+/// The number of 1 to 19 digits, if it is in its range.
 pub(crate) fn number_within(low: u64, high: u64, bytes: &[u8]) -> Option<u64>
     ensures value { result ≡ spec.number_within low high bytes.now }
     ensures within { IfSome result (λ n. n ≤ high) }
@@ -58,7 +58,7 @@ pub(crate) fn number_within(low: u64, high: u64, bytes: &[u8]) -> Option<u64>
     }
 }
 
-// Whether there are so many bytes.
+// Whether the number of bytes is in the range.
 fn is_count_within(low: u64, high: u64, bytes: &[u8]) -> bool
     ensures { result ≡ is_some (table.text_within low high bytes.now) }
 {
@@ -66,7 +66,7 @@ fn is_count_within(low: u64, high: u64, bytes: &[u8]) -> bool
     count >= low && count <= high
 }
 
-/// Whether the bytes are a text that is taken: the name of a project, or as many as an address may have.
+/// Whether the bytes are a valid text: the name of a project, or no more than an address may have.
 pub(crate) fn is_taken(param: Param, bytes: &[u8]) -> bool
     ensures { result ≡ is_some (table.text_taken param bytes.now) }
 {
@@ -79,7 +79,7 @@ pub(crate) fn is_taken(param: Param, bytes: &[u8]) -> bool
     }
 }
 
-/// The text itself, where it is taken.
+/// The text itself, if it is valid.
 pub(crate) fn text_taken<'a>(param: Param, text: &'a str) -> Option<&'a str>
     ensures { option_map (λ t. t.now) result ≡ table.text_taken param text.entry.now }
 {

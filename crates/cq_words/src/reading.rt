@@ -48,7 +48,7 @@ fn default_of(param: Param) -> u64
     range_of(param).otherwise.unwrap_or(0)
 }
 
-/// The settings where no option and no flag is given.
+/// The settings if no option and no flag is given.
 pub fn default_settings() -> Settings
     ensures settings { result ≡ default_settings }
     ensures in_range { IsInRange result }
@@ -211,7 +211,7 @@ fn command_after(alloc: Global, verb: Verb, words: &[Text]) -> Result<Option<Com
     command_read(alloc, verb, &matches)
 }
 
-/// What the words ask for where they are in form, and None exactly where they are not.
+/// What the words ask for if they are valid, and None exactly if they are not.
 pub fn read_command(alloc: Global, words: &[Text]) -> Result<Option<Command>, Memory>
     ensures command { IfOk result (λ r. r ≡ command_of words.now) }
     ensures in_range { IfOk result (λ r. IfSome r HasRanges) }
@@ -225,8 +225,8 @@ pub fn read_command(alloc: Global, words: &[Text]) -> Result<Option<Command>, Me
     }
 }
 
-/// After how many connections the doors are to end: the number of `--connections` or its default, and None exactly where
-/// the words are not words of `listen` in form. Of words in no form that is told whatever memory there is.
+/// After how many connections the doors are to end: the number of `--connections` or its default, and None exactly if
+/// the words are not valid words of `listen`. It returns None for invalid words whatever memory there is.
 pub fn connections(alloc: Global, words: &[Text]) -> Result<Option<u32>, Memory>
     ensures number { IfOk result (λ n. n ≡ connections_of words.now) }
     ensures refused { OnErr result (is_some (command_of words.now) ≡ true) }

@@ -1,4 +1,4 @@
-//! What each command takes: the names, the ranges and the defaults stand here and nowhere else.
+//! What each command takes: the names, the ranges and the defaults are here and nowhere else.
 ghost use Rattle.std.specs.Prelude.{◌≡◌, ◌≤◌, IfSome};
 ghost use Rattle.cq_words.specs.Table as spec;
 
@@ -39,8 +39,8 @@ pub(crate) enum Flag {
     IgnoreLiterals,
 }
 
-/// The least and the greatest number that is taken, of a text the number of its bytes, and the one that stands where
-/// none is given; a positional has none and has to be there.
+/// The least and the greatest number that is taken (for a text, its number of bytes), and the default; a positional
+/// has no default and is required.
 #[derive(Clone, Copy, Debug, PartialEq, Eq)]
 pub(crate) struct Range {
     pub low: u64,
@@ -144,7 +144,7 @@ pub(crate) fn flags_of(verb: Verb) -> &'static [Flag]
     }
 }
 
-/// In the order in which they stand.
+/// In the order in which they come.
 pub(crate) fn positionals_of(verb: Verb) -> &'static [Param]
     ensures { result.now ≡ spec.positionals_of verb }
 {

@@ -1,11 +1,11 @@
-//! The whole work of an upload: its text is lexed by its language, and its tokens are normalised and keyed. What is
-//! made is made once, and shared behind `Arc`s. It costs one reading of the text, one move of each token, and a fold
-//! over `chunk` codes for each window.
+//! The analysis of an upload, which is made once and shared behind `Arc`s: what its text is lexed to by its language, the
+//! listed tokens as they are compared, the keys of their windows, its functions, and what is counted of it. It costs one
+//! reading of the text, one move of each token, and what the keys cost.
 //!
-//! The keys of a file's windows: for every run of `chunk` neighbouring tokens a number of at most 64 bits. Equal windows
-//! have equal keys, and different ones may; nothing above rests on more. A file of n tokens costs n codes, one walk over
-//! each token's text, and a fold over the `chunk` codes of the first window; each other key is rolled on from the one
-//! before (Karp and Rabin, 1987), in a few steps at any `chunk`.
+//! A window is a run of `chunk` neighbouring tokens, and its key a number of at most 64 bits. Equal windows have equal
+//! keys. Different windows may have equal keys too: nothing above rests on more. A file of n tokens costs n codes, one
+//! walk over each token's text, and a fold over the `chunk` codes of the first window; each later key is rolled on from
+//! the one before (Karp and Rabin, 1987), in a few steps whatever `chunk` is.
 #![tactic(auto)]
 
 mod code;

@@ -2,26 +2,109 @@ ghost use Rattle.std.specs.Prelude.{◌≡◌};
 
 use crate::running::words_of;
 use cq_base::{Memory, Steps, Text};
-use cq_io::{MemSink, MemSource, OpenGate};
-use cq_log_doors::{Log, LogDoors, LogEnd};
 use cq_program::top;
+use cq_stage::{Client, ClientSource, Hold, Late, LogDoors, LogSink, Scene, Stage, Until};
 use std::alloc::Global;
-use std::collections::VecDeque;
 use std::marker::Brand;
 use std::sync::Wait;
 use std::sync::ledger::{Blank, Ledger};
 use std::thread::Threads;
+use std::time::Clock;
 
-const WORDS: [&str; 8] = [
-    "listen",
-    "mem",
-    "--chunk",
-    "2",
-    "--workers",
-    "0",
-    "--sessions",
-    "1",
-];
+/// A run of the program: its arguments, its clients, whom its gate holds, which call of the doors fails, from 1, or 0 for none,
+/// what each client is told, the status, and how many shards are brought up, if that is asked. The first client is at the
+/// standard ends too.
+#[derive(Clone, Copy)]
+pub(crate) struct Run<'a> {
+    pub words: &'a [&'a str],
+    pub clients: &'a [Client],
+    pub hold: Hold,
+    pub failing: u64,
+    pub told: &'a [&'a str],
+    pub status: u8,
+    pub shards: Option<u64>,
+}
+
+/// How it went.
+#[derive(Clone, Copy, Debug, PartialEq, Eq)]
+pub(crate) enum Went {
+    AsWanted,
+    /// With this status.
+    EndedOtherwise(u8),
+    /// This one waited in vain.
+    InVain(Late),
+    /// This client was told something else, from 0.
+    ToldOtherwise(usize),
+    /// So many shards were brought up.
+    OtherShards(u64),
+}
+
+fn ended<Q: Threads + Wait + Clock + Sync, L: Ledger + Send + Sync>(
+    rt: &Q,
+    alloc: Global,
+    words: &[Text],
+    source: &mut ClientSource<'_, Q>,
+    sink: &mut LogSink<'_, Q>,
+    doors: &mut LogDoors<'_, Q>,
+    gate: &Scene<'_, Q>,
+    blank: Blank,
+) -> u8
+    requires name { blank.name ≡ L.name }
+    requires parts { blank.parts ≡ L.parts }
+{
+    let mut steps: Steps<L> = Steps::new(blank);
+    top(rt, alloc, words, source, sink, doors, gate, &mut steps)
+}
+
+fn ended_here<Q: Threads + Wait + Clock + Sync>(
+    rt: &Q,
+    alloc: Global,
+    stage: &Stage<'_, Q>,
+    run: &Run<'_>,
+) -> Result<u8, Memory> {
+    let words = words_of(alloc, run.words)?;
+    let first = run.clients.first().copied().unwrap_or(Client::new(""));
+    let mut source = ClientSource::new(stage, 0, &first);
+    let mut sink = LogSink::new(&stage.log, 0, &first);
+    let mut doors = LogDoors::new(stage, alloc, run.clients, run.failing)?;
+    let gate = Scene {
+        stage,
+        hold: run.hold,
+    };
+    Ok(ended::<Q, Brand>(
+        rt,
+        alloc,
+        &words,
+        &mut source,
+        &mut sink,
+        &mut doors,
+        &gate,
+        Blank::new(1),
+    ))
+}
+
+pub(crate) fn goes<Q: Threads + Wait + Clock + Sync>(
+    rt: &Q,
+    alloc: Global,
+    run: &Run<'_>,
+) -> Result<Went, Memory> {
+    let stage = Stage::new(rt, alloc, run.clients.len())?;
+    let status = ended_here(rt, alloc, &stage, run)?;
+    if let Some(late) = stage.late() {
+        return Ok(Went::InVain(late));
+    }
+    if status != run.status {
+        return Ok(Went::EndedOtherwise(status));
+    }
+    if let Some(client) = stage.told_otherwise(run.clients, run.told) {
+        return Ok(Went::ToldOtherwise(client));
+    }
+    let shards = stage.shards();
+    if run.shards.unwrap_or(shards) != shards {
+        return Ok(Went::OtherShards(shards));
+    }
+    Ok(Went::AsWanted)
+}
 
 const WRITER: &str = r#"{"op":"put","project":"p","path":"t","lang":"any","text":"a b c x a b c y"}
 {"op":"groups","project":"p","min":3}
@@ -38,98 +121,161 @@ const READER_TOLD: &str =
     r#"{"groups":[{"places":[{"at":0,"first":1,"last":1,"path":"t"},{"at":4,"first":1,"last":1,"path":"t"}],"tokens":3}],"ok":true,"total":1,"version":1}
 "#;
 
-fn end_of(alloc: Global, lines: &str) -> Result<LogEnd<MemSource>, Memory> {
-    let bytes = Vec::from_slice(alloc, lines.as_bytes())?;
-    Ok(LogEnd {
-        source: MemSource::new(bytes, 7, Vec::new(alloc)),
-        greatest: 9,
-        failing: Vec::new(alloc),
-    })
-}
+pub(crate) const LISTEN: Run<'static> = Run {
+    words: &[
+        "listen",
+        "mem",
+        "--chunk",
+        "2",
+        "--workers",
+        "0",
+        "--sessions",
+        "1",
+    ],
+    clients: &[],
+    hold: Hold::Nobody,
+    failing: 0,
+    told: &[],
+    status: 0,
+    shards: None,
+};
 
-fn listen<Q: Threads + Wait + Sync, L: Ledger + Send + Sync>(
-    rt: &Q,
-    alloc: Global,
-    words: &[Text],
-    doors: &mut LogDoors<'_, MemSource, Q>,
-    sink: &mut MemSink,
-    blank: Blank,
-) -> u8
-    requires name { blank.name ≡ L.name }
-    requires parts { blank.parts ≡ L.parts }
-{
-    let mut source = MemSource::new(Vec::new(alloc), 1, Vec::new(alloc));
-    let mut steps: Steps<L> = Steps::new(blank);
-    top(
-        rt,
-        alloc,
-        words,
-        &mut source,
-        sink,
-        doors,
-        &OpenGate,
-        &mut steps,
-    )
-}
-
-fn listen_here<Q: Threads + Wait + Sync>(
-    rt: &Q,
-    alloc: Global,
-    words: &[Text],
-    doors: &mut LogDoors<'_, MemSource, Q>,
-    sink: &mut MemSink,
-) -> u8 {
-    listen::<Q, Brand>(rt, alloc, words, doors, sink, Blank::new(1))
-}
-
-// Whether a server over the two clients ends with a status after it has told them this, where the call of the doors with this
-// number fails.
-fn listens<Q: Threads + Wait + Sync>(
-    rt: &Q,
-    alloc: Global,
-    words: &[&str],
-    failing: u64,
-    told: (&str, &str),
-    status: u8,
-) -> Result<bool, Memory> {
-    let words = words_of(alloc, words)?;
-    let log = Log::new(rt, alloc, 2, 4_096)?;
-    let mut ends = VecDeque::new(alloc);
-    ends.push_back(end_of(alloc, WRITER)?)?;
-    ends.push_back(end_of(alloc, READER)?)?;
-    let mut doors = LogDoors::new(&log, ends, vec![in alloc; failing]?);
-    let mut sink = MemSink::new(alloc, 99, 99, Vec::new(alloc))?;
-    let ended = listen_here(rt, alloc, &words, &mut doors, &mut sink);
-    let (writer, reader) = told;
-    let are_told = log.is_told(0, writer.as_bytes()) && log.is_told(1, reader.as_bytes());
-    Ok(ended == status && are_told && sink.written().is_empty())
-}
-
+// Clients that came before a call of the doors fails are served. The first call is for the address.
 #[test]
-fn clients_are_served_until_the_doors_end(rt: HostRuntime) -> Result<(), Memory> {
-    let told = (WRITER_TOLD, READER_TOLD);
-    assert!(rt; listens(&rt, rt.alloc(), &WORDS, 0, told, 0)?);
+fn clients_are_served_until_the_doors_end_or_fail(rt: HostRuntime) -> Result<(), Memory> {
+    let listen = Run {
+        clients: &[Client::new(WRITER), Client::new(READER)],
+        told: &[WRITER_TOLD, READER_TOLD],
+        ..LISTEN
+    };
+    assert_eq!(rt; goes(&rt, rt.alloc(), &listen)?, Went::AsWanted);
+    for (failing, first, second) in [
+        (4, WRITER_TOLD, READER_TOLD),
+        (3, WRITER_TOLD, ""),
+        (2, "", ""),
+        (1, "", ""),
+    ] {
+        let run = Run {
+            failing,
+            told: &[first, second],
+            status: 5,
+            ..listen
+        };
+        assert_eq!(rt; goes(&rt, rt.alloc(), &run)?, Went::AsWanted);
+    }
+    let malformed = Run {
+        words: &["listen", "mem", "--sessions", "0"],
+        failing: 1,
+        told: &["", ""],
+        status: 1,
+        ..listen
+    };
+    assert_eq!(rt; goes(&rt, rt.alloc(), &malformed)?, Went::AsWanted);
     Ok(())
 }
 
+const STATES: &str = r#"{"op":"state"}
+{"op":"state"}
+"#;
+
+const STATE_TOLD: &str = r#"{"accepted":0,"done":0,"ok":true,"published":0}
+"#;
+
+// Of two clients, one after the other on one seat, each is cut after as many bytes: a line of each is within the limit.
 #[test]
-fn clients_that_came_before_a_fault_of_the_doors_are_served(rt: HostRuntime) -> Result<(), Memory> {
-    let told = (WRITER_TOLD, READER_TOLD);
-    assert!(rt; listens(&rt, rt.alloc(), &WORDS, 4, told, 5)?);
-    assert!(rt; listens(&rt, rt.alloc(), &WORDS, 3, (WRITER_TOLD, ""), 5)?);
-    assert!(rt; listens(&rt, rt.alloc(), &WORDS, 2, ("", ""), 5)?);
+fn each_client_has_its_own_limit_of_bytes(rt: HostRuntime) -> Result<(), Memory> {
+    let run = Run {
+        words: &[
+            "listen",
+            "mem",
+            "--workers",
+            "0",
+            "--sessions",
+            "1",
+            "--byte-limit",
+            "15",
+        ],
+        clients: &[Client::new(STATES), Client::new(STATES)],
+        told: &[STATE_TOLD, STATE_TOLD],
+        ..LISTEN
+    };
+    assert_eq!(rt; goes(&rt, rt.alloc(), &run)?, Went::AsWanted);
     Ok(())
 }
 
+const TWO_PUTS: &str = r#"{"op":"put","project":"p","path":"a","lang":"any","text":"x y z"}
+{"op":"put","project":"p","path":"b","lang":"any","text":"x y z"}
+"#;
+
+const TWO_TOLD: &str = r#"{"change":1,"ok":true}
+{"change":2,"ok":true}
+"#;
+
+const AT_ONCE: &str = r#"{"op":"groups","project":"p","min":3,"finish":false}
+"#;
+
+const GROUP_OF_TWO: &str =
+    r#"{"groups":[{"places":[{"at":0,"first":1,"last":1,"path":"a"},{"at":0,"first":1,"last":1,"path":"b"}],"tokens":3}],"ok":true,"total":1,"version":2}
+"#;
+
+// Two works are held until both are begun, and the client, whose session could help, waits for that too: so each is begun by a
+// worker of its own.
 #[test]
-fn an_address_that_cannot_be_bound_is_a_fault_of_the_doors(rt: HostRuntime) -> Result<(), Memory> {
-    assert!(rt; listens(&rt, rt.alloc(), &WORDS, 1, ("", ""), 5)?);
+fn as_many_workers_work_as_are_asked_for(rt: HostRuntime) -> Result<(), Memory> {
+    let client = Client {
+        then_until: Until::Begun(2),
+        then_sends: AT_ONCE,
+        until_told: GROUP_OF_TWO,
+        ..Client::new(TWO_PUTS)
+    };
+    let run = Run {
+        words: &["run", "--chunk", "2", "--workers", "2"],
+        clients: &[client],
+        hold: Hold::Works(2, Until::Begun(2)),
+        told: &[TWO_TOLD],
+        ..LISTEN
+    };
+    assert_eq!(rt; goes(&rt, rt.alloc(), &run)?, Went::AsWanted);
+    let words = [
+        "listen",
+        "mem",
+        "--chunk",
+        "2",
+        "--workers",
+        "2",
+        "--sessions",
+        "1",
+    ];
+    let run = Run {
+        words: &words,
+        ..run
+    };
+    assert_eq!(rt; goes(&rt, rt.alloc(), &run)?, Went::AsWanted);
     Ok(())
 }
 
+// The first client sends nothing until the second one is answered, which takes a second session.
 #[test]
-fn words_out_of_form_open_no_door(rt: HostRuntime) -> Result<(), Memory> {
-    let words = ["listen", "mem", "--sessions", "0"];
-    assert!(rt; listens(&rt, rt.alloc(), &words, 1, ("", ""), 1)?);
+fn as_many_sessions_are_served_as_are_asked_for(rt: HostRuntime) -> Result<(), Memory> {
+    let silent = Client {
+        until: Until::Told(1, WRITER_TOLD.len().saturating_sub(1)),
+        ..Client::new(READER)
+    };
+    let run = Run {
+        words: &[
+            "listen",
+            "mem",
+            "--chunk",
+            "2",
+            "--workers",
+            "0",
+            "--sessions",
+            "2",
+        ],
+        clients: &[silent, Client::new(WRITER)],
+        told: &[READER_TOLD, WRITER_TOLD],
+        ..LISTEN
+    };
+    assert_eq!(rt; goes(&rt, rt.alloc(), &run)?, Went::AsWanted);
     Ok(())
 }

@@ -1,23 +1,8 @@
+use crate::cases::first_otherwise;
 use crate::running::ends_with;
 use cq_base::Memory;
-use std::alloc::Global;
-use std::sync::Wait;
-use std::thread::Threads;
 
-/// Windows of two tokens, two shards, one key for every window, three changes, and texts of twenty bytes together.
-pub(crate) const DRIVE: [&str; 11] = [
-    "drive",
-    "--chunk",
-    "2",
-    "--shards",
-    "2",
-    "--key-bits",
-    "0",
-    "--change-limit",
-    "3",
-    "--text-limit",
-    "20",
-];
+const DRIVE: [&str; 5] = ["drive", "--chunk", "2", "--shards", "2"];
 
 const ASK: &[u8] = b"{\"step\":\"ask\",\"by\":0}\n{\"step\":\"ask\",\"by\":0}\n";
 
@@ -58,39 +43,11 @@ fn long_lines_of_a_script_are_told(rt: HostRuntime) -> Result<(), Memory> {
     Ok(())
 }
 
-// The parts of each line of a table before ` -> ` and behind it, each with a line feed.
-fn parted(alloc: Global, table: &str) -> Result<(Vec<u8>, Vec<u8>), Memory> {
-    let mut input = Vec::new(alloc);
-    let mut output = Vec::new(alloc);
-    let mut left = table;
-    for _ in 0..table.len() {
-        let Some((case, later)) = left.split_once('\n') else {
-            return Ok((input, output));
-        };
-        if let Some((line, outcome)) = case.split_once(" -> ") {
-            input.extend_from_slice(line.as_bytes())?;
-            input.push(b'\n')?;
-            output.extend_from_slice(outcome.as_bytes())?;
-            output.push(b'\n')?;
-        }
-        left = later;
-    }
-    Ok((input, output))
-}
-
-/// Whether each line of a script or a session has the outcome behind it.
-pub(crate) fn all_come_to<Q: Threads + Wait + Sync>(
-    rt: &Q,
-    alloc: Global,
-    words: &[&str],
-    table: &str,
-) -> Result<bool, Memory> {
-    let (input, output) = parted(alloc, table)?;
-    ends_with(rt, alloc, words, &input, 97, (0, 0), &output, 0)
-}
-
-// Each step where it is not allowed, and where it then is.
-const NOT_ALLOWED: &str = r#"{"step":"took","by":3} -> {"ok":true,"value":null}
+// Windows of two tokens, two shards, one key for every window, three changes, and texts of twenty bytes together; and then one shard.
+const SCRIPTS: &str = r#"
+# Each step when it is not allowed, and when it then is.
+$ drive --chunk 2 --shards 2 --key-bits 0 --change-limit 3 --text-limit 20
+{"step":"took","by":3} -> {"ok":true,"value":null}
 {"step":"ask","by":3} -> {"ok":true,"value":0}
 {"step":"back","by":3,"change":1} -> {"ok":false}
 {"step":"done","by":3,"change":0} -> {"ok":false}
@@ -137,17 +94,9 @@ const NOT_ALLOWED: &str = r#"{"step":"took","by":3} -> {"ok":true,"value":null}
 {"step":"shut","by":3} -> {"ok":true}
 {"step":"shut","by":3} -> {"ok":false}
 {"step":"ask","by":9} -> {"ok":true,"value":2}
-"#;
-
-#[test]
-fn a_step_that_is_not_allowed_changes_nothing(rt: HostRuntime) -> Result<(), Memory> {
-    assert!(rt; all_come_to(&rt, rt.alloc(), &DRIVE, NOT_ALLOWED)?);
-    Ok(())
-}
-
-// Changes that are not accepted, requests that are refused, and lines that are.
-const REFUSED: &str =
-    r#"{"step":"accept","by":0,"request":{"op":"drop","project":"p","path":"t"}} -> {"code":9,"error":"absent","ok":false}
+# Changes that are not accepted, requests that are refused, and lines that are.
+$ drive --chunk 2 --shards 2 --key-bits 0 --change-limit 3 --text-limit 20
+{"step":"accept","by":0,"request":{"op":"drop","project":"p","path":"t"}} -> {"code":9,"error":"absent","ok":false}
 {"step":"accept","by":0,"request":{"op":"put","project":"p","path":"t","lang":"any","text":"123456789012345678901"}} -> {"code":11,"error":"full-text","ok":false}
 {"step":"accept","by":0,"request":{"op":"put","project":"p","path":"t","lang":"any","text":"12345678901234567890"}} -> {"ok":true,"value":1}
 {"step":"accept","by":0,"request":{"op":"put","project":"p","path":"u","lang":"any","text":"1"}} -> {"code":11,"error":"full-text","ok":false}
@@ -162,18 +111,10 @@ const REFUSED: &str =
 {"step":"fly"} -> {"code":2,"error":"op","ok":false}
 [1] -> {"code":1,"error":"json","ok":false}
 {"step":"ask","by":0} -> {"ok":true,"value":3}
-"#;
-
-#[test]
-fn refusals_are_told(rt: HostRuntime) -> Result<(), Memory> {
-    assert!(rt; all_come_to(&rt, rt.alloc(), &DRIVE, REFUSED)?);
-    Ok(())
-}
-
-// A file is put twice; the first version is read while the second is applied and published. It can't be given up before that
-// view is shut; then a shard is swept of its entries.
-const TWO_VERSIONS: &str =
-    r#"{"step":"accept","by":0,"request":{"op":"put","project":"p","path":"t","lang":"any","text":"a b c"}} -> {"ok":true,"value":1}
+# A file is put twice; the first version is read while the second is applied and published. It can't be given up before
+# that view is shut; then a shard is swept of its entries.
+$ drive --chunk 2 --shards 2 --key-bits 0 --change-limit 3 --text-limit 20
+{"step":"accept","by":0,"request":{"op":"put","project":"p","path":"t","lang":"any","text":"a b c"}} -> {"ok":true,"value":1}
 {"step":"done","by":0,"change":1} -> {"ok":true}
 {"step":"apply","shard":0} -> {"ok":true,"value":1}
 {"step":"apply","shard":1} -> {"ok":true,"value":1}
@@ -195,18 +136,10 @@ const TWO_VERSIONS: &str =
 {"step":"sweep","shard":0} -> {"ok":true}
 {"step":"open","by":1} -> {"ok":true,"value":2}
 {"step":"read","by":1,"shard":0,"key":0} -> {"ok":true,"value":[[2,0]]}
-"#;
-
-#[test]
-fn an_open_version_is_read_on(rt: HostRuntime) -> Result<(), Memory> {
-    assert!(rt; all_come_to(&rt, rt.alloc(), &DRIVE, TWO_VERSIONS)?);
-    Ok(())
-}
-
-// The groups of one file at the version that is open, though a later one is published, and those of another project beside
-// it are not among them.
-const REPLIES: &str =
-    r#"{"step":"accept","by":0,"request":{"op":"put","project":"p","path":"t","lang":"any","text":"a b x a b"}} -> {"ok":true,"value":1}
+# The groups of one file at the version that is open, though a later one is published, and those of another project
+# beside it are not among them.
+$ drive --chunk 2 --shards 2 --key-bits 0 --change-limit 3 --text-limit 20
+{"step":"accept","by":0,"request":{"op":"put","project":"p","path":"t","lang":"any","text":"a b x a b"}} -> {"ok":true,"value":1}
 {"step":"accept","by":2,"request":{"op":"put","project":"q","path":"t","lang":"any","text":"a b"}} -> {"ok":true,"value":2}
 {"step":"done","by":0,"change":2} -> {"ok":true}
 {"step":"done","by":0,"change":1} -> {"ok":true}
@@ -226,17 +159,9 @@ const REPLIES: &str =
 {"step":"read","by":15,"shard":0,"key":0} -> {"ok":true,"value":[[1,0],[1,1],[1,2],[1,3],[2,0]]}
 {"step":"open","by":0} -> {"ok":true,"value":3}
 {"step":"reply","by":0,"request":{"op":"groups","project":"p","min":2}} -> {"groups":[],"ok":true,"total":0,"version":3}
-"#;
-
-#[test]
-fn a_reply_is_that_of_the_open_version(rt: HostRuntime) -> Result<(), Memory> {
-    assert!(rt; all_come_to(&rt, rt.alloc(), &DRIVE, REPLIES)?);
-    Ok(())
-}
-
-// One file of which three tokens come twice, and a gate of whose conditions the second one fails.
-const KINDS: &str =
-    r#"{"step":"accept","by":0,"request":{"op":"put","project":"p","path":"t","lang":"any","text":"a b c x a b c y"}} -> {"ok":true,"value":1}
+# One file of which three tokens come twice, and a gate of whose conditions the second one fails.
+$ drive --chunk 2 --shards 2 --key-bits 0 --change-limit 3 --text-limit 20
+{"step":"accept","by":0,"request":{"op":"put","project":"p","path":"t","lang":"any","text":"a b c x a b c y"}} -> {"ok":true,"value":1}
 {"step":"accept","by":0,"request":{"op":"gate","project":"p","conditions":[{"metric":"lines","op":"GT","error":1},{"metric":"duplicated_lines","op":"GT","error":0}]}} -> {"ok":true,"value":2}
 {"step":"done","by":0,"change":1} -> {"ok":true}
 {"step":"apply","shard":0} -> {"ok":true,"value":1}
@@ -253,19 +178,9 @@ const KINDS: &str =
 {"step":"reply","by":0,"request":{"op":"measures","project":"p","min":3,"path":"t"}} -> {"measures":{"complexity":1,"duplicated_blocks":1,"duplicated_files":1,"duplicated_lines":1,"duplicated_lines_density":10000,"files":1,"lines":1,"ncloc":1},"ok":true,"version":2}
 {"step":"reply","by":0,"request":{"op":"groups","project":"p","min":3,"path":"u"}} -> {"groups":[],"ok":true,"total":0,"version":2}
 {"step":"reply","by":0,"request":{"op":"measures","project":"p","min":3,"path":"u"}} -> {"measures":{"complexity":0,"duplicated_blocks":0,"duplicated_files":0,"duplicated_lines":0,"duplicated_lines_density":0,"files":0,"lines":0,"ncloc":0},"ok":true,"version":2}
-"#;
-
-#[test]
-fn each_kind_of_query_is_answered(rt: HostRuntime) -> Result<(), Memory> {
-    assert!(rt; all_come_to(&rt, rt.alloc(), &DRIVE, KINDS)?);
-    Ok(())
-}
-
-const ONE_SHARD: [&str; 7] = ["drive", "--chunk", "2", "--shards", "1", "--key-bits", "0"];
-
-// A change is given back only by who has taken it, and is done by whoever comes first: then by nobody else.
-const GIVEN_BACK: &str =
-    r#"{"step":"accept","by":0,"request":{"op":"put","project":"p","path":"t","lang":"any","text":"a b"}} -> {"ok":true,"value":1}
+# A change is given back only by who has taken it, and is done by whoever comes first: then by nobody else.
+$ drive --chunk 2 --shards 1 --key-bits 0
+{"step":"accept","by":0,"request":{"op":"put","project":"p","path":"t","lang":"any","text":"a b"}} -> {"ok":true,"value":1}
 {"step":"took","by":0} -> {"ok":true,"value":1}
 {"step":"took","by":1} -> {"ok":true,"value":null}
 {"step":"back","by":1,"change":1} -> {"ok":false}
@@ -274,11 +189,9 @@ const GIVEN_BACK: &str =
 {"step":"done","by":2,"change":1} -> {"ok":true}
 {"step":"back","by":1,"change":1} -> {"ok":false}
 {"step":"done","by":1,"change":1} -> {"ok":false}
-"#;
-
-// A view that was opened before any version sees nothing of a file that came and went, and holds the floor down.
-const CAME_AND_WENT: &str =
-    r#"{"step":"accept","by":0,"request":{"op":"put","project":"p","path":"t","lang":"any","text":"a b"}} -> {"ok":true,"value":1}
+# A view that was opened before any version sees nothing of a file that came and went, and holds the floor down.
+$ drive --chunk 2 --shards 1 --key-bits 0
+{"step":"accept","by":0,"request":{"op":"put","project":"p","path":"t","lang":"any","text":"a b"}} -> {"ok":true,"value":1}
 {"step":"accept","by":0,"request":{"op":"drop","project":"p","path":"t"}} -> {"ok":true,"value":2}
 {"step":"open","by":1} -> {"ok":true,"value":0}
 {"step":"done","by":0,"change":1} -> {"ok":true}
@@ -296,8 +209,7 @@ const CAME_AND_WENT: &str =
 "#;
 
 #[test]
-fn callers_come_between_each_other(rt: HostRuntime) -> Result<(), Memory> {
-    assert!(rt; all_come_to(&rt, rt.alloc(), &ONE_SHARD, GIVEN_BACK)?);
-    assert!(rt; all_come_to(&rt, rt.alloc(), &ONE_SHARD, CAME_AND_WENT)?);
+fn steps_come_to_their_outcomes(rt: HostRuntime) -> Result<(), Memory> {
+    assert_eq!(rt; first_otherwise(&rt, rt.alloc(), SCRIPTS)?, None);
     Ok(())
 }

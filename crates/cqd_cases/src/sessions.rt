@@ -4,6 +4,20 @@ use cq_io::{Failed, MemSink, MemSource, Source};
 
 const WORDS: [&str; 5] = ["run", "--chunk", "2", "--shards", "1"];
 
+const PUT: &str = r#"{"op":"put","project":"p","path":"t","lang":"any","text":""#;
+
+const FILES: &str = r#""}
+{"op":"files","project":"p"}
+"#;
+
+const MOST_TOKENS: &str = r#"{"change":1,"ok":true}
+{"files":[{"change":1,"lang":"any","lines":1,"path":"t","state":"ok","tokens":262144}],"ok":true,"version":1}
+"#;
+
+const TOO_MANY_TOKENS: &str = r#"{"change":1,"ok":true}
+{"files":[{"change":1,"lang":"any","lines":1,"path":"t","state":"large","tokens":0}],"ok":true,"version":1}
+"#;
+
 #[test]
 fn lines_are_served_however_they_are_cut(rt: HostRuntime) -> Result<(), Memory> {
     let alloc = rt.alloc();
@@ -76,24 +90,27 @@ fn faults_and_limits_end_it(rt: HostRuntime) -> Result<(), Memory> {
     Ok(())
 }
 
+// One token more than a file may have.
 #[test]
-fn workers_change_no_reply(rt: HostRuntime) -> Result<(), Memory> {
+fn a_file_with_too_many_tokens_is_large(rt: HostRuntime) -> Result<(), Memory> {
     let alloc = rt.alloc();
-    let input = br#"{"op":"put","project":"p","path":"a","lang":"any","text":"x y z"}
-{"op":"put","project":"p","path":"b","lang":"any","text":"x y z w"}
-{"op":"put","project":"p","path":"c","lang":"any","text":"v x y z"}
-{"op":"groups","project":"p","min":3,"finish":true}
-"#
-        .as_slice();
-    let output = r#"{"change":1,"ok":true}
-{"change":2,"ok":true}
-{"change":3,"ok":true}
-{"groups":[{"places":[{"at":0,"first":1,"last":1,"path":"a"},{"at":0,"first":1,"last":1,"path":"b"},{"at":1,"first":1,"last":1,"path":"c"}],"tokens":3}],"ok":true,"total":1,"version":3}
-"#
-        .as_bytes();
-    for workers in ["0", "2"] {
-        let words = ["run", "--chunk", "2", "--shards", "3", "--workers", workers];
-        assert!(rt; ends_with(&rt, alloc, &words, input, 97, (0, 0), output, 0)?);
+    for (tokens, output) in [(262_144, MOST_TOKENS), (262_145, TOO_MANY_TOKENS)] {
+        let mut input = Vec::from_slice(alloc, PUT.as_bytes())?;
+        let text = vec![in alloc; b';'; tokens]?;
+        input.extend_from_slice(&text)?;
+        input.extend_from_slice(FILES.as_bytes())?;
+        assert!(rt;
+            ends_with(
+                &rt,
+                alloc,
+                &WORDS,
+                &input,
+                65_536,
+                (0, 0),
+                output.as_bytes(),
+                0
+            )?
+        );
     }
     Ok(())
 }

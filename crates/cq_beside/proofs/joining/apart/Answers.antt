@@ -11,7 +11,7 @@ talk-told-requires g c =
       may = c.requires.may;
       settings = c.requires.talks;
       of = split.of.1;
-      closed = child_closed c.args.hub.now c.args.pass c.split_pass-own.result split.child c.requires.unmade;
+      closed = child_closed c.args.hub.now c.args.pass c.split_pass-own.result split.child c.requires.of c.requires.room;
       unasked = child_unasked c.args.pass c.split_pass-own.result split.child;
     }
 

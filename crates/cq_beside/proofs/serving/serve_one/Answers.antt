@@ -1,9 +1,7 @@
 use Rattle.std.proofs.Common.{◌+◌, rules}
-use Rattle.cq_reply.specs.Written.{line_of}
 use Rattle.cq_shared.specs.SharedPasses.{callers_of}
-use Rattle.cq_beside.specs.Replies.{AreBeside}
-use Rattle.cq_beside.proofs.OthersQuiet.{serves_beside}
-use Rattle.cq_beside.proofs.Served.{told_behind, cause_behind, lines_behind}
+use Rattle.cq_beside.proofs.OthersQuiet.{heard_lawful, serves_with_workers}
+use Rattle.cq_beside.proofs.Served.{told_behind, cause_behind}
 use Rattle.cq_beside.proofs.serving.serve_one.Goals as goal
 
 pub returns-clause-served : goal.returns-clause-served
@@ -13,15 +11,16 @@ returns-clause-served g c =
     record {
       heard = b.heard;
       asked = b.asked;
+      lawful = heard_lawful c.args.hub.now p c.beside-over.result.1 c.args.workers _ b c.args.settings.now c.requires.hub_settings;
       told = told_behind g.S.Source g.K.Sink c.args.settings.now (callers_of c.args.hub.now) (p.next + c.args.workers) p.seen _ _ _ b.heard b.asked _ _ _ _ _ _ _ _ (search rules) (search rules) (search rules) b.said.0;
     }
 
 pub returns-clause-beside : goal.returns-clause-beside
 returns-clause-beside g c =
     let b = c.beside-over.ensures.besides in
-    let set = c.args.settings.now in
-    λ first. lines_behind g.S.Source g.K.Sink line_of (AreBeside set) _ _ _ _ _ _ _ _ (search rules) (search rules)
-    (serves_beside c.args.hub.now c.args.pass c.beside-over.result.1 c.args.workers _ c.requires.of c.requires.room first b g.S.Source g.K.Sink set c.requires.hub_settings _ _ _ _ _ _ _ _ b.said.0)
+    let p = c.args.pass in
+    λ first. serves_with_workers c.args.hub.now p c.beside-over.result.1 c.args.workers _ c.requires.of c.requires.room first b g.S.Source g.K.Sink c.args.settings.now c.requires.hub_settings _ _ _ _ _ _ _ _
+    (told_behind g.S.Source g.K.Sink c.args.settings.now (callers_of c.args.hub.now) (p.next + c.args.workers) p.seen _ _ _ b.heard b.asked _ _ _ _ _ _ _ _ (search rules) (search rules) (search rules) b.said.0)
 
 pub returns-clause-cause : goal.returns-clause-cause
 returns-clause-cause g c = cause_behind g.S.Source g.K.Sink _ _ _ _ _ _ _ (search rules) (search rules) c.beside-over.ensures.besides.said.1

@@ -103,6 +103,42 @@ returns-in_err-append-clause-bound g c = λ windows are longest is.
     (c.loop-key.invariant.bound windows are longest is)
     (c.refine.ensures.places_bound k (with_key keys windows k) is_bucket (with_key-is keys ks windows k (Contains-get_or ks i 0 c.loop-key-test.true) are) longest is))
 
+pub returns-in_err-bucket-clause-same_changes : goal.returns-in_err-bucket-clause-same_changes
+returns-in_err-bucket-clause-same_changes g c = c.bucket.ensures.same_changes ∙ c.loop-key.invariant.for_changes ∙ sym c.requires.for_changes
+
+pub returns-in_err-bucket-clause-same_keys : goal.returns-in_err-bucket-clause-same_keys
+returns-in_err-bucket-clause-same_keys g c = c.bucket.ensures.same_keys ∙ c.loop-key.invariant.for_keys ∙ sym c.requires.for_keys
+
+pub returns-in_err-bucket-clause-ready : goal.returns-in_err-bucket-clause-ready
+returns-in_err-bucket-clause-ready g c = c.bucket.ensures.ready
+
+pub returns-in_err-bucket-clause-moved : goal.returns-in_err-bucket-clause-moved
+returns-in_err-bucket-clause-moved g c = g.met.B.Buckets.moved_on _ _ _ c.loop-key.invariant.moved c.bucket.ensures.moved
+
+pub returns-in_err-found-clause-same_changes : goal.returns-in_err-found-clause-same_changes
+returns-in_err-found-clause-same_changes g c = c.bucket.ensures.same_changes ∙ c.loop-key.invariant.for_changes ∙ sym c.requires.for_changes
+
+pub returns-in_err-found-clause-same_keys : goal.returns-in_err-found-clause-same_keys
+returns-in_err-found-clause-same_keys g c = c.bucket.ensures.same_keys ∙ c.loop-key.invariant.for_keys ∙ sym c.requires.for_keys
+
+pub returns-in_err-found-clause-ready : goal.returns-in_err-found-clause-ready
+returns-in_err-found-clause-ready g c = c.bucket.ensures.ready
+
+pub returns-in_err-found-clause-moved : goal.returns-in_err-found-clause-moved
+returns-in_err-found-clause-moved g c = g.met.B.Buckets.moved_on _ _ _ c.loop-key.invariant.moved c.bucket.ensures.moved
+
+pub returns-in_err-append-clause-same_changes : goal.returns-in_err-append-clause-same_changes
+returns-in_err-append-clause-same_changes g c = c.bucket.ensures.same_changes ∙ c.loop-key.invariant.for_changes ∙ sym c.requires.for_changes
+
+pub returns-in_err-append-clause-same_keys : goal.returns-in_err-append-clause-same_keys
+returns-in_err-append-clause-same_keys g c = c.bucket.ensures.same_keys ∙ c.loop-key.invariant.for_keys ∙ sym c.requires.for_keys
+
+pub returns-in_err-append-clause-ready : goal.returns-in_err-append-clause-ready
+returns-in_err-append-clause-ready g c = c.bucket.ensures.ready
+
+pub returns-in_err-append-clause-moved : goal.returns-in_err-append-clause-moved
+returns-in_err-append-clause-moved g c = g.met.B.Buckets.moved_on _ _ _ c.loop-key.invariant.moved c.bucket.ensures.moved
+
 pub returns : goal.returns
 returns g c =
     let corpus = tokens_in c.args.index.now.corpus.files in

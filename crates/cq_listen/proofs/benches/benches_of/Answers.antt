@@ -1,5 +1,5 @@
 use Rattle.std.proofs.Common.{arith}
-use Rattle.cq_listen.proofs.Seating.{new_after, one_more_of, room_after}
+use Rattle.cq_listen.proofs.Seating.{idle_after, child_idle, one_more_of, room_after}
 use Rattle.cq_listen.proofs.benches.benches_of.Goals as goal
 
 pub benches-preserved : goal.benches-preserved
@@ -13,8 +13,17 @@ benches-preserved g c =
     let len = c.in_ok-push.ensures.len in
     let number = i.number in
     record {
-      new = new_after c.args.hub.now c.benches.pass c.split_pass-own.new.pass split.same split.of.0 i.new;
+      idle = idle_after c.args.hub.now c.benches.pass c.split_pass-own.new.pass split.same split.of.0 i.idle;
       room = omega (arith, room, had, most, below);
       number = omega (arith, len, number);
       settings = one_more_of c.args.settings.now c.benches.benches.items c.push.new.self.items c.new.result c.in_ok-push.ensures.items i.settings c.new.ensures;
     }
+
+pub new-requires-clause-idle : goal.new-requires-clause-idle
+new-requires-clause-idle g c =
+    let i = c.benches.invariant in
+    let split = c.split_pass-own.ensures in
+    let below = c.benches-test.true in
+    let had = i.room in
+    let most = c.requires.room in
+    child_idle c.args.hub.now c.benches.pass c.split_pass-own.result split.child split.of.1 i.idle (omega (arith, had, most, below))

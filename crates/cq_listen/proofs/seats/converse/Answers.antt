@@ -1,16 +1,20 @@
 use Rattle.cq_cells.specs.Passes.{by_of}
-use Rattle.cq_listen.proofs.Seating.{stands, seated_behind}
+use Rattle.std.proofs.Common.{◌∙◌}
+use Rattle.cq_listen.proofs.Seating.{stands, seated_behind, limit_of}
 use Rattle.cq_listen.proofs.seats.converse.Goals as goal
 
 pub session-end-requires-clause-closed : goal.session-end-requires-clause-closed
 session-end-requires-clause-closed g c κs lives =
     let p = c.seat.inside.pass in
-    let is = c.seat.invariant in (by_of p, p.seen, stands c.seat.inside.hub.now p is.of, (is.closed, tt))
+    let is = c.seat.invariant.seated.idle in (by_of p, p.seen, stands c.seat.inside.hub.now p is.of, (is.closed, tt))
 
 pub invariant_of-seat : goal.invariant_of-seat
 invariant_of-seat g c =
     let hub = c.seat.inside.hub.now in
     let p = c.seat.inside.pass in
-    let is = c.seat.invariant in
+    let is = c.seat.invariant.seated.idle in
     let lead = c.session-end.ensures.served (by_of p) p.seen (stands hub p is.of) is.closed tt in
-    seated_behind hub c.seat.inside.settings.now p c.session-end.new.pass (by_of p) lead.after is lead.stands lead.closed
+    record {
+      seated = seated_behind hub c.seat.inside.settings.now p c.session-end.new.pass (by_of p) lead.after c.seat.invariant.seated lead.stands lead.closed;
+      limit_is = c.session-end.ensures.limit ∙ limit_of _ _ c.restart.ensures ∙ c.seat.invariant.limit_is;
+    }

@@ -28,6 +28,7 @@ returns-in-Ok-new-clause-runs g c = λ other.
           (λ lines replies counts. record {
             after = led.after;
             asked = c.session-end.new.pass.asked;
+            lawful = law;
             talk = subst (λ (asked : ℕ). CountedTalk c.args.settings.now 1 (Unit {0}) 0 [] (counted c.args.steps.now c.session-end.new.steps asked c.session-end.new.pass.asked) led.after lines replies) c.in-Ok-made.ensures.asked counts;
             alone = c.talks_alone.ensures c.args.settings.now 1 0 led.after (map (said c.args.settings.now.chunk) lines) replies counts.talk law;
             beside = c.talks_beside.ensures.alone c.args.settings.now 1 0 led.after (map (said c.args.settings.now.chunk) lines) replies counts.talk law;

@@ -16,6 +16,7 @@ lines-init g c = record {
   goes = λ by h stands closed always. record { after = h; stands = stands; closed = closed; holds = so_far_none _ _ _ by h _ _ _ _ _ c.requires.fresh };
   source_faults = refl;
   sink_faults = refl;
+  limit = refl;
 }
 
 pub returns-in-End-clause-served : goal.returns-in-End-clause-served
@@ -54,6 +55,7 @@ lines-preserved-in-Ok g c =
           };
       source_faults = c.in-Line.ensures.cause ∙ c.lines.invariant.source_faults;
       sink_faults = c.in-Ok.ensures.cause.kept ∙ c.lines.invariant.sink_faults;
+      limit = cuts.limit ∙ c.lines.invariant.limit;
     }
 
 pub returns-in-Err-clause-served : goal.returns-in-Err-clause-served
@@ -85,6 +87,7 @@ lines-preserved g c =
           };
       source_faults = c.in-TooLong.ensures.cause ∙ c.lines.invariant.source_faults;
       sink_faults = c.in-Ok-turn_long.ensures.cause.kept ∙ c.lines.invariant.sink_faults;
+      limit = cuts.limit ∙ c.lines.invariant.limit;
     }
 
 pub returns-in-Err-turn_long-clause-served : goal.returns-in-Err-turn_long-clause-served
@@ -94,3 +97,28 @@ returns-in-Err-turn_long-clause-served g c =
     λ by h stands closed always.
     lead_weaker _ _ by _ _ _ _ (c.lines.invariant.goes by h stands closed tt) (λ now so. cut_off c.args.settings.now _ _ by h now now _ _ _ _ _ _ _ _ _ _ _ _ _ _ _ _ cuts.got cuts.finds.0 reply.Long so cuts.bytes cuts.taken cuts.within cuts.limit (λ e. (cuts.stays e).0) cuts.finds.2
     (answers_long c.args.settings.now (g.H.Hub.callers c.args.hub.now) g.H.Hub.alone by c.lines.seen now cuts.finds.0 cuts.finds.1) (spends_long c.args.settings.now by now cuts.finds.0 _ _ cuts.finds.1) sends.0 sends.1 sends.2 sends.3)
+
+pub returns-in-End-clause-limit : goal.returns-in-End-clause-limit
+returns-in-End-clause-limit g c =
+    let cuts = rw c.in-End.is at c.next.follows.holds-at-none in
+    cuts.limit ∙ c.lines.invariant.limit
+
+pub returns-in-Spent-clause-limit : goal.returns-in-Spent-clause-limit
+returns-in-Spent-clause-limit g c =
+    let cuts = rw c.in-Spent.is at c.next.follows.holds-at-none in
+    cuts.limit ∙ c.lines.invariant.limit
+
+pub returns-in-ReadFault-clause-limit : goal.returns-in-ReadFault-clause-limit
+returns-in-ReadFault-clause-limit g c =
+    let cuts = rw c.in-ReadFault.is at c.next.follows.holds-at-none in
+    cuts.limit ∙ c.lines.invariant.limit
+
+pub returns-in-Err-clause-limit : goal.returns-in-Err-clause-limit
+returns-in-Err-clause-limit g c =
+    let cuts = rw c.in-Line.is at c.next.follows.holds-at-none in
+    cuts.limit ∙ c.lines.invariant.limit
+
+pub returns-in-Err-turn_long-clause-limit : goal.returns-in-Err-turn_long-clause-limit
+returns-in-Err-turn_long-clause-limit g c =
+    let cuts = rw c.in-TooLong.is at c.next.follows.holds-at-none in
+    cuts.limit ∙ c.lines.invariant.limit

@@ -1,5 +1,5 @@
-use Rattle.std.proofs.Common.{None, refl, sym, subst, ap, ◌∙◌}
-use Rattle.cq_cells.specs.Callers.{OwnSame}
+use Rattle.std.proofs.Common.{◌<◌, ℕ, None, refl, sym, subst, subst₂, ap, ◌∙◌}
+use Rattle.cq_cells.specs.Callers.{OwnSame, NoneFrom}
 use Rattle.cq_cells.proofs.Passing.{idle_seat, ok_held, owns}
 use Rattle.cq_cells.proofs.cells.Cells.enter_board.Goals as goal
 
@@ -14,3 +14,7 @@ invariant_of-pass g c = let p = c.pass.inside in let q = c.take.new.pass in
 pub returns-clause-own : goal.returns-clause-own
 returns-clause-own g c = let v = c.take.ensures.value in let was = c.pass.inside.seat.me.0 in
     owns g.L.Law.caller _ _ _ c.pass.view_is c.requires.of.has_caller (subst (λ l. OwnSame g.L.Law.caller was.callers l was.seen) (sym (v.5 refl)) v.8)
+
+pub returns-clause-unmade : goal.returns-clause-unmade
+returns-clause-unmade g c = let v = c.take.ensures.value in let next = c.take.ensures.own.1.2 in
+    λ pos. subst₂ (NoneFrom g.L.Law.caller) (sym next) (sym (v.5 refl)) (v.11 (subst (λ (n : ℕ). 0 < n) next pos))

@@ -4,7 +4,7 @@ use Rattle.cq_cells.specs.Passes as passes
 use Rattle.cq_history.specs.State.{maker}
 use Rattle.cq_chain.specs.Held.{IsLawful, IsShardAt}
 use Rattle.cq_chain.specs.Passes.{BoardCells}
-use Rattle.cq_chain.proofs.Passing.{is_pass, few_shard, found_here, found_published, found_swept, found_reached, found_small}
+use Rattle.cq_chain.proofs.Passing.{is_pass, made_same, unmade_same, few_shard, found_here, found_published, found_swept, found_reached, found_small}
 use Rattle.cq_chain.proofs.cells.Cells.enter_shard.Goals as goal
 
 pub enter_shard-requires-clause-of : goal.enter_shard-requires-clause-of
@@ -23,6 +23,7 @@ returns-clause-of g c =
     is_pass c.self.inside.cells c.args.self.now q c.self.view_is c.self.invariant.1 e.of.0 (subst (IsLawful c.args.self.now.about) (sym e.seen) c.requires.of.law)
     (subst Differ (sym e.of.1.callers) c.requires.of.apart)
     (few_shard q c.args.shard c.enter_shard.result e.hand (found_small g.W.Indexed.keys_in g.W.Indexed.IsWorkOf about c.args.pass.now q c.args.shard c.enter_shard.result e.shard))
+    (made_same c.args.pass.now q e.of.1 c.requires.of.made) (unmade_same c.args.pass.now q e.of.1 e.seen c.requires.of.unmade)
 
 pub returns-clause-shard : goal.returns-clause-shard
 returns-clause-shard g c =

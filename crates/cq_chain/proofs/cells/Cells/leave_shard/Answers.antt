@@ -4,7 +4,7 @@ use Rattle.cq_cells.specs.Passes as passes
 use Rattle.cq_cells.specs.Passes.{HasReached}
 use Rattle.cq_chain.specs.Held.{IsLawful, IsShardAt}
 use Rattle.cq_chain.specs.Passes.{BoardCells}
-use Rattle.cq_chain.proofs.Passing.{is_pass, few_free, may_leave, may_count}
+use Rattle.cq_chain.proofs.Passing.{is_pass, made_same, unmade_same, few_free, may_leave, may_count}
 use Rattle.cq_chain.proofs.cells.Cells.leave_shard.Goals as goal
 
 pub leave_shard-requires-clause-of : goal.leave_shard-requires-clause-of
@@ -35,6 +35,7 @@ returns-clause-of g c =
     let q = c.leave_shard.new.pass in
     is_pass c.self.inside.cells c.args.self.now q c.self.view_is c.self.invariant.1 e.of.0 (subst (IsLawful c.args.self.now.about) (sym e.seen) c.requires.of.law)
     (subst Differ (sym e.of.1.callers) c.requires.of.apart) (few_free q e.free)
+    (made_same c.args.pass.now q e.of.1 c.requires.of.made) (unmade_same c.args.pass.now q e.of.1 e.seen c.requires.of.unmade)
 
 pub returns-clause-reached : goal.returns-clause-reached
 returns-clause-reached g c = subst (λ n. HasReached c.args.shard n c.args.pass.now c.leave_shard.new.pass) c.applied-applied.ensures c.leave_shard.ensures.reached

@@ -47,14 +47,14 @@ returns-clause-shards g c =
     subst (λ n. All (λ (x : Contents). x.floor ≡ n) c.sweep_shards.new.shards.items) floor c.in_ok-sweep_shards.ensures.swept
 
 pub returns-clause-once : goal.returns-clause-once
-returns-clause-once g c = λ by h is.
+returns-clause-once g c = λ _ by h is.
     let set = c.set_floor.ensures in
     let raised = solo_raised (HasWindow g.W.Indexed.keys_in g.W.Indexed.IsWorkOf c.args.self.now.settings) _ by h _ _ is c.greatest_floor-floor.result c.greatest_floor-floor.ensures c.set_floor.new.self c.set_floor.result set.adds set.lawful set.unchanged in
     let stands = solo_applies (HasWindow g.W.Indexed.keys_in g.W.Indexed.IsWorkOf) _ by raised.mid _ _ c.sweep_shards.new.shards.items raised.is c.sweep_shards.ensures.stand in
     raised_once _ _ by h _ _ _ raised stands
 
 pub returns-in_err-sweep_shards-clause-once : goal.returns-in_err-sweep_shards-clause-once
-returns-in_err-sweep_shards-clause-once g c = λ by h is.
+returns-in_err-sweep_shards-clause-once g c = λ _ by h is.
     let set = c.set_floor.ensures in
     let raised = solo_raised (HasWindow g.W.Indexed.keys_in g.W.Indexed.IsWorkOf c.args.self.now.settings) _ by h _ _ is c.greatest_floor-floor.result c.greatest_floor-floor.ensures c.set_floor.new.self c.set_floor.result set.adds set.lawful set.unchanged in
     let stands = solo_applies (HasWindow g.W.Indexed.keys_in g.W.Indexed.IsWorkOf) _ by raised.mid _ _ c.sweep_shards.new.shards.items raised.is c.sweep_shards.ensures.stand in

@@ -1,8 +1,0 @@
-use Rattle.std.proofs.Common.{refl}
-use Rattle.cq_cells.specs.Passes.{by_of}
-use Rattle.cq_beside_cases.proofs.holding.labour.Goals as goal
-
-pub returns : goal.returns
-returns g c =
-    let p = c.args.pass in
-    record { of = (c.work.ensures.labours (by_of p) p.seen (record { is = c.requires.of; caller = refl; seen = refl })).stands.is }

@@ -1,0 +1,18 @@
+use Rattle.std.proofs.Common.{◌≡◌, ◌++◌, ◌∷◌, [], List, ℕ, ap, sym, subst, ◌∙◌}
+use Rattle.std.specs.Prelude.{Contains}
+use Rattle.std.proofs.lemmas.List.Elements.{Contains-append_left}
+use Rattle.cq_base.proofs.Lists.{Contains-there, Contains-nil}
+use Rattle.cq_shard.specs.Shard.{Contents}
+use Rattle.cq_index_cases.proofs.shard_sweeps.kept_above.Goals as goal
+
+front : (n : ℕ) → Contains (2 ∷ []) n → Contains (2 ∷ 3 ∷ []) n
+front n there = Contains-append_left (2 ∷ []) (3 ∷ []) n there
+
+pub sweep-requires-clause-known : goal.sweep-requires-clause-known
+sweep-requires-clause-known g c n there =
+    let puts : c.apply-3.new.self.puts ≡ 1 ∷ 2 ∷ 3 ∷ [] =
+    c.in_ok-apply-3.ensures.noted ∙ ap (λ ns. ns ++ 3 ∷ []) (c.in_ok-apply-2.ensures.noted ∙ ap (λ ns. ns ++ 2 ∷ []) (c.in_ok-apply.ensures.noted ∙ ap (λ (v : Contents). v.puts ++ 1 ∷ []) c.new-shard.ensures)) in
+    subst (λ ns. Contains ns n) (sym puts) (Contains-there 1 n (2 ∷ 3 ∷ []) (front n there))
+
+pub sweep-requires-2-clause-known : goal.sweep-requires-2-clause-known
+sweep-requires-2-clause-known g c n none = absurd (Contains-nil n none)

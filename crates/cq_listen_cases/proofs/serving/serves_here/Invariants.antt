@@ -1,4 +1,0 @@
-use Rattle.cq_listen_cases.proofs.serving.serves_here.Given as goal
-
-abbrev pub ghosts-serves : goal.ghosts-serves
-ghosts-serves g a = record { name = a.blank.name; parts = a.blank.parts }

@@ -1,0 +1,150 @@
+ghost use Rattle.std.specs.Prelude.{◌≡◌};
+ghost use Rattle.cq_base.specs.Settings.{IsInRange};
+
+use crate::running::written;
+use cq_base::{Memory, Settings, Steps};
+use cq_hub::{Solo, SoloPass};
+use cq_io::Gate;
+use cq_lines::End;
+use cq_work::{Keyer, Work, plain_key};
+use std::alloc::Global;
+use std::cell::RefCell;
+use std::fmt::Write;
+use std::marker::Brand;
+use std::sync::ledger::{Blank, Ledger};
+use std::thread::Threads;
+
+const SETTINGS: Settings = Settings {
+    chunk: 2,
+    shards: 2,
+    key_bits: 64,
+    ignore_ids: false,
+    ignore_lits: false,
+    change_limit: 6,
+    text_limit: 1_000,
+    byte_limit: 1_048_576,
+};
+
+// The lines of a talk, each with the calls of the gate that come before its reply, behind a tab. An upload makes no work.
+// A query makes that of each upload that has none, the last one first, and of no other change; it brings up both shards
+// where its version is not the published one; and what is refused calls nothing.
+const TALK: &str = "\
+{\"op\":\"put\",\"project\":\"p\",\"path\":\"a\",\"lang\":\"any\",\"text\":\"a b a b\"}\t accept 1
+{\"op\":\"put\",\"project\":\"p\",\"path\":\"b\",\"lang\":\"any\",\"text\":\"a b\"}\t accept 2
+{\"op\":\"state\"}\t
+{\"op\":\"drop\",\"project\":\"p\",\"path\":\"c\"}\t
+{\"op\":\"files\",\"project\":\"p\",\"finish\":false}\t
+{\"op\":\"files\",\"project\":\"p\"}\t work 2 work 1 shard 0 shard 1 open 2
+{\"op\":\"groups\",\"project\":\"p\",\"min\":2}\t open 2
+{\"op\":\"gate\",\"project\":\"p\",\"conditions\":[]}\t accept 3
+{\"op\":\"measures\",\"project\":\"p\",\"at\":4}\t
+{\"op\":\"measures\",\"project\":\"p\",\"finish\":false}\t shard 0 shard 1 open 3
+{\"op\":\"put\",\"project\":\"q\",\"path\":\"a\",\"lang\":\"java\",\"text\":\"#\"}\t accept 4
+{\"op\":\"drop\",\"project\":\"p\",\"path\":\"a\"}\t accept 5
+{\"op\":\"put\",\"project\":\"p\",\"path\":\"b\",\"lang\":\"c\",\"text\":\"int a;\"}\t accept 6
+{\"op\":\"groups\",\"project\":\"p\",\"min\":1}\t
+{\"op\":\"verdict\",\"project\":\"p\"}\t work 6 work 4 shard 0 shard 1 open 6
+{\"op\":\"files\",\"project\":\"none\",\"finish\":false}\t open 6
+{\"op\":\"drop\",\"project\":\"q\",\"path\":\"a\"}\t accept 7
+{\"op\":\"drop\",\"project\":\"q\",\"path\":\"a\"}\t
+{\"op\":\"fly\"}\t
+{\"op\":\"put\",\"project\":\"q\",\"path\":\"a\",\"lang\":\"go\",\"text\":\"\"}\t accept 8
+{\"op\":\"put\",\"project\":\"q\",\"path\":\"a\",\"lang\":\"any\",\"text\":\"a\"}\t accept 9
+{\"op\":\"put\",\"project\":\"q\",\"path\":\"a\",\"lang\":\"any\",\"text\":\"b\"}\t
+{\"op\":\"groups\",\"project\":\"q\",\"min\":2}\t work 9 work 8 shard 0 shard 1 open 9
+";
+
+// Writes down each call, in order, with its number.
+#[derive(Drop)]
+struct Noting {
+    calls: RefCell<String>,
+}
+
+impl Noting {
+    // A call that finds no memory is missing among them.
+    fn note(&self, call: &str, number: u64) {
+        if let Ok(mut calls) = self.calls.try_borrow_mut() {
+            let _ = write!(*calls, " {call} {number}");
+        }
+    }
+}
+
+impl Gate for Noting {
+    fn after_accept(&self, change: u64) {
+        self.note("accept", change);
+    }
+
+    fn before_work(&self, change: u64) {
+        self.note("work", change);
+    }
+
+    fn after_shard(&self, shard: u32) {
+        self.note("shard", u64::from(shard));
+    }
+
+    fn after_open(&self, version: u64) {
+        self.note("open", version);
+    }
+}
+
+// The end of a session over a new plain hub, and what its gate was called for.
+fn noted<R: Threads + Sync, L: Ledger>(
+    rt: &R,
+    alloc: Global,
+    settings: &Settings,
+    input: &[u8],
+    blank: Blank,
+) -> Result<(End, String), Memory>
+    requires in_range { IsInRange settings.now }
+    requires name { blank.name ≡ L.name }
+    requires parts { blank.parts ≡ L.parts }
+{
+    let of = *settings;
+    let key = Box::new(alloc, move |codes: &[u64]| plain_key(&of, codes))?;
+    let keyer = Keyer::new(settings, key);
+    let mut steps: Steps<L> = Steps::new(blank);
+    let made: (Solo<Work<L>>, SoloPass<Work<L>>) = Solo::new(alloc, settings)?;
+    let (hub, mut pass) = made;
+    let gate = Noting {
+        calls: RefCell::new(String::new(alloc)),
+    };
+    let (end, _) = written(
+        rt, alloc, settings, &keyer, &hub, input, &gate, &mut pass, &mut steps,
+    )?;
+    Ok((end, gate.calls.into_inner()))
+}
+
+// The same, unless a setting is out of its range.
+fn noted_here<R: Threads + Sync>(
+    rt: &R,
+    alloc: Global,
+    settings: &Settings,
+    input: &[u8],
+) -> Result<Option<(End, String)>, Memory> {
+    if settings.check().is_some() {
+        return Ok(None);
+    }
+    Ok(Some(noted::<R, Brand>(rt, alloc, settings, input, Blank::new(1))?))
+}
+
+// The lines and the calls of `TALK`.
+fn parted(alloc: Global) -> Result<(String, String), Memory> {
+    let mut asked = String::new(alloc);
+    let mut calls = String::new(alloc);
+    for line in TALK.lines() {
+        if let Some((request, of_line)) = line.split_once('\t') {
+            asked.push_str(request)?;
+            asked.push_str("\n")?;
+            calls.push_str(of_line)?;
+        }
+    }
+    Ok((asked, calls))
+}
+
+#[test]
+fn the_gate_is_called_where_a_talk_gets_on(rt: HostRuntime) -> Result<(), Memory> {
+    let (asked, calls) = parted(rt.alloc())?;
+    let noted = noted_here(&rt, rt.alloc(), &SETTINGS, asked.as_bytes())?;
+    assert_eq!(rt; noted, Some((End::Finished, calls)));
+    Ok(())
+}

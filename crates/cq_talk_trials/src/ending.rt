@@ -1,0 +1,79 @@
+ghost use Rattle.std.specs.Prelude.{◌≡◌, []};
+ghost use Rattle.cq_base.specs.Settings.{IsInRange};
+ghost use Rattle.cq_shared.specs.SharedPasses.{IsPassOf, settings_of};
+
+use cq_base::{Counters, Memory, Settings, Steps};
+use cq_chain::Pass;
+use cq_io::{Gate, MemSink, MemSource, Sink, Source};
+use cq_lines::{End, Lines};
+use cq_session::session;
+use cq_shared::Shared;
+use cq_work::{Keyer, Work, plain_key};
+use std::alloc::Global;
+use std::sync::Wait;
+use std::sync::ledger::Ledger;
+use std::thread::Threads;
+
+/// How the session of a caller who has seen nothing ends.
+pub(crate) fn conversed<Q: Threads + Sync, L: Ledger, R: Wait, S: Source, K: Sink, G: Gate>(
+    rt: &Q,
+    alloc: Global,
+    settings: &Settings,
+    hub: &Shared<Work<L>, R>,
+    counters: &Counters<L>,
+    gate: &G,
+    source: &mut S,
+    sink: &mut K,
+    mut pass: Pass<Work<L>>,
+) -> Result<End, Memory>
+    requires in_range { IsInRange settings.now }
+    requires hub_settings { settings_of hub.now ≡ settings.now }
+    requires of { IsPassOf hub.now pass }
+    requires fresh { pass.seen ≡ [] }
+{
+    let of = *settings;
+    let key = Box::new(alloc, move |codes: &[u64]| plain_key(&of, codes))?;
+    let keyer = Keyer::new(settings, key);
+    let mut lines = Lines::new(alloc, settings.byte_limit)?;
+    let mut steps: Steps<L> = counters.counter();
+    let end = session(
+        rt, alloc, settings, &keyer, hub, &mut pass, &mut lines, source, sink, gate, &mut steps,
+    );
+    Ok(end)
+}
+
+/// The same, and what it writes for an input. The reads of that, of 97 bytes each, are counted from 1, and the one with the
+/// number `failing` fails.
+pub(crate) fn ended<Q: Threads + Sync, L: Ledger, R: Wait, G: Gate>(
+    rt: &Q,
+    alloc: Global,
+    settings: &Settings,
+    hub: &Shared<Work<L>, R>,
+    counters: &Counters<L>,
+    gate: &G,
+    input: &[u8],
+    failing: u64,
+    pass: Pass<Work<L>>,
+) -> Result<(End, Vec<u8>), Memory>
+    requires in_range { IsInRange settings.now }
+    requires hub_settings { settings_of hub.now ≡ settings.now }
+    requires of { IsPassOf hub.now pass }
+    requires fresh { pass.seen ≡ [] }
+{
+    let bytes = Vec::from_slice(alloc, input)?;
+    let mut source = MemSource::new(bytes, 97, vec![in alloc; failing]?);
+    let mut sink = MemSink::new(alloc, 1_048_576, 89, Vec::new(alloc))?;
+    let end = conversed(
+        rt,
+        alloc,
+        settings,
+        hub,
+        counters,
+        gate,
+        &mut source,
+        &mut sink,
+        pass,
+    )?;
+    let output = Vec::from_slice(alloc, sink.written())?;
+    Ok((end, output))
+}

@@ -1,0 +1,153 @@
+ghost use Rattle.std.specs.Prelude.{◌≡◌, ◌<◌, []};
+ghost use Rattle.cq_base.specs.Settings.{IsInRange};
+ghost use Rattle.cq_shared.specs.SharedPasses.{IsPassOf, settings_of};
+
+use crate::ending::ended;
+use crate::threads::SETTINGS;
+use cq_base::{Counters, Memory, Settings};
+use cq_chain::Pass;
+use cq_io::OpenGate;
+use cq_lines::End;
+use cq_shared::Shared;
+use cq_work::Work;
+use std::alloc::Global;
+use std::marker::Brand;
+use std::sync::Wait;
+use std::sync::ledger::{Blank, Ledger};
+use std::thread::{Threads, join};
+
+// Two reads are the whole of it, and what is left of the third line is none.
+const BROKEN: &str = r#"{"op":"put","project":"p","path":"a","lang":"any","text":"x y z"}
+{"op":"groups","project":"p","min":3}
+{"op":"groups","project":"p","#;
+
+const WHOLE: &str = r#"{"op":"put","project":"p","path":"b","lang":"any","text":"x y z w"}
+{"op":"groups","project":"p","min":3}
+"#;
+
+// The ends of two sessions at the same time, of which one's third read fails, and how many lines that one was told.
+fn two_sessions<Q: Threads + Sync, L: Ledger + Send + Sync, R: Wait + Sync>(
+    rt: &Q,
+    alloc: Global,
+    settings: &Settings,
+    hub: &Shared<Work<L>, R>,
+    counters: &Counters<L>,
+    one: Pass<Work<L>>,
+    two: Pass<Work<L>>,
+) -> Result<(End, End, usize), Memory>
+    requires in_range { IsInRange settings.now }
+    requires hub_settings { settings_of hub.now ≡ settings.now }
+    requires one { IsPassOf hub.now one × (one.seen ≡ []) }
+    requires two { IsPassOf hub.now two × (two.seen ≡ []) }
+{
+    let (broken, whole) = join(
+        rt,
+        move || -> Result<(End, Vec<u8>), Memory>
+            requires { IsInRange settings.now × (settings_of hub.now ≡ settings.now)
+                × IsPassOf hub.now one × (one.seen ≡ []) }
+        {
+            ended(
+                rt,
+                alloc,
+                settings,
+                hub,
+                counters,
+                &OpenGate,
+                BROKEN.as_bytes(),
+                3,
+                one,
+            )
+        },
+        move || -> Result<(End, Vec<u8>), Memory>
+            requires { IsInRange settings.now × (settings_of hub.now ≡ settings.now)
+                × IsPassOf hub.now two × (two.seen ≡ []) }
+        {
+            ended(
+                rt,
+                alloc,
+                settings,
+                hub,
+                counters,
+                &OpenGate,
+                WHOLE.as_bytes(),
+                0,
+                two,
+            )
+        },
+    );
+    let (broken, told) = broken?;
+    let (whole, _) = whole?;
+    let lines = told.iter().filter(|byte| **byte == b'\n').count();
+    Ok((broken, whole, lines))
+}
+
+/// How sessions ended, and what the hub tells behind them.
+#[derive(Clone, Copy, Debug, PartialEq, Eq)]
+struct Left {
+    broken: End,
+    whole: End,
+    /// The replies to the session whose read failed.
+    told: usize,
+    later: End,
+    published: u64,
+    floor: u64,
+}
+
+// A third session publishes a later version, and then the hub is swept.
+fn faulted<Q: Threads + Wait + Sync, L: Ledger + Send + Sync>(
+    rt: &Q,
+    alloc: Global,
+    settings: &Settings,
+    blank: Blank,
+) -> Result<Left, Memory>
+    requires in_range { IsInRange settings.now }
+    requires name { blank.name ≡ L.name }
+    requires parts { blank.parts ≡ L.parts }
+{
+    let counters: Counters<L> = Counters::new(blank);
+    let made: (Shared<Work<L>, &Q>, Pass<Work<L>>) = Shared::new(rt, alloc, settings, 4)?;
+    let (hub, mut pass) = made;
+    let one = hub.split_pass(&mut pass);
+    let two = hub.split_pass(&mut pass);
+    let three = hub.split_pass(&mut pass);
+    let (broken, whole, told) = two_sessions(rt, alloc, settings, &hub, &counters, one, two)?;
+    let input = WHOLE.as_bytes();
+    let (later, _) = ended(
+        rt, alloc, settings, &hub, &counters, &OpenGate, input, 0, three,
+    )?;
+    let floor = hub.sweep(alloc, &mut pass)?;
+    let asked = hub.ask(&mut pass);
+    Ok(Left {
+        broken,
+        whole,
+        told,
+        later,
+        published: asked.published,
+        floor,
+    })
+}
+
+fn faulted_here<Q: Threads + Wait + Sync>(rt: &Q, alloc: Global) -> Result<Option<Left>, Memory> {
+    let settings = SETTINGS;
+    if settings.check().is_some() {
+        return Ok(None);
+    }
+    Ok(Some(faulted::<Q, Brand>(rt, alloc, &settings, Blank::new(1))?))
+}
+
+// A view that the session whose read failed had left open would hold the floor at its version.
+#[test]
+fn a_read_that_fails_leaves_no_view_open(rt: HostRuntime) -> Result<(), Memory> {
+    assert_eq!(rt;
+        faulted_here(&rt, rt.alloc())?,
+        Some(Left {
+            broken: End::ReadFault,
+            whole: End::Finished,
+            told: 2,
+            later: End::Finished,
+            published: 3,
+            floor: 3,
+        })
+    );
+    Ok(())
+}

@@ -1,0 +1,211 @@
+ghost use Rattle.std.specs.Prelude.{◌≡◌, ◌<◌, []};
+ghost use Rattle.cq_base.specs.Settings.{IsInRange};
+ghost use Rattle.cq_shared.specs.SharedPasses.{IsPassOf, settings_of};
+
+use crate::ending::ended;
+use crate::threads::SETTINGS;
+use cq_base::{Counters, Memory, Settings};
+use cq_chain::Pass;
+use cq_io::Gate;
+use cq_lines::End;
+use cq_shared::Shared;
+use cq_work::Work;
+use std::alloc::Global;
+use std::marker::Brand;
+use std::sync::Wait;
+use std::sync::atomic::{AtomicU64, Ordering};
+use std::sync::ledger::{Blank, Ledger};
+use std::thread;
+use std::thread::{Threads, join};
+use std::time::{Clock, Duration};
+
+// Holds whoever has a change accepted until both sessions have, and whoever is about to make the work of one until both are.
+#[derive(Clone, Copy)]
+struct Pairing<'a, C> {
+    clock: &'a C,
+    accepted: &'a AtomicU64,
+    first: &'a AtomicU64,
+    second: &'a AtomicU64,
+}
+
+impl<'a, C: Clock> Pairing<'a, C> {
+    // Ten seconds at most.
+    fn meet(&self, came: &AtomicU64) {
+        came.fetch_add(1, Ordering::SeqCst);
+        for _rest in 0..10_000u32 {
+            if came.load(Ordering::SeqCst) >= 2 {
+                return;
+            }
+            thread::sleep(self.clock, Duration::from_millis(1));
+        }
+    }
+}
+
+impl<'a, C: Clock> Gate for Pairing<'a, C> {
+    fn after_accept(&self, _change: u64) {
+        self.meet(self.accepted);
+    }
+
+    fn before_work(&self, change: u64) {
+        if change == 1 {
+            self.meet(self.first);
+        } else {
+            self.meet(self.second);
+        }
+    }
+
+    fn after_shard(&self, _shard: u32) {}
+
+    fn after_open(&self, _version: u64) {}
+}
+
+const ONE: &str = r#"{"op":"put","project":"p","path":"a","lang":"any","text":"x y z"}
+{"op":"groups","project":"p","min":3}
+{"op":"measures","project":"p","min":3}
+{"op":"files","project":"p"}
+"#;
+
+const TWO: &str = r#"{"op":"put","project":"p","path":"b","lang":"any","text":"x y z w"}
+{"op":"groups","project":"p","min":3}
+{"op":"measures","project":"p","min":3}
+{"op":"files","project":"p"}
+"#;
+
+// What both are told of both files, before the numbers of their changes.
+const TOLD: &str =
+    r#"{"groups":[{"places":[{"at":0,"first":1,"last":1,"path":"a"},{"at":0,"first":1,"last":1,"path":"b"}],"tokens":3}],"ok":true,"total":1,"version":2}
+{"measures":{"complexity":2,"duplicated_blocks":2,"duplicated_files":2,"duplicated_lines":2,"duplicated_lines_density":10000,"files":2,"lines":2,"ncloc":2},"ok":true,"version":2}
+{"files":["#;
+
+/// How two sessions went whose queries had the same works to make.
+#[derive(Clone, Copy, Debug, PartialEq, Eq)]
+struct Helped {
+    /// Both were told the same by each query, and what is wanted.
+    alike: bool,
+    /// So many were about to make the work of the first change, and so many that of the second.
+    first: u64,
+    second: u64,
+}
+
+// Both ended with the input, and behind the number of its change each was told the same, which begins as wanted.
+fn are_alike(one: (End, Vec<u8>), two: (End, Vec<u8>)) -> bool {
+    if one.0 != End::Finished || two.0 != End::Finished {
+        return false;
+    }
+    let (Ok(one), Ok(two)) = (String::from_utf8(one.1), String::from_utf8(two.1)) else {
+        return false;
+    };
+    match (one.split_once('\n'), two.split_once('\n')) {
+        (Some((_, one)), Some((_, two))) => one == two && one.starts_with(TOLD),
+        _ => false,
+    }
+}
+
+fn two_sessions<Q: Threads + Sync, L: Ledger + Send + Sync, R: Wait + Sync, G: Gate + Sync>(
+    rt: &Q,
+    alloc: Global,
+    settings: &Settings,
+    hub: &Shared<Work<L>, R>,
+    counters: &Counters<L>,
+    gate: &G,
+    one: Pass<Work<L>>,
+    two: Pass<Work<L>>,
+) -> Result<bool, Memory>
+    requires in_range { IsInRange settings.now }
+    requires hub_settings { settings_of hub.now ≡ settings.now }
+    requires one { IsPassOf hub.now one × (one.seen ≡ []) }
+    requires two { IsPassOf hub.now two × (two.seen ≡ []) }
+{
+    let (one, two) = join(
+        rt,
+        move || -> Result<(End, Vec<u8>), Memory>
+            requires { IsInRange settings.now × (settings_of hub.now ≡ settings.now)
+                × IsPassOf hub.now one × (one.seen ≡ []) }
+        {
+            ended(
+                rt,
+                alloc,
+                settings,
+                hub,
+                counters,
+                gate,
+                ONE.as_bytes(),
+                0,
+                one,
+            )
+        },
+        move || -> Result<(End, Vec<u8>), Memory>
+            requires { IsInRange settings.now × (settings_of hub.now ≡ settings.now)
+                × IsPassOf hub.now two × (two.seen ≡ []) }
+        {
+            ended(
+                rt,
+                alloc,
+                settings,
+                hub,
+                counters,
+                gate,
+                TWO.as_bytes(),
+                0,
+                two,
+            )
+        },
+    );
+    Ok(are_alike(one?, two?))
+}
+
+fn two_help<Q: Threads + Clock + Wait + Sync, L: Ledger + Send + Sync>(
+    rt: &Q,
+    alloc: Global,
+    settings: &Settings,
+    blank: Blank,
+) -> Result<Helped, Memory>
+    requires in_range { IsInRange settings.now }
+    requires name { blank.name ≡ L.name }
+    requires parts { blank.parts ≡ L.parts }
+{
+    let counters: Counters<L> = Counters::new(blank);
+    let (accepted, first, second) = (AtomicU64::new(0), AtomicU64::new(0), AtomicU64::new(0));
+    let gate = Pairing {
+        clock: rt,
+        accepted: &accepted,
+        first: &first,
+        second: &second,
+    };
+    let made: (Shared<Work<L>, &Q>, Pass<Work<L>>) = Shared::new(rt, alloc, settings, 3)?;
+    let (hub, mut pass) = made;
+    let one = hub.split_pass(&mut pass);
+    let two = hub.split_pass(&mut pass);
+    let alike = two_sessions(rt, alloc, settings, &hub, &counters, &gate, one, two)?;
+    Ok(Helped {
+        alike,
+        first: first.load(Ordering::SeqCst),
+        second: second.load(Ordering::SeqCst),
+    })
+}
+
+fn two_help_here<Q: Threads + Clock + Wait + Sync>(
+    rt: &Q,
+    alloc: Global,
+) -> Result<Option<Helped>, Memory> {
+    let settings = SETTINGS;
+    if settings.check().is_some() {
+        return Ok(None);
+    }
+    Ok(Some(two_help::<Q, Brand>(rt, alloc, &settings, Blank::new(1))?))
+}
+
+// Each of two sessions has an upload, and makes the works of both at the same time as the other: of each work one is taken,
+// and both are told the same at the same version.
+#[test]
+fn queries_that_make_the_same_works_are_told_the_same(rt: HostRuntime) -> Result<(), Memory> {
+    assert_eq!(rt;
+        two_help_here(&rt, rt.alloc())?,
+        Some(Helped {
+            alike: true,
+            first: 2,
+            second: 2
+        })
+    );
+    Ok(())
+}
