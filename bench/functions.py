@@ -30,8 +30,8 @@ from pathlib import Path
 from typing import NamedTuple
 
 ROOT = Path(__file__).resolve().parent.parent
-sys.path.insert(0, str(ROOT / "examples"))
-from cqd_client import Choice, Notes, puts  # noqa: E402
+sys.path.insert(0, str(ROOT / "client" / "src"))
+from cqd_client.upload import folder_puts  # noqa: E402
 
 SERVER = [os.environ.get("CQD", ROOT / "cqd"), "run", "--text-limit", "67108864"]
 MOST_TEXT = 33_554_432
@@ -71,7 +71,7 @@ PEERS = {"java": java_rows, "go": go_rows, "c": c_rows}
 
 def chosen(lang, folder, most):
     """The puts of at most so many files, in even distances."""
-    all_ = [put for put in puts(folder, "p", Choice([], [], []), Notes()) if put["lang"] == lang]
+    all_ = [put for put in folder_puts(folder, "p") if put["lang"] == lang]
     count = min(most, len(all_))
     return [all_[i * len(all_) // count] for i in range(count)]
 

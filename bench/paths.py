@@ -5,7 +5,11 @@ how the two projects' times compare. The program is ./cqd, or what CQD names."""
 import json
 import os
 import subprocess
+import sys
 from pathlib import Path
+
+if {"-h", "--help"} & {*sys.argv[1:]}:
+    sys.exit(print(__doc__))
 
 ROOT = Path(__file__).resolve().parent.parent
 PAIRS = 200

@@ -3,8 +3,12 @@
 import json
 import resource
 import subprocess
+import sys
 import time
 from pathlib import Path
+
+if {"-h", "--help"} & {*sys.argv[1:]}:
+    sys.exit(print(__doc__))
 
 ROOT = Path(__file__).resolve().parent.parent
 

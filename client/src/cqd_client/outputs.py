@@ -1,0 +1,114 @@
+"""What a call writes: its answer in the formats that were asked for, and the page."""
+from __future__ import annotations
+
+import argparse
+import contextlib
+import dataclasses
+import importlib.util
+import io
+import os
+import sys
+import tempfile
+from collections.abc import Iterator
+from pathlib import Path
+from typing import TextIO, cast
+
+from . import formats
+from .faults import FAILED, PASSED, UNKNOWN, Fault
+from .findings import Measures, Report, arranged
+from .wording import shown, value_text
+
+WORDS = {PASSED: "OK", FAILED: "ERROR", UNKNOWN: "UNKNOWN"}
+
+
+def targets(options: argparse.Namespace) -> list[Path]:
+    """The files that a call writes."""
+    page_file = vars(options).get("page")
+    return [*(vars(options).get("output") or []), *([page_file] if page_file else [])]
+
+
+def check_targets(options: argparse.Namespace) -> None:
+    """What can't be written is told before anything is done."""
+    if vars(options).get("page") and not importlib.util.find_spec("jinja2"):
+        raise Fault("python3-jinja2 is needed to write a page: install it")
+    for target in targets(options):
+        if target.is_dir() or not target.parent.is_dir() or not os.access(target if target.exists() else target.parent, os.W_OK):
+            raise Fault(f"{target} can't be written: " + ("it is a folder" if target.is_dir() else "no such folder, or no permission"))
+
+
+def write(report: Report, options: argparse.Namespace) -> None:
+    """Writes the report. Files appear as a whole, and what stood there stays if that fails."""
+    ordered = arranged(report, options.sort or "", options.top)
+    if options.page:
+        from . import page  # pylint: disable=import-outside-toplevel
+        with replaced(options.page) as out:
+            page.write(report, out)
+    names = options.format or ["text"]
+    files = options.output or []
+    for name, file in zip(names, files):
+        with replaced(file) as out:
+            write_one(ordered, name, options.command, out)
+    if len(files) < len(names):
+        whole = io.StringIO()
+        write_one(ordered, names[-1], options.command, whole)
+        sys.stdout.write(whole.getvalue())
+    elif report.verdict:
+        formats.write(dataclasses.replace(report, groups=(), total=0, functions=()), "text", sys.stdout)
+
+
+@contextlib.contextmanager
+def replaced(target: Path) -> Iterator[TextIO]:
+    if target.exists() and not target.is_file():
+        # a device or a pipe, as /dev/stdout
+        with open(target, "w", encoding="utf-8") as out:
+            yield out
+        return
+    beside = ""
+    try:
+        with tempfile.NamedTemporaryFile("w", encoding="utf-8", errors="backslashreplace", newline="\n", dir=target.parent,
+                                         prefix=target.name + ".", delete=False) as file:
+            beside = file.name
+            yield cast(TextIO, file)
+        os.chmod(beside, target.stat().st_mode & 0o777 if target.exists() else 0o666 & ~umask())
+        os.replace(beside, target)
+        beside = ""
+    except OSError as error:
+        raise Fault(f"{target} can't be written: {error.strerror}") from error
+    finally:
+        if beside:
+            with contextlib.suppress(OSError):
+                os.unlink(beside)
+
+
+def umask() -> int:
+    mask = os.umask(0o022)
+    os.umask(mask)
+    return mask
+
+
+def write_one(report: Report, name: str, command: str, out: TextIO) -> None:
+    if name == "text" and command == "measures" and report.measures:
+        out.writelines(measure_lines(report.measures))
+    elif name == "text" and command == "report":
+        # the duplicates are on the page
+        out.writelines(function_lines(report))
+        formats.write(dataclasses.replace(report, groups=(), total=0), name, out)
+    else:
+        formats.write(report, name, out)
+        if name == "text" and not report.groups and not report.verdict:
+            out.write("no duplicates\n")
+
+
+def measure_lines(measures: Measures) -> Iterator[str]:
+    names = sorted(vars(measures))
+    width = max(map(len, names))
+    for name in names:
+        yield f"{name:<{width}}  {value_text(name, getattr(measures, name))}\n"
+
+
+def function_lines(report: Report) -> Iterator[str]:
+    if report.functions:
+        yield "functions of greatest complexity\n"
+    width = max((len(str(function.complexity)) for function in report.functions), default=0)
+    for function in report.functions:
+        yield f"  {function.complexity:>{width}}  {shown(function.name)}  {shown(function.path)}:{function.first}-{function.last}\n"

@@ -1,0 +1,85 @@
+"""The command as a process: its output streams, signals, and arguments that don't go together."""
+from __future__ import annotations
+
+import os
+import signal
+import subprocess
+import sys
+import time
+from pathlib import Path
+from typing import Callable
+
+import pytest
+
+from cqd_client import command, options
+from cqd_client.faults import MISUSED
+from conftest import FAILING, Client
+
+
+def test_every_command_has_help(capsys: pytest.CaptureFixture[str]) -> None:
+    for words in (["--help"], ["--version"], *([name, "--help"] for name in options.COMMANDS)):
+        with pytest.raises(SystemExit) as ended:
+            command.main(words)
+        assert ended.value.code == 0
+    assert "exit status" in capsys.readouterr().out
+
+
+@pytest.mark.parametrize("words", [
+    [], ["nothing"], ["groups"], ["put"], ["groups", ".", "--addr", "a:1"], ["groups", ".", "--addr", "a"], ["groups", ".", "--addr", "a:0"],
+    ["groups", ".", "--project", "a/b"], ["groups", ".", "--top", "0"], ["groups", ".", "--min", "0"], ["groups", ".", "--timeout", "nan"],
+    ["groups", ".", "--workers", "65"], ["groups", ".", "--format", "html"], ["groups", ".", "--format", "csv", "--json"],
+    ["groups", ".", "--output", "a", "--output", "b"], ["groups", ".", "--format", "csv", "--format", "cpd"],
+    ["groups", ".", "--format", "csv", "--output", "a", "--format", "cpd", "--output", "a"], ["groups", ".", "--min", "5", "--chunk", "6"],
+    ["groups", ".", "--project", "p", "--addr", "a:1", "--chunk", "5"], ["groups", ".", "--project", "p", "--addr", "a:1", "--local"],
+    ["measures", ".", "--scope", "a//b"], ["measures", ".", "--scope", "a", "--path", "b"], ["measures", ".", "--since", "3"],
+    ["verdict", ".", "--new"], ["verdict", ".", "--gate", "x>1"], ["verdict", ".", "--fail-on", "x"], ["groups", ".", "--state", "s"],
+    ["groups", ".", "--tls"], ["groups", ".", "--project", "p", "--addr", "a:1", "--tls-ca", "x"], ["status"], ["remove"], ["report"],
+    ["check"], ["check", "--base", "x", "--gate", "complexity>1"], ["groups", ".", "--exclude", "../x"], ["groups", ".", "--config", "none"],
+])
+def test_wrong_arguments(words: list[str], monkeypatch: pytest.MonkeyPatch, tmp_path: Path, capsys: pytest.CaptureFixture[str]) -> None:
+    monkeypatch.chdir(tmp_path)
+    monkeypatch.delenv("CQD_ADDR", raising=False)
+    try:
+        status = command.main(words)
+    except SystemExit as ended:
+        status = ended.code  # type: ignore[assignment]
+    said = capsys.readouterr()
+    assert (status, said.out) == (MISUSED, "")
+    assert len(said.err.splitlines()) == 1 and said.err.startswith("cqd-client")
+
+
+def test_outputs_that_cannot_be_written(client: Client, tmp_path: Path) -> None:
+    (tmp_path / "a.c").write_text("int a;\n")
+    ran = client("verdict", ".", "--gate", "lines>9", "--output", "no/folder")
+    assert ran.returncode == 2 and "no/folder can't be written" in ran.stderr
+    with open("/dev/full", "w", encoding="utf-8") as full:
+        full_ran = subprocess.run([sys.executable, "-m", "cqd_client", "verdict", ".", "--gate", "lines>9"], cwd=tmp_path, stdout=full,
+                                  stderr=subprocess.PIPE, env=client.environment, check=False)
+    assert full_ran.returncode == 2 and b"No space left" in full_ran.stderr and b"Traceback" not in full_ran.stderr
+
+
+def test_a_source_file_is_not_overwritten(client: Client, tmp_path: Path) -> None:
+    (tmp_path / "a.c").write_text("int a;\n")
+    assert client("groups", "a.c", "--output", "a.c").returncode == 2
+    assert (tmp_path / "a.c").read_text() == "int a;\n"
+
+
+def test_an_output_that_fails_leaves_what_stood_there(client: Client, tmp_path: Path) -> None:
+    (tmp_path / "a.c").write_text("int a;\n")
+    (tmp_path / "out").write_text("before")
+    assert client("groups", "a.c", "--path", "b.c", "--output", "out").returncode == 2
+    assert (tmp_path / "out").read_text() == "before"
+    assert sorted(os.listdir(tmp_path)) == ["a.c", "out"]
+
+
+def test_signals_end_the_call_and_its_server(failing: Callable[[str], Client], tmp_path: Path) -> None:
+    (tmp_path / "a.c").write_text("int a;\n")
+    client = failing("is silent")
+    for number in (signal.SIGTERM, signal.SIGINT):
+        started = client.start("groups", ".")
+        children = Path(f"/proc/{started.pid}/task/{started.pid}/children")
+        while not any(FAILING.name in Path(f"/proc/{child}/cmdline").read_text() for child in children.read_text().split()):
+            time.sleep(0.1)
+        started.send_signal(number)
+        out, err = started.communicate(timeout=60)
+        assert (started.returncode, out) == (2, b"") and b"interrupted" in err and b"Traceback" not in err

@@ -1,0 +1,103 @@
+"""The shell parts of the templates for CI, run on a git repository that has a clean branch, and then a copy on it."""
+from __future__ import annotations
+
+import json
+import os
+import re
+import stat
+import subprocess
+import sys
+from pathlib import Path
+from typing import Any
+
+import pytest
+
+from conftest import CLIENT, Client, Repository, lines_of
+
+yaml = pytest.importorskip("yaml", reason="python3-yaml is missing")
+TEMPLATES = CLIENT / "ci"
+
+
+class Runner:
+    """A clone as a CI has it, of a repository whose branch `work` was pushed."""
+
+    def __init__(self, origin: Repository, folder: Path, program: str) -> None:
+        self.origin, self.folder = origin, folder
+        subprocess.run(["git", "clone", "-q", "-b", "work", str(origin.folder), str(folder)], check=True)
+        commands = folder.with_name("bin")
+        commands.mkdir(exist_ok=True)
+        command = commands / "cqd-client"
+        command.write_text(f"#!/bin/sh\nexec {sys.executable} -m cqd_client \"$@\"\n")
+        command.chmod(command.stat().st_mode | stat.S_IXUSR)
+        self.environment = {**Client(folder, program).environment, "PATH": f"{commands}:{os.environ['PATH']}", "HOME": str(folder.parent)}
+
+    def run(self, script: str, **variables: str) -> int:
+        environment = {**self.environment, **variables}
+        environment.pop("GIT_CONFIG_GLOBAL")
+        return subprocess.run(["bash", "-e", "-o", "pipefail", "-c", script], cwd=self.folder, env=environment, check=False).returncode
+
+
+@pytest.fixture
+def runners(tmp_path: Path, program: str) -> tuple[Runner, Runner]:
+    """One whose branch is clean, and one whose branch has a copy of old code."""
+    made = []
+    for name in ("clean", "copy"):
+        origin = Repository(tmp_path / name / "origin")
+        # old code is duplicated in less than the three percent that the templates ask for
+        origin.write("src/old.c", lines_of("old"))
+        origin.write("src/large.c", "".join(f"int v{i};\n" for i in range(2000)))
+        origin.commit()
+        origin.git("checkout", "-q", "-b", "work")
+        origin.write("src/new.c", lines_of("copied", 400, 1) + lines_of("again", 400, 1) if name == "copy" else "int something;\n")
+        origin.commit()
+        made.append(Runner(origin, tmp_path / name / "clone", program))
+    return made[0], made[1]
+
+
+def steps_of_github() -> dict[str, Any]:
+    return {step.get("name", step.get("uses")): step for step in yaml.safe_load((TEMPLATES / "github.yml").read_text())["jobs"]["cqd"]["steps"]}
+
+
+def test_github(runners: tuple[Runner, Runner]) -> None:
+    steps = steps_of_github()
+    for runner, expected in zip(runners, (0, 1)):
+        summary = runner.folder.parent / "summary"
+        assert runner.run(steps["Check what changed"]["run"], BASE="origin/main", GITHUB_STEP_SUMMARY=str(summary)) == expected
+        sarif = json.loads((runner.folder / "cqd.sarif").read_text())
+        assert bool(sarif["runs"][0]["results"]) == bool(expected)
+        assert summary.read_text() and (runner.folder / "cqd.html").exists()
+        assert runner.run(steps["Judge the branch"]["run"]) == expected
+    assert runners[0].run(steps["Check what changed"]["run"], BASE="origin/nothing", GITHUB_STEP_SUMMARY="/dev/null") == 2
+
+
+def test_gitlab(runners: tuple[Runner, Runner]) -> None:
+    jobs = yaml.safe_load((TEMPLATES / "gitlab.yml").read_text())
+    for runner, expected in zip(runners, (0, 1)):
+        base = runner.origin.git("rev-parse", "main").strip()
+        variables = {"CI_MERGE_REQUEST_DIFF_BASE_SHA": base, "CI_PROJECT_DIR": str(runner.folder)}
+        assert runner.run("\n".join(jobs["duplicates of a merge request"]["script"]), **variables) == expected
+        assert bool(json.loads((runner.folder / "cqd-quality.json").read_text())) == bool(expected)
+        assert (runner.folder / "cqd-junit.xml").exists()
+        assert runner.run("\n".join(jobs["duplicates of the branch"]["script"]), **variables) == expected
+        assert (runner.folder / "cqd-metrics.txt").read_text()
+    for job in jobs.values():
+        for report in job.get("artifacts", {}).get("reports", {}).values():
+            assert any(report in line for line in job["script"])
+
+
+def test_jenkins(runners: tuple[Runner, Runner]) -> None:
+    script = re.findall(r"sh '''(.*?)'''", (TEMPLATES / "Jenkinsfile").read_text(), re.DOTALL)
+    assert len(script) == 1
+    for runner, expected in zip(runners, (0, 1)):
+        assert runner.run(script[0], CHANGE_TARGET="main") == expected
+        assert ("<duplication" in (runner.folder / "cqd.xml").read_text()) == bool(expected)
+        assert runner.run(script[0]) == expected
+
+
+def test_pre_commit(runners: tuple[Runner, Runner]) -> None:
+    hook = yaml.safe_load((TEMPLATES / "pre-commit.yaml").read_text())["repos"][0]["hooks"][0]
+    runner = runners[0]
+    assert runner.run(hook["entry"]) == 0
+    (runner.folder / "src" / "added.c").write_text(lines_of("added"))
+    assert re.search(hook["files"], "src/added.c")
+    assert runner.run("git add -A; " + hook["entry"]) == 1

@@ -1,0 +1,116 @@
+-- Elements, marks and semicolons that the languages refuse.
+use Rattle.std.specs.Str.{bytes_eq}
+use Rattle.std.specs.Prelude.{not, IsFalse, ◌≡◌, true, false, Some, List, [], ◌∷◌, length, codes}
+use Rattle.std.proofs.Common.{arith, ap, refl, inl}
+use Rattle.cq_base.specs.declared.token.Class.TheVariants as class
+use Rattle.cq_base.specs.declared.token.Mark.{Mark}
+use Rattle.cq_base.specs.declared.token.Spelled.{Spelled}
+use Rattle.cq_definition_cases.proofs.Different.{is_false, is_true}
+use Rattle.cq_munch.specs.Comments.{IsBlockComment, IsLineComment}
+use Rattle.cq_munch.specs.Lexed.{mark_of, marks_of, placed}
+use Rattle.cq_munch.specs.ListingMarks.{said}
+use Rattle.cq_munch.proofs.WordLists.{among_passes}
+use Rattle.cq_munch.specs.Longest.{IsAmong, LongestAt}
+use Rattle.cq_munch.specs.Pattern.{Spells, many, only}
+use Rattle.cq_munch.specs.Quotes.{NoneCloses, quoted}
+use Rattle.cq_munch.specs.Table.{better}
+use Rattle.cq_munch.specs.declared.element.Spell.TheVariants as spell
+use Rattle.cq_munch.specs.declared.ends.LineEnds.TheVariants as ends
+use Rattle.cq_munch.specs.declared.quoted.Quote.TheVariants as quotes
+use Rattle.cq_munch.specs.declared.unit.Unit.{Unit}
+use Rattle.unicode_ident.specs.Ident.{is_xid_continue}
+use Rattle.cq_lex_any.specs.Any.{any}
+use Rattle.cq_lex_c.specs.Ascii.{continues_below}
+use Rattle.cq_lex_c.specs.C.{mode_behind}
+use Rattle.cq_lex_c.specs.Characters.{continues_identifier}
+use Rattle.cq_lex_c.specs.Headers.{IsHeaderAt}
+use Rattle.cq_lex_c.specs.Identifiers.{IsIdentifier}
+use Rattle.cq_lex_c.specs.Numbers.{IsNumber}
+use Rattle.cq_lex_go.specs.Ascii.{letters_below}
+use Rattle.cq_lex_go.specs.Semicolons.{completed}
+use Rattle.cq_lex_go.specs.Words.{IsName, is_letter, keywords}
+use Rattle.cq_lex_java.specs.Blocks.{IsTextBlock}
+
+-- ---- any language
+
+-- `/* a`
+pub an_open_comment_is_none : IsBlockComment (codes "/* a") → ⊥
+an_open_comment_is_none h = h.1.1
+
+pub a_comment_behind_slashes_ends_before_its_line_feed : IsLineComment ends.Feed (47 ∷ 47 ∷ 97 ∷ 10 ∷ []) → ⊥
+a_comment_behind_slashes_ends_before_its_line_feed h = is_true h.1.1.1.0
+
+pub the_longer_element_is_taken : better (Some (record { spell = spell.Blank; units = 1; mode = 0 })) (Some (record { spell = spell.Comment; units = 2; mode = 0 })) ≡ Some (record { spell = spell.Blank; units = 1; mode = 0 }) → ⊥
+the_longer_element_is_taken e = grind (arith, e)
+
+-- `aa`, of any number of `a`
+pub the_longest_spelling_is_taken : LongestAt (Spells (many (only 97))) (97 ∷ 97 ∷ []) (Some 1) → ⊥
+the_longest_spelling_is_taken h = h.longest 2 (omega arith) (omega arith) ((97 ∷ []) ∷ (97 ∷ []) ∷ [], refl, ((97, refl, refl), ((97, refl, refl), tt)))
+
+-- `a"b"`
+pub a_quote_that_closes_is_not_passed_over : NoneCloses quotes.Double ends.Feed (97 ∷ 34 ∷ 98 ∷ 34 ∷ []) 0 4 → ⊥
+unfolding quoted
+a_quote_that_closes_is_not_passed_over h = h 1 (omega arith) (omega arith) 3 (omega arith) (omega arith) (34 ∷ [], 98 ∷ 34 ∷ [], refl, (34, refl, refl), (98 ∷ [], 34 ∷ [], refl, ((98 ∷ []) ∷ [], refl, (inl (98, refl, refl), tt)), (34, refl, refl)))
+
+pub the_last_word_of_a_comment_counts : said (codes "CPD-OFF CPD-ON") ≡ Some false → ⊥
+the_last_word_of_a_comment_counts e = grind (arith, e)
+
+pub a_literal_is_no_mark : (units : List Unit) (mark : Mark) → mark_of (spell.Token class.Literal) units ≡ Some mark → ⊥
+a_literal_is_no_mark units mark e = cc
+
+pub a_comment_is_one_mark : length (marks_of (placed 0 (codes "//CPD-OFF")) 0 (record { spell = spell.Comment; units = 9; mode = 0 } ∷ [])) ≡ 2 → ⊥
+a_comment_is_one_mark e = omega (arith, e)
+
+pub a_byte_order_mark_is_no_token : any.tried 0 0 (65279 ∷ []) (spell.Token class.Punct) (65279 ∷ []) → ⊥
+a_byte_order_mark_is_no_token h = let e = h.0 in cc
+
+-- a digit begins no identifier and goes on in one
+pub a_digit_goes_on_in_a_run : IsFalse (is_xid_continue 49) → ⊥
+unfolding continues_identifier
+a_digit_goes_on_in_a_run ends = let goes : continues_identifier 49 ≡ true = continues_below 49 (omega arith) in cc
+
+-- ---- C
+
+-- `<a>` behind a hash
+pub a_header_name_needs_the_word_include : IsHeaderAt 1 (codes "<a>") 3 → ⊥
+a_header_name_needs_the_word_include h = is_false h.0
+
+pub a_line_feed_ends_the_directive : mode_behind 2 spell.Blank (10 ∷ []) ≡ 2 → ⊥
+a_line_feed_ends_the_directive e = omega (arith, e)
+
+-- `\u123`
+pub a_universal_name_has_four_digits : IsIdentifier (92 ∷ 117 ∷ 49 ∷ 50 ∷ 51 ∷ []) → ⊥
+a_universal_name_has_four_digits h = h.1.1.1
+
+-- `1+`
+pub a_sign_goes_on_only_behind_an_exponent : IsNumber (codes "1+") → ⊥
+a_sign_goes_on_only_behind_an_exponent h = is_false h.1.0
+
+-- `1e+5`
+pub a_sign_goes_on_behind_an_exponent : LongestAt IsNumber (codes "1e+5") (Some 2) → ⊥
+a_sign_goes_on_behind_an_exponent h =
+    let letter : continues_identifier 101 ≡ true = continues_below 101 (omega arith) in
+    let digit : continues_identifier 53 ≡ true = continues_below 53 (omega arith) in
+    h.longest 4 (omega arith) (omega arith) (refl, (letter, (refl, (digit, tt))))
+
+-- ---- Go
+
+abbrev returns : Spelled
+returns = record { token = record { class = class.Word; start = 0; len = 6; first_line = 1; last_line = 1 }; text = codes "return" }
+
+pub a_semicolon_follows_return_at_the_end_of_its_line : completed (codes "return") (returns ∷ []) ≡ returns ∷ [] → ⊥
+a_semicolon_follows_return_at_the_end_of_its_line e = omega (arith, ap (λ (ts : List Spelled). length ts) e)
+
+-- `1a`
+pub a_digit_begins_no_name : IsName (codes "1a") → ⊥
+a_digit_begins_no_name h = let other : is_letter 49 ≡ false = letters_below 49 (omega arith) in let letter = h.0 in cc
+
+pub a_longer_word_is_no_keyword : IsAmong keywords (codes "interfaces") → ⊥
+a_longer_word_is_no_keyword among =
+    let other = among_passes keywords (λ w. not (bytes_eq w (codes "interfaces"))) (codes "interfaces") refl among in is_false other
+
+-- ---- Java
+
+-- three quotes, a line feed, a backslash and three quotes
+pub an_escaped_quote_closes_no_text_block : IsTextBlock (34 ∷ 34 ∷ 34 ∷ 10 ∷ 92 ∷ 34 ∷ 34 ∷ 34 ∷ []) → ⊥
+an_escaped_quote_closes_no_text_block h = h.1.1.1

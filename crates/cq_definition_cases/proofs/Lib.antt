@@ -1,0 +1,13 @@
+mod Different
+mod Elements
+mod Functions
+mod Groups
+mod Index
+mod Keys
+mod Listed
+mod Measures
+mod Replies
+mod Requests
+mod Scopes
+mod TokenFiles
+mod Words

@@ -1,0 +1,6 @@
+//! No code: theorems that definitions refuse wrong answers.
+//!
+//! Most contracts say that a call answers what a definition gives, so a mistake in the definition would be proved too. Each
+//! theorem in `proofs/` takes a small case with an answer that a wrong definition might give, and says that the definition
+//! does not give it. Its name says what is right. There is one module for each subject.
+#![tactic(auto)]
