@@ -2,6 +2,7 @@
 from __future__ import annotations
 
 import base64
+import fcntl
 import json
 import os
 import shutil
@@ -23,13 +24,21 @@ class Chromium:
         self.session: Optional[str] = None
         self.number = 0
         self.rest = b""
+        self.scripts_off = False
         commands, self.commands = os.pipe()
         self.replies, replies = os.pipe()
-        # the protocol's ends are the descriptors 3 and 4 of the browser
-        shell = f"exec {PROGRAM} --headless=new --no-sandbox --disable-gpu --hide-scrollbars --no-first-run " \
-                f"--remote-debugging-pipe --user-data-dir={self.home} about:blank 3<&{commands} 4>&{replies}"
-        self.process = subprocess.Popen(["sh", "-c", shell], pass_fds=(commands, replies), stdout=subprocess.DEVNULL,
-                                        stderr=subprocess.DEVNULL, env={**os.environ, "HOME": self.home})
+
+        def connect() -> None:
+            """The protocol's ends are the descriptors 3 and 4 of the browser."""
+            far = [fcntl.fcntl(end, fcntl.F_DUPFD, 10) for end in (commands, replies)]
+            os.dup2(far[0], 3)
+            os.dup2(far[1], 4)
+
+        self.process = subprocess.Popen(
+            [PROGRAM, "--headless=new", "--no-sandbox", "--disable-gpu", "--hide-scrollbars", "--no-first-run",
+             "--remote-debugging-pipe", "--user-data-dir=" + self.home, "about:blank"],
+            preexec_fn=connect, close_fds=False, stdin=subprocess.DEVNULL, stdout=subprocess.DEVNULL, stderr=subprocess.DEVNULL,
+            env={**os.environ, "HOME": self.home})
         os.close(commands)
         os.close(replies)
         target = self.call("Target.createTarget", url="about:blank")["targetId"]
@@ -86,11 +95,8 @@ class Chromium:
         self.call("Page.navigate", url=file.as_uri() + fragment)
         while not any(event.get("method") == "Page.loadEventFired" for event in self.events):
             self.events.append(self.message())
-        if not self.is_without_scripts():
+        if not self.scripts_off:
             self.run("new Promise(done => requestAnimationFrame(() => setTimeout(done, 50)))")
-
-    def is_without_scripts(self) -> bool:
-        return getattr(self, "scripts_off", False)
 
     def scripts(self, enabled: bool) -> None:
         self.scripts_off = not enabled
