@@ -5,6 +5,7 @@ import os
 import socket
 import subprocess
 import sys
+import tempfile
 import time
 from collections.abc import Iterator
 from pathlib import Path
@@ -14,6 +15,7 @@ import pytest
 
 CLIENT = Path(__file__).resolve().parents[1]
 BUILT = CLIENT.parent / "crates" / "cqd" / "out" / "cqd"
+COMPILED = tempfile.TemporaryDirectory()
 FAILING = Path(__file__).with_name("failing_server.py")
 
 
@@ -32,7 +34,9 @@ class Client:
     def __init__(self, folder: Path, program: str) -> None:
         self.folder = folder
         self.environment = {name: value for name, value in os.environ.items() if not name.startswith(("CQD", "GIT"))}
-        self.environment |= {"CQD": program, "PYTHONPATH": str(CLIENT / "src"), "PYTHONDONTWRITEBYTECODE": "1",
+        # compiled once for all tests, and not beside the sources
+        self.environment.pop("PYTHONDONTWRITEBYTECODE", None)
+        self.environment |= {"CQD": program, "PYTHONPATH": str(CLIENT / "src"), "PYTHONPYCACHEPREFIX": COMPILED.name,
                              "GIT_CONFIG_GLOBAL": os.devnull, "GIT_CONFIG_SYSTEM": os.devnull}
 
     def __call__(self, *words: str, stdin: bytes = b"", seconds: float = 120, **environment: str) -> subprocess.CompletedProcess[str]:

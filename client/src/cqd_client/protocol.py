@@ -3,6 +3,7 @@ from __future__ import annotations
 
 import collections
 import contextlib
+import itertools
 import json
 import subprocess
 import time
@@ -105,13 +106,11 @@ class Server:
         waiting: collections.deque[tuple[Request, bytes]] = collections.deque()
         sent = held = 0
         while True:
-            while len(waiting) < AHEAD and held < BYTES_AHEAD:
-                request = next(source, None)
-                if request is None:
-                    break
-                waiting.append((request, line_of(request)))
-                held += len(waiting[-1][1])
-                sent = self.send_rest(waiting, sent)
+            # half of them are made at a time, while the server has the other half, and are sent together
+            if len(waiting) <= AHEAD // 2:
+                while len(waiting) < AHEAD and held < BYTES_AHEAD and (request := next(source, None)) is not None:
+                    waiting.append((request, line_of(request)))
+                    held += len(waiting[-1][1])
             if not waiting:
                 return
             sent = self.send_rest(waiting, sent)
@@ -135,8 +134,8 @@ class Server:
         """Sends those that wait beyond the first `sent`, and all of them if the connection had to be made again."""
         while sent < len(waiting):
             try:
-                self.link.send(waiting[sent][1])
-                sent += 1
+                self.link.send(b"".join(line for _, line in itertools.islice(waiting, sent, None)))
+                sent = len(waiting)
             except Lost as lost:
                 self.reconnect(lost)
                 sent = 0
