@@ -52,7 +52,7 @@ def hostile() -> Report:
                                        for number, path in enumerate(HOSTILE)))
 
 
-def large(groups: int, files: int = 400) -> Report:
+def large(groups: int, files: int = 60) -> Report:
     """A report of many groups of 30 lines in many folders, with its texts."""
     chance = random.Random(1)
     line = "    total_{0} = total_{0} + values[index_{0}] * factor; /* step {0} */\n"
@@ -66,7 +66,8 @@ def large(groups: int, files: int = 400) -> Report:
         starts = [chance.randrange(1, 800) for _ in range(2 + number % 3)]
         found.append(Group(lines * tokens, tuple(Place(chance.choice(paths), (start - 1) * tokens, start, start + lines - 1)
                                                  for start in starts)))
-    return report_with(texts, tuple(found), measures=Measures(900, 12_345, 400, 123_456, 3_429, files, 360_000, 350_000),
+    held = tuple(File(path, "c", 900, 900 * tokens) for path in paths)
+    return Report("shop", 7, tuple(found), groups, files=held, text_of=texts.get, measures=Measures(900, 12_345, files, 12_345, 2_286, files, files * 900, files * 900),
                        verdict="OK", conditions=(Condition("complexity", "GT", 1_000, 900, False),), about=ABOUT)
 
 

@@ -8,7 +8,7 @@
   if (!list) return;
   const index = JSON.parse(byId("index").textContent);
   const PLACE = 5;
-  const ROWS = 30, NAMED_PLACES = 3;
+  const ROWS = 20, NAMED_PLACES = 3;
   // Of a longer duplicate the first lines are drawn, and the others when they are asked for.
   const ALL_DRAWN = 40, FIRST_DRAWN = 28;
   const KEYWORDS = new Set(("abstract assert auto bool boolean break byte case catch chan char class const continue default " +
