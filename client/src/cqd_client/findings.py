@@ -116,7 +116,7 @@ def no_text(path: str) -> Optional[str]:
 class Report:
     """All that a format may show.
 
-    `verdict` is `OK`, `ERROR`, or empty if no gate was asked. `total` is how many groups there were before `arranged`
+    `verdict` is `OK`, `ERROR`, `UNKNOWN` if files are missing, or empty if no gate was asked. `total` is how many groups there were before `arranged`
     limited them. `text_of` returns the source text of a path, or None if the caller does not have it. `raw` is the reply
     line that the `json` format passes on.
     """
