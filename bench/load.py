@@ -1,19 +1,19 @@
 #!/usr/bin/env python3
-"""Runs `cqd listen` with many clients at once, and checks what each is told.
+"""Runs `cqd listen` with many clients at once, and checks every reply.
 
 usage: bench/load.py [--clients N] [--turns N] [--workers N] [--sessions N]
        bench/load.py --commit [--files N] [--workers N]
 
-Each client, in a process of its own, uploads, drops and gates in a project of its own, asks all that can be asked, sends
-broken lines, and breaks off in the middle of a line from time to time, to come back over another connection. It checks that
-each reply is that of its line, in order; that no version, change or publication is told that is older than one told before;
-and that files, measures and verdicts are exactly those of what it put. Behind the last client the numbers of `state` must
-add up, and the server must end with 0 behind the last of its connections. Printed are the requests a second, and for each
-kind how many there were, the middle and the slowest reply.
+Each client, in a process of its own, uploads and drops files and sets gates in a project of its own, asks every query, sends broken
+lines, and now and then breaks off in the middle of a line and comes back over another connection. It checks that replies come in the
+order of their lines; that no version, change or publication is older than one that was reported before; and that files, measures and
+verdicts are exactly those of what it uploaded. After the last client, the numbers of `state` must add up, and the server must exit with
+0 after the last of its connections. Printed are the replies per second, and for each kind of request how many there were, and the
+median and the slowest reply.
 
-With --commit one client uploads many files and asks a query that has all their works made and published, while seven others
-ask for the groups of a file with `finish` false, and one neither sends nor reads. Printed are the seconds of that commit, and
-the middle and the slowest of the others' replies meanwhile.
+With --commit one client uploads many files and has them analysed and published by a query, while seven others ask for the groups of a
+file with `finish` false, and one neither sends nor reads. Printed are the seconds of that commit, and the median and the slowest of the
+others' replies meanwhile.
 
 The program is ./cqd, or what the variable CQD names.
 """
@@ -45,7 +45,7 @@ def free_address():
 
 
 class Server:
-    """A server that ends behind so many connections."""
+    """A server that exits after so many connections."""
 
     def __init__(self, connections, workers, sessions):
         self.address = free_address()
@@ -55,7 +55,7 @@ class Server:
     def end(self):
         status = self.process.wait(60)
         if status != 0:
-            sys.exit(f"cqd ended with {status}")
+            sys.exit(f"cqd exited with {status}")
 
 
 class Connection:
@@ -93,7 +93,7 @@ def must(holds, request, reply):
 
 
 class Client:
-    """What one client has put and been told."""
+    """One client: what it has uploaded, and what was reported to it."""
 
     def __init__(self, address, number, turns):
         self.address, self.project, self.turns = address, f"p{number}", turns
@@ -175,7 +175,7 @@ class Client:
         return len(kinds)
 
     def break_off(self, connection):
-        """Leaves a put whose reply nobody reads, and half a line."""
+        """Leaves an upload whose reply nobody reads, and half a line."""
         left = {"op": "put", "project": "left", "path": self.project, "lang": "any", "text": "a b c"}
         connection.send(left, b'{"op":"groups","pro')
         connection.close()
@@ -199,7 +199,7 @@ def run_client(given):
 
 
 def add_up(address, known, unsure):
-    """Checks the numbers that the server tells behind all clients."""
+    """Checks the numbers of `state` after all clients."""
     connection = Connection(address)
     told = connection.ask({"op": "files", "project": "p0"})
     state = connection.ask({"op": "state"})
@@ -225,11 +225,11 @@ def load(clients, turns, workers, sessions):
     count = sum(map(len, by_kind.values()))
     print(f"{clients} clients, {workers} workers, {sessions} sessions: {count} replies in {seconds:.2f} s, {count / seconds:,.0f} a second")
     for kind, times in sorted(by_kind.items()):
-        print(f"{kind:>9}: {len(times):6}, middle {statistics.median(times) * 1000:7.2f} ms, slowest {max(times) * 1000:7.2f} ms")
+        print(f"{kind:>9}: {len(times):6}, median {statistics.median(times) * 1000:7.2f} ms, slowest {max(times) * 1000:7.2f} ms")
 
 
 def ask_on(address, number, is_over, times):
-    """Asks for the groups of a file with `finish` false, one request behind the other, until it is over."""
+    """Asks for the groups of a file with `finish` false, one request after the other, until it is over."""
     connection = Connection(address)
     connection.ask({"op": "put", "project": f"q{number}", "path": "f", "lang": "any", "text": "a b c " * 100})
     query = {"op": "groups", "project": f"q{number}", "path": "f", "min": 20}
@@ -251,7 +251,7 @@ def lines_of(files):
 
 
 def put_all(connection, lines):
-    """Uploads files, one behind the other without waiting, and returns when all are accepted."""
+    """Uploads files, one after the other without waiting, and returns when all are accepted."""
     writer = threading.Thread(target=connection.send, args=lines)
     writer.start()
     for line in lines:
@@ -283,9 +283,9 @@ def commit(files, workers):
     silent.close()
     server.end()
     waited = [it for it, _ in told]
-    print(f"{files} files of 3,000 tokens, {workers} workers: accepted in {accepted - start:.2f} s, published {seconds:.2f} s behind that")
-    print(f"  {len(told)} queries with finish false meanwhile, {sum(ok for _, ok in told)} answered and the others told what is pending:"
-          f" middle {statistics.median(waited) * 1000:.2f} ms, slowest {max(waited) * 1000:.2f} ms")
+    print(f"{files} files of 3,000 tokens, {workers} workers: accepted in {accepted - start:.2f} s, published {seconds:.2f} s later")
+    print(f"  {len(told)} queries with finish false meanwhile, {sum(ok for _, ok in told)} answered and the others refused as pending:"
+          f" median {statistics.median(waited) * 1000:.2f} ms, slowest {max(waited) * 1000:.2f} ms")
 
 
 def main():

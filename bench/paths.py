@@ -1,22 +1,25 @@
 #!/usr/bin/env python3
-"""Runs ./cqd on projects of 500 and of 3,000 files, and prints what a file that is put anew and listed by its path then
-costs: the processor time of 200 such pairs, one behind the other, once all files are listed; the least of five runs, and
-how the two projects' times compare. The program is ./cqd, or what CQD names."""
+"""Uploads a file again and lists its groups by path, in a project of 500 files and in one of 3,000, and prints the CPU time of such a
+pair: the mean of 200 pairs in a row, once all files are listed, and the least of five runs; and how the two projects' times compare.
+
+usage: bench/paths.py
+
+The program is ./cqd, or what the variable CQD names.
+"""
+import argparse
 import json
 import os
 import subprocess
-import sys
 from pathlib import Path
 
-if {"-h", "--help"} & {*sys.argv[1:]}:
-    sys.exit(print(__doc__))
+argparse.ArgumentParser(description=__doc__, formatter_class=argparse.RawDescriptionHelpFormatter, usage=argparse.SUPPRESS).parse_args()
 
 ROOT = Path(__file__).resolve().parent.parent
 PAIRS = 200
 
 
 def upload(number, edition, files):
-    # each shared run stands in ten files, however many there are
+    # each shared run is in ten files, however many there are
     shared = number % (files // 10)
     words = [f"w{number}x{edition}x{token}" for token in range(300)] + [f"shared{shared}x{token}" for token in range(60)]
     return {"op": "put", "project": "p", "path": f"f{number:05}", "lang": "any", "text": " ".join(words)}

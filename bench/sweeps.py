@@ -1,18 +1,18 @@
 #!/usr/bin/env python3
-"""Runs ./cqd on files that are put anew again and again, each time with a query behind it, and prints what that costs.
+"""Uploads files again and again to ./cqd, each time followed by a query, and prints what that costs.
 
 usage: bench/sweeps.py [--rounds N]
 
-- One file of a project is put anew 1,000 times, each time with the groups by its path asked for, in a project of 500 files
-  and in one of 3,000, and so is the file that was put longest ago. Printed are the least processor time, of N rounds (3), of
-  such a pair around the 10th and around the 1,000th, the mean of eleven and the mean of 500, and by how much the peak of
-  memory grew behind the 10th.
-- 20,000 uploads go round over 200 paths, with a query behind each tenth. Printed is the peak of memory behind 2,000, 8,000,
-  14,000 and 20,000 of them.
+- One file of a project is uploaded 1,000 times, each time followed by a query for its groups by path, in a project of 500 files and in
+  one of 3,000. The same is done with the file that was uploaded longest ago. Printed are the CPU time of such a pair around the 10th
+  and around the 1,000th (the mean of eleven) and of each half (the mean of 500), the least of N rounds (3), and by how much the peak
+  of memory grew after the 10th.
+- 20,000 uploads go round over 200 paths, with a query after each tenth. Printed is the peak of memory after 2,000, 8,000, 14,000 and
+  20,000 of them.
 
-All is run once more with windows that are longer than the files: then nothing is ever in the index, and no work has keys. The
-difference, an upload, is what the index and the keys of a work keep. Sizes are in bytes of 2^20. The program is ./cqd, or what
-CQD names."""
+All of it is run once more with windows that are longer than the files, so that nothing is ever in the index and no analysis has keys.
+The difference for each upload is what the index and the keys keep. The program is ./cqd, or what the variable CQD names.
+"""
 import argparse
 import json
 import os
@@ -46,7 +46,7 @@ class Server:
         for line in Path(f"/proc/{self.process.pid}/status").read_text().splitlines():
             if line.startswith("VmHWM:"):
                 return int(line.split()[1]) / 1024
-        raise SystemExit("no peak is told")
+        raise SystemExit("sweeps.py: /proc shows no peak of memory")
 
     def end(self):
         self.process.stdin.close()
@@ -54,7 +54,7 @@ class Server:
 
 
 def upload(number, edition):
-    # the last tokens stand in each tenth file
+    # one file in 300 ends with the same tokens
     words = [f"w{number}x{edition}x{token}" for token in range(TOKENS - 60)] + [f"s{number % 300}x{token}" for token in range(60)]
     return {"op": "put", "project": "p", "path": f"f{number:05}", "lang": "any", "text": " ".join(words)}
 
@@ -64,7 +64,7 @@ def groups(number, chunk):
 
 
 def replaced(chunk, files, is_oldest):
-    """The seconds of each pair, and the peaks behind the 10th and behind the last."""
+    """The seconds of each pair, and the peaks after the 10th and after the last."""
     server = Server(chunk)
     for number in range(files):
         server.ask(upload(number, 0))
@@ -87,15 +87,15 @@ def mean(seconds):
     return sum(seconds) / len(seconds) * 1000
 
 
-def tell_replaced(rounds, files, is_oldest):
+def print_replaced(rounds, files, is_oldest):
     runs = [replaced(INDEXED, files, is_oldest) for _ in range(rounds)]
     tenth, last, first_half, second_half = (
         min(mean(run[0][some]) for run in runs) for some in (slice(4, 15), slice(-11, None), slice(500), slice(500, None)))
     _, early, late = runs[0]
     _, bare_early, bare_late = replaced(UNINDEXED, files, is_oldest)
     which = "the oldest of" if is_oldest else "one of"
-    print(f"{which} {files} files put anew: the 10th {tenth:.2f} ms, the 1,000th {last:.2f} ms, of the first 500 {first_half:.2f} ms, "
-          f"of the others {second_half:.2f} ms; peak {early:.1f} MiB behind the 10th, {late - early:.1f} more behind the last, "
+    print(f"{which} {files} files uploaded again: the 10th {tenth:.2f} ms, the 1,000th {last:.2f} ms, of the first 500 {first_half:.2f} ms, "
+          f"of the others {second_half:.2f} ms; peak {early:.1f} MiB after the 10th, {late - early:.1f} more after the last, "
           f"{bare_late - bare_early:.1f} with nothing in the index", flush=True)
 
 
@@ -112,14 +112,14 @@ def peaks(chunk):
 
 
 def main():
-    parser = argparse.ArgumentParser()
+    parser = argparse.ArgumentParser(description=__doc__, formatter_class=argparse.RawDescriptionHelpFormatter)
     parser.add_argument("--rounds", type=int, default=3)
     rounds = parser.parse_args().rounds
     for is_oldest in (False, True):
         for files in (500, 3_000):
-            tell_replaced(rounds, files, is_oldest)
+            print_replaced(rounds, files, is_oldest)
     indexed, bare = peaks(INDEXED), peaks(UNINDEXED)
-    print("20,000 uploads over 200 paths, peak behind 2,000, 8,000, 14,000 and 20,000:")
+    print("20,000 uploads over 200 paths, peak after 2,000, 8,000, 14,000 and 20,000:")
     for name, told in (("windows of 20", indexed), ("nothing indexed", bare)):
         print(f"  {name}: " + ", ".join(f"{peak:.1f}" for peak in told) + " MiB")
     kept = [(b - a - (d - c)) * 2**20 / 6_000 for a, b, c, d in zip(indexed, indexed[1:], bare, bare[1:])]
