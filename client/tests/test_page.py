@@ -2,6 +2,7 @@
 from __future__ import annotations
 
 import html.parser
+import os
 from collections.abc import Iterator
 from pathlib import Path
 from typing import Optional
@@ -183,6 +184,7 @@ def test_folders_files_search_and_order_choose_groups(browser: chromium.Chromium
 # -------------------------------------------------------------------------------------------------- how fast
 
 
+@pytest.mark.skipif(not os.environ.get("CQD_TIMING"), reason="times need an idle machine: set CQD_TIMING=1")
 def test_five_thousand_groups_do_not_stall(browser: chromium.Chromium, large_page: Path) -> None:
     """The best of some tries: the test is of the page, not of what else the machine does."""
     browser.look(1280)
@@ -278,4 +280,4 @@ def test_a_screen_reader_finds_landmarks_headings_and_names(browser: chromium.Ch
     for role, name in named:
         if role in ("link", "button", "searchbox", "combobox", "DisclosureTriangle", "heading", "region"):
             assert name.strip(), role
-    assert any(role == "link" and "of 13 lines" in name or "duplicated" in name for role, name in named)
+    assert any(role == "link" and ("of 13 lines" in name or "duplicated" in name) for role, name in named)
