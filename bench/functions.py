@@ -3,18 +3,17 @@
 
 usage: bench/functions.py LANG FOLDER [--files N] [--show N]
 
-LANG is java, go or c. Of the files of the language below FOLDER at most N (1,000) are taken, in even distances. The other
-parser is javac of the JDK, with its tree API, for java; go/parser, for go; and Universal Ctags, for c. Beside functions it
-tells what is none by docs/LANGUAGES.md: lambdas, initialisers, literals of functions, declarations without a body.
+LANG is java, go or c. At most N (1,000) files of the language in FOLDER are taken, spread evenly. The other parser is javac of the JDK, by its
+tree API, for Java; go/parser for Go; and Universal Ctags for C. Besides functions it reports what docs/LANGUAGES.md does not count as one:
+lambdas, initialisers, function literals, and declarations without a body.
 
-Two are equal where the name, the line of the name and the last line of the body are. Printed are how many files were compared,
-and how many functions there are by kind: equal ones, those with another last line or another name, and those that only one of
-the two has. The kind is what the parser told; of C it is what the tokens around the name tell where only one has it. With --show
-up to N of each that are not equal follow, spread evenly: name, first and last line by the parser, and by cqd where it has them.
-Files that can't be put, that have no tokens, and that the parser refuses are told on standard error and left out.
+Two functions are equal if their name, the line of the name and the last line of the body are. Printed are how many files were compared, and
+how many functions there are by kind: equal ones, those with another last line or another name, and those that only one of the two has. The
+kind is what the parser reports; if only one has a function of C, it is derived from the tokens around the name. With --show up to N of each
+unequal kind follow, spread evenly: the name, and the first and last line by the parser and by cqd. Files that cannot be uploaded, that have
+no tokens, or that the parser refuses are named on standard error and skipped.
 
-The program is ./cqd, or what the variable CQD names; `java`, `go` or `ctags` is looked for in the PATH, and go also where Debian
-has it.
+The program is ./cqd, or what the variable CQD names. `java`, `go` or `ctags` must be in PATH; go is also looked for where Debian has it.
 """
 import argparse
 import collections
@@ -45,7 +44,7 @@ def told_by(command, paths):
 
 
 def rows_of(text):
-    """The rows of a parser, whose fields are parted by tabs: the file, the kind, the name, and two lines."""
+    """The rows of a parser, whose fields are separated by tabs: the file, the kind, the name, and two lines."""
     for line in text.splitlines():
         path, kind, *rest = line.split("\t")
         yield path, kind, *((rest[0], int(rest[1]), int(rest[2])) if rest else ("", 0, 0))
@@ -148,7 +147,7 @@ NAMED = {"function", "method", "constructor"}
 
 
 class Plain:
-    """Nothing is said but the kind that the parser told."""
+    """Only the kind that the parser reports."""
 
     def __init__(self, _):
         pass
@@ -175,7 +174,7 @@ class Token(NamedTuple):
 
 
 def entered(branches, words):
-    """The branches of #if that are open behind a directive, each whether ctags passes over it."""
+    """The branches of #if that are open after a directive, each whether ctags passes over it."""
     if words[0] in ("elif", "else", "endif"):
         branches = branches[:-1]
     if words[0] in ("elif", "else"):
@@ -203,7 +202,7 @@ def tokens_of(text):
 
 
 class OfC:
-    """What is special about a function of C that only one of the two has, as far as the tokens around it tell."""
+    """What is special about a function of C that only one of the two has, as far as the tokens around it show."""
 
     def __init__(self, text):
         self.source = text
@@ -232,7 +231,7 @@ class OfC:
         before = [self.text(token.open[0] - back) for back in range(1, 8)] if token.open else []
         if '"C"' in before[:1]:
             return 'inside extern "C"'
-        return "inside a class of C++" if "class" in before else "behind uneven braces"
+        return "inside a class of C++" if "class" in before else "after uneven braces"
 
     def there(self, kind, name, first, _):
         at = self.place(name, first)
@@ -287,7 +286,7 @@ def main():
     compared = Compared()
     for path, told in sorted(there.items()):
         if any(kind == "fault" for kind, *_ in told):
-            print(f"left out, refused by the parser: {path}", file=sys.stderr)
+            print(f"skipped, refused by the parser: {path}", file=sys.stderr)
         else:
             compared.add(path, here[path], told, WHY[asked_for.lang](texts[path]))
     tell(compared, asked_for.show)

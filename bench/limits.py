@@ -1,19 +1,18 @@
 #!/usr/bin/env python3
-"""Runs `cqd listen` under uploads that put the same files anew, many more than it keeps, and checks that it never fills.
+"""Runs `cqd listen` under uploads that replace the same files again and again, many more than it keeps, and checks that it never fills.
 
 usage: bench/limits.py [--uploads N] [--paths N] [--clients N] [--workers N] [--changes N] [--every N] [--at-once N]
 
-Each client, in a process of its own, uploads small files of its own share of the paths, in turns that are drawn, --at-once
-of them at a time, and asks `files` of its project behind each --every of them. The server keeps at most --changes changes.
-With 4 clients, 500 paths, --every 100 and --changes 2000, at most 500 are needed, 400 lie between two queries of all clients,
-and as many again may come while a view is open, so none may be refused.
+Each client, in a process of its own, uploads small files to its own share of the paths in random order, --at-once of them at a time, and
+asks for `files` of its project after each --every of them. The server keeps at most --changes changes. With 4 clients, 500 paths,
+--every 100 and --changes 2000, at most 500 are needed, 400 are between two queries of all clients, and as many again may come while a
+view is open, so none may be refused.
 
-Checked are: each upload is accepted, with a number that rises; each answer has at least the client's own last upload, and of
-each of its paths the change that the client put there last. Printed are, for each tenth of the uploads, the middle and the
-99th percentile of the time of an upload's reply and of a query's, and the peak of the server's memory (VmHWM) at its end; and
-the numbers that `state` tells at the end. Ends with 1 where anything was otherwise, where the peak behind the first tenth
-grew by more than a twentieth, or where the middle time of a query's or an upload's reply in the last tenth is more than half
-above that of the second.
+It checks that each upload is accepted, with a number that rises; and that each answer includes the client's own last upload and has, for
+each of its paths, the change that the client uploaded there last. Printed are, for each tenth of the uploads, the median and the 99th
+percentile of the time of an upload's reply and of a query's, and the peak of the server's memory (VmHWM) at its end; and the numbers of
+`state` at the end. It exits with 1 if anything differs, if the peak grew by more than a twentieth after the first tenth, or if the median
+time of a query's or an upload's reply in the last tenth is more than half above that of the second.
 
 The program is ./cqd, or what the variable CQD names.
 """
@@ -41,7 +40,7 @@ def put(project, path, text):
 
 
 class Client:
-    """One client's share of the paths, as one project, and what it was told of them."""
+    """One client's share of the paths, as one project, and what was reported of them."""
 
     def __init__(self, address, number, paths, every, at_once):
         self.connection = Connection(address)
@@ -63,7 +62,7 @@ class Client:
         self.since += many
 
     def ask(self, times):
-        """Asks for the files, which makes room, and holds them to what was put last."""
+        """Asks for the files, which makes room, and compares them with what was uploaded last."""
         query = {"op": "files", "project": self.project}
         start = time.perf_counter()
         reply = self.connection.ask(query)
@@ -92,7 +91,7 @@ def run_client(address, number, paths, every, at_once, uploads, start, told):
             told.put(client.part(uploads // PARTS))
             start.wait()
         client.connection.close()
-    except Exception as error:  # told to the one who waits for it
+    except Exception as error:  # passed to the process that waits for it
         told.put(str(error) or type(error).__name__)
         start.abort()
 
@@ -109,7 +108,7 @@ def percentile(times, hundredth):
 
 
 class Part:
-    """What one tenth came to, in microseconds and MiB."""
+    """The figures of one tenth, in microseconds and MiB."""
 
     def __init__(self, told, memory, seconds):
         puts = [it for part, _ in told for it in part]
@@ -124,7 +123,7 @@ class Part:
 
 
 def together(start, told):
-    """Waits for all clients; where one of them ended before, with what it met."""
+    """Waits for all clients, and fails with the error of one that ended before."""
     try:
         start.wait()
     except threading.BrokenBarrierError:
@@ -155,7 +154,7 @@ def run(given):
     clients = [multiprocessing.Process(target=run_client, args=(address, number, paths, given.every, given.at_once, share, start, told))
                for number in range(given.clients)]
     print(f"{share * given.clients} uploads over {paths * given.clients} paths by {given.clients} clients, {given.workers} workers,"
-          f" at most {given.changes} changes kept, a query behind each {given.every}; by tenths:")
+          f" at most {given.changes} changes kept, a query after each {given.every}; by tenths:")
     try:
         for client in clients:
             client.start()
@@ -163,7 +162,7 @@ def run(given):
         connection = Connection(address)
         state = connection.ask({"op": "state"})
         connection.close()
-        must(process.wait(60) == 0, "behind the last connection", process.returncode)
+        must(process.wait(60) == 0, "after the last connection", process.returncode)
     finally:
         for client in clients:
             if client.is_alive():
@@ -172,7 +171,7 @@ def run(given):
     accepted = share // PARTS * PARTS * given.clients
     must(state.get("accepted") == accepted, accepted, state)
     print(f"  at the end: {json.dumps(state)}")
-    must(parts[-1].memory <= parts[0].memory * 1.05, "memory", f"{parts[-1].memory:.1f} MiB, {parts[0].memory:.1f} MiB behind the first tenth")
+    must(parts[-1].memory <= parts[0].memory * 1.05, "memory", f"{parts[-1].memory:.1f} MiB, {parts[0].memory:.1f} MiB after the first tenth")
     must(parts[-1].put <= parts[1].put * 1.5, "an upload", f"{parts[-1].put:.0f} us, {parts[1].put:.0f} us in the second tenth")
     must(parts[-1].asked <= parts[1].asked * 1.5, "a query", f"{parts[-1].asked:.0f} us, {parts[1].asked:.0f} us in the second tenth")
 

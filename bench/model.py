@@ -1,7 +1,7 @@
-"""What the files of a version come to, worked out plainly from small texts of words.
+"""The replies to queries, computed in the simplest way from small texts of words.
 
-A text is words with a blank or a line feed between them, each a token of any language that it is uploaded in. The replies are
-worked out from all pairs of places, as docs/PROTOCOL.md says what they are; nothing here knows an index.
+A text is words separated by blanks or line feeds, each a token in any language. Replies are computed from all pairs of places, by what
+docs/PROTOCOL.md says of them; nothing here has an index.
 """
 import itertools
 from typing import NamedTuple
@@ -75,7 +75,7 @@ class History:
 
 
 def is_chosen(query, file):
-    """Whether a file's measures are asked for: it stands at the path, fits the scope, and was put behind `since`."""
+    """Whether a file's measures are asked for: it is at the path, fits the scope, and was uploaded after `since`."""
     return query.get("path") in (None, file.path) and file.change > query.get("since", 0) and (
         "scope" not in query or fits(query["scope"], file.path))
 
@@ -88,7 +88,7 @@ def fits(pattern, path):
 
 
 def follows(wanted, given, is_star, is_one):
-    """What is wanted stands in a list: a star for any of its elements, anything else for one."""
+    """Whether a list matches what is wanted: a star matches any number of its elements, anything else one."""
     if not wanted:
         return not given
     if is_star(wanted[0]):
@@ -128,7 +128,7 @@ def common(one, at, two, there):
 
 
 def words_at(texts, least):
-    """Each word that can't be made longer at some two places, with all the places at which it stands."""
+    """Each word that can't be made longer at some two places, with all its places."""
     spots = {}
     for file, text in enumerate(texts):
         for at, token in enumerate(text):
@@ -144,7 +144,7 @@ def words_at(texts, least):
 
 
 def kept(places, size):
-    """Of each file the places that begin behind the end of the last one that was kept there."""
+    """Of each file the places that begin after the end of the last one that was kept there."""
     ends, told = {}, []
     for file, at in places:
         if at >= ends.get(file, 0):

@@ -55,4 +55,4 @@ def pair_cost(files):
 
 
 few, many = (min(pair_cost(files) for _ in range(5)) for files in (500, 3000))
-print(f"a put and its groups by path: {few * 1000:.2f} ms of 500 files, {many * 1000:.2f} ms of 3,000, {many / few:.2f} times")
+print(f"an upload and its groups by path: {few * 1000:.2f} ms of 500 files, {many * 1000:.2f} ms of 3,000, {many / few:.2f} times")

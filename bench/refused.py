@@ -1,19 +1,20 @@
 #!/usr/bin/env python3
-"""Runs each command once for each of its allocations, with that one refused, and checks how it ends and what it wrote.
+"""Runs each command once for each of its allocations, with that one refused, and checks how it exits and what it wrote.
 
 usage: bench/refused.py [--only NAME] [--every N] [--short] [--and-after]
 
-One allocation is refused of a run, by its number from 1, until the number is past the last; with --and-after all from that
-one on are. --short refuses every 25th, which takes a few minutes. A run ends with 4 and has written nothing, or with 0. `export`
-has then written the same file as with enough memory; the others go on. Then each of its lines is the reply that it has with enough
-memory, or tells of its line that memory was refused, and a run without the lines that were told so, with enough memory, writes
-all other replies: so nothing was changed by such a line. A refused query may have made works and published a version, which
-`state` tells: of `state` only `accepted` is compared, and that neither of the others is lower. A server of `listen` may end
-with 5 where the memory of the sockets was refused, and has let nobody in then.
+In each run one allocation is refused, by its number from 1 on, until the number is past the last; with --and-after, all from that one on
+are. --short refuses every 25th, which takes a few minutes.
 
-Refusing is done by a few lines of C, which cc builds and the loader puts before the C library's malloc and realloc. Printed
-is for each command how many allocations it has, how many of them were refused, and how each of these runs ended. Ends with 1
-where a run broke what is said here.
+A run exits with 4 and has written nothing, or with 0. `export` has then written the same file as with enough memory. The other commands
+have gone on: each of their lines is answered as with enough memory, or refused as out of memory, and a run with enough memory and without
+the refused lines gives all the other replies. So a refused line changed nothing. A refused query may have finished analyses and published a
+version, which `state` shows: of `state` only `accepted` is compared, and that neither of the other numbers is lower. `listen` may exit
+with 5, without letting anyone in, if the memory of its sockets was refused.
+
+Allocations are refused by a few lines of C, which cc builds and the loader puts before the C library's malloc and realloc. For each command
+it prints how many allocations there are, how many of them were refused, and how these runs ended. It exits with 1 if a run broke these
+rules.
 
 The program is ./cqd, or what the variable CQD names.
 """
@@ -89,7 +90,7 @@ class Ended(NamedTuple):
 
 
 class Broken(Exception):
-    """A run did what is not said of it."""
+    """A run broke the rules."""
 
 
 def line(**members):
@@ -172,14 +173,14 @@ class Refusing:
         return ended(process, out, count)
 
     def listen(self, words, given, first=0, last=0):
-        """One client's session over a socket. Where its port was taken before anything was refused, another one is tried."""
+        """One client's session over a socket. If its port was taken before anything was refused, another one is tried."""
         while True:
             told = self.listen_once(words, given, first, last)
             if told.status != 5 or told.allocations >= first > 0:
                 return told
 
     def listen_once(self, words, given, first, last):
-        """The same at a loopback address of its own; where nobody is let in, its output is empty."""
+        """The same at a loopback address of its own; if nobody is let in, its output is empty."""
         number = next(self.numbers)
         with socket.socket() as one:
             one.bind((f"127.1.{number // 250 % 250}.{number % 250 + 1}", 0))
@@ -242,7 +243,7 @@ CASES = {
 
 
 def is_same(request, wanted, told, case):
-    """Whether the reply is the one that is wanted, as far as works that are made meanwhile don't change it."""
+    """Whether the reply is the one that is wanted, apart from what analyses that finish meanwhile change."""
     if b'"state"' in request and "accepted" in wanted and "accepted" in told:
         return told["accepted"] == wanted["accepted"] and told["published"] <= told["done"] <= told["accepted"]
     if b'"finish": false' in request:
@@ -251,13 +252,13 @@ def is_same(request, wanted, told, case):
 
 
 def check(run, case, wanted, told):
-    """Holds a run with a refused allocation to the one with enough memory."""
+    """Compares a run with a refused allocation with the one with enough memory."""
     if told.status in (4, 5) and not told.lines and not told.file:
         if told.status == 5 and not case.over_sockets:
-            raise Broken("it ended with 5")
-        return f"ended with {told.status}"
+            raise Broken("it exited with 5")
+        return f"exited with {told.status}"
     if told.status != 0:
-        raise Broken(f"it ended with {told.status} after {len(told.lines)} lines and {len(told.file)} bytes of a file")
+        raise Broken(f"it exited with {told.status} after {len(told.lines)} lines and {len(told.file)} bytes of a file")
     if told.file != wanted.file:
         raise Broken(f"it wrote a file of {len(told.file)} bytes, and not that of {len(wanted.file)}")
     if case.words[0] == "export":
@@ -285,7 +286,7 @@ def try_each(refusing, case, every, is_open):
     wanted = run(case.words, case.given)
     count = 0 if wanted.file else max(len(case.given), 1)
     if wanted.status != 0 or MEMORY in wanted.lines or len(wanted.lines) != count:
-        raise Broken(f"with enough memory it ended with {wanted.status} and {len(wanted.lines)} lines")
+        raise Broken(f"with enough memory it exited with {wanted.status} and {len(wanted.lines)} lines")
 
     def one(number):
         try:

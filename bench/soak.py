@@ -1,24 +1,23 @@
 #!/usr/bin/env python3
-"""Runs `cqd listen` under clients that mean it ill, for as long as is asked for, and checks each reply.
+"""Runs `cqd listen` under hostile clients for as long as asked, and checks each reply.
 
 usage: bench/soak.py [--minutes N] [--clients N] [--workers N] [--changes N] [--pause SECONDS]
 
-Each client, in a process of its own, uploads, drops, gates and asks all that can be asked, in a project of its own and in one
-that all share, with small texts. Among these it sends lines of 8 MiB, those that are a byte too long, bytes that aren't UTF-8,
-126 to 128 nested brackets, and requests that are refused in each way. Its connections end in the middle of a line, with or
-without replies that nobody reads, in the middle of a line of 8 MiB, and with a last line that lacks its line feed.
+Each client, in a process of its own, uploads and drops small files, sets gates and asks every query, in a project of its own and in one
+that all share. In between it sends lines of 8 MiB and of one byte more, bytes that are not UTF-8, 126 to 128 nested brackets, and requests
+that are refused in each way. Its connections end in the middle of a line, with or without replies that nobody reads, in the middle of a
+line of 8 MiB, or with a last line that lacks its line feed.
 
-Each reply is checked. What needs no other client is, as it comes: refusals are those of their lines, versions and numbers never
-fall, and replies of the client's own project are what bench/model.py works out from its texts. The others are checked behind
-all clients, by one history of all changes that were told: they are numbered once each and without a gap, each reply of the
-shared project is that of its version, each drop that was accepted had its file and one that was refused lacked it at some
-version in between, and a change that was told as pending is a put. Lines that broke off left nothing, and `state` adds up.
-Then the server has to end with 0, behind the last of its connections, and its memory in the last minute may be a tenth above
-that of the minute before minute 5, or before a quarter of the minutes, where others are asked for; memory is VmRSS, looked at
-once a second, and the middle of a minute's.
+Each reply is checked. What needs no other client is checked at once: a refusal fits its line, versions and numbers never fall, and replies
+about the client's own project are those that bench/model.py computes from its texts. The rest is checked after all clients have ended,
+against the one history of all changes that were reported: each number was given once, without a gap; each reply about the shared project is
+that of its version; each drop that was accepted had its file, and each that was refused lacked it at some version in between; and a change
+that was reported as pending is an upload. Lines that broke off left nothing, and the numbers of `state` add up. Then the server must exit
+with 0 after the last of its connections. Its memory in the last minute may be at most a tenth above that of the minute before a quarter of
+the time; memory is VmRSS, read once a second, and the median of a minute.
 
-The server keeps at most --changes changes; where a client is told that it is full, a query makes room. Printed are how many
-replies of each kind there were, connections, changes and memory. Ends with 1 where anything was otherwise.
+The server keeps at most --changes changes; if a client is refused since it is full, a query makes room. Printed are how many replies of each
+kind there were, and connections, changes and memory. It exits with 1 if anything differs.
 
 The program is ./cqd, or what the variable CQD names.
 """
@@ -31,7 +30,6 @@ import random
 import socket
 import statistics
 import subprocess
-import sys
 import threading
 import time
 from pathlib import Path
@@ -64,7 +62,7 @@ def put(project, path, lang, text):
 
 
 def nested(depth, behind=b""):
-    """Brackets, as a line of their own or behind a field that a request doesn't have."""
+    """Brackets, as a line of their own or after a field that a request doesn't have."""
     brackets = b"[" * depth + b"]" * depth
     return behind + brackets + (b"}\n" if behind else b"\n")
 
@@ -83,7 +81,7 @@ BROKEN = [
     (b'{"op":"verdict","project":"p","scope":"a//b"}\n', refusal(15, "scope")),
     (b'{"op":"measures","project":"p","path":"a","scope":"a"}\n', refusal(15, "scope")),
 ]
-# The same for lines of 8 MiB, by what makes them.
+# The same for lines of 8 MiB, each with what builds it.
 LARGE = {
     "at the limit": (lambda: b'{"op":"files"}'.ljust(LINE_LIMIT) + b"\n", refusal(3, "field", name="project")),
     "too long": (lambda: b'{"op":"files"}'.ljust(LINE_LIMIT + 1) + b"\n", LONG),
@@ -98,7 +96,7 @@ ENDS = ["cut", "cut in 8 MiB", "half", "whole", "plain"]
 
 
 class Log:
-    """What a client was told that only all clients together can decide."""
+    """What was reported to a client and can be checked only against all clients."""
 
     def __init__(self):
         self.changes, self.replies, self.absent, self.pending, self.sent = [], [], [], [], 0
@@ -110,7 +108,7 @@ class Client:
         self.address, self.number, self.start, self.parts = address, number, start, parts
         self.pause = pause
         self.project, self.drawn, self.log, self.history = f"p{number}", random.Random(number), Log(), History()
-        # The greatest number that was told in this session, the greatest version, and the greatest number of all.
+        # The greatest number reported in this session, the greatest version, and the greatest number of all.
         self.seen = self.shown = self.told = 0
 
     # ---- requests, each with a check of its reply
@@ -204,7 +202,7 @@ class Client:
         self.seen = max(self.seen, published)
 
     def perhaps(self, query, reply):
-        """The reply to a query that waits for no work."""
+        """The reply to a query that waits for no analysis."""
         floor = max(self.seen, query["at"])
         number = reply.get("number", 0)
         if reply == refusal(12, "pending", number=number):
@@ -233,7 +231,7 @@ class Client:
     def talk(self, connection):
         """Sends a few requests at once, and checks their replies."""
         drawn = self.drawn.choices(list(KINDS), list(KINDS.values()), k=self.drawn.randrange(AT_ONCE) + 1)
-        # Behind an upload comes a query that doesn't wait for its work.
+        # After an upload comes a query that does not wait for its analysis.
         kinds = [kind for it in drawn for kind in ([it, "pending"] if it == "put" else [it])]
         asked = [self.ask(it) for it in kinds]
         connection.send(*(request for request, _ in asked))
@@ -277,7 +275,7 @@ def run_client(given):
     return Client(*given).run()
 
 
-# ---- behind all clients
+# ---- after all clients
 
 
 def is_absent(history, path, first, last):
@@ -285,7 +283,7 @@ def is_absent(history, path, first, last):
 
 
 def check_log(given):
-    """Holds what a client was told of the shared project to the history of all changes."""
+    """Compares what was reported to a client about the shared project with the history of all changes."""
     numbered, log, accepted = given
     history, puts = History(sorted(numbered.items())), {number for number, it in numbered.items() if it.text is not None}
     for query, reply in log.replies:
@@ -329,7 +327,7 @@ def one_history(connection, logs):
 
 
 class Server:
-    """A server that ends behind so many connections, and whose memory is looked at once a second."""
+    """A server that exits after so many connections, and whose memory is read once a second."""
 
     def __init__(self, connections, workers, sessions, changes):
         self.address = free_address()
@@ -371,7 +369,7 @@ def soak(minutes, clients, workers, changes, pause):
             numbered, accepted = one_history(connection, logs)
             must(server.process.poll() is None, "before the last connection", "the server ended")
             connection.close()
-            must(server.process.wait(60) == 0, "behind the last connection", f"it ended with {server.process.returncode}")
+            must(server.process.wait(60) == 0, "after the last connection", f"it exited with {server.process.returncode}")
             shared = sum(pool.map(check_log, [(numbered, it, accepted) for it in logs], chunksize=1))
     finally:
         server.process.kill()
@@ -379,7 +377,7 @@ def soak(minutes, clients, workers, changes, pause):
     replies = sum(count for kind, count in counted.items() if not kind.startswith("end: ") and kind != "told full")
     print(f"{seconds / 60:.1f} minutes, {clients} clients, {workers} workers, {clients * parts + 1} connections:"
           f" {replies} replies, each checked; {shared} of the shared project")
-    print(f"  {accepted} changes, {changes} kept at most; {sum(len(it.pending) for it in logs)} told pending; ended with 0")
+    print(f"  {accepted} changes, {changes} kept at most; {sum(len(it.pending) for it in logs)} refused as pending; exited with 0")
     print("  " + ", ".join(f"{kind} {count}" for kind, count in sorted(counted.items())))
     print(f"  memory: {early:.0f} MiB in the minute before a quarter of the time, {late:.0f} MiB in the last,"
           f" {greatest:.0f} MiB at most")
@@ -391,8 +389,8 @@ def main():
     parser.add_argument("--minutes", type=float, default=20)
     parser.add_argument("--clients", type=int, default=16)
     parser.add_argument("--workers", type=int, default=4)
-    parser.add_argument("--changes", type=int, default=8000, help="as many changes are kept, of clients together")
-    parser.add_argument("--pause", type=float, default=0.2, help="seconds between the requests of a client, in the middle")
+    parser.add_argument("--changes", type=int, default=8000, help="changes kept at most, of all clients together")
+    parser.add_argument("--pause", type=float, default=0.2, help="seconds between the requests of a client, on average")
     given = parser.parse_args()
     soak(given.minutes, given.clients, given.workers, given.changes, given.pause)
 

@@ -54,7 +54,7 @@ class Server:
 
 
 def upload(number, edition):
-    # one file in 300 ends with the same tokens
+    # files whose numbers differ by 300 end with the same tokens
     words = [f"w{number}x{edition}x{token}" for token in range(TOKENS - 60)] + [f"s{number % 300}x{token}" for token in range(60)]
     return {"op": "put", "project": "p", "path": f"f{number:05}", "lang": "any", "text": " ".join(words)}
 

@@ -1,15 +1,15 @@
 #!/usr/bin/env python3
-"""Hostile token files: valid ones, and ones with bytes changed, cut, doubled, and lengths made huge.
+"""Hands hostile token files to `ask`: valid ones, and ones with bytes changed, cut, doubled or omitted, or with lengths made huge.
 
-usage: token_files.py [--files N] [--seed N] [--cqd PROGRAM]
+usage: bench/token_files.py [--files N] [--seed N] [--cqd PROGRAM]
 
-Each file is read by examples/token_file.py, which shares no code with cqd, and what it takes is written again by the
-writer below: the same bytes have to come out. With --cqd each is handed to `PROGRAM ask` of the settings that it was made
-for, with one query behind it: the program has to end with 0 and a reply where the reader takes the file, with 8 and
-nothing where it doesn't, and in less than ten seconds. A byte behind the file is no part of it there: `ask` reads lines
-on, so files with bytes behind them are handed over without these. Without --cqd the reader and the writer are tried alone.
+Each file is read by examples/token_file.py, which shares no code with cqd. What it takes is written again by the writer below, and must give
+the same bytes. With --cqd each file is also handed to `PROGRAM ask`, with the settings that it was made for and one query after it. The program
+must exit with 0 and reply if the reader takes the file, exit with 8 and write nothing if it does not, and take less than ten seconds. A byte
+after the file is not part of it for `ask`, which goes on to read lines, so files with bytes after them are not handed to it. Without --cqd
+only the reader and the writer are tried.
 
-Ends with 0 where all agreed, and prints how many files of each kind there were and how many were taken.
+Exits with 0 if all agreed, and prints how many files of each kind there were and how many were taken.
 """
 import argparse
 import collections
@@ -133,28 +133,28 @@ KINDS = {
     "flipped": flipped,
     "cut": lambda draw, data: data[:draw.randrange(len(data))],
     "doubled": doubled,
-    "left out": lambda draw, data: data[:(at := draw.randrange(len(data)))] + data[at + draw.randint(1, 9):],
+    "omitted": lambda draw, data: data[:(at := draw.randrange(len(data)))] + data[at + draw.randint(1, 9):],
     "long 4": lambda draw, data: with_number(draw, data, 4, (2**32 - 1, 2**31, 2**28, 262145, 33)),
     "long 8": lambda draw, data: with_number(draw, data, 8, (2**64 - 1, 2**60 + 1, 268435457, 268435456)),
-    "behind": lambda draw, data: data + bytes([draw.randrange(256)]),
+    "appended": lambda draw, data: data + bytes([draw.randrange(256)]),
     "equal paths": equal_paths,
     "equal changes": equal_changes,
 }
 
 
 def taken(data):
-    """The head that the reader gives, or None; what it takes has to be written as the same bytes."""
+    """What the reader returns, or None. What it takes must be written as the same bytes."""
     try:
         head = read_token_file(data)
     except Refused:
         return None
     if token_file(head) != data:
-        raise SystemExit(f"token_files.py: another form of the same contents: {data.hex()}")
+        raise SystemExit(f"token_files.py: the same contents were written as other bytes: {data.hex()}")
     return head
 
 
 def asked(program, head, data):
-    """How the program ends on a file and one query, and what it writes."""
+    """The exit status of the program for a file and one query, and what it writes."""
     words = [program, "ask", "--chunk", str(head["chunk"])]
     words += ["--ignore-ids"] * head["ignored"][0] + ["--ignore-literals"] * head["ignored"][2]
     query = b'{"op":"files","project":"%s"}\n' % head["project"].encode()
@@ -182,16 +182,16 @@ def main():
         counts[kind, found is not None] += 1
         if kind == "valid" and found is None:
             raise SystemExit(f"token_files.py: a valid file is refused: {data.hex()}")
-        if words.cqd and kind != "behind":
+        if words.cqd and kind != "appended":
             status, out = asked(words.cqd, head, data)
-            # a cut file may go on with the query's bytes, and a front of a doubled one may be a file: the frame tells
+            # the query's bytes may complete a cut file, and the front of a doubled one may be a file: the length decides
             front = data + b'{"op"'
             size = 16 + int.from_bytes(front[8:16], "big")
             whole = (data + b'{"op":"files","project":"%s"}\n' % head["project"].encode())[:size]
             first = taken(whole)
             expected = 0 if first is not None and is_of(head, first) else 8
             if status != expected or (status == 8 and out):
-                raise SystemExit(f"token_files.py: status {status} in place of {expected}, of: {data.hex()}")
+                raise SystemExit(f"token_files.py: status {status} instead of {expected} for: {data.hex()}")
     for kind in KINDS:
         print(f"{kind:14} {counts[kind, True] + counts[kind, False]:7} files, {counts[kind, True]:7} taken")
 

@@ -1,13 +1,13 @@
 #!/bin/sh
-# Shows that a log of lines is all that a server needs to be what it was. The lines of a session go into a stream of
-# Redis, and from there to cqd, one after the other. In the middle both are killed. Then Redis is started again on the
-# same folder, and a new cqd is fed from the first entry of the stream on. What the first server had answered by then,
-# the second answers byte by byte, and goes on to the end.
+# Shows that a log of its lines is enough to restore a server. The lines of a session go into a Redis stream, and from
+# there to cqd, one after the other. Halfway, both are killed. Then Redis is started again on the same folder, and a new
+# cqd reads the stream from its first entry. It repeats every reply of the first server byte for byte, and goes on to the
+# end.
 #
 # usage: replay.sh [LINES]
 #
-# LINES is a file of requests, 24 lines of its own by default. It needs redis-server and redis-cli. The program
-# is ./cqd beside this folder, or what CQD names. It ends with 0 exactly where the replies agree.
+# LINES is a file of requests; by default the script uses 24 lines of its own. It needs redis-server and redis-cli. The
+# program is ./cqd, or what the variable CQD names. Exits with 0 only if the replies agree.
 set -eu
 here=$(dirname "$(readlink -f "$0")")
 cqd=${CQD:-$here/../cqd}
@@ -22,14 +22,14 @@ start_redis() {
     until [ "$($redis ping 2>"$work/none")" = PONG ]; do sleep 0.1; done
 }
 
-# Puts the lines of standard input into the stream, one entry each.
+# Appends the lines of standard input to the stream, one entry each.
 append() {
     while IFS= read -r line; do
         printf '%s' "$line" | $redis -x XADD lines '*' line >"$work/none"
     done
 }
 
-# Prints the lines of the stream. An entry is printed as its number, the word `line` and the line.
+# Prints the lines of the stream. Redis prints an entry as its number, the word `line` and the line.
 logged() {
     $redis --raw XRANGE lines - + | awk 'NR % 3 == 0'
 }
@@ -45,7 +45,7 @@ half=$(($(wc -l <"$lines") / 2))
 start_redis
 head -n "$half" "$lines" | append
 
-# The first server has the lines that are logged so far, and its input stays open.
+# The first server gets the lines that are logged so far, and its input stays open.
 mkfifo "$work/in"
 "$cqd" run <"$work/in" >"$work/first" &
 echo $! >"$work/cqd.pid"

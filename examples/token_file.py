@@ -1,10 +1,10 @@
 #!/usr/bin/env python3
-"""Reads a token file and prints its tokens, one a line: path, first line, first byte, class, text.
+"""Reads a token file and prints its tokens, one per line: path, first line, first byte, class, text.
 
 usage: token_file.py FILE
 
-docs/PROTOCOL.md has the format. Ends with 0 where the bytes are a token file, and with 1 and a line on standard error
-where they aren't. It tells forms, order and bounds; that flags and chunk are those of some settings is for the caller.
+docs/PROTOCOL.md has the format. Exits with 0 if the bytes are a token file, and with 1 and a line on standard error if they are not. It
+checks format, order and bounds. Whether the chunk and the flags are those of given settings is for the caller to check.
 """
 import re
 import sys
@@ -16,7 +16,7 @@ METRICS = ("lines", "ncloc", "files", "complexity", "duplicated_lines", "duplica
 
 
 class Refused(Exception):
-    """The bytes are no token file."""
+    """The bytes are not a token file."""
 
 
 def expect(condition, what):
@@ -25,7 +25,7 @@ def expect(condition, what):
 
 
 class Reader:
-    """Reads numbers and texts from the front; a length is believed only as far as bytes are there."""
+    """Reads numbers and strings from the front. A length is trusted only as far as there are bytes."""
 
     def __init__(self, data):
         self.data, self.at = data, 0
@@ -40,7 +40,7 @@ class Reader:
 
     def below(self, limit):
         number = self.number(1)
-        expect(number < limit, f"{number} where less than {limit} is expected")
+        expect(number < limit, f"{number} instead of a number below {limit}")
         return number
 
     def text(self):
@@ -50,7 +50,7 @@ class Reader:
             raise Refused("a text is not UTF-8") from error
 
     def items(self, most, one):
-        """A list: how many, and each. Nothing is made ahead of what is there."""
+        """A list: how many, and each. Nothing is allocated before its bytes are seen."""
         count = self.number(4)
         expect(count <= most, f"{count} elements, of at most {most}")
         return [one() for _ in range(count)]
@@ -93,14 +93,14 @@ def read_token_file(data):
     size = frame.number(8)
     expect(size <= 268435456, "the body is too large")
     body = Reader(frame.take(size))
-    expect(frame.at == len(data), "bytes behind the file")
+    expect(frame.at == len(data), "bytes after the file")
     head = {"version": body.number(8), "chunk": body.number(4)}
     head["ignored"] = {0: body.below(2), 2: body.below(2)}
     head["project"] = body.text()
     expect(head["version"] <= 2**60 and re.fullmatch(r"[A-Za-z0-9._-]{1,64}", head["project"]), "version or project")
     head["conditions"] = body.items(32, lambda: (METRICS[body.below(8)], ("GT", "LT")[body.below(2)], body.number(8)))
     head["files"] = files = body.items(262144, lambda: read_file(body, head))
-    expect(body.at == len(body.data), "bytes behind the last file")
+    expect(body.at == len(body.data), "bytes after the last file")
     paths = [file["path"].encode() for file in files]
     expect(all(one < other for one, other in zip(paths, paths[1:])), "the order of paths")
     expect(len({file["change"] for file in files}) == len(files), "a change twice")
@@ -115,7 +115,7 @@ def main(words):
     try:
         files = read_token_file(data)["files"]
     except Refused as refused:
-        sys.exit(f"token_file.py: no token file: {refused}")
+        sys.exit(f"token_file.py: not a token file: {refused}")
     for file in files:
         for token in file["tokens"]:
             print(file["path"], token["first"], token["start"], token["class"], token["text"], sep="\t")
