@@ -36,7 +36,8 @@ pub limit_of : (held : Held) (limit : ℕ) → held ≡ fresh_held limit → hel
 limit_of held limit is = ap (λ (h : Held). h.limit) is
 
 module _ {W R : Type 0} (hub : Shared W R) where
-  IsClosed : BoardPass → Type 0
+  -- its caller has no view open
+  abbrev IsClosed : BoardPass → Type 0
   IsClosed p = view_of (state_of hub p.seen) (by_of p) ≡ None
 
   -- it stands for what it has seen
