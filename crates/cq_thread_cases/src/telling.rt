@@ -1,6 +1,7 @@
 ghost use Rattle.std.specs.Prelude.{◌≡◌, ℕ, ◌+◌, ◌%◌, ◌^◌, ◌<◌, ◌≤◌, List, [], ◌∷◌, ◌++◌, length, Some};
+ghost use Rattle.cq_cells.specs.Callers.{own};
 ghost use Rattle.cq_cells.specs.Passes.{IsPassOf, IsFree, IsSameCaller, HasBoard, by_of, least};
-ghost use Rattle.cq_thread_cases.specs.Telling.{TellsOnce};
+ghost use Rattle.cq_thread_cases.specs.declared.telling.Told.{Told as Event};
 
 use cq_cells::{Cells, Law, Pass};
 use std::sync::Wait;
@@ -82,7 +83,8 @@ fn add<R>(cells: &Bench<R>, mut tally: Tally, pass: &mut Token)
 fn tell<R: Wait>(cells: &Bench<R>, pass: &mut Token)
     requires of { IsPassOf cells.now pass.old × IsFree pass.old }
     ensures of { IsPassOf cells.now pass.new × IsFree pass.new × IsSameCaller pass.old pass.new }
-    ensures told { TellsOnce (by_of pass.old) pass.old.seen pass.new.seen }
+    ensures told { own (λ (e : Event). Some e.by) (by_of pass.old) pass.new.seen
+        ≡ own (λ (e : Event). Some e.by) (by_of pass.old) pass.old.seen ++ record { by = by_of pass.old; after = 0 } ∷ [] }
 {
     let tally = cells.enter_board(pass);
     add(cells, tally, pass);
