@@ -5,7 +5,7 @@ usage: bench/peaks.py
 
 - A line of 8 MiB that is made of small objects, which is the most expensive one to parse, and a line of the same length that is one string.
 - A reply of many places, whose paths are as long as they may be: what it takes beyond the peak of the same server before.
-- A session of `listen` that is idle: what 64 of them take beyond one, after each has sent a short line.
+- A session of `listen`: what a server with 64 sessions, all of which have sent a short line, takes beyond one with a single session.
 
 Memory is VmHWM. The program is ./cqd, or what the variable CQD names.
 """
@@ -78,30 +78,33 @@ def show_reply():
     server.end()
 
 
-def show_sessions():
-    process = subprocess.Popen([PROGRAM, "listen", "127.0.0.1:19791", "--sessions", "64"])
+def peak_of(sessions):
+    """The peak of a server with so many sessions, each of which has answered a short line."""
+    process = subprocess.Popen([PROGRAM, "listen", "127.0.0.1:19791", "--sessions", str(sessions)])
     links = []
-
-    def connect():
-        for _ in range(100):
-            try:
-                link = socket.create_connection(("127.0.0.1", 19791), timeout=10)
-                break
-            except ConnectionRefusedError:
-                time.sleep(0.1)
-        link.sendall(b'{"op":"state"}\n')
-        assert b'"ok":true' in link.recv(100)
-        links.append(link)
-
     try:
-        connect()
-        before = peak(process)
-        while len(links) < 64:
-            connect()
-        print(f"a session: {(peak(process) - before) / 63 / 1e6:.2f} MB; a server with 64 idle ones {peak(process) / 1e6:,.0f} MB")
+        for _ in range(sessions):
+            links.append(connected())
+            links[-1].sendall(b'{"op":"state"}\n')
+            assert b'"ok":true' in links[-1].recv(100)
+        return peak(process)
     finally:
         process.kill()
         process.wait()
+
+
+def connected():
+    for _ in range(100):
+        try:
+            return socket.create_connection(("127.0.0.1", 19791), timeout=10)
+        except ConnectionRefusedError:
+            time.sleep(0.1)
+    raise SystemExit("peaks.py: the server does not listen")
+
+
+def show_sessions():
+    one, most = peak_of(1), peak_of(64)
+    print(f"a server with one session: {one / 1e6:.0f} MB, with 64: {most / 1e6:.0f} MB, {(most - one) / 63 / 1e6:.1f} MB a session")
 
 
 unit = b'{"a":0},'
