@@ -1,13 +1,14 @@
 -- Elements, marks and semicolons that the languages refuse.
 use Rattle.std.specs.Str.{bytes_eq}
-use Rattle.std.specs.Prelude.{not, IsFalse, ◌≡◌, true, false, Some, List, [], ◌∷◌, length, codes}
+use Rattle.std.specs.Prelude.{not, IsFalse, ◌≡◌, ℕ, true, false, Some, Ok, List, [], ◌∷◌, length, codes}
 use Rattle.std.proofs.Common.{arith, ap, refl, inl}
 use Rattle.cq_base.specs.declared.token.Class.TheVariants as class
 use Rattle.cq_base.specs.declared.token.Mark.{Mark}
 use Rattle.cq_base.specs.declared.token.Spelled.{Spelled}
 use Rattle.cq_definition_cases.proofs.Different.{is_false, is_true}
 use Rattle.cq_munch.specs.Comments.{IsBlockComment, IsLineComment}
-use Rattle.cq_munch.specs.Lexed.{mark_of, marks_of, placed}
+use Rattle.cq_munch.specs.Language.{Language}
+use Rattle.cq_munch.specs.Lexed.{IsLexed, mark_of, marks_of, placed, tokens_of, units_of}
 use Rattle.cq_munch.specs.ListingMarks.{said}
 use Rattle.cq_munch.proofs.WordLists.{among_passes}
 use Rattle.cq_munch.specs.Longest.{IsAmong, LongestAt}
@@ -16,6 +17,7 @@ use Rattle.cq_munch.specs.Quotes.{NoneCloses, quoted}
 use Rattle.cq_munch.specs.Table.{better}
 use Rattle.cq_munch.specs.declared.element.Spell.TheVariants as spell
 use Rattle.cq_munch.specs.declared.ends.LineEnds.TheVariants as ends
+use Rattle.cq_munch.specs.declared.munching.Lexed.TheVariants as lexed
 use Rattle.cq_munch.specs.declared.quoted.Quote.TheVariants as quotes
 use Rattle.cq_munch.specs.declared.unit.Unit.{Unit}
 use Rattle.unicode_ident.specs.Ident.{is_xid_continue}
@@ -68,6 +70,12 @@ a_byte_order_mark_is_no_token h = let e = h.0 in cc
 pub a_digit_goes_on_in_a_run : IsFalse (is_xid_continue 49) → ⊥
 unfolding continues_identifier
 a_digit_goes_on_in_a_run ends = let goes : continues_identifier 49 ≡ true = continues_below 49 (omega arith) in cc
+
+-- a text whose tokens are so many, whatever they are
+module _ (lang : Language) (completed : List ℕ → List Spelled → List Spelled) (bytes : List ℕ) where
+  pub no_text_of_262144_tokens_is_large :
+      ((tokens : List Spelled) → length (completed bytes tokens) ≡ 262144) → IsLexed lang (λ units. Ok units) completed bytes lexed.Large → ⊥
+  no_text_of_262144_tokens_is_large length_is (fs, whole, more) = let n = length_is (tokens_of bytes (units_of bytes) 0 fs) in omega (arith, n, more)
 
 -- ---- C
 
