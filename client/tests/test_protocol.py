@@ -148,6 +148,22 @@ def test_a_server_that_restarts_within_a_call_gets_everything_again(listening: L
         assert server.epoch_known() != epoch
 
 
+def test_a_server_that_is_full_of_what_was_replaced_gets_room(client: Client, tmp_path: Path, program: str) -> None:
+    full = Listening(program, "--text-limit", "10000")
+    try:
+        words = ("put", ".", "--project", "p", "--addr", full.addr)
+        for letter in "xyz":
+            for number in range(60):
+                (tmp_path / f"{number}.c").write_text(f"int {letter * 90};\n")
+            assert client(*words).stdout.startswith("60 uploaded, 0 unchanged")
+        for number in range(60):
+            (tmp_path / f"more{number}.c").write_text(f"int {'x' * 90};\n")
+        ran = client(*words)
+        assert ran.returncode == 2 and "--text-limit" in ran.stderr
+    finally:
+        full.kill()
+
+
 def test_each_life_of_a_server_has_one_name(listening: Listening) -> None:
     names = []
     for _ in range(3):
