@@ -58,7 +58,8 @@ def upload(server: Server, project: str, tree: Tree, state: Optional[State], not
         generation = server.generation
         try:
             one_pass(server, project, done, state, notes, once)
-            lost = lost_of(server.files(project), done)
+            with notes.waiting("waiting for the server: analysis"):
+                lost = lost_of(server.files(project), done)
         except Restarted:
             notes.say("the server was started again meanwhile; all files are uploaded again")
             continue
