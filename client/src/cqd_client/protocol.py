@@ -79,8 +79,27 @@ def reply_of(line: bytes) -> Reply:
     return Reply(line, members)
 
 
+ENCODER = json.JSONEncoder(ensure_ascii=False)
+# The bytes of a text that JSON has as they are, and those that have an escape of their own.
+PLAIN = bytes(byte for byte in range(256) if byte >= 32 or byte in b"\t\n\r")
+ESCAPES = ((b"\\", b"\\\\"), (b'"', b'\\"'), (b"\n", b"\\n"), (b"\t", b"\\t"), (b"\r", b"\\r"))
+
+
 def line_of(request: Request) -> bytes:
-    return json.dumps(request, ensure_ascii=False).encode("utf-8") + b"\n"
+    if "text" not in request:
+        return ENCODER.encode(request).encode("utf-8") + b"\n"
+    head = ENCODER.encode({name: value for name, value in request.items() if name != "text"})
+    return head[:-1].encode("utf-8") + b', "text": ' + encoded(request["text"]) + b"}\n"
+
+
+def encoded(text: str) -> bytes:
+    """A text as JSON. The encoder of Python's library looks at each character, and takes three times as long for a usual source."""
+    data = text.encode("utf-8")
+    if data.translate(None, PLAIN):
+        return ENCODER.encode(text).encode("utf-8")
+    for character, escape in ESCAPES:
+        data = data.replace(character, escape)
+    return b'"' + data + b'"'
 
 
 class Waiting(NamedTuple):

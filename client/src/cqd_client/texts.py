@@ -78,7 +78,10 @@ def decoded(data: bytes, encoding: Optional[str]) -> str:
         if not encoding:
             raise Unfit(f"it is not UTF-8 at byte {error.start:,}; --encoding names the encoding of such files") from None
     try:
-        return data.decode(encoding)
+        text = data.decode(encoding)
+        # some encodings have halves of surrogate pairs, which no request holds
+        text.encode("utf-8")
+        return text
     except (UnicodeError, LookupError):
         raise Unfit(f"it is neither UTF-8 nor {encoding}") from None
 

@@ -114,7 +114,8 @@ def puts(project: str, done: Upload, entry: dict[str, Known], notes: Notes, once
     size = 0
     for number, source in enumerate(done.tree.sources, 1):
         size += source.size
-        notes.progress(f"{number:,} of {len(done.tree.sources):,} files, {size / 1e6:,.1f} of {done.tree.size / 1e6:,.1f} MB")
+        if notes.is_terminal:
+            notes.progress(f"{number:,} of {len(done.tree.sources):,} files, {size / 1e6:,.1f} of {done.tree.size / 1e6:,.1f} MB")
         try:
             text = text_of(done.tree, source, done.encoding)
         except Binary:
