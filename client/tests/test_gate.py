@@ -122,6 +122,9 @@ def test_new_judges_what_was_uploaded_since_the_last_verdict_that_passed(client:
     assert client(*words).returncode == 1
     (tmp_path / "c.c").unlink()
     assert client(*words).returncode == 0
+    # the same scope, written in two ways
+    assert "no verdict before" in client(*words[:-1], "lines>1000", "--scope", "*.c").stderr
+    assert "no verdict before" not in client(*words[:-1], "lines>1000", "--scope", "**/*.c").stderr
 
 
 def test_no_files_since_a_change_that_the_server_has_not_had(client: Client, tmp_path: Path, listening: Listening) -> None:

@@ -93,7 +93,11 @@ def about(options: argparse.Namespace, root: Path) -> About:
     commit, branch = git.described(root)
     pairs = tuple((f"--{name.replace('_', '-')}", ", ".join(map(str, value)) if isinstance(value, list) else "" if value is True else str(value))
                   for name, value in sorted(vars(options).items()) if value and name in SHOWN)
-    when = datetime.datetime.fromtimestamp(int(os.environ.get("SOURCE_DATE_EPOCH", time.time())), datetime.timezone.utc)
+    try:
+        seconds = int(os.environ.get("SOURCE_DATE_EPOCH") or time.time())
+        when = datetime.datetime.fromtimestamp(seconds, datetime.timezone.utc)
+    except (ValueError, OverflowError, OSError) as error:
+        raise Misuse(f"SOURCE_DATE_EPOCH is no number of seconds: {error}") from error
     return About(commit, branch, when.strftime("%Y-%m-%dT%H:%M:%SZ"), servers.version_of(options), pairs)
 
 
@@ -151,7 +155,7 @@ def asked(server: Server, call: Call, tree: Optional[Tree]) -> Optional[Report]:
 def prepare(server: Server, call: Call) -> None:
     is_new = vars(call.options).get("new")
     if is_new and call.state:
-        call.options.since = call.state.entry.passed.get(call.options.scope or "")
+        call.options.since = call.state.entry.passed.get(call.scope)
         if call.options.since is None:
             call.notes.say("no verdict before this one is known to have passed, so all files are judged")
     since = vars(call.options).get("since")
@@ -183,7 +187,7 @@ def concluded(call: Call, report: Optional[Report]) -> int:
         report = dataclasses.replace(report, verdict=outputs.WORDS[UNKNOWN] if report.verdict else "")
     if call.state:
         if options.command == "verdict" and status == PASSED and (options.new or not options.since):
-            call.state.entry.passed[options.scope or ""] = call.judged_at
+            call.state.entry.passed[call.scope] = call.judged_at
         call.state.keep()
     # last, so that nothing can fail after it has said OK
     outputs.write(report, options)

@@ -286,5 +286,5 @@ def tell_unused(choice: Choice, notes: Notes) -> None:
     for option, patterns in (("--include", choice.include), ("--exclude", choice.exclude), ("--map", choice.maps),
                              ("--any", choice.plain)):
         for pattern in patterns.unused():
-            hint = "" if pattern.endswith(("/", "/**")) else f"; all files below a folder are '{pattern}/'"
+            hint = "" if set("*?.") & set(pattern.rpartition("/")[2]) or pattern.endswith("/") else f"; all files below a folder are '{pattern}/'"
             notes.say(f"{option} {pattern!r} fits no file{hint}")
