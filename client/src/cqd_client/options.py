@@ -76,6 +76,10 @@ def text(word: str) -> str:
     return word
 
 
+def path(word: str) -> Path:
+    return Path(text(word))
+
+
 def parser() -> Parser:
     whole = Parser(prog="cqd-client", description=DESCRIPTION, epilog=STATUSES, allow_abbrev=False,
                    formatter_class=argparse.RawDescriptionHelpFormatter)
@@ -85,9 +89,9 @@ def parser() -> Parser:
         one = commands.add_parser(command, help=what, description=what[0].upper() + what[1:] + ".", epilog=STATUSES,
                                   allow_abbrev=False)
         if command == "report":
-            one.add_argument("page", metavar="OUT.html", type=Path, help="the page")
+            one.add_argument("page", metavar="OUT.html", type=path, help="the page")
         if command in UPLOADING:
-            one.add_argument("paths", metavar="PATH", type=Path, nargs="*", default=[], help="a folder or file to upload")
+            one.add_argument("paths", metavar="PATH", type=path, nargs="*", default=[], help="a folder or file to upload")
         one.add_argument("--project", metavar="NAME", type=project_name, help="the project; without --addr, the root folder's name")
         one.add_argument("--config", metavar="FILE", help="the configuration; default .cqd.toml here or in a folder above")
         if command in ASKING:
@@ -123,11 +127,11 @@ def add_questions(one: argparse.ArgumentParser, command: str) -> None:
 def add_outputs(one: argparse.ArgumentParser, command: str) -> None:
     group = one.add_argument_group("output")
     group.add_argument("--format", choices=formats.NAMES, action="append", help="the format; default text; repeatable with --output")
-    group.add_argument("--output", metavar="FILE", type=Path, action="append",
+    group.add_argument("--output", metavar="FILE", type=path, action="append",
                        help="where to write it instead of standard output; repeatable")
     group.add_argument("--json", action="store_true", help="the same as --format json: the server's reply as it came")
     if command != "report":
-        group.add_argument("--page", metavar="FILE", type=Path, help="also write an HTML page")
+        group.add_argument("--page", metavar="FILE", type=path, help="also write an HTML page")
     group.add_argument("--sort", choices=SORTS, help="the order of duplicates; default the server's, by path")
     group.add_argument("--top", metavar="N", type=number(1, 1_000_000), help="only the first N duplicates")
 
@@ -144,7 +148,7 @@ def add_files(one: argparse.ArgumentParser) -> None:
     group.add_argument("--encoding", metavar="NAME", help="the encoding of files that are not UTF-8, as latin-1")
     group.add_argument("--skip-duplicate-files", action="store_true", help="upload only the first of identical files")
     group.add_argument("--no-ignore", action="store_true", help="read all files of the folders, also those that git ignores")
-    group.add_argument("--root", metavar="DIR", type=Path,
+    group.add_argument("--root", metavar="DIR", type=path,
                        help="the folder that paths are relative to; default the git work tree, or the current folder")
 
 
@@ -164,13 +168,13 @@ def add_server(one: argparse.ArgumentParser, command: str) -> None:
     group.add_argument("--addr", metavar="HOST:PORT", type=address, action="append",
                        help="the server; default what CQD_ADDR names; of several, each has its share of the projects")
     if command != "status":
-        group.add_argument("--state", metavar="FILE", type=Path,
+        group.add_argument("--state", metavar="FILE", type=path,
                            help="where calls keep what they uploaded; default .cqd-state.json in the root")
     group.add_argument("--tls", action="store_true", help="speak TLS")
-    group.add_argument("--tls-ca", metavar="FILE", type=Path,
+    group.add_argument("--tls-ca", metavar="FILE", type=path,
                        help="the authority that signed the server's certificate; default the system's")
-    group.add_argument("--tls-cert", metavar="FILE", type=Path, help="the client's certificate")
-    group.add_argument("--tls-key", metavar="FILE", type=Path, help="its key, if it is not in the same file")
+    group.add_argument("--tls-cert", metavar="FILE", type=path, help="the client's certificate")
+    group.add_argument("--tls-key", metavar="FILE", type=path, help="its key, if it is not in the same file")
     group.add_argument("--timeout", metavar="SECONDS", type=seconds,
                        help="give up if the server takes longer for one reply; default 600")
 

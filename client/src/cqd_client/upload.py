@@ -58,7 +58,8 @@ def upload(server: Server, project: str, tree: Tree, state: Optional[State], not
         generation = server.generation
         try:
             one_pass(server, project, done, state, notes, once)
-            lost = lost_of(server.files(project), done)
+            with notes.waiting("waiting for the server: analysis"):
+                lost = lost_of(server.files(project), done)
         except Restarted:
             notes.say("the server was started again meanwhile; all files are uploaded again")
             continue
@@ -113,7 +114,8 @@ def puts(project: str, done: Upload, entry: dict[str, Known], notes: Notes, once
     size = 0
     for number, source in enumerate(done.tree.sources, 1):
         size += source.size
-        notes.progress(f"{number:,} of {len(done.tree.sources):,} files, {size / 1e6:,.1f} of {done.tree.size / 1e6:,.1f} MB")
+        if notes.is_terminal:
+            notes.progress(f"{number:,} of {len(done.tree.sources):,} files, {size / 1e6:,.1f} of {done.tree.size / 1e6:,.1f} MB")
         try:
             text = text_of(done.tree, source, done.encoding)
         except Binary:
