@@ -160,7 +160,7 @@ def test_encodings_and_binary_files(client: Client, tmp_path: Path) -> None:
     assert "c.c: left out: it is not UTF-8 at byte 4; --encoding" in ran.stderr
     ran = client("put", ".", "--encoding", "latin-1")
     assert ran.returncode == 0 and ran.stdout.startswith("3 uploaded")
-    # without a mark, only an encoding that is named tells text that has zeros from what is no text
+    # without a mark, text that has zeros is only known from binary files by the encoding that is named
     (tmp_path / "d.c").write_bytes("int d;\n".encode("utf-16-le"))
     ran = client("put", ".", "--encoding", "utf-16-le", "--exclude", "c.c")
     assert ran.returncode == 0 and ran.stdout.startswith("3 uploaded") and "binary" not in ran.stderr

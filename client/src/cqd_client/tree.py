@@ -160,8 +160,8 @@ def tree_of(root: Path, paths: list[Path], listing: Optional[bytes], choice: Cho
                 add(below_root(root, given))
     notes.clear()
     if missing:
-        notes.say(f"{counted(len(missing), 'file')} that git lists {'is' if len(missing) == 1 else 'are'} not in the work tree, the first is "
-                  f"{missing[0]}")
+        notes.say(f"{counted(len(missing), 'file')} that git lists {'is' if len(missing) == 1 else 'are'} not in the work tree, "
+                  f"the first is {missing[0]}")
     tree.sources = sorted(found.values(), key=lambda source: name_of(source.path))
     tell_unused(choice, notes)
     if not tree.sources and others:
@@ -286,5 +286,5 @@ def tell_unused(choice: Choice, notes: Notes) -> None:
     for option, patterns in (("--include", choice.include), ("--exclude", choice.exclude), ("--map", choice.maps),
                              ("--any", choice.plain)):
         for pattern in patterns.unused():
-            hint = "" if set("*?.") & set(pattern.rpartition("/")[2]) or pattern.endswith("/") else f"; all files below a folder are '{pattern}/'"
-            notes.say(f"{option} {pattern!r} fits no file{hint}")
+            is_folder = not set("*?.") & set(pattern.rpartition("/")[2]) and not pattern.endswith("/")
+            notes.say(f"{option} {pattern!r} fits no file" + (f"; all files below a folder are '{pattern}/'" if is_folder else ""))
