@@ -71,7 +71,7 @@ def test_json_is_the_reply_as_it_came(report: Report) -> None:
 # ------------------------------------------------------------------------------------------------------ sarif
 
 # From the standard's text: OASIS, "Static Analysis Results Interchange Format (SARIF) Version 2.1.0", sections 3.13 to 3.52.
-# `additionalProperties` is false where the standard lets a property bag alone have others.
+# `additionalProperties` is false where the standard allows others only in a property bag.
 TEXT = {"type": "object", "required": ["text"], "properties": {"text": {"type": "string", "minLength": 1}}, "additionalProperties": False}
 REGION = {"type": "object", "required": ["startLine"], "additionalProperties": False,
           "properties": {name: {"type": "integer", "minimum": 1} for name in ("startLine", "endLine", "startColumn", "endColumn")}}

@@ -241,6 +241,14 @@ CONTRAST = """(() => {
 })()"""
 
 
+BROKEN_NUMBERS = """Array.from(document.querySelectorAll('.number')).filter(cell => {
+    const range = document.createRange(), whole = cell.getBoundingClientRect();
+    range.selectNodeContents(cell);
+    const lines = Array.from(range.getClientRects());
+    return lines.length > 1 || lines.some(line => line.left < whole.left - 1 || line.right > whole.right + 1);
+}).map(cell => cell.textContent)"""
+
+
 @pytest.mark.parametrize("dark", [False, True], ids=["light", "dark"])
 @pytest.mark.parametrize("width", [1280, 360])
 def test_it_fits_and_all_text_has_contrast(browser: chromium.Chromium, hostile_page: Path, tmp_path_factory: pytest.TempPathFactory,
@@ -253,6 +261,7 @@ def test_it_fits_and_all_text_has_contrast(browser: chromium.Chromium, hostile_p
         browser.run("new Promise(done => setTimeout(done, 100))")
         assert browser.run("document.documentElement.scrollWidth") <= width
         assert browser.run(CONTRAST) == {}
+        assert browser.run(BROKEN_NUMBERS) == []
 
 
 def test_the_keyboard_opens_a_group_and_sees_where_it_is(browser: chromium.Chromium, large_page: Path) -> None:

@@ -5,11 +5,12 @@ import json
 import socket
 import threading
 from pathlib import Path
-from typing import Callable
+from typing import Any, Callable
 
 import pytest
 
 from cqd_client.faults import Fault
+from cqd_client.findings import Malformed, groups_of
 from cqd_client.link import Address, owner
 from cqd_client.protocol import Server, line_of, reached
 from conftest import Client, Listening, lines_of
@@ -67,6 +68,17 @@ def test_a_line_is_json_with_the_same_text(text: str) -> None:
     line = line_of(request)
     assert json.loads(line.decode("utf-8")) == request
     assert line.index(b"\n") == len(line) - 1 and not any(byte < 32 for byte in line[:-1])
+
+
+@pytest.mark.parametrize("wrong", [
+    {"total": 2}, {"total": True}, {"groups": None}, {"groups": [{"tokens": 5, "places": []}]},
+    {"groups": [{"tokens": 5, "places": [{"path": "a", "at": 0, "first": 1, "last": 2}]}]},
+    *({"groups": [{"tokens": 5, "places": [{"path": "a", "at": 0, "first": 1, "last": 2}, {"path": "a", "at": 9, "first": 3, "last": 4} | one]}]}
+      for one in ({"first": 0}, {"last": 2}, {"at": -1}, {"path": 3}, {"at": 1.5})),
+])
+def test_a_reply_of_groups_that_is_not_as_documented(wrong: dict[str, Any]) -> None:
+    with pytest.raises(Malformed):
+        groups_of({"groups": [], "total": len(wrong.get("groups") or [])} | wrong)
 
 
 def test_a_program_that_is_missing(client: Client, tmp_path: Path) -> None:

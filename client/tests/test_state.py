@@ -142,5 +142,5 @@ def test_a_restarted_server_that_another_client_filled_alike_is_noticed(client: 
     (elsewhere / "a.c").write_text("int a;\n")
     (elsewhere / "b.c").write_text("int b;\n")
     assert Client(elsewhere, program)("verdict", ".", *words, *gate).returncode == 0
-    # the same paths stand there by the same numbers of changes, and are not the ones of this folder
+    # the server has the same paths by the same numbers of changes, but not the files of this folder
     assert client("verdict", "a.c", "b.c", *words, *gate).returncode == 1

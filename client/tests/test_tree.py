@@ -11,7 +11,7 @@ from cqd_client.faults import Misuse
 from cqd_client.notes import Notes
 from cqd_client.patterns import Patterns, compiled, expanded
 from cqd_client.protocol import started
-from cqd_client.texts import too_large
+from cqd_client.texts import contents, too_large
 from cqd_client.tree import Choice, Source, Tree, tree_of
 from conftest import Client, Repository, lines_of
 
@@ -160,12 +160,19 @@ def test_encodings_and_binary_files(client: Client, tmp_path: Path) -> None:
     assert "c.c: left out: it is not UTF-8 at byte 4; --encoding" in ran.stderr
     ran = client("put", ".", "--encoding", "latin-1")
     assert ran.returncode == 0 and ran.stdout.startswith("3 uploaded")
-    # without a mark, only an encoding that is named tells text that has zeros from what is no text
+    # without a mark, text that has zeros is only known from binary files by the encoding that is named
     (tmp_path / "d.c").write_bytes("int d;\n".encode("utf-16-le"))
     ran = client("put", ".", "--encoding", "utf-16-le", "--exclude", "c.c")
     assert ran.returncode == 0 and ran.stdout.startswith("3 uploaded") and "binary" not in ran.stderr
     for name in ("no-such", "rot13", "base64"):
         assert client("put", ".", "--encoding", name).returncode == 3
+
+
+@pytest.mark.parametrize("size", [0, 1, 99_999, 100_000, 100_001, 1_000_000])
+def test_a_file_is_read_whole_whatever_its_size_was(tmp_path: Path, size: int) -> None:
+    whole = bytes(number % 251 for number in range(100_000))
+    (tmp_path / "a").write_bytes(whole)
+    assert contents(os.fsencode(tmp_path / "a"), size) == whole
 
 
 def test_what_no_request_can_hold(client: Client, tmp_path: Path) -> None:

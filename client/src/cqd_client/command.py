@@ -34,7 +34,7 @@ from .tree import NAMES, Choice, Tree, read_listing, root_of, tree_of
 from .upload import PASSES, tell, upload
 from .wording import counted
 
-# The most that any server takes; one of this call alone is started with it.
+# The most that any server takes; one of the call's own is started with it.
 TEXT_LIMIT = 67_108_864
 CHANGE_LIMIT = 262_144
 STATE = ".cqd-state.json"
@@ -62,7 +62,7 @@ def tree_asked(options: argparse.Namespace, root: Path, own: Sequence[Path], not
         if options.command == "check":
             paths = [root]
         elif not options.addr or options.command == "put":
-            hint = "" if options.addr else ": a server of this call alone has nothing yet"
+            hint = "" if options.addr else ": a server of the call's own has nothing yet"
             raise Misuse(f"{options.command} needs a PATH or --files-from{hint}")
         else:
             return None
@@ -91,8 +91,9 @@ def project_of(options: argparse.Namespace, root: Path) -> str:
 
 def about(options: argparse.Namespace, root: Path) -> About:
     commit, branch = git.described(root)
-    pairs = tuple((f"--{name.replace('_', '-')}", ", ".join(map(str, value)) if isinstance(value, list) else "" if value is True else str(value))
-                  for name, value in sorted(vars(options).items()) if value and name in SHOWN)
+    def shown(value: Any) -> str:
+        return ", ".join(map(str, value)) if isinstance(value, list) else "" if value is True else str(value)
+    pairs = tuple((f"--{name.replace('_', '-')}", shown(value)) for name, value in sorted(vars(options).items()) if value and name in SHOWN)
     try:
         seconds = int(os.environ.get("SOURCE_DATE_EPOCH") or time.time())
         when = datetime.datetime.fromtimestamp(seconds, datetime.timezone.utc)

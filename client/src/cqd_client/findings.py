@@ -157,7 +157,10 @@ def member(value: Any, name: str, kind: type) -> Any:
 
 
 def place_of(value: Any) -> Place:
-    return Place(member(value, "path", str), member(value, "at", int), member(value, "first", int), member(value, "last", int))
+    place = Place(member(value, "path", str), member(value, "at", int), member(value, "first", int), member(value, "last", int))
+    if place.at < 0 or not 1 <= place.first <= place.last:
+        raise Malformed("the server's reply has a place with lines that no file has")
+    return place
 
 
 def groups_of(reply: Mapping[str, Any]) -> tuple[Group, ...]:

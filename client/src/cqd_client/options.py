@@ -144,7 +144,8 @@ def add_files(one: argparse.ArgumentParser) -> None:
     group.add_argument("--exclude", metavar="PATTERN", type=text, action="append", help="no files that fit; repeatable")
     group.add_argument("--map", metavar="PATTERN=LANG", type=text, action="append",
                        help="read files that fit as any, go, c or java, as '*.kt=java'; repeatable")
-    group.add_argument("--any", metavar="PATTERN", type=text, action="append", help="also upload files that fit, as plain text, if their ending has no language; repeatable")
+    group.add_argument("--any", metavar="PATTERN", type=text, action="append",
+                       help="also upload files that fit, as plain text, if their ending has no language; repeatable")
     group.add_argument("--encoding", metavar="NAME", help="the encoding of files that are not UTF-8, as latin-1")
     group.add_argument("--skip-duplicate-files", action="store_true", help="upload only the first of identical files")
     group.add_argument("--no-ignore", action="store_true", help="read all files of the folders, also those that git ignores")
@@ -153,7 +154,7 @@ def add_files(one: argparse.ArgumentParser) -> None:
 
 
 def add_program(one: argparse.ArgumentParser) -> None:
-    group = one.add_argument_group("a server of this call alone")
+    group = one.add_argument_group("a server of the call's own")
     group.add_argument("--cqd", metavar="PROGRAM", help="the program; default what CQD names, or cqd on PATH")
     group.add_argument("--chunk", metavar="N", type=number(1, 1000),
                        help="tokens of a window of its index; default 20, or --min if that is less")
@@ -197,7 +198,7 @@ def conflict(options: argparse.Namespace) -> Optional[str]:
     own = [name for name in ("cqd", "chunk", "ignore_ids", "ignore_literals") if has(name)] + ["workers"] * (has("workers") is not None)
     if has("addr"):
         if own:
-            return f"--{own[0].replace('_', '-')} is for a server of this call alone, and --addr names one that runs"
+            return f"--{own[0].replace('_', '-')} is for a server of the call's own, and --addr names one that runs"
         if not has("project") and options.command != "status":
             return "--project is needed with --addr: others use the server too"
     else:

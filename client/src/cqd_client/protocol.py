@@ -32,8 +32,8 @@ EPOCHS = "cqd-client"
 
 Request = dict[str, Any]
 
-# A server that holds as much as it may forgets what was replaced or dropped when it has answered a query. So if it refuses a change
-# for want of room, it is asked one, whose answer is not looked at, and the change is sent once more.
+# A server that holds as much as it may forgets what was replaced or dropped when it has answered a query. So if it has no room for a
+# change, it is asked one, whose answer is not looked at, and the change is sent once more.
 FULL = ("full-changes", "full-text")
 ROOM: Request = {"op": "files", "project": EPOCHS}
 
@@ -103,7 +103,7 @@ def encoded(text: str) -> bytes:
 
 
 class Waiting(NamedTuple):
-    """A request without a reply, as its line, and whether it was refused before for want of room."""
+    """A request without a reply, as its line, and whether the server had no room for it before."""
     request: Request
     line: bytes
     is_again: bool = False
@@ -111,7 +111,7 @@ class Waiting(NamedTuple):
 
 class Server:
     """A server that is spoken to over a link. If `reach` is given, a link that is lost is made again, and what wasn't answered is
-    asked again: every request leaves the same behind if it is made twice."""
+    asked again: a request that is made twice has the same effect as one."""
 
     def __init__(self, link: Link, reach: Optional[Callable[[], Link]] = None) -> None:
         self.link = link
@@ -231,7 +231,7 @@ class Server:
 
 @contextlib.contextmanager
 def started(program: str, arguments: list[str], timeout: float) -> Iterator[Server]:
-    """A server of this call alone. What it replied holds only if this ends without a fault."""
+    """A server of the call's own. What it replied holds only if this ends without a fault."""
     build(program)
     own = Program(program, arguments, timeout)
     try:

@@ -30,7 +30,7 @@ def running(options: argparse.Namespace, project: str, timeout: float) -> contex
 
 
 def own(options: argparse.Namespace, timeout: float, text_limit: int) -> contextlib.AbstractContextManager[Server]:
-    """A server of this call alone."""
+    """A server of the call's own."""
     chunk = options.chunk or min(20, vars(options).get("min") or 20)
     workers = min(processors(), MOST_WORKERS) if options.workers is None else options.workers
     given = ["--chunk", str(chunk), "--text-limit", str(text_limit), "--workers", str(workers)]
@@ -62,7 +62,8 @@ def status(options: argparse.Namespace, timeout: float) -> int:
         with reached(address, tls_of(options), options.timeout or timeout) as server:
             state = server.answer({"op": "state"}).members
             accepted, done, published = (member(state, name, int) for name in ("accepted", "done", "published"))
-            print(f"{address}: {counted(accepted, 'change')} accepted, {accepted - done:,} not analysed yet, last answer at version {published:,}")
+            print(f"{address}: {counted(accepted, 'change')} accepted, {accepted - done:,} not analysed yet, "
+                  f"last answer at version {published:,}")
             if options.project and address == owner(options.addr, options.project):
                 files = files_of(server.files(options.project).members)
                 print(f"  project {options.project}: {counted(len(files), 'file')}, {counted(sum(file.lines for file in files), 'line')}, "

@@ -64,7 +64,7 @@ def entry_of(value: Any) -> Entry:
 
 
 class State:
-    """The entry of one project on one server. `keep` merges what this call changed into what stands in the file then."""
+    """The entry of one project on one server. `keep` merges what this call changed into what the file has by then."""
 
     def __init__(self, file: Path, server: str, project: str, notes: Notes) -> None:
         self.file = file
@@ -145,8 +145,9 @@ class State:
 
 
 def merged(before: Entry, standing: Entry, after: Entry, life: str) -> Entry:
-    """What `after` changed of `before`, in what stands now. If another call changed the same, the later change is kept. If another call
-    found the server in a life after the one of `after`, which the file had when this call read it, only the gate is of use."""
+    """What `after` changed of `before`, merged into what the file has now. If another call changed the same, the later change is
+    kept. If the file had the life of `after` when this call read it, and another call has found the server in a later one since, only
+    the gate is of use."""
     gate = after.gate if after.gate != before.gate else standing.gate
     if after.epoch == life != standing.epoch:
         return Entry(dict(standing.files), list(gate), dict(standing.passed), standing.epoch)

@@ -45,7 +45,7 @@ class Choice:
         pattern = self.maps.first(path)
         if pattern is not None:
             return self.languages[pattern]
-        return LANGUAGES.get(os.path.splitext(path)[1]) or ("any" if self.plain.fit(path) else None)
+        return LANGUAGES.get(ending_of(path)) or ("any" if self.plain.fit(path) else None)
 
 
 @dataclass
@@ -80,6 +80,12 @@ class Tree:
 def name_of(path: str) -> bytes:
     """The bytes of a path, which are UTF-8 whatever the locale is, or escaped."""
     return path.encode("utf-8", "surrogateescape")
+
+
+def ending_of(path: str) -> str:
+    """The ending of a file's name, from its last point, empty if it has none but at its front."""
+    point = path.rfind(".")
+    return path[point:] if point > path.rfind("/") + 1 else ""
 
 
 def path_of(name: bytes) -> str:
@@ -123,7 +129,7 @@ def tree_of(root: Path, paths: list[Path], listing: Optional[bytes], choice: Cho
             return
         lang = choice.language(path)
         if lang is None:
-            ending = os.path.splitext(path)[1] or "(none)"
+            ending = ending_of(path) or "(none)"
             others[ending] = others.get(ending, 0) + 1
             return
         try:
@@ -146,7 +152,8 @@ def tree_of(root: Path, paths: list[Path], listing: Optional[bytes], choice: Cho
         if os.path.isdir(path):
             for name, is_listed in within_folder(tree, below, choice, notes):
                 add(name, is_listed)
-                notes.progress(f"{counted(len(found), 'file')} found")
+                if notes.is_terminal:
+                    notes.progress(f"{counted(len(found), 'file')} found")
         else:
             add(below)
     if listing is not None:
@@ -160,8 +167,8 @@ def tree_of(root: Path, paths: list[Path], listing: Optional[bytes], choice: Cho
                 add(below_root(root, given))
     notes.clear()
     if missing:
-        notes.say(f"{counted(len(missing), 'file')} that git lists {'is' if len(missing) == 1 else 'are'} not in the work tree, the first is "
-                  f"{missing[0]}")
+        notes.say(f"{counted(len(missing), 'file')} that git lists {'is' if len(missing) == 1 else 'are'} not in the work tree, "
+                  f"the first is {missing[0]}")
     tree.sources = sorted(found.values(), key=lambda source: name_of(source.path))
     tell_unused(choice, notes)
     if not tree.sources and others:
@@ -286,5 +293,5 @@ def tell_unused(choice: Choice, notes: Notes) -> None:
     for option, patterns in (("--include", choice.include), ("--exclude", choice.exclude), ("--map", choice.maps),
                              ("--any", choice.plain)):
         for pattern in patterns.unused():
-            hint = "" if set("*?.") & set(pattern.rpartition("/")[2]) or pattern.endswith("/") else f"; all files below a folder are '{pattern}/'"
-            notes.say(f"{option} {pattern!r} fits no file{hint}")
+            is_folder = not set("*?.") & set(pattern.rpartition("/")[2]) and not pattern.endswith("/")
+            notes.say(f"{option} {pattern!r} fits no file" + (f"; all files below a folder are '{pattern}/'" if is_folder else ""))

@@ -21,7 +21,7 @@ PASSES = 3
 
 @dataclass
 class Upload:
-    """What a call uploaded. `known` is what stands on the server of it, `files` what the server says that the project has."""
+    """What a call uploaded. `known` is what the server has of it, `files` all that the project has."""
     tree: Tree
     encoding: Optional[str] = None
     known: dict[str, Known] = field(default_factory=dict)
@@ -80,7 +80,7 @@ def one_pass(server: Server, project: str, done: Upload, state: Optional[State],
     entry = state.entry.files if state else {}
     standing = changes_of(server.files(project)) if entry else {}
     for path in [path for path, known in entry.items() if standing.get(path) != known.change]:
-        # somebody else changed this file: whatever stands there is not ours
+        # somebody else changed this file: what the server has is not ours
         del entry[path]
     for request, reply in server.ask_each(puts(project, done, entry, notes, once)):
         path = request["path"]
