@@ -6,14 +6,17 @@ usage: bench/peaks.py
 - A line of 8 MiB that is made of small objects, which is the most expensive one to parse, and a line of the same length that is one string.
 - A reply of many places, whose paths are as long as they may be: what it takes beyond the peak of the same server before.
 - A session of `listen`: what a server with 64 sessions, all of which have sent a short line, takes beyond one with a single session.
+- A token file that `ask` reads, and ones that claim to be as large as they may be, and end after that claim.
 
 Memory is VmHWM. The program is ./cqd, or what the variable CQD names.
 """
 import argparse
 import json
 import os
+import random
 import re
 import socket
+import struct
 import subprocess
 import time
 from pathlib import Path
@@ -78,6 +81,38 @@ def show_reply():
     server.end()
 
 
+def asked(data, line):
+    """The peak of `ask` after these bytes, and after the reply to a line if there is one."""
+    process = subprocess.Popen([PROGRAM, "ask"], stdin=subprocess.PIPE, stdout=subprocess.PIPE, stderr=subprocess.DEVNULL)
+    process.stdin.write(data + line)
+    process.stdin.flush()
+    if line:
+        assert b'"ok":true' in process.stdout.readline()
+    else:
+        time.sleep(1)
+    found = peak(process)
+    process.stdin.close()
+    assert process.wait() == (0 if line else 8)
+    return found
+
+
+def show_token_files():
+    choice = random.Random(1)
+    text = lambda: "\n".join(" ".join(f"{choice.choice('abcdefgh')}{choice.randrange(9_999)}" for _ in range(10)) for _ in range(1_500))
+    puts = [{"op": "put", "project": "p", "path": f"f{number}", "lang": "any", "text": text()} for number in range(40)]
+    lines = "".join(json.dumps(it) + "\n" for it in puts).encode()
+    whole = subprocess.run([PROGRAM, "export", "p"], input=lines, capture_output=True, check=True).stdout
+    size = asked(whole, b'{"op":"files","project":"p"}\n')
+    print(f"a token file of {len(whole) / 1e6:.1f} MB: {size / 1e6:.0f} MB; with nothing on its input, ask takes {asked(b'', b'') / 1e6:.1f} MB")
+    frame = b"CQTOK001" + struct.pack(">Q", 268_435_456)
+    head = frame + struct.pack(">QIBBI", 1, 20, 0, 0, 1) + b"p"
+    file = struct.pack(">I", 1) + b"t" + struct.pack(">QBBQQQ", 1, 0, 0, 1, 1, 1)
+    claims = [("268,435,456 bytes", frame), ("4,000,000,000 conditions", head + struct.pack(">I", 4_000_000_000)),
+              ("262,144 files", head + struct.pack(">II", 0, 262_144)), ("262,144 tokens", head + struct.pack(">II", 0, 1) + file + struct.pack(">I", 262_144))]
+    for name, data in claims:
+        print(f"one that claims {name} and ends there: {asked(data, b'') / 1e6:.1f} MB")
+
+
 def peak_of(sessions):
     """The peak of a server with so many sessions, each of which has answered a short line."""
     process = subprocess.Popen([PROGRAM, "listen", "127.0.0.1:19791", "--sessions", str(sessions)])
@@ -114,3 +149,4 @@ show_line("empty arrays", b'{"op":"state","x":[' + b"[]," * ((LONGEST - 40) // 3
 show_line("one string", b'{"op":"state","x":"' + b"x" * (LONGEST - 40) + b'"}')
 show_reply()
 show_sessions()
+show_token_files()
