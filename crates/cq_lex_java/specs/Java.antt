@@ -1,5 +1,5 @@
 -- The table of Java's elements.
-use Rattle.std.specs.Prelude.{◌≡◌, ℕ, Bool, List, [], ◌∷◌}
+use Rattle.std.specs.Prelude.{◌≡◌, ℕ, Bool, List, [], ◌∷◌, ◌++◌}
 use Rattle.cq_base.specs.declared.token.Class.TheVariants.{Ident, Word, Literal, Punct}
 use Rattle.cq_munch.specs.Commented.{commented}
 use Rattle.cq_munch.specs.Language.{Language, marked}
@@ -10,7 +10,7 @@ use Rattle.cq_munch.specs.Table.{Row, table, first}
 use Rattle.cq_munch.specs.declared.element.Spell.TheVariants.{Blank, Token}
 use Rattle.cq_munch.specs.declared.ends.LineEnds.TheVariants.{ReturnOrFeed}
 use Rattle.cq_munch.specs.declared.quoted.Quote.TheVariants.{Double, Single}
-use Rattle.cq_lex_java.specs.Blocks.{IsTextBlock, opens}
+use Rattle.cq_lex_java.specs.Blocks.{opens, text_block}
 use Rattle.cq_lex_java.specs.Numbers.{number}
 use Rattle.cq_lex_java.specs.Openers.{is_end}
 use Rattle.cq_lex_java.specs.Operators.{operators}
@@ -38,11 +38,17 @@ chars = record { spell = Token Literal; set = Spells (quoted Single ReturnOrFeed
 abbrev pub marks : Row
 marks = record { spell = Token Punct; set = IsAmong operators }
 
+abbrev pub named : List Row
+named = names ∷ reserved ∷ []
+
+abbrev pub others : List Row
+others = blanks ∷ numbers ∷ strings ∷ chars ∷ marks ∷ []
+
 abbrev pub rows : List Row
-rows = names ∷ reserved ∷ blanks ∷ numbers ∷ strings ∷ chars ∷ marks ∷ []
+rows = named ++ others
 
 abbrev pub text_blocks : Row
-text_blocks = record { spell = Token Literal; set = IsTextBlock }
+text_blocks = record { spell = Token Literal; set = Spells text_block }
 
 abbrev pub ends : Row
 ends = record { spell = Blank; set = λ s. s ≡ 26 ∷ [] }

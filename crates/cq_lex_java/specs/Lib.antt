@@ -5,14 +5,12 @@ pub mod Translation
 pub mod Eligible
 pub mod NameStates
 pub mod Numbers
-pub mod NumberStates
 pub mod Operators
-pub mod OperatorStates
 pub mod Openers
 pub mod Blocks
 pub mod TextBlocks
 pub mod Java
-pub mod Fronts
 pub mod Ascii
-pub mod Starts
+pub mod Scanner
+pub mod BlockScanner
 pub mod OneKind
