@@ -9,6 +9,9 @@ quote = only 34
 abbrev pub quotes : Pattern
 quotes = quote ▸ quote ▸ quote
 
+abbrev pub backslash : Pattern
+backslash = only 92
+
 -- space, tab and form feed
 abbrev pub space : Pattern
 space = among ((32, 32) ∷ (9, 9) ∷ (12, 12) ∷ [])
@@ -16,9 +19,12 @@ space = among ((32, 32) ∷ (9, 9) ∷ (12, 12) ∷ [])
 abbrev pub line_end : Pattern
 line_end = one_of 13 10
 
+abbrev pub any : Pattern
+any = except []
+
 -- any character but a quote and a backslash, or a backslash and the character after it
 abbrev pub character : Pattern
-character = except ((34, 34) ∷ (92, 92) ∷ []) ∣ only 92 ▸ except []
+character = except ((34, 34) ∷ (92, 92) ∷ []) ∣ backslash ▸ any
 
 -- at most two quotes, and a character after them
 abbrev pub part : Pattern

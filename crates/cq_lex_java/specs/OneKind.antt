@@ -35,7 +35,7 @@ same p s = (λ h. h, λ h. h)
 
 pub are_scanned : AreRowsOf others scanned
 are_scanned =
-    (refl, words_are blank_characters, (refl, same (Spells number), (refl, same (Spells (quoted Double ReturnOrFeed)), (refl, same (Spells (quoted Single ReturnOrFeed)), (refl, words_are operators, tt)))))
+    (refl, words_are blank_characters, (refl, same (Spells number), (refl, same (Spells (quoted Single ReturnOrFeed)), (refl, same (Spells (quoted Double ReturnOrFeed)), (refl, words_are operators, tt)))))
 
 -- names and keywords begin with letters
 pub name_of_row : (spell : Spell) (s : List ℕ) → InTable named spell s → IsIdentifier s

@@ -12,7 +12,7 @@ use Rattle.cq_lex_java.specs.Words.{blank_characters}
 
 abbrev pub scanned : Patterned
 scanned =
-    (Blank, any_word blank_characters) ∷ (Token Literal, number) ∷ (Token Literal, quoted Double ReturnOrFeed) ∷ (Token Literal, quoted Single ReturnOrFeed)
+    (Blank, any_word blank_characters) ∷ (Token Literal, number) ∷ (Token Literal, quoted Single ReturnOrFeed) ∷ (Token Literal, quoted Double ReturnOrFeed)
     ∷ (Token Punct, any_word operators) ∷ []
 
 -- written by bench/tables
