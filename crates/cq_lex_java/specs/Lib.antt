@@ -3,7 +3,6 @@ pub mod AsciiNames
 pub mod Escapes
 pub mod Translation
 pub mod Eligible
-pub mod NameStates
 pub mod Numbers
 pub mod Operators
 pub mod Openers

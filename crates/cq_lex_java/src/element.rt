@@ -1,16 +1,15 @@
 ghost use Rattle.std.specs.Prelude.{◌≡◌, ◌<◌, ◌^◌, ◌==◌, ◌||◌, ℕ, length};
 ghost use Rattle.cq_munch.specs.Characters.{characters};
-ghost use Rattle.cq_munch.specs.Fronts.{starts};
 ghost use Rattle.cq_munch.specs.Language.{Takes};
 ghost use Rattle.cq_munch.specs.Table.{InTable, table};
 ghost use Rattle.cq_munch.specs.declared.element.Spell.TheVariants.{Token as token};
 ghost use Rattle.cq_lex_java.specs.Java.{named, others, unmarked};
 ghost use Rattle.cq_lex_java.specs.Openers.{is_end};
-ghost use Rattle.cq_lex_java.specs.Words.{IsIdentifier, begins_identifier};
+ghost use Rattle.cq_lex_java.specs.Words.{IsIdentifier};
 
 use crate::block::{closed_block, opens_block};
 use crate::scanner::{CLASSES, ENDS, SPELLS, STEPS};
-use crate::words::{begins_identifier, is_keyword, longest_identifier};
+use crate::words::{begins_name, is_keyword, longest_identifier};
 use cq_base::Class;
 use cq_munch::{
     Automaton, Found, LineEnds, Spell, Unit, found_of, longest_block_comment, longest_found,
@@ -31,16 +30,6 @@ fn is_end(units: &[Unit]) -> bool
     match units {
         [last] => last.ch == '\u{1A}',
         _ => false,
-    }
-}
-
-// Whether an identifier or a keyword begins at the front.
-fn begins_name(units: &[Unit]) -> bool
-    ensures { result ≡ starts begins_identifier (characters units.now) }
-{
-    match units {
-        [first, ..] => begins_identifier(first.ch),
-        [] => false,
     }
 }
 
