@@ -73,6 +73,21 @@ def test_a_restarted_server_does_not_turn_a_build_green(client: Client, tmp_path
     assert ran.returncode == 2 and "no gate is known" in ran.stderr
 
 
+def test_a_project_that_a_restart_has_lost_is_not_judged_as_it_is(client: Client, tmp_path: Path, listening: Listening) -> None:
+    duplicates(tmp_path)
+    words = ("--project", "p", "--addr", listening.addr)
+    assert client("verdict", ".", *words, *GATE).returncode == 1
+    assert client("verdict", *words).returncode == 1
+    listening.kill()
+    listening.start()
+    (tmp_path / "other.c").write_text("int other;\n")
+    assert client("put", "other.c", *words, "--state", "other").returncode == 0
+    ran = client("verdict", *words)
+    assert ran.returncode == 2 and "started again" in ran.stderr
+    assert client("verdict", ".", *words).returncode == 1
+    assert client("verdict", *words).returncode == 1
+
+
 def test_a_gate_that_another_client_set_does_not_judge_this_call(client: Client, tmp_path: Path, listening: Listening) -> None:
     duplicates(tmp_path)
     words = ("verdict", ".", "--project", "p", "--addr", listening.addr)

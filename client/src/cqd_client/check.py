@@ -47,8 +47,8 @@ def checked(server: Server, call: Call) -> Report:
 
 
 def counts_lines_as_git(done: Upload, path: str) -> bool:
-    """Whether git sees the file's lines where the server does. It reads bytes, and in UTF-16 that of a line feed may be part of another
-    character."""
+    """Whether git sees the file's lines where the server does. Git reads bytes, and in UTF-16 the byte of a line feed may be part of
+    another character."""
     text = done.text_of(path)
     try:
         with open(done.tree.file(path), "rb") as file:

@@ -138,8 +138,9 @@ def asked(server: Server, call: Call, tree: Optional[Tree]) -> Optional[Report]:
                                    once=call.options.skip_duplicate_files)
                 call.files, generation = call.done.files, server.generation
             else:
-                if call.state:
-                    call.state.begin(server.epoch_known())
+                if call.state and call.state.begin(server.epoch_known()):
+                    raise Fault(f"the server was started again, and has lost what was uploaded to project {call.project}: name the PATHs to "
+                                "upload it again")
                 call.files = files_of(server.files(call.project).members)
             if call.options.command == "put":
                 return None

@@ -78,10 +78,12 @@ class State:
         # the life of the server that the file has the project's entry of
         self.life = self.entry.epoch
 
-    def begin(self, epoch: str) -> None:
-        """Leaves of the entry what holds in this life of the server."""
+    def begin(self, epoch: str) -> bool:
+        """Leaves of the entry what holds in this life of the server, and reports whether uploads of an earlier one are lost."""
+        is_lost = bool(self.entry.files) and epoch != self.entry.epoch
         self.before = self.before.of_life(epoch)
         self.entry = self.entry.of_life(epoch)
+        return is_lost
 
     def keep(self) -> None:
         if self.entry == self.before:

@@ -12,7 +12,7 @@ from .notes import Notes
 from .protocol import Reply, Request, Server
 from .state import Known, State
 from .texts import Binary, Unfit, hash_of, text_of
-from .tree import Choice, Tree, tree_of
+from .tree import Choice, Tree, real, tree_of
 from .wording import counted
 
 # How often all is compared again, if the server lost files meanwhile or another client uploaded them.
@@ -174,7 +174,7 @@ def faults_of(done: Upload) -> Iterator[str]:
 
 def folder_puts(folder: Path, project: str, choice: Optional[Choice] = None) -> Iterator[Request]:
     """The requests that upload a folder. What no request can hold is said and left out."""
-    notes, root = Notes(), folder.resolve()
+    notes, root = Notes(), real(folder)
     done = Upload(tree_of(root, [root], None, choice or Choice(), notes))
     yield from puts(project, done, {}, notes, False)
     tell(done, notes)
