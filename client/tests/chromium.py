@@ -5,6 +5,7 @@ import base64
 import fcntl
 import json
 import os
+import select
 import shutil
 import subprocess
 import tempfile
@@ -12,6 +13,8 @@ from pathlib import Path
 from typing import Any, Optional
 
 PROGRAM = shutil.which("chromium")
+# How long Chromium may be silent while it is waited for.
+SECONDS = 120
 
 
 class Chromium:
@@ -62,6 +65,8 @@ class Chromium:
 
     def message(self) -> dict[str, Any]:
         while b"\0" not in self.rest:
+            if not select.select([self.replies], [], [], SECONDS)[0]:
+                raise EOFError(f"Chromium has said nothing for {SECONDS} seconds")
             more = os.read(self.replies, 1 << 20)
             if not more:
                 raise EOFError("Chromium ended")
@@ -90,11 +95,11 @@ class Chromium:
 
     def open(self, file: Path, fragment: str = "") -> None:
         """Loads a file, and returns when it has been loaded and painted."""
-        self.call("Page.navigate", url="about:blank")
-        self.events.clear()
-        self.call("Page.navigate", url=file.as_uri() + fragment)
-        while not any(event.get("method") == "Page.loadEventFired" for event in self.events):
-            self.events.append(self.message())
+        for url in ("about:blank", file.as_uri() + fragment):
+            self.events.clear()
+            self.call("Page.navigate", url=url)
+            while not any(event.get("method") == "Page.loadEventFired" for event in self.events):
+                self.events.append(self.message())
         if not self.scripts_off:
             self.run("new Promise(done => requestAnimationFrame(() => setTimeout(done, 50)))")
 

@@ -2,6 +2,7 @@
 from __future__ import annotations
 
 import os
+import re
 import socket
 import subprocess
 import sys
@@ -45,7 +46,7 @@ class Client:
         out, err = ran.stdout.decode("utf-8"), ran.stderr.decode("utf-8")
         assert "Traceback" not in err, err
         # whatever else happens, a log reader who sees OK sees a call that passed
-        assert "OK" not in out.split() or ran.returncode == 0, out
+        assert not re.search(r"\bOK\b", out) or ran.returncode == 0, out
         return subprocess.CompletedProcess(ran.args, ran.returncode, out, err)
 
     def start(self, *words: str) -> subprocess.Popen[bytes]:

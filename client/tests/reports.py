@@ -48,7 +48,7 @@ def hostile() -> Report:
     return report_with({path: text for path in HOSTILE}, (Group(tokens, places),), verdict="ERROR", conditions=gate,
                        measures=Measures(9, 5, 5, 30, 1234, 5, 50, 40), about=ABOUT, raw=b'{"ok":true}\n',
                        skipped=(Skipped("<u>.c", "it is not UTF-8 </li>"),),
-                       functions=tuple(Function(path, "<s>`f`", 3, 8, 17 - number, number == 0)
+                       functions=tuple(Function(path, "<s>`f`", 3, 8, 1_234_567 - number, number == 0)
                                        for number, path in enumerate(HOSTILE)))
 
 

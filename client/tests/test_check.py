@@ -157,10 +157,61 @@ def test_settings_of_a_user_change_nothing(client: Client, branched: Repository)
     assert ran.returncode == 1 and ran.stdout.startswith("src/neü.c:1: ")
 
 
+@pytest.mark.parametrize("attributes", ["*.c -diff", "*.c binary", "*.c diff=hidden", "unique.c filter=hidden"])
+def test_no_attribute_hides_a_change(client: Client, branched: Repository, attributes: str) -> None:
+    for name, value in (("diff.hidden.command", "true"), ("diff.hidden.textconv", "true"), ("diff.hidden.binary", "true"),
+                        ("filter.hidden.clean", "head -n 2")):
+        branched.git("config", name, value)
+    branched.write(".gitattributes", attributes + "\n")
+    branched.write("src/unique.c", "int unique;\n" + lines_of("new"))
+    branched.commit()
+    ran = client("check", "--base", "main")
+    assert ran.returncode == 1 and ran.stdout.startswith("src/unique.c:2: ")
+
+
+def test_lines_are_counted_as_the_server_does(client: Client, branched: Repository) -> None:
+    """In UTF-16 the character \u010a has the byte of a line feed, so git's numbers of the lines after it are too large."""
+    text = "char *s = \"" + "\u010a" * 30 + "\";\nint unique;\n"
+    branched.write("src/wide.c", text.encode("utf-16"))
+    branched.commit()
+    branched.git("branch", "-f", "main")
+    branched.write("src/wide.c", (text + lines_of("new")).encode("utf-16"))
+    assert client("check", "--base", "main").returncode == 1
+    branched.write("src/wide.c", (text + lines_of("new")).replace("\n", "\r").encode())
+    assert client("check", "--base", "main").returncode == 1
+
+
+def test_only_a_changed_file_fails_on_fault(client: Client, branched: Repository) -> None:
+    branched.write("src/A.java", "class A {\nString s = \"open;\n}\n")
+    branched.commit()
+    branched.git("branch", "-f", "main")
+    branched.write("src/fine.c", "int fine;\n")
+    ran = client("check", "--base", "main", "--fail-on", "fault")
+    assert ran.returncode == 0 and "src/A.java:2: byte" in ran.stderr
+    branched.write("src/A.java", "class A {\nString s = \"opened;\n}\n")
+    for more, said in (((), "ERROR"), (("--json",), '"verdict": "ERROR"')):
+        ran = client("check", "--base", "main", "--fail-on", "fault", *more)
+        assert ran.returncode == 1 and said in ran.stdout
+
+
+def test_a_file_that_git_lists_and_that_is_missing_is_told(client: Client, branched: Repository) -> None:
+    (branched.folder / "src" / "old2.c").unlink()
+    ran = client("check", "--base", "main")
+    assert ran.returncode == 0 and "1 file that git lists is not in the work tree, the first is src/old2.c" in ran.stderr
+
+
 def test_a_changed_file_that_is_left_out_is_not_passed(client: Client, branched: Repository) -> None:
     branched.write("src/latin.c", b"char *s = \"\xe4\";\n")
     assert client("check", "--base", "main").returncode == 2
     assert client("check", "--base", "main", "--exclude", "latin.c").returncode == 0
+
+
+def test_a_branch_is_not_uploaded_to_the_server_of_the_configuration(client: Client, branched: Repository) -> None:
+    branched.write(".cqd.toml", "addr = ['127.0.0.1:1']\nproject = 'shop'\n")
+    branched.write("src/new.c", lines_of("new"))
+    assert client("check", "--base", "main", CQD_ADDR="127.0.0.1:2").returncode == 1
+    ran = client("check", "--base", "main", "--addr", "127.0.0.1:3")
+    assert ran.returncode == 2 and "127.0.0.1:3 can't be reached" in ran.stderr
 
 
 def test_formats_and_page_of_a_check(client: Client, branched: Repository) -> None:

@@ -25,7 +25,7 @@ def test_every_command_has_help(capsys: pytest.CaptureFixture[str]) -> None:
 
 
 @pytest.mark.parametrize("words", [
-    [], ["nothing"], ["groups"], ["put"], ["groups", ".", "--addr", "a:1"], ["groups", ".", "--addr", "a"], ["groups", ".", "--addr", "a:0"],
+    [], ["nothing"], ["groups"], ["put"], ["put", ""], ["groups", ".", "--addr", "a:1"], ["groups", ".", "--addr", "a"], ["groups", ".", "--addr", "a:0"],
     ["groups", ".", "--project", "a/b"], ["groups", ".", "--top", "0"], ["groups", ".", "--min", "0"], ["groups", ".", "--timeout", "nan"],
     ["groups", ".", "--workers", "65"], ["groups", ".", "--format", "html"], ["groups", ".", "--format", "csv", "--json"],
     ["groups", ".", "--output", "a", "--output", "b"], ["groups", ".", "--format", "csv", "--format", "cpd"],

@@ -3,6 +3,7 @@ from __future__ import annotations
 
 import csv
 import dataclasses
+import importlib
 import io
 import json
 import re
@@ -15,6 +16,7 @@ import pytest
 from cqd_client import formats
 from cqd_client.findings import Group, Place, Report, arranged
 from cqd_client.runs import Sources
+from cqd_client.wording import extent, shown
 from reports import FIRST, SECOND, hostile, real, two_places
 
 HEADERS = Path("/usr/include/linux")
@@ -69,7 +71,7 @@ def test_json_is_the_reply_as_it_came(report: Report) -> None:
 # ------------------------------------------------------------------------------------------------------ sarif
 
 # From the standard's text: OASIS, "Static Analysis Results Interchange Format (SARIF) Version 2.1.0", sections 3.13 to 3.52.
-# `additionalProperties` is false where the standard lets a property bag alone have others.
+# `additionalProperties` is false where the standard allows others only in a property bag.
 TEXT = {"type": "object", "required": ["text"], "properties": {"text": {"type": "string", "minLength": 1}}, "additionalProperties": False}
 REGION = {"type": "object", "required": ["startLine"], "additionalProperties": False,
           "properties": {name: {"type": "integer", "minimum": 1} for name in ("startLine", "endLine", "startColumn", "endColumn")}}
@@ -258,6 +260,22 @@ def test_markdown_is_short_and_its_names_are_code(report: Report) -> None:
     rows = [line for line in text.splitlines() if line.startswith("| ")]
     assert all(len(re.findall(r"(?<!\\)\|", row)) == 4 for row in rows)
     assert "failed" in text
+
+
+def test_markdown_is_what_github_shows(report: Report) -> None:
+    """Read by GitHub's own reader of Markdown."""
+    cmarkgfm = pytest.importorskip("cmarkgfm", reason="python3-cmarkgfm is missing")
+    unsafe = importlib.import_module("cmarkgfm.cmark").Options.CMARK_OPT_UNSAFE
+    shown_html = cmarkgfm.github_flavored_markdown_to_html(written(report, "markdown"), unsafe)
+    root = xml("<body>" + shown_html.replace("<br>", "<br/>") + "</body>")
+    assert {element.tag for element in root.iter() if isinstance(element.tag, str)} <= {
+        "body", "h3", "p", "ul", "li", "strong", "code", "table", "thead", "tbody", "tr", "th", "td", "br"}
+    largest = sorted(report.groups, key=lambda group: -group.tokens)[:10]
+    rows = root.findall("table")[0].findall("tbody/tr")
+    assert [int(row.findtext("td").replace(",", "")) for row in rows] == [group.tokens for group in largest]
+    for row, group in zip(rows, largest):
+        names = [f"{shown(place.path)}:{extent(place)}" for place in group.places[:4]]
+        assert [code.text for code in row.findall("td/code")] == names
 
 
 def test_metrics_are_openmetrics(report: Report) -> None:

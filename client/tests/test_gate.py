@@ -1,6 +1,7 @@
 """No build is green by accident: the gate is known, set again, and judged twice."""
 from __future__ import annotations
 
+import json
 from pathlib import Path
 
 import pytest
@@ -72,6 +73,21 @@ def test_a_restarted_server_does_not_turn_a_build_green(client: Client, tmp_path
     assert ran.returncode == 2 and "no gate is known" in ran.stderr
 
 
+def test_a_project_that_a_restart_has_lost_is_not_judged_as_it_is(client: Client, tmp_path: Path, listening: Listening) -> None:
+    duplicates(tmp_path)
+    words = ("--project", "p", "--addr", listening.addr)
+    assert client("verdict", ".", *words, *GATE).returncode == 1
+    assert client("verdict", *words).returncode == 1
+    listening.kill()
+    listening.start()
+    (tmp_path / "other.c").write_text("int other;\n")
+    assert client("put", "other.c", *words, "--state", "other").returncode == 0
+    ran = client("verdict", *words)
+    assert ran.returncode == 2 and "started again" in ran.stderr
+    assert client("verdict", ".", *words).returncode == 1
+    assert client("verdict", *words).returncode == 1
+
+
 def test_a_gate_that_another_client_set_does_not_judge_this_call(client: Client, tmp_path: Path, listening: Listening) -> None:
     duplicates(tmp_path)
     words = ("verdict", ".", "--project", "p", "--addr", listening.addr)
@@ -89,6 +105,8 @@ def test_files_that_are_left_out_make_a_verdict_unknown(client: Client, tmp_path
     for name in ("junit", "markdown", "text"):
         out = client("verdict", ".", "--gate", "lines>100", "--format", name).stdout
         assert "passed" not in out and 'errors="0" failures="0"' not in out, out
+    said = json.loads(client("verdict", ".", "--gate", "lines>100", "--json").stdout)
+    assert said["verdict"] == "UNKNOWN" and said["left_out"][0]["path"] == "b.c"
 
 
 def test_a_file_that_its_language_cannot_read(client: Client, tmp_path: Path) -> None:
@@ -97,6 +115,8 @@ def test_a_file_that_its_language_cannot_read(client: Client, tmp_path: Path) ->
     assert ran.returncode == 0 and "A.java:2: byte" in ran.stderr
     ran = client("verdict", ".", "--gate", "lines>100", "--fail-on", "fault")
     assert ran.returncode == 1 and ran.stdout.startswith("ERROR")
+    said = json.loads(client("verdict", ".", "--gate", "lines>100", "--fail-on", "fault", "--json").stdout)
+    assert said["verdict"] == "ERROR" and [condition["failed"] for condition in said["conditions"]] == [False, True]
 
 
 def test_names_that_are_wrong_pass_no_gate(client: Client, tmp_path: Path, listening: Listening) -> None:
@@ -117,6 +137,17 @@ def test_new_judges_what_was_uploaded_since_the_last_verdict_that_passed(client:
     assert client(*words).returncode == 1
     (tmp_path / "c.c").unlink()
     assert client(*words).returncode == 0
+    # the same scope, written in two ways
+    assert "no verdict before" in client(*words[:-1], "lines>1000", "--scope", "*.c").stderr
+    assert "no verdict before" not in client(*words[:-1], "lines>1000", "--scope", "**/*.c").stderr
+
+
+def test_no_files_since_a_change_that_the_server_has_not_had(client: Client, tmp_path: Path, listening: Listening) -> None:
+    duplicates(tmp_path)
+    words = ("verdict", ".", *GATE, "--project", "p", "--addr", listening.addr)
+    assert client(*words, "--since", "1").returncode == 1
+    ran = client(*words, "--since", "500")
+    assert ran.returncode == 2 and "--since 500" in ran.stderr
 
 
 def test_a_gate_that_a_configuration_has_and_one_file(client: Client, tmp_path: Path) -> None:

@@ -1,16 +1,18 @@
 """Whatever a server does, a call that has no answer exits with 2, says why in one line, and never says OK."""
 from __future__ import annotations
 
+import json
 import socket
 import threading
 from pathlib import Path
-from typing import Callable
+from typing import Any, Callable
 
 import pytest
 
 from cqd_client.faults import Fault
+from cqd_client.findings import Malformed, groups_of
 from cqd_client.link import Address, owner
-from cqd_client.protocol import Server, reached
+from cqd_client.protocol import Server, line_of, reached
 from conftest import Client, Listening, lines_of
 
 MODES = {
@@ -58,6 +60,25 @@ def test_what_can_wait_is_asked_again_and_then_refused(failing: Callable[[str], 
     ran = failing(mode)("verdict", ".", "--gate", "lines>100", seconds=60)
     assert ran.returncode == 2
     assert "memory" in ran.stderr or "not finished" in ran.stderr
+
+
+@pytest.mark.parametrize("text", ["", "int a;\n", "\"\\\t\r\n/", "".join(map(chr, range(0x300))), "\u2028\ufeff\U0001f600", "\\u0041\\\""])
+def test_a_line_is_json_with_the_same_text(text: str) -> None:
+    request = {"op": "put", "project": "p", "path": "ü\"\\.c", "lang": "any", "text": text}
+    line = line_of(request)
+    assert json.loads(line.decode("utf-8")) == request
+    assert line.index(b"\n") == len(line) - 1 and not any(byte < 32 for byte in line[:-1])
+
+
+@pytest.mark.parametrize("wrong", [
+    {"total": 2}, {"total": True}, {"groups": None}, {"groups": [{"tokens": 5, "places": []}]},
+    {"groups": [{"tokens": 5, "places": [{"path": "a", "at": 0, "first": 1, "last": 2}]}]},
+    *({"groups": [{"tokens": 5, "places": [{"path": "a", "at": 0, "first": 1, "last": 2}, {"path": "a", "at": 9, "first": 3, "last": 4} | one]}]}
+      for one in ({"first": 0}, {"last": 2}, {"at": -1}, {"path": 3}, {"at": 1.5})),
+])
+def test_a_reply_of_groups_that_is_not_as_documented(wrong: dict[str, Any]) -> None:
+    with pytest.raises(Malformed):
+        groups_of({"groups": [], "total": len(wrong.get("groups") or [])} | wrong)
 
 
 def test_a_program_that_is_missing(client: Client, tmp_path: Path) -> None:
@@ -146,6 +167,22 @@ def test_a_server_that_restarts_within_a_call_gets_everything_again(listening: L
         with pytest.raises(Fault, match="started again"):
             server.files("p")
         assert server.epoch_known() != epoch
+
+
+def test_a_server_that_is_full_of_what_was_replaced_gets_room(client: Client, tmp_path: Path, program: str) -> None:
+    full = Listening(program, "--text-limit", "10000")
+    try:
+        words = ("put", ".", "--project", "p", "--addr", full.addr)
+        for letter in "xyz":
+            for number in range(60):
+                (tmp_path / f"{number}.c").write_text(f"int {letter * 90};\n")
+            assert client(*words).stdout.startswith("60 uploaded, 0 unchanged")
+        for number in range(60):
+            (tmp_path / f"more{number}.c").write_text(f"int {'x' * 90};\n")
+        ran = client(*words)
+        assert ran.returncode == 2 and "--text-limit" in ran.stderr
+    finally:
+        full.kill()
 
 
 def test_each_life_of_a_server_has_one_name(listening: Listening) -> None:

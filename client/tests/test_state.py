@@ -61,6 +61,27 @@ def test_the_later_change_of_two_calls_is_kept(tmp_path: Path) -> None:
     assert State(file, "s:1", "p", Notes()).entry.files["a"].change == 7
 
 
+def test_what_another_call_kept_of_a_later_life_of_the_server_stays(tmp_path: Path) -> None:
+    file = tmp_path / "state.json"
+    first = State(file, "s:1", "p", Notes())
+    first.begin("life")
+    first.entry.files["a"] = Known("0", 1)
+    first.keep()
+    late, idle, other = (State(file, "s:1", "p", Notes()) for _ in range(3))
+    late.begin("life")
+    late.entry.files["b"] = Known("0", 2)
+    other.begin("later life")
+    other.entry.files["c"] = Known("0", 1)
+    other.keep()
+    for state in (idle, late):
+        state.keep()
+        assert list(State(file, "s:1", "p", Notes()).entry.files) == ["c"]
+    late.begin("later life")
+    late.entry.files["b"] = Known("0", 2)
+    late.keep()
+    assert sorted(State(file, "s:1", "p", Notes()).entry.files) == ["b", "c"]
+
+
 def test_what_is_no_state_file_is_written_again(client: Client, tmp_path: Path, listening: Listening) -> None:
     (tmp_path / "a.c").write_text("int a;\n")
     for text in ("", "[]", "{", '{"form":2,"servers":{"s":{"p":{}}}}', "[" * 10_000, '{"127.0.0.1:9":{"p":{}}}', "\udcff"):
@@ -101,8 +122,8 @@ def test_an_empty_folder_drops_nothing(client: Client, tmp_path: Path, listening
     (source / "a.c").unlink()
     ran = client("put", "src", *words)
     assert ran.returncode == 2 and "no source files" in ran.stderr
-    assert "1 files" in client("status", *words).stdout
-    assert client("remove", *words).stdout == "project p is removed: 1 files dropped\n"
+    assert "project p: 1 file, 1 line, 3 tokens" in client("status", *words).stdout
+    assert client("remove", *words).stdout == "project p is removed: 1 file dropped\n"
     assert "0 files" in client("status", *words).stdout
     assert client("groups", *words).returncode == 2
 
@@ -121,5 +142,5 @@ def test_a_restarted_server_that_another_client_filled_alike_is_noticed(client: 
     (elsewhere / "a.c").write_text("int a;\n")
     (elsewhere / "b.c").write_text("int b;\n")
     assert Client(elsewhere, program)("verdict", ".", *words, *gate).returncode == 0
-    # the same paths stand there by the same numbers of changes, and are not the ones of this folder
+    # the server has the same paths by the same numbers of changes, but not the files of this folder
     assert client("verdict", "a.c", "b.c", *words, *gate).returncode == 1

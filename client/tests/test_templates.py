@@ -4,6 +4,7 @@ from __future__ import annotations
 import json
 import os
 import re
+import shutil
 import stat
 import subprocess
 import sys
@@ -101,3 +102,13 @@ def test_pre_commit(runners: tuple[Runner, Runner]) -> None:
     (runner.folder / "src" / "added.c").write_text(lines_of("added"))
     assert re.search(hook["files"], "src/added.c")
     assert runner.run("git add -A; " + hook["entry"]) == 1
+
+
+@pytest.mark.skipif(not shutil.which("pre-commit"), reason="pre-commit is missing")
+def test_pre_commit_refuses_a_commit(runners: tuple[Runner, Runner]) -> None:
+    runner = runners[0]
+    shutil.copy(TEMPLATES / "pre-commit.yaml", runner.folder / ".pre-commit-config.yaml")
+    assert runner.run("git config user.name a; git config user.email a@b; pre-commit install") == 0
+    for text, expected in ((lines_of("added"), 1), ("int added;\n", 0)):
+        (runner.folder / "src" / "added.c").write_text(text)
+        assert runner.run("git add -A; git commit -q -m added") == expected

@@ -11,7 +11,7 @@ from cqd_client.faults import Misuse
 from cqd_client.notes import Notes
 from cqd_client.patterns import Patterns, compiled, expanded
 from cqd_client.protocol import started
-from cqd_client.texts import too_large
+from cqd_client.texts import contents, too_large
 from cqd_client.tree import Choice, Source, Tree, tree_of
 from conftest import Client, Repository, lines_of
 
@@ -63,12 +63,23 @@ def test_a_list_of_the_command(client: Client, tmp_path: Path) -> None:
     (tmp_path / "list").write_text("a.c\nmissing.c\n")
     ran = client("put", "--files-from", "list")
     assert ran.returncode == 2 and "missing.c: left out: No such file" in ran.stderr
+    (tmp_path / "sub").mkdir()
+    assert "1 folder of the list not read, the first is sub" in client("put", "--files-from", "-", stdin=b"a.c\nsub\n").stderr
     assert client("put", "--files-from", "nolist").returncode == 2
     assert client("put", "--files-from", "-", stdin=b"").returncode == 2
 
 
+def test_a_path_that_leads_nowhere(client: Client, tmp_path: Path) -> None:
+    os.symlink("loop", tmp_path / "loop")
+    for path in ("loop", "loop/a.c", "nowhere", "n" * 5000):
+        ran = client("put", path)
+        assert ran.returncode == 2 and len(ran.stderr.splitlines()) == 1
+
+
 def test_links_are_not_followed(tmp_path: Path) -> None:
     make(tmp_path, "real/a.c")
+    os.symlink(".", tmp_path / "self")
+    os.symlink("loop", tmp_path / "loop")
     os.symlink(tmp_path / "real", tmp_path / "linked")
     os.symlink(tmp_path / "real" / "a.c", tmp_path / "b.c")
     os.mkfifo(tmp_path / "pipe.c")
@@ -149,8 +160,19 @@ def test_encodings_and_binary_files(client: Client, tmp_path: Path) -> None:
     assert "c.c: left out: it is not UTF-8 at byte 4; --encoding" in ran.stderr
     ran = client("put", ".", "--encoding", "latin-1")
     assert ran.returncode == 0 and ran.stdout.startswith("3 uploaded")
+    # without a mark, text that has zeros is only known from binary files by the encoding that is named
+    (tmp_path / "d.c").write_bytes("int d;\n".encode("utf-16-le"))
+    ran = client("put", ".", "--encoding", "utf-16-le", "--exclude", "c.c")
+    assert ran.returncode == 0 and ran.stdout.startswith("3 uploaded") and "binary" not in ran.stderr
     for name in ("no-such", "rot13", "base64"):
         assert client("put", ".", "--encoding", name).returncode == 3
+
+
+@pytest.mark.parametrize("size", [0, 1, 99_999, 100_000, 100_001, 1_000_000])
+def test_a_file_is_read_whole_whatever_its_size_was(tmp_path: Path, size: int) -> None:
+    whole = bytes(number % 251 for number in range(100_000))
+    (tmp_path / "a").write_bytes(whole)
+    assert contents(os.fsencode(tmp_path / "a"), size) == whole
 
 
 def test_what_no_request_can_hold(client: Client, tmp_path: Path) -> None:

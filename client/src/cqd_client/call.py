@@ -36,12 +36,18 @@ class Call:
     judged_at: int = 0
     files: tuple[File, ...] = ()
 
+    @property
+    def scope(self) -> str:
+        """The pattern of --scope as the server has it, empty if there is none."""
+        scope = vars(self.options).get("scope")
+        return expanded(scope) if scope else ""
+
     def query(self, operation: str, **more: Any) -> Request:
         request: Request = {"op": operation, "project": self.project, "finish": True}
         for name in MEMBERS[operation]:
             value = vars(self.options).get(name)
             if value is not None:
-                request[name] = expanded(value) if name == "scope" else value
+                request[name] = self.scope if name == "scope" else value
         return {**request, **more}
 
     def ask(self, server: Server, request: Request) -> Reply:
@@ -70,10 +76,10 @@ class Call:
         """A name that is wrong must not pass: a project without files, a file that it doesn't have, a scope that no file fits."""
         if not self.files:
             raise Fault(f"project {self.project} has no files")
-        path, scope = vars(self.options).get("path"), vars(self.options).get("scope")
+        path = vars(self.options).get("path")
         if path and all(file.path != path for file in self.files):
             raise Fault(f"project {self.project} has no file {path}")
-        if scope:
-            form = compiled(expanded(scope))
+        if self.scope:
+            form = compiled(self.scope)
             if not any(form.fullmatch(file.path + "/") for file in self.files):
-                raise Fault(f"no file of project {self.project} fits --scope {scope}")
+                raise Fault(f"no file of project {self.project} fits --scope {self.options.scope}")

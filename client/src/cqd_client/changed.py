@@ -9,11 +9,12 @@ from pathlib import Path
 
 from . import git
 from .faults import Fault
-from .tree import path_of
+from .tree import name_of as bytes_of, path_of
 
-# Every setting that a user may have, and that would change what is read, is overridden.
+# Every setting that a user may have, and that would change what is read, is overridden. So is the attribute `-diff`: a branch could
+# otherwise hide its changes by one line in .gitattributes.
 DIFF = ("-c", "core.quotePath=false", "-c", "diff.noprefix=false", "-c", "diff.mnemonicPrefix=false", "diff", "--no-color", "--no-ext-diff",
-        "--no-textconv", "--find-renames", "--unified=0", "--inter-hunk-context=0", "--src-prefix=a/", "--dst-prefix=b/",
+        "--no-textconv", "--text", "--find-renames", "--unified=0", "--inter-hunk-context=0", "--src-prefix=a/", "--dst-prefix=b/",
         "--ignore-submodules", "--diff-algorithm=histogram", "--relative")
 HUNK = re.compile(rb"@@ -\d+(?:,(\d+))? \+(\d+)(?:,(\d+))? @@")
 ESCAPES = {"a": 7, "b": 8, "t": 9, "n": 10, "v": 11, "f": 12, "r": 13, '"': 34, "\\": 92}
@@ -62,8 +63,8 @@ def base_commit(root: Path, base: str) -> str:
 
 
 def changed_lines(root: Path, base: str) -> dict[str, Lines]:
-    """The changes of the work tree below the root since its branch left the base, by path. A file that git does not track is
-    changed as a whole; one that was only moved is not changed."""
+    """The changes of the work tree below the root since its branch left the base, by path. A file that git does not track, or
+    whose lines it does not see, has changed as a whole; one that was only moved has not changed."""
     commit = base_commit(root, base)
     with subprocess.Popen(["git", "-C", str(root), *DIFF, commit, "--"], stdin=subprocess.DEVNULL, stdout=subprocess.PIPE,
                           env=git.environment()) as process:
@@ -74,7 +75,15 @@ def changed_lines(root: Path, base: str) -> dict[str, Lines]:
     for name in git.git(root, "ls-files", "-z", "--others", "--exclude-standard", "--", ".").split(b"\0"):
         if name:
             found[path_of(name)] = WHOLE
+    for path in filtered(root, found):
+        found[path] = WHOLE
     return found
+
+
+def filtered(root: Path, paths: Iterable[str]) -> list[str]:
+    """The files that have a filter, as those of git-lfs and git-crypt: git compares what the filter makes of them."""
+    said = git.git(root, "check-attr", "-z", "--stdin", "filter", given=b"".join(bytes_of(path) + b"\0" for path in paths)).split(b"\0")
+    return [path_of(name) for name, value in zip(said[::3], said[2::3]) if value not in (b"unspecified", b"unset")]
 
 
 def read_diff(diff: Iterable[bytes]) -> dict[str, Lines]:

@@ -7,10 +7,11 @@ from collections.abc import Sequence
 from typing import Any
 
 from .call import Call
-from .changed import Lines
+from .changed import WHOLE, Lines
 from .findings import DENSITY, Condition, Group, Measures, Report, groups_of
 from .gate import ANY_DUPLICATE, failed_by
 from .protocol import Server
+from .upload import Upload
 
 # What conditions of the gate can be about in a check.
 JUDGED = ("duplicated_blocks", "duplicated_files", "duplicated_lines", DENSITY, "files", "lines")
@@ -22,7 +23,8 @@ def checked(server: Server, call: Call) -> Report:
     """The duplicates and functions that meet a changed line, judged by the gate over the changed lines, or else on any of them."""
     assert call.done is not None
     files = {file.path: file for file in call.files}
-    lines = {path: bounded(found, files[path].lines) for path, found in sorted(call.lines.items()) if path in call.done.known}
+    lines = {path: bounded(found if counts_lines_as_git(call.done, path) else WHOLE, files[path].lines)
+             for path, found in sorted(call.lines.items()) if path in call.done.known}
     groups = changed_groups(server, call, lines)
     limit = call.options.max_complexity
     functions = [function for function in (call.functions(server, lines) if limit is not None else ())
@@ -42,6 +44,17 @@ def checked(server: Server, call: Call) -> Report:
            "changed": {"files": len(lines), "lines": measures.lines}, "ok": True}
     report = call.report(functions=failed, conditions=conditions, raw=json.dumps(raw, ensure_ascii=False).encode() + b"\n")
     return dataclasses.replace(report, groups=tuple(groups), total=len(groups), verdict=word, conditions=tuple(conditions))
+
+
+def counts_lines_as_git(done: Upload, path: str) -> bool:
+    """Whether git sees the file's lines where the server does. Git reads bytes, and in UTF-16 the byte of a line feed may be part of
+    another character."""
+    text = done.text_of(path)
+    try:
+        with open(done.tree.file(path), "rb") as file:
+            return text is not None and file.read().count(b"\n") == text.count("\n")
+    except OSError:
+        return False
 
 
 def bounded(lines: Lines, last: int) -> Lines:

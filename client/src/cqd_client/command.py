@@ -32,8 +32,9 @@ from .state import State
 from .texts import known_encoding, too_large
 from .tree import NAMES, Choice, Tree, read_listing, root_of, tree_of
 from .upload import PASSES, tell, upload
+from .wording import counted
 
-# The most that any server takes; one of this call alone is started with it.
+# The most that any server takes; one of the call's own is started with it.
 TEXT_LIMIT = 67_108_864
 CHANGE_LIMIT = 262_144
 STATE = ".cqd-state.json"
@@ -51,7 +52,7 @@ def choice_of(options: argparse.Namespace, own: Sequence[Path]) -> Choice:
             raise Misuse(f"--map {word!r} is not PATTERN=LANG, with LANG one of {', '.join(NAMES)}")
         languages.setdefault(pattern, lang)
     return Choice(Patterns(options.include or []), Patterns(options.exclude or []), Patterns(languages), Patterns(options.any or []),
-                  languages, not options.no_ignore, frozenset(str(file.resolve()) for file in own))
+                  languages, not options.no_ignore, frozenset(os.path.realpath(file) for file in own))
 
 
 def tree_asked(options: argparse.Namespace, root: Path, own: Sequence[Path], notes: Notes) -> Optional[Tree]:
@@ -61,7 +62,7 @@ def tree_asked(options: argparse.Namespace, root: Path, own: Sequence[Path], not
         if options.command == "check":
             paths = [root]
         elif not options.addr or options.command == "put":
-            hint = "" if options.addr else ": a server of this call alone has nothing yet"
+            hint = "" if options.addr else ": a server of the call's own has nothing yet"
             raise Misuse(f"{options.command} needs a PATH or --files-from{hint}")
         else:
             return None
@@ -90,15 +91,21 @@ def project_of(options: argparse.Namespace, root: Path) -> str:
 
 def about(options: argparse.Namespace, root: Path) -> About:
     commit, branch = git.described(root)
-    pairs = tuple((f"--{name.replace('_', '-')}", ", ".join(map(str, value)) if isinstance(value, list) else "" if value is True else str(value))
-                  for name, value in sorted(vars(options).items()) if value and name in SHOWN)
-    when = datetime.datetime.fromtimestamp(int(os.environ.get("SOURCE_DATE_EPOCH", time.time())), datetime.timezone.utc)
+    def shown(value: Any) -> str:
+        return ", ".join(map(str, value)) if isinstance(value, list) else "" if value is True else str(value)
+    pairs = tuple((f"--{name.replace('_', '-')}", shown(value)) for name, value in sorted(vars(options).items()) if value and name in SHOWN)
+    try:
+        seconds = int(os.environ.get("SOURCE_DATE_EPOCH") or time.time())
+        when = datetime.datetime.fromtimestamp(seconds, datetime.timezone.utc)
+    except (ValueError, OverflowError, OSError) as error:
+        raise Misuse(f"SOURCE_DATE_EPOCH is no number of seconds: {error}") from error
     return About(commit, branch, when.strftime("%Y-%m-%dT%H:%M:%SZ"), servers.version_of(options), pairs)
 
 
 def run(options: argparse.Namespace, notes: Notes) -> int:
     if options.command in ("status", "remove"):
-        return servers.status(options, TIMEOUT) if options.command == "status" else servers.remove(options, TIMEOUT, STATE)
+        return servers.status(options, TIMEOUT) if options.command == "status" else \
+            servers.remove(options, TIMEOUT, options.state or root_of(None, []) / STATE)
     judged = gate_of(vars(options).get("gate"), vars(options).get("fail_on"))
     if options.command == "check":
         check_options(options, [condition.metric for condition in judged])
@@ -131,8 +138,9 @@ def asked(server: Server, call: Call, tree: Optional[Tree]) -> Optional[Report]:
                                    once=call.options.skip_duplicate_files)
                 call.files, generation = call.done.files, server.generation
             else:
-                if call.state:
-                    call.state.begin(server.epoch_known())
+                if call.state and call.state.begin(server.epoch_known()):
+                    raise Fault(f"the server was started again, and has lost what was uploaded to project {call.project}: name the PATHs to "
+                                "upload it again")
                 call.files = files_of(server.files(call.project).members)
             if call.options.command == "put":
                 return None
@@ -147,12 +155,17 @@ def asked(server: Server, call: Call, tree: Optional[Tree]) -> Optional[Report]:
 
 
 def prepare(server: Server, call: Call) -> None:
-    if vars(call.options).get("new") and call.state:
-        call.options.since = call.state.entry.passed.get(call.options.scope or "")
+    is_new = vars(call.options).get("new")
+    if is_new and call.state:
+        call.options.since = call.state.entry.passed.get(call.scope)
         if call.options.since is None:
             call.notes.say("no verdict before this one is known to have passed, so all files are judged")
-        elif call.options.since > member(server.answer({"op": "state"}).members, "accepted", int):
+    since = vars(call.options).get("since")
+    # above all changes there is no file, and of no file every gate holds
+    if since and since > (accepted := member(server.answer({"op": "state"}).members, "accepted", int)):
+        if is_new:
             raise Restarted("the server has forgotten the version of the last verdict that passed")
+        raise Fault(f"--since {since}: the server has had {counted(accepted, 'change')} since it was started")
     if call.about == About():
         call.about = about(call.options, call.done.tree.root if call.done else Path.cwd())
 
@@ -168,14 +181,15 @@ def concluded(call: Call, report: Optional[Report]) -> int:
         print(done.summary())
         return UNKNOWN if left_out else PASSED
     if "fault" in (vars(options).get("fail_on") or []):
-        report = with_faults(report, sum(file.state != "ok" for file in call.files))
+        judged = [file for file in call.files if options.command != "check" or file.path in call.lines]
+        report = with_faults(report, sum(file.state != "ok" for file in judged))
     status = FAILED if report.verdict == "ERROR" else PASSED
     if left_out:
         status = UNKNOWN
         report = dataclasses.replace(report, verdict=outputs.WORDS[UNKNOWN] if report.verdict else "")
     if call.state:
         if options.command == "verdict" and status == PASSED and (options.new or not options.since):
-            call.state.entry.passed[options.scope or ""] = call.judged_at
+            call.state.entry.passed[call.scope] = call.judged_at
         call.state.keep()
     # last, so that nothing can fail after it has said OK
     outputs.write(report, options)

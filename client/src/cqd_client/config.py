@@ -54,6 +54,8 @@ def complete(options: argparse.Namespace, known: dict[str, argparse.Action]) -> 
     command by its name; what the command at hand does not have is passed over."""
     if vars(options).get("local") and options.addr:
         raise Misuse("--local and --addr don't go together")
+    # a branch that is checked is not the tree that others have on the server: only the command line sends it there
+    is_local = vars(options).get("local") or (options.command == "check" and not options.addr)
     if vars(options).get("addr") is None and os.environ.get("CQD_ADDR") and hasattr(options, "addr"):
         options.addr = checked("CQD_ADDR", known["addr"], os.environ["CQD_ADDR"].split(","))
     file = found_file(options.config)
@@ -72,7 +74,7 @@ def complete(options: argparse.Namespace, known: dict[str, argparse.Action]) -> 
         if hasattr(options, action.dest) and not vars(options)[action.dest]:
             setattr(options, action.dest, given)
             filled.add(action.dest)
-    if vars(options).get("local"):
+    if is_local:
         options.addr = None
     # a file may have both what a server of one call needs and what one that runs does: what isn't needed here changes no answer
     needless = ["cqd", "workers"] if vars(options).get("addr") else ["state", "tls", "tls_ca", "tls_cert", "tls_key"]

@@ -116,9 +116,9 @@ def no_text(path: str) -> Optional[str]:
 class Report:
     """All that a format may show.
 
-    `verdict` is `OK`, `ERROR`, `UNKNOWN` if files are missing, or empty if no gate was asked. `total` is how many groups there were before `arranged`
-    limited them. `text_of` returns the source text of a path, or None if the caller does not have it. `raw` is the reply
-    line that the `json` format passes on.
+    `verdict` is `OK`, `ERROR`, `UNKNOWN` if files are missing, or empty if no gate was asked. `total` is how many groups there were
+    before `arranged` limited them. `text_of` returns the source text of a path, or None if the caller does not have it. `raw` is the
+    reply line that the `json` format passes on.
     """
     project: str
     version: int
@@ -157,15 +157,18 @@ def member(value: Any, name: str, kind: type) -> Any:
 
 
 def place_of(value: Any) -> Place:
-    return Place(member(value, "path", str), member(value, "at", int), member(value, "first", int), member(value, "last", int))
+    place = Place(member(value, "path", str), member(value, "at", int), member(value, "first", int), member(value, "last", int))
+    if place.at < 0 or not 1 <= place.first <= place.last:
+        raise Malformed("the server's reply has a place with lines that no file has")
+    return place
 
 
 def groups_of(reply: Mapping[str, Any]) -> tuple[Group, ...]:
     """The groups of a reply to `groups`, in its order."""
     groups = tuple(Group(member(group, "tokens", int), tuple(place_of(place) for place in member(group, "places", list)))
                    for group in member(reply, "groups", list))
-    if not all(group.places for group in groups):
-        raise Malformed("the server's reply has a group without places")
+    if not all(len(group.places) > 1 for group in groups) or len(groups) != member(reply, "total", int):
+        raise Malformed("the server's reply has a group with fewer than two places, or not all groups")
     return groups
 
 

@@ -13,7 +13,7 @@ from .state import State
 OPERATORS = {">": "GT", "<": "LT"}
 GREATEST = 18_446_744_073_709_551_615
 MOST = 32
-# What --fail-on stands for beside the conditions of --gate.
+# The condition that --fail-on any-duplicate adds to those of --gate.
 ANY_DUPLICATE = Condition("duplicated_blocks", "GT", 0)
 
 

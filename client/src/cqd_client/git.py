@@ -19,11 +19,10 @@ def environment() -> dict[str, str]:
         {"LC_ALL": "C", "GIT_OPTIONAL_LOCKS": "0"}
 
 
-def git(folder: Path, *arguments: str) -> bytes:
-    """What git writes, run in this folder."""
+def git(folder: Path, *arguments: str, given: bytes = b"") -> bytes:
+    """What git writes, run in this folder, after it has read what it is given."""
     try:
-        ran = subprocess.run(["git", "-C", str(folder), *arguments], stdin=subprocess.DEVNULL, capture_output=True, check=False,
-                             env=environment())
+        ran = subprocess.run(["git", "-C", str(folder), *arguments], input=given, capture_output=True, check=False, env=environment())
     except OSError as error:
         raise GitFault(f"git can't be started: {error.strerror}") from error
     if ran.returncode != 0:

@@ -140,7 +140,7 @@ def connected(address: Address, context: Optional[ssl.SSLContext], timeout: floa
 
 
 class Program:
-    """A server of this call alone: a process at the other end of a pair of sockets. It keeps to its time, or is killed."""
+    """A server of the call's own: a process at the other end of a pair of sockets. It keeps to its time, or is killed."""
 
     def __init__(self, program: str, arguments: list[str], timeout: float) -> None:
         ours, its = socket.socketpair()
@@ -165,7 +165,7 @@ class Program:
 
     def cause(self, status: int) -> str:
         if status < 0:
-            return f"by signal {-status}" + (", perhaps for want of memory" if status == -9 else "")
+            return f"by signal {-status}" + (", perhaps since memory was short" if status == -9 else "")
         meanings = {1: "its arguments are wrong", 4: "out of memory", 70: "it could not be built"}
         return f"with status {status}" + (f" ({meanings[status]})" if status in meanings else "")
 

@@ -76,6 +76,10 @@ def text(word: str) -> str:
     return word
 
 
+def path(word: str) -> Path:
+    return Path(text(word))
+
+
 def parser() -> Parser:
     whole = Parser(prog="cqd-client", description=DESCRIPTION, epilog=STATUSES, allow_abbrev=False,
                    formatter_class=argparse.RawDescriptionHelpFormatter)
@@ -85,9 +89,9 @@ def parser() -> Parser:
         one = commands.add_parser(command, help=what, description=what[0].upper() + what[1:] + ".", epilog=STATUSES,
                                   allow_abbrev=False)
         if command == "report":
-            one.add_argument("page", metavar="OUT.html", type=Path, help="the page")
+            one.add_argument("page", metavar="OUT.html", type=path, help="the page")
         if command in UPLOADING:
-            one.add_argument("paths", metavar="PATH", type=Path, nargs="*", default=[], help="a folder or file to upload")
+            one.add_argument("paths", metavar="PATH", type=path, nargs="*", default=[], help="a folder or file to upload")
         one.add_argument("--project", metavar="NAME", type=project_name, help="the project; without --addr, the root folder's name")
         one.add_argument("--config", metavar="FILE", help="the configuration; default .cqd.toml here or in a folder above")
         if command in ASKING:
@@ -123,11 +127,11 @@ def add_questions(one: argparse.ArgumentParser, command: str) -> None:
 def add_outputs(one: argparse.ArgumentParser, command: str) -> None:
     group = one.add_argument_group("output")
     group.add_argument("--format", choices=formats.NAMES, action="append", help="the format; default text; repeatable with --output")
-    group.add_argument("--output", metavar="FILE", type=Path, action="append",
+    group.add_argument("--output", metavar="FILE", type=path, action="append",
                        help="where to write it instead of standard output; repeatable")
     group.add_argument("--json", action="store_true", help="the same as --format json: the server's reply as it came")
     if command != "report":
-        group.add_argument("--page", metavar="FILE", type=Path, help="also write an HTML page")
+        group.add_argument("--page", metavar="FILE", type=path, help="also write an HTML page")
     group.add_argument("--sort", choices=SORTS, help="the order of duplicates; default the server's, by path")
     group.add_argument("--top", metavar="N", type=number(1, 1_000_000), help="only the first N duplicates")
 
@@ -140,16 +144,17 @@ def add_files(one: argparse.ArgumentParser) -> None:
     group.add_argument("--exclude", metavar="PATTERN", type=text, action="append", help="no files that fit; repeatable")
     group.add_argument("--map", metavar="PATTERN=LANG", type=text, action="append",
                        help="read files that fit as any, go, c or java, as '*.kt=java'; repeatable")
-    group.add_argument("--any", metavar="PATTERN", type=text, action="append", help="also upload files that fit, as plain text, if their ending has no language; repeatable")
+    group.add_argument("--any", metavar="PATTERN", type=text, action="append",
+                       help="also upload files that fit, as plain text, if their ending has no language; repeatable")
     group.add_argument("--encoding", metavar="NAME", help="the encoding of files that are not UTF-8, as latin-1")
     group.add_argument("--skip-duplicate-files", action="store_true", help="upload only the first of identical files")
     group.add_argument("--no-ignore", action="store_true", help="read all files of the folders, also those that git ignores")
-    group.add_argument("--root", metavar="DIR", type=Path,
+    group.add_argument("--root", metavar="DIR", type=path,
                        help="the folder that paths are relative to; default the git work tree, or the current folder")
 
 
 def add_program(one: argparse.ArgumentParser) -> None:
-    group = one.add_argument_group("a server of this call alone")
+    group = one.add_argument_group("a server of the call's own")
     group.add_argument("--cqd", metavar="PROGRAM", help="the program; default what CQD names, or cqd on PATH")
     group.add_argument("--chunk", metavar="N", type=number(1, 1000),
                        help="tokens of a window of its index; default 20, or --min if that is less")
@@ -164,13 +169,13 @@ def add_server(one: argparse.ArgumentParser, command: str) -> None:
     group.add_argument("--addr", metavar="HOST:PORT", type=address, action="append",
                        help="the server; default what CQD_ADDR names; of several, each has its share of the projects")
     if command != "status":
-        group.add_argument("--state", metavar="FILE", type=Path,
+        group.add_argument("--state", metavar="FILE", type=path,
                            help="where calls keep what they uploaded; default .cqd-state.json in the root")
     group.add_argument("--tls", action="store_true", help="speak TLS")
-    group.add_argument("--tls-ca", metavar="FILE", type=Path,
+    group.add_argument("--tls-ca", metavar="FILE", type=path,
                        help="the authority that signed the server's certificate; default the system's")
-    group.add_argument("--tls-cert", metavar="FILE", type=Path, help="the client's certificate")
-    group.add_argument("--tls-key", metavar="FILE", type=Path, help="its key, if it is not in the same file")
+    group.add_argument("--tls-cert", metavar="FILE", type=path, help="the client's certificate")
+    group.add_argument("--tls-key", metavar="FILE", type=path, help="its key, if it is not in the same file")
     group.add_argument("--timeout", metavar="SECONDS", type=seconds,
                        help="give up if the server takes longer for one reply; default 600")
 
@@ -193,7 +198,7 @@ def conflict(options: argparse.Namespace) -> Optional[str]:
     own = [name for name in ("cqd", "chunk", "ignore_ids", "ignore_literals") if has(name)] + ["workers"] * (has("workers") is not None)
     if has("addr"):
         if own:
-            return f"--{own[0].replace('_', '-')} is for a server of this call alone, and --addr names one that runs"
+            return f"--{own[0].replace('_', '-')} is for a server of the call's own, and --addr names one that runs"
         if not has("project") and options.command != "status":
             return "--project is needed with --addr: others use the server too"
     else:

@@ -28,7 +28,7 @@ def targets(options: argparse.Namespace) -> list[Path]:
 
 
 def check_targets(options: argparse.Namespace) -> None:
-    """What can't be written is told before anything is done."""
+    """Refuses targets that can't be written before anything else is done."""
     if vars(options).get("page") and not importlib.util.find_spec("jinja2"):
         raise Fault("python3-jinja2 is needed to write a page: install it")
     for target in targets(options):

@@ -32,6 +32,11 @@ EPOCHS = "cqd-client"
 
 Request = dict[str, Any]
 
+# A server that holds as much as it may forgets what was replaced or dropped when it has answered a query. So if it has no room for a
+# change, it is asked one, whose answer is not looked at, and the change is sent once more.
+FULL = ("full-changes", "full-text")
+ROOM: Request = {"op": "files", "project": EPOCHS}
+
 REFUSALS = {
     "absent": "the project has no such file",
     "full-changes": "the server holds as many files and gates as it may (its --change-limit)",
@@ -74,13 +79,39 @@ def reply_of(line: bytes) -> Reply:
     return Reply(line, members)
 
 
+ENCODER = json.JSONEncoder(ensure_ascii=False)
+# The bytes of a text that JSON has as they are, and those that have an escape of their own.
+PLAIN = bytes(byte for byte in range(256) if byte >= 32 or byte in b"\t\n\r")
+ESCAPES = ((b"\\", b"\\\\"), (b'"', b'\\"'), (b"\n", b"\\n"), (b"\t", b"\\t"), (b"\r", b"\\r"))
+
+
 def line_of(request: Request) -> bytes:
-    return json.dumps(request, ensure_ascii=False).encode("utf-8") + b"\n"
+    if "text" not in request:
+        return ENCODER.encode(request).encode("utf-8") + b"\n"
+    head = ENCODER.encode({name: value for name, value in request.items() if name != "text"})
+    return head[:-1].encode("utf-8") + b', "text": ' + encoded(request["text"]) + b"}\n"
+
+
+def encoded(text: str) -> bytes:
+    """A text as JSON. The encoder of Python's library looks at each character, and takes three times as long for a usual source."""
+    data = text.encode("utf-8")
+    if data.translate(None, PLAIN):
+        return ENCODER.encode(text).encode("utf-8")
+    for character, escape in ESCAPES:
+        data = data.replace(character, escape)
+    return b'"' + data + b'"'
+
+
+class Waiting(NamedTuple):
+    """A request without a reply, as its line, and whether the server had no room for it before."""
+    request: Request
+    line: bytes
+    is_again: bool = False
 
 
 class Server:
     """A server that is spoken to over a link. If `reach` is given, a link that is lost is made again, and what wasn't answered is
-    asked again: every request leaves the same behind if it is made twice."""
+    asked again: a request that is made twice has the same effect as one."""
 
     def __init__(self, link: Link, reach: Optional[Callable[[], Link]] = None) -> None:
         self.link = link
@@ -103,14 +134,14 @@ class Server:
     def ask_each(self, requests: Iterable[Request]) -> Iterator[tuple[Request, Reply]]:
         """Each request with its reply. Several are under way at a time, and in order, but for those that are sent again."""
         source = iter(requests)
-        waiting: collections.deque[tuple[Request, bytes]] = collections.deque()
+        waiting: collections.deque[Waiting] = collections.deque()
         sent = held = 0
         while True:
             # half of them are made at a time, while the server has the other half, and are sent together
             if len(waiting) <= AHEAD // 2:
                 while len(waiting) < AHEAD and held < BYTES_AHEAD and (request := next(source, None)) is not None:
-                    waiting.append((request, line_of(request)))
-                    held += len(waiting[-1][1])
+                    waiting.append(Waiting(request, line_of(request)))
+                    held += len(waiting[-1].line)
             if not waiting:
                 return
             sent = self.send_rest(waiting, sent)
@@ -120,21 +151,25 @@ class Server:
                 self.reconnect(lost)
                 sent = 0
                 continue
-            request, line = waiting.popleft()
+            one = waiting.popleft()
             sent -= 1
             if reply.error in ("memory", "pending") and self.pauses:
                 self.pauses -= 1
                 time.sleep(PAUSE_SECONDS)
-                waiting.append((request, line))
-            else:
-                held -= len(line)
-                yield request, reply
+                waiting.append(one)
+            elif reply.error in FULL and not one.is_again:
+                if all(other.request is not ROOM for other in waiting):
+                    waiting.append(Waiting(ROOM, line_of(ROOM)))
+                waiting.append(one._replace(is_again=True))
+            elif one.request is not ROOM:
+                held -= len(one.line)
+                yield one.request, reply
 
-    def send_rest(self, waiting: collections.deque[tuple[Request, bytes]], sent: int) -> int:
+    def send_rest(self, waiting: collections.deque[Waiting], sent: int) -> int:
         """Sends those that wait beyond the first `sent`, and all of them if the connection had to be made again."""
         while sent < len(waiting):
             try:
-                self.link.send(b"".join(line for _, line in itertools.islice(waiting, sent, None)))
+                self.link.send(b"".join(one.line for one in itertools.islice(waiting, sent, None)))
                 sent = len(waiting)
             except Lost as lost:
                 self.reconnect(lost)
@@ -196,7 +231,7 @@ class Server:
 
 @contextlib.contextmanager
 def started(program: str, arguments: list[str], timeout: float) -> Iterator[Server]:
-    """A server of this call alone. What it replied holds only if this ends without a fault."""
+    """A server of the call's own. What it replied holds only if this ends without a fault."""
     build(program)
     own = Program(program, arguments, timeout)
     try:

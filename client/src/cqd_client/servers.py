@@ -15,6 +15,7 @@ from .link import Tls, found_program, owner
 from .notes import Notes
 from .protocol import Server, reached, started
 from .state import State
+from .wording import counted
 
 MOST_WORKERS = 64
 
@@ -29,7 +30,7 @@ def running(options: argparse.Namespace, project: str, timeout: float) -> contex
 
 
 def own(options: argparse.Namespace, timeout: float, text_limit: int) -> contextlib.AbstractContextManager[Server]:
-    """A server of this call alone."""
+    """A server of the call's own."""
     chunk = options.chunk or min(20, vars(options).get("min") or 20)
     workers = min(processors(), MOST_WORKERS) if options.workers is None else options.workers
     given = ["--chunk", str(chunk), "--text-limit", str(text_limit), "--workers", str(workers)]
@@ -61,15 +62,17 @@ def status(options: argparse.Namespace, timeout: float) -> int:
         with reached(address, tls_of(options), options.timeout or timeout) as server:
             state = server.answer({"op": "state"}).members
             accepted, done, published = (member(state, name, int) for name in ("accepted", "done", "published"))
-            print(f"{address}: {accepted:,} changes accepted, {accepted - done:,} not analysed yet, last answer at version {published:,}")
+            print(f"{address}: {counted(accepted, 'change')} accepted, {accepted - done:,} not analysed yet, "
+                  f"last answer at version {published:,}")
             if options.project and address == owner(options.addr, options.project):
                 files = files_of(server.files(options.project).members)
-                print(f"  project {options.project}: {len(files):,} files, {sum(file.lines for file in files):,} lines, "
-                      f"{sum(file.tokens for file in files):,} tokens, {sum(file.state != 'ok' for file in files):,} files without tokens")
+                print(f"  project {options.project}: {counted(len(files), 'file')}, {counted(sum(file.lines for file in files), 'line')}, "
+                      f"{counted(sum(file.tokens for file in files), 'token')}, "
+                      f"{counted(sum(file.state != 'ok' for file in files), 'file')} without tokens")
     return PASSED
 
 
-def remove(options: argparse.Namespace, timeout: float, state_name: str) -> int:
+def remove(options: argparse.Namespace, timeout: float, state_file: Path) -> int:
     """Drops every file of a project, and its gate, and forgets what the state file has of it."""
     address = owner(options.addr, options.project)
     with reached(address, tls_of(options), options.timeout or timeout) as server:
@@ -81,9 +84,8 @@ def remove(options: argparse.Namespace, timeout: float, state_name: str) -> int:
         server.answer({"op": "gate", "project": options.project, "conditions": []})
         left = files_of(server.files(options.project).members)
         if left:
-            raise Fault(f"project {options.project} has {len(left):,} files again: another client uploads to it")
-    state_file = options.state or Path(state_name)
+            raise Fault(f"project {options.project} has {counted(len(left), 'file')} again: another client uploads to it")
     if state_file.exists():
         State(state_file, str(address), options.project, Notes()).forget()
-    print(f"project {options.project} is removed: {len(files):,} files dropped")
+    print(f"project {options.project} is removed: {counted(len(files), 'file')} dropped")
     return PASSED

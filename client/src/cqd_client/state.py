@@ -64,7 +64,7 @@ def entry_of(value: Any) -> Entry:
 
 
 class State:
-    """The entry of one project on one server. `keep` merges what this call changed into what stands in the file then."""
+    """The entry of one project on one server. `keep` merges what this call changed into what the file has by then."""
 
     def __init__(self, file: Path, server: str, project: str, notes: Notes) -> None:
         self.file = file
@@ -75,20 +75,27 @@ class State:
             notes.say(f"{file} is no state file of this client: all files are uploaded again, and it is written again")
         self.before = read.get(server, {}).get(project, Entry())
         self.entry = self.before.copy()
+        # the life of the server that the file has the project's entry of
+        self.life = self.entry.epoch
 
-    def begin(self, epoch: str) -> None:
-        """Leaves of the entry what holds in this life of the server."""
+    def begin(self, epoch: str) -> bool:
+        """Leaves of the entry what holds in this life of the server, and reports whether uploads of an earlier one are lost."""
+        is_lost = bool(self.entry.files) and epoch != self.entry.epoch
         self.before = self.before.of_life(epoch)
         self.entry = self.entry.of_life(epoch)
+        return is_lost
 
     def keep(self) -> None:
+        if self.entry == self.before:
+            return
         server, project = self.key
         with self.locked():
             read, _ = self.read()
             projects = read.setdefault(server, {})
-            projects[project] = merged(self.before, projects.get(project, Entry()), self.entry)
+            projects[project] = merged(self.before, projects.get(project, Entry()), self.entry, self.life)
             self.write(read)
         self.before = self.entry.copy()
+        self.life = self.entry.epoch
 
     def forget(self) -> None:
         """Takes the project's entry out of the file."""
@@ -139,8 +146,13 @@ class State:
         os.replace(beside, self.file)
 
 
-def merged(before: Entry, standing: Entry, after: Entry) -> Entry:
-    """What `after` changed of `before`, in what stands now. If another call changed the same, the later change is kept."""
+def merged(before: Entry, standing: Entry, after: Entry, life: str) -> Entry:
+    """What `after` changed of `before`, merged into what the file has now. If another call changed the same, the later change is
+    kept. If the file had the life of `after` when this call read it, and another call has found the server in a later one since, only
+    the gate is of use."""
+    gate = after.gate if after.gate != before.gate else standing.gate
+    if after.epoch == life != standing.epoch:
+        return Entry(dict(standing.files), list(gate), dict(standing.passed), standing.epoch)
     standing = standing.of_life(after.epoch)
     files = dict(standing.files)
     for path in before.files.keys() | after.files.keys():
@@ -156,4 +168,4 @@ def merged(before: Entry, standing: Entry, after: Entry) -> Entry:
     for scope, version in after.passed.items():
         if version != before.passed.get(scope):
             passed[scope] = version
-    return Entry(files, after.gate if after.gate != before.gate else standing.gate, passed, after.epoch)
+    return Entry(files, list(gate), passed, after.epoch)

@@ -2,7 +2,10 @@
 from __future__ import annotations
 
 import codecs
+import functools
 import hashlib
+import os
+import re
 from typing import Optional
 
 from .faults import Misuse
@@ -14,6 +17,7 @@ from .wording import counted
 LONGEST_TEXT = 1_048_576
 # As far as this a file is searched for a NUL, as git does, to tell that it is no text.
 SEARCHED = 8_000
+CONTROL = re.compile(rb"[\0-\x1f\x7f]")
 UTF_16 = (codecs.BOM_UTF16_LE, codecs.BOM_UTF16_BE)
 
 
@@ -45,14 +49,13 @@ def text_of(tree: Tree, source: Source, encoding: Optional[str]) -> str:
         raise Unfit("its name is not UTF-8") from None
     if len(name) > LONGEST:
         raise Unfit(f"its path has {len(name):,} bytes, and at most {LONGEST} are taken")
-    if any(byte < 32 or byte == 127 for byte in name):
+    if CONTROL.search(name):
         raise Unfit("its name has control characters")
     if source.size > 2 * LONGEST_TEXT + 2:
         # even as UTF-16 it has more than a request holds
         raise Unfit(f"it has more than {LONGEST_TEXT:,} bytes; exclude it, or split it")
     try:
-        with open(tree.file(source.path), "rb", buffering=0) as file:
-            data = file.readall()
+        data = contents(tree.file(source.path), source.size)
     except OSError as error:
         raise Unfit(str(error.strerror)) from None
     text = decoded(data, encoding)
@@ -61,22 +64,47 @@ def text_of(tree: Tree, source: Source, encoding: Optional[str]) -> str:
     return text
 
 
+def contents(name: bytes, size: int) -> bytes:
+    """The bytes of a file that had this size. A file of Python's library takes twice as many calls of the system."""
+    file = os.open(name, os.O_RDONLY | os.O_CLOEXEC)
+    try:
+        data = os.read(file, size + 1)
+        while len(data) != size and (more := os.read(file, LONGEST_TEXT)):
+            data += more
+        return data
+    finally:
+        os.close(file)
+
+
 def decoded(data: bytes, encoding: Optional[str]) -> str:
     try:
         if data.startswith(UTF_16):
             return data.decode("utf-16")
-        if b"\0" in data[:SEARCHED]:
+        if b"\0" not in data[:SEARCHED]:
+            return data.decode("utf-8")
+        if not encoding or not has_zeros(encoding):
             raise Binary
-        return data.decode("utf-8")
     except UnicodeDecodeError as error:
         if len(data) > LONGEST_TEXT:
             raise Unfit(f"it has more than {LONGEST_TEXT:,} bytes; exclude it, or split it") from None
         if not encoding:
             raise Unfit(f"it is not UTF-8 at byte {error.start:,}; --encoding names the encoding of such files") from None
     try:
-        return data.decode(encoding)
+        text = data.decode(encoding)
+        # some encodings have halves of surrogate pairs, which no request holds
+        text.encode("utf-8")
+        return text
     except (UnicodeError, LookupError):
         raise Unfit(f"it is neither UTF-8 nor {encoding}") from None
+
+
+@functools.lru_cache(maxsize=None)
+def has_zeros(encoding: str) -> bool:
+    """Whether text in this encoding has bytes that are zero, as UTF-16 has."""
+    try:
+        return b"\0" in "a".encode(encoding)
+    except UnicodeError:
+        return False
 
 
 def hash_of(lang: str, text: str) -> str:

@@ -45,7 +45,7 @@ class Choice:
         pattern = self.maps.first(path)
         if pattern is not None:
             return self.languages[pattern]
-        return LANGUAGES.get(os.path.splitext(path)[1]) or ("any" if self.plain.fit(path) else None)
+        return LANGUAGES.get(ending_of(path)) or ("any" if self.plain.fit(path) else None)
 
 
 @dataclass
@@ -62,7 +62,11 @@ class Tree:
 
     def file(self, path: str) -> bytes:
         """The name of this file for the system."""
-        return os.path.join(os.fsencode(self.root), name_of(path))
+        return self.prefix + name_of(path)
+
+    @functools.cached_property
+    def prefix(self) -> bytes:
+        return os.path.join(os.fsencode(self.root), b"")
 
     @functools.cached_property
     def size(self) -> int:
@@ -78,6 +82,12 @@ def name_of(path: str) -> bytes:
     return path.encode("utf-8", "surrogateescape")
 
 
+def ending_of(path: str) -> str:
+    """The ending of a file's name, from its last point, empty if it has none but at its front."""
+    point = path.rfind(".")
+    return path[point:] if point > path.rfind("/") + 1 else ""
+
+
 def path_of(name: bytes) -> str:
     return name.decode("utf-8", "surrogateescape")
 
@@ -86,20 +96,25 @@ def root_of(named: Optional[Path], paths: list[Path]) -> Path:
     """The folder that paths are relative to: the one that is named, else the top of the git work tree that the first path is in,
     else the current folder if all paths are below it, else the deepest folder that has all of them."""
     if named:
-        if not named.is_dir():
+        if not os.path.isdir(named):
             raise Fault(f"--root {named} is no folder")
-        return named.resolve()
+        return real(named)
     here = Path.cwd()
-    whole = [path.resolve() for path in paths] or [here]
-    first = whole[0] if whole[0].is_dir() else whole[0].parent
+    whole = [real(path) for path in paths] or [here]
+    first = whole[0] if os.path.isdir(whole[0]) else whole[0].parent
     try:
-        top = git.top_of(first) if first.is_dir() else None
+        top = git.top_of(first) if os.path.isdir(first) else None
     except git.GitFault:
         top = None
     for root in (top, here):
         if root and all(path == root or root in path.parents for path in whole):
             return root
-    return Path(os.path.commonpath([path if path.is_dir() else path.parent for path in whole]))
+    return Path(os.path.commonpath([path if os.path.isdir(path) else path.parent for path in whole]))
+
+
+def real(path: Path) -> Path:
+    """The path with all links followed. Path.resolve has no answer for a link that leads to itself."""
+    return Path(os.path.realpath(path))
 
 
 def tree_of(root: Path, paths: list[Path], listing: Optional[bytes], choice: Choice, notes: Notes) -> Tree:
@@ -107,37 +122,53 @@ def tree_of(root: Path, paths: list[Path], listing: Optional[bytes], choice: Cho
     tree = Tree(root, [], [])
     found: dict[str, Source] = {}
     others: dict[str, int] = {}
+    missing: list[str] = []
 
-    def add(path: str) -> None:
+    def add(path: str, is_listed: bool = False) -> None:
         if path in found or choice.exclude.fit(path) or (choice.include and not choice.include.fit(path)):
             return
         lang = choice.language(path)
         if lang is None:
-            ending = os.path.splitext(path)[1] or "(none)"
+            ending = ending_of(path) or "(none)"
             others[ending] = others.get(ending, 0) + 1
             return
         try:
             entry = os.lstat(tree.file(path))
+        except FileNotFoundError as error:
+            # a file that was deleted and not committed is still listed by git
+            if is_listed:
+                missing.append(path)
+            else:
+                tree.skipped.append(Skipped(path, str(error.strerror)))
+            return
         except OSError as error:
             tree.skipped.append(Skipped(path, str(error.strerror)))
             return
-        if stat.S_ISREG(entry.st_mode) and path_of(tree.file(path)) not in choice.own:
+        if stat.S_ISREG(entry.st_mode) and not (choice.own and path_of(tree.file(path)) in choice.own):
             found[path] = Source(path, lang, entry.st_size)
     for path in paths:
         below = relative(root, path)
         tree.within.append(below)
-        if path.is_dir():
-            for name in within_folder(tree, below, choice, notes):
-                add(name)
-                notes.progress(f"{len(found):,} files found")
+        if os.path.isdir(path):
+            for name, is_listed in within_folder(tree, below, choice, notes):
+                add(name, is_listed)
+                if notes.is_terminal:
+                    notes.progress(f"{counted(len(found), 'file')} found")
         else:
             add(below)
     if listing is not None:
         tree.within.append("")
-        for listed in names_of(listing):
-            if not os.path.isdir(listed) and not os.path.islink(listed):
-                add(below_root(root, listed))
+        listed = names_of(listing)
+        folders = {name for name in listed if os.path.isdir(name)}
+        if folders:
+            notes.say(f"{counted(len(folders), 'folder')} of the list not read, the first is {path_of(min(folders))}; only files are")
+        for given in listed:
+            if given not in folders and not os.path.islink(given):
+                add(below_root(root, given))
     notes.clear()
+    if missing:
+        notes.say(f"{counted(len(missing), 'file')} that git lists {'is' if len(missing) == 1 else 'are'} not in the work tree, "
+                  f"the first is {missing[0]}")
     tree.sources = sorted(found.values(), key=lambda source: name_of(source.path))
     tell_unused(choice, notes)
     if not tree.sources and others:
@@ -148,12 +179,12 @@ def tree_of(root: Path, paths: list[Path], listing: Optional[bytes], choice: Cho
 
 def relative(root: Path, path: Path) -> str:
     """The path below the root, with slashes; empty if it is the root. Links in the folders above it are followed."""
-    whole = path.parent.resolve() / path.name if path.name not in ("", "..") else path.resolve()
+    whole = real(path.parent) / path.name if path.name not in ("", "..") else real(path)
     if not os.path.lexists(whole):
         raise Fault(f"{path} does not exist")
-    if whole.is_dir():
-        whole = whole.resolve()
-    elif whole.is_symlink():
+    if os.path.isdir(whole):
+        whole = real(whole)
+    elif os.path.islink(whole):
         raise Fault(f"{path} is a symbolic link, and none is followed")
     return "" if whole == root else below_root(root, os.fsencode(whole))
 
@@ -185,8 +216,9 @@ def read_listing(name: str) -> bytes:
         raise Fault(f"--files-from {name} can't be read: {error.strerror}") from error
 
 
-def within_folder(tree: Tree, below: str, choice: Choice, notes: Notes) -> Iterator[str]:
-    """The files of a folder: those that git lists if it is in a work tree, else all that no .gitignore leaves out."""
+def within_folder(tree: Tree, below: str, choice: Choice, notes: Notes) -> Iterator[tuple[str, bool]]:
+    """The files of a folder: those that git lists if it is in a work tree, which may be missing, else all that no .gitignore leaves out.
+    Each with whether git listed it."""
     folder = Path(os.fsdecode(tree.file(below)))
     prefix = below + "/" if below else ""
     if choice.reads_ignores:
@@ -197,21 +229,20 @@ def within_folder(tree: Tree, below: str, choice: Choice, notes: Notes) -> Itera
                 if os.path.isdir(tree.file(path)) and not os.path.islink(tree.file(path)):
                     notes.say(f"{path} is a work tree of its own (a submodule?) and is not read; name it as a folder to read it too")
                 else:
-                    yield path
+                    yield path, True
             return
-    yield from walked(tree, below, choice)
+    for path in walked(tree, below, choice):
+        yield path, False
 
 
 def git_names(folder: Path, notes: Notes) -> Optional[list[str]]:
     try:
         if not git.top_of(folder):
             return None
-        names = git.listed(folder)
+        return git.listed(folder)
     except git.GitFault as fault:
         notes.say(f"{fault}; {folder} is read without git")
         return None
-    # a file that was deleted and not committed is still listed
-    return [name for name in names if os.path.lexists(os.path.join(folder, name))]
 
 
 def walked(tree: Tree, below: str, choice: Choice) -> Iterator[str]:
@@ -262,5 +293,5 @@ def tell_unused(choice: Choice, notes: Notes) -> None:
     for option, patterns in (("--include", choice.include), ("--exclude", choice.exclude), ("--map", choice.maps),
                              ("--any", choice.plain)):
         for pattern in patterns.unused():
-            hint = "" if pattern.endswith(("/", "/**")) else f"; all files below a folder are '{pattern}/'"
-            notes.say(f"{option} {pattern!r} fits no file{hint}")
+            is_folder = not set("*?.") & set(pattern.rpartition("/")[2]) and not pattern.endswith("/")
+            notes.say(f"{option} {pattern!r} fits no file" + (f"; all files below a folder are '{pattern}/'" if is_folder else ""))

@@ -12,7 +12,7 @@ from .notes import Notes
 from .protocol import Reply, Request, Server
 from .state import Known, State
 from .texts import Binary, Unfit, hash_of, text_of
-from .tree import Choice, Tree, tree_of
+from .tree import Choice, Tree, real, tree_of
 from .wording import counted
 
 # How often all is compared again, if the server lost files meanwhile or another client uploaded them.
@@ -21,7 +21,7 @@ PASSES = 3
 
 @dataclass
 class Upload:
-    """What a call uploaded. `known` is what stands on the server of it, `files` what the server says that the project has."""
+    """What a call uploaded. `known` is what the server has of it, `files` all that the project has."""
     tree: Tree
     encoding: Optional[str] = None
     known: dict[str, Known] = field(default_factory=dict)
@@ -58,7 +58,8 @@ def upload(server: Server, project: str, tree: Tree, state: Optional[State], not
         generation = server.generation
         try:
             one_pass(server, project, done, state, notes, once)
-            lost = lost_of(server.files(project), done)
+            with notes.waiting("waiting for the server: analysis"):
+                lost = lost_of(server.files(project), done)
         except Restarted:
             notes.say("the server was started again meanwhile; all files are uploaded again")
             continue
@@ -79,7 +80,7 @@ def one_pass(server: Server, project: str, done: Upload, state: Optional[State],
     entry = state.entry.files if state else {}
     standing = changes_of(server.files(project)) if entry else {}
     for path in [path for path, known in entry.items() if standing.get(path) != known.change]:
-        # somebody else changed this file: whatever stands there is not ours
+        # somebody else changed this file: what the server has is not ours
         del entry[path]
     for request, reply in server.ask_each(puts(project, done, entry, notes, once)):
         path = request["path"]
@@ -113,7 +114,8 @@ def puts(project: str, done: Upload, entry: dict[str, Known], notes: Notes, once
     size = 0
     for number, source in enumerate(done.tree.sources, 1):
         size += source.size
-        notes.progress(f"{number:,} of {len(done.tree.sources):,} files, {size / 1e6:,.1f} of {done.tree.size / 1e6:,.1f} MB")
+        if notes.is_terminal:
+            notes.progress(f"{number:,} of {len(done.tree.sources):,} files, {size / 1e6:,.1f} of {done.tree.size / 1e6:,.1f} MB")
         try:
             text = text_of(done.tree, source, done.encoding)
         except Binary:
@@ -172,7 +174,7 @@ def faults_of(done: Upload) -> Iterator[str]:
 
 def folder_puts(folder: Path, project: str, choice: Optional[Choice] = None) -> Iterator[Request]:
     """The requests that upload a folder. What no request can hold is said and left out."""
-    notes, root = Notes(), folder.resolve()
+    notes, root = Notes(), real(folder)
     done = Upload(tree_of(root, [root], None, choice or Choice(), notes))
     yield from puts(project, done, {}, notes, False)
     tell(done, notes)

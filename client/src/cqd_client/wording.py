@@ -67,7 +67,9 @@ def function_message(function: Function) -> str:
 
 def left_out(report: Report) -> str:
     """Why the verdict is unknown."""
-    return f"{counted(len(report.skipped), 'file')} left out, the first is {shown(report.skipped[0].path)}" if report.skipped else "files are missing"
+    if not report.skipped:
+        return "files are missing"
+    return f"{counted(len(report.skipped), 'file')} left out, the first is {shown(report.skipped[0].path)}"
 
 
 def requirement(condition: Condition) -> str:

@@ -1,18 +1,19 @@
-ghost use Rattle.std.specs.Prelude.{◌≡◌};
+ghost use Rattle.std.specs.Prelude.{◌≡◌, IfOk};
 ghost use Rattle.cq_answer.specs.Works.{work_in};
 
-use cq_base::{Lang, Text};
+use cq_base::{Lang, Memory};
 use cq_projects::Held;
+use cq_reply::SharedPath;
 use cq_work::Work;
 use std::alloc::Global;
 use std::sync::Arc;
 use std::sync::ledger::Ledger;
 
-/// The path of a file of a listing.
-pub(crate) fn path_of<L: Ledger>(file: &Arc<Held<Work<L>>, Global>) -> &Text
-    ensures { result.now ≡ (work_in file.now).path }
+/// The path of a file of a listing, as the rows of a reply share it.
+pub(crate) fn path_of<L: Ledger>(file: &Arc<Held<Work<L>>, Global>) -> Result<SharedPath, Memory>
+    ensures { IfOk result (λ path. path ≡ (work_in file.now).path) }
 {
-    &file.path
+    Ok(SharedPath::new(Arc::try_clone(&file.path)?))
 }
 
 /// The number of the change that put it.

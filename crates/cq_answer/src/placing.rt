@@ -15,7 +15,6 @@ use std::sync::ledger::Ledger;
 
 // A place of a word of `tokens` tokens.
 fn place_row<L: Ledger>(
-    alloc: Global,
     files: &[Arc<Held<Work<L>>, Global>],
     tokens: u32,
     place: Place,
@@ -29,7 +28,7 @@ fn place_row<L: Ledger>(
     let spans = &work_of(file).spans;
     let at = place.at as usize;
     Ok(PlaceRow {
-        path: path_of(file).copied(alloc)?,
+        path: path_of(file)?,
         at: place.at,
         first: spans[at].first_line,
         last: spans[at + tokens as usize - 1].last_line,
@@ -48,9 +47,9 @@ fn place_rows<L: Ledger>(
     ensures { IfOk result (λ rows. rows
         ≡ map (spec.place_row (facts_in (works_in files.now)) tokens) places.now) }
 {
-    let mut rows = Vec::new(alloc);
+    let mut rows = Vec::with_capacity(alloc, places.len())?;
     for place in places {
-        rows.push(place_row(alloc, files, tokens, *place)?)?;
+        rows.push(place_row(files, tokens, *place)?)?;
     }
     Ok(PlaceRows::from_vec(rows))
 }

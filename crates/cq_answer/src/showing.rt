@@ -21,12 +21,12 @@ fn shown_in(state: State) -> Shown
     }
 }
 
-fn file_row<L: Ledger>(alloc: Global, file: &Arc<Held<Work<L>>, Global>) -> Result<FileRow, Memory>
+fn file_row<L: Ledger>(file: &Arc<Held<Work<L>>, Global>) -> Result<FileRow, Memory>
     ensures { IfOk result (λ row. row ≡ row_of (work_in file.now)) }
 {
     let work = work_of(file);
     Ok(FileRow {
-        path: path_of(file).copied(alloc)?,
+        path: path_of(file)?,
         change: change_of(file),
         lang: lang_of(file),
         lines: work.counts.lines,
@@ -44,7 +44,7 @@ pub(crate) fn file_rows<L: Ledger>(
 {
     let mut rows = Vec::new(alloc);
     for file in files {
-        rows.push(file_row(alloc, file)?)?;
+        rows.push(file_row(file)?)?;
     }
     Ok(FileRows::from_vec(rows))
 }

@@ -1,14 +1,16 @@
 -- Elements, marks and semicolons that the languages refuse.
 use Rattle.std.specs.Str.{bytes_eq}
-use Rattle.std.specs.Prelude.{not, IsFalse, ◌≡◌, true, false, Some, List, [], ◌∷◌, length, codes}
+use Rattle.std.specs.Prelude.{not, IsFalse, ◌≡◌, ℕ, true, false, Some, Ok, List, [], ◌∷◌, length, codes}
 use Rattle.std.proofs.Common.{arith, ap, refl, inl}
 use Rattle.cq_base.specs.declared.token.Class.TheVariants as class
 use Rattle.cq_base.specs.declared.token.Mark.{Mark}
 use Rattle.cq_base.specs.declared.token.Spelled.{Spelled}
 use Rattle.cq_definition_cases.proofs.Different.{is_false, is_true}
 use Rattle.cq_munch.specs.Comments.{IsBlockComment, IsLineComment}
-use Rattle.cq_munch.specs.Lexed.{mark_of, marks_of, placed}
+use Rattle.cq_munch.specs.Language.{Language}
+use Rattle.cq_munch.specs.Lexed.{IsLexed, mark_of, marks_of, placed, tokens_of, units_of}
 use Rattle.cq_munch.specs.ListingMarks.{said}
+use Rattle.cq_munch.proofs.Steps.{spelled_word}
 use Rattle.cq_munch.proofs.WordLists.{among_passes}
 use Rattle.cq_munch.specs.Longest.{IsAmong, LongestAt}
 use Rattle.cq_munch.specs.Pattern.{Spells, many, only}
@@ -16,6 +18,7 @@ use Rattle.cq_munch.specs.Quotes.{NoneCloses, quoted}
 use Rattle.cq_munch.specs.Table.{better}
 use Rattle.cq_munch.specs.declared.element.Spell.TheVariants as spell
 use Rattle.cq_munch.specs.declared.ends.LineEnds.TheVariants as ends
+use Rattle.cq_munch.specs.declared.munching.Lexed.TheVariants as lexed
 use Rattle.cq_munch.specs.declared.quoted.Quote.TheVariants as quotes
 use Rattle.cq_munch.specs.declared.unit.Unit.{Unit}
 use Rattle.unicode_ident.specs.Ident.{is_xid_continue}
@@ -29,7 +32,7 @@ use Rattle.cq_lex_c.specs.Numbers.{IsNumber}
 use Rattle.cq_lex_go.specs.Ascii.{letters_below}
 use Rattle.cq_lex_go.specs.Semicolons.{completed}
 use Rattle.cq_lex_go.specs.Words.{IsName, is_letter, keywords}
-use Rattle.cq_lex_java.specs.Blocks.{IsTextBlock}
+use Rattle.cq_lex_java.specs.Blocks.{text_block}
 
 -- ---- any language
 
@@ -68,6 +71,12 @@ a_byte_order_mark_is_no_token h = let e = h.0 in cc
 pub a_digit_goes_on_in_a_run : IsFalse (is_xid_continue 49) → ⊥
 unfolding continues_identifier
 a_digit_goes_on_in_a_run ends = let goes : continues_identifier 49 ≡ true = continues_below 49 (omega arith) in cc
+
+-- a text whose tokens are so many, whatever they are
+module _ (lang : Language) (completed : List ℕ → List Spelled → List Spelled) (bytes : List ℕ) where
+  pub no_text_of_262144_tokens_is_large :
+      ((tokens : List Spelled) → length (completed bytes tokens) ≡ 262144) → IsLexed lang (λ units. Ok units) completed bytes lexed.Large → ⊥
+  no_text_of_262144_tokens_is_large length_is (fs, whole, more) = let n = length_is (tokens_of bytes (units_of bytes) 0 fs) in omega (arith, n, more)
 
 -- ---- C
 
@@ -112,5 +121,6 @@ a_longer_word_is_no_keyword among =
 -- ---- Java
 
 -- three quotes, a line feed, a backslash and three quotes
-pub an_escaped_quote_closes_no_text_block : IsTextBlock (34 ∷ 34 ∷ 34 ∷ 10 ∷ 92 ∷ 34 ∷ 34 ∷ 34 ∷ []) → ⊥
-an_escaped_quote_closes_no_text_block h = h.1.1.1
+pub an_escaped_quote_closes_no_text_block : Spells text_block (34 ∷ 34 ∷ 34 ∷ 10 ∷ 92 ∷ 34 ∷ 34 ∷ 34 ∷ []) → ⊥
+unfolding text_block
+an_escaped_quote_closes_no_text_block h = is_false (spelled_word (34 ∷ 34 ∷ 34 ∷ 10 ∷ 92 ∷ 34 ∷ 34 ∷ 34 ∷ []) (text_block ∷ []) (inl h))

@@ -9,5 +9,7 @@ mod Measures
 mod Replies
 mod Requests
 mod Scopes
+mod Sessions
+mod Steps
 mod TokenFiles
 mod Words

@@ -26,6 +26,9 @@ another_mark_begins_none e = is_false e
 pub a_body_is_no_longer_than_2_to_the_28 : is_some (announced (67 ∷ 81 ∷ 84 ∷ 79 ∷ 75 ∷ 48 ∷ 48 ∷ 49 ∷ 0 ∷ 0 ∷ 0 ∷ 0 ∷ 16 ∷ 0 ∷ 0 ∷ 1 ∷ [])) ≡ true → ⊥
 a_body_is_no_longer_than_2_to_the_28 e = is_false e
 
+pub a_body_may_have_2_to_the_28_bytes : is_some (announced (67 ∷ 81 ∷ 84 ∷ 79 ∷ 75 ∷ 48 ∷ 48 ∷ 49 ∷ 0 ∷ 0 ∷ 0 ∷ 0 ∷ 16 ∷ 0 ∷ 0 ∷ 0 ∷ [])) ≡ false → ⊥
+a_body_may_have_2_to_the_28_bytes e = is_true e
+
 pub a_head_has_the_flags_of_the_settings : is_sound_head settings 1 2 1 0 ≡ true → ⊥
 a_head_has_the_flags_of_the_settings e = is_false e
 

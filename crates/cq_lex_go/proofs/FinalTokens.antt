@@ -1,8 +1,8 @@
 -- Semicolons are inserted behind the last tokens of lines.
-use Rattle.std.proofs.Common.{◌≡◌, ℕ, Bool, true, false, ◌&&◌, Option, Some, None, if◌then◌else◌, List, [], ◌∷◌, ◌++◌, refl, ap, ◌∙◌}
+use Rattle.std.proofs.Common.{◌≡◌, ℕ, Bool, true, false, ◌&&◌, Some, None, if◌then◌else◌, List, [], ◌∷◌, ◌++◌, refl, ap, ◌∙◌}
 use Rattle.cq_base.specs.declared.token.Spelled.{Spelled}
 use Rattle.cq_base.specs.declared.token.Token.{Token}
-use Rattle.cq_lex_go.specs.Semicolons.{may_end, end_of, has_feed, semicolon_behind, ending, between, behind_last, completed_from, completed}
+use Rattle.cq_lex_go.specs.Semicolons.{may_end, end_of, has_feed, semicolon_behind, ending, between, behind_last, completed_from}
 use Rattle.cq_lex_go.specs.FinalTokens.{is_final, with_semicolons, SemicolonsEndLines}
 
 put_where : (b : Bool) (s : Spelled) (rest : List Spelled) → (if b then s ∷ [] else []) ++ rest ≡ (if b then s ∷ rest else rest)

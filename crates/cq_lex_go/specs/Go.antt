@@ -1,18 +1,18 @@
 -- The table of Go's elements.
-use Rattle.std.specs.Prelude.{ℕ, Bool, List, [], ◌∷◌}
+use Rattle.std.specs.Prelude.{List, [], ◌∷◌, ◌++◌}
 use Rattle.cq_base.specs.declared.token.Class.TheVariants.{Ident, Word, Literal, Punct}
 use Rattle.cq_munch.specs.declared.element.Spell.TheVariants.{Blank, Token}
 use Rattle.cq_munch.specs.Language.{Language, marked}
 use Rattle.cq_munch.specs.Longest.{IsAmong}
 use Rattle.cq_munch.specs.Pattern.{Spells}
-use Rattle.cq_munch.specs.Table.{Row, table, first, begins}
+use Rattle.cq_munch.specs.Table.{Row, table}
 use Rattle.cq_lex_go.specs.Words.{IsName, keywords, punctuation, blank_characters}
 use Rattle.cq_lex_go.specs.Numbers.{number}
 use Rattle.cq_munch.specs.Commented.{commented}
 use Rattle.cq_munch.specs.Quotes.{quoted}
 use Rattle.cq_munch.specs.declared.ends.LineEnds.TheVariants.{Feed}
 use Rattle.cq_munch.specs.declared.quoted.Quote.TheVariants.{Double, Single}
-use Rattle.cq_lex_go.specs.Openers.{IsRawString}
+use Rattle.cq_lex_go.specs.RawStrings.{raw_string}
 
 abbrev pub names : Row
 names = record { spell = Token Ident; set = λ s. IsName s × (IsAmong keywords s → ⊥) }
@@ -33,25 +33,25 @@ strings = record { spell = Token Literal; set = Spells (quoted Double Feed) }
 abbrev pub runes : Row
 runes = record { spell = Token Literal; set = Spells (quoted Single Feed) }
 
+abbrev pub raws : Row
+raws = record { spell = Token Literal; set = Spells raw_string }
+
 abbrev pub marks : Row
 marks = record { spell = Token Punct; set = IsAmong punctuation }
 
+-- the rows that begin with a letter, and the others
+abbrev pub named : List Row
+named = names ∷ reserved ∷ []
+
+abbrev pub others : List Row
+others = blanks ∷ numbers ∷ strings ∷ runes ∷ raws ∷ marks ∷ []
+
 abbrev pub rows : List Row
-rows = names ∷ reserved ∷ blanks ∷ numbers ∷ strings ∷ runes ∷ marks ∷ []
+rows = named ++ others
 
-abbrev pub raws : Row
-raws = record { spell = Token Literal; set = IsRawString }
-
--- a raw string is opened there
-abbrev pub opens_raw : ℕ → ℕ → List ℕ → Bool
-opens_raw at mode text = begins (96 ∷ []) text
-
--- If a raw string or a comment is opened, only its own row is tried.
-abbrev pub with_raws : Language
-with_raws = first opens_raw (raws ∷ []) (table rows)
-
+-- If a comment is opened, only its own row is tried.
 abbrev pub unmarked : Language
-unmarked = commented Feed with_raws
+unmarked = commented Feed (table rows)
 
 abbrev pub go : Language
 go = marked unmarked

@@ -1,57 +1,19 @@
-ghost use Rattle.std.specs.Prelude.{◌≡◌, ◌<◌, ◌^◌, ◌==◌, ◌||◌, ℕ, [], ◌∷◌, length, slice_index_or};
+ghost use Rattle.std.specs.Prelude.{◌≡◌, ◌<◌, ◌^◌, ◌==◌, ◌||◌, ℕ, length};
 ghost use Rattle.cq_munch.specs.Characters.{characters};
+ghost use Rattle.cq_munch.specs.Fronts.{starts};
 ghost use Rattle.cq_munch.specs.Language.{Takes};
 ghost use Rattle.cq_munch.specs.Table.{InTable, table};
 ghost use Rattle.cq_munch.specs.declared.element.Spell.TheVariants.{Token as token};
-ghost use Rattle.cq_lex_go.specs.Go.{unmarked};
-ghost use Rattle.cq_lex_go.specs.Words.{IsName};
-ghost use Rattle.cq_lex_go.specs.Fronts.{front_of, rows_of};
-ghost use Rattle.cq_lex_go.specs.declared.element.Front.TheVariants.{Letter, Other};
+ghost use Rattle.cq_lex_go.specs.Go.{named, others, unmarked};
+ghost use Rattle.cq_lex_go.specs.Words.{IsName, is_letter};
 
-use crate::number::longest_number;
-use crate::operator::longest_punctuation;
-use crate::raw::longest_raw;
+use crate::scanner::{CLASSES, ENDS, SPELLS, STEPS};
 use crate::words::{is_keyword, is_letter, longest_name};
 use cq_base::Class;
 use cq_munch::{
-    Found, LineEnds, Quote, Spell, Unit, better, found_of, longest_block_comment,
-    longest_line_comment, longest_quoted, second_is,
+    Automaton, Found, LineEnds, Spell, Unit, found_of, longest_block_comment, longest_found,
+    longest_line_comment, opens_comment,
 };
-
-/// What a first character says about the element that begins with it.
-#[derive(Clone, Copy, Debug, PartialEq, Eq)]
-enum Front {
-    Blank,
-    Letter,
-    Digit,
-    /// A number, or an operator.
-    Point,
-    /// A comment, or an operator.
-    Slash,
-    Double,
-    Single,
-    Back,
-    Other,
-}
-
-fn front_of(ch: char) -> Front
-    ensures { result ≡ front_of ch }
-{
-    match ch {
-        ' ' | '\t' | '\r' | '\n' => Front::Blank,
-        '0'..='9' => Front::Digit,
-        '.' => Front::Point,
-        '/' => Front::Slash,
-        '"' => Front::Double,
-        '\'' => Front::Single,
-        '`' => Front::Back,
-        _ => if is_letter(ch) {
-            Front::Letter
-        } else {
-            Front::Other
-        },
-    }
-}
 
 /// Whether the character is a blank.
 pub(crate) fn is_blank(ch: char) -> bool
@@ -60,9 +22,19 @@ pub(crate) fn is_blank(ch: char) -> bool
     ch == ' ' || ch == '\t' || ch == '\r' || ch == '\n'
 }
 
+// Whether a name or a keyword begins at the front.
+fn begins_name(units: &[Unit]) -> bool
+    ensures { result ≡ starts is_letter (characters units.now) }
+{
+    match units {
+        [first, ..] => is_letter(first.ch),
+        [] => false,
+    }
+}
+
 fn class_of(name: &[Unit]) -> Class
     requires { IsName (characters name.now) }
-    ensures { InTable (rows_of Letter) (token result) (characters name.now) }
+    ensures { InTable named (token result) (characters name.now) }
 {
     if is_keyword(name) {
         Class::Word
@@ -74,7 +46,7 @@ fn class_of(name: &[Unit]) -> Class
 // The name or keyword at the front.
 fn name(units: &[Unit], mode: u8) -> Option<Found>
     requires { length units.now < 2 ^ 32 }
-    ensures { (at : ℕ) → Takes (table (rows_of Letter)) at mode (characters units.now) result }
+    ensures { (at : ℕ) → Takes (table named) at mode (characters units.now) result }
 {
     match longest_name(units) {
         None => None,
@@ -85,61 +57,36 @@ fn name(units: &[Unit], mode: u8) -> Option<Found>
     }
 }
 
-// The operator at the front.
-fn operator(units: &[Unit], mode: u8) -> Option<Found>
+// The element at the front that is neither a name nor a keyword.
+fn other(units: &[Unit], mode: u8) -> Option<Found>
     requires { length units.now < 2 ^ 32 }
-    ensures { (at : ℕ) → Takes (table (rows_of Other)) at mode (characters units.now) result }
+    ensures { (at : ℕ) → Takes (table others) at mode (characters units.now) result }
 {
-    found_of(Spell::Token(Class::Punct), mode, longest_punctuation(units))
+    let by = Automaton {
+        classes: &CLASSES,
+        steps: &STEPS,
+        ends: &ENDS,
+    };
+    longest_found(by, &SPELLS, mode, units)
 }
 
-// The comment or operator at the front, which is a slash.
-fn behind_slash(units: &[Unit], mode: u8) -> Option<Found>
-    requires some { 0 < length units.now }
-    requires short { length units.now < 2 ^ 32 }
-    requires slash { slice_index_or (characters units.now) 0 0 ≡ 47 }
+/// The element at the front, if there is no byte order mark.
+pub(crate) fn taken(units: &[Unit], mode: u8) -> Option<Found>
+    requires { length units.now < 2 ^ 32 }
     ensures { (at : ℕ) → Takes unmarked at mode (characters units.now) result }
 {
-    if second_is(units, '*') {
+    if opens_comment(units, '*') {
         return found_of(Spell::Comment, mode, longest_block_comment(units));
     }
-    if second_is(units, '/') {
+    if opens_comment(units, '/') {
         return found_of(
             Spell::Comment,
             mode,
             longest_line_comment(LineEnds::Feed, units),
         );
     }
-    operator(units, mode)
-}
-
-/// The element at the front, if there is no byte order mark. Its first character decides which scanners to ask.
-pub(crate) fn taken(units: &[Unit], mode: u8) -> Option<Found>
-    requires some { 0 < length units.now }
-    requires short { length units.now < 2 ^ 32 }
-    ensures { (at : ℕ) → Takes unmarked at mode (characters units.now) result }
-{
-    let literal = Spell::Token(Class::Literal);
-    match front_of(units[0].ch) {
-        Front::Blank => found_of(Spell::Blank, mode, Some(1)),
-        Front::Letter => name(units, mode),
-        Front::Digit => found_of(literal, mode, longest_number(units)),
-        Front::Point => better(
-            found_of(literal, mode, longest_number(units)),
-            operator(units, mode),
-        ),
-        Front::Slash => behind_slash(units, mode),
-        Front::Double => found_of(
-            literal,
-            mode,
-            longest_quoted(Quote::Double, LineEnds::Feed, units),
-        ),
-        Front::Single => found_of(
-            literal,
-            mode,
-            longest_quoted(Quote::Single, LineEnds::Feed, units),
-        ),
-        Front::Back => found_of(literal, mode, longest_raw(units)),
-        Front::Other => operator(units, mode),
+    if begins_name(units) {
+        return name(units, mode);
     }
+    other(units, mode)
 }

@@ -1,16 +1,14 @@
 //! The language Go: its names, keywords, operators, literals, comments and blanks, by the Go specification, and the
-//! semicolons that it inserts. One test recognises a blank first. The first character of any other element selects its
-//! scanner, which looks at each unit once, up to the first that cannot continue it; two scanners look at a point. A
-//! character of ASCII in a name costs a look into a table, and the name is compared with the keywords of its first
-//! letter and its length. It takes no memory. The units of a text of n bytes take at most 12 n bytes; the semicolons
-//! cost one look at each byte between two tokens, and one move of each token.
+//! semicolons that it inserts. One test recognises a blank first. Names and comments have scanners of their own; one
+//! table scans every other element, which costs a look into it for each unit, up to the first that cannot continue
+//! the element. A character of ASCII in a name costs a look into a table, and the name is compared with the keywords
+//! of its first letter and its length. It takes no memory. The units of a text of n bytes take at most 12 n bytes; the
+//! semicolons cost one look at each byte between two tokens, and one move of each token.
 #![tactic(auto)]
 
 mod element;
 mod language;
-mod number;
-mod operator;
-mod raw;
+mod scanner;
 mod semicolon;
 mod words;
 

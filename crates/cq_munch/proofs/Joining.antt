@@ -90,12 +90,12 @@ module _ (test : ℕ → ℕ → List ℕ → Bool) (rows : List Row) (lang : La
       (λ spell m some within x. MatchBool-at_false (InTable rows spell (take m text)) (lang.tried at mode text spell (take m text)) h x) r taken
 
 -- two tables, one behind the other
-in_append : (xs ys : List Row) (spell : Spell) (s : List ℕ) → InTable xs spell s ⊎ InTable ys spell s → InTable (xs ++ ys) spell s
+pub in_append : (xs ys : List Row) (spell : Spell) (s : List ℕ) → InTable xs spell s ⊎ InTable ys spell s → InTable (xs ++ ys) spell s
 in_append [] ys spell s h = ⊎_elim (λ a. absurd a) (λ b. b) h
 in_append (x ∷ xs) ys spell s h =
     ⊎_elim (λ a. ⊎_elim (λ own. inl own) (λ other. inr (in_append xs ys spell s (inl other))) a) (λ b. inr (in_append xs ys spell s (inr b))) h
 
-append_in : (xs ys : List Row) (spell : Spell) (s : List ℕ) → InTable (xs ++ ys) spell s → InTable xs spell s ⊎ InTable ys spell s
+pub append_in : (xs ys : List Row) (spell : Spell) (s : List ℕ) → InTable (xs ++ ys) spell s → InTable xs spell s ⊎ InTable ys spell s
 append_in [] ys spell s h = inr h
 append_in (x ∷ xs) ys spell s h =
     ⊎_elim (λ own. inl (inl own)) (λ other. ⊎_elim (λ a. inl (inr a)) (λ b. inr b) (append_in xs ys spell s other)) h

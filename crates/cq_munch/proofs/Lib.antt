@@ -4,6 +4,8 @@ pub mod Runs
 pub mod CommentScans
 pub mod Steps
 pub mod Tables
+pub mod Fitting
+pub mod Rowed
 pub mod WordLists
 pub mod AloneWords
 pub mod Reserved
@@ -16,6 +18,7 @@ pub mod Elements
 pub mod Joining
 pub mod Dispatch
 pub mod OneKind
+pub mod RowScans
 pub mod Marks
 pub mod Blanks
 pub mod MarkWords

@@ -4,6 +4,7 @@ pub mod ByLetter
 pub mod Pattern
 pub mod Digits
 pub mod Behind
+pub mod Automata
 pub mod LineEnds
 pub mod Comments
 pub mod Quotes
@@ -11,6 +12,7 @@ pub mod QuoteStates
 pub mod Characters
 pub mod Language
 pub mod Table
+pub mod Patterned
 pub mod Commented
 pub mod Fronts
 pub mod ListingMarks

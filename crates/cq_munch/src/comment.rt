@@ -7,8 +7,8 @@ ghost use Rattle.cq_munch.specs.Table.{begins};
 use crate::ends::{LineEnds, ends_line};
 use crate::unit::Unit;
 
-// Whether a slash and this character open a comment at the front.
-fn opens(units: &[Unit], second: char) -> bool
+/// Whether a slash and this character are at the front.
+pub fn opens_comment(units: &[Unit], second: char) -> bool
     ensures { result ≡ begins (47 ∷ second ∷ []) (characters units.now) }
 {
     match units {
@@ -29,7 +29,7 @@ fn closes(before: char, ch: char) -> bool
 pub fn longest_block_comment(units: &[Unit]) -> Option<usize>
     ensures { LongestAt IsBlockComment (characters units.now) result }
 {
-    if !opens(units, '*') {
+    if !opens_comment(units, '*') {
         return None;
     }
     let mut before = 2;
@@ -51,7 +51,7 @@ pub fn longest_block_comment(units: &[Unit]) -> Option<usize>
 pub fn longest_line_comment(ends: LineEnds, units: &[Unit]) -> Option<usize>
     ensures { LongestAt (IsLineComment ends) (characters units.now) result }
 {
-    if !opens(units, '/') {
+    if !opens_comment(units, '/') {
         return None;
     }
     for at in 2..units.len() {

@@ -1,10 +1,11 @@
 //! A text cut into its longest elements, once for every language. A language's tables are sets of spellings; `munch`
 //! is proved to give exactly the tokens that they define, or the first fault, or that there are too many, for every
-//! `Lexis`. Beside it is what a language's scanner is made of: machines that read a character at a time, comments,
-//! quoted texts, and the joining of rows. A machine looks at each unit once, or continues after units that were read
-//! without it. Memory grows with the units and the tokens.
+//! `Lexis`. Beside it is what a language's scanner is made of: tables that fit patterns, machines that read a character
+//! at a time, comments, quoted texts, and the joining of rows. A table or a machine looks at each unit once, and a
+//! machine may continue after units that were read without it. Memory grows with the units and the tokens.
 #![tactic(auto)]
 
+mod automaton;
 mod comment;
 mod cutting;
 mod element;
@@ -21,7 +22,8 @@ mod spelling;
 mod unit;
 mod words;
 
-pub use comment::{longest_block_comment, longest_line_comment};
+pub use automaton::{Automaton, longest_by, longest_found, longest_row};
+pub use comment::{longest_block_comment, longest_line_comment, opens_comment};
 pub use element::{Found, Spell};
 pub use ends::LineEnds;
 pub use lexis::{Lexis, Translated};

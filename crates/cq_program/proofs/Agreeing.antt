@@ -1,5 +1,5 @@
 -- What `export`, `ask` and `run` have written where each ended with 0.
-use Rattle.std.proofs.Common.{◌≡◌, ◌≢◌, ◌⊎◌, ◌==◌, ℕ, ◌+◌, Bool, true, false, MatchBool, List, [], ◌∷◌, ◌++◌, length, flat_map, Option, Some, None, refl, sym, ap, ◌∙◌, subst, inl, inr, arith}
+use Rattle.std.proofs.Common.{◌≡◌, ◌≢◌, ◌⊎◌, ◌==◌, ℕ, ◌+◌, Bool, true, false, MatchBool, List, [], ◌∷◌, ◌++◌, length, flat_map, Option, Some, None, refl, sym, ap, ◌∙◌, subst, inl, inr}
 use Rattle.std.specs.Prelude.{codes}
 use Rattle.std.specs.Io.KnownBytes.{Appends, Consumes, IsAtEnd}
 use Rattle.std.specs.List.{AllByRecursion}
@@ -23,8 +23,10 @@ use Rattle.cq_lines.specs.Serving.{Serves}
 use Rattle.cq_lines.specs.declared.ending.End.{End}
 use Rattle.cq_lines.specs.declared.ending.End.TheVariants as end
 use Rattle.cq_program.proofs.Closing.{lines_behind}
-use Rattle.cq_program.specs.Agreeing.{IsWhole, TellsNoMemory, Ends, RunWrites, ExportWrites, AskWrites, AskedAsRun}
-use Rattle.cq_program.specs.Top.{status_of, status_of_asked, status_of_exported, AreAlone}
+use Rattle.cq_program.specs.Agreeing.{IsWhole, TellsNoMemory, Piped, RunWrites, ExportWrites, AskWrites, AskedAsRun}
+use Rattle.cq_program.specs.Statuses.{status_of, status_of_asked, status_of_exported}
+use Rattle.cq_program.specs.Top.{AreAlone}
+use Rattle.cq_program.specs.declared.status.Status.TheVariants as ended
 use Rattle.cq_reply.proofs.Shorts.{memory_line}
 use Rattle.cq_reply.specs.Written.{line_of as reply_line}
 use Rattle.cq_reply.specs.declared.reply.Reply.{Reply}
@@ -96,7 +98,7 @@ record Told (Are : List (List ℕ) → List Reply → Type 0) (input output : Li
 no_memory : (Are : List (List ℕ) → List Reply → Type 0) (input output : List ℕ) (told : Told Are input output) → TellsNoMemory output → AreTold told.replies
 no_memory Are input output told tells = none_told told.replies (subst TellsNoMemory told.output_is tells)
 
-served : (Are : List (List ℕ) → List Reply → Type 0) (limit : ℕ) (rest rest_now was now : Option (List ℕ)) (by : End) (input before output : List ℕ) → rest ≡ Some input → was ≡ Some before → now ≡ Some (before ++ output) → status_of by ≡ 0
+served : (Are : List (List ℕ) → List Reply → Type 0) (limit : ℕ) (rest rest_now was now : Option (List ℕ)) (by : End) (input before output : List ℕ) → rest ≡ Some input → was ≡ Some before → now ≡ Some (before ++ output) → status_of by ≡ ended.Done
     → Serves reply_line Are limit rest rest_now was now by → Told Are input output
 served Are limit rest rest_now was now end.Finished input before output left is then zero serves =
     let replied = serves.served.2 in
@@ -105,12 +107,12 @@ served Are limit rest rest_now was now end.Finished input before output left is 
       talk = subst (λ (bytes : List ℕ). Are (all_lines bytes) replied.replies) (all_read rest rest_now input serves.got left serves.bytes serves.served.0) replied.talk;
       output_is = all_written was now before output (flat_map reply_line replied.replies) is then replied.written;
     }
-served Are limit rest rest_now was now end.ReadFault input before output left is then zero serves = let no : 2 ≡ 0 = zero in absurd (omega (arith, no))
-served Are limit rest rest_now was now end.WriteFault input before output left is then zero serves = let no : 3 ≡ 0 = zero in absurd (omega (arith, no))
-served Are limit rest rest_now was now end.Spent input before output left is then zero serves = let no : 6 ≡ 0 = zero in absurd (omega (arith, no))
+served Are limit rest rest_now was now end.ReadFault input before output left is then zero serves = let no : ended.ReadFault ≡ ended.Done = zero in absurd (cc)
+served Are limit rest rest_now was now end.WriteFault input before output left is then zero serves = let no : ended.WriteFault ≡ ended.Done = zero in absurd (cc)
+served Are limit rest rest_now was now end.Spent input before output left is then zero serves = let no : ended.Spent ≡ ended.Done = zero in absurd (cc)
 
-not_four : (status : ℕ) → status ≡ 0 → status ≢ 4
-not_four status zero is = omega (arith, zero, is)
+done_not_refused : ended.Done ≢ ended.Memory
+done_not_refused is = absurd (cc)
 
 -- ---- the three commands
 
@@ -125,11 +127,11 @@ module _ {S K : Type 0} (from : source.Ghosts S) (onto : sink.Ghosts K) where
       let e = ran.ends in
       elim (either (ran.workers == 0) (ran.runs (record { settings = set; workers = ran.workers }) ran.asked)) [
         | inl runs ↦
-            let s = runs (not_four 0 refl) in
+            let s = runs (done_not_refused) in
             let told = served (AreAlone set ran.reads ran.reads_now) set.byte_limit (from.rest e.read) (from.rest e.read_now) (onto.written e.written) (onto.written e.written_now) s.by input e.before output e.input_is e.before_is e.output_is (sym s.status_is) s.serves in
             record { replies = told.replies; talk = told.talk.beside; output_is = told.output_is }
         | inr runs ↦
-            let s = runs (not_four 0 refl) in
+            let s = runs (done_not_refused) in
             let told = served (AreWithWorkers set (ran.workers + 2) ran.workers ran.reads ran.reads_now) set.byte_limit (from.rest e.read) (from.rest e.read_now) (onto.written e.written) (onto.written e.written_now) s.by input e.before output e.input_is e.before_is e.output_is (sym s.status_is) s.serves in
             record { replies = told.replies; talk = told.talk.beside; output_is = told.output_is }
       ]
@@ -153,9 +155,9 @@ record Read (L : Type 0) (set : Settings) (input output : List ℕ) : Type 0 whe
   told : Told (AnswersLines snapshot set) behind output
 
 module _ (L : Type 0) {S K : Type 0} (from : source.Ghosts S) (onto : sink.Ghosts K) where
-  written_by : (set : Settings) (project input output : List ℕ) (e : Ends from onto input output) (by : Exported) → Exports L from onto set project e.read e.read_now e.written e.written_now by → status_of_exported by ≡ 0 → Written L set project input output
-  written_by set project input output e exported.Refused exports zero = let no : 7 ≡ 0 = zero in absurd (omega (arith, no))
-  written_by set project input output e exported.TooLarge exports zero = let no : 9 ≡ 0 = zero in absurd (omega (arith, no))
+  written_by : (set : Settings) (project input output : List ℕ) (e : Piped from onto input output) (by : Exported) → Exports L from onto set project e.read e.read_now e.written e.written_now by → status_of_exported by ≡ ended.Done → Written L set project input output
+  written_by set project input output e exported.Refused exports zero = let no : ended.LineRefused ≡ ended.Done = zero in absurd (cc)
+  written_by set project input output e exported.TooLarge exports zero = let no : ended.TooLarge ≡ ended.Done = zero in absurd (cc)
   written_by set project input output e (exported.Ended end.Finished) exports zero =
       let taken = exports.taken in
       let file = exports.writes in
@@ -167,18 +169,18 @@ module _ (L : Type 0) {S K : Type 0} (from : source.Ghosts S) (onto : sink.Ghost
         is = exports.is;
         is_file = subst (IsTokenFile set exports.snapshot) (sym (all_written (onto.written e.written) (onto.written e.written_now) e.before output file.0 e.before_is e.output_is file.2)) file.1;
       }
-  written_by set project input output e (exported.Ended end.ReadFault) exports zero = let no : 2 ≡ 0 = zero in absurd (omega (arith, no))
-  written_by set project input output e (exported.Ended end.WriteFault) exports zero = let no : 3 ≡ 0 = zero in absurd (omega (arith, no))
-  written_by set project input output e (exported.Ended end.Spent) exports zero = let no : 6 ≡ 0 = zero in absurd (omega (arith, no))
+  written_by set project input output e (exported.Ended end.ReadFault) exports zero = let no : ended.ReadFault ≡ ended.Done = zero in absurd (cc)
+  written_by set project input output e (exported.Ended end.WriteFault) exports zero = let no : ended.WriteFault ≡ ended.Done = zero in absurd (cc)
+  written_by set project input output e (exported.Ended end.Spent) exports zero = let no : ended.Spent ≡ ended.Done = zero in absurd (cc)
 
   export_written : (set : Settings) (project input output : List ℕ) → ExportWrites L from onto set project input output → Written L set project input output
   export_written set project input output did =
-      let one = did.exports (record { settings = set; project = project }) did.asked (not_four 0 refl) in
+      let one = did.exports (record { settings = set; project = project }) did.asked (done_not_refused) in
       written_by set project input output did.ends one.by one.exports (sym one.status_is)
 
-  read_by : (set : Settings) (input output : List ℕ) (e : Ends from onto input output) (by : Asked) → Asks L from onto set e.read e.read_now e.written e.written_now by → status_of_asked by ≡ 0 → Read L set input output
-  read_by set input output e kept.Refused asks zero = let no : 8 ≡ 0 = zero in absurd (omega (arith, no))
-  read_by set input output e (kept.Ended by) (inl first) zero = let no : 2 ≡ 0 = ap status_of (sym first.ended) ∙ zero in absurd (omega (arith, no))
+  read_by : (set : Settings) (input output : List ℕ) (e : Piped from onto input output) (by : Asked) → Asks L from onto set e.read e.read_now e.written e.written_now by → status_of_asked by ≡ ended.Done → Read L set input output
+  read_by set input output e kept.Refused asks zero = let no : ended.FileRefused ≡ ended.Done = zero in absurd (cc)
+  read_by set input output e (kept.Ended by) (inl first) zero = let no : ended.ReadFault ≡ ended.Done = ap status_of (sym first.ended) ∙ zero in absurd (cc)
   read_by set input output e (kept.Ended by) (inr (answered, cause)) zero =
       let left = left_behind answered.behind input answered.file (subst (λ (r : Option (List ℕ)). Consumes r answered.behind answered.file) e.input_is answered.taken) in
       record {
@@ -192,7 +194,7 @@ module _ (L : Type 0) {S K : Type 0} (from : source.Ghosts S) (onto : sink.Ghost
 
   ask_read : (set : Settings) (input output : List ℕ) → AskWrites L from onto set input output → Read L set input output
   ask_read set input output did =
-      let one = did.asks set did.asked (not_four 0 refl) in
+      let one = did.asks set did.asked (done_not_refused) in
       read_by set input output did.ends one.by one.asks (sym one.status_is)
 
   -- ---- all three

@@ -1,6 +1,5 @@
 -- A command that no end failed is done, unless memory was refused.
-use Rattle.std.proofs.Common.{◌≡◌, ◌⊎◌, ◌<◌, ◌||◌, ℕ, ◌+◌, Bool, true, false, List, length, Option, Some, None, Result, Ok, Err, refl, ap, ◌∙◌, subst, inl, inr, ⊎_elim, arith, length-append}
-use Rattle.std.proofs.lemmas.Bool.{eqb-true}
+use Rattle.std.proofs.Common.{◌≡◌, ◌⊎◌, ◌<◌, ℕ, ◌+◌, List, length, Option, Some, None, Result, Ok, Err, refl, ap, ◌∙◌, subst, inl, inr, ⊎_elim, arith, length-append}
 use Rattle.std.specs.Io.KnownBytes.{Consumes}
 use Rattle.cq_base.specs.declared.settings.Settings.{Settings}
 use Rattle.cq_io.specs.Causes.{Rose, HasCause}
@@ -21,8 +20,10 @@ use Rattle.cq_reply.specs.Written.{line_of as reply_line}
 use Rattle.cq_export.specs.Exports.{Exports}
 use Rattle.cq_export.specs.declared.exporting.Exported.{Exported}
 use Rattle.cq_export.specs.declared.exporting.Exported.TheVariants as exported
-use Rattle.cq_program.specs.Top.{status_of, status_of_asked, status_of_exported, end_of, AreAlone}
+use Rattle.cq_program.specs.Statuses.{status_of, status_of_asked, status_of_exported, end_of}
+use Rattle.cq_program.specs.Top.{AreAlone}
 use Rattle.cq_program.specs.Complete.{IsQuiet, HasFewer, SessionsComplete, SessionsBesideComplete, ScriptsComplete, MadeComplete, ListensComplete, AsksComplete, ExportsComplete}
+use Rattle.cq_program.specs.declared.status.Status.TheVariants as ended
 
 not_rose : (before now : ℕ) → IsQuiet before now → Rose before now → ⊥
 not_rose before now quiet (inl less) = omega (arith, less, quiet.0)
@@ -36,20 +37,15 @@ not_spent : (limit : ℕ) (rest rest_now : Option (List ℕ)) (got : List ℕ) �
 not_spent limit rest rest_now got bytes all few = not_spent_of few.0 limit rest_now got (subst (λ (r : Option (List ℕ)). Consumes r rest_now got) few.1 bytes) all few.2
 
 module _ {R : Type 0} (line_of : R → List ℕ) (Are : List (List ℕ) → List R → Type 0) where
-  done_by : (limit : ℕ) (rest rest_now before written_now : Option (List ℕ)) (source source_now sink sink_now : ℕ) (by : End) → Serves line_of Are limit rest rest_now before written_now by → HasEndCause source source_now sink sink_now by → IsQuiet source source_now → IsQuiet sink sink_now → HasFewer limit rest → status_of by ≡ 0
+  done_by : (limit : ℕ) (rest rest_now before written_now : Option (List ℕ)) (source source_now sink sink_now : ℕ) (by : End) → Serves line_of Are limit rest rest_now before written_now by → HasEndCause source source_now sink sink_now by → IsQuiet source source_now → IsQuiet sink sink_now → HasFewer limit rest → status_of by ≡ ended.Done
   done_by limit rest rest_now before written_now source source_now sink sink_now end.Finished serves cause read written few = refl
   done_by limit rest rest_now before written_now source source_now sink sink_now end.Spent serves cause read written few = absurd (not_spent limit rest rest_now serves.got serves.bytes serves.served.0 few)
   done_by limit rest rest_now before written_now source source_now sink sink_now end.ReadFault serves cause read written few = absurd (not_rose source source_now read cause.0)
   done_by limit rest rest_now before written_now source source_now sink sink_now end.WriteFault serves cause read written few = absurd (not_rose sink sink_now written cause.0)
 
-made_by : (sink sink_now : ℕ) (by : Result (Unit {0}) Failed) → HasCause sink sink_now by → IsQuiet sink sink_now → status_of (end_of by) ≡ 0
+made_by : (sink sink_now : ℕ) (by : Result (Unit {0}) Failed) → HasCause sink sink_now by → IsQuiet sink sink_now → status_of (end_of by) ≡ ended.Done
 made_by sink sink_now (Ok sent) cause written = refl
 made_by sink sink_now (Err failed) cause written = absurd (not_rose sink sink_now written cause.failed)
-
-either : (a b c : Bool) → (a || (b || c)) ≡ true → (a ≡ true) ⊎ ((b ≡ true) ⊎ (c ≡ true))
-either true b c is = inl refl
-either false true c is = inr (inl refl)
-either false false c is = inr (inr is)
 
 pub sessions_complete : SessionsComplete
 sessions_complete set reads reads_now rest rest_now before written_now source source_now sink sink_now status is read written few other =
@@ -72,10 +68,16 @@ made_complete number files before written_now sink sink_now status is written ot
     m.status_is ∙ made_by sink sink_now m.by m.cause written
 
 pub listens_complete : ListensComplete
-listens_complete address bound_now left left_now doors doors_now status listened rose quiet other =
-    ⊎_elim (λ zero. eqb-true status 0 zero)
-    (λ more. ⊎_elim (λ four. absurd (other (eqb-true status 4 four))) (λ five. absurd (not_rose doors doors_now quiet (rose (eqb-true status 5 five)))) more)
-    (either _ _ _ listened.0)
+listens_complete address bound_now left left_now doors doors_now ended.Done listened quiet other = refl
+listens_complete address bound_now left left_now doors doors_now ended.Memory listened quiet other = absurd (other refl)
+listens_complete address bound_now left left_now doors doors_now ended.DoorsFault listened quiet other = absurd (not_rose doors doors_now quiet listened)
+listens_complete address bound_now left left_now doors doors_now ended.Arguments listened quiet other = absurd listened
+listens_complete address bound_now left left_now doors doors_now ended.ReadFault listened quiet other = absurd listened
+listens_complete address bound_now left left_now doors doors_now ended.WriteFault listened quiet other = absurd listened
+listens_complete address bound_now left left_now doors doors_now ended.Spent listened quiet other = absurd listened
+listens_complete address bound_now left left_now doors doors_now ended.LineRefused listened quiet other = absurd listened
+listens_complete address bound_now left left_now doors doors_now ended.FileRefused listened quiet other = absurd listened
+listens_complete address bound_now left left_now doors doors_now ended.TooLarge listened quiet other = absurd listened
 
 -- what is left behind some bytes is fewer than they were with it
 fewer_of : (limit : ℕ) (bytes : List ℕ) (behind : Option (List ℕ)) (file : List ℕ) → Consumes (Some bytes) behind file → length bytes < limit → HasFewer limit behind
@@ -86,7 +88,7 @@ fewer_behind : (limit : ℕ) (rest behind : Option (List ℕ)) (file : List ℕ)
 fewer_behind limit rest behind file taken few = fewer_of limit few.0 behind file (subst (λ (r : Option (List ℕ)). Consumes r behind file) few.1 taken) few.2
 
 module _ (L : Type 0) {S K : Type 0} (from : source.Ghosts S) (onto : sink.Ghosts K) where
-  asked_by : (set : Settings) (read read_now : S) (written written_now : K) (by : Asked) → Asks L from onto set read read_now written written_now by → IsQuiet (from.faults read) (from.faults read_now) → IsQuiet (onto.faults written) (onto.faults written_now) → HasFewer set.byte_limit (from.rest read) → (status_of_asked by ≡ 0) ⊎ (status_of_asked by ≡ 8)
+  asked_by : (set : Settings) (read read_now : S) (written written_now : K) (by : Asked) → Asks L from onto set read read_now written written_now by → IsQuiet (from.faults read) (from.faults read_now) → IsQuiet (onto.faults written) (onto.faults written_now) → HasFewer set.byte_limit (from.rest read) → (status_of_asked by ≡ ended.Done) ⊎ (status_of_asked by ≡ ended.FileRefused)
   asked_by set read read_now written written_now kept.Refused asks quiet_read quiet_written few = inr refl
   asked_by set read read_now written written_now (kept.Ended by) (inl first) quiet_read quiet_written few = absurd (not_rose (from.faults read) (from.faults read_now) quiet_read first.rose)
   asked_by set read read_now written written_now (kept.Ended by) (inr (answered, cause)) quiet_read quiet_written few =
@@ -98,7 +100,7 @@ module _ (L : Type 0) {S K : Type 0} (from : source.Ghosts S) (onto : sink.Ghost
       let asked = is other in
       ⊎_elim (λ zero. inl (asked.status_is ∙ zero)) (λ eight. inr (asked.status_is ∙ eight)) (asked_by set read read_now written written_now asked.by asked.asks quiet_read quiet_written few)
 
-  exported_by : (set : Settings) (project : List ℕ) (read read_now : S) (written written_now : K) (by : Exported) → Exports L from onto set project read read_now written written_now by → IsQuiet (from.faults read) (from.faults read_now) → IsQuiet (onto.faults written) (onto.faults written_now) → HasFewer set.byte_limit (from.rest read) → (status_of_exported by ≡ 0) ⊎ ((status_of_exported by ≡ 7) ⊎ (status_of_exported by ≡ 9))
+  exported_by : (set : Settings) (project : List ℕ) (read read_now : S) (written written_now : K) (by : Exported) → Exports L from onto set project read read_now written written_now by → IsQuiet (from.faults read) (from.faults read_now) → IsQuiet (onto.faults written) (onto.faults written_now) → HasFewer set.byte_limit (from.rest read) → (status_of_exported by ≡ ended.Done) ⊎ ((status_of_exported by ≡ ended.LineRefused) ⊎ (status_of_exported by ≡ ended.TooLarge))
   exported_by set project read read_now written written_now exported.Refused exports quiet_read quiet_written few = inr (inl refl)
   exported_by set project read read_now written written_now exported.TooLarge exports quiet_read quiet_written few = inr (inr refl)
   exported_by set project read read_now written written_now (exported.Ended end.Finished) exports quiet_read quiet_written few = inl refl

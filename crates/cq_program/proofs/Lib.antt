@@ -1,5 +1,5 @@
 pub mod Complete
-pub mod Kept
-mod Sent
+mod Kept
+mod Ended
 mod Closing
 mod Agreeing

@@ -12,6 +12,7 @@ use Rattle.cq_reply.specs.Written.{line_of as reply_line}
 use Rattle.cq_reply.specs.declared.reply.Reply.TheVariants as reply
 use Rattle.cq_words.specs.Command.{command_of}
 use Rattle.cq_words.specs.declared.command.Command.TheVariants as command
+use Rattle.cq_program.specs.declared.status.Status.TheVariants as ended
 
 -- there are no bytes, or a line feed ends them
 abbrev pub IsWhole : List ℕ → Type 0
@@ -23,7 +24,7 @@ TellsNoMemory bytes = AllByRecursion (λ (line : List ℕ). ended line ≢ reply
 
 module _ {S K : Type 0} (from : source.Ghosts S) (onto : sink.Ghosts K) where
   -- a source that has these bytes left, and a sink that they are added to, as a command finds them and as it leaves them
-  pub record Ends (input output : List ℕ) : Type 0 where
+  pub record Piped (input output : List ℕ) : Type 0 where
     pub read : S
     pub read_now : S
     pub written : K
@@ -33,32 +34,32 @@ module _ {S K : Type 0} (from : source.Ghosts S) (onto : sink.Ghosts K) where
     pub before_is : onto.written written ≡ Some before
     pub output_is : onto.written written_now ≡ Some (before ++ output)
 
-  -- words that ask for `run`, with workers or none, ended with 0 over the input, and the output was written
+  -- words that ask for `run`, with workers or none, was done over the input, and the output was written
   pub record RunWrites (set : Settings) (input output : List ℕ) : Type 0 where
     pub words : List (List ℕ)
     pub workers : ℕ
     pub asked : command_of words ≡ Some (command.Run (record { settings = set; workers = workers }))
     pub reads : ℕ
     pub reads_now : ℕ
-    pub ends : Ends input output
-    pub runs : RunsFor from onto words reads reads_now ends.read ends.read_now ends.written ends.written_now 0
+    pub ends : Piped input output
+    pub runs : RunsFor from onto words reads reads_now ends.read ends.read_now ends.written ends.written_now ended.Done
 
 module _ (L : Type 0) {S K : Type 0} (from : source.Ghosts S) (onto : sink.Ghosts K) where
   -- words that ask for `export` of the project ended so
   pub record ExportWrites (set : Settings) (project input output : List ℕ) : Type 0 where
     pub words : List (List ℕ)
     pub asked : command_of words ≡ Some (command.Export (record { settings = set; project = project }))
-    pub ends : Ends from onto input output
-    pub exports : ExportsFor L from onto words ends.read ends.read_now ends.written ends.written_now 0
+    pub ends : Piped from onto input output
+    pub exports : ExportsFor L from onto words ends.read ends.read_now ends.written ends.written_now ended.Done
 
   -- words that ask for `ask` ended so
   pub record AskWrites (set : Settings) (input output : List ℕ) : Type 0 where
     pub words : List (List ℕ)
     pub asked : command_of words ≡ Some (command.Ask set)
-    pub ends : Ends from onto input output
-    pub asks : AsksFor L from onto words ends.read ends.read_now ends.written ends.written_now 0
+    pub ends : Piped from onto input output
+    pub asks : AsksFor L from onto words ends.read ends.read_now ends.written ends.written_now ended.Done
 
-  -- Where each of the three ended with 0 under the same settings, and no reply tells that memory was refused: `export` wrote
+  -- Where each of the three was done under the same settings, and no reply tells that memory was refused: `export` wrote
   -- the file for the changes, `ask` its output for this file and questions on the project behind it, and `run` its own for the
   -- changes and the questions. Then `run` has written the number of each change, and behind these what `ask` has written.
   abbrev pub AskedAsRun : Type 0

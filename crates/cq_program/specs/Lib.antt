@@ -1,3 +1,4 @@
+pub mod Statuses
 pub mod Top
 pub mod Complete
 pub mod Agreeing

@@ -1,10 +1,11 @@
-ghost use Rattle.std.specs.Prelude.{◌≡◌, ◌≢◌, ◌≤◌, List, ℕ, IsSome, Some};
+ghost use Rattle.std.specs.Prelude.{◌≡◌, ◌≤◌, List, ℕ, IsSome, Some};
 ghost use Rattle.cq_base.specs.Settings.{IsInRange};
-ghost use Rattle.cq_io.specs.Causes.{Rose};
 ghost use Rattle.cq_words.specs.Command.{command_of};
 ghost use Rattle.cq_words.specs.declared.command.Command.TheVariants as command;
-ghost use Rattle.cq_program.specs.Top.{AskToListen, HasListened};
+ghost use Rattle.cq_program.specs.Statuses.{HasListened};
+ghost use Rattle.cq_program.specs.Top.{AskToListen};
 
+use crate::status::Status;
 use cq_base::{Counters, Memory, Settings, Text};
 use cq_chain::Pass;
 use cq_io::{Doors, Failed, Gate, Sink, Source};
@@ -18,9 +19,6 @@ use std::sync::Wait;
 use std::sync::ledger::{Blank, Ledger};
 use std::thread::Threads;
 
-/// The status if a call of the doors failed.
-const DOORS_FAILED: u8 = 5;
-
 // Whether a call of the doors failed while they were served. They were served as the words ask: by their settings, with as
 // many workers and as many sessions.
 fn has_failed(_words: &[Text], served: Served) -> bool
@@ -30,7 +28,7 @@ fn has_failed(_words: &[Text], served: Served) -> bool
     served.failed
 }
 
-// Serves the connections of doors that are bound, over a shared hub that is made for them, and answers the status.
+// Serves the connections of doors that are bound, over a shared hub that is made for them.
 fn serve_clients<
     Q: Threads + Wait + Sync,
     L: Ledger + Send + Sync,
@@ -48,7 +46,7 @@ fn serve_clients<
     workers: u32,
     sessions: u32,
     blank: Blank,
-) -> u8
+) -> Status
     requires name { blank.name ≡ L.name }
     requires parts { blank.parts ≡ L.parts }
     requires asked { AskToListen words.now settings.now workers sessions }
@@ -56,12 +54,9 @@ fn serve_clients<
     requires bound { IsSome (D.bound doors.old) }
     requires workers { workers ≤ 64 }
     requires sessions { (1 ≤ sessions) × (sessions ≤ 64) }
-    ensures others { (result ≢ 1) × (result ≢ 2) × (result ≢ 3) × (result ≢ 6) × (result ≤ 6) }
-    ensures memory { result ≡ 4 → doors.new ≡ doors.old }
-    ensures doors_fault { result ≡ 5 → Rose (D.faults doors.old) (D.faults doors.new) }
-    ensures finished { result ≡ 0 → D.faults doors.new ≡ D.faults doors.old }
     ensures listens { (address : List ℕ) → D.bound doors.old ≡ Some address
-        → HasListened address (D.bound doors.new) (D.left doors.old) (D.left doors.new) result }
+        → HasListened address (D.bound doors.new) (D.left doors.old) (D.left doors.new)
+        (D.faults doors.old) (D.faults doors.new) result }
 {
     let counters: Counters<L> = Counters::new(blank);
     // One caller is the calling thread's, one each session's, and one each worker's.
@@ -70,41 +65,37 @@ fn serve_clients<
         rt, alloc, settings, callers,
     );
     let Ok((hub, pass)) = made else {
-        return 4;
+        return Status::Memory;
     };
     match serve(
         rt, alloc, settings, &counters, &hub, pass, doors, gate, workers, sessions,
     ) {
         Ok(served) => if has_failed(words, served) {
-            DOORS_FAILED
+            Status::DoorsFault
         } else {
-            0
+            Status::Done
         },
-        Err(Memory) => 4,
+        Err(Memory) => Status::Memory,
     }
 }
 
 /// Listens at the address, and serves the connections that come until no more will, on as many threads as there are to be
-/// sessions, with workers beside them. The answer is the status: 5 where a call of the doors failed, which is also where the
-/// address can't be bound, and 4 for want of memory before a door is asked for.
+/// sessions, with workers beside them. A call of the doors also failed if the address can't be bound. Memory is refused only
+/// before a door is asked for.
 pub(crate) fn listen<
     Q: Threads + Wait + Sync,
     I: Source + Send + Drop,
     O: Sink + Send + Drop,
     D: Doors<In = I, Out = O>,
     G: Gate + Sync,
->(rt: &Q, alloc: Global, words: &[Text], asked: Listen, doors: &mut D, gate: &G) -> u8
+>(rt: &Q, alloc: Global, words: &[Text], asked: Listen, doors: &mut D, gate: &G) -> Status
     requires words { command_of words.now ≡ Some (command.Listen asked) }
     requires in_range { IsInRange asked.settings }
     requires workers { asked.workers ≤ 64 }
     requires sessions { (1 ≤ asked.sessions) × (asked.sessions ≤ 64) }
-    ensures others { (result ≢ 1) × (result ≢ 2) × (result ≢ 3) × (result ≢ 6) × (result ≤ 6) }
-    ensures memory { result ≡ 4 → (D.faults doors.new ≡ D.faults doors.old)
-        × (D.left doors.new ≡ D.left doors.old) }
-    ensures doors_fault { result ≡ 5 → Rose (D.faults doors.old) (D.faults doors.new) }
-    ensures finished { result ≡ 0 → D.faults doors.new ≡ D.faults doors.old }
     ensures listens { HasListened asked.address
-        (D.bound doors.new) (D.left doors.old) (D.left doors.new) result }
+        (D.bound doors.new) (D.left doors.old) (D.left doors.new)
+        (D.faults doors.old) (D.faults doors.new) result }
 {
     let Listen {
         settings,
@@ -125,6 +116,6 @@ pub(crate) fn listen<
             sessions,
             Blank::new(1),
         ),
-        Err(Failed) => DOORS_FAILED,
+        Err(Failed) => Status::DoorsFault,
     }
 }

@@ -5,8 +5,8 @@ use cq_export::a_written_version_answers_as_a_session_beside;
 use cq_io::{Sink, Source};
 use std::sync::ledger::Ledger;
 
-/// Where no count of faults rose, and fewer bytes came than may be read, whatever meets the clauses of `top` ends with 0, or
-/// with 4 for want of memory.
+/// If no count of faults rose, and fewer bytes came than may be read, whatever meets the clauses of `top` is done, unless
+/// memory was refused.
 pub fn a_command_that_nothing_fails_is_done()
     ensures sessions { SessionsComplete }
     ensures beside { SessionsBesideComplete }
@@ -15,22 +15,21 @@ pub fn a_command_that_nothing_fails_is_done()
     ensures listens { ListensComplete }
 {}
 
-/// Where no count of faults rose, and fewer bytes came than may be read, what meets the clause of `top` on `ask` ends with 0,
-/// with 8 where they begin with no token file, or with 4 for want of memory.
+/// If no count of faults rose, and fewer bytes came than may be read, what meets the clause of `top` on `ask` is done, unless
+/// the bytes begin with no token file or memory was refused.
 pub fn a_kept_version_that_nothing_fails_is_asked<S: Source, K: Sink, L: Ledger>()
     ensures { AsksComplete L S.Source K.Sink }
 {}
 
-/// Where no count of faults rose, and fewer bytes came than may be read, what meets the clause of `top` on `export` ends with
-/// 0, with 7 where a line is no change that is accepted, with 9 where the file would be too large, or with 4 for want of
-/// memory.
+/// If no count of faults rose, and fewer bytes came than may be read, what meets the clause of `top` on `export` is done,
+/// unless a line is no change that is accepted, the file would be too large, or memory was refused.
 pub fn a_version_that_nothing_fails_is_written<S: Source, K: Sink, L: Ledger>()
     ensures { ExportsComplete L S.Source K.Sink }
 {}
 
-/// Where `export`, `ask` and `run` meet the clauses of `top` with 0, under the same settings: what `ask` writes for the file that
-/// `export` wrote for some changes, and questions behind it, is what `run` writes for these questions behind these changes,
-/// unless a reply tells that memory was refused. `run` may have any number of workers, and none.
+/// If `export`, `ask` and `run` meet the clauses of `top` and are done, under the same settings: what `ask` writes for the file
+/// that `export` wrote for some changes, and questions after it, is what `run` writes for these questions after these changes,
+/// unless a reply reports that memory was refused. `run` may have any number of workers, and none.
 pub fn what_was_exported_is_asked_as_run<S: Source, K: Sink, L: Ledger>()
     ensures { AskedAsRun L S.Source K.Sink }
 {

@@ -1,23 +1,24 @@
-ghost use Rattle.std.specs.Prelude.{◌≡◌, ◌≢◌, ◌↔◌, ◌≤◌, true, false, None, Some};
+ghost use Rattle.std.specs.Prelude.{◌≡◌, ◌↔◌, ◌≤◌, true, false, None, Some};
 ghost use Rattle.cq_base.specs.Settings.{IsInRange};
-ghost use Rattle.cq_io.specs.Causes.{Rose};
 ghost use Rattle.cq_tokask.specs.Kept.{TakesNoLine};
-ghost use Rattle.cq_program.specs.Top.{AsksFile, AsksFor, Drives, DrivesFor, ExportsFile, ExportsFor, ListensFor, MakesFor, MakesLine, Runs, RunsAsked, RunsFor, TakesNoLineFor, is_ask, is_export, takes_first};
+ghost use Rattle.cq_program.specs.Statuses.{Ends, EndsUnread};
+ghost use Rattle.cq_program.specs.Top.{AsksFile, AsksFor, Drives, DrivesFor, EndsFor, ExportsFile, ExportsFor, ListensFor, MakesFor, MakesLine, Runs, RunsAsked, RunsFor, TakesNoLineFor, takes_first};
 ghost use Rattle.cq_names.specs.Names.{is_project};
+ghost use Rattle.cq_program.specs.declared.status.Status.TheVariants as ended;
 ghost use Rattle.cq_words.specs.Command.{command_of, connections_of};
 ghost use Rattle.cq_words.specs.declared.command.Command.TheVariants as command;
 ghost use Rattle.cq_words.specs.declared.command.Listen.{Listen};
 ghost use Rattle.cq_words.specs.declared.command.Make.{Make};
 
 use crate::clients::listen;
-use crate::status::{status_of, status_of_asked, status_of_exported};
+use crate::status::{Status, status_of, status_of_asked, status_of_exported};
 use crate::workers::serve_with_workers;
 use cq_base::{Memory, Settings, Steps, Text};
 use cq_drive::drive;
 use cq_export::export;
 use cq_hub::{Solo, SoloPass};
 use cq_io::{Doors, Failed, Gate, Sink, Source};
-use cq_lines::{End, Lines};
+use cq_lines::Lines;
 use cq_make::make;
 use cq_session::session;
 use cq_talk::{talks_alone, talks_beside};
@@ -38,27 +39,21 @@ fn serve<R: Threads + Sync, S: Source, K: Sink, G: Gate, L: Ledger>(
     sink: &mut K,
     gate: &G,
     steps: &mut Steps<L>,
-) -> u8
+) -> Status
     requires in_range { IsInRange settings.now }
-    ensures others { (result ≢ 1) × (result ≢ 5) × (result ≤ 6) }
-    ensures memory { result ≡ 4 → (source.new ≡ source.old) × (sink.new ≡ sink.old) }
-    ensures read_fault { result ≡ 2 → Rose (S.faults source.old) (S.faults source.new) }
-    ensures write_fault { result ≡ 3 → Rose (K.faults sink.old) (K.faults sink.new) }
-    ensures finished { result ≡ 0 → (S.faults source.new ≡ S.faults source.old)
-        × (K.faults sink.new ≡ K.faults sink.old) }
-    ensures spent { result ≡ 6 → (S.faults source.new ≡ S.faults source.old)
-        × (K.faults sink.new ≡ K.faults sink.old) }
+    ensures untaken { result ≡ ended.Memory → source.new ≡ source.old }
+    ensures ends { Ends S.Source K.Sink result source.old source.new sink.old sink.new }
     ensures runs { Runs S.Source K.Sink settings.now steps.old steps.new
         source.old source.new sink.old sink.new result }
 {
     let of = *settings;
     let Ok(key) = Box::new(alloc, move |codes: &[u64]| plain_key(&of, codes)) else {
-        return 4;
+        return Status::Memory;
     };
     let keyer = Keyer::new(settings, key);
     let made: Result<(Solo<Work<L>>, SoloPass<Work<L>>), Memory> = Solo::new(alloc, settings);
     let Ok((hub, mut pass)) = made else {
-        return 4;
+        return Status::Memory;
     };
     match Lines::new(alloc, settings.byte_limit) {
         Ok(mut lines) => {
@@ -69,7 +64,7 @@ fn serve<R: Threads + Sync, S: Source, K: Sink, G: Gate, L: Ledger>(
             );
             status_of(end)
         }
-        Err(Memory) => 4,
+        Err(Memory) => Status::Memory,
     }
 }
 
@@ -82,17 +77,11 @@ fn run_with<Q: Threads + Wait + Sync, S: Source, K: Sink, G: Gate + Sync, L: Led
     sink: &mut K,
     gate: &G,
     steps: &mut Steps<L>,
-) -> u8
+) -> Status
     requires in_range { IsInRange asked.settings }
     requires few { asked.workers ≤ 64 }
-    ensures others { (result ≢ 1) × (result ≢ 5) × (result ≤ 6) }
-    ensures memory { result ≡ 4 → (source.new ≡ source.old) × (sink.new ≡ sink.old) }
-    ensures read_fault { result ≡ 2 → Rose (S.faults source.old) (S.faults source.new) }
-    ensures write_fault { result ≡ 3 → Rose (K.faults sink.old) (K.faults sink.new) }
-    ensures finished { result ≡ 0 → (S.faults source.new ≡ S.faults source.old)
-        × (K.faults sink.new ≡ K.faults sink.old) }
-    ensures spent { result ≡ 6 → (S.faults source.new ≡ S.faults source.old)
-        × (K.faults sink.new ≡ K.faults sink.old) }
+    ensures untaken { result ≡ ended.Memory → source.new ≡ source.old }
+    ensures ends { Ends S.Source K.Sink result source.old source.new sink.old sink.new }
     ensures runs { RunsAsked S.Source K.Sink asked steps.old steps.new
         source.old source.new sink.old sink.new result }
 {
@@ -111,30 +100,24 @@ fn driven<R: Threads + Sync, S: Source, K: Sink, L: Ledger>(
     source: &mut S,
     sink: &mut K,
     steps: &mut Steps<L>,
-) -> u8
+) -> Status
     requires in_range { IsInRange settings.now }
-    ensures others { (result ≢ 1) × (result ≢ 5) × (result ≤ 6) }
-    ensures memory { result ≡ 4 → (source.new ≡ source.old) × (sink.new ≡ sink.old) }
-    ensures read_fault { result ≡ 2 → Rose (S.faults source.old) (S.faults source.new) }
-    ensures write_fault { result ≡ 3 → Rose (K.faults sink.old) (K.faults sink.new) }
-    ensures finished { result ≡ 0 → (S.faults source.new ≡ S.faults source.old)
-        × (K.faults sink.new ≡ K.faults sink.old) }
-    ensures spent { result ≡ 6 → (S.faults source.new ≡ S.faults source.old)
-        × (K.faults sink.new ≡ K.faults sink.old) }
+    ensures untaken { result ≡ ended.Memory → source.new ≡ source.old }
+    ensures ends { Ends S.Source K.Sink result source.old source.new sink.old sink.new }
     ensures drives { Drives S.Source K.Sink settings.now
         source.old source.new sink.old sink.new result }
 {
     let of = *settings;
     let Ok(key) = Box::new(alloc, move |codes: &[u64]| plain_key(&of, codes)) else {
-        return 4;
+        return Status::Memory;
     };
     let keyer = Keyer::new(settings, key);
     let Ok(mut lines) = Lines::new(alloc, settings.byte_limit) else {
-        return 4;
+        return Status::Memory;
     };
     match drive(rt, alloc, settings, &keyer, &mut lines, source, sink, steps) {
         Ok(end) => status_of(end),
-        Err(Memory) => 4,
+        Err(Memory) => Status::Memory,
     }
 }
 
@@ -145,14 +128,9 @@ fn made<R: Threads + Sync, K: Sink, L: Ledger>(
     asked: Make,
     sink: &mut K,
     steps: &mut Steps<L>,
-) -> u8
+) -> Status
     requires few { asked.files ≤ 10000 }
-    ensures others { (result ≢ 1) × (result ≢ 5) × (result ≤ 6) }
-    ensures read_fault { result ≢ 2 }
-    ensures spent { result ≢ 6 }
-    ensures memory { result ≡ 4 → sink.new ≡ sink.old }
-    ensures write_fault { result ≡ 3 → Rose (K.faults sink.old) (K.faults sink.new) }
-    ensures finished { result ≡ 0 → K.faults sink.new ≡ K.faults sink.old }
+    ensures ends { EndsUnread K.Sink result sink.old sink.new }
     ensures makes { MakesLine K.Sink asked sink.old sink.new result }
 {
     match make(
@@ -164,9 +142,9 @@ fn made<R: Threads + Sync, K: Sink, L: Ledger>(
         sink,
         steps,
     ) {
-        Ok(Ok(())) => status_of(End::Finished),
-        Ok(Err(Failed)) => status_of(End::WriteFault),
-        Err(Memory) => 4,
+        Ok(Ok(())) => Status::Done,
+        Ok(Err(Failed)) => Status::WriteFault,
+        Err(Memory) => Status::Memory,
     }
 }
 
@@ -178,30 +156,21 @@ fn kept<R: Threads + Sync, S: Source, K: Sink, L: Ledger>(
     source: &mut S,
     sink: &mut K,
     steps: &mut Steps<L>,
-) -> u8
+) -> Status
     requires in_range { IsInRange settings.now }
-    ensures others { (result ≢ 1) × (result ≢ 5) × (result ≢ 7) × (result ≢ 9) }
-    ensures memory { result ≡ 4 → sink.new ≡ sink.old }
-    ensures no_file { result ≡ 8 → (S.faults source.new ≡ S.faults source.old)
-        × (sink.new ≡ sink.old) }
-    ensures read_fault { result ≡ 2 → Rose (S.faults source.old) (S.faults source.new) }
-    ensures write_fault { result ≡ 3 → Rose (K.faults sink.old) (K.faults sink.new) }
-    ensures finished { result ≡ 0 → (S.faults source.new ≡ S.faults source.old)
-        × (K.faults sink.new ≡ K.faults sink.old) }
-    ensures spent { result ≡ 6 → (S.faults source.new ≡ S.faults source.old)
-        × (K.faults sink.new ≡ K.faults sink.old) }
+    ensures ends { Ends S.Source K.Sink result source.old source.new sink.old sink.new }
     ensures asks { AsksFile L S.Source K.Sink settings.now
         source.old source.new sink.old sink.new result }
-    ensures no_line { result ≡ 4 → TakesNoLine L S.Source settings.now source.old source.new }
+    ensures no_line { result ≡ ended.Memory → TakesNoLine L S.Source settings.now source.old source.new }
 {
     let of = *settings;
     let Ok(key) = Box::new(alloc, move |codes: &[u64]| plain_key(&of, codes)) else {
-        return 4;
+        return Status::Memory;
     };
     let keyer = Keyer::new(settings, key);
     match ask(rt, alloc, settings, &keyer, source, sink, steps) {
         Ok(asked) => status_of_asked(asked),
-        Err(Memory) => 4,
+        Err(Memory) => Status::Memory,
     }
 }
 
@@ -212,27 +181,16 @@ fn exported<S: Source, K: Sink, L: Ledger>(
     source: &mut S,
     sink: &mut K,
     steps: &mut Steps<L>,
-) -> u8
+) -> Status
     requires in_range { IsInRange asked.now.settings }
     requires project { is_project asked.now.project ≡ true }
-    ensures others { (result ≢ 1) × (result ≢ 5) × (result ≢ 8) }
-    ensures memory { result ≡ 4 → sink.new ≡ sink.old }
-    ensures refused { result ≡ 7 → (S.faults source.new ≡ S.faults source.old)
-        × (sink.new ≡ sink.old) }
-    ensures too_large { result ≡ 9 → (S.faults source.new ≡ S.faults source.old)
-        × (sink.new ≡ sink.old) }
-    ensures read_fault { result ≡ 2 → Rose (S.faults source.old) (S.faults source.new) }
-    ensures write_fault { result ≡ 3 → Rose (K.faults sink.old) (K.faults sink.new) }
-    ensures finished { result ≡ 0 → (S.faults source.new ≡ S.faults source.old)
-        × (K.faults sink.new ≡ K.faults sink.old) }
-    ensures spent { result ≡ 6 → (S.faults source.new ≡ S.faults source.old)
-        × (K.faults sink.new ≡ K.faults sink.old) }
+    ensures ends { Ends S.Source K.Sink result source.old source.new sink.old sink.new }
     ensures exports { ExportsFile L S.Source K.Sink asked.now
         source.old source.new sink.old sink.new result }
 {
     let of = asked.settings;
     let Ok(key) = Box::new(alloc, move |codes: &[u64]| plain_key(&of, codes)) else {
-        return 4;
+        return Status::Memory;
     };
     let keyer = Keyer::new(&asked.settings, key);
     match export(
@@ -245,12 +203,11 @@ fn exported<S: Source, K: Sink, L: Ledger>(
         steps,
     ) {
         Ok(ended) => status_of_exported(ended),
-        Err(Memory) => 4,
+        Err(Memory) => Status::Memory,
     }
 }
 
-/// The whole program: what the words ask for, over these ends. Its answer is the status with which the process is to
-/// end. `run` answers the lines of the source into the sink; `listen` the lines of each connection into it; `drive` steps a
+/// The whole program: what the arguments ask for, over these ends, and how that ended. `run` answers the lines of the source into the sink; `listen` the lines of each connection into it; `drive` steps a
 /// core by the lines of the source, and writes their outcomes; `make` writes one line; `export` writes the token file of the
 /// version that the changes of the source make; `ask` answers the lines behind the token file that the source begins with.
 /// Threads are started for the workers of `run` and `listen` and for the sessions of `listen` alone, and each is joined before
@@ -274,76 +231,53 @@ pub fn top<
     doors: &mut D,
     gate: &G,
     steps: &mut Steps<L>,
-) -> u8
-    // 1 exactly where the words are out of form, and nothing is read, written or asked then.
-    ensures words { (result ≡ 1) ↔ (command_of words.now ≡ None) }
-    ensures refused { result ≡ 1 → (source.new ≡ source.old) × (sink.new ≡ sink.old)
+) -> Status
+    // Exactly if the arguments are not valid, and nothing is read, written or asked then.
+    ensures arguments { (result ≡ ended.Arguments) ↔ (command_of words.now ≡ None) }
+    ensures refused { result ≡ ended.Arguments → (source.new ≡ source.old) × (sink.new ≡ sink.old)
         × (doors.new ≡ doors.old) }
 
-    // 4 for want of memory before a byte is written, and before a line is read or a connection is taken. `ask` may have taken
-    // bytes of the file then, none behind it, and `export` bytes of the lines.
-    ensures memory { result ≡ 4 → sink.new ≡ sink.old }
-    ensures untaken { result ≡ 4 → takes_first (command_of words.now) ≡ false
+    // Memory is refused before a line is read. `ask` may have taken bytes of the file by then, none after it, and `export`
+    // bytes of the lines.
+    ensures untaken { result ≡ ended.Memory → takes_first (command_of words.now) ≡ false
         → source.new ≡ source.old }
-    ensures unasked { result ≡ 4 → (D.faults doors.new ≡ D.faults doors.old)
-        × (D.left doors.new ≡ D.left doors.old) }
 
-    // 2, 3 and 5 only where the count of faults of that end rose; with 0 and 6 none rose.
-    ensures read_fault { result ≡ 2 → Rose (S.faults source.old) (S.faults source.new) }
-    ensures write_fault { result ≡ 3 → Rose (K.faults sink.old) (K.faults sink.new) }
-    ensures doors_fault { result ≡ 5 → Rose (D.faults doors.old) (D.faults doors.new) }
-    ensures finished { result ≡ 0 → (S.faults source.new ≡ S.faults source.old)
-        × (K.faults sink.new ≡ K.faults sink.old) × (D.faults doors.new ≡ D.faults doors.old) }
-    ensures spent { result ≡ 6 → (S.faults source.new ≡ S.faults source.old)
-        × (K.faults sink.new ≡ K.faults sink.old) × (D.faults doors.new ≡ D.faults doors.old) }
+    // What the status says of the source and the sink, for each command but `listen`.
+    ensures ends { EndsFor S.Source K.Sink words.now result source.old source.new sink.old sink.new }
 
-    // 8 for `ask` alone, and nothing is written then, and no fault rose.
-    ensures no_file { result ≡ 8 → (is_ask (command_of words.now) ≡ true)
-        × (S.faults source.new ≡ S.faults source.old)
-        × (sink.new ≡ sink.old) × (D.faults doors.new ≡ D.faults doors.old) }
-
-    // 7 and 9 for `export` alone, and nothing is written then, and no fault rose.
-    ensures no_changes { result ≡ 7 → (is_export (command_of words.now) ≡ true)
-        × (S.faults source.new ≡ S.faults source.old)
-        × (sink.new ≡ sink.old) × (D.faults doors.new ≡ D.faults doors.old) }
-    ensures too_large { result ≡ 9 → (is_export (command_of words.now) ≡ true)
-        × (S.faults source.new ≡ S.faults source.old)
-        × (sink.new ≡ sink.old) × (D.faults doors.new ≡ D.faults doors.old) }
-
-    // The doors are for `listen` alone, and the source and the sink are for the others. With 0 the doors of `listen` are bound
-    // to the address, and no connection is still to come, where they tell it.
+    // The doors are only for `listen`, and the source and the sink are for the others.
     ensures closed { connections_of words.now ≡ None → doors.new ≡ doors.old }
     ensures aside { (asked : Listen) → command_of words.now ≡ Some (command.Listen asked)
         → (source.new ≡ source.old) × (sink.new ≡ sink.old) }
     ensures listens { ListensFor words.now (D.bound doors.new)
-        (D.left doors.old) (D.left doors.new) result }
+        (D.left doors.old) (D.left doors.new) (D.faults doors.old) (D.faults doors.new) result }
 
-    // Every status of `run` but 4 is that of a session over all lines of the source: alone where there is no worker, and
-    // else with workers beside it.
+    // Unless memory is refused, the status of `run` is that of a session over all lines of the source: alone if there is no
+    // worker, and otherwise with workers beside it.
     ensures runs { RunsFor S.Source K.Sink words.now steps.old steps.new
         source.old source.new sink.old sink.new result }
 
-    // Every status of `drive` but 4 is that of a script of all lines of the source.
+    // That of `drive` is that of a script of all lines of the source.
     ensures drives { DrivesFor S.Source K.Sink words.now
         source.old source.new sink.old sink.new result }
 
-    // 8 of `ask` is that the source begins with no token file of the settings; every other status but 4 is that of a kept
-    // version, asked by all lines of the source behind its file, or of a read that failed before the file was whole.
+    // That of `ask` is that of a kept version, asked by all lines of the source after its file, or of a read that failed
+    // before the file was whole, or the source begins with no token file of the settings.
     ensures asks { AsksFor L S.Source K.Sink words.now
         source.old source.new sink.old sink.new result }
     ensures no_line { TakesNoLineFor L S.Source K.Sink words.now source.old source.new result }
 
-    // Every status of `export` but 4 is that of writing the version of the changes that all lines of the source say.
+    // That of `export` is that of writing the version of the changes that all lines of the source say.
     ensures exports { ExportsFor L S.Source K.Sink words.now
         source.old source.new sink.old sink.new result }
 
-    // Every status of `make` but 4 is that of sending the line of the project, and nothing is read.
+    // That of `make` is that of sending the line of the project, and nothing is read.
     ensures makes { MakesFor K.Sink words.now sink.old sink.new result }
     ensures unread { (asked : Make) → command_of words.now ≡ Some (command.Make asked)
         → source.new ≡ source.old }
 {
     if !is_command(words) {
-        return 1;
+        return Status::Arguments;
     }
     match read_command(alloc, words) {
         Ok(Some(Command::Run(run))) => run_with(rt, alloc, run, source, sink, gate, steps),
@@ -353,6 +287,6 @@ pub fn top<
         Ok(Some(Command::Export(asked))) => exported(alloc, &asked, source, sink, steps),
         Ok(Some(Command::Ask(settings))) => kept(rt, alloc, &settings, source, sink, steps),
         Ok(None) => unreachable!(),
-        Err(Memory) => 4,
+        Err(Memory) => Status::Memory,
     }
 }

@@ -1,9 +1,10 @@
-ghost use Rattle.std.specs.Prelude.{◌≡◌, ◌≢◌, ◌≤◌};
+ghost use Rattle.std.specs.Prelude.{◌≡◌, ◌≤◌};
 ghost use Rattle.cq_base.specs.Settings.{IsInRange};
-ghost use Rattle.cq_io.specs.Causes.{Rose};
+ghost use Rattle.cq_program.specs.Statuses.{Ends};
 ghost use Rattle.cq_program.specs.Top.{RunsBeside};
+ghost use Rattle.cq_program.specs.declared.status.Status.TheVariants as ended;
 
-use crate::status::status_of;
+use crate::status::{Status, status_of};
 use cq_base::{Memory, Steps};
 use cq_beside::serve_one;
 use cq_chain::Pass;
@@ -33,17 +34,11 @@ pub(crate) fn serve_with_workers<
     sink: &mut K,
     gate: &G,
     steps: &mut Steps<L>,
-) -> u8
+) -> Status
     requires in_range { IsInRange asked.now.settings }
     requires few { asked.now.workers ≤ 64 }
-    ensures others { (result ≢ 1) × (result ≢ 5) × (result ≤ 6) }
-    ensures memory { result ≡ 4 → (source.new ≡ source.old) × (sink.new ≡ sink.old) }
-    ensures read_fault { result ≡ 2 → Rose (S.faults source.old) (S.faults source.new) }
-    ensures write_fault { result ≡ 3 → Rose (K.faults sink.old) (K.faults sink.new) }
-    ensures finished { result ≡ 0 → (S.faults source.new ≡ S.faults source.old)
-        × (K.faults sink.new ≡ K.faults sink.old) }
-    ensures spent { result ≡ 6 → (S.faults source.new ≡ S.faults source.old)
-        × (K.faults sink.new ≡ K.faults sink.old) }
+    ensures untaken { result ≡ ended.Memory → source.new ≡ source.old }
+    ensures ends { Ends S.Source K.Sink result source.old source.new sink.old sink.new }
     ensures runs { RunsBeside S.Source K.Sink asked.now steps.old steps.new
         source.old source.new sink.old sink.new result }
 {
@@ -51,7 +46,7 @@ pub(crate) fn serve_with_workers<
     let workers = asked.workers;
     let of = *settings;
     let Ok(key) = Box::new(alloc, move |codes: &[u64]| plain_key(&of, codes)) else {
-        return 4;
+        return Status::Memory;
     };
     let keyer = Keyer::new(settings, key);
     // One caller is the first pass's, one the session's, and one each worker's.
@@ -60,7 +55,7 @@ pub(crate) fn serve_with_workers<
         rt, alloc, settings, callers,
     );
     let Ok((hub, pass)) = made else {
-        return 4;
+        return Status::Memory;
     };
     match Lines::new(alloc, settings.byte_limit) {
         Ok(mut lines) => {
@@ -70,6 +65,6 @@ pub(crate) fn serve_with_workers<
             );
             status_of(end)
         }
-        Err(Memory) => 4,
+        Err(Memory) => Status::Memory,
     }
 }

@@ -1,9 +1,15 @@
 //! Replies, written as lines of JSON. The line of a reply is one definition over `serde_json`'s own compact text, its
-//! keys in byte order, and `write_reply` gives exactly that. A reply of n bytes is written once, into one buffer; the
-//! four short ones that a server must always be able to give take no memory at all.
+//! keys in byte order, and `line_of` gives exactly that. A reply of n bytes is written from its rows straight into one
+//! buffer; the four short ones that a server must always be able to give take no memory at all.
 #![tactic(auto)]
 
+mod files;
+mod functions;
+mod groups;
 mod line;
+mod measures;
+mod member;
+mod refusal;
 mod reply;
 mod short;
 mod value;
@@ -11,8 +17,9 @@ mod write;
 
 pub use line::{Fixed, Line};
 pub use reply::{
-    FileRow, FileRows, FunctionRows, GroupRow, GroupRows, PlaceRow, PlaceRows, Reply, Shown,
+    FileRow, FileRows, FunctionRows, GroupRow, GroupRows, PlaceRow, PlaceRows, Reply, SharedPath,
+    Shown,
 };
 pub use short::{Short, fixed};
 pub use value::measures_members;
-pub use write::{line_of, write_reply};
+pub use write::line_of;

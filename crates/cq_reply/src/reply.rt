@@ -1,14 +1,47 @@
 ghost use Rattle.std.specs.Prelude.{◌≡◌};
+ghost use Rattle.std.specs.Arc.{arc_value};
 
 use cq_base::{Lang, Measures, Text};
 use cq_func::Function;
 use cq_measures::Verdict;
+use std::alloc::Global;
 use std::marker::Model;
+use std::sync::Arc;
+
+/// The path of a file, which all rows of a reply share with the file. Contracts see it as the list of its bytes.
+#[derive(Drop)]
+pub struct SharedPath {
+    text: Arc<Text, Global>,
+}
+
+impl Model for SharedPath {
+    ghost use Rattle.std.specs.Prelude.{List, ℕ};
+    ghost use Rattle.std.specs.Arc.{arc_value};
+
+    ghost Value = { List ℕ };
+
+    ghost view = { λ p. arc_value p.text };
+}
+
+impl SharedPath {
+    pub fn new(text: Arc<Text, Global>) -> SharedPath
+        ensures { result ≡ arc_value text }
+    {
+        SharedPath { text }
+    }
+
+    /// Its bytes, which are lent.
+    pub fn as_bytes(&self) -> &[u8]
+        ensures { result.now ≡ self.now }
+    {
+        self.text.as_bytes()
+    }
+}
 
 /// A place of a group: the path of its file, its first token there from 0, and its first and last line from 1.
 #[derive(Drop)]
 pub struct PlaceRow {
-    pub path: Text,
+    pub path: SharedPath,
     pub at: u32,
     pub first: u32,
     pub last: u32,
@@ -93,7 +126,7 @@ pub enum Shown {
 /// A file of a project: the change that put it, its language, its lines, and how many tokens of it are listed.
 #[derive(Drop)]
 pub struct FileRow {
-    pub path: Text,
+    pub path: SharedPath,
     pub change: u64,
     pub lang: Lang,
     pub lines: u64,

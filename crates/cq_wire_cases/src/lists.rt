@@ -1,19 +1,29 @@
 ghost use Rattle.std.specs.Prelude.{IfOk};
+ghost use Rattle.std.specs.Str.{IsUtf8};
 ghost use Rattle.cq_reply.specs.Written.{IsFileText, IsFunctionText, IsPlaceText};
 
 use crate::writing::is_written;
 use cq_base::{Lang, Memory, Text};
 use cq_func::Function;
 use cq_reply::{
-    FileRow, FileRows, FunctionRows, GroupRow, GroupRows, PlaceRow, PlaceRows, Reply, Shown,
+    FileRow, FileRows, FunctionRows, GroupRow, GroupRows, PlaceRow, PlaceRows, Reply, SharedPath,
+    Shown,
 };
 use std::alloc::Global;
+use std::sync::Arc;
+
+fn shared(alloc: Global, path: &str) -> Result<SharedPath, Memory>
+    ensures { IfOk result IsUtf8 }
+{
+    let text = Text::from_bytes(alloc, path.as_bytes())?;
+    Ok(SharedPath::new(Arc::new(alloc, text)?))
+}
 
 fn file_row(alloc: Global, lang: Lang, shown: Shown) -> Result<FileRow, Memory>
     ensures { IfOk result IsFileText }
 {
     Ok(FileRow {
-        path: Text::from_bytes(alloc, "a/é".as_bytes())?,
+        path: shared(alloc, "a/é")?,
         change: 1,
         lang,
         lines: 2,
@@ -80,7 +90,7 @@ fn place_row(alloc: Global, path: &str, at: u32) -> Result<PlaceRow, Memory>
     ensures { IfOk result IsPlaceText }
 {
     Ok(PlaceRow {
-        path: Text::from_bytes(alloc, path.as_bytes())?,
+        path: shared(alloc, path)?,
         at,
         first: 1,
         last: 2,

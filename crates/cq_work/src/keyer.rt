@@ -1,33 +1,66 @@
 ghost use Rattle.std.specs.Prelude.{◌≡◌, ◌≤◌, ◌<◌, ◌^◌, length, IfOk};
+ghost use Rattle.std.specs.Option.{ForSome};
 ghost use Rattle.cq_work.specs.Keys as spec;
 
 use crate::code::codes_of;
+use crate::plain::plain_key;
 use crate::rolling::{rolled, weight};
 use cq_base::{Keys, Memory, Norm, Settings};
 use std::alloc::Global;
 
 type Key = Box<dyn Fn(&[u64]) -> u64 + Send + Sync>;
 
-/// Gives the keys of a file's windows: that of the first by a closure, which it keeps beside the facts that it may always
-/// be called and answers each window's key, and each other from the key before.
+// A closure beside the facts that it may always be called and answers each window's key.
 #[derive(Drop)]
-pub struct Keyer {
-    pub settings: Settings,
+struct Folder {
+    settings: Settings,
     key: Box<dyn Fn(&[u64]) -> u64 + Send + Sync>,
     ghost callable: { Key.IsAlwaysCallable key },
     ghost exact: { spec.GivesKeys (Key.post key) settings },
 }
 
+impl Folder {
+    fn key(&self, codes: &[u64]) -> u64
+        ensures { length codes.now ≡ self.now.settings.chunk
+            → result ≡ spec.key_of self.now.settings codes.now }
+    {
+        (self.key)(codes)
+    }
+}
+
+/// Gives the keys of a file's windows: that of the first by `plain_key`, or by a closure that answers the same, and each
+/// other from the key before.
+#[derive(Drop)]
+pub struct Keyer {
+    pub settings: Settings,
+    folder: Option<Folder>,
+    ghost same: { ForSome folder (λ f. f.settings ≡ settings) },
+}
+
 impl Keyer {
+    /// A keyer by `plain_key`. It takes no memory.
+    pub fn plain(settings: &Settings) -> Keyer
+        ensures { result.settings ≡ settings.now }
+    {
+        Keyer {
+            settings: *settings,
+            folder: None,
+        }
+    }
+
     /// A keyer by a closure that may be called on any list, and answers the key of each list of `chunk` codes.
     pub fn new(settings: &Settings, key: Box<dyn Fn(&[u64]) -> u64 + Send + Sync>) -> Keyer
         requires callable { Key.IsAlwaysCallable key }
         requires exact { spec.GivesKeys (Key.post key) settings.now }
         ensures { result.settings ≡ settings.now }
     {
-        Keyer {
+        let folder = Folder {
             settings: *settings,
             key,
+        };
+        Keyer {
+            settings: *settings,
+            folder: Some(folder),
         }
     }
 
@@ -35,7 +68,10 @@ impl Keyer {
         ensures { length codes.now ≡ self.now.settings.chunk
             → result ≡ spec.key_of self.now.settings codes.now }
     {
-        (self.key)(codes)
+        match &self.folder {
+            Some(folder) => folder.key(codes),
+            None => plain_key(&self.settings, codes),
+        }
     }
 
     fn chunk(&self) -> usize
@@ -44,7 +80,7 @@ impl Keyer {
         self.settings.chunk as usize
     }
 
-    // The keys of the windows. Those behind the first are rolled on, and the closure is not called for them.
+    // The keys of the windows. Those after the first are rolled on, and no codes are folded for them.
     fn keys_of(&self, alloc: Global, codes: &[u64]) -> Result<Vec<u64>, Memory>
         requires some { 1 ≤ self.now.settings.chunk }
         ensures { IfOk result (λ v. v.items ≡ spec.keys_of self.now.settings codes.now) }
@@ -65,8 +101,8 @@ impl Keyer {
         Ok(keys)
     }
 
-    /// The keys of all windows of a file's tokens, in order. The closure is called once, or not at all where there are
-    /// fewer tokens than a window has.
+    /// The keys of all windows of a file's tokens, in order. A closure is called once, or not at all if there are fewer
+    /// tokens than a window has.
     pub fn keys(&self, alloc: Global, norms: &[Norm]) -> Result<Keys, Memory>
         requires few { length norms.now < 2 ^ 32 }
         requires some { 1 ≤ self.now.settings.chunk }

@@ -23,4 +23,4 @@ pub use keyer::Keyer;
 pub use keying::files_are_keyed_by_their_windows;
 pub use laws::works_are_bounded;
 pub use plain::plain_key;
-pub use work::{State, Work, work_of};
+pub use work::{State, Work, work_for, work_of};

@@ -1,4 +1,5 @@
 ghost use Rattle.std.specs.Prelude.{◌≡◌, ◌≤◌, length, IfOk, IsUtf8};
+ghost use Rattle.std.specs.Arc.{arc_value};
 ghost use Rattle.cq_work.specs.Work.{IsWorkOf};
 
 use crate::Keyer;
@@ -68,4 +69,22 @@ pub fn work_of<L: Ledger>(
         counts,
         functions,
     })
+}
+
+/// The work of a job's text, with an owner to hand to a hub or a board.
+pub fn work_for<L: Ledger>(
+    alloc: Global,
+    settings: &Settings,
+    keyer: &Keyer,
+    lang: Lang,
+    text: &Text,
+) -> Result<Arc<Work<L>, Global>, Memory>
+    requires utf8 { IsUtf8 text.now }
+    requires short { length text.now ≤ 1048576 }
+    requires some { 1 ≤ settings.now.chunk }
+    requires settings { keyer.now.settings ≡ settings.now }
+    ensures { IfOk result (λ work. IsWorkOf settings.now lang text.now (arc_value work)) }
+{
+    let work = work_of(alloc, settings, keyer, lang, text)?;
+    Ok(Arc::new(alloc, work)?)
 }

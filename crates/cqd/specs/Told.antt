@@ -1,15 +1,17 @@
--- What is told of how a run ended.
-use Rattle.std.specs.Prelude.{◌==◌, ℕ, List, codes, if◌then◌else◌}
+-- What is printed of how a run ended.
+use Rattle.std.specs.Prelude.{ℕ, List, Option, None, Some, codes}
+use Rattle.cq_program.specs.declared.status.Status.{Status}
+use Rattle.cq_program.specs.declared.status.Status.TheVariants as ended
 
--- the line on standard error that tells a status other than 0
-abbrev pub line_of : ℕ → List ℕ
-line_of status =
-    if status == 1 then codes "cqd: words refused"
-    else if status == 2 then codes "cqd: read fault"
-    else if status == 3 then codes "cqd: write fault"
-    else if status == 4 then codes "cqd: out of memory"
-    else if status == 5 then codes "cqd: doors failed"
-    else if status == 7 then codes "cqd: line refused"
-    else if status == 8 then codes "cqd: token file refused"
-    else if status == 9 then codes "cqd: too large"
-    else codes "cqd: byte limit"
+-- the line on standard error, if there is one
+abbrev pub line_of : Status → Option (List ℕ)
+line_of ended.Done = None
+line_of ended.Arguments = Some (codes "cqd: words refused")
+line_of ended.ReadFault = Some (codes "cqd: read fault")
+line_of ended.WriteFault = Some (codes "cqd: write fault")
+line_of ended.Memory = Some (codes "cqd: out of memory")
+line_of ended.DoorsFault = Some (codes "cqd: doors failed")
+line_of ended.Spent = Some (codes "cqd: byte limit")
+line_of ended.LineRefused = Some (codes "cqd: line refused")
+line_of ended.FileRefused = Some (codes "cqd: token file refused")
+line_of ended.TooLarge = Some (codes "cqd: too large")

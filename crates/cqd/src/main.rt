@@ -2,15 +2,16 @@
 //! and a counter that it is handed; `main` makes the real ones.
 #![tactic(auto)]
 
-ghost use Rattle.std.specs.Prelude.{◌≡◌, ◌≢◌, map, drop, string_bytes, IfOk};
+ghost use Rattle.std.specs.Prelude.{◌≡◌, ◌≢◌, map, drop, option_map, string_bytes, IfOk};
 ghost use Rattle.std.specs.IoError.{error_kind};
 ghost use Rattle.std.specs.declared.io.ErrorKind.TheVariants.{OutOfMemory};
 ghost use Rattle.std.specs.Vec.Iter.{into_iter_items};
+ghost use Rattle.cq_program.specs.declared.status.Status.TheVariants as ended;
 ghost use Rattle.cqd.specs.Told as spec;
 
 use cq_base::{Memory, Steps, Text};
 use cq_io::{OpenGate, StdSink, StdSource};
-use cq_program::top;
+use cq_program::{Status, top};
 use cq_sockets::TcpDoors;
 use cq_words::connections;
 use std::alloc::Global;
@@ -23,24 +24,21 @@ use std::sync::Wait;
 use std::sync::ledger::{Blank, Ledger};
 use std::thread::Threads;
 
-const WORDS_REFUSED: u8 = 1;
-
-const OUT_OF_MEMORY: u8 = 4;
-
-// What is told of a status other than 0.
-fn line_of(status: u8) -> &'static str
-    ensures { result.now ≡ spec.line_of status }
+// What is printed for a status, if it isn't that everything was done.
+fn line_of(status: Status) -> Option<&'static str>
+    ensures { option_map (λ line. line.now) result ≡ spec.line_of status }
 {
     match status {
-        1 => "cqd: words refused",
-        2 => "cqd: read fault",
-        3 => "cqd: write fault",
-        4 => "cqd: out of memory",
-        5 => "cqd: doors failed",
-        7 => "cqd: line refused",
-        8 => "cqd: token file refused",
-        9 => "cqd: too large",
-        _ => "cqd: byte limit",
+        Status::Done => None,
+        Status::Arguments => Some("cqd: words refused"),
+        Status::ReadFault => Some("cqd: read fault"),
+        Status::WriteFault => Some("cqd: write fault"),
+        Status::Memory => Some("cqd: out of memory"),
+        Status::DoorsFault => Some("cqd: doors failed"),
+        Status::Spent => Some("cqd: byte limit"),
+        Status::LineRefused => Some("cqd: line refused"),
+        Status::FileRefused => Some("cqd: token file refused"),
+        Status::TooLarge => Some("cqd: too large"),
     }
 }
 
@@ -69,7 +67,7 @@ fn words_of(alloc: Global, args: env::Args) -> Result<Vec<Text>, Memory>
 fn run<
     Q: Threads + Wait + Net<Listener = TcpListener, Stream = TcpStream> + Sync,
     L: Ledger + Send + Sync,
->(rt: &HostRuntime, handle: &Q, words: &[Text], connections: u32, blank: Blank) -> u8
+>(rt: &HostRuntime, handle: &Q, words: &[Text], connections: u32, blank: Blank) -> Status
     requires name { blank.name ≡ L.name }
     requires parts { blank.parts ≡ L.parts }
 {
@@ -91,37 +89,37 @@ fn run<
 }
 
 // The status of a run whose words could not be had: memory was refused, or one is not UTF-8.
-fn status_without_words(error: &Error) -> u8
-    ensures memory { error_kind error.now ≡ OutOfMemory → result ≡ 4 }
-    ensures refused { error_kind error.now ≢ OutOfMemory → result ≡ 1 }
+fn status_without_words(error: &Error) -> Status
+    ensures memory { error_kind error.now ≡ OutOfMemory → result ≡ ended.Memory }
+    ensures refused { error_kind error.now ≢ OutOfMemory → result ≡ ended.Arguments }
 {
     match error.kind() {
-        ErrorKind::OutOfMemory => OUT_OF_MEMORY,
-        _ => WORDS_REFUSED,
+        ErrorKind::OutOfMemory => Status::Memory,
+        _ => Status::Arguments,
     }
 }
 
 fn status<Q: Threads + Wait + Net<Listener = TcpListener, Stream = TcpStream> + Sync>(
     rt: &HostRuntime,
     handle: &Q,
-) -> u8 {
+) -> Status {
     let args = match env::args(rt) {
         Ok(args) => args,
         Err(error) => return status_without_words(&error),
     };
     let Ok(words) = words_of(rt.alloc(), args) else {
-        return OUT_OF_MEMORY;
+        return Status::Memory;
     };
     match connections(rt.alloc(), &words) {
         Ok(count) => run::<Q, Brand>(rt, handle, &words, count.unwrap_or(0), Blank::new(1)),
-        Err(Memory) => OUT_OF_MEMORY,
+        Err(Memory) => Status::Memory,
     }
 }
 
 fn main(rt: HostRuntime) -> ExitCode {
     let status = status(&rt, &rt);
-    if status != 0 {
-        let _ = rt.eprintln(line_of(status));
+    if let Some(line) = line_of(status) {
+        let _ = rt.eprintln(line);
     }
-    ExitCode::from(status)
+    ExitCode::from(status.code())
 }

@@ -53,7 +53,7 @@ fn ended<Q: Threads + Wait + Clock + Sync, L: Ledger + Send + Sync>(
     requires parts { blank.parts ≡ L.parts }
 {
     let mut steps: Steps<L> = Steps::new(blank);
-    top(rt, alloc, words, source, sink, doors, gate, &mut steps)
+    top(rt, alloc, words, source, sink, doors, gate, &mut steps).code()
 }
 
 fn ended_here<Q: Threads + Wait + Clock + Sync>(

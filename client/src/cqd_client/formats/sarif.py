@@ -83,8 +83,9 @@ def driver(version: str) -> dict[str, Any]:
     return {"name": "cqd", **({"version": version} if version else {}), "rules": RULES}
 
 
-def invocation(date: str) -> dict[str, Any]:
-    return {"executionSuccessful": True, **({"endTimeUtc": date} if date.endswith("Z") else {})}
+def invocation(report: Report) -> dict[str, Any]:
+    date = report.about.date
+    return {"executionSuccessful": not report.skipped, **({"endTimeUtc": date} if date.endswith("Z") else {})}
 
 
 def write(report: Report, out: TextIO) -> None:
@@ -97,7 +98,7 @@ def write(report: Report, out: TextIO) -> None:
             "tool": {"driver": driver(report.about.program)},
             "automationDetails": {"id": f"cqd/{report.project}/"},
             "columnKind": "utf16CodeUnits",
-            "invocations": [invocation(report.about.date)],
+            "invocations": [invocation(report)],
             "results": results,
             "properties": properties(report),
         }],

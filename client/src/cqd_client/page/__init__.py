@@ -39,7 +39,7 @@ def source_hash(text: str) -> str:
 
 
 def data(value: Any) -> Markup:
-    """JSON that may stand inside a script element: nothing in it ends the element or begins a comment."""
+    """JSON for the inside of a script element: nothing in it ends the element or begins a comment."""
     return Markup(json.dumps(value, ensure_ascii=False, separators=(",", ":")).replace("<", "\\u003c"))
 
 

@@ -96,7 +96,7 @@
     });
   }
 
-  // Whether two lines stand beside each other: both without tokens of the run, or with at least half of one's in the other.
+  // Whether two lines are shown side by side: both without tokens of the run, or with at least half of one's in the other.
   function isPair(a, b) {
     if (!a.isMarked || !b.isMarked) return true;
     if (!a.count || !b.count) return !a.count && !b.count && a.before === b.before;

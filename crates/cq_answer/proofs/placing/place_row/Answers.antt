@@ -33,6 +33,6 @@ returns g c =
     let at : c.args.place.at < length spans = omega (arith, ap length here, c.requires.inside.1, c.requires.some) in
     let end : c.args.place.at + c.args.tokens - 1 < length spans = omega (arith, ap length here, c.requires.inside.1, c.requires.some) in
     row_is _ _ c.args.place.at _ _ _ _
-    (c.in_ok-copied.ensures ∙ c.path_of.ensures ∙ sym path)
+    (c.in_ok-path_of.ensures ∙ sym path)
     (ap (λ (t : Token). t.first_line) (span_read _ _ c.args.place.at c.index.result.now here at c.index.ensures))
     (ap (λ (t : Token). t.last_line) (span_read _ _ (c.args.place.at + c.args.tokens - 1) c.index-2.result.now here end c.index-2.ensures))

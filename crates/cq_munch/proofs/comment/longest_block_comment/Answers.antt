@@ -3,11 +3,11 @@ use Rattle.cq_munch.specs.Characters.{characters}
 use Rattle.cq_munch.proofs.CommentScans.{opened_block, not_opened_block, one_open, two_open, closed_here, never_closed}
 use Rattle.cq_munch.proofs.comment.longest_block_comment.Goals as goal
 
-pub returns-then-not-opens : goal.returns-then-not-opens
-returns-then-not-opens c = not_opened_block (characters c.args.units.now) (sym c.opens.ensures ∙ c.if-not-opens.true)
+pub returns-then-not-opens_comment : goal.returns-then-not-opens_comment
+returns-then-not-opens_comment c = not_opened_block (characters c.args.units.now) (sym c.opens_comment.ensures ∙ c.if-not-opens_comment.true)
 
 pub loop-before-init : goal.loop-before-init
-loop-before-init c = record { near = omega arith; scan = opened_block (characters c.args.units.now) (sym c.opens.ensures ∙ c.if-not-opens.false) }
+loop-before-init c = record { near = omega arith; scan = opened_block (characters c.args.units.now) (sym c.opens_comment.ensures ∙ c.if-not-opens_comment.false) }
 
 pub returns-then-closes : goal.returns-then-closes
 returns-then-closes c = closed_here c.args.units.now c.loop-before.before c.loop-before-test.true c.loop-before.invariant.scan (sym c.if-closes.true ∙ c.closes.ensures)

@@ -1,4 +1,4 @@
-use Rattle.std.proofs.Common.{ℕ, [], map, ap, refl, subst}
+use Rattle.std.proofs.Common.{ℕ, [], map, ap, refl, subst, sym}
 use Rattle.cq_base.specs.declared.settings.Settings.{Settings}
 use Rattle.cq_history.specs.Lawful.{Lawful}
 use Rattle.cq_hub.specs.Solos.{solo_lawful}
@@ -8,8 +8,11 @@ use Rattle.cq_reply.specs.Written.{line_of}
 use Rattle.cq_session.specs.Costs.{counted}
 use Rattle.cq_session.specs.Turn.{CountedTalk}
 use Rattle.cq_talk.specs.Said.{said}
+use Rattle.cq_program.specs.Statuses.{Ends}
 use Rattle.cq_program.specs.Top.{AreAlone}
+use Rattle.cq_program.specs.declared.status.Status.{Status}
 use Rattle.cq_lines.proofs.Serving.{serves_as}
+use Rattle.cq_program.proofs.Ended.{ended_by}
 use Rattle.cq_program.proofs.program.serve.Goals as goal
 
 pub session-end-requires-clause-closed : goal.session-end-requires-clause-closed
@@ -22,7 +25,7 @@ returns-in-Ok-new-clause-runs g c = λ other.
     let law : Lawful c.args.settings.now 1 led.after = subst (λ (set : Settings). Lawful set 1 led.after) c.in-Ok-made.ensures.settings (solo_lawful _ _ 0 led.after _ _ led.stands) in
     record {
       by = c.session-end.result;
-      status_is = c.status_of.ensures;
+      status_is = c.status_of.ensures.status;
       serves = subst (λ (limit : ℕ). Serves line_of (AreAlone c.args.settings.now c.args.steps.now c.session-end.new.steps) limit (g.S.Source.rest c.args.source.now) (g.S.Source.rest c.session-end.new.source) (g.K.Sink.written c.args.sink.now) (g.K.Sink.written c.session-end.new.sink) c.session-end.result) (ap (λ (held : Held). held.limit) c.in-Ok-new.ensures)
           (serves_as line_of (CountedTalk c.args.settings.now 1 (Unit {0}) 0 [] (counted c.args.steps.now c.session-end.new.steps c.in-Ok-made.pass.asked c.session-end.new.pass.asked) led.after) (AreAlone c.args.settings.now c.args.steps.now c.session-end.new.steps)
           (λ lines replies counts. record {
@@ -35,3 +38,8 @@ returns-in-Ok-new-clause-runs g c = λ other.
           }) _ _ _ _ _ _ led.holds);
       cause = c.session-end.ensures.cause;
     }
+
+pub returns-in-Ok-new-clause-ends : goal.returns-in-Ok-new-clause-ends
+returns-in-Ok-new-clause-ends g c =
+    subst (λ (s : Status). Ends g.S.Source g.K.Sink s c.args.source.now c.session-end.new.source c.args.sink.now c.session-end.new.sink) (sym c.status_of.ensures.status)
+    (ended_by g.S.Source g.K.Sink c.args.source.now c.session-end.new.source c.args.sink.now c.session-end.new.sink c.session-end.result c.session-end.ensures.cause)

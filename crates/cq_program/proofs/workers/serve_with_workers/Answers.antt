@@ -1,9 +1,12 @@
-use Rattle.std.proofs.Common.{◌+◌, ℕ, ap, subst₂, arith}
+use Rattle.std.proofs.Common.{ℕ, ap, subst, subst₂, sym, arith}
 use Rattle.cq_beside.specs.Replies.{AreWithWorkers}
 use Rattle.cq_beside.specs.Served.{IsFirst}
 use Rattle.cq_lines.specs.Held.{Held}
 use Rattle.cq_lines.specs.Serving.{Serves}
 use Rattle.cq_reply.specs.Written.{line_of}
+use Rattle.cq_program.specs.Statuses.{Ends}
+use Rattle.cq_program.specs.declared.status.Status.{Status}
+use Rattle.cq_program.proofs.Ended.{ended_by}
 use Rattle.cq_program.proofs.workers.serve_with_workers.Goals as goal
 
 pub returns-in-Ok-new-clause-runs : goal.returns-in-Ok-new-clause-runs
@@ -15,8 +18,13 @@ returns-in-Ok-new-clause-runs g c = λ other.
     let first : IsFirst c.in-Ok-made.hub c.in-Ok-made.pass = record { none = made.stands.seen; first = made.stands.caller; room = omega (arith, callers, room) } in
     record {
       by = c.serve_one-end.result;
-      status_is = c.status_of.ensures;
+      status_is = c.status_of.ensures.status;
       serves = subst₂ (λ (limit all : ℕ). Serves line_of (AreWithWorkers asked.settings all asked.workers c.args.steps.now c.serve_one-end.new.steps) limit (g.S.Source.rest c.args.source.now) (g.S.Source.rest c.serve_one-end.new.source) (g.K.Sink.written c.args.sink.now) (g.K.Sink.written c.serve_one-end.new.sink) c.serve_one-end.result) (ap (λ (held : Held). held.limit) c.in-Ok-new.ensures) callers
           (c.serve_one-end.ensures.beside first);
       cause = c.serve_one-end.ensures.cause;
     }
+
+pub returns-in-Ok-new-clause-ends : goal.returns-in-Ok-new-clause-ends
+returns-in-Ok-new-clause-ends g c =
+    subst (λ (s : Status). Ends g.S.Source g.K.Sink s c.args.source.now c.serve_one-end.new.source c.args.sink.now c.serve_one-end.new.sink) (sym c.status_of.ensures.status)
+    (ended_by g.S.Source g.K.Sink c.args.source.now c.serve_one-end.new.source c.args.sink.now c.serve_one-end.new.sink c.serve_one-end.result c.serve_one-end.ensures.cause)

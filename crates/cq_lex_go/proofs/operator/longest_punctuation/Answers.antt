@@ -1,4 +1,0 @@
-use Rattle.cq_lex_go.proofs.operator.longest_punctuation.Goals as goal
-
-pub returns-then-begins_alone : goal.returns-then-begins_alone
-returns-then-begins_alone c = c.begins_alone.ensures c.if-begins_alone.true

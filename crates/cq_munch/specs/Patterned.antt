@@ -1,0 +1,45 @@
+-- The rows of a table by their patterns.
+use Rattle.std.specs.Prelude.{◌≡◌, ◌↔◌, ℕ, ◌==◌, ◌&&◌, not, nat_le, Bool, true, List, [], ◌∷◌, length, map, ⊤}
+use Rattle.cq_munch.specs.Automata.{Tables, entry_at, fits, or_else}
+use Rattle.cq_munch.specs.Behind.{each_below}
+use Rattle.cq_munch.specs.Pattern.{Pattern, never, empty, ◌▸◌, ◌∣◌, only, Spells}
+use Rattle.cq_munch.specs.Table.{Row}
+use Rattle.cq_munch.specs.declared.element.Spell.{Spell}
+
+-- one word, character by character
+abbrev pub one_word : List ℕ → Pattern
+one_word [] = empty
+one_word (c ∷ w) = only c ▸ one_word w
+
+-- one of the words
+abbrev pub any_word : List (List ℕ) → Pattern
+any_word [] = never
+any_word (w ∷ ws) = one_word w ∣ any_word ws
+
+-- what each row is, and its pattern
+abbrev pub Patterned : Type 0
+Patterned = List (Spell × Pattern)
+
+abbrev pub spells_of : Patterned → List Spell
+spells_of rows = map (λ (row : Spell × Pattern). row.0) rows
+
+abbrev pub patterns_of : Patterned → List Pattern
+patterns_of rows = map (λ (row : Spell × Pattern). row.1) rows
+
+abbrev pub rows_of : Patterned → List Row
+rows_of [] = []
+rows_of (row ∷ rows) = record { spell = row.0; set = Spells row.1 } ∷ rows_of rows
+
+-- the same rows, however their sets of spellings are written
+abbrev pub AreRowsOf : List Row → Patterned → Type 0
+AreRowsOf [] [] = ⊤
+AreRowsOf (row ∷ rows) (p ∷ ps) = (row.spell ≡ p.0) × ((s : List ℕ) → row.set s ↔ Spells p.1 s) × AreRowsOf rows ps
+AreRowsOf _ _ = ⊥
+
+-- the table finds just the spellings of these rows, in this order, and what they are
+abbrev pub FitsRows : Patterned → List (List ℕ) → List Spell → Tables → Type 0
+FitsRows rows texts spells t = (spells_of rows ≡ spells) × (fits (patterns_of rows) texts t ≡ true)
+
+-- no row has a spelling that begins with a character past ASCII, or with one that passes the test
+abbrev pub begins_none : (ℕ → Bool) → Tables → Bool
+begins_none test t = each_below 128 (λ c. or_else (not (test c)) (λ u. entry_at t 0 c == 0)) && ((entry_at t 0 128 == 0) && nat_le (length t.classes) 128)

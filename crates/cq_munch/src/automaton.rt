@@ -1,0 +1,117 @@
+ghost use Rattle.std.specs.Prelude.{◌≡◌, ℕ, suc, ◌-◌, ◌<◌, ◌^◌, IfNone, IfSome, List, [], ◌∷◌, length, slice_index_or, true};
+ghost use Rattle.cq_munch.specs.Automata.{class_at, fits, RowAt, tables_of};
+ghost use Rattle.cq_munch.specs.Characters.{characters};
+ghost use Rattle.cq_munch.specs.Longest.{LongestAt};
+ghost use Rattle.cq_munch.specs.Pattern.{Pattern, Spells};
+ghost use Rattle.cq_munch.specs.Language.{Takes};
+ghost use Rattle.cq_munch.specs.Patterned.{FitsRows, Patterned, rows_of};
+ghost use Rattle.cq_munch.specs.Table.{table};
+
+use crate::element::{Found, Spell};
+use crate::rows::found_of;
+use crate::unit::Unit;
+
+/// A scanner of some rows of spellings, as a table.
+#[derive(Clone, Copy)]
+pub struct Automaton<'a> {
+    /// The class of each character of ASCII; every other character has class 0.
+    pub classes: &'a [u8; 128],
+    /// For each state and class the character `0` if no spelling continues; else one that is as far after it as one more
+    /// than the next state. The first state is that of no characters.
+    pub steps: &'a [[u8; 32]],
+    /// For each state, one more than the row whose spellings may end there, or 0 if there is none.
+    pub ends: &'a [u8],
+}
+
+// The class of a character.
+fn class_of(classes: &[u8; 128], ch: char) -> u8
+    ensures { result ≡ class_at classes.now ch }
+{
+    if ch.is_ascii() {
+        classes[ch as usize]
+    } else {
+        0
+    }
+}
+
+// The state that an entry leads to.
+fn state_in(entry: u8) -> Option<u8>
+    ensures some { IfSome result (λ state. entry - 48 ≡ suc state) }
+    ensures none { IfNone result (entry - 48 ≡ 0) }
+{
+    if entry <= b'0' {
+        None
+    } else {
+        Some(entry - b'0' - 1)
+    }
+}
+
+// The state after a character of a class.
+fn next_of(steps: &[[u8; 32]], state: u8, class: u8) -> Option<u8>
+    ensures some { IfSome result (λ next. slice_index_or (slice_index_or steps.now state []) class 0 - 48 ≡ suc next) }
+    ensures none { IfNone result (slice_index_or (slice_index_or steps.now state []) class 0 - 48 ≡ 0) }
+{
+    if (state as usize) < steps.len() && class < 32 {
+        state_in(steps[state as usize][class as usize])
+    } else {
+        None
+    }
+}
+
+// The row whose spellings may end in a state.
+fn row_at(ends: &[u8], state: u8) -> Option<u8>
+    ensures some { IfSome result (λ row. slice_index_or ends.now state 0 ≡ suc row) }
+    ensures none { IfNone result (slice_index_or ends.now state 0 ≡ 0) }
+{
+    if (state as usize) < ends.len() && ends[state as usize] > 0 {
+        Some(ends[state as usize] - 1)
+    } else {
+        None
+    }
+}
+
+/// How many units the longest spelling at the front has, and its row. It reads up to the first unit with which no
+/// spelling continues, each once.
+pub fn longest_row(by: Automaton<'_>, units: &[Unit]) -> Option<(usize, u8)>
+    ensures { RowAt (tables_of by.entry) (characters units.now) result }
+{
+    let mut state = 0;
+    let mut found = None;
+    for i in 0..units.len() {
+        let Some(next) = next_of(by.steps, state, class_of(by.classes, units[i].ch)) else {
+            return found;
+        };
+        state = next;
+        if let Some(row) = row_at(by.ends, state) {
+            found = Some((i + 1, row));
+        }
+    }
+    found
+}
+
+/// How many units the longest spelling of a pattern at the front has, by a table that fits it. That it fits is computed:
+/// for each state there is a text that leads to it, and each step leaves what the pattern leaves.
+pub fn longest_by(by: Automaton<'_>, units: &[Unit]) -> Option<usize>
+    ensures { (p : Pattern) (texts : List (List ℕ)) → fits (p ∷ []) texts (tables_of by.entry) ≡ true
+        → LongestAt (Spells p) (characters units.now) result }
+{
+    match longest_row(by, units) {
+        Some((len, _)) => Some(len),
+        None => None,
+    }
+}
+
+/// The longest element at the front of the rows that a table fits; `spells` has what each row is.
+pub fn longest_found(by: Automaton<'_>, spells: &[Spell], mode: u8, units: &[Unit]) -> Option<Found>
+    requires { length units.now < 2 ^ 32 }
+    ensures { (rows : Patterned) (texts : List (List ℕ)) → FitsRows rows texts spells.now (tables_of by.entry)
+        → (at : ℕ) → Takes (table (rows_of rows)) at mode (characters units.now) result }
+{
+    match longest_row(by, units) {
+        Some((len, row)) => match spells.get(row as usize) {
+            Some(spell) => found_of(*spell, mode, Some(len)),
+            None => None,
+        },
+        None => None,
+    }
+}

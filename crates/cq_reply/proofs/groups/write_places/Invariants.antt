@@ -1,0 +1,7 @@
+use Rattle.std.proofs.Common.{take}
+use Rattle.cq_reply.specs.Added.{AddsEach}
+use Rattle.cq_reply.specs.Written.{place_data}
+use Rattle.cq_reply.proofs.groups.write_places.Given as goal
+
+abbrev pub invariant-loop-row : goal.invariant-loop-row
+invariant-loop-row l = AddsEach place_data (take l.row-index l.rows) l.initial.out l.out

@@ -1,0 +1,14 @@
+use Rattle.std.proofs.Common.{refl}
+use Rattle.cq_reply.proofs.Adding.{wrote, then, at_last}
+use Rattle.cq_reply.proofs.Read.{object_read}
+use Rattle.cq_reply.proofs.measures.write_measures.Goals as goal
+
+pub returns : goal.returns
+returns c =
+    let m = c.in_ok-write_members.ensures in
+    let ok = c.in_ok-write_flag.ensures in
+    let version = c.in_ok-write_number.ensures in
+    at_last _ c.end_object.result (then (then (then (then (wrote c.in_ok-begin_object.ensures) (wrote c.in_ok-key.ensures)) m.adds) ok.adds) version.adds) c.end_object.ensures (λ added. record {
+      adds = added;
+      reads = object_read _ (m.reads, (ok.reads, (version.reads, tt))) refl;
+    })

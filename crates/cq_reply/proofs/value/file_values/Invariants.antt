@@ -1,7 +1,0 @@
-use Rattle.std.proofs.Common.{◌≡◌, map, take}
-use Rattle.serde_json.specs.View.{view}
-use Rattle.cq_reply.specs.Written.{file_data}
-use Rattle.cq_reply.proofs.value.file_values.Given as goal
-
-abbrev pub invariant-loop-row : goal.invariant-loop-row
-invariant-loop-row l = map view l.values.items ≡ map file_data (take l.row-index l.rows)
