@@ -2,19 +2,24 @@
 """Uploads a file again and lists its groups by path, in a project of 500 files and in one of 3,000, and prints the CPU time of such a
 pair: the mean of 200 pairs in a row, once all files are listed, and the least of five runs; and how the two projects' times compare.
 
-usage: bench/paths.py
+usage: bench/paths.py [--instructions]
 
-The program is ./cqd, or what the variable CQD names.
+With --instructions it prints how many instructions a pair takes instead, counted by callgrind of valgrind, so that neither the machine's speed
+nor its load matters. The program is ./cqd, or what the variable CQD names.
 """
 import argparse
 import json
 import os
+import re
 import subprocess
 from pathlib import Path
 
-argparse.ArgumentParser(description=__doc__, formatter_class=argparse.RawDescriptionHelpFormatter, usage=argparse.SUPPRESS).parse_args()
+parser = argparse.ArgumentParser(description=__doc__, formatter_class=argparse.RawDescriptionHelpFormatter, usage=argparse.SUPPRESS)
+parser.add_argument("--instructions", action="store_true", help=argparse.SUPPRESS)
+options = parser.parse_args()
 
 ROOT = Path(__file__).resolve().parent.parent
+PROGRAM = os.environ.get("CQD", ROOT / "cqd")
 PAIRS = 200
 
 
@@ -42,10 +47,26 @@ def processor(server):
     return int(Path(f"/proc/{server.pid}/schedstat").read_text().split()[0]) / 1e9
 
 
+def uploads(files):
+    """What comes before the pairs."""
+    return [*(upload(number, 0, files) for number in range(files)), {"op": "groups", "project": "p", "path": "f00000", "min": 40}]
+
+
+def counted(requests):
+    data = "".join(json.dumps(request) + "\n" for request in requests).encode()
+    words = ["valgrind", "--tool=callgrind", "--callgrind-out-file=/dev/null", PROGRAM, "run"]
+    ran = subprocess.run(words, input=data, capture_output=True, check=True)
+    return int(re.search(rb"Collected : (\d+)", ran.stderr)[1])
+
+
+def pair_instructions(files):
+    pairs = [request for index in range(PAIRS) for request in pair(index, files)]
+    return (counted(uploads(files) + pairs) - counted(uploads(files))) / PAIRS
+
+
 def pair_cost(files):
-    with subprocess.Popen([os.environ.get("CQD", ROOT / "cqd"), "run"], stdin=subprocess.PIPE, stdout=subprocess.PIPE) as server:
-        ask(server, [upload(number, 0, files) for number in range(files)])
-        ask(server, [{"op": "groups", "project": "p", "path": "f00000", "min": 40}])
+    with subprocess.Popen([PROGRAM, "run"], stdin=subprocess.PIPE, stdout=subprocess.PIPE) as server:
+        ask(server, uploads(files))
         before = processor(server)
         for index in range(PAIRS):
             ask(server, pair(index, files))
@@ -54,5 +75,9 @@ def pair_cost(files):
     return (after - before) / PAIRS
 
 
-few, many = (min(pair_cost(files) for _ in range(5)) for files in (500, 3000))
-print(f"an upload and its groups by path: {few * 1000:.2f} ms of 500 files, {many * 1000:.2f} ms of 3,000, {many / few:.2f} times")
+if options.instructions:
+    few, many = (pair_instructions(files) / 1e6 for files in (500, 3000))
+    print(f"an upload and its groups by path: {few:.2f} million instructions of 500 files, {many:.2f} of 3,000, {many / few:.2f} times")
+else:
+    few, many = (min(pair_cost(files) for _ in range(5)) * 1000 for files in (500, 3000))
+    print(f"an upload and its groups by path: {few:.2f} ms of 500 files, {many:.2f} ms of 3,000, {many / few:.2f} times")
