@@ -1,5 +1,5 @@
 -- A blank, which its character tells, with the mode behind it.
-use Rattle.std.proofs.Common.{◌≡◌, ℕ, ◌+◌, ◌<◌, Some, Bool, true, false, ◌&&◌, ◌==◌, cond, List, [], ◌∷◌, length, drop, refl, sym, ap, subst, ◌∙◌, arith}
+use Rattle.std.proofs.Common.{◌≡◌, ℕ, ◌+◌, ◌<◌, Some, true, false, ◌&&◌, ◌==◌, cond, List, [], ◌∷◌, length, drop, refl, sym, ap, subst, ◌∙◌, arith}
 use Rattle.std.proofs.lemmas.Bool.{and_right}
 use Rattle.cq_munch.specs.Characters.{characters}
 use Rattle.cq_munch.specs.Language.{Takes, marked}

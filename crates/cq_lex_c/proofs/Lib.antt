@@ -8,5 +8,4 @@ pub mod Elements
 pub mod NameScans
 pub mod Dispatch
 pub mod Blanks
-pub mod PunctuatorSteps
 pub mod OpenComments

@@ -10,7 +10,7 @@ pub mod Quoting
 pub mod Headers
 pub mod HeaderNames
 pub mod Punctuators
-pub mod PunctuatorStates
+pub mod Scanner
 pub mod C
 pub mod Fronts
 pub mod Ascii

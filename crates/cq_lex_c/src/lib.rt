@@ -17,6 +17,7 @@ mod language;
 mod mode;
 mod number;
 mod punctuator;
+mod scanner;
 mod splice;
 mod text;
 

@@ -148,7 +148,7 @@ module _ (rows : Patterned) (texts : List (List ℕ)) (t : Tables) (right : fits
           refl,
         )
 
-    -- each row has a spell
+    -- the table finds no row but these
     pub not_past : (len row : ℕ) → RowAt t text (Some (len, row)) → length spells ≤ row → ⊥
     not_past len row h past =
         let few = past_none (patterns_of rows) 0 all_fit (take len text) in
@@ -185,27 +185,26 @@ alone t c n row text steps stops ends = (record { some = omega arith; within = o
 
 -- ---- rows that are written in another way
 
-module _ where
-  up : (rows : List Row) (ps : Patterned) → AreRowsOf rows ps → (spell : Spell) (s : List ℕ) → InTable (rows_of ps) spell s → InTable rows spell s
-  up [] [] same spell s h = h
-  up [] (p ∷ ps) same spell s h = absurd same
-  up (row ∷ rows) [] same spell s h = absurd same
-  up (row ∷ rows) (p ∷ ps) same spell s h =
-      ⊎_elim (λ own. inl (own.0 ∙ sym same.0, (same.1 s).1 own.1)) (λ other. inr (up rows ps same.2 spell s other)) h
+from_patterned : (rows : List Row) (ps : Patterned) → AreRowsOf rows ps → (spell : Spell) (s : List ℕ) → InTable (rows_of ps) spell s → InTable rows spell s
+from_patterned [] [] same spell s h = h
+from_patterned [] (p ∷ ps) same spell s h = absurd same
+from_patterned (row ∷ rows) [] same spell s h = absurd same
+from_patterned (row ∷ rows) (p ∷ ps) same spell s h =
+    ⊎_elim (λ own. inl (own.0 ∙ sym same.0, (same.1 s).1 own.1)) (λ other. inr (from_patterned rows ps same.2 spell s other)) h
 
-  pub as_patterned : (rows : List Row) (ps : Patterned) → AreRowsOf rows ps → (spell : Spell) (s : List ℕ) → InTable rows spell s → InTable (rows_of ps) spell s
-  as_patterned [] [] same spell s h = h
-  as_patterned [] (p ∷ ps) same spell s h = absurd same
-  as_patterned (row ∷ rows) [] same spell s h = absurd same
-  as_patterned (row ∷ rows) (p ∷ ps) same spell s h =
-      ⊎_elim (λ own. inl (own.0 ∙ same.0, (same.1 s).0 own.1)) (λ other. inr (as_patterned rows ps same.2 spell s other)) h
+pub as_patterned : (rows : List Row) (ps : Patterned) → AreRowsOf rows ps → (spell : Spell) (s : List ℕ) → InTable rows spell s → InTable (rows_of ps) spell s
+as_patterned [] [] same spell s h = h
+as_patterned [] (p ∷ ps) same spell s h = absurd same
+as_patterned (row ∷ rows) [] same spell s h = absurd same
+as_patterned (row ∷ rows) (p ∷ ps) same spell s h =
+    ⊎_elim (λ own. inl (own.0 ∙ same.0, (same.1 s).0 own.1)) (λ other. inr (as_patterned rows ps same.2 spell s other)) h
 
-  pub one_kind_of : (rows : List Row) (ps : Patterned) → AreRowsOf rows ps → OneKind (rows_of ps) → OneKind rows
-  one_kind_of rows ps same one s a b h k = one s a b (as_patterned rows ps same a s h) (as_patterned rows ps same b s k)
+pub one_kind_of : (rows : List Row) (ps : Patterned) → AreRowsOf rows ps → OneKind (rows_of ps) → OneKind rows
+one_kind_of rows ps same one s a b h k = one s a b (as_patterned rows ps same a s h) (as_patterned rows ps same b s k)
 
-  pub taken_of : (rows : List Row) (ps : Patterned) → AreRowsOf rows ps → (at mode : ℕ) (text : List ℕ) (r : Option Found) → Takes (table (rows_of ps)) at mode text r → Takes (table rows) at mode text r
-  taken_of rows ps same at mode text r h =
-      narrowed at mode text rows (rows_of ps) (λ spell m some within x. as_patterned rows ps same spell (take m text) x) (up rows ps same) r h
+pub taken_of : (rows : List Row) (ps : Patterned) → AreRowsOf rows ps → (at mode : ℕ) (text : List ℕ) (r : Option Found) → Takes (table (rows_of ps)) at mode text r → Takes (table rows) at mode text r
+taken_of rows ps same at mode text r h =
+    narrowed at mode text rows (rows_of ps) (λ spell m some within x. as_patterned rows ps same spell (take m text) x) (from_patterned rows ps same) r h
 
 -- ---- rows that begin with letters, and rows that don't
 

@@ -19,7 +19,7 @@ tables_of by = record { classes = by.classes.now; steps = by.steps.now; ends = b
 abbrev pub class_at : List ℕ → ℕ → ℕ
 class_at classes c = slice_index_or classes c 0
 
--- one more than the next state, or 0 if there is none
+-- one more than the next state, or 0 if there is none; the table has it as a character from 48, a `0`, on
 abbrev pub entry_at : Tables → ℕ → ℕ → ℕ
 entry_at t s c = slice_index_or (slice_index_or t.steps s []) (class_at t.classes c) 0 - 48
 

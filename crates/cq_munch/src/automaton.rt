@@ -16,8 +16,8 @@ use crate::unit::Unit;
 pub struct Automaton<'a> {
     /// The class of each character of ASCII; every other character has class 0.
     pub classes: &'a [u8; 128],
-    /// For each state and class the character `0` if no spelling continues; else one that is as far after it as one more
-    /// than the next state. The first state is that of no characters.
+    /// For each state and class a character: `0` if no spelling continues, `1` if the first state is next, and so on. No
+    /// characters lead to the first state.
     pub steps: &'a [[u8; 32]],
     /// For each state, one more than the row whose spellings may end there, or 0 if there is none.
     pub ends: &'a [u8],
@@ -70,9 +70,9 @@ fn row_at(ends: &[u8], state: u8) -> Option<u8>
     }
 }
 
-/// How many units the longest spelling at the front has, and its row. It reads up to the first unit with which no
-/// spelling continues, each once.
-pub fn longest_row(by: Automaton<'_>, units: &[Unit]) -> Option<(usize, u8)>
+// How many units the longest spelling at the front has, and its row. It reads up to the first unit with which no
+// spelling continues, each once.
+fn longest_row(by: Automaton<'_>, units: &[Unit]) -> Option<(usize, u8)>
     ensures { RowAt (tables_of by.entry) (characters units.now) result }
 {
     let mut state = 0;

@@ -1,7 +1,0 @@
-use Rattle.cq_munch.proofs.WordLists.{word_end}
-use Rattle.cq_lex_c.specs.PunctuatorStates.{steps, may_end, words_of}
-use Rattle.cq_lex_c.proofs.PunctuatorSteps.{right}
-use Rattle.cq_lex_c.proofs.punctuator.PunctuatorMachine.accepts.Goals as goal
-
-pub returns : goal.returns
-returns c = word_end words_of may_end steps right c.args.self _ c.may_end.ensures
