@@ -60,6 +60,8 @@ def complete(options: argparse.Namespace, known: dict[str, argparse.Action]) -> 
         options.addr = checked("CQD_ADDR", known["addr"], os.environ["CQD_ADDR"].split(","))
     file = found_file(options.config)
     filled = set()
+    # each of these says which files there are, so what the command line says by one of them replaces both
+    said = ("paths", "files_from") if vars(options).get("paths") or vars(options).get("files_from") else ()
     for name, value in (read_file(file) if file else {}).items():
         option = name.replace("_", "-")
         if option not in known or option in NOT_IN_FILES:
@@ -71,7 +73,7 @@ def complete(options: argparse.Namespace, known: dict[str, argparse.Action]) -> 
             given = type(given)(file.parent / given)
         elif option == "paths" and file:
             given = [file.parent / path for path in given]
-        if hasattr(options, action.dest) and not vars(options)[action.dest]:
+        if action.dest not in said and hasattr(options, action.dest) and vars(options)[action.dest] == action.default:
             setattr(options, action.dest, given)
             filled.add(action.dest)
     if is_local:

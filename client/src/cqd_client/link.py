@@ -135,7 +135,9 @@ def connected(address: Address, context: Optional[ssl.SSLContext], timeout: floa
                         ) from error
         except (OSError, ValueError) as error:
             connection.close()
-            raise Fault(f"{address} can't be spoken to over TLS: {error}") from error
+            # a proxy that is being restarted may end a handshake: that is worth another try
+            is_lost = isinstance(error, (ConnectionError, ssl.SSLEOFError, socket.timeout))
+            raise (Lost if is_lost else Fault)(f"{address} can't be spoken to over TLS: {error}") from error
     return Link(connection, timeout)
 
 

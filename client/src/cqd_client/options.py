@@ -230,6 +230,8 @@ def output_conflict(options: argparse.Namespace) -> Optional[str]:
         options.format = names = ["json"]
     if len(set(outputs)) < len(outputs):
         return "two --output name the same file"
+    if vars(options).get("page") in outputs:
+        return "the page and an --output name the same file"
     if len(outputs) > max(len(names), 1):
         return "there are more --output than --format"
     if len(names) > len(outputs) + 1:

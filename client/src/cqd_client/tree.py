@@ -210,6 +210,8 @@ def names_of(listing: bytes) -> list[bytes]:
 
 
 def read_listing(name: str) -> bytes:
+    if name == "-" and sys.stdin is None:
+        raise Fault("--files-from -: standard input is closed")
     try:
         return sys.stdin.buffer.read() if name == "-" else Path(name).read_bytes()
     except OSError as error:
