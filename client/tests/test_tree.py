@@ -141,6 +141,15 @@ def test_include_exclude_and_map(client: Client, tmp_path: Path) -> None:
     assert client("put", ".", "--map", "*.kt=kotlin").returncode == 3
 
 
+def test_code_that_is_not_read_is_told(client: Client, tmp_path: Path) -> None:
+    make(tmp_path, "a.c", "b.kt", "lib/c.cc", "lib/d.cc", "e.md", "Makefile")
+    assert "3 files of other endings (.cc, .kt) are not read; --map '*.cc=LANGUAGE'" in client("put", ".").stderr
+    assert "1 file of other endings (.kt) is not read; --map '*.kt=LANGUAGE'" in client("put", ".", "--exclude", "lib/").stderr
+    assert client("put", ".", "--exclude", "lib/", "--map", "*.kt=java").stderr == ""
+    ran = client("put", ".", "--include", "Makefile")
+    assert ran.returncode == 2 and "1 file of other endings ((none)) is not read; --map 'PATTERN=LANGUAGE'" in ran.stderr
+
+
 def test_paths_are_below_the_root(client: Client, tmp_path: Path, repository: Repository) -> None:
     repository.write("src/deep/a.c", lines_of("a"))
     repository.write("src/b.c", lines_of("b"))

@@ -118,7 +118,10 @@ def run(options: argparse.Namespace, notes: Notes) -> int:
     project = project_of(options, root)
     state_file = options.state or root / STATE
     tree = tree_asked(options, root, [state_file, *outputs.targets(options)], notes)
-    lines = changed_lines(root, options.base) if options.command == "check" else {}
+    lines = {}
+    if options.command == "check" and tree:
+        lines = changed_lines(root, options.base)
+        tell_extent(options, tree, bool(lines), notes)
     state = None
     if options.addr and (tree or state_file.exists()):
         state = State(state_file, str(owner(options.addr, project)), project, notes)
@@ -196,6 +199,14 @@ def concluded(call: Call, report: Optional[Report]) -> int:
     if left_out:
         call.notes.say("files were left out, so this is not about the whole project")
     return status
+
+
+def tell_extent(options: argparse.Namespace, tree: Tree, has_changes: bool, notes: Notes) -> None:
+    """Says what whoever reads `OK` of a check has to know: that there was nothing to check, or few files to compare with."""
+    if not has_changes:
+        notes.say(f"nothing has changed since {options.base}")
+    if options.files_from or not all(map(os.path.isdir, options.paths)):
+        notes.say(f"copies are looked for only among {counted(len(tree.sources), 'file')}; without a PATH, in the whole work tree")
 
 
 def check_options(options: argparse.Namespace, metrics: Sequence[str]) -> None:
