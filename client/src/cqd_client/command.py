@@ -34,7 +34,7 @@ from .tree import NAMES, Choice, Tree, read_listing, root_of, tree_of
 from .upload import PASSES, tell, upload
 from .wording import counted
 
-# The most that any server takes; one of the call's own is started with it.
+# The most that any server takes; a call starts its own server with it.
 TEXT_LIMIT = 67_108_864
 CHANGE_LIMIT = 262_144
 STATE = ".cqd-state.json"
@@ -62,7 +62,7 @@ def tree_asked(options: argparse.Namespace, root: Path, own: Sequence[Path], not
         if options.command == "check":
             paths = [root]
         elif not options.addr or options.command == "put":
-            hint = "" if options.addr else ": a server of the call's own has nothing yet"
+            hint = "" if options.addr else ": the server that the call starts has nothing yet"
             raise Misuse(f"{options.command} needs a PATH or --files-from{hint}")
         else:
             return None

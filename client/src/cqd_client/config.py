@@ -78,7 +78,7 @@ def complete(options: argparse.Namespace, known: dict[str, argparse.Action]) -> 
             filled.add(action.dest)
     if is_local:
         options.addr = None
-    # a file may have both what a server of one call needs and what one that runs does: what isn't needed here changes no answer
+    # a file may have options both of a server that a call starts and of a running one: those that aren't needed here change no answer
     needless = ["cqd", "workers"] if vars(options).get("addr") else ["state", "tls", "tls_ca", "tls_cert", "tls_key"]
     if options.command == "check" or vars(options).get("path"):
         # the gate of a project is neither about changed lines nor about one file

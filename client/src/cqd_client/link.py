@@ -118,7 +118,7 @@ class Link:
 
 
 def connected(address: Address, context: Optional[ssl.SSLContext], timeout: float) -> Link:
-    """A link to a server that runs."""
+    """A link to a running server."""
     limit = min(timeout, CONNECT_SECONDS)
     try:
         connection = socket.create_connection(address, timeout=limit)
@@ -142,7 +142,7 @@ def connected(address: Address, context: Optional[ssl.SSLContext], timeout: floa
 
 
 class Program:
-    """A server of the call's own: a process at the other end of a pair of sockets. It keeps to its time, or is killed."""
+    """A server that the call starts: a process at the other end of a pair of sockets. It keeps to its time, or is killed."""
 
     def __init__(self, program: str, arguments: list[str], timeout: float) -> None:
         ours, its = socket.socketpair()

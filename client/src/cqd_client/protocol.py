@@ -231,7 +231,7 @@ class Server:
 
 @contextlib.contextmanager
 def started(program: str, arguments: list[str], timeout: float) -> Iterator[Server]:
-    """A server of the call's own. What it replied holds only if this ends without a fault."""
+    """A server that the call starts. What it replied holds only if this ends without a fault."""
     build(program)
     own = Program(program, arguments, timeout)
     try:
@@ -262,7 +262,7 @@ def greeting(project: str) -> Request:
 
 @contextlib.contextmanager
 def reached(address: Address, tls: Optional[Tls], timeout: float, project: str = "") -> Iterator[Server]:
-    """A server that runs, which stays as it is afterwards. If a project is named, each connection begins with it."""
+    """A running server, which stays as it is afterwards. If a project is named, each connection begins with it."""
     context = tls.context() if tls else None
 
     def reach_again() -> Link:

@@ -30,7 +30,7 @@ def running(options: argparse.Namespace, project: str, timeout: float) -> contex
 
 
 def own(options: argparse.Namespace, timeout: float, text_limit: int) -> contextlib.AbstractContextManager[Server]:
-    """A server of the call's own."""
+    """A server that the call starts."""
     chunk = options.chunk or min(20, vars(options).get("min") or 20)
     workers = min(processors(), MOST_WORKERS) if options.workers is None else options.workers
     given = ["--chunk", str(chunk), "--text-limit", str(text_limit), "--workers", str(workers)]
