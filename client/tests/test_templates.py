@@ -71,17 +71,18 @@ def test_both_packages_are_installed(tmp_path: Path) -> None:
     (commands / "apt-get").write_text(f'#!/bin/sh\necho "$@" >>{tmp_path}/installed\n')
     for command in commands.iterdir():
         command.chmod(0o755)
-    scripts = [steps_of_github()["Install cqd"]["run"],
-               "\n".join(yaml.safe_load((TEMPLATES / "gitlab.yml").read_text())[".cqd"]["before_script"]).replace("/tmp/cqd", f"{tmp_path}/gitlab/cqd")]
-    for script, folder in zip(scripts, ("github", "gitlab")):
+    of_gitlab = "\n".join(yaml.safe_load((TEMPLATES / "gitlab.yml").read_text())[".cqd"]["before_script"])
+    scripts = {"github": steps_of_github()["Install cqd"]["run"], "gitlab": of_gitlab.replace("/tmp/", f"{tmp_path}/gitlab/")}
+    for folder, script in scripts.items():
+        (tmp_path / folder).mkdir()
         environment = {"PATH": f"{commands}:{os.environ['PATH']}", "RUNNER_TEMP": str(tmp_path / folder)}
         for missing, expected in ((".none", False), ("", True)):
             urls = " ".join(package.as_uri() for package in (Path(f"{packages[0]}{missing}"), packages[1]))
             ran = subprocess.run(["bash", "-e", "-c", script], env={**environment, "CQD_PACKAGES": urls}, check=False)
             assert (ran.returncode == 0) == expected
-        installed = (tmp_path / "installed").read_text().splitlines()[-1].split()
-        assert installed[-2:] == [str(tmp_path / folder / "cqd" / package.name) for package in packages]
-        assert [Path(name).read_text() for name in installed[-2:]] == [package.name for package in packages]
+        installed = (tmp_path / "installed").read_text().splitlines()[-1].split()[-2:]
+        assert all(Path(name).parent == tmp_path / folder and name.endswith(".deb") for name in installed)
+        assert [Path(name).read_text() for name in installed] == [package.name for package in packages]
 
 
 def test_github(runners: tuple[Runner, Runner]) -> None:

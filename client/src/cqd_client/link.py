@@ -136,7 +136,7 @@ def connected(address: Address, context: Optional[ssl.SSLContext], timeout: floa
         except (OSError, ValueError) as error:
             connection.close()
             # a proxy that is being restarted may end a handshake: that is worth another try
-            is_lost = isinstance(error, (ConnectionError, ssl.SSLEOFError, socket.timeout))
+            is_lost = isinstance(error, (ConnectionError, ssl.SSLEOFError, ssl.SSLZeroReturnError, socket.timeout))
             raise (Lost if is_lost else Fault)(f"{address} can't be spoken to over TLS: {error}") from error
     return Link(connection, timeout)
 
