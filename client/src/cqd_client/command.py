@@ -19,7 +19,7 @@ from typing import Any, NoReturn, Optional
 from . import config, git, options as arguments, outputs, servers
 from .answers import answered
 from .call import Call
-from .changed import changed_lines
+from .changed import Lines, changed_lines
 from .check import JUDGED
 from .faults import FAILED, MISUSED, PASSED, UNKNOWN, Fault, Misuse, Restarted
 from .findings import About, Malformed, Report, files_of, member
@@ -118,7 +118,7 @@ def run(options: argparse.Namespace, notes: Notes) -> int:
     project = project_of(options, root)
     state_file = options.state or root / STATE
     tree = tree_asked(options, root, [state_file, *outputs.targets(options)], notes)
-    lines = {}
+    lines: dict[str, Lines] = {}
     if options.command == "check" and tree:
         lines = changed_lines(root, options.base)
         tell_extent(options, tree, bool(lines), notes)
