@@ -25,6 +25,7 @@ def branched(repository: Repository) -> Repository:
 def test_nothing_changed(client: Client, branched: Repository) -> None:
     ran = client("check", "--base", "main")
     assert (ran.returncode, ran.stdout) == (0, "OK\n")
+    assert ran.stderr == "cqd-client: nothing has changed since main\n"
 
 
 def test_old_duplicates_fail_no_build(client: Client, branched: Repository) -> None:
@@ -43,6 +44,17 @@ def test_a_new_copy_fails(client: Client, branched: Repository, is_committed: bo
     assert ran.returncode == 1
     assert ran.stdout.startswith("src/sub/new.c:1: ") and "also at src/old1.c:1, src/old2.c:1" in ran.stdout
     assert "ERROR" in ran.stdout.splitlines()
+
+
+def test_few_files_to_compare_with_are_told(client: Client, branched: Repository) -> None:
+    """As a hook names them that passes the names of the changed files on."""
+    branched.write("src/new.c", lines_of("new"))
+    for words in (["src/new.c"], ["src/new.c", "src/unique.c"], ["--files-from", "-"]):
+        ran = client("check", "--base", "main", *words, stdin=b"src/new.c\n")
+        assert ran.returncode == 0 and "copies are looked for only among " in ran.stderr
+    for words in ([], ["src"], ["."]):
+        ran = client("check", "--base", "main", *words)
+        assert (ran.returncode, ran.stderr) == (1, "")
 
 
 def test_a_change_within_a_duplicate_fails(client: Client, branched: Repository) -> None:

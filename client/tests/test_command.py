@@ -11,7 +11,7 @@ from typing import Callable
 
 import pytest
 
-from cqd_client import command, options
+from cqd_client import command, options, outputs
 from cqd_client.faults import MISUSED
 from conftest import FAILING, Client
 
@@ -29,6 +29,7 @@ def test_every_command_has_help(capsys: pytest.CaptureFixture[str]) -> None:
     ["groups", ".", "--project", "a/b"], ["groups", ".", "--top", "0"], ["groups", ".", "--min", "0"], ["groups", ".", "--timeout", "nan"],
     ["groups", ".", "--workers", "65"], ["groups", ".", "--format", "html"], ["groups", ".", "--format", "csv", "--json"],
     ["groups", ".", "--output", "a", "--output", "b"], ["groups", ".", "--format", "csv", "--format", "cpd"],
+    ["groups", ".", "--page", "a", "--output", "a"], ["report", "a", ".", "--output", "a"],
     ["groups", ".", "--format", "csv", "--output", "a", "--format", "cpd", "--output", "a"], ["groups", ".", "--min", "5", "--chunk", "6"],
     ["groups", ".", "--project", "p", "--addr", "a:1", "--chunk", "5"], ["groups", ".", "--project", "p", "--addr", "a:1", "--local"],
     ["measures", ".", "--scope", "a//b"], ["measures", ".", "--scope", "a", "--path", "b"], ["measures", ".", "--since", "3"],
@@ -70,6 +71,49 @@ def test_an_output_that_fails_leaves_what_stood_there(client: Client, tmp_path: 
     assert client("groups", "a.c", "--path", "b.c", "--output", "out").returncode == 2
     assert (tmp_path / "out").read_text() == "before"
     assert sorted(os.listdir(tmp_path)) == ["a.c", "out"]
+
+
+def test_an_output_that_is_a_link_is_written_where_it_leads(failing: Callable[[str], Client], tmp_path: Path) -> None:
+    (tmp_path / "a.c").write_text("int a;\n")
+    (tmp_path / "there").mkdir()
+    (tmp_path / "out").symlink_to("there/out")
+    for _ in range(2):
+        assert failing("does not")("groups", "a.c", "--output", "out").returncode == 0
+        assert (tmp_path / "out").is_symlink() and (tmp_path / "there" / "out").read_text() == "no duplicates\n"
+        assert os.listdir(tmp_path / "there") == ["out"]
+
+
+@pytest.mark.parametrize("name", ["/dev/stdout", "/dev/fd/1", "/proc/self/fd/1"])
+def test_standard_output_by_its_name_is_not_replaced(failing: Callable[[str], Client], tmp_path: Path, name: str) -> None:
+    # else the command would replace /dev/stdout of the machine
+    assert outputs.descriptor_of(Path(name)) == 1
+    (tmp_path / "a.c").write_text("int a;\n")
+    before = os.lstat(name)
+    with open(tmp_path / "out", "w", encoding="utf-8") as out:
+        ran = subprocess.run([sys.executable, "-m", "cqd_client", "groups", "a.c", "--format", "json", "--output", name, "--format", "text"],
+                             cwd=tmp_path, stdout=out, stderr=subprocess.PIPE, env=failing("does not").environment, check=False)
+    assert (ran.returncode, ran.stderr) == (0, b"")
+    assert (tmp_path / "out").read_text().splitlines() == ['{"groups": [], "ok": true, "total": 0, "version": 3}', "no duplicates"]
+    assert name.startswith("/proc") or os.path.samestat(os.lstat(name), before)
+
+
+def test_standard_error_that_nobody_reads_changes_no_status(failing: Callable[[str], Client], tmp_path: Path) -> None:
+    (tmp_path / "a.c").write_text("int a;\n")
+    for words, status in ((["a.c", "--any", "*.none"], 0), (["none.c"], 2)):
+        reading, writing = os.pipe()
+        os.close(reading)
+        ran = subprocess.run([sys.executable, "-m", "cqd_client", "groups", *words], cwd=tmp_path, stdout=subprocess.PIPE, stderr=writing,
+                             env=failing("does not").environment, check=False)
+        os.close(writing)
+        assert ran.returncode == status
+        assert ran.stdout == (b"" if status else b"no duplicates\n")
+
+
+def test_a_list_on_a_standard_input_that_is_closed(failing: Callable[[str], Client], tmp_path: Path) -> None:
+    ran = subprocess.run(["sh", "-c", 'exec "$0" -m cqd_client groups --files-from - <&-', sys.executable], cwd=tmp_path, capture_output=True,
+                         env=failing("does not").environment, check=False)
+    assert (ran.returncode, ran.stdout) == (2, b"")
+    assert ran.stderr == b"cqd-client: --files-from -: standard input is closed\n"
 
 
 def test_signals_end_the_call_and_its_server(failing: Callable[[str], Client], tmp_path: Path) -> None:

@@ -98,6 +98,7 @@ class Cutting:
 
     def __init__(self, port: int, *cuts: int) -> None:
         self.port, self.cuts = port, list(cuts)
+        self.first_lines: list[dict[str, Any]] = []
         self.door = socket.create_server(("127.0.0.1", 0))
         self.address = Address("127.0.0.1", self.door.getsockname()[1])
         threading.Thread(target=self.serve, daemon=True).start()
@@ -113,16 +114,14 @@ class Cutting:
             threading.Thread(target=self.forward, args=(near, far), daemon=True).start()
             threading.Thread(target=self.answer, args=(far, near, cut), daemon=True).start()
 
-    @staticmethod
-    def forward(near: socket.socket, far: socket.socket) -> None:
-        while True:
-            try:
-                data = near.recv(65536)
-                if not data:
-                    return
-                far.sendall(data)
-            except OSError:
-                return
+    def forward(self, near: socket.socket, far: socket.socket) -> None:
+        try:
+            for number, line in enumerate(near.makefile("rb"), 1):
+                if number == 1:
+                    self.first_lines.append(json.loads(line))
+                far.sendall(line)
+        except OSError:
+            return
 
     @staticmethod
     def answer(far: socket.socket, near: socket.socket, cut: int) -> None:
@@ -156,6 +155,16 @@ def test_the_command_survives_lost_connections(client: Client, tmp_path: Path, l
     cutting = Cutting(listening.port, 4, 3, 5)
     ran = client("groups", ".", "--project", "p", "--addr", str(cutting.address))
     assert ran.returncode == 0 and "a.c:1: " in ran.stdout and "also at b.c:1" in ran.stdout
+
+
+def test_each_connection_begins_with_the_project(client: Client, tmp_path: Path, listening: Listening) -> None:
+    """By this a proxy chooses one of several servers."""
+    (tmp_path / "a.c").write_text(lines_of("a"))
+    cutting = Cutting(listening.port, 4, 3, 5)
+    for command in (("groups", "."), ("groups",), ("status",), ("remove",)):
+        assert client(*command, "--project", "p", "--addr", str(cutting.address)).returncode == 0
+    assert len(cutting.first_lines) == 7
+    assert {line["project"] for line in cutting.first_lines} == {"p"}
 
 
 def test_a_server_that_restarts_within_a_call_gets_everything_again(listening: Listening) -> None:

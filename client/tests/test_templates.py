@@ -59,6 +59,32 @@ def steps_of_github() -> dict[str, Any]:
     return {step.get("name", step.get("uses")): step for step in yaml.safe_load((TEMPLATES / "github.yml").read_text())["jobs"]["cqd"]["steps"]}
 
 
+@pytest.mark.skipif(not shutil.which("curl"), reason="curl is missing")
+def test_both_packages_are_installed(tmp_path: Path) -> None:
+    packages = [tmp_path / "from" / name for name in ("cqd-client_1.0+2-1_all.deb", "cqd_1.0+2-1_amd64.deb")]
+    for package in packages:
+        package.parent.mkdir(exist_ok=True)
+        package.write_text(package.name)
+    commands = tmp_path / "bin"
+    commands.mkdir()
+    (commands / "sudo").write_text('#!/bin/sh\nexec "$@"\n')
+    (commands / "apt-get").write_text(f'#!/bin/sh\necho "$@" >>{tmp_path}/installed\n')
+    for command in commands.iterdir():
+        command.chmod(0o755)
+    of_gitlab = "\n".join(yaml.safe_load((TEMPLATES / "gitlab.yml").read_text())[".cqd"]["before_script"])
+    scripts = {"github": steps_of_github()["Install cqd"]["run"], "gitlab": of_gitlab.replace("/tmp/", f"{tmp_path}/gitlab/")}
+    for folder, script in scripts.items():
+        (tmp_path / folder).mkdir()
+        environment = {"PATH": f"{commands}:{os.environ['PATH']}", "RUNNER_TEMP": str(tmp_path / folder)}
+        for missing, expected in ((".none", False), ("", True)):
+            urls = " ".join(package.as_uri() for package in (Path(f"{packages[0]}{missing}"), packages[1]))
+            ran = subprocess.run(["bash", "-e", "-c", script], env={**environment, "CQD_PACKAGES": urls}, check=False)
+            assert (ran.returncode == 0) == expected
+        installed = (tmp_path / "installed").read_text().splitlines()[-1].split()[-2:]
+        assert all(Path(name).parent == tmp_path / folder and name.endswith(".deb") for name in installed)
+        assert [Path(name).read_text() for name in installed] == [package.name for package in packages]
+
+
 def test_github(runners: tuple[Runner, Runner]) -> None:
     steps = steps_of_github()
     for runner, expected in zip(runners, (0, 1)):

@@ -10,6 +10,8 @@ from pathlib import Path
 
 import pytest
 
+from cqd_client.faults import Lost
+from cqd_client.link import Address, connected
 from conftest import Client, Listening
 
 pytestmark = pytest.mark.skipif(not shutil.which("openssl"), reason="openssl is missing")
@@ -58,6 +60,17 @@ class Ends:
                 sink.sendall(data)
         except OSError:
             pass
+
+
+def test_a_handshake_that_is_cut_off_counts_as_a_lost_connection() -> None:
+    with socket.create_server(("127.0.0.1", 0)) as door:
+        def hang_up() -> None:
+            near, _ = door.accept()
+            near.recv(65536)
+            near.close()
+        threading.Thread(target=hang_up, daemon=True).start()
+        with pytest.raises(Lost, match="over TLS"):
+            connected(Address(*door.getsockname()), ssl.create_default_context(), 5)
 
 
 def test_tls(client: Client, tmp_path: Path, listening: Listening) -> None:

@@ -7,6 +7,7 @@ from pathlib import Path
 
 import pytest
 
+from cqd_client import command
 from cqd_client.faults import Misuse
 from cqd_client.notes import Notes
 from cqd_client.patterns import Patterns, compiled, expanded
@@ -138,6 +139,15 @@ def test_include_exclude_and_map(client: Client, tmp_path: Path) -> None:
     assert client("put", "lib").returncode == 2
     assert "--map" in client("put", "lib").stderr
     assert client("put", ".", "--map", "*.kt=kotlin").returncode == 3
+
+
+def test_code_that_is_not_read_is_told(client: Client, tmp_path: Path) -> None:
+    make(tmp_path, "a.c", "b.kt", "lib/c.cc", "lib/d.cc", "e.md", "Makefile")
+    assert "3 files of other endings (.cc, .kt) are not read; --map '*.cc=LANGUAGE'" in client("put", ".").stderr
+    assert "1 file of other endings (.kt) is not read; --map '*.kt=LANGUAGE'" in client("put", ".", "--exclude", "lib/").stderr
+    assert client("put", ".", "--exclude", "lib/", "--map", "*.kt=java").stderr == ""
+    ran = client("put", ".", "--include", "Makefile")
+    assert ran.returncode == 2 and "1 file of other endings ((none)) is not read; --map 'PATTERN=LANGUAGE'" in ran.stderr
 
 
 def test_paths_are_below_the_root(client: Client, tmp_path: Path, repository: Repository) -> None:
@@ -273,3 +283,17 @@ def test_the_command_line_wins_over_the_variable_and_that_over_the_file(client: 
     assert "127.0.0.1:3 " in client("groups", ".", "--addr", "127.0.0.1:3", CQD_ADDR="127.0.0.1:2").stderr
     assert client("groups", ".", CQD_ADDR="nonsense").returncode == 3
     assert client("groups", ".", "--local").returncode == 0
+
+
+def test_what_the_command_line_names_is_not_taken_from_the_file(tmp_path: Path, monkeypatch: pytest.MonkeyPatch) -> None:
+    (tmp_path / ".cqd.toml").write_text("workers = 4\npaths = ['src']\nfiles-from = 'listed'\n")
+    monkeypatch.chdir(tmp_path)
+    monkeypatch.delenv("CQD_ADDR", raising=False)
+
+    def option(name: str, *words: str) -> object:
+        return vars(command.options_of(["groups", *words]))[name]
+    assert option("workers", ".") == 4
+    assert option("workers", ".", "--workers", "0") == 0
+    assert option("paths") == [tmp_path / "src"] and option("files_from") == str(tmp_path / "listed")
+    assert option("paths", "--files-from", "names") == []
+    assert option("files_from", ".") is None

@@ -1,4 +1,4 @@
-"""The check of what changed: only duplicates and functions that meet a changed line count, and old ones fail no build."""
+"""The check of what changed: only duplicates and functions that touch a changed line count, and old ones fail no build."""
 from __future__ import annotations
 
 import dataclasses
@@ -20,7 +20,7 @@ FUNCTION_COMPLEXITY = "function_complexity"
 
 
 def checked(server: Server, call: Call) -> Report:
-    """The duplicates and functions that meet a changed line, judged by the gate over the changed lines, or else on any of them."""
+    """The duplicates and functions that touch a changed line, judged by the gate over the changed lines, or else on any of them."""
     assert call.done is not None
     files = {file.path: file for file in call.files}
     lines = {path: bounded(found if counts_lines_as_git(call.done, path) else WHOLE, files[path].lines)
@@ -62,7 +62,7 @@ def bounded(lines: Lines, last: int) -> Lines:
 
 
 def changed_groups(server: Server, call: Call, lines: dict[str, Lines]) -> list[Group]:
-    """The groups with a place that meets a changed line, each once, and those places of it first."""
+    """The groups with a place that touches a changed line, each once, and those places of it first."""
     found: dict[Group, Group] = {}
     for _, members in call.each(server, "groups", lines):
         for group in groups_of(members):

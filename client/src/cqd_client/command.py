@@ -19,7 +19,7 @@ from typing import Any, NoReturn, Optional
 from . import config, git, options as arguments, outputs, servers
 from .answers import answered
 from .call import Call
-from .changed import changed_lines
+from .changed import Lines, changed_lines
 from .check import JUDGED
 from .faults import FAILED, MISUSED, PASSED, UNKNOWN, Fault, Misuse, Restarted
 from .findings import About, Malformed, Report, files_of, member
@@ -34,7 +34,7 @@ from .tree import NAMES, Choice, Tree, read_listing, root_of, tree_of
 from .upload import PASSES, tell, upload
 from .wording import counted
 
-# The most that any server takes; one of the call's own is started with it.
+# The most that any server takes; a call starts its own server with it.
 TEXT_LIMIT = 67_108_864
 CHANGE_LIMIT = 262_144
 STATE = ".cqd-state.json"
@@ -62,7 +62,7 @@ def tree_asked(options: argparse.Namespace, root: Path, own: Sequence[Path], not
         if options.command == "check":
             paths = [root]
         elif not options.addr or options.command == "put":
-            hint = "" if options.addr else ": a server of the call's own has nothing yet"
+            hint = "" if options.addr else ": the server that the call starts has nothing yet"
             raise Misuse(f"{options.command} needs a PATH or --files-from{hint}")
         else:
             return None
@@ -118,7 +118,10 @@ def run(options: argparse.Namespace, notes: Notes) -> int:
     project = project_of(options, root)
     state_file = options.state or root / STATE
     tree = tree_asked(options, root, [state_file, *outputs.targets(options)], notes)
-    lines = changed_lines(root, options.base) if options.command == "check" else {}
+    lines: dict[str, Lines] = {}
+    if options.command == "check" and tree:
+        lines = changed_lines(root, options.base)
+        tell_extent(options, tree, bool(lines), notes)
     state = None
     if options.addr and (tree or state_file.exists()):
         state = State(state_file, str(owner(options.addr, project)), project, notes)
@@ -196,6 +199,14 @@ def concluded(call: Call, report: Optional[Report]) -> int:
     if left_out:
         call.notes.say("files were left out, so this is not about the whole project")
     return status
+
+
+def tell_extent(options: argparse.Namespace, tree: Tree, has_changes: bool, notes: Notes) -> None:
+    """Says what whoever reads `OK` of a check has to know: that there was nothing to check, or few files to compare with."""
+    if not has_changes:
+        notes.say(f"nothing has changed since {options.base}")
+    if options.files_from or not all(map(os.path.isdir, options.paths)):
+        notes.say(f"copies are looked for only among {counted(len(tree.sources), 'file')}; without a PATH, in the whole work tree")
 
 
 def check_options(options: argparse.Namespace, metrics: Sequence[str]) -> None:

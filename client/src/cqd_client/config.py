@@ -60,6 +60,8 @@ def complete(options: argparse.Namespace, known: dict[str, argparse.Action]) -> 
         options.addr = checked("CQD_ADDR", known["addr"], os.environ["CQD_ADDR"].split(","))
     file = found_file(options.config)
     filled = set()
+    # each of these says which files there are, so what the command line says by one of them replaces both
+    said = ("paths", "files_from") if vars(options).get("paths") or vars(options).get("files_from") else ()
     for name, value in (read_file(file) if file else {}).items():
         option = name.replace("_", "-")
         if option not in known or option in NOT_IN_FILES:
@@ -71,12 +73,12 @@ def complete(options: argparse.Namespace, known: dict[str, argparse.Action]) -> 
             given = type(given)(file.parent / given)
         elif option == "paths" and file:
             given = [file.parent / path for path in given]
-        if hasattr(options, action.dest) and not vars(options)[action.dest]:
+        if action.dest not in said and hasattr(options, action.dest) and vars(options)[action.dest] == action.default:
             setattr(options, action.dest, given)
             filled.add(action.dest)
     if is_local:
         options.addr = None
-    # a file may have both what a server of one call needs and what one that runs does: what isn't needed here changes no answer
+    # a file may have options both of a server that a call starts and of a running one: those that aren't needed here change no answer
     needless = ["cqd", "workers"] if vars(options).get("addr") else ["state", "tls", "tls_ca", "tls_cert", "tls_key"]
     if options.command == "check" or vars(options).get("path"):
         # the gate of a project is neither about changed lines nor about one file

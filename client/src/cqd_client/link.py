@@ -118,7 +118,7 @@ class Link:
 
 
 def connected(address: Address, context: Optional[ssl.SSLContext], timeout: float) -> Link:
-    """A link to a server that runs."""
+    """A link to a running server."""
     limit = min(timeout, CONNECT_SECONDS)
     try:
         connection = socket.create_connection(address, timeout=limit)
@@ -135,12 +135,14 @@ def connected(address: Address, context: Optional[ssl.SSLContext], timeout: floa
                         ) from error
         except (OSError, ValueError) as error:
             connection.close()
-            raise Fault(f"{address} can't be spoken to over TLS: {error}") from error
+            # a proxy that is being restarted may end a handshake: that is worth another try
+            is_lost = isinstance(error, (ConnectionError, ssl.SSLEOFError, ssl.SSLZeroReturnError, socket.timeout))
+            raise (Lost if is_lost else Fault)(f"{address} can't be spoken to over TLS: {error}") from error
     return Link(connection, timeout)
 
 
 class Program:
-    """A server of the call's own: a process at the other end of a pair of sockets. It keeps to its time, or is killed."""
+    """A server that the call starts: a process at the other end of a pair of sockets. It keeps to its time, or is killed."""
 
     def __init__(self, program: str, arguments: list[str], timeout: float) -> None:
         ours, its = socket.socketpair()

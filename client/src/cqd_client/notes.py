@@ -2,6 +2,7 @@
 from __future__ import annotations
 
 import contextlib
+import os
 import sys
 import threading
 import time
@@ -55,8 +56,12 @@ class Notes:
             self.clear()
 
     def say(self, text: str) -> None:
-        self.clear()
-        print("cqd-client: " + shown(text), file=sys.stderr, flush=True)
+        try:
+            self.clear()
+            print("cqd-client: " + shown(text), file=sys.stderr, flush=True)
+        except OSError:
+            # nobody reads notes any more, and the call's answer does not depend on them; Python would try once more at its end
+            os.dup2(os.open(os.devnull, os.O_WRONLY), sys.stderr.fileno())
 
     def each(self, lines: Sequence[str], noun: str) -> None:
         """Says these lines, of which each is about one of what `noun` counts; if there are many, the first of them."""

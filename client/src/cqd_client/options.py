@@ -12,7 +12,7 @@ from .findings import DENSITY, SORTS
 from .link import Address
 
 DESCRIPTION = """Uploads source files to cqd, and asks what is duplicated in them and whether the project passes its quality gate.
-Without --addr each call starts a server of its own and ends it; with --addr it speaks with one that runs.
+Without --addr each call starts its own server and stops it; with --addr it uses one that is already running.
 Options can also be given in .cqd.toml."""
 
 PATTERNS = """Patterns: * is any characters but /, ? is one, ** is any folders. Without a slash a pattern is looked for in every folder; a
@@ -108,7 +108,7 @@ def add_questions(one: argparse.ArgumentParser, command: str) -> None:
     if command == "check":
         one.add_argument("--base", metavar="REF", type=text, help="the commit or branch that the work goes back to, as origin/main")
         one.add_argument("--max-complexity", metavar="N", type=number(1, 1_000_000), help="also fail on a changed function above this")
-    one.add_argument("--min", metavar="N", type=number(1, 100_000), help="the least tokens of a duplicate; default 100")
+    one.add_argument("--min", metavar="N", type=number(1, 100_000), help="the fewest tokens that a duplicate may have; default 100")
     if command in ("groups", "measures"):
         one.add_argument("--path", metavar="FILE", type=text, help="only of this file of the project")
     if command in ("check", "groups", "verdict", "report"):
@@ -154,18 +154,18 @@ def add_files(one: argparse.ArgumentParser) -> None:
 
 
 def add_program(one: argparse.ArgumentParser) -> None:
-    group = one.add_argument_group("a server of the call's own")
+    group = one.add_argument_group("the server that a call starts")
     group.add_argument("--cqd", metavar="PROGRAM", help="the program; default what CQD names, or cqd on PATH")
     group.add_argument("--chunk", metavar="N", type=number(1, 1000),
                        help="tokens of a window of its index; default 20, or --min if that is less")
-    group.add_argument("--local", action="store_true", help="start one even if CQD_ADDR or .cqd.toml names one that runs")
+    group.add_argument("--local", action="store_true", help="start one even if CQD_ADDR or .cqd.toml names a running server")
     group.add_argument("--workers", metavar="N", type=number(0, 64), help="its threads for the analysis; default one per processor")
     group.add_argument("--ignore-ids", action="store_true", help="all identifiers are equal")
     group.add_argument("--ignore-literals", action="store_true", help="all literals are equal")
 
 
 def add_server(one: argparse.ArgumentParser, command: str) -> None:
-    group = one.add_argument_group("a server that runs")
+    group = one.add_argument_group("a running server")
     group.add_argument("--addr", metavar="HOST:PORT", type=address, action="append",
                        help="the server; default what CQD_ADDR names; of several, each has its share of the projects")
     if command != "status":
@@ -198,13 +198,13 @@ def conflict(options: argparse.Namespace) -> Optional[str]:
     own = [name for name in ("cqd", "chunk", "ignore_ids", "ignore_literals") if has(name)] + ["workers"] * (has("workers") is not None)
     if has("addr"):
         if own:
-            return f"--{own[0].replace('_', '-')} is for a server of the call's own, and --addr names one that runs"
+            return f"--{own[0].replace('_', '-')} is for a server that the call starts, and --addr names one that is already running"
         if not has("project") and options.command != "status":
             return "--project is needed with --addr: others use the server too"
     else:
         for name in ("state", "new", "since", "tls", "tls_ca", "tls_cert", "tls_key"):
             if has(name):
-                return f"--{name.replace('_', '-')} needs --addr: it is about a server that runs"
+                return f"--{name.replace('_', '-')} needs --addr: it is about a running server"
         if options.command in ("status", "remove"):
             return f"{options.command} needs --addr"
     if has("tls_key") and not has("tls_cert"):
@@ -230,6 +230,8 @@ def output_conflict(options: argparse.Namespace) -> Optional[str]:
         options.format = names = ["json"]
     if len(set(outputs)) < len(outputs):
         return "two --output name the same file"
+    if vars(options).get("page") in outputs:
+        return "the page and an --output name the same file"
     if len(outputs) > max(len(names), 1):
         return "there are more --output than --format"
     if len(names) > len(outputs) + 1:

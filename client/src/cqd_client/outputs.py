@@ -7,15 +7,17 @@ import dataclasses
 import importlib.util
 import io
 import os
+import re
 import sys
 import tempfile
 from collections.abc import Iterator
 from pathlib import Path
-from typing import TextIO, cast
+from typing import Optional, TextIO, cast
 
 from . import formats
 from .faults import FAILED, PASSED, UNKNOWN, Fault
 from .findings import Measures, Report, arranged
+from .tree import real
 from .wording import shown, value_text
 
 WORDS = {PASSED: "OK", FAILED: "ERROR", UNKNOWN: "UNKNOWN"}
@@ -32,7 +34,10 @@ def check_targets(options: argparse.Namespace) -> None:
     if vars(options).get("page") and not importlib.util.find_spec("jinja2"):
         raise Fault("python3-jinja2 is needed to write a page: install it")
     for target in targets(options):
-        if target.is_dir() or not target.parent.is_dir() or not os.access(target if target.exists() else target.parent, os.W_OK):
+        if is_stream(target):
+            continue
+        folder = real(target).parent
+        if target.is_dir() or not folder.is_dir() or not os.access(folder, os.W_OK):
             raise Fault(f"{target} can't be written: " + ("it is a folder" if target.is_dir() else "no such folder, or no permission"))
 
 
@@ -56,14 +61,30 @@ def write(report: Report, options: argparse.Namespace) -> None:
         formats.write(dataclasses.replace(report, groups=(), total=0, functions=()), "text", sys.stdout)
 
 
+def descriptor_of(target: Path) -> Optional[int]:
+    """The descriptor that a name such as /dev/stdout stands for. It may lead to a regular file, and is written to even then: to put another
+    file in that place would replace /dev/stdout itself."""
+    name = {"/dev/stdout": "/dev/fd/1", "/dev/stderr": "/dev/fd/2"}.get(str(target), str(target))
+    found = re.fullmatch(r"/(?:dev|proc/self)/fd/([0-9]{1,9})", name)
+    return int(found[1]) if found else None
+
+
+def is_stream(target: Path) -> bool:
+    """Whether the target is written to as it is: a descriptor of this process, a device or a pipe."""
+    return descriptor_of(target) is not None or (target.exists() and not target.is_file() and not target.is_dir())
+
+
 @contextlib.contextmanager
 def replaced(target: Path) -> Iterator[TextIO]:
-    if target.exists() and not target.is_file():
-        # a device or a pipe, as /dev/stdout
-        with open(target, "w", encoding="utf-8") as out:
+    """A file that takes the place of the target, or of what it links to, when it is whole; or the stream that the target is."""
+    if is_stream(target):
+        descriptor = descriptor_of(target)
+        sys.stdout.flush()
+        with open(target if descriptor is None else os.dup(descriptor), "w", encoding="utf-8", errors="backslashreplace") as out:
             yield out
         return
     beside = ""
+    target = real(target)
     try:
         with tempfile.NamedTemporaryFile("w", encoding="utf-8", errors="backslashreplace", newline="\n", dir=target.parent,
                                          prefix=target.name + ".", delete=False) as file:

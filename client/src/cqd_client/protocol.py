@@ -231,7 +231,7 @@ class Server:
 
 @contextlib.contextmanager
 def started(program: str, arguments: list[str], timeout: float) -> Iterator[Server]:
-    """A server of the call's own. What it replied holds only if this ends without a fault."""
+    """A server that the call starts. What it replied holds only if this ends without a fault."""
     build(program)
     own = Program(program, arguments, timeout)
     try:
@@ -254,18 +254,34 @@ def build(program: str) -> None:
             subprocess.run([program, "run"], stdin=subprocess.DEVNULL, stdout=subprocess.DEVNULL, check=False)
 
 
+def greeting(project: str) -> Request:
+    """What comes first on each connection. A proxy in front of several servers chooses one by the project that the first line names, so
+    neither `state` nor the project of the epochs may be there."""
+    return {"op": "functions", "project": project, "path": EPOCHS, "finish": False}
+
+
 @contextlib.contextmanager
-def reached(address: Address, tls: Optional[Tls], timeout: float) -> Iterator[Server]:
-    """A server that runs, which stays as it is afterwards."""
+def reached(address: Address, tls: Optional[Tls], timeout: float, project: str = "") -> Iterator[Server]:
+    """A running server, which stays as it is afterwards. If a project is named, each connection begins with it."""
     context = tls.context() if tls else None
 
-    def reach() -> Link:
-        return connected(address, context, timeout)
+    def reach_again() -> Link:
+        link = connected(address, context, timeout)
+        try:
+            if project:
+                link.send(line_of(greeting(project)))
+                reply_of(link.receive())
+        except Fault:
+            link.close()
+            raise
+        return link
     try:
-        server = Server(reach(), reach)
+        server = Server(connected(address, context, timeout), reach_again)
     except Lost as lost:
         raise Fault(str(lost)) from lost
     try:
+        if project:
+            server.ask(greeting(project))
         yield server
     finally:
         server.link.close()

@@ -26,11 +26,11 @@ def tls_of(options: argparse.Namespace) -> Optional[Tls]:
 
 def running(options: argparse.Namespace, project: str, timeout: float) -> contextlib.AbstractContextManager[Server]:
     """The server that has this project."""
-    return reached(owner(options.addr, project), tls_of(options), timeout)
+    return reached(owner(options.addr, project), tls_of(options), timeout, project)
 
 
 def own(options: argparse.Namespace, timeout: float, text_limit: int) -> contextlib.AbstractContextManager[Server]:
-    """A server of the call's own."""
+    """A server that the call starts."""
     chunk = options.chunk or min(20, vars(options).get("min") or 20)
     workers = min(processors(), MOST_WORKERS) if options.workers is None else options.workers
     given = ["--chunk", str(chunk), "--text-limit", str(text_limit), "--workers", str(workers)]
@@ -59,7 +59,7 @@ def version_of(options: argparse.Namespace) -> str:
 def status(options: argparse.Namespace, timeout: float) -> int:
     """What each server has done, and what it has of the project."""
     for address in options.addr:
-        with reached(address, tls_of(options), options.timeout or timeout) as server:
+        with reached(address, tls_of(options), options.timeout or timeout, options.project or "") as server:
             state = server.answer({"op": "state"}).members
             accepted, done, published = (member(state, name, int) for name in ("accepted", "done", "published"))
             print(f"{address}: {counted(accepted, 'change')} accepted, {accepted - done:,} not analysed yet, "
@@ -75,7 +75,7 @@ def status(options: argparse.Namespace, timeout: float) -> int:
 def remove(options: argparse.Namespace, timeout: float, state_file: Path) -> int:
     """Drops every file of a project, and its gate, and forgets what the state file has of it."""
     address = owner(options.addr, options.project)
-    with reached(address, tls_of(options), options.timeout or timeout) as server:
+    with reached(address, tls_of(options), options.timeout or timeout, options.project) as server:
         files = [file.path for file in files_of(server.files(options.project).members)]
         drops = ({"op": "drop", "project": options.project, "path": path} for path in files)
         for request, reply in server.ask_each(drops):

@@ -19,6 +19,9 @@ from .wording import counted
 
 LANGUAGES = {".java": "java", ".go": "go", ".c": "c", ".h": "c"}
 NAMES = ("any", "go", "c", "java")
+# Endings of code that is read only if an option says how.
+OTHER_CODE = frozenset(""".c++ .cc .cpp .cs .cxx .dart .groovy .h++ .hh .hpp .hxx .inc .js .jsx .kt .kts .lua .m .mjs .mm .php .pl .pm .py .rb
+    .rs .scala .swift .ts .tsx .vb""".split())
 
 
 @dataclass(frozen=True)
@@ -171,9 +174,7 @@ def tree_of(root: Path, paths: list[Path], listing: Optional[bytes], choice: Cho
                   f"the first is {missing[0]}")
     tree.sources = sorted(found.values(), key=lambda source: name_of(source.path))
     tell_unused(choice, notes)
-    if not tree.sources and others:
-        endings = ", ".join(sorted(others, key=lambda ending: -others[ending])[:5])
-        notes.say(f"{counted(sum(others.values()), 'file')} of other endings ({endings}); --map 'PATTERN=LANGUAGE' gives them a language")
+    tell_unread(others, bool(tree.sources), notes)
     return tree
 
 
@@ -210,6 +211,8 @@ def names_of(listing: bytes) -> list[bytes]:
 
 
 def read_listing(name: str) -> bytes:
+    if name == "-" and sys.stdin is None:
+        raise Fault("--files-from -: standard input is closed")
     try:
         return sys.stdin.buffer.read() if name == "-" else Path(name).read_bytes()
     except OSError as error:
@@ -286,6 +289,17 @@ def is_ignored(path: str, ignores: tuple[tuple[str, Any], ...]) -> bool:
             if pattern.include is not None and pattern.match_file(path[len(above):]) is not None:
                 return bool(pattern.include)
     return False
+
+
+def tell_unread(others: dict[str, int], has_sources: bool, notes: Notes) -> None:
+    """Says which files were found and have no language: all endings if there are no others, else only those of code."""
+    unread = {ending: count for ending, count in others.items() if not has_sources or ending.lower() in OTHER_CODE}
+    if unread:
+        endings = sorted(unread, key=lambda ending: -unread[ending])[:5]
+        pattern = next((f"*{ending}" for ending in endings if ending.startswith(".")), "PATTERN")
+        total = sum(unread.values())
+        notes.say(f"{counted(total, 'file')} of other endings ({', '.join(endings)}) {'is' if total == 1 else 'are'} not read; "
+                  f"--map '{pattern}=LANGUAGE' gives them a language, and --any '{pattern}' reads them as plain text")
 
 
 def tell_unused(choice: Choice, notes: Notes) -> None:
