@@ -3,7 +3,7 @@ ghost use Rattle.cq_base.specs.Settings.{IsInRange};
 ghost use Rattle.cq_listen.specs.Endings.{HasEnded, IsServedWith};
 ghost use Rattle.cq_program.specs.Statuses.{HasListened, HasServed};
 
-use crate::status::{Ended, Status, status_of_served};
+use crate::status::{Exit, Status, status_of_served};
 use cq_base::{Counters, Memory, Settings};
 use cq_chain::Pass;
 use cq_io::{Doors, Failed, Gate, Sink, Source};
@@ -66,7 +66,7 @@ pub(crate) fn listen<
     O: Sink + Send + Drop,
     D: Doors<In = I, Out = O>,
     G: Gate + Sync,
->(rt: &Q, alloc: Global, asked: Listen, doors: &mut D, gate: &G) -> Ended
+>(rt: &Q, alloc: Global, asked: Listen, doors: &mut D, gate: &G) -> Exit
     requires in_range { IsInRange asked.settings }
     requires workers { asked.workers ≤ 64 }
     requires sessions { asked.sessions ≤ 64 }
@@ -94,16 +94,16 @@ pub(crate) fn listen<
             sessions,
             Blank::new(1),
         ) {
-            Ok(served) => Ended {
+            Ok(served) => Exit {
                 status: status_of_served(served),
                 served: Some(served),
             },
-            Err(Memory) => Ended {
+            Err(Memory) => Exit {
                 status: Status::Memory,
                 served: None,
             },
         },
-        Err(Failed) => Ended {
+        Err(Failed) => Exit {
             status: Status::DoorsFault,
             served: None,
         },

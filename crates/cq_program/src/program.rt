@@ -11,7 +11,7 @@ ghost use Rattle.cq_words.specs.declared.command.Listen.{Listen};
 ghost use Rattle.cq_words.specs.declared.command.Make.{Make};
 
 use crate::clients::listen;
-use crate::status::{Ended, Status, status_of, status_of_asked, status_of_exported};
+use crate::status::{Exit, Status, status_of, status_of_asked, status_of_exported};
 use crate::workers::serve_with_workers;
 use cq_base::{Memory, Settings, Steps, Text};
 use cq_drive::drive;
@@ -231,7 +231,7 @@ pub fn top<
     doors: &mut D,
     gate: &G,
     steps: &mut Steps<L>,
-) -> Ended
+) -> Exit
     // Exactly if the arguments are not valid, and nothing is read, written or asked then.
     ensures arguments { (result.status ≡ ended.Arguments) ↔ (command_of words.now ≡ None) }
     ensures refused { result.status ≡ ended.Arguments
@@ -286,35 +286,35 @@ pub fn top<
         → source.new ≡ source.old }
 {
     if !is_command(words) {
-        return Ended {
+        return Exit {
             status: Status::Arguments,
             served: None,
         };
     }
     match read_command(alloc, words) {
-        Ok(Some(Command::Run(run))) => Ended {
+        Ok(Some(Command::Run(run))) => Exit {
             status: run_with(rt, alloc, run, source, sink, gate, steps),
             served: None,
         },
         Ok(Some(Command::Listen(asked))) => listen(rt, alloc, asked, doors, gate),
-        Ok(Some(Command::Drive(settings))) => Ended {
+        Ok(Some(Command::Drive(settings))) => Exit {
             status: driven(rt, alloc, &settings, source, sink, steps),
             served: None,
         },
-        Ok(Some(Command::Make(asked))) => Ended {
+        Ok(Some(Command::Make(asked))) => Exit {
             status: made(rt, alloc, asked, sink, steps),
             served: None,
         },
-        Ok(Some(Command::Export(asked))) => Ended {
+        Ok(Some(Command::Export(asked))) => Exit {
             status: exported(alloc, &asked, source, sink, steps),
             served: None,
         },
-        Ok(Some(Command::Ask(settings))) => Ended {
+        Ok(Some(Command::Ask(settings))) => Exit {
             status: kept(rt, alloc, &settings, source, sink, steps),
             served: None,
         },
         Ok(None) => unreachable!(),
-        Err(Memory) => Ended {
+        Err(Memory) => Exit {
             status: Status::Memory,
             served: None,
         },

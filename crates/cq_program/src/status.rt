@@ -53,9 +53,9 @@ impl Status {
     }
 }
 
-/// How the program ended.
+/// How the program exits.
 #[derive(Clone, Copy, Debug, PartialEq, Eq)]
-pub struct Ended {
+pub struct Exit {
     pub status: Status,
     /// What `listen` served connections with. None if memory was refused first, if the address could not be bound, and for
     /// every other command.

@@ -3,7 +3,7 @@ ghost use Rattle.std.specs.Prelude.{◌≡◌};
 use crate::running::words_of;
 use cq_base::{Memory, Steps, Text};
 use cq_listen::Served;
-use cq_program::{Ended, top};
+use cq_program::{Exit, top};
 use cq_stage::{Client, ClientSource, Hold, Late, LogDoors, LogSink, Scene, Stage, Until};
 use std::alloc::Global;
 use std::marker::Brand;
@@ -49,7 +49,7 @@ fn ended<Q: Threads + Wait + Clock + Sync, L: Ledger + Send + Sync>(
     doors: &mut LogDoors<'_, Q>,
     gate: &Scene<'_, Q>,
     blank: Blank,
-) -> Ended
+) -> Exit
     requires name { blank.name ≡ L.name }
     requires parts { blank.parts ≡ L.parts }
 {
@@ -62,7 +62,7 @@ fn ended_here<Q: Threads + Wait + Clock + Sync>(
     alloc: Global,
     stage: &Stage<'_, Q>,
     run: &Run<'_>,
-) -> Result<Ended, Memory> {
+) -> Result<Exit, Memory> {
     let words = words_of(alloc, run.words)?;
     let first = run.clients.first().copied().unwrap_or(Client::new(""));
     let mut source = ClientSource::new(stage, 0, &first);
