@@ -1,5 +1,6 @@
--- What the status of a command says of its source and its sink, by how the command ended.
-use Rattle.std.proofs.Common.{ℕ, List, ap, inl, inr, refl, subst, sym}
+-- What the status of a command says of its source and its sink, or of its doors, by how the command ended.
+use Rattle.std.proofs.Common.{◌≡◌, ℕ, Bool, true, false, List, Option, Some, ap, inl, inr, refl, subst, sym}
+use Rattle.std.specs.Prelude.{if◌then◌else◌}
 use Rattle.cq_base.specs.declared.settings.Settings.{Settings}
 use Rattle.cq_export.specs.Exports.{Exports}
 use Rattle.cq_export.specs.declared.exporting.Exported.{Exported}
@@ -9,7 +10,8 @@ use Rattle.cq_io.specs.declared.source.Source as source
 use Rattle.cq_lines.specs.Serving.{HasCauseOfEnd}
 use Rattle.cq_lines.specs.declared.ending.End.{End}
 use Rattle.cq_lines.specs.declared.ending.End.TheVariants as end
-use Rattle.cq_program.specs.Statuses.{Ends, EndsUnread, status_of, status_of_asked, status_of_exported}
+use Rattle.cq_listen.specs.Endings.{HasEnded}
+use Rattle.cq_program.specs.Statuses.{Ends, EndsUnread, HasListened, status_of, status_of_asked, status_of_exported}
 use Rattle.cq_program.specs.declared.status.Status.{Status}
 use Rattle.cq_program.specs.declared.status.Status.TheVariants as ended
 use Rattle.cq_tokask.specs.Kept.{Asks}
@@ -53,3 +55,9 @@ module _ (L : Type 0) {S K : Type 0} (from : source.Ghosts S) (onto : sink.Ghost
   ended_exported project (exported.Ended end.ReadFault) exports = exports.1
   ended_exported project (exported.Ended end.WriteFault) exports = exports.writes.4
   ended_exported project (exported.Ended end.Spent) exports = (exports.1, ap onto.faults exports.2)
+
+-- connections that were served, by whether a call of the doors failed
+pub listened : (address : List ℕ) (bound_now : Option (List ℕ)) (left left_now : Option ℕ) (doors doors_now : ℕ) (failed : Bool) → bound_now ≡ Some address → HasEnded doors doors_now left left_now failed
+    → HasListened address bound_now left left_now doors doors_now (if failed then ended.DoorsFault else ended.Done)
+listened address bound_now left left_now doors doors_now true bound rose = rose
+listened address bound_now left left_now doors doors_now false bound none = (bound, none.1, none.0)

@@ -1,5 +1,5 @@
 -- How a command ended, and what that says of its source and its sink.
-use Rattle.std.specs.Prelude.{◌≡◌, ℕ, List, Result, Ok, Err, Option, Some, IfSome}
+use Rattle.std.specs.Prelude.{◌≡◌, ◌⊎◌, ℕ, List, Result, Ok, Err, Option, Some, None, IfSome, if◌then◌else◌}
 use Rattle.cq_export.specs.declared.exporting.Exported.{Exported}
 use Rattle.cq_export.specs.declared.exporting.Exported.TheVariants as exported
 use Rattle.cq_io.specs.Causes.{Rose}
@@ -7,8 +7,11 @@ use Rattle.cq_io.specs.declared.sink.Sink as sink
 use Rattle.cq_io.specs.declared.source.Source as source
 use Rattle.cq_lines.specs.declared.ending.End.{End}
 use Rattle.cq_lines.specs.declared.ending.End.TheVariants as end
+use Rattle.cq_listen.specs.Endings.{IsServedWith}
+use Rattle.cq_listen.specs.declared.listening.Served.{Served}
 use Rattle.cq_tokask.specs.declared.kept.Asked.{Asked}
 use Rattle.cq_tokask.specs.declared.kept.Asked.TheVariants as kept
+use Rattle.cq_words.specs.declared.command.Listen.{Listen}
 use Rattle.cq_program.specs.declared.status.Status.{Status}
 use Rattle.cq_program.specs.declared.status.Status.TheVariants as ended
 
@@ -42,6 +45,10 @@ abbrev pub status_of_exported : Exported → Status
 status_of_exported exported.Refused = ended.LineRefused
 status_of_exported exported.TooLarge = ended.TooLarge
 status_of_exported (exported.Ended by) = status_of by
+
+-- the status of the serving of connections
+abbrev pub status_of_served : Served → Status
+status_of_served served = if served.failed then ended.DoorsFault else ended.Done
 
 -- how the writing of one line ends a run
 abbrev pub end_of : {E : Type 0} → Result (Unit {0}) E → End
@@ -77,3 +84,9 @@ HasListened address bound_now left left_now doors doors_now ended.Done = (bound_
 HasListened address bound_now left left_now doors doors_now ended.Memory = (left_now ≡ left) × (doors_now ≡ doors)
 HasListened address bound_now left left_now doors doors_now ended.DoorsFault = Rose doors doors_now
 HasListened address bound_now left left_now doors doors_now _ = ⊥
+
+-- What `listen` served connections with. If it began to serve, the doors are bound to the address, the settings, workers and sessions are those that were asked for, and the status says
+-- whether a call of the doors failed. If it did not, memory was refused, or the doors failed and are bound as before.
+abbrev pub HasServed : Listen → Option (List ℕ) → Option (List ℕ) → Status → Option Served → Type 0
+HasServed asked bound bound_now status (Some served) = (bound_now ≡ Some asked.address) × IsServedWith asked.settings asked.workers asked.sessions served × (status ≡ status_of_served served)
+HasServed asked bound bound_now status None = (status ≡ ended.Memory) ⊎ ((status ≡ ended.DoorsFault) × (bound_now ≡ bound))

@@ -15,6 +15,7 @@ use Rattle.cq_tokask.specs.Kept.{Asks, TakesNoLine}
 use Rattle.cq_tokask.specs.declared.kept.Asked.{Asked}
 use Rattle.cq_lines.specs.Serving.{Serves, HasEndCause}
 use Rattle.cq_lines.specs.declared.ending.End.{End}
+use Rattle.cq_listen.specs.declared.listening.Served.{Served}
 use Rattle.cq_make.specs.Made.{Makes}
 use Rattle.cq_drive.specs.Outcomes.{line_of as outcome_line}
 use Rattle.cq_reply.specs.Written.{line_of as reply_line}
@@ -31,7 +32,7 @@ use Rattle.cq_words.specs.declared.command.Export.{Export}
 use Rattle.cq_words.specs.declared.command.Listen.{Listen}
 use Rattle.cq_words.specs.declared.command.Make.{Make}
 use Rattle.cq_words.specs.declared.command.Run.{Run}
-use Rattle.cq_program.specs.Statuses.{Ends, HasListened, end_of, status_of, status_of_asked, status_of_exported}
+use Rattle.cq_program.specs.Statuses.{Ends, HasListened, HasServed, end_of, status_of, status_of_asked, status_of_exported}
 use Rattle.cq_program.specs.declared.status.Status.{Status}
 use Rattle.cq_program.specs.declared.status.Status.TheVariants as ended
 
@@ -164,11 +165,9 @@ module _ {S K : Type 0} (from : source.Ghosts S) (onto : sink.Ghosts K) where
 
 -- ---- connections
 
--- the words ask to listen under these settings, with so many workers and so many sessions
-abbrev pub AskToListen : List (List ℕ) → Settings → ℕ → ℕ → Type 0
-AskToListen words settings workers sessions =
-    (asked : Listen) × (command_of words ≡ Some (command.Listen asked)) × (asked.settings ≡ settings) × (asked.workers ≡ workers) × (asked.sessions ≡ sessions)
-
 -- where the words ask for it
 abbrev pub ListensFor : List (List ℕ) → Option (List ℕ) → Option ℕ → Option ℕ → ℕ → ℕ → Status → Type 0
 ListensFor words bound_now left left_now doors doors_now status = (asked : Listen) → command_of words ≡ Some (command.Listen asked) → HasListened asked.address bound_now left left_now doors doors_now status
+
+abbrev pub ServesFor : List (List ℕ) → Option (List ℕ) → Option (List ℕ) → Status → Option Served → Type 0
+ServesFor words bound bound_now status served = (asked : Listen) → command_of words ≡ Some (command.Listen asked) → HasServed asked bound bound_now status served

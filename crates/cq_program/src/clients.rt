@@ -1,12 +1,10 @@
-ghost use Rattle.std.specs.Prelude.{◌≡◌, ◌≤◌, List, ℕ, IsSome, Some};
+ghost use Rattle.std.specs.Prelude.{◌≡◌, ◌≤◌, IsSome, IfOk, OnErr};
 ghost use Rattle.cq_base.specs.Settings.{IsInRange};
-ghost use Rattle.cq_words.specs.Command.{command_of};
-ghost use Rattle.cq_words.specs.declared.command.Command.TheVariants as command;
-ghost use Rattle.cq_program.specs.Statuses.{HasListened};
-ghost use Rattle.cq_program.specs.Top.{AskToListen};
+ghost use Rattle.cq_listen.specs.Endings.{HasEnded, IsServedWith};
+ghost use Rattle.cq_program.specs.Statuses.{HasListened, HasServed};
 
-use crate::status::Status;
-use cq_base::{Counters, Memory, Settings, Text};
+use crate::status::{Exit, Status, status_of_served};
+use cq_base::{Counters, Memory, Settings};
 use cq_chain::Pass;
 use cq_io::{Doors, Failed, Gate, Sink, Source};
 use cq_listen::{Served, serve};
@@ -19,15 +17,6 @@ use std::sync::Wait;
 use std::sync::ledger::{Blank, Ledger};
 use std::thread::Threads;
 
-// Whether a call of the doors failed while they were served. They were served as the words ask: by their settings, with as
-// many workers and as many sessions.
-fn has_failed(_words: &[Text], served: Served) -> bool
-    requires as_asked { AskToListen _words.now served.settings served.workers served.sessions }
-    ensures { result ≡ served.failed }
-{
-    served.failed
-}
-
 // Serves the connections of doors that are bound, over a shared hub that is made for them.
 fn serve_clients<
     Q: Threads + Wait + Sync,
@@ -39,44 +28,33 @@ fn serve_clients<
 >(
     rt: &Q,
     alloc: Global,
-    words: &[Text],
     settings: &Settings,
     doors: &mut D,
     gate: &G,
     workers: u32,
     sessions: u32,
     blank: Blank,
-) -> Status
+) -> Result<Served, Memory>
     requires name { blank.name ≡ L.name }
     requires parts { blank.parts ≡ L.parts }
-    requires asked { AskToListen words.now settings.now workers sessions }
     requires in_range { IsInRange settings.now }
     requires bound { IsSome (D.bound doors.old) }
     requires workers { workers ≤ 64 }
-    requires sessions { (1 ≤ sessions) × (sessions ≤ 64) }
-    ensures listens { (address : List ℕ) → D.bound doors.old ≡ Some address
-        → HasListened address (D.bound doors.new) (D.left doors.old) (D.left doors.new)
-        (D.faults doors.old) (D.faults doors.new) result }
+    requires sessions { sessions ≤ 64 }
+    ensures ended { IfOk result (λ served. HasEnded (D.faults doors.old) (D.faults doors.new)
+        (D.left doors.old) (D.left doors.new) served.failed) }
+    ensures made { IfOk result (IsServedWith settings.now workers sessions) }
+    ensures refused { OnErr result (doors.new ≡ doors.old) }
+    ensures bound { D.bound doors.new ≡ D.bound doors.old }
 {
     let counters: Counters<L> = Counters::new(blank);
     // One caller is the calling thread's, one each session's, and one each worker's.
     let callers = workers + sessions + 1;
-    let made: Result<(Shared<Work<L>, &Q>, Pass<Work<L>>), Memory> = Shared::new(
-        rt, alloc, settings, callers,
-    );
-    let Ok((hub, pass)) = made else {
-        return Status::Memory;
-    };
-    match serve(
+    let made: (Shared<Work<L>, &Q>, Pass<Work<L>>) = Shared::new(rt, alloc, settings, callers)?;
+    let (hub, pass) = made;
+    serve(
         rt, alloc, settings, &counters, &hub, pass, doors, gate, workers, sessions,
-    ) {
-        Ok(served) => if has_failed(words, served) {
-            Status::DoorsFault
-        } else {
-            Status::Done
-        },
-        Err(Memory) => Status::Memory,
-    }
+    )
 }
 
 /// Listens at the address, and serves the connections that come until no more will, on as many threads as there are to be
@@ -88,14 +66,15 @@ pub(crate) fn listen<
     O: Sink + Send + Drop,
     D: Doors<In = I, Out = O>,
     G: Gate + Sync,
->(rt: &Q, alloc: Global, words: &[Text], asked: Listen, doors: &mut D, gate: &G) -> Status
-    requires words { command_of words.now ≡ Some (command.Listen asked) }
+>(rt: &Q, alloc: Global, asked: Listen, doors: &mut D, gate: &G) -> Exit
     requires in_range { IsInRange asked.settings }
     requires workers { asked.workers ≤ 64 }
-    requires sessions { (1 ≤ asked.sessions) × (asked.sessions ≤ 64) }
+    requires sessions { asked.sessions ≤ 64 }
     ensures listens { HasListened asked.address
         (D.bound doors.new) (D.left doors.old) (D.left doors.new)
-        (D.faults doors.old) (D.faults doors.new) result }
+        (D.faults doors.old) (D.faults doors.new) result.status }
+    ensures served { HasServed asked (D.bound doors.old) (D.bound doors.new)
+        result.status result.served }
 {
     let Listen {
         settings,
@@ -105,17 +84,28 @@ pub(crate) fn listen<
         connections: _,
     } = asked;
     match doors.bind(address) {
-        Ok(()) => serve_clients::<Q, Brand, I, O, D, G>(
+        Ok(()) => match serve_clients::<Q, Brand, I, O, D, G>(
             rt,
             alloc,
-            words,
             &settings,
             doors,
             gate,
             workers,
             sessions,
             Blank::new(1),
-        ),
-        Err(Failed) => Status::DoorsFault,
+        ) {
+            Ok(served) => Exit {
+                status: status_of_served(served),
+                served: Some(served),
+            },
+            Err(Memory) => Exit {
+                status: Status::Memory,
+                served: None,
+            },
+        },
+        Err(Failed) => Exit {
+            status: Status::DoorsFault,
+            served: None,
+        },
     }
 }

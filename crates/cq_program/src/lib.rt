@@ -13,4 +13,4 @@ pub use laws::{
     a_version_that_nothing_fails_is_written, what_was_exported_is_asked_as_run,
 };
 pub use program::top;
-pub use status::Status;
+pub use status::{Exit, Status};

@@ -2,7 +2,7 @@ ghost use Rattle.std.specs.Prelude.{◌≡◌, ◌↔◌, ◌≤◌, true, false
 ghost use Rattle.cq_base.specs.Settings.{IsInRange};
 ghost use Rattle.cq_tokask.specs.Kept.{TakesNoLine};
 ghost use Rattle.cq_program.specs.Statuses.{Ends, EndsUnread};
-ghost use Rattle.cq_program.specs.Top.{AsksFile, AsksFor, Drives, DrivesFor, EndsFor, ExportsFile, ExportsFor, ListensFor, MakesFor, MakesLine, Runs, RunsAsked, RunsFor, TakesNoLineFor, takes_first};
+ghost use Rattle.cq_program.specs.Top.{AsksFile, AsksFor, Drives, DrivesFor, EndsFor, ExportsFile, ExportsFor, ListensFor, MakesFor, MakesLine, Runs, RunsAsked, RunsFor, ServesFor, TakesNoLineFor, takes_first};
 ghost use Rattle.cq_names.specs.Names.{is_project};
 ghost use Rattle.cq_program.specs.declared.status.Status.TheVariants as ended;
 ghost use Rattle.cq_words.specs.Command.{command_of, connections_of};
@@ -11,7 +11,7 @@ ghost use Rattle.cq_words.specs.declared.command.Listen.{Listen};
 ghost use Rattle.cq_words.specs.declared.command.Make.{Make};
 
 use crate::clients::listen;
-use crate::status::{Status, status_of, status_of_asked, status_of_exported};
+use crate::status::{Exit, Status, status_of, status_of_asked, status_of_exported};
 use crate::workers::serve_with_workers;
 use cq_base::{Memory, Settings, Steps, Text};
 use cq_drive::drive;
@@ -231,62 +231,92 @@ pub fn top<
     doors: &mut D,
     gate: &G,
     steps: &mut Steps<L>,
-) -> Status
+) -> Exit
     // Exactly if the arguments are not valid, and nothing is read, written or asked then.
-    ensures arguments { (result ≡ ended.Arguments) ↔ (command_of words.now ≡ None) }
-    ensures refused { result ≡ ended.Arguments → (source.new ≡ source.old) × (sink.new ≡ sink.old)
-        × (doors.new ≡ doors.old) }
+    ensures arguments { (result.status ≡ ended.Arguments) ↔ (command_of words.now ≡ None) }
+    ensures refused { result.status ≡ ended.Arguments
+        → (source.new ≡ source.old) × (sink.new ≡ sink.old) × (doors.new ≡ doors.old) }
 
     // Memory is refused before a line is read. `ask` may have taken bytes of the file by then, none after it, and `export`
     // bytes of the lines.
-    ensures untaken { result ≡ ended.Memory → takes_first (command_of words.now) ≡ false
-        → source.new ≡ source.old }
+    ensures untaken { result.status ≡ ended.Memory
+        → takes_first (command_of words.now) ≡ false → source.new ≡ source.old }
 
     // What the status says of the source and the sink, for each command but `listen`.
-    ensures ends { EndsFor S.Source K.Sink words.now result source.old source.new sink.old sink.new }
+    ensures ends { EndsFor S.Source K.Sink words.now result.status
+        source.old source.new sink.old sink.new }
 
     // The doors are only for `listen`, and the source and the sink are for the others.
     ensures closed { connections_of words.now ≡ None → doors.new ≡ doors.old }
     ensures aside { (asked : Listen) → command_of words.now ≡ Some (command.Listen asked)
         → (source.new ≡ source.old) × (sink.new ≡ sink.old) }
     ensures listens { ListensFor words.now (D.bound doors.new)
-        (D.left doors.old) (D.left doors.new) (D.faults doors.old) (D.faults doors.new) result }
+        (D.left doors.old) (D.left doors.new)
+        (D.faults doors.old) (D.faults doors.new) result.status }
+
+    // `listen` serves connections under the settings in its arguments, with as many workers and as many sessions as they ask
+    // for, unless memory is refused or the address can't be bound. No other command serves any.
+    ensures served { ServesFor words.now (D.bound doors.old) (D.bound doors.new)
+        result.status result.served }
+    ensures unserved { connections_of words.now ≡ None → result.served ≡ None }
 
     // Unless memory is refused, the status of `run` is that of a session over all lines of the source: alone if there is no
     // worker, and otherwise with workers beside it.
     ensures runs { RunsFor S.Source K.Sink words.now steps.old steps.new
-        source.old source.new sink.old sink.new result }
+        source.old source.new sink.old sink.new result.status }
 
     // That of `drive` is that of a script of all lines of the source.
     ensures drives { DrivesFor S.Source K.Sink words.now
-        source.old source.new sink.old sink.new result }
+        source.old source.new sink.old sink.new result.status }
 
     // That of `ask` is that of a kept version, asked by all lines of the source after its file, or of a read that failed
     // before the file was whole, or the source begins with no token file of the settings.
     ensures asks { AsksFor L S.Source K.Sink words.now
-        source.old source.new sink.old sink.new result }
-    ensures no_line { TakesNoLineFor L S.Source K.Sink words.now source.old source.new result }
+        source.old source.new sink.old sink.new result.status }
+    ensures no_line { TakesNoLineFor L S.Source K.Sink words.now
+        source.old source.new result.status }
 
     // That of `export` is that of writing the version of the changes that all lines of the source say.
     ensures exports { ExportsFor L S.Source K.Sink words.now
-        source.old source.new sink.old sink.new result }
+        source.old source.new sink.old sink.new result.status }
 
     // That of `make` is that of sending the line of the project, and nothing is read.
-    ensures makes { MakesFor K.Sink words.now sink.old sink.new result }
+    ensures makes { MakesFor K.Sink words.now sink.old sink.new result.status }
     ensures unread { (asked : Make) → command_of words.now ≡ Some (command.Make asked)
         → source.new ≡ source.old }
 {
     if !is_command(words) {
-        return Status::Arguments;
+        return Exit {
+            status: Status::Arguments,
+            served: None,
+        };
     }
     match read_command(alloc, words) {
-        Ok(Some(Command::Run(run))) => run_with(rt, alloc, run, source, sink, gate, steps),
-        Ok(Some(Command::Listen(asked))) => listen(rt, alloc, words, asked, doors, gate),
-        Ok(Some(Command::Drive(settings))) => driven(rt, alloc, &settings, source, sink, steps),
-        Ok(Some(Command::Make(asked))) => made(rt, alloc, asked, sink, steps),
-        Ok(Some(Command::Export(asked))) => exported(alloc, &asked, source, sink, steps),
-        Ok(Some(Command::Ask(settings))) => kept(rt, alloc, &settings, source, sink, steps),
+        Ok(Some(Command::Run(run))) => Exit {
+            status: run_with(rt, alloc, run, source, sink, gate, steps),
+            served: None,
+        },
+        Ok(Some(Command::Listen(asked))) => listen(rt, alloc, asked, doors, gate),
+        Ok(Some(Command::Drive(settings))) => Exit {
+            status: driven(rt, alloc, &settings, source, sink, steps),
+            served: None,
+        },
+        Ok(Some(Command::Make(asked))) => Exit {
+            status: made(rt, alloc, asked, sink, steps),
+            served: None,
+        },
+        Ok(Some(Command::Export(asked))) => Exit {
+            status: exported(alloc, &asked, source, sink, steps),
+            served: None,
+        },
+        Ok(Some(Command::Ask(settings))) => Exit {
+            status: kept(rt, alloc, &settings, source, sink, steps),
+            served: None,
+        },
         Ok(None) => unreachable!(),
-        Err(Memory) => Status::Memory,
+        Err(Memory) => Exit {
+            status: Status::Memory,
+            served: None,
+        },
     }
 }

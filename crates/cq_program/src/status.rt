@@ -4,6 +4,7 @@ ghost use Rattle.cq_program.specs.declared.status.Status.TheVariants as ended;
 
 use cq_export::Exported;
 use cq_lines::End;
+use cq_listen::Served;
 use cq_tokask::Asked;
 
 /// How a command ended.
@@ -52,6 +53,15 @@ impl Status {
     }
 }
 
+/// How the program exits.
+#[derive(Clone, Copy, Debug, PartialEq, Eq)]
+pub struct Exit {
+    pub status: Status,
+    /// What `listen` served connections with. None if memory was refused first, if the address could not be bound, and for
+    /// every other command.
+    pub served: Option<Served>,
+}
+
 /// The status of a run that ends so.
 pub(crate) fn status_of(end: End) -> Status
     ensures status { result ≡ spec.status_of end }
@@ -85,5 +95,16 @@ pub(crate) fn status_of_exported(exported: Exported) -> Status
         Exported::Refused => Status::LineRefused,
         Exported::TooLarge => Status::TooLarge,
         Exported::Ended(end) => status_of(end),
+    }
+}
+
+/// The status of the serving of connections that ended so.
+pub(crate) fn status_of_served(served: Served) -> Status
+    ensures { result ≡ spec.status_of_served served }
+{
+    if served.failed {
+        Status::DoorsFault
+    } else {
+        Status::Done
     }
 }

@@ -86,6 +86,7 @@ fn run<
         &OpenGate,
         &mut steps,
     )
+    .status
 }
 
 // The status of a run whose words could not be had: memory was refused, or one is not UTF-8.

@@ -2,7 +2,8 @@ ghost use Rattle.std.specs.Prelude.{◌≡◌};
 
 use crate::running::words_of;
 use cq_base::{Memory, Steps, Text};
-use cq_program::top;
+use cq_listen::Served;
+use cq_program::{Exit, top};
 use cq_stage::{Client, ClientSource, Hold, Late, LogDoors, LogSink, Scene, Stage, Until};
 use std::alloc::Global;
 use std::marker::Brand;
@@ -48,12 +49,12 @@ fn ended<Q: Threads + Wait + Clock + Sync, L: Ledger + Send + Sync>(
     doors: &mut LogDoors<'_, Q>,
     gate: &Scene<'_, Q>,
     blank: Blank,
-) -> u8
+) -> Exit
     requires name { blank.name ≡ L.name }
     requires parts { blank.parts ≡ L.parts }
 {
     let mut steps: Steps<L> = Steps::new(blank);
-    top(rt, alloc, words, source, sink, doors, gate, &mut steps).code()
+    top(rt, alloc, words, source, sink, doors, gate, &mut steps)
 }
 
 fn ended_here<Q: Threads + Wait + Clock + Sync>(
@@ -61,7 +62,7 @@ fn ended_here<Q: Threads + Wait + Clock + Sync>(
     alloc: Global,
     stage: &Stage<'_, Q>,
     run: &Run<'_>,
-) -> Result<u8, Memory> {
+) -> Result<Exit, Memory> {
     let words = words_of(alloc, run.words)?;
     let first = run.clients.first().copied().unwrap_or(Client::new(""));
     let mut source = ClientSource::new(stage, 0, &first);
@@ -83,13 +84,23 @@ fn ended_here<Q: Threads + Wait + Clock + Sync>(
     ))
 }
 
+/// What a run served connections with.
+pub(crate) fn served<Q: Threads + Wait + Clock + Sync>(
+    rt: &Q,
+    alloc: Global,
+    run: &Run<'_>,
+) -> Result<Option<Served>, Memory> {
+    let stage = Stage::new(rt, alloc, run.clients.len())?;
+    Ok(ended_here(rt, alloc, &stage, run)?.served)
+}
+
 pub(crate) fn goes<Q: Threads + Wait + Clock + Sync>(
     rt: &Q,
     alloc: Global,
     run: &Run<'_>,
 ) -> Result<Went, Memory> {
     let stage = Stage::new(rt, alloc, run.clients.len())?;
-    let status = ended_here(rt, alloc, &stage, run)?;
+    let status = ended_here(rt, alloc, &stage, run)?.status.code();
     if let Some(late) = stage.late() {
         return Ok(Went::InVain(late));
     }

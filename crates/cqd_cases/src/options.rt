@@ -1,5 +1,6 @@
-use crate::clients::{LISTEN, Run, Went, goes};
-use cq_base::Memory;
+use crate::clients::{LISTEN, Run, Went, goes, served};
+use cq_base::{Memory, Settings};
+use cq_listen::Served;
 use cq_stage::Client;
 use std::alloc::Global;
 use std::sync::Wait;
@@ -140,5 +141,69 @@ fn options_are_the_settings(rt: HostRuntime) -> Result<(), Memory> {
         let served = goes_with(&rt, rt.alloc(), &listen, given, 0)?;
         assert_eq!(rt; served, Went::AsWanted, "listen {}", given.sends);
     }
+    Ok(())
+}
+
+// The options that say what `listen` serves with, none of them at its default.
+const ASKED: [&str; 20] = [
+    "listen",
+    "mem",
+    "--chunk",
+    "2",
+    "--shards",
+    "3",
+    "--key-bits",
+    "40",
+    "--ignore-ids",
+    "--ignore-literals",
+    "--change-limit",
+    "5",
+    "--text-limit",
+    "60",
+    "--byte-limit",
+    "700",
+    "--workers",
+    "2",
+    "--sessions",
+    "3",
+];
+
+const SERVED: Served = Served {
+    failed: false,
+    settings: Settings {
+        chunk: 2,
+        shards: 3,
+        key_bits: 40,
+        ignore_ids: true,
+        ignore_lits: true,
+        change_limit: 5,
+        text_limit: 60,
+        byte_limit: 700,
+    },
+    workers: 2,
+    sessions: 3,
+};
+
+// The first call of the doors is for the address, and the second one for a connection: if only the second one fails, `listen` has
+// begun to serve.
+#[test]
+fn listen_serves_with_what_it_is_asked_for(rt: HostRuntime) -> Result<(), Memory> {
+    let failed = Served {
+        failed: true,
+        ..SERVED
+    };
+    for (failing, wanted) in [(0, Some(SERVED)), (2, Some(failed)), (1, None)] {
+        let run = Run {
+            words: &ASKED,
+            failing,
+            ..LISTEN
+        };
+        assert_eq!(rt; served(&rt, rt.alloc(), &run)?, wanted, "failing {failing}");
+    }
+    let run = Run {
+        words: &["run", "--workers", "2"],
+        ..LISTEN
+    };
+    assert_eq!(rt; served(&rt, rt.alloc(), &run)?, None);
     Ok(())
 }

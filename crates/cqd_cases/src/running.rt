@@ -34,6 +34,7 @@ fn run<Q: Threads + Wait + Sync, L: Ledger + Send + Sync>(
     top(
         rt, alloc, words, source, sink, &mut doors, &OpenGate, &mut steps,
     )
+    .status
     .code()
 }
 

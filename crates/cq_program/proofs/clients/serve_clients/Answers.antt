@@ -1,4 +1,4 @@
-use Rattle.std.proofs.Common.{◌≡◌, List, None, sym, subst, ◌∙◌}
+use Rattle.std.proofs.Common.{◌≡◌, List, None, sym, subst}
 use Rattle.cq_cells.specs.Passes.{by_of}
 use Rattle.cq_history.specs.declared.event.Event.{Event}
 use Rattle.cq_history.specs.State.{view_of}
@@ -8,16 +8,10 @@ use Rattle.cq_program.proofs.clients.serve_clients.Goals as goal
 
 pub serve-requires-clause-idle : goal.serve-requires-clause-idle
 serve-requires-clause-idle g c κs lives =
-    let hub = c.in-Ok.hub in
-    let pass = c.in-Ok.pass in
-    let stands = c.in-Ok.ensures.stands in
+    let hub = c.in_ok-made.made.0 in
+    let pass = c.in_ok-made.made.1 in
+    let stands = c.in_ok-made.ensures.stands in
     record {
       of = stands.is;
       closed = subst (λ (h : List Event). view_of (state_of hub h) (by_of pass) ≡ None) (sym stands.seen) (no_view (callers_of hub) (by_of pass));
     }
-
-pub has_failed-requires : goal.has_failed-requires
-has_failed-requires g c =
-    let asked = c.requires.asked in
-    let made = c.in-Ok-serve.ensures.made in
-    record { as_asked = (asked.0, asked.1, asked.2 ∙ sym made.settings_are, asked.3 ∙ sym made.workers_are, asked.4 ∙ sym made.sessions_are) }
