@@ -1,5 +1,6 @@
 #!/usr/bin/env python3
-"""Runs ./cqd on 200 uploads of 20 tokens and 10 listings of their groups, and prints the wall-clock seconds and the peak of memory.
+"""Runs ./cqd on 200 uploads of 20 tokens and 10 listings of their groups, and prints the wall-clock seconds and the peak of memory
+(VmHWM).
 
 usage: bench/tall.py
 
@@ -8,7 +9,7 @@ The program is ./cqd, or what the variable CQD names.
 import argparse
 import json
 import os
-import resource
+import re
 import subprocess
 import time
 from pathlib import Path
@@ -26,7 +27,12 @@ def upload(number):
 requests = [upload(number) for number in range(200)] + [{"op": "groups", "project": "p", "min": 10}] * 10
 lines = "".join(json.dumps(request) + "\n" for request in requests).encode()
 start = time.monotonic()
-ran = subprocess.run([os.environ.get("CQD", ROOT / "cqd"), "run", "--chunk", "2", "--shards", "1"], input=lines, capture_output=True)
+server = subprocess.Popen([os.environ.get("CQD", ROOT / "cqd"), "run", "--chunk", "2", "--shards", "1"], stdin=subprocess.PIPE, stdout=subprocess.PIPE)
+# less than a pipe holds, so that it can be written as a whole before a reply is read
+server.stdin.write(lines)
+server.stdin.flush()
+replies = [server.stdout.readline() for _ in requests]
 seconds = time.monotonic() - start
-peak = resource.getrusage(resource.RUSAGE_CHILDREN).ru_maxrss // 1024
-print(f"{len(lines)} bytes, {ran.stdout.count(10)} replies, status {ran.returncode}: {seconds:.1f} s, peak {peak} MiB")
+peak = int(re.search(r"^VmHWM:\s*(\d+)", Path(f"/proc/{server.pid}/status").read_text(), re.MULTILINE)[1]) / 1024
+server.stdin.close()
+print(f"{len(lines)} bytes, {sum(map(bool, replies))} replies, status {server.wait()}: {seconds:.1f} s, peak {peak:.1f} MiB")
