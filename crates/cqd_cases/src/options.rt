@@ -145,31 +145,28 @@ fn options_are_the_settings(rt: HostRuntime) -> Result<(), Memory> {
 }
 
 // The options that say what `listen` serves with, none of them at its default.
-const ASKED: Run<'static> = Run {
-    words: &[
-        "listen",
-        "mem",
-        "--chunk",
-        "2",
-        "--shards",
-        "3",
-        "--key-bits",
-        "40",
-        "--ignore-ids",
-        "--ignore-literals",
-        "--change-limit",
-        "5",
-        "--text-limit",
-        "60",
-        "--byte-limit",
-        "700",
-        "--workers",
-        "2",
-        "--sessions",
-        "3",
-    ],
-    ..LISTEN
-};
+const ASKED: [&str; 20] = [
+    "listen",
+    "mem",
+    "--chunk",
+    "2",
+    "--shards",
+    "3",
+    "--key-bits",
+    "40",
+    "--ignore-ids",
+    "--ignore-literals",
+    "--change-limit",
+    "5",
+    "--text-limit",
+    "60",
+    "--byte-limit",
+    "700",
+    "--workers",
+    "2",
+    "--sessions",
+    "3",
+];
 
 const SERVED: Served = Served {
     failed: false,
@@ -196,7 +193,11 @@ fn listen_serves_with_what_it_is_asked_for(rt: HostRuntime) -> Result<(), Memory
         ..SERVED
     };
     for (failing, wanted) in [(0, Some(SERVED)), (2, Some(failed)), (1, None)] {
-        let run = Run { failing, ..ASKED };
+        let run = Run {
+            words: &ASKED,
+            failing,
+            ..LISTEN
+        };
         assert_eq!(rt; served(&rt, rt.alloc(), &run)?, wanted, "failing {failing}");
     }
     let run = Run {
