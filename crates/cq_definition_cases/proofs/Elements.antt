@@ -9,6 +9,7 @@ use Rattle.cq_definition_cases.proofs.Different.{is_false, is_true}
 use Rattle.cq_munch.specs.Comments.{IsBlockComment, IsLineComment}
 use Rattle.cq_munch.specs.Lexed.{mark_of, marks_of, placed}
 use Rattle.cq_munch.specs.ListingMarks.{said}
+use Rattle.cq_munch.proofs.Steps.{spelled_word}
 use Rattle.cq_munch.proofs.WordLists.{among_passes}
 use Rattle.cq_munch.specs.Longest.{IsAmong, LongestAt}
 use Rattle.cq_munch.specs.Pattern.{Spells, many, only}
@@ -29,7 +30,7 @@ use Rattle.cq_lex_c.specs.Numbers.{IsNumber}
 use Rattle.cq_lex_go.specs.Ascii.{letters_below}
 use Rattle.cq_lex_go.specs.Semicolons.{completed}
 use Rattle.cq_lex_go.specs.Words.{IsName, is_letter, keywords}
-use Rattle.cq_lex_java.specs.Blocks.{IsTextBlock}
+use Rattle.cq_lex_java.specs.Blocks.{text_block}
 
 -- ---- any language
 
@@ -112,5 +113,6 @@ a_longer_word_is_no_keyword among =
 -- ---- Java
 
 -- three quotes, a line feed, a backslash and three quotes
-pub an_escaped_quote_closes_no_text_block : IsTextBlock (34 ∷ 34 ∷ 34 ∷ 10 ∷ 92 ∷ 34 ∷ 34 ∷ 34 ∷ []) → ⊥
-an_escaped_quote_closes_no_text_block h = h.1.1.1
+pub an_escaped_quote_closes_no_text_block : Spells text_block (34 ∷ 34 ∷ 34 ∷ 10 ∷ 92 ∷ 34 ∷ 34 ∷ 34 ∷ []) → ⊥
+unfolding text_block
+an_escaped_quote_closes_no_text_block h = is_false (spelled_word (34 ∷ 34 ∷ 34 ∷ 10 ∷ 92 ∷ 34 ∷ 34 ∷ 34 ∷ []) (text_block ∷ []) (inl h))

@@ -1,25 +1,30 @@
 -- A blank, which its character tells.
-use Rattle.std.proofs.Common.{◌≡◌, ℕ, ◌+◌, ◌<◌, ◌≤◌, Some, Bool, true, false, ◌||◌, ◌==◌, List, ◌∷◌, length, drop, refl, sym, ap, subst, ◌∙◌, arith}
+use Rattle.std.proofs.Common.{◌≡◌, ℕ, suc, ◌+◌, ◌-◌, ◌<◌, ◌≤◌, Some, Bool, true, false, ◌&&◌, ◌||◌, ◌==◌, not, List, [], ◌∷◌, length, drop, refl, sym, subst, ◌∙◌, arith}
+use Rattle.std.proofs.lemmas.Bool.{eqb-true, not-true, and_left}
 use Rattle.std.proofs.lemmas.Grind.{common_steps}
+use Rattle.cq_base.proofs.Bools.{or-implies}
+use Rattle.cq_munch.specs.Automata.{entry_at}
 use Rattle.cq_munch.specs.Characters.{characters}
 use Rattle.cq_munch.specs.Language.{Takes}
 use Rattle.cq_munch.specs.Lexed.{unit_at}
-use Rattle.cq_munch.specs.Longest.{LongestAt}
+use Rattle.cq_munch.specs.Table.{begins}
 use Rattle.cq_munch.specs.declared.element.Found.{Found}
 use Rattle.cq_munch.specs.declared.element.Spell.TheVariants.{Blank}
 use Rattle.cq_munch.specs.declared.unit.Unit.{Unit}
 use Rattle.cq_munch.proofs.Blanks.{no_mark, from_unit}
-use Rattle.cq_munch.proofs.CharacterTests.{apart_by}
-use Rattle.cq_munch.proofs.Dispatch.{same_test, one_of}
-use Rattle.cq_munch.proofs.Joining.{one_row_taken}
+use Rattle.cq_munch.proofs.CharacterTests.{apart_by, low_by}
 use Rattle.cq_munch.proofs.Marks.{takes_unmarked}
-use Rattle.cq_munch.proofs.WordLists.{has_word, same_word}
-use Rattle.cq_lex_java.specs.Fronts.{front_of, at_blank}
-use Rattle.cq_lex_java.specs.Java.{java, blanks, unmarked}
-use Rattle.cq_lex_java.specs.Starts.{known}
-use Rattle.cq_lex_java.specs.Words.{blank_characters}
-use Rattle.cq_lex_java.specs.declared.element.Front.{Front}
-use Rattle.cq_lex_java.specs.declared.element.Front.TheVariants as fronts
+use Rattle.cq_munch.proofs.RowScans.{alone, one_there, taken_of, at_other}
+use Rattle.cq_munch.proofs.Tables.{below_each}
+use Rattle.cq_lex_java.specs.Ascii.{begins_below}
+use Rattle.cq_lex_java.specs.AsciiNames.{begins_ascii}
+use Rattle.cq_lex_java.specs.Blocks.{opening}
+use Rattle.cq_lex_java.specs.Java.{java, named, others, unmarked}
+use Rattle.cq_lex_java.specs.OneKind.{scanner, scanner_fits, are_scanned, letters, no_letters}
+use Rattle.cq_lex_java.specs.Openers.{is_end}
+use Rattle.cq_lex_java.specs.Scanner.{scanned, texts}
+use Rattle.cq_lex_java.specs.Words.{begins_identifier}
+use Rattle.cq_lex_java.specs.declared.scanner.TheConstants.{SPELLS}
 use Rattle.cq_lex_java.proofs.Dispatch.{no_opener}
 
 abbrev pub is_blank : ℕ → Bool
@@ -28,34 +33,44 @@ is_blank c = (c == 32) || ((c == 9) || ((c == 12) || ((c == 13) || (c == 10))))
 blank_past : (c : ℕ) → 128 ≤ c → is_blank c ≡ false
 blank_past c high = grind (arith, common_steps)
 
-only_blank : (f : Front) → at_blank f ≡ true → f ≡ fronts.Blank
-only_blank fronts.Blank h = refl
-only_blank fronts.Letter h = absurd (cc)
-only_blank fronts.Digit h = absurd (cc)
-only_blank fronts.Point h = absurd (cc)
-only_blank fronts.Slash h = absurd (cc)
-only_blank fronts.Double h = absurd (cc)
-only_blank fronts.Single h = absurd (cc)
-only_blank fronts.End h = absurd (cc)
-only_blank fronts.Other h = absurd (cc)
+low_blank : (c : ℕ) → is_blank c ≡ true → c < 128
+low_blank c is = low_by is_blank blank_past c is
 
-front_is : (c : ℕ) → is_blank c ≡ true → front_of c ≡ fronts.Blank
-front_is c is = only_blank (front_of c) (sym (same_test known at_blank is_blank refl refl refl blank_past c) ∙ is)
+-- the state to which a blank leads
+abbrev blank : ℕ
+blank = entry_at scanner 0 32 - 1
+
+leads : (c : ℕ) → is_blank c ≡ true → entry_at scanner 0 c ≡ suc blank
+leads c is =
+    eqb-true (entry_at scanner 0 c) (suc blank)
+    (or-implies (is_blank c) (entry_at scanner 0 c == suc blank) (below_each 128 (λ d. not (is_blank d) || (entry_at scanner 0 d == suc blank)) refl c (low_blank c is)) is)
+
+no_letter : (c : ℕ) → is_blank c ≡ true → begins_identifier c ≡ false
+no_letter c is =
+    begins_below c (low_blank c is) ∙ not-true (begins_ascii c) (or-implies (is_blank c) (not (begins_ascii c)) (below_each 128 (λ d. not (is_blank d) || not (begins_ascii d)) refl c (low_blank c is)) is)
+
+no_slash : (c : ℕ) (rest text : List ℕ) → is_blank c ≡ true → begins (47 ∷ rest) (c ∷ text) ≡ false
+no_slash c rest text is = and_left (c == 47) (begins rest text) (apart_by is_blank 47 refl c is)
+
+no_quotes : (c : ℕ) (text : List ℕ) → is_blank c ≡ true → begins (34 ∷ 34 ∷ 34 ∷ []) (c ∷ text) ≡ false
+no_quotes c text is = and_left (c == 34) (begins (34 ∷ 34 ∷ []) text) (apart_by is_blank 34 refl c is)
+
+no_end : (c : ℕ) (text : List ℕ) → is_blank c ≡ true → is_end (c ∷ text) ≡ false
+no_end c [] is = apart_by is_blank 26 refl c is
+no_end c (d ∷ text) is = refl
 
 -- the element of one
 abbrev pub one_blank : ℕ → Found
 one_blank mode = record { spell = Blank; units = 1; mode = mode }
 
 module _ (at mode c : ℕ) (text : List ℕ) (is : is_blank c ≡ true) where
-  longest_blank : LongestAt blanks.set (c ∷ text) (Some 1)
-  unfolding has_word same_word
-  longest_blank = one_of known at_blank blank_characters refl refl refl refl (c ∷ text) (omega arith) (ap at_blank (front_is c is))
-
   blank_first : Takes java at mode (c ∷ text) (Some (one_blank mode))
   blank_first =
       takes_unmarked unmarked at mode (c ∷ text) (no_mark at c text (apart_by is_blank 65279 refl c is)) (Some (one_blank mode))
-      (no_opener at mode (c ∷ text) (omega arith) (Some (one_blank mode)) fronts.Blank (front_is c is) refl refl refl
-      (one_row_taken at mode (c ∷ text) blanks (Some 1) (Some (one_blank mode)) refl longest_blank))
+      (no_opener at mode (c ∷ text) (no_slash c (42 ∷ []) text is) (no_slash c (47 ∷ []) text is) (Some (one_blank mode)) (and_left (begins (34 ∷ 34 ∷ 34 ∷ []) (c ∷ text)) (opening (drop 3 (c ∷ text))) (no_quotes c text is)) (no_end c text is)
+      (at_other begins_identifier named others letters no_letters at mode (c ∷ text) (Some (one_blank mode)) (no_letter c is)
+      (taken_of others scanned are_scanned at mode (c ∷ text) (Some (one_blank mode))
+      (one_there scanned texts scanner scanner_fits SPELLS refl at mode (c ∷ text) 1 0 Blank (alone scanner c blank 0 text (leads c is) refl refl) refl))))
 
 -- the same at a unit
 pub blank_at : (units : List Unit) (at mode : ℕ) → at < length units → is_blank (unit_at units at).ch ≡ true → Takes java at mode (drop at (characters units)) (Some (one_blank mode))

@@ -1,6 +1,3 @@
-pub mod NumberSteps
-pub mod Points
-pub mod OperatorSteps
 pub mod Opening
 pub mod Spans
 pub mod Translating

@@ -1,29 +1,93 @@
--- The text blocks of the scan are those that are written as the standard has them.
-use Rattle.std.proofs.Common.{◌≡◌, ℕ, ◌==◌, ◌&&◌, ◌||◌, Bool, true, false, MatchBool, List, [], ◌∷◌, ◌++◌, IsTrue, IsFalse, refl, sym, ap, subst, ◌∙◌, append_assoc}
-use Rattle.std.specs.Prelude.{⊤}
-use Rattle.std.specs.List.{AllByRecursion}
-use Rattle.std.proofs.lemmas.Bool.{eqb-true}
-use Rattle.cq_munch.specs.Comments.{IsAfter}
-use Rattle.cq_lex_java.specs.Blocks.{is_line_end, is_space, EndsAtQuotes, IsTextBlock}
+-- The text blocks of the pattern are those that are written as the standard has them.
+use Rattle.std.proofs.Common.{◌≡◌, ℕ, ◌==◌, ◌&&◌, ◌||◌, Bool, true, false, List, [], ◌∷◌, ◌++◌, IsTrue, IsFalse, inl, inr, ⊎_elim, refl, sym, ap, ap₂, subst, ◌∙◌, append_assoc, arith}
+use Rattle.std.specs.List.{concat, AllByRecursion}
+use Rattle.std.proofs.lemmas.Bool.{eqb-true, eq-eqb, le-leb, leb-true, and_parts, and_from, or_from, cases_Bool, false≢true}
+use Rattle.cq_munch.specs.Pattern.{in_range, in_ranges, only, many, optional, ◌▸◌, Spells}
+use Rattle.cq_lex_java.specs.Blocks.{is_line_end, is_space, quote, quotes, space, line_end, character, part, text_block}
 use Rattle.cq_lex_java.specs.TextBlocks.{Part, plain, escaped, spelled, spells, IsPart, is_quote, begins_closing, IsOpen, IsContent, IsWritten, TextBlocksAreWritten}
-use Rattle.cq_lex_java.specs.declared.block.Block.{Block}
-use Rattle.cq_lex_java.specs.declared.block.Block.TheVariants as at
+
+-- ---- one character
+
+by_test : (a b : Bool) → (a ≡ true → b ≡ true) → (b ≡ true → a ≡ true) → a ≡ b
+by_test true b there back = sym (there refl)
+by_test false true there back = back refl
+by_test false false there back = refl
+
+in_one : (n c : ℕ) → in_range (n, n) c ≡ (c == n)
+in_one n c =
+    by_test (in_range (n, n) c) (c == n)
+    (λ h. let both = and_parts _ _ h in let low = leb-true n c both.0 in let high = leb-true c n both.1 in eq-eqb c n (omega arith))
+    (λ h. let same = eqb-true c n h in and_from _ _ (le-leb n c (omega arith)) (le-leb c n (omega arith)))
+
+or-none : (b : Bool) → (b || false) ≡ b
+or-none true = refl
+or-none false = refl
+
+in_two : (m n c : ℕ) → in_ranges ((m, m) ∷ (n, n) ∷ []) c ≡ ((c == m) || (c == n))
+in_two m n c = ap₂ (λ a b. a || b) (in_one m c) (or-none (in_range (n, n) c) ∙ in_one n c)
+
+in_space : (c : ℕ) → in_ranges ((32, 32) ∷ (9, 9) ∷ (12, 12) ∷ []) c ≡ is_space c
+in_space c = ap₂ (λ a b. a || b) (in_one 32 c) (in_two 9 12 c) ∙ apart (c == 32) (c == 9) (c == 12)
+  where
+    apart : (x y z : Bool) → (x || (y || z)) ≡ ((x || y) || z)
+    apart true y z = refl
+    apart false y z = refl
+
+only_is : (n : ℕ) (s : List ℕ) → Spells (only n) s → s ≡ n ∷ []
+only_is n s h = h.1 ∙ ap (λ c. c ∷ []) (eqb-true h.0 n (sym (or-none (in_range (n, n) h.0) ∙ in_one n h.0) ∙ h.2))
+
+only_there : (n : ℕ) → Spells (only n) (n ∷ [])
+only_there n = (n, refl, or-none (in_range (n, n) n) ∙ in_one n n ∙ eq-eqb n n refl)
+
+-- ---- three quotes
 
 abbrev closing : List ℕ
 closing = 34 ∷ 34 ∷ 34 ∷ []
 
+quotes_are : (s : List ℕ) → Spells quotes s → s ≡ closing
+quotes_are s h = h.2 ∙ ap₂ (λ a b. a ++ b) (only_is 34 h.0 h.3) (h.4.2 ∙ ap₂ (λ a b. a ++ b) (only_is 34 h.4.0 h.4.3) (only_is 34 h.4.1 h.4.4))
+
+quotes_there : Spells quotes closing
+quotes_there = (34 ∷ [], 34 ∷ 34 ∷ [], refl, only_there 34, (34 ∷ [], 34 ∷ [], refl, only_there 34, only_there 34))
+
+-- ---- a character of the content, which is no quote
+
+record Character (s : List ℕ) : Type 0 where
+  as_part : Part
+  text : s ≡ spelled as_part
+  is : IsPart as_part
+  no_quote : IsFalse (is_quote as_part)
+
+neither : (c : ℕ) → in_ranges ((34, 34) ∷ (92, 92) ∷ []) c ≡ false → ((c == 34) ≡ false) × ((c == 92) ≡ false)
+neither c h = by (c == 34) (c == 92) (sym (in_two 34 92 c) ∙ h)
+  where
+    by : (a b : Bool) → (a || b) ≡ false → (a ≡ false) × (b ≡ false)
+    by true b e = absurd (cc)
+    by false b e = (refl, e)
+
+character_of : (s : List ℕ) → Spells character s → Character s
+character_of s h =
+    ⊎_elim
+    (λ own. let other = neither own.0 own.2 in record { as_part = plain own.0; text = own.1; is = other.1; no_quote = other.0 })
+    (λ two. record { as_part = escaped two.4.0; text = two.2 ∙ ap₂ (λ a b. a ++ b) (only_is 92 two.0 two.3) two.4.1; is = tt; no_quote = refl })
+    h
+
+character_there : (p : Part) → IsPart p → IsFalse (is_quote p) → Spells character (spelled p)
+character_there (plain c) is unlike = inl (c, refl, in_two 34 92 c ∙ or_from (c == 34) (c == 92) unlike is)
+character_there (escaped c) is unlike = inr (92 ∷ [], c ∷ [], refl, only_there 92, (c, refl, refl))
+
+-- ---- content and what closes it
+
 abbrev two : List Part
 two = plain 34 ∷ plain 34 ∷ []
 
--- content and what closes it
 record Content (s : List ℕ) : Type 0 where
   parts : List Part
   text : s ≡ spells parts ++ closing
   each : AllByRecursion IsPart parts
   is_open : IsOpen (parts ++ two)
 
--- ---- no three quotes with a part that is none
-
+-- no three quotes with a part that is none
 not_first : (p : Part) (ps : List Part) → IsFalse (is_quote p) → IsFalse (begins_closing (p ∷ ps))
 not_first p [] e = refl
 not_first p (q ∷ []) e = refl
@@ -33,195 +97,143 @@ not_second : (p : Part) (ps : List Part) → IsFalse (is_quote p) → IsFalse (b
 not_second p [] e = refl
 not_second p (r ∷ ps) e = ap (λ b. b && is_quote r) e
 
--- ---- one part more, behind no quote, one and two
+spells-append : (ps qs : List Part) → spells (ps ++ qs) ≡ spells ps ++ spells qs
+spells-append [] qs = refl
+spells-append (p ∷ ps) qs = ap (λ t. spelled p ++ t) (spells-append ps qs) ∙ sym (append_assoc (spelled p) (spells ps) (spells qs))
 
-text_more : (p : Part) (s : List ℕ) (parts : List Part) → s ≡ spells parts ++ closing → spelled p ++ s ≡ spells (p ∷ parts) ++ closing
-text_more p s parts e = ap (λ t. spelled p ++ t) e ∙ sym (append_assoc (spelled p) (spells parts) closing)
-
-one_more : (p : Part) (s : List ℕ) → IsPart p → IsFalse (is_quote p) → Content s → Content (spelled p ++ s)
-one_more p s is e h = record {
-  parts = p ∷ h.parts;
-  text = text_more p s h.parts h.text;
-  each = (is, h.each);
-  is_open = (not_first p (h.parts ++ two) e, h.is_open);
+-- a part more, after some quotes
+one_more : (before : List Part) (p : Part) (s : List ℕ) (h : Content s) → AllByRecursion IsPart (before ++ p ∷ h.parts) → IsOpen ((before ++ p ∷ h.parts) ++ two) → Content ((spells before ++ spelled p) ++ s)
+one_more before p s h each is_open = record {
+  parts = before ++ p ∷ h.parts;
+  text = ap (λ t. (spells before ++ spelled p) ++ t) h.text
+      ∙ append_assoc (spells before) (spelled p) (spells h.parts ++ closing)
+      ∙ ap (λ t. spells before ++ t) (sym (append_assoc (spelled p) (spells h.parts) closing))
+      ∙ sym (append_assoc (spells before) (spells (p ∷ h.parts)) closing)
+      ∙ ap (λ t. t ++ closing) (sym (spells-append before (p ∷ h.parts)));
+  each = each;
+  is_open = is_open;
 }
 
-behind_one : (p : Part) (s : List ℕ) → IsPart p → IsFalse (is_quote p) → Content s → Content (34 ∷ spelled p ++ s)
-behind_one p s is e h = record {
-  parts = plain 34 ∷ p ∷ h.parts;
-  text = ap (λ t. 34 ∷ t) (text_more p s h.parts h.text);
-  each = (refl, (is, h.each));
-  is_open = (not_second p (h.parts ++ two) e, (not_first p (h.parts ++ two) e, h.is_open));
-}
+part_more : (q c s : List ℕ) → Spells (optional (quote ▸ optional quote)) q → Spells character c → Content s → Content ((q ++ c) ++ s)
+part_more q c s few h rest =
+    let one = character_of c h in
+    let p = one.as_part in
+    let first = not_first p (rest.parts ++ two) one.no_quote in
+    let second = not_second p (rest.parts ++ two) one.no_quote in
+    let like : (before : List Part) → q ≡ spells before → Content ((spells before ++ spelled p) ++ s) → Content ((q ++ c) ++ s) =
+    λ before e. subst (λ t. Content (t ++ s)) (sym (ap₂ (λ a b. a ++ b) e one.text)) in
+    ⊎_elim
+    (λ none. like [] none (one_more [] p s rest (one.is, rest.each) (first, rest.is_open)))
+    (λ some.
+    let quote_is = only_is 34 some.0 some.3 in
+    ⊎_elim
+    (λ none. like (plain 34 ∷ []) (some.2 ∙ ap₂ (λ a b. a ++ b) quote_is none) (one_more (plain 34 ∷ []) p s rest (refl, (one.is, rest.each)) (second, (first, rest.is_open))))
+    (λ more. like two (some.2 ∙ ap₂ (λ a b. a ++ b) quote_is (only_is 34 some.1 more)) (one_more two p s rest (refl, (refl, (one.is, rest.each))) (one.no_quote, (second, (first, rest.is_open)))))
+    some.4)
+    few
 
-behind_two : (p : Part) (s : List ℕ) → IsPart p → IsFalse (is_quote p) → Content s → Content (34 ∷ 34 ∷ spelled p ++ s)
-behind_two p s is e h = record {
-  parts = plain 34 ∷ plain 34 ∷ p ∷ h.parts;
-  text = ap (λ t. 34 ∷ 34 ∷ t) (text_more p s h.parts h.text);
-  each = (refl, (refl, (is, h.each)));
-  is_open = (e, (not_second p (h.parts ++ two) e, (not_first p (h.parts ++ two) e, h.is_open)));
-}
+content_of : (parts : List (List ℕ)) → AllByRecursion (Spells part) parts → Content (concat parts ++ closing)
+content_of [] all = record { parts = []; text = refl; each = tt; is_open = (refl, (refl, tt)) }
+content_of (a ∷ parts) all =
+    let more = part_more all.0.0 all.0.1 (concat parts ++ closing) all.0.3 all.0.4 (content_of parts all.1) in
+    subst Content (ap (λ t. t ++ (concat parts ++ closing)) (sym all.0.2) ∙ sym (append_assoc a (concat parts) closing)) more
 
--- ---- from the scan
+-- ---- and back
 
--- content behind one character
-abbrev BehindOne : List ℕ → Type 0
-BehindOne [] = ⊥
-BehindOne (c ∷ s) = Content s
+abbrev Inside : List ℕ → Type 0
+Inside s = Spells (many part ▸ quotes) s
 
--- what the scan has read of what closes, and what follows
-abbrev HasContent : Block → List ℕ → Type 0
-HasContent at.Inside s = Content s
-HasContent at.OneQuote s = Content (34 ∷ s)
-HasContent at.TwoQuotes s = Content (34 ∷ 34 ∷ s)
-HasContent at.Escape s = BehindOne s
-HasContent _ s = ⊤
+inside_more : (a s : List ℕ) → Spells part a → Inside s → Inside (a ++ s)
+inside_more a s h rest = (
+  a ++ rest.0,
+  rest.1,
+  ap (λ t. a ++ t) rest.2 ∙ sym (append_assoc a rest.0 rest.1),
+  (a ∷ rest.3.0, ap (λ t. a ++ t) rest.3.1, (h, rest.3.2)),
+  rest.4,
+)
 
--- a character behind some quotes
-read : (quotes : List ℕ) → ((p : Part) (s : List ℕ) → IsPart p → IsFalse (is_quote p) → Content s → Content (quotes ++ (spelled p ++ s)))
-    → {Quote : Type 0} (c : ℕ) (s : List ℕ) (a b : Bool) → (c == 34) ≡ a → (c == 92) ≡ b
-    → MatchBool a Quote (MatchBool b (EndsAtQuotes at.Escape s) (EndsAtQuotes at.Inside s))
-    → (Quote → Content (quotes ++ 34 ∷ s)) → (EndsAtQuotes at.Escape s → BehindOne s) → (EndsAtQuotes at.Inside s → Content s) → Content (quotes ++ c ∷ s)
-read quotes more c s true b e f h quote escape inside = subst (λ d. Content (quotes ++ d ∷ s)) (sym (eqb-true c 34 e)) (quote h)
-read quotes more c s false true e f h quote escape inside = subst (λ d. Content (quotes ++ d ∷ s)) (sym (eqb-true c 92 f)) (taken s (escape h))
-  where
-    taken : (t : List ℕ) → BehindOne t → Content (quotes ++ 92 ∷ t)
-    taken [] k = absurd k
-    taken (d ∷ t) k = more (escaped d) t tt refl k
-read quotes more c s false false e f h quote escape inside = more (plain c) s f e (inside h)
+quote_or : {A : Type 0} (p : Part) → (p ≡ plain 34 → A) → (is_quote p ≡ false → A) → A
+quote_or (escaped c) there other = other refl
+quote_or (plain c) there other = ⊎_elim (λ is. there (ap plain (eqb-true c 34 is))) other (cases_Bool (c == 34))
 
-closed : (s : List ℕ) → s ≡ [] → Content (34 ∷ 34 ∷ 34 ∷ s)
-closed s e = record { parts = []; text = ap (λ t. 34 ∷ 34 ∷ 34 ∷ t) e; each = tt; is_open = (refl, (refl, tt)) }
+-- parts after some quotes, of which no third follows
+abbrev Closes : List Part → List Part → Type 0
+Closes before ps = IsOpen (before ++ (ps ++ two)) → Inside (spells before ++ (spells ps ++ closing))
 
-content_of : (b : Block) (s : List ℕ) → EndsAtQuotes b s → HasContent b s
-content_of at.Before s h = tt
-content_of at.First s h = tt
-content_of at.Second s h = tt
-content_of at.Opening s h = tt
-content_of at.Closed s h = tt
-content_of at.Inside [] h = absurd h
-content_of at.OneQuote [] h = absurd h
-content_of at.TwoQuotes [] h = absurd h
-content_of at.Escape [] h = absurd h
-content_of at.Inside (c ∷ s) h =
-    read [] one_more c s (c == 34) (c == 92) refl refl h (λ k. content_of at.OneQuote s k) (λ k. content_of at.Escape s k) (λ k. content_of at.Inside s k)
-content_of at.OneQuote (c ∷ s) h =
-    read (34 ∷ []) behind_one c s (c == 34) (c == 92) refl refl h (λ k. content_of at.TwoQuotes s k) (λ k. content_of at.Escape s k) (λ k. content_of at.Inside s k)
-content_of at.TwoQuotes (c ∷ s) h =
-    read (34 ∷ 34 ∷ []) behind_two c s (c == 34) (c == 92) refl refl h (λ k. closed s k) (λ k. content_of at.Escape s k) (λ k. content_of at.Inside s k)
-content_of at.Escape (c ∷ s) h = content_of at.Inside s h
+-- a part that is no quote
+at_part : (before : List Part) → Spells (optional (quote ▸ optional quote)) (spells before) → (p : Part) (ps : List Part) → IsPart p → IsFalse (is_quote p) → (IsOpen (before ++ (p ∷ ps ++ two)) → IsOpen (ps ++ two))
+    → Closes [] ps → Closes before (p ∷ ps)
+at_part before few p ps is unlike later rest = λ is_open.
+    subst Inside (append_assoc (spells before) (spelled p) (spells ps ++ closing) ∙ ap (λ t. spells before ++ t) (sym (append_assoc (spelled p) (spells ps) closing)))
+    (inside_more (spells before ++ spelled p) (spells ps ++ closing) (spells before, spelled p, refl, few, character_there p is unlike) (rest (later is_open)))
 
--- blanks, a line end, and what the scan finds inside
-record Opened (s : List ℕ) : Type 0 where
-  blanks : List ℕ
-  line_end : ℕ
-  rest : List ℕ
-  text : s ≡ blanks ++ line_end ∷ rest
-  are_blanks : AllByRecursion (λ c. IsTrue (is_space c)) blanks
-  ends_line : IsTrue (is_line_end line_end)
-  inside : EndsAtQuotes at.Inside rest
+closes : (ps : List Part) → AllByRecursion IsPart ps → Closes [] ps × Closes (plain 34 ∷ []) ps × Closes two ps
+closes [] each = (λ is_open. ([], closing, refl, ([], refl, tt), quotes_there), λ is_open. absurd (false≢true (sym is_open.0)), λ is_open. absurd (false≢true (sym is_open.0)))
+closes (p ∷ ps) each =
+    let rest = closes ps each.1 in
+    let one : Spells (optional (quote ▸ optional quote)) (34 ∷ []) = inr (34 ∷ [], [], refl, only_there 34, inl refl) in
+    let both : Spells (optional (quote ▸ optional quote)) (34 ∷ 34 ∷ []) = inr (34 ∷ [], 34 ∷ [], refl, only_there 34, inr (only_there 34)) in
+    quote_or p
+    (λ is. subst (λ q. Closes [] (q ∷ ps) × Closes (plain 34 ∷ []) (q ∷ ps) × Closes two (q ∷ ps)) (sym is) (rest.1, rest.2, λ is_open. absurd (false≢true (sym is_open.0))))
+    (λ unlike. (
+      at_part [] (inl refl) p ps each.0 unlike (λ o. o.1) rest.0,
+      at_part (plain 34 ∷ []) one p ps each.0 unlike (λ o. o.1.1) rest.0,
+      at_part two both p ps each.0 unlike (λ o. o.1.1.1) rest.0,
+    ))
 
-opened : (s : List ℕ) → EndsAtQuotes at.Opening s → Opened s
-opened [] h = absurd h
-opened (c ∷ s) h = by (is_line_end c) refl h (λ k. opened s k)
-  where
-    by : (b : Bool) → is_line_end c ≡ b → MatchBool b (EndsAtQuotes at.Inside s) (IsTrue (is_space c) × EndsAtQuotes at.Opening s) → (EndsAtQuotes at.Opening s → Opened s) → Opened (c ∷ s)
-    by true e k next = record { blanks = []; line_end = c; rest = s; text = refl; are_blanks = tt; ends_line = e; inside = k }
-    by false e k next = let more = next k.1 in record {
-      blanks = c ∷ more.blanks;
-      line_end = more.line_end;
-      rest = more.rest;
-      text = ap (λ t. c ∷ t) more.text;
-      are_blanks = (k.0, more.are_blanks);
-      ends_line = more.ends_line;
-      inside = more.inside;
+-- ---- blanks
+
+abbrev AreBlank : List ℕ → Type 0
+AreBlank s = AllByRecursion (λ c. IsTrue (is_space c)) s
+
+are_blank : (parts : List (List ℕ)) → AllByRecursion (Spells space) parts → AreBlank (concat parts)
+are_blank [] all = tt
+are_blank (a ∷ parts) all = subst (λ s. AreBlank (s ++ concat parts)) (sym all.0.1) (sym (in_space all.0.0) ∙ all.0.2, are_blank parts all.1)
+
+blanks_there : (blanks : List ℕ) → AreBlank blanks → Spells (many space) blanks
+blanks_there [] are = ([], refl, tt)
+blanks_there (c ∷ cs) are = let rest = blanks_there cs are.1 in ((c ∷ []) ∷ rest.0, ap (λ s. c ∷ s) rest.1, ((c, refl, in_space c ∙ are.0), rest.2))
+
+-- ---- whole
+
+written : (s : List ℕ) → Spells text_block s → IsWritten s
+unfolding text_block
+written s h =
+    let after_quotes = h.4 in
+    let blanks = after_quotes.3 in
+    let after_blanks = after_quotes.4 in
+    let end = after_blanks.3 in
+    let inside = after_blanks.4 in
+    let content = content_of inside.3.0 inside.3.2 in
+    record {
+      blanks = after_quotes.0;
+      line_end = end.0;
+      content = content.parts;
+      text = h.2
+          ∙ ap₂ (λ a b. a ++ b) (quotes_are h.0 h.3)
+          (after_quotes.2 ∙ ap (λ t. after_quotes.0 ++ t) (after_blanks.2 ∙ ap₂ (λ a b. a ++ b) end.1 (inside.2 ∙ ap₂ (λ a b. a ++ b) inside.3.1 (quotes_are inside.1 inside.4) ∙ content.text))
+          ∙ sym (append_assoc after_quotes.0 (end.0 ∷ spells content.parts) closing));
+      are_blanks = subst AreBlank (sym blanks.1) (are_blank blanks.0 blanks.2);
+      ends_line = sym (in_two 13 10 end.0) ∙ end.2;
+      is_content = (content.each, content.is_open);
     }
 
-written_behind : (s : List ℕ) → Opened s → IsWritten (34 ∷ 34 ∷ 34 ∷ s)
-written_behind s h = let content = content_of at.Inside h.rest h.inside in record {
-  blanks = h.blanks;
-  line_end = h.line_end;
-  content = content.parts;
-  text = ap (λ t. 34 ∷ 34 ∷ 34 ∷ t) (h.text ∙ ap (λ t. h.blanks ++ h.line_end ∷ t) content.text ∙ sym (append_assoc h.blanks (h.line_end ∷ spells content.parts) closing));
-  are_blanks = h.are_blanks;
-  ends_line = h.ends_line;
-  is_content = (content.each, content.is_open);
-}
-
-written : (s : List ℕ) → IsTextBlock s → IsWritten s
-written [] h = absurd h
-written (a ∷ []) h = absurd h.1
-written (a ∷ b ∷ []) h = absurd h.1.1
-written (a ∷ b ∷ c ∷ s) h =
-    subst (λ x. IsWritten (x ∷ b ∷ c ∷ s)) (sym (eqb-true a 34 h.0))
-    (subst (λ x. IsWritten (34 ∷ x ∷ c ∷ s)) (sym (eqb-true b 34 h.1.0))
-    (subst (λ x. IsWritten (34 ∷ 34 ∷ x ∷ s)) (sym (eqb-true c 34 h.1.1.0)) (written_behind s (opened s h.1.1.1))))
-
--- ---- to the scan
-
-by_character : (Quote : Type 0) (s : List ℕ) (a b : Bool) → b ≡ false → (a ≡ true → Quote) → (a ≡ false → EndsAtQuotes at.Inside s)
-    → MatchBool a Quote (MatchBool b (EndsAtQuotes at.Escape s) (EndsAtQuotes at.Inside s))
-by_character Quote s true b none quote other = quote refl
-by_character Quote s false true none quote other = absurd (cc)
-by_character Quote s false false none quote other = other refl
-
--- the scan ends where parts are closed, by the quotes that it has read before
-abbrev Scans : Block → List Part → Type 0
-Scans at.Inside ps = IsOpen (ps ++ two) → EndsAtQuotes at.Inside (spells ps ++ closing)
-Scans at.OneQuote ps = IsOpen (plain 34 ∷ ps ++ two) → EndsAtQuotes at.OneQuote (spells ps ++ closing)
-Scans at.TwoQuotes ps = IsOpen (plain 34 ∷ plain 34 ∷ ps ++ two) → EndsAtQuotes at.TwoQuotes (spells ps ++ closing)
-Scans _ ps = ⊤
-
-no_third : {A : Type 0} (b : Bool) → b ≡ false → b ≡ true → A
-no_third true none there = absurd (cc)
-no_third false none there = absurd (cc)
-
-scans : (b : Block) (ps : List Part) → AllByRecursion IsPart ps → Scans b ps
-scans at.Before ps each = tt
-scans at.First ps each = tt
-scans at.Second ps each = tt
-scans at.Opening ps each = tt
-scans at.Escape ps each = tt
-scans at.Closed ps each = tt
-scans at.Inside [] each = λ is_open. refl
-scans at.OneQuote [] each = λ is_open. no_third true is_open.0 refl
-scans at.TwoQuotes [] each = λ is_open. no_third true is_open.0 refl
-scans at.Inside (plain c ∷ ps) each = λ is_open.
-    by_character (EndsAtQuotes at.OneQuote (spells ps ++ closing)) (spells ps ++ closing) (c == 34) (c == 92) each.0
-    (λ e. scans at.OneQuote ps each.1 (subst (λ d. IsOpen (plain d ∷ ps ++ two)) (eqb-true c 34 e) is_open))
-    (λ e. scans at.Inside ps each.1 is_open.1)
-scans at.OneQuote (plain c ∷ ps) each = λ is_open.
-    by_character (EndsAtQuotes at.TwoQuotes (spells ps ++ closing)) (spells ps ++ closing) (c == 34) (c == 92) each.0
-    (λ e. scans at.TwoQuotes ps each.1 (subst (λ d. IsOpen (plain 34 ∷ plain d ∷ ps ++ two)) (eqb-true c 34 e) is_open))
-    (λ e. scans at.Inside ps each.1 is_open.1.1)
-scans at.TwoQuotes (plain c ∷ ps) each = λ is_open.
-    by_character (spells ps ++ closing ≡ []) (spells ps ++ closing) (c == 34) (c == 92) each.0
-    (λ e. no_third (c == 34) is_open.0 e)
-    (λ e. scans at.Inside ps each.1 is_open.1.1.1)
-scans at.Inside (escaped c ∷ ps) each = λ is_open. scans at.Inside ps each.1 is_open.1
-scans at.OneQuote (escaped c ∷ ps) each = λ is_open. scans at.Inside ps each.1 is_open.1.1
-scans at.TwoQuotes (escaped c ∷ ps) each = λ is_open. scans at.Inside ps each.1 is_open.1.1.1
-
-no_line_end : (c : ℕ) → is_space c ≡ true → is_line_end c ≡ false
-no_line_end c h = by (c == 32) (c == 9) (c == 12) refl refl refl h
-  where
-    by : (x y z : Bool) → (c == 32) ≡ x → (c == 9) ≡ y → (c == 12) ≡ z → ((x || y) || z) ≡ true → is_line_end c ≡ false
-    by true y z e f g k = ap is_line_end (eqb-true c 32 e)
-    by false true z e f g k = ap is_line_end (eqb-true c 9 f)
-    by false false true e f g k = ap is_line_end (eqb-true c 12 g)
-    by false false false e f g k = absurd (cc)
-
-opens_again : (blanks : List ℕ) (end : ℕ) (rest : List ℕ) → AllByRecursion (λ c. IsTrue (is_space c)) blanks → IsTrue (is_line_end end) → EndsAtQuotes at.Inside rest → EndsAtQuotes at.Opening (blanks ++ end ∷ rest)
-opens_again [] end rest are is inside =
-    subst (λ b. MatchBool b (EndsAtQuotes at.Inside rest) (IsTrue (is_space end) × EndsAtQuotes at.Opening rest)) (sym is) inside
-opens_again (c ∷ cs) end rest are is inside =
-    subst (λ b. MatchBool b (EndsAtQuotes at.Inside (cs ++ end ∷ rest)) (IsTrue (is_space c) × EndsAtQuotes at.Opening (cs ++ end ∷ rest)))
-    (sym (no_line_end c are.0)) (are.0, opens_again cs end rest are.1 is inside)
-
-block_of : (s : List ℕ) → IsWritten s → IsTextBlock s
+block_of : (s : List ℕ) → IsWritten s → Spells text_block s
+unfolding text_block
 block_of s h =
-    let inside = scans at.Inside h.content h.is_content.0 h.is_content.1 in
-    subst IsTextBlock (sym h.text) (refl, (refl, (refl, subst (EndsAtQuotes at.Opening) (sym (append_assoc h.blanks (h.line_end ∷ spells h.content) closing)) (opens_again h.blanks h.line_end (spells h.content ++ closing) h.are_blanks h.ends_line inside))))
+    subst (Spells text_block) (sym (h.text ∙ ap (λ t. closing ++ t) (append_assoc h.blanks (h.line_end ∷ spells h.content) closing))) (
+      closing,
+      h.blanks ++ h.line_end ∷ (spells h.content ++ closing),
+      refl,
+      quotes_there,
+      (
+        h.blanks,
+        h.line_end ∷ (spells h.content ++ closing),
+        refl,
+        blanks_there h.blanks h.are_blanks,
+        (h.line_end ∷ [], spells h.content ++ closing, refl, (h.line_end, refl, in_two 13 10 h.line_end ∙ h.ends_line), (closes h.content h.is_content.0).0 h.is_content.1),
+      ),
+    )
 
 pub are_written : TextBlocksAreWritten
 are_written s = (written s, block_of s)

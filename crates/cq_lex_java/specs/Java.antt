@@ -1,5 +1,5 @@
 -- The table of Java's elements.
-use Rattle.std.specs.Prelude.{◌≡◌, ℕ, Bool, List, [], ◌∷◌}
+use Rattle.std.specs.Prelude.{◌≡◌, ℕ, Bool, List, [], ◌∷◌, ◌++◌}
 use Rattle.cq_base.specs.declared.token.Class.TheVariants.{Ident, Word, Literal, Punct}
 use Rattle.cq_munch.specs.Commented.{commented}
 use Rattle.cq_munch.specs.Language.{Language, marked}
@@ -10,40 +10,54 @@ use Rattle.cq_munch.specs.Table.{Row, table, first}
 use Rattle.cq_munch.specs.declared.element.Spell.TheVariants.{Blank, Token}
 use Rattle.cq_munch.specs.declared.ends.LineEnds.TheVariants.{ReturnOrFeed}
 use Rattle.cq_munch.specs.declared.quoted.Quote.TheVariants.{Double, Single}
-use Rattle.cq_lex_java.specs.Blocks.{IsTextBlock, opens}
+use Rattle.cq_lex_java.specs.Blocks.{opens, text_block}
 use Rattle.cq_lex_java.specs.Numbers.{number}
 use Rattle.cq_lex_java.specs.Openers.{is_end}
 use Rattle.cq_lex_java.specs.Operators.{operators}
 use Rattle.cq_lex_java.specs.Words.{IsIdentifier, keywords, blank_characters}
 
-abbrev pub names : Row
-names = record { spell = Token Ident; set = λ s. IsIdentifier s × (IsAmong keywords s → ⊥) }
-
-abbrev pub reserved : Row
-reserved = record { spell = Token Word; set = IsAmong keywords }
-
+-- white space (JLS 3.6)
 abbrev pub blanks : Row
 blanks = record { spell = Blank; set = IsAmong blank_characters }
 
+-- identifiers (JLS 3.8)
+abbrev pub names : Row
+names = record { spell = Token Ident; set = λ s. IsIdentifier s × (IsAmong keywords s → ⊥) }
+
+-- keywords, and the literals true, false and null (JLS 3.9, 3.10.3, 3.10.8)
+abbrev pub reserved : Row
+reserved = record { spell = Token Word; set = IsAmong keywords }
+
+-- integers and floating-point numbers (JLS 3.10.1, 3.10.2)
 abbrev pub numbers : Row
 numbers = record { spell = Token Literal; set = Spells number }
 
--- what an escape means is not checked
-abbrev pub strings : Row
-strings = record { spell = Token Literal; set = Spells (quoted Double ReturnOrFeed) }
-
+-- characters and strings (JLS 3.10.4, 3.10.5); what an escape means is not checked
 abbrev pub chars : Row
 chars = record { spell = Token Literal; set = Spells (quoted Single ReturnOrFeed) }
 
+abbrev pub strings : Row
+strings = record { spell = Token Literal; set = Spells (quoted Double ReturnOrFeed) }
+
+-- separators and operators (JLS 3.11, 3.12)
 abbrev pub marks : Row
 marks = record { spell = Token Punct; set = IsAmong operators }
 
+-- the rows that begin with a letter, and the others
+abbrev pub named : List Row
+named = names ∷ reserved ∷ []
+
+abbrev pub others : List Row
+others = blanks ∷ numbers ∷ chars ∷ strings ∷ marks ∷ []
+
 abbrev pub rows : List Row
-rows = names ∷ reserved ∷ blanks ∷ numbers ∷ strings ∷ chars ∷ marks ∷ []
+rows = named ++ others
 
+-- text blocks (JLS 3.10.6)
 abbrev pub text_blocks : Row
-text_blocks = record { spell = Token Literal; set = IsTextBlock }
+text_blocks = record { spell = Token Literal; set = Spells text_block }
 
+-- the character U+001A (JLS 3.5)
 abbrev pub ends : Row
 ends = record { spell = Blank; set = λ s. s ≡ 26 ∷ [] }
 
@@ -51,7 +65,7 @@ ends = record { spell = Blank; set = λ s. s ≡ 26 ∷ [] }
 abbrev pub opens_text : ℕ → ℕ → List ℕ → Bool
 opens_text at mode text = opens text
 
--- the character U+001A is a blank if nothing follows (JLS 3.5)
+-- the character U+001A is a blank if nothing follows
 abbrev pub opens_end : ℕ → ℕ → List ℕ → Bool
 opens_end at mode text = is_end text
 

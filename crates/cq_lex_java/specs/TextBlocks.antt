@@ -1,7 +1,8 @@
 -- Text blocks as they are written (JLS 3.10.6): three quotes, blanks, a line end, the content, and three quotes.
 use Rattle.std.specs.Prelude.{◌≡◌, ◌↔◌, ℕ, ◌==◌, ◌&&◌, Bool, false, List, [], ◌∷◌, ◌++◌, IsTrue, IsFalse, ⊤}
 use Rattle.std.specs.List.{AllByRecursion}
-use Rattle.cq_lex_java.specs.Blocks.{is_line_end, is_space, IsTextBlock}
+use Rattle.cq_munch.specs.Pattern.{Spells}
+use Rattle.cq_lex_java.specs.Blocks.{is_line_end, is_space, text_block}
 
 -- a part of the content: a character, or a backslash with the character after it
 pub data Part : Type 0 where
@@ -49,4 +50,4 @@ pub record IsWritten (s : List ℕ) : Type 0 where
   pub is_content : IsContent content
 
 abbrev pub TextBlocksAreWritten : Type 0
-TextBlocksAreWritten = (s : List ℕ) → IsTextBlock s ↔ IsWritten s
+TextBlocksAreWritten = (s : List ℕ) → Spells text_block s ↔ IsWritten s

@@ -1,71 +1,13 @@
-ghost use Rattle.std.specs.Prelude.{◌≡◌};
+ghost use Rattle.std.specs.Prelude.{◌≡◌, ◌<◌, ◌^◌, ℕ, [], ◌∷◌, length};
 ghost use Rattle.cq_munch.specs.Characters.{characters};
-ghost use Rattle.cq_munch.specs.Longest.{LongestAt};
-ghost use Rattle.cq_lex_java.specs.Blocks.{IsTextBlock, block_rest, is_line_end, is_space, opens, opening};
+ghost use Rattle.cq_munch.specs.Language.{Takes};
+ghost use Rattle.cq_munch.specs.Table.{table};
+ghost use Rattle.cq_lex_java.specs.Blocks.{is_line_end, is_space, opens, opening};
+ghost use Rattle.cq_lex_java.specs.Java.{text_blocks};
 ghost use Rattle.cq_lex_java.specs.TextBlocks.{TextBlocksAreWritten};
 
-use cq_munch::{Machine, Unit, longest_spelling};
-
-/// How far a text block has come.
-#[derive(Clone, Copy, Debug, PartialEq, Eq)]
-enum Block {
-    Before,
-    First,
-    Second,
-    /// After the three quotes, up to the line's end.
-    Opening,
-    Inside,
-    OneQuote,
-    TwoQuotes,
-    Escape,
-    Closed,
-}
-
-impl Machine for Block {
-    ghost rest = { block_rest };
-
-    fn step(self, ch: char) -> Option<Self> {
-        match self {
-            Block::Before => if ch == '"' { Some(Block::First) } else { None },
-            Block::First => if ch == '"' { Some(Block::Second) } else { None },
-            Block::Second => if ch == '"' {
-                Some(Block::Opening)
-            } else {
-                None
-            },
-            Block::Opening => if is_line_end(ch) {
-                Some(Block::Inside)
-            } else {
-                if is_space(ch) {
-                    Some(Block::Opening)
-                } else {
-                    None
-                }
-            },
-            Block::Inside => match ch {
-                '"' => Some(Block::OneQuote),
-                '\\' => Some(Block::Escape),
-                _ => Some(Block::Inside),
-            },
-            Block::OneQuote => match ch {
-                '"' => Some(Block::TwoQuotes),
-                '\\' => Some(Block::Escape),
-                _ => Some(Block::Inside),
-            },
-            Block::TwoQuotes => match ch {
-                '"' => Some(Block::Closed),
-                '\\' => Some(Block::Escape),
-                _ => Some(Block::Inside),
-            },
-            Block::Escape => Some(Block::Inside),
-            Block::Closed => None,
-        }
-    }
-
-    fn accepts(self) -> bool {
-        matches!(self, Block::Closed)
-    }
-}
+use cq_base::Class;
+use cq_munch::{Automaton, Found, Spell, Unit, longest_found};
 
 fn is_line_end(ch: char) -> bool
     ensures { result ≡ is_line_end ch }
@@ -108,10 +50,16 @@ pub(crate) fn opens_block(units: &[Unit]) -> bool
 }
 
 /// The text block at the front, if it is closed.
-pub(crate) fn longest_text_block(units: &[Unit]) -> Option<usize>
-    ensures { LongestAt IsTextBlock (characters units.now) result }
+pub(crate) fn closed_block(units: &[Unit], mode: u8) -> Option<Found>
+    requires { length units.now < 2 ^ 32 }
+    ensures { (at : ℕ) → Takes (table (text_blocks ∷ [])) at mode (characters units.now) result }
 {
-    longest_spelling(Block::Before, units)
+    let by = Automaton {
+        classes: &CLASSES,
+        steps: &STEPS,
+        ends: &ENDS,
+    };
+    longest_found(by, &[Spell::Token(Class::Literal)], mode, units)
 }
 
 /// A text block is exactly three quotes, blanks, a line end, a content with no three quotes except after a backslash, and
@@ -119,3 +67,25 @@ pub(crate) fn longest_text_block(units: &[Unit]) -> Option<usize>
 pub fn text_blocks_are_written()
     ensures { TextBlocksAreWritten }
 {}
+
+// What follows was written by bench/tables.
+pub(crate) static CLASSES: [u8; 128] = [
+    0, 0, 0, 0, 0, 0, 0, 0, 0, 1, 2, 0, 1, 2, 0, 0, 0, 0, 0, 0, 0, 0, 0, 0, 0, 0, 0, 0, 0, 0, 0, 0,
+    1, 0, 3, 0, 0, 0, 0, 0, 0, 0, 0, 0, 0, 0, 0, 0, 0, 0, 0, 0, 0, 0, 0, 0, 0, 0, 0, 0, 0, 0, 0, 0,
+    0, 0, 0, 0, 0, 0, 0, 0, 0, 0, 0, 0, 0, 0, 0, 0, 0, 0, 0, 0, 0, 0, 0, 0, 0, 0, 0, 0, 4, 0, 0, 0,
+    0, 0, 0, 0, 0, 0, 0, 0, 0, 0, 0, 0, 0, 0, 0, 0, 0, 0, 0, 0, 0, 0, 0, 0, 0, 0, 0, 0, 0, 0, 0, 0,
+];
+
+pub(crate) static STEPS: [[u8; 32]; 9] = [
+    *b"00020000000000000000000000000000",
+    *b"00030000000000000000000000000000",
+    *b"00040000000000000000000000000000",
+    *b"04500000000000000000000000000000",
+    *b"55567000000000000000000000000000",
+    *b"55587000000000000000000000000000",
+    *b"55555000000000000000000000000000",
+    *b"55597000000000000000000000000000",
+    *b"00000000000000000000000000000000",
+];
+
+pub(crate) static ENDS: [u8; 9] = [0, 0, 0, 0, 0, 0, 0, 0, 1];

@@ -1,59 +1,20 @@
-ghost use Rattle.std.specs.Prelude.{◌≡◌, ◌<◌, ◌^◌, ◌==◌, ◌||◌, ℕ, [], ◌∷◌, length, slice_index_or};
+ghost use Rattle.std.specs.Prelude.{◌≡◌, ◌<◌, ◌^◌, ◌==◌, ◌||◌, ℕ, length};
 ghost use Rattle.cq_munch.specs.Characters.{characters};
 ghost use Rattle.cq_munch.specs.Language.{Takes};
 ghost use Rattle.cq_munch.specs.Table.{InTable, table};
 ghost use Rattle.cq_munch.specs.declared.element.Spell.TheVariants.{Token as token};
-ghost use Rattle.cq_lex_java.specs.Java.{unmarked};
+ghost use Rattle.cq_lex_java.specs.Java.{named, others, unmarked};
+ghost use Rattle.cq_lex_java.specs.Openers.{is_end};
 ghost use Rattle.cq_lex_java.specs.Words.{IsIdentifier};
-ghost use Rattle.cq_lex_java.specs.Fronts.{front_of, rows_of};
-ghost use Rattle.cq_lex_java.specs.declared.element.Front.TheVariants.{Letter, Other};
 
-use crate::block::{longest_text_block, opens_block};
-use crate::number::longest_number;
-use crate::operator::longest_operator;
-use crate::words::{begins_identifier, is_keyword, longest_identifier};
+use crate::block::{closed_block, opens_block};
+use crate::scanner::{CLASSES, ENDS, SPELLS, STEPS};
+use crate::words::{begins_name, is_keyword, longest_identifier};
 use cq_base::Class;
 use cq_munch::{
-    Found, LineEnds, Quote, Spell, Unit, better, found_of, longest_block_comment,
-    longest_line_comment, longest_quoted, second_is,
+    Automaton, Found, LineEnds, Spell, Unit, found_of, longest_block_comment, longest_found,
+    longest_line_comment, opens_comment,
 };
-
-/// What a first character says about the element that begins with it.
-#[derive(Clone, Copy, Debug, PartialEq, Eq)]
-enum Front {
-    Blank,
-    Letter,
-    Digit,
-    /// A number, or an operator.
-    Point,
-    /// A comment, or an operator.
-    Slash,
-    /// A string, or a text block.
-    Double,
-    Single,
-    /// U+001A, which is a blank at the end.
-    End,
-    Other,
-}
-
-fn front_of(ch: char) -> Front
-    ensures { result ≡ front_of ch }
-{
-    match ch {
-        ' ' | '\t' | '\u{C}' | '\r' | '\n' => Front::Blank,
-        '0'..='9' => Front::Digit,
-        '.' => Front::Point,
-        '/' => Front::Slash,
-        '"' => Front::Double,
-        '\'' => Front::Single,
-        '\u{1A}' => Front::End,
-        _ => if begins_identifier(ch) {
-            Front::Letter
-        } else {
-            Front::Other
-        },
-    }
-}
 
 /// Whether the character is a blank.
 pub(crate) fn is_blank(ch: char) -> bool
@@ -62,9 +23,19 @@ pub(crate) fn is_blank(ch: char) -> bool
     ch == ' ' || ch == '\t' || ch == '\u{C}' || ch == '\r' || ch == '\n'
 }
 
+// Whether the character U+001A is all that is left.
+fn is_end(units: &[Unit]) -> bool
+    ensures { result ≡ is_end (characters units.now) }
+{
+    match units {
+        [last] => last.ch == '\u{1A}',
+        _ => false,
+    }
+}
+
 fn class_of(name: &[Unit]) -> Class
     requires { IsIdentifier (characters name.now) }
-    ensures { InTable (rows_of Letter) (token result) (characters name.now) }
+    ensures { InTable named (token result) (characters name.now) }
 {
     if is_keyword(name) {
         Class::Word
@@ -76,7 +47,7 @@ fn class_of(name: &[Unit]) -> Class
 // The name or keyword at the front.
 fn name(units: &[Unit], mode: u8) -> Option<Found>
     requires { length units.now < 2 ^ 32 }
-    ensures { (at : ℕ) → Takes (table (rows_of Letter)) at mode (characters units.now) result }
+    ensures { (at : ℕ) → Takes (table named) at mode (characters units.now) result }
 {
     match longest_identifier(units) {
         None => None,
@@ -87,88 +58,42 @@ fn name(units: &[Unit], mode: u8) -> Option<Found>
     }
 }
 
-// The operator at the front.
-fn operator(units: &[Unit], mode: u8) -> Option<Found>
+// The element at the front that is neither a name nor a keyword.
+fn other(units: &[Unit], mode: u8) -> Option<Found>
     requires { length units.now < 2 ^ 32 }
-    ensures { (at : ℕ) → Takes (table (rows_of Other)) at mode (characters units.now) result }
+    ensures { (at : ℕ) → Takes (table others) at mode (characters units.now) result }
 {
-    found_of(Spell::Token(Class::Punct), mode, longest_operator(units))
+    let by = Automaton {
+        classes: &CLASSES,
+        steps: &STEPS,
+        ends: &ENDS,
+    };
+    longest_found(by, &SPELLS, mode, units)
 }
 
-// The comment or operator at the front, which is a slash.
-fn behind_slash(units: &[Unit], mode: u8) -> Option<Found>
-    requires some { 0 < length units.now }
-    requires short { length units.now < 2 ^ 32 }
-    requires slash { slice_index_or (characters units.now) 0 0 ≡ 47 }
+/// The element at the front, if there is no byte order mark.
+pub(crate) fn taken(units: &[Unit], mode: u8) -> Option<Found>
+    requires { length units.now < 2 ^ 32 }
     ensures { (at : ℕ) → Takes unmarked at mode (characters units.now) result }
 {
-    if second_is(units, '*') {
+    if opens_comment(units, '*') {
         return found_of(Spell::Comment, mode, longest_block_comment(units));
     }
-    if second_is(units, '/') {
+    if opens_comment(units, '/') {
         return found_of(
             Spell::Comment,
             mode,
             longest_line_comment(LineEnds::ReturnOrFeed, units),
         );
     }
-    operator(units, mode)
-}
-
-// The string or text block at the front, which is a double quote.
-fn behind_quote(units: &[Unit], mode: u8) -> Option<Found>
-    requires some { 0 < length units.now }
-    requires short { length units.now < 2 ^ 32 }
-    requires quote { slice_index_or (characters units.now) 0 0 ≡ 34 }
-    ensures { (at : ℕ) → Takes unmarked at mode (characters units.now) result }
-{
-    let literal = Spell::Token(Class::Literal);
     if opens_block(units) {
-        return found_of(literal, mode, longest_text_block(units));
+        return closed_block(units, mode);
     }
-    found_of(
-        literal,
-        mode,
-        longest_quoted(Quote::Double, LineEnds::ReturnOrFeed, units),
-    )
-}
-
-// The blank at the front, which is U+001A, if nothing follows.
-fn at_end(units: &[Unit], mode: u8) -> Option<Found>
-    requires some { 0 < length units.now }
-    requires end { slice_index_or (characters units.now) 0 0 ≡ 26 }
-    ensures { (at : ℕ) → Takes unmarked at mode (characters units.now) result }
-{
-    if units.len() == 1 {
-        found_of(Spell::Blank, mode, Some(1))
-    } else {
-        None
+    if is_end(units) {
+        return found_of(Spell::Blank, mode, Some(1));
     }
-}
-
-/// The element at the front, if there is no byte order mark. Its first character decides which scanners to ask.
-pub(crate) fn taken(units: &[Unit], mode: u8) -> Option<Found>
-    requires some { 0 < length units.now }
-    requires short { length units.now < 2 ^ 32 }
-    ensures { (at : ℕ) → Takes unmarked at mode (characters units.now) result }
-{
-    let literal = Spell::Token(Class::Literal);
-    match front_of(units[0].ch) {
-        Front::Blank => found_of(Spell::Blank, mode, Some(1)),
-        Front::Letter => name(units, mode),
-        Front::Digit => found_of(literal, mode, longest_number(units)),
-        Front::Point => better(
-            found_of(literal, mode, longest_number(units)),
-            operator(units, mode),
-        ),
-        Front::Slash => behind_slash(units, mode),
-        Front::Double => behind_quote(units, mode),
-        Front::Single => found_of(
-            literal,
-            mode,
-            longest_quoted(Quote::Single, LineEnds::ReturnOrFeed, units),
-        ),
-        Front::End => at_end(units, mode),
-        Front::Other => operator(units, mode),
+    if begins_name(units) {
+        return name(units, mode);
     }
+    other(units, mode)
 }

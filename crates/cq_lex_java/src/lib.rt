@@ -1,18 +1,18 @@
 //! The language Java: its identifiers, keywords, numbers, characters, strings, text blocks, separators, operators and
-//! comments (JLS 3), after Unicode escapes are translated. One test recognises a blank first. The first character of any
-//! other element selects its scanner, which looks at each unit once, up to the first that cannot continue it; two
-//! scanners look at a point, and the opening of a text block is read once more. A character of ASCII in a name costs a
-//! look into a table, and the name is compared with the keywords of its first letter and its length. It takes no memory
-//! except for the units, of which a text of n bytes has at most n, of 12 bytes each, twice while escapes are read.
-//! Without escapes they are looked at once, and kept, and if there is no backslash among the bytes they are kept at once.
+//! comments (JLS 3), after Unicode escapes are translated. A blank is recognised by one test, and the opening of a comment
+//! or of a text block by a few more. A character of ASCII in a name costs a look into a table, and the name is compared
+//! with the keywords of its first letter and its length. One table scans all other elements, and another one text blocks:
+//! a look for each unit, up to the first that cannot continue the element. The opening of a text block is read once more.
+//! It takes no memory except for the units, of which a text of n bytes has at most n, of 12 bytes each, twice while
+//! escapes are read. Without escapes they are looked at once, and kept, and if there is no backslash among the bytes they
+//! are kept at once.
 #![tactic(auto)]
 
 mod block;
 mod element;
 mod escape;
 mod language;
-mod number;
-mod operator;
+mod scanner;
 mod translation;
 mod words;
 

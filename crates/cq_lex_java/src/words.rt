@@ -3,10 +3,9 @@ ghost use Rattle.cq_munch.specs.Characters.{characters};
 ghost use Rattle.cq_munch.specs.Fronts.{starts};
 ghost use Rattle.cq_munch.specs.Longest.{LongestAt, IsAmong};
 ghost use Rattle.cq_lex_java.specs.AsciiNames.{begins_ascii, continues_ascii};
-ghost use Rattle.cq_lex_java.specs.NameStates.{identifier_rest};
 ghost use Rattle.cq_lex_java.specs.Words.{IsIdentifier, begins_identifier, continues_identifier, keywords};
 
-use cq_munch::{Machine, Unit, is_listed_by_letter, longest_spelling, longest_spelling_from};
+use cq_munch::{Unit, is_listed_by_letter};
 
 // Of the characters of ASCII these begin an identifier.
 fn begins_ascii(ch: char) -> bool
@@ -33,9 +32,9 @@ fn continues_ascii(ch: char) -> bool
     CONTINUES[code as usize] != b','
 }
 
-/// Whether an identifier may begin with the character.
+// Whether an identifier may begin with the character.
 #[tactic(auto, unfolding(crate::specs::Words::begins_identifier))]
-pub(crate) fn begins_identifier(ch: char) -> bool
+fn begins_identifier(ch: char) -> bool
     ensures { result ≡ begins_identifier ch }
 {
     if ch.is_ascii() {
@@ -54,60 +53,26 @@ fn continues_identifier(ch: char) -> bool
     unicode_ident::is_xid_continue(ch) || ch == '$'
 }
 
-/// Before an identifier, or in it.
-#[derive(Clone, Copy, Debug, PartialEq, Eq)]
-enum Identifier {
-    Before,
-    Inside,
-}
-
-impl Machine for Identifier {
-    ghost rest = { identifier_rest };
-
-    fn step(self, ch: char) -> Option<Self> {
-        let goes = match self {
-            Identifier::Before => begins_identifier(ch),
-            Identifier::Inside => continues_identifier(ch),
-        };
-        if goes { Some(Identifier::Inside) } else { None }
-    }
-
-    fn accepts(self) -> bool {
-        self == Identifier::Inside
-    }
-}
-
-// Whether a character of ASCII at the front begins an identifier.
-fn begins_plainly(units: &[Unit]) -> bool
-    ensures { result ≡ starts begins_ascii (characters units.now) }
+/// Whether an identifier begins at the front.
+pub(crate) fn begins_name(units: &[Unit]) -> bool
+    ensures { result ≡ starts begins_identifier (characters units.now) }
 {
     match units {
-        [first, ..] => begins_ascii(first.ch),
+        [first, ..] => begins_identifier(first.ch),
         [] => false,
     }
 }
 
-/// The longest identifier at the front. Keywords are identifiers too. Characters of ASCII are looked up in a table;
-/// the machine continues from the first one that is not.
+/// The longest identifier at the front. Keywords are identifiers too.
 pub(crate) fn longest_identifier(units: &[Unit]) -> Option<usize>
     ensures { LongestAt IsIdentifier (characters units.now) result }
 {
-    if !begins_plainly(units) {
-        return longest_spelling(Identifier::Before, units);
+    if !begins_name(units) {
+        return None;
     }
     for at in 1..units.len() {
-        let ch = units[at].ch;
-        if !continues_ascii(ch) {
-            if ch.is_ascii() {
-                return Some(at);
-            }
-            return longest_spelling_from(
-                Identifier::Before,
-                Identifier::Inside,
-                at,
-                Some(at),
-                units,
-            );
+        if !continues_identifier(units[at].ch) {
+            return Some(at);
         }
     }
     Some(units.len())

@@ -1,4 +1,0 @@
-use Rattle.cq_lex_java.proofs.operator.longest_operator.Goals as goal
-
-pub returns-then-begins_alone : goal.returns-then-begins_alone
-returns-then-begins_alone c = c.begins_alone.ensures c.if-begins_alone.true
