@@ -19,7 +19,7 @@ use crate::punctuator::longest_punctuator;
 use cq_base::Class;
 use cq_munch::{
     Found, LineEnds, Spell, Unit, better, found_of, longest_block_comment, longest_line_comment,
-    second_is,
+    opens_comment,
 };
 
 /// What a first character says about the element that begins with it.
@@ -111,10 +111,10 @@ fn behind_slash(units: &[Unit], mode: u8) -> Option<Found>
     requires slash { slice_index_or (characters units.now) 0 0 ≡ 47 }
     ensures { (at : ℕ) → Takes with_comments at mode (characters units.now) result }
 {
-    if second_is(units, '*') {
+    if opens_comment(units, '*') {
         return found_of(Spell::Comment, mode, longest_block_comment(units));
     }
-    if second_is(units, '/') {
+    if opens_comment(units, '/') {
         return found_of(
             Spell::Comment,
             mode,

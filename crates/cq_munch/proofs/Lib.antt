@@ -7,7 +7,6 @@ pub mod Tables
 pub mod Fitting
 pub mod Rowed
 pub mod WordLists
-pub mod AloneWords
 pub mod Reserved
 pub mod QuoteSteps
 pub mod OpenQuotes

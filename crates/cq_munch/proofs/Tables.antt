@@ -6,7 +6,7 @@ use Rattle.std.specs.Option.{option_map, IfNone, IfSome}
 use Rattle.std.proofs.lemmas.Bool.{ltb-true, cases_lt, and_parts, and_from}
 use Rattle.std.proofs.lemmas.Grind.{common_steps}
 use Rattle.cq_munch.specs.Pattern.{Range, in_range, in_ranges, Pattern, never, empty, among, except, ◌▸◌, ◌∣◌, many, Spells}
-use Rattle.cq_munch.specs.Behind.{takes_empty, SpellsAny, joined, joined_each, behind, behind_each, has, distinct, after, any_takes_empty, agree, agree_each, entry_ok, class_in, led, ascii_ranges, ascii_rows, ascii, each_below}
+use Rattle.cq_munch.specs.Behind.{takes_empty, SpellsAny, joined, joined_each, behind, behind_each, has, distinct, after, any_takes_empty, agree, agree_each, entry_ok, class_in, ascii_ranges, ascii_rows, ascii, each_below}
 use Rattle.cq_munch.specs.Longest.{LongestAt}
 use Rattle.cq_munch.proofs.Front.{LongestAt-same}
 use Rattle.cq_munch.proofs.Steps.{beq-is, beq-same, any_takes_empty-if, any_takes_empty-then, covers-spells, behind_each-if, behind_each-then, agree-behind_each}
@@ -103,12 +103,6 @@ class_past [] other c h k = refl
 class_past (row ∷ rows) other c h k =
     let both = and_parts _ _ h in
     ap (λ v. cond v row.1 (class_in rows other c)) (in_ranges_past row.0 c both.0 k) ∙ class_past rows other c both.1 k
-
-pub led_past : {S : Type 0} (rows : List (List Range × S)) (c : ℕ) → ascii_rows rows ≡ true → 128 ≤ c → led rows c ≡ None
-led_past [] c h k = refl
-led_past (row ∷ rows) c h k =
-    let both = and_parts _ _ h in
-    ap (λ v. cond v (Some row.1) (led rows c)) (in_ranges_past row.0 c both.0 k) ∙ led_past rows c both.1 k
 
 pub agree_past : (p : Pattern) (c d : ℕ) → ascii p ≡ true → 128 ≤ c → 128 ≤ d → agree c d p ≡ true
 agree_past never c d h k l = refl

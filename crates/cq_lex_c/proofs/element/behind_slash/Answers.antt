@@ -12,4 +12,4 @@ punctuator-requires-clause-other c = other_char Slash (get_or (characters c.args
 pub returns : goal.returns
 returns c = λ at.
     slash_alone at c.args.mode (characters c.args.units.now) (as_many c.args.units.now 0 c.requires.some) c.punctuator.result c.requires.slash
-    (sym c.second_is.ensures ∙ c.if-second_is.false) (sym c.second_is-2.ensures ∙ c.if-second_is-2.false) (c.punctuator.ensures at)
+    (sym c.opens_comment.ensures ∙ c.if-opens_comment.false) (sym c.opens_comment-2.ensures ∙ c.if-opens_comment-2.false) (c.punctuator.ensures at)
