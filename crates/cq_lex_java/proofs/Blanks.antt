@@ -1,5 +1,5 @@
 -- A blank, which its character tells.
-use Rattle.std.proofs.Common.{◌≡◌, ℕ, suc, ◌+◌, ◌-◌, ◌<◌, ◌≤◌, Some, Bool, true, false, ◌&&◌, ◌||◌, ◌==◌, not, List, [], ◌∷◌, length, drop, refl, sym, subst, ◌∙◌, arith}
+use Rattle.std.proofs.Common.{◌≡◌, ℕ, suc, ◌+◌, ◌-◌, ◌<◌, ◌≤◌, Some, Bool, true, false, ◌||◌, ◌==◌, not, List, [], ◌∷◌, length, drop, refl, sym, subst, ◌∙◌, arith}
 use Rattle.std.proofs.lemmas.Bool.{eqb-true, not-true, and_left}
 use Rattle.std.proofs.lemmas.Grind.{common_steps}
 use Rattle.cq_base.proofs.Bools.{or-implies}

@@ -1,5 +1,5 @@
 -- The element at a front, by what is opened there.
-use Rattle.std.proofs.Common.{◌≡◌, ℕ, Option, Some, true, false, List, [], ◌∷◌, refl, ap, subst, sym, arith}
+use Rattle.std.proofs.Common.{◌≡◌, ℕ, Option, Some, true, false, List, [], ◌∷◌, refl, ap, arith}
 use Rattle.std.proofs.lemmas.Bool.{eqb-true}
 use Rattle.cq_munch.specs.Language.{Takes}
 use Rattle.cq_munch.specs.Longest.{LongestAt}

@@ -1,5 +1,5 @@
 -- The scan of an identifier.
-use Rattle.std.proofs.Common.{◌≡◌, ℕ, zero, suc, ◌+◌, ◌<◌, ◌≤◌, Some, None, true, false, ◌||◌, ◌==◌, List, [], ◌∷◌, ◌↔◌, length, take, arith}
+use Rattle.std.proofs.Common.{◌≡◌, ℕ, zero, suc, ◌+◌, ◌<◌, ◌≤◌, Some, None, true, false, ◌||◌, ◌==◌, List, [], ◌∷◌, length, take, arith}
 use Rattle.std.specs.Prelude.{IsTrue}
 use Rattle.std.specs.Char.{is_ascii_alphabetic, is_ascii_digit}
 use Rattle.std.specs.Int.{is_in_range}
