@@ -3,7 +3,7 @@ ghost use Rattle.cq_munch.specs.Longest.{LongestAt, IsAmong};
 ghost use Rattle.cq_lex_c.specs.Punctuators.{punctuators};
 
 use crate::scanner::{CLASSES, ENDS, STEPS};
-use cq_munch::{Automaton, Unit, longest_by};
+use cq_munch::{Automaton, Itself, Unit, longest_by};
 
 /// The longest punctuator of the standard at the front.
 pub(crate) fn longest_punctuator(units: &[Unit]) -> Option<usize>
@@ -14,5 +14,5 @@ pub(crate) fn longest_punctuator(units: &[Unit]) -> Option<usize>
         steps: &STEPS,
         ends: &ENDS,
     };
-    longest_by(by, units)
+    longest_by::<Itself>(by, units)
 }

@@ -11,8 +11,8 @@ use crate::scanner::{CLASSES, ENDS, SPELLS, STEPS};
 use crate::words::{is_keyword, is_letter, longest_name};
 use cq_base::Class;
 use cq_munch::{
-    Automaton, Found, LineEnds, Spell, Unit, found_of, longest_block_comment, longest_found,
-    longest_line_comment, opens_comment,
+    Automaton, Found, Itself, LineEnds, Spell, Unit, found_of, longest_block_comment,
+    longest_found, longest_line_comment, opens_comment,
 };
 
 /// Whether the character is a blank.
@@ -67,7 +67,7 @@ fn other(units: &[Unit], mode: u8) -> Option<Found>
         steps: &STEPS,
         ends: &ENDS,
     };
-    longest_found(by, &SPELLS, mode, units)
+    longest_found::<Itself>(by, &SPELLS, mode, units)
 }
 
 /// The element at the front, if there is no byte order mark.

@@ -79,7 +79,7 @@ module _ {F : Type 0} {t : FrontTable F} (known : Known t) where
       ⊎_elim
       (λ low. char_stands (λ d. goes_on (behind_each d (p ∷ []))) at all c low (goes (behind_each c (p ∷ [])) s on))
       (λ high.
-      let same : behind_each c (p ∷ []) ≡ behind_each 128 (p ∷ []) = agree-behind_each c 128 (p ∷ []) (ap (λ b. b && true) (agree_past p c 128 plain high (omega arith))) in
+      let same : behind_each c (p ∷ []) ≡ behind_each 128 (p ∷ []) = agree-behind_each c 128 (p ∷ []) (ap (λ b. b && true) (agree_past 128 p c 128 plain high (omega arith))) in
       let bad = sym (goes (behind_each 128 (p ∷ [])) s (subst (λ v. SpellsAny v s) same on)) ∙ past in absurd (cc))
       (cases_lt c 128)
     where
