@@ -10,10 +10,8 @@ pub mod Quoting
 pub mod Headers
 pub mod HeaderNames
 pub mod Punctuators
-pub mod Scanner
 pub mod C
-pub mod Fronts
+pub mod Scanner
 pub mod Ascii
-pub mod Starts
 pub mod OneKind
 pub mod OpenComments

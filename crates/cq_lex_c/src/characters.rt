@@ -1,6 +1,8 @@
 ghost use Rattle.std.specs.Prelude.{◌≡◌};
 ghost use Rattle.cq_lex_c.specs.AsciiNames.{begins_ascii, continues_ascii};
-ghost use Rattle.cq_lex_c.specs.Characters.{begins_identifier, continues_identifier};
+ghost use Rattle.cq_lex_c.specs.Characters.{begins_identifier, continues_identifier, stood};
+
+use cq_munch::StandIn;
 
 /// Whether the character is one of ASCII that begins an identifier.
 pub(crate) fn begins_ascii(ch: char) -> bool
@@ -47,4 +49,22 @@ pub(crate) fn continues_identifier(ch: char) -> bool
         return continues_ascii(ch);
     }
     unicode_ident::is_xid_continue(ch) || ch == '$'
+}
+
+/// How the table sees characters past ASCII.
+#[derive(Clone, Copy, Debug, PartialEq, Eq)]
+pub(crate) struct Seen;
+
+impl StandIn for Seen {
+    ghost stood = { stood };
+
+    fn stand_in(ch: char) -> u32 {
+        if ch.is_ascii() {
+            return ch as u32;
+        }
+        if begins_identifier(ch) {
+            return 128;
+        }
+        if continues_identifier(ch) { 129 } else { 130 }
+    }
 }

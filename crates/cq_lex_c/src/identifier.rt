@@ -1,69 +1,15 @@
-ghost use Rattle.std.specs.Prelude.{◌≡◌, ◌↔◌, ◌==◌, ◌||◌, not, nat_lt, IsTrue};
-ghost use Rattle.cq_munch.specs.Characters.{characters};
+ghost use Rattle.std.specs.Prelude.{◌≡◌, Some, ◌↔◌, ◌==◌, ◌||◌, not, nat_lt, IsTrue, IfSome};
+ghost use Rattle.cq_munch.specs.Automata.{RowAt};
+ghost use Rattle.cq_munch.specs.Characters.{characters, seen_by};
 ghost use Rattle.cq_munch.specs.Fronts.{starts};
-ghost use Rattle.cq_munch.specs.Longest.{LongestAt, IsAmong};
+ghost use Rattle.cq_munch.specs.Longest.{IsAmong};
 ghost use Rattle.cq_lex_c.specs.AsciiNames.{begins_ascii};
-ghost use Rattle.cq_lex_c.specs.Identifiers.{IsIdentifier, identifier_rest, keywords};
+ghost use Rattle.cq_lex_c.specs.Characters.{stood};
+ghost use Rattle.cq_lex_c.specs.Identifiers.{keywords};
+ghost use Rattle.cq_lex_c.specs.OneKind.{scanner};
 
-use crate::characters::{begins_ascii, begins_identifier, continues_ascii, continues_identifier};
-use cq_munch::{Machine, Unit, is_listed_by_letter, longest_spelling, longest_spelling_from};
-
-/// How far an identifier has come.
-#[derive(Clone, Copy, Debug, PartialEq, Eq)]
-enum Identifier {
-    Before,
-    /// It may end here.
-    Whole,
-    /// After the backslash of a universal character name.
-    Mark,
-    /// This many digits of a universal character name are to come.
-    Digits(u8),
-}
-
-impl Machine for Identifier {
-    ghost rest = { identifier_rest };
-
-    fn step(self, ch: char) -> Option<Self> {
-        match self {
-            Identifier::Before => if ch == '\\' {
-                Some(Identifier::Mark)
-            } else {
-                if begins_identifier(ch) {
-                    Some(Identifier::Whole)
-                } else {
-                    None
-                }
-            },
-            Identifier::Whole => if ch == '\\' {
-                Some(Identifier::Mark)
-            } else {
-                if continues_identifier(ch) {
-                    Some(Identifier::Whole)
-                } else {
-                    None
-                }
-            },
-            Identifier::Mark => match ch {
-                'u' => Some(Identifier::Digits(4)),
-                'U' => Some(Identifier::Digits(8)),
-                _ => None,
-            },
-            Identifier::Digits(n) => if ch.is_ascii_hexdigit() {
-                Some(if n <= 1 {
-                    Identifier::Whole
-                } else {
-                    Identifier::Digits(n - 1)
-                })
-            } else {
-                None
-            },
-        }
-    }
-
-    fn accepts(self) -> bool {
-        matches!(self, Identifier::Whole)
-    }
-}
+use crate::characters::{begins_ascii, continues_ascii};
+use cq_munch::{Unit, is_listed_by_letter};
 
 // Whether a character of ASCII at the front begins an identifier.
 fn begins_plainly(units: &[Unit]) -> bool
@@ -75,20 +21,20 @@ fn begins_plainly(units: &[Unit]) -> bool
     }
 }
 
-// Whether the machine has to decide about the character: a backslash, or one past ASCII.
+// Whether the table has to decide about the character: a backslash, or one past ASCII.
 fn may_go_on(ch: char) -> bool
     ensures { result ≡ ((ch == 92) || not (nat_lt ch 128)) }
 {
     ch == '\\' || !ch.is_ascii()
 }
 
-/// The longest identifier at the front. Keywords are identifiers too. Characters of ASCII are looked up in a table;
-/// the machine continues from the first backslash or character past ASCII.
-pub(crate) fn longest_identifier(units: &[Unit]) -> Option<usize>
-    ensures { LongestAt IsIdentifier (characters units.now) result }
+/// The identifier at the front, if all its characters are ASCII and none is a backslash: what the table would find, which
+/// looks up more for a character.
+pub(crate) fn plain_identifier(units: &[Unit]) -> Option<usize>
+    ensures { IfSome result (λ len. RowAt scanner (seen_by stood units.now) (Some (len, 0))) }
 {
     if !begins_plainly(units) {
-        return longest_spelling(Identifier::Before, units);
+        return None;
     }
     for at in 1..units.len() {
         let ch = units[at].ch;
@@ -96,13 +42,7 @@ pub(crate) fn longest_identifier(units: &[Unit]) -> Option<usize>
             if !may_go_on(ch) {
                 return Some(at);
             }
-            return longest_spelling_from(
-                Identifier::Before,
-                Identifier::Whole,
-                at,
-                Some(at),
-                units,
-            );
+            return None;
         }
     }
     Some(units.len())

@@ -18,6 +18,8 @@ pub mod Joining
 pub mod Dispatch
 pub mod OneKind
 pub mod RowScans
+pub mod Seen
+pub mod Reserving
 pub mod Marks
 pub mod Blanks
 pub mod MarkWords

@@ -13,6 +13,7 @@ use Rattle.cq_munch.specs.Patterned.{one_word, any_word, Patterned, spells_of, p
 use Rattle.cq_munch.specs.Table.{Row, InTable, table}
 use Rattle.cq_munch.specs.declared.element.Found.{Found}
 use Rattle.cq_munch.specs.declared.element.Spell.{Spell}
+use Rattle.cq_munch.specs.declared.element.Spell.TheVariants.{Blank}
 use Rattle.cq_munch.proofs.Fitting.{or_else-cases, row_is, none_past, first_fits, rest_fit, has_row}
 use Rattle.cq_munch.proofs.Front.{LongestAt-same}
 use Rattle.cq_munch.proofs.Joining.{narrowed, in_append, append_in}
@@ -96,8 +97,11 @@ module _ (rows : Patterned) (texts : List (List ℕ)) (t : Tables) (right : fits
       let same : one.0 ≡ other.0 = omega (arith, is, too) in
       one.2 ∙ ap (λ i. get_or (spells_of rows) i a) same ∙ sym other.2
 
-  has : (spell : Spell) (s : List ℕ) → InTable (rows_of rows) spell s → HasRow t s
-  has spell s h = (has_row texts t (patterns_of rows) right s).1 (in_patterns rows spell s h)
+  pub is_found : (spell : Spell) (s : List ℕ) → InTable (rows_of rows) spell s → HasRow t s
+  is_found spell s h = (has_row texts t (patterns_of rows) right s).1 (in_patterns rows spell s h)
+
+  pub row_there : (s : List ℕ) → HasRow t s → (spell : Spell) × InTable (rows_of rows) spell s
+  row_there s some = (get_or (spells_of rows) (row_of t s - 1) Blank, found_row texts t rows 0 all_fit s (row_of t s - 1) Blank (omega (arith, some)))
 
   -- no spelling begins with a letter
   module _ (letter low : ℕ → Bool) (below : (c : ℕ) → c < 128 → letter c ≡ low c) (none : begins_none low t ≡ true) where
@@ -123,7 +127,7 @@ module _ (rows : Patterned) (texts : List (List ℕ)) (t : Tables) (right : fits
     pub no_letter : (spell : Spell) (c : ℕ) (s : List ℕ) → InTable (rows_of rows) spell (c ∷ s) → letter c ≡ false
     no_letter spell c s h =
         ⊎_elim
-        (λ is. let none : 0 < row_from t 0 s = subst (λ e. 0 < row_from t e s) (stops c is) (has spell (c ∷ s) h) in absurd (omega (arith, none)))
+        (λ is. let none : 0 < row_from t 0 s = subst (λ e. 0 < row_from t e s) (stops c is) (is_found spell (c ∷ s) h) in absurd (omega (arith, none)))
         (λ other. other)
         (cases_Bool (letter c))
 
@@ -131,7 +135,7 @@ module _ (rows : Patterned) (texts : List (List ℕ)) (t : Tables) (right : fits
 
   module _ (spells : List Spell) (are : spells_of rows ≡ spells) (at mode : ℕ) (text : List ℕ) where
     pub none_there : RowAt t text None → Takes (table (rows_of rows)) at mode text None
-    none_there h = λ m some within x. h m some within (has x.0 (take m text) x.1)
+    none_there h = λ m some within x. h m some within (is_found x.0 (take m text) x.1)
 
     pub one_there : (len row : ℕ) (spell : Spell) → RowAt t text (Some (len, row)) → spell ≡ get_or spells row spell → Takes (table (rows_of rows)) at mode text (Some (record { spell = spell; units = len; mode = mode }))
     one_there len row spell h is =
@@ -142,7 +146,7 @@ module _ (rows : Patterned) (texts : List (List ℕ)) (t : Tables) (right : fits
             some = h.0.some;
             within = h.0.within;
             spelled = (spell, own);
-            longest = λ m more within x. h.0.longest m more within (has x.0 (take m text) x.1);
+            longest = λ m more within x. h.0.longest m more within (is_found x.0 (take m text) x.1);
           },
           own,
           refl,
@@ -167,6 +171,10 @@ no_entry [] h k = refl
 no_entry (e ∷ entries) h zero = let low = leb-true e 48 (and_parts (nat_le e 48) _ h).0 in omega (arith, low)
 no_entry (e ∷ entries) h (suc k) = no_entry entries (and_parts (nat_le e 48) _ h).1 k
 
+-- nothing goes on from such a state
+pub no_more : (t : Tables) (n : ℕ) → list_all (λ e. nat_le e 48) (get_or t.steps n []) ≡ true → (d : ℕ) (s : List ℕ) → row_from t (suc n) (d ∷ s) ≡ 0
+no_more t n stops d s = ap (λ e. row_from t e s) (no_entry (get_or t.steps n []) stops (class_at t.classes d))
+
 pub alone : (t : Tables) (c n row : ℕ) (text : List ℕ) → entry_at t 0 c ≡ suc n → list_all (λ e. nat_le e 48) (get_or t.steps n []) ≡ true → get_or t.ends n 0 ≡ suc row → RowAt t (c ∷ text) (Some (1, row))
 alone t c n row text steps stops ends = (record { some = omega arith; within = omega arith; spelled = (let is = own in omega (arith, is)); longest = none_longer }, own)
   where
@@ -176,7 +184,7 @@ alone t c n row text steps stops ends = (record { some = omega arith; within = o
     none_after : (s : List ℕ) → 0 < length s → HasRow t (c ∷ s) → ⊥
     none_after [] some h = omega (arith, some)
     none_after (d ∷ s) some h =
-        let stopped : row_from t (entry_at t 0 c) (d ∷ s) ≡ 0 = ap (λ e. row_from t e (d ∷ s)) steps ∙ ap (λ e. row_from t e s) (no_entry (get_or t.steps n []) stops (class_at t.classes d)) in
+        let stopped : row_from t (entry_at t 0 c) (d ∷ s) ≡ 0 = ap (λ e. row_from t e (d ∷ s)) steps ∙ no_more t n stops d s in
         omega (arith, stopped, h)
 
     none_longer : (m : ℕ) → 1 < m → m ≤ length (c ∷ text) → HasRow t (take m (c ∷ text)) → ⊥

@@ -1,0 +1,30 @@
+use Rattle.std.proofs.Common.{◌<◌, ◌^◌, length, refl, sym, subst, arith}
+use Rattle.std.proofs.lemmas.List.{length-map}
+use Rattle.cq_base.specs.declared.token.Class.TheVariants.{Ident}
+use Rattle.cq_munch.specs.Characters.{seen_by}
+use Rattle.cq_munch.specs.Language.{Takes}
+use Rattle.cq_munch.specs.Patterned.{rows_of}
+use Rattle.cq_munch.specs.Table.{table}
+use Rattle.cq_munch.specs.declared.element.Spell.TheVariants.{Token}
+use Rattle.cq_munch.specs.declared.unit.Unit.{Unit}
+use Rattle.cq_munch.proofs.RowScans.{one_there}
+use Rattle.cq_lex_c.specs.Characters.{stood}
+use Rattle.cq_lex_c.specs.OneKind.{scanner, scanner_fits}
+use Rattle.cq_lex_c.specs.Scanner.{scanned, texts}
+use Rattle.cq_lex_c.specs.declared.scanner.TheConstants.{SPELLS}
+use Rattle.cq_lex_c.proofs.element.scan.Goals as goal
+
+pub found_of-requires : goal.found_of-requires
+found_of-requires c =
+    let within = c.in-Some.ensures.0.within in
+    let many = length-map c.args.units.now (λ (u : Unit). stood u.ch) in
+    let few = c.requires in
+    omega (arith, within, many, few)
+
+pub returns-in-Some : goal.returns-in-Some
+returns-in-Some c = λ at.
+    subst (Takes (table (rows_of scanned)) at c.args.mode (seen_by stood c.args.units.now)) (sym c.found_of.ensures)
+    (one_there scanned texts scanner scanner_fits SPELLS refl at c.args.mode (seen_by stood c.args.units.now) c.in-Some.len 0 (Token Ident) c.in-Some.ensures refl)
+
+pub returns-in-None : goal.returns-in-None
+returns-in-None c = λ at. c.longest_found.ensures scanned texts (refl, scanner_fits) at
