@@ -16,8 +16,7 @@ use Rattle.cq_munch.specs.declared.ends.LineEnds.TheVariants.{Feed}
 use Rattle.cq_munch.specs.declared.unit.Unit.{Unit}
 use Rattle.cq_munch.proofs.Blanks.{no_mark, from_unit}
 use Rattle.cq_munch.proofs.CharacterTests.{apart_by, low_by}
-use Rattle.cq_munch.proofs.Dispatch.{no_comment}
-use Rattle.cq_munch.proofs.Joining.{row_more, takes_rest}
+use Rattle.cq_munch.proofs.Joining.{row_more, takes_rest, no_comment}
 use Rattle.cq_munch.proofs.Marks.{takes_unmarked}
 use Rattle.cq_munch.proofs.Reserving.{unless_reserved, one_reserved}
 use Rattle.cq_munch.proofs.RowScans.{alone, one_there}

@@ -6,7 +6,7 @@ use Rattle.std.proofs.lemmas.Bool.{eqb-true, or_from, or_parts, or_cases, both_w
 use Rattle.cq_base.proofs.Bools.{or-implies}
 use Rattle.cq_munch.specs.Automata.{entry_at}
 use Rattle.cq_munch.specs.Characters.{characters, seen_by}
-use Rattle.cq_munch.specs.Fronts.{starts}
+use Rattle.cq_munch.specs.Table.{starts}
 use Rattle.cq_munch.specs.Lexed.{unit_at}
 use Rattle.cq_munch.specs.declared.unit.Unit.{Unit}
 use Rattle.cq_munch.proofs.CharacterTests.{range_past, other_past, low_by}

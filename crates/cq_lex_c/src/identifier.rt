@@ -1,7 +1,7 @@
 ghost use Rattle.std.specs.Prelude.{◌≡◌, Some, ◌↔◌, ◌==◌, ◌||◌, not, nat_lt, IsTrue, IfSome};
 ghost use Rattle.cq_munch.specs.Automata.{RowAt};
 ghost use Rattle.cq_munch.specs.Characters.{characters, seen_by};
-ghost use Rattle.cq_munch.specs.Fronts.{starts};
+ghost use Rattle.cq_munch.specs.Table.{starts};
 ghost use Rattle.cq_munch.specs.Longest.{IsAmong};
 ghost use Rattle.cq_lex_c.specs.AsciiNames.{begins_ascii};
 ghost use Rattle.cq_lex_c.specs.Characters.{stood};

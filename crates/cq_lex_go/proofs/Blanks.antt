@@ -14,7 +14,7 @@ use Rattle.cq_munch.specs.declared.ends.LineEnds.TheVariants.{Feed}
 use Rattle.cq_munch.specs.declared.unit.Unit.{Unit}
 use Rattle.cq_munch.proofs.Blanks.{no_mark, from_unit}
 use Rattle.cq_munch.proofs.CharacterTests.{apart_by, low_by}
-use Rattle.cq_munch.proofs.Dispatch.{no_comment}
+use Rattle.cq_munch.proofs.Joining.{no_comment}
 use Rattle.cq_munch.proofs.Marks.{takes_unmarked}
 use Rattle.cq_munch.proofs.RowScans.{alone, one_there, taken_of, at_other}
 use Rattle.cq_munch.proofs.Tables.{below_each}

@@ -11,7 +11,7 @@ use Rattle.ucd_table.proofs.Facts.{Stepped-below, same_from_beq}
 use Rattle.ucd_category.specs.GeneralCategory.{general_category}
 use Rattle.ucd_category.proofs.GeneralCategoryLemmas.{general_category_stepped}
 use Rattle.cq_munch.specs.Characters.{characters}
-use Rattle.cq_munch.specs.Fronts.{starts}
+use Rattle.cq_munch.specs.Table.{starts}
 use Rattle.cq_munch.specs.Lexed.{unit_at}
 use Rattle.cq_munch.specs.Scans.{Scanned}
 use Rattle.cq_munch.specs.declared.unit.Unit.{Unit}

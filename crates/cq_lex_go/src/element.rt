@@ -1,8 +1,7 @@
 ghost use Rattle.std.specs.Prelude.{◌≡◌, ◌<◌, ◌^◌, ◌==◌, ◌||◌, ℕ, length};
 ghost use Rattle.cq_munch.specs.Characters.{characters};
-ghost use Rattle.cq_munch.specs.Fronts.{starts};
 ghost use Rattle.cq_munch.specs.Language.{Takes};
-ghost use Rattle.cq_munch.specs.Table.{InTable, table};
+ghost use Rattle.cq_munch.specs.Table.{InTable, table, starts};
 ghost use Rattle.cq_munch.specs.declared.element.Spell.TheVariants.{Token as token};
 ghost use Rattle.cq_lex_go.specs.Go.{named, others, unmarked};
 ghost use Rattle.cq_lex_go.specs.Words.{IsName, is_letter};

@@ -7,8 +7,7 @@ use Rattle.cq_munch.specs.Table.{table, begins}
 use Rattle.cq_munch.specs.declared.element.Found.{Found}
 use Rattle.cq_munch.specs.declared.element.Spell.TheVariants.{Blank}
 use Rattle.cq_munch.specs.declared.ends.LineEnds.TheVariants.{ReturnOrFeed}
-use Rattle.cq_munch.proofs.Dispatch.{no_comment}
-use Rattle.cq_munch.proofs.Joining.{takes_first, takes_rest, one_row_taken}
+use Rattle.cq_munch.proofs.Joining.{takes_first, takes_rest, one_row_taken, no_comment}
 use Rattle.cq_lex_java.specs.Blocks.{opens}
 use Rattle.cq_lex_java.specs.Java.{rows, text_blocks, ends, opens_text, opens_end, with_end, with_texts, unmarked}
 use Rattle.cq_lex_java.specs.Openers.{is_end}

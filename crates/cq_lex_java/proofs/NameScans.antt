@@ -6,7 +6,7 @@ use Rattle.std.specs.Int.{is_in_range}
 use Rattle.std.specs.List.{AllByRecursion}
 use Rattle.std.proofs.lemmas.Bool.{or_from, both_ways}
 use Rattle.cq_munch.specs.Characters.{characters}
-use Rattle.cq_munch.specs.Fronts.{starts}
+use Rattle.cq_munch.specs.Table.{starts}
 use Rattle.cq_munch.specs.Lexed.{unit_at}
 use Rattle.cq_munch.specs.Longest.{LongestAt}
 use Rattle.cq_munch.specs.Scans.{Scanned}

@@ -2,12 +2,11 @@
 -- each spelling.
 use Rattle.std.proofs.Common.{◌≡◌, ℕ, true, false, List, [], ◌∷◌, ◌↔◌, refl, ⊎_elim}
 use Rattle.cq_munch.specs.Automata.{Tables, row_fits, rows_fit, fits}
-use Rattle.cq_munch.specs.Fronts.{starts}
 use Rattle.cq_munch.specs.Language.{HasOneKind}
 use Rattle.cq_munch.specs.Pattern.{Spells}
 use Rattle.cq_munch.specs.Quotes.{quoted}
 use Rattle.cq_munch.specs.Patterned.{patterns_of, AreRowsOf}
-use Rattle.cq_munch.specs.Table.{InTable, table}
+use Rattle.cq_munch.specs.Table.{InTable, table, starts}
 use Rattle.cq_munch.specs.declared.element.Spell.{Spell}
 use Rattle.cq_munch.specs.declared.ends.LineEnds.TheVariants.{ReturnOrFeed}
 use Rattle.cq_munch.specs.declared.quoted.Quote.TheVariants.{Double, Single}

@@ -1,6 +1,6 @@
 ghost use Rattle.std.specs.Prelude.{◌≡◌, ◌↔◌, IsTrue};
 ghost use Rattle.cq_munch.specs.Characters.{characters};
-ghost use Rattle.cq_munch.specs.Fronts.{starts};
+ghost use Rattle.cq_munch.specs.Table.{starts};
 ghost use Rattle.cq_munch.specs.Longest.{LongestAt, IsAmong};
 ghost use Rattle.cq_lex_java.specs.AsciiNames.{begins_ascii, continues_ascii};
 ghost use Rattle.cq_lex_java.specs.Words.{IsIdentifier, begins_identifier, continues_identifier, keywords};

@@ -137,8 +137,3 @@ LongestAt-same S T same text (Some n) h = record {
   spelled = (same _).0 h.spelled;
   longest = λ m more within spelled. h.longest m more within ((same _).1 spelled);
 }
-
--- what was told of the first unit's character
-pub told_front : {F : Type 0} (front : ℕ → F) (units : List Unit) → 0 < length units → (told f : F) → told ≡ front (get_or units 0 (record { ch = 0; start = 0; len = 0 })).ch → told ≡ f
-    → front (get_or (map (λ (u : Unit). u.ch) units) 0 0) ≡ f
-told_front front units some told f is same = ap front (ch_at units 0 some) ∙ sym is ∙ same

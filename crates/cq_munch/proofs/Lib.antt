@@ -15,7 +15,6 @@ pub mod Texts
 pub mod Decoding
 pub mod Elements
 pub mod Joining
-pub mod Dispatch
 pub mod OneKind
 pub mod RowScans
 pub mod Seen

@@ -5,17 +5,15 @@ use Rattle.std.proofs.lemmas.Bool.{eqb-true, leb-true, le-leb, cases_lt, and_par
 use Rattle.std.proofs.lemmas.List.{get_or_past, length-map}
 use Rattle.cq_munch.specs.Automata.{Tables, class_at, entry_at, row_from, row_of, HasRow, RowAt, or_else, rows_fit, fits}
 use Rattle.cq_munch.specs.Behind.{SpellsAny, each_below}
-use Rattle.cq_munch.specs.Fronts.{starts}
 use Rattle.cq_munch.specs.Language.{Takes}
-use Rattle.cq_munch.specs.Longest.{LongestAt, IsAmong}
+use Rattle.cq_munch.specs.Longest.{IsAmong}
 use Rattle.cq_munch.specs.Pattern.{in_ranges, Pattern, Spells}
 use Rattle.cq_munch.specs.Patterned.{one_word, any_word, Patterned, spells_of, patterns_of, rows_of, AreRowsOf, begins_none}
-use Rattle.cq_munch.specs.Table.{Row, InTable, table}
+use Rattle.cq_munch.specs.Table.{Row, InTable, table, starts}
 use Rattle.cq_munch.specs.declared.element.Found.{Found}
 use Rattle.cq_munch.specs.declared.element.Spell.{Spell}
 use Rattle.cq_munch.specs.declared.element.Spell.TheVariants.{Blank}
 use Rattle.cq_munch.proofs.Fitting.{or_else-cases, row_is, none_past, first_fits, rest_fit, has_row}
-use Rattle.cq_munch.proofs.Front.{LongestAt-same}
 use Rattle.cq_munch.proofs.Joining.{narrowed, in_append, append_in}
 use Rattle.cq_munch.proofs.OneKind.{OneKind}
 use Rattle.cq_munch.proofs.Tables.{below_each}
@@ -50,9 +48,6 @@ any_word_spelled (w ∷ ws) s h = ⊎_elim (λ own. inl (word_spelled w s own)) 
 
 pub words_are : (ws : List (List ℕ)) (s : List ℕ) → IsAmong ws s ↔ Spells (any_word ws) s
 words_are ws s = (spells_any_word ws s, any_word_spelled ws s)
-
-pub word_there : (ws : List (List ℕ)) (text : List ℕ) (r : Option ℕ) → LongestAt (Spells (any_word ws)) text r → LongestAt (IsAmong ws) text r
-word_there ws text r h = LongestAt-same (Spells (any_word ws)) (IsAmong ws) (λ s. (any_word_spelled ws s, spells_any_word ws s)) text r h
 
 -- ---- rows by patterns
 

@@ -5,28 +5,6 @@ use Rattle.std.specs.List.{list_all, AllByRecursion}
 use Rattle.std.specs.Prelude.{IsTrue}
 use Rattle.cq_munch.specs.Longest.{IsAmong}
 
--- a word is among others
-unfoldable pub same_word : List ℕ → List ℕ → Bool
-same_word [] [] = true
-same_word (c ∷ v) (d ∷ w) = (c == d) && same_word v w
-same_word _ _ = false
-
-unfoldable pub has_word : List ℕ → List (List ℕ) → Bool
-has_word v [] = false
-has_word v (w ∷ ws) = same_word v w || has_word v ws
-
-same_word-is : (v w : List ℕ) → same_word v w ≡ true → v ≡ w
-unfolding same_word
-same_word-is [] [] h = refl
-same_word-is [] (d ∷ w) h = absurd (cc)
-same_word-is (c ∷ v) [] h = absurd (cc)
-same_word-is (c ∷ v) (d ∷ w) h = ap₂ ◌∷◌ (eqb-true c d (and_parts _ _ h).0) (same_word-is v w (and_parts (c == d) _ h).1)
-
-pub has_word-among : (v : List ℕ) (ws : List (List ℕ)) → has_word v ws ≡ true → IsAmong ws v
-unfolding has_word
-has_word-among v [] h = absurd (cc)
-has_word-among v (w ∷ ws) h = ⊎_elim (λ e. inl (same_word-is v w e)) (λ k. inr (has_word-among v ws k)) (or_cases _ _ h)
-
 -- what each word of a list passes, one of them passes
 pub among_passes : (ws : List (List ℕ)) (test : List ℕ → Bool) (s : List ℕ) → list_all test ws ≡ true → IsAmong ws s → test s ≡ true
 among_passes [] test s h among = absurd among

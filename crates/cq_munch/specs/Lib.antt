@@ -14,7 +14,6 @@ pub mod Language
 pub mod Table
 pub mod Patterned
 pub mod Commented
-pub mod Fronts
 pub mod ListingMarks
 pub mod Lexed
 pub mod OneAnswer

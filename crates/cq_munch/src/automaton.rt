@@ -1,8 +1,6 @@
-ghost use Rattle.std.specs.Prelude.{◌≡◌, ℕ, suc, ◌-◌, ◌<◌, ◌^◌, IfNone, IfSome, List, [], ◌∷◌, length, slice_index_or, true};
-ghost use Rattle.cq_munch.specs.Automata.{class_at, fits, RowAt, tables_of};
+ghost use Rattle.std.specs.Prelude.{◌≡◌, ℕ, suc, ◌-◌, ◌<◌, ◌^◌, IfNone, IfSome, List, [], length, slice_index_or};
+ghost use Rattle.cq_munch.specs.Automata.{class_at, RowAt, tables_of};
 ghost use Rattle.cq_munch.specs.Characters.{seen_by};
-ghost use Rattle.cq_munch.specs.Longest.{LongestAt};
-ghost use Rattle.cq_munch.specs.Pattern.{Pattern, Spells};
 ghost use Rattle.cq_munch.specs.Language.{Takes};
 ghost use Rattle.cq_munch.specs.Patterned.{FitsRows, Patterned, rows_of};
 ghost use Rattle.cq_munch.specs.Table.{table};
@@ -116,19 +114,8 @@ fn longest_row<S: StandIn>(by: Automaton<'_>, units: &[Unit]) -> Option<(usize, 
     found
 }
 
-/// How many units the longest spelling of a pattern at the front has, by a table that fits it. That it fits is computed:
-/// for each state there is a text that leads to it, and each step leaves what the pattern leaves.
-pub fn longest_by<S: StandIn>(by: Automaton<'_>, units: &[Unit]) -> Option<usize>
-    ensures { (p : Pattern) (texts : List (List ℕ)) → fits (p ∷ []) texts (tables_of by.entry) ≡ true
-        → LongestAt (Spells p) (seen_by S.stood units.now) result }
-{
-    match longest_row::<S>(by, units) {
-        Some((len, _)) => Some(len),
-        None => None,
-    }
-}
-
-/// The longest element at the front of the rows that a table fits; `spells` has what each row is.
+/// The longest element at the front of the rows that a table fits; `spells` has what each row is. That it fits is computed:
+/// for each state there is a text that leads to it, and each step leaves what the patterns leave.
 pub fn longest_found<S: StandIn>(
     by: Automaton<'_>,
     spells: &[Spell],

@@ -22,7 +22,7 @@ mod spelling;
 mod unit;
 mod words;
 
-pub use automaton::{Automaton, Itself, StandIn, longest_by, longest_found};
+pub use automaton::{Automaton, Itself, StandIn, longest_found};
 pub use comment::{longest_block_comment, longest_line_comment, opens_comment};
 pub use element::{Found, Spell};
 pub use ends::LineEnds;

@@ -2,8 +2,7 @@ use Rattle.std.proofs.Common.{[], ◌∷◌, sym, ◌∙◌}
 use Rattle.cq_munch.specs.Characters.{characters}
 use Rattle.cq_munch.specs.Table.{table}
 use Rattle.cq_munch.specs.declared.ends.LineEnds.TheVariants.{Feed}
-use Rattle.cq_munch.proofs.Dispatch.{no_comment}
-use Rattle.cq_munch.proofs.Joining.{row_more}
+use Rattle.cq_munch.proofs.Joining.{row_more, no_comment}
 use Rattle.cq_lex_c.specs.C.{rows, texts, prefixed, unquoted}
 use Rattle.cq_lex_c.proofs.element.element.Goals as goal
 

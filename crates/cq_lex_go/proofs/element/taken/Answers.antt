@@ -2,7 +2,7 @@ use Rattle.std.proofs.Common.{sym, ◌∙◌}
 use Rattle.cq_munch.specs.Characters.{characters}
 use Rattle.cq_munch.specs.Table.{table}
 use Rattle.cq_munch.specs.declared.ends.LineEnds.TheVariants.{Feed}
-use Rattle.cq_munch.proofs.Dispatch.{no_comment}
+use Rattle.cq_munch.proofs.Joining.{no_comment}
 use Rattle.cq_munch.proofs.RowScans.{at_letter, at_other}
 use Rattle.cq_lex_go.specs.Go.{named, others, rows}
 use Rattle.cq_lex_go.specs.OneKind.{letters, no_letters}
