@@ -90,12 +90,12 @@ a_line_feed_ends_the_directive e = omega (arith, e)
 -- `\u123`
 pub a_universal_name_has_four_digits : IsIdentifier (92 ∷ 117 ∷ 49 ∷ 50 ∷ 51 ∷ []) → ⊥
 unfolding identifier
-a_universal_name_has_four_digits h = let e = spelled_word (92 ∷ 117 ∷ 49 ∷ 50 ∷ 51 ∷ []) (identifier ∷ []) (inl h) in is_true e
+a_universal_name_has_four_digits h = is_false (spelled_word (92 ∷ 117 ∷ 49 ∷ 50 ∷ 51 ∷ []) (identifier ∷ []) (inl h))
 
 -- `1+`
 pub a_sign_goes_on_only_behind_an_exponent : IsNumber (codes "1+") → ⊥
 unfolding number
-a_sign_goes_on_only_behind_an_exponent h = let e = spelled_word (codes "1+") (number ∷ []) (inl h) in is_true e
+a_sign_goes_on_only_behind_an_exponent h = is_false (spelled_word (codes "1+") (number ∷ []) (inl h))
 
 -- `1e+5`
 pub a_sign_goes_on_behind_an_exponent : LongestAt IsNumber (codes "1e+5") (Some 2) → ⊥
