@@ -6,6 +6,7 @@ pub mod Steps
 pub mod Tables
 pub mod Fitting
 pub mod Rowed
+pub mod PlainScans
 pub mod WordLists
 pub mod Reserved
 pub mod QuoteSteps

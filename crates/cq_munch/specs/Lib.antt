@@ -13,6 +13,7 @@ pub mod Characters
 pub mod Language
 pub mod Table
 pub mod Patterned
+pub mod PlainNames
 pub mod Commented
 pub mod ListingMarks
 pub mod Lexed
