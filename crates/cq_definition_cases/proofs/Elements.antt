@@ -1,6 +1,6 @@
 -- Elements, marks and semicolons that the languages refuse.
 use Rattle.std.specs.Str.{bytes_eq}
-use Rattle.std.specs.Prelude.{not, IsFalse, ◌≡◌, ℕ, true, false, Some, Ok, List, [], ◌∷◌, length, codes}
+use Rattle.std.specs.Prelude.{not, IsFalse, ◌≡◌, ◌==◌, ◌||◌, ℕ, true, false, Some, Ok, List, [], ◌∷◌, length, codes}
 use Rattle.std.proofs.Common.{arith, ap, refl, inl, ⊎_elim}
 use Rattle.cq_base.specs.declared.token.Class.TheVariants as class
 use Rattle.cq_base.specs.declared.token.Mark.{Mark}
@@ -21,11 +21,12 @@ use Rattle.cq_munch.specs.declared.ends.LineEnds.TheVariants as ends
 use Rattle.cq_munch.specs.declared.munching.Lexed.TheVariants as lexed
 use Rattle.cq_munch.specs.declared.quoted.Quote.TheVariants as quotes
 use Rattle.cq_munch.specs.declared.unit.Unit.{Unit}
+use Rattle.ucd_derived.proofs.BinaryLemmas.{is_xid_continue_stepped}
+use Rattle.ucd_table.proofs.Computing.{tables}
+use Rattle.ucd_table.proofs.Facts.{Stepped-below}
 use Rattle.unicode_ident.specs.Ident.{is_xid_continue}
 use Rattle.cq_lex_any.specs.Any.{any}
-use Rattle.cq_lex_c.specs.Ascii.{continues_below}
 use Rattle.cq_lex_c.specs.C.{mode_behind}
-use Rattle.cq_lex_c.specs.Characters.{continues_identifier}
 use Rattle.cq_lex_c.specs.Headers.{IsHeaderAt}
 use Rattle.cq_lex_c.specs.Identifiers.{IsIdentifier, identifier}
 use Rattle.cq_lex_c.specs.Numbers.{IsNumber, number}
@@ -69,8 +70,8 @@ a_byte_order_mark_is_no_token h = let e = h.0 in cc
 
 -- a digit begins no identifier and goes on in one
 pub a_digit_goes_on_in_a_run : IsFalse (is_xid_continue 49) → ⊥
-unfolding continues_identifier
-a_digit_goes_on_in_a_run ends = let goes : continues_identifier 49 ≡ true = continues_below 49 (omega arith) in cc
+unfolding tables is_xid_continue_stepped
+a_digit_goes_on_in_a_run ends = let goes : is_xid_continue 49 ≡ true = Stepped-below is_xid_continue is_xid_continue_stepped (λ d b. not (d == 49) || b) 50 refl 49 (omega arith) in cc
 
 -- a text whose tokens are so many, whatever they are
 module _ (lang : Language) (completed : List ℕ → List Spelled → List Spelled) (bytes : List ℕ) where

@@ -5,6 +5,5 @@ pub mod Splicing
 pub mod HeaderNames
 pub mod Fitting
 pub mod Elements
-pub mod NameScans
 pub mod Blanks
 pub mod OpenComments

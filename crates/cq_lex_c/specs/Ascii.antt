@@ -1,26 +1,12 @@
--- That the characters of ASCII which begin and continue an identifier are these, and that each keyword is one.
+-- What stands for a character, and that each keyword is an identifier.
 use Rattle.std.proofs.Common.{◌≡◌, ℕ, ◌<◌, ◌≤◌, Bool, true, false, ◌||◌, ◌==◌, nat_lt, if◌then◌else◌, List, [], ◌∷◌, map, refl, ap, subst, sym, ◌∙◌, ⊎_elim, arith}
 use Rattle.std.proofs.lemmas.Bool.{lt-ltb, le-ltb, cases_lt}
-use Rattle.std.specs.Bool.{beq}
-use Rattle.ucd_table.proofs.Computing.{tables}
-use Rattle.ucd_table.proofs.Facts.{Stepped-below, same_from_beq}
-use Rattle.ucd_derived.proofs.BinaryLemmas.{is_xid_start_stepped, is_xid_continue_stepped}
-use Rattle.unicode_ident.specs.Ident.{is_xid_start, is_xid_continue}
 use Rattle.cq_munch.specs.Behind.{any_takes_empty}
 use Rattle.cq_munch.specs.Longest.{IsAmong}
 use Rattle.cq_munch.proofs.Steps.{behind_word, word_if}
 use Rattle.cq_munch.proofs.WordLists.{among_passes}
-use Rattle.cq_lex_c.specs.AsciiNames.{begins_ascii, continues_ascii}
 use Rattle.cq_lex_c.specs.Characters.{begins_identifier, continues_identifier, stood}
 use Rattle.cq_lex_c.specs.Identifiers.{identifier, IsIdentifier, keywords}
-
-pub begins_below : (c : ℕ) → c < 128 → begins_identifier c ≡ begins_ascii c
-unfolding tables begins_identifier is_xid_start_stepped
-begins_below c below = same_from_beq _ _ (Stepped-below is_xid_start is_xid_start_stepped (λ d b. beq ((b || (d == 95)) || (d == 36)) (begins_ascii d)) 128 refl c below)
-
-pub continues_below : (c : ℕ) → c < 128 → continues_identifier c ≡ continues_ascii c
-unfolding tables continues_identifier is_xid_continue_stepped
-continues_below c below = same_from_beq _ _ (Stepped-below is_xid_continue is_xid_continue_stepped (λ d b. beq (b || (d == 36)) (continues_ascii d)) 128 refl c below)
 
 -- ---- what stands for a character
 

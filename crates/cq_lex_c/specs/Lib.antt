@@ -1,5 +1,4 @@
 pub mod Characters
-pub mod AsciiNames
 pub mod Splices
 pub mod Staying
 pub mod Identifiers

@@ -12,12 +12,12 @@ ghost use Rattle.cq_lex_c.specs.Texts.{IsText, IsPrefixed};
 
 use crate::characters::Seen;
 use crate::header::longest_header;
-use crate::identifier::{is_keyword, plain_identifier};
-use crate::scanner::{CLASSES, ENDS, SPELLS, STEPS};
+use crate::identifier::is_keyword;
+use crate::scanner::{CLASSES, ENDS, NAMES, SPELLS, STEPS};
 use cq_base::Class;
 use cq_munch::{
     Automaton, Found, LineEnds, Spell, Unit, better, found_of, longest_block_comment,
-    longest_found, longest_line_comment, opens_comment,
+    longest_found, longest_line_comment, opens_comment, plain_name,
 };
 
 /// Whether the character is a blank.
@@ -44,7 +44,7 @@ fn scan(units: &[Unit], mode: u8) -> Option<Found>
         steps: &STEPS,
         ends: &ENDS,
     };
-    match plain_identifier(units) {
+    match plain_name(&NAMES, units) {
         Some(len) => found_of(Spell::Token(Class::Ident), mode, Some(len)),
         None => longest_found::<Seen>(by, &SPELLS, mode, units),
     }

@@ -1,52 +1,9 @@
-ghost use Rattle.std.specs.Prelude.{◌≡◌, Some, ◌↔◌, ◌==◌, ◌||◌, not, nat_lt, IsTrue, IfSome};
-ghost use Rattle.cq_munch.specs.Automata.{RowAt};
-ghost use Rattle.cq_munch.specs.Characters.{characters, seen_by};
-ghost use Rattle.cq_munch.specs.Table.{starts};
+ghost use Rattle.std.specs.Prelude.{◌↔◌, IsTrue};
+ghost use Rattle.cq_munch.specs.Characters.{characters};
 ghost use Rattle.cq_munch.specs.Longest.{IsAmong};
-ghost use Rattle.cq_lex_c.specs.AsciiNames.{begins_ascii};
-ghost use Rattle.cq_lex_c.specs.Characters.{stood};
 ghost use Rattle.cq_lex_c.specs.Identifiers.{keywords};
-ghost use Rattle.cq_lex_c.specs.OneKind.{scanner};
 
-use crate::characters::{begins_ascii, continues_ascii};
 use cq_munch::{Unit, is_listed_by_letter};
-
-// Whether a character of ASCII at the front begins an identifier.
-fn begins_plainly(units: &[Unit]) -> bool
-    ensures { result ≡ starts begins_ascii (characters units.now) }
-{
-    match units {
-        [first, ..] => begins_ascii(first.ch),
-        [] => false,
-    }
-}
-
-// Whether the table has to decide about the character: a backslash, or one past ASCII.
-fn may_go_on(ch: char) -> bool
-    ensures { result ≡ ((ch == 92) || not (nat_lt ch 128)) }
-{
-    ch == '\\' || !ch.is_ascii()
-}
-
-/// The identifier at the front, if all its characters are ASCII and none is a backslash: what the table would find, which
-/// looks up more for a character.
-pub(crate) fn plain_identifier(units: &[Unit]) -> Option<usize>
-    ensures { IfSome result (λ len. RowAt scanner (seen_by stood units.now) (Some (len, 0))) }
-{
-    if !begins_plainly(units) {
-        return None;
-    }
-    for at in 1..units.len() {
-        let ch = units[at].ch;
-        if !continues_ascii(ch) {
-            if !may_go_on(ch) {
-                return Some(at);
-            }
-            return None;
-        }
-    }
-    Some(units.len())
-}
 
 // The 44 keywords by their first letter.
 const RESERVED: [&[&[u8]]; 27] = [
