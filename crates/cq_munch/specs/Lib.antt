@@ -14,6 +14,7 @@ pub mod Language
 pub mod Table
 pub mod Patterned
 pub mod PlainNames
+pub mod Scanners
 pub mod Commented
 pub mod ListingMarks
 pub mod Lexed

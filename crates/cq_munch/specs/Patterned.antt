@@ -4,7 +4,7 @@ use Rattle.cq_munch.specs.Automata.{Tables, entry_at, fits, or_else}
 use Rattle.cq_munch.specs.Behind.{each_below}
 use Rattle.cq_munch.specs.Pattern.{Pattern, never, empty, ◌▸◌, ◌∣◌, only, Spells}
 use Rattle.cq_munch.specs.Longest.{IsAmong}
-use Rattle.cq_munch.specs.Table.{Row, InTable}
+use Rattle.cq_munch.specs.Table.{Row}
 use Rattle.cq_munch.specs.declared.element.Spell.{Spell}
 use Rattle.cq_munch.specs.declared.element.Spell.TheVariants.{Token}
 use Rattle.cq_base.specs.declared.token.Class.TheVariants.{Ident, Word}
@@ -39,17 +39,15 @@ AreRowsOf [] [] = ⊤
 AreRowsOf (row ∷ rows) (p ∷ ps) = (row.spell ≡ p.0) × ((s : List ℕ) → row.set s ↔ Spells p.1 s) × AreRowsOf rows ps
 AreRowsOf _ _ = ⊥
 
--- the same rows, by how a table sees their spellings
-abbrev pub AreSeen : (ℕ → ℕ) → List Row → Patterned → Type 0
-AreSeen stood rows ps = (spell : Spell) (s : List ℕ) → InTable rows spell s ↔ InTable (rows_of ps) spell (map stood s)
+-- the same by what stands for their characters
+abbrev pub rows_seen : (ℕ → ℕ) → Patterned → List Row
+rows_seen stood [] = []
+rows_seen stood (row ∷ rows) = record { spell = row.0; set = λ s. Spells row.1 (map stood s) } ∷ rows_seen stood rows
 
--- names, and other rows
-abbrev pub with_names : (List ℕ → Type 0) → List Row → List Row
-with_names set others = record { spell = Token Ident; set = set } ∷ others
-
--- the same, if some of the names are reserved words
-abbrev pub with_reserved : (List ℕ → Type 0) → List (List ℕ) → List Row → List Row
-with_reserved set words others = record { spell = Token Ident; set = λ s. set s × (IsAmong words s → ⊥) } ∷ record { spell = Token Word; set = IsAmong words } ∷ others
+-- names, some of which are reserved words, and other rows
+abbrev pub with_reserved : (ℕ → ℕ) → Pattern → List (List ℕ) → Patterned → List Row
+with_reserved stood name words others =
+    record { spell = Token Ident; set = λ s. Spells name (map stood s) × (IsAmong words s → ⊥) } ∷ record { spell = Token Word; set = IsAmong words } ∷ rows_seen stood others
 
 -- the table finds just the spellings of these rows, in this order, and what they are
 abbrev pub FitsRows : Patterned → List (List ℕ) → List Spell → Tables → Type 0

@@ -32,7 +32,7 @@ pub use machine::{Machine, longest_spelling, longest_spelling_from};
 pub use mark::is_mark;
 pub use marking::the_last_word_counts;
 pub use munching::{Lexed, munch, one_answer};
-pub use names::plain_name;
+pub use names::named_found;
 pub use plain::plain_units;
 pub use quoted::{Quote, scan_quoted};
 pub use rows::{better, found_of};

@@ -1,0 +1,21 @@
+use Rattle.std.proofs.Common.{◌<◌, length, refl, sym, ap, subst, ◌∷◌, ◌∙◌, get_or, arith}
+use Rattle.std.proofs.lemmas.List.{length-map}
+use Rattle.cq_base.specs.declared.token.Class.TheVariants.{Ident}
+use Rattle.cq_munch.specs.Automata.{tables_of}
+use Rattle.cq_munch.specs.Characters.{seen_by}
+use Rattle.cq_munch.specs.Language.{Takes}
+use Rattle.cq_munch.specs.Patterned.{rows_of}
+use Rattle.cq_munch.specs.Table.{table}
+use Rattle.cq_munch.specs.declared.element.Spell.TheVariants.{Token}
+use Rattle.cq_munch.proofs.RowScans.{one_there}
+use Rattle.cq_munch.proofs.names.row_found.Goals as goal
+
+pub returns-in-Some : goal.returns-in-Some
+returns-in-Some g c = λ name words others is at.
+    let text = seen_by g.S.StandIn.stood c.args.units.now in
+    let row = c.in-Some.ensures (tables_of c.args.by) is.state 0 g.S.StandIn.stood is.plain is.itself in
+    subst (Takes (table (rows_of ((Token Ident, name) ∷ others))) at c.args.mode text) (sym c.found_of.ensures)
+    (one_there ((Token Ident, name) ∷ others) is.texts (tables_of c.args.by) is.fits.1 c.args.spells.now is.fits.0 at c.args.mode text c.in-Some.len 0 (Token Ident) row (ap (λ v. get_or v 0 (Token Ident)) is.fits.0))
+
+pub returns-in-None : goal.returns-in-None
+returns-in-None g c = λ name words others is at. c.longest_found.ensures ((Token Ident, name) ∷ others) is.texts is.fits at
