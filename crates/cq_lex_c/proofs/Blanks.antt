@@ -7,8 +7,6 @@ use Rattle.cq_munch.specs.Automata.{entry_at}
 use Rattle.cq_munch.specs.Characters.{characters}
 use Rattle.cq_munch.specs.Language.{Takes, marked}
 use Rattle.cq_munch.specs.Lexed.{unit_at}
-use Rattle.cq_munch.specs.Longest.{IsAmong}
-use Rattle.cq_munch.specs.Patterned.{with_names}
 use Rattle.cq_munch.specs.Table.{begins, table}
 use Rattle.cq_munch.specs.declared.element.Found.{Found}
 use Rattle.cq_munch.specs.declared.element.Spell.TheVariants.{Blank}
@@ -18,18 +16,17 @@ use Rattle.cq_munch.proofs.Blanks.{no_mark, from_unit}
 use Rattle.cq_munch.proofs.CharacterTests.{apart_by, low_by}
 use Rattle.cq_munch.proofs.Joining.{row_more, takes_rest, no_comment}
 use Rattle.cq_munch.proofs.Marks.{takes_unmarked}
-use Rattle.cq_munch.proofs.Reserving.{unless_reserved, one_reserved}
+use Rattle.cq_munch.proofs.Reserving.{free_taken}
 use Rattle.cq_munch.proofs.RowScans.{alone, one_there}
-use Rattle.cq_munch.proofs.Seen.{taken_seen}
 use Rattle.cq_munch.proofs.Tables.{below_each}
-use Rattle.cq_lex_c.specs.Ascii.{stood_low, keyword_is_identifier}
+use Rattle.cq_lex_c.specs.Ascii.{stood_low}
 use Rattle.cq_lex_c.specs.C.{is_blank, no_names, unquoted, rows, texts as text_row, prefixed, headers, opens_header, with_comments, unmarked, moded, mode_behind}
 use Rattle.cq_lex_c.specs.Characters.{stood}
 use Rattle.cq_lex_c.specs.Headers.{closes, has_header}
-use Rattle.cq_lex_c.specs.Identifiers.{IsIdentifier, keywords}
-use Rattle.cq_lex_c.specs.OneKind.{scanner, scanner_fits, are_seen}
+use Rattle.cq_lex_c.specs.Identifiers.{identifier, keywords}
+use Rattle.cq_lex_c.specs.OneKind.{scanner, scanner_fits, is_scanner}
 use Rattle.cq_lex_c.specs.Scanner.{scanned, texts}
-use Rattle.cq_lex_c.specs.declared.scanner.TheConstants.{SPELLS}
+use Rattle.cq_lex_c.specs.declared.scanner.TheConstants.{NAMES, SPELLS}
 use Rattle.cq_lex_c.proofs.Elements.{with_mode}
 use Rattle.cq_lex_c.proofs.Fitting.{text_none, prefixed_none}
 
@@ -45,6 +42,9 @@ leads c is =
     let low = low_by is_blank blank_past c is in
     ap (entry_at scanner 0) (stood_low c low)
     ∙ eqb-true (entry_at scanner 0 c) (suc blank) (or-implies (is_blank c) (entry_at scanner 0 c == suc blank) (below_each 128 (λ d. not (is_blank d) || (entry_at scanner 0 d == suc blank)) refl c low) is)
+
+is_false : false ≡ true → ⊥
+is_false e = cc
 
 -- the element of one
 abbrev pub one_blank : ℕ → Found
@@ -64,15 +64,10 @@ module _ (at mode c : ℕ) (text : List ℕ) (is : is_blank c ≡ true) where
       and_right (mode == 2) (has_header (c ∷ text))
       (ap (λ b. cond b (closes 62 false text) ((c == 34) && closes 34 false text)) (apart_by is_blank 60 refl c is) ∙ ap (λ b. b && closes 34 false text) (apart_by is_blank 34 refl c is))
 
-  named : Takes (table (with_names IsIdentifier no_names)) at mode (c ∷ text) (Some (one_blank mode))
-  named =
-      taken_seen stood (with_names IsIdentifier no_names) scanned are_seen at mode (c ∷ text) (Some (one_blank mode))
-      (one_there scanned texts scanner scanner_fits SPELLS refl at mode (map stood (c ∷ text)) 1 1 Blank (alone scanner (stood c) blank 1 (map stood text) (leads c is) refl refl) refl)
-
   without_quotes : Takes (table unquoted) at mode (c ∷ text) (Some (one_blank mode))
   without_quotes =
-      one_reserved IsIdentifier keywords no_names keyword_is_identifier at mode (c ∷ text) (one_blank mode) Blank
-      (unless_reserved IsIdentifier keywords no_names keyword_is_identifier Blank (c ∷ []) (λ e among. let no = e in cc) named.1) named
+      free_taken stood identifier keywords no_names NAMES SPELLS scanner is_scanner at mode (c ∷ text) (one_blank mode) (λ e among. is_false e)
+      (one_there scanned texts scanner scanner_fits SPELLS refl at mode (map stood (c ∷ text)) 1 1 Blank (alone scanner (stood c) blank 1 (map stood text) (leads c is) refl refl) refl)
 
   blank_unmoded : Takes unmarked at mode (c ∷ text) (Some (one_blank mode))
   blank_unmoded =

@@ -7,18 +7,9 @@ use Rattle.std.proofs.lemmas.Slice.Eq.{bytes_eq-Decides}
 use Rattle.cq_base.proofs.Bools.{MatchBool-from_false, MatchBool-from_true}
 use Rattle.cq_munch.specs.declared.element.Found.{Found}
 use Rattle.cq_munch.specs.Language.{Language, Takes}
-use Rattle.cq_munch.specs.Characters.{characters, seen_by}
 use Rattle.cq_munch.specs.Longest.{IsLongest, LongestAt}
-use Rattle.cq_munch.specs.Patterned.{rows_of, with_names}
-use Rattle.cq_munch.specs.Table.{table}
-use Rattle.cq_munch.specs.declared.unit.Unit.{Unit}
-use Rattle.cq_munch.proofs.Seen.{seen_is, taken_seen}
-use Rattle.cq_lex_c.specs.Characters.{stood}
-use Rattle.cq_lex_c.specs.Identifiers.{IsIdentifier}
-use Rattle.cq_lex_c.specs.OneKind.{are_seen}
-use Rattle.cq_lex_c.specs.Scanner.{scanned}
 use Rattle.cq_munch.proofs.WordLists.{low_at}
-use Rattle.cq_lex_c.specs.C.{no_names, moded, mode_behind}
+use Rattle.cq_lex_c.specs.C.{moded, mode_behind}
 use Rattle.cq_lex_c.specs.Headers.{EndsAt, IsHeader, closes, has_header}
 
 pub matched : (b : Bool) (P Q : Type 0) → MatchBool b P Q → ((b ≡ true) × P) ⊎ ((b ≡ false) × Q)
@@ -29,11 +20,6 @@ pub include_is_short : (s : List ℕ) → bytes_eq s (codes "include") ≡ true 
 include_is_short s h =
     let is : s ≡ codes "include" = (bytes_eq-Decides s (codes "include")).0 h in
     subst (λ w. (length w ≤ 7) × All (λ c. c < 128) w) (sym is) (omega arith, low_at (codes "include") refl)
-
--- what the table takes, with its rows as they are
-pub named_at : (units : List Unit) (at mode : ℕ) (r : Option Found) → Takes (table (rows_of scanned)) at mode (seen_by stood units) r → Takes (table (with_names IsIdentifier no_names)) at mode (characters units) r
-named_at units at mode r h =
-    taken_seen stood (with_names IsIdentifier no_names) scanned are_seen at mode (characters units) r (subst (λ t. Takes (table (rows_of scanned)) at mode t r) (seen_is stood units) h)
 
 -- ---- header names
 

@@ -18,14 +18,16 @@ use Rattle.cq_base.specs.declared.token.Class.TheVariants.{Word}
 use Rattle.cq_munch.specs.Automata.{HasRow, row_of}
 use Rattle.cq_munch.proofs.Reserving.{unless_reserved}
 use Rattle.cq_munch.proofs.RowScans.{row_there}
+use Rattle.cq_munch.proofs.Seen.{in_seen}
 use Rattle.cq_munch.proofs.Tables.{below_each}
 use Rattle.cq_munch.proofs.WordLists.{among_passes}
-use Rattle.cq_lex_c.specs.Ascii.{stood_below, keyword_is_identifier}
+use Rattle.cq_lex_c.specs.Ascii.{stood_below}
 use Rattle.cq_lex_c.specs.C.{c, rows, no_names, unmarked, with_comments, opens_header}
 use Rattle.cq_lex_c.specs.Characters.{stood}
-use Rattle.cq_lex_c.specs.Identifiers.{IsIdentifier, keywords}
-use Rattle.cq_lex_c.specs.OneKind.{scanner, scanner_fits, are_seen}
+use Rattle.cq_lex_c.specs.Identifiers.{identifier, keywords}
+use Rattle.cq_lex_c.specs.OneKind.{scanner, scanner_fits, is_scanner}
 use Rattle.cq_lex_c.specs.Scanner.{scanned, texts}
+use Rattle.cq_lex_c.specs.declared.scanner.TheConstants.{NAMES, SPELLS}
 use Rattle.cq_lex_c.specs.Headers.{has_header}
 use Rattle.cq_lex_c.specs.OpenComments.{IsOpenComment}
 use Rattle.cq_lex_c.proofs.Elements.{header_not}
@@ -42,7 +44,7 @@ rowed d = ltb-true 0 (row_of scanner (stood d ∷ [])) (below_each 131 (λ n. na
 row_of_one : (d : ℕ) → (spell : Spell) × InTable rows spell (d ∷ [])
 row_of_one d =
     let row = row_there scanned texts scanner scanner_fits (stood d ∷ []) (rowed d) in
-    (row.0, inr (inr (unless_reserved IsIdentifier keywords no_names keyword_is_identifier row.0 (d ∷ []) (λ e among. no_keyword d among) ((are_seen row.0 (d ∷ [])).1 row.1))))
+    (row.0, inr (inr (unless_reserved stood identifier keywords no_names NAMES SPELLS scanner is_scanner row.0 (d ∷ []) (λ e among. no_keyword d among) ((in_seen stood scanned row.0 (d ∷ [])).1 row.1))))
 
 first_row : (text : List ℕ) → 0 < length text → (spell : Spell) × InTable rows spell (take 1 text)
 first_row [] some = absurd (omega arith)

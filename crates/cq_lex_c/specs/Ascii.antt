@@ -13,22 +13,19 @@ use Rattle.cq_lex_c.specs.Identifiers.{identifier, IsIdentifier, keywords}
 pub stood_low : (c : ℕ) → c < 128 → stood c ≡ c
 stood_low c low = ap (λ b. if b then c else (if begins_identifier c then 128 else (if continues_identifier c then 129 else 130))) (lt-ltb c 128 low)
 
-past : (b d : Bool) → (128 ≤ (if b then 128 else (if d then 129 else 130))) × ((if b then 128 else (if d then 129 else 130)) < 131)
-past true d = (omega arith, omega arith)
-past false true = (omega arith, omega arith)
-past false false = (omega arith, omega arith)
+past : (b d : Bool) → (if b then 128 else (if d then 129 else 130)) < 131
+past true d = omega arith
+past false true = omega arith
+past false false = omega arith
 
 stood_past : (c : ℕ) → 128 ≤ c → stood c ≡ (if begins_identifier c then 128 else (if continues_identifier c then 129 else 130))
 stood_past c high = ap (λ b. if b then c else (if begins_identifier c then 128 else (if continues_identifier c then 129 else 130))) (le-ltb c 128 high)
-
-pub stood_high : (c : ℕ) → 128 ≤ c → 128 ≤ stood c
-stood_high c high = subst (λ n. 128 ≤ n) (sym (stood_past c high)) (past (begins_identifier c) (continues_identifier c)).0
 
 pub stood_below : (c : ℕ) → stood c < 131
 stood_below c =
     ⊎_elim
     (λ low. subst (λ n. n < 131) (sym (stood_low c low)) (omega (arith, low)))
-    (λ high. subst (λ n. n < 131) (sym (stood_past c high)) (past (begins_identifier c) (continues_identifier c)).1)
+    (λ high. subst (λ n. n < 131) (sym (stood_past c high)) (past (begins_identifier c) (continues_identifier c)))
     (cases_lt c 128)
 
 -- ---- each keyword is an identifier

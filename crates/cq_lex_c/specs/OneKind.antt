@@ -1,33 +1,30 @@
 -- No spelling is of two kinds: the table finds one row for each spelling without quotes, and none for a text in quotes.
-use Rattle.std.proofs.Common.{◌≡◌, ℕ, ◌-◌, ◌<◌, Bool, true, false, List, [], ◌∷◌, ◌++◌, ◌↔◌, map, refl, sym, subst, ap, ◌∙◌, inl, inr, ⊎_elim, arith}
+use Rattle.std.proofs.Common.{◌≡◌, ℕ, ◌-◌, ◌<◌, Bool, true, false, List, [], ◌∷◌, ◌++◌, map, refl, sym, subst, ap, ◌∙◌, inl, inr, ⊎_elim, arith}
 use Rattle.std.proofs.lemmas.Bool.{eqb-true, both_ways}
-use Rattle.cq_base.specs.declared.token.Class.TheVariants.{Ident}
 use Rattle.cq_munch.specs.Automata.{Tables, entry_at, row_of, row_fits, rows_fit, fits}
 use Rattle.cq_munch.specs.Behind.{takes_empty}
 use Rattle.cq_munch.specs.Comments.{IsAfter}
 use Rattle.cq_munch.specs.Language.{HasOneKind}
-use Rattle.cq_munch.specs.Longest.{IsAmong}
 use Rattle.cq_munch.specs.Pattern.{Pattern, Spells, in_ranges, only, many, ◌▸◌}
-use Rattle.cq_munch.specs.Patterned.{any_word, patterns_of, AreSeen, with_names}
+use Rattle.cq_munch.specs.Patterned.{patterns_of}
+use Rattle.cq_munch.specs.PlainNames.{plain_fits}
 use Rattle.cq_munch.specs.Quotes.{quoted, item}
+use Rattle.cq_munch.specs.Scanners.{IsScanner}
 use Rattle.cq_munch.specs.Table.{InTable, table}
 use Rattle.cq_munch.specs.declared.element.Spell.{Spell}
-use Rattle.cq_munch.specs.declared.element.Spell.TheVariants.{Token}
 use Rattle.cq_munch.specs.declared.ends.LineEnds.TheVariants.{Feed, ReturnOrFeed}
 use Rattle.cq_munch.proofs.OneKind.{OneKind, one_more, of_table, of_first, of_commented, of_marked}
-use Rattle.cq_munch.proofs.Reserving.{unreserved, one_kind_reserved}
-use Rattle.cq_munch.proofs.RowScans.{one_kind, is_found, no_more}
-use Rattle.cq_munch.proofs.Seen.{words_seen, one_kind_seen}
+use Rattle.cq_munch.proofs.Reserving.{has_row, one_kind_reserved}
+use Rattle.cq_munch.proofs.RowScans.{no_more}
 use Rattle.cq_munch.proofs.Steps.{takes_empty-if}
-use Rattle.cq_lex_c.specs.Ascii.{stood_low, stood_high, keyword_is_identifier}
-use Rattle.cq_lex_c.specs.C.{c as c_language, rows, texts as text_row, prefixed, no_names, unquoted, other, blank_characters, headers, opens_header, with_comments, unmarked, moded}
+use Rattle.cq_lex_c.specs.Ascii.{stood_low, keyword_is_identifier}
+use Rattle.cq_lex_c.specs.C.{c as c_language, rows, texts as text_row, prefixed, no_names, unquoted, other, headers, opens_header, with_comments, unmarked, moded}
 use Rattle.cq_lex_c.specs.Characters.{stood}
-use Rattle.cq_lex_c.specs.Identifiers.{identifier, IsIdentifier, keywords}
+use Rattle.cq_lex_c.specs.Identifiers.{identifier, keywords}
 use Rattle.cq_lex_c.specs.Numbers.{number}
-use Rattle.cq_lex_c.specs.Punctuators.{punctuators}
 use Rattle.cq_lex_c.specs.Scanner.{scanned, texts}
 use Rattle.cq_lex_c.specs.Texts.{IsString, IsText, IsPrefixed}
-use Rattle.cq_lex_c.specs.declared.scanner.TheConstants.{CLASSES, STEPS, ENDS}
+use Rattle.cq_lex_c.specs.declared.scanner.TheConstants.{CLASSES, STEPS, ENDS, NAMES, SPELLS}
 
 abbrev pub scanner : Tables
 scanner = record { classes = CLASSES; steps = STEPS; ends = ENDS }
@@ -37,23 +34,20 @@ pub scanner_fits : fits (patterns_of scanned) texts scanner ≡ true
 unfolding fits rows_fit row_fits identifier number other
 scanner_fits = refl
 
-blanks_seen : (s : List ℕ) → IsAmong blank_characters s ↔ Spells (any_word blank_characters) (map stood s)
-blanks_seen s = words_seen stood stood_low stood_high blank_characters refl s
+plain_names : plain_fits NAMES scanner (entry_at scanner 0 97 - 1) 0 ≡ true
+unfolding plain_fits
+plain_names = refl
 
-marks_seen : (s : List ℕ) → IsAmong punctuators s ↔ Spells (any_word punctuators) (map stood s)
-marks_seen s = words_seen stood stood_low stood_high punctuators refl s
-
-pub are_seen : AreSeen stood (with_names IsIdentifier no_names) scanned
-are_seen spell s = (
-  λ h. ⊎_elim (λ name. inl name) (λ h. inr (⊎_elim (λ blank. inl (blank.0, (blanks_seen s).0 blank.1)) (λ h. inr (⊎_elim (λ number. inl number)
-      (λ h. inr (⊎_elim (λ mark. inl (mark.0, inl ((marks_seen s).0 mark.1))) (λ h. ⊎_elim (λ one. inl (one.0, inr one.1)) (λ none. absurd none) h) h)) h)) h)) h,
-  λ h. ⊎_elim (λ name. inl name) (λ h. inr (⊎_elim (λ blank. inl (blank.0, (blanks_seen s).1 blank.1)) (λ h. inr (⊎_elim (λ number. inl number)
-      (λ h. inr (⊎_elim (λ own. ⊎_elim (λ mark. inl (own.0, (marks_seen s).1 mark)) (λ one. inr (inl (own.0, one))) own.1) (λ none. absurd none) h)) h)) h)) h,
-)
-
-pub no_identifier : (s : List ℕ) → InTable no_names (Token Ident) s → ⊥
-no_identifier s h =
-    ⊎_elim (λ own. let e = own.0 in cc) (λ h. ⊎_elim (λ own. let e = own.0 in cc) (λ h. ⊎_elim (λ own. let e = own.0 in cc) (λ h. ⊎_elim (λ own. let e = own.0 in cc) (λ none. none) h) h) h) h
+pub is_scanner : IsScanner stood identifier keywords no_names NAMES SPELLS scanner
+is_scanner = record {
+  texts = texts;
+  state = entry_at scanner 0 97 - 1;
+  fits = (refl, scanner_fits);
+  plain = plain_names;
+  itself = stood_low;
+  words_named = keyword_is_identifier;
+  no_names = refl;
+}
 
 -- ---- texts in quotes, which no other row has
 
@@ -114,16 +108,13 @@ no_prefixed (c ∷ s) h =
 
 unrowed : (spell : Spell) (s : List ℕ) → NoRow s → InTable unquoted spell s → ⊥
 unrowed spell s none h =
-    let row = unreserved IsIdentifier keywords no_names keyword_is_identifier spell s h in
-    let found = is_found scanned texts scanner scanner_fits row.0 (map stood s) ((are_seen row.0 s).0 row.1) in
+    let found = has_row stood identifier keywords no_names NAMES SPELLS scanner is_scanner spell s h in
     omega (arith, none, found)
 
 one_kind_of_rows : OneKind rows
 one_kind_of_rows =
     one_more text_row (prefixed ∷ unquoted)
-    (one_more prefixed unquoted
-    (one_kind_reserved IsIdentifier keywords no_names keyword_is_identifier no_identifier (one_kind_seen stood (with_names IsIdentifier no_names) scanned are_seen (one_kind scanned texts scanner scanner_fits)))
-    (λ s b own h. absurd (unrowed b s (no_prefixed s own) h)))
+    (one_more prefixed unquoted (one_kind_reserved stood identifier keywords no_names NAMES SPELLS scanner is_scanner) (λ s b own h. absurd (unrowed b s (no_prefixed s own) h)))
     (λ s b own h. ⊎_elim (λ too. sym too.0) (λ h. absurd (unrowed b s (no_text s own).alone h)) h)
 
 pub one_kind_of_c : HasOneKind c_language

@@ -1,17 +1,14 @@
 -- The rows that one table scans: all without quotes, before keywords are told from identifiers. And a text that leads to each
 -- of its states but the first.
 use Rattle.std.specs.Prelude.{ℕ, List, [], ◌∷◌, codes}
-use Rattle.cq_base.specs.declared.token.Class.TheVariants.{Ident, Literal, Punct}
-use Rattle.cq_munch.specs.Pattern.{◌∣◌}
-use Rattle.cq_munch.specs.Patterned.{any_word, Patterned}
-use Rattle.cq_munch.specs.declared.element.Spell.TheVariants.{Blank, Token}
-use Rattle.cq_lex_c.specs.C.{blank_characters, other}
+use Rattle.cq_base.specs.declared.token.Class.TheVariants.{Ident}
+use Rattle.cq_munch.specs.Patterned.{Patterned}
+use Rattle.cq_munch.specs.declared.element.Spell.TheVariants.{Token}
+use Rattle.cq_lex_c.specs.C.{no_names}
 use Rattle.cq_lex_c.specs.Identifiers.{identifier}
-use Rattle.cq_lex_c.specs.Numbers.{number}
-use Rattle.cq_lex_c.specs.Punctuators.{punctuators}
 
 abbrev pub scanned : Patterned
-scanned = (Token Ident, identifier) ∷ (Blank, any_word blank_characters) ∷ (Token Literal, number) ∷ (Token Punct, any_word punctuators ∣ other) ∷ []
+scanned = (Token Ident, identifier) ∷ no_names
 
 -- written by bench/tables
 abbrev pub texts : List (List ℕ)

@@ -1,23 +1,20 @@
 ghost use Rattle.std.specs.Prelude.{◌≡◌, ◌<◌, ◌^◌, ◌&&◌, ◌==◌, ℕ, length, IsFalse, IfSome, IfNone};
-ghost use Rattle.cq_munch.specs.Characters.{characters, seen_by};
+ghost use Rattle.cq_munch.specs.Characters.{characters};
 ghost use Rattle.cq_munch.specs.Language.{Takes};
 ghost use Rattle.cq_munch.specs.Longest.{LongestAt};
-ghost use Rattle.cq_munch.specs.Patterned.{rows_of};
 ghost use Rattle.cq_munch.specs.Table.{table};
-ghost use Rattle.cq_lex_c.specs.C.{is_blank, is_name, unquoted, unmarked, with_comments};
-ghost use Rattle.cq_lex_c.specs.Characters.{stood};
+ghost use Rattle.cq_lex_c.specs.C.{is_blank, unquoted, unmarked, with_comments};
 ghost use Rattle.cq_lex_c.specs.Headers.{IsHeaderAt, has_header};
-ghost use Rattle.cq_lex_c.specs.Scanner.{scanned};
 ghost use Rattle.cq_lex_c.specs.Texts.{IsText, IsPrefixed};
 
 use crate::characters::Seen;
 use crate::header::longest_header;
-use crate::identifier::is_keyword;
+use crate::identifier::RESERVED;
 use crate::scanner::{CLASSES, ENDS, NAMES, SPELLS, STEPS};
 use cq_base::Class;
 use cq_munch::{
     Automaton, Found, LineEnds, Spell, Unit, better, found_of, longest_block_comment,
-    longest_found, longest_line_comment, opens_comment, plain_name,
+    longest_line_comment, named_found, opens_comment,
 };
 
 /// Whether the character is a blank.
@@ -27,50 +24,17 @@ pub(crate) fn is_blank(ch: char) -> bool
     ch == ' ' || ch == '\t' || ch == '\u{B}' || ch == '\u{C}' || ch == '\r' || ch == '\n'
 }
 
-// Whether it is an identifier.
-fn is_name(spell: Spell) -> bool
-    ensures { result ≡ is_name spell }
-{
-    matches!(spell, Spell::Token(Class::Ident))
-}
-
-// The element at the front if it has no quotes, before keywords are told from identifiers.
-fn scan(units: &[Unit], mode: u8) -> Option<Found>
+// The element at the front, if it has no quotes.
+fn without_quotes(units: &[Unit], mode: u8) -> Option<Found>
     requires { length units.now < 2 ^ 32 }
-    ensures { (at : ℕ) → Takes (table (rows_of scanned)) at mode (seen_by stood units.now) result }
+    ensures { (at : ℕ) → Takes (table unquoted) at mode (characters units.now) result }
 {
     let by = Automaton {
         classes: &CLASSES,
         steps: &STEPS,
         ends: &ENDS,
     };
-    match plain_name(&NAMES, units) {
-        Some(len) => found_of(Spell::Token(Class::Ident), mode, Some(len)),
-        None => longest_found::<Seen>(by, &SPELLS, mode, units),
-    }
-}
-
-// The element at the front, if it has no quotes.
-fn without_quotes(units: &[Unit], mode: u8) -> Option<Found>
-    requires { length units.now < 2 ^ 32 }
-    ensures { (at : ℕ) → Takes (table unquoted) at mode (characters units.now) result }
-{
-    match scan(units, mode) {
-        Some(found) => if is_name(found.spell) {
-            if is_keyword(&units[..found.units as usize]) {
-                Some(Found {
-                    spell: Spell::Token(Class::Word),
-                    units: found.units,
-                    mode: found.mode,
-                })
-            } else {
-                Some(found)
-            }
-        } else {
-            Some(found)
-        },
-        None => None,
-    }
+    named_found::<Seen>(by, &NAMES, &SPELLS, &RESERVED, mode, units)
 }
 
 // The element at the front, when no header name is looked for. The texts there, with a prefix and without, are given.

@@ -1,12 +1,5 @@
-ghost use Rattle.std.specs.Prelude.{◌↔◌, IsTrue};
-ghost use Rattle.cq_munch.specs.Characters.{characters};
-ghost use Rattle.cq_munch.specs.Longest.{IsAmong};
-ghost use Rattle.cq_lex_c.specs.Identifiers.{keywords};
-
-use cq_munch::{Unit, is_listed_by_letter};
-
-// The 44 keywords by their first letter.
-const RESERVED: [&[&[u8]]; 27] = [
+/// The 44 keywords by their first letter.
+pub(crate) const RESERVED: [&[&[u8]]; 27] = [
     &[b"auto"],
     &[b"break"],
     &[b"case", b"char", b"const", b"continue"],
@@ -48,10 +41,3 @@ const RESERVED: [&[&[u8]]; 27] = [
         b"_Thread_local",
     ],
 ];
-
-/// Whether the identifier is a keyword.
-pub(crate) fn is_keyword(name: &[Unit]) -> bool
-    ensures { IsTrue result ↔ IsAmong keywords (characters name.now) }
-{
-    is_listed_by_letter(&RESERVED, name)
-}
