@@ -18,10 +18,10 @@ use Rattle.cq_munch.proofs.Joining.{row_more, takes_rest, no_comment}
 use Rattle.cq_munch.proofs.Marks.{takes_unmarked}
 use Rattle.cq_munch.proofs.Reserving.{free_taken}
 use Rattle.cq_munch.proofs.RowScans.{alone, one_there}
+use Rattle.cq_munch.proofs.Seen.{itself_below}
 use Rattle.cq_munch.proofs.Tables.{below_each}
-use Rattle.cq_lex_c.specs.Ascii.{stood_low}
 use Rattle.cq_lex_c.specs.C.{is_blank, no_names, unquoted, rows, texts as text_row, prefixed, headers, opens_header, with_comments, unmarked, moded, mode_behind}
-use Rattle.cq_lex_c.specs.Characters.{stood}
+use Rattle.cq_lex_c.specs.Characters.{begins_identifier, continues_identifier, stood}
 use Rattle.cq_lex_c.specs.Headers.{closes, has_header}
 use Rattle.cq_lex_c.specs.Identifiers.{identifier, keywords}
 use Rattle.cq_lex_c.specs.OneKind.{scanner, scanner_fits, is_scanner}
@@ -40,7 +40,7 @@ blank = entry_at scanner 0 32 - 1
 leads : (c : ℕ) → is_blank c ≡ true → entry_at scanner 0 (stood c) ≡ suc blank
 leads c is =
     let low = low_by is_blank blank_past c is in
-    ap (entry_at scanner 0) (stood_low c low)
+    ap (entry_at scanner 0) (itself_below begins_identifier continues_identifier c low)
     ∙ eqb-true (entry_at scanner 0 c) (suc blank) (or-implies (is_blank c) (entry_at scanner 0 c == suc blank) (below_each 128 (λ d. not (is_blank d) || (entry_at scanner 0 d == suc blank)) refl c low) is)
 
 is_false : false ≡ true → ⊥

@@ -18,12 +18,11 @@ use Rattle.cq_base.specs.declared.token.Class.TheVariants.{Word}
 use Rattle.cq_munch.specs.Automata.{HasRow, row_of}
 use Rattle.cq_munch.proofs.Reserving.{unless_reserved}
 use Rattle.cq_munch.proofs.RowScans.{row_there}
-use Rattle.cq_munch.proofs.Seen.{in_seen}
+use Rattle.cq_munch.proofs.Seen.{in_seen, seen_below}
 use Rattle.cq_munch.proofs.Tables.{below_each}
 use Rattle.cq_munch.proofs.WordLists.{among_passes}
-use Rattle.cq_lex_c.specs.Ascii.{stood_below}
 use Rattle.cq_lex_c.specs.C.{c, rows, no_names, unmarked, with_comments, opens_header}
-use Rattle.cq_lex_c.specs.Characters.{stood}
+use Rattle.cq_lex_c.specs.Characters.{begins_identifier, continues_identifier, stood}
 use Rattle.cq_lex_c.specs.Identifiers.{identifier, keywords}
 use Rattle.cq_lex_c.specs.OneKind.{scanner, scanner_fits, is_scanner}
 use Rattle.cq_lex_c.specs.Scanner.{scanned, texts}
@@ -39,7 +38,7 @@ no_keyword d among = let short : nat_lt 1 1 ≡ true = among_passes keywords (λ
 
 -- the table has a row for each character that it sees
 rowed : (d : ℕ) → HasRow scanner (stood d ∷ [])
-rowed d = ltb-true 0 (row_of scanner (stood d ∷ [])) (below_each 131 (λ n. nat_lt 0 (row_of scanner (n ∷ []))) refl (stood d) (stood_below d))
+rowed d = ltb-true 0 (row_of scanner (stood d ∷ [])) (below_each 131 (λ n. nat_lt 0 (row_of scanner (n ∷ []))) refl (stood d) (seen_below begins_identifier continues_identifier d))
 
 row_of_one : (d : ℕ) → (spell : Spell) × InTable rows spell (d ∷ [])
 row_of_one d =

@@ -11,6 +11,5 @@ pub mod HeaderNames
 pub mod Punctuators
 pub mod C
 pub mod Scanner
-pub mod Ascii
 pub mod OneKind
 pub mod OpenComments

@@ -1,8 +1,9 @@
 -- No spelling is of two kinds: the table finds one row for each spelling without quotes, and none for a text in quotes.
 use Rattle.std.proofs.Common.{◌≡◌, ℕ, ◌-◌, ◌<◌, Bool, true, false, List, [], ◌∷◌, ◌++◌, map, refl, sym, subst, ap, ◌∙◌, inl, inr, ⊎_elim, arith}
+use Rattle.std.specs.List.{list_all}
 use Rattle.std.proofs.lemmas.Bool.{eqb-true, both_ways}
 use Rattle.cq_munch.specs.Automata.{Tables, entry_at, row_of, row_fits, rows_fit, fits}
-use Rattle.cq_munch.specs.Behind.{takes_empty}
+use Rattle.cq_munch.specs.Behind.{any_takes_empty, takes_empty}
 use Rattle.cq_munch.specs.Comments.{IsAfter}
 use Rattle.cq_munch.specs.Language.{HasOneKind}
 use Rattle.cq_munch.specs.Pattern.{Pattern, Spells, in_ranges, only, many, ◌▸◌}
@@ -14,12 +15,12 @@ use Rattle.cq_munch.specs.Table.{InTable, table}
 use Rattle.cq_munch.specs.declared.element.Spell.{Spell}
 use Rattle.cq_munch.specs.declared.ends.LineEnds.TheVariants.{Feed, ReturnOrFeed}
 use Rattle.cq_munch.proofs.OneKind.{OneKind, one_more, of_table, of_first, of_commented, of_marked}
-use Rattle.cq_munch.proofs.Reserving.{has_row, one_kind_reserved}
+use Rattle.cq_munch.proofs.Reserving.{has_row, one_kind_reserved, words_spelled}
 use Rattle.cq_munch.proofs.RowScans.{no_more}
-use Rattle.cq_munch.proofs.Steps.{takes_empty-if}
-use Rattle.cq_lex_c.specs.Ascii.{stood_low, keyword_is_identifier}
+use Rattle.cq_munch.proofs.Seen.{itself_below}
+use Rattle.cq_munch.proofs.Steps.{behind_word, takes_empty-if}
 use Rattle.cq_lex_c.specs.C.{c as c_language, rows, texts as text_row, prefixed, no_names, unquoted, other, headers, opens_header, with_comments, unmarked, moded}
-use Rattle.cq_lex_c.specs.Characters.{stood}
+use Rattle.cq_lex_c.specs.Characters.{begins_identifier, continues_identifier, stood}
 use Rattle.cq_lex_c.specs.Identifiers.{identifier, keywords}
 use Rattle.cq_lex_c.specs.Numbers.{number}
 use Rattle.cq_lex_c.specs.Scanner.{scanned, texts}
@@ -38,14 +39,18 @@ plain_names : plain_fits NAMES scanner (entry_at scanner 0 97 - 1) 0 ≡ true
 unfolding plain_fits
 plain_names = refl
 
+keywords_pass : list_all (λ w. any_takes_empty (behind_word (map stood w) (identifier ∷ []))) keywords ≡ true
+unfolding identifier
+keywords_pass = refl
+
 pub is_scanner : IsScanner stood identifier keywords no_names NAMES SPELLS scanner
 is_scanner = record {
   texts = texts;
   state = entry_at scanner 0 97 - 1;
   fits = (refl, scanner_fits);
   plain = plain_names;
-  itself = stood_low;
-  words_named = keyword_is_identifier;
+  itself = itself_below begins_identifier continues_identifier;
+  words_named = words_spelled stood identifier keywords keywords_pass;
   no_names = refl;
 }
 

@@ -4,6 +4,7 @@ use Rattle.std.specs.List.{list_all}
 use Rattle.std.proofs.lemmas.Bool.{and_parts, not-true, both_ways}
 use Rattle.cq_base.specs.declared.token.Class.TheVariants.{Ident, Word}
 use Rattle.cq_munch.specs.Automata.{Tables, entry_at, row_of}
+use Rattle.cq_munch.specs.Behind.{any_takes_empty}
 use Rattle.cq_munch.specs.Language.{Takes}
 use Rattle.cq_munch.specs.Longest.{IsAmong}
 use Rattle.cq_munch.specs.Pattern.{Pattern, Spells}
@@ -15,7 +16,14 @@ use Rattle.cq_munch.specs.declared.element.Spell.{Spell}
 use Rattle.cq_munch.specs.declared.element.Spell.TheVariants.{Token}
 use Rattle.cq_munch.proofs.OneKind.{OneKind}
 use Rattle.cq_munch.proofs.RowScans.{one_kind, is_found}
+use Rattle.cq_munch.proofs.Steps.{behind_word, word_if}
+use Rattle.cq_munch.proofs.WordLists.{among_passes}
 use Rattle.cq_munch.proofs.Seen.{in_seen, one_kind_seen, taken_seen}
+
+-- words that are names, by computing
+pub words_spelled : (stood : ℕ → ℕ) (name : Pattern) (words : List (List ℕ)) → list_all (λ w. any_takes_empty (behind_word (map stood w) (name ∷ []))) words ≡ true → (s : List ℕ) → IsAmong words s → Spells name (map stood s)
+words_spelled stood name words all s among =
+    ⊎_elim (λ own. own) (λ none. absurd none) (word_if (map stood s) (name ∷ []) (among_passes words (λ w. any_takes_empty (behind_word (map stood w) (name ∷ []))) s all among))
 
 -- a row that is no name
 no_name : (others : Patterned) → list_all (λ (row : Spell × Pattern). not (is_name row.0)) others ≡ true → (spell : Spell) (s : List ℕ) → InTable (rows_of others) spell s → spell ≡ Token Ident → ⊥

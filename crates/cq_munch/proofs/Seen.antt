@@ -1,14 +1,36 @@
 -- Rows of a table that sees characters past ASCII by what stands for them.
-use Rattle.std.proofs.Common.{◌≡◌, ℕ, ◌<◌, ◌≤◌, Option, Some, None, List, [], ◌∷◌, ◌↔◌, inl, inr, ⊎_elim, length, map, take, refl, sym, ap, subst, arith}
+use Rattle.std.proofs.Common.{◌≡◌, ℕ, ◌<◌, ◌≤◌, Bool, true, false, if◌then◌else◌, Option, Some, None, List, [], ◌∷◌, ◌↔◌, inl, inr, ⊎_elim, length, map, take, refl, sym, ap, subst, arith}
+use Rattle.std.proofs.lemmas.Bool.{lt-ltb, le-ltb, cases_lt}
 use Rattle.std.proofs.lemmas.List.{length-map, take-map}
 use Rattle.cq_munch.specs.Characters.{characters, seen_by}
 use Rattle.cq_munch.specs.Language.{Takes}
 use Rattle.cq_munch.specs.Patterned.{Patterned, rows_of, rows_seen}
+use Rattle.cq_munch.specs.PlainNames.{IsItselfBelow, seen_as}
 use Rattle.cq_munch.specs.Table.{InTable, table}
 use Rattle.cq_munch.specs.declared.element.Found.{Found}
 use Rattle.cq_munch.specs.declared.element.Spell.{Spell}
 use Rattle.cq_munch.specs.declared.unit.Unit.{Unit}
 use Rattle.cq_munch.proofs.OneKind.{OneKind}
+
+-- ---- what stands for a character
+
+module _ (begins continues : ℕ → Bool) where
+  pub itself_below : IsItselfBelow 128 (seen_as begins continues)
+  itself_below c low = ap (λ b. if b then c else (if begins c then 128 else (if continues c then 129 else 130))) (lt-ltb c 128 low)
+
+  past : (b d : Bool) → (if b then 128 else (if d then 129 else 130)) < 131
+  past true d = omega arith
+  past false true = omega arith
+  past false false = omega arith
+
+  pub seen_below : (c : ℕ) → seen_as begins continues c < 131
+  seen_below c =
+      ⊎_elim
+      (λ low. subst (λ n. n < 131) (sym (itself_below c low)) (omega (arith, low)))
+      (λ high. subst (λ n. n < 131) (sym (ap (λ b. if b then c else (if begins c then 128 else (if continues c then 129 else 130))) (le-ltb c 128 high))) (past (begins c) (continues c)))
+      (cases_lt c 128)
+
+-- ---- rows
 
 -- the characters of units, as they are seen
 pub seen_is : (stood : ℕ → ℕ) (units : List Unit) → seen_by stood units ≡ map stood (characters units)
