@@ -30,9 +30,8 @@ use Rattle.cq_lex_c.specs.C.{mode_behind}
 use Rattle.cq_lex_c.specs.Headers.{IsHeaderAt}
 use Rattle.cq_lex_c.specs.Identifiers.{IsIdentifier, identifier}
 use Rattle.cq_lex_c.specs.Numbers.{IsNumber, number}
-use Rattle.cq_lex_go.specs.Ascii.{letters_below}
 use Rattle.cq_lex_go.specs.Semicolons.{completed}
-use Rattle.cq_lex_go.specs.Words.{IsName, is_letter, keywords}
+use Rattle.cq_lex_go.specs.Words.{IsName, name, keywords}
 use Rattle.cq_lex_java.specs.Blocks.{text_block}
 
 -- ---- any language
@@ -114,7 +113,8 @@ a_semicolon_follows_return_at_the_end_of_its_line e = omega (arith, ap (λ (ts :
 
 -- `1a`
 pub a_digit_begins_no_name : IsName (codes "1a") → ⊥
-a_digit_begins_no_name h = let other : is_letter 49 ≡ false = letters_below 49 (omega arith) in let letter = h.0 in cc
+unfolding name
+a_digit_begins_no_name h = is_false (spelled_word (codes "1a") (name ∷ []) (inl h))
 
 pub a_longer_word_is_no_keyword : IsAmong keywords (codes "interfaces") → ⊥
 a_longer_word_is_no_keyword among =
