@@ -1,5 +1,5 @@
 -- No spelling is of two kinds: the table finds one row for each spelling without quotes, and none for a text in quotes.
-use Rattle.std.proofs.Common.{◌≡◌, ℕ, ◌-◌, ◌<◌, Bool, true, false, List, [], ◌∷◌, ◌++◌, map, refl, sym, subst, ap, ◌∙◌, inl, inr, ⊎_elim, arith}
+use Rattle.std.proofs.Common.{◌≡◌, ℕ, ◌-◌, true, false, List, [], ◌∷◌, ◌++◌, map, refl, sym, subst, ap, ◌∙◌, ⊎_elim, arith}
 use Rattle.std.specs.List.{list_all}
 use Rattle.std.proofs.lemmas.Bool.{eqb-true, both_ways}
 use Rattle.cq_munch.specs.Automata.{Tables, entry_at, row_of, row_fits, rows_fit, fits}

@@ -1,5 +1,5 @@
 -- No spelling is of two kinds: the table finds one row for each.
-use Rattle.std.proofs.Common.{◌≡◌, ℕ, ◌-◌, true, List, [], ◌∷◌, map, refl}
+use Rattle.std.proofs.Common.{◌≡◌, ◌-◌, true, [], ◌∷◌, map, refl}
 use Rattle.std.specs.List.{list_all}
 use Rattle.cq_munch.specs.Automata.{Tables, entry_at, row_fits, rows_fit, fits}
 use Rattle.cq_munch.specs.Behind.{any_takes_empty}

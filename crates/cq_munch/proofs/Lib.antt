@@ -1,6 +1,5 @@
 pub mod Front
 pub mod CharacterTests
-pub mod Runs
 pub mod CommentScans
 pub mod Steps
 pub mod Tables

@@ -25,10 +25,6 @@ one_more row rows rest same s a b h k =
 pub one_row : (row : Row) → OneKind (row ∷ [])
 one_row row = one_more row [] no_kind (λ s b own other. absurd other)
 
--- two rows with no spelling in common
-pub two_apart : (row other : Row) → ((s : List ℕ) → row.set s → other.set s → ⊥) → OneKind (row ∷ other ∷ [])
-two_apart row other apart = one_more row (other ∷ []) (one_row other) (λ s b own h. ⊎_elim (λ too. absurd (apart s own too.1)) (λ none. absurd none) h)
-
 -- ---- a language
 
 by_test : (t : Bool) (P Q : Spell → Type 0) (a b : Spell) → (P a → P b → a ≡ b) → (Q a → Q b → a ≡ b) → MatchBool t (P a) (Q a) → MatchBool t (P b) (Q b) → a ≡ b

@@ -1,8 +1,8 @@
 -- The scan of a name over characters of ASCII, by the table's states.
-use Rattle.std.proofs.Common.{◌≡◌, ℕ, suc, ◌+◌, ◌<◌, ◌≤◌, ◌==◌, not, nat_lt, ◌&&◌, Some, None, Bool, true, false, List, [], ◌∷◌, length, get_or, if◌then◌else◌, refl, sym, ap, subst, ◌∙◌, ⊎_elim, arith}
-use Rattle.std.proofs.lemmas.Bool.{eqb-true, eq-eqb, ltb-true, le-ltb, lt-ltb, and_parts, not-true, both_ways, cases_lt}
+use Rattle.std.proofs.Common.{◌≡◌, ℕ, suc, ◌+◌, ◌<◌, ◌≤◌, ◌==◌, not, nat_lt, Some, None, true, List, [], ◌∷◌, length, get_or, if◌then◌else◌, refl, sym, ap, subst, ◌∙◌, ⊎_elim, arith}
+use Rattle.std.proofs.lemmas.Bool.{eqb-true, eq-eqb, le-ltb, and_parts, not-true, both_ways, cases_lt}
 use Rattle.std.proofs.lemmas.List.{length-map}
-use Rattle.cq_munch.specs.Automata.{Tables, entry_at, or_else, RowAt}
+use Rattle.cq_munch.specs.Automata.{Tables, entry_at, RowAt}
 use Rattle.cq_munch.specs.Behind.{each_below}
 use Rattle.cq_munch.specs.Characters.{characters, seen_by}
 use Rattle.cq_munch.specs.Lexed.{unit_at}

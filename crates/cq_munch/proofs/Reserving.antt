@@ -1,9 +1,9 @@
 -- Names of which some words are reserved, and what a scanner finds.
-use Rattle.std.proofs.Common.{◌≡◌, ◌⊎◌, ℕ, suc, ◌-◌, ◌<◌, ◌≤◌, nat_le, not, Bool, true, false, Option, Some, None, List, [], ◌∷◌, inl, inr, ⊎_elim, length, map, take, get_or, refl, sym, ap, subst, ◌∙◌, arith}
+use Rattle.std.proofs.Common.{◌≡◌, ◌⊎◌, ℕ, ◌-◌, ◌<◌, not, true, Some, None, List, [], ◌∷◌, inl, inr, ⊎_elim, map, take, refl, sym, ap, ◌∙◌}
 use Rattle.std.specs.List.{list_all}
 use Rattle.std.proofs.lemmas.Bool.{and_parts, not-true, both_ways}
 use Rattle.cq_base.specs.declared.token.Class.TheVariants.{Ident, Word}
-use Rattle.cq_munch.specs.Automata.{Tables, entry_at, row_of}
+use Rattle.cq_munch.specs.Automata.{Tables, row_of}
 use Rattle.cq_munch.specs.Behind.{any_takes_empty}
 use Rattle.cq_munch.specs.Language.{Takes}
 use Rattle.cq_munch.specs.Longest.{IsAmong}

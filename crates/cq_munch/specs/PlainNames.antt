@@ -1,5 +1,5 @@
 -- Names of ASCII, character by character, and when that fits a table.
-use Rattle.std.specs.Prelude.{◌≡◌, ℕ, suc, ◌<◌, ◌==◌, ◌&&◌, not, nat_lt, if◌then◌else◌, Bool, true, List, slice_index_or}
+use Rattle.std.specs.Prelude.{◌≡◌, ℕ, suc, ◌<◌, ◌==◌, ◌&&◌, not, nat_lt, if◌then◌else◌, Bool, List, slice_index_or}
 use Rattle.cq_munch.specs.Automata.{Tables, entry_at, or_else}
 use Rattle.cq_munch.specs.Behind.{each_below}
 

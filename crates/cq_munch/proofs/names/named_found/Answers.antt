@@ -1,11 +1,10 @@
-use Rattle.std.proofs.Common.{◌≡◌, Some, None, ◌∷◌, take, true, false, sym, subst, ◌∙◌}
+use Rattle.std.proofs.Common.{Some, None, ◌∷◌, take, true, false, sym, subst}
 use Rattle.std.proofs.lemmas.List.{take-map}
 use Rattle.cq_base.specs.declared.token.Class.TheVariants.{Ident}
 use Rattle.cq_munch.specs.Automata.{tables_of}
 use Rattle.cq_munch.specs.ByLetter.{IsListedByLetter}
 use Rattle.cq_munch.specs.Characters.{characters}
 use Rattle.cq_munch.specs.Language.{Takes}
-use Rattle.cq_munch.specs.Longest.{IsAmong}
 use Rattle.cq_munch.specs.Patterned.{rows_of}
 use Rattle.cq_munch.specs.Table.{table}
 use Rattle.cq_munch.specs.declared.element.Spell.TheVariants.{Token}

@@ -1,4 +1,4 @@
-use Rattle.std.proofs.Common.{◌≤◌, length, sym, ◌∙◌, arith}
+use Rattle.std.proofs.Common.{◌≤◌, sym, ◌∙◌, arith}
 use Rattle.cq_munch.specs.Lexed.{unit_at}
 use Rattle.cq_munch.specs.PlainNames.{kind_at}
 use Rattle.cq_munch.proofs.PlainScans.{plain_one, plain_more, plain_ended, plain_all}

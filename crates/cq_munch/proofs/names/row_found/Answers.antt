@@ -1,5 +1,4 @@
-use Rattle.std.proofs.Common.{◌<◌, length, refl, sym, ap, subst, ◌∷◌, ◌∙◌, get_or, arith}
-use Rattle.std.proofs.lemmas.List.{length-map}
+use Rattle.std.proofs.Common.{sym, ap, subst, ◌∷◌, get_or}
 use Rattle.cq_base.specs.declared.token.Class.TheVariants.{Ident}
 use Rattle.cq_munch.specs.Automata.{tables_of}
 use Rattle.cq_munch.specs.Characters.{seen_by}
