@@ -1,4 +1,4 @@
-ghost use Rattle.std.specs.Prelude.{◌≡◌, ◌≤◌, ◌<◌, ◌^◌, ℕ, Some, true, IfSome, IsTrue, IsFalse, List, ◌∷◌, length, take, ⊥};
+ghost use Rattle.std.specs.Prelude.{◌≡◌, ◌≤◌, ◌<◌, ◌^◌, ℕ, Some, true, IfSome, IsTrue, IsFalse, List, ◌∷◌, length, take};
 ghost use Rattle.cq_munch.specs.Automata.{Tables, RowAt, tables_of};
 ghost use Rattle.cq_munch.specs.ByLetter.{IsListedByLetter};
 ghost use Rattle.cq_munch.specs.Characters.{characters, seen_by};
