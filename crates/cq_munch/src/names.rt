@@ -42,7 +42,8 @@ fn begins_name(kinds: &[u8; 128], units: &[Unit]) -> bool
 // The name at the front, if all its characters are ASCII and the next one surely ends it: what a table finds that fits
 // the kinds, with fewer looks at each character.
 fn plain_name(kinds: &[u8; 128], units: &[Unit]) -> Option<usize>
-    ensures { (t : Tables) (state row : ℕ) (stood : ℕ → ℕ) → plain_fits kinds.now t state row ≡ true → IsItselfBelow 128 stood
+    ensures within { IfSome result (λ len. len ≤ length units.now) }
+    ensures row { (t : Tables) (state row : ℕ) (stood : ℕ → ℕ) → plain_fits kinds.now t state row ≡ true → IsItselfBelow 128 stood
         → IfSome result (λ len. RowAt t (seen_by stood units.now) (Some (len, row))) }
 {
     if !begins_name(kinds, units) {

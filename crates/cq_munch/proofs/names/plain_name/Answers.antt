@@ -15,10 +15,10 @@ loop-at-preserved c = λ t state row stood right itself.
     let goes : 50 ≤ kind_at c.args.kinds.now (unit_at c.args.units.now c.loop-at.at).ch = omega (arith, is, past) in
     plain_more c.args.kinds.now t state row stood right itself c.args.units.now c.loop-at.at c.loop-at-test.true (c.loop-at.invariant t state row stood right itself) goes
 
-pub returns-then-kind-eq48 : goal.returns-then-kind-eq48
-returns-then-kind-eq48 c = λ t state row stood right itself.
+pub returns-then-kind-eq48-clause-row : goal.returns-then-kind-eq48-clause-row
+returns-then-kind-eq48-clause-row c = λ t state row stood right itself.
     plain_ended c.args.kinds.now t state row stood right itself c.args.units.now c.loop-at.at c.loop-at-test.true (c.loop-at.invariant t state row stood right itself) (sym c.kind_of-kind.ensures ∙ c.if-kind-eq48.true)
 
-pub returns : goal.returns
-returns c = λ t state row stood right itself.
+pub returns-clause-row : goal.returns-clause-row
+returns-clause-row c = λ t state row stood right itself.
     plain_all c.args.kinds.now t state row stood right itself c.args.units.now c.loop-at.at c.loop-at-test.false (c.loop-at.invariant t state row stood right itself)
