@@ -1,4 +1,4 @@
-ghost use Rattle.std.specs.Prelude.{◌≡◌, ℕ, suc, ◌-◌, ◌<◌, ◌^◌, IfNone, IfSome, List, [], length, slice_index_or};
+ghost use Rattle.std.specs.Prelude.{◌≡◌, ℕ, suc, ◌-◌, ◌<◌, ◌≤◌, ◌^◌, IfNone, IfSome, List, [], length, slice_index_or};
 ghost use Rattle.cq_munch.specs.Automata.{class_at, RowAt, tables_of};
 ghost use Rattle.cq_munch.specs.Characters.{seen_by};
 ghost use Rattle.cq_munch.specs.Language.{Takes};
@@ -123,7 +123,8 @@ pub fn longest_found<S: StandIn>(
     units: &[Unit],
 ) -> Option<Found>
     requires { length units.now < 2 ^ 32 }
-    ensures { (rows : Patterned) (texts : List (List ℕ)) → FitsRows rows texts spells.now (tables_of by.entry)
+    ensures within { IfSome result (λ found. found.units ≤ length units.now) }
+    ensures found { (rows : Patterned) (texts : List (List ℕ)) → FitsRows rows texts spells.now (tables_of by.entry)
         → (at : ℕ) → Takes (table (rows_of rows)) at mode (seen_by S.stood units.now) result }
 {
     match longest_row::<S>(by, units) {

@@ -70,7 +70,8 @@ fn row_found<S: StandIn>(
     units: &[Unit],
 ) -> Option<Found>
     requires { length units.now < 2 ^ 32 }
-    ensures { (name : Pattern) (words : List (List ℕ)) (others : Patterned) → IsScanner S.stood name words others kinds.now spells.now (tables_of by.entry)
+    ensures within { IfSome result (λ found. found.units ≤ length units.now) }
+    ensures found { (name : Pattern) (words : List (List ℕ)) (others : Patterned) → IsScanner S.stood name words others kinds.now spells.now (tables_of by.entry)
         → (at : ℕ) → Takes (table (rows_of ((Token Ident, name) ∷ others))) at mode (seen_by S.stood units.now) result }
 {
     match plain_name(kinds, units) {

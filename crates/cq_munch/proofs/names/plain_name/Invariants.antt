@@ -7,4 +7,4 @@ use Rattle.cq_munch.proofs.names.plain_name.Given as goal
 
 abbrev pub invariant-loop-at : goal.invariant-loop-at
 invariant-loop-at l =
-    (t : Tables) (state row : ℕ) (stood : ℕ → ℕ) → plain_fits l.fn.kinds.now t state row ≡ true → IsItselfBelow 128 stood → Rowed t (seen_by stood l.units) l.at state (Some (l.at, row))
+    (t : Tables) (state row : ℕ) (stood : ℕ → ℕ) → plain_fits l.fn.kinds t state row ≡ true → IsItselfBelow 128 stood → Rowed t (seen_by stood l.units) l.at state (Some (l.at, row))
