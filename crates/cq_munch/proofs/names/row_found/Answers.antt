@@ -1,4 +1,5 @@
-use Rattle.std.proofs.Common.{sym, ap, subst, ◌∷◌, get_or}
+use Rattle.std.proofs.Common.{◌≤◌, length, sym, ap, subst, ◌∷◌, get_or, arith}
+use Rattle.std.specs.Prelude.{IfSome}
 use Rattle.cq_base.specs.declared.token.Class.TheVariants.{Ident}
 use Rattle.cq_munch.specs.Automata.{tables_of}
 use Rattle.cq_munch.specs.Characters.{seen_by}
