@@ -53,7 +53,7 @@ one_blank mode = record { spell = Blank; units = 1; mode = mode }
 module _ (at mode c : ℕ) (text : List ℕ) (is : is_blank c ≡ true) where
   -- none of these characters
   other : (n : ℕ) → is_blank n ≡ false → c ≡ n → ⊥
-  other n no e = absurd (let bad : false ≡ true = sym no ∙ ap is_blank (sym e) ∙ is in cc)
+  other n fails e = absurd (let bad : false ≡ true = sym fails ∙ ap is_blank (sym e) ∙ is in cc)
 
   no_slash : (rest : List ℕ) → begins (47 ∷ rest) (c ∷ text) ≡ false
   no_slash rest = and_left (c == 47) (begins rest text) (apart_by is_blank 47 refl c is)
