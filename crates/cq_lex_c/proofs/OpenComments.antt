@@ -1,5 +1,5 @@
 -- The only place of a text where nothing is taken is that of a comment that is not closed.
-use Rattle.std.proofs.Common.{◌≡◌, ℕ, zero, suc, ◌<◌, ◌≤◌, None, Bool, true, false, not, nat_lt, ◌==◌, List, [], ◌∷◌, length, take, drop, refl, sym, subst, ap, inl, inr, arith, length-drop}
+use Rattle.std.proofs.Common.{◌≡◌, ℕ, zero, suc, ◌<◌, ◌≤◌, None, Bool, true, false, nat_lt, ◌==◌, List, [], ◌∷◌, length, take, drop, refl, sym, subst, ap, inl, inr, arith, length-drop}
 use Rattle.std.proofs.lemmas.Bool.{eqb-true, ltb-true, and_parts}
 use Rattle.std.proofs.lemmas.List.{length-map}
 use Rattle.cq_base.proofs.Bools.{MatchBool-from_true, MatchBool-from_false}

@@ -1,5 +1,5 @@
 -- Names of which some words are reserved, and what a scanner finds.
-use Rattle.std.proofs.Common.{◌≡◌, ◌⊎◌, ℕ, ◌-◌, ◌<◌, not, true, Some, None, List, [], ◌∷◌, inl, inr, ⊎_elim, map, take, refl, sym, ap, ◌∙◌}
+use Rattle.std.proofs.Common.{◌≡◌, ℕ, ◌<◌, not, true, Some, None, List, [], ◌∷◌, inl, inr, ⊎_elim, map, take, refl, sym, ap, ◌∙◌}
 use Rattle.std.specs.List.{list_all}
 use Rattle.std.proofs.lemmas.Bool.{and_parts, not-true, both_ways}
 use Rattle.cq_base.specs.declared.token.Class.TheVariants.{Ident, Word}

@@ -1,5 +1,5 @@
 -- Lists of words, and tests of them that compute.
-use Rattle.std.proofs.Common.{◌≡◌, ◌⊎◌, ℕ, zero, suc, ◌<◌, Bool, true, nat_lt, All, List, [], ◌∷◌, ap, ◌∙◌, ⊎_elim, arith}
+use Rattle.std.proofs.Common.{◌≡◌, ℕ, zero, suc, ◌<◌, Bool, true, nat_lt, All, List, [], ◌∷◌, ap, ◌∙◌, ⊎_elim, arith}
 use Rattle.std.proofs.lemmas.Bool.{ltb-true, and_parts}
 use Rattle.std.specs.List.{list_all}
 use Rattle.cq_munch.specs.Longest.{IsAmong}

@@ -1,4 +1,4 @@
-use Rattle.std.proofs.Common.{Some, None, ◌∷◌, take, true, false, sym, subst}
+use Rattle.std.proofs.Common.{Some, None, ◌∷◌, take, sym, subst}
 use Rattle.std.proofs.lemmas.List.{take-map}
 use Rattle.cq_base.specs.declared.token.Class.TheVariants.{Ident}
 use Rattle.cq_munch.specs.Automata.{tables_of}
