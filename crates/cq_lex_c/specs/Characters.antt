@@ -1,6 +1,6 @@
 -- The characters of identifiers (C11 6.4.2.1 and annex D, in the profile of UAX #31 with a dollar sign).
 use Rattle.std.specs.Prelude.{ℕ, Bool, ◌||◌, ◌==◌}
-use Rattle.cq_munch.specs.PlainNames.{seen_as}
+use Rattle.cq_munch.specs.Characters.{seen_as}
 use Rattle.unicode_ident.specs.Ident.{is_xid_start, is_xid_continue}
 
 unfoldable pub begins_identifier : ℕ → Bool

@@ -2,7 +2,7 @@
 -- punctuation", "Letters and digits").
 use Rattle.std.specs.Prelude.{ℕ, Bool, true, false, ◌||◌, ◌==◌, List, [], ◌∷◌, map, codes}
 use Rattle.cq_munch.specs.Pattern.{Pattern, Spells, among, many, ◌▸◌, ◌∣◌}
-use Rattle.cq_munch.specs.PlainNames.{seen_as}
+use Rattle.cq_munch.specs.Characters.{seen_as}
 use Rattle.ucd_category.specs.GeneralCategory.{general_category}
 use Rattle.ucd_category.specs.declared.GeneralCategory.{GeneralCategory}
 use Rattle.ucd_category.specs.declared.GeneralCategory.TheVariants.{UppercaseLetter, LowercaseLetter, TitlecaseLetter, ModifierLetter, OtherLetter, DecimalNumber}

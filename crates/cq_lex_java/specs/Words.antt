@@ -1,7 +1,7 @@
 -- Identifiers, keywords and blanks (JLS 3.6, 3.8, 3.9). Contextual keywords are identifiers.
 use Rattle.std.specs.Prelude.{ℕ, Bool, ◌||◌, ◌==◌, List, [], ◌∷◌, codes}
 use Rattle.cq_munch.specs.Pattern.{Pattern, among, many, ◌▸◌}
-use Rattle.cq_munch.specs.PlainNames.{seen_as}
+use Rattle.cq_munch.specs.Characters.{seen_as}
 use Rattle.unicode_ident.specs.Ident.{is_xid_start, is_xid_continue}
 
 -- space, tab, form feed, carriage return and line feed

@@ -2,10 +2,10 @@
 use Rattle.std.proofs.Common.{◌≡◌, ℕ, ◌<◌, Bool, true, false, if◌then◌else◌, Option, Some, None, List, [], ◌∷◌, ◌↔◌, inl, inr, ⊎_elim, map, take, refl, sym, ap, subst, arith}
 use Rattle.std.proofs.lemmas.Bool.{lt-ltb, le-ltb, cases_lt}
 use Rattle.std.proofs.lemmas.List.{length-map, take-map}
-use Rattle.cq_munch.specs.Characters.{characters, seen_by}
+use Rattle.cq_munch.specs.Characters.{characters, seen_by, seen_as}
 use Rattle.cq_munch.specs.Language.{Takes}
 use Rattle.cq_munch.specs.Patterned.{Patterned, rows_of, rows_seen}
-use Rattle.cq_munch.specs.PlainNames.{IsItselfBelow, seen_as}
+use Rattle.cq_munch.specs.PlainNames.{IsItselfBelow}
 use Rattle.cq_munch.specs.Table.{InTable, table}
 use Rattle.cq_munch.specs.declared.element.Found.{Found}
 use Rattle.cq_munch.specs.declared.element.Spell.{Spell}

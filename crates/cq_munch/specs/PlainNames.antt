@@ -24,8 +24,3 @@ plain_fits kinds t state row = each_below 128 (kind_fits kinds t state) && (slic
 -- each of the first characters stands for itself
 abbrev pub IsItselfBelow : ℕ → (ℕ → ℕ) → Type 0
 IsItselfBelow n stood = (c : ℕ) → c < n → stood c ≡ c
-
--- A character of ASCII as it is, and past ASCII 128 for each that begins a name, 129 for each other that continues one, and
--- 130 for all others.
-abbrev pub seen_as : (ℕ → Bool) → (ℕ → Bool) → ℕ → ℕ
-seen_as begins continues c = if nat_lt c 128 then c else (if begins c then 128 else (if continues c then 129 else 130))
