@@ -13,7 +13,7 @@ use cq_chain::Pass;
 use cq_io::Gate;
 use cq_serve::{Bell, work};
 use cq_shared::Shared;
-use cq_work::{Keyer, Work, plain_key};
+use cq_work::{Keyer, Work};
 use std::alloc::Global;
 use std::sync::Wait;
 use std::sync::ledger::Ledger;
@@ -51,7 +51,7 @@ pub(crate) trait Talker<L: Ledger, R: Wait> {
             pass.old.seen pass.new.seen pass.new.asked };
 }
 
-// A worker that keys windows by itself. Without memory for that it does nothing.
+// A worker by a keyer of its own.
 fn labour<Q: Wait, L: Ledger, R: Wait, G: Gate>(
     rt: &Q,
     alloc: Global,
@@ -66,11 +66,7 @@ fn labour<Q: Wait, L: Ledger, R: Wait, G: Gate>(
     requires of { IsPassOf hub.now pass }
     ensures worked { Worked hub.now pass result }
 {
-    let of = *settings;
-    let Ok(key) = Box::new(alloc, move |codes: &[u64]| plain_key(&of, codes)) else {
-        return pass;
-    };
-    let keyer = Keyer::new(settings, key);
+    let keyer = Keyer::plain(settings);
     work(rt, alloc, settings, &keyer, hub, pass, gate, bell)
 }
 

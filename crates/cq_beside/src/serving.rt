@@ -101,9 +101,8 @@ fn take_back<S, K, T>(source: &mut S, sink: &mut K, steps: &mut T)
 
 /// One session on this thread, with so many workers beside it until its end. Each worker has a thread, a pass and a keyer
 /// of its own, and sleeps on a bell that rings after each accepted change. One for which no thread can be made runs after
-/// the session, and ends at once; one that finds no memory for its keyer makes no work. The passes of the workers, and then
-/// that of the session, are split from this one, such as a new hub's first pass, and end in it. The gate is told what
-/// `session` and the workers' turns tell it, from their threads.
+/// the session, and ends at once. The passes of the workers, and then that of the session, are split from this one, such as
+/// a new hub's first pass, and end in it. The gate is told what `session` and the workers' turns tell it, from their threads.
 pub fn serve_one<
     Q: Threads + Wait + Sync,
     L: Ledger + Send + Sync,

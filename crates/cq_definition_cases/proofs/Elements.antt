@@ -1,7 +1,7 @@
 -- Elements, marks and semicolons that the languages refuse.
 use Rattle.std.specs.Str.{bytes_eq}
-use Rattle.std.specs.Prelude.{not, IsFalse, ◌≡◌, ℕ, true, false, Some, Ok, List, [], ◌∷◌, length, codes}
-use Rattle.std.proofs.Common.{arith, ap, refl, inl}
+use Rattle.std.specs.Prelude.{not, IsFalse, ◌≡◌, ◌==◌, ◌||◌, ℕ, true, false, Some, Ok, List, [], ◌∷◌, length, codes}
+use Rattle.std.proofs.Common.{arith, ap, refl, inl, ⊎_elim}
 use Rattle.cq_base.specs.declared.token.Class.TheVariants as class
 use Rattle.cq_base.specs.declared.token.Mark.{Mark}
 use Rattle.cq_base.specs.declared.token.Spelled.{Spelled}
@@ -10,7 +10,7 @@ use Rattle.cq_munch.specs.Comments.{IsBlockComment, IsLineComment}
 use Rattle.cq_munch.specs.Language.{Language}
 use Rattle.cq_munch.specs.Lexed.{IsLexed, mark_of, marks_of, placed, tokens_of, units_of}
 use Rattle.cq_munch.specs.ListingMarks.{said}
-use Rattle.cq_munch.proofs.Steps.{spelled_word}
+use Rattle.cq_munch.proofs.Steps.{spelled_word, word_if}
 use Rattle.cq_munch.proofs.WordLists.{among_passes}
 use Rattle.cq_munch.specs.Longest.{IsAmong, LongestAt}
 use Rattle.cq_munch.specs.Pattern.{Spells, many, only}
@@ -21,17 +21,17 @@ use Rattle.cq_munch.specs.declared.ends.LineEnds.TheVariants as ends
 use Rattle.cq_munch.specs.declared.munching.Lexed.TheVariants as lexed
 use Rattle.cq_munch.specs.declared.quoted.Quote.TheVariants as quotes
 use Rattle.cq_munch.specs.declared.unit.Unit.{Unit}
+use Rattle.ucd_derived.proofs.BinaryLemmas.{is_xid_continue_stepped}
+use Rattle.ucd_table.proofs.Computing.{tables}
+use Rattle.ucd_table.proofs.Facts.{Stepped-below}
 use Rattle.unicode_ident.specs.Ident.{is_xid_continue}
 use Rattle.cq_lex_any.specs.Any.{any}
-use Rattle.cq_lex_c.specs.Ascii.{continues_below}
 use Rattle.cq_lex_c.specs.C.{mode_behind}
-use Rattle.cq_lex_c.specs.Characters.{continues_identifier}
 use Rattle.cq_lex_c.specs.Headers.{IsHeaderAt}
-use Rattle.cq_lex_c.specs.Identifiers.{IsIdentifier}
-use Rattle.cq_lex_c.specs.Numbers.{IsNumber}
-use Rattle.cq_lex_go.specs.Ascii.{letters_below}
+use Rattle.cq_lex_c.specs.Identifiers.{IsIdentifier, identifier}
+use Rattle.cq_lex_c.specs.Numbers.{IsNumber, number}
 use Rattle.cq_lex_go.specs.Semicolons.{completed}
-use Rattle.cq_lex_go.specs.Words.{IsName, is_letter, keywords}
+use Rattle.cq_lex_go.specs.Words.{IsName, name, keywords}
 use Rattle.cq_lex_java.specs.Blocks.{text_block}
 
 -- ---- any language
@@ -69,8 +69,8 @@ a_byte_order_mark_is_no_token h = let e = h.0 in cc
 
 -- a digit begins no identifier and goes on in one
 pub a_digit_goes_on_in_a_run : IsFalse (is_xid_continue 49) → ⊥
-unfolding continues_identifier
-a_digit_goes_on_in_a_run ends = let goes : continues_identifier 49 ≡ true = continues_below 49 (omega arith) in cc
+unfolding tables is_xid_continue_stepped
+a_digit_goes_on_in_a_run ends = let goes : is_xid_continue 49 ≡ true = Stepped-below is_xid_continue is_xid_continue_stepped (λ d b. not (d == 49) || b) 50 refl 49 (omega arith) in cc
 
 -- a text whose tokens are so many, whatever they are
 module _ (lang : Language) (completed : List ℕ → List Spelled → List Spelled) (bytes : List ℕ) where
@@ -89,18 +89,19 @@ a_line_feed_ends_the_directive e = omega (arith, e)
 
 -- `\u123`
 pub a_universal_name_has_four_digits : IsIdentifier (92 ∷ 117 ∷ 49 ∷ 50 ∷ 51 ∷ []) → ⊥
-a_universal_name_has_four_digits h = h.1.1.1
+unfolding identifier
+a_universal_name_has_four_digits h = is_false (spelled_word (92 ∷ 117 ∷ 49 ∷ 50 ∷ 51 ∷ []) (identifier ∷ []) (inl h))
 
 -- `1+`
 pub a_sign_goes_on_only_behind_an_exponent : IsNumber (codes "1+") → ⊥
-a_sign_goes_on_only_behind_an_exponent h = is_false h.1.0
+unfolding number
+a_sign_goes_on_only_behind_an_exponent h = is_false (spelled_word (codes "1+") (number ∷ []) (inl h))
 
 -- `1e+5`
 pub a_sign_goes_on_behind_an_exponent : LongestAt IsNumber (codes "1e+5") (Some 2) → ⊥
+unfolding number
 a_sign_goes_on_behind_an_exponent h =
-    let letter : continues_identifier 101 ≡ true = continues_below 101 (omega arith) in
-    let digit : continues_identifier 53 ≡ true = continues_below 53 (omega arith) in
-    h.longest 4 (omega arith) (omega arith) (refl, (letter, (refl, (digit, tt))))
+    h.longest 4 (omega arith) (omega arith) (⊎_elim (λ own. own) (λ none. absurd none) (word_if (codes "1e+5") (number ∷ []) refl))
 
 -- ---- Go
 
@@ -112,7 +113,8 @@ a_semicolon_follows_return_at_the_end_of_its_line e = omega (arith, ap (λ (ts :
 
 -- `1a`
 pub a_digit_begins_no_name : IsName (codes "1a") → ⊥
-a_digit_begins_no_name h = let other : is_letter 49 ≡ false = letters_below 49 (omega arith) in let letter = h.0 in cc
+unfolding name
+a_digit_begins_no_name h = is_false (spelled_word (codes "1a") (name ∷ []) (inl h))
 
 pub a_longer_word_is_no_keyword : IsAmong keywords (codes "interfaces") → ⊥
 a_longer_word_is_no_keyword among =

@@ -13,9 +13,8 @@ use crate::ScriptOutcome;
 use cq_answer::cause_told;
 use cq_base::{Memory, Settings, Steps};
 use cq_core::{Core, Outcome, Step};
-use cq_work::{Keyer, Work, work_of};
+use cq_work::{Keyer, Work, work_for};
 use std::alloc::Global;
-use std::sync::Arc;
 use std::sync::ledger::Ledger;
 
 fn told(outcome: Outcome) -> ScriptOutcome
@@ -71,8 +70,7 @@ pub(crate) fn finished<L: Ledger>(
     match core.job(change)? {
         None => Ok(ScriptOutcome::No),
         Some(job) => {
-            let work = work_of(alloc, settings, keyer, job.lang, &job.text)?;
-            let work = Arc::new(alloc, work)?;
+            let work = work_for(alloc, settings, keyer, job.lang, &job.text)?;
             let step = Step::Done { by, change, work };
             stepped(alloc, settings, core, step, steps)
         }

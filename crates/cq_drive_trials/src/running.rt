@@ -5,7 +5,7 @@ use cq_base::{Memory, Settings, Steps};
 use cq_drive::drive;
 use cq_io::{MemSink, MemSource};
 use cq_lines::{End, Lines};
-use cq_work::{Keyer, plain_key};
+use cq_work::Keyer;
 use std::alloc::Global;
 use std::marker::Brand;
 use std::sync::ledger::{Blank, Ledger};
@@ -23,9 +23,7 @@ fn written<R: Threads + Sync, L: Ledger>(
     requires name { blank.name ≡ L.name }
     requires parts { blank.parts ≡ L.parts }
 {
-    let of = *settings;
-    let key = Box::new(alloc, move |codes: &[u64]| plain_key(&of, codes))?;
-    let keyer = Keyer::new(settings, key);
+    let keyer = Keyer::plain(settings);
     let mut lines = Lines::new(alloc, settings.byte_limit)?;
     let bytes = Vec::from_slice(alloc, script)?;
     let mut source = MemSource::new(bytes, 4_099, Vec::new(alloc));

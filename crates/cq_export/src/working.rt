@@ -1,33 +1,13 @@
-ghost use Rattle.std.specs.Prelude.{◌≡◌, IfOk, OnOk};
-ghost use Rattle.std.specs.Arc.{arc_value};
+ghost use Rattle.std.specs.Prelude.{◌≡◌, OnOk};
 ghost use Rattle.cq_base.specs.Settings.{IsInRange};
-ghost use Rattle.cq_board.specs.Sound.{HasSoundText};
 ghost use Rattle.cq_export.specs.Boards.{AreMade, Holds, IsMade};
 ghost use Rattle.cq_history.specs.State.{IsAccepted};
-ghost use Rattle.cq_work.specs.Work.{IsWorkOf};
 
 use cq_base::{Memory, Settings};
-use cq_board::{Board, Finished, Job};
-use cq_work::{Keyer, Work, work_of};
+use cq_board::{Board, Finished};
+use cq_work::{Keyer, Work, work_for};
 use std::alloc::Global;
-use std::sync::Arc;
 use std::sync::ledger::Ledger;
-
-fn work_for<L: Ledger>(
-    alloc: Global,
-    settings: &Settings,
-    keyer: &Keyer,
-    job: &Job,
-) -> Result<Arc<Work<L>, Global>, Memory>
-    requires in_range { IsInRange settings.now }
-    requires settings { keyer.now.settings ≡ settings.now }
-    requires sound { HasSoundText job.now }
-    ensures { IfOk result (λ work.
-        IsWorkOf settings.now job.now.lang (arc_value job.now.text) (arc_value work)) }
-{
-    let work = work_of(alloc, settings, keyer, job.lang, &job.text)?;
-    Ok(Arc::new(alloc, work)?)
-}
 
 // The work of a change is done.
 fn make_one<L: Ledger>(
@@ -46,7 +26,7 @@ fn make_one<L: Ledger>(
     match board.job(change) {
         Err(Memory) => Err(Memory),
         Ok(None) => Ok(()),
-        Ok(Some(job)) => match work_for(alloc, settings, keyer, &job) {
+        Ok(Some(job)) => match work_for(alloc, settings, keyer, job.lang, &job.text) {
             Err(Memory) => Err(Memory),
             Ok(work) => match board.done(0, change, work) {
                 Finished::Done => Ok(()),

@@ -3,7 +3,7 @@ ghost use Rattle.std.specs.Prelude.{◌≡◌};
 use cq_base::{Memory, Settings, Steps};
 use cq_groups::Buckets;
 use cq_tokfile::{Encoded, Loaded, Snapshot, decode, encode};
-use cq_work::{Keyer, plain_key};
+use cq_work::Keyer;
 use std::alloc::Global;
 use std::marker::Brand;
 use std::sync::ledger::{Blank, Ledger};
@@ -117,8 +117,7 @@ fn written_again<L: Ledger>(
     if settings.chunk == 0 {
         return Ok(false);
     }
-    let key = Box::new(alloc, move |codes: &[u64]| plain_key(&settings, codes))?;
-    let keyer = Keyer::new(&settings, key);
+    let keyer = Keyer::plain(&settings);
     let mut steps: Steps<L> = Steps::new(blank);
     match decode::<L>(alloc, &settings, &keyer, bytes)? {
         Some(snapshot) => match encode(alloc, &settings, &snapshot, &mut steps)? {
@@ -172,8 +171,7 @@ fn what_breaks_a_rule_is_no_file(rt: HostRuntime) -> Result<(), Memory> {
 
 // How many windows of the first file of a token file have the key of its first window, and how many have another key.
 fn windows(alloc: Global, bytes: &[u8]) -> Result<Option<(usize, usize)>, Memory> {
-    let key = Box::new(alloc, |codes: &[u64]| plain_key(&SETTINGS, codes))?;
-    let keyer = Keyer::new(&SETTINGS, key);
+    let keyer = Keyer::plain(&SETTINGS);
     let found: Option<Snapshot<Brand>> = decode(alloc, &SETTINGS, &keyer, bytes)?;
     let Some(snapshot) = found else {
         return Ok(None);

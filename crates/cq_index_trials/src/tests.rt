@@ -8,7 +8,7 @@ use cq_order::order;
 use cq_scan::scan;
 use cq_talk_model::Draws;
 use cq_tokens::{Corpus, FileTokens, PlainFiles};
-use cq_work::{Keyer, files_are_keyed_by_their_windows, plain_key};
+use cq_work::{Keyer, files_are_keyed_by_their_windows};
 use std::alloc::Global;
 use std::marker::Brand;
 use std::sync::ledger::{Blank, Ledger};
@@ -115,8 +115,7 @@ fn trials<L: Ledger>(
         key_bits: bits,
         ..SETTINGS
     };
-    let key = Box::new(alloc, move |codes: &[u64]| plain_key(&settings, codes))?;
-    let keyer = Keyer::new(&settings, key);
+    let keyer = Keyer::plain(&settings);
     let mut steps: Steps<L> = Steps::new(blank);
     let mut draws = Draws::new(1);
     let mut alike = 0u32;

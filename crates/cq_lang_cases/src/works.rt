@@ -1,7 +1,7 @@
 ghost use Rattle.std.specs.Prelude.{◌≡◌, ◌≤◌};
 
 use cq_base::{Lang, Memory, Settings, Text};
-use cq_work::{Keyer, State, plain_key, work_of};
+use cq_work::{Keyer, State, work_of};
 use std::alloc::Global;
 use std::marker::Brand;
 
@@ -29,8 +29,7 @@ fn works(
     if text.len() > 1_048_576 {
         return Ok(false);
     }
-    let key = Box::new(alloc, |codes: &[u64]| plain_key(&SETTINGS, codes))?;
-    let keyer = Keyer::new(&SETTINGS, key);
+    let keyer = Keyer::plain(&SETTINGS);
     let text = Text::from_bytes(alloc, text.as_bytes())?;
     let work = work_of::<Brand>(alloc, &SETTINGS, &keyer, lang, &text)?;
     Ok(
@@ -104,8 +103,7 @@ fn functions_are_of_all_tokens(rt: HostRuntime) -> Result<(), Memory> {
 #[test]
 fn a_window_has_the_key_of_its_codes(rt: HostRuntime) -> Result<(), Memory> {
     let alloc = rt.alloc();
-    let key = Box::new(alloc, |codes: &[u64]| plain_key(&SETTINGS, codes))?;
-    let keyer = Keyer::new(&SETTINGS, key);
+    let keyer = Keyer::plain(&SETTINGS);
     let text = Text::from_bytes(alloc, b"a b")?;
     if text.as_bytes().len() <= 100 {
         let work = work_of::<Brand>(alloc, &SETTINGS, &keyer, Lang::Any, &text)?;

@@ -1,49 +1,62 @@
 -- A blank, which its character tells, with the mode behind it.
-use Rattle.std.proofs.Common.{◌≡◌, ℕ, ◌+◌, ◌<◌, Some, true, false, ◌&&◌, ◌==◌, cond, List, [], ◌∷◌, length, drop, refl, sym, ap, subst, ◌∙◌, arith}
-use Rattle.std.proofs.lemmas.Bool.{and_right}
+use Rattle.std.proofs.Common.{◌≡◌, ℕ, suc, ◌+◌, ◌-◌, ◌<◌, ◌≤◌, Some, None, true, false, ◌&&◌, ◌||◌, ◌==◌, not, cond, List, [], ◌∷◌, length, drop, map, refl, sym, ap, subst, ◌∙◌, arith}
+use Rattle.std.proofs.lemmas.Bool.{and_left, and_right, eqb-true}
+use Rattle.std.proofs.lemmas.Grind.{common_steps}
+use Rattle.cq_base.proofs.Bools.{or-implies}
+use Rattle.cq_munch.specs.Automata.{entry_at}
 use Rattle.cq_munch.specs.Characters.{characters}
 use Rattle.cq_munch.specs.Language.{Takes, marked}
 use Rattle.cq_munch.specs.Lexed.{unit_at}
-use Rattle.cq_munch.specs.Longest.{LongestAt}
+use Rattle.cq_munch.specs.Table.{begins, table}
 use Rattle.cq_munch.specs.declared.element.Found.{Found}
 use Rattle.cq_munch.specs.declared.element.Spell.TheVariants.{Blank}
+use Rattle.cq_munch.specs.declared.ends.LineEnds.TheVariants.{Feed}
 use Rattle.cq_munch.specs.declared.unit.Unit.{Unit}
 use Rattle.cq_munch.proofs.Blanks.{no_mark, from_unit}
-use Rattle.cq_munch.proofs.CharacterTests.{apart_by}
-use Rattle.cq_munch.proofs.Dispatch.{one_of}
-use Rattle.cq_munch.proofs.Joining.{one_row_taken, takes_rest}
+use Rattle.cq_munch.proofs.CharacterTests.{apart_by, low_by}
+use Rattle.cq_munch.proofs.Joining.{row_more, takes_rest, no_comment}
 use Rattle.cq_munch.proofs.Marks.{takes_unmarked}
-use Rattle.cq_munch.proofs.WordLists.{has_word, same_word}
-use Rattle.cq_lex_c.specs.C.{is_blank, blank_characters, blanks, headers, opens_header, with_comments, unmarked, moded, mode_behind}
-use Rattle.cq_lex_c.specs.Fronts.{front_of, at_blank}
+use Rattle.cq_munch.proofs.Reserving.{free_taken}
+use Rattle.cq_munch.proofs.RowScans.{alone, one_there}
+use Rattle.cq_munch.proofs.Seen.{itself_below}
+use Rattle.cq_munch.proofs.Tables.{below_each}
+use Rattle.cq_lex_c.specs.C.{is_blank, no_names, unquoted, rows, texts as text_row, prefixed, headers, opens_header, with_comments, unmarked, moded, mode_behind}
+use Rattle.cq_lex_c.specs.Characters.{begins_identifier, continues_identifier, stood}
 use Rattle.cq_lex_c.specs.Headers.{closes, has_header}
-use Rattle.cq_lex_c.specs.Starts.{known, blank_test}
-use Rattle.cq_lex_c.specs.declared.element.Front.{Front}
-use Rattle.cq_lex_c.specs.declared.element.Front.TheVariants as fronts
-use Rattle.cq_lex_c.proofs.Dispatch.{not_at_slash}
+use Rattle.cq_lex_c.specs.Identifiers.{identifier, keywords}
+use Rattle.cq_lex_c.specs.OneKind.{scanner, scanner_fits, is_scanner}
+use Rattle.cq_lex_c.specs.Scanner.{scanned, texts}
+use Rattle.cq_lex_c.specs.declared.scanner.TheConstants.{NAMES, SPELLS}
 use Rattle.cq_lex_c.proofs.Elements.{with_mode}
+use Rattle.cq_lex_c.proofs.Fitting.{text_none, prefixed_none}
 
-only_blank : (f : Front) → at_blank f ≡ true → f ≡ fronts.Blank
-only_blank fronts.Blank h = refl
-only_blank fronts.Letter h = absurd (cc)
-only_blank fronts.Digit h = absurd (cc)
-only_blank fronts.Point h = absurd (cc)
-only_blank fronts.Slash h = absurd (cc)
-only_blank fronts.Quote h = absurd (cc)
-only_blank fronts.Backslash h = absurd (cc)
-only_blank fronts.Other h = absurd (cc)
+blank_past : (c : ℕ) → 128 ≤ c → is_blank c ≡ false
+blank_past c high = grind (arith, common_steps)
 
-front_is : (c : ℕ) → is_blank c ≡ true → front_of c ≡ fronts.Blank
-front_is c is = only_blank (front_of c) (sym (blank_test c) ∙ is)
+-- the state to which a blank leads
+abbrev blank : ℕ
+blank = entry_at scanner 0 32 - 1
+
+leads : (c : ℕ) → is_blank c ≡ true → entry_at scanner 0 (stood c) ≡ suc blank
+leads c is =
+    let low = low_by is_blank blank_past c is in
+    ap (entry_at scanner 0) (itself_below begins_identifier continues_identifier c low)
+    ∙ eqb-true (entry_at scanner 0 c) (suc blank) (or-implies (is_blank c) (entry_at scanner 0 c == suc blank) (below_each 128 (λ d. not (is_blank d) || (entry_at scanner 0 d == suc blank)) refl c low) is)
+
+is_false : false ≡ true → ⊥
+is_false e = cc
 
 -- the element of one
 abbrev pub one_blank : ℕ → Found
 one_blank mode = record { spell = Blank; units = 1; mode = mode }
 
 module _ (at mode c : ℕ) (text : List ℕ) (is : is_blank c ≡ true) where
-  longest_blank : LongestAt blanks.set (c ∷ text) (Some 1)
-  unfolding has_word same_word
-  longest_blank = one_of known at_blank blank_characters refl refl refl refl (c ∷ text) (omega arith) (ap at_blank (front_is c is))
+  -- none of these characters
+  other : (n : ℕ) → is_blank n ≡ false → c ≡ n → ⊥
+  other n fails e = absurd (let bad : false ≡ true = sym fails ∙ ap is_blank (sym e) ∙ is in cc)
+
+  no_slash : (rest : List ℕ) → begins (47 ∷ rest) (c ∷ text) ≡ false
+  no_slash rest = and_left (c == 47) (begins rest text) (apart_by is_blank 47 refl c is)
 
   -- no header name begins with it
   no_header : opens_header at mode (c ∷ text) ≡ false
@@ -51,11 +64,17 @@ module _ (at mode c : ℕ) (text : List ℕ) (is : is_blank c ≡ true) where
       and_right (mode == 2) (has_header (c ∷ text))
       (ap (λ b. cond b (closes 62 false text) ((c == 34) && closes 34 false text)) (apart_by is_blank 60 refl c is) ∙ ap (λ b. b && closes 34 false text) (apart_by is_blank 34 refl c is))
 
+  without_quotes : Takes (table unquoted) at mode (c ∷ text) (Some (one_blank mode))
+  without_quotes =
+      free_taken stood identifier keywords no_names NAMES SPELLS scanner is_scanner at mode (c ∷ text) (one_blank mode) (λ e among. is_false e)
+      (one_there scanned texts scanner scanner_fits SPELLS refl at mode (map stood (c ∷ text)) 1 1 Blank (alone scanner (stood c) blank 1 (map stood text) (leads c is) refl refl) refl)
+
   blank_unmoded : Takes unmarked at mode (c ∷ text) (Some (one_blank mode))
   blank_unmoded =
       takes_rest opens_header (headers ∷ []) with_comments at mode (c ∷ text) no_header (Some (one_blank mode))
-      (not_at_slash at mode (c ∷ text) (omega arith) (Some (one_blank mode)) fronts.Blank (front_is c is) refl
-      (one_row_taken at mode (c ∷ text) blanks (Some 1) (Some (one_blank mode)) refl longest_blank))
+      (no_comment Feed (table rows) at mode (c ∷ text) (Some (one_blank mode)) (no_slash (42 ∷ [])) (no_slash (47 ∷ []))
+      (row_more at mode (c ∷ text) text_row (prefixed ∷ unquoted) None None (Some (one_blank mode)) (Some (one_blank mode)) refl refl (text_none (c ∷ text) (other 34 refl) (other 39 refl))
+      (row_more at mode (c ∷ text) prefixed unquoted None None (Some (one_blank mode)) (Some (one_blank mode)) refl refl (prefixed_none (c ∷ text) (other 117 refl) (other 85 refl) (other 76 refl)) without_quotes)))
 
   blank_first : (behind : ℕ) → behind ≡ mode_behind mode Blank (c ∷ []) → Takes (marked (moded unmarked)) at mode (c ∷ text) (Some (one_blank behind))
   blank_first behind is_behind =

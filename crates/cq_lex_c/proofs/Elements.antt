@@ -1,54 +1,25 @@
 -- The element at the front of a text, row by row.
-use Rattle.std.proofs.Common.{◌≡◌, ℕ, zero, suc, ◌<◌, ◌≤◌, Option, Some, None, Bool, true, false, ◌&&◌, ◌==◌, not, cond, List, [], ◌∷◌, ◌++◌, length, get_or, take, All, refl, sym, subst, ap, ◌∙◌, ⊎_elim, arith}
-use Rattle.std.specs.Prelude.{IfSome, IfNone, IsTrue, IsFalse, codes}
+use Rattle.std.proofs.Common.{◌≡◌, ℕ, zero, suc, ◌<◌, ◌≤◌, Option, Some, None, Bool, true, false, ◌&&◌, ◌==◌, not, cond, List, [], ◌∷◌, ◌⊎◌, inl, inr, length, take, All, refl, sym, subst, ap, ◌∙◌, ⊎_elim, arith}
+use Rattle.std.specs.Prelude.{IfSome, IfNone, IsTrue, IsFalse, MatchBool, codes}
 use Rattle.std.specs.Str.{bytes_eq}
 use Rattle.std.proofs.lemmas.Bool.{and_parts, and_right, not-true, false_from_ne_true}
 use Rattle.std.proofs.lemmas.Slice.Eq.{bytes_eq-Decides}
 use Rattle.cq_base.proofs.Bools.{MatchBool-from_false, MatchBool-from_true}
 use Rattle.cq_munch.specs.declared.element.Found.{Found}
-use Rattle.cq_munch.specs.declared.element.Spell.{Spell}
 use Rattle.cq_munch.specs.Language.{Language, Takes}
 use Rattle.cq_munch.specs.Longest.{IsLongest, LongestAt}
-use Rattle.cq_munch.specs.Table.{Row, InTable, table, better}
-use Rattle.cq_munch.proofs.Joining.{two_tables}
 use Rattle.cq_munch.proofs.WordLists.{low_at}
-use Rattle.cq_lex_c.specs.Ascii.{keyword_is_identifier}
-use Rattle.cq_lex_c.specs.Starts.{matched}
-use Rattle.cq_lex_c.specs.C.{identifiers, reserved, IsOther, moded, mode_behind}
+use Rattle.cq_lex_c.specs.C.{moded, mode_behind}
 use Rattle.cq_lex_c.specs.Headers.{EndsAt, IsHeader, closes, has_header}
-use Rattle.cq_lex_c.specs.Identifiers.{IsIdentifier}
 
--- ---- identifiers and keywords
-
-pub name_of_row : (spell : Spell) (s : List ℕ) → InTable (identifiers ∷ reserved ∷ []) spell s → IsIdentifier s
-name_of_row spell s h = ⊎_elim (λ own. own.1.0) (λ other. ⊎_elim (λ word. keyword_is_identifier s word.1) (λ none. absurd none) other) h
+pub matched : (b : Bool) (P Q : Type 0) → MatchBool b P Q → ((b ≡ true) × P) ⊎ ((b ≡ false) × Q)
+matched true P Q h = inl (refl, h)
+matched false P Q h = inr (refl, h)
 
 pub include_is_short : (s : List ℕ) → bytes_eq s (codes "include") ≡ true → (length s ≤ 7) × All (λ c. c < 128) s
 include_is_short s h =
     let is : s ≡ codes "include" = (bytes_eq-Decides s (codes "include")).0 h in
     subst (λ w. (length w ≤ 7) × All (λ c. c < 128) w) (sym is) (omega arith, low_at (codes "include") refl)
-
--- ---- one row
-
--- two tables
-pub joined : (at mode : ℕ) (text : List ℕ) (xs ys : List Row) (a b all : Option Found) → all ≡ better a b → Takes (table xs) at mode text a → Takes (table ys) at mode text b → Takes (table (xs ++ ys)) at mode text all
-joined at mode text xs ys a b all is h k = subst (Takes (table (xs ++ ys)) at mode text) (sym is) (two_tables at mode text xs ys a b h k)
-
--- a character alone
-pub one_other : (text : List ℕ) → 0 < length text → IsOther (get_or text 0 0 ∷ []) → LongestAt IsOther text (Some 1)
-one_other [] some other = absurd (omega arith)
-one_other (c ∷ t) some other = record {
-  some = omega arith;
-  within = omega arith;
-  spelled = other;
-  longest = by t;
-}
-  where
-    by : (u : List ℕ) (m : ℕ) → 1 < m → m ≤ length (c ∷ u) → IsOther (take m (c ∷ u)) → ⊥
-    by u zero more within h = omega arith
-    by u (suc zero) more within h = omega arith
-    by [] (suc (suc m)) more within h = omega arith
-    by (d ∷ u) (suc (suc m)) more within h = h
 
 -- ---- header names
 

@@ -5,7 +5,5 @@ pub mod Splicing
 pub mod HeaderNames
 pub mod Fitting
 pub mod Elements
-pub mod NameScans
-pub mod Dispatch
 pub mod Blanks
 pub mod OpenComments

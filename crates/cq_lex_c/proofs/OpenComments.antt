@@ -1,7 +1,6 @@
 -- The only place of a text where nothing is taken is that of a comment that is not closed.
-use Rattle.std.proofs.Common.{◌≡◌, ℕ, zero, suc, ◌<◌, ◌≤◌, None, Bool, true, false, not, nat_lt, ◌||◌, ◌==◌, List, [], ◌∷◌, length, take, drop, refl, sym, subst, ap, ◌∙◌, inl, inr, arith, length-drop}
-use Rattle.std.specs.Char.{is_ascii_digit}
-use Rattle.std.proofs.lemmas.Bool.{eqb-true, and_parts}
+use Rattle.std.proofs.Common.{◌≡◌, ℕ, zero, suc, ◌<◌, ◌≤◌, None, Bool, true, false, nat_lt, ◌==◌, List, [], ◌∷◌, length, take, drop, refl, sym, subst, ap, inl, inr, arith, length-drop}
+use Rattle.std.proofs.lemmas.Bool.{eqb-true, ltb-true, and_parts}
 use Rattle.std.proofs.lemmas.List.{length-map}
 use Rattle.cq_base.proofs.Bools.{MatchBool-from_true, MatchBool-from_false}
 use Rattle.cq_munch.specs.Characters.{characters}
@@ -15,19 +14,21 @@ use Rattle.cq_munch.specs.declared.ends.LineEnds.TheVariants.{Feed}
 use Rattle.cq_munch.specs.declared.element.Spell.{Spell}
 use Rattle.cq_munch.specs.declared.element.Spell.TheVariants.{Blank, Comment, Token}
 use Rattle.cq_munch.specs.declared.unit.Unit.{Unit}
-use Rattle.cq_base.specs.declared.token.Class.TheVariants.{Ident, Word, Literal, Punct}
-use Rattle.cq_munch.proofs.WordLists.{among_passes, has_word, same_word, has_word-among}
-use Rattle.cq_munch.proofs.Dispatch.{only_chars}
-use Rattle.cq_lex_c.specs.Ascii.{begins_below}
-use Rattle.cq_lex_c.specs.C.{c, rows, unmarked, with_comments, is_blank, blank_characters, opens_header}
-use Rattle.cq_lex_c.specs.Characters.{begins_identifier}
+use Rattle.cq_base.specs.declared.token.Class.TheVariants.{Word}
+use Rattle.cq_munch.specs.Automata.{HasRow, row_of}
+use Rattle.cq_munch.proofs.Reserving.{unless_reserved}
+use Rattle.cq_munch.proofs.RowScans.{row_there}
+use Rattle.cq_munch.proofs.Seen.{in_seen, seen_below}
+use Rattle.cq_munch.proofs.Tables.{below_each}
+use Rattle.cq_munch.proofs.WordLists.{among_passes}
+use Rattle.cq_lex_c.specs.C.{c, rows, no_names, unmarked, with_comments, opens_header}
+use Rattle.cq_lex_c.specs.Characters.{begins_identifier, continues_identifier, stood}
+use Rattle.cq_lex_c.specs.Identifiers.{identifier, keywords}
+use Rattle.cq_lex_c.specs.OneKind.{scanner, scanner_fits, is_scanner}
+use Rattle.cq_lex_c.specs.Scanner.{scanned, texts}
+use Rattle.cq_lex_c.specs.declared.scanner.TheConstants.{NAMES, SPELLS}
 use Rattle.cq_lex_c.specs.Headers.{has_header}
-use Rattle.cq_lex_c.specs.Identifiers.{IsIdentifier, IsTail, keywords}
-use Rattle.cq_lex_c.specs.Numbers.{IsNumber}
 use Rattle.cq_lex_c.specs.OpenComments.{IsOpenComment}
-use Rattle.cq_lex_c.specs.declared.identifier.Identifier.TheVariants as name_at
-use Rattle.cq_lex_c.specs.Fronts.{at_blank}
-use Rattle.cq_lex_c.specs.Starts.{known, blank_test}
 use Rattle.cq_lex_c.proofs.Elements.{header_not}
 
 -- ---- a row has each character
@@ -35,39 +36,18 @@ use Rattle.cq_lex_c.proofs.Elements.{header_not}
 no_keyword : (d : ℕ) → IsAmong keywords (d ∷ []) → ⊥
 no_keyword d among = let short : nat_lt 1 1 ≡ true = among_passes keywords (λ w. nat_lt 1 (length w)) (d ∷ []) refl among in absurd (cc)
 
-name_of : (d : ℕ) → begins_identifier d ≡ true → IsIdentifier (d ∷ [])
-name_of d letter = by (d == 92) refl
-  where
-    by : (b : Bool) → (d == 92) ≡ b → IsIdentifier (d ∷ [])
-    by true e =
-        let is : d ≡ 92 = eqb-true d 92 e in
-        let bad : false ≡ true = sym (begins_below 92 (omega arith)) ∙ sym (ap begins_identifier is) ∙ letter in absurd (cc)
-    by false e = MatchBool-from_false (d == 92) (IsTail name_at.Mark []) _ e (letter, tt)
+-- the table has a row for each character that it sees
+rowed : (d : ℕ) → HasRow scanner (stood d ∷ [])
+rowed d = ltb-true 0 (row_of scanner (stood d ∷ [])) (below_each 131 (λ n. nat_lt 0 (row_of scanner (n ∷ []))) refl (stood d) (seen_below begins_identifier continues_identifier d))
 
-number_of : (d : ℕ) → is_ascii_digit d ≡ true → IsNumber (d ∷ [])
-number_of d digit = by (d == 46) refl
-  where
-    by : (b : Bool) → (d == 46) ≡ b → IsNumber (d ∷ [])
-    by true e = let is : d ≡ 46 = eqb-true d 46 e in let bad : false ≡ true = sym (ap is_ascii_digit is) ∙ digit in absurd (cc)
-    by false e = MatchBool-from_false (d == 46) ⊥ _ e (digit, tt)
-
-blank_there : (d : ℕ) → is_blank d ≡ true → IsAmong blank_characters (d ∷ [])
-unfolding has_word same_word
-blank_there d h = has_word-among (d ∷ []) blank_characters (only_chars known at_blank (λ e. has_word (e ∷ []) blank_characters) refl refl refl d (sym (blank_test d) ∙ h))
-
-row_of : (d : ℕ) → (spell : Spell) × InTable rows spell (d ∷ [])
-row_of d = by (is_blank d) (begins_identifier d) (is_ascii_digit d) refl refl refl
-  where
-    by : (blank letter digit : Bool) → is_blank d ≡ blank → begins_identifier d ≡ letter → is_ascii_digit d ≡ digit → (spell : Spell) × InTable rows spell (d ∷ [])
-    by true letter digit h k l = (Blank, inr (inr (inl (refl, blank_there d h))))
-    by false true digit h k l = (Token Ident, inl (refl, (name_of d k, no_keyword d)))
-    by false false true h k l = (Token Literal, inr (inr (inr (inl (refl, number_of d l)))))
-    by false false false h k l =
-        (Token Punct, inr (inr (inr (inr (inr (inr (inr (inl (refl, ap (λ x. not (x || (begins_identifier d || is_ascii_digit d))) h ∙ ap (λ x. not (x || is_ascii_digit d)) k ∙ ap not l)))))))))
+row_of_one : (d : ℕ) → (spell : Spell) × InTable rows spell (d ∷ [])
+row_of_one d =
+    let row = row_there scanned texts scanner scanner_fits (stood d ∷ []) (rowed d) in
+    (row.0, inr (inr (unless_reserved stood identifier keywords no_names NAMES SPELLS scanner is_scanner row.0 (d ∷ []) (λ e among. no_keyword d among) ((in_seen stood scanned row.0 (d ∷ [])).1 row.1))))
 
 first_row : (text : List ℕ) → 0 < length text → (spell : Spell) × InTable rows spell (take 1 text)
 first_row [] some = absurd (omega arith)
-first_row (d ∷ s) some = row_of d
+first_row (d ∷ s) some = row_of_one d
 
 -- ---- what stands at an opener
 

@@ -1,20 +1,20 @@
 -- The table of C's elements, and its modes. Mode 0 is at the beginning of a line, mode 1 after a hash that begins one,
 -- mode 2 after the word include that follows it, and mode 3 anywhere else.
-use Rattle.std.specs.Prelude.{ℕ, Bool, ◌&&◌, ◌||◌, ◌==◌, not, if◌then◌else◌, List, [], ◌∷◌, IsTrue, codes}
+use Rattle.std.specs.Prelude.{ℕ, Bool, ◌&&◌, ◌||◌, ◌==◌, if◌then◌else◌, List, [], ◌∷◌, codes}
 use Rattle.std.specs.Str.{bytes_eq}
-use Rattle.std.specs.Char.{is_ascii_digit}
-use Rattle.cq_base.specs.declared.token.Class.TheVariants.{Ident, Word, Literal, Punct}
+use Rattle.cq_base.specs.declared.token.Class.TheVariants.{Word, Literal, Punct}
 use Rattle.cq_munch.specs.Commented.{commented}
 use Rattle.cq_munch.specs.Language.{Language, marked}
-use Rattle.cq_munch.specs.Longest.{IsAmong}
+use Rattle.cq_munch.specs.Pattern.{Pattern, except, ◌∣◌}
+use Rattle.cq_munch.specs.Patterned.{any_word, Patterned, with_reserved}
 use Rattle.cq_munch.specs.Table.{Row, table, first}
 use Rattle.cq_munch.specs.declared.element.Spell.{Spell}
 use Rattle.cq_munch.specs.declared.element.Spell.TheVariants.{Blank, Comment, Token}
 use Rattle.cq_munch.specs.declared.ends.LineEnds.TheVariants.{Feed}
-use Rattle.cq_lex_c.specs.Characters.{begins_identifier}
+use Rattle.cq_lex_c.specs.Characters.{stood}
 use Rattle.cq_lex_c.specs.Headers.{IsHeader, has_header}
-use Rattle.cq_lex_c.specs.Identifiers.{IsIdentifier, keywords}
-use Rattle.cq_lex_c.specs.Numbers.{IsNumber}
+use Rattle.cq_lex_c.specs.Identifiers.{identifier, keywords}
+use Rattle.cq_lex_c.specs.Numbers.{number}
 use Rattle.cq_lex_c.specs.Punctuators.{punctuators}
 use Rattle.cq_lex_c.specs.Texts.{IsText, IsPrefixed}
 
@@ -25,45 +25,26 @@ blank_characters = (32 ∷ []) ∷ (9 ∷ []) ∷ (11 ∷ []) ∷ (12 ∷ []) �
 abbrev pub is_blank : ℕ → Bool
 is_blank c = (c == 32) || ((c == 9) || ((c == 11) || ((c == 12) || ((c == 13) || (c == 10)))))
 
-abbrev pub identifiers : Row
-identifiers = record { spell = Token Ident; set = λ s. IsIdentifier s × (IsAmong keywords s → ⊥) }
-
-abbrev pub reserved : Row
-reserved = record { spell = Token Word; set = IsAmong keywords }
-
--- identifiers and keywords
-abbrev pub name_rows : List Row
-name_rows = identifiers ∷ reserved ∷ []
-
-abbrev pub blanks : Row
-blanks = record { spell = Blank; set = IsAmong blank_characters }
-
-abbrev pub numbers : Row
-numbers = record { spell = Token Literal; set = IsNumber }
-
 abbrev pub texts : Row
 texts = record { spell = Token Literal; set = IsText }
 
 abbrev pub prefixed : Row
 prefixed = record { spell = Token Literal; set = IsPrefixed }
 
-abbrev pub marks : Row
-marks = record { spell = Token Punct; set = IsAmong punctuators }
-
 -- any other one character: no blank, and none that begins an identifier or a number
-abbrev pub is_other : ℕ → Bool
-is_other c = not (is_blank c || (begins_identifier c || is_ascii_digit c))
+unfoldable pub other : Pattern
+other = except ((32, 32) ∷ (9, 13) ∷ (48, 57) ∷ (65, 90) ∷ (97, 122) ∷ (95, 95) ∷ (36, 36) ∷ (128, 128) ∷ [])
 
-abbrev pub IsOther : List ℕ → Type 0
-IsOther [] = ⊥
-IsOther (c ∷ []) = IsTrue (is_other c)
-IsOther (c ∷ d ∷ s) = ⊥
+-- blanks, numbers and punctuators
+abbrev pub no_names : Patterned
+no_names = (Blank, any_word blank_characters) ∷ (Token Literal, number) ∷ (Token Punct, any_word punctuators ∣ other) ∷ []
 
-abbrev pub others : Row
-others = record { spell = Token Punct; set = IsOther }
+-- identifiers, of which the keywords are words, and all other rows without quotes
+abbrev pub unquoted : List Row
+unquoted = with_reserved stood identifier keywords no_names
 
 abbrev pub rows : List Row
-rows = identifiers ∷ reserved ∷ blanks ∷ numbers ∷ texts ∷ prefixed ∷ marks ∷ others ∷ []
+rows = texts ∷ prefixed ∷ unquoted
 
 abbrev pub headers : Row
 headers = record { spell = Token Word; set = IsHeader }

@@ -1,5 +1,4 @@
 pub mod Characters
-pub mod AsciiNames
 pub mod Splices
 pub mod Staying
 pub mod Identifiers
@@ -10,10 +9,7 @@ pub mod Quoting
 pub mod Headers
 pub mod HeaderNames
 pub mod Punctuators
-pub mod Scanner
 pub mod C
-pub mod Fronts
-pub mod Ascii
-pub mod Starts
+pub mod Scanner
 pub mod OneKind
 pub mod OpenComments

@@ -1,4 +1,3 @@
-pub mod NameScans
 pub mod Blanks
 pub mod Inserting
 pub mod FinalTokens

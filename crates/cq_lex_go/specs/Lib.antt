@@ -1,9 +1,7 @@
 pub mod Words
-pub mod NameStates
 pub mod Numbers
 pub mod RawStrings
 pub mod Go
-pub mod Ascii
 pub mod Scanner
 pub mod OneKind
 pub mod Semicolons

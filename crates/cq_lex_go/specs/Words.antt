@@ -1,7 +1,8 @@
 -- Blanks, names, keywords and punctuation (Go specification, "Tokens", "Identifiers", "Keywords", "Operators and
 -- punctuation", "Letters and digits").
-use Rattle.std.specs.Prelude.{ℕ, Bool, true, false, ◌||◌, ◌==◌, List, [], ◌∷◌, IsTrue, codes}
-use Rattle.std.specs.List.{AllByRecursion}
+use Rattle.std.specs.Prelude.{ℕ, Bool, true, false, ◌||◌, ◌==◌, List, [], ◌∷◌, map, codes}
+use Rattle.cq_munch.specs.Pattern.{Pattern, Spells, among, many, ◌▸◌, ◌∣◌}
+use Rattle.cq_munch.specs.Characters.{seen_as}
 use Rattle.ucd_category.specs.GeneralCategory.{general_category}
 use Rattle.ucd_category.specs.declared.GeneralCategory.{GeneralCategory}
 use Rattle.ucd_category.specs.declared.GeneralCategory.TheVariants.{UppercaseLetter, LowercaseLetter, TitlecaseLetter, ModifierLetter, OtherLetter, DecimalNumber}
@@ -31,10 +32,23 @@ is_digit_category _ = false
 unfoldable pub is_letter : ℕ → Bool
 is_letter c = (c == 95) || is_letter_category (general_category c)
 
-unfoldable pub is_letter_or_digit : ℕ → Bool
-is_letter_or_digit c = is_letter c || is_digit_category (general_category c)
+unfoldable pub is_digit : ℕ → Bool
+is_digit c = is_digit_category (general_category c)
+
+-- how patterns see a character
+abbrev pub stood : ℕ → ℕ
+stood c = seen_as is_letter is_digit c
+
+-- letters and the underscore, and digits, past ASCII too
+abbrev pub letter : Pattern
+letter = among ((65, 90) ∷ (97, 122) ∷ (95, 95) ∷ (128, 128) ∷ [])
+
+abbrev pub unicode_digit : Pattern
+unicode_digit = among ((48, 57) ∷ (129, 129) ∷ [])
 
 -- a letter, then letters and digits
+unfoldable pub name : Pattern
+name = letter ▸ many (letter ∣ unicode_digit)
+
 abbrev pub IsName : List ℕ → Type 0
-IsName [] = ⊥
-IsName (c ∷ cs) = IsTrue (is_letter c) × AllByRecursion (λ d. IsTrue (is_letter_or_digit d)) cs
+IsName s = Spells name (map stood s)

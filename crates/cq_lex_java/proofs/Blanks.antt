@@ -1,6 +1,6 @@
 -- A blank, which its character tells.
-use Rattle.std.proofs.Common.{◌≡◌, ℕ, suc, ◌+◌, ◌-◌, ◌<◌, ◌≤◌, Some, Bool, true, false, ◌&&◌, ◌||◌, ◌==◌, not, List, [], ◌∷◌, length, drop, refl, sym, subst, ◌∙◌, arith}
-use Rattle.std.proofs.lemmas.Bool.{eqb-true, not-true, and_left}
+use Rattle.std.proofs.Common.{◌≡◌, ℕ, suc, ◌+◌, ◌-◌, ◌<◌, ◌≤◌, Some, Bool, true, false, ◌||◌, ◌==◌, not, List, [], ◌∷◌, length, drop, map, refl, sym, ap, subst, ◌∙◌, arith}
+use Rattle.std.proofs.lemmas.Bool.{eqb-true, and_left}
 use Rattle.std.proofs.lemmas.Grind.{common_steps}
 use Rattle.cq_base.proofs.Bools.{or-implies}
 use Rattle.cq_munch.specs.Automata.{entry_at}
@@ -14,17 +14,17 @@ use Rattle.cq_munch.specs.declared.unit.Unit.{Unit}
 use Rattle.cq_munch.proofs.Blanks.{no_mark, from_unit}
 use Rattle.cq_munch.proofs.CharacterTests.{apart_by, low_by}
 use Rattle.cq_munch.proofs.Marks.{takes_unmarked}
-use Rattle.cq_munch.proofs.RowScans.{alone, one_there, taken_of, at_other}
+use Rattle.cq_munch.proofs.Reserving.{free_taken}
+use Rattle.cq_munch.proofs.RowScans.{alone, one_there}
+use Rattle.cq_munch.proofs.Seen.{itself_below}
 use Rattle.cq_munch.proofs.Tables.{below_each}
-use Rattle.cq_lex_java.specs.Ascii.{begins_below}
-use Rattle.cq_lex_java.specs.AsciiNames.{begins_ascii}
 use Rattle.cq_lex_java.specs.Blocks.{opening}
-use Rattle.cq_lex_java.specs.Java.{java, named, others, unmarked}
-use Rattle.cq_lex_java.specs.OneKind.{scanner, scanner_fits, are_scanned, letters, no_letters}
+use Rattle.cq_lex_java.specs.Java.{java, others, unmarked}
+use Rattle.cq_lex_java.specs.OneKind.{scanner, scanner_fits, is_scanner}
 use Rattle.cq_lex_java.specs.Openers.{is_end}
 use Rattle.cq_lex_java.specs.Scanner.{scanned, texts}
-use Rattle.cq_lex_java.specs.Words.{begins_identifier}
-use Rattle.cq_lex_java.specs.declared.scanner.TheConstants.{SPELLS}
+use Rattle.cq_lex_java.specs.Words.{begins_identifier, continues_identifier, identifier, keywords, stood}
+use Rattle.cq_lex_java.specs.declared.scanner.TheConstants.{NAMES, SPELLS}
 use Rattle.cq_lex_java.proofs.Dispatch.{no_opener}
 
 abbrev pub is_blank : ℕ → Bool
@@ -40,14 +40,14 @@ low_blank c is = low_by is_blank blank_past c is
 abbrev blank : ℕ
 blank = entry_at scanner 0 32 - 1
 
-leads : (c : ℕ) → is_blank c ≡ true → entry_at scanner 0 c ≡ suc blank
+leads : (c : ℕ) → is_blank c ≡ true → entry_at scanner 0 (stood c) ≡ suc blank
 leads c is =
-    eqb-true (entry_at scanner 0 c) (suc blank)
+    ap (entry_at scanner 0) (itself_below begins_identifier continues_identifier c (low_blank c is))
+    ∙ eqb-true (entry_at scanner 0 c) (suc blank)
     (or-implies (is_blank c) (entry_at scanner 0 c == suc blank) (below_each 128 (λ d. not (is_blank d) || (entry_at scanner 0 d == suc blank)) refl c (low_blank c is)) is)
 
-no_letter : (c : ℕ) → is_blank c ≡ true → begins_identifier c ≡ false
-no_letter c is =
-    begins_below c (low_blank c is) ∙ not-true (begins_ascii c) (or-implies (is_blank c) (not (begins_ascii c)) (below_each 128 (λ d. not (is_blank d) || not (begins_ascii d)) refl c (low_blank c is)) is)
+is_false : false ≡ true → ⊥
+is_false e = cc
 
 no_slash : (c : ℕ) (rest text : List ℕ) → is_blank c ≡ true → begins (47 ∷ rest) (c ∷ text) ≡ false
 no_slash c rest text is = and_left (c == 47) (begins rest text) (apart_by is_blank 47 refl c is)
@@ -68,9 +68,8 @@ module _ (at mode c : ℕ) (text : List ℕ) (is : is_blank c ≡ true) where
   blank_first =
       takes_unmarked unmarked at mode (c ∷ text) (no_mark at c text (apart_by is_blank 65279 refl c is)) (Some (one_blank mode))
       (no_opener at mode (c ∷ text) (no_slash c (42 ∷ []) text is) (no_slash c (47 ∷ []) text is) (Some (one_blank mode)) (and_left (begins (34 ∷ 34 ∷ 34 ∷ []) (c ∷ text)) (opening (drop 3 (c ∷ text))) (no_quotes c text is)) (no_end c text is)
-      (at_other begins_identifier named others letters no_letters at mode (c ∷ text) (Some (one_blank mode)) (no_letter c is)
-      (taken_of others scanned are_scanned at mode (c ∷ text) (Some (one_blank mode))
-      (one_there scanned texts scanner scanner_fits SPELLS refl at mode (c ∷ text) 1 0 Blank (alone scanner c blank 0 text (leads c is) refl refl) refl))))
+      (free_taken stood identifier keywords others NAMES SPELLS scanner is_scanner at mode (c ∷ text) (one_blank mode) (λ e among. is_false e)
+      (one_there scanned texts scanner scanner_fits SPELLS refl at mode (map stood (c ∷ text)) 1 1 Blank (alone scanner (stood c) blank 1 (map stood text) (leads c is) refl refl) refl)))
 
 -- the same at a unit
 pub blank_at : (units : List Unit) (at mode : ℕ) → at < length units → is_blank (unit_at units at).ch ≡ true → Takes java at mode (drop at (characters units)) (Some (one_blank mode))

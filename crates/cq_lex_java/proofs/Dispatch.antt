@@ -1,5 +1,5 @@
 -- The element at a front, by what is opened there.
-use Rattle.std.proofs.Common.{◌≡◌, ℕ, Option, Some, true, false, List, [], ◌∷◌, refl, ap, subst, sym, arith}
+use Rattle.std.proofs.Common.{◌≡◌, ℕ, Option, Some, true, false, List, [], ◌∷◌, refl, ap, arith}
 use Rattle.std.proofs.lemmas.Bool.{eqb-true}
 use Rattle.cq_munch.specs.Language.{Takes}
 use Rattle.cq_munch.specs.Longest.{LongestAt}
@@ -7,8 +7,7 @@ use Rattle.cq_munch.specs.Table.{table, begins}
 use Rattle.cq_munch.specs.declared.element.Found.{Found}
 use Rattle.cq_munch.specs.declared.element.Spell.TheVariants.{Blank}
 use Rattle.cq_munch.specs.declared.ends.LineEnds.TheVariants.{ReturnOrFeed}
-use Rattle.cq_munch.proofs.Dispatch.{no_comment}
-use Rattle.cq_munch.proofs.Joining.{takes_first, takes_rest, one_row_taken}
+use Rattle.cq_munch.proofs.Joining.{takes_first, takes_rest, one_row_taken, no_comment}
 use Rattle.cq_lex_java.specs.Blocks.{opens}
 use Rattle.cq_lex_java.specs.Java.{rows, text_blocks, ends, opens_text, opens_end, with_end, with_texts, unmarked}
 use Rattle.cq_lex_java.specs.Openers.{is_end}

@@ -3,7 +3,6 @@ pub mod Spans
 pub mod Translating
 pub mod Scalars
 pub mod NoEscapes
-pub mod NameScans
 pub mod Dispatch
 pub mod Blanks
 pub mod Counting

@@ -3,8 +3,8 @@ use Rattle.std.proofs.Common.{◌≡◌, ℕ, ◌==◌, ◌&&◌, ◌||◌, Bool
 use Rattle.std.specs.List.{concat, AllByRecursion}
 use Rattle.std.proofs.lemmas.Bool.{eqb-true, eq-eqb, le-leb, leb-true, and_parts, and_from, or_from, cases_Bool, false≢true}
 use Rattle.cq_munch.specs.Pattern.{in_range, in_ranges, only, many, optional, ◌▸◌, Spells}
-use Rattle.cq_lex_java.specs.Blocks.{is_line_end, is_space, quote, quotes, space, line_end, character, part, text_block}
-use Rattle.cq_lex_java.specs.TextBlocks.{Part, plain, escaped, spelled, spells, IsPart, is_quote, begins_closing, IsOpen, IsContent, IsWritten, TextBlocksAreWritten}
+use Rattle.cq_lex_java.specs.Blocks.{is_space, quote, quotes, space, character, part, text_block}
+use Rattle.cq_lex_java.specs.TextBlocks.{Part, plain, escaped, spelled, spells, IsPart, is_quote, begins_closing, IsOpen, IsWritten, TextBlocksAreWritten}
 
 -- ---- one character
 

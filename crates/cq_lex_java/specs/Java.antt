@@ -1,10 +1,10 @@
 -- The table of Java's elements.
-use Rattle.std.specs.Prelude.{◌≡◌, ℕ, Bool, List, [], ◌∷◌, ◌++◌}
-use Rattle.cq_base.specs.declared.token.Class.TheVariants.{Ident, Word, Literal, Punct}
+use Rattle.std.specs.Prelude.{◌≡◌, ℕ, Bool, List, [], ◌∷◌}
+use Rattle.cq_base.specs.declared.token.Class.TheVariants.{Literal, Punct}
 use Rattle.cq_munch.specs.Commented.{commented}
 use Rattle.cq_munch.specs.Language.{Language, marked}
-use Rattle.cq_munch.specs.Longest.{IsAmong}
 use Rattle.cq_munch.specs.Pattern.{Spells}
+use Rattle.cq_munch.specs.Patterned.{any_word, Patterned, with_reserved}
 use Rattle.cq_munch.specs.Quotes.{quoted}
 use Rattle.cq_munch.specs.Table.{Row, table, first}
 use Rattle.cq_munch.specs.declared.element.Spell.TheVariants.{Blank, Token}
@@ -14,44 +14,19 @@ use Rattle.cq_lex_java.specs.Blocks.{opens, text_block}
 use Rattle.cq_lex_java.specs.Numbers.{number}
 use Rattle.cq_lex_java.specs.Openers.{is_end}
 use Rattle.cq_lex_java.specs.Operators.{operators}
-use Rattle.cq_lex_java.specs.Words.{IsIdentifier, keywords, blank_characters}
+use Rattle.cq_lex_java.specs.Words.{blank_characters, identifier, keywords, stood}
 
--- white space (JLS 3.6)
-abbrev pub blanks : Row
-blanks = record { spell = Blank; set = IsAmong blank_characters }
+-- White space (JLS 3.6), integers and floating-point numbers (JLS 3.10.1, 3.10.2), characters and strings (JLS 3.10.4,
+-- 3.10.5), separators and operators (JLS 3.11, 3.12). What an escape means is not checked.
+abbrev pub others : Patterned
+others =
+    (Blank, any_word blank_characters) ∷ (Token Literal, number) ∷ (Token Literal, quoted Single ReturnOrFeed) ∷ (Token Literal, quoted Double ReturnOrFeed)
+    ∷ (Token Punct, any_word operators) ∷ []
 
--- identifiers (JLS 3.8)
-abbrev pub names : Row
-names = record { spell = Token Ident; set = λ s. IsIdentifier s × (IsAmong keywords s → ⊥) }
-
--- keywords, and the literals true, false and null (JLS 3.9, 3.10.3, 3.10.8)
-abbrev pub reserved : Row
-reserved = record { spell = Token Word; set = IsAmong keywords }
-
--- integers and floating-point numbers (JLS 3.10.1, 3.10.2)
-abbrev pub numbers : Row
-numbers = record { spell = Token Literal; set = Spells number }
-
--- characters and strings (JLS 3.10.4, 3.10.5); what an escape means is not checked
-abbrev pub chars : Row
-chars = record { spell = Token Literal; set = Spells (quoted Single ReturnOrFeed) }
-
-abbrev pub strings : Row
-strings = record { spell = Token Literal; set = Spells (quoted Double ReturnOrFeed) }
-
--- separators and operators (JLS 3.11, 3.12)
-abbrev pub marks : Row
-marks = record { spell = Token Punct; set = IsAmong operators }
-
--- the rows that begin with a letter, and the others
-abbrev pub named : List Row
-named = names ∷ reserved ∷ []
-
-abbrev pub others : List Row
-others = blanks ∷ numbers ∷ chars ∷ strings ∷ marks ∷ []
-
+-- Identifiers (JLS 3.8), of which the keywords (JLS 3.9) and the literals true, false and null (JLS 3.10.3, 3.10.8) are
+-- words, and the others.
 abbrev pub rows : List Row
-rows = named ++ others
+rows = with_reserved stood identifier keywords others
 
 -- text blocks (JLS 3.10.6)
 abbrev pub text_blocks : Row

@@ -1,5 +1,4 @@
 pub mod Words
-pub mod AsciiNames
 pub mod Escapes
 pub mod Translation
 pub mod Eligible
@@ -9,7 +8,6 @@ pub mod Openers
 pub mod Blocks
 pub mod TextBlocks
 pub mod Java
-pub mod Ascii
 pub mod Scanner
 pub mod BlockScanner
 pub mod OneKind

@@ -1,60 +1,55 @@
--- No spelling is of two kinds: names and keywords begin with letters, and the table of the other rows finds one row for
--- each spelling.
-use Rattle.std.proofs.Common.{◌≡◌, ℕ, true, false, List, [], ◌∷◌, ◌↔◌, refl, ⊎_elim}
-use Rattle.cq_munch.specs.Automata.{Tables, row_fits, rows_fit, fits}
-use Rattle.cq_munch.specs.Fronts.{starts}
+-- No spelling is of two kinds: the table finds one row for each.
+use Rattle.std.proofs.Common.{◌≡◌, ◌-◌, true, [], ◌∷◌, map, refl}
+use Rattle.std.specs.List.{list_all}
+use Rattle.cq_munch.specs.Automata.{Tables, entry_at, row_fits, rows_fit, fits}
+use Rattle.cq_munch.specs.Behind.{any_takes_empty}
 use Rattle.cq_munch.specs.Language.{HasOneKind}
-use Rattle.cq_munch.specs.Pattern.{Spells}
+use Rattle.cq_munch.specs.Patterned.{patterns_of}
+use Rattle.cq_munch.specs.PlainNames.{plain_fits}
 use Rattle.cq_munch.specs.Quotes.{quoted}
-use Rattle.cq_munch.specs.Patterned.{patterns_of, AreRowsOf}
-use Rattle.cq_munch.specs.Table.{InTable, table}
-use Rattle.cq_munch.specs.declared.element.Spell.{Spell}
+use Rattle.cq_munch.specs.Scanners.{IsScanner}
+use Rattle.cq_munch.specs.Table.{table}
 use Rattle.cq_munch.specs.declared.ends.LineEnds.TheVariants.{ReturnOrFeed}
-use Rattle.cq_munch.specs.declared.quoted.Quote.TheVariants.{Double, Single}
-use Rattle.cq_munch.proofs.OneKind.{two_apart, of_table, of_first, of_commented, of_marked}
-use Rattle.cq_munch.proofs.RowScans.{words_are, one_kind, no_letter, as_patterned, one_kind_of, one_kind_both}
-use Rattle.cq_lex_java.specs.Ascii.{begins_below, keyword_is_identifier}
-use Rattle.cq_lex_java.specs.AsciiNames.{begins_ascii}
-use Rattle.cq_lex_java.specs.Java.{java, names, reserved, named, others, rows, text_blocks, ends, opens_text, opens_end, with_end, with_texts, unmarked}
+use Rattle.cq_munch.proofs.OneKind.{of_table, of_first, of_commented, of_marked}
+use Rattle.cq_munch.proofs.Reserving.{one_kind_reserved, words_spelled}
+use Rattle.cq_munch.proofs.Seen.{itself_below}
+use Rattle.cq_munch.proofs.Steps.{behind_word}
+use Rattle.cq_lex_java.specs.Java.{java, others, rows, text_blocks, ends, opens_text, opens_end, with_end, with_texts, unmarked}
 use Rattle.cq_lex_java.specs.Numbers.{number}
-use Rattle.cq_lex_java.specs.Operators.{operators}
 use Rattle.cq_lex_java.specs.Scanner.{scanned, texts}
-use Rattle.cq_lex_java.specs.Words.{IsIdentifier, begins_identifier, blank_characters}
-use Rattle.cq_lex_java.specs.declared.scanner.TheConstants.{CLASSES, STEPS, ENDS}
+use Rattle.cq_lex_java.specs.Words.{begins_identifier, continues_identifier, stood, identifier, keywords}
+use Rattle.cq_lex_java.specs.declared.scanner.TheConstants.{CLASSES, STEPS, ENDS, NAMES, SPELLS}
 
 abbrev pub scanner : Tables
 scanner = record { classes = CLASSES; steps = STEPS; ends = ENDS }
 
 -- the table fits the rows, by computing
 pub scanner_fits : fits (patterns_of scanned) texts scanner ≡ true
-unfolding fits rows_fit row_fits number quoted
+unfolding fits rows_fit row_fits identifier number quoted
 scanner_fits = refl
 
-same : (p : List ℕ → Type 0) (s : List ℕ) → p s ↔ p s
-same p s = (λ h. h, λ h. h)
+plain_names : plain_fits NAMES scanner (entry_at scanner 0 97 - 1) 0 ≡ true
+unfolding plain_fits
+plain_names = refl
 
-pub are_scanned : AreRowsOf others scanned
-are_scanned =
-    (refl, words_are blank_characters, (refl, same (Spells number), (refl, same (Spells (quoted Single ReturnOrFeed)), (refl, same (Spells (quoted Double ReturnOrFeed)), (refl, words_are operators, tt)))))
+keywords_pass : list_all (λ w. any_takes_empty (behind_word (map stood w) (identifier ∷ []))) keywords ≡ true
+unfolding identifier
+keywords_pass = refl
 
--- names and keywords begin with letters
-pub name_of_row : (spell : Spell) (s : List ℕ) → InTable named spell s → IsIdentifier s
-name_of_row spell s h = ⊎_elim (λ own. own.1.0) (λ other. ⊎_elim (λ word. keyword_is_identifier s word.1) (λ none. absurd none) other) h
-
-pub letters : (spell : Spell) (s : List ℕ) → InTable named spell s → starts begins_identifier s ≡ true
-letters spell [] h = absurd (name_of_row spell [] h)
-letters spell (c ∷ s) h = (name_of_row spell (c ∷ s) h).0
-
--- no other row does
-pub no_letters : (spell : Spell) (c : ℕ) (s : List ℕ) → InTable others spell (c ∷ s) → begins_identifier c ≡ false
-no_letters spell c s h =
-    no_letter scanned texts scanner scanner_fits begins_identifier begins_ascii begins_below refl spell c s (as_patterned others scanned are_scanned spell (c ∷ s) h)
+pub is_scanner : IsScanner stood identifier keywords others NAMES SPELLS scanner
+is_scanner = record {
+  texts = texts;
+  state = entry_at scanner 0 97 - 1;
+  fits = (refl, scanner_fits);
+  plain = plain_names;
+  itself = itself_below begins_identifier continues_identifier;
+  words_named = words_spelled stood identifier keywords keywords_pass;
+  no_names = refl;
+}
 
 pub one_kind_of_java : HasOneKind java
 one_kind_of_java =
     of_marked unmarked
     (of_commented ReturnOrFeed with_texts
     (of_first opens_text text_blocks with_end
-    (of_first opens_end ends (table rows)
-    (of_table rows
-    (one_kind_both begins_identifier named others letters no_letters (two_apart names reserved (λ s name word. name.1 word)) (one_kind_of others scanned are_scanned (one_kind scanned texts scanner scanner_fits)))))))
+    (of_first opens_end ends (table rows) (of_table rows (one_kind_reserved stood identifier keywords others NAMES SPELLS scanner is_scanner)))))

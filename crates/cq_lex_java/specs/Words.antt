@@ -1,6 +1,7 @@
 -- Identifiers, keywords and blanks (JLS 3.6, 3.8, 3.9). Contextual keywords are identifiers.
-use Rattle.std.specs.Prelude.{ℕ, Bool, ◌||◌, ◌==◌, List, [], ◌∷◌, IsTrue, codes}
-use Rattle.std.specs.List.{AllByRecursion}
+use Rattle.std.specs.Prelude.{ℕ, Bool, ◌||◌, ◌==◌, List, [], ◌∷◌, codes}
+use Rattle.cq_munch.specs.Pattern.{Pattern, among, many, ◌▸◌}
+use Rattle.cq_munch.specs.Characters.{seen_as}
 use Rattle.unicode_ident.specs.Ident.{is_xid_start, is_xid_continue}
 
 -- space, tab, form feed, carriage return and line feed
@@ -19,6 +20,17 @@ begins_identifier c = (is_xid_start c || (c == 95)) || (c == 36)
 unfoldable pub continues_identifier : ℕ → Bool
 continues_identifier c = is_xid_continue c || (c == 36)
 
-abbrev pub IsIdentifier : List ℕ → Type 0
-IsIdentifier [] = ⊥
-IsIdentifier (c ∷ cs) = IsTrue (begins_identifier c) × AllByRecursion (λ d. IsTrue (continues_identifier d)) cs
+-- how patterns see a character
+abbrev pub stood : ℕ → ℕ
+stood c = seen_as begins_identifier continues_identifier c
+
+-- letters, an underscore and a dollar sign, and past ASCII what begins an identifier
+abbrev pub letter : Pattern
+letter = among ((65, 90) ∷ (97, 122) ∷ (95, 95) ∷ (36, 36) ∷ (128, 128) ∷ [])
+
+-- and digits, and past ASCII what continues an identifier
+abbrev pub continuing : Pattern
+continuing = among ((65, 90) ∷ (97, 122) ∷ (48, 57) ∷ (95, 95) ∷ (36, 36) ∷ (128, 129) ∷ [])
+
+unfoldable pub identifier : Pattern
+identifier = letter ▸ many continuing

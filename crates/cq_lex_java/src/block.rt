@@ -7,7 +7,7 @@ ghost use Rattle.cq_lex_java.specs.Java.{text_blocks};
 ghost use Rattle.cq_lex_java.specs.TextBlocks.{TextBlocksAreWritten};
 
 use cq_base::Class;
-use cq_munch::{Automaton, Found, Spell, Unit, longest_found};
+use cq_munch::{Automaton, Found, Itself, Spell, Unit, longest_found};
 
 fn is_line_end(ch: char) -> bool
     ensures { result ≡ is_line_end ch }
@@ -59,7 +59,7 @@ pub(crate) fn closed_block(units: &[Unit], mode: u8) -> Option<Found>
         steps: &STEPS,
         ends: &ENDS,
     };
-    longest_found(by, &[Spell::Token(Class::Literal)], mode, units)
+    longest_found::<Itself>(by, &[Spell::Token(Class::Literal)], mode, units)
 }
 
 /// A text block is exactly three quotes, blanks, a line end, a content with no three quotes except after a backslash, and

@@ -1,19 +1,16 @@
 ghost use Rattle.std.specs.Prelude.{◌≡◌, ◌<◌, ◌^◌, ◌==◌, ◌||◌, ℕ, length};
 ghost use Rattle.cq_munch.specs.Characters.{characters};
 ghost use Rattle.cq_munch.specs.Language.{Takes};
-ghost use Rattle.cq_munch.specs.Table.{InTable, table};
-ghost use Rattle.cq_munch.specs.declared.element.Spell.TheVariants.{Token as token};
-ghost use Rattle.cq_lex_java.specs.Java.{named, others, unmarked};
+ghost use Rattle.cq_munch.specs.Table.{table};
+ghost use Rattle.cq_lex_java.specs.Java.{rows, unmarked};
 ghost use Rattle.cq_lex_java.specs.Openers.{is_end};
-ghost use Rattle.cq_lex_java.specs.Words.{IsIdentifier};
 
 use crate::block::{closed_block, opens_block};
-use crate::scanner::{CLASSES, ENDS, SPELLS, STEPS};
-use crate::words::{begins_name, is_keyword, longest_identifier};
-use cq_base::Class;
+use crate::scanner::{CLASSES, ENDS, NAMES, SPELLS, STEPS};
+use crate::words::{RESERVED, Seen};
 use cq_munch::{
-    Automaton, Found, LineEnds, Spell, Unit, found_of, longest_block_comment, longest_found,
-    longest_line_comment, opens_comment,
+    Automaton, Found, LineEnds, Spell, Unit, found_of, longest_block_comment, longest_line_comment,
+    named_found, opens_comment,
 };
 
 /// Whether the character is a blank.
@@ -33,42 +30,17 @@ fn is_end(units: &[Unit]) -> bool
     }
 }
 
-fn class_of(name: &[Unit]) -> Class
-    requires { IsIdentifier (characters name.now) }
-    ensures { InTable named (token result) (characters name.now) }
-{
-    if is_keyword(name) {
-        Class::Word
-    } else {
-        Class::Ident
-    }
-}
-
-// The name or keyword at the front.
-fn name(units: &[Unit], mode: u8) -> Option<Found>
+// The element at the front, if nothing is opened.
+fn element(units: &[Unit], mode: u8) -> Option<Found>
     requires { length units.now < 2 ^ 32 }
-    ensures { (at : ℕ) → Takes (table named) at mode (characters units.now) result }
-{
-    match longest_identifier(units) {
-        None => None,
-        Some(len) => {
-            let class = class_of(&units[..len]);
-            found_of(Spell::Token(class), mode, Some(len))
-        }
-    }
-}
-
-// The element at the front that is neither a name nor a keyword.
-fn other(units: &[Unit], mode: u8) -> Option<Found>
-    requires { length units.now < 2 ^ 32 }
-    ensures { (at : ℕ) → Takes (table others) at mode (characters units.now) result }
+    ensures { (at : ℕ) → Takes (table rows) at mode (characters units.now) result }
 {
     let by = Automaton {
         classes: &CLASSES,
         steps: &STEPS,
         ends: &ENDS,
     };
-    longest_found(by, &SPELLS, mode, units)
+    named_found::<Seen>(by, &NAMES, &SPELLS, &RESERVED, mode, units)
 }
 
 /// The element at the front, if there is no byte order mark.
@@ -92,8 +64,5 @@ pub(crate) fn taken(units: &[Unit], mode: u8) -> Option<Found>
     if is_end(units) {
         return found_of(Spell::Blank, mode, Some(1));
     }
-    if begins_name(units) {
-        return name(units, mode);
-    }
-    other(units, mode)
+    element(units, mode)
 }

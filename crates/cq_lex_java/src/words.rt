@@ -1,85 +1,44 @@
-ghost use Rattle.std.specs.Prelude.{◌≡◌, ◌↔◌, IsTrue};
-ghost use Rattle.cq_munch.specs.Characters.{characters};
-ghost use Rattle.cq_munch.specs.Fronts.{starts};
-ghost use Rattle.cq_munch.specs.Longest.{LongestAt, IsAmong};
-ghost use Rattle.cq_lex_java.specs.AsciiNames.{begins_ascii, continues_ascii};
-ghost use Rattle.cq_lex_java.specs.Words.{IsIdentifier, begins_identifier, continues_identifier, keywords};
+ghost use Rattle.std.specs.Prelude.{◌≡◌};
+ghost use Rattle.cq_lex_java.specs.Words.{begins_identifier, continues_identifier, stood};
 
-use cq_munch::{Unit, is_listed_by_letter};
-
-// Of the characters of ASCII these begin an identifier.
-fn begins_ascii(ch: char) -> bool
-    ensures { result ≡ begins_ascii ch }
-{
-    ch.is_ascii_alphabetic() || ch == '_' || ch == '$'
-}
-
-// Each character of ASCII that continues an identifier is at its own place, and a comma at every other place.
-static CONTINUES: [u8; 128] = *b"\
-    ,,,,,,,,,,,,,,,,,,,,,,,,,,,,,,,,\
-    ,,,,$,,,,,,,,,,,0123456789,,,,,,\
-    ,ABCDEFGHIJKLMNOPQRSTUVWXYZ,,,,_\
-    ,abcdefghijklmnopqrstuvwxyz,,,,,";
-
-// Whether the character is one of ASCII that continues an identifier.
-fn continues_ascii(ch: char) -> bool
-    ensures { result ≡ continues_ascii ch }
-{
-    let code = ch as u32;
-    if code >= 128 {
-        return false;
-    }
-    CONTINUES[code as usize] != b','
-}
+use cq_munch::StandIn;
 
 // Whether an identifier may begin with the character.
 #[tactic(auto, unfolding(crate::specs::Words::begins_identifier))]
 fn begins_identifier(ch: char) -> bool
     ensures { result ≡ begins_identifier ch }
 {
-    if ch.is_ascii() {
-        return begins_ascii(ch);
-    }
     unicode_ident::is_xid_start(ch) || ch == '_' || ch == '$'
 }
 
+// Whether an identifier may continue with the character.
 #[tactic(auto, unfolding(crate::specs::Words::continues_identifier))]
 fn continues_identifier(ch: char) -> bool
     ensures { result ≡ continues_identifier ch }
 {
-    if ch.is_ascii() {
-        return continues_ascii(ch);
-    }
     unicode_ident::is_xid_continue(ch) || ch == '$'
 }
 
-/// Whether an identifier begins at the front.
-pub(crate) fn begins_name(units: &[Unit]) -> bool
-    ensures { result ≡ starts begins_identifier (characters units.now) }
-{
-    match units {
-        [first, ..] => begins_identifier(first.ch),
-        [] => false,
-    }
-}
+/// How the table sees characters past ASCII.
+#[derive(Clone, Copy, Debug, PartialEq, Eq)]
+pub(crate) struct Seen;
 
-/// The longest identifier at the front. Keywords are identifiers too.
-pub(crate) fn longest_identifier(units: &[Unit]) -> Option<usize>
-    ensures { LongestAt IsIdentifier (characters units.now) result }
-{
-    if !begins_name(units) {
-        return None;
-    }
-    for at in 1..units.len() {
-        if !continues_identifier(units[at].ch) {
-            return Some(at);
+impl StandIn for Seen {
+    ghost stood = { stood };
+
+    fn stand_in(ch: char) -> u32 {
+        if ch.is_ascii() {
+            return ch as u32;
         }
+        if begins_identifier(ch) {
+            return 128;
+        }
+        if continues_identifier(ch) { 129 } else { 130 }
     }
-    Some(units.len())
 }
 
-// The 51 keywords, and true, false and null, by their first letter.
-const RESERVED: [&[&[u8]]; 27] = [
+/// The 51 keywords, and true, false and null, by their first letter.
+pub(crate) const RESERVED: [&[&[u8]]; 27] = [
     &[b"abstract", b"assert"],
     &[b"boolean", b"break", b"byte"],
     &[b"case", b"catch", b"char", b"class", b"const", b"continue"],
@@ -122,10 +81,3 @@ const RESERVED: [&[&[u8]]; 27] = [
     &[],
     &[b"_"],
 ];
-
-/// Whether the identifier is a keyword, or true, false or null.
-pub(crate) fn is_keyword(name: &[Unit]) -> bool
-    ensures { IsTrue result ↔ IsAmong keywords (characters name.now) }
-{
-    is_listed_by_letter(&RESERVED, name)
-}

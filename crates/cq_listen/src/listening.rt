@@ -16,7 +16,7 @@ use cq_chain::Pass;
 use cq_io::{Doors, Gate, Sink, Source};
 use cq_serve::{Bell, RingingGate};
 use cq_shared::Shared;
-use cq_work::{Keyer, Work, plain_key};
+use cq_work::{Keyer, Work};
 use std::alloc::Global;
 use std::sync::Wait;
 use std::sync::ledger::Ledger;
@@ -110,56 +110,6 @@ fn serve_doors<
     }
 }
 
-// The same with a keyer, before any other memory is taken.
-fn serve_keyed<
-    Q: Threads + Wait + Sync,
-    L: Ledger + Send + Sync,
-    R: Wait + Sync,
-    S: Source + Send + Drop,
-    K: Sink + Send + Drop,
-    D: Doors<In = S, Out = K>,
-    G: Gate + Sync,
->(
-    rt: &Q,
-    alloc: Global,
-    settings: &Settings,
-    keyer: &Keyer,
-    counters: &Counters<L>,
-    hub: &Shared<Work<L>, R>,
-    pass: Pass<Work<L>>,
-    doors: &mut D,
-    gate: &G,
-    workers: u32,
-    sessions: u32,
-) -> Result<Served, Memory>
-    requires in_range { IsInRange settings.now }
-    requires keyed { keyer.now.settings ≡ settings.now }
-    requires settings { settings_of hub.now ≡ settings.now }
-    requires idle { IsIdle hub.now pass }
-    requires room { workers + sessions ≤ pass.room }
-    requires bound { IsSome (D.bound doors.old) }
-    ensures ended { IfOk result (λ served. HasEnded (D.faults doors.old) (D.faults doors.new)
-        (D.left doors.old) (D.left doors.new) served.failed) }
-    ensures made { IfOk result (IsServedWith settings.now workers sessions) }
-    ensures refused { OnErr result (doors.new ≡ doors.old) }
-    ensures bound { D.bound doors.new ≡ D.bound doors.old }
-{
-    let mut pass = pass;
-    let bell = Bell::new();
-    let ringing = RingingGate {
-        gate,
-        bell: &bell,
-        rt,
-    };
-    let benches = benches_of(alloc, settings, hub, gate, &mut pass, workers)?;
-    let seats = seats_of(
-        alloc, settings, counters, hub, &ringing, &mut pass, sessions,
-    )?;
-    let own = Seat::new(alloc, settings, counters, hub, &ringing, pass)?;
-    let queue: Queue<Connection<S, K>> = Queue::new(alloc, sessions)?;
-    Ok(serve_doors(rt, keyer, benches, &bell, seats, own, queue, doors))
-}
-
 /// Serves the connections that the doors give, each by a session over the hub, until no more will come or a call of the doors
 /// fails: then no further door is asked for, and the connections that came before are served to their ends. So many threads
 /// run the sessions, each one at a time, and so many workers make the works of accepted changes beside them. A connection's
@@ -172,9 +122,9 @@ fn serve_keyed<
 ///
 /// Each worker, each thread of the sessions and the calling thread has a caller of the hub: the pass makes them, and is the
 /// calling thread's then. It may have seen any history in which its caller has no view open. `Memory` comes only before the
-/// first door, and the doors are as before then: it is taken for a cutter for each session and for the calling thread, for a
-/// keyer, and for the queue. What comes back says with what connections were served: the settings, and how many workers and
-/// sessions there were.
+/// first door, and the doors are as before then: it is taken for a cutter for each session and for the calling thread, and
+/// for the queue. What comes back says with what connections were served: the settings, and how many workers and sessions
+/// there were.
 pub fn serve<
     Q: Threads + Wait + Sync,
     L: Ledger + Send + Sync,
@@ -208,10 +158,19 @@ pub fn serve<
     ensures refused { OnErr result (doors.new ≡ doors.old) }
     ensures bound { D.bound doors.new ≡ D.bound doors.old }
 {
-    let of = *settings;
-    let key = Box::new(alloc, move |codes: &[u64]| plain_key(&of, codes))?;
-    let keyer = Keyer::new(settings, key);
-    serve_keyed(
-        rt, alloc, settings, &keyer, counters, hub, pass, doors, gate, workers, sessions,
-    )
+    let mut pass = pass;
+    let bell = Bell::new();
+    let ringing = RingingGate {
+        gate,
+        bell: &bell,
+        rt,
+    };
+    let benches = benches_of(alloc, settings, hub, gate, &mut pass, workers)?;
+    let seats = seats_of(
+        alloc, settings, counters, hub, &ringing, &mut pass, sessions,
+    )?;
+    let own = Seat::new(alloc, settings, counters, hub, &ringing, pass)?;
+    let queue: Queue<Connection<S, K>> = Queue::new(alloc, sessions)?;
+    let keyer = Keyer::plain(settings);
+    Ok(serve_doors(rt, &keyer, benches, &bell, seats, own, queue, doors))
 }

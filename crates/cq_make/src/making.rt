@@ -19,7 +19,7 @@ use cq_hub::{Hub, Solo, SoloPass};
 use cq_io::{Failed, Sink, send};
 use cq_reply::{FileRow, Reply};
 use cq_request::Kind;
-use cq_work::{Keyer, Work, plain_key};
+use cq_work::{Keyer, Work};
 use std::alloc::Global;
 use std::sync::ledger::Ledger;
 use std::thread::Threads;
@@ -95,9 +95,7 @@ fn line_made<R: Threads + Sync, L: Ledger>(
     requires room { 280 * files ≤ settings.now.text_limit }
     ensures { IfOk result (IsSummary settings.now number files) }
 {
-    let of = *settings;
-    let key = Box::new(alloc, move |codes: &[u64]| plain_key(&of, codes))?;
-    let keyer = Keyer::new(settings, key);
+    let keyer = Keyer::plain(settings);
     let made: (Solo<Work<L>>, SoloPass<Work<L>>) = Solo::new(alloc, settings)?;
     let (hub, mut pass) = made;
     put_all(alloc, &hub, number, files, &mut pass)?;

@@ -4,7 +4,7 @@ use Rattle.std.specs.List.{list_all, position_or_len}
 use Rattle.std.proofs.lemmas.Bool.{ltb-true, leb-true, eqb-true, eq-eqb, ne_eqb, cases_lt, and_parts, and_from, not-true, both_ways}
 use Rattle.std.proofs.lemmas.List.{get_or_past}
 use Rattle.cq_munch.specs.Automata.{Tables, class_at, entry_at, row_from, row_of, HasRow, lefts, left_at, left_by, step_fits, stand_in, is_stood_for, or_else, character_fits, end_fits, row_fits_by, row_fits, rows_fit, fits}
-use Rattle.cq_munch.specs.Behind.{SpellsAny, after, agree, agree_each, any_takes_empty, ascii, each_below, entry_ok}
+use Rattle.cq_munch.specs.Behind.{SpellsAny, after, agree, agree_each, all_below, any_takes_empty, each_below, entry_ok}
 use Rattle.cq_munch.specs.Pattern.{Pattern, never, empty, among, except, ◌▸◌, ◌∣◌, many, Spells}
 use Rattle.cq_munch.proofs.Steps.{beq-is, beq-same, any_takes_empty-if, any_takes_empty-then}
 use Rattle.cq_munch.proofs.Tables.{below_each, agree-after, agree_past, entry_none, entry_some}
@@ -35,29 +35,29 @@ module _ (p : Pattern) (row : ℕ) (texts : List (List ℕ)) (t : Tables) (right
   unfolding row_fits
   tested = right
 
-  characters_fit : each_below 129 (character_fits p (lefts p texts) t) ≡ true
-  characters_fit = (and_parts (each_below 129 (character_fits p (lefts p texts) t)) _ tested).0
+  characters_fit : each_below 131 (character_fits p (lefts p texts) t) ≡ true
+  characters_fit = (and_parts (each_below 131 (character_fits p (lefts p texts) t)) _ tested).0
 
-  past_characters : (each_below (length (lefts p texts)) (end_fits row (lefts p texts) t) && (ascii p && (nat_le (length t.classes) 128 && (nat_le (length t.steps) (length (lefts p texts)) && nat_le (length t.ends) (length (lefts p texts)))))) ≡ true
-  past_characters = (and_parts (each_below 129 (character_fits p (lefts p texts) t)) _ tested).1
+  past_characters : (each_below (length (lefts p texts)) (end_fits row (lefts p texts) t) && (all_below 130 p && (nat_le (length t.classes) 130 && (nat_le (length t.steps) (length (lefts p texts)) && nat_le (length t.ends) (length (lefts p texts)))))) ≡ true
+  past_characters = (and_parts (each_below 131 (character_fits p (lefts p texts) t)) _ tested).1
 
   ends_fit : each_below (length (lefts p texts)) (end_fits row (lefts p texts) t) ≡ true
   ends_fit = (and_parts (each_below (length (lefts p texts)) (end_fits row (lefts p texts) t)) _ past_characters).0
 
-  past_ends : (ascii p && (nat_le (length t.classes) 128 && (nat_le (length t.steps) (length (lefts p texts)) && nat_le (length t.ends) (length (lefts p texts))))) ≡ true
+  past_ends : (all_below 130 p && (nat_le (length t.classes) 130 && (nat_le (length t.steps) (length (lefts p texts)) && nat_le (length t.ends) (length (lefts p texts))))) ≡ true
   past_ends = (and_parts (each_below (length (lefts p texts)) (end_fits row (lefts p texts) t)) _ past_characters).1
 
-  of_ascii : ascii p ≡ true
-  of_ascii = (and_parts (ascii p) _ past_ends).0
+  within_130 : all_below 130 p ≡ true
+  within_130 = (and_parts (all_below 130 p) _ past_ends).0
 
-  past_ascii : (nat_le (length t.classes) 128 && (nat_le (length t.steps) (length (lefts p texts)) && nat_le (length t.ends) (length (lefts p texts)))) ≡ true
-  past_ascii = (and_parts (ascii p) _ past_ends).1
+  past_within : (nat_le (length t.classes) 130 && (nat_le (length t.steps) (length (lefts p texts)) && nat_le (length t.ends) (length (lefts p texts)))) ≡ true
+  past_within = (and_parts (all_below 130 p) _ past_ends).1
 
-  few_classes : length t.classes ≤ 128
-  few_classes = leb-true _ _ (and_parts (nat_le (length t.classes) 128) _ past_ascii).0
+  few_classes : length t.classes ≤ 130
+  few_classes = leb-true _ _ (and_parts (nat_le (length t.classes) 130) _ past_within).0
 
   past_classes : (nat_le (length t.steps) (length (lefts p texts)) && nat_le (length t.ends) (length (lefts p texts))) ≡ true
-  past_classes = (and_parts (nat_le (length t.classes) 128) _ past_ascii).1
+  past_classes = (and_parts (nat_le (length t.classes) 130) _ past_within).1
 
   few_steps : length t.steps ≤ length (lefts p texts)
   few_steps = leb-true _ _ (and_parts (nat_le (length t.steps) (length (lefts p texts))) _ past_classes).0
@@ -78,18 +78,18 @@ module _ (p : Pattern) (row : ℕ) (texts : List (List ℕ)) (t : Tables) (right
       (cases_lt s (length (lefts p texts)))
 
   -- a character for which no other one stands
-  own_steps : (d s : ℕ) → d < 129 → stand_in t.classes d ≡ d → step_fits (lefts p texts) t d s ≡ true
+  own_steps : (d s : ℕ) → d < 131 → stand_in t.classes d ≡ d → step_fits (lefts p texts) t d s ≡ true
   own_steps d s low own =
       ⊎_elim
       (λ stood. absurd (both_ways (stand_in t.classes d == d) (not-true _ (and_parts (not (stand_in t.classes d == d)) _ stood).0) (eq-eqb _ _ own)))
       (λ all. step_at d s all)
-      (or_else-cases (is_stood_for p t.classes d) (λ u. each_below (length (lefts p texts)) (step_fits (lefts p texts) t d)) (below_each 129 (character_fits p (lefts p texts) t) characters_fit d low))
+      (or_else-cases (is_stood_for p t.classes d) (λ u. each_below (length (lefts p texts)) (step_fits (lefts p texts) t d)) (below_each 131 (character_fits p (lefts p texts) t) characters_fit d low))
 
   -- what a character leaves was tested, at itself or at one that agrees with it
   abbrev IsTested : ℕ → ℕ → Type 0
   IsTested s c = (d : ℕ) × (agree_each c d (left_at (lefts p texts) s) ≡ true) × (entry_ok (left_at (lefts p texts) s) d (left_by (lefts p texts) (entry_at t s c)) ≡ true)
 
-  by_other : (s c d : ℕ) → d < 129 → stand_in t.classes d ≡ d → class_at t.classes d ≡ class_at t.classes c → agree c d p ≡ true → IsTested s c
+  by_other : (s c d : ℕ) → d < 131 → stand_in t.classes d ≡ d → class_at t.classes d ≡ class_at t.classes c → agree c d p ≡ true → IsTested s c
   by_other s c d low own same agrees = (
     d,
     left_agrees p c d agrees ([] ∷ texts) s,
@@ -97,18 +97,18 @@ module _ (p : Pattern) (row : ℕ) (texts : List (List ℕ)) (t : Tables) (right
   )
 
   same_stand_in : (c d : ℕ) → class_at t.classes d ≡ class_at t.classes c → stand_in t.classes d ≡ stand_in t.classes c
-  same_stand_in c d same = ap (λ k. if k == 0 then 128 else position_or_len (λ j. j == k) t.classes) same
+  same_stand_in c d same = ap (λ k. if k == 0 then 130 else position_or_len (λ j. j == k) t.classes) same
 
   stood_for : (s c : ℕ) → is_stood_for p t.classes c ≡ true → IsTested s c
   stood_for s c stood =
       let past = (and_parts (not (stand_in t.classes c == c)) _ stood).1 in
-      let low = and_parts (nat_lt (stand_in t.classes c) 129) _ past in
+      let low = and_parts (nat_lt (stand_in t.classes c) 131) _ past in
       let both = and_parts (class_at t.classes (stand_in t.classes c) == class_at t.classes c) _ low.1 in
       let same = eqb-true (class_at t.classes (stand_in t.classes c)) (class_at t.classes c) both.0 in
-      by_other s c (stand_in t.classes c) (ltb-true (stand_in t.classes c) 129 low.0) (same_stand_in c (stand_in t.classes c) same) same both.1
+      by_other s c (stand_in t.classes c) (ltb-true (stand_in t.classes c) 131 low.0) (same_stand_in c (stand_in t.classes c) same) same both.1
 
-  past_ascii_class : (c : ℕ) → 128 ≤ c → class_at t.classes c ≡ 0
-  past_ascii_class c high = let few = few_classes in get_or_past t.classes c 0 (omega (arith, few, high))
+  past_all : (c : ℕ) → 130 ≤ c → class_at t.classes c ≡ 0
+  past_all c high = let few = few_classes in get_or_past t.classes c 0 (omega (arith, few, high))
 
   tested_at : (s c : ℕ) → IsTested s c
   tested_at s c =
@@ -117,11 +117,11 @@ module _ (p : Pattern) (row : ℕ) (texts : List (List ℕ)) (t : Tables) (right
       ⊎_elim
       (λ stood. stood_for s c stood)
       (λ all. (c, left_agrees p c c (agree_self c p) ([] ∷ texts) s, step_at c s all))
-      (or_else-cases (is_stood_for p t.classes c) (λ u. each_below (length (lefts p texts)) (step_fits (lefts p texts) t c)) (below_each 129 (character_fits p (lefts p texts) t) characters_fit c low)))
+      (or_else-cases (is_stood_for p t.classes c) (λ u. each_below (length (lefts p texts)) (step_fits (lefts p texts) t c)) (below_each 131 (character_fits p (lefts p texts) t) characters_fit c low)))
       (λ high.
-      let other : class_at t.classes 128 ≡ 0 = past_ascii_class 128 (omega arith) in
-      by_other s c 128 (omega arith) (ap (λ k. if k == 0 then 128 else position_or_len (λ j. j == k) t.classes) other) (other ∙ sym (past_ascii_class c (omega (arith, high)))) (agree_past p c 128 of_ascii (omega (arith, high)) (omega arith)))
-      (cases_lt c 129)
+      let other : class_at t.classes 130 ≡ 0 = past_all 130 (omega arith) in
+      by_other s c 130 (omega arith) (ap (λ k. if k == 0 then 130 else position_or_len (λ j. j == k) t.classes) other) (other ∙ sym (past_all c (omega (arith, high)))) (agree_past 130 p c 130 within_130 (omega (arith, high)) (omega arith)))
+      (cases_lt c 131)
 
   end_right : (s : ℕ) → (get_or t.ends s 0 == suc row) ≡ any_takes_empty (left_at (lefts p texts) s)
   end_right s =

@@ -121,6 +121,13 @@ ch_at units i h = get_or-map (λ (u : Unit). u.ch) units i (record { ch = 0; sta
 pub as_many : (units : List Unit) (i : ℕ) → i < length units → i < length (map (λ (u : Unit). u.ch) units)
 as_many units i h = let e = length-map units (λ (u : Unit). u.ch) in omega arith
 
+-- and as a table sees it
+pub seen_at : (stood : ℕ → ℕ) (units : List Unit) (i : ℕ) → i < length units → get_or (map (λ (u : Unit). stood u.ch) units) i 0 ≡ stood (get_or units i (record { ch = 0; start = 0; len = 0 })).ch
+seen_at stood units i h = get_or-map (λ (u : Unit). stood u.ch) units i (record { ch = 0; start = 0; len = 0 }) 0 h
+
+pub as_many_seen : (stood : ℕ → ℕ) (units : List Unit) (i : ℕ) → i < length units → i < length (map (λ (u : Unit). stood u.ch) units)
+as_many_seen stood units i h = let e = length-map units (λ (u : Unit). stood u.ch) in omega (arith, e, h)
+
 -- the same spellings have the same longest one
 pub LongestAt-same : (S T : List ℕ → Type 0) → ((s : List ℕ) → S s ↔ T s) → (text : List ℕ) (found : Option ℕ) → LongestAt S text found → LongestAt T text found
 LongestAt-same S T same text None h = λ m some within spelled. h m some within ((same _).1 spelled)
@@ -130,8 +137,3 @@ LongestAt-same S T same text (Some n) h = record {
   spelled = (same _).0 h.spelled;
   longest = λ m more within spelled. h.longest m more within ((same _).1 spelled);
 }
-
--- what was told of the first unit's character
-pub told_front : {F : Type 0} (front : ℕ → F) (units : List Unit) → 0 < length units → (told f : F) → told ≡ front (get_or units 0 (record { ch = 0; start = 0; len = 0 })).ch → told ≡ f
-    → front (get_or (map (λ (u : Unit). u.ch) units) 0 0) ≡ f
-told_front front units some told f is same = ap front (ch_at units 0 some) ∙ sym is ∙ same

@@ -1,16 +1,15 @@
 -- The element of a table, from the longest spellings of its rows.
-use Rattle.std.proofs.Common.{subst, ap, ◌≡◌, ℕ, ◌<◌, ◌≤◌, Option, Some, None, Bool, true, false, cond, ltb, List, [], ◌∷◌, ◌++◌, ◌⊎◌, inl, inr, ⊎_elim, length, take, refl, sym, ◌∙◌, arith}
+use Rattle.std.proofs.Common.{subst, ap, ◌≡◌, ℕ, ◌<◌, ◌≤◌, Option, Some, None, Bool, true, false, cond, ltb, List, [], ◌∷◌, inl, inr, ⊎_elim, length, take, refl, sym, ◌∙◌, arith}
 use Rattle.std.specs.Prelude.{IfSome}
-use Rattle.std.proofs.lemmas.List.{take-map}
 use Rattle.std.proofs.lemmas.Bool.{ltb-true, ltb-false, MatchBool-at_true, MatchBool-at_false}
 use Rattle.cq_base.proofs.Bools.{MatchBool-from_true, MatchBool-from_false}
-use Rattle.cq_munch.specs.Characters.{characters}
 use Rattle.cq_munch.specs.Longest.{IsLongest, LongestAt}
-use Rattle.cq_munch.specs.declared.unit.Unit.{Unit}
 use Rattle.cq_munch.specs.declared.element.Found.{Found}
 use Rattle.cq_munch.specs.declared.element.Spell.{Spell}
 use Rattle.cq_munch.specs.Language.{Language, Takes}
-use Rattle.cq_munch.specs.Table.{Row, InTable, table, first, better, found_of}
+use Rattle.cq_munch.specs.Commented.{blocks, lines, opens_block, opens_line, commented}
+use Rattle.cq_munch.specs.Table.{Row, InTable, table, first, better, found_of, begins}
+use Rattle.cq_munch.specs.declared.ends.LineEnds.{LineEnds}
 
 -- what one language takes, another takes that has it, and nothing longer
 module _ (lang other : Language) (at mode : ℕ) (text : List ℕ) (up : (spell : Spell) (s : List ℕ) → lang.tried at mode text spell s → other.tried at mode text spell s)
@@ -89,50 +88,16 @@ module _ (test : ℕ → ℕ → List ℕ → Bool) (rows : List Row) (lang : La
       carried lang (first test rows lang) at mode text (λ spell s x. MatchBool-from_false (test at mode text) (InTable rows spell s) (lang.tried at mode text spell s) h x) (λ spell s. refl)
       (λ spell m some within x. MatchBool-at_false (InTable rows spell (take m text)) (lang.tried at mode text spell (take m text)) h x) r taken
 
--- two tables, one behind the other
-pub in_append : (xs ys : List Row) (spell : Spell) (s : List ℕ) → InTable xs spell s ⊎ InTable ys spell s → InTable (xs ++ ys) spell s
-in_append [] ys spell s h = ⊎_elim (λ a. absurd a) (λ b. b) h
-in_append (x ∷ xs) ys spell s h =
-    ⊎_elim (λ a. ⊎_elim (λ own. inl own) (λ other. inr (in_append xs ys spell s (inl other))) a) (λ b. inr (in_append xs ys spell s (inr b))) h
-
-pub append_in : (xs ys : List Row) (spell : Spell) (s : List ℕ) → InTable (xs ++ ys) spell s → InTable xs spell s ⊎ InTable ys spell s
-append_in [] ys spell s h = inr h
-append_in (x ∷ xs) ys spell s h =
-    ⊎_elim (λ own. inl (inl own)) (λ other. ⊎_elim (λ a. inl (inr a)) (λ b. inr b) (append_in xs ys spell s other)) h
-
-module _ (at mode : ℕ) (text : List ℕ) (xs ys : List Row) where
-  left : (f : Found) → Takes (table xs) at mode text (Some f) → ((m : ℕ) → f.units < m → m ≤ length text → (spell : Spell) → InTable ys spell (take m text) → ⊥) → Takes (table (xs ++ ys)) at mode text (Some f)
-  left f h none =
-      carried_some (table xs) (table (xs ++ ys)) at mode text (λ spell s x. in_append xs ys spell s (inl x)) (λ spell s. refl) f
-      (λ spell m more within x. ⊎_elim (λ a. a) (λ b. absurd (none m more within spell b)) (append_in xs ys spell (take m text) x)) h
-
-  right : (f : Found) → Takes (table ys) at mode text (Some f) → ((m : ℕ) → f.units < m → m ≤ length text → (spell : Spell) → InTable xs spell (take m text) → ⊥) → Takes (table (xs ++ ys)) at mode text (Some f)
-  right f h none =
-      carried_some (table ys) (table (xs ++ ys)) at mode text (λ spell s x. in_append xs ys spell s (inr x)) (λ spell s. refl) f
-      (λ spell m more within x. ⊎_elim (λ a. absurd (none m more within spell a)) (λ b. b) (append_in xs ys spell (take m text) x)) h
-
-  by_units : (f g : Found) (b : Bool) → ltb f.units g.units ≡ b → Takes (table xs) at mode text (Some f) → Takes (table ys) at mode text (Some g) → Takes (table (xs ++ ys)) at mode text (cond b (Some g) (Some f))
-  by_units f g true is h k =
-      let less = ltb-true f.units g.units is in right g k (λ m more within spell a. h.0.longest m (omega arith) within (spell, a))
-  by_units f g false is h k =
-      let more_or_same = ltb-false f.units g.units is in left f h (λ m more within spell b. k.0.longest m (omega arith) within (spell, b))
-
-  pub two_tables : (a b : Option Found) → Takes (table xs) at mode text a → Takes (table ys) at mode text b → Takes (table (xs ++ ys)) at mode text (better a b)
-  two_tables None None h k = λ m some within x. ⊎_elim (λ a. h m some within (x.0, a)) (λ b. k m some within (x.0, b)) (append_in xs ys x.0 _ x.1)
-  two_tables None (Some g) h k = right g k (λ m more within spell a. h m (let some = k.0.some in omega arith) within (spell, a))
-  two_tables (Some f) None h k = left f h (λ m more within spell b. k m (let some = h.0.some in omega arith) within (spell, b))
-  two_tables (Some f) (Some g) h k = by_units f g (ltb f.units g.units) refl h k
+-- where no comment is opened
+pub no_comment : (ends : LineEnds) (lang : Language) (at mode : ℕ) (text : List ℕ) (r : Option Found) → begins (47 ∷ 42 ∷ []) text ≡ false → begins (47 ∷ 47 ∷ []) text ≡ false → Takes lang at mode text r → Takes (commented ends lang) at mode text r
+no_comment ends lang at mode text r block line h =
+    takes_rest opens_block (blocks ∷ []) (first opens_line (lines ends ∷ []) lang) at mode text block r (takes_rest opens_line (lines ends ∷ []) lang at mode text line r h)
 
 -- one row more, by what `found_of` and `better` answered
 pub row_more : (at mode : ℕ) (text : List ℕ) (row : Row) (rows : List Row) (len : Option ℕ) (own r all : Option Found) → own ≡ found_of row.spell mode len → all ≡ better own r → LongestAt row.set text len
     → Takes (table rows) at mode text r → Takes (table (row ∷ rows)) at mode text all
 row_more at mode text row rows len own r all own_is all_is h k =
     subst (Takes (table (row ∷ rows)) at mode text) (sym (all_is ∙ ap (λ v. better v r) own_is)) (one_row at mode text row rows len r h k)
-
--- fewer rows, where the others have no spelling at the front
-pub narrowed : (at mode : ℕ) (text : List ℕ) (rows few : List Row) → ((spell : Spell) (m : ℕ) → 0 < m → m ≤ length text → InTable rows spell (take m text) → InTable few spell (take m text))
-    → ((spell : Spell) (s : List ℕ) → InTable few spell s → InTable rows spell s) → (r : Option Found) → Takes (table few) at mode text r → Takes (table rows) at mode text r
-narrowed at mode text rows few down up r h = carried (table few) (table rows) at mode text up (λ spell s. refl) down r h
 
 better_none : (a : Option Found) → better a None ≡ a
 better_none None = refl
@@ -141,30 +106,6 @@ better_none (Some f) = refl
 -- a table of one row
 pub one_row_taken : (at mode : ℕ) (text : List ℕ) (row : Row) (len : Option ℕ) (own : Option Found) → own ≡ found_of row.spell mode len → LongestAt row.set text len → Takes (table (row ∷ [])) at mode text own
 one_row_taken at mode text row len own is h = row_more at mode text row [] len own None own is (sym (better_none own)) h (no_rows at mode text)
-
--- rows whose spellings are all in one set, which is scanned
-module _ (rows : List Row) (set : List ℕ → Type 0) (in_set : (spell : Spell) (s : List ℕ) → InTable rows spell s → set s) (at mode : ℕ) (text : List ℕ) where
-  pub none_in_set : LongestAt set text None → Takes (table rows) at mode text None
-  none_in_set none = λ m some within x. none m some within (in_set x.0 (take m text) x.1)
-
-  pub one_in_set : (spell : Spell) (len : ℕ) → IsLongest set text len → InTable rows spell (take len text) → Takes (table rows) at mode text (Some (record { spell = spell; units = len; mode = mode }))
-  one_in_set spell len longest row = (
-    record {
-      some = longest.some;
-      within = longest.within;
-      spelled = (spell, row);
-      longest = λ m more within x. longest.longest m more within (in_set x.0 (take m text) x.1);
-    },
-    row,
-    refl,
-  )
-
--- the same of units, of which the row's kind was told
-pub named : (rows : List Row) (set : List ℕ → Type 0) → ((spell : Spell) (s : List ℕ) → InTable rows spell s → set s) → (at mode : ℕ) (units : List Unit) (spell : Spell) (len : ℕ) (own : Option Found) → own ≡ found_of spell mode (Some len)
-    → IsLongest set (characters units) len → InTable rows spell (characters (take len units)) → Takes (table rows) at mode (characters units) own
-named rows set in_set at mode units spell len own is longest row =
-    subst (Takes (table rows) at mode (characters units)) (sym is)
-    (one_in_set rows set in_set at mode (characters units) spell len longest (subst (InTable rows spell) (sym (take-map (λ (u : Unit). u.ch) len units)) row))
 
 -- an element of a language that keeps the mode keeps it
 pub mode_kept : (lang : Language) (at mode : ℕ) (text : List ℕ) (r : Option Found) → ((spell : Spell) (s : List ℕ) → lang.mode_behind mode spell s ≡ mode) → mode ≤ 3 → Takes lang at mode text r → IfSome r (λ f. f.mode ≤ 3)

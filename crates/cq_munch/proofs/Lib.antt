@@ -1,13 +1,12 @@
 pub mod Front
 pub mod CharacterTests
-pub mod Runs
 pub mod CommentScans
 pub mod Steps
 pub mod Tables
 pub mod Fitting
 pub mod Rowed
+pub mod PlainScans
 pub mod WordLists
-pub mod AloneWords
 pub mod Reserved
 pub mod QuoteSteps
 pub mod OpenQuotes
@@ -16,9 +15,10 @@ pub mod Texts
 pub mod Decoding
 pub mod Elements
 pub mod Joining
-pub mod Dispatch
 pub mod OneKind
 pub mod RowScans
+pub mod Seen
+pub mod Reserving
 pub mod Marks
 pub mod Blanks
 pub mod MarkWords

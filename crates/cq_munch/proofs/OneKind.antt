@@ -1,21 +1,12 @@
 -- No spelling is of two kinds: what is enough for it, row by row and opener by opener.
-use Rattle.std.proofs.Common.{◌≡◌, ℕ, Bool, true, false, not, List, [], ◌∷◌, sym, ◌∙◌, inl, ⊎_elim}
+use Rattle.std.proofs.Common.{◌≡◌, ℕ, Bool, true, false, List, [], ◌∷◌, sym, ◌∙◌, ⊎_elim}
 use Rattle.std.specs.Prelude.{MatchBool}
-use Rattle.std.specs.List.{list_all}
-use Rattle.std.proofs.lemmas.Bool.{not-true, both_ways}
-use Rattle.cq_munch.specs.Behind.{any_takes_empty}
 use Rattle.cq_munch.specs.Commented.{blocks, lines, opens_block, opens_line, commented}
-use Rattle.cq_munch.specs.Fronts.{Placed, rows_in, rows_at, AllStart}
 use Rattle.cq_munch.specs.Language.{Language, has_mark, marked, HasOneKind}
-use Rattle.cq_munch.specs.Longest.{IsAmong}
-use Rattle.cq_munch.specs.Pattern.{Pattern, Spells}
 use Rattle.cq_munch.specs.Table.{Row, InTable, table, first}
 use Rattle.cq_munch.specs.declared.element.Spell.{Spell}
 use Rattle.cq_munch.specs.declared.element.Spell.TheVariants.{Blank}
 use Rattle.cq_munch.specs.declared.ends.LineEnds.{LineEnds}
-use Rattle.cq_munch.proofs.Dispatch.{rows_down, no_empty}
-use Rattle.cq_munch.proofs.Steps.{behind_word, spelled_word}
-use Rattle.cq_munch.proofs.WordLists.{among_passes}
 
 abbrev pub OneKind : List Row → Type 0
 OneKind rows = (s : List ℕ) (a b : Spell) → InTable rows a s → InTable rows b s → a ≡ b
@@ -33,20 +24,6 @@ one_more row rows rest same s a b h k =
 
 pub one_row : (row : Row) → OneKind (row ∷ [])
 one_row row = one_more row [] no_kind (λ s b own other. absurd other)
-
--- two rows with no spelling in common
-pub two_apart : (row other : Row) → ((s : List ℕ) → row.set s → other.set s → ⊥) → OneKind (row ∷ other ∷ [])
-two_apart row other apart = one_more row (other ∷ []) (one_row other) (λ s b own h. ⊎_elim (λ too. absurd (apart s own too.1)) (λ none. absurd none) h)
-
--- rows that stand at one front have one kind, so all have
-pub by_fronts : {F : Type 0} (front : ℕ → F) (rows : List (Placed F)) → AllStart front rows → ((f : F) → OneKind (rows_at rows f)) → OneKind (rows_in rows)
-by_fronts front rows all each [] a b h k = absurd (no_empty front rows all a h)
-by_fronts front rows all each (c ∷ s) a b h k = each (front c) (c ∷ s) a b (rows_down front rows all a c s h) (rows_down front rows all b c s k)
-
--- none of the words is a spelling of the pattern
-pub no_word_spelled : (p : Pattern) (ws : List (List ℕ)) → list_all (λ w. not (any_takes_empty (behind_word w (p ∷ [])))) ws ≡ true → (s : List ℕ) → Spells p s → IsAmong ws s → ⊥
-no_word_spelled p ws all s spelled among =
-    both_ways (any_takes_empty (behind_word s (p ∷ []))) (not-true _ (among_passes ws (λ w. not (any_takes_empty (behind_word w (p ∷ [])))) s all among)) (spelled_word s (p ∷ []) (inl spelled))
 
 -- ---- a language
 

@@ -1,14 +1,11 @@
 -- The longest spelling of a table's rows, as the scan reads one character more.
-use Rattle.std.proofs.Common.{◌≡◌, ℕ, suc, ◌+◌, ◌-◌, ◌<◌, ◌≤◌, Option, Some, None, true, List, [], ◌∷◌, ◌++◌, ◌↔◌, length, take, get_or, append_assoc, refl, sym, ap, subst, ◌∙◌, arith}
+use Rattle.std.proofs.Common.{◌≡◌, ℕ, suc, ◌+◌, ◌-◌, ◌<◌, ◌≤◌, Option, Some, None, List, [], ◌∷◌, ◌++◌, ◌↔◌, length, take, get_or, append_assoc, refl, sym, ap, subst, ◌∙◌, arith}
 use Rattle.std.proofs.lemmas.List.{take_more, append-nil}
 use Rattle.std.specs.Option.{option_map, IfSome}
-use Rattle.cq_munch.specs.Automata.{Tables, class_at, entry_at, row_from, row_of, HasRow, RowAt, fits}
+use Rattle.cq_munch.specs.Automata.{Tables, class_at, entry_at, row_from, row_of, HasRow, RowAt}
 use Rattle.cq_munch.specs.Longest.{LongestAt}
-use Rattle.cq_munch.specs.Pattern.{Pattern, Spells}
 use Rattle.cq_munch.specs.Scans.{Scanned}
-use Rattle.cq_munch.proofs.Fitting.{has_row}
-use Rattle.cq_munch.proofs.Front.{scanned_won, scanned_kept, scanned_stopped, scanned_all, LongestAt-same}
-use Rattle.cq_munch.proofs.Tables.{one_pattern}
+use Rattle.cq_munch.proofs.Front.{scanned_won, scanned_kept, scanned_stopped, scanned_all}
 
 -- how many characters the found spelling has
 abbrev pub length_found : Option (ℕ × ℕ) → Option ℕ
@@ -70,15 +67,6 @@ module _ (t : Tables) (text : List ℕ) (i state : ℕ) (found : Option (ℕ × 
         best = (scanned_kept scanned c inside c_is (λ s. 0 < row_from t (suc next) s) goes_on (λ h. omega (arith, is, h))).best;
         row = so_far.row;
       }
-
--- one pattern
-pub by_pattern : (p : Pattern) (texts : List (List ℕ)) (t : Tables) (text : List ℕ) → fits (p ∷ []) texts t ≡ true → (found : Option (ℕ × ℕ)) → RowAt t text found → LongestAt (Spells p) text (length_found found)
-by_pattern p texts t text right found h =
-    one_pattern p text (length_found found) (LongestAt-same (HasRow t) _ (has_row texts t (p ∷ []) right) text (length_found found) (length_only found h))
-  where
-    length_only : (found : Option (ℕ × ℕ)) → RowAt t text found → LongestAt (HasRow t) text (length_found found)
-    length_only None h = h
-    length_only (Some f) h = h.0
 
 -- the entry at a character, by its class
 pub entry_is : (t : Tables) (state c class : ℕ) → class ≡ class_at t.classes c → (e : ℕ) → get_or (get_or t.steps state []) class 0 - 48 ≡ e → entry_at t state c ≡ e

@@ -189,6 +189,10 @@ pub any_takes_empty-then : (ps : List Pattern) → any_takes_empty ps ≡ true �
 any_takes_empty-then [] h = absurd (cc)
 any_takes_empty-then (p ∷ ps) h = ⊎_elim (λ a. inl (takes_empty-then p a)) (λ b. inr (any_takes_empty-then ps b)) (or_cases _ _ h)
 
+pub word_if : (w : List ℕ) (ps : List Pattern) → any_takes_empty (behind_word w ps) ≡ true → SpellsAny ps w
+word_if [] ps h = any_takes_empty-then ps h
+word_if (c ∷ w) ps h = behind_each-then ps c w (word_if w (behind_each c ps) h)
+
 -- what the tests mean
 same_ranges-is : (rs qs : List Range) → same_ranges rs qs ≡ true → rs ≡ qs
 same_ranges-is [] [] h = refl

@@ -1,12 +1,11 @@
 -- A scan by a table: its entries are tested at one character of each class, by computing.
-use Rattle.std.proofs.Common.{◌≡◌, ℕ, zero, suc, ◌<◌, ◌≤◌, Option, Some, None, Bool, true, false, cond, ◌&&◌, ◌||◌, List, [], ◌∷◌, ◌++◌, ◌↔◌, inl, ⊎_elim, refl, sym, ap, subst, ◌∙◌, arith}
+use Rattle.std.proofs.Common.{◌≡◌, ℕ, zero, suc, ◌<◌, ◌≤◌, Option, Some, None, Bool, true, false, cond, ◌&&◌, ◌||◌, nat_le, List, [], ◌∷◌, ◌++◌, ◌↔◌, inl, ⊎_elim, refl, sym, ap, subst, ◌∙◌, arith}
 use Rattle.std.specs.Bool.{beq}
 use Rattle.std.specs.List.{list_all}
 use Rattle.std.specs.Option.{option_map, IfNone, IfSome}
-use Rattle.std.proofs.lemmas.Bool.{ltb-true, cases_lt, and_parts, and_from}
-use Rattle.std.proofs.lemmas.Grind.{common_steps}
+use Rattle.std.proofs.lemmas.Bool.{ltb-true, lt-leb, cases_lt, and_parts, and_from, and_right}
 use Rattle.cq_munch.specs.Pattern.{Range, in_range, in_ranges, Pattern, never, empty, among, except, ◌▸◌, ◌∣◌, many, Spells}
-use Rattle.cq_munch.specs.Behind.{takes_empty, SpellsAny, joined, joined_each, behind, behind_each, has, distinct, after, any_takes_empty, agree, agree_each, entry_ok, class_in, led, ascii_ranges, ascii_rows, ascii, each_below}
+use Rattle.cq_munch.specs.Behind.{takes_empty, SpellsAny, joined, joined_each, behind, behind_each, has, distinct, after, any_takes_empty, agree, agree_each, entry_ok, class_in, ranges_below, all_below, ascii_rows, ascii, each_below}
 use Rattle.cq_munch.specs.Longest.{LongestAt}
 use Rattle.cq_munch.proofs.Front.{LongestAt-same}
 use Rattle.cq_munch.proofs.Steps.{beq-is, beq-same, any_takes_empty-if, any_takes_empty-then, covers-spells, behind_each-if, behind_each-then, agree-behind_each}
@@ -88,38 +87,32 @@ entry_some ps qs c d same ok s =
       λ h. behind_each-then ps c s (subst (λ v. SpellsAny v s) (sym is) (covers-spells qs (behind_each d ps) both.1 s h)),
     )
 
--- characters past ASCII are in no class of an ASCII pattern
-range_past : (r : Range) (c : ℕ) → r.1 < 128 → 128 ≤ c → in_range r c ≡ false
-range_past r c h k = grind (arith, common_steps)
+-- characters from n on are in no class of a pattern whose ranges all end before n
+range_past : (n : ℕ) (r : Range) (c : ℕ) → r.1 < n → n ≤ c → in_range r c ≡ false
+range_past n r c h k = and_right (nat_le r.0 c) (nat_le c r.1) (lt-leb c r.1 (omega (arith, h, k)))
 
-in_ranges_past : (rs : List Range) (c : ℕ) → ascii_ranges rs ≡ true → 128 ≤ c → in_ranges rs c ≡ false
-in_ranges_past [] c h k = refl
-in_ranges_past (r ∷ rs) c h k =
+in_ranges_past : (n : ℕ) (rs : List Range) (c : ℕ) → ranges_below n rs ≡ true → n ≤ c → in_ranges rs c ≡ false
+in_ranges_past n [] c h k = refl
+in_ranges_past n (r ∷ rs) c h k =
     let both = and_parts _ _ h in
-    ap (λ v. v || in_ranges rs c) (range_past r c (ltb-true r.1 128 both.0) k) ∙ in_ranges_past rs c both.1 k
+    ap (λ v. v || in_ranges rs c) (range_past n r c (ltb-true r.1 n both.0) k) ∙ in_ranges_past n rs c both.1 k
 
 pub class_past : {K : Type 0} (rows : List (List Range × K)) (other : K) (c : ℕ) → ascii_rows rows ≡ true → 128 ≤ c → class_in rows other c ≡ other
 class_past [] other c h k = refl
 class_past (row ∷ rows) other c h k =
     let both = and_parts _ _ h in
-    ap (λ v. cond v row.1 (class_in rows other c)) (in_ranges_past row.0 c both.0 k) ∙ class_past rows other c both.1 k
+    ap (λ v. cond v row.1 (class_in rows other c)) (in_ranges_past 128 row.0 c both.0 k) ∙ class_past rows other c both.1 k
 
-pub led_past : {S : Type 0} (rows : List (List Range × S)) (c : ℕ) → ascii_rows rows ≡ true → 128 ≤ c → led rows c ≡ None
-led_past [] c h k = refl
-led_past (row ∷ rows) c h k =
-    let both = and_parts _ _ h in
-    ap (λ v. cond v (Some row.1) (led rows c)) (in_ranges_past row.0 c both.0 k) ∙ led_past rows c both.1 k
-
-pub agree_past : (p : Pattern) (c d : ℕ) → ascii p ≡ true → 128 ≤ c → 128 ≤ d → agree c d p ≡ true
-agree_past never c d h k l = refl
-agree_past empty c d h k l = refl
-agree_past (among rs) c d h k l = beq-same _ _ (in_ranges_past rs c h k ∙ sym (in_ranges_past rs d h l))
-agree_past (except rs) c d h k l = beq-same _ _ (in_ranges_past rs c h k ∙ sym (in_ranges_past rs d h l))
-agree_past (p ▸ q) c d h k l =
-    let both = and_parts _ _ h in and_from _ _ (agree_past p c d both.0 k l) (agree_past q c d both.1 k l)
-agree_past (p ∣ q) c d h k l =
-    let both = and_parts _ _ h in and_from _ _ (agree_past p c d both.0 k l) (agree_past q c d both.1 k l)
-agree_past (many p) c d h k l = agree_past p c d h k l
+pub agree_past : (n : ℕ) (p : Pattern) (c d : ℕ) → all_below n p ≡ true → n ≤ c → n ≤ d → agree c d p ≡ true
+agree_past n never c d h k l = refl
+agree_past n empty c d h k l = refl
+agree_past n (among rs) c d h k l = beq-same _ _ (in_ranges_past n rs c h k ∙ sym (in_ranges_past n rs d h l))
+agree_past n (except rs) c d h k l = beq-same _ _ (in_ranges_past n rs c h k ∙ sym (in_ranges_past n rs d h l))
+agree_past n (p ▸ q) c d h k l =
+    let both = and_parts _ _ h in and_from _ _ (agree_past n p c d both.0 k l) (agree_past n q c d both.1 k l)
+agree_past n (p ∣ q) c d h k l =
+    let both = and_parts _ _ h in and_from _ _ (agree_past n p c d both.0 k l) (agree_past n q c d both.1 k l)
+agree_past n (many p) c d h k l = agree_past n p c d h k l
 
 -- a test of all classes holds of each character's
 chosen_class : {K : Type 0} (test : K → Bool) (b : Bool) (k l : K) → test k ≡ true → test l ≡ true → test (cond b k l) ≡ true
@@ -173,7 +166,7 @@ pub agrees_everywhere : {K : Type 0} (p : Pattern) (rows : List (List Range × K
 agrees_everywhere p rows other sample low rows_low p_low past c =
     ⊎_elim
     (λ l. below_each 128 (λ x. agree x (sample (class_in rows other x)) p) low c l)
-    (λ h. subst (λ k. agree c (sample k) p ≡ true) (sym (class_past rows other c rows_low h)) (agree_past p c (sample other) p_low h past))
+    (λ h. subst (λ k. agree c (sample k) p ≡ true) (sym (class_past rows other c rows_low h)) (agree_past 128 p c (sample other) p_low h past))
     (cases_lt c 128)
 
 -- and so behind a text that leads to a state

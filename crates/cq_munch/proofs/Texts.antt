@@ -1,5 +1,5 @@
-use Rattle.std.proofs.Common.{◌≡◌, ℕ, suc, ◌+◌, ◌<◌, List, [], ◌∷◌, ◌++◌, length, take, drop, ◌-◌, refl, sym, ap, ap₂, subst, ◌∙◌, arith}
-use Rattle.std.proofs.lemmas.List.{take_more, map-append, append-nil, take_rest, drop-map, take-map}
+use Rattle.std.proofs.Common.{◌≡◌, ℕ, suc, ◌+◌, ◌<◌, List, [], ◌∷◌, ◌++◌, length, take, drop, ◌-◌, refl, sym, ap, ap₂, ◌∙◌, arith}
+use Rattle.std.proofs.lemmas.List.{take_more, map-append, append-nil, take_rest, drop-map}
 use Rattle.std.proofs.lemmas.Str.{encodes-append, encode_ascii}
 use Rattle.std.specs.Prelude.{All, encode_utf8}
 use Rattle.std.specs.Str.{encode_utf8_all}
@@ -18,10 +18,6 @@ utf8_more units i inside =
 -- the characters of `&units[at..]`
 pub characters_from : (units : List Unit) (at : ℕ) → characters (take (length units - at) (drop at units)) ≡ drop at (characters units)
 characters_from units at = ap characters (take_rest units at) ∙ sym (drop-map (λ (u : Unit). u.ch) at units)
-
--- and those of `&units[..n]`
-pub front_units : (set : List ℕ → Type 0) (n : ℕ) (units : List Unit) → set (take n (characters units)) → set (characters (take n units))
-front_units set n units h = subst set (take-map (λ (u : Unit). u.ch) n units) h
 
 -- ASCII is its own UTF-8
 pub ascii_is_utf8 : (units : List Unit) → AreAscii units → utf8_of units ≡ characters units

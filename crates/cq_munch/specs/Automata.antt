@@ -2,7 +2,7 @@
 use Rattle.std.specs.Prelude.{◌≡◌, ℕ, zero, suc, ◌-◌, ◌<◌, ◌==◌, ◌&&◌, not, nat_lt, nat_le, if◌then◌else◌, Bool, true, false, Option, Some, None, List, [], ◌∷◌, length, map, take, slice_index_or}
 use Rattle.std.specs.Bool.{beq}
 use Rattle.std.specs.List.{list_all, position_or_len}
-use Rattle.cq_munch.specs.Behind.{after, agree, any_takes_empty, ascii, each_below, entry_ok}
+use Rattle.cq_munch.specs.Behind.{after, agree, all_below, any_takes_empty, each_below, entry_ok}
 use Rattle.cq_munch.specs.Longest.{IsLongest, LongestAt}
 use Rattle.cq_munch.specs.Pattern.{Pattern}
 use Rattle.cq_munch.specs.declared.automaton.Automaton.{Automaton}
@@ -15,7 +15,7 @@ pub record Tables : Type 0 where
 abbrev pub tables_of : Automaton → Tables
 tables_of by = record { classes = by.classes.now; steps = by.steps.now; ends = by.ends.now }
 
--- the class of a character, which is 0 past ASCII
+-- the class of a character, which is 0 past those that the table lists
 abbrev pub class_at : List ℕ → ℕ → ℕ
 class_at classes c = slice_index_or classes c 0
 
@@ -61,18 +61,18 @@ step_fits ls t c s = entry_ok (left_at ls s) c (left_by ls (entry_at t s c))
 
 -- the first character of the same class
 abbrev pub stand_in : List ℕ → ℕ → ℕ
-stand_in classes c = if class_at classes c == 0 then 128 else position_or_len (λ k. k == class_at classes c) classes
+stand_in classes c = if class_at classes c == 0 then 130 else position_or_len (λ k. k == class_at classes c) classes
 
 -- another character stands for this one, and the pattern tells neither from the other
 abbrev pub is_stood_for : Pattern → List ℕ → ℕ → Bool
-is_stood_for p classes c = not (stand_in classes c == c) && (nat_lt (stand_in classes c) 129 && ((class_at classes (stand_in classes c) == class_at classes c) && agree c (stand_in classes c) p))
+is_stood_for p classes c = not (stand_in classes c == c) && (nat_lt (stand_in classes c) 131 && ((class_at classes (stand_in classes c) == class_at classes c) && agree c (stand_in classes c) p))
 
 -- one test passes, or else another, which is computed only then
 abbrev pub or_else : Bool → (Unit {0} → Bool) → Bool
 or_else true other = true
 or_else false other = other tt
 
--- the steps of each state at a character fit; 128 stands for each character past ASCII
+-- the steps of each state at a character fit; 130 stands for each character from there on
 abbrev pub character_fits : Pattern → List (List Pattern) → Tables → ℕ → Bool
 character_fits p ls t c = or_else (is_stood_for p t.classes c) (λ u. each_below (length ls) (step_fits ls t c))
 
@@ -82,9 +82,9 @@ end_fits row ls t s = beq (slice_index_or t.ends s 0 == suc row) (any_takes_empt
 
 abbrev pub row_fits_by : List (List Pattern) → Pattern → ℕ → Tables → Bool
 row_fits_by ls p row t =
-    each_below 129 (character_fits p ls t)
+    each_below 131 (character_fits p ls t)
     && (each_below (length ls) (end_fits row ls t)
-    && (ascii p && (nat_le (length t.classes) 128 && (nat_le (length t.steps) (length ls) && nat_le (length t.ends) (length ls)))))
+    && (all_below 130 p && (nat_le (length t.classes) 130 && (nat_le (length t.steps) (length ls) && nat_le (length t.ends) (length ls)))))
 
 -- the table finds just the pattern's spellings as those of the row
 unfoldable pub row_fits : Pattern → ℕ → List (List ℕ) → Tables → Bool

@@ -103,42 +103,30 @@ abbrev pub class_in : {K : Type 0} → List (List Range × K) → K → ℕ → 
 class_in [] other c = other
 class_in (row ∷ rows) other c = if in_ranges row.0 c then row.1 else class_in rows other c
 
--- the states after the characters of a table: that of the first row that has the character, or none
-abbrev pub led : {S : Type 0} → List (List Range × S) → ℕ → Option S
-led [] c = None
-led (row ∷ rows) c = if in_ranges row.0 c then Some row.1 else led rows c
-
--- the same by kinds, compared by a sample character of each
-abbrev pub is_kind_of : {K : Type 0} → (K → ℕ) → List K → K → Bool
-is_kind_of sample [] k = false
-is_kind_of sample (j ∷ js) k = (sample k == sample j) || is_kind_of sample js k
-
-abbrev pub led_by : {K S : Type 0} → (K → ℕ) → List (List K × S) → K → Option S
-led_by sample [] k = None
-led_by sample (row ∷ rows) k = if is_kind_of sample row.0 k then Some row.1 else led_by sample rows k
-
--- each character of a text
-abbrev pub each_of : List ℕ → List Range
-each_of [] = []
-each_of (c ∷ cs) = (c, c) ∷ each_of cs
+-- every range ends before a character
+abbrev pub ranges_below : ℕ → List Range → Bool
+ranges_below n [] = true
+ranges_below n (r ∷ rs) = nat_lt r.1 n && ranges_below n rs
 
 -- every range ends before 128
 abbrev pub ascii_ranges : List Range → Bool
-ascii_ranges [] = true
-ascii_ranges (r ∷ rs) = nat_lt r.1 128 && ascii_ranges rs
+ascii_ranges rs = ranges_below 128 rs
 
 abbrev pub ascii_rows : {K : Type 0} → List (List Range × K) → Bool
 ascii_rows [] = true
 ascii_rows (row ∷ rows) = ascii_ranges row.0 && ascii_rows rows
 
+abbrev pub all_below : ℕ → Pattern → Bool
+all_below n never = true
+all_below n empty = true
+all_below n (among rs) = ranges_below n rs
+all_below n (except rs) = ranges_below n rs
+all_below n (p ▸ q) = all_below n p && all_below n q
+all_below n (p ∣ q) = all_below n p && all_below n q
+all_below n (many p) = all_below n p
+
 abbrev pub ascii : Pattern → Bool
-ascii never = true
-ascii empty = true
-ascii (among rs) = ascii_ranges rs
-ascii (except rs) = ascii_ranges rs
-ascii (p ▸ q) = ascii p && ascii q
-ascii (p ∣ q) = ascii p && ascii q
-ascii (many p) = ascii p
+ascii p = all_below 128 p
 
 -- the test passes at each number below n
 abbrev pub each_below : ℕ → (ℕ → Bool) → Bool

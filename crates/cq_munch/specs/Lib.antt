@@ -13,8 +13,9 @@ pub mod Characters
 pub mod Language
 pub mod Table
 pub mod Patterned
+pub mod PlainNames
+pub mod Scanners
 pub mod Commented
-pub mod Fronts
 pub mod ListingMarks
 pub mod Lexed
 pub mod OneAnswer

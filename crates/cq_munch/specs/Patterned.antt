@@ -1,10 +1,12 @@
 -- The rows of a table by their patterns.
-use Rattle.std.specs.Prelude.{◌≡◌, ◌↔◌, ℕ, ◌==◌, ◌&&◌, not, nat_le, Bool, true, List, [], ◌∷◌, length, map, ⊤}
-use Rattle.cq_munch.specs.Automata.{Tables, entry_at, fits, or_else}
-use Rattle.cq_munch.specs.Behind.{each_below}
+use Rattle.std.specs.Prelude.{◌≡◌, ℕ, true, List, [], ◌∷◌, map}
+use Rattle.cq_munch.specs.Automata.{Tables, fits}
 use Rattle.cq_munch.specs.Pattern.{Pattern, never, empty, ◌▸◌, ◌∣◌, only, Spells}
+use Rattle.cq_munch.specs.Longest.{IsAmong}
 use Rattle.cq_munch.specs.Table.{Row}
 use Rattle.cq_munch.specs.declared.element.Spell.{Spell}
+use Rattle.cq_munch.specs.declared.element.Spell.TheVariants.{Token}
+use Rattle.cq_base.specs.declared.token.Class.TheVariants.{Ident, Word}
 
 -- one word, character by character
 abbrev pub one_word : List ℕ → Pattern
@@ -30,16 +32,16 @@ abbrev pub rows_of : Patterned → List Row
 rows_of [] = []
 rows_of (row ∷ rows) = record { spell = row.0; set = Spells row.1 } ∷ rows_of rows
 
--- the same rows, however their sets of spellings are written
-abbrev pub AreRowsOf : List Row → Patterned → Type 0
-AreRowsOf [] [] = ⊤
-AreRowsOf (row ∷ rows) (p ∷ ps) = (row.spell ≡ p.0) × ((s : List ℕ) → row.set s ↔ Spells p.1 s) × AreRowsOf rows ps
-AreRowsOf _ _ = ⊥
+-- the same by what stands for their characters
+abbrev pub rows_seen : (ℕ → ℕ) → Patterned → List Row
+rows_seen stood [] = []
+rows_seen stood (row ∷ rows) = record { spell = row.0; set = λ s. Spells row.1 (map stood s) } ∷ rows_seen stood rows
+
+-- names, some of which are reserved words, and other rows
+abbrev pub with_reserved : (ℕ → ℕ) → Pattern → List (List ℕ) → Patterned → List Row
+with_reserved stood name words others =
+    record { spell = Token Ident; set = λ s. Spells name (map stood s) × (IsAmong words s → ⊥) } ∷ record { spell = Token Word; set = IsAmong words } ∷ rows_seen stood others
 
 -- the table finds just the spellings of these rows, in this order, and what they are
 abbrev pub FitsRows : Patterned → List (List ℕ) → List Spell → Tables → Type 0
 FitsRows rows texts spells t = (spells_of rows ≡ spells) × (fits (patterns_of rows) texts t ≡ true)
-
--- no row has a spelling that begins with a character past ASCII, or with one that passes the test
-abbrev pub begins_none : (ℕ → Bool) → Tables → Bool
-begins_none test t = each_below 128 (λ c. or_else (not (test c)) (λ u. entry_at t 0 c == 0)) && ((entry_at t 0 128 == 0) && nat_le (length t.classes) 128)

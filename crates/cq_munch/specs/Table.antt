@@ -40,3 +40,8 @@ abbrev pub begins : List ℕ → List ℕ → Bool
 begins [] text = true
 begins (c ∷ cs) [] = false
 begins (c ∷ cs) (d ∷ ds) = (d == c) && begins cs ds
+
+-- the first character passes the test
+abbrev pub starts : (ℕ → Bool) → List ℕ → Bool
+starts test [] = false
+starts test (c ∷ s) = test c

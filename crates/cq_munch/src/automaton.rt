@@ -1,8 +1,6 @@
-ghost use Rattle.std.specs.Prelude.{◌≡◌, ℕ, suc, ◌-◌, ◌<◌, ◌^◌, IfNone, IfSome, List, [], ◌∷◌, length, slice_index_or, true};
-ghost use Rattle.cq_munch.specs.Automata.{class_at, fits, RowAt, tables_of};
-ghost use Rattle.cq_munch.specs.Characters.{characters};
-ghost use Rattle.cq_munch.specs.Longest.{LongestAt};
-ghost use Rattle.cq_munch.specs.Pattern.{Pattern, Spells};
+ghost use Rattle.std.specs.Prelude.{◌≡◌, ℕ, suc, ◌-◌, ◌<◌, ◌≤◌, ◌^◌, IfNone, IfSome, List, [], length, slice_index_or};
+ghost use Rattle.cq_munch.specs.Automata.{class_at, RowAt, tables_of};
+ghost use Rattle.cq_munch.specs.Characters.{seen_by};
 ghost use Rattle.cq_munch.specs.Language.{Takes};
 ghost use Rattle.cq_munch.specs.Patterned.{FitsRows, Patterned, rows_of};
 ghost use Rattle.cq_munch.specs.Table.{table};
@@ -11,11 +9,34 @@ use crate::element::{Found, Spell};
 use crate::rows::found_of;
 use crate::unit::Unit;
 
+/// How a language's tables see the characters past ASCII: 128 may stand for each that begins a name, 129 for each that
+/// only continues one, and 130 for all others.
+pub trait StandIn {
+    /// The character that stands for one.
+    ghost stood: { ℕ → ℕ };
+
+    /// The character that stands for one.
+    fn stand_in(ch: char) -> u32
+        ensures { result ≡ stood ch };
+}
+
+/// Each character stands for itself.
+#[derive(Clone, Copy, Debug, PartialEq, Eq)]
+pub struct Itself;
+
+impl StandIn for Itself {
+    ghost stood = { λ c. c };
+
+    fn stand_in(ch: char) -> u32 {
+        ch as u32
+    }
+}
+
 /// A scanner of some rows of spellings, as a table.
 #[derive(Clone, Copy)]
 pub struct Automaton<'a> {
-    /// The class of each character of ASCII; every other character has class 0.
-    pub classes: &'a [u8; 128],
+    /// The class of each of the first characters, at most 130 of them; every other character has class 0.
+    pub classes: &'a [u8],
     /// For each state and class a character: `0` if no spelling continues, `1` if the first state is next, and so on. No
     /// characters lead to the first state.
     pub steps: &'a [[u8; 32]],
@@ -24,10 +45,10 @@ pub struct Automaton<'a> {
 }
 
 // The class of a character.
-fn class_of(classes: &[u8; 128], ch: char) -> u8
+fn class_of(classes: &[u8], ch: u32) -> u8
     ensures { result ≡ class_at classes.now ch }
 {
-    if ch.is_ascii() {
+    if (ch as usize) < classes.len() {
         classes[ch as usize]
     } else {
         0
@@ -72,13 +93,17 @@ fn row_at(ends: &[u8], state: u8) -> Option<u8>
 
 // How many units the longest spelling at the front has, and its row. It reads up to the first unit with which no
 // spelling continues, each once.
-fn longest_row(by: Automaton<'_>, units: &[Unit]) -> Option<(usize, u8)>
-    ensures { RowAt (tables_of by.entry) (characters units.now) result }
+fn longest_row<S: StandIn>(by: Automaton<'_>, units: &[Unit]) -> Option<(usize, u8)>
+    ensures { RowAt (tables_of by.entry) (seen_by S.stood units.now) result }
 {
     let mut state = 0;
     let mut found = None;
     for i in 0..units.len() {
-        let Some(next) = next_of(by.steps, state, class_of(by.classes, units[i].ch)) else {
+        let Some(next) = next_of(
+            by.steps,
+            state,
+            class_of(by.classes, S::stand_in(units[i].ch)),
+        ) else {
             return found;
         };
         state = next;
@@ -89,25 +114,20 @@ fn longest_row(by: Automaton<'_>, units: &[Unit]) -> Option<(usize, u8)>
     found
 }
 
-/// How many units the longest spelling of a pattern at the front has, by a table that fits it. That it fits is computed:
-/// for each state there is a text that leads to it, and each step leaves what the pattern leaves.
-pub fn longest_by(by: Automaton<'_>, units: &[Unit]) -> Option<usize>
-    ensures { (p : Pattern) (texts : List (List ℕ)) → fits (p ∷ []) texts (tables_of by.entry) ≡ true
-        → LongestAt (Spells p) (characters units.now) result }
-{
-    match longest_row(by, units) {
-        Some((len, _)) => Some(len),
-        None => None,
-    }
-}
-
-/// The longest element at the front of the rows that a table fits; `spells` has what each row is.
-pub fn longest_found(by: Automaton<'_>, spells: &[Spell], mode: u8, units: &[Unit]) -> Option<Found>
+/// The longest element at the front of the rows that a table fits; `spells` has what each row is. That it fits is computed:
+/// for each state there is a text that leads to it, and each step leaves what the patterns leave.
+pub fn longest_found<S: StandIn>(
+    by: Automaton<'_>,
+    spells: &[Spell],
+    mode: u8,
+    units: &[Unit],
+) -> Option<Found>
     requires { length units.now < 2 ^ 32 }
-    ensures { (rows : Patterned) (texts : List (List ℕ)) → FitsRows rows texts spells.now (tables_of by.entry)
-        → (at : ℕ) → Takes (table (rows_of rows)) at mode (characters units.now) result }
+    ensures within { IfSome result (λ found. found.units ≤ length units.now) }
+    ensures found { (rows : Patterned) (texts : List (List ℕ)) → FitsRows rows texts spells.now (tables_of by.entry)
+        → (at : ℕ) → Takes (table (rows_of rows)) at mode (seen_by S.stood units.now) result }
 {
-    match longest_row(by, units) {
+    match longest_row::<S>(by, units) {
         Some((len, row)) => match spells.get(row as usize) {
             Some(spell) => found_of(*spell, mode, Some(len)),
             None => None,

@@ -1,11 +1,9 @@
 ghost use Rattle.std.specs.Prelude.{◌≡◌, ◌≤◌, Some, None, IfOk, IfErr, length};
-ghost use Rattle.cq_munch.specs.Behind.{SpellsAny};
 ghost use Rattle.cq_munch.specs.Characters.{characters};
 ghost use Rattle.cq_munch.specs.Quotes.{QuotedAt, NoneCloses};
-ghost use Rattle.cq_munch.specs.QuoteStates.{mark_of, role_of, place_behind, next_of, is_closed, rest_of};
+ghost use Rattle.cq_munch.specs.QuoteStates.{mark_of, role_of, place_behind, next_of, is_closed};
 
 use crate::ends::LineEnds;
-use crate::machine::{Machine, longest_spelling};
 use crate::unit::Unit;
 
 /// What is around a quoted text.
@@ -110,32 +108,6 @@ fn is_closed(state: Quoted) -> bool
     ensures { result ≡ is_closed state }
 {
     matches!(state.place, Place::Closed)
-}
-
-impl Machine for Quoted {
-    ghost rest = { λ state. SpellsAny (rest_of state) };
-
-    fn step(self, ch: char) -> Option<Self> {
-        next_of(self, mark_of(ch))
-    }
-
-    fn accepts(self) -> bool {
-        is_closed(self)
-    }
-}
-
-/// The text in these quotes at the front, if it is closed on its line. What an escape means is not checked.
-pub fn longest_quoted(quote: Quote, ends: LineEnds, units: &[Unit]) -> Option<usize>
-    ensures { QuotedAt quote ends (characters units.now) result }
-{
-    longest_spelling(
-        Quoted {
-            quote,
-            ends,
-            place: Place::Before,
-        },
-        units,
-    )
 }
 
 /// The text in these quotes at the front, or how many units were read without finding its end: none of them begins a

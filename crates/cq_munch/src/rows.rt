@@ -1,9 +1,7 @@
-ghost use Rattle.std.specs.Prelude.{◌≡◌, ◌<◌, ◌^◌, [], ◌∷◌, slice_index_or, IfSome};
-ghost use Rattle.cq_munch.specs.Characters.{characters};
-ghost use Rattle.cq_munch.specs.Table.{begins, better, found_of};
+ghost use Rattle.std.specs.Prelude.{◌≡◌, ◌<◌, ◌^◌, IfSome};
+ghost use Rattle.cq_munch.specs.Table.{better, found_of};
 
 use crate::element::{Found, Spell};
-use crate::unit::Unit;
 
 /// The longer of two elements.
 pub fn better(a: Option<Found>, b: Option<Found>) -> Option<Found>
@@ -28,16 +26,5 @@ pub fn found_of(spell: Spell, mode: u8, len: Option<usize>) -> Option<Found>
             mode,
         }),
         None => None,
-    }
-}
-
-/// Whether this character follows the slash at the front.
-pub fn second_is(units: &[Unit], ch: char) -> bool
-    requires slash { slice_index_or (characters units.now) 0 0 ≡ 47 }
-    ensures { result ≡ begins (47 ∷ ch ∷ []) (characters units.now) }
-{
-    match units {
-        [_, second, ..] => second.ch == ch,
-        _ => false,
     }
 }

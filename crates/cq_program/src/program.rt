@@ -24,7 +24,7 @@ use cq_session::session;
 use cq_talk::{talks_alone, talks_beside};
 use cq_tokask::ask;
 use cq_words::{Command, Export, Make, Run, default_settings, is_command, read_command};
-use cq_work::{Keyer, Work, plain_key};
+use cq_work::{Keyer, Work};
 use std::alloc::Global;
 use std::sync::Wait;
 use std::sync::ledger::Ledger;
@@ -46,11 +46,7 @@ fn serve<R: Threads + Sync, S: Source, K: Sink, G: Gate, L: Ledger>(
     ensures runs { Runs S.Source K.Sink settings.now steps.old steps.new
         source.old source.new sink.old sink.new result }
 {
-    let of = *settings;
-    let Ok(key) = Box::new(alloc, move |codes: &[u64]| plain_key(&of, codes)) else {
-        return Status::Memory;
-    };
-    let keyer = Keyer::new(settings, key);
+    let keyer = Keyer::plain(settings);
     let made: Result<(Solo<Work<L>>, SoloPass<Work<L>>), Memory> = Solo::new(alloc, settings);
     let Ok((hub, mut pass)) = made else {
         return Status::Memory;
@@ -107,11 +103,7 @@ fn driven<R: Threads + Sync, S: Source, K: Sink, L: Ledger>(
     ensures drives { Drives S.Source K.Sink settings.now
         source.old source.new sink.old sink.new result }
 {
-    let of = *settings;
-    let Ok(key) = Box::new(alloc, move |codes: &[u64]| plain_key(&of, codes)) else {
-        return Status::Memory;
-    };
-    let keyer = Keyer::new(settings, key);
+    let keyer = Keyer::plain(settings);
     let Ok(mut lines) = Lines::new(alloc, settings.byte_limit) else {
         return Status::Memory;
     };
@@ -163,11 +155,7 @@ fn kept<R: Threads + Sync, S: Source, K: Sink, L: Ledger>(
         source.old source.new sink.old sink.new result }
     ensures no_line { result ≡ ended.Memory → TakesNoLine L S.Source settings.now source.old source.new }
 {
-    let of = *settings;
-    let Ok(key) = Box::new(alloc, move |codes: &[u64]| plain_key(&of, codes)) else {
-        return Status::Memory;
-    };
-    let keyer = Keyer::new(settings, key);
+    let keyer = Keyer::plain(settings);
     match ask(rt, alloc, settings, &keyer, source, sink, steps) {
         Ok(asked) => status_of_asked(asked),
         Err(Memory) => Status::Memory,
@@ -188,11 +176,7 @@ fn exported<S: Source, K: Sink, L: Ledger>(
     ensures exports { ExportsFile L S.Source K.Sink asked.now
         source.old source.new sink.old sink.new result }
 {
-    let of = asked.settings;
-    let Ok(key) = Box::new(alloc, move |codes: &[u64]| plain_key(&of, codes)) else {
-        return Status::Memory;
-    };
-    let keyer = Keyer::new(&asked.settings, key);
+    let keyer = Keyer::plain(&asked.settings);
     match export(
         alloc,
         &asked.settings,

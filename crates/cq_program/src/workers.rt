@@ -12,7 +12,7 @@ use cq_io::{Gate, Sink, Source};
 use cq_lines::Lines;
 use cq_shared::Shared;
 use cq_words::Run;
-use cq_work::{Keyer, Work, plain_key};
+use cq_work::{Keyer, Work};
 use std::alloc::Global;
 use std::sync::Wait;
 use std::sync::ledger::Ledger;
@@ -44,11 +44,7 @@ pub(crate) fn serve_with_workers<
 {
     let settings = &asked.settings;
     let workers = asked.workers;
-    let of = *settings;
-    let Ok(key) = Box::new(alloc, move |codes: &[u64]| plain_key(&of, codes)) else {
-        return Status::Memory;
-    };
-    let keyer = Keyer::new(settings, key);
+    let keyer = Keyer::plain(settings);
     // One caller is the first pass's, one the session's, and one each worker's.
     let callers = workers + 2;
     let made: Result<(Shared<Work<L>, &Q>, Pass<Work<L>>), Memory> = Shared::new(

@@ -1,36 +1,16 @@
-ghost use Rattle.std.specs.Prelude.{◌≡◌, [], ◌∷◌, IfOk};
-ghost use Rattle.std.specs.Arc.{arc_value};
+ghost use Rattle.std.specs.Prelude.{◌≡◌, [], ◌∷◌};
 ghost use Rattle.cq_base.specs.Settings.{IsInRange};
-ghost use Rattle.cq_board.specs.Sound.{HasSoundText};
 ghost use Rattle.cq_hub.specs.Hubs.{IsPassOf};
-ghost use Rattle.cq_work.specs.Work.{IsWorkOf};
 ghost use Rattle.cq_serve.specs.Turns.{HasAsked, HasTurned};
 
 use crate::answers::Turn;
 use cq_base::{Memory, Settings};
-use cq_board::{Finished, Job};
+use cq_board::Finished;
 use cq_hub::Hub;
 use cq_io::Gate;
-use cq_work::{Keyer, Work, work_of};
+use cq_work::{Keyer, Work, work_for};
 use std::alloc::Global;
-use std::sync::Arc;
 use std::sync::ledger::Ledger;
-
-fn made<L: Ledger>(
-    alloc: Global,
-    settings: &Settings,
-    keyer: &Keyer,
-    job: &Job,
-) -> Result<Arc<Work<L>, Global>, Memory>
-    requires in_range { IsInRange settings.now }
-    requires settings { keyer.now.settings ≡ settings.now }
-    requires sound { HasSoundText job.now }
-    ensures { IfOk result (λ work.
-        IsWorkOf settings.now job.now.lang (arc_value job.now.text) (arc_value work)) }
-{
-    let work = work_of(alloc, settings, keyer, job.lang, &job.text)?;
-    Ok(Arc::new(alloc, work)?)
-}
 
 // Publishes what is done, where there is memory for it.
 fn publish_done<L: Ledger, H: Hub<Work<L>>, G: Gate>(
@@ -73,7 +53,7 @@ pub fn turn<L: Ledger, H: Hub<Work<L>>, G: Gate>(
         Ok(None) => Turn::Idle,
         Ok(Some(job)) => {
             gate.before_work(job.change);
-            match made(alloc, settings, keyer, &job) {
+            match work_for(alloc, settings, keyer, job.lang, &job.text) {
                 Err(Memory) => {
                     let _given = hub.back(job.change, pass);
                     publish_done(alloc, hub, gate, pass);

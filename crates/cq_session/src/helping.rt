@@ -1,35 +1,15 @@
-ghost use Rattle.std.specs.Prelude.{◌≡◌, OnOk, OnErr, IfOk};
-ghost use Rattle.std.specs.Arc.{arc_value};
+ghost use Rattle.std.specs.Prelude.{◌≡◌, OnOk, OnErr};
 ghost use Rattle.cq_base.specs.Settings.{IsInRange};
-ghost use Rattle.cq_board.specs.Sound.{HasSoundText};
 ghost use Rattle.cq_talk.specs.Steps.{Always};
-ghost use Rattle.cq_work.specs.Work.{IsWorkOf};
 ghost use Rattle.cq_session.specs.Passes.{HasChange, HasDone, HasDoneSome, HasDoneUpTo, HasHelped, MayHelp};
 
 use cq_base::{Memory, Settings};
-use cq_board::{Finished, Job};
+use cq_board::Finished;
 use cq_hub::Hub;
 use cq_io::Gate;
-use cq_work::{Keyer, Work, work_of};
+use cq_work::{Keyer, Work, work_for};
 use std::alloc::Global;
-use std::sync::Arc;
 use std::sync::ledger::Ledger;
-
-fn work_for<L: Ledger>(
-    alloc: Global,
-    settings: &Settings,
-    keyer: &Keyer,
-    job: &Job,
-) -> Result<Arc<Work<L>, Global>, Memory>
-    requires in_range { IsInRange settings.now }
-    requires settings { keyer.now.settings ≡ settings.now }
-    requires sound { HasSoundText job.now }
-    ensures { IfOk result (λ work.
-        IsWorkOf settings.now job.now.lang (arc_value job.now.text) (arc_value work)) }
-{
-    let work = work_of(alloc, settings, keyer, job.lang, &job.text)?;
-    Ok(Arc::new(alloc, work)?)
-}
 
 // The work of a change is done, by this caller where it was not done yet.
 fn help_one<L: Ledger, H: Hub<Work<L>>, G: Gate>(
@@ -55,7 +35,7 @@ fn help_one<L: Ledger, H: Hub<Work<L>>, G: Gate>(
         Ok(None) => Ok(()),
         Ok(Some(job)) => {
             gate.before_work(change);
-            match work_for(alloc, settings, keyer, &job) {
+            match work_for(alloc, settings, keyer, job.lang, &job.text) {
                 Err(Memory) => Err(Memory),
                 Ok(work) => match hub.finish(change, work, pass) {
                     Finished::Done => Ok(()),

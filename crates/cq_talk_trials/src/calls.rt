@@ -6,7 +6,7 @@ use cq_base::{Memory, Settings, Steps};
 use cq_hub::{Solo, SoloPass};
 use cq_io::Gate;
 use cq_lines::End;
-use cq_work::{Keyer, Work, plain_key};
+use cq_work::{Keyer, Work};
 use std::alloc::Global;
 use std::cell::RefCell;
 use std::fmt::Write;
@@ -99,9 +99,7 @@ fn noted<R: Threads + Sync, L: Ledger>(
     requires name { blank.name ≡ L.name }
     requires parts { blank.parts ≡ L.parts }
 {
-    let of = *settings;
-    let key = Box::new(alloc, move |codes: &[u64]| plain_key(&of, codes))?;
-    let keyer = Keyer::new(settings, key);
+    let keyer = Keyer::plain(settings);
     let mut steps: Steps<L> = Steps::new(blank);
     let made: (Solo<Work<L>>, SoloPass<Work<L>>) = Solo::new(alloc, settings)?;
     let (hub, mut pass) = made;

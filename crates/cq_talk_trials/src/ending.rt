@@ -8,7 +8,7 @@ use cq_io::{Gate, MemSink, MemSource, Sink, Source};
 use cq_lines::{End, Lines};
 use cq_session::session;
 use cq_shared::Shared;
-use cq_work::{Keyer, Work, plain_key};
+use cq_work::{Keyer, Work};
 use std::alloc::Global;
 use std::sync::Wait;
 use std::sync::ledger::Ledger;
@@ -31,9 +31,7 @@ pub(crate) fn conversed<Q: Threads + Sync, L: Ledger, R: Wait, S: Source, K: Sin
     requires of { IsPassOf hub.now pass }
     requires fresh { pass.seen ≡ [] }
 {
-    let of = *settings;
-    let key = Box::new(alloc, move |codes: &[u64]| plain_key(&of, codes))?;
-    let keyer = Keyer::new(settings, key);
+    let keyer = Keyer::plain(settings);
     let mut lines = Lines::new(alloc, settings.byte_limit)?;
     let mut steps: Steps<L> = counters.counter();
     let end = session(

@@ -11,7 +11,7 @@ use cq_lines::End;
 use cq_serve::{Turn, turn};
 use cq_shared::Shared;
 use cq_stage::{Client, ClientSource, Hold, Late, LogSink, Scene, Stage, Until, Who};
-use cq_work::{Keyer, Work, plain_key};
+use cq_work::{Keyer, Work};
 use std::alloc::Global;
 use std::marker::Brand;
 use std::sync::Wait;
@@ -44,9 +44,7 @@ fn turned<Q: Wait + Clock, L: Ledger, R: Wait>(
     requires hub_settings { settings_of hub.now ≡ settings.now }
     requires of { IsPassOf hub.now pass }
 {
-    let of = *settings;
-    let key = Box::new(alloc, move |codes: &[u64]| plain_key(&of, codes))?;
-    let keyer = Keyer::new(settings, key);
+    let keyer = Keyer::plain(settings);
     let gate = Scene {
         stage,
         hold: Hold::Works(1, Until::Told(0, UPLOADED.len())),

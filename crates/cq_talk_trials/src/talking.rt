@@ -10,7 +10,7 @@ use cq_io::OpenGate;
 use cq_lines::End;
 use cq_shared::Shared;
 use cq_talk_model::{Draws, Model, difference, drawn_lines};
-use cq_work::{Keyer, Work, plain_key};
+use cq_work::{Keyer, Work};
 use std::alloc::Global;
 use std::marker::Brand;
 use std::sync::Wait;
@@ -83,9 +83,7 @@ fn talks_over_one_hub<R: Threads + Sync, L: Ledger, H: Hub<Work<L>>>(
     requires name { blank.name ≡ L.name }
     requires parts { blank.parts ≡ L.parts }
 {
-    let of = *settings;
-    let key = Box::new(alloc, move |codes: &[u64]| plain_key(&of, codes))?;
-    let keyer = Keyer::new(settings, key);
+    let keyer = Keyer::plain(settings);
     let mut steps: Steps<L> = Steps::new(blank);
     let mut draws = Draws::new(seed);
     let mut model = Model::new(alloc, settings.change_limit, settings.text_limit);

@@ -8,7 +8,7 @@ use cq_io::{Gate, MemSink, MemSource, Sink, Source};
 use cq_lines::{End, Lines};
 use cq_shared::Shared;
 use cq_stage::{Hold, Late, Scene, Stage, Until};
-use cq_work::{Keyer, Work, plain_key};
+use cq_work::{Keyer, Work};
 use std::alloc::Global;
 use std::marker::Brand;
 use std::sync::Wait;
@@ -57,9 +57,7 @@ fn served<Q: Threads + Wait + Sync, L: Ledger + Send + Sync, S: Source, K: Sink,
     requires in_range { IsInRange settings.now }
     requires few { workers ≤ 64 }
 {
-    let of = *settings;
-    let key = Box::new(alloc, move |codes: &[u64]| plain_key(&of, codes))?;
-    let keyer = Keyer::new(settings, key);
+    let keyer = Keyer::plain(settings);
     let counters: Counters<L> = Counters::new(blank);
     let mut steps: Steps<L> = counters.counter();
     let made: (Shared<Work<L>, &Q>, Pass<Work<L>>) = Shared::new(rt, alloc, settings, workers + 2)?;

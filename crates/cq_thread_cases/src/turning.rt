@@ -7,7 +7,7 @@ use cq_board::Refused;
 use cq_hub::{Hub, Solo, SoloPass};
 use cq_io::{Gate, OpenGate};
 use cq_serve::{Bell, RingingGate, Turn, turn};
-use cq_work::{Keyer, Work, plain_key};
+use cq_work::{Keyer, Work};
 use std::alloc::Global;
 use std::marker::Brand;
 
@@ -40,9 +40,7 @@ fn turns(alloc: Global, settings: &Settings, text: &str) -> Result<(Turn, Turn, 
     requires in_range { IsInRange settings.now }
     requires short { length text.now ≤ 1048576 }
 {
-    let of = *settings;
-    let key = Box::new(alloc, move |codes: &[u64]| plain_key(&of, codes))?;
-    let keyer = Keyer::new(settings, key);
+    let keyer = Keyer::plain(settings);
     let made: (Solo<Work<Brand>>, SoloPass<Work<Brand>>) = Solo::new(alloc, settings)?;
     let (hub, mut pass) = made;
     hub.accept(alloc, put(alloc, text)?, &mut pass)?;

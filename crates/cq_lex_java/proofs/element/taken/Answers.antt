@@ -1,9 +1,5 @@
 use Rattle.std.proofs.Common.{sym, ◌∙◌}
 use Rattle.cq_munch.specs.Characters.{characters}
-use Rattle.cq_munch.proofs.RowScans.{at_letter, at_other}
-use Rattle.cq_lex_java.specs.Java.{named, others}
-use Rattle.cq_lex_java.specs.OneKind.{letters, no_letters}
-use Rattle.cq_lex_java.specs.Words.{begins_identifier}
 use Rattle.cq_lex_java.proofs.Dispatch.{block_there, end_there, no_opener, end_taken}
 use Rattle.cq_lex_java.proofs.element.taken.Goals as goal
 
@@ -17,14 +13,7 @@ returns-then-is_end c = λ at.
     end_there at c.args.mode (characters c.args.units.now) (sym c.opens_comment.ensures ∙ c.if-opens_comment.false) (sym c.opens_comment-2.ensures ∙ c.if-opens_comment-2.false) _
     (sym c.opens_block.ensures ∙ c.if-opens_block.false) (sym c.is_end.ensures ∙ c.if-is_end.true) (end_taken at c.args.mode (characters c.args.units.now) (sym c.is_end.ensures ∙ c.if-is_end.true) _ c.found_of-then-is_end.ensures)
 
-pub returns-then-begins_name : goal.returns-then-begins_name
-returns-then-begins_name c = λ at.
-    no_opener at c.args.mode (characters c.args.units.now) (sym c.opens_comment.ensures ∙ c.if-opens_comment.false) (sym c.opens_comment-2.ensures ∙ c.if-opens_comment-2.false) c.name.result
-    (sym c.opens_block.ensures ∙ c.if-opens_block.false) (sym c.is_end.ensures ∙ c.if-is_end.false)
-    (at_letter begins_identifier named others letters no_letters at c.args.mode (characters c.args.units.now) c.name.result (sym c.begins_name.ensures ∙ c.if-begins_name.true) (c.name.ensures at))
-
 pub returns : goal.returns
 returns c = λ at.
-    no_opener at c.args.mode (characters c.args.units.now) (sym c.opens_comment.ensures ∙ c.if-opens_comment.false) (sym c.opens_comment-2.ensures ∙ c.if-opens_comment-2.false) c.other.result
-    (sym c.opens_block.ensures ∙ c.if-opens_block.false) (sym c.is_end.ensures ∙ c.if-is_end.false)
-    (at_other begins_identifier named others letters no_letters at c.args.mode (characters c.args.units.now) c.other.result (sym c.begins_name.ensures ∙ c.if-begins_name.false) (c.other.ensures at))
+    no_opener at c.args.mode (characters c.args.units.now) (sym c.opens_comment.ensures ∙ c.if-opens_comment.false) (sym c.opens_comment-2.ensures ∙ c.if-opens_comment-2.false) c.element.result
+    (sym c.opens_block.ensures ∙ c.if-opens_block.false) (sym c.is_end.ensures ∙ c.if-is_end.false) (c.element.ensures at)

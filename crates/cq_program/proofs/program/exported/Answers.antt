@@ -4,14 +4,14 @@ use Rattle.cq_program.specs.declared.status.Status.{Status}
 use Rattle.cq_program.proofs.Ended.{ended_exported}
 use Rattle.cq_program.proofs.program.exported.Goals as goal
 
-pub returns-in-Ok-export-clause-ends : goal.returns-in-Ok-export-clause-ends
-returns-in-Ok-export-clause-ends g c =
+pub returns-in-Ok-clause-ends : goal.returns-in-Ok-clause-ends
+returns-in-Ok-clause-ends g c =
     subst (λ (s : Status). Ends g.S.Source g.K.Sink s c.args.source.now c.export.new.source c.args.sink.now c.export.new.sink) (sym c.status_of_exported.ensures.status)
-    (ended_exported g.row.L.Denot g.S.Source g.K.Sink c.args.asked.now.settings c.args.source.now c.export.new.source c.args.sink.now c.export.new.sink c.args.asked.now.project c.in-Ok-export.ended c.in-Ok-export.ensures.exports)
+    (ended_exported g.row.L.Denot g.S.Source g.K.Sink c.args.asked.now.settings c.args.source.now c.export.new.source c.args.sink.now c.export.new.sink c.args.asked.now.project c.in-Ok.ended c.in-Ok.ensures.exports)
 
-pub returns-in-Ok-export-clause-exports : goal.returns-in-Ok-export-clause-exports
-returns-in-Ok-export-clause-exports g c = λ other. record {
-  by = c.in-Ok-export.ended;
+pub returns-in-Ok-clause-exports : goal.returns-in-Ok-clause-exports
+returns-in-Ok-clause-exports g c = λ other. record {
+  by = c.in-Ok.ended;
   status_is = c.status_of_exported.ensures.status;
-  exports = c.in-Ok-export.ensures.exports;
+  exports = c.in-Ok.ensures.exports;
 }

@@ -12,10 +12,10 @@ use Rattle.cq_program.proofs.workers.serve_with_workers.Goals as goal
 pub returns-in-Ok-new-clause-runs : goal.returns-in-Ok-new-clause-runs
 returns-in-Ok-new-clause-runs g c = λ other.
     let asked = c.args.asked.now in
-    let made = c.in-Ok-made.ensures in
+    let made = c.in-Ok.ensures in
     let callers = made.callers in
     let room = made.room.1 in
-    let first : IsFirst c.in-Ok-made.hub c.in-Ok-made.pass = record { none = made.stands.seen; first = made.stands.caller; room = omega (arith, callers, room) } in
+    let first : IsFirst c.in-Ok.hub c.in-Ok.pass = record { none = made.stands.seen; first = made.stands.caller; room = omega (arith, callers, room) } in
     record {
       by = c.serve_one-end.result;
       status_is = c.status_of.ensures.status;

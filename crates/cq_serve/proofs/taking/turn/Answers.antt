@@ -1,4 +1,4 @@
-use Rattle.std.proofs.Common.{[], ◌∷◌, ◌++◌, refl, sym, subst}
+use Rattle.std.proofs.Common.{ℕ, List, [], ◌∷◌, ◌++◌, refl, sym, subst₂}
 use Rattle.std.specs.Arc.{arc_value}
 use Rattle.cq_base.specs.declared.settings.Settings.{Settings}
 use Rattle.cq_history.specs.declared.event.Event.TheVariants.{Took, Done}
@@ -14,8 +14,8 @@ pub returns-in-Ok-None-clause-turned : goal.returns-in-Ok-None-clause-turned
 returns-in-Ok-None-clause-turned g c = λ by h stands.
     no_events g.H.Hub c.args.hub.now (g.H.Hub.settings c.args.hub.now) (g.met.H.Hub.lawful c.args.hub.now) by h c.take.new.pass _ _ ((rw c.in-Ok-None.field-0-is at c.in-Ok-None.ensures.taken) by h stands) (λ others says. (others, says))
 
-pub returns-in-Err-made-clause-turned : goal.returns-in-Err-made-clause-turned
-returns-in-Err-made-clause-turned g c = λ by h stands.
+pub returns-in-Err-work_for-clause-turned : goal.returns-in-Err-work_for-clause-turned
+returns-in-Err-work_for-clause-turned g c = λ by h stands.
     let hub = c.args.hub.now in
     let set = g.H.Hub.settings hub in
     let law = g.met.H.Hub.lawful hub in
@@ -35,7 +35,7 @@ finish-requires g c =
     let by = c.requires.stands.0 in
     let h = c.requires.stands.1 in
     let took = (rw c.in-Ok-Some.field-0-is at c.in-Ok-Some.ensures.taken) by h c.requires.stands.2 in
-    let made = subst (λ (s : Settings). IsWorkOf s job.lang (arc_value job.text) (arc_value c.in-Ok.work)) (sym c.requires.hub_settings) c.in-Ok.ensures in
+    let made = subst₂ (λ (s : Settings) (text : List ℕ). IsWorkOf s job.lang text (arc_value c.in-Ok.work)) (sym c.requires.hub_settings) c.deref.ensures c.in-Ok.ensures in
     record {
       work = (
         by,

@@ -1,5 +1,6 @@
-use Rattle.std.proofs.Common.{[], ◌∷◌, ◌∙◌, refl, sym, subst, arith}
+use Rattle.std.proofs.Common.{ℕ, ◌≤◌, List, [], ◌∷◌, length, ◌∙◌, refl, sym, subst, subst₂, arith}
 use Rattle.std.specs.Arc.{arc_value}
+use Rattle.std.specs.Str.{IsUtf8}
 use Rattle.cq_base.specs.declared.settings.Settings.{Settings}
 use Rattle.cq_history.specs.declared.event.Event.TheVariants.{Done}
 use Rattle.cq_history.specs.State.{state}
@@ -18,11 +19,17 @@ pub returns-in-Ok-None-clause-done : goal.returns-in-Ok-None-clause-done
 returns-in-Ok-None-clause-done g c =
     λ by h stands closed always. lead_none _ _ _ by _ _ _ h _ _ ((rw c.in-Ok-None.field-0-is at c.in-Ok-None.ensures.job) by h stands) closed (λ others says. record { finished = []; up_to = tt; grows = others; so = says })
 
-pub work_for-requires-clause-sound : goal.work_for-requires-clause-sound
-work_for-requires-clause-sound g c =
+pub work_for-requires-clause-utf8 : goal.work_for-requires-clause-utf8
+work_for-requires-clause-utf8 g c =
     let r = c.requires.accepted in
     let call = (rw c.in-Ok-Some.field-0-is at c.in-Ok-Some.ensures.job) r.0 r.1 r.2 in
-    call.says.3
+    subst IsUtf8 (sym c.deref.ensures) call.says.3.0
+
+pub work_for-requires-clause-short : goal.work_for-requires-clause-short
+work_for-requires-clause-short g c =
+    let r = c.requires.accepted in
+    let call = (rw c.in-Ok-Some.field-0-is at c.in-Ok-Some.ensures.job) r.0 r.1 r.2 in
+    subst (λ (text : List ℕ). length text ≤ 1048576) (sym c.deref.ensures) call.says.3.1
 
 pub returns-in-Err-work_for-clause-refused : goal.returns-in-Err-work_for-clause-refused
 returns-in-Err-work_for-clause-refused g c =
@@ -40,7 +47,7 @@ finish-requires g c =
         (
           first.says.0.0,
           job_work (IsWorkOf (g.H.Hub.settings c.args.hub.now)) (state (g.H.Hub.callers c.args.hub.now) first.mid) c.args.change c.in-Ok-Some.job (arc_value c.in-Ok.work) first.says.1 first.says.2
-              (subst (λ (set : Settings). IsWorkOf set c.in-Ok-Some.job.lang (arc_value c.in-Ok-Some.job.text) (arc_value c.in-Ok.work)) (sym c.requires.hub_settings) c.in-Ok.ensures),
+              (subst₂ (λ (set : Settings) (text : List ℕ). IsWorkOf set c.in-Ok-Some.job.lang text (arc_value c.in-Ok.work)) (sym c.requires.hub_settings) c.deref.ensures c.in-Ok.ensures),
         ),
       );
     }

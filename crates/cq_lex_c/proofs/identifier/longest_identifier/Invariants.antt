@@ -1,6 +1,0 @@
-use Rattle.cq_munch.specs.Characters.{characters}
-use Rattle.cq_lex_c.proofs.NameScans.{Named}
-use Rattle.cq_lex_c.proofs.identifier.longest_identifier.Given as goal
-
-abbrev pub invariant-loop-at : goal.invariant-loop-at
-invariant-loop-at l = Named (characters l.units) l.at
