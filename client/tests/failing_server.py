@@ -72,7 +72,11 @@ def serve() -> None:
 
 if mode == "ends at once":
     sys.exit(1)
-serve()
+try:
+    serve()
+except (BrokenPipeError, ConnectionResetError):
+    # the client closed its end while something that was written here was still unread
+    pass
 if mode == "stays":
     time.sleep(1000)
 if mode == "ends badly":
