@@ -78,11 +78,11 @@ has_escape behind (u ∷ us) = (behind && (u.ch == 117)) || has_escape (u.ch == 
 -- ---- what can be shown
 
 abbrev pub IsEscapeLong : ℕ → Escape → Type 0
-IsEscapeLong n (escapes.Code code len) = (1 ≤ len) × (len ≤ n)
+IsEscapeLong n (escapes.Code code len) = (2 ≤ len) × (len ≤ n)
 IsEscapeLong n escapes.None = ⊤
 IsEscapeLong n escapes.Bad = ⊤
 
 abbrev pub IsStepWithin : ℕ → Step → Type 0
-IsStepWithin n (steps.One ch len) = (1 ≤ len) × (len ≤ n)
+IsStepWithin n (steps.One ch len) = (2 ≤ len) × (len ≤ n)
 IsStepWithin n steps.Plain = ⊤
 IsStepWithin n steps.Fault = ⊤

@@ -12,6 +12,7 @@ pub mod QuoteSteps
 pub mod OpenQuotes
 pub mod Orders
 pub mod Texts
+pub mod Bytes
 pub mod Decoding
 pub mod Elements
 pub mod Joining

@@ -1,5 +1,5 @@
 -- The characters of units, as bytes.
-use Rattle.std.specs.Prelude.{ℕ, ◌<◌, List, map, All}
+use Rattle.std.specs.Prelude.{ℕ, List, map}
 use Rattle.std.specs.Str.{encode_utf8_all}
 use Rattle.cq_munch.specs.declared.unit.Unit.{Unit}
 
@@ -12,6 +12,3 @@ seen_by stood units = map (λ u. stood u.ch) units
 
 abbrev pub utf8_of : List Unit → List ℕ
 utf8_of units = encode_utf8_all (characters units)
-
-abbrev pub AreAscii : List Unit → Type 0
-AreAscii units = All (λ c. c < 128) (characters units)

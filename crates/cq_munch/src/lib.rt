@@ -37,4 +37,4 @@ pub use plain::plain_units;
 pub use quoted::{Quote, scan_quoted};
 pub use rows::{better, found_of};
 pub use unit::Unit;
-pub use words::{ascii_bytes, is_listed_by_letter};
+pub use words::{is_listed_by_letter, is_spelled};

@@ -1,11 +1,11 @@
 use Rattle.std.proofs.Common.{◌≤◌, ℕ, Result, Ok, List, length, false, sym, subst, ap, ◌∙◌}
 use Rattle.std.specs.Prelude.{IfOk}
 use Rattle.std.proofs.lemmas.Result.{IfOk-weaker}
-use Rattle.cq_munch.specs.Lexed.{InOrder}
+use Rattle.cq_munch.specs.Lexed.{AreBytes, InOrder}
 use Rattle.cq_munch.specs.declared.unit.Unit.{Unit}
 use Rattle.cq_munch.proofs.Orders.{InOrder-to}
 use Rattle.cq_lex_java.specs.Translation.{translated}
-use Rattle.cq_lex_java.proofs.Translating.{translated-order, translated-short, shorter}
+use Rattle.cq_lex_java.proofs.Translating.{translated-order, translated-short, translated-bytes, shorter}
 use Rattle.cq_lex_java.proofs.language.JavaLexis.translate.Goals as goal
 
 pub unescaped-requires : goal.unescaped-requires
@@ -23,6 +23,13 @@ returns-clause-short c =
     let units = c.in_ok-units.units.items in
     IfOk-weaker c.unescaped.result _ _
     (λ t is. subst (λ (r : Result (List Unit) ℕ). IfOk r (λ v. length v ≤ length c.args.text.now)) (sym is) (shorter (length units) (length c.args.text.now) (translated 0 false units) c.in_ok-units.ensures.short (translated-short 0 false units)))
+    c.unescaped.ensures
+
+pub returns-clause-bytes : goal.returns-clause-bytes
+returns-clause-bytes c =
+    let units = c.in_ok-units.units.items in
+    IfOk-weaker c.unescaped.result _ _
+    (λ t is. subst (λ (r : Result (List Unit) ℕ). IfOk r (AreBytes c.args.text.now)) (sym is) (translated-bytes c.args.text.now (length c.args.text.now) 0 false 0 units c.in_ok-units.ensures.in_order c.in_ok-units.ensures.bytes))
     c.unescaped.ensures
 
 pub returns-then-is_plain-clause-translation : goal.returns-then-is_plain-clause-translation
