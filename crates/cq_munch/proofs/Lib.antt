@@ -14,6 +14,7 @@ pub mod Orders
 pub mod Texts
 pub mod Bytes
 pub mod Decoding
+pub mod Backslashes
 pub mod Elements
 pub mod Joining
 pub mod OneKind

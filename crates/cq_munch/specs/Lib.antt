@@ -18,5 +18,6 @@ pub mod Scanners
 pub mod Commented
 pub mod ListingMarks
 pub mod Lexed
+pub mod Backslashes
 pub mod OneAnswer
 pub mod LastWord

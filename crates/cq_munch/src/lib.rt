@@ -6,6 +6,7 @@
 #![tactic(auto)]
 
 mod automaton;
+mod backslash;
 mod comment;
 mod cutting;
 mod element;
@@ -24,6 +25,7 @@ mod unit;
 mod words;
 
 pub use automaton::{Automaton, Itself, StandIn, longest_found};
+pub use backslash::follows_backslash;
 pub use comment::{longest_block_comment, longest_line_comment, opens_comment};
 pub use element::{Found, Spell};
 pub use ends::LineEnds;
