@@ -9,6 +9,7 @@
 #![tactic(auto)]
 
 mod characters;
+mod constants;
 mod element;
 mod faults;
 mod header;
@@ -17,6 +18,7 @@ mod language;
 mod mode;
 mod scanner;
 mod splice;
+mod strings;
 mod text;
 
 pub use faults::only_open_comments_are_faults;

@@ -8,8 +8,6 @@ pub mod Rowed
 pub mod PlainScans
 pub mod WordLists
 pub mod Reserved
-pub mod QuoteSteps
-pub mod OpenQuotes
 pub mod Orders
 pub mod Texts
 pub mod Bytes
@@ -19,6 +17,7 @@ pub mod Elements
 pub mod Joining
 pub mod OneKind
 pub mod RowScans
+pub mod Once
 pub mod Seen
 pub mod Reserving
 pub mod Marks
