@@ -37,7 +37,7 @@ module _ (test : ℕ → Bool) where
   -- the table finds it as its second row, by computing: such characters lead to a state from which nothing goes on
   module _ (past : (c : ℕ) → 128 ≤ c → test c ≡ false) (stood : ℕ → ℕ) (name : Pattern) (words : List (List ℕ)) (others : Patterned) (kinds : List ℕ) (spells : List Spell) (t : Tables)
       (is : IsScanner stood name words others kinds spells t) (state : ℕ) (leads : each_below 128 (λ c. not (test c) || (entry_at t 0 c == suc state)) ≡ true)
-      (stops : list_all (λ e. nat_le e 48) (get_or t.steps state []) ≡ true) (ends : get_or t.ends state 0 ≡ 2) (row : Blank ≡ get_or spells 1 Blank) where
+      (stops : list_all (λ e. nat_le e 48) (get_or t.steps state []) ≡ true) (ends : get_or t.ends state 0 ≡ suc 1) (row : Blank ≡ get_or spells 1 Blank) where
     led : (c : ℕ) → test c ≡ true → entry_at t 0 (stood c) ≡ suc state
     led c passes =
         let low = low_by test past c passes in

@@ -1,4 +1,4 @@
-ghost use Rattle.std.specs.Prelude.{◌≡◌, ℕ, suc, ◌-◌, ◌<◌, ◌≤◌, ◌^◌, nat_lt, IfErr, IfNone, IfOk, IfSome, List, [], None, Some, length, slice_index_or};
+ghost use Rattle.std.specs.Prelude.{◌≡◌, ℕ, suc, ◌-◌, ◌<◌, ◌≤◌, ◌^◌, IfErr, IfNone, IfOk, IfSome, IsFalse, IsTrue, List, [], None, Some, length, slice_index_or};
 ghost use Rattle.cq_munch.specs.Automata.{class_at, RowAt, tables_of};
 ghost use Rattle.cq_munch.specs.Characters.{characters, seen_by};
 ghost use Rattle.cq_munch.specs.Language.{Takes};
@@ -141,9 +141,13 @@ pub fn longest_found<S: StandIn>(
 
 // Whether a spelling may end in a state.
 fn is_end(ends: &[u8], state: u8) -> bool
-    ensures { result ≡ nat_lt 0 (slice_index_or ends.now state 0) }
+    ensures some { IsTrue result → 0 < slice_index_or ends.now state 0 }
+    ensures none { IsFalse result → slice_index_or ends.now state 0 ≡ 0 }
 {
-    (state as usize) < ends.len() && ends[state as usize] > 0
+    match row_at(ends, state) {
+        Some(_) => true,
+        None => false,
+    }
 }
 
 /// How many units the spelling at the front has, of a table with one row that need not begin again; or how many units were

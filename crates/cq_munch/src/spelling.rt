@@ -32,6 +32,7 @@ fn of_bytes(
     requires bytes { AreBytes text.now units.now }
     requires start_is { start ≡ (unit_at units.now 0).start }
     requires end_is { start + len ≡ end_of units.now }
+    requires within { start + len ≤ length text.now }
     ensures { IfOk result (λ t. t ≡ utf8_of units.now) }
 {
     if len as usize == units.len() {

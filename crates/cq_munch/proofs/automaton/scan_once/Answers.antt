@@ -1,5 +1,4 @@
-use Rattle.std.proofs.Common.{◌+◌, ◌<◌, ◌≤◌, Some, None, get_or, length, sym, ◌∙◌, arith}
-use Rattle.std.proofs.lemmas.Bool.{ltb-true, ltb-false}
+use Rattle.std.proofs.Common.{◌+◌, ◌<◌, ◌≤◌, Some, None, length, arith}
 use Rattle.std.proofs.lemmas.List.{length-map}
 use Rattle.cq_munch.specs.Automata.{tables_of}
 use Rattle.cq_munch.specs.Characters.{characters}
@@ -28,15 +27,14 @@ returns-then-is_end-clause-found c = λ p texts right.
     let i = c.loop-i.i in
     by_pattern p texts t right text (Some (i + 1))
     (ended t text i c.loop-i.state c.loop-i.invariant _ (as_many c.args.units.now i c.loop-i-test.true) (ch_at c.args.units.now i c.loop-i-test.true) c.in-Some.next
-    (entry_is t c.loop-i.state _ c.class_of.result c.class_of.ensures _ c.in-Some.ensures.some) right.1 (ltb-true 0 (get_or t.ends c.in-Some.next 0) (sym c.is_end.ensures ∙ c.if-is_end.true)))
+    (entry_is t c.loop-i.state _ c.class_of.result c.class_of.ensures _ c.in-Some.ensures.some) right.1 (c.is_end.ensures.some c.if-is_end.true))
 
 pub loop-i-preserved : goal.loop-i-preserved
 loop-i-preserved c =
     let t = tables_of c.args.by in
     let i = c.loop-i.i in
-    let none = ltb-false 0 (get_or t.ends c.in-Some.next 0) (sym c.is_end.ensures ∙ c.if-is_end.false) in
     one_more t (characters c.args.units.now) i c.loop-i.state c.loop-i.invariant _ (as_many c.args.units.now i c.loop-i-test.true) (ch_at c.args.units.now i c.loop-i-test.true) c.in-Some.next
-    (entry_is t c.loop-i.state _ c.class_of.result c.class_of.ensures _ c.in-Some.ensures.some) (omega (arith, none))
+    (entry_is t c.loop-i.state _ c.class_of.result c.class_of.ensures _ c.in-Some.ensures.some) (c.is_end.ensures.none c.if-is_end.false)
 
 pub returns-clause-none : goal.returns-clause-none
 returns-clause-none c = λ p texts right.
