@@ -50,7 +50,9 @@ pub(crate) fn unspliced(alloc: Global, text: &Text, units: Vec<Unit>) -> Result<
     requires own { units.items ≡ units_of text.now }
     ensures { IfOk result (λ v. v.items ≡ spliced 0 units.items) }
 {
-    if follows_backslash(text, b'\n') || follows_backslash(text, b'\r') {
+    let feeds = follows_backslash(text, b'\n');
+    let returns = follows_backslash(text, b'\r');
+    if feeds || returns {
         return splice(alloc, &units);
     }
     Ok(units)

@@ -8,4 +8,4 @@ use Rattle.cq_lex_c.proofs.splice.unspliced.Goals as goal
 pub returns : goal.returns
 returns c =
     subst (λ (us : List Unit). us ≡ spliced 0 us) (sym c.requires.own)
-    (none_spliced false (units_of c.args.text.now) (c.follows_backslash.ensures c.if-follows_backslash.false) (c.follows_backslash-2.ensures c.if-follows_backslash-2.false))
+    (none_spliced false (units_of c.args.text.now) (c.follows_backslash-feeds.ensures c.if-feeds.false) (c.follows_backslash-returns.ensures c.if-returns.false))
