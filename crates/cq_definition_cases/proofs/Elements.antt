@@ -14,7 +14,8 @@ use Rattle.cq_munch.proofs.Steps.{spelled_word, word_if}
 use Rattle.cq_munch.proofs.WordLists.{among_passes}
 use Rattle.cq_munch.specs.Longest.{IsAmong, LongestAt}
 use Rattle.cq_munch.specs.Pattern.{Spells, many, only}
-use Rattle.cq_munch.specs.Quotes.{NoneCloses, quoted}
+use Rattle.cq_munch.specs.Once.{NoneBegins}
+use Rattle.cq_munch.specs.Quotes.{quoted}
 use Rattle.cq_munch.specs.Table.{better}
 use Rattle.cq_munch.specs.declared.element.Spell.TheVariants as spell
 use Rattle.cq_munch.specs.declared.ends.LineEnds.TheVariants as ends
@@ -51,7 +52,7 @@ pub the_longest_spelling_is_taken : LongestAt (Spells (many (only 97))) (97 ∷ 
 the_longest_spelling_is_taken h = h.longest 2 (omega arith) (omega arith) ((97 ∷ []) ∷ (97 ∷ []) ∷ [], refl, ((97, refl, refl), ((97, refl, refl), tt)))
 
 -- `a"b"`
-pub a_quote_that_closes_is_not_passed_over : NoneCloses quotes.Double ends.Feed (97 ∷ 34 ∷ 98 ∷ 34 ∷ []) 0 4 → ⊥
+pub a_quote_that_closes_is_not_passed_over : NoneBegins (quoted quotes.Double ends.Feed) (97 ∷ 34 ∷ 98 ∷ 34 ∷ []) 0 4 → ⊥
 unfolding quoted
 a_quote_that_closes_is_not_passed_over h = h 1 (omega arith) (omega arith) 3 (omega arith) (omega arith) (34 ∷ [], 98 ∷ 34 ∷ [], refl, (34, refl, refl), (98 ∷ [], 34 ∷ [], refl, ((98 ∷ []) ∷ [], refl, (inl (98, refl, refl), tt)), (34, refl, refl)))
 

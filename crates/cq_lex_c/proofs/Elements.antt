@@ -1,25 +1,17 @@
 -- The element at the front of a text, row by row.
-use Rattle.std.proofs.Common.{◌≡◌, ℕ, zero, suc, ◌<◌, ◌≤◌, Option, Some, None, Bool, true, false, ◌&&◌, ◌==◌, not, cond, List, [], ◌∷◌, ◌⊎◌, inl, inr, length, take, All, refl, sym, subst, ap, ◌∙◌, ⊎_elim, arith}
-use Rattle.std.specs.Prelude.{IfSome, IfNone, IsTrue, IsFalse, MatchBool, codes}
-use Rattle.std.specs.Str.{bytes_eq}
+use Rattle.std.proofs.Common.{◌≡◌, ℕ, zero, suc, ◌<◌, ◌≤◌, Option, Some, None, Bool, true, false, ◌&&◌, ◌==◌, not, cond, List, [], ◌∷◌, ◌⊎◌, inl, inr, length, take, refl, sym, subst, ap, ◌∙◌, ⊎_elim, arith}
+use Rattle.std.specs.Prelude.{IfSome, IfNone, IsTrue, IsFalse, MatchBool}
 use Rattle.std.proofs.lemmas.Bool.{and_parts, and_right, not-true, false_from_ne_true}
-use Rattle.std.proofs.lemmas.Slice.Eq.{bytes_eq-Decides}
 use Rattle.cq_base.proofs.Bools.{MatchBool-from_false, MatchBool-from_true}
 use Rattle.cq_munch.specs.declared.element.Found.{Found}
 use Rattle.cq_munch.specs.Language.{Language, Takes}
 use Rattle.cq_munch.specs.Longest.{IsLongest, LongestAt}
-use Rattle.cq_munch.proofs.WordLists.{low_at}
 use Rattle.cq_lex_c.specs.C.{moded, mode_behind}
 use Rattle.cq_lex_c.specs.Headers.{EndsAt, IsHeader, closes, has_header}
 
 pub matched : (b : Bool) (P Q : Type 0) → MatchBool b P Q → ((b ≡ true) × P) ⊎ ((b ≡ false) × Q)
 matched true P Q h = inl (refl, h)
 matched false P Q h = inr (refl, h)
-
-pub include_is_short : (s : List ℕ) → bytes_eq s (codes "include") ≡ true → (length s ≤ 7) × All (λ c. c < 128) s
-include_is_short s h =
-    let is : s ≡ codes "include" = (bytes_eq-Decides s (codes "include")).0 h in
-    subst (λ w. (length w ≤ 7) × All (λ c. c < 128) w) (sym is) (omega arith, low_at (codes "include") refl)
 
 -- ---- header names
 

@@ -9,13 +9,9 @@ use Rattle.cq_munch.specs.Lexed.{unit_at}
 use Rattle.cq_munch.specs.declared.unit.Unit.{Unit}
 use Rattle.cq_munch.proofs.Front.{ch_at, as_many}
 use Rattle.cq_munch.specs.Longest.{LongestAt}
-use Rattle.cq_munch.specs.Pattern.{Spells}
-use Rattle.cq_munch.specs.Quotes.{quoted, NoneCloses}
-use Rattle.cq_munch.specs.declared.ends.LineEnds.{LineEnds}
-use Rattle.cq_munch.specs.declared.quoted.Quote.{Quote}
-use Rattle.cq_munch.specs.declared.ends.LineEnds.TheVariants.{ReturnOrFeed}
-use Rattle.cq_munch.specs.declared.quoted.Quote.TheVariants.{Single}
-use Rattle.cq_lex_c.specs.Texts.{IsString, IsText, IsSmall, IsPrefixed}
+use Rattle.cq_munch.specs.Once.{NoneBegins}
+use Rattle.cq_munch.specs.Pattern.{Pattern, Spells}
+use Rattle.cq_lex_c.specs.Texts.{constant, IsString, IsText, IsSmall, IsPrefixed}
 use Rattle.cq_lex_c.specs.Quoting.{string_first, character_first, text_first}
 
 -- the same spellings at the front have the same longest one
@@ -63,9 +59,9 @@ text_of_string text is r h =
     ))
     r h
 
-pub text_of_character : (text : List ℕ) → (get_or text 0 0 ≡ 34 → ⊥) → (r : Option ℕ) → LongestAt (Spells (quoted Single ReturnOrFeed)) text r → LongestAt IsText text r
+pub text_of_character : (text : List ℕ) → (get_or text 0 0 ≡ 34 → ⊥) → (r : Option ℕ) → LongestAt (Spells constant) text r → LongestAt IsText text r
 text_of_character text other r h =
-    longest_front (Spells (quoted Single ReturnOrFeed)) IsText text
+    longest_front (Spells constant) IsText text
     (λ m some within. (
       λ s. inr s,
       λ h. ⊎_elim (λ s. absurd (other (sym (first_of_front text m some) ∙ string_first (take m text) s))) (λ s. s) h,
@@ -157,10 +153,9 @@ behind_at text at = sym (drop-drop 1 at text ∙ ap (λ k. drop k text) (omega a
 pub some_at : (units : List Unit) (at : ℕ) → at < length units → 0 < length (drop at (characters units))
 some_at units at inside = let left = length-drop at (characters units) in let many = length-map units (λ (u : Unit). u.ch) in omega arith
 
--- nothing is closed from a unit on, as far as a scan from there has read
-pub none_behind : (quote : Quote) (ends : LineEnds) (text : List ℕ) (at read : ℕ) → NoneCloses quote ends (drop at text) 0 read → NoneCloses quote ends text at (at + read)
-none_behind quote ends text at read h = λ p from to.
-    subst (λ t. LongestAt (Spells (quoted quote ends)) t None) (drop-drop (p - at) at text ∙ ap (λ k. drop k text) (omega arith)) (h (p - at) zero-le (omega arith))
+-- none begins from a unit on, as far as a scan from there has read
+pub none_behind : (p : Pattern) (text : List ℕ) (at read : ℕ) → NoneBegins p (drop at text) 0 read → NoneBegins p text at (at + read)
+none_behind p text at read h = λ k from to. subst (λ t. LongestAt (Spells p) t None) (drop-drop (k - at) at text ∙ ap (λ n. drop n text) (omega arith)) (h (k - at) zero-le (omega arith))
 
 -- behind the last unit no 8 stands
 pub nothing_at : (units : List Unit) (at : ℕ) → length units ≤ at → get_or (drop at (characters units)) 0 0 ≡ 56 → ⊥

@@ -1,5 +1,6 @@
--- What the splices leave lies in order, and is no longer.
+-- What the splices leave lies in order, is no longer, and has what each unit has.
 use Rattle.std.proofs.Common.{ℕ, zero, suc, ◌+◌, ◌-◌, ◌≤◌, List, [], ◌∷◌, length, arith}
+use Rattle.std.specs.List.{AllByRecursion}
 use Rattle.cq_munch.specs.declared.unit.Unit.{Unit}
 use Rattle.cq_munch.specs.Lexed.{InOrder}
 use Rattle.cq_munch.proofs.Orders.{InOrder-from}
@@ -28,3 +29,11 @@ length-spliced zero (u ∷ us) =
     let whole = length-spliced 0 us in
     let rest = length-spliced (len - 1) us in
     by_kept (λ v. length v ≤ length (u ∷ us)) len u (spliced 0 us) (spliced (len - 1) us) (omega (arith, whole)) (omega (arith, rest))
+
+pub spliced-all : (P : Unit → Type 0) (n : ℕ) (units : List Unit) → AllByRecursion P units → AllByRecursion P (spliced n units)
+unfolding spliced
+spliced-all P n [] h = h
+spliced-all P (suc n) (u ∷ us) h = spliced-all P n us h.1
+spliced-all P zero (u ∷ us) h =
+    let len = splice_len (u ∷ us) in
+    by_kept (AllByRecursion P) len u (spliced 0 us) (spliced (len - 1) us) (h.0, spliced-all P 0 us h.1) (spliced-all P (len - 1) us h.1)

@@ -4,6 +4,8 @@ pub mod Staying
 pub mod Identifiers
 pub mod Numbers
 pub mod Texts
+pub mod StringScanner
+pub mod ConstantScanner
 pub mod Unclosed
 pub mod Quoting
 pub mod Headers

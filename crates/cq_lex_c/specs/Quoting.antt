@@ -4,8 +4,7 @@ use Rattle.std.specs.Prelude.{IsTrue}
 use Rattle.cq_munch.specs.Pattern.{Pattern, Spells, only, many, ◌▸◌, in_ranges}
 use Rattle.cq_munch.specs.Quotes.{quoted, item}
 use Rattle.cq_munch.specs.declared.ends.LineEnds.TheVariants.{ReturnOrFeed}
-use Rattle.cq_munch.specs.declared.quoted.Quote.TheVariants.{Single}
-use Rattle.cq_lex_c.specs.Texts.{IsString, IsText}
+use Rattle.cq_lex_c.specs.Texts.{constant, IsString, IsText}
 
 -- a pattern that begins with one character
 first_is : (n : ℕ) (q : Pattern) (s : List ℕ) → Spells (only n ▸ q) s → get_or s 0 0 ≡ n
@@ -19,7 +18,7 @@ pub string_first : (s : List ℕ) → IsString s → get_or s 0 0 ≡ 34
 unfolding quoted
 string_first s h = first_is 34 (many (item 34 ReturnOrFeed) ▸ only 34) s h
 
-pub character_first : (s : List ℕ) → Spells (quoted Single ReturnOrFeed) s → get_or s 0 0 ≡ 39
+pub character_first : (s : List ℕ) → Spells constant s → get_or s 0 0 ≡ 39
 unfolding quoted
 character_first s h = first_is 39 ((item 39 ReturnOrFeed ▸ many (item 39 ReturnOrFeed)) ▸ only 39) s h
 

@@ -1,5 +1,5 @@
 -- A backslash and a line end after it are removed (C11 5.1.1.2, phase 2).
-use Rattle.std.specs.Prelude.{ℕ, zero, suc, ◌-◌, Bool, false, ◌&&◌, ◌||◌, ◌==◌, List, [], ◌∷◌, if◌then◌else◌}
+use Rattle.std.specs.Prelude.{ℕ, zero, suc, ◌-◌, Bool, false, ◌&&◌, ◌==◌, List, [], ◌∷◌, if◌then◌else◌}
 use Rattle.cq_munch.specs.declared.unit.Unit.{Unit}
 
 abbrev pub begins_with_lf : List Unit → Bool
@@ -25,13 +25,3 @@ unfoldable pub spliced : ℕ → List Unit → List Unit
 spliced n [] = []
 spliced (suc n) (u ∷ us) = spliced n us
 spliced zero (u ∷ us) = let n = splice_len (u ∷ us) in kept n u (spliced 0 us) (spliced (n - 1) us)
-
--- whether there is a line feed or a carriage return at the front
-abbrev pub begins_line_end : List Unit → Bool
-begins_line_end [] = false
-begins_line_end (u ∷ us) = (u.ch == 10) || (u.ch == 13)
-
--- whether a line ends directly after a backslash, and whether there is one before these units
-abbrev pub has_splice : Bool → List Unit → Bool
-has_splice behind [] = false
-has_splice behind (u ∷ us) = (behind && ((u.ch == 10) || (u.ch == 13))) || has_splice (u.ch == 92) us

@@ -61,7 +61,7 @@ impl Lexis for C {
 
     fn translate(alloc: Global, text: &Text) -> Result<Translated, Memory> {
         let units = plain_units(alloc, text)?;
-        Ok(Translated::Units(unspliced(alloc, units)?))
+        Ok(Translated::Units(unspliced(alloc, text, units)?))
     }
 
     ghost is_true_of = { λ language text. IsTrueOf language.unclosed text };

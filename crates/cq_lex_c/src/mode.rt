@@ -4,7 +4,7 @@ ghost use Rattle.cq_munch.specs.Characters.{characters};
 ghost use Rattle.cq_munch.specs.declared.element.Spell.TheVariants.{Blank};
 ghost use Rattle.cq_lex_c.specs.C.{is_hash, mode_behind};
 
-use cq_munch::{Spell, Unit, ascii_bytes};
+use cq_munch::{Spell, Unit, is_spelled};
 
 fn is_hash(units: &[Unit]) -> bool
     ensures { result ≡ is_hash (characters units.now) }
@@ -19,8 +19,7 @@ fn is_hash(units: &[Unit]) -> bool
 fn is_include(units: &[Unit]) -> bool
     ensures { result ≡ bytes_eq (characters units.now) (codes "include") }
 {
-    let mut word = [0; 7];
-    ascii_bytes(units, &mut word) && word[..units.len()] == b"include"[..]
+    is_spelled(b"include", units)
 }
 
 fn is_feed(units: &[Unit]) -> bool

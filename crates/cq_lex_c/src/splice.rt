@@ -1,9 +1,10 @@
-ghost use Rattle.std.specs.Prelude.{◌≡◌, ◌==◌, ◌&&◌, IfOk, IsFalse};
-ghost use Rattle.cq_lex_c.specs.Splices.{begins_line_end, splice_len, spliced};
+ghost use Rattle.std.specs.Prelude.{◌≡◌, IfOk, IsUtf8};
+ghost use Rattle.cq_munch.specs.Lexed.{units_of};
+ghost use Rattle.cq_lex_c.specs.Splices.{splice_len, spliced};
 ghost use Rattle.cq_lex_c.specs.Staying.{OnlySplicesAreLeftOut};
 
-use cq_base::Memory;
-use cq_munch::Unit;
+use cq_base::{Memory, Text};
+use cq_munch::{Unit, follows_backslash};
 use std::alloc::Global;
 
 // How many units of a splice are at the front.
@@ -20,35 +21,6 @@ fn splice_len(units: &[Unit]) -> usize
         return 3;
     }
     0
-}
-
-// Whether there is a line feed or a carriage return at the front.
-fn begins_line_end(units: &[Unit]) -> bool
-    ensures { result ≡ begins_line_end units.now }
-{
-    match units {
-        [first, ..] => first.ch == '\n' || first.ch == '\r',
-        [] => false,
-    }
-}
-
-// Whether the character is a backslash, directly before the end of a line.
-fn begins_splice(ch: char, behind: &[Unit]) -> bool
-    ensures { result ≡ ((ch == 92) && begins_line_end behind.now) }
-{
-    ch == '\\' && begins_line_end(behind)
-}
-
-// Whether a line ends directly after a backslash. If none does, nothing is removed.
-fn has_splice(units: &[Unit]) -> bool
-    ensures { IsFalse result → units.now ≡ spliced 0 units.now }
-{
-    for (i, unit) in units.iter().enumerate() {
-        if begins_splice(unit.ch, &units[i + 1..]) {
-            return true;
-        }
-    }
-    false
 }
 
 // The units without the splices. Each is looked at once, and once more after a backslash.
@@ -72,11 +44,15 @@ fn splice(alloc: Global, units: &[Unit]) -> Result<Vec<Unit>, Memory>
     Ok(out)
 }
 
-/// The units without the splices. Those of a text that has none are looked at once, and taken as they are.
-pub(crate) fn unspliced(alloc: Global, units: Vec<Unit>) -> Result<Vec<Unit>, Memory>
+/// The same of a text's own units. If no line ends directly after a backslash, they are taken as they are.
+pub(crate) fn unspliced(alloc: Global, text: &Text, units: Vec<Unit>) -> Result<Vec<Unit>, Memory>
+    requires utf8 { IsUtf8 text.now }
+    requires own { units.items ≡ units_of text.now }
     ensures { IfOk result (λ v. v.items ≡ spliced 0 units.items) }
 {
-    if has_splice(&units) {
+    let feeds = follows_backslash(text, b'\n');
+    let returns = follows_backslash(text, b'\r');
+    if feeds || returns {
         return splice(alloc, &units);
     }
     Ok(units)

@@ -2,12 +2,14 @@ ghost use Rattle.std.specs.Prelude.{◌≡◌, ℕ, List, ◌<◌, ◌≤◌, �
 ghost use Rattle.std.specs.Option.{option_map};
 ghost use Rattle.cq_munch.specs.Characters.{characters};
 ghost use Rattle.cq_munch.specs.Longest.{LongestAt};
-ghost use Rattle.cq_munch.specs.Quotes.{QuotedAt};
-ghost use Rattle.cq_munch.specs.declared.ends.LineEnds.TheVariants.{ReturnOrFeed};
-ghost use Rattle.cq_lex_c.specs.Texts.{IsText, IsSmall, IsPrefixed};
+ghost use Rattle.cq_munch.specs.Automata.{tables_of};
+ghost use Rattle.cq_munch.specs.Once.{FitsOnce};
+ghost use Rattle.cq_munch.specs.Pattern.{Pattern, Spells};
+ghost use Rattle.cq_lex_c.specs.Texts.{string, constant, IsString, IsText, IsSmall, IsPrefixed};
 ghost use Rattle.cq_lex_c.specs.Unclosed.{NoneIn, IsTrueOf};
 
-use cq_munch::{LineEnds, Quote, Unit, scan_quoted};
+use crate::{constants, strings};
+use cq_munch::{Automaton, Unit, scan_once};
 
 /// Units of which none begins a text in quotes of a kind: from the first up to the second.
 #[derive(Clone, Copy, Debug, PartialEq, Eq)]
@@ -34,17 +36,18 @@ pub(crate) fn nothing_known() -> Unclosed
     }
 }
 
-// The text in these quotes at a unit. The units of a scan that found no end are not scanned again.
-fn quoted_at(quote: Quote, units: &[Unit], at: usize, known: &mut Span) -> Option<usize>
-    requires inside { at ≤ length units.now }
-    requires known { NoneIn quote known.old (characters units.now) }
-    ensures text { QuotedAt quote ReturnOrFeed (drop at (characters units.now)) result }
-    ensures known { NoneIn quote known.new (characters units.now) }
+// The text at a unit that a table finds. The units of a scan that found no end are not scanned again.
+fn once_at(by: Automaton<'_>, units: &[Unit], at: usize, known: &mut Span) -> Option<usize>
+    requires { at ≤ length units.now }
+    ensures text { (p : Pattern) (texts : List (List ℕ)) → FitsOnce p texts (tables_of by.entry) → NoneIn p known.old (characters units.now)
+        → LongestAt (Spells p) (drop at (characters units.now)) result }
+    ensures known { (p : Pattern) (texts : List (List ℕ)) → FitsOnce p texts (tables_of by.entry) → NoneIn p known.old (characters units.now)
+        → NoneIn p known.new (characters units.now) }
 {
     if known.from <= at && at < known.to {
         return None;
     }
-    match scan_quoted(quote, LineEnds::ReturnOrFeed, &units[at..]) {
+    match scan_once(by, &units[at..]) {
         Ok(len) => Some(len),
         Err(read) => {
             *known = Span {
@@ -54,6 +57,36 @@ fn quoted_at(quote: Quote, units: &[Unit], at: usize, known: &mut Span) -> Optio
             None
         }
     }
+}
+
+// The string without a prefix at a unit.
+fn string_at(units: &[Unit], at: usize, known: &mut Span) -> Option<usize>
+    requires inside { at ≤ length units.now }
+    requires known { NoneIn string known.old (characters units.now) }
+    ensures text { LongestAt IsString (drop at (characters units.now)) result }
+    ensures known { NoneIn string known.new (characters units.now) }
+{
+    let by = Automaton {
+        classes: &strings::CLASSES,
+        steps: &strings::STEPS,
+        ends: &strings::ENDS,
+    };
+    once_at(by, units, at, known)
+}
+
+// The character constant without a prefix at a unit.
+fn constant_at(units: &[Unit], at: usize, known: &mut Span) -> Option<usize>
+    requires inside { at ≤ length units.now }
+    requires known { NoneIn constant known.old (characters units.now) }
+    ensures text { LongestAt (Spells constant) (drop at (characters units.now)) result }
+    ensures known { NoneIn constant known.new (characters units.now) }
+{
+    let by = Automaton {
+        classes: &constants::CLASSES,
+        steps: &constants::STEPS,
+        ends: &constants::ENDS,
+    };
+    once_at(by, units, at, known)
 }
 
 /// The string or character constant without a prefix at a unit.
@@ -68,10 +101,10 @@ pub(crate) fn text_at(units: &[Unit], at: usize, unclosed: &mut Unclosed) -> Opt
     }
     let first = units[at].ch;
     if first == '"' {
-        return quoted_at(Quote::Double, units, at, &mut unclosed.double);
+        return string_at(units, at, &mut unclosed.double);
     }
     if first == '\'' {
-        return quoted_at(Quote::Single, units, at, &mut unclosed.single);
+        return constant_at(units, at, &mut unclosed.single);
     }
     None
 }
@@ -95,7 +128,7 @@ fn small_at(units: &[Unit], at: usize, unclosed: &mut Unclosed) -> Option<usize>
     ensures known { IsTrueOf unclosed.new (characters units.now) }
 {
     if at < units.len() && units[at].ch == '8' {
-        and_one(quoted_at(Quote::Double, units, at + 1, &mut unclosed.double))
+        and_one(string_at(units, at + 1, &mut unclosed.double))
     } else {
         text_at(units, at, unclosed)
     }

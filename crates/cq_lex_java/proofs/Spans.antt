@@ -29,6 +29,13 @@ first_before (u ∷ us) (suc k) from to inside order = let rest = at_within us k
     last_some (v ∷ vs) zero a b h o = o.1
     last_some (v ∷ vs) (suc j) a b h o = last_some vs j (v.start + v.len) b (omega arith) o.2
 
+-- two or more units are two bytes or more
+pub two_bytes : (u : Unit) (us : List Unit) (k from to : ℕ) → suc k < length (u ∷ us) → InOrder from (u ∷ us) to → u.start + 1 < (unit_at (u ∷ us) (suc k)).start + (unit_at (u ∷ us) (suc k)).len
+two_bytes u [] k from to inside order = absurd (omega arith)
+two_bytes u (v ∷ us) k from to inside order =
+    let next = first_before (v ∷ us) k (u.start + u.len) to (omega (arith, inside)) order.2 in
+    omega (arith, next, order.1, order.2.0)
+
 not_same : (a b : ℕ) → (a ≡ b → ⊥) → (a == b) ≡ false
 not_same a b other = ⊎_elim (λ h. h.0) (λ h. absurd (other h.1)) (tells a b)
   where
@@ -86,16 +93,16 @@ escape-within (u ∷ us) = by ((u.ch == 92) && nat_lt 0 (marks_of us)) (four_dig
         let rest = length-drop (marks_of us) us in
         let marks = marks-short us in (omega arith, omega (arith, four, rest, marks))
 
-made-within : (n len : ℕ) (r : Option ℕ) → 1 ≤ len → len ≤ n → IsStepWithin n (step_of r len)
+made-within : (n len : ℕ) (r : Option ℕ) → 2 ≤ len → len ≤ n → IsStepWithin n (step_of r len)
 made-within n len None some within = tt
 made-within n len (Some ch) some within = (some, within)
 
-pub pair-within : (n code len : ℕ) (next : Escape) → 1 ≤ len → len ≤ n → IsEscapeLong (n - len) next → IsStepWithin n (pair_of code len next)
+pub pair-within : (n code len : ℕ) (next : Escape) → 2 ≤ len → len ≤ n → IsEscapeLong (n - len) next → IsStepWithin n (pair_of code len next)
 pair-within n code len escapes.None some within h = tt
 pair-within n code len escapes.Bad some within h = tt
 pair-within n code len (escapes.Code low more) some within h = made-within n (len + more) (joined code low) (omega (arith, some)) (omega (arith, within, h.0, h.1))
 
-scalar-within : (n code len : ℕ) (r : Option ℕ) (next : Escape) → 1 ≤ len → len ≤ n → IsEscapeLong (n - len) next → IsStepWithin n (by_scalar r code len next)
+scalar-within : (n code len : ℕ) (r : Option ℕ) (next : Escape) → 2 ≤ len → len ≤ n → IsEscapeLong (n - len) next → IsStepWithin n (by_scalar r code len next)
 scalar-within n code len (Some ch) next some within h = (some, within)
 scalar-within n code len None next some within h = pair-within n code len next some within h
 

@@ -2,13 +2,13 @@
 use Rattle.std.proofs.Common.{◌≡◌, ℕ, zero, suc, ◌+◌, ◌-◌, ◌<◌, ◌≤◌, Bool, true, false, not, ◌&&◌, ◌==◌, Result, Ok, Err, List, [], ◌∷◌, ◌++◌, length, take, drop, refl, sym, ap, subst, ◌∙◌, append_assoc, arith}
 use Rattle.std.specs.Prelude.{IfOk}
 use Rattle.std.proofs.lemmas.List.{drop_more, drop_all, append-nil, take_rest}
-use Rattle.cq_munch.specs.Lexed.{InOrder, unit_at}
+use Rattle.cq_munch.specs.Lexed.{AreBytes, InOrder, IsByte, unit_at}
 use Rattle.cq_munch.specs.declared.unit.Unit.{Unit}
 use Rattle.cq_lex_java.specs.Escapes.{IsStepWithin}
 use Rattle.cq_lex_java.specs.Translation.{spanning, before, len_of, by_step, read_at, translated}
 use Rattle.cq_lex_java.specs.declared.escape.Step.{Step}
 use Rattle.cq_lex_java.specs.declared.escape.Step.TheVariants as steps
-use Rattle.cq_lex_java.proofs.Spans.{first_before, step-within}
+use Rattle.cq_lex_java.proofs.Spans.{first_before, step-within, two_bytes}
 
 -- what stands before, and the rest
 abbrev pub front : List Unit → Result (List Unit) ℕ → Result (List Unit) ℕ
@@ -138,3 +138,32 @@ translated-short zero odd (u ∷ us) =
 pub shorter : (m n : ℕ) (r : Result (List Unit) ℕ) → m ≤ n → IfOk r (λ v. length v ≤ m) → IfOk r (λ v. length v ≤ n)
 shorter m n (Ok v) le h = omega (arith, le, h)
 shorter m n (Err at) le h = tt
+
+-- ---- and those of one byte are spelled by it
+
+module _ (bytes : List ℕ) (to : ℕ) where
+  -- an escape has more bytes
+  not_one : (ch len : ℕ) (u : Unit) (us : List Unit) (from : ℕ) → IsStepWithin (length (u ∷ us)) (steps.One ch len) → InOrder from (u ∷ us) to → IsByte bytes (spanning ch (u ∷ us) len)
+  not_one ch len u us from within order one =
+      let place : suc (len - 2) ≡ len - 1 = omega (arith, within.0) in
+      let more = two_bytes u us (len - 2) from to (omega (arith, within.0, within.1)) order in
+      let end : (unit_at (u ∷ us) (suc (len - 2))).start + (unit_at (u ∷ us) (suc (len - 2))).len ≡ (unit_at (u ∷ us) (len - 1)).start + (unit_at (u ∷ us) (len - 1)).len =
+      ap (λ k. (unit_at (u ∷ us) k).start + (unit_at (u ∷ us) k).len) place in
+      absurd (omega (arith, more, end, one))
+
+  bytes_by : (step : Step) (u : Unit) (us : List Unit) (from : ℕ) (plain behind : Result (List Unit) ℕ) → IsStepWithin (length (u ∷ us)) step → InOrder from (u ∷ us) to → IsByte bytes u
+      → IfOk plain (AreBytes bytes) → IfOk behind (AreBytes bytes) → IfOk (by_step step u us plain behind) (AreBytes bytes)
+  bytes_by steps.Plain u us from plain behind within order own p b = if_before (AreBytes bytes) (AreBytes bytes) u plain (λ v h. (own, h)) p
+  bytes_by steps.Fault u us from plain behind within order own p b = tt
+  bytes_by (steps.One ch len) u us from plain behind within order own p b =
+      if_before (AreBytes bytes) (AreBytes bytes) (spanning ch (u ∷ us) len) behind (λ v h. (not_one ch len u us from within order, h)) b
+
+  pub translated-bytes : (skip : ℕ) (odd : Bool) (from : ℕ) (us : List Unit) → InOrder from us to → AreBytes bytes us → IfOk (translated skip odd us) (AreBytes bytes)
+  unfolding translated
+  translated-bytes zero odd from [] order are = tt
+  translated-bytes (suc n) odd from [] order are = tt
+  translated-bytes (suc n) odd from (u ∷ us) order are = translated-bytes n odd (u.start + u.len) us order.2 are.1
+  translated-bytes zero odd from (u ∷ us) order are =
+      bytes_by (read_at odd (u ∷ us)) u us from _ _ (read-within odd u us) order are.0
+      (translated-bytes 0 ((u.ch == 92) && not odd) (u.start + u.len) us order.2 are.1)
+      (translated-bytes (len_of (read_at odd (u ∷ us)) - 1) false (u.start + u.len) us order.2 are.1)

@@ -65,24 +65,14 @@ by_escape (escapes.Code code len) units = by_scalar (scalar code) code len (esca
 abbrev pub step_at : List Unit → Step
 step_at units = by_escape (escape_at units) units
 
--- whether there is a u at the front
-abbrev pub begins_mark : List Unit → Bool
-begins_mark [] = false
-begins_mark (u ∷ us) = u.ch == 117
-
--- whether a u comes directly after a backslash, and whether there is one before these units
-abbrev pub has_escape : Bool → List Unit → Bool
-has_escape behind [] = false
-has_escape behind (u ∷ us) = (behind && (u.ch == 117)) || has_escape (u.ch == 92) us
-
 -- ---- what can be shown
 
 abbrev pub IsEscapeLong : ℕ → Escape → Type 0
-IsEscapeLong n (escapes.Code code len) = (1 ≤ len) × (len ≤ n)
+IsEscapeLong n (escapes.Code code len) = (2 ≤ len) × (len ≤ n)
 IsEscapeLong n escapes.None = ⊤
 IsEscapeLong n escapes.Bad = ⊤
 
 abbrev pub IsStepWithin : ℕ → Step → Type 0
-IsStepWithin n (steps.One ch len) = (1 ≤ len) × (len ≤ n)
+IsStepWithin n (steps.One ch len) = (2 ≤ len) × (len ≤ n)
 IsStepWithin n steps.Plain = ⊤
 IsStepWithin n steps.Fault = ⊤

@@ -7,7 +7,7 @@ ghost use Rattle.cq_lex_java.specs.OneKind.{one_kind_of_java};
 ghost use Rattle.cq_lex_java.specs.Translation.{translated};
 
 use crate::element::{is_blank, taken};
-use crate::translation::{is_plain, unescaped};
+use crate::translation::unescaped;
 use cq_base::{Memory, Spelled, Text};
 use cq_munch::{Found, Lexis, Spell, Translated, Unit, is_mark, plain_units};
 use std::alloc::Global;
@@ -43,10 +43,7 @@ impl Lexis for Java {
 
     fn translate(alloc: Global, text: &Text) -> Result<Translated, Memory> {
         let units = plain_units(alloc, text)?;
-        if is_plain(text) {
-            return Ok(Translated::Units(units));
-        }
-        unescaped(alloc, units)
+        unescaped(alloc, text, units)
     }
 
     ghost is_true_of = { λ language text. ⊤ };

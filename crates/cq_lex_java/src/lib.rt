@@ -4,8 +4,7 @@
 //! with the keywords of its first letter and its length. One table scans all other elements, and another one text blocks:
 //! a look for each unit, up to the first that cannot continue the element. The opening of a text block is read once more.
 //! It takes no memory except for the units, of which a text of n bytes has at most n, of 12 bytes each, twice while
-//! escapes are read. Without escapes they are looked at once, and kept, and if there is no backslash among the bytes they
-//! are kept at once.
+//! escapes are read. Whether there may be any is one search of the bytes.
 #![tactic(auto)]
 
 mod block;

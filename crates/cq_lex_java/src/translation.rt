@@ -1,13 +1,12 @@
-ghost use Rattle.std.specs.Prelude.{◌≡◌, ◌≤◌, ◌==◌, ◌&&◌, not, false, Ok, length, IfOk, IsFalse, IsTrue, IsUtf8};
+ghost use Rattle.std.specs.Prelude.{◌≡◌, ◌≤◌, ◌==◌, ◌&&◌, not, false, length, IfOk, IsUtf8};
 ghost use Rattle.cq_munch.specs.Lexed.{InOrder, translation, units_of};
 ghost use Rattle.cq_lex_java.specs.Translation.{spanning, read_at, translated};
 ghost use Rattle.cq_lex_java.specs.Eligible.{EscapesGoByCount};
-ghost use Rattle.cq_lex_java.specs.Escapes.{begins_mark, IsStepWithin};
+ghost use Rattle.cq_lex_java.specs.Escapes.{IsStepWithin};
 
 use crate::escape::{Step, step_at};
 use cq_base::{Memory, Text};
-use cq_munch::{Translated, Unit};
-use memchr::memchr;
+use cq_munch::{Translated, Unit, follows_backslash};
 use std::alloc::Global;
 
 // A character with the bytes of all the units that spell it.
@@ -41,35 +40,6 @@ fn odd_behind(odd: bool, ch: char) -> bool
     ch == '\\' && !odd
 }
 
-// Whether there is a u at the front.
-fn begins_mark(units: &[Unit]) -> bool
-    ensures { result ≡ begins_mark units.now }
-{
-    match units {
-        [first, ..] => first.ch == 'u',
-        [] => false,
-    }
-}
-
-// Whether the character is a backslash, directly before a u.
-fn begins_escape(ch: char, behind: &[Unit]) -> bool
-    ensures { result ≡ ((ch == 92) && begins_mark behind.now) }
-{
-    ch == '\\' && begins_mark(behind)
-}
-
-// Whether a u comes directly after a backslash. If none does, nothing is translated.
-fn has_escape(units: &[Unit]) -> bool
-    ensures { IsFalse result → Ok units.now ≡ translated 0 false units.now }
-{
-    for (i, unit) in units.iter().enumerate() {
-        if begins_escape(unit.ch, &units[i + 1..]) {
-            return true;
-        }
-    }
-    false
-}
-
 // The units after the Unicode escapes are read, or the byte of the first fault. Each unit is looked at once, and those
 // of an escape twice more.
 fn translated(alloc: Global, units: &[Unit]) -> Result<Translated, Memory>
@@ -101,24 +71,14 @@ fn translated(alloc: Global, units: &[Unit]) -> Result<Translated, Memory>
     Ok(Translated::Units(out))
 }
 
-/// Whether a text is known to have no escapes, since no backslash is among its bytes.
-pub(crate) fn is_plain(text: &Text) -> bool
-    requires { IsUtf8 text.now }
-    ensures { IsTrue result → Ok (units_of text.now) ≡ translated 0 false (units_of text.now) }
-{
-    match memchr(b'\\', text.as_bytes()) {
-        Some(_) => false,
-        None => true,
-    }
-}
-
-/// The units after the Unicode escapes are read, or the byte of the first fault. Those of a text without escapes are
-/// looked at once, and taken as they are.
-pub(crate) fn unescaped(alloc: Global, units: Vec<Unit>) -> Result<Translated, Memory>
-    requires { InOrder 0 units.items 1048576 }
+/// The same of a text's own units. If no u comes directly after a backslash, they are taken as they are.
+pub(crate) fn unescaped(alloc: Global, text: &Text, units: Vec<Unit>) -> Result<Translated, Memory>
+    requires utf8 { IsUtf8 text.now }
+    requires own { units.items ≡ units_of text.now }
+    requires in_order { InOrder 0 units.items 1048576 }
     ensures { IfOk result (λ t. translation t ≡ translated 0 false units.items) }
 {
-    if has_escape(&units) {
+    if follows_backslash(text, b'u') {
         return translated(alloc, &units);
     }
     Ok(Translated::Units(units))

@@ -31,6 +31,22 @@ end-cons u v units =
     let place : length (u ∷ v ∷ units) - 1 ≡ suc (length (v ∷ units) - 1) = omega arith in
     ap (λ k. (unit_at (u ∷ v ∷ units) k).start + (unit_at (u ∷ v ∷ units) k).len) place
 
+-- there are at least as many bytes
+pub InOrder-long : (from : ℕ) (units : List Unit) (to : ℕ) → InOrder from units to → from + length units ≤ to
+InOrder-long from [] to order = omega (arith, order)
+InOrder-long from (u ∷ units) to order = let rest = InOrder-long (u.start + u.len) units to order.2 in omega (arith, rest, order.0, order.1)
+
+-- from the start of the first to the end of the last
+pub InOrder-tight : (from : ℕ) (units : List Unit) (to : ℕ) → InOrder from units to → 0 < length units → InOrder (unit_at units 0).start units (end_of units)
+InOrder-tight from [] to order some = absurd (omega arith)
+InOrder-tight from (u ∷ []) to order some = (omega arith, order.1, omega arith)
+InOrder-tight from (u ∷ v ∷ units) to order some = (
+  omega arith,
+  order.1,
+  subst (λ e. InOrder (u.start + u.len) (v ∷ units) e) (sym (end-cons u v units))
+      (InOrder-from (u.start + u.len) v.start (v ∷ units) (end_of (v ∷ units)) order.2.0 (InOrder-tight (u.start + u.len) (v ∷ units) to order.2 (omega arith))),
+)
+
 -- the first starts behind `from` and before the end of the last, which is within
 pub InOrder-ends : (from : ℕ) (units : List Unit) (to : ℕ) → InOrder from units to → 0 < length units
     → (from ≤ (unit_at units 0).start) × ((unit_at units 0).start < end_of units) × (end_of units ≤ to)

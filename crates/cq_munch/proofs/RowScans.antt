@@ -98,7 +98,7 @@ module _ (rows : Patterned) (texts : List (List ℕ)) (t : Tables) (right : fits
 
 -- ---- a character with which the longer spellings of no row begin
 
-no_entry : (entries : List ℕ) → list_all (λ e. nat_le e 48) entries ≡ true → (k : ℕ) → get_or entries k 0 - 48 ≡ 0
+pub no_entry : (entries : List ℕ) → list_all (λ e. nat_le e 48) entries ≡ true → (k : ℕ) → get_or entries k 0 - 48 ≡ 0
 no_entry [] h k = refl
 no_entry (e ∷ entries) h zero = let low = leb-true e 48 (and_parts (nat_le e 48) _ h).0 in omega (arith, low)
 no_entry (e ∷ entries) h (suc k) = no_entry entries (and_parts (nat_le e 48) _ h).1 k

@@ -1,14 +1,9 @@
 -- A scan by a table: its entries are tested at one character of each class, by computing.
-use Rattle.std.proofs.Common.{◌≡◌, ℕ, zero, suc, ◌<◌, ◌≤◌, Option, Some, None, Bool, true, false, cond, ◌&&◌, ◌||◌, nat_le, List, [], ◌∷◌, ◌++◌, ◌↔◌, inl, ⊎_elim, refl, sym, ap, subst, ◌∙◌, arith}
-use Rattle.std.specs.Bool.{beq}
-use Rattle.std.specs.List.{list_all}
-use Rattle.std.specs.Option.{option_map, IfNone, IfSome}
+use Rattle.std.proofs.Common.{◌≡◌, ℕ, zero, suc, ◌<◌, ◌≤◌, Some, None, Bool, true, false, cond, ◌&&◌, ◌||◌, nat_le, List, [], ◌∷◌, ◌++◌, ◌↔◌, ⊎_elim, refl, sym, ap, subst, ◌∙◌, arith}
 use Rattle.std.proofs.lemmas.Bool.{ltb-true, lt-leb, cases_lt, and_parts, and_from, and_right}
-use Rattle.cq_munch.specs.Pattern.{Range, in_range, in_ranges, Pattern, never, empty, among, except, ◌▸◌, ◌∣◌, many, Spells}
-use Rattle.cq_munch.specs.Behind.{takes_empty, SpellsAny, joined, joined_each, behind, behind_each, has, distinct, after, any_takes_empty, agree, agree_each, entry_ok, class_in, ranges_below, all_below, ascii_rows, ascii, each_below}
-use Rattle.cq_munch.specs.Longest.{LongestAt}
-use Rattle.cq_munch.proofs.Front.{LongestAt-same}
-use Rattle.cq_munch.proofs.Steps.{beq-is, beq-same, any_takes_empty-if, any_takes_empty-then, covers-spells, behind_each-if, behind_each-then, agree-behind_each}
+use Rattle.cq_munch.specs.Pattern.{Range, in_range, in_ranges, Pattern, never, empty, among, except, ◌▸◌, ◌∣◌, many}
+use Rattle.cq_munch.specs.Behind.{takes_empty, SpellsAny, joined, joined_each, behind, behind_each, has, distinct, after, any_takes_empty, agree, agree_each, entry_ok, ranges_below, all_below, each_below}
+use Rattle.cq_munch.proofs.Steps.{beq-same, covers-spells, behind_each-if, behind_each-then, agree-behind_each}
 
 pub below_each : (n : ℕ) (test : ℕ → Bool) → each_below n test ≡ true → (c : ℕ) → c < n → test c ≡ true
 below_each zero test h c l = absurd (omega arith)
@@ -97,12 +92,6 @@ in_ranges_past n (r ∷ rs) c h k =
     let both = and_parts _ _ h in
     ap (λ v. v || in_ranges rs c) (range_past n r c (ltb-true r.1 n both.0) k) ∙ in_ranges_past n rs c both.1 k
 
-pub class_past : {K : Type 0} (rows : List (List Range × K)) (other : K) (c : ℕ) → ascii_rows rows ≡ true → 128 ≤ c → class_in rows other c ≡ other
-class_past [] other c h k = refl
-class_past (row ∷ rows) other c h k =
-    let both = and_parts _ _ h in
-    ap (λ v. cond v row.1 (class_in rows other c)) (in_ranges_past 128 row.0 c both.0 k) ∙ class_past rows other c both.1 k
-
 pub agree_past : (n : ℕ) (p : Pattern) (c d : ℕ) → all_below n p ≡ true → n ≤ c → n ≤ d → agree c d p ≡ true
 agree_past n never c d h k l = refl
 agree_past n empty c d h k l = refl
@@ -113,69 +102,3 @@ agree_past n (p ▸ q) c d h k l =
 agree_past n (p ∣ q) c d h k l =
     let both = and_parts _ _ h in and_from _ _ (agree_past n p c d both.0 k l) (agree_past n q c d both.1 k l)
 agree_past n (many p) c d h k l = agree_past n p c d h k l
-
--- a test of all classes holds of each character's
-chosen_class : {K : Type 0} (test : K → Bool) (b : Bool) (k l : K) → test k ≡ true → test l ≡ true → test (cond b k l) ≡ true
-chosen_class test true k l h i = h
-chosen_class test false k l h i = i
-
-pub each_class : {K : Type 0} (rows : List (List Range × K)) (other : K) (test : K → Bool) → (test other && list_all (λ (row : List Range × K). test row.1) rows) ≡ true → (c : ℕ) → test (class_in rows other c) ≡ true
-each_class [] other test h c = (and_parts _ _ h).0
-each_class (row ∷ rows) other test h c =
-    let both = and_parts (test other) _ h in
-    let here = and_parts (test row.1) _ both.1 in
-    chosen_class test (in_ranges row.0 c) row.1 (class_in rows other c) here.0 (each_class rows other test (and_from _ _ both.0 here.1) c)
-
--- A scan whose states were tested at one character of each kind: what its two functions say.
-module _ {S K : Type 0} (rest_of : S → List Pattern) (may_end : S → Bool) (sample : K → ℕ) (next : S → K → Option S) (rows : List (List Range × K)) (other : K) where
-  abbrev pub step_ok : S → K → Bool
-  step_ok s k = entry_ok (rest_of s) (sample k) (option_map rest_of (next s k))
-
-  -- the test of a state
-  unfoldable pub state_ok : S → Bool
-  state_ok s = (step_ok s other && list_all (λ (row : List Range × K). step_ok s row.1) rows) && beq (may_end s) (any_takes_empty (rest_of s))
-
-  module _ (right : (s : S) → state_ok s ≡ true) where
-    pub ends : (s : S) (b : Bool) → b ≡ may_end s → (b ≡ true) ↔ SpellsAny (rest_of s) []
-    unfolding state_ok
-    ends s b is =
-        let same = is ∙ beq-is _ _ (and_parts _ _ (right s)).1 in
-        (λ h. any_takes_empty-then (rest_of s) (sym same ∙ h), λ h. same ∙ any_takes_empty-if (rest_of s) h)
-
-    module _ (agrees : (s : S) (c : ℕ) → agree_each c (sample (class_in rows other c)) (rest_of s) ≡ true) where
-      step_right : (s : S) (c : ℕ) → step_ok s (class_in rows other c) ≡ true
-      unfolding state_ok
-      step_right s c = each_class rows other (step_ok s) (and_parts _ _ (right s)).0 c
-
-      pub step_none : (s : S) (c : ℕ) (r : Option S) → next s (class_in rows other c) ≡ r → IfNone r ((t : List ℕ) → SpellsAny (rest_of s) (c ∷ t) → ⊥)
-      step_none s c (Some n) is = tt
-      step_none s c None is =
-          let kind = class_in rows other c in
-          entry_none (rest_of s) c (sample kind) (agrees s c) (subst (λ v. entry_ok (rest_of s) (sample kind) (option_map rest_of v) ≡ true) is (step_right s c))
-
-      pub step_next : (s : S) (c : ℕ) (r : Option S) → next s (class_in rows other c) ≡ r → IfSome r (λ n. (t : List ℕ) → SpellsAny (rest_of s) (c ∷ t) ↔ SpellsAny (rest_of n) t)
-      step_next s c None is = tt
-      step_next s c (Some n) is =
-          let kind = class_in rows other c in
-          entry_some (rest_of s) (rest_of n) c (sample kind) (agrees s c) (subst (λ v. entry_ok (rest_of s) (sample kind) (option_map rest_of v) ≡ true) is (step_right s c))
-
--- the test of the classes, below 128 by computing and past it by the ranges' ends
-pub agrees_everywhere : {K : Type 0} (p : Pattern) (rows : List (List Range × K)) (other : K) (sample : K → ℕ)
-    → each_below 128 (λ x. agree x (sample (class_in rows other x)) p) ≡ true → ascii_rows rows ≡ true → ascii p ≡ true → 128 ≤ sample other
-    → (c : ℕ) → agree c (sample (class_in rows other c)) p ≡ true
-agrees_everywhere p rows other sample low rows_low p_low past c =
-    ⊎_elim
-    (λ l. below_each 128 (λ x. agree x (sample (class_in rows other x)) p) low c l)
-    (λ h. subst (λ k. agree c (sample k) p ≡ true) (sym (class_past rows other c rows_low h)) (agree_past 128 p c (sample other) p_low h past))
-    (cases_lt c 128)
-
--- and so behind a text that leads to a state
-pub agrees_behind : {K : Type 0} (p : Pattern) (rows : List (List Range × K)) (other : K) (sample : K → ℕ)
-    → each_below 128 (λ x. agree x (sample (class_in rows other x)) p) ≡ true → ascii_rows rows ≡ true → ascii p ≡ true → 128 ≤ sample other
-    → (w : List ℕ) (c : ℕ) → agree_each c (sample (class_in rows other c)) (after w (p ∷ [])) ≡ true
-agrees_behind p rows other sample low rows_low p_low past w c =
-    agree-after c (sample (class_in rows other c)) w (p ∷ []) (and_from _ _ (agrees_everywhere p rows other sample low rows_low p_low past c) refl)
-
--- a list of one pattern
-pub one_pattern : (p : Pattern) (text : List ℕ) (r : Option ℕ) → LongestAt (SpellsAny (p ∷ [])) text r → LongestAt (Spells p) text r
-one_pattern p text r h = LongestAt-same (SpellsAny (p ∷ [])) (Spells p) (λ s. (⊎_elim (λ a. a) (λ b. absurd b), λ a. inl a)) text r h

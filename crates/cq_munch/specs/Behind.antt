@@ -98,23 +98,10 @@ abbrev pub entry_ok : List Pattern → ℕ → Option (List Pattern) → Bool
 entry_ok ps c None = covers (behind_each c ps) []
 entry_ok ps c (Some qs) = covers (behind_each c ps) qs && covers qs (behind_each c ps)
 
--- the classes of characters that a table distinguishes: the first row that has the character, else the default
-abbrev pub class_in : {K : Type 0} → List (List Range × K) → K → ℕ → K
-class_in [] other c = other
-class_in (row ∷ rows) other c = if in_ranges row.0 c then row.1 else class_in rows other c
-
 -- every range ends before a character
 abbrev pub ranges_below : ℕ → List Range → Bool
 ranges_below n [] = true
 ranges_below n (r ∷ rs) = nat_lt r.1 n && ranges_below n rs
-
--- every range ends before 128
-abbrev pub ascii_ranges : List Range → Bool
-ascii_ranges rs = ranges_below 128 rs
-
-abbrev pub ascii_rows : {K : Type 0} → List (List Range × K) → Bool
-ascii_rows [] = true
-ascii_rows (row ∷ rows) = ascii_ranges row.0 && ascii_rows rows
 
 abbrev pub all_below : ℕ → Pattern → Bool
 all_below n never = true
@@ -124,9 +111,6 @@ all_below n (except rs) = ranges_below n rs
 all_below n (p ▸ q) = all_below n p && all_below n q
 all_below n (p ∣ q) = all_below n p && all_below n q
 all_below n (many p) = all_below n p
-
-abbrev pub ascii : Pattern → Bool
-ascii p = all_below 128 p
 
 -- the test passes at each number below n
 abbrev pub each_below : ℕ → (ℕ → Bool) → Bool

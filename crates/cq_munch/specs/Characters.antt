@@ -17,6 +17,3 @@ seen_by stood units = map (λ u. stood u.ch) units
 
 abbrev pub utf8_of : List Unit → List ℕ
 utf8_of units = encode_utf8_all (characters units)
-
-abbrev pub AreAscii : List Unit → Type 0
-AreAscii units = All (λ c. c < 128) (characters units)

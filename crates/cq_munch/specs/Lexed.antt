@@ -1,7 +1,7 @@
 -- What a text is lexed to.
-use Rattle.std.specs.Prelude.{◌≡◌, ℕ, ◌+◌, ◌-◌, ◌<◌, ◌≤◌, Option, Some, None, option_map, Result, Ok, Err, List, [], ◌∷◌, ◌++◌, length, take, drop, slice_index_or, MatchResult, IsOkAnd, IfOk, ⊤}
+use Rattle.std.specs.Prelude.{◌≡◌, ℕ, ◌+◌, ◌-◌, ◌<◌, ◌≤◌, Option, Some, None, option_map, Result, Ok, Err, List, [], ◌∷◌, ◌++◌, length, take, drop, slice_index_or, MatchResult, IsOkAnd, IfOk, ⊤, encode_utf8}
 use Rattle.std.specs.Char.{len_utf8}
-use Rattle.std.specs.List.{cons_option}
+use Rattle.std.specs.List.{AllByRecursion, cons_option}
 use Rattle.std.specs.List.Sorted.{IsNonDecreasingBy}
 use Rattle.std.specs.Str.{chars}
 use Rattle.cq_base.specs.Lines.{line_at}
@@ -47,6 +47,17 @@ UnitsInOrder to t = IfOk (translation t) (λ units. InOrder 0 units to)
 
 abbrev pub UnitsWithin : ℕ → Translated → Type 0
 UnitsWithin most t = IfOk (translation t) (λ units. length units ≤ most)
+
+-- a unit of one byte is spelled by that byte
+abbrev pub IsByte : List ℕ → Unit → Type 0
+IsByte bytes u = u.len ≡ 1 → encode_utf8 u.ch ≡ slice_index_or bytes u.start 0 ∷ []
+
+abbrev pub AreBytes : List ℕ → List Unit → Type 0
+AreBytes bytes units = AllByRecursion (IsByte bytes) units
+
+-- of a translation: each of its units of one byte is
+abbrev pub UnitsAreBytes : List ℕ → Translated → Type 0
+UnitsAreBytes bytes t = IfOk (translation t) (AreBytes bytes)
 
 abbrev pub unit_at : List Unit → ℕ → Unit
 unit_at units i = slice_index_or units i (record { ch = 0; start = 0; len = 0 })

@@ -5,10 +5,10 @@ pub mod Pattern
 pub mod Digits
 pub mod Behind
 pub mod Automata
+pub mod Once
 pub mod LineEnds
 pub mod Comments
 pub mod Quotes
-pub mod QuoteStates
 pub mod Characters
 pub mod Language
 pub mod Table
@@ -18,5 +18,6 @@ pub mod Scanners
 pub mod Commented
 pub mod ListingMarks
 pub mod Lexed
+pub mod Backslashes
 pub mod OneAnswer
 pub mod LastWord

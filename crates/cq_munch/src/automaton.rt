@@ -1,7 +1,10 @@
-ghost use Rattle.std.specs.Prelude.{◌≡◌, ℕ, suc, ◌-◌, ◌<◌, ◌≤◌, ◌^◌, IfNone, IfSome, List, [], length, slice_index_or};
+ghost use Rattle.std.specs.Prelude.{◌≡◌, ℕ, suc, ◌-◌, ◌<◌, ◌≤◌, ◌^◌, IfErr, IfNone, IfOk, IfSome, IsFalse, IsTrue, List, [], None, Some, length, slice_index_or};
 ghost use Rattle.cq_munch.specs.Automata.{class_at, RowAt, tables_of};
-ghost use Rattle.cq_munch.specs.Characters.{seen_by};
+ghost use Rattle.cq_munch.specs.Characters.{characters, seen_by};
 ghost use Rattle.cq_munch.specs.Language.{Takes};
+ghost use Rattle.cq_munch.specs.Longest.{LongestAt};
+ghost use Rattle.cq_munch.specs.Once.{FitsOnce, NoneBegins};
+ghost use Rattle.cq_munch.specs.Pattern.{Pattern, Spells};
 ghost use Rattle.cq_munch.specs.Patterned.{FitsRows, Patterned, rows_of};
 ghost use Rattle.cq_munch.specs.Table.{table};
 
@@ -134,4 +137,39 @@ pub fn longest_found<S: StandIn>(
         },
         None => None,
     }
+}
+
+// Whether a spelling may end in a state.
+fn is_end(ends: &[u8], state: u8) -> bool
+    ensures some { IsTrue result → 0 < slice_index_or ends.now state 0 }
+    ensures none { IsFalse result → slice_index_or ends.now state 0 ≡ 0 }
+{
+    match row_at(ends, state) {
+        Some(_) => true,
+        None => false,
+    }
+}
+
+/// How many units the spelling at the front has, of a table with one row that need not begin again; or how many units were
+/// read without finding its end: then no spelling begins at any of them. Each is read once.
+pub fn scan_once(by: Automaton<'_>, units: &[Unit]) -> Result<usize, usize>
+    ensures found { (p : Pattern) (texts : List (List ℕ)) → FitsOnce p texts (tables_of by.entry)
+        → IfOk result (λ n. LongestAt (Spells p) (characters units.now) (Some n)) }
+    ensures none { (p : Pattern) (texts : List (List ℕ)) → FitsOnce p texts (tables_of by.entry)
+        → IfErr result (λ read. LongestAt (Spells p) (characters units.now) None × NoneBegins p (characters units.now) 0 read) }
+    ensures within { IfErr result (λ read. read ≤ length units.now) }
+{
+    let mut state = 0;
+    for i in 0..units.len() {
+        match next_of(by.steps, state, class_of(by.classes, units[i].ch as u32)) {
+            None => return Err(i),
+            Some(next) => {
+                if is_end(by.ends, next) {
+                    return Ok(i + 1);
+                }
+                state = next;
+            }
+        }
+    }
+    Err(units.len())
 }

@@ -1,6 +1,6 @@
 ghost use Rattle.std.specs.Prelude.{◌≡◌, ◌^◌, ◌<◌, ◌≤◌, length, IfOk, IfSome, IfNone};
 ghost use Rattle.cq_munch.specs.Characters.{characters};
-ghost use Rattle.cq_munch.specs.Lexed.{InOrder, IsCut, AreCutInOrder, StopsFrom, GoesToEnd};
+ghost use Rattle.cq_munch.specs.Lexed.{InOrder, AreBytes, IsCut, AreCutInOrder, StopsFrom, GoesToEnd};
 
 use crate::element::Spell;
 use crate::lexis::Lexis;
@@ -47,6 +47,7 @@ fn fault_from<X: Lexis>(lexis: X, units: &[Unit], at: usize, mode: u8) -> Option
 pub(crate) fn cut_up<X: Lexis>(alloc: Global, text: &Text, units: &[Unit]) -> Result<Cut, Memory>
     requires text_short { length text.now ≤ 1048576 }
     requires in_order { InOrder 0 units.now (length text.now) }
+    requires bytes { AreBytes text.now units.now }
     requires short { length units.now < 2 ^ 32 }
     ensures cut { IfOk result (IsCut X.language text.now units.now) }
     ensures in_order { IfOk result (AreCutInOrder (length text.now)) }

@@ -3,7 +3,7 @@ ghost use Rattle.cq_base.specs.declared.token.Spelled.{Spelled};
 ghost use Rattle.cq_munch.specs.declared.unit.Unit.{Unit};
 ghost use Rattle.cq_munch.specs.Language.{Language, Takes, HasOneKind};
 ghost use Rattle.cq_munch.specs.Characters.{characters};
-ghost use Rattle.cq_munch.specs.Lexed.{units_of, translation, UnitsInOrder, UnitsWithin, TokensFollow, TakesNoneAway};
+ghost use Rattle.cq_munch.specs.Lexed.{units_of, translation, UnitsInOrder, UnitsWithin, UnitsAreBytes, TokensFollow, TakesNoneAway};
 
 use crate::element::Found;
 use crate::unit::Unit;
@@ -35,7 +35,8 @@ pub trait Lexis: Copy {
         requires short { length text.now ≤ 1048576 }
         ensures translation { IfOk result (λ t. translation t ≡ translated (units_of text.now)) }
         ensures in_order { IfOk result (UnitsInOrder (length text.now)) }
-        ensures short { IfOk result (UnitsWithin (length text.now)) };
+        ensures short { IfOk result (UnitsWithin (length text.now)) }
+        ensures bytes { IfOk result (UnitsAreBytes text.now) };
 
     /// What is remembered is true of these characters.
     ghost is_true_of: { Self → List ℕ → Type 0 };

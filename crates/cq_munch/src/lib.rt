@@ -6,6 +6,7 @@
 #![tactic(auto)]
 
 mod automaton;
+mod backslash;
 mod comment;
 mod cutting;
 mod element;
@@ -23,7 +24,8 @@ mod spelling;
 mod unit;
 mod words;
 
-pub use automaton::{Automaton, Itself, StandIn, longest_found};
+pub use automaton::{Automaton, Itself, StandIn, longest_found, scan_once};
+pub use backslash::follows_backslash;
 pub use comment::{longest_block_comment, longest_line_comment, opens_comment};
 pub use element::{Found, Spell};
 pub use ends::LineEnds;
@@ -34,7 +36,7 @@ pub use marking::the_last_word_counts;
 pub use munching::{Lexed, munch, one_answer};
 pub use names::named_found;
 pub use plain::plain_units;
-pub use quoted::{Quote, scan_quoted};
+pub use quoted::Quote;
 pub use rows::{better, found_of};
 pub use unit::Unit;
-pub use words::{ascii_bytes, is_listed_by_letter};
+pub use words::{is_listed_by_letter, is_spelled};

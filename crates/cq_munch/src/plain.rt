@@ -1,5 +1,5 @@
 ghost use Rattle.std.specs.Prelude.{◌≡◌, ◌≤◌, length, IfOk, IfSome, IsUtf8};
-ghost use Rattle.cq_munch.specs.Lexed.{units_of, InOrder};
+ghost use Rattle.cq_munch.specs.Lexed.{units_of, AreBytes, InOrder};
 
 use crate::unit::Unit;
 use cq_base::{Memory, Text};
@@ -13,6 +13,7 @@ pub fn plain_units(alloc: Global, text: &Text) -> Result<Vec<Unit>, Memory>
     ensures units { IfOk result (λ v. v.items ≡ units_of text.now) }
     ensures in_order { IfOk result (λ v. InOrder 0 v.items (length text.now)) }
     ensures short { IfOk result (λ v. length v.items ≤ length text.now) }
+    ensures bytes { IfOk result (λ v. AreBytes text.now v.items) }
 {
     let bytes = text.as_bytes();
     match of_ascii(alloc, bytes)? {
@@ -27,6 +28,7 @@ fn of_ascii(alloc: Global, bytes: &[u8]) -> Result<Option<Vec<Unit>>, Memory>
     ensures units { IfOk result (λ r. IfSome r (λ v. v.items ≡ units_of bytes.now)) }
     ensures in_order { IfOk result (λ r. IfSome r (λ v. InOrder 0 v.items (length bytes.now))) }
     ensures short { IfOk result (λ r. IfSome r (λ v. length v.items ≤ length bytes.now)) }
+    ensures bytes { IfOk result (λ r. IfSome r (λ v. AreBytes bytes.now v.items)) }
 {
     let mut units = Vec::with_capacity(alloc, bytes.len())?;
     for (i, byte) in bytes.iter().enumerate() {
@@ -47,6 +49,7 @@ fn of_str(alloc: Global, text: &str) -> Result<Vec<Unit>, Memory>
     ensures units { IfOk result (λ v. v.items ≡ units_of text.now) }
     ensures in_order { IfOk result (λ v. InOrder 0 v.items (length text.now)) }
     ensures short { IfOk result (λ v. length v.items ≤ length text.now) }
+    ensures bytes { IfOk result (λ v. AreBytes text.now v.items) }
 {
     let mut units = Vec::with_capacity(alloc, text.len())?;
     let mut start = 0;

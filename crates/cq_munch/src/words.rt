@@ -1,35 +1,13 @@
-ghost use Rattle.std.specs.Prelude.{◌≡◌, ◌↔◌, ◌<◌, ◌≤◌, length, take, slice_index_or, All, IsTrue};
+ghost use Rattle.std.specs.Prelude.{◌≡◌, ◌↔◌, slice_index_or, IsTrue};
 ghost use Rattle.std.specs.List.{list_any};
 ghost use Rattle.std.specs.Str.{bytes_eq};
-ghost use Rattle.cq_munch.specs.Characters.{characters, AreAscii};
+ghost use Rattle.cq_munch.specs.Characters.{characters};
 ghost use Rattle.cq_munch.specs.ByLetter.{row_of, IsListedByLetter};
 
 use crate::unit::Unit;
 
-/// Writes the characters as bytes at the front of a buffer if all of them are ASCII and there is room; else the
-/// answer is no, and the buffer may hold some of them. It costs one look at each unit, up to the first that doesn't
-/// fit.
-pub fn ascii_bytes(units: &[Unit], room: &mut [u8]) -> bool
-    ensures fits { IsTrue result → length units.now ≤ length room.old }
-    ensures bytes { IsTrue result → take (length units.now) room.new ≡ characters units.now }
-    ensures ascii { IsTrue result → AreAscii units.now }
-    ensures all { length units.now ≤ length room.old → AreAscii units.now → IsTrue result }
-    ensures same { length room.new ≡ length room.old }
-{
-    if units.len() > room.len() {
-        return false;
-    }
-    for (i, unit) in units.iter().enumerate() {
-        if !unit.ch.is_ascii() {
-            return false;
-        }
-        room[i] = unit.ch as u8;
-    }
-    true
-}
-
-// Whether the units spell the word. Mostly their number decides, or the first of them.
-fn is_spelled(word: &[u8], units: &[Unit]) -> bool
+/// Whether the units spell the word. Mostly their number decides, or the first of them.
+pub fn is_spelled(word: &[u8], units: &[Unit]) -> bool
     ensures { result ≡ bytes_eq word.now (characters units.now) }
 {
     if word.len() != units.len() {

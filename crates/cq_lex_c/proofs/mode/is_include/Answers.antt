@@ -1,18 +1,13 @@
-use Rattle.std.proofs.Common.{◌≡◌, Bool, true, false, refl, sym, ◌∙◌, arith}
-use Rattle.std.proofs.lemmas.List.{length-map}
+use Rattle.std.proofs.Common.{sym, ◌∙◌}
 use Rattle.std.specs.Prelude.{codes}
 use Rattle.std.specs.Str.{bytes_eq}
+use Rattle.std.proofs.lemmas.Bool.Decides.{Decides-like, same_from_decides}
+use Rattle.std.proofs.lemmas.Slice.Eq.{bytes_eq-Decides}
 use Rattle.cq_munch.specs.Characters.{characters}
-use Rattle.cq_munch.specs.declared.unit.Unit.{Unit}
-use Rattle.cq_lex_c.proofs.Elements.{include_is_short}
 use Rattle.cq_lex_c.proofs.mode.is_include.Goals as goal
 
-pub returns-else-ascii_bytes : goal.returns-else-ascii_bytes
-returns-else-ascii_bytes c = c.if-ascii_bytes.false ∙ by (bytes_eq (characters c.args.units.now) (codes "include")) refl
-  where
-    by : (b : Bool) → bytes_eq (characters c.args.units.now) (codes "include") ≡ b → false ≡ b
-    by false e = refl
-    by true e =
-        let short = include_is_short (characters c.args.units.now) e in
-        let many = length-map c.args.units.now (λ (u : Unit). u.ch) in
-        let bad = sym c.if-ascii_bytes.false ∙ c.ascii_bytes.ensures.all (omega (arith, short.0)) short.1 in absurd (cc)
+pub returns : goal.returns
+returns c =
+    let name = characters c.args.units.now in
+    c.is_spelled.ensures
+    ∙ same_from_decides (bytes_eq (codes "include") name) (bytes_eq name (codes "include")) (bytes_eq-Decides (codes "include") name) (Decides-like (bytes_eq name (codes "include")) sym sym (bytes_eq-Decides name (codes "include")))

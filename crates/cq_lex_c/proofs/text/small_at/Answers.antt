@@ -10,9 +10,9 @@ pub returns-then-units-at-eq56-clause-text : goal.returns-then-units-at-eq56-cla
 returns-then-units-at-eq56-clause-text c =
     let units = c.args.units.now in
     let text = characters units in
-    let here = subst (λ t. LongestAt IsString t c.quoted_at.result) (behind_at text c.args.at) c.quoted_at.ensures.text in
+    let here = subst (λ t. LongestAt IsString t c.string_at.result) (behind_at text c.args.at) c.string_at.ensures.text in
     subst (LongestAt IsSmall (drop c.args.at text)) (sym c.and_one.ensures)
-    (eight_string (drop c.args.at text) (some_at units c.args.at c.if-at-units.true) c.quoted_at.result (first_at units c.args.at c.if-at-units.true ∙ c.if-units-at-eq56.true) here)
+    (eight_string (drop c.args.at text) (some_at units c.args.at c.if-at-units.true) c.string_at.result (first_at units c.args.at c.if-at-units.true ∙ c.if-units-at-eq56.true) here)
 
 pub returns-else-at-units-clause-text : goal.returns-else-at-units-clause-text
 returns-else-at-units-clause-text c =

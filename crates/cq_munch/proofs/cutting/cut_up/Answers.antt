@@ -1,5 +1,6 @@
 use Rattle.std.proofs.Common.{◌<◌, length, refl, sym, subst, arith, IfOk}
 use Rattle.cq_munch.specs.Lexed.{IsCut}
+use Rattle.cq_munch.proofs.Bytes.{AreBytes-take, AreBytes-drop}
 use Rattle.cq_munch.proofs.Orders.{InOrder-take, InOrder-end}
 use Rattle.cq_munch.proofs.Elements.{one_token, one_blank, stays_inside, unspelled, unmarked, marked, TokensFollow-to, faulty, too_many}
 use Rattle.cq_munch.proofs.MarkOrder.{marks_in_order}
@@ -35,6 +36,9 @@ loop-at-preserved g c =
 
 pub spell_out-requires-clause-in_order : goal.spell_out-requires-clause-in_order
 spell_out-requires-clause-in_order g c = InOrder-take _ c.loop-at.end _ (length c.args.text.now) c.loop-at.invariant.so_far.behind
+
+pub spell_out-requires-clause-bytes : goal.spell_out-requires-clause-bytes
+spell_out-requires-clause-bytes g c = AreBytes-take c.args.text.now _ _ (AreBytes-drop c.args.text.now c.loop-at.at c.args.units.now c.requires.bytes)
 
 pub returns-clause-in_order : goal.returns-clause-in_order
 returns-clause-in_order g c = (

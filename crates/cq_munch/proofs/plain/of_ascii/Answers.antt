@@ -1,7 +1,9 @@
-use Rattle.std.proofs.Common.{◌≡◌, ◌+◌, ◌++◌, ◌∷◌, [], get_or, ap, ◌∙◌, arith, rules}
+use Rattle.std.proofs.Common.{◌≡◌, ◌+◌, ◌++◌, ◌∷◌, [], get_or, sym, ap, subst, ◌∙◌, arith, rules}
+use Rattle.std.proofs.lemmas.Str.{IsUtf8-from_ascii}
 use Rattle.std.specs.Str.{IsAscii}
-use Rattle.cq_munch.specs.Lexed.{placed}
+use Rattle.cq_munch.specs.Lexed.{AreBytes, placed}
 use Rattle.cq_munch.proofs.Decoding.{ascii_none, ascii_more, ascii_all, ascii_in_order, ascii_short, all_seen, one_seen}
+use Rattle.cq_munch.proofs.Bytes.{units_of-bytes}
 use Rattle.cq_munch.proofs.plain.of_ascii.Goals as goal
 
 pub loop-i-init : goal.loop-i-init
@@ -38,3 +40,8 @@ pub returns-clause-short : goal.returns-clause-short
 returns-clause-short c =
     let ascii : IsAscii c.args.bytes.now = all_seen c.args.bytes.now c.loop-i.i c.loop-i-test.false c.loop-i.invariant.seen in
     ascii_short c.args.bytes.now ascii c.loop-i.units.items (ascii_all c.args.bytes.now ascii c.loop-i.units.items c.loop-i.i c.loop-i-test.false (c.loop-i.invariant.so_far ascii))
+
+pub returns-clause-bytes : goal.returns-clause-bytes
+returns-clause-bytes c =
+    let ascii : IsAscii c.args.bytes.now = all_seen c.args.bytes.now c.loop-i.i c.loop-i-test.false c.loop-i.invariant.seen in
+    subst (AreBytes c.args.bytes.now) (sym (returns-clause-units c)) (units_of-bytes c.args.bytes.now (IsUtf8-from_ascii c.args.bytes.now ascii))

@@ -1,5 +1,6 @@
 use Rattle.std.proofs.Common.{sym, subst, ◌≤◌, length}
-use Rattle.cq_munch.specs.Lexed.{InOrder}
+use Rattle.cq_munch.specs.Lexed.{AreBytes, InOrder}
+use Rattle.cq_munch.proofs.Bytes.{units_of-bytes}
 use Rattle.cq_munch.proofs.Decoding.{decoded_pushed, decoded_all, units_of-InOrder, length-units_of}
 use Rattle.cq_munch.proofs.plain.of_str.Goals as goal
 
@@ -17,3 +18,6 @@ returns-clause-in_order c =
 pub returns-clause-short : goal.returns-clause-short
 returns-clause-short c =
     subst (λ v. length v ≤ length c.args.text.now) (sym (returns-clause-units c)) (length-units_of c.args.text.now c.utf8.text)
+
+pub returns-clause-bytes : goal.returns-clause-bytes
+returns-clause-bytes c = subst (AreBytes c.args.text.now) (sym (returns-clause-units c)) (units_of-bytes c.args.text.now c.utf8.text)

@@ -1,6 +1,6 @@
 -- the first unit starts before the end of the last, and that is within the text
 use Rattle.std.proofs.Common.{arith}
-use Rattle.cq_munch.proofs.Orders.{InOrder-ends}
+use Rattle.cq_munch.proofs.Orders.{InOrder-ends, InOrder-from}
 use Rattle.cq_munch.proofs.spelling.spell_out.Goals as goal
 
 pub overflow_add-len : goal.overflow_add-len
@@ -26,3 +26,12 @@ line_further-last_line-requires-clause-within c = let ends = InOrder-ends c.args
 
 pub returns-clause-within : goal.returns-clause-within
 returns-clause-within c = let ends = InOrder-ends c.args.end c.args.units.now _ c.requires.in_order c.requires.some in omega (arith, ends.1, ends.2, c.requires.short)
+
+pub of_bytes-requires-clause-in_order : goal.of_bytes-requires-clause-in_order
+of_bytes-requires-clause-in_order c = InOrder-from 0 c.args.end c.args.units.now _ (omega arith) c.requires.in_order
+
+pub of_bytes-requires-clause-end_is : goal.of_bytes-requires-clause-end_is
+of_bytes-requires-clause-end_is c = let ends = InOrder-ends c.args.end c.args.units.now _ c.requires.in_order c.requires.some in omega (arith, ends.1, ends.2, c.requires.short)
+
+pub of_bytes-requires-clause-within : goal.of_bytes-requires-clause-within
+of_bytes-requires-clause-within c = let ends = InOrder-ends c.args.end c.args.units.now _ c.requires.in_order c.requires.some in omega (arith, ends.1, ends.2, c.requires.short)
