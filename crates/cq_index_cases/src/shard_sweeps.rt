@@ -1,5 +1,6 @@
 ghost use Rattle.std.specs.Prelude.{◌≡◌};
 
+use crate::hubs::{Few, few};
 use crate::two::Two;
 use cq_base::{Entry, Memory, Steps};
 use cq_shard::Shard;
@@ -7,8 +8,8 @@ use std::alloc::Global;
 use std::marker::Brand;
 use std::sync::ledger::{Blank, Ledger};
 
-// Of three puts, the first of which the third replaces: the bucket of key 3 behind the sweep, of all three, and the floor.
-fn replaced<L: Ledger>(alloc: Global, blank: Blank) -> Result<(Vec<Entry>, u64), Memory>
+// Of three puts, the first of which the third replaces: the bucket of key 3 after the sweep, of all three, and the floor.
+fn replaced<L: Ledger>(alloc: Global, blank: Blank) -> Result<(Few, u64), Memory>
     requires name { blank.name ≡ L.name }
     requires parts { blank.parts ≡ L.parts }
 {
@@ -18,16 +19,16 @@ fn replaced<L: Ledger>(alloc: Global, blank: Blank) -> Result<(Vec<Entry>, u64),
     shard.apply(2, Some(&Two { keys: [3, 7] }), &mut steps)?;
     shard.apply(3, Some(&Two { keys: [9, 3] }), &mut steps)?;
     shard.sweep(3, &[2, 3]);
-    let left = shard.bucket(alloc, 3, &[1, 2, 3])?;
+    let left = few(&shard.bucket(alloc, 3, &[1, 2, 3])?);
     Ok((left, shard.floor()))
 }
 
-fn once(alloc: Global) -> Result<(Vec<Entry>, u64), Memory> {
+fn once(alloc: Global) -> Result<(Few, u64), Memory> {
     replaced::<Brand>(alloc, Blank::new(1))
 }
 
 // The same where the last alone is kept: swept twice up to the same floor, so that the entries are cleared.
-fn cleared<L: Ledger>(alloc: Global, blank: Blank) -> Result<(Vec<Entry>, u64), Memory>
+fn cleared<L: Ledger>(alloc: Global, blank: Blank) -> Result<(Few, u64), Memory>
     requires name { blank.name ≡ L.name }
     requires parts { blank.parts ≡ L.parts }
 {
@@ -38,16 +39,16 @@ fn cleared<L: Ledger>(alloc: Global, blank: Blank) -> Result<(Vec<Entry>, u64), 
     shard.apply(3, Some(&Two { keys: [9, 3] }), &mut steps)?;
     shard.sweep(3, &[3]);
     shard.sweep(3, &[3]);
-    let left = shard.bucket(alloc, 3, &[1, 2, 3])?;
+    let left = few(&shard.bucket(alloc, 3, &[1, 2, 3])?);
     Ok((left, shard.applied()))
 }
 
-fn twice(alloc: Global) -> Result<(Vec<Entry>, u64), Memory> {
+fn twice(alloc: Global) -> Result<(Few, u64), Memory> {
     cleared::<Brand>(alloc, Blank::new(1))
 }
 
-// What a shard goes on with behind a sweep: another put, and a sweep of what it replaces.
-fn applied_behind<L: Ledger>(alloc: Global, blank: Blank) -> Result<(Vec<Entry>, u64), Memory>
+// What a shard goes on with after a sweep: another put, and a sweep of what it replaces.
+fn applied_behind<L: Ledger>(alloc: Global, blank: Blank) -> Result<(Few, u64), Memory>
     requires name { blank.name ≡ L.name }
     requires parts { blank.parts ≡ L.parts }
 {
@@ -58,16 +59,16 @@ fn applied_behind<L: Ledger>(alloc: Global, blank: Blank) -> Result<(Vec<Entry>,
     shard.sweep(2, &[2]);
     shard.apply(3, Some(&Two { keys: [4, 3] }), &mut steps)?;
     shard.sweep(3, &[3]);
-    let left = shard.bucket(alloc, 3, &[2, 3])?;
+    let left = few(&shard.bucket(alloc, 3, &[2, 3])?);
     Ok((left, shard.floor()))
 }
 
-fn on(alloc: Global) -> Result<(Vec<Entry>, u64), Memory> {
+fn on(alloc: Global) -> Result<(Few, u64), Memory> {
     applied_behind::<Brand>(alloc, Blank::new(1))
 }
 
-// Of three puts the bucket of key 3 where the floor is 2: behind a sweep that keeps the second, and behind one that keeps none.
-fn kept_above<L: Ledger>(alloc: Global, blank: Blank) -> Result<(Vec<Entry>, Vec<Entry>), Memory>
+// Of three puts the bucket of key 3 where the floor is 2: after a sweep that keeps the second, and after one that keeps none.
+fn kept_above<L: Ledger>(alloc: Global, blank: Blank) -> Result<(Few, Few), Memory>
     requires name { blank.name ≡ L.name }
     requires parts { blank.parts ≡ L.parts }
 {
@@ -77,74 +78,44 @@ fn kept_above<L: Ledger>(alloc: Global, blank: Blank) -> Result<(Vec<Entry>, Vec
     shard.apply(2, Some(&Two { keys: [3, 7] }), &mut steps)?;
     shard.apply(3, Some(&Two { keys: [9, 3] }), &mut steps)?;
     shard.sweep(2, &[2]);
-    let second = shard.bucket(alloc, 3, &[1, 2, 3])?;
+    let second = few(&shard.bucket(alloc, 3, &[1, 2, 3])?);
     shard.sweep(2, &[]);
-    let none = shard.bucket(alloc, 3, &[1, 2, 3])?;
+    let none = few(&shard.bucket(alloc, 3, &[1, 2, 3])?);
     Ok((second, none))
 }
 
-fn above(alloc: Global) -> Result<(Vec<Entry>, Vec<Entry>), Memory> {
+fn above(alloc: Global) -> Result<(Few, Few), Memory> {
     kept_above::<Brand>(alloc, Blank::new(1))
+}
+
+// The entry with the key 3 of a change.
+fn entry(change: u64, at: u32) -> Option<Entry> {
+    Some(Entry { key: 3, change, at })
 }
 
 #[test]
 fn a_replaced_put_has_no_entries(rt: HostRuntime) -> Result<(), Memory> {
-    let (left, floor) = once(rt.alloc())?;
-    let second = Entry {
-        key: 3,
-        change: 2,
-        at: 0,
-    };
-    let third = Entry {
-        key: 3,
-        change: 3,
-        at: 1,
-    };
-    assert_eq!(rt; left.as_slice(), [second, third].as_slice());
-    assert_eq!(rt; floor, 3);
+    assert_eq!(rt; once(rt.alloc())?, ((2, entry(2, 0), entry(3, 1)), 3));
     Ok(())
 }
 
 #[test]
 fn a_second_sweep_changes_nothing(rt: HostRuntime) -> Result<(), Memory> {
-    let (left, applied) = twice(rt.alloc())?;
-    let third = Entry {
-        key: 3,
-        change: 3,
-        at: 1,
-    };
-    assert_eq!(rt; left.as_slice(), [third].as_slice());
-    assert_eq!(rt; applied, 3);
+    assert_eq!(rt; twice(rt.alloc())?, ((1, entry(3, 1), None), 3));
     Ok(())
 }
 
 #[test]
-fn a_shard_goes_on_behind_a_sweep(rt: HostRuntime) -> Result<(), Memory> {
-    let (left, floor) = on(rt.alloc())?;
-    let third = Entry {
-        key: 3,
-        change: 3,
-        at: 1,
-    };
-    assert_eq!(rt; left.as_slice(), [third].as_slice());
-    assert_eq!(rt; floor, 3);
+fn a_shard_goes_on_after_a_sweep(rt: HostRuntime) -> Result<(), Memory> {
+    assert_eq!(rt; on(rt.alloc())?, ((1, entry(3, 1), None), 3));
     Ok(())
 }
 
 #[test]
 fn entries_above_the_floor_stay(rt: HostRuntime) -> Result<(), Memory> {
-    let (second, none) = above(rt.alloc())?;
-    let kept = Entry {
-        key: 3,
-        change: 2,
-        at: 0,
-    };
-    let behind = Entry {
-        key: 3,
-        change: 3,
-        at: 1,
-    };
-    assert_eq!(rt; second.as_slice(), [kept, behind].as_slice());
-    assert_eq!(rt; none.as_slice(), [behind].as_slice());
+    assert_eq!(rt;
+        above(rt.alloc())?,
+        ((2, entry(2, 0), entry(3, 1)), (1, entry(3, 1), None))
+    );
     Ok(())
 }
