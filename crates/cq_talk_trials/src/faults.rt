@@ -25,6 +25,30 @@ const WHOLE: &str = r#"{"op":"put","project":"p","path":"b","lang":"any","text":
 {"op":"groups","project":"p","min":3}
 "#;
 
+// How the session of a caller ends that has seen nothing, and how many lines it is told.
+fn ended_and_told<Q: Threads + Sync, L: Ledger, R: Wait>(
+    rt: &Q,
+    alloc: Global,
+    settings: &Settings,
+    hub: &Shared<Work<L>, R>,
+    counters: &Counters<L>,
+    input: &str,
+    failing: u64,
+    pass: Pass<Work<L>>,
+) -> Result<(End, usize), Memory>
+    requires in_range { IsInRange settings.now }
+    requires hub_settings { settings_of hub.now ≡ settings.now }
+    requires of { IsPassOf hub.now pass }
+    requires fresh { pass.seen ≡ [] }
+{
+    let input = input.as_bytes();
+    let (end, told) = ended(
+        rt, alloc, settings, hub, counters, &OpenGate, input, failing, pass,
+    )?;
+    let lines = told.iter().filter(|byte| **byte == b'\n').count();
+    Ok((end, lines))
+}
+
 // The ends of two sessions at the same time, of which one's third read fails, and how many lines that one was told.
 fn two_sessions<Q: Threads + Sync, L: Ledger + Send + Sync, R: Wait + Sync>(
     rt: &Q,
@@ -42,46 +66,21 @@ fn two_sessions<Q: Threads + Sync, L: Ledger + Send + Sync, R: Wait + Sync>(
 {
     let (broken, whole) = join(
         rt,
-        move || -> Result<(End, Vec<u8>), Memory>
+        move || -> Result<(End, usize), Memory>
             requires { IsInRange settings.now × (settings_of hub.now ≡ settings.now)
                 × IsPassOf hub.now one × (one.seen ≡ []) }
-        {
-            ended(
-                rt,
-                alloc,
-                settings,
-                hub,
-                counters,
-                &OpenGate,
-                BROKEN.as_bytes(),
-                3,
-                one,
-            )
-        },
-        move || -> Result<(End, Vec<u8>), Memory>
+        { ended_and_told(rt, alloc, settings, hub, counters, BROKEN, 3, one) },
+        move || -> Result<(End, usize), Memory>
             requires { IsInRange settings.now × (settings_of hub.now ≡ settings.now)
                 × IsPassOf hub.now two × (two.seen ≡ []) }
-        {
-            ended(
-                rt,
-                alloc,
-                settings,
-                hub,
-                counters,
-                &OpenGate,
-                WHOLE.as_bytes(),
-                0,
-                two,
-            )
-        },
+        { ended_and_told(rt, alloc, settings, hub, counters, WHOLE, 0, two) },
     );
     let (broken, told) = broken?;
     let (whole, _) = whole?;
-    let lines = told.iter().filter(|byte| **byte == b'\n').count();
-    Ok((broken, whole, lines))
+    Ok((broken, whole, told))
 }
 
-/// How sessions ended, and what the hub tells behind them.
+/// How sessions ended, and what the hub says after them.
 #[derive(Clone, Copy, Debug, PartialEq, Eq)]
 struct Left {
     broken: End,
@@ -111,10 +110,7 @@ fn faulted<Q: Threads + Wait + Sync, L: Ledger + Send + Sync>(
     let two = hub.split_pass(&mut pass);
     let three = hub.split_pass(&mut pass);
     let (broken, whole, told) = two_sessions(rt, alloc, settings, &hub, &counters, one, two)?;
-    let input = WHOLE.as_bytes();
-    let (later, _) = ended(
-        rt, alloc, settings, &hub, &counters, &OpenGate, input, 0, three,
-    )?;
+    let (later, _) = ended_and_told(rt, alloc, settings, &hub, &counters, WHOLE, 0, three)?;
     let floor = hub.sweep(alloc, &mut pass)?;
     let asked = hub.ask(&mut pass);
     Ok(Left {
