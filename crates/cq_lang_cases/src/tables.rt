@@ -55,7 +55,9 @@ fn gap(i: usize) -> &'static str {
 }
 
 fn put_text(line: &mut String, text: &Text) -> Result<(), Memory> {
-    line.push_str(str::from_utf8(text.as_bytes()).unwrap_or("?"))?;
+    if let Ok(text) = str::from_utf8(text.as_bytes()) {
+        line.push_str(text)?;
+    }
     Ok(())
 }
 

@@ -1,6 +1,6 @@
 //! A table has the arguments of a command in each line, each in brackets, and after an arrow what is read of them: the
-//! command, what it is given, and each number and flag that is not its default. Arguments without an arrow are refused.
-use crate::showing::{put, put_text};
+//! command, what it is given, each number that is not its default, and each flag. Arguments without an arrow are refused.
+use crate::showing::{put, put_flag, put_text};
 use cq_base::{Memory, Settings, Text};
 use cq_words::{Command, connections, is_command, read_command};
 use std::alloc::Global;
@@ -20,8 +20,8 @@ fn put_settings(out: &mut String, settings: &Settings) -> Result<(), Memory> {
     put(out, "chunk", settings.chunk as u64, 20)?;
     put(out, "shards", settings.shards as u64, 16)?;
     put(out, "key-bits", settings.key_bits as u64, 64)?;
-    put(out, "ignore-ids", settings.ignore_ids as u64, 0)?;
-    put(out, "ignore-literals", settings.ignore_lits as u64, 0)?;
+    put_flag(out, " ignore-ids", settings.ignore_ids)?;
+    put_flag(out, " ignore-literals", settings.ignore_lits)?;
     put(out, "change-limit", settings.change_limit, 262_144)?;
     put(out, "text-limit", settings.text_limit, 33_554_432)?;
     put(
@@ -90,8 +90,7 @@ fn has_connections(
     })
 }
 
-fn is_read(alloc: Global, line: &str) -> Result<bool, Memory> {
-    let (line, want) = line.split_once(" ⇒ ").unwrap_or((line, ""));
+fn is_read(alloc: Global, line: &str, want: &str) -> Result<bool, Memory> {
     let arguments = arguments_of(alloc, line)?;
     let command = read_command(alloc, &arguments)?;
     Ok(
@@ -101,10 +100,17 @@ fn is_read(alloc: Global, line: &str) -> Result<bool, Memory> {
     )
 }
 
+fn is_right(alloc: Global, line: &str) -> Result<bool, Memory> {
+    match line.split_once(" ⇒ ") {
+        Some((arguments, want)) => is_read(alloc, arguments, want),
+        None => is_read(alloc, line, ""),
+    }
+}
+
 // The first line of a table whose arguments are read otherwise.
 fn first_other(alloc: Global, table: &str) -> Result<Option<&str>, Memory> {
     for line in table.lines() {
-        if !is_read(alloc, line)? {
+        if !is_right(alloc, line)? {
             return Ok(Some(line));
         }
     }
@@ -118,18 +124,18 @@ const READ: &str = "\
 [listen][here:80] ⇒ listen [here:80]
 [listen][mem][--chunk][2][--workers][0][--sessions][1] ⇒ listen [mem] chunk=2 workers=0 sessions=1
 [listen][--connections=2][a] ⇒ listen [a] connections=2
-[listen][--sessions=64][--workers][0][=][--connections][1][--ignore-ids][--chunk=2] ⇒ listen [=] chunk=2 ignore-ids=1 workers=0 sessions=64 connections=1
-[run][--ignore-literals][--chunk][0000000000000000005][--text-limit=67108864][--workers][7][--key-bits=0][--byte-limit][1152921504606846976][--ignore-ids][--shards=64][--change-limit][1] ⇒ run chunk=5 shards=64 key-bits=0 ignore-ids=1 ignore-literals=1 change-limit=1 text-limit=67108864 workers=7
+[listen][--sessions=64][--workers][0][=][--connections][1][--ignore-ids][--chunk=2] ⇒ listen [=] chunk=2 ignore-ids workers=0 sessions=64 connections=1
+[run][--ignore-literals][--chunk][0000000000000000005][--text-limit=67108864][--workers][7][--key-bits=0][--byte-limit][1152921504606846976][--ignore-ids][--shards=64][--change-limit][1] ⇒ run chunk=5 shards=64 key-bits=0 ignore-ids ignore-literals change-limit=1 text-limit=67108864 workers=7
 [run][--chunk][1][--shards=1][--key-bits][0] ⇒ run chunk=1 shards=1 key-bits=0
 [run][--chunk=1000][--shards][64][--key-bits=64] ⇒ run chunk=1000 shards=64
 [run][--change-limit=262144][--text-limit][1][--byte-limit=1] ⇒ run text-limit=1 byte-limit=1
 [run][--workers][0] ⇒ run
 [run][--workers][1] ⇒ run workers=1
 [run][--workers=64] ⇒ run workers=64
-[drive][--chunk][2][--shards=3][--key-bits][4][--change-limit=5][--ignore-ids][--text-limit][6][--byte-limit=7] ⇒ drive chunk=2 shards=3 key-bits=4 ignore-ids=1 change-limit=5 text-limit=6 byte-limit=7
-[drive][--ignore-literals] ⇒ drive ignore-literals=1
-[ask][--byte-limit=7][--ignore-ids][--chunk][2] ⇒ ask chunk=2 ignore-ids=1 byte-limit=7
-[export][--chunk][2][a-Z.9_][--ignore-literals] ⇒ export [a-Z.9_] chunk=2 ignore-literals=1
+[drive][--chunk][2][--shards=3][--key-bits][4][--change-limit=5][--ignore-ids][--text-limit][6][--byte-limit=7] ⇒ drive chunk=2 shards=3 key-bits=4 ignore-ids change-limit=5 text-limit=6 byte-limit=7
+[drive][--ignore-literals] ⇒ drive ignore-literals
+[ask][--byte-limit=7][--ignore-ids][--chunk][2] ⇒ ask chunk=2 ignore-ids byte-limit=7
+[export][--chunk][2][a-Z.9_][--ignore-literals] ⇒ export [a-Z.9_] chunk=2 ignore-literals
 [make][7][3] ⇒ make 7 3
 [make][5][0] ⇒ make 5 0
 [make][0][10000] ⇒ make 0 10000

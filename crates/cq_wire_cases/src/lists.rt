@@ -62,7 +62,7 @@ const FILES: [(Lang, Shown, &str); 4] = [
 #[test]
 fn files_are_written(rt: HostRuntime) -> Result<(), Memory> {
     for (lang, shown, want) in FILES {
-        assert!(rt; writes_file(rt.alloc(), lang, shown, want)?, "{want}");
+        assert_eq!(rt; writes_file(rt.alloc(), lang, shown, want)?, true, "{want}");
     }
     Ok(())
 }

@@ -45,9 +45,9 @@ const CHANGES: &str =
 "#;
 
 const QUERIES: &str =
-    r#"{"op":"groups","project":"p","min":20,"path":"t","at":18446744073709551615,"finish":false} ⇒ groups [p] path [t] min=20 at=18446744073709551615 finish=0
-{"op":"measures","project":"p","path":"t","finish":false} ⇒ measures [p] path [t] finish=0
-{"finish":false,"at":3,"path":"t","project":"p","op":"functions"} ⇒ functions [p] path [t] at=3 finish=0
+    r#"{"op":"groups","project":"p","min":20,"path":"t","at":18446744073709551615,"finish":false} ⇒ groups [p] path [t] min=20 at=18446744073709551615 unfinished
+{"op":"measures","project":"p","path":"t","finish":false} ⇒ measures [p] path [t] unfinished
+{"finish":false,"at":3,"path":"t","project":"p","op":"functions"} ⇒ functions [p] path [t] at=3 unfinished
 {"op":"measures","project":"p","scope":"src/**/*.txt","since":7} ⇒ measures [p] scope [src/**/*.txt] since=7
 {"since":18446744073709551615,"scope":"?","op":"verdict","project":"p"} ⇒ verdict [p] scope [?] since=18446744073709551615
 {"op":"measures","project":"p","path":"t","since":3} ⇒ measures [p] path [t] since=3

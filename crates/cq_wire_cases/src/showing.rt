@@ -1,4 +1,4 @@
-//! What a line is read as, in words: its name, its texts in brackets, and each number and flag that is not its default.
+//! What a line is read as, in words: its name, its texts in brackets, each number that is not its default, and each flag that is set.
 use cq_base::{Change, Compare, Condition, Lang, Memory, Metric, Text};
 use cq_request::{Kind, Query, Refusal};
 use std::fmt::Write;
@@ -11,11 +11,21 @@ pub(crate) fn put(out: &mut String, name: &str, number: u64, default: u64) -> Re
     Ok(())
 }
 
-/// Writes a text in brackets, where a line feed stands as its picture.
+/// Writes the name of a flag that is set.
+pub(crate) fn put_flag(out: &mut String, name: &str, is_set: bool) -> Result<(), Memory> {
+    if is_set {
+        out.push_str(name)?;
+    }
+    Ok(())
+}
+
+/// Writes a text in brackets, in which a line feed is its picture.
 pub(crate) fn put_text(out: &mut String, text: &Text) -> Result<(), Memory> {
     out.push_str(" [")?;
-    for c in str::from_utf8(text.as_bytes()).unwrap_or("?").chars() {
-        out.push(if c == '\n' { '␊' } else { c })?;
+    if let Ok(text) = str::from_utf8(text.as_bytes()) {
+        for c in text.chars() {
+            out.push(if c == '\n' { '␊' } else { c })?;
+        }
     }
     out.push(']')?;
     Ok(())
@@ -112,7 +122,7 @@ pub(crate) fn put_query(out: &mut String, query: &Query) -> Result<(), Memory> {
     put_named(out, " scope", &query.scope)?;
     put(out, "min", query.min as u64, 100)?;
     put(out, "at", query.at, 0)?;
-    put(out, "finish", query.finish as u64, 1)?;
+    put_flag(out, " unfinished", !query.finish)?;
     put(out, "since", query.since, 0)
 }
 

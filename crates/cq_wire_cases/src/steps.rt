@@ -76,7 +76,7 @@ const STEPS: &str =
 
 const WHOLE: &str =
     r#"{"step":"accept","by":13,"request":{"text":"a \"b\"\n\u00e9\ud83d\ude00","op":"put","lang":"go","path":"a/b c.go","project":"p"}} ⇒ accept 13 put [p] [a/b c.go] go [a "b"␊é😀]
-{"step":"reply","by":5,"request":{"op":"groups","project":"p","min":20,"path":"t","at":7,"finish":false}} ⇒ reply 5 groups [p] path [t] min=20 at=7 finish=0
+{"step":"reply","by":5,"request":{"op":"groups","project":"p","min":20,"path":"t","at":7,"finish":false}} ⇒ reply 5 groups [p] path [t] min=20 at=7 unfinished
 {"step":"reply","by":5,"request":{"op":"verdict","project":"p"}} ⇒ reply 5 verdict [p]
 "#;
 

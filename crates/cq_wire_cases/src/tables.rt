@@ -22,7 +22,9 @@ pub(crate) fn is_told<K: Kind>(alloc: Global, line: &[u8], want: &str) -> Result
 /// The first row of a table whose line is told otherwise.
 pub(crate) fn first_other<K: Kind>(alloc: Global, table: &str) -> Result<Option<&str>, Memory> {
     for row in table.lines() {
-        let (line, want) = row.split_once(" ⇒ ").unwrap_or((row, ""));
+        let Some((line, want)) = row.split_once(" ⇒ ") else {
+            return Ok(Some(row));
+        };
         if !is_told::<K>(alloc, line.as_bytes(), want)? {
             return Ok(Some(row));
         }
@@ -34,7 +36,10 @@ pub(crate) fn first_other<K: Kind>(alloc: Global, table: &str) -> Result<Option<
 fn repeated(alloc: Global, line: &str, times: u32) -> Result<String, Memory> {
     let mut out = String::new(alloc);
     for piece in line.split('⟨') {
-        let (part, rest) = piece.split_once('⟩').unwrap_or(("", piece));
+        let Some((part, rest)) = piece.split_once('⟩') else {
+            out.push_str(piece)?;
+            continue;
+        };
         for _ in 0..times {
             out.push_str(part)?;
         }
@@ -44,8 +49,12 @@ fn repeated(alloc: Global, line: &str, times: u32) -> Result<String, Memory> {
 }
 
 fn is_told_repeated<K: Kind>(alloc: Global, row: &str) -> Result<bool, Memory> {
-    let (line, told) = row.split_once(" ⇒ ").unwrap_or((row, ""));
-    let (times, want) = told.split_once(' ').unwrap_or(("", ""));
+    let Some((line, told)) = row.split_once(" ⇒ ") else {
+        return Ok(false);
+    };
+    let Some((times, want)) = told.split_once(' ') else {
+        return Ok(false);
+    };
     match times.parse::<u32>() {
         Ok(times) => is_told::<K>(alloc, repeated(alloc, line, times)?.as_bytes(), want),
         Err(_) => Ok(false),
