@@ -1,6 +1,7 @@
 -- Turns of a worker that are none, and what a hub may not answer.
 use Rattle.std.specs.Prelude.{◌≡◌, ◌⊎◌, ℕ, ◌≤◌, false, List, [], ◌∷◌, ◌++◌, length, None, Some}
 use Rattle.std.proofs.Common.{arith, ap, refl, ◌∙◌, inl, inr}
+use Rattle.cq_definition_cases.proofs.Different.{is_false}
 use Rattle.cq_base.specs.declared.change.Change.{Change}
 use Rattle.cq_base.specs.declared.change.Change.TheVariants.{Put}
 use Rattle.cq_base.specs.declared.lang.Lang.TheVariants.{Any}
@@ -11,7 +12,7 @@ use Rattle.cq_history.specs.Lawful.{Permits}
 use Rattle.cq_history.specs.State.{State, own}
 use Rattle.cq_history.proofs.Prefixes.{own-append}
 use Rattle.cq_hub.specs.Hubs.{RaisesOnce}
-use Rattle.cq_hub.specs.Says.{IsAcceptedAs}
+use Rattle.cq_hub.specs.Says.{IsAcceptedAs, IsJobFor}
 use Rattle.cq_serve.specs.Labours.{IsOfTurn}
 use Rattle.cq_serve.specs.Turns.{AtEase, IsTurn, Passes}
 use Rattle.cq_serve.specs.declared.answers.Turn.TheVariants as turn
@@ -66,3 +67,6 @@ an_accepted_change_has_the_next_number set callers change is = let first = is.1 
 -- no version is published
 pub a_floor_is_no_higher_than_what_is_published : (set : Settings) → Permits set one_taken (event.Floor 1) → ⊥
 a_floor_is_no_higher_than_what_is_published set may = let low : 1 ≤ 0 = may.1 in omega (arith, low)
+
+pub a_change_that_is_not_done_has_its_job : IsJobFor one_taken 1 None → ⊥
+a_change_that_is_not_done_has_its_job done = is_false done.1
