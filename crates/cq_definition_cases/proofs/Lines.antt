@@ -11,10 +11,10 @@ abbrev one_byte : Held
 one_byte = record { pending = 97 ∷ []; taken = 1; limit = 9; over = false }
 
 pub a_last_line_needs_no_line_feed : (before after : Option (List ℕ)) (new : Held) → Cuts before after one_byte cut.End new → ⊥
-a_last_line_needs_no_line_feed before after new cuts = let none : length (97 ∷ cuts.got) ≡ 0 = ap length cuts.finds.0 in omega (arith, none)
+a_last_line_needs_no_line_feed before after new cuts = let none = ap (λ (s : List ℕ). length s) cuts.finds.0 in omega (arith, none)
 
 pub no_line_is_given_after_a_failed_read : (line : Bor (List ℕ)) → HasCutCause 0 1 (cut.Line line) → ⊥
-no_line_is_given_after_a_failed_read line same = omega (arith, same)
+no_line_is_given_after_a_failed_read line same = let none : 1 ≡ 0 = same in omega (arith, none)
 
 pub the_limit_is_not_reached_one_byte_before_it : IsSpent (record { pending = []; taken = 8; limit = 9; over = false }) → ⊥
 the_limit_is_not_reached_one_byte_before_it spent = let all = spent.taken in omega (arith, all)
@@ -24,7 +24,7 @@ pub no_byte_is_lost : (at_end : Type 0) (new : Held) → new.pending ≡ 99 ∷ 
 no_byte_is_lost at_end new left next = of next.1
   where
     held : length new.pending ≡ 1
-    held = ap length left
+    held = ap (λ (s : List ℕ). length s) left
     of : (((97 ∷ 10 ∷ 98 ∷ 99 ∷ []) ≡ ended (97 ∷ []) ++ new.pending) × (new.over ≡ false)) ⊎ (((97 ∷ 10 ∷ 98 ∷ 99 ∷ []) ≡ 97 ∷ []) × (0 < length (97 ∷ [])) × (new.pending ≡ []) × (new.over ≡ true) × at_end × (new.taken < new.limit)) → ⊥
-    of (inl closed) = let all = ap length closed.0 in omega (arith, all, held)
-    of (inr last) = let all = ap length last.0 in omega (arith, all)
+    of (inl closed) = let all = ap (λ (s : List ℕ). length s) closed.0 in omega (arith, all, held)
+    of (inr last) = let all = ap (λ (s : List ℕ). length s) last.0 in omega (arith, all)

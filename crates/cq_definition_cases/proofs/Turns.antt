@@ -44,9 +44,9 @@ pub who_has_a_change_is_not_at_ease : AtEase one_taken 0 → ⊥
 who_has_a_change_is_not_at_ease ease = ease.hands 1 (((omega arith, omega arith), refl), refl)
 
 pub a_question_alone_is_no_turn : (c : ℕ) → IsOfTurn c (event.Ask c ∷ []) → ⊥
-a_question_alone_is_no_turn c (r, inl worked) = let three : 1 ≡ 3 = ap length worked in omega (arith, three)
-a_question_alone_is_no_turn c (r, inr (inl back)) = let three : 1 ≡ 3 = ap length back in omega (arith, three)
-a_question_alone_is_no_turn c (r, inr (inr late)) = let two : 1 ≡ 2 = ap length late in omega (arith, two)
+a_question_alone_is_no_turn c (r, inl worked) = let three : 1 ≡ 3 = ap (λ (es : List Event). length es) worked in omega (arith, three)
+a_question_alone_is_no_turn c (r, inr (inl back)) = let three : 1 ≡ 3 = ap (λ (es : List Event). length es) back in omega (arith, three)
+a_question_alone_is_no_turn c (r, inr (inr late)) = let two : 1 ≡ 2 = ap (λ (es : List Event). length es) late in omega (arith, two)
 
 -- ---- a hub
 
@@ -58,8 +58,8 @@ pub a_sweep_raises_the_floor_once : RaisesOnce is_history (Unit {0}) tt [] (even
 a_sweep_raises_the_floor_once once = of (once tt 0 [] refl)
   where
     of : ([] ≡ event.Floor 1 ∷ event.Floor 2 ∷ []) ⊎ ((f : ℕ) × (([] ++ event.Floor f ∷ []) ≡ event.Floor 1 ∷ event.Floor 2 ∷ [])) → ⊥
-    of (inl same) = let none : 0 ≡ 2 = ap length same in omega (arith, none)
-    of (inr (f, more)) = let one : 1 ≡ 2 = ap length more in omega (arith, one)
+    of (inl same) = let none : 0 ≡ 2 = ap (λ (es : List Event). length es) same in omega (arith, none)
+    of (inr (f, more)) = let one : 1 ≡ 2 = ap (λ (es : List Event). length es) more in omega (arith, one)
 
 pub an_accepted_change_has_the_next_number : (set : Settings) (callers : ℕ) (change : Change) → IsAcceptedAs set callers change 2 [] → ⊥
 an_accepted_change_has_the_next_number set callers change is = let first = is.1 in omega (arith, first)
