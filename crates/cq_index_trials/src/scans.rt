@@ -1,9 +1,10 @@
 ghost use Rattle.std.specs.Prelude.{◌≡◌, ◌^◌, ◌<◌, ◌≤◌, length, IfOk, vec_len};
 
-use cq_base::{Class, Group, Keys, Lang, Memory, Norm, Place, Steps, Text};
+use cq_base::{Class, Group, Keys, Lang, Memory, Norm, Steps, Text};
 use cq_scan::scan;
 use cq_tokens::{FileTokens, PlainFiles, Tokens};
 use std::alloc::Global;
+use std::fmt::Write;
 use std::marker::Brand;
 use std::sync::Arc;
 use std::sync::ledger::{Blank, Ledger};
@@ -63,126 +64,78 @@ fn groups_of(alloc: Global, texts: &[&[u8]], min: u32) -> Result<Vec<Group>, Mem
     listed::<Brand>(alloc, texts, min, Blank::new(1))
 }
 
-/// Whether these are the groups, each by its tokens and its places.
-pub(crate) fn is_listed(groups: &[Group], want: &[(u32, &[(u32, u32)])]) -> bool {
-    groups.len() == want.len()
-        && groups.iter().zip(want.iter()).all(|(group, (tokens, places))| {
-            let here = group.places.as_slice();
-            group.tokens == *tokens
-                && here.len() == places.len()
-                && here.iter().zip(places.iter()).all(|(p, (file, at))| {
-                    *p == Place {
-                        file: *file,
-                        at: *at,
-                    }
-                })
-        })
+/// A row of a table: the least tokens of a group, the texts of files, with commas between them, and after an arrow their groups.
+pub(crate) fn parts_of(row: &str) -> Option<(u32, &str, &str)> {
+    let (project, groups) = row.split_once(" ⇒")?;
+    let (min, texts) = project.split_once(' ')?;
+    Some((min.parse::<u32>().ok()?, texts, groups))
 }
 
-// Whether the listing of files with these tokens has these groups.
-fn lists(
-    alloc: Global,
-    texts: &[&[u8]],
-    min: u32,
-    want: &[(u32, &[(u32, u32)])],
-) -> Result<bool, Memory>
-    requires few { length texts.now < 2 ^ 32 }
-    requires some { 1 ≤ min }
-{
-    let groups = groups_of(alloc, texts, min)?;
-    Ok(is_listed(&groups, want))
+pub(crate) fn texts_of<'a>(alloc: Global, texts: &'a str) -> Result<Vec<&'a [u8]>, Memory> {
+    let mut all = Vec::new(alloc);
+    for text in texts.split(',') {
+        all.push(text.as_bytes())?;
+    }
+    Ok(all)
 }
 
-// The worked rows on groups.
-#[test]
-fn lists_the_worked_rows(rt: HostRuntime) -> Result<(), Memory> {
-    let alloc = rt.alloc();
-    assert!(&rt;
-        lists(alloc, &[b"abcxabcy"], 3, &[(3, &[(0, 0), (0, 4)])])?,
-        "two places of one word"
-    );
-    assert!(&rt;
-        lists(
-            alloc,
-            &[b"aaaaaa"],
-            2,
-            &[(3, &[(0, 0), (0, 3)]), (2, &[(0, 0), (0, 2), (0, 4)])]
-        )?,
-        "places of one file don't overlap"
-    );
-    assert!(&rt;
-        lists(alloc, &[b"ababab"], 4, &[])?,
-        "one kept place is no group"
-    );
-    assert!(&rt;
-        lists(
-            alloc,
-            &[b"amnx", b"amny", b"bmnx"],
-            2,
-            &[
-                (3, &[(0, 0), (1, 0)]),
-                (3, &[(0, 1), (2, 1)]),
-                (2, &[(0, 1), (1, 1), (2, 1)]),
-            ]
-        )?,
-        "a word is maximal at some two places"
-    );
-    assert!(&rt;
-        lists(alloc, &[b"pqr", b"pqr"], 2, &[(3, &[(0, 0), (1, 0)])])?,
-        "two equal files"
-    );
+fn put_group(line: &mut String, group: &Group) -> Result<(), Memory> {
+    let tokens = group.tokens;
+    write!(line, " | {tokens}")?;
+    for place in group.places.as_slice() {
+        let (file, at) = (place.file, place.at);
+        write!(line, " {file}.{at}")?;
+    }
     Ok(())
 }
 
-// Words that overlap themselves or each other, and files at the edge.
+/// Groups as a row has them: each by its tokens, and its places by their files and their first tokens.
+pub(crate) fn shown(alloc: Global, groups: &[Group]) -> Result<String, Memory> {
+    let mut line = String::new(alloc);
+    for group in groups {
+        put_group(&mut line, group)?;
+    }
+    Ok(line)
+}
+
+fn is_right(alloc: Global, row: &str) -> Result<bool, Memory> {
+    let Some((min, texts, want)) = parts_of(row) else {
+        return Ok(false);
+    };
+    let texts = texts_of(alloc, texts)?;
+    if min < 1 || texts.len() > 100 {
+        return Ok(false);
+    }
+    let groups = groups_of(alloc, &texts, min)?;
+    Ok(shown(alloc, &groups)?.as_str() == want)
+}
+
+// The worked rows on groups: two places of one word; places of one file don't overlap; one kept place is no group; a word is
+// maximal at some two places; and two equal files.
+const WORKED: &str = "\
+3 abcxabcy ⇒ | 3 0.0 0.4
+2 aaaaaa ⇒ | 3 0.0 0.3 | 2 0.0 0.2 0.4
+4 ababab ⇒
+2 amnx,amny,bmnx ⇒ | 3 0.0 1.0 | 3 0.1 2.1 | 2 0.1 1.1 2.1
+2 pqr,pqr ⇒ | 3 0.0 1.0
+";
+
+// Words that overlap themselves or each other, and files at the edge: a periodic word; one word inside another; equal files; a
+// run up to the end of a file; and files without tokens.
+const OVERLAPPING: &str = "\
+2 abababab ⇒ | 4 0.0 0.4 | 2 0.0 0.2 0.4 0.6
+2 xabcy,zabcw,qbcr ⇒ | 3 0.1 1.1 | 2 0.2 1.2 2.1
+1 aab,aab,aab ⇒ | 3 0.0 1.0 2.0 | 1 0.0 0.1 1.0 1.1 2.0 2.1
+2 xyab,zab ⇒ | 2 0.2 1.1
+1 ,ab,,ab, ⇒ | 2 1.0 3.0
+";
+
 #[test]
-fn lists_words_that_overlap(rt: HostRuntime) -> Result<(), Memory> {
-    let alloc = rt.alloc();
-    assert!(&rt;
-        lists(
-            alloc,
-            &[b"abababab"],
-            2,
-            &[
-                (4, &[(0, 0), (0, 4)]),
-                (2, &[(0, 0), (0, 2), (0, 4), (0, 6)]),
-            ]
-        )?,
-        "a periodic word"
-    );
-    assert!(&rt;
-        lists(
-            alloc,
-            &[b"xabcy", b"zabcw", b"qbcr"],
-            2,
-            &[(3, &[(0, 1), (1, 1)]), (2, &[(0, 2), (1, 2), (2, 1)])]
-        )?,
-        "one word inside another"
-    );
-    assert!(&rt;
-        lists(
-            alloc,
-            &[b"aab", b"aab", b"aab"],
-            1,
-            &[
-                (3, &[(0, 0), (1, 0), (2, 0)]),
-                (1, &[(0, 0), (0, 1), (1, 0), (1, 1), (2, 0), (2, 1)]),
-            ]
-        )?,
-        "equal files"
-    );
-    assert!(&rt;
-        lists(alloc, &[b"xyab", b"zab"], 2, &[(2, &[(0, 2), (1, 1)])])?,
-        "a run up to the end of a file"
-    );
-    assert!(&rt;
-        lists(
-            alloc,
-            &[b"", b"ab", b"", b"ab", b""],
-            1,
-            &[(2, &[(1, 0), (3, 0)])]
-        )?,
-        "files without tokens"
-    );
+fn groups_are_listed(rt: HostRuntime) -> Result<(), Memory> {
+    for table in [WORKED, OVERLAPPING] {
+        for row in table.lines() {
+            assert_eq!(&rt; is_right(rt.alloc(), row)?, true, "{row}");
+        }
+    }
     Ok(())
 }
