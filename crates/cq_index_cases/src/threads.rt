@@ -3,7 +3,7 @@ ghost use Rattle.cq_shared.specs.SharedPasses.{IsPassOf};
 
 use crate::hubs::{Counted, looks, put_and_read};
 use crate::made::{Apart, SETTINGS};
-use cq_base::{Memory, Settings};
+use cq_base::Settings;
 use cq_board::{Asked, Refused};
 use cq_chain::Pass;
 use cq_shared::Shared;

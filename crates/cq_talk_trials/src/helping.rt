@@ -1,6 +1,5 @@
-ghost use Rattle.std.specs.Prelude.{◌≡◌, ◌<◌, []};
+ghost use Rattle.std.specs.Prelude.{◌≡◌};
 ghost use Rattle.cq_base.specs.Settings.{IsInRange};
-ghost use Rattle.cq_shared.specs.SharedPasses.{IsPassOf, settings_of};
 
 use crate::ending::both_ended;
 use crate::threads::SETTINGS;
