@@ -2,6 +2,7 @@ use cq_base::{Lang, Memory, Text};
 use cq_projects::Held;
 use cq_scope::{Pattern, choose};
 use std::alloc::Global;
+use std::fmt::Write;
 use std::sync::Arc;
 
 #[derive(Drop)]
@@ -50,15 +51,50 @@ fn chosen(
     }
 }
 
+fn shown(alloc: Global, positions: &[u32]) -> Result<String, Memory> {
+    let mut line = String::new(alloc);
+    for position in positions {
+        write!(line, " {position}")?;
+    }
+    Ok(line)
+}
+
+// A row: a version, a pattern, or a minus for none, and after an arrow the positions.
+fn parts_of(row: &str) -> Option<(u64, &str, &str)> {
+    let (choice, positions) = row.split_once(" ⇒")?;
+    let (since, pattern) = choice.split_once(' ')?;
+    Some((since.parse::<u64>().ok()?, pattern, positions))
+}
+
+fn is_right(alloc: Global, paths: &str, row: &str) -> Result<bool, Memory> {
+    let Some((since, pattern, want)) = parts_of(row) else {
+        return Ok(false);
+    };
+    let pattern = if pattern == "-" { None } else { Some(pattern) };
+    let positions = chosen(alloc, paths, pattern, since)?;
+    Ok(shown(alloc, &positions)?.as_str() == want)
+}
+
 const PATHS: &str = "src/a/x.txt\nsrc/y.txt\ntest/x.txt\n";
 
+// By their paths, by their changes, and by both.
+const CHOSEN: &str = "\
+0 src/**/*.txt ⇒ 0 1
+0 **/x.* ⇒ 0 2
+0 */x.txt ⇒ 2
+0 none/* ⇒
+0 - ⇒ 0 1 2
+1 - ⇒ 1 2
+1 src/** ⇒ 1
+3 ** ⇒
+4 - ⇒
+";
+
 #[test]
-fn files_are_chosen_by_their_paths(rt: HostRuntime) -> Result<(), Memory> {
-    let alloc = rt.alloc();
-    assert!(rt; chosen(alloc, PATHS, Some("src/**/*.txt"), 0)?.as_slice() == [0, 1].as_slice());
-    assert!(rt; chosen(alloc, PATHS, Some("**/x.*"), 0)?.as_slice() == [0, 2].as_slice());
-    assert!(rt; chosen(alloc, PATHS, Some("*/x.txt"), 0)?.as_slice() == [2].as_slice());
-    assert!(rt; chosen(alloc, PATHS, Some("none/*"), 0)?.is_empty());
+fn files_are_chosen_by_their_paths_and_changes(rt: HostRuntime) -> Result<(), Memory> {
+    for row in CHOSEN.lines() {
+        assert_eq!(rt; is_right(rt.alloc(), PATHS, row)?, true, "{row}");
+    }
     Ok(())
 }
 
@@ -66,20 +102,9 @@ fn files_are_chosen_by_their_paths(rt: HostRuntime) -> Result<(), Memory> {
 const BROKEN: &str = "a//b\na/b\n../a\n";
 
 #[test]
-fn paths_alone_fit_patterns(rt: HostRuntime) -> Result<(), Memory> {
-    let alloc = rt.alloc();
-    assert!(rt; chosen(alloc, BROKEN, Some("**"), 0)?.as_slice() == [1].as_slice());
-    assert!(rt; chosen(alloc, BROKEN, None, 0)?.as_slice() == [0, 1, 2].as_slice());
-    Ok(())
-}
-
-#[test]
-fn files_are_chosen_by_their_changes(rt: HostRuntime) -> Result<(), Memory> {
-    let alloc = rt.alloc();
-    assert!(rt; chosen(alloc, PATHS, None, 0)?.as_slice() == [0, 1, 2].as_slice());
-    assert!(rt; chosen(alloc, PATHS, None, 1)?.as_slice() == [1, 2].as_slice());
-    assert!(rt; chosen(alloc, PATHS, Some("src/**"), 1)?.as_slice() == [1].as_slice());
-    assert!(rt; chosen(alloc, PATHS, Some("**"), 3)?.is_empty());
-    assert!(rt; chosen(alloc, PATHS, None, 4)?.is_empty());
+fn only_paths_fit_patterns(rt: HostRuntime) -> Result<(), Memory> {
+    for row in ["0 ** ⇒ 1", "0 - ⇒ 0 1 2"] {
+        assert_eq!(rt; is_right(rt.alloc(), BROKEN, row)?, true, "{row}");
+    }
     Ok(())
 }
