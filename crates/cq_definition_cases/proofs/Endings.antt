@@ -1,9 +1,10 @@
 -- What a status, and the end of serving, may not say of a source, a sink and doors.
-use Rattle.std.specs.Prelude.{◌≡◌, ℕ, ◌+◌, List, true, false, Option, Some}
-use Rattle.std.proofs.Common.{arith, subst, inl, inr}
+use Rattle.std.specs.Prelude.{◌≡◌, ℕ, ◌+◌, List, [], ◌∷◌, length, true, false, Option, Some, Ok, Err}
+use Rattle.std.proofs.Common.{arith, ap, subst, inl, inr}
 use Rattle.cq_base.specs.declared.settings.Settings.{Settings}
 use Rattle.cq_chain.specs.Passes.{BoardPass}
-use Rattle.cq_io.specs.Causes.{Rose}
+use Rattle.cq_io.specs.Causes.{HasCause, Rose}
+use Rattle.cq_io.specs.Sending.{Sends}
 use Rattle.cq_io.specs.declared.sink.Sink as sink
 use Rattle.cq_io.specs.declared.source.Source as source
 use Rattle.cq_listen.specs.Endings.{HasEnded, IsServedWith}
@@ -16,6 +17,14 @@ use Rattle.cq_shared.specs.declared.shared.Shared.{Shared}
 rose : Rose 0 0 → ⊥
 rose (inl more) = omega (arith, more)
 rose (inr last) = omega (arith, last)
+
+-- ---- one call of a source or a sink
+
+pub a_call_that_fails_has_its_cause : HasCause {T = ℕ} {E = ℕ} 0 0 (Err 0) → ⊥
+a_call_that_fails_has_its_cause h = rose h.failed
+
+pub a_piece_is_sent_whole : Sends {E = ℕ} (Some []) (Some (1 ∷ [])) (1 ∷ 2 ∷ []) (Ok tt) → ⊥
+a_piece_is_sent_whole sent = let two = ap (λ (s : List ℕ). length s) sent in omega (arith, two)
 
 -- ---- a command over a source and a sink
 
