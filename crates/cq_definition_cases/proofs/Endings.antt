@@ -24,7 +24,7 @@ pub a_call_that_fails_has_its_cause : HasCause {T = ℕ} {E = ℕ} 0 0 (Err 0) �
 a_call_that_fails_has_its_cause h = rose h.failed
 
 pub a_piece_is_sent_whole : Sends {E = ℕ} (Some []) (Some (1 ∷ [])) (1 ∷ 2 ∷ []) (Ok tt) → ⊥
-a_piece_is_sent_whole sent = let two = ap (λ (s : List ℕ). length s) sent in omega (arith, two)
+a_piece_is_sent_whole sent = let whole : 1 ∷ [] ≡ 1 ∷ 2 ∷ [] = sent in omega (arith, ap (λ (s : List ℕ). length s) whole)
 
 -- ---- a command over a source and a sink
 
