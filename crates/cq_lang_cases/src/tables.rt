@@ -4,6 +4,7 @@ use cq_func::{Function, functions};
 use cq_munch::{Lexed, Lexis, munch};
 use std::alloc::Global;
 use std::fmt::Write;
+use std::str;
 
 /// What is looked for in a text. A fault is found in its place, by its byte.
 #[derive(Clone, Copy)]

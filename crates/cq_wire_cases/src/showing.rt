@@ -2,6 +2,7 @@
 use cq_base::{Change, Compare, Condition, Lang, Memory, Metric, Text};
 use cq_request::{Kind, Query, Refusal};
 use std::fmt::Write;
+use std::str;
 
 /// Writes a number with its name, unless it is the default.
 pub(crate) fn put(out: &mut String, name: &str, number: u64, default: u64) -> Result<(), Memory> {
