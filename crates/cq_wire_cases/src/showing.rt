@@ -1,4 +1,5 @@
-//! What a line is read as, in words: its name, its texts in brackets, each number that is not its default, and each flag that is set.
+//! What a line is read as, in words: its name, its texts in brackets, each number that is not its default, and each flag that
+//! is set.
 use cq_base::{Change, Compare, Condition, Lang, Memory, Metric, Text};
 use cq_request::{Kind, Query, Refusal};
 use std::fmt::Write;

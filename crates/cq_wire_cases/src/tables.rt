@@ -14,7 +14,7 @@ pub(crate) fn is_told<K: Kind>(alloc: Global, line: &[u8], want: &str) -> Result
     let mut out = String::new(alloc);
     let is_read = K::read(alloc, line, &mut out)?;
     Ok(match want.strip_suffix("…") {
-        Some(front) => is_read && out.starts_with(front),
+        Some(front) => is_read && out.as_str().starts_with(front),
         None => out.as_str() == want,
     })
 }
