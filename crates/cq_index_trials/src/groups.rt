@@ -1,7 +1,7 @@
 ghost use Rattle.std.specs.Prelude.{◌≡◌, ◌^◌, ◌<◌, ◌≤◌, length, IfOk};
 ghost use Rattle.cq_groups.specs.Plain.{HasOneKey};
 
-use crate::scans::{parts_of, shown, texts_of, token};
+use crate::scans::{shown, texts_of, token};
 use cq_base::{Group, Keys, Memory, Steps};
 use cq_groups::{Index, PlainBuckets, list_all, spots_in};
 use cq_tokens::{Corpus, FileTokens, PlainFiles, Tokens};
@@ -61,28 +61,23 @@ fn groups_of(alloc: Global, texts: &[&[u8]], min: u32) -> Result<Vec<Group>, Mem
     listed::<Brand>(alloc, texts, min, Blank::new(1))
 }
 
-fn is_right(alloc: Global, row: &str) -> Result<bool, Memory> {
-    let Some((min, texts, want)) = parts_of(row) else {
+fn is_right(alloc: Global, min: u32, row: &str) -> Result<bool, Memory>
+    requires { 2 ≤ min }
+{
+    let Some((texts, want)) = row.split_once(" ⇒") else {
         return Ok(false);
     };
-    if min < 2 {
-        return Ok(false);
-    }
     let texts = texts_of(alloc, texts)?;
     let groups = groups_of(alloc, &texts, min)?;
     Ok(shown(alloc, &groups)?.as_str() == want)
 }
 
 // Two places; and a word that is maximal at some two places.
-const WORKED: &str = "\
-3 abcxabcy ⇒ | 3 0.0 0.4
-2 amnx,amny,bmnx ⇒ | 3 0.0 1.0 | 3 0.1 2.1 | 2 0.1 1.1 2.1
-";
-
 #[test]
 fn groups_are_found_where_all_keys_are_equal(rt: HostRuntime) -> Result<(), Memory> {
-    for row in WORKED.lines() {
-        assert_eq!(&rt; is_right(rt.alloc(), row)?, true, "{row}");
-    }
+    let two_places = "abcxabcy ⇒ | 3 0.0 0.4";
+    assert!(&rt; is_right(rt.alloc(), 3, two_places)?);
+    let maximal = "amnx,amny,bmnx ⇒ | 3 0.0 1.0 | 3 0.1 2.1 | 2 0.1 1.1 2.1";
+    assert!(&rt; is_right(rt.alloc(), 2, maximal)?);
     Ok(())
 }

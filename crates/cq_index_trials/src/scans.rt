@@ -64,13 +64,7 @@ fn groups_of(alloc: Global, texts: &[&[u8]], min: u32) -> Result<Vec<Group>, Mem
     listed::<Brand>(alloc, texts, min, Blank::new(1))
 }
 
-/// A row of a table: the least tokens of a group, the texts of files, with commas between them, and after an arrow their groups.
-pub(crate) fn parts_of(row: &str) -> Option<(u32, &str, &str)> {
-    let (project, groups) = row.split_once(" ⇒")?;
-    let (min, texts) = project.split_once(' ')?;
-    Some((min.parse::<u32>().ok()?, texts, groups))
-}
-
+/// The texts of files, which have commas between them.
 pub(crate) fn texts_of<'a>(alloc: Global, texts: &'a str) -> Result<Vec<&'a [u8]>, Memory> {
     let mut all = Vec::new(alloc);
     for text in texts.split(',') {
@@ -98,44 +92,60 @@ pub(crate) fn shown(alloc: Global, groups: &[Group]) -> Result<String, Memory> {
     Ok(line)
 }
 
-fn is_right(alloc: Global, row: &str) -> Result<bool, Memory> {
-    let Some((min, texts, want)) = parts_of(row) else {
+// A row has the texts of files, and after an arrow their groups of so many tokens or more.
+fn is_right(alloc: Global, min: u32, row: &str) -> Result<bool, Memory>
+    requires { 1 ≤ min }
+{
+    let Some((texts, want)) = row.split_once(" ⇒") else {
         return Ok(false);
     };
     let texts = texts_of(alloc, texts)?;
-    if min < 1 || texts.len() > 100 {
+    if texts.len() > 100 {
         return Ok(false);
     }
     let groups = groups_of(alloc, &texts, min)?;
     Ok(shown(alloc, &groups)?.as_str() == want)
 }
 
-// The worked rows on groups: two places of one word; places of one file don't overlap; one kept place is no group; a word is
-// maximal at some two places; and two equal files.
-const WORKED: &str = "\
-3 abcxabcy ⇒ | 3 0.0 0.4
-2 aaaaaa ⇒ | 3 0.0 0.3 | 2 0.0 0.2 0.4
-4 ababab ⇒
-2 amnx,amny,bmnx ⇒ | 3 0.0 1.0 | 3 0.1 2.1 | 2 0.1 1.1 2.1
-2 pqr,pqr ⇒ | 3 0.0 1.0
+// Equal files, and files without tokens.
+const OF_ONE: &str = "\
+aab,aab,aab ⇒ | 3 0.0 1.0 2.0 | 1 0.0 0.1 1.0 1.1 2.0 2.1
+,ab,,ab, ⇒ | 2 1.0 3.0
 ";
 
-// Words that overlap themselves or each other, and files at the edge: a periodic word; one word inside another; equal files; a
-// run up to the end of a file; and files without tokens.
-const OVERLAPPING: &str = "\
-2 abababab ⇒ | 4 0.0 0.4 | 2 0.0 0.2 0.4 0.6
-2 xabcy,zabcw,qbcr ⇒ | 3 0.1 1.1 | 2 0.2 1.2 2.1
-1 aab,aab,aab ⇒ | 3 0.0 1.0 2.0 | 1 0.0 0.1 1.0 1.1 2.0 2.1
-2 xyab,zab ⇒ | 2 0.2 1.1
-1 ,ab,,ab, ⇒ | 2 1.0 3.0
+// Places of one file don't overlap; a word is maximal at some two places; two equal files; a periodic word; one word inside
+// another; and a run up to the end of a file.
+const OF_TWO: &str = "\
+aaaaaa ⇒ | 3 0.0 0.3 | 2 0.0 0.2 0.4
+amnx,amny,bmnx ⇒ | 3 0.0 1.0 | 3 0.1 2.1 | 2 0.1 1.1 2.1
+pqr,pqr ⇒ | 3 0.0 1.0
+abababab ⇒ | 4 0.0 0.4 | 2 0.0 0.2 0.4 0.6
+xabcy,zabcw,qbcr ⇒ | 3 0.1 1.1 | 2 0.2 1.2 2.1
+xyab,zab ⇒ | 2 0.2 1.1
 ";
+
+// Two places of one word.
+const OF_THREE: &str = "abcxabcy ⇒ | 3 0.0 0.4";
+
+// One kept place is no group.
+const OF_FOUR: &str = "ababab ⇒";
+
+fn first_other(alloc: Global, min: u32, table: &str) -> Result<Option<&str>, Memory>
+    requires { 1 ≤ min }
+{
+    for row in table.lines() {
+        if !is_right(alloc, min, row)? {
+            return Ok(Some(row));
+        }
+    }
+    Ok(None)
+}
 
 #[test]
 fn groups_are_listed(rt: HostRuntime) -> Result<(), Memory> {
-    for table in [WORKED, OVERLAPPING] {
-        for row in table.lines() {
-            assert_eq!(&rt; is_right(rt.alloc(), row)?, true, "{row}");
-        }
-    }
+    assert_eq!(&rt; first_other(rt.alloc(), 1, OF_ONE)?, None);
+    assert_eq!(&rt; first_other(rt.alloc(), 2, OF_TWO)?, None);
+    assert_eq!(&rt; first_other(rt.alloc(), 3, OF_THREE)?, None);
+    assert_eq!(&rt; first_other(rt.alloc(), 4, OF_FOUR)?, None);
     Ok(())
 }

@@ -59,15 +59,9 @@ fn shown(alloc: Global, positions: &[u32]) -> Result<String, Memory> {
     Ok(line)
 }
 
-// A row: a version, a pattern, or a minus for none, and after an arrow the positions.
-fn parts_of(row: &str) -> Option<(u64, &str, &str)> {
-    let (choice, positions) = row.split_once(" ⇒")?;
-    let (since, pattern) = choice.split_once(' ')?;
-    Some((since.parse::<u64>().ok()?, pattern, positions))
-}
-
-fn is_right(alloc: Global, paths: &str, row: &str) -> Result<bool, Memory> {
-    let Some((since, pattern, want)) = parts_of(row) else {
+// A row has a pattern, or a minus for none, and after an arrow the positions that are chosen.
+fn is_right(alloc: Global, paths: &str, since: u64, row: &str) -> Result<bool, Memory> {
+    let Some((pattern, want)) = row.split_once(" ⇒") else {
         return Ok(false);
     };
     let pattern = if pattern == "-" { None } else { Some(pattern) };
@@ -75,25 +69,39 @@ fn is_right(alloc: Global, paths: &str, row: &str) -> Result<bool, Memory> {
     Ok(shown(alloc, &positions)?.as_str() == want)
 }
 
+fn first_other<'a>(
+    alloc: Global,
+    paths: &str,
+    since: u64,
+    table: &'a str,
+) -> Result<Option<&'a str>, Memory> {
+    for row in table.lines() {
+        if !is_right(alloc, paths, since, row)? {
+            return Ok(Some(row));
+        }
+    }
+    Ok(None)
+}
+
 const PATHS: &str = "src/a/x.txt\nsrc/y.txt\ntest/x.txt\n";
 
-// By their paths, by their changes, and by both.
-const CHOSEN: &str = "\
-0 src/**/*.txt ⇒ 0 1
-0 **/x.* ⇒ 0 2
-0 */x.txt ⇒ 2
-0 none/* ⇒
-0 - ⇒ 0 1 2
-1 - ⇒ 1 2
-1 src/** ⇒ 1
-3 ** ⇒
-4 - ⇒
+const OF_ALL: &str = "\
+src/**/*.txt ⇒ 0 1
+**/x.* ⇒ 0 2
+*/x.txt ⇒ 2
+none/* ⇒
+- ⇒ 0 1 2
+";
+
+const SINCE_ONE: &str = "\
+- ⇒ 1 2
+src/** ⇒ 1
 ";
 
 #[test]
 fn files_are_chosen_by_their_paths_and_changes(rt: HostRuntime) -> Result<(), Memory> {
-    for row in CHOSEN.lines() {
-        assert_eq!(rt; is_right(rt.alloc(), PATHS, row)?, true, "{row}");
+    for (since, table) in [(0, OF_ALL), (1, SINCE_ONE), (3, "** ⇒"), (4, "- ⇒")] {
+        assert_eq!(rt; first_other(rt.alloc(), PATHS, since, table)?, None);
     }
     Ok(())
 }
@@ -103,8 +111,7 @@ const BROKEN: &str = "a//b\na/b\n../a\n";
 
 #[test]
 fn only_paths_fit_patterns(rt: HostRuntime) -> Result<(), Memory> {
-    for row in ["0 ** ⇒ 1", "0 - ⇒ 0 1 2"] {
-        assert_eq!(rt; is_right(rt.alloc(), BROKEN, row)?, true, "{row}");
-    }
+    let table = "** ⇒ 1\n- ⇒ 0 1 2\n";
+    assert_eq!(rt; first_other(rt.alloc(), BROKEN, 0, table)?, None);
     Ok(())
 }

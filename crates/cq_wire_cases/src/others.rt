@@ -4,7 +4,6 @@ use crate::writing::is_written;
 use cq_base::{Measures, Memory, Text};
 use cq_measures::{Positions, Verdict};
 use cq_reply::{Reply, Short, fixed};
-use std::alloc::Global;
 
 const MEASURES: Measures = Measures {
     lines: 1,
@@ -17,35 +16,35 @@ const MEASURES: Measures = Measures {
     density: u64::MAX,
 };
 
-// The reply with this code, and for codes that no refusal has, one that is none.
-fn reply_of(code: u64) -> Reply
+// The replies that are written here, one after the other.
+fn reply_of(at: usize) -> Reply
     ensures { IsReplyText result }
 {
-    match code {
-        1 => Reply::Json,
-        2 => Reply::Op,
-        4 => Reply::Lang,
-        5 => Reply::Path,
-        6 => Reply::TooMuchText,
-        7 => Reply::Min,
-        8 => Reply::Future(3),
-        9 => Reply::Absent,
-        10 => Reply::FullChanges,
-        11 => Reply::FullText,
-        12 => Reply::Pending(4),
-        13 => Reply::Long,
-        14 => Reply::Memory,
-        15 => Reply::Scope,
-        16 => Reply::State {
+    match at {
+        0 => Reply::Json,
+        1 => Reply::Op,
+        2 => Reply::Lang,
+        3 => Reply::Path,
+        4 => Reply::TooMuchText,
+        5 => Reply::Min,
+        6 => Reply::Future(3),
+        7 => Reply::Absent,
+        8 => Reply::FullChanges,
+        9 => Reply::FullText,
+        10 => Reply::Pending(4),
+        11 => Reply::Long,
+        12 => Reply::Memory,
+        13 => Reply::Scope,
+        14 => Reply::State {
             accepted: 3,
             done: 2,
             published: 1,
         },
-        17 => Reply::Measures {
+        15 => Reply::Measures {
             measures: MEASURES,
             version: 8,
         },
-        18 => Reply::Change(7),
+        16 => Reply::Change(7),
         _ => Reply::Verdict {
             verdict: Verdict::Ok,
             version: 0,
@@ -53,41 +52,35 @@ fn reply_of(code: u64) -> Reply
     }
 }
 
-// Each row is a code and the reply with this code, without its line feed.
-const REPLIES: &str = r#"1 {"code":1,"error":"json","ok":false}
-2 {"code":2,"error":"op","ok":false}
-4 {"code":4,"error":"lang","ok":false}
-5 {"code":5,"error":"path","ok":false}
-6 {"code":6,"error":"text","ok":false}
-7 {"code":7,"error":"min","ok":false}
-8 {"code":8,"count":3,"error":"future","ok":false}
-9 {"code":9,"error":"absent","ok":false}
-10 {"code":10,"error":"full-changes","ok":false}
-11 {"code":11,"error":"full-text","ok":false}
-12 {"code":12,"error":"pending","number":4,"ok":false}
-13 {"code":13,"error":"long","ok":false}
-14 {"code":14,"error":"memory","ok":false}
-15 {"code":15,"error":"scope","ok":false}
-16 {"accepted":3,"done":2,"ok":true,"published":1}
-17 {"measures":{"complexity":4,"duplicated_blocks":6,"duplicated_files":7,"duplicated_lines":5,"duplicated_lines_density":18446744073709551615,"files":3,"lines":1,"ncloc":2},"ok":true,"version":8}
-18 {"change":7,"ok":true}
-19 {"failed":[],"ok":true,"verdict":"OK","version":0}
+// The lines of these, without their line feeds.
+const REPLIES: &str = r#"{"code":1,"error":"json","ok":false}
+{"code":2,"error":"op","ok":false}
+{"code":4,"error":"lang","ok":false}
+{"code":5,"error":"path","ok":false}
+{"code":6,"error":"text","ok":false}
+{"code":7,"error":"min","ok":false}
+{"code":8,"count":3,"error":"future","ok":false}
+{"code":9,"error":"absent","ok":false}
+{"code":10,"error":"full-changes","ok":false}
+{"code":11,"error":"full-text","ok":false}
+{"code":12,"error":"pending","number":4,"ok":false}
+{"code":13,"error":"long","ok":false}
+{"code":14,"error":"memory","ok":false}
+{"code":15,"error":"scope","ok":false}
+{"accepted":3,"done":2,"ok":true,"published":1}
+{"measures":{"complexity":4,"duplicated_blocks":6,"duplicated_files":7,"duplicated_lines":5,"duplicated_lines_density":18446744073709551615,"files":3,"lines":1,"ncloc":2},"ok":true,"version":8}
+{"change":7,"ok":true}
+{"failed":[],"ok":true,"verdict":"OK","version":0}
 "#;
-
-fn is_right(alloc: Global, row: &str) -> Result<bool, Memory> {
-    let Some((code, want)) = row.split_once(' ') else {
-        return Ok(false);
-    };
-    match code.parse::<u64>() {
-        Ok(code) => is_written(alloc, &reply_of(code), want),
-        Err(_) => Ok(false),
-    }
-}
 
 #[test]
 fn replies_without_lists_are_written(rt: HostRuntime) -> Result<(), Memory> {
-    for row in REPLIES.lines() {
-        assert_eq!(rt; is_right(rt.alloc(), row)?, true, "{row}");
+    for (at, line) in REPLIES.lines().enumerate() {
+        assert_eq!(rt;
+            is_written(rt.alloc(), &reply_of(at), line)?,
+            true,
+            "{line}"
+        );
     }
     Ok(())
 }
