@@ -25,8 +25,11 @@ pub(crate) fn put_flag(out: &mut String, name: &str, is_set: bool) -> Result<(),
 pub(crate) fn put_text(out: &mut String, text: &Text) -> Result<(), Memory> {
     out.push_str(" [")?;
     if let Ok(text) = str::from_utf8(text.as_bytes()) {
-        for c in text.chars() {
-            out.push(if c == '\n' { '␊' } else { c })?;
+        for (i, line) in text.split('\n').enumerate() {
+            if i > 0 {
+                out.push('␊')?;
+            }
+            out.push_str(line)?;
         }
     }
     out.push(']')?;
