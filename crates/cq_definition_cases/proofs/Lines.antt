@@ -20,11 +20,17 @@ pub the_limit_is_not_reached_one_byte_before_it : IsSpent (record { pending = []
 the_limit_is_not_reached_one_byte_before_it spent = let all = spent.taken in omega (arith, all)
 
 -- the line `a` with its line feed, and two bytes of which only one is held then
-pub no_byte_is_lost : (at_end : Type 0) (new : Held) → new.pending ≡ 99 ∷ [] → IsNext at_end (97 ∷ 10 ∷ 98 ∷ 99 ∷ []) (97 ∷ []) new → ⊥
+abbrev line : List ℕ
+line = 97 ∷ []
+
+abbrev bytes : List ℕ
+bytes = 97 ∷ 10 ∷ 98 ∷ 99 ∷ []
+
+pub no_byte_is_lost : (at_end : Type 0) (new : Held) → new.pending ≡ 99 ∷ [] → IsNext at_end bytes line new → ⊥
 no_byte_is_lost at_end new left next = of next.1
   where
     held : length new.pending ≡ 1
     held = ap (λ (s : List ℕ). length s) left
-    of : (((97 ∷ 10 ∷ 98 ∷ 99 ∷ []) ≡ ended (97 ∷ []) ++ new.pending) × (new.over ≡ false)) ⊎ (((97 ∷ 10 ∷ 98 ∷ 99 ∷ []) ≡ 97 ∷ []) × (0 < length (97 ∷ [])) × (new.pending ≡ []) × (new.over ≡ true) × at_end × (new.taken < new.limit)) → ⊥
+    of : ((bytes ≡ ended line ++ new.pending) × (new.over ≡ false)) ⊎ ((bytes ≡ line) × (0 < length line) × (new.pending ≡ []) × (new.over ≡ true) × at_end × (new.taken < new.limit)) → ⊥
     of (inl closed) = let all = ap (λ (s : List ℕ). length s) closed.0 in omega (arith, all, held)
     of (inr last) = let all = ap (λ (s : List ℕ). length s) last.0 in omega (arith, all)
