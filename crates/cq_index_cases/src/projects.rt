@@ -102,19 +102,19 @@ fn drafts_without_edits_are_the_projects(rt: HostRuntime) -> Result<(), Memory> 
     Ok(())
 }
 
-// Where the one file is that is gathered, and its change.
-fn gathered(alloc: Global) -> Result<Option<(u32, u64)>, Memory> {
+// The change of the one file that is gathered, if it is found first.
+fn gathered(alloc: Global) -> Result<Option<u64>, Memory> {
     let mut files = Vec::new(alloc);
     files.push(held(alloc, b'a', 9)?)?;
     let files = ProjectFiles::gathered(alloc, files)?;
-    Ok(match files.position_of_change(9) {
-        Some(at) => Some((at, files.at(at).change)),
-        None => None,
-    })
+    if files.position_of_change(9) == Some(0) {
+        return Ok(Some(files.at(0).change));
+    }
+    Ok(None)
 }
 
 #[test]
 fn files_in_path_order_are_gathered(rt: HostRuntime) -> Result<(), Memory> {
-    assert_eq!(&rt; gathered(rt.alloc())?, Some((0, 9)));
+    assert_eq!(&rt; gathered(rt.alloc())?, Some(9));
     Ok(())
 }
