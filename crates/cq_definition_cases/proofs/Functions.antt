@@ -1,14 +1,20 @@
 -- Functions that are none, and wrong lines and complexities.
 use Rattle.std.specs.Prelude.{◌≡◌, ℕ, List, [], ◌∷◌, map, codes}
-use Rattle.std.proofs.Common.{refl}
+use Rattle.std.proofs.Common.{refl, sym, ap, ◌∙◌, subst}
 use Rattle.cq_definition_cases.proofs.Different.{differ}
 use Rattle.cq_base.specs.declared.lang.Lang.TheVariants as lang
+use Rattle.cq_base.specs.declared.settings.Settings.{Settings}
 use Rattle.cq_base.specs.declared.token.Class.{Class}
 use Rattle.cq_base.specs.declared.token.Class.TheVariants as class
 use Rattle.cq_base.specs.declared.token.Spelled.{Spelled}
 use Rattle.cq_func.specs.Brackets.{partner}
 use Rattle.cq_func.specs.Functions.{functions}
 use Rattle.cq_func.specs.Names.{go_func, go_end, go_open}
+use Rattle.cq_func.specs.declared.function.Function.{Function}
+use Rattle.cq_munch.specs.declared.munching.Lexed.{Lexed}
+use Rattle.cq_work.specs.Lexing.{tokens_in}
+use Rattle.cq_work.specs.Work.{Shows}
+use Rattle.cq_work.specs.declared.work.Work.{Work}
 
 -- a token on a line of its own
 abbrev token : Class → ℕ → List ℕ → Spelled
@@ -63,3 +69,10 @@ pub the_braces_of_a_type_are_no_body :
     map (λ f. f.complexity) (functions lang.Go (word 1 (codes "func") ∷ name 1 (codes "f") ∷ mark 1 (codes "(") ∷ mark 1 (codes ")") ∷ word 1 (codes "struct") ∷ mark 1 (codes "{") ∷ mark 1 (codes "}") ∷ mark 1 (codes ";") ∷ [])) ≡ 1 ∷ [] → ⊥
 unfolding partner go_func go_end go_open
 the_braces_of_a_type_are_no_body e = differ e refl
+
+-- whichever of the tokens are listed
+pub a_work_has_the_functions_of_all_tokens : {L : Type 0} (set : Settings) (text : List ℕ) (answer : Lexed) (w : Work L) → tokens_in answer ≡ with_if → w.functions.items ≡ [] → Shows set lang.C text answer w → ⊥
+unfolding partner
+a_work_has_the_functions_of_all_tokens set text answer w all none shows =
+    let is : functions lang.C with_if ≡ [] = subst (λ (ts : List Spelled). functions lang.C ts ≡ []) all (sym shows.functions_are ∙ none) in
+    differ (ap (λ (fs : List Function). map (λ (f : Function). f.last) fs) is) refl

@@ -1,6 +1,7 @@
--- Wrong answers of a search, of spots, of a shard and of a cutter of lines.
-use Rattle.std.specs.Prelude.{◌≡◌, ℕ, ◌<◌, ◌≤◌, true, [], ◌∷◌, Some}
-use Rattle.std.proofs.Common.{arith}
+-- Wrong answers of a search, of spots, of a shard, of what is kept and of a cutter of lines.
+use Rattle.std.specs.Prelude.{◌≡◌, ℕ, ◌<◌, ◌≤◌, true, List, [], ◌∷◌, length, Some}
+use Rattle.std.proofs.Common.{arith, ap}
+use Rattle.cq_kept.specs.Accepted.{not_over}
 use Rattle.cq_lines.specs.Calls.{fresh_held}
 use Rattle.cq_order.specs.Reach.{CanStandAt}
 use Rattle.cq_order.specs.Spots.{spot_of}
@@ -18,3 +19,7 @@ a_sweep_sets_the_floor e = omega (arith, e)
 
 pub a_fresh_cutter_reads : (fresh_held 9).over ≡ true → ⊥
 a_fresh_cutter_reads e = cc
+
+-- put 1, which change 2 makes over, at the floor 1
+pub what_a_later_change_makes_over_is_kept_below_it : not_over (record { by = 2; number = 1 } ∷ []) 1 (1 ∷ []) ≡ [] → ⊥
+what_a_later_change_makes_over_is_kept_below_it e = omega (arith, ap (λ (s : List ℕ). length s) e)

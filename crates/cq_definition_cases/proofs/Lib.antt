@@ -1,9 +1,11 @@
 mod Different
 mod Elements
+mod Endings
 mod Functions
 mod Groups
 mod Index
 mod Keys
+mod Lines
 mod Listed
 mod Measures
 mod Replies
@@ -12,4 +14,5 @@ mod Scopes
 mod Sessions
 mod Steps
 mod TokenFiles
+mod Turns
 mod Words

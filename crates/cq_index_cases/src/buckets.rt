@@ -5,6 +5,7 @@ ghost use Rattle.cq_projects.specs.Spotted.{numbers_of};
 ghost use Rattle.cq_clones.specs.Windows.{IsBucket};
 ghost use Rattle.cq_hub.specs.Answers.{HasNoView};
 
+use crate::hubs::{Few, few};
 use crate::made::{Apart, Made, SETTINGS, accept, finish, letter};
 use cq_base::{Entry, Memory, Text};
 use cq_board::{Refused, View};
@@ -61,29 +62,35 @@ fn read<W: Made, H: Hub<W>>(
 }
 
 // What the second of two projects with the same file has of a key.
-fn run<W: Made>(alloc: Global, key: u64) -> Result<Vec<Entry>, Refused> {
-    let (hub, mut pass) = Solo::<W>::new(alloc, &SETTINGS)?;
-    let first = accept(alloc, b'p', &hub, &mut pass)?;
-    let work = Arc::new(alloc, W::made())?;
-    finish(&hub, first, work, &mut pass)?;
-    let second = accept(alloc, b'q', &hub, &mut pass)?;
-    let work = Arc::new(alloc, W::made())?;
-    finish(&hub, second, work, &mut pass)?;
+fn second_of_two<W: Made, H: Hub<W>>(
+    alloc: Global,
+    key: u64,
+    hub: &H,
+    pass: &mut H::Pass,
+) -> Result<Few, Refused>
+    requires { HasNoView H.Stands H.settings H.callers hub.now pass.old }
+{
+    let first = accept(alloc, b'p', hub, pass)?;
+    finish(hub, first, Arc::new(alloc, W::made())?, pass)?;
+    let second = accept(alloc, b'q', hub, pass)?;
+    finish(hub, second, Arc::new(alloc, W::made())?, pass)?;
     let project = letter(alloc, b'q')?;
-    Ok(read(alloc, &hub, &project, key, &mut pass)?)
+    let entries = read(alloc, hub, &project, key, pass)?;
+    Ok(few(&entries))
+}
+
+fn run<W: Made>(alloc: Global, key: u64) -> Result<Few, Refused> {
+    let (hub, mut pass) = Solo::<W>::new(alloc, &SETTINGS)?;
+    second_of_two(alloc, key, &hub, &mut pass)
 }
 
 #[test]
 fn other_projects_are_left_out(rt: HostRuntime) -> Result<(), Refused> {
-    let entries = run::<Apart>(rt.alloc(), 4)?;
-    assert_eq!(rt;
-        entries.as_slice(),
-        [Entry {
-            key: 4,
-            change: 2,
-            at: 1
-        }]
-        .as_slice()
-    );
+    let entry = Entry {
+        key: 4,
+        change: 2,
+        at: 1,
+    };
+    assert_eq!(rt; run::<Apart>(rt.alloc(), 4)?, (1, Some(entry), None));
     Ok(())
 }

@@ -62,14 +62,41 @@ pub fn read<W: Made, H: Hub<W>>(
     Ok((version, entries))
 }
 
-// What a put of a new hub comes to.
-fn run<W: Made>(alloc: Global, key: u64) -> Result<(u64, Finished, u64, Vec<Entry>), Refused> {
-    let (hub, mut pass) = Solo::<W>::new(alloc, &SETTINGS)?;
-    let number = accept(alloc, b'p', &hub, &mut pass)?;
+/// How many entries there are, and the first two.
+pub type Few = (usize, Option<Entry>, Option<Entry>);
+
+/// Entries as a value that is copied.
+pub fn few(entries: &[Entry]) -> Few {
+    (
+        entries.len(),
+        entries.first().copied(),
+        entries.get(1).copied(),
+    )
+}
+
+/// A put of a project by a caller that has no view open is accepted, its work is finished and published, and a key is read:
+/// the number of the put, how its work is finished, the version that is read, and its entries of the key.
+pub fn put_and_read<W: Made, H: Hub<W>>(
+    alloc: Global,
+    project: u8,
+    key: u64,
+    hub: &H,
+    pass: &mut H::Pass,
+) -> Result<(u64, Finished, u64, Few), Refused>
+    requires letter { project < 128 }
+    requires closed { HasNoView H.Stands H.settings H.callers hub.now pass.old }
+{
+    let number = accept(alloc, project, hub, pass)?;
     let work = Arc::new(alloc, W::made())?;
-    let finished = finish(&hub, number, work, &mut pass)?;
-    let (version, entries) = read(alloc, &hub, key, &mut pass)?;
-    Ok((number, finished, version, entries))
+    let finished = finish(hub, number, work, pass)?;
+    let (version, entries) = read(alloc, hub, key, pass)?;
+    Ok((number, finished, version, few(&entries)))
+}
+
+// The same over a new hub.
+fn run<W: Made>(alloc: Global, key: u64) -> Result<(u64, Finished, u64, Few), Refused> {
+    let (hub, mut pass) = Solo::<W>::new(alloc, &SETTINGS)?;
+    put_and_read(alloc, b'p', key, &hub, &mut pass)
 }
 
 // Whether a job is there, whether it is that which is taken, and whether it can be given back.
@@ -144,48 +171,30 @@ fn the_keys_of_a_work_are_looked_at_once_for_all_shards(rt: HostRuntime) -> Resu
     Ok(())
 }
 
+// The entry of a window of the first change.
+fn entry(key: u64, at: u32) -> Option<Entry> {
+    Some(Entry { key, change: 1, at })
+}
+
 #[test]
 fn each_shard_answers_for_its_keys(rt: HostRuntime) -> Result<(), Refused> {
-    let (number, finished, version, odd) = run::<Apart>(rt.alloc(), 3)?;
-    assert_eq!(rt; (number, finished, version), (1, Finished::Done, 1));
     assert_eq!(rt;
-        odd.as_slice(),
-        [Entry {
-            key: 3,
-            change: 1,
-            at: 0
-        }]
-        .as_slice()
+        run::<Apart>(rt.alloc(), 3)?,
+        (1, Finished::Done, 1, (1, entry(3, 0), None))
     );
-    let (_, _, _, even) = run::<Apart>(rt.alloc(), 4)?;
     assert_eq!(rt;
-        even.as_slice(),
-        [Entry {
-            key: 4,
-            change: 1,
-            at: 1
-        }]
-        .as_slice()
+        run::<Apart>(rt.alloc(), 4)?,
+        (1, Finished::Done, 1, (1, entry(4, 1), None))
     );
     Ok(())
 }
 
 #[test]
 fn all_windows_may_have_one_key(rt: HostRuntime) -> Result<(), Refused> {
-    let (_, _, _, entries) = run::<Alike>(rt.alloc(), 0)?;
-    let both = [
-        Entry {
-            key: 0,
-            change: 1,
-            at: 0,
-        },
-        Entry {
-            key: 0,
-            change: 1,
-            at: 1,
-        },
-    ];
-    assert_eq!(rt; entries.as_slice(), both.as_slice());
+    assert_eq!(rt;
+        run::<Alike>(rt.alloc(), 0)?,
+        (1, Finished::Done, 1, (2, entry(0, 0), entry(0, 1)))
+    );
     Ok(())
 }
 

@@ -56,18 +56,15 @@ fn put_and_applied<L: Ledger>(
     Ok(())
 }
 
-// The changes of the entries that the caller's view has of a key of the second shard.
-fn changes_read(alloc: Global, core: &Core<Apart>) -> Result<Vec<u64>, Memory>
+// How many entries the caller's view has of a key of the second shard, and the change of the first.
+fn changes_read(alloc: Global, core: &Core<Apart>) -> Result<(usize, Option<u64>), Memory>
     requires caller { 0 < length core.now.board.state.views }
     requires shards { core.now.board.settings.shards ≡ 2 }
 {
-    let mut changes = Vec::new(alloc);
-    if let Some(entries) = core.read(alloc, 0, 1, 3)? {
-        for entry in &entries {
-            changes.push(entry.change)?;
-        }
-    }
-    Ok(changes)
+    Ok(match core.read(alloc, 0, 1, 3)? {
+        Some(entries) => (entries.len(), entries.first().map(|entry| entry.change)),
+        None => (0, None),
+    })
 }
 
 // The first version is published, and viewed.
@@ -93,7 +90,7 @@ fn while_lagging<L: Ledger>(
     alloc: Global,
     core: &mut Core<Apart>,
     steps: &mut Steps<L>,
-) -> Result<(Outcome, Vec<u64>), Memory>
+) -> Result<(Outcome, (usize, Option<u64>)), Memory>
     requires caller { 0 < length core.old.board.state.views }
     requires shards { core.old.board.settings.shards ≡ 2 }
     ensures callers { OnOk result (KeepsCallers core.old core.new) }
@@ -110,7 +107,7 @@ fn once_caught_up<L: Ledger>(
     alloc: Global,
     core: &mut Core<Apart>,
     steps: &mut Steps<L>,
-) -> Result<(Outcome, Vec<u64>), Memory>
+) -> Result<(Outcome, (usize, Option<u64>)), Memory>
     requires caller { 0 < length core.old.board.state.views }
     requires shards { core.old.board.settings.shards ≡ 2 }
     ensures callers { OnOk result (KeepsCallers core.old core.new) }
@@ -122,12 +119,12 @@ fn once_caught_up<L: Ledger>(
     Ok((outcome, changes))
 }
 
-// What a view reads that is opened anew.
-fn opened_anew<L: Ledger>(
+// What a view reads that is opened again.
+fn opened_again<L: Ledger>(
     alloc: Global,
     core: &mut Core<Apart>,
     steps: &mut Steps<L>,
-) -> Result<Vec<u64>, Memory>
+) -> Result<(usize, Option<u64>), Memory>
     requires caller { 0 < length core.old.board.state.views }
     requires shards { core.old.board.settings.shards ≡ 2 }
 {
@@ -137,11 +134,11 @@ fn opened_anew<L: Ledger>(
 }
 
 // What publishing comes to while the second shard lags and after, and what a view reads before that, behind it, and once
-// it was opened anew.
+// it was opened again.
 fn published<L: Ledger>(
     alloc: Global,
     blank: Blank,
-) -> Result<(Outcome, Outcome, [Vec<u64>; 3]), Memory>
+) -> Result<(Outcome, Outcome, [(usize, Option<u64>); 3]), Memory>
     requires name { blank.name ≡ L.name }
     requires parts { blank.parts ≡ L.parts }
 {
@@ -150,8 +147,8 @@ fn published<L: Ledger>(
     first_published(alloc, &mut core, &mut steps)?;
     let (lagging, before) = while_lagging(alloc, &mut core, &mut steps)?;
     let (done, behind) = once_caught_up(alloc, &mut core, &mut steps)?;
-    let anew = opened_anew(alloc, &mut core, &mut steps)?;
-    Ok((lagging, done, [before, behind, anew]))
+    let again = opened_again(alloc, &mut core, &mut steps)?;
+    Ok((lagging, done, [before, behind, again]))
 }
 
 // What taking a put comes to, and whether its job and a view are there.
@@ -168,7 +165,7 @@ fn taken<L: Ledger>(alloc: Global, blank: Blank) -> Result<(Outcome, bool, bool)
     Ok((outcome, job.is_some(), core.view(0).is_some()))
 }
 
-fn publishing(alloc: Global) -> Result<(Outcome, Outcome, [Vec<u64>; 3]), Memory> {
+fn publishing(alloc: Global) -> Result<(Outcome, Outcome, [(usize, Option<u64>); 3]), Memory> {
     published::<Brand>(alloc, Blank::new(1))
 }
 
@@ -178,11 +175,11 @@ fn taking(alloc: Global) -> Result<(Outcome, bool, bool), Memory> {
 
 #[test]
 fn a_version_waits_for_the_last_shard(rt: HostRuntime) -> Result<(), Memory> {
-    let (lagging, done, [before, behind, anew]) = publishing(rt.alloc())?;
-    assert_eq!(rt; (lagging, done), (Outcome::No, Outcome::Ok));
-    assert_eq!(rt; before.as_slice(), [1].as_slice());
-    assert_eq!(rt; behind.as_slice(), [1].as_slice());
-    assert_eq!(rt; anew.as_slice(), [2].as_slice());
+    let (first, second) = ((1, Some(1)), (1, Some(2)));
+    assert_eq!(rt;
+        publishing(rt.alloc())?,
+        (Outcome::No, Outcome::Ok, [first, first, second])
+    );
     Ok(())
 }
 

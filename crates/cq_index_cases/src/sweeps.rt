@@ -3,7 +3,7 @@ ghost use Rattle.cq_hub.specs.Answers.{HasNoView};
 ghost use Rattle.cq_hub.specs.Hubs.{IsPassOf};
 ghost use Rattle.cq_shared.specs.SharedPasses as shared;
 
-use crate::hubs::read;
+use crate::hubs::{Few, few, read};
 use crate::made::{Apart, Made, SETTINGS, accept, finish};
 use cq_base::{Entry, Memory};
 use cq_board::Refused;
@@ -58,12 +58,12 @@ fn sweep_viewed<W: Indexed, H: Hub<W>>(
 
 // What comes of two versions of one file, the first of which is viewed: the floor then and what the view has of a key, the
 // floor behind it, and what a later view has.
-#[derive(Drop)]
+#[derive(Clone, Copy, Debug, PartialEq, Eq)]
 struct Swept {
     kept: u64,
-    viewed: Vec<Entry>,
+    viewed: Few,
     floor: u64,
-    later: Vec<Entry>,
+    later: Few,
 }
 
 fn sweep_both<H: Hub<Apart>>(alloc: Global, hub: &H, pass: &mut H::Pass) -> Result<Swept, Refused>
@@ -77,9 +77,9 @@ fn sweep_both<H: Hub<Apart>>(alloc: Global, hub: &H, pass: &mut H::Pass) -> Resu
     let (_, later) = read(alloc, hub, 3, pass)?;
     Ok(Swept {
         kept,
-        viewed,
+        viewed: few(&viewed),
         floor,
-        later,
+        later: few(&later),
     })
 }
 
@@ -119,32 +119,49 @@ fn look<W: Indexed, R: Wait>(
     Ok((floor, entries?.len()))
 }
 
-// The entry with the key 3 of a change.
-fn entry(change: u64) -> Entry {
-    Entry {
+// The same over a new hub, and how each of its two shards looks then.
+fn swept_and_seen<Q: Wait>(
+    rt: &Q,
+    alloc: Global,
+) -> Result<(Swept, (u64, usize), (u64, usize)), Refused> {
+    let (hub, mut pass) = Shared::<Apart, _>::new(rt, alloc, &SETTINGS, 1)?;
+    let swept = sweep_shared(alloc, &hub, &mut pass)?;
+    let first = look(alloc, &hub, 0, &mut pass)?;
+    let second = look(alloc, &hub, 1, &mut pass)?;
+    Ok((swept, first, second))
+}
+
+// The one entry with the key 3 of a change.
+fn only(change: u64) -> Few {
+    let entry = Entry {
         key: 3,
         change,
         at: 0,
+    };
+    (1, Some(entry), None)
+}
+
+// The view keeps the first version, and a later one has the second.
+fn wanted() -> Swept {
+    Swept {
+        kept: 1,
+        viewed: only(1),
+        floor: 2,
+        later: only(2),
     }
 }
 
 #[test]
 fn what_is_viewed_stays_alone(rt: HostRuntime) -> Result<(), Refused> {
-    let swept = sweep_alone(rt.alloc())?;
-    assert_eq!(rt; (swept.kept, swept.floor), (1, 2));
-    assert_eq!(rt; swept.viewed.as_slice(), [entry(1)].as_slice());
-    assert_eq!(rt; swept.later.as_slice(), [entry(2)].as_slice());
+    assert_eq!(rt; sweep_alone(rt.alloc())?, wanted());
     Ok(())
 }
 
 #[test]
 fn each_shared_shard_is_swept(rt: HostRuntime) -> Result<(), Refused> {
-    let (hub, mut pass) = Shared::<Apart, _>::new(&rt, rt.alloc(), &SETTINGS, 1)?;
-    let swept = sweep_shared(rt.alloc(), &hub, &mut pass)?;
-    assert_eq!(rt; (swept.kept, swept.floor), (1, 2));
-    assert_eq!(rt; swept.viewed.as_slice(), [entry(1)].as_slice());
-    assert_eq!(rt; swept.later.as_slice(), [entry(2)].as_slice());
-    assert_eq!(rt; look(rt.alloc(), &hub, 0, &mut pass)?, (2, 0));
-    assert_eq!(rt; look(rt.alloc(), &hub, 1, &mut pass)?, (2, 1));
+    assert_eq!(rt;
+        swept_and_seen(&rt, rt.alloc())?,
+        (wanted(), (2, 0), (2, 1))
+    );
     Ok(())
 }

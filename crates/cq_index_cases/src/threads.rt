@@ -1,14 +1,14 @@
 ghost use Rattle.std.specs.Prelude.{◌≡◌, ◌<◌, ◌≤◌, []};
 ghost use Rattle.cq_shared.specs.SharedPasses.{IsPassOf};
 
-use crate::hubs::{Counted, looks, read};
-use crate::made::{Apart, Made, SETTINGS, accept, finish};
-use cq_base::{Memory, Settings};
+use crate::hubs::{Counted, looks, put_and_read};
+use crate::made::{Apart, SETTINGS};
+use cq_base::Settings;
 use cq_board::{Asked, Refused};
 use cq_chain::Pass;
 use cq_shared::Shared;
 use std::alloc::Global;
-use std::sync::{Arc, Wait};
+use std::sync::Wait;
 use std::thread::{Threads, join};
 
 // What one caller does who has seen nothing: a put of a project is accepted, its work is finished and published, and a key
@@ -23,11 +23,8 @@ fn serve<R: Wait>(
     requires of { IsPassOf hub.now pass }
     requires fresh { pass.seen ≡ [] }
 {
-    let number = accept(alloc, project, hub, &mut pass)?;
-    let work = Arc::new(alloc, Apart::made())?;
-    finish(hub, number, work, &mut pass)?;
-    let (version, entries) = read(alloc, hub, 3, &mut pass)?;
-    Ok((version, entries.len()))
+    let (_, _, version, (entries, _, _)) = put_and_read(alloc, project, 3, hub, &mut pass)?;
+    Ok((version, entries))
 }
 
 // Two threads do so at the same time, each for a project of its own; and what the first caller then sees.
@@ -80,15 +77,22 @@ fn looks_over<R: Wait + Drop>(rt: R, alloc: Global, shards: u32) -> Result<(u64,
     looks_at_first(alloc, &hub, pass)
 }
 
-// Whether each has as many entries as its version has files, and what is seen at last.
+// What two threads of a new hub come to, and what is seen at last.
+fn both<Q: Threads + Wait + Sync>(
+    rt: &Q,
+    alloc: Global,
+) -> Result<((u64, usize), (u64, usize), Asked), Refused> {
+    let (hub, pass) = Shared::<Apart, _>::new(rt, alloc, &SETTINGS, 3)?;
+    let (one, two, asked) = serve_both(rt, alloc, &hub, pass);
+    Ok((one?, two?, asked))
+}
+
+// Each has as many entries as its version has files.
 #[test]
 fn two_threads_serve(rt: HostRuntime) -> Result<(), Refused> {
-    let (hub, pass) = Shared::<Apart, _>::new(&rt, rt.alloc(), &SETTINGS, 3)?;
-    let (one, two, asked) = serve_both(&rt, rt.alloc(), &hub, pass);
-    let (version, entries) = one?;
+    let ((version, entries), (version_two, entries_two), asked) = both(&rt, rt.alloc())?;
     assert_eq!(rt; entries as u64, version);
-    let (version, entries) = two?;
-    assert_eq!(rt; entries as u64, version);
+    assert_eq!(rt; entries_two as u64, version_two);
     assert_eq!(rt;
         asked,
         Asked {

@@ -1,7 +1,7 @@
 ghost use Rattle.std.specs.Prelude.{◌≡◌, ◌^◌, ◌<◌, ◌≤◌, length, IfOk};
 ghost use Rattle.cq_groups.specs.Plain.{HasOneKey};
 
-use crate::scans::{is_listed, token};
+use crate::scans::{shown, texts_of, token};
 use cq_base::{Group, Keys, Memory, Steps};
 use cq_groups::{Index, PlainBuckets, list_all, spots_in};
 use cq_tokens::{Corpus, FileTokens, PlainFiles, Tokens};
@@ -61,38 +61,23 @@ fn groups_of(alloc: Global, texts: &[&[u8]], min: u32) -> Result<Vec<Group>, Mem
     listed::<Brand>(alloc, texts, min, Blank::new(1))
 }
 
-// Whether the listing by index of files with these tokens has these groups.
-fn lists(
-    alloc: Global,
-    texts: &[&[u8]],
-    min: u32,
-    want: &[(u32, &[(u32, u32)])],
-) -> Result<bool, Memory>
+fn is_right(alloc: Global, min: u32, row: &str) -> Result<bool, Memory>
     requires { 2 ≤ min }
 {
-    let groups = groups_of(alloc, texts, min)?;
-    Ok(is_listed(&groups, want))
+    let Some((texts, want)) = row.split_once(" ⇒") else {
+        return Ok(false);
+    };
+    let texts = texts_of(alloc, texts)?;
+    let groups = groups_of(alloc, &texts, min)?;
+    Ok(shown(alloc, &groups)?.as_str() == want)
 }
 
+// Two places; and a word that is maximal at some two places.
 #[test]
 fn groups_are_found_where_all_keys_are_equal(rt: HostRuntime) -> Result<(), Memory> {
-    let alloc = rt.alloc();
-    assert!(&rt;
-        lists(alloc, &[b"abcxabcy"], 3, &[(3, &[(0, 0), (0, 4)])])?,
-        "two places"
-    );
-    assert!(&rt;
-        lists(
-            alloc,
-            &[b"amnx", b"amny", b"bmnx"],
-            2,
-            &[
-                (3, &[(0, 0), (1, 0)]),
-                (3, &[(0, 1), (2, 1)]),
-                (2, &[(0, 1), (1, 1), (2, 1)]),
-            ]
-        )?,
-        "a word is maximal at some two places"
-    );
+    let two_places = "abcxabcy ⇒ | 3 0.0 0.4";
+    assert!(&rt; is_right(rt.alloc(), 3, two_places)?);
+    let maximal = "amnx,amny,bmnx ⇒ | 3 0.0 1.0 | 3 0.1 2.1 | 2 0.1 1.1 2.1";
+    assert!(&rt; is_right(rt.alloc(), 2, maximal)?);
     Ok(())
 }

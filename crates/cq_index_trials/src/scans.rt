@@ -1,9 +1,10 @@
 ghost use Rattle.std.specs.Prelude.{◌≡◌, ◌^◌, ◌<◌, ◌≤◌, length, IfOk, vec_len};
 
-use cq_base::{Class, Group, Keys, Lang, Memory, Norm, Place, Steps, Text};
+use cq_base::{Class, Group, Keys, Lang, Memory, Norm, Steps, Text};
 use cq_scan::scan;
 use cq_tokens::{FileTokens, PlainFiles, Tokens};
 use std::alloc::Global;
+use std::fmt::Write;
 use std::marker::Brand;
 use std::sync::Arc;
 use std::sync::ledger::{Blank, Ledger};
@@ -63,126 +64,88 @@ fn groups_of(alloc: Global, texts: &[&[u8]], min: u32) -> Result<Vec<Group>, Mem
     listed::<Brand>(alloc, texts, min, Blank::new(1))
 }
 
-/// Whether these are the groups, each by its tokens and its places.
-pub(crate) fn is_listed(groups: &[Group], want: &[(u32, &[(u32, u32)])]) -> bool {
-    groups.len() == want.len()
-        && groups.iter().zip(want.iter()).all(|(group, (tokens, places))| {
-            let here = group.places.as_slice();
-            group.tokens == *tokens
-                && here.len() == places.len()
-                && here.iter().zip(places.iter()).all(|(p, (file, at))| {
-                    *p == Place {
-                        file: *file,
-                        at: *at,
-                    }
-                })
-        })
+/// The texts of files, which have commas between them.
+pub(crate) fn texts_of<'a>(alloc: Global, texts: &'a str) -> Result<Vec<&'a [u8]>, Memory> {
+    let mut all = Vec::new(alloc);
+    for text in texts.split(',') {
+        all.push(text.as_bytes())?;
+    }
+    Ok(all)
 }
 
-// Whether the listing of files with these tokens has these groups.
-fn lists(
-    alloc: Global,
-    texts: &[&[u8]],
-    min: u32,
-    want: &[(u32, &[(u32, u32)])],
-) -> Result<bool, Memory>
-    requires few { length texts.now < 2 ^ 32 }
-    requires some { 1 ≤ min }
-{
-    let groups = groups_of(alloc, texts, min)?;
-    Ok(is_listed(&groups, want))
-}
-
-// The worked rows on groups.
-#[test]
-fn lists_the_worked_rows(rt: HostRuntime) -> Result<(), Memory> {
-    let alloc = rt.alloc();
-    assert!(&rt;
-        lists(alloc, &[b"abcxabcy"], 3, &[(3, &[(0, 0), (0, 4)])])?,
-        "two places of one word"
-    );
-    assert!(&rt;
-        lists(
-            alloc,
-            &[b"aaaaaa"],
-            2,
-            &[(3, &[(0, 0), (0, 3)]), (2, &[(0, 0), (0, 2), (0, 4)])]
-        )?,
-        "places of one file don't overlap"
-    );
-    assert!(&rt;
-        lists(alloc, &[b"ababab"], 4, &[])?,
-        "one kept place is no group"
-    );
-    assert!(&rt;
-        lists(
-            alloc,
-            &[b"amnx", b"amny", b"bmnx"],
-            2,
-            &[
-                (3, &[(0, 0), (1, 0)]),
-                (3, &[(0, 1), (2, 1)]),
-                (2, &[(0, 1), (1, 1), (2, 1)]),
-            ]
-        )?,
-        "a word is maximal at some two places"
-    );
-    assert!(&rt;
-        lists(alloc, &[b"pqr", b"pqr"], 2, &[(3, &[(0, 0), (1, 0)])])?,
-        "two equal files"
-    );
+fn put_group(line: &mut String, group: &Group) -> Result<(), Memory> {
+    let tokens = group.tokens;
+    write!(line, " | {tokens}")?;
+    for place in group.places.as_slice() {
+        let (file, at) = (place.file, place.at);
+        write!(line, " {file}.{at}")?;
+    }
     Ok(())
 }
 
-// Words that overlap themselves or each other, and files at the edge.
+/// Groups as a row has them: each by its tokens, and its places by their files and their first tokens.
+pub(crate) fn shown(alloc: Global, groups: &[Group]) -> Result<String, Memory> {
+    let mut line = String::new(alloc);
+    for group in groups {
+        put_group(&mut line, group)?;
+    }
+    Ok(line)
+}
+
+// A row has the texts of files, and after an arrow their groups of so many tokens or more.
+fn is_right(alloc: Global, min: u32, row: &str) -> Result<bool, Memory>
+    requires { 1 ≤ min }
+{
+    let Some((texts, want)) = row.split_once(" ⇒") else {
+        return Ok(false);
+    };
+    let texts = texts_of(alloc, texts)?;
+    if texts.len() > 100 {
+        return Ok(false);
+    }
+    let groups = groups_of(alloc, &texts, min)?;
+    Ok(shown(alloc, &groups)?.as_str() == want)
+}
+
+// Equal files, and files without tokens.
+const OF_ONE: &str = "\
+aab,aab,aab ⇒ | 3 0.0 1.0 2.0 | 1 0.0 0.1 1.0 1.1 2.0 2.1
+,ab,,ab, ⇒ | 2 1.0 3.0
+";
+
+// Places of one file don't overlap; a word is maximal at some two places; two equal files; a periodic word; one word inside
+// another; and a run up to the end of a file.
+const OF_TWO: &str = "\
+aaaaaa ⇒ | 3 0.0 0.3 | 2 0.0 0.2 0.4
+amnx,amny,bmnx ⇒ | 3 0.0 1.0 | 3 0.1 2.1 | 2 0.1 1.1 2.1
+pqr,pqr ⇒ | 3 0.0 1.0
+abababab ⇒ | 4 0.0 0.4 | 2 0.0 0.2 0.4 0.6
+xabcy,zabcw,qbcr ⇒ | 3 0.1 1.1 | 2 0.2 1.2 2.1
+xyab,zab ⇒ | 2 0.2 1.1
+";
+
+// Two places of one word.
+const OF_THREE: &str = "abcxabcy ⇒ | 3 0.0 0.4";
+
+// One kept place is no group.
+const OF_FOUR: &str = "ababab ⇒";
+
+fn first_other(alloc: Global, min: u32, table: &str) -> Result<Option<&str>, Memory>
+    requires { 1 ≤ min }
+{
+    for row in table.lines() {
+        if !is_right(alloc, min, row)? {
+            return Ok(Some(row));
+        }
+    }
+    Ok(None)
+}
+
 #[test]
-fn lists_words_that_overlap(rt: HostRuntime) -> Result<(), Memory> {
-    let alloc = rt.alloc();
-    assert!(&rt;
-        lists(
-            alloc,
-            &[b"abababab"],
-            2,
-            &[
-                (4, &[(0, 0), (0, 4)]),
-                (2, &[(0, 0), (0, 2), (0, 4), (0, 6)]),
-            ]
-        )?,
-        "a periodic word"
-    );
-    assert!(&rt;
-        lists(
-            alloc,
-            &[b"xabcy", b"zabcw", b"qbcr"],
-            2,
-            &[(3, &[(0, 1), (1, 1)]), (2, &[(0, 2), (1, 2), (2, 1)])]
-        )?,
-        "one word inside another"
-    );
-    assert!(&rt;
-        lists(
-            alloc,
-            &[b"aab", b"aab", b"aab"],
-            1,
-            &[
-                (3, &[(0, 0), (1, 0), (2, 0)]),
-                (1, &[(0, 0), (0, 1), (1, 0), (1, 1), (2, 0), (2, 1)]),
-            ]
-        )?,
-        "equal files"
-    );
-    assert!(&rt;
-        lists(alloc, &[b"xyab", b"zab"], 2, &[(2, &[(0, 2), (1, 1)])])?,
-        "a run up to the end of a file"
-    );
-    assert!(&rt;
-        lists(
-            alloc,
-            &[b"", b"ab", b"", b"ab", b""],
-            1,
-            &[(2, &[(1, 0), (3, 0)])]
-        )?,
-        "files without tokens"
-    );
+fn groups_are_listed(rt: HostRuntime) -> Result<(), Memory> {
+    assert_eq!(&rt; first_other(rt.alloc(), 1, OF_ONE)?, None);
+    assert_eq!(&rt; first_other(rt.alloc(), 2, OF_TWO)?, None);
+    assert_eq!(&rt; first_other(rt.alloc(), 3, OF_THREE)?, None);
+    assert_eq!(&rt; first_other(rt.alloc(), 4, OF_FOUR)?, None);
     Ok(())
 }

@@ -1,4 +1,4 @@
-use crate::function_tables::first_other;
+use crate::tables::{Found, first_other};
 use cq_base::{Lang, Memory};
 use cq_lex_c::C;
 
@@ -12,12 +12,6 @@ int f(void) { for (;;) { switch (x) { case 1: case 2: default: } } } ⇒ f 1 1 4
 void f(int a<:2:>) <% if (a<:0:>) <% %> %> ⇒ f 1 1 2
 int record(void) { } int func(void) { } int new(int x) { } ⇒ record 1 1 1 · func 1 1 1 · new 1 1 1
 "#;
-
-#[test]
-fn definitions(rt: HostRuntime) -> Result<(), Memory> {
-    assert_eq!(rt; first_other::<C>(rt.alloc(), Lang::C, DEFINITIONS)?, None);
-    Ok(())
-}
 
 // Declarations, calls, initialisers, parameters in the old style, and what macros make of a text that is not expanded.
 const OTHERS: &str = r#"int f(void); int x = f(1); int (*g)(void) = f; ⇒
@@ -34,12 +28,6 @@ if (x) { } while (y) { } ⇒
 enum e { A, B } f(void) { return A; } ⇒ f 1 1 1
 "#;
 
-#[test]
-fn no_definitions(rt: HostRuntime) -> Result<(), Memory> {
-    assert_eq!(rt; first_other::<C>(rt.alloc(), Lang::C, OTHERS)?, None);
-    Ok(())
-}
-
 const UNBALANCED: &str = r#"int f(void) { ⇒
 int f(void { } ⇒
 } int f(void) { } ⇒
@@ -49,8 +37,13 @@ int f(int [) { ] ( } int g(void) { } ⇒ f 1 1 1 · g 1 1 1
 int f(void) { ( } ) { } ⇒ f 1 1 1
 "#;
 
+const TEXTS: [&str; 3] = [DEFINITIONS, OTHERS, UNBALANCED];
+
 #[test]
-fn brackets_without_partners(rt: HostRuntime) -> Result<(), Memory> {
-    assert_eq!(rt; first_other::<C>(rt.alloc(), Lang::C, UNBALANCED)?, None);
+fn functions_of_c(rt: HostRuntime) -> Result<(), Memory> {
+    let found = Found::Functions(Lang::C);
+    for table in TEXTS {
+        assert_eq!(rt; first_other::<C>(rt.alloc(), found, table)?, None);
+    }
     Ok(())
 }

@@ -1,4 +1,4 @@
-use crate::tables::{first_elsewhere, first_other};
+use crate::tables::{Found, first_other};
 use cq_base::Memory;
 use cq_lex_c::C;
 
@@ -16,12 +16,6 @@ a/**/b // x ⇒ ia · ib
 /* * / **/ //␍x␊y ⇒ iy
 "#;
 
-#[test]
-fn names_comments_and_others(rt: HostRuntime) -> Result<(), Memory> {
-    assert_eq!(rt; first_other::<C>(rt.alloc(), NAMES)?, None);
-    Ok(())
-}
-
 const NUMBERS: &str = r#".5 ⇒ l.5
 1..e+x ⇒ l1..e+x
 0x1p+3f ⇒ l0x1p+3f
@@ -31,12 +25,6 @@ const NUMBERS: &str = r#".5 ⇒ l.5
 1\u12 ⇒ l1 · p\ · iu12
 ... .. . .x ⇒ p... · p. · p. · p. · p. · ix
 "#;
-
-#[test]
-fn preprocessing_numbers(rt: HostRuntime) -> Result<(), Memory> {
-    assert_eq!(rt; first_other::<C>(rt.alloc(), NUMBERS)?, None);
-    Ok(())
-}
 
 const STRINGS: &str = r#"u8"a" u8'a' L'a' U"b" ⇒ lu8"a" · iu8 · l'a' · lL'a' · lU"b"
 u"" u'x' L"\"" ⇒ lu"" · lu'x' · lL"\""
@@ -49,12 +37,6 @@ u u8 L ⇒ iu · iu8 · iL
 "a\"b'c␊"d" 'e\' ⇒ p" · ia · p\ · p" · ib · p' · ic · l"d" · p' · ie · p\ · p'
 L"\"x ⇒ iL · p" · p\ · p" · ix
 "#;
-
-#[test]
-fn strings_and_characters(rt: HostRuntime) -> Result<(), Memory> {
-    assert_eq!(rt; first_other::<C>(rt.alloc(), STRINGS)?, None);
-    Ok(())
-}
 
 const HEADERS: &str = r#"#include <a b.h> ⇒ p# · iinclude · w<a b.h>
 # /* c */ include "x y.h" z ⇒ p# · iinclude · w"x y.h" · iz
@@ -71,12 +53,6 @@ x #include <a> ⇒ ix · p# · iinclude · p< · ia · p>
 ##include <a> ⇒ p## · iinclude · p< · ia · p>
 "#;
 
-#[test]
-fn header_names_by_mode(rt: HostRuntime) -> Result<(), Memory> {
-    assert_eq!(rt; first_other::<C>(rt.alloc(), HEADERS)?, None);
-    Ok(())
-}
-
 const SPLICES: &str = r#"in\␊t ⇒ wint
 /\␊/ x ⇒
 /\␊* x */ ⇒
@@ -91,12 +67,6 @@ a\␊ ⇒ ia
 \\␊ ⇒ p\
 "#;
 
-#[test]
-fn splices_anywhere(rt: HostRuntime) -> Result<(), Memory> {
-    assert_eq!(rt; first_other::<C>(rt.alloc(), SPLICES)?, None);
-    Ok(())
-}
-
 const LONGEST: &str = r#"<:: ⇒ p<: · p:
 %:%: ⇒ p%:%:
 %:% ⇒ p%: · p%
@@ -104,12 +74,6 @@ const LONGEST: &str = r#"<:: ⇒ p<: · p:
 ->* ⇒ p-> · p*
 a<<=b>>=c<%d%> ⇒ ia · p<<= · ib · p>>= · ic · p<% · id · p%>
 "#;
-
-#[test]
-fn the_longest_punctuator(rt: HostRuntime) -> Result<(), Memory> {
-    assert_eq!(rt; first_other::<C>(rt.alloc(), LONGEST)?, None);
-    Ok(())
-}
 
 const KEYWORDS: &str =
     r#"auto break case char const continue ⇒ wauto · wbreak · wcase · wchar · wconst · wcontinue
@@ -122,12 +86,6 @@ _Atomic _Bool _Complex _Generic _Imaginary _Noreturn ⇒ w_Atomic · w_Bool · w
 _Static_assert _Thread_local ⇒ w_Static_assert · w_Thread_local
 "#;
 
-#[test]
-fn every_keyword(rt: HostRuntime) -> Result<(), Memory> {
-    assert_eq!(rt; first_other::<C>(rt.alloc(), KEYWORDS)?, None);
-    Ok(())
-}
-
 const PUNCTUATORS: &str = r#"[ ] ( ) { } ⇒ p[ · p] · p( · p) · p{ · p}
 . -> ++ -- & * ⇒ p. · p-> · p++ · p-- · p& · p*
 + - ~ ! / % ⇒ p+ · p- · p~ · p! · p/ · p%
@@ -139,23 +97,11 @@ const PUNCTUATORS: &str = r#"[ ] ( ) { } ⇒ p[ · p] · p( · p) · p{ · p}
 <: :> <% %> %: %:%: ⇒ p<: · p:> · p<% · p%> · p%: · p%:%:
 "#;
 
-#[test]
-fn every_punctuator(rt: HostRuntime) -> Result<(), Memory> {
-    assert_eq!(rt; first_other::<C>(rt.alloc(), PUNCTUATORS)?, None);
-    Ok(())
-}
-
 const FAULTS: &str = r#"/*/ ⇒ fault 0
 a /* * / ⇒ fault 2
 /\␊* ⇒ fault 0
 é /* ⇒ fault 3
 "#;
-
-#[test]
-fn faults(rt: HostRuntime) -> Result<(), Memory> {
-    assert_eq!(rt; first_other::<C>(rt.alloc(), FAULTS)?, None);
-    Ok(())
-}
 
 // Characters that are not seen, or not as one.
 const UNSEEN: &str = "\
@@ -163,20 +109,33 @@ const UNSEEN: &str = "\
 \u{FEFF}#include <a//b> ⇒ p# · iinclude · w<a//b>
 ";
 
-#[test]
-fn a_mark_stands_at_the_front(rt: HostRuntime) -> Result<(), Memory> {
-    assert_eq!(rt; first_other::<C>(rt.alloc(), UNSEEN)?, None);
-    Ok(())
-}
-
 const SPLICED_PLACES: &str = r#"in\␊t x ⇒ 0 5 1 2 · 6 1 2 2
 a\␊ b ⇒ 0 1 1 1 · 4 1 2 2
 \␊a b ⇒ 2 1 2 2 · 4 1 2 2
 ␊ "a\␍␊b" ⇒ 2 7 2 3
 "#;
 
+const TEXTS: [&str; 10] = [
+    NAMES,
+    NUMBERS,
+    STRINGS,
+    HEADERS,
+    SPLICES,
+    LONGEST,
+    KEYWORDS,
+    PUNCTUATORS,
+    FAULTS,
+    UNSEEN,
+];
+
 #[test]
-fn a_splice_counts_within_a_token(rt: HostRuntime) -> Result<(), Memory> {
-    assert_eq!(rt; first_elsewhere::<C>(rt.alloc(), SPLICED_PLACES)?, None);
+fn texts_of_c(rt: HostRuntime) -> Result<(), Memory> {
+    for table in TEXTS {
+        assert_eq!(rt; first_other::<C>(rt.alloc(), Found::Tokens, table)?, None);
+    }
+    assert_eq!(rt;
+        first_other::<C>(rt.alloc(), Found::Places, SPLICED_PLACES)?,
+        None
+    );
     Ok(())
 }

@@ -1,4 +1,4 @@
-use crate::function_tables::first_other;
+use crate::tables::{Found, first_other};
 use cq_base::{Lang, Memory};
 use cq_lex_any::Any;
 use cq_lex_go::Go;
@@ -15,15 +15,6 @@ func f() (a, b interface{ m() }) { if a == nil { } } ⇒ f 1 1 2
 func f(␊a int,␊) {␊switch a {␊case 1:␊case 2:␊}␊} ⇒ f 1 8 3
 "#;
 
-#[test]
-fn declarations(rt: HostRuntime) -> Result<(), Memory> {
-    assert_eq!(rt;
-        first_other::<Go>(rt.alloc(), Lang::Go, DECLARATIONS)?,
-        None
-    );
-    Ok(())
-}
-
 // A declaration without a body, whatever type it ends with; literals and types of functions.
 const OTHERS: &str = r#"func f() int␊func g() { } ⇒ g 2 2 1
 func f() interface{ m() }␊func g() struct{ x int }␊func h() *struct{} ⇒
@@ -36,12 +27,6 @@ func f { } ⇒
 x := 1; func f() { } ⇒ f 1 1 1
 if x { func f() { } } ⇒
 "#;
-
-#[test]
-fn no_declarations(rt: HostRuntime) -> Result<(), Memory> {
-    assert_eq!(rt; first_other::<Go>(rt.alloc(), Lang::Go, OTHERS)?, None);
-    Ok(())
-}
 
 // Brackets without a partner, those of two kinds that cross, and names in another order than their declarations.
 const UNBALANCED: &str = r#"func f() { ⇒
@@ -59,17 +44,24 @@ func f([) { } ⇒ f 1 1 1
 func f([) ]; func g([) { if x { } } ⇒ f 1 1 2 · g 1 1 2
 "#;
 
+const PLAIN: &str = r#"func f() { if x } ⇒
+void f() { } ⇒
+"#;
+
+const TEXTS: [&str; 3] = [DECLARATIONS, OTHERS, UNBALANCED];
+
 #[test]
-fn brackets_without_partners(rt: HostRuntime) -> Result<(), Memory> {
-    assert_eq!(rt; first_other::<Go>(rt.alloc(), Lang::Go, UNBALANCED)?, None);
+fn functions_of_go(rt: HostRuntime) -> Result<(), Memory> {
+    let found = Found::Functions(Lang::Go);
+    for table in TEXTS {
+        assert_eq!(rt; first_other::<Go>(rt.alloc(), found, table)?, None);
+    }
     Ok(())
 }
 
 #[test]
-fn plain_text_has_none(rt: HostRuntime) -> Result<(), Memory> {
-    assert_eq!(rt;
-        first_other::<Any>(rt.alloc(), Lang::Any, "func f() { if x } ⇒\nvoid f() { } ⇒")?,
-        None
-    );
+fn plain_text_has_no_functions(rt: HostRuntime) -> Result<(), Memory> {
+    let found = Found::Functions(Lang::Any);
+    assert_eq!(rt; first_other::<Any>(rt.alloc(), found, PLAIN)?, None);
     Ok(())
 }

@@ -1,4 +1,4 @@
-use crate::tables::{first_elsewhere, first_other};
+use crate::tables::{Found, first_other};
 use cq_base::Memory;
 use cq_lex_go::Go;
 
@@ -19,12 +19,6 @@ range return select struct switch type ⇒ wrange · wreturn · wselect · wstru
 var ⇒ wvar
 "#;
 
-#[test]
-fn names_words_and_operators(rt: HostRuntime) -> Result<(), Memory> {
-    assert_eq!(rt; first_other::<Go>(rt.alloc(), NAMES)?, None);
-    Ok(())
-}
-
 const OPERATORS: &str = r#"+ & += &= && == ⇒ p+ · p& · p+= · p&= · p&& · p==
 != ( ) - | -= ⇒ p!= · p( · p) · p- · p| · p-=
 |= || < <= [ ] * ⇒ p|= · p|| · p< · p<= · p[ · p] · p*
@@ -34,12 +28,6 @@ const OPERATORS: &str = r#"+ & += &= && == ⇒ p+ · p& · p+= · p&= · p&& · 
 >> %= >>= -- ! ... ⇒ p>> · p%= · p>>= · p-- · p! · p...
 . : &^ &^= ~ ⇒ p. · p: · p&^ · p&^= · p~
 "#;
-
-#[test]
-fn every_operator(rt: HostRuntime) -> Result<(), Memory> {
-    assert_eq!(rt; first_other::<Go>(rt.alloc(), OPERATORS)?, None);
-    Ok(())
-}
 
 const LITERALS: &str = r#"0 42 1_000 ⇒ l0 · l42 · l1_000 · p;
 0b101 0B_1 0o17 0_1 0_7 017 0xBad_Face ⇒ l0b101 · l0B_1 · l0o17 · l0_1 · l0_7 · l017 · l0xBad_Face · p;
@@ -61,12 +49,6 @@ const LITERALS: &str = r#"0 42 1_000 ⇒ l0 · l42 · l1_000 · p;
 3i.5i ⇒ l3i · l.5i · p;
 "#;
 
-#[test]
-fn literals(rt: HostRuntime) -> Result<(), Memory> {
-    assert_eq!(rt; first_other::<Go>(rt.alloc(), LITERALS)?, None);
-    Ok(())
-}
-
 const SEMICOLONS: &str = r#"return /* a␊ */ x ⇒ wreturn · p; · ix · p;
 return // a␊x ⇒ wreturn · p; · ix · p;
 return␊x␊ ⇒ wreturn · p; · ix · p;
@@ -81,12 +63,6 @@ x;␊ ⇒ ix · p;
 "a"␊'b'␊`c␊`␊ ⇒ l"a" · p; · l'b' · p; · l`c␊` · p;
 "#;
 
-#[test]
-fn semicolons(rt: HostRuntime) -> Result<(), Memory> {
-    assert_eq!(rt; first_other::<Go>(rt.alloc(), SEMICOLONS)?, None);
-    Ok(())
-}
-
 const FAULTS: &str = r#"x "a ⇒ fault 2
 x "a␊b" ⇒ fault 2
 '' ⇒ fault 0
@@ -98,12 +74,6 @@ a\b ⇒ fault 1
 a ? b ⇒ fault 2
 "#;
 
-#[test]
-fn faults(rt: HostRuntime) -> Result<(), Memory> {
-    assert_eq!(rt; first_other::<Go>(rt.alloc(), FAULTS)?, None);
-    Ok(())
-}
-
 // Characters that are not seen, or not as one.
 const UNSEEN: &str = "\
 \u{FEFF}x ⇒ ix · p;
@@ -111,17 +81,16 @@ const UNSEEN: &str = "\
 a\u{FEFF}b ⇒ fault 1
 ";
 
-#[test]
-fn marks_and_letters_beyond_ascii(rt: HostRuntime) -> Result<(), Memory> {
-    assert_eq!(rt; first_other::<Go>(rt.alloc(), UNSEEN)?, None);
-    Ok(())
-}
-
 const PLACES: &str = r#"ab `␊`␊ ⇒ 0 2 1 1 · 3 3 1 2 · 6 0 2 2
 "#;
 
+const TEXTS: [&str; 6] = [NAMES, OPERATORS, LITERALS, SEMICOLONS, FAULTS, UNSEEN];
+
 #[test]
-fn a_semicolon_has_no_bytes(rt: HostRuntime) -> Result<(), Memory> {
-    assert_eq!(rt; first_elsewhere::<Go>(rt.alloc(), PLACES)?, None);
+fn texts_of_go(rt: HostRuntime) -> Result<(), Memory> {
+    for table in TEXTS {
+        assert_eq!(rt; first_other::<Go>(rt.alloc(), Found::Tokens, table)?, None);
+    }
+    assert_eq!(rt; first_other::<Go>(rt.alloc(), Found::Places, PLACES)?, None);
     Ok(())
 }

@@ -1,4 +1,4 @@
-use crate::function_tables::first_other;
+use crate::tables::{Found, first_other};
 use cq_base::{Lang, Memory};
 use cq_lex_java::Java;
 
@@ -14,12 +14,6 @@ void throwing() throws A, @B C { } ⇒ throwing 1 1 1
 interface I { default void f() { } void g(); int h() default 1; } ⇒ f 1 1 1
 "#;
 
-#[test]
-fn methods(rt: HostRuntime) -> Result<(), Memory> {
-    assert_eq!(rt; first_other::<Java>(rt.alloc(), Lang::Java, METHODS)?, None);
-    Ok(())
-}
-
 // The decisions of a function inside another are the inner one's, and those behind it are the outer one's again.
 const INSIDE: &str =
     r#"void f() { if (a) { } new X() { void g() { if (b || c) { } } }; while (d) { } } ⇒ f 1 1 3 · g 1 1 3
@@ -27,12 +21,6 @@ void f() { class L { int g() { return h(() -> 1); } void k() { } } if (x) { } } 
 int f() {␊return new A() {␊int g() {␊return new B() {␊int h() { return a ? 1 : 2; }␊}.h() + (b ? 1 : 2);␊}␊}.g() + (c ? 1 : 2);␊} ⇒ f 1 9 2 · g 3 7 2 · h 5 5 2
 void f(A a) { run(x -> { if (x) { } }); } ⇒ f 1 1 3
 "#;
-
-#[test]
-fn functions_inside(rt: HostRuntime) -> Result<(), Memory> {
-    assert_eq!(rt; first_other::<Java>(rt.alloc(), Lang::Java, INSIDE)?, None);
-    Ok(())
-}
 
 // Bodies of classes, statements, and constants of an enum with a body.
 const OTHERS: &str =
@@ -46,12 +34,6 @@ void f() throws { } void g() throws A; { } void h() throws A(1) { } ⇒ A 1 1 1
 a.b() { } ⇒
 "#;
 
-#[test]
-fn no_methods(rt: HostRuntime) -> Result<(), Memory> {
-    assert_eq!(rt; first_other::<Java>(rt.alloc(), Lang::Java, OTHERS)?, None);
-    Ok(())
-}
-
 const UNBALANCED: &str = r#"void f() { ⇒
 void f( { } ⇒
 } void f() { } ⇒ f 1 1 1
@@ -61,11 +43,13 @@ void f() { ( void g() { if (x) { } } ⇒ g 1 1 2
 void f([) { ] } ⇒ f 1 1 1
 "#;
 
+const TEXTS: [&str; 4] = [METHODS, INSIDE, OTHERS, UNBALANCED];
+
 #[test]
-fn brackets_without_partners(rt: HostRuntime) -> Result<(), Memory> {
-    assert_eq!(rt;
-        first_other::<Java>(rt.alloc(), Lang::Java, UNBALANCED)?,
-        None
-    );
+fn functions_of_java(rt: HostRuntime) -> Result<(), Memory> {
+    let found = Found::Functions(Lang::Java);
+    for table in TEXTS {
+        assert_eq!(rt; first_other::<Java>(rt.alloc(), found, table)?, None);
+    }
     Ok(())
 }

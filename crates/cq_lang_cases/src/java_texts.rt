@@ -1,4 +1,4 @@
-use crate::tables::{first_elsewhere, first_other};
+use crate::tables::{Found, first_other};
 use cq_base::Memory;
 use cq_lex_java::Java;
 
@@ -15,12 +15,6 @@ a␚ ⇒ ia
 ␚ ⇒
 "#;
 
-#[test]
-fn names_operators_and_comments(rt: HostRuntime) -> Result<(), Memory> {
-    assert_eq!(rt; first_other::<Java>(rt.alloc(), NAMES)?, None);
-    Ok(())
-}
-
 const NUMBERS: &str = r#"0 00 0_7 07L 1__0L 10 ⇒ l0 · l00 · l0_7 · l07L · l1__0L · l10
 09 09.5 089 ⇒ l0 · l9 · l09.5 · l0 · l89
 0x1.8p1 0x.8p-1f 0xFFL 0x1p3 0xF.P0 ⇒ l0x1.8p1 · l0x.8p-1f · l0xFFL · l0x1p3 · l0xF.P0
@@ -31,24 +25,12 @@ const NUMBERS: &str = r#"0 00 0_7 07L 1__0L 10 ⇒ l0 · l00 · l0_7 · l07L · 
 1..2 1l.x ⇒ l1. · l.2 · l1l · p. · ix
 "#;
 
-#[test]
-fn numbers(rt: HostRuntime) -> Result<(), Memory> {
-    assert_eq!(rt; first_other::<Java>(rt.alloc(), NUMBERS)?, None);
-    Ok(())
-}
-
 const STRINGS: &str = r#"'\'' 'ab' "\"" "" ⇒ l'\'' · l'ab' · l"\"" · l""
 """␊ a \""" b """ ⇒ l"""␊ a \""" b """
 """ ␉␌␍␊"""x ⇒ l""" ␉␌␍␊""" · ix
 """␊""\"""" ⇒ l"""␊""\""""
 """x" ⇒ l"" · l"x"
 "#;
-
-#[test]
-fn characters_strings_and_text_blocks(rt: HostRuntime) -> Result<(), Memory> {
-    assert_eq!(rt; first_other::<Java>(rt.alloc(), STRINGS)?, None);
-    Ok(())
-}
 
 const ESCAPES: &str = r#"\u0041\uuuu0042 ⇒ iAB
 \u0022\u0022 ⇒ l""
@@ -66,12 +48,6 @@ x = "\u0022; ⇒ ix · p= · l"" · p;
 "\\\u0041" ⇒ l"\\A"
 "#;
 
-#[test]
-fn unicode_escapes(rt: HostRuntime) -> Result<(), Memory> {
-    assert_eq!(rt; first_other::<Java>(rt.alloc(), ESCAPES)?, None);
-    Ok(())
-}
-
 const WORDS: &str =
     r#"abstract assert boolean break byte case ⇒ wabstract · wassert · wboolean · wbreak · wbyte · wcase
 catch char class const continue default ⇒ wcatch · wchar · wclass · wconst · wcontinue · wdefault
@@ -84,12 +60,6 @@ this throw throws transient try void ⇒ wthis · wthrow · wthrows · wtransien
 volatile while _ true false null ⇒ wvolatile · wwhile · w_ · wtrue · wfalse · wnull
 "#;
 
-#[test]
-fn every_keyword_and_literal_word(rt: HostRuntime) -> Result<(), Memory> {
-    assert_eq!(rt; first_other::<Java>(rt.alloc(), WORDS)?, None);
-    Ok(())
-}
-
 const OPERATORS: &str = r#"( ) { } [ ] ⇒ p( · p) · p{ · p} · p[ · p]
 ; , . ... @ :: ⇒ p; · p, · p. · p... · p@ · p::
 = > < ! ~ ? ⇒ p= · p> · p< · p! · p~ · p?
@@ -99,12 +69,6 @@ const OPERATORS: &str = r#"( ) { } [ ] ⇒ p( · p) · p{ · p} · p[ · p]
 << += -= *= /= &= ⇒ p<< · p+= · p-= · p*= · p/= · p&=
 |= ^= %= <<= >>= >>>= ⇒ p|= · p^= · p%= · p<<= · p>>= · p>>>=
 "#;
-
-#[test]
-fn every_separator_and_operator(rt: HostRuntime) -> Result<(), Memory> {
-    assert_eq!(rt; first_other::<Java>(rt.alloc(), OPERATORS)?, None);
-    Ok(())
-}
 
 const FAULTS: &str = r#"'' ⇒ fault 0
 'a ⇒ fault 0
@@ -126,22 +90,10 @@ a␚  ⇒ fault 1
 "\\\u" ⇒ fault 3
 "#;
 
-#[test]
-fn faults(rt: HostRuntime) -> Result<(), Memory> {
-    assert_eq!(rt; first_other::<Java>(rt.alloc(), FAULTS)?, None);
-    Ok(())
-}
-
 // Characters that are not seen, or not as one.
 const UNSEEN: &str = "\
 \u{FEFF}x ⇒ ix
 ";
-
-#[test]
-fn a_mark_stands_at_the_front(rt: HostRuntime) -> Result<(), Memory> {
-    assert_eq!(rt; first_other::<Java>(rt.alloc(), UNSEEN)?, None);
-    Ok(())
-}
 
 const ESCAPED_PLACES: &str = r#"a\u0062c d ⇒ 0 8 1 1 · 9 1 1 1
  \uuu0041 ⇒ 1 8 1 1
@@ -149,8 +101,21 @@ const ESCAPED_PLACES: &str = r#"a\u0062c d ⇒ 0 8 1 1 · 9 1 1 1
 """␊␊""" x ⇒ 0 8 1 3 · 9 1 3 3
 "#;
 
+const TEXTS: [&str; 8] = [
+    NAMES, NUMBERS, STRINGS, ESCAPES, WORDS, OPERATORS, FAULTS, UNSEEN,
+];
+
 #[test]
-fn an_escape_counts_with_all_its_bytes(rt: HostRuntime) -> Result<(), Memory> {
-    assert_eq!(rt; first_elsewhere::<Java>(rt.alloc(), ESCAPED_PLACES)?, None);
+fn texts_of_java(rt: HostRuntime) -> Result<(), Memory> {
+    for table in TEXTS {
+        assert_eq!(rt;
+            first_other::<Java>(rt.alloc(), Found::Tokens, table)?,
+            None
+        );
+    }
+    assert_eq!(rt;
+        first_other::<Java>(rt.alloc(), Found::Places, ESCAPED_PLACES)?,
+        None
+    );
     Ok(())
 }

@@ -13,8 +13,6 @@ mod deep_functions;
 #[cfg(test)]
 mod ends;
 #[cfg(test)]
-mod function_tables;
-#[cfg(test)]
 mod go_functions;
 #[cfg(test)]
 mod go_texts;

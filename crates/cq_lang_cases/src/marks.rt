@@ -1,4 +1,4 @@
-use crate::tables::first_marked;
+use crate::tables::{Found, first_other};
 use cq_base::Memory;
 use cq_lex_any::Any;
 use cq_lex_c::C;
@@ -34,12 +34,6 @@ CPD-OFF; CPD-ON ⇒
 ä/*€ CPD-OFF*/ ⇒ off 2
 "#;
 
-#[test]
-fn marks_of_c(rt: HostRuntime) -> Result<(), Memory> {
-    assert_eq!(rt; first_marked::<C>(rt.alloc(), OF_C)?, None);
-    Ok(())
-}
-
 // A carriage return ends no comment of Go, and no splice is taken out.
 const OF_GO: &str = r#"//CPD-OFF ⇒ off 0
 x/*CPD-OFF*/␊y␊ ⇒ off 1
@@ -50,12 +44,6 @@ CPD-OFF ⇒
 //CPD-\␊OFF ⇒
 é//CPD-ON ⇒ on 2
 "#;
-
-#[test]
-fn marks_of_go(rt: HostRuntime) -> Result<(), Memory> {
-    assert_eq!(rt; first_marked::<Go>(rt.alloc(), OF_GO)?, None);
-    Ok(())
-}
 
 // Unicode escapes in what opens, closes and ends a comment, and in the word.
 const OF_JAVA: &str = r#"//CPD-OFF ⇒ off 0
@@ -71,17 +59,19 @@ x //a \u000a//CPD-OFF ⇒ off 12
 /*CPD-OFF CPD-ON CPD-OF*/ ⇒ on 0
 "#;
 
-#[test]
-fn marks_of_java(rt: HostRuntime) -> Result<(), Memory> {
-    assert_eq!(rt; first_marked::<Java>(rt.alloc(), OF_JAVA)?, None);
-    Ok(())
-}
+// A plain text has no comments.
+const OF_ANY: &str = r#"//CPD-OFF ⇒
+/*CPD-ON*/ ⇒
+"#;
 
 #[test]
-fn a_plain_text_has_no_marks(rt: HostRuntime) -> Result<(), Memory> {
+fn marks_in_comments(rt: HostRuntime) -> Result<(), Memory> {
+    assert_eq!(rt; first_other::<C>(rt.alloc(), Found::Marks, OF_C)?, None);
+    assert_eq!(rt; first_other::<Go>(rt.alloc(), Found::Marks, OF_GO)?, None);
     assert_eq!(rt;
-        first_marked::<Any>(rt.alloc(), "//CPD-OFF ⇒\n/*CPD-ON*/ ⇒\n")?,
+        first_other::<Java>(rt.alloc(), Found::Marks, OF_JAVA)?,
         None
     );
+    assert_eq!(rt; first_other::<Any>(rt.alloc(), Found::Marks, OF_ANY)?, None);
     Ok(())
 }

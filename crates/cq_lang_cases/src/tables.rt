@@ -1,8 +1,23 @@
-//! A table has a text a line, and behind an arrow what it is lexed to. A control character stands there as its picture.
-use cq_base::{Class, Mark, Memory, Spelled, Text};
+//! A table has a text a line, and after an arrow what is found in it. A control character stands there as its picture.
+use cq_base::{Class, Lang, Mark, Memory, Spelled, Text};
+use cq_func::{Function, functions};
 use cq_munch::{Lexed, Lexis, munch};
 use std::alloc::Global;
 use std::fmt::Write;
+use std::str;
+
+/// What is looked for in a text. A fault is found in its place, by its byte.
+#[derive(Clone, Copy)]
+pub(crate) enum Found {
+    /// Its tokens, each as the letter of its class and its spelling.
+    Tokens,
+    /// Where its tokens are, each by its first byte, its length, its first line and its last line.
+    Places,
+    /// Its marks, each as `on` or `off`, and its byte.
+    Marks,
+    /// Its functions in a language, each by its name, the line of that, its last line and its complexity.
+    Functions(Lang),
+}
 
 // What a character of a table stands for.
 fn meant(c: char) -> char {
@@ -25,6 +40,98 @@ fn without_pictures(alloc: Global, line: &str) -> Result<String, Memory> {
     Ok(text)
 }
 
+// A class as one letter.
+fn letter_of(class: Class) -> char {
+    match class {
+        Class::Ident => 'i',
+        Class::Word => 'w',
+        Class::Literal => 'l',
+        Class::Punct => 'p',
+    }
+}
+
+// What is before an element of a line: a blank, and a dot unless it is the first.
+fn gap(i: usize) -> &'static str {
+    if i == 0 { " " } else { " · " }
+}
+
+fn put_text(line: &mut String, text: &Text) -> Result<(), Memory> {
+    if let Ok(text) = str::from_utf8(text.as_bytes()) {
+        line.push_str(text)?;
+    }
+    Ok(())
+}
+
+fn put_tokens(line: &mut String, tokens: &[Spelled]) -> Result<(), Memory> {
+    for (i, found) in tokens.iter().enumerate() {
+        line.push_str(gap(i))?;
+        line.push(letter_of(found.token.class))?;
+        put_text(line, &found.text)?;
+    }
+    Ok(())
+}
+
+fn put_places(line: &mut String, tokens: &[Spelled]) -> Result<(), Memory> {
+    for (i, found) in tokens.iter().enumerate() {
+        let of = &found.token;
+        let (start, len, first, last) = (of.start, of.len, of.first_line, of.last_line);
+        line.push_str(gap(i))?;
+        write!(line, "{start} {len} {first} {last}")?;
+    }
+    Ok(())
+}
+
+fn put_marks(line: &mut String, marks: &[Mark]) -> Result<(), Memory> {
+    for (i, mark) in marks.iter().enumerate() {
+        line.push_str(gap(i))?;
+        line.push_str(if mark.on { "on " } else { "off " })?;
+        let at = mark.at;
+        write!(line, "{at}")?;
+    }
+    Ok(())
+}
+
+fn put_functions(line: &mut String, functions: &[Function]) -> Result<(), Memory> {
+    for (i, function) in functions.iter().enumerate() {
+        let (first, last, complexity) = (function.first, function.last, function.complexity);
+        line.push_str(gap(i))?;
+        put_text(line, &function.name)?;
+        write!(line, " {first} {last} {complexity}")?;
+    }
+    Ok(())
+}
+
+fn put_found(
+    alloc: Global,
+    line: &mut String,
+    found: Found,
+    tokens: &[Spelled],
+    marks: &[Mark],
+) -> Result<(), Memory> {
+    match found {
+        Found::Tokens => put_tokens(line, tokens),
+        Found::Places => put_places(line, tokens),
+        Found::Marks => put_marks(line, marks),
+        Found::Functions(lang) => {
+            if tokens.len() > 1_000 {
+                return Err(Memory);
+            }
+            put_functions(line, &functions(alloc, lang, tokens)?)
+        }
+    }
+}
+
+// What a line has after its arrow if its text is lexed so.
+fn shown(alloc: Global, found: Found, answer: &Lexed) -> Result<String, Memory> {
+    let mut line = String::new(alloc);
+    match answer {
+        Lexed::Tokens(tokens, marks) => put_found(alloc, &mut line, found, tokens, marks)?,
+        Lexed::Fault(at) => write!(line, " fault {at}")?,
+        Lexed::Large => line.push_str(" large")?,
+    }
+    Ok(line)
+}
+
 fn lexed<X: Lexis>(alloc: Global, source: &str) -> Result<Lexed, Memory> {
     let text = Text::from_bytes(alloc, source.as_bytes())?;
     if source.len() > 1_000 {
@@ -33,135 +140,26 @@ fn lexed<X: Lexis>(alloc: Global, source: &str) -> Result<Lexed, Memory> {
     munch::<X>(alloc, &text)
 }
 
-// A class as one letter.
-fn letter_of(class: Class) -> u8 {
-    match class {
-        Class::Ident => b'i',
-        Class::Word => b'w',
-        Class::Literal => b'l',
-        Class::Punct => b'p',
-    }
-}
-
-// What stands before a token in a line: a blank, and a dot unless it is the first.
-fn gap(i: usize) -> &'static str {
-    if i == 0 { " " } else { " · " }
-}
-
-// Each token as the letter of its class and its spelling.
-fn spelled(alloc: Global, tokens: &[Spelled]) -> Result<Vec<u8>, Memory> {
-    let mut line = Vec::new(alloc);
-    for (i, found) in tokens.iter().enumerate() {
-        line.extend_from_slice(gap(i).as_bytes())?;
-        line.push(letter_of(found.token.class))?;
-        line.extend_from_slice(found.text.as_bytes())?;
-    }
-    Ok(line)
-}
-
-// Each token as its first byte, its length, its first line and its last line.
-fn placed(alloc: Global, tokens: &[Spelled]) -> Result<String, Memory> {
-    let mut line = String::new(alloc);
-    for (i, found) in tokens.iter().enumerate() {
-        let of = &found.token;
-        let (start, len, first, last) = (of.start, of.len, of.first_line, of.last_line);
-        line.push_str(gap(i))?;
-        write!(line, "{start} {len} {first} {last}")?;
-    }
-    Ok(line)
-}
-
-// Each mark as on or off, and its byte.
-fn marked(alloc: Global, marks: &[Mark]) -> Result<String, Memory> {
-    let mut line = String::new(alloc);
-    for (i, mark) in marks.iter().enumerate() {
-        line.push_str(gap(i))?;
-        line.push_str(if mark.on { "on " } else { "off " })?;
-        let at = mark.at;
-        write!(line, "{at}")?;
-    }
-    Ok(line)
-}
-
-fn are_spelled(alloc: Global, tokens: &[Spelled], want: &str) -> Result<bool, Memory> {
-    Ok(spelled(alloc, tokens)?.as_slice() == want.as_bytes())
-}
-
-// A fault at this byte is what is wanted.
-fn is_fault(at: u32, want: &str) -> bool {
-    match want.strip_prefix(" fault ") {
-        Some(number) => number.parse::<u32>().ok() == Some(at),
-        None => false,
-    }
-}
-
-// A line is right about its text.
-fn is_lexed<X: Lexis>(alloc: Global, line: &str) -> Result<bool, Memory> {
-    match line.split_once(" ⇒") {
-        Some((source, want)) => match lexed::<X>(alloc, source)? {
-            Lexed::Tokens(tokens, _) => are_spelled(alloc, &tokens, want),
-            Lexed::Fault(at) => Ok(is_fault(at, want)),
-            Lexed::Large => Ok(false),
-        },
-        None => Ok(false),
-    }
-}
-
-// A line is right about where the tokens of its text stand.
-fn is_placed<X: Lexis>(alloc: Global, line: &str) -> Result<bool, Memory> {
-    match line.split_once(" ⇒") {
-        Some((source, want)) => match lexed::<X>(alloc, source)? {
-            Lexed::Tokens(tokens, _) => Ok(placed(alloc, &tokens)?.as_str() == want),
-            _ => Ok(false),
-        },
-        None => Ok(false),
-    }
-}
-
-// A line is right about the marks of its text.
-fn is_marked<X: Lexis>(alloc: Global, line: &str) -> Result<bool, Memory> {
-    match line.split_once(" ⇒") {
-        Some((source, want)) => match lexed::<X>(alloc, source)? {
-            Lexed::Tokens(_, marks) => Ok(marked(alloc, &marks)?.as_str() == want),
-            _ => Ok(false),
-        },
-        None => Ok(false),
-    }
-}
-
-/// The first line of a table, from 1, whose text is not lexed to what it says: to these tokens, each written as the letter
-/// of its class and its spelling, or to a first fault at this byte.
-pub(crate) fn first_other<X: Lexis>(alloc: Global, table: &str) -> Result<Option<u64>, Memory> {
-    let mut number = 0u64;
-    for line in table.lines() {
-        number = number.saturating_add(1);
-        if !is_lexed::<X>(alloc, &without_pictures(alloc, line)?)? {
-            return Ok(Some(number));
+fn is_right<X: Lexis>(alloc: Global, found: Found, line: &str) -> Result<bool, Memory> {
+    let line = without_pictures(alloc, line)?;
+    match line.as_str().split_once(" ⇒") {
+        Some((source, want)) => {
+            let answer = lexed::<X>(alloc, source)?;
+            Ok(shown(alloc, found, &answer)?.as_str() == want)
         }
+        None => Ok(false),
     }
-    Ok(None)
 }
 
-/// The first line, from 1, whose text has tokens elsewhere: each is written as its first byte, its length, its first line and
-/// its last one.
-pub(crate) fn first_elsewhere<X: Lexis>(alloc: Global, table: &str) -> Result<Option<u64>, Memory> {
-    let mut number = 0u64;
+/// The first line of a table in whose text something else is found than it says.
+pub(crate) fn first_other<X: Lexis>(
+    alloc: Global,
+    found: Found,
+    table: &str,
+) -> Result<Option<&str>, Memory> {
     for line in table.lines() {
-        number = number.saturating_add(1);
-        if !is_placed::<X>(alloc, &without_pictures(alloc, line)?)? {
-            return Ok(Some(number));
-        }
-    }
-    Ok(None)
-}
-
-/// The first line, from 1, whose text has other marks: each is written as `on` or `off`, and its byte.
-pub(crate) fn first_marked<X: Lexis>(alloc: Global, table: &str) -> Result<Option<u64>, Memory> {
-    let mut number = 0u64;
-    for line in table.lines() {
-        number = number.saturating_add(1);
-        if !is_marked::<X>(alloc, &without_pictures(alloc, line)?)? {
-            return Ok(Some(number));
+        if !is_right::<X>(alloc, found, line)? {
+            return Ok(Some(line));
         }
     }
     Ok(None)

@@ -2,6 +2,7 @@ use cq_base::{Lang, Memory, Text};
 use cq_projects::Held;
 use cq_scope::{Pattern, choose};
 use std::alloc::Global;
+use std::fmt::Write;
 use std::sync::Arc;
 
 #[derive(Drop)]
@@ -50,15 +51,58 @@ fn chosen(
     }
 }
 
+fn shown(alloc: Global, positions: &[u32]) -> Result<String, Memory> {
+    let mut line = String::new(alloc);
+    for position in positions {
+        write!(line, " {position}")?;
+    }
+    Ok(line)
+}
+
+// A row has a pattern, or a minus for none, and after an arrow the positions that are chosen.
+fn is_right(alloc: Global, paths: &str, since: u64, row: &str) -> Result<bool, Memory> {
+    let Some((pattern, want)) = row.split_once(" ⇒") else {
+        return Ok(false);
+    };
+    let pattern = if pattern == "-" { None } else { Some(pattern) };
+    let positions = chosen(alloc, paths, pattern, since)?;
+    Ok(shown(alloc, &positions)?.as_str() == want)
+}
+
+fn first_other<'a>(
+    alloc: Global,
+    paths: &str,
+    since: u64,
+    table: &'a str,
+) -> Result<Option<&'a str>, Memory> {
+    for row in table.lines() {
+        if !is_right(alloc, paths, since, row)? {
+            return Ok(Some(row));
+        }
+    }
+    Ok(None)
+}
+
 const PATHS: &str = "src/a/x.txt\nsrc/y.txt\ntest/x.txt\n";
 
+const OF_ALL: &str = "\
+src/**/*.txt ⇒ 0 1
+**/x.* ⇒ 0 2
+*/x.txt ⇒ 2
+none/* ⇒
+- ⇒ 0 1 2
+";
+
+const SINCE_ONE: &str = "\
+- ⇒ 1 2
+src/** ⇒ 1
+";
+
 #[test]
-fn files_are_chosen_by_their_paths(rt: HostRuntime) -> Result<(), Memory> {
-    let alloc = rt.alloc();
-    assert!(rt; chosen(alloc, PATHS, Some("src/**/*.txt"), 0)?.as_slice() == [0, 1].as_slice());
-    assert!(rt; chosen(alloc, PATHS, Some("**/x.*"), 0)?.as_slice() == [0, 2].as_slice());
-    assert!(rt; chosen(alloc, PATHS, Some("*/x.txt"), 0)?.as_slice() == [2].as_slice());
-    assert!(rt; chosen(alloc, PATHS, Some("none/*"), 0)?.is_empty());
+fn files_are_chosen_by_their_paths_and_changes(rt: HostRuntime) -> Result<(), Memory> {
+    for (since, table) in [(0, OF_ALL), (1, SINCE_ONE), (3, "** ⇒"), (4, "- ⇒")] {
+        assert_eq!(rt; first_other(rt.alloc(), PATHS, since, table)?, None);
+    }
     Ok(())
 }
 
@@ -66,20 +110,8 @@ fn files_are_chosen_by_their_paths(rt: HostRuntime) -> Result<(), Memory> {
 const BROKEN: &str = "a//b\na/b\n../a\n";
 
 #[test]
-fn paths_alone_fit_patterns(rt: HostRuntime) -> Result<(), Memory> {
-    let alloc = rt.alloc();
-    assert!(rt; chosen(alloc, BROKEN, Some("**"), 0)?.as_slice() == [1].as_slice());
-    assert!(rt; chosen(alloc, BROKEN, None, 0)?.as_slice() == [0, 1, 2].as_slice());
-    Ok(())
-}
-
-#[test]
-fn files_are_chosen_by_their_changes(rt: HostRuntime) -> Result<(), Memory> {
-    let alloc = rt.alloc();
-    assert!(rt; chosen(alloc, PATHS, None, 0)?.as_slice() == [0, 1, 2].as_slice());
-    assert!(rt; chosen(alloc, PATHS, None, 1)?.as_slice() == [1, 2].as_slice());
-    assert!(rt; chosen(alloc, PATHS, Some("src/**"), 1)?.as_slice() == [1].as_slice());
-    assert!(rt; chosen(alloc, PATHS, Some("**"), 3)?.is_empty());
-    assert!(rt; chosen(alloc, PATHS, None, 4)?.is_empty());
+fn only_paths_fit_patterns(rt: HostRuntime) -> Result<(), Memory> {
+    let table = "** ⇒ 1\n- ⇒ 0 1 2\n";
+    assert_eq!(rt; first_other(rt.alloc(), BROKEN, 0, table)?, None);
     Ok(())
 }

@@ -1,9 +1,11 @@
-//! Trials of measures, gates and scopes: small projects whose measures and verdicts, and which of their files are chosen,
-//! were worked out by hand.
+//! Trials of measures, gates, scopes and token files: small projects whose measures and verdicts, which of their files are
+//! chosen, and which bytes are a token file, were worked out by hand.
 #![tactic(auto)]
 
 #[cfg(test)]
 mod choosing;
+#[cfg(test)]
+mod files;
 #[cfg(test)]
 mod fitting;
 #[cfg(test)]
@@ -12,5 +14,7 @@ mod gates;
 mod hostile;
 #[cfg(test)]
 mod measures;
+#[cfg(test)]
+mod parts;
 #[cfg(test)]
 mod patterns;

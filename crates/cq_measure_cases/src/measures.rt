@@ -168,6 +168,38 @@ fn told(measures: Measures) -> [u64; 6] {
     ]
 }
 
+// What of the project is told with these groups.
+fn project_told<R: Threads + Sync>(
+    rt: &R,
+    alloc: Global,
+    files: &[FileLines],
+    all: &[(u32, &[(u32, u32)])],
+) -> Result<[u64; 6], Memory> {
+    let groups = groups(alloc, all)?;
+    Ok(told(of_project(rt, alloc, files, &groups)?))
+}
+
+fn file_told(
+    alloc: Global,
+    files: &[FileLines],
+    file: u32,
+    all: &[(u32, &[(u32, u32)])],
+) -> Result<[u64; 6], Memory> {
+    let groups = groups(alloc, all)?;
+    Ok(told(of_file(alloc, files, file, &groups)?))
+}
+
+fn two_told(
+    alloc: Global,
+    files: &[FileLines],
+    first: u32,
+    second: u32,
+    all: &[(u32, &[(u32, u32)])],
+) -> Result<[u64; 6], Memory> {
+    let groups = groups(alloc, all)?;
+    Ok(told(of_two(alloc, files, first, second, &groups)?))
+}
+
 #[test]
 fn lines_of_code_have_a_token_on_them(rt: HostRuntime) -> Result<(), Memory> {
     let alloc = rt.alloc();
@@ -226,13 +258,15 @@ fn each_line_and_each_block_counts_once(rt: HostRuntime) -> Result<(), Memory> {
         (2, &[(0, 14), (0, 15)]),
         (4, &[(0, 2), (1, 2)]),
     ];
-    let groups = groups(alloc, &all)?;
-    let project = of_project(&rt, alloc, &files, &groups)?;
-    assert_eq!(rt; told(project), [21, 6, 2, 200, 2, 1_050]);
-    let first = of_file(alloc, &files, 0, &groups)?;
-    assert_eq!(rt; told(first), [17, 5, 1, 100, 1, 1_700]);
-    let second = of_file(alloc, &files, 1, &groups)?;
-    assert_eq!(rt; told(second), [4, 1, 1, 100, 1, 400]);
+    assert_eq!(rt;
+        project_told(&rt, alloc, &files, &all)?,
+        [21, 6, 2, 200, 2, 1_050]
+    );
+    assert_eq!(rt;
+        file_told(alloc, &files, 0, &all)?,
+        [17, 5, 1, 100, 1, 1_700]
+    );
+    assert_eq!(rt; file_told(alloc, &files, 1, &all)?, [4, 1, 1, 100, 1, 400]);
     Ok(())
 }
 
@@ -250,22 +284,21 @@ fn groups_are_those_of_all_files(rt: HostRuntime) -> Result<(), Memory> {
         spans: &spans,
     };
     let files = [short, short, long];
-    let shared = groups(alloc, &[(2, &[(0, 0), (1, 0), (2, 0)])])?;
+    let shared: [(u32, &[(u32, u32)]); 1] = [(2, &[(0, 0), (1, 0), (2, 0)])];
     assert_eq!(rt;
-        told(of_two(alloc, &files, 1, 2, &shared)?),
+        two_told(alloc, &files, 1, 2, &shared)?,
         [4, 2, 2, 10, 2, 4_000]
     );
     assert_eq!(rt;
-        told(of_two(alloc, &files, 0, 1, &shared)?),
+        two_told(alloc, &files, 0, 1, &shared)?,
         [4, 2, 2, 4, 2, 10_000]
     );
-    let outside = groups(alloc, &[(1, &[(0, 0), (1, 1)])])?;
+    let outside: [(u32, &[(u32, u32)]); 1] = [(1, &[(0, 0), (1, 1)])];
     assert_eq!(rt;
-        told(of_two(alloc, &files, 1, 2, &outside)?),
+        two_told(alloc, &files, 1, 2, &outside)?,
         [1, 1, 1, 10, 2, 1_000]
     );
-    let nothing = of_two(alloc, &files, 1, 2, &[])?;
-    assert_eq!(rt; told(nothing), [0, 0, 0, 10, 2, 0]);
+    assert_eq!(rt; two_told(alloc, &files, 1, 2, &[])?, [0, 0, 0, 10, 2, 0]);
     Ok(())
 }
 
@@ -316,9 +349,11 @@ fn one_file_may_have_all_places(rt: HostRuntime) -> Result<(), Memory> {
         spans: &spans,
     };
     let files = [file; 3];
-    let groups = groups(alloc, &[(2, &[(2, 0), (2, 7)]), (3, &[(2, 6), (2, 1)])])?;
-    let project = of_project(&rt, alloc, &files, &groups)?;
-    assert_eq!(rt; told(project), [7, 4, 1, 27, 3, 2_592]);
+    let all: [(u32, &[(u32, u32)]); 2] = [(2, &[(2, 0), (2, 7)]), (3, &[(2, 6), (2, 1)])];
+    assert_eq!(rt;
+        project_told(&rt, alloc, &files, &all)?,
+        [7, 4, 1, 27, 3, 2_592]
+    );
     Ok(())
 }
 
@@ -330,9 +365,11 @@ fn a_place_covers_the_lines_of_its_tokens(rt: HostRuntime) -> Result<(), Memory>
         counts: counts(60),
         spans: &spans,
     };
-    let groups = groups(alloc, &[(2, &[(0, 0), (0, 2)])])?;
-    let measures = of_project(&rt, alloc, &[file], &groups)?;
-    assert_eq!(rt; told(measures), [51, 2, 1, 60, 1, 8_500]);
+    let all: [(u32, &[(u32, u32)]); 1] = [(2, &[(0, 0), (0, 2)])];
+    assert_eq!(rt;
+        project_told(&rt, alloc, &[file], &all)?,
+        [51, 2, 1, 60, 1, 8_500]
+    );
     Ok(())
 }
 

@@ -32,9 +32,10 @@ a b
 é/漢
 ";
 
+// The second line has nothing.
 const OTHERS: &str = "\
-
 a//b
+
 /a
 a/
 /

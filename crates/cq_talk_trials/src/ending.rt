@@ -12,7 +12,7 @@ use cq_work::{Keyer, Work};
 use std::alloc::Global;
 use std::sync::Wait;
 use std::sync::ledger::Ledger;
-use std::thread::Threads;
+use std::thread::{Threads, join};
 
 /// How the session of a caller who has seen nothing ends.
 pub(crate) fn conversed<Q: Threads + Sync, L: Ledger, R: Wait, S: Source, K: Sink, G: Gate>(
@@ -74,4 +74,68 @@ pub(crate) fn ended<Q: Threads + Sync, L: Ledger, R: Wait, G: Gate>(
     )?;
     let output = Vec::from_slice(alloc, sink.written())?;
     Ok((end, output))
+}
+
+/// The same of two sessions at the same time, each of which has an input and the number of the read that fails.
+pub(crate) fn both_ended<
+    Q: Threads + Sync,
+    L: Ledger + Send + Sync,
+    R: Wait + Sync,
+    G: Gate + Sync,
+>(
+    rt: &Q,
+    alloc: Global,
+    settings: &Settings,
+    hub: &Shared<Work<L>, R>,
+    counters: &Counters<L>,
+    gate: &G,
+    first: (&str, u64),
+    second: (&str, u64),
+    one: Pass<Work<L>>,
+    two: Pass<Work<L>>,
+) -> Result<((End, Vec<u8>), (End, Vec<u8>)), Memory>
+    requires in_range { IsInRange settings.now }
+    requires hub_settings { settings_of hub.now ≡ settings.now }
+    requires one { IsPassOf hub.now one × (one.seen ≡ []) }
+    requires two { IsPassOf hub.now two × (two.seen ≡ []) }
+{
+    let (first_input, first_failing) = first;
+    let (second_input, second_failing) = second;
+    let (one, two) = join(
+        rt,
+        move || -> Result<(End, Vec<u8>), Memory>
+            requires { IsInRange settings.now × (settings_of hub.now ≡ settings.now)
+                × IsPassOf hub.now one × (one.seen ≡ []) }
+        {
+            ended(
+                rt,
+                alloc,
+                settings,
+                hub,
+                counters,
+                gate,
+                first_input.as_bytes(),
+                first_failing,
+                one,
+            )
+        },
+        move || -> Result<(End, Vec<u8>), Memory>
+            requires { IsInRange settings.now × (settings_of hub.now ≡ settings.now)
+                × IsPassOf hub.now two × (two.seen ≡ []) }
+        {
+            ended(
+                rt,
+                alloc,
+                settings,
+                hub,
+                counters,
+                gate,
+                second_input.as_bytes(),
+                second_failing,
+                two,
+            )
+        },
+    );
+    let one = one?;
+    Ok((one, two?))
 }

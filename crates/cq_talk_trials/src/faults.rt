@@ -1,8 +1,7 @@
-ghost use Rattle.std.specs.Prelude.{◌≡◌, ◌<◌, []};
+ghost use Rattle.std.specs.Prelude.{◌≡◌};
 ghost use Rattle.cq_base.specs.Settings.{IsInRange};
-ghost use Rattle.cq_shared.specs.SharedPasses.{IsPassOf, settings_of};
 
-use crate::ending::ended;
+use crate::ending::{both_ended, ended};
 use crate::threads::SETTINGS;
 use cq_base::{Counters, Memory, Settings};
 use cq_chain::Pass;
@@ -14,7 +13,7 @@ use std::alloc::Global;
 use std::marker::Brand;
 use std::sync::Wait;
 use std::sync::ledger::{Blank, Ledger};
-use std::thread::{Threads, join};
+use std::thread::Threads;
 
 // Two reads are the whole of it, and what is left of the third line is none.
 const BROKEN: &str = r#"{"op":"put","project":"p","path":"a","lang":"any","text":"x y z"}
@@ -25,63 +24,7 @@ const WHOLE: &str = r#"{"op":"put","project":"p","path":"b","lang":"any","text":
 {"op":"groups","project":"p","min":3}
 "#;
 
-// The ends of two sessions at the same time, of which one's third read fails, and how many lines that one was told.
-fn two_sessions<Q: Threads + Sync, L: Ledger + Send + Sync, R: Wait + Sync>(
-    rt: &Q,
-    alloc: Global,
-    settings: &Settings,
-    hub: &Shared<Work<L>, R>,
-    counters: &Counters<L>,
-    one: Pass<Work<L>>,
-    two: Pass<Work<L>>,
-) -> Result<(End, End, usize), Memory>
-    requires in_range { IsInRange settings.now }
-    requires hub_settings { settings_of hub.now ≡ settings.now }
-    requires one { IsPassOf hub.now one × (one.seen ≡ []) }
-    requires two { IsPassOf hub.now two × (two.seen ≡ []) }
-{
-    let (broken, whole) = join(
-        rt,
-        move || -> Result<(End, Vec<u8>), Memory>
-            requires { IsInRange settings.now × (settings_of hub.now ≡ settings.now)
-                × IsPassOf hub.now one × (one.seen ≡ []) }
-        {
-            ended(
-                rt,
-                alloc,
-                settings,
-                hub,
-                counters,
-                &OpenGate,
-                BROKEN.as_bytes(),
-                3,
-                one,
-            )
-        },
-        move || -> Result<(End, Vec<u8>), Memory>
-            requires { IsInRange settings.now × (settings_of hub.now ≡ settings.now)
-                × IsPassOf hub.now two × (two.seen ≡ []) }
-        {
-            ended(
-                rt,
-                alloc,
-                settings,
-                hub,
-                counters,
-                &OpenGate,
-                WHOLE.as_bytes(),
-                0,
-                two,
-            )
-        },
-    );
-    let (broken, told) = broken?;
-    let (whole, _) = whole?;
-    let lines = told.iter().filter(|byte| **byte == b'\n').count();
-    Ok((broken, whole, lines))
-}
-
-/// How sessions ended, and what the hub tells behind them.
+/// How sessions ended, and what the hub says after them.
 #[derive(Clone, Copy, Debug, PartialEq, Eq)]
 struct Left {
     broken: End,
@@ -110,7 +53,19 @@ fn faulted<Q: Threads + Wait + Sync, L: Ledger + Send + Sync>(
     let one = hub.split_pass(&mut pass);
     let two = hub.split_pass(&mut pass);
     let three = hub.split_pass(&mut pass);
-    let (broken, whole, told) = two_sessions(rt, alloc, settings, &hub, &counters, one, two)?;
+    let ((broken, told), (whole, _)) = both_ended(
+        rt,
+        alloc,
+        settings,
+        &hub,
+        &counters,
+        &OpenGate,
+        (BROKEN, 3),
+        (WHOLE, 0),
+        one,
+        two,
+    )?;
+    let told = told.iter().filter(|byte| **byte == b'\n').count();
     let input = WHOLE.as_bytes();
     let (later, _) = ended(
         rt, alloc, settings, &hub, &counters, &OpenGate, input, 0, three,

@@ -1,8 +1,7 @@
-ghost use Rattle.std.specs.Prelude.{◌≡◌, ◌<◌, []};
+ghost use Rattle.std.specs.Prelude.{◌≡◌};
 ghost use Rattle.cq_base.specs.Settings.{IsInRange};
-ghost use Rattle.cq_shared.specs.SharedPasses.{IsPassOf, settings_of};
 
-use crate::ending::ended;
+use crate::ending::both_ended;
 use crate::threads::SETTINGS;
 use cq_base::{Counters, Memory, Settings};
 use cq_chain::Pass;
@@ -16,7 +15,7 @@ use std::sync::Wait;
 use std::sync::atomic::{AtomicU64, Ordering};
 use std::sync::ledger::{Blank, Ledger};
 use std::thread;
-use std::thread::{Threads, join};
+use std::thread::Threads;
 use std::time::{Clock, Duration};
 
 // Holds whoever has a change accepted until both sessions have, and whoever is about to make the work of one until both are.
@@ -101,59 +100,6 @@ fn are_alike(one: (End, Vec<u8>), two: (End, Vec<u8>)) -> bool {
     }
 }
 
-fn two_sessions<Q: Threads + Sync, L: Ledger + Send + Sync, R: Wait + Sync, G: Gate + Sync>(
-    rt: &Q,
-    alloc: Global,
-    settings: &Settings,
-    hub: &Shared<Work<L>, R>,
-    counters: &Counters<L>,
-    gate: &G,
-    one: Pass<Work<L>>,
-    two: Pass<Work<L>>,
-) -> Result<bool, Memory>
-    requires in_range { IsInRange settings.now }
-    requires hub_settings { settings_of hub.now ≡ settings.now }
-    requires one { IsPassOf hub.now one × (one.seen ≡ []) }
-    requires two { IsPassOf hub.now two × (two.seen ≡ []) }
-{
-    let (one, two) = join(
-        rt,
-        move || -> Result<(End, Vec<u8>), Memory>
-            requires { IsInRange settings.now × (settings_of hub.now ≡ settings.now)
-                × IsPassOf hub.now one × (one.seen ≡ []) }
-        {
-            ended(
-                rt,
-                alloc,
-                settings,
-                hub,
-                counters,
-                gate,
-                ONE.as_bytes(),
-                0,
-                one,
-            )
-        },
-        move || -> Result<(End, Vec<u8>), Memory>
-            requires { IsInRange settings.now × (settings_of hub.now ≡ settings.now)
-                × IsPassOf hub.now two × (two.seen ≡ []) }
-        {
-            ended(
-                rt,
-                alloc,
-                settings,
-                hub,
-                counters,
-                gate,
-                TWO.as_bytes(),
-                0,
-                two,
-            )
-        },
-    );
-    Ok(are_alike(one?, two?))
-}
-
 fn two_help<Q: Threads + Clock + Wait + Sync, L: Ledger + Send + Sync>(
     rt: &Q,
     alloc: Global,
@@ -176,7 +122,19 @@ fn two_help<Q: Threads + Clock + Wait + Sync, L: Ledger + Send + Sync>(
     let (hub, mut pass) = made;
     let one = hub.split_pass(&mut pass);
     let two = hub.split_pass(&mut pass);
-    let alike = two_sessions(rt, alloc, settings, &hub, &counters, &gate, one, two)?;
+    let (one, two) = both_ended(
+        rt,
+        alloc,
+        settings,
+        &hub,
+        &counters,
+        &gate,
+        (ONE, 0),
+        (TWO, 0),
+        one,
+        two,
+    )?;
+    let alike = are_alike(one, two);
     Ok(Helped {
         alike,
         first: first.load(Ordering::SeqCst),

@@ -246,6 +246,32 @@ fn how_they_went(alloc: Global, talks: &[Talk], last: &Talk) -> Result<Went, Mem
     }
 }
 
+// Puts what two sessions talked behind the others.
+fn push_both(
+    talks: &mut Vec<Talk>,
+    both: (Result<Talk, Memory>, Result<Talk, Memory>),
+) -> Result<(), Memory> {
+    let (one, two) = both;
+    talks.push(one?)?;
+    talks.push(two?)?;
+    Ok(())
+}
+
+// The talks of four sessions, unless one of them has no memory.
+fn gathered(
+    alloc: Global,
+    four: (
+        (Result<Talk, Memory>, Result<Talk, Memory>),
+        (Result<Talk, Memory>, Result<Talk, Memory>),
+    ),
+) -> Result<Vec<Talk>, Memory> {
+    let (first, second) = four;
+    let mut talks = Vec::new(alloc);
+    push_both(&mut talks, first)?;
+    push_both(&mut talks, second)?;
+    Ok(talks)
+}
+
 fn four_threads<Q: Threads + Clock + Wait + Sync, L: Ledger + Send + Sync>(
     rt: &Q,
     alloc: Global,
@@ -266,12 +292,8 @@ fn four_threads<Q: Threads + Clock + Wait + Sync, L: Ledger + Send + Sync>(
     };
     let made: (Shared<Work<L>, &Q>, Pass<Work<L>>) = Shared::new(rt, alloc, settings, 5)?;
     let (hub, mut pass) = made;
-    let (first, second) = four_talks(rt, alloc, settings, &hub, &counters, &gate, seed, &mut pass);
-    let mut talks = Vec::new(alloc);
-    talks.push(first.0?)?;
-    talks.push(first.1?)?;
-    talks.push(second.0?)?;
-    talks.push(second.1?)?;
+    let four = four_talks(rt, alloc, settings, &hub, &counters, &gate, seed, &mut pass);
+    let talks = gathered(alloc, four)?;
     let last = session_talk(rt, alloc, settings, &hub, &counters, &gate, Plan::All, pass)?;
     how_they_went(alloc, &talks, &last)
 }

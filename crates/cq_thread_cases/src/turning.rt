@@ -1,6 +1,7 @@
 ghost use Rattle.std.specs.Prelude.{◌≡◌, ◌≤◌, length, IfOk};
 ghost use Rattle.cq_base.specs.Settings.{IsInRange};
 ghost use Rattle.cq_base.specs.Changes.{IsSoundChange};
+ghost use Rattle.cq_hub.specs.Hubs.{IsPassOf};
 
 use cq_base::{Change, Lang, Memory, Settings, Text};
 use cq_board::Refused;
@@ -10,6 +11,7 @@ use cq_serve::{Bell, RingingGate, Turn, turn};
 use cq_work::{Keyer, Work};
 use std::alloc::Global;
 use std::marker::Brand;
+use std::sync::ledger::Ledger;
 
 const SETTINGS: Settings = Settings {
     chunk: 2,
@@ -35,7 +37,29 @@ fn put(alloc: Global, text: &str) -> Result<Change, Memory>
     })
 }
 
-// What two turns of a new hub come to, of which one change is accepted, and what is done and published then.
+// What two turns come to after a change is accepted, and what is done and published then.
+fn two_turns<L: Ledger, H: Hub<Work<L>>>(
+    alloc: Global,
+    settings: &Settings,
+    keyer: &Keyer,
+    hub: &H,
+    change: Change,
+    pass: &mut H::Pass,
+) -> Result<(Turn, Turn, u64, u64), Refused>
+    requires in_range { IsInRange settings.now }
+    requires settings { keyer.now.settings ≡ settings.now }
+    requires hub_settings { H.settings hub.now ≡ settings.now }
+    requires sound { IsSoundChange change }
+    requires stands { IsPassOf H.Stands hub.now pass.old }
+{
+    hub.accept(alloc, change, pass)?;
+    let first = turn(alloc, settings, keyer, hub, pass, &OpenGate);
+    let second = turn(alloc, settings, keyer, hub, pass, &OpenGate);
+    let asked = hub.ask(pass);
+    Ok((first, second, asked.done, asked.published))
+}
+
+// The same of a new hub, and of an upload of this text.
 fn turns(alloc: Global, settings: &Settings, text: &str) -> Result<(Turn, Turn, u64, u64), Refused>
     requires in_range { IsInRange settings.now }
     requires short { length text.now ≤ 1048576 }
@@ -43,11 +67,8 @@ fn turns(alloc: Global, settings: &Settings, text: &str) -> Result<(Turn, Turn, 
     let keyer = Keyer::plain(settings);
     let made: (Solo<Work<Brand>>, SoloPass<Work<Brand>>) = Solo::new(alloc, settings)?;
     let (hub, mut pass) = made;
-    hub.accept(alloc, put(alloc, text)?, &mut pass)?;
-    let first = turn(alloc, settings, &keyer, &hub, &mut pass, &OpenGate);
-    let second = turn(alloc, settings, &keyer, &hub, &mut pass, &OpenGate);
-    let asked = hub.ask(&mut pass);
-    Ok((first, second, asked.done, asked.published))
+    let change = put(alloc, text)?;
+    two_turns(alloc, settings, &keyer, &hub, change, &mut pass)
 }
 
 fn turns_here(

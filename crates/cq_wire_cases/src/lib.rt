@@ -3,7 +3,7 @@
 #![tactic(auto)]
 
 #[cfg(test)]
-mod limits;
+mod arguments;
 #[cfg(test)]
 mod lists;
 #[cfg(test)]
@@ -11,20 +11,16 @@ mod others;
 #[cfg(test)]
 mod outcomes;
 #[cfg(test)]
-mod refusals;
-#[cfg(test)]
 mod requests;
+#[cfg(test)]
+mod showing;
 #[cfg(test)]
 mod step_refusals;
 #[cfg(test)]
 mod step_requests;
 #[cfg(test)]
-mod step_telling;
-#[cfg(test)]
 mod steps;
 #[cfg(test)]
-mod telling;
-#[cfg(test)]
-mod words;
+mod tables;
 #[cfg(test)]
 mod writing;

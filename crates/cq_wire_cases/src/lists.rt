@@ -52,13 +52,18 @@ const OF_JAVA: &str =
 const OF_GO: &str =
     r#"{"files":[{"change":1,"lang":"go","lines":2,"path":"a/é","state":"ok","tokens":3}],"ok":true,"version":5}"#;
 
+const FILES: [(Lang, Shown, &str); 4] = [
+    (Lang::Any, Shown::Ok, OF_ANY),
+    (Lang::C, Shown::Fault(9), OF_C),
+    (Lang::Java, Shown::Large, OF_JAVA),
+    (Lang::Go, Shown::Ok, OF_GO),
+];
+
 #[test]
 fn files_are_written(rt: HostRuntime) -> Result<(), Memory> {
-    let alloc = rt.alloc();
-    assert!(rt; writes_file(alloc, Lang::Any, Shown::Ok, OF_ANY)?);
-    assert!(rt; writes_file(alloc, Lang::C, Shown::Fault(9), OF_C)?);
-    assert!(rt; writes_file(alloc, Lang::Java, Shown::Large, OF_JAVA)?);
-    assert!(rt; writes_file(alloc, Lang::Go, Shown::Ok, OF_GO)?);
+    for (lang, shown, want) in FILES {
+        assert_eq!(rt; writes_file(rt.alloc(), lang, shown, want)?, true, "{want}");
+    }
     Ok(())
 }
 

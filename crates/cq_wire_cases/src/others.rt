@@ -4,7 +4,6 @@ use crate::writing::is_written;
 use cq_base::{Measures, Memory, Text};
 use cq_measures::{Positions, Verdict};
 use cq_reply::{Reply, Short, fixed};
-use std::alloc::Global;
 
 const MEASURES: Measures = Measures {
     lines: 1,
@@ -17,35 +16,35 @@ const MEASURES: Measures = Measures {
     density: u64::MAX,
 };
 
-// The reply with this code, and for codes that no refusal has, one that is none.
-fn reply_of(code: u64) -> Reply
+// The replies that are written here, one after the other.
+fn reply_of(at: usize) -> Reply
     ensures { IsReplyText result }
 {
-    match code {
-        1 => Reply::Json,
-        2 => Reply::Op,
-        4 => Reply::Lang,
-        5 => Reply::Path,
-        6 => Reply::TooMuchText,
-        7 => Reply::Min,
-        8 => Reply::Future(3),
-        9 => Reply::Absent,
-        10 => Reply::FullChanges,
-        11 => Reply::FullText,
-        12 => Reply::Pending(4),
-        13 => Reply::Long,
-        14 => Reply::Memory,
-        15 => Reply::Scope,
-        16 => Reply::State {
+    match at {
+        0 => Reply::Json,
+        1 => Reply::Op,
+        2 => Reply::Lang,
+        3 => Reply::Path,
+        4 => Reply::TooMuchText,
+        5 => Reply::Min,
+        6 => Reply::Future(3),
+        7 => Reply::Absent,
+        8 => Reply::FullChanges,
+        9 => Reply::FullText,
+        10 => Reply::Pending(4),
+        11 => Reply::Long,
+        12 => Reply::Memory,
+        13 => Reply::Scope,
+        14 => Reply::State {
             accepted: 3,
             done: 2,
             published: 1,
         },
-        17 => Reply::Measures {
+        15 => Reply::Measures {
             measures: MEASURES,
             version: 8,
         },
-        18 => Reply::Change(7),
+        16 => Reply::Change(7),
         _ => Reply::Verdict {
             verdict: Verdict::Ok,
             version: 0,
@@ -53,76 +52,36 @@ fn reply_of(code: u64) -> Reply
     }
 }
 
-fn writes(alloc: Global, code: u64, want: &str) -> Result<bool, Memory> {
-    is_written(alloc, &reply_of(code), want)
-}
+// The lines of these, without their line feeds.
+const REPLIES: &str = r#"{"code":1,"error":"json","ok":false}
+{"code":2,"error":"op","ok":false}
+{"code":4,"error":"lang","ok":false}
+{"code":5,"error":"path","ok":false}
+{"code":6,"error":"text","ok":false}
+{"code":7,"error":"min","ok":false}
+{"code":8,"count":3,"error":"future","ok":false}
+{"code":9,"error":"absent","ok":false}
+{"code":10,"error":"full-changes","ok":false}
+{"code":11,"error":"full-text","ok":false}
+{"code":12,"error":"pending","number":4,"ok":false}
+{"code":13,"error":"long","ok":false}
+{"code":14,"error":"memory","ok":false}
+{"code":15,"error":"scope","ok":false}
+{"accepted":3,"done":2,"ok":true,"published":1}
+{"measures":{"complexity":4,"duplicated_blocks":6,"duplicated_files":7,"duplicated_lines":5,"duplicated_lines_density":18446744073709551615,"files":3,"lines":1,"ncloc":2},"ok":true,"version":8}
+{"change":7,"ok":true}
+{"failed":[],"ok":true,"verdict":"OK","version":0}
+"#;
 
 #[test]
-fn refusals_of_a_line_are_written(rt: HostRuntime) -> Result<(), Memory> {
-    let alloc = rt.alloc();
-    assert!(rt; writes(alloc, 1, r#"{"code":1,"error":"json","ok":false}"#)?);
-    assert!(rt; writes(alloc, 2, r#"{"code":2,"error":"op","ok":false}"#)?);
-    assert!(rt; writes(alloc, 4, r#"{"code":4,"error":"lang","ok":false}"#)?);
-    assert!(rt; writes(alloc, 5, r#"{"code":5,"error":"path","ok":false}"#)?);
-    assert!(rt; writes(alloc, 6, r#"{"code":6,"error":"text","ok":false}"#)?);
-    assert!(rt; writes(alloc, 7, r#"{"code":7,"error":"min","ok":false}"#)?);
-    assert!(rt; writes(alloc, 15, r#"{"code":15,"error":"scope","ok":false}"#)?);
-    Ok(())
-}
-
-#[test]
-fn refusals_of_what_is_asked_are_written(rt: HostRuntime) -> Result<(), Memory> {
-    let alloc = rt.alloc();
-    assert!(rt;
-        writes(
-            alloc,
-            8,
-            r#"{"code":8,"count":3,"error":"future","ok":false}"#
-        )?
-    );
-    assert!(rt; writes(alloc, 9, r#"{"code":9,"error":"absent","ok":false}"#)?);
-    assert!(rt;
-        writes(
-            alloc,
-            10,
-            r#"{"code":10,"error":"full-changes","ok":false}"#
-        )?
-    );
-    assert!(rt; writes(alloc, 11, r#"{"code":11,"error":"full-text","ok":false}"#)?);
-    assert!(rt;
-        writes(
-            alloc,
-            12,
-            r#"{"code":12,"error":"pending","number":4,"ok":false}"#
-        )?
-    );
-    assert!(rt; writes(alloc, 13, r#"{"code":13,"error":"long","ok":false}"#)?);
-    assert!(rt; writes(alloc, 14, r#"{"code":14,"error":"memory","ok":false}"#)?);
-    Ok(())
-}
-
-const MEASURED: &str =
-    r#"{"measures":{"complexity":4,"duplicated_blocks":6,"duplicated_files":7,"duplicated_lines":5,"duplicated_lines_density":18446744073709551615,"files":3,"lines":1,"ncloc":2},"ok":true,"version":8}"#;
-
-#[test]
-fn answers_are_written(rt: HostRuntime) -> Result<(), Memory> {
-    let alloc = rt.alloc();
-    assert!(rt; writes(alloc, 18, r#"{"change":7,"ok":true}"#)?);
-    assert!(rt;
-        writes(
-            alloc,
-            16,
-            r#"{"accepted":3,"done":2,"ok":true,"published":1}"#
-        )?
-    );
-    assert!(rt; writes(alloc, 17, MEASURED)?);
-    assert!(rt;
-        writes(
-            alloc,
-            19,
-            r#"{"failed":[],"ok":true,"verdict":"OK","version":0}"#
-        )?
-    );
+fn replies_without_lists_are_written(rt: HostRuntime) -> Result<(), Memory> {
+    for (at, line) in REPLIES.lines().enumerate() {
+        assert_eq!(rt;
+            is_written(rt.alloc(), &reply_of(at), line)?,
+            true,
+            "{line}"
+        );
+    }
     Ok(())
 }
 

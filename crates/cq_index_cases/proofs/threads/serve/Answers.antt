@@ -5,8 +5,8 @@ use Rattle.cq_cells.specs.Passes.{by_of}
 use Rattle.cq_shared.specs.SharedPasses.{callers_of, state_of}
 use Rattle.cq_index_cases.proofs.threads.serve.Goals as goal
 
-pub accept-requires : goal.accept-requires
-accept-requires g c =
+pub put_and_read-requires : goal.put_and_read-requires
+put_and_read-requires g c =
     let hub = c.args.hub.now in
     let p = c.args.pass in
     record {

@@ -1,4 +1,4 @@
-use Rattle.cq_file_cases.proofs.files.written_again.Goals as goal
+use Rattle.cq_measure_cases.proofs.files.written_again.Goals as goal
 
 -- what was read is the snapshot of a token file, which is sound
 pub encode-requires : goal.encode-requires
