@@ -1,10 +1,10 @@
-ghost use Rattle.std.specs.Prelude.{◌≡◌, ◌≤◌, IfOk, length};
-ghost use Rattle.serde_json.specs.View.{view};
+ghost use Rattle.std.specs.Prelude.{◌≡◌, ◌≤◌, IfOk, OnOk, length};
 ghost use Rattle.cq_make.specs.Summary as spec;
+ghost use Rattle.cq_reply.specs.Added.{AddsValue};
 
 use cq_base::{Measures, Memory, Text};
-use cq_reply::{FileRow, measures_members};
-use serde_json::{Value, json};
+use cq_reply::{FileRow, write_flag, write_metrics, write_number};
+use json::Writer;
 use std::alloc::{AllocError, Global};
 
 /// How many tokens the files have.
@@ -19,17 +19,24 @@ pub(crate) fn token_count(rows: &[FileRow]) -> u64
     total
 }
 
-fn summary_value(
-    alloc: Global,
+fn write_summary(
+    out: &mut Writer,
     groups: u64,
     measures: &Measures,
     tokens: u64,
     version: u64,
-) -> Result<Value, AllocError>
-    ensures { IfOk result (λ v. view v ≡ spec.summary_data groups measures.now tokens version) }
+) -> Result<(), AllocError>
+    ensures { OnOk result
+        (AddsValue (spec.summary_data groups measures.now tokens version) out.old out.new) }
 {
-    let members = measures_members(alloc, measures)?;
-    json!(in alloc; {"groups": groups, "measures": members, "ok": true, "tokens": tokens, "version": version})
+    out.begin_object()?;
+    write_number(out, "groups", groups)?;
+    out.key("measures")?;
+    write_metrics(out, measures)?;
+    write_flag(out, "ok", true)?;
+    write_number(out, "tokens", tokens)?;
+    write_number(out, "version", version)?;
+    out.end_object()
 }
 
 /// The line, with its line feed.
@@ -42,7 +49,9 @@ pub(crate) fn summary_line(
 ) -> Result<Text, Memory>
     ensures { IfOk result (λ line. line ≡ spec.summary_line groups measures.now tokens version) }
 {
-    let mut line = summary_value(alloc, groups, measures, tokens, version)?.to_vec(alloc)?;
+    let mut out = Writer::new(Vec::with_capacity(alloc, 128)?);
+    write_summary(&mut out, groups, measures, tokens, version)?;
+    let mut line = out.into_inner();
     line.push(b'\n')?;
     Ok(Text::from_vec(line))
 }

@@ -12,14 +12,14 @@ mod member;
 mod refusal;
 mod reply;
 mod short;
-mod value;
 mod write;
 
 pub use line::{Fixed, Line};
+pub use measures::write_metrics;
+pub use member::{write_flag, write_number};
 pub use reply::{
     FileRow, FileRows, FunctionRows, GroupRow, GroupRows, PlaceRow, PlaceRows, Reply, SharedPath,
     Shown,
 };
 pub use short::{Short, fixed};
-pub use value::measures_members;
 pub use write::line_of;

@@ -11,7 +11,7 @@ use json::Writer;
 use std::alloc::AllocError;
 
 /// The eight measures, by SonarQube's metric keys.
-pub(crate) fn write_members(out: &mut Writer, measures: &Measures) -> Result<(), AllocError>
+pub fn write_metrics(out: &mut Writer, measures: &Measures) -> Result<(), AllocError>
     ensures { OnOk result (AddsValue (measures_members measures.now) out.old out.new) }
 {
     out.begin_object()?;
@@ -36,7 +36,7 @@ pub(crate) fn write_measures(
 {
     out.begin_object()?;
     out.key("measures")?;
-    write_members(out, measures)?;
+    write_metrics(out, measures)?;
     write_flag(out, "ok", true)?;
     write_number(out, "version", version)?;
     out.end_object()

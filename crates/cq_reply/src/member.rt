@@ -16,7 +16,7 @@ pub(crate) fn write_count(out: &mut Writer, number: u64) -> Result<(), AllocErro
 }
 
 /// A member of an object that is a number.
-pub(crate) fn write_number(out: &mut Writer, name: &str, number: u64) -> Result<(), AllocError>
+pub fn write_number(out: &mut Writer, name: &str, number: u64) -> Result<(), AllocError>
     ensures { OnOk result (AddsMember name.now (count number) out.old out.new) }
 {
     out.key(name)?;
@@ -40,7 +40,7 @@ pub(crate) fn write_text(out: &mut Writer, name: &str, text: &[u8]) -> Result<()
 }
 
 /// One that says whether something is so.
-pub(crate) fn write_flag(out: &mut Writer, name: &str, flag: bool) -> Result<(), AllocError>
+pub fn write_flag(out: &mut Writer, name: &str, flag: bool) -> Result<(), AllocError>
     ensures { OnOk result (AddsMember name.now (boolean flag) out.old out.new) }
 {
     out.key(name)?;

@@ -5,7 +5,7 @@ use Rattle.cq_reply.proofs.measures.write_measures.Goals as goal
 
 pub returns : goal.returns
 returns c =
-    let m = c.in_ok-write_members.ensures in
+    let m = c.in_ok-write_metrics.ensures in
     let ok = c.in_ok-write_flag.ensures in
     let version = c.in_ok-write_number.ensures in
     at_last _ c.end_object.result (then (then (then (then (wrote c.in_ok-begin_object.ensures) (wrote c.in_ok-key.ensures)) m.adds) ok.adds) version.adds) c.end_object.ensures (λ added. record {
