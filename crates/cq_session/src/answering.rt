@@ -9,7 +9,7 @@ ghost use Rattle.cq_session.specs.Passes.{Begins, GivesUp, HasAccepted, HasAnswe
 use crate::helping::help;
 use crate::viewing::view_reply;
 use cq_answer::refused_as;
-use cq_base::{Change, Memory, Settings, Steps};
+use cq_base::{Change, Memory, Steps};
 use cq_board::Refused;
 use cq_hub::Hub;
 use cq_io::Gate;
@@ -66,7 +66,6 @@ fn state_reply<W: Indexed, H: Hub<W>>(hub: &H, pass: &mut H::Pass) -> Reply
 pub fn query_reply<R: Threads + Sync, L: Ledger, H: Hub<Work<L>>, G: Gate>(
     rt: &R,
     alloc: Global,
-    settings: &Settings,
     keyer: &Keyer,
     hub: &H,
     query: &Query,
@@ -75,10 +74,9 @@ pub fn query_reply<R: Threads + Sync, L: Ledger, H: Hub<Work<L>>, G: Gate>(
     pass: &mut H::Pass,
     steps: &mut Steps<L>,
 ) -> Result<Reply, Memory>
-    requires in_range { IsInRange settings.now }
-    requires settings { keyer.now.settings ≡ settings.now }
-    requires hub_settings { H.settings hub.now ≡ settings.now }
-    requires long { settings.now.chunk ≤ query.now.min }
+    requires in_range { IsInRange keyer.now.settings }
+    requires hub_settings { H.settings hub.now ≡ keyer.now.settings }
+    requires long { keyer.now.settings.chunk ≤ query.now.min }
     requires path { HasPath query.now.kind query.now.path }
     requires scope { HasScope query.now.path query.now.scope }
     requires closed { HasAccepted H.Hub hub.now pass.old seen }
@@ -88,21 +86,13 @@ pub fn query_reply<R: Threads + Sync, L: Ledger, H: Hub<Work<L>>, G: Gate>(
     ensures refused { OnErr result
         (GivesUp H.Hub hub.now pass.old pass.new steps.old steps.new seen query.now) }
 {
+    let settings = &keyer.settings;
     let asked = hub.ask(pass);
     if query.at > asked.accepted {
         return Ok(Reply::Future(asked.accepted));
     }
     if query.finish {
-        return match help(
-            alloc,
-            settings,
-            keyer,
-            hub,
-            asked.done,
-            asked.accepted,
-            gate,
-            pass,
-        ) {
+        return match help(alloc, keyer, hub, asked.done, asked.accepted, gate, pass) {
             Ok(()) => view_reply(
                 rt,
                 alloc,
@@ -129,7 +119,6 @@ pub fn query_reply<R: Threads + Sync, L: Ledger, H: Hub<Work<L>>, G: Gate>(
 pub(crate) fn reply_to<R: Threads + Sync, L: Ledger, H: Hub<Work<L>>, G: Gate>(
     rt: &R,
     alloc: Global,
-    settings: &Settings,
     keyer: &Keyer,
     hub: &H,
     line: &[u8],
@@ -138,22 +127,19 @@ pub(crate) fn reply_to<R: Threads + Sync, L: Ledger, H: Hub<Work<L>>, G: Gate>(
     pass: &mut H::Pass,
     steps: &mut Steps<L>,
 ) -> Result<Reply, Memory>
-    requires in_range { IsInRange settings.now }
-    requires settings { keyer.now.settings ≡ settings.now }
-    requires hub_settings { H.settings hub.now ≡ settings.now }
+    requires in_range { IsInRange keyer.now.settings }
+    requires hub_settings { H.settings hub.now ≡ keyer.now.settings }
     requires closed { HasAccepted H.Hub hub.now pass.old seen }
     ensures replies { IfOk result (Replies H.Hub hub.now pass.old pass.new
-        steps.old steps.new seen settings.now line.now) }
+        steps.old steps.new seen keyer.now.settings line.now) }
     ensures text { IfOk result IsReplyText }
     ensures refused { OnErr result (Begins H.Hub hub.now pass.old pass.new
-        steps.old steps.new seen settings.now line.now) }
+        steps.old steps.new seen keyer.now.settings line.now) }
 {
-    match read_request(alloc, settings, line) {
+    match read_request(alloc, &keyer.settings, line) {
         Ok(Request::Change(change)) => change_reply(alloc, hub, change, gate, pass),
         Ok(Request::Query(query)) => {
-            query_reply(
-                rt, alloc, settings, keyer, hub, &query, seen, gate, pass, steps,
-            )
+            query_reply(rt, alloc, keyer, hub, &query, seen, gate, pass, steps)
         }
         Ok(Request::State) => Ok(state_reply(hub, pass)),
         Err(refusal) => refused_as(refusal),

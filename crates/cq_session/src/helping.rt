@@ -3,7 +3,7 @@ ghost use Rattle.cq_base.specs.Settings.{IsInRange};
 ghost use Rattle.cq_talk.specs.Steps.{Always};
 ghost use Rattle.cq_session.specs.Passes.{HasChange, HasDone, HasDoneSome, HasDoneUpTo, HasHelped, MayHelp};
 
-use cq_base::{Memory, Settings};
+use cq_base::Memory;
 use cq_board::Finished;
 use cq_hub::Hub;
 use cq_io::Gate;
@@ -14,16 +14,14 @@ use std::sync::ledger::Ledger;
 // The work of a change is done, by this caller where it was not done yet.
 fn help_one<L: Ledger, H: Hub<Work<L>>, G: Gate>(
     alloc: Global,
-    settings: &Settings,
     keyer: &Keyer,
     hub: &H,
     change: u64,
     gate: &G,
     pass: &mut H::Pass,
 ) -> Result<(), Memory>
-    requires in_range { IsInRange settings.now }
-    requires settings { keyer.now.settings ≡ settings.now }
-    requires hub_settings { H.settings hub.now ≡ settings.now }
+    requires in_range { IsInRange keyer.now.settings }
+    requires hub_settings { H.settings hub.now ≡ keyer.now.settings }
     requires accepted { HasChange H.Hub hub.now pass.old change }
     ensures done { OnOk result (HasDone H.Hub hub.now pass.old pass.new change) }
     ensures refused { OnErr result
@@ -35,7 +33,7 @@ fn help_one<L: Ledger, H: Hub<Work<L>>, G: Gate>(
         Ok(None) => Ok(()),
         Ok(Some(job)) => {
             gate.before_work(change);
-            match work_for(alloc, settings, keyer, job.lang, &job.text) {
+            match work_for(alloc, keyer, job.lang, &job.text) {
                 Err(Memory) => Err(Memory),
                 Ok(work) => match hub.finish(change, work, pass) {
                     Finished::Done => Ok(()),
@@ -53,7 +51,6 @@ const BLOCK: u64 = 64;
 // one first.
 fn help_down<L: Ledger, H: Hub<Work<L>>, G: Gate>(
     alloc: Global,
-    settings: &Settings,
     keyer: &Keyer,
     hub: &H,
     done: u64,
@@ -61,9 +58,8 @@ fn help_down<L: Ledger, H: Hub<Work<L>>, G: Gate>(
     gate: &G,
     pass: &mut H::Pass,
 ) -> Result<(), Memory>
-    requires in_range { IsInRange settings.now }
-    requires settings { keyer.now.settings ≡ settings.now }
-    requires hub_settings { H.settings hub.now ≡ settings.now }
+    requires in_range { IsInRange keyer.now.settings }
+    requires hub_settings { H.settings hub.now ≡ keyer.now.settings }
     requires accepted { MayHelp H.Hub hub.now pass.old done to }
     ensures done { OnOk result (HasDoneUpTo H.Hub hub.now pass.old pass.new done to) }
     ensures refused { OnErr result (HasDoneSome H.Hub hub.now pass.old pass.new done to) }
@@ -71,7 +67,7 @@ fn help_down<L: Ledger, H: Hub<Work<L>>, G: Gate>(
 {
     let mut left = to;
     'changes: while left > done {
-        match help_one(alloc, settings, keyer, hub, left, gate, pass) {
+        match help_one(alloc, keyer, hub, left, gate, pass) {
             Ok(()) => {}
             Err(Memory) => return Err(Memory),
         }
@@ -85,7 +81,6 @@ fn help_down<L: Ledger, H: Hub<Work<L>>, G: Gate>(
 /// begin with the first one, so few are made twice.
 pub(crate) fn help<L: Ledger, H: Hub<Work<L>>, G: Gate>(
     alloc: Global,
-    settings: &Settings,
     keyer: &Keyer,
     hub: &H,
     done: u64,
@@ -93,9 +88,8 @@ pub(crate) fn help<L: Ledger, H: Hub<Work<L>>, G: Gate>(
     gate: &G,
     pass: &mut H::Pass,
 ) -> Result<(), Memory>
-    requires in_range { IsInRange settings.now }
-    requires settings { keyer.now.settings ≡ settings.now }
-    requires hub_settings { H.settings hub.now ≡ settings.now }
+    requires in_range { IsInRange keyer.now.settings }
+    requires hub_settings { H.settings hub.now ≡ keyer.now.settings }
     requires accepted { MayHelp H.Hub hub.now pass.old done to }
     ensures done { OnOk result (HasDoneUpTo H.Hub hub.now pass.old pass.new done to) }
     ensures refused { OnErr result (HasDoneSome H.Hub hub.now pass.old pass.new done to) }
@@ -104,7 +98,7 @@ pub(crate) fn help<L: Ledger, H: Hub<Work<L>>, G: Gate>(
     let mut from = done;
     'rounds: while from < to {
         let until = to.min(from.saturating_add(BLOCK));
-        match help_down(alloc, settings, keyer, hub, from, until, gate, pass) {
+        match help_down(alloc, keyer, hub, from, until, gate, pass) {
             Ok(()) => {}
             Err(Memory) => return Err(Memory),
         }

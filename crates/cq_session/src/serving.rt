@@ -11,7 +11,7 @@ ghost use Rattle.cq_talk.specs.Steps.{Always, MayLead};
 ghost use Rattle.cq_session.specs.Passes.{HasAccepted, HasSentLine, HasServed};
 
 use crate::telling::told;
-use cq_base::{Settings, Steps};
+use cq_base::Steps;
 use cq_hub::Hub;
 use cq_io::{Failed, Gate, Sink, Source, send};
 use cq_lines::{Cut, End, Lines};
@@ -25,7 +25,6 @@ use std::thread::Threads;
 fn turn<R: Threads + Sync, L: Ledger, H: Hub<Work<L>>, K: Sink, G: Gate>(
     rt: &R,
     alloc: Global,
-    settings: &Settings,
     keyer: &Keyer,
     hub: &H,
     line: &[u8],
@@ -35,18 +34,15 @@ fn turn<R: Threads + Sync, L: Ledger, H: Hub<Work<L>>, K: Sink, G: Gate>(
     gate: &G,
     steps: &mut Steps<L>,
 ) -> Result<(), Failed>
-    requires in_range { IsInRange settings.now }
-    requires settings { keyer.now.settings ≡ settings.now }
-    requires hub_settings { H.settings hub.now ≡ settings.now }
+    requires in_range { IsInRange keyer.now.settings }
+    requires hub_settings { H.settings hub.now ≡ keyer.now.settings }
     requires short { length line.now ≤ line_limit }
     requires closed { HasAccepted H.Hub hub.now pass.old seen.old }
     ensures turns { HasSentLine H.Hub hub.now pass.old pass.new steps.old steps.new
-        seen.old settings.now line.now (K.written sink.old) (K.written sink.new) result seen.new }
+        seen.old keyer.now.settings line.now (K.written sink.old) (K.written sink.new) result seen.new }
     ensures cause { HasCause (K.faults sink.old) (K.faults sink.new) result }
 {
-    let (line, number) = told(
-        rt, alloc, settings, keyer, hub, line, *seen, gate, pass, steps,
-    );
+    let (line, number) = told(rt, alloc, keyer, hub, line, *seen, gate, pass, steps);
     *seen = (*seen).max(number);
     send(sink, line.as_bytes())
 }
@@ -68,7 +64,6 @@ fn turn_long<K: Sink>(sink: &mut K) -> Result<(), Failed>
 pub fn session<R: Threads + Sync, L: Ledger, H: Hub<Work<L>>, S: Source, K: Sink, G: Gate>(
     rt: &R,
     alloc: Global,
-    settings: &Settings,
     keyer: &Keyer,
     hub: &H,
     pass: &mut H::Pass,
@@ -79,12 +74,11 @@ pub fn session<R: Threads + Sync, L: Ledger, H: Hub<Work<L>>, S: Source, K: Sink
     steps: &mut Steps<L>,
 ) -> End
     requires fresh { IsFresh lines.old }
-    requires in_range { IsInRange settings.now }
-    requires settings { keyer.now.settings ≡ settings.now }
-    requires hub_settings { H.settings hub.now ≡ settings.now }
+    requires in_range { IsInRange keyer.now.settings }
+    requires hub_settings { H.settings hub.now ≡ keyer.now.settings }
     requires closed { MayLead H.Stands (H.callers hub.now) hub.now pass.old Always }
     ensures served { HasServed H.Hub hub.now pass.old pass.new steps.old steps.new S.Source K.Sink
-        settings.now lines.old.limit source.old source.new sink.old sink.new result }
+        keyer.now.settings lines.old.limit source.old source.new sink.old sink.new result }
     ensures cause { HasCauseOfEnd S.Source K.Sink source.old source.new sink.old sink.new result }
     ensures limit { lines.new.limit ≡ lines.old.limit }
 {
@@ -93,7 +87,7 @@ pub fn session<R: Threads + Sync, L: Ledger, H: Hub<Work<L>>, S: Source, K: Sink
         match lines.next(source) {
             Cut::Line(line) => {
                 match turn(
-                    rt, alloc, settings, keyer, hub, line, &mut seen, pass, sink, gate, steps,
+                    rt, alloc, keyer, hub, line, &mut seen, pass, sink, gate, steps,
                 ) {
                     Ok(()) => {}
                     Err(Failed) => return End::WriteFault,

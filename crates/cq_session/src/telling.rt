@@ -4,7 +4,7 @@ ghost use Rattle.cq_talk.specs.Replies.{named as named_in};
 ghost use Rattle.cq_session.specs.Passes.{HasAccepted, HasLine};
 
 use crate::answering::reply_to;
-use cq_base::{Memory, Settings, Steps};
+use cq_base::{Memory, Steps};
 use cq_hub::Hub;
 use cq_io::Gate;
 use cq_reply::{Line, Reply, Short, fixed, line_of};
@@ -33,7 +33,6 @@ fn named(reply: &Reply) -> u64
 pub(crate) fn told<R: Threads + Sync, L: Ledger, H: Hub<Work<L>>, G: Gate>(
     rt: &R,
     alloc: Global,
-    settings: &Settings,
     keyer: &Keyer,
     hub: &H,
     line: &[u8],
@@ -42,16 +41,13 @@ pub(crate) fn told<R: Threads + Sync, L: Ledger, H: Hub<Work<L>>, G: Gate>(
     pass: &mut H::Pass,
     steps: &mut Steps<L>,
 ) -> (Line, u64)
-    requires in_range { IsInRange settings.now }
-    requires settings { keyer.now.settings ≡ settings.now }
-    requires hub_settings { H.settings hub.now ≡ settings.now }
+    requires in_range { IsInRange keyer.now.settings }
+    requires hub_settings { H.settings hub.now ≡ keyer.now.settings }
     requires closed { HasAccepted H.Hub hub.now pass.old seen }
     ensures { HasLine H.Hub hub.now pass.old pass.new
-        steps.old steps.new seen settings.now line.now result }
+        steps.old steps.new seen keyer.now.settings line.now result }
 {
-    match reply_to(
-        rt, alloc, settings, keyer, hub, line, seen, gate, pass, steps,
-    ) {
+    match reply_to(rt, alloc, keyer, hub, line, seen, gate, pass, steps) {
         Ok(reply) => match line_of(alloc, &reply) {
             Ok(line) => (line, named(&reply)),
             Err(Memory) => (Line::Short(fixed(Short::Memory)), 0),
