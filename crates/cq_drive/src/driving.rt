@@ -10,7 +10,7 @@ ghost use Rattle.cq_reply.specs.Written.{line_of as reply_line};
 ghost use Rattle.cq_reply.specs.declared.reply.Reply.TheVariants as reply;
 
 use crate::telling::outcome_line;
-use cq_base::{Memory, Settings, Steps};
+use cq_base::{Memory, Steps};
 use cq_core::Core;
 use cq_io::{Failed, Sink, Source, send};
 use cq_lines::{Cut, End, Lines};
@@ -27,22 +27,20 @@ const CALLERS: u32 = 16;
 fn turn<R: Threads + Sync, L: Ledger, K: Sink>(
     rt: &R,
     alloc: Global,
-    settings: &Settings,
     keyer: &Keyer,
     core: &mut Core<Work<L>>,
     line: &[u8],
     sink: &mut K,
     steps: &mut Steps<L>,
 ) -> Result<(), Failed>
-    requires in_range { IsInRange settings.now }
-    requires settings { keyer.now.settings ≡ settings.now }
-    requires driven { IsDriven L settings.now core.old }
+    requires in_range { IsInRange keyer.now.settings }
+    requires driven { IsDriven L keyer.now.settings core.old }
     requires short { length line.now ≤ line_limit }
-    ensures sent { LineSent L settings.now core.old core.new line.now
+    ensures sent { LineSent L keyer.now.settings core.old core.new line.now
         (K.written sink.old) (K.written sink.new) result }
     ensures cause { HasCause (K.faults sink.old) (K.faults sink.new) result }
 {
-    let told = outcome_line(rt, alloc, settings, keyer, core, line, steps);
+    let told = outcome_line(rt, alloc, keyer, core, line, steps);
     send(sink, told.as_bytes())
 }
 
@@ -58,7 +56,6 @@ fn turn_long<K: Sink>(sink: &mut K) -> Result<(), Failed>
 fn run<R: Threads + Sync, L: Ledger, S: Source, K: Sink>(
     rt: &R,
     alloc: Global,
-    settings: &Settings,
     keyer: &Keyer,
     core: &mut Core<Work<L>>,
     lines: &mut Lines,
@@ -67,16 +64,15 @@ fn run<R: Threads + Sync, L: Ledger, S: Source, K: Sink>(
     steps: &mut Steps<L>,
 ) -> End
     requires fresh { IsFresh lines.old }
-    requires in_range { IsInRange settings.now }
-    requires settings { keyer.now.settings ≡ settings.now }
-    requires driven { IsDriven L settings.now core.old }
-    ensures served { HasServed L settings.now core.old S.Source K.Sink lines.old
+    requires in_range { IsInRange keyer.now.settings }
+    requires driven { IsDriven L keyer.now.settings core.old }
+    ensures served { HasServed L keyer.now.settings core.old S.Source K.Sink lines.old
         source.old source.new sink.old sink.new result }
     ensures cause { HasCauseOfEnd S.Source K.Sink source.old source.new sink.old sink.new result }
 {
     'lines: loop {
         match lines.next(source) {
-            Cut::Line(line) => match turn(rt, alloc, settings, keyer, core, line, sink, steps) {
+            Cut::Line(line) => match turn(rt, alloc, keyer, core, line, sink, steps) {
                 Ok(()) => {}
                 Err(Failed) => return End::WriteFault,
             },
@@ -97,7 +93,6 @@ fn run<R: Threads + Sync, L: Ledger, S: Source, K: Sink>(
 pub fn drive<R: Threads + Sync, L: Ledger, S: Source, K: Sink>(
     rt: &R,
     alloc: Global,
-    settings: &Settings,
     keyer: &Keyer,
     lines: &mut Lines,
     source: &mut S,
@@ -105,9 +100,8 @@ pub fn drive<R: Threads + Sync, L: Ledger, S: Source, K: Sink>(
     steps: &mut Steps<L>,
 ) -> Result<End, Memory>
     requires fresh { IsFresh lines.old }
-    requires in_range { IsInRange settings.now }
-    requires settings { keyer.now.settings ≡ settings.now }
-    ensures script { IfOk result (Plays S.Source K.Sink settings.now lines.old
+    requires in_range { IsInRange keyer.now.settings }
+    ensures script { IfOk result (Plays S.Source K.Sink keyer.now.settings lines.old
         source.old source.new sink.old sink.new) }
     ensures cause { IfOk result
         (HasCauseOfEnd S.Source K.Sink source.old source.new sink.old sink.new) }
@@ -115,8 +109,6 @@ pub fn drive<R: Threads + Sync, L: Ledger, S: Source, K: Sink>(
     ensures source { OnErr result (source.new ≡ source.old) }
     ensures sink { OnErr result (sink.new ≡ sink.old) }
 {
-    let mut core: Core<Work<L>> = Core::new(alloc, settings, CALLERS)?;
-    Ok(run(
-        rt, alloc, settings, keyer, &mut core, lines, source, sink, steps,
-    ))
+    let mut core: Core<Work<L>> = Core::new(alloc, &keyer.settings, CALLERS)?;
+    Ok(run(rt, alloc, keyer, &mut core, lines, source, sink, steps))
 }

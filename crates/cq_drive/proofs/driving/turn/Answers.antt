@@ -5,7 +5,7 @@ use Rattle.cq_drive.proofs.driving.turn.Goals as goal
 
 pub returns-clause-sent : goal.returns-clause-sent
 returns-clause-sent g c =
-    led_weaker g.row.L.Denot c.args.settings.now c.args.core.now c.outcome_line-told.new.core _ _ c.outcome_line-told.ensures
+    led_weaker g.row.L.Denot c.args.keyer.now.settings c.args.core.now c.outcome_line-told.new.core _ _ c.outcome_line-told.ensures
     (λ k later told. (
       told.0,
       inr (c.requires.short, told.1),
