@@ -6,7 +6,7 @@ ghost use Rattle.cq_make.specs.Made.{Answers};
 ghost use Rattle.cq_make.specs.Summary.{question};
 
 use crate::generator::PROJECT;
-use cq_base::{Memory, Settings, Steps, Text};
+use cq_base::{Memory, Steps, Text};
 use cq_hub::{Hub, Solo, SoloPass};
 use cq_io::OpenGate;
 use cq_reply::Reply;
@@ -38,24 +38,20 @@ fn question(alloc: Global, kind: Kind) -> Result<Query, Memory>
 pub(crate) fn reply_of<R: Threads + Sync, L: Ledger>(
     rt: &R,
     alloc: Global,
-    settings: &Settings,
     keyer: &Keyer,
     hub: &Solo<Work<L>>,
     kind: Kind,
     pass: &mut SoloPass<Work<L>>,
     steps: &mut Steps<L>,
 ) -> Result<Reply, Memory>
-    requires in_range { IsInRange settings.now }
-    requires short { settings.now.chunk ≤ 50 }
+    requires in_range { IsInRange keyer.now.settings }
+    requires short { keyer.now.settings.chunk ≤ 50 }
     requires path { HasPath kind None }
-    requires settings { keyer.now.settings ≡ settings.now }
-    requires hub_settings { ⟦<Solo<Work<L>> as Hub<Work<L>>>⟧.settings hub.now ≡ settings.now }
+    requires hub_settings { ⟦<Solo<Work<L>> as Hub<Work<L>>>⟧.settings hub.now ≡ keyer.now.settings }
     requires closed { MayLead ⟦<Solo<Work<L>> as Hub<Work<L>>>⟧.Stands 1 hub.now pass.old Always }
     ensures reply { IfOk result (Answers ⟦<Solo<Work<L>> as Hub<Work<L>>>⟧
-        hub.now pass.old pass.new settings.now kind) }
+        hub.now pass.old pass.new keyer.now.settings kind) }
 {
     let query = question(alloc, kind)?;
-    query_reply(
-        rt, alloc, settings, keyer, hub, &query, 0, &OpenGate, pass, steps,
-    )
+    query_reply(rt, alloc, keyer, hub, &query, 0, &OpenGate, pass, steps)
 }

@@ -99,36 +99,9 @@ fn line_made<R: Threads + Sync, L: Ledger>(
     let made: (Solo<Work<L>>, SoloPass<Work<L>>) = Solo::new(alloc, settings)?;
     let (hub, mut pass) = made;
     put_all(alloc, &hub, number, files, &mut pass)?;
-    let groups = reply_of(
-        rt,
-        alloc,
-        settings,
-        &keyer,
-        &hub,
-        Kind::Groups,
-        &mut pass,
-        steps,
-    )?;
-    let measures = reply_of(
-        rt,
-        alloc,
-        settings,
-        &keyer,
-        &hub,
-        Kind::Measures,
-        &mut pass,
-        steps,
-    )?;
-    let rows = reply_of(
-        rt,
-        alloc,
-        settings,
-        &keyer,
-        &hub,
-        Kind::Files,
-        &mut pass,
-        steps,
-    )?;
+    let groups = reply_of(rt, alloc, &keyer, &hub, Kind::Groups, &mut pass, steps)?;
+    let measures = reply_of(rt, alloc, &keyer, &hub, Kind::Measures, &mut pass, steps)?;
+    let rows = reply_of(rt, alloc, &keyer, &hub, Kind::Files, &mut pass, steps)?;
     line_told(alloc, settings, number, files, &groups, &measures, &rows)
 }
 
