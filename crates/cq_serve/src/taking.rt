@@ -1,10 +1,10 @@
-ghost use Rattle.std.specs.Prelude.{◌≡◌, [], ◌∷◌};
+ghost use Rattle.std.specs.Prelude.{◌≡◌};
 ghost use Rattle.cq_base.specs.Settings.{IsInRange};
 ghost use Rattle.cq_hub.specs.Hubs.{IsPassOf};
 ghost use Rattle.cq_serve.specs.Turns.{HasAsked, HasTurned};
 
 use crate::answers::Turn;
-use cq_base::{Memory, Settings};
+use cq_base::Memory;
 use cq_board::Finished;
 use cq_hub::Hub;
 use cq_io::Gate;
@@ -35,15 +35,13 @@ fn publish_done<L: Ledger, H: Hub<Work<L>>, G: Gate>(
 /// `work_of` does for the change's text, and what it costs to apply the works that are done.
 pub fn turn<L: Ledger, H: Hub<Work<L>>, G: Gate>(
     alloc: Global,
-    settings: &Settings,
     keyer: &Keyer,
     hub: &H,
     pass: &mut H::Pass,
     gate: &G,
 ) -> Turn
-    requires in_range { IsInRange settings.now }
-    requires settings { keyer.now.settings ≡ settings.now }
-    requires hub_settings { H.settings hub.now ≡ settings.now }
+    requires in_range { IsInRange keyer.now.settings }
+    requires hub_settings { H.settings hub.now ≡ keyer.now.settings }
     requires stands { IsPassOf H.Stands hub.now pass.old }
     ensures turned { HasTurned H.Hub hub.now pass.old pass.new result }
     ensures asked { H.asked pass.new ≡ H.asked pass.old }
@@ -53,7 +51,7 @@ pub fn turn<L: Ledger, H: Hub<Work<L>>, G: Gate>(
         Ok(None) => Turn::Idle,
         Ok(Some(job)) => {
             gate.before_work(job.change);
-            match work_for(alloc, settings, keyer, job.lang, &job.text) {
+            match work_for(alloc, keyer, job.lang, &job.text) {
                 Err(Memory) => {
                     let _given = hub.back(job.change, pass);
                     publish_done(alloc, hub, gate, pass);

@@ -6,7 +6,6 @@ ghost use Rattle.cq_serve.specs.Labours.{HasLaboured};
 use crate::answers::Turn;
 use crate::bell::Bell;
 use crate::taking::turn;
-use cq_base::Settings;
 use cq_hub::Hub;
 use cq_io::Gate;
 use cq_work::{Keyer, Work};
@@ -30,16 +29,14 @@ fn rest<Q: Wait>(rt: &Q, bell: &Bell, heard: u64, came: Turn) {
 pub fn work<Q: Wait, L: Ledger, H: Hub<Work<L>>, G: Gate>(
     rt: &Q,
     alloc: Global,
-    settings: &Settings,
     keyer: &Keyer,
     hub: &H,
     pass: H::Pass,
     gate: &G,
     bell: &Bell,
 ) -> H::Pass
-    requires in_range { IsInRange settings.now }
-    requires settings { keyer.now.settings ≡ settings.now }
-    requires hub_settings { H.settings hub.now ≡ settings.now }
+    requires in_range { IsInRange keyer.now.settings }
+    requires hub_settings { H.settings hub.now ≡ keyer.now.settings }
     requires stands { IsPassOf H.Stands hub.now pass }
     ensures labours { HasLaboured H.Hub hub.now pass result }
     ensures asked { H.asked result ≡ H.asked pass }
@@ -49,7 +46,7 @@ pub fn work<Q: Wait, L: Ledger, H: Hub<Work<L>>, G: Gate>(
         let Some(heard) = bell.heard(rt) else {
             break;
         };
-        let came = turn(alloc, settings, keyer, hub, &mut pass, gate);
+        let came = turn(alloc, keyer, hub, &mut pass, gate);
         rest(rt, bell, heard, came);
     }
     pass
