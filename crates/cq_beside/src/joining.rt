@@ -67,7 +67,7 @@ fn labour<Q: Wait, L: Ledger, R: Wait, G: Gate>(
     ensures worked { Worked hub.now pass result }
 {
     let keyer = Keyer::plain(settings);
-    work(rt, alloc, settings, &keyer, hub, pass, gate, bell)
+    work(rt, alloc, &keyer, hub, pass, gate, bell)
 }
 
 // The talk, on a pass of its own, which ends in this one. Behind it nobody sleeps on the bell.

@@ -8,7 +8,7 @@ ghost use Rattle.cq_beside.specs.Replies.{AreWithWorkers};
 ghost use Rattle.cq_beside.specs.Served.{IsServed, IsFirst};
 
 use crate::joining::{Talker, beside};
-use cq_base::{Settings, Steps};
+use cq_base::Steps;
 use cq_chain::Pass;
 use cq_io::{Gate, Sink, Source};
 use cq_lines::{End, Lines};
@@ -25,7 +25,6 @@ use std::thread::Threads;
 #[derive(Drop)]
 struct Serving<'a, L: Ledger, S, K, G> {
     alloc: Global,
-    settings: &'a Settings,
     keyer: &'a Keyer,
     lines: &'a mut Lines,
     source: &'a mut S,
@@ -52,13 +51,12 @@ impl<'a, L: Ledger, R: Wait, S: Source, K: Sink, G: Gate> Talker<L, R> for Servi
 
     type Told = Over<'a, L, S, K>;
 
-    ghost settings = { λ t. t.settings.now };
+    ghost settings = { λ t. t.keyer.now.settings };
 
-    ghost MayTalk = { λ t.
-        IsFresh t.lines.now × IsInRange t.settings.now × (t.keyer.now.settings ≡ t.settings.now) };
+    ghost MayTalk = { λ t. IsFresh t.lines.now × IsInRange t.keyer.now.settings };
 
     ghost Said = { λ t r callers c h heard asked.
-        IsTold S.Source K.Sink t.settings.now callers c h t.steps.now r.steps.now heard asked
+        IsTold S.Source K.Sink t.keyer.now.settings callers c h t.steps.now r.steps.now heard asked
         t.lines.now.limit t.source.now r.source.now t.sink.now r.sink.now r.end
         × HasCauseOfEnd S.Source K.Sink t.source.now r.source.now t.sink.now r.sink.now r.end
         × (r.source.ghost_name ≡ t.source.ghost_name) × (r.sink.ghost_name ≡ t.sink.ghost_name)
@@ -72,7 +70,6 @@ impl<'a, L: Ledger, R: Wait, S: Source, K: Sink, G: Gate> Talker<L, R> for Servi
     ) -> Over<'a, L, S, K> {
         let Serving {
             alloc,
-            settings,
             keyer,
             lines,
             source,
@@ -81,7 +78,7 @@ impl<'a, L: Ledger, R: Wait, S: Source, K: Sink, G: Gate> Talker<L, R> for Servi
             steps,
         } = self;
         let end = session(
-            rt, alloc, settings, keyer, hub, pass, lines, source, sink, gate, steps,
+            rt, alloc, keyer, hub, pass, lines, source, sink, gate, steps,
         );
         Over {
             source,
@@ -113,7 +110,6 @@ pub fn serve_one<
 >(
     rt: &Q,
     alloc: Global,
-    settings: &Settings,
     keyer: &Keyer,
     hub: &Shared<Work<L>, R>,
     pass: Pass<Work<L>>,
@@ -125,17 +121,16 @@ pub fn serve_one<
     steps: &mut Steps<L>,
 ) -> End
     requires fresh { IsFresh lines.old }
-    requires in_range { IsInRange settings.now }
-    requires settings { keyer.now.settings ≡ settings.now }
-    requires hub_settings { settings_of hub.now ≡ settings.now }
+    requires in_range { IsInRange keyer.now.settings }
+    requires hub_settings { settings_of hub.now ≡ keyer.now.settings }
     requires of { IsPassOf hub.now pass }
     requires room { workers < pass.room }
-    ensures served { IsServed S.Source K.Sink settings.now
+    ensures served { IsServed S.Source K.Sink keyer.now.settings
         (callers_of hub.now) (pass.next + workers) pass.seen steps.old steps.new
         lines.old.limit source.old source.new sink.old sink.new result }
     ensures beside { IsFirst hub.now pass
         → ServesLines S.Source K.Sink line_of
-        (AreWithWorkers settings.now (callers_of hub.now) workers steps.old steps.new)
+        (AreWithWorkers keyer.now.settings (callers_of hub.now) workers steps.old steps.new)
         lines.old.limit source.old source.new sink.old sink.new result }
     ensures cause { HasCauseOfEnd S.Source K.Sink source.old source.new sink.old sink.new result }
 {
@@ -147,7 +142,6 @@ pub fn serve_one<
     };
     let serving = Serving {
         alloc,
-        settings,
         keyer,
         lines,
         source,
@@ -156,7 +150,15 @@ pub fn serve_one<
         steps,
     };
     let (over, _pass) = beside(
-        rt, alloc, settings, hub, gate, &bell, workers, serving, pass,
+        rt,
+        alloc,
+        &keyer.settings,
+        hub,
+        gate,
+        &bell,
+        workers,
+        serving,
+        pass,
     );
     let Over {
         source,
