@@ -76,12 +76,12 @@ fn work_at<Q: Wait, L: Ledger, R: Wait, G: Gate>(
 {
     let Bench {
         alloc,
-        settings,
         hub,
         gate,
         pass,
+        ..
     } = bench;
-    let _pass = work(rt, alloc, settings, keyer, hub, pass, gate, bell);
+    let _pass = work(rt, alloc, keyer, hub, pass, gate, bell);
 }
 
 impl<'a, L: Ledger, R: Wait, G: Gate> Worker for Bench<'a, L, R, G> {

@@ -93,7 +93,6 @@ fn converse<Q: Threads + Sync, L: Ledger, R: Wait, S: Source + Drop, K: Sink + D
     let _end = session(
         rt,
         seat.alloc,
-        seat.settings,
         keyer,
         seat.hub,
         &mut seat.pass,
