@@ -56,8 +56,7 @@ pub(crate) fn serve_with_workers<
     match Lines::new(alloc, settings.byte_limit) {
         Ok(mut lines) => {
             let end = serve_one(
-                rt, alloc, settings, &keyer, &hub, pass, &mut lines, source, sink, gate, workers,
-                steps,
+                rt, alloc, &keyer, &hub, pass, &mut lines, source, sink, gate, workers, steps,
             );
             status_of(end)
         }
