@@ -35,7 +35,7 @@ pub(crate) fn conversed<Q: Threads + Sync, L: Ledger, R: Wait, S: Source, K: Sin
     let mut lines = Lines::new(alloc, settings.byte_limit)?;
     let mut steps: Steps<L> = counters.counter();
     let end = session(
-        rt, alloc, settings, &keyer, hub, &mut pass, &mut lines, source, sink, gate, &mut steps,
+        rt, alloc, &keyer, hub, &mut pass, &mut lines, source, sink, gate, &mut steps,
     );
     Ok(end)
 }

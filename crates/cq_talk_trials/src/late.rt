@@ -50,7 +50,7 @@ fn turned<Q: Wait + Clock, L: Ledger, R: Wait>(
         hold: Hold::Works(1, Until::Told(0, UPLOADED.len())),
     };
     stage.wait(Who::Worker(1), Until::Told(0, 0));
-    Ok(turn(alloc, settings, &keyer, hub, &mut pass, &gate))
+    Ok(turn(alloc, &keyer, hub, &mut pass, &gate))
 }
 
 /// What the session and the turn came to.

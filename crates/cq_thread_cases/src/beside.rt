@@ -64,8 +64,7 @@ fn served<Q: Threads + Wait + Sync, L: Ledger + Send + Sync, S: Source, K: Sink,
     let (hub, pass) = made;
     let mut lines = Lines::new(alloc, settings.byte_limit)?;
     let end = serve_one(
-        rt, alloc, settings, &keyer, &hub, pass, &mut lines, source, sink, gate, workers,
-        &mut steps,
+        rt, alloc, &keyer, &hub, pass, &mut lines, source, sink, gate, workers, &mut steps,
     );
     Ok(end)
 }

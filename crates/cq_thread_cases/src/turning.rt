@@ -44,8 +44,8 @@ fn turns(alloc: Global, settings: &Settings, text: &str) -> Result<(Turn, Turn, 
     let made: (Solo<Work<Brand>>, SoloPass<Work<Brand>>) = Solo::new(alloc, settings)?;
     let (hub, mut pass) = made;
     hub.accept(alloc, put(alloc, text)?, &mut pass)?;
-    let first = turn(alloc, settings, &keyer, &hub, &mut pass, &OpenGate);
-    let second = turn(alloc, settings, &keyer, &hub, &mut pass, &OpenGate);
+    let first = turn(alloc, &keyer, &hub, &mut pass, &OpenGate);
+    let second = turn(alloc, &keyer, &hub, &mut pass, &OpenGate);
     let asked = hub.ask(&mut pass);
     Ok((first, second, asked.done, asked.published))
 }
