@@ -10,39 +10,36 @@ ghost use Rattle.cq_reply.specs.declared.reply.Reply.TheVariants as reply;
 ghost use Rattle.cq_talk.specs.Steps.{Always, MayLead};
 ghost use Rattle.cq_session.specs.Passes.{HasAccepted, HasSentLine, HasServed};
 
+use crate::Server;
 use crate::telling::told;
 use cq_base::Steps;
 use cq_hub::Hub;
 use cq_io::{Failed, Gate, Sink, Source, send};
 use cq_lines::{Cut, End, Lines};
 use cq_reply::{Short, fixed};
-use cq_work::{Keyer, Work};
-use std::alloc::Global;
+use cq_work::Work;
 use std::sync::ledger::Ledger;
 use std::thread::Threads;
 
 // Writes the reply to a line, which is not too long. What the reply names is seen from then on.
 fn turn<R: Threads + Sync, L: Ledger, H: Hub<Work<L>>, K: Sink, G: Gate>(
     rt: &R,
-    alloc: Global,
-    keyer: &Keyer,
-    hub: &H,
+    server: &Server<'_, H, G>,
     line: &[u8],
     seen: &mut u64,
     pass: &mut H::Pass,
     sink: &mut K,
-    gate: &G,
     steps: &mut Steps<L>,
 ) -> Result<(), Failed>
-    requires in_range { IsInRange keyer.now.settings }
-    requires hub_settings { H.settings hub.now ≡ keyer.now.settings }
+    requires in_range { IsInRange server.now.keyer.now.settings }
+    requires hub_settings { H.settings server.now.hub.now ≡ server.now.keyer.now.settings }
     requires short { length line.now ≤ line_limit }
-    requires closed { HasAccepted H.Hub hub.now pass.old seen.old }
-    ensures turns { HasSentLine H.Hub hub.now pass.old pass.new steps.old steps.new
-        seen.old keyer.now.settings line.now (K.written sink.old) (K.written sink.new) result seen.new }
+    requires closed { HasAccepted H.Hub server.now.hub.now pass.old seen.old }
+    ensures turns { HasSentLine H.Hub server.now.hub.now pass.old pass.new steps.old steps.new
+        seen.old server.now.keyer.now.settings line.now (K.written sink.old) (K.written sink.new) result seen.new }
     ensures cause { HasCause (K.faults sink.old) (K.faults sink.new) result }
 {
-    let (line, number) = told(rt, alloc, keyer, hub, line, *seen, gate, pass, steps);
+    let (line, number) = told(rt, server, line, *seen, pass, steps);
     *seen = (*seen).max(number);
     send(sink, line.as_bytes())
 }
@@ -63,22 +60,19 @@ fn turn_long<K: Sink>(sink: &mut K) -> Result<(), Failed>
 /// restarted for another source.
 pub fn session<R: Threads + Sync, L: Ledger, H: Hub<Work<L>>, S: Source, K: Sink, G: Gate>(
     rt: &R,
-    alloc: Global,
-    keyer: &Keyer,
-    hub: &H,
+    server: &Server<'_, H, G>,
     pass: &mut H::Pass,
     lines: &mut Lines,
     source: &mut S,
     sink: &mut K,
-    gate: &G,
     steps: &mut Steps<L>,
 ) -> End
     requires fresh { IsFresh lines.old }
-    requires in_range { IsInRange keyer.now.settings }
-    requires hub_settings { H.settings hub.now ≡ keyer.now.settings }
-    requires closed { MayLead H.Stands (H.callers hub.now) hub.now pass.old Always }
-    ensures served { HasServed H.Hub hub.now pass.old pass.new steps.old steps.new S.Source K.Sink
-        keyer.now.settings lines.old.limit source.old source.new sink.old sink.new result }
+    requires in_range { IsInRange server.now.keyer.now.settings }
+    requires hub_settings { H.settings server.now.hub.now ≡ server.now.keyer.now.settings }
+    requires closed { MayLead H.Stands (H.callers server.now.hub.now) server.now.hub.now pass.old Always }
+    ensures served { HasServed H.Hub server.now.hub.now pass.old pass.new steps.old steps.new S.Source K.Sink
+        server.now.keyer.now.settings lines.old.limit source.old source.new sink.old sink.new result }
     ensures cause { HasCauseOfEnd S.Source K.Sink source.old source.new sink.old sink.new result }
     ensures limit { lines.new.limit ≡ lines.old.limit }
 {
@@ -86,9 +80,7 @@ pub fn session<R: Threads + Sync, L: Ledger, H: Hub<Work<L>>, S: Source, K: Sink
     'lines: loop {
         match lines.next(source) {
             Cut::Line(line) => {
-                match turn(
-                    rt, alloc, keyer, hub, line, &mut seen, pass, sink, gate, steps,
-                ) {
+                match turn(rt, server, line, &mut seen, pass, sink, steps) {
                     Ok(()) => {}
                     Err(Failed) => return End::WriteFault,
                 }

@@ -50,8 +50,8 @@ lines-preserved-in-Ok g c =
             after = two.after;
             stands = two.stands;
             closed = two.closed;
-            holds = so_far_more c.args.keyer.now.settings _ _ by h led.after two.after _ _ _ _ _ _ _ _ _ _ _ _ _ _ _ _ cuts.got c.in-Line.line.now two.holds.reply led.holds cuts.bytes cuts.taken cuts.within cuts.limit (λ e. (cuts.stays e).0) cuts.finds.1 two.holds.answers two.holds.spends _
-                (subst (λ (set : Settings). Lawful set (g.H.Hub.callers c.args.hub.now) two.after) c.requires.hub_settings (g.met.H.Hub.lawful _ _ by two.after two.stands)) two.holds.seen_is two.holds.sends;
+            holds = so_far_more c.args.server.now.keyer.now.settings _ _ by h led.after two.after _ _ _ _ _ _ _ _ _ _ _ _ _ _ _ _ cuts.got c.in-Line.line.now two.holds.reply led.holds cuts.bytes cuts.taken cuts.within cuts.limit (λ e. (cuts.stays e).0) cuts.finds.1 two.holds.answers two.holds.spends _
+                (subst (λ (set : Settings). Lawful set (g.H.Hub.callers c.args.server.now.hub.now) two.after) c.requires.hub_settings (g.met.H.Hub.lawful _ _ by two.after two.stands)) two.holds.seen_is two.holds.sends;
           };
       source_faults = c.in-Line.ensures.cause ∙ c.lines.invariant.source_faults;
       sink_faults = c.in-Ok.ensures.cause.kept ∙ c.lines.invariant.sink_faults;
@@ -81,9 +81,9 @@ lines-preserved g c =
             after = led.after;
             stands = led.stands;
             closed = led.closed;
-            holds = so_far_more c.args.keyer.now.settings _ _ by h led.after led.after _ _ _ _ _ _ _ _ _ _ _ _ _ _ _ _ cuts.got cuts.finds.0 reply.Long led.holds cuts.bytes cuts.taken cuts.within cuts.limit (λ e. (cuts.stays e).0) cuts.finds.2
-                (answers_long c.args.keyer.now.settings (g.H.Hub.callers c.args.hub.now) g.H.Hub.alone by c.lines.seen led.after cuts.finds.0 cuts.finds.1) (spends_long c.args.keyer.now.settings by led.after cuts.finds.0 _ _ cuts.finds.1) _
-                (subst (λ (set : Settings). Lawful set (g.H.Hub.callers c.args.hub.now) led.after) c.requires.hub_settings (g.met.H.Hub.lawful _ _ by led.after led.stands)) (let n = c.lines.seen in omega arith) c.in-Ok-turn_long.ensures.bytes;
+            holds = so_far_more c.args.server.now.keyer.now.settings _ _ by h led.after led.after _ _ _ _ _ _ _ _ _ _ _ _ _ _ _ _ cuts.got cuts.finds.0 reply.Long led.holds cuts.bytes cuts.taken cuts.within cuts.limit (λ e. (cuts.stays e).0) cuts.finds.2
+                (answers_long c.args.server.now.keyer.now.settings (g.H.Hub.callers c.args.server.now.hub.now) g.H.Hub.alone by c.lines.seen led.after cuts.finds.0 cuts.finds.1) (spends_long c.args.server.now.keyer.now.settings by led.after cuts.finds.0 _ _ cuts.finds.1) _
+                (subst (λ (set : Settings). Lawful set (g.H.Hub.callers c.args.server.now.hub.now) led.after) c.requires.hub_settings (g.met.H.Hub.lawful _ _ by led.after led.stands)) (let n = c.lines.seen in omega arith) c.in-Ok-turn_long.ensures.bytes;
           };
       source_faults = c.in-TooLong.ensures.cause ∙ c.lines.invariant.source_faults;
       sink_faults = c.in-Ok-turn_long.ensures.cause.kept ∙ c.lines.invariant.sink_faults;
@@ -95,8 +95,8 @@ returns-in-Err-turn_long-clause-served g c =
     let cuts = rw c.in-TooLong.is at c.next.follows.holds-at-none in
     let sends = c.in-Err-turn_long.ensures.bytes in
     λ by h stands closed always.
-    lead_weaker _ _ by _ _ _ _ (c.lines.invariant.goes by h stands closed tt) (λ now so. cut_off c.args.keyer.now.settings _ _ by h now now _ _ _ _ _ _ _ _ _ _ _ _ _ _ _ _ cuts.got cuts.finds.0 reply.Long so cuts.bytes cuts.taken cuts.within cuts.limit (λ e. (cuts.stays e).0) cuts.finds.2
-    (answers_long c.args.keyer.now.settings (g.H.Hub.callers c.args.hub.now) g.H.Hub.alone by c.lines.seen now cuts.finds.0 cuts.finds.1) (spends_long c.args.keyer.now.settings by now cuts.finds.0 _ _ cuts.finds.1) sends.0 sends.1 sends.2 sends.3)
+    lead_weaker _ _ by _ _ _ _ (c.lines.invariant.goes by h stands closed tt) (λ now so. cut_off c.args.server.now.keyer.now.settings _ _ by h now now _ _ _ _ _ _ _ _ _ _ _ _ _ _ _ _ cuts.got cuts.finds.0 reply.Long so cuts.bytes cuts.taken cuts.within cuts.limit (λ e. (cuts.stays e).0) cuts.finds.2
+    (answers_long c.args.server.now.keyer.now.settings (g.H.Hub.callers c.args.server.now.hub.now) g.H.Hub.alone by c.lines.seen now cuts.finds.0 cuts.finds.1) (spends_long c.args.server.now.keyer.now.settings by now cuts.finds.0 _ _ cuts.finds.1) sends.0 sends.1 sends.2 sends.3)
 
 pub returns-in-End-clause-limit : goal.returns-in-End-clause-limit
 returns-in-End-clause-limit g c =
