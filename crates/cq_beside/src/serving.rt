@@ -13,7 +13,7 @@ use cq_chain::Pass;
 use cq_io::{Gate, Sink, Source};
 use cq_lines::{End, Lines};
 use cq_serve::{Bell, RingingGate};
-use cq_session::session;
+use cq_session::{Server, session};
 use cq_shared::Shared;
 use cq_work::{Keyer, Work};
 use std::alloc::Global;
@@ -77,9 +77,13 @@ impl<'a, L: Ledger, R: Wait, S: Source, K: Sink, G: Gate> Talker<L, R> for Servi
             gate,
             steps,
         } = self;
-        let end = session(
-            rt, alloc, keyer, hub, pass, lines, source, sink, gate, steps,
-        );
+        let server = Server {
+            alloc,
+            keyer,
+            hub,
+            gate,
+        };
+        let end = session(rt, &server, pass, lines, source, sink, steps);
         Over {
             source,
             sink,
@@ -109,40 +113,37 @@ pub fn serve_one<
     G: Gate + Sync,
 >(
     rt: &Q,
-    alloc: Global,
-    keyer: &Keyer,
-    hub: &Shared<Work<L>, R>,
+    server: &Server<'_, Shared<Work<L>, R>, G>,
     pass: Pass<Work<L>>,
     lines: &mut Lines,
     source: &mut S,
     sink: &mut K,
-    gate: &G,
     workers: u32,
     steps: &mut Steps<L>,
 ) -> End
     requires fresh { IsFresh lines.old }
-    requires in_range { IsInRange keyer.now.settings }
-    requires hub_settings { settings_of hub.now ≡ keyer.now.settings }
-    requires of { IsPassOf hub.now pass }
+    requires in_range { IsInRange server.now.keyer.now.settings }
+    requires hub_settings { settings_of server.now.hub.now ≡ server.now.keyer.now.settings }
+    requires of { IsPassOf server.now.hub.now pass }
     requires room { workers < pass.room }
-    ensures served { IsServed S.Source K.Sink keyer.now.settings
-        (callers_of hub.now) (pass.next + workers) pass.seen steps.old steps.new
+    ensures served { IsServed S.Source K.Sink server.now.keyer.now.settings
+        (callers_of server.now.hub.now) (pass.next + workers) pass.seen steps.old steps.new
         lines.old.limit source.old source.new sink.old sink.new result }
-    ensures beside { IsFirst hub.now pass
+    ensures beside { IsFirst server.now.hub.now pass
         → ServesLines S.Source K.Sink line_of
-        (AreWithWorkers keyer.now.settings (callers_of hub.now) workers steps.old steps.new)
+        (AreWithWorkers server.now.keyer.now.settings (callers_of server.now.hub.now) workers steps.old steps.new)
         lines.old.limit source.old source.new sink.old sink.new result }
     ensures cause { HasCauseOfEnd S.Source K.Sink source.old source.new sink.old sink.new result }
 {
     let bell = Bell::new();
     let ringing = RingingGate {
-        gate,
+        gate: server.gate,
         bell: &bell,
         rt,
     };
     let serving = Serving {
-        alloc,
-        keyer,
+        alloc: server.alloc,
+        keyer: server.keyer,
         lines,
         source,
         sink,
@@ -151,10 +152,10 @@ pub fn serve_one<
     };
     let (over, _pass) = beside(
         rt,
-        alloc,
-        &keyer.settings,
-        hub,
-        gate,
+        server.alloc,
+        &server.keyer.settings,
+        server.hub,
+        server.gate,
         &bell,
         workers,
         serving,
