@@ -20,7 +20,7 @@ use cq_hub::{Solo, SoloPass};
 use cq_io::{Doors, Failed, Gate, Sink, Source};
 use cq_lines::Lines;
 use cq_make::make;
-use cq_session::session;
+use cq_session::{Server, session};
 use cq_talk::{talks_alone, talks_beside};
 use cq_tokask::ask;
 use cq_words::{Command, Export, Make, Run, default_settings, is_command, read_command};
@@ -55,9 +55,13 @@ fn serve<R: Threads + Sync, S: Source, K: Sink, G: Gate, L: Ledger>(
         Ok(mut lines) => {
             talks_alone();
             talks_beside();
-            let end = session(
-                rt, alloc, &keyer, &hub, &mut pass, &mut lines, source, sink, gate, steps,
-            );
+            let server = Server {
+                alloc,
+                keyer: &keyer,
+                hub: &hub,
+                gate,
+            };
+            let end = session(rt, &server, &mut pass, &mut lines, source, sink, steps);
             status_of(end)
         }
         Err(Memory) => Status::Memory,
