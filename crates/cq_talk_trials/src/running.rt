@@ -6,7 +6,7 @@ use cq_base::{Memory, Steps};
 use cq_hub::Hub;
 use cq_io::{Gate, MemSink, MemSource};
 use cq_lines::{End, Lines};
-use cq_session::session;
+use cq_session::{Server, session};
 use cq_work::{Keyer, Work};
 use std::alloc::Global;
 use std::sync::ledger::Ledger;
@@ -32,18 +32,13 @@ pub fn written<R: Threads + Sync, L: Ledger, H: Hub<Work<L>>, G: Gate>(
     let bytes = Vec::from_slice(alloc, input)?;
     let mut source = MemSource::new(bytes, 97, Vec::new(alloc));
     let mut sink = MemSink::new(alloc, 1_048_576, 89, Vec::new(alloc))?;
-    let end = session(
-        rt,
+    let server = Server {
         alloc,
         keyer,
         hub,
-        pass,
-        &mut lines,
-        &mut source,
-        &mut sink,
         gate,
-        steps,
-    );
+    };
+    let end = session(rt, &server, pass, &mut lines, &mut source, &mut sink, steps);
     let output = Vec::from_slice(alloc, sink.written())?;
     Ok((end, output))
 }

@@ -7,6 +7,7 @@ use cq_board::Refused;
 use cq_hub::{Hub, Solo, SoloPass};
 use cq_io::{Gate, OpenGate};
 use cq_serve::{Bell, RingingGate, Turn, turn};
+use cq_session::Server;
 use cq_work::{Keyer, Work};
 use std::alloc::Global;
 use std::marker::Brand;
@@ -44,8 +45,14 @@ fn turns(alloc: Global, settings: &Settings, text: &str) -> Result<(Turn, Turn, 
     let made: (Solo<Work<Brand>>, SoloPass<Work<Brand>>) = Solo::new(alloc, settings)?;
     let (hub, mut pass) = made;
     hub.accept(alloc, put(alloc, text)?, &mut pass)?;
-    let first = turn(alloc, &keyer, &hub, &mut pass, &OpenGate);
-    let second = turn(alloc, &keyer, &hub, &mut pass, &OpenGate);
+    let server = Server {
+        alloc,
+        keyer: &keyer,
+        hub: &hub,
+        gate: &OpenGate,
+    };
+    let first = turn(&server, &mut pass);
+    let second = turn(&server, &mut pass);
     let asked = hub.ask(&mut pass);
     Ok((first, second, asked.done, asked.published))
 }
