@@ -45,7 +45,7 @@ returns-in-Err-clause-served g c =
     let cuts = rw c.in-Line.is at c.next.follows.holds-at-none in
     λ from begins.
     let so = c.lines.invariant.goes from begins in
-    let (reply, are, front, more, parts, sent) = c.in-Err.ensures.sent from c.args.answers.now so.lines so.replied.replies so.replied.talk in
+    let (reply, are, (front, more, parts, sent)) = c.in-Err.ensures.sent from c.args.answers.now so.lines so.replied.replies so.replied.talk in
     write_failed g.A.Answers.line_of (g.A.Answers.AreReplies from c.args.answers.now c.lines.answers) (g.A.Answers.AreReplies from c.args.answers.now c.answer.new.self) _ _ _ _ _ _ _ _ _ cuts.got c.in-Line.line.now reply so cuts.bytes cuts.taken cuts.within cuts.limit (λ e. (cuts.stays e).0) cuts.finds.1 (λ talk. are) front more parts sent
 
 pub lines-smaller : goal.lines-smaller
@@ -72,7 +72,7 @@ returns-in-Err-answer_long-clause-served g c =
     let cuts = rw c.in-TooLong.is at c.next.follows.holds-at-none in
     λ from begins.
     let so = c.lines.invariant.goes from begins in
-    let (reply, are, front, more, parts, sent) = c.in-Err-answer_long.ensures.sent cuts.finds.0 cuts.finds.1 from c.args.answers.now so.lines so.replied.replies so.replied.talk in
+    let (reply, are, (front, more, parts, sent)) = c.in-Err-answer_long.ensures.sent cuts.finds.0 cuts.finds.1 from c.args.answers.now so.lines so.replied.replies so.replied.talk in
     write_failed g.A.Answers.line_of (g.A.Answers.AreReplies from c.args.answers.now c.lines.answers) (g.A.Answers.AreReplies from c.args.answers.now c.answer_long.new.self) _ _ _ _ _ _ _ _ _ cuts.got cuts.finds.0 reply so cuts.bytes cuts.taken cuts.within cuts.limit (λ e. (cuts.stays e).0) cuts.finds.2 (λ talk. are) front more parts sent
 
 pub returns-in-End-clause-limit : goal.returns-in-End-clause-limit
