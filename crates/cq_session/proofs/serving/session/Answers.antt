@@ -11,7 +11,7 @@ use Rattle.cq_session.proofs.Turns.{talked_none}
 use Rattle.cq_session.proofs.serving.session.Goals as goal
 
 pub serve_lines-requires-clause-ready : goal.serve_lines-requires-clause-ready
-serve_lines-requires-clause-ready g c = let r = c.requires.closed in (c.requires.in_range, (c.requires.hub_settings, (r.0, r.1, r.2, (r.3.0, omega arith))))
+serve_lines-requires-clause-ready g c = let r = c.requires.closed in (c.requires.in_range, c.requires.hub_settings, (r.0, r.1, r.2, (r.3.0, omega arith)))
 
 pub returns-clause-served : goal.returns-clause-served
 returns-clause-served g c = λ by h stands closed always.
@@ -29,6 +29,6 @@ returns-clause-served g c = λ by h stands closed always.
     } in
     let (after, holds, served) = serves_by line_of (λ (after : List Event). g.H.Hub.Stands hub now.pass.now by after × IsClosed callers by after) (λ (after : List Event). CountedTalk set callers g.H.Hub.alone by h n after) _ _ _ _ _ _
     (serves_as line_of _ _ (λ lines replies is.
-    let talked = subst₂ (λ (s : Settings) (b : g.row.H.Denot). HasTalked g.H.Hub s b (by, h) n now.pass.now now.seen lines replies) is.1.0 is.1.1 is.0 in
-    (talked.after, (talked.stands, talked.closed), talked.talk.talk)) _ _ _ _ _ _ (c.serve_lines.ensures.served (by, h) (begins, (refl, refl)))) in
+    let talked = subst₂ (λ (s : Settings) (b : g.row.H.Denot). HasTalked g.H.Hub s b (by, h) n now.pass.now now.seen lines replies) is.1 is.2 is.0 in
+    (talked.after, (talked.stands, talked.closed), talked.talk.talk)) _ _ _ _ _ _ (c.serve_lines.ensures.served (by, h) (begins, refl, refl))) in
     record { after = after; stands = holds.0; closed = holds.1; holds = served }

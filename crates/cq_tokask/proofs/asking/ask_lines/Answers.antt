@@ -11,5 +11,5 @@ serve_lines-requires-clause-ready g c = (c.requires.in_range, c.requires.sound, 
 
 pub returns-clause-served : goal.returns-clause-served
 returns-clause-served g c =
-    serves_as line_of _ (AnswersLines c.args.snapshot.now c.args.settings.now) (λ lines replies is. subst₂ (λ (s : Snapshot g.row.L.Denot) (set : Settings). AnswersLines s set lines replies) is.1.0 is.1.1 is.0) _ _ _ _ _ _
-    (c.serve_lines.ensures.served tt (tt, (refl, refl)))
+    serves_as line_of _ (AnswersLines c.args.snapshot.now c.args.settings.now) (λ lines replies is. subst₂ (λ (s : Snapshot g.row.L.Denot) (set : Settings). AnswersLines s set lines replies) is.1 is.2 is.0) _ _ _ _ _ _
+    (c.serve_lines.ensures.served tt (tt, refl, refl))

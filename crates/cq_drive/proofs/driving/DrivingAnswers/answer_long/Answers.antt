@@ -17,5 +17,5 @@ returns-clause-sent g c = λ line long from first lines outcomes so.
         },
         so.1,
       ),
-      subst (λ piece. Sends (g.K.Sink.written c.args.sink.now) (g.K.Sink.written c.send.new.sink) piece c.send.result) (c.as_bytes.ensures ∙ c.fixed.ensures) c.send.ensures.bytes,
+      subst (λ piece. Sends (g.K.Sink.written c.args.sink.now) (g.K.Sink.written c.send.new.sink) piece c.send.result) (c.as_bytes.ensures.bytes ∙ c.fixed.ensures) c.send.ensures.bytes,
     )

@@ -22,6 +22,7 @@ returns-clause-sent g c = λ line long from first lines replies so.
           within = was.within;
         },
         so.1,
+        so.2,
       ),
-      subst (λ piece. Sends (g.K.Sink.written c.args.sink.now) (g.K.Sink.written c.send.new.sink) piece c.send.result) (c.as_bytes.ensures ∙ c.fixed.ensures) c.send.ensures.bytes,
+      subst (λ piece. Sends (g.K.Sink.written c.args.sink.now) (g.K.Sink.written c.send.new.sink) piece c.send.result) (c.as_bytes.ensures.bytes ∙ c.fixed.ensures) c.send.ensures.bytes,
     )
