@@ -59,6 +59,7 @@ struct Talk<'a, R, L: Ledger, H: Hub<Work<L>>, G> {
 
 impl<'a, R: Threads + Sync, L: Ledger, H: Hub<Work<L>>, G: Gate> Answers for Talk<'a, R, L, H, G> {
     ghost use Rattle.std.specs.Prelude.{◌≡◌, ℕ, List};
+    ghost use Rattle.std.specs.Thread.{IsSync};
     ghost use Rattle.cq_base.specs.Settings.{IsInRange};
     ghost use Rattle.cq_history.specs.declared.event.Event.{Event as Happened};
     ghost use Rattle.cq_reply.specs.Written.{line_of as written};
@@ -79,7 +80,7 @@ impl<'a, R: Threads + Sync, L: Ledger, H: Hub<Work<L>>, G: Gate> Answers for Tal
         now.pass.now now.seen lines replies
         × (now.keyer.now.settings ≡ first.keyer.now.settings) × (now.hub.now ≡ first.hub.now) };
 
-    ghost ready = { λ t. IsInRange t.keyer.now.settings
+    ghost ready = { λ t. IsSync R.row × IsInRange t.keyer.now.settings
         × (H.settings t.hub.now ≡ t.keyer.now.settings)
         × HasAccepted H.Hub t.hub.now t.pass.now t.seen };
 
