@@ -30,6 +30,7 @@ struct Driving<'a, R, L: Ledger> {
 
 impl<'a, R: Threads + Sync, L: Ledger> Answers for Driving<'a, R, L> {
     ghost use Rattle.std.specs.Prelude.{◌≡◌};
+    ghost use Rattle.std.specs.Thread.{IsSync};
     ghost use Rattle.cq_base.specs.Settings.{IsInRange};
     ghost use Rattle.cq_drive.specs.Cores.{HasComeTo, IsDriven};
     ghost use Rattle.cq_drive.specs.Outcomes.{line_of as written};
@@ -46,7 +47,8 @@ impl<'a, R: Threads + Sync, L: Ledger> Answers for Driving<'a, R, L> {
         HasComeTo L now.keyer.now.settings from now.core.now lines outcomes
         × (now.keyer.now.settings ≡ first.keyer.now.settings) };
 
-    ghost ready = { λ d. IsInRange d.keyer.now.settings × IsDriven L d.keyer.now.settings d.core.now };
+    ghost ready = { λ d. IsSync R.row × IsInRange d.keyer.now.settings
+        × IsDriven L d.keyer.now.settings d.core.now };
 
     fn answer<K: Sink>(&mut self, line: &[u8], sink: &mut K) -> Result<(), Failed> {
         let told = outcome_line(self.rt, self.alloc, self.keyer, self.core, line, self.steps);

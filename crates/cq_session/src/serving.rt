@@ -53,6 +53,7 @@ struct Talk<'a, R, L: Ledger, H: Hub<Work<L>>, G> {
 
 impl<'a, R: Threads + Sync, L: Ledger, H: Hub<Work<L>>, G: Gate> Answers for Talk<'a, R, L, H, G> {
     ghost use Rattle.std.specs.Prelude.{◌≡◌, ℕ, List};
+    ghost use Rattle.std.specs.Thread.{IsSync};
     ghost use Rattle.cq_base.specs.Settings.{IsInRange};
     ghost use Rattle.cq_history.specs.declared.event.Event.{Event as Happened};
     ghost use Rattle.cq_reply.specs.Written.{line_of as written};
@@ -73,7 +74,7 @@ impl<'a, R: Threads + Sync, L: Ledger, H: Hub<Work<L>>, G: Gate> Answers for Tal
         now.pass.now now.seen lines replies
         × (now.server.now.keyer.now.settings ≡ first.server.now.keyer.now.settings) × (now.server.now.hub.now ≡ first.server.now.hub.now) };
 
-    ghost ready = { λ t. IsInRange t.server.now.keyer.now.settings
+    ghost ready = { λ t. IsSync R.row × IsInRange t.server.now.keyer.now.settings
         × (H.settings t.server.now.hub.now ≡ t.server.now.keyer.now.settings)
         × HasAccepted H.Hub t.server.now.hub.now t.pass.now t.seen };
 

@@ -29,6 +29,7 @@ struct Asking<'a, R, L: Ledger> {
 
 impl<'a, R: Threads + Sync, L: Ledger> Answers for Asking<'a, R, L> {
     ghost use Rattle.std.specs.Prelude.{◌≡◌};
+    ghost use Rattle.std.specs.Thread.{IsSync};
     ghost use Rattle.cq_base.specs.Settings.{IsInRange};
     ghost use Rattle.cq_reply.specs.Written.{line_of as written};
     ghost use Rattle.cq_reply.specs.declared.reply.Reply.{Reply as Told};
@@ -46,7 +47,8 @@ impl<'a, R: Threads + Sync, L: Ledger> Answers for Asking<'a, R, L> {
         AnswersLines now.snapshot.now now.settings.now lines replies
         × (now.snapshot.now ≡ first.snapshot.now) × (now.settings.now ≡ first.settings.now) };
 
-    ghost ready = { λ a. IsInRange a.settings.now × IsSoundSnapshot a.settings.now a.snapshot.now
+    ghost ready = { λ a. IsSync R.row × IsInRange a.settings.now
+        × IsSoundSnapshot a.settings.now a.snapshot.now
         × IsLoadedOf a.snapshot.now.files a.loaded.now };
 
     fn answer<K: Sink>(&mut self, line: &[u8], sink: &mut K) -> Result<(), Failed> {

@@ -1,4 +1,4 @@
-use Rattle.std.proofs.Common.{refl, subst}
+use Rattle.std.proofs.Common.{rules, refl, subst}
 use Rattle.cq_base.specs.declared.settings.Settings.{Settings}
 use Rattle.cq_lines.proofs.Serving.{serves_as}
 use Rattle.cq_drive.specs.Outcomes.{line_of}
@@ -6,7 +6,7 @@ use Rattle.cq_drive.specs.Script.{ComeTo, ComeFrom}
 use Rattle.cq_drive.proofs.driving.run.Goals as goal
 
 pub serve_lines-requires-clause-ready : goal.serve_lines-requires-clause-ready
-serve_lines-requires-clause-ready g c = (c.requires.in_range, c.requires.driven)
+serve_lines-requires-clause-ready g c = (search rules, c.requires.in_range, c.requires.driven)
 
 pub returns-clause-served : goal.returns-clause-served
 returns-clause-served g c = λ k stands.

@@ -1,4 +1,4 @@
-use Rattle.std.proofs.Common.{List, [], refl, subst₂, arith}
+use Rattle.std.proofs.Common.{List, rules, [], refl, subst₂, arith}
 use Rattle.cq_base.specs.declared.settings.Settings.{Settings}
 use Rattle.cq_history.specs.declared.event.Event.{Event}
 use Rattle.cq_lines.proofs.Serving.{serves_as, serves_by}
@@ -11,7 +11,7 @@ use Rattle.cq_session.proofs.Turns.{talked_none}
 use Rattle.cq_session.proofs.serving.session.Goals as goal
 
 pub serve_lines-requires-clause-ready : goal.serve_lines-requires-clause-ready
-serve_lines-requires-clause-ready g c = let r = c.requires.closed in (c.requires.in_range, c.requires.hub_settings, (r.0, r.1, r.2, (r.3.0, omega arith)))
+serve_lines-requires-clause-ready g c = let r = c.requires.closed in (search rules, c.requires.in_range, c.requires.hub_settings, (r.0, r.1, r.2, (r.3.0, omega arith)))
 
 pub returns-clause-served : goal.returns-clause-served
 returns-clause-served g c = λ by h stands closed always.

@@ -1,4 +1,4 @@
-use Rattle.std.proofs.Common.{List, refl, subst₂}
+use Rattle.std.proofs.Common.{List, rules, refl, subst₂}
 use Rattle.cq_base.specs.declared.settings.Settings.{Settings}
 use Rattle.cq_lines.proofs.Serving.{serves_as}
 use Rattle.cq_reply.specs.Written.{line_of}
@@ -7,7 +7,7 @@ use Rattle.cq_tokfile.specs.declared.snapshot.Snapshot.{Snapshot}
 use Rattle.cq_tokask.proofs.asking.ask_lines.Goals as goal
 
 pub serve_lines-requires-clause-ready : goal.serve_lines-requires-clause-ready
-serve_lines-requires-clause-ready g c = (c.requires.in_range, c.requires.sound, c.requires.loaded)
+serve_lines-requires-clause-ready g c = (search rules, c.requires.in_range, c.requires.sound, c.requires.loaded)
 
 pub returns-clause-served : goal.returns-clause-served
 returns-clause-served g c =

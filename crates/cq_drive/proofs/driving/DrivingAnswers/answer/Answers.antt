@@ -21,4 +21,4 @@ returns-clause-sent g c = λ from first lines outcomes so.
     )
 
 pub returns-clause-ready : goal.returns-clause-ready
-returns-clause-ready g c = (c.requires.ready.0, c.outcome_line-told.ensures.driven)
+returns-clause-ready g c = (c.requires.ready.0, c.requires.ready.1, c.outcome_line-told.ensures.driven)
