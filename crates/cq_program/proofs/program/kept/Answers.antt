@@ -7,11 +7,11 @@ use Rattle.cq_program.proofs.program.kept.Goals as goal
 pub returns-in-Ok-clause-ends : goal.returns-in-Ok-clause-ends
 returns-in-Ok-clause-ends g c =
     subst (λ (s : Status). Ends g.S.Source g.K.Sink s c.args.source.now c.ask.new.source c.args.sink.now c.ask.new.sink) (sym c.status_of_asked.ensures.status)
-    (ended_asked g.row.L.Denot g.S.Source g.K.Sink c.args.settings.now c.args.source.now c.ask.new.source c.args.sink.now c.ask.new.sink c.in-Ok.asked c.in-Ok.ensures.asks)
+    (ended_asked g.row.L.Denot g.S.Source g.K.Sink c.args.settings.now c.args.source.now c.ask.new.source c.args.sink.now c.ask.new.sink c.in-Ok.asked (rw c.plain-keyer.ensures at c.in-Ok.ensures.asks))
 
 pub returns-in-Ok-clause-asks : goal.returns-in-Ok-clause-asks
 returns-in-Ok-clause-asks g c = λ other. record {
   by = c.in-Ok.asked;
   status_is = c.status_of_asked.ensures.status;
-  asks = c.in-Ok.ensures.asks;
+  asks = rw c.plain-keyer.ensures at c.in-Ok.ensures.asks;
 }

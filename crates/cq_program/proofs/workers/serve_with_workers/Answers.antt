@@ -20,7 +20,7 @@ returns-in-Ok-new-clause-runs g c = λ other.
       by = c.serve_one-end.result;
       status_is = c.status_of.ensures.status;
       serves = subst₂ (λ (limit all : ℕ). Serves line_of (AreWithWorkers asked.settings all asked.workers c.args.steps.now c.serve_one-end.new.steps) limit (g.S.Source.rest c.args.source.now) (g.S.Source.rest c.serve_one-end.new.source) (g.K.Sink.written c.args.sink.now) (g.K.Sink.written c.serve_one-end.new.sink) c.serve_one-end.result) (ap (λ (held : Held). held.limit) c.in-Ok-new.ensures) callers
-          (c.serve_one-end.ensures.beside first);
+          (rw c.plain-keyer.ensures at c.serve_one-end.ensures.beside first);
       cause = c.serve_one-end.ensures.cause;
     }
 
