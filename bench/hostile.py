@@ -589,7 +589,8 @@ def figures(it: Grown, is_counted: bool) -> str:
         return it.fault
     spent = " ".join(f"{one.spent / 1e6:,.1f}" if is_counted else f"{one.spent:.3f}" for one in it.costs)
     memory = "" if is_counted else f"; {' '.join(f'{one.memory / 1e6:.0f}' for one in it.costs)} MB, ^{it.exponent(lambda one: one.memory):.2f}"
-    return f"{it.sizes[0]:,}: {spent} {'M instructions' if is_counted else 's'}, ^{it.exponent(lambda one: one.spent):.2f}{memory}; bound {it.shape.bound}"
+    replies = f"; replies {' '.join(f'{one.replies / 1e6:.0f}' for one in it.costs)} MB" if it.costs[-1].replies > 1e6 else ""
+    return f"{it.sizes[0]:,}: {spent} {'M instructions' if is_counted else 's'}, ^{it.exponent(lambda one: one.spent):.2f}{memory}{replies}; bound {it.shape.bound}"
 
 
 def show(it: Grown, is_counted: bool) -> None:
