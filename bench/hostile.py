@@ -6,15 +6,15 @@ usage: bench/hostile.py [--rounds N] [--scale F] [--instructions] [--each] [--li
 Each line of the table below is a shape: what one client sends to `cqd run`, of size n, and a bound of what that may cost. It is sent to
 a server of its own at the sizes n, 2n and 4n, N times each (3). Only some shapes are tried if PARTs of their names or kinds are given.
 
-Printed are, for each size, the least CPU time of all threads, and the peak of memory (VmHWM) beyond that of a server that has only
-started; and the exponents with which both grow from n to 4n, which are 1 if what is sent four times as long takes four times as much.
-If only the last requests of a shape are measured, the others are there before. Of texts in a language only the steepest and the most
-expensive one are printed, unless --each is given.
+Printed are, for each size, the least CPU time of all threads, and by how much the peak of memory (VmHWM) rises; and the exponents with which
+both grow from n to 4n, which are 1 if what is sent four times as long takes four times as much. Of some shapes only the last requests are
+measured, and the others come before. Replies are mentioned if they have more than a megabyte. Of texts in a language only the plain one, the
+steepest and the most expensive one are printed, unless --each is given.
 
-A bound is a function of n, as n log n. If f is that function, an exponent may be the one with which f grows from n to 4n, and 0.25 more,
-so that what a busy machine adds to one of the sizes does not count. A time below 2 ms or a peak below 4 MB at 4n is within any bound. A
-server that takes more than a minute, or more than 8 GB of address space, is ended, and over its bound. The script exits with 1 if a
-shape is over its bound or gets a reply of another kind than it should.
+A bound is a function of n, as n log n. An exponent may be the one with which that function grows from n to 4n, and 0.25 more, so that what a
+busy machine adds to one of the sizes does not count. A time below 2 ms or a rise below 4 MB at 4n is within any bound. A server that takes
+more than a minute, or more than 8 GB of address space, is ended, and over its bound. The script exits with 1 if a shape is over its bound,
+or is accepted or refused although it should not be.
 
 With --instructions valgrind's callgrind counts instructions in place of time, so that neither the machine nor its load matters; memory
 is not looked at. Waiting for memory does not count then. --scale F multiplies all sizes, as by 0.2. --list prints the table.
@@ -74,7 +74,7 @@ class Shape(NamedTuple):
 
 
 class Cost(NamedTuple):
-    """CPU time in seconds, or instructions; the peak of memory, and how many bytes of replies there were."""
+    """CPU time in seconds, or instructions; by how many bytes the peak of memory rose; and how many bytes of replies there were."""
     spent: float
     memory: float = 0.0
     replies: int = 0
@@ -163,6 +163,13 @@ def ends(count: int) -> str:
     """The ends of a word, each after a token of its own."""
     length = math.isqrt(2 * count)
     return " ".join(" ".join([f"s{at}", *(f"u{i}" for i in range(at, length))]) for at in range(length))
+
+
+def ends_and_copies(count: int) -> list[str]:
+    """The ends of a word, and copies of it: most pieces of it are in many places, and few of them are runs that a list has."""
+    length = math.isqrt(count)
+    word = " ".join(f"u{at}" for at in range(length))
+    return [ends(count // 2), *(f"c{at} {word} d{at}" for at in range(length // 2))]
 
 
 def pieces(count: int) -> str:
@@ -386,6 +393,7 @@ TABLE = [
     Shape("words", "a Thue-Morse word in each of two files", 10_000, "n log n", lambda n: listed([thue_morse(n)] * 2)),
     Shape("words", "two words at random", 25_000, "n log n", lambda n: listed([words(n, of=2)], least=20)),
     Shape("words", "the ends of a word, each after a token of its own", 20_000, "n log n", lambda n: listed([ends(n)])),
+    Shape("words", "the ends of a word, and copies of it", 20_000, "n log n", lambda n: listed(ends_and_copies(n))),
     Shape("words", "the beginnings and ends of a word", 2_500, "n√n", lambda n: listed([pieces(n)], least=2), SHORT),
     Shape("words", "measures of the beginnings and ends of a word", 2_500, "n√n", lambda n: listed([pieces(n)], op="measures", least=2), SHORT),
     Shape("words", "windows that have one key", 25_000, "n log n", lambda n: listed(split(of_one_key(n), 5_000))),
@@ -428,6 +436,9 @@ TABLE = [
     Shape("requests", "one number, n bytes", 2_000_000, "n", lambda n: refused(b"1" * n), is_refused=True),
     Shape("requests", "numbers of one digit, n bytes", 2_000_000, "n", lambda n: refused(b"[" + b"1," * (n // 2) + b"0]"), is_refused=True),
     Shape("requests", "fractions, n bytes", 2_000_000, "n", lambda n: refused(b"[" + b"1.2345678901234567e-300," * (n // 24) + b"0]"), is_refused=True),
+    Shape("requests", "one fraction, n bytes", 2_000_000, "n", lambda n: refused(b"0." + b"1" * n), is_refused=True),
+    Shape("requests", "one exponent, n bytes", 2_000_000, "n", lambda n: refused(b"1e-" + b"9" * n), is_refused=True),
+    Shape("requests", "one string that is not UTF-8 at its end, n bytes", 2_000_000, "n", lambda n: refused(b'"' + b"x" * n + b'\xff"'), is_refused=True),
     Shape("requests", "blanks, n bytes", 2_000_000, "n", lambda n: refused(b" " * n + b"0"), is_refused=True),
     Shape("requests", "n members of different names", 50_000, "n log n", lambda n: members(n, "m{:07}".format), is_refused=True),
     Shape("requests", "n members of different names, from the last on", 50_000, "n log n", lambda n: members(n, lambda at: f"m{9_999_999 - at}"), is_refused=True),
@@ -515,12 +526,11 @@ def wanted_of(shape: Shape) -> bytes:
 def cost(shape: Shape, sent: Sent) -> Cost:
     server = Server(shape.options, b'"ok":true')
     try:
-        empty = server.peak()
         if sent.before:
             server.ask(sent.before)
-        spent = server.processor()
+        peak, spent = server.peak(), server.processor()
         replies = server.ask(sent.measured, wanted_of(shape))
-        return Cost(server.processor() - spent, server.peak() - empty, replies)
+        return Cost(server.processor() - spent, server.peak() - peak, replies)
     finally:
         server.end()
 
