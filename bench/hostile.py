@@ -466,14 +466,13 @@ TABLE = [
 class Server:
     """A running server, with a bound of its time and of its address space. It is spoken to a batch of lines at a time."""
 
-    def __init__(self, options: Iterable[str], wanted: bytes) -> None:
+    def __init__(self, options: Iterable[str]) -> None:
         self.process = subprocess.Popen([*SERVER, *options], stdin=subprocess.PIPE, stdout=subprocess.PIPE, preexec_fn=few_addresses)
         self.timer = threading.Timer(DEADLINE, self.process.kill)
         self.timer.start()
-        self.wanted = wanted
-        self.ask([STATE], b'"ok":true')
+        self.ask([STATE])
 
-    def ask(self, lines: list[bytes], wanted: bytes = b"") -> int:
+    def ask(self, lines: list[bytes], is_refused: bool = False) -> int:
         """How many bytes the replies have. The last one is checked."""
         writer = threading.Thread(target=self.send, args=(lines,))
         writer.start()
@@ -485,8 +484,8 @@ class Server:
                 break
             size += len(reply)
         writer.join()
-        if (wanted or self.wanted) not in reply[-80:]:
-            raise Failed(f"replied {reply[-80:].decode()!r}" if reply else "was ended")
+        if (b'"ok":false' if is_refused else b'"ok":true') not in reply[-80:]:
+            raise Failed(f"replied {reply[-80:].decode()!r}" if reply else f"ended by {self.process.wait()}")
         return size
 
     def send(self, lines: list[bytes]) -> None:
@@ -519,17 +518,13 @@ def few_addresses() -> None:
     resource.setrlimit(resource.RLIMIT_AS, (MOST_ADDRESSES, MOST_ADDRESSES))
 
 
-def wanted_of(shape: Shape) -> bytes:
-    return b'"ok":false' if shape.is_refused else b'"ok":true'
-
-
 def cost(shape: Shape, sent: Sent) -> Cost:
-    server = Server(shape.options, b'"ok":true')
+    server = Server(shape.options)
     try:
         if sent.before:
             server.ask(sent.before)
         peak, spent = server.peak(), server.processor()
-        replies = server.ask(sent.measured, wanted_of(shape))
+        replies = server.ask(sent.measured, shape.is_refused)
         return Cost(server.processor() - spent, server.peak() - peak, replies)
     finally:
         server.end()
@@ -556,19 +551,20 @@ def instructions(shape: Shape, sent: Sent) -> Cost:
 # ---- what is printed
 
 class Grown(NamedTuple):
-    """A shape, its least costs at each size, and what it did instead of them."""
+    """A shape, its least costs at each size, and what a server did instead of replying as it should."""
     shape: Shape
     sizes: list[int]
     costs: list[Cost]
     fault: str = ""
 
-    def exponent(self, of: Callable[[Cost], float]) -> float:
-        first, last = of(self.costs[0]), of(self.costs[-1])
-        return math.log(max(last, 1e-9) / max(first, 1e-9), self.sizes[-1] / self.sizes[0])
+    def exponent(self, values: list[float]) -> float:
+        return math.log(max(values[-1], 1e-9) / max(values[0], 1e-9), self.sizes[-1] / self.sizes[0])
 
-    def allowed(self) -> float:
-        grows = BOUNDS[self.shape.bound]
-        return math.log(grows(self.sizes[-1]) / grows(self.sizes[0]), self.sizes[-1] / self.sizes[0]) + NOISE
+    def spent(self) -> list[float]:
+        return [it.spent for it in self.costs]
+
+    def memory(self) -> list[float]:
+        return [it.memory for it in self.costs]
 
     def each(self) -> float:
         """What is spent at the last size, by that size."""
@@ -577,9 +573,9 @@ class Grown(NamedTuple):
     def is_over(self) -> bool:
         if self.fault:
             return True
-        last = self.costs[-1]
-        return (last.spent > LEAST_SECONDS and self.exponent(lambda it: it.spent) > self.allowed()
-                or last.memory > LEAST_BYTES and self.exponent(lambda it: it.memory) > self.allowed())
+        allowed = self.exponent([BOUNDS[self.shape.bound](size) for size in self.sizes]) + NOISE
+        spent, memory = self.spent(), self.memory()
+        return spent[-1] > LEAST_SECONDS and self.exponent(spent) > allowed or memory[-1] > LEAST_BYTES and self.exponent(memory) > allowed
 
 
 def grown(shape: Shape, rounds: int, scale: float, of: Callable[[Shape, Sent], Cost]) -> Grown:
@@ -594,34 +590,39 @@ def grown(shape: Shape, rounds: int, scale: float, of: Callable[[Shape, Sent], C
     return Grown(shape, sizes, costs)
 
 
+def head(kind: str, is_counted: bool) -> None:
+    print(f"{kind:72}{'n':>10}{'instructions' if is_counted else 'CPU time':>14} at n, 2n, 4n {'':8}{'' if is_counted else 'memory at n, 2n, 4n'}", flush=True)
+
+
 def figures(it: Grown, is_counted: bool) -> str:
-    if it.fault:
-        return it.fault
-    spent = " ".join(f"{one.spent / 1e6:,.1f}" if is_counted else f"{one.spent:.3f}" for one in it.costs)
-    memory = "" if is_counted else f"; {' '.join(f'{one.memory / 1e6:.0f}' for one in it.costs)} MB, ^{it.exponent(lambda one: one.memory):.2f}"
-    replies = f"; replies {' '.join(f'{one.replies / 1e6:.0f}' for one in it.costs)} MB" if it.costs[-1].replies > 1e6 else ""
-    return f"{it.sizes[0]:,}: {spent} {'M instructions' if is_counted else 's'}, ^{it.exponent(lambda one: one.spent):.2f}{memory}{replies}; bound {it.shape.bound}"
+    spent, memory = it.spent(), it.memory()
+    told = "".join(f"{one / 1e6:9,.1f}" if is_counted else f"{one:9.3f}" for one in spent) + (" M" if is_counted else " s") + f"  n^{it.exponent(spent):.2f}"
+    if memory[-1] > LEAST_BYTES:
+        told += "".join(f"{one / 1e6:7.0f}" for one in memory) + f" MB  n^{it.exponent(memory):.2f}"
+    elif not is_counted:
+        told += " " * 32
+    if it.costs[-1].replies > 1_000_000:
+        told += "; replies" + "".join(f" {one.replies / 1e6:.0f}" for one in it.costs) + " MB"
+    return told
 
 
-def show(it: Grown, is_counted: bool) -> None:
-    print(f"  {it.shape.name}; {figures(it, is_counted)}{'  OVER ITS BOUND' if it.is_over() else ''}", flush=True)
+def show(it: Grown, is_counted: bool, name: str = "") -> None:
+    end = f"  {it.shape.bound}" + ("  OVER ITS BOUND" if it.is_over() else "")
+    print(f"  {name or it.shape.name:68}{it.sizes[0]:>12,}{it.fault or figures(it, is_counted)}{end}", flush=True)
 
 
-def show_texts(kind: str, all_: list[Grown], is_counted: bool) -> None:
+def show_texts(all_: list[Grown], is_counted: bool) -> None:
     """The plain text, and of the others those that are over their bound, the steepest and the most expensive."""
     plain, *others = all_
-    good = [it for it in others if not it.fault]
-    print(f"{kind}: {len(others)} of them")
     show(plain, is_counted)
     for it in others:
         if it.is_over():
             show(it, is_counted)
-    if good:
-        print("  the steepest:", end="")
-        show(max(good, key=lambda it: it.exponent(lambda one: one.spent)), is_counted)
-        dear = max(good, key=Grown.each)
-        print(f"  the most expensive, {dear.each() / plain.each():.1f} times the plain text:" if not plain.fault else "  the most expensive:", end="")
-        show(dear, is_counted)
+    good = [it for it in others if not it.fault]
+    if good and not plain.fault:
+        steep, dear = max(good, key=lambda it: it.exponent(it.spent())), max(good, key=Grown.each)
+        show(steep, is_counted, f"the steepest: {steep.shape.name}")
+        show(dear, is_counted, f"the most expensive, {dear.each() / plain.each():.1f} times the plain one: {dear.shape.name}")
 
 
 def main() -> int:
@@ -641,16 +642,15 @@ def main() -> int:
     over = 0
     for kind in dict.fromkeys(it.kind for it in table):
         shapes = [it for it in table if it.kind == kind]
-        are_texts = kind.startswith("texts") and not given.each and len(shapes) > 4
-        if not are_texts:
-            print(kind)
+        are_few = given.each or not kind.startswith("texts") or len(shapes) < 4
+        head(kind if are_few else f"{kind}, {len(shapes)} of them", given.instructions)
         all_ = []
         for shape in shapes:
             all_.append(grown(shape, rounds, given.scale, of))
-            if not are_texts:
+            if are_few:
                 show(all_[-1], given.instructions)
-        if are_texts:
-            show_texts(kind, all_, given.instructions)
+        if not are_few:
+            show_texts(all_, given.instructions)
         over += sum(it.is_over() for it in all_)
     print(f"{len(table)} shapes, {over} over their bound")
     return 1 if over else 0

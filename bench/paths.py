@@ -1,6 +1,7 @@
 #!/usr/bin/env python3
-"""Uploads a file again and lists its groups by path, in a project of 500 files and in one of 3,000, and prints the CPU time of such a
-pair: the mean of 200 pairs in a row, once all files are listed, and the least of five runs; and how the two projects' times compare.
+"""Uploads a file again and lists its groups by path, in projects of 500, 3,000 and 20,000 files, and prints the CPU time of such a pair:
+the mean of 200 pairs in a row, once all files are listed, and the least of five runs; and how the longest of these times compares with the
+shortest.
 
 usage: bench/paths.py [--instructions]
 
@@ -20,13 +21,15 @@ options = parser.parse_args()
 
 ROOT = Path(__file__).resolve().parent.parent
 PROGRAM = os.environ.get("CQD", ROOT / "cqd")
+SERVER = [PROGRAM, "run", "--text-limit", "67108864"]
+FILES = (500, 3_000, 20_000)
 PAIRS = 200
 
 
 def upload(number, edition, files):
     # each shared run is in ten files, however many there are
     shared = number % (files // 10)
-    words = [f"w{number}x{edition}x{token}" for token in range(300)] + [f"shared{shared}x{token}" for token in range(60)]
+    words = [f"w{number}x{edition}x{token}" for token in range(100)] + [f"shared{shared}x{token}" for token in range(60)]
     return {"op": "put", "project": "p", "path": f"f{number:05}", "lang": "any", "text": " ".join(words)}
 
 
@@ -54,7 +57,7 @@ def uploads(files):
 
 def counted(requests):
     data = "".join(json.dumps(request) + "\n" for request in requests).encode()
-    words = ["valgrind", "--tool=callgrind", "--callgrind-out-file=/dev/null", PROGRAM, "run"]
+    words = ["valgrind", "--tool=callgrind", "--callgrind-out-file=/dev/null", *SERVER]
     ran = subprocess.run(words, input=data, capture_output=True, check=True)
     return int(re.search(rb"Collected : (\d+)", ran.stderr)[1])
 
@@ -65,7 +68,7 @@ def pair_instructions(files):
 
 
 def pair_cost(files):
-    with subprocess.Popen([PROGRAM, "run"], stdin=subprocess.PIPE, stdout=subprocess.PIPE) as server:
+    with subprocess.Popen(SERVER, stdin=subprocess.PIPE, stdout=subprocess.PIPE) as server:
         ask(server, uploads(files))
         before = processor(server)
         for index in range(PAIRS):
@@ -75,9 +78,11 @@ def pair_cost(files):
     return (after - before) / PAIRS
 
 
-if options.instructions:
-    few, many = (pair_instructions(files) / 1e6 for files in (500, 3000))
-    print(f"an upload and its groups by path: {few:.2f} million instructions of 500 files, {many:.2f} of 3,000, {many / few:.2f} times")
-else:
-    few, many = (min(pair_cost(files) for _ in range(5)) * 1000 for files in (500, 3000))
-    print(f"an upload and its groups by path: {few:.2f} ms of 500 files, {many:.2f} ms of 3,000, {many / few:.2f} times")
+def least_cost(files):
+    return min(pair_cost(files) for _ in range(5))
+
+
+cost, factor, unit = (pair_instructions, 1e-6, "million instructions") if options.instructions else (least_cost, 1e3, "ms")
+costs = [cost(files) * factor for files in FILES]
+print("an upload and its groups by path: " + ", ".join(f"{it:.2f} {unit} of {files:,} files" for it, files in zip(costs, FILES))
+      + f"; at most {max(costs) / min(costs):.2f} times")
