@@ -215,6 +215,10 @@ def smalls(count: int) -> list[bytes]:
     return uploads(small(number) for number in range(count))
 
 
+def projects(count: int) -> list[bytes]:
+    return [put(small(number), "f", project=f"q{number}") for number in range(count)]
+
+
 def licensed(count: int) -> list[bytes]:
     return uploads(LICENCE + " " + " ".join(f"w{number}x{word}" for word in range(20)) for number in range(count))
 
@@ -233,8 +237,7 @@ def beside_files(count: int) -> Sent:
 
 
 def beside_projects(count: int) -> Sent:
-    others = [put(small(number), "f", project=f"q{number}") for number in range(count)]
-    return Sent([put(LICENCE, "h"), *others, NOTHING], pairs(200))
+    return Sent([put(LICENCE, "h"), *projects(count), NOTHING], pairs(200))
 
 
 def beside_copies(count: int) -> Sent:
@@ -243,15 +246,17 @@ def beside_copies(count: int) -> Sent:
     return Sent([put(LICENCE, "h"), *others, NOTHING], pairs(200))
 
 
-def batches_beside_projects(count: int) -> Sent:
-    """Two changes at once, with many projects beside them."""
-    others = [put("a", "f", project=f"q{number}") for number in range(count)]
-    two = [it for turn in range(500) for it in (put(f"a{turn}", "f"), put(f"b{turn}", "g"), NOTHING)]
-    return Sent([*others, NOTHING], two)
+def twos(count: int) -> list[bytes]:
+    """Two changes at once, again and again."""
+    return [it for turn in range(count) for it in (put(f"a{turn}", "g"), put(f"b{turn}", "h"), NOTHING)]
 
 
-def projects(count: int) -> list[bytes]:
-    return [put(small(number), "f", project=f"q{number}") for number in range(count)]
+def twos_beside_projects(count: int) -> Sent:
+    return Sent([*projects(count), NOTHING], twos(500))
+
+
+def twos_beside_files(count: int) -> Sent:
+    return Sent([*smalls(count), NOTHING], twos(500))
 
 
 def gate(number: int, project: str = "p", conditions: int = 32) -> bytes:
@@ -418,13 +423,14 @@ TABLE = [
     Shape("files", "not analysed, a query that does not wait after each", 2_000, "n log n", lambda n: Sent([], unfinished(n)), is_refused=True),
     Shape("files", "measures, by a scope and since a version", 2_000, "n log n", lambda n: Sent([*smalls(n), NOTHING], [ask("measures", scope="**", since=9)])),
     Shape("files", "n beside one that changes and is listed, 200 times", 2_000, "1", beside_files),
+    Shape("files", "n beside two that change at once, 500 times", 2_000, "1", twos_beside_files),
 
     Shape("projects", "one file in each, a query after each", 2_000, "n log n", lambda n: Sent([], each_asked(projects(n)))),
     Shape("projects", "a gate of 32 conditions in each, a query after each", 1_000, "n log n", lambda n: Sent([], each_asked(gate(it, f"q{it}") for it in range(n)))),
     Shape("projects", "n gates of one, a query after each", 1_000, "n log n", lambda n: Sent([], each_asked(gate(it) for it in range(n)))),
     Shape("projects", "n beside a file that changes and is listed, 200 times", 1_000, "1", beside_projects),
     Shape("projects", "n with the text of that file, listed 200 times", 500, "1", beside_copies),
-    Shape("projects", "n beside two changes at once, 500 times", 1_000, "1", batches_beside_projects),
+    Shape("projects", "n beside two changes at once, 500 times", 1_000, "1", twos_beside_projects),
 
     Shape("requests", "small objects, n bytes", 2_000_000, "n", lambda n: refused(b"[" + b'{"a":0},' * (n // 8) + b"0]"), is_refused=True),
     Shape("requests", "empty lists, n bytes", 2_000_000, "n", lambda n: refused(b"[" + b"[]," * (n // 3) + b"0]"), is_refused=True),
@@ -521,10 +527,11 @@ def few_addresses() -> None:
 def cost(shape: Shape, sent: Sent) -> Cost:
     server = Server(shape.options)
     try:
-        if sent.before:
-            server.ask(sent.before)
+        # a server sweeps after its reply to a query; when it has replied to the next line, it has done that
+        server.ask([*sent.before, STATE])
         peak, spent = server.peak(), server.processor()
         replies = server.ask(sent.measured, shape.is_refused)
+        server.ask([STATE])
         return Cost(server.processor() - spent, server.peak() - peak, replies)
     finally:
         server.end()
