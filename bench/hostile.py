@@ -13,7 +13,7 @@ steepest and the most expensive one are printed, unless --each is given.
 
 A bound is a function of n, as n log n. An exponent may be the one with which that function grows from n to 4n, and 0.25 more, so that what a
 busy machine adds to one of the sizes does not count. A time below 2 ms or a rise below 4 MB at 4n is within any bound. A server that takes
-more than a minute, or more than 8 GB of address space, is ended, and over its bound. The script exits with 1 if a shape is over its bound,
+more than a minute of CPU time, or more than 8 GB of address space, is ended, and over its bound. The script exits with 1 if a shape is over its bound,
 or is accepted or refused although it should not be.
 
 With --instructions valgrind's callgrind counts instructions in place of time, so that neither the machine nor its load matters; memory
@@ -44,8 +44,7 @@ ROOT = Path(__file__).resolve().parent.parent
 PROGRAM = str(os.environ.get("CQD", ROOT / "cqd"))
 SERVER = [PROGRAM, "run", "--text-limit", "67108864"]
 STATE = b'{"op":"state"}\n'
-DEADLINE = 60.0
-MOST_ADDRESSES = 8_000_000_000
+MOST_SECONDS, MOST_ADDRESSES = 60, 8_000_000_000
 NOISE, LEAST_SECONDS, LEAST_BYTES = 0.25, 0.002, 4_000_000
 
 BOUNDS: dict[str, Callable[[float], float]] = {
@@ -432,10 +431,10 @@ TABLE = [
     Shape("projects", "n with the text of that file, listed 200 times", 500, "1", beside_copies),
     Shape("projects", "n beside two changes at once, 500 times", 1_000, "1", twos_beside_projects),
 
-    Shape("requests", "small objects, n bytes", 2_000_000, "n", lambda n: refused(b"[" + b'{"a":0},' * (n // 8) + b"0]"), is_refused=True),
+    Shape("requests", "small objects, n bytes", 2_000_000, "n", lambda n: refused(b"[" + b'{"":0},' * (n // 7) + b"0]"), is_refused=True),
     Shape("requests", "empty lists, n bytes", 2_000_000, "n", lambda n: refused(b"[" + b"[]," * (n // 3) + b"0]"), is_refused=True),
     Shape("requests", "lists in lists, 120 deep, n bytes", 2_000_000, "n", lambda n: refused(nested_lists(n)), is_refused=True),
-    Shape("requests", "objects in objects, 120 deep, n bytes", 2_000_000, "n", lambda n: refused(b"[" + (b'{"a":' * 120 + b"0" + b"}" * 120 + b",") * (n // 722) + b"0]"), is_refused=True),
+    Shape("requests", "objects in objects, 120 deep, n bytes", 2_000_000, "n", lambda n: refused(b"[" + (b'{"":' * 120 + b"0" + b"}" * 120 + b",") * (n // 602) + b"0]"), is_refused=True),
     Shape("requests", "one string, n bytes", 2_000_000, "n", lambda n: refused(b'"' + b"x" * n + b'"'), is_refused=True),
     Shape("requests", "one string of escapes, n bytes", 2_000_000, "n", lambda n: refused(b'"' + b"\\u00e9" * (n // 6) + b'"'), is_refused=True),
     Shape("requests", "short strings, n bytes", 2_000_000, "n", lambda n: refused(b"[" + b'"a",' * (n // 4) + b"0]"), is_refused=True),
@@ -470,12 +469,10 @@ TABLE = [
 # ---- what it costs
 
 class Server:
-    """A running server, with a bound of its time and of its address space. It is spoken to a batch of lines at a time."""
+    """A running server, with a bound of its CPU time and of its address space. It is spoken to a batch of lines at a time."""
 
     def __init__(self, options: Iterable[str]) -> None:
-        self.process = subprocess.Popen([*SERVER, *options], stdin=subprocess.PIPE, stdout=subprocess.PIPE, preexec_fn=few_addresses)
-        self.timer = threading.Timer(DEADLINE, self.process.kill)
-        self.timer.start()
+        self.process = subprocess.Popen([*SERVER, *options], stdin=subprocess.PIPE, stdout=subprocess.PIPE, preexec_fn=set_bounds)
         self.ask([STATE])
 
     def ask(self, lines: list[bytes], is_refused: bool = False) -> int:
@@ -511,7 +508,6 @@ class Server:
         return int(found[1]) * 1024 if found else 0
 
     def end(self) -> None:
-        self.timer.cancel()
         self.process.kill()
         self.process.communicate()
 
@@ -520,7 +516,8 @@ class Failed(Exception):
     """What a server did instead of replying as it should."""
 
 
-def few_addresses() -> None:
+def set_bounds() -> None:
+    resource.setrlimit(resource.RLIMIT_CPU, (MOST_SECONDS, MOST_SECONDS))
     resource.setrlimit(resource.RLIMIT_AS, (MOST_ADDRESSES, MOST_ADDRESSES))
 
 
