@@ -11,13 +11,14 @@ both grow from n to 4n, which are 1 if what is sent four times as long takes fou
 measured, and the others come before. Replies are mentioned if they have more than a megabyte. Of texts in a language only the plain one, the
 steepest and the most expensive one are printed, unless --each is given.
 
-A bound is a function of n, as n log n. An exponent may be the one with which that function grows from n to 4n, and 0.25 more, so that what a
-busy machine adds to one of the sizes does not count. A time below 2 ms or a rise below 4 MB at 4n is within any bound. A server that takes
-more than a minute of CPU time, or more than 8 GB of address space, is ended, and over its bound. The script exits with 1 if a shape is over its bound,
-or is accepted or refused although it should not be.
+A bound is a function of n, such as n log n. An exponent may be the one with which that function grows from n to 4n, and 0.25 more, so that
+what a busy machine adds to one of the sizes does not count. A time below 2 ms or a rise below 4 MB at 4n is within any bound. A server that
+takes more than a minute of CPU time, or more than 8 GB of address space, is ended, and over its bound. The script exits with 1 if a shape is
+over its bound, or is accepted or refused although it should not be.
 
-With --instructions valgrind's callgrind counts instructions in place of time, so that neither the machine nor its load matters; memory
-is not looked at. Waiting for memory does not count then. --scale F multiplies all sizes, as by 0.2. --list prints the table.
+With --instructions valgrind's callgrind counts instructions in place of time, once for each size, so that neither the machine nor its load
+matters; waiting for memory does not count then, and the peak of memory is not printed. --scale F multiplies all sizes. --list prints the
+table.
 
 The program is ./cqd, or what the variable CQD names.
 """
@@ -595,7 +596,7 @@ def grown(shape: Shape, rounds: int, scale: float, of: Callable[[Shape, Sent], C
 
 
 def head(kind: str, is_counted: bool) -> None:
-    print(f"{kind:72}{'n':>10}{'instructions' if is_counted else 'CPU time':>14} at n, 2n, 4n {'':8}{'' if is_counted else 'memory at n, 2n, 4n'}", flush=True)
+    print(f"{kind:72}{'n':>10}{'instructions' if is_counted else 'CPU time':>16} at n, 2n, 4n {'':8}{'' if is_counted else 'memory at n, 2n, 4n'}", flush=True)
 
 
 def figures(it: Grown, is_counted: bool) -> str:
@@ -606,13 +607,13 @@ def figures(it: Grown, is_counted: bool) -> str:
     elif not is_counted:
         told += " " * 32
     if it.costs[-1].replies > 1_000_000:
-        told += "; replies" + "".join(f" {one.replies / 1e6:.0f}" for one in it.costs) + " MB"
+        told += "  replies" + "".join(f" {one.replies / 1e6:.0f}" for one in it.costs) + " MB"
     return told
 
 
 def show(it: Grown, is_counted: bool, name: str = "") -> None:
     end = f"  {it.shape.bound}" + ("  OVER ITS BOUND" if it.is_over() else "")
-    print(f"  {name or it.shape.name:68}{it.sizes[0]:>12,}{it.fault or figures(it, is_counted)}{end}", flush=True)
+    print(f"  {name or it.shape.name:68}{it.sizes[0]:>12,}  {it.fault or figures(it, is_counted)}{end}", flush=True)
 
 
 def show_texts(all_: list[Grown], is_counted: bool) -> None:
