@@ -536,12 +536,12 @@ def cost(shape: Shape, sent: Sent) -> Cost:
         server.end()
 
 
-def counted(shape: Shape, lines: list[bytes]) -> tuple[int, int]:
+def counted(options: Iterable[str], lines: Iterable[bytes]) -> tuple[int, int]:
     """The instructions of a server for these lines, and how many bytes it replies."""
     with tempfile.TemporaryFile() as source:
         source.write(b"".join(lines))
         source.seek(0)
-        command = ["valgrind", "--tool=callgrind", "--callgrind-out-file=/dev/null", *SERVER, *shape.options]
+        command = ["valgrind", "--tool=callgrind", "--callgrind-out-file=/dev/null", *SERVER, *options]
         ran = subprocess.run(command, stdin=source, capture_output=True)
     found = re.search(rb"Collected : (\d+)", ran.stderr)
     if ran.returncode or not found:
@@ -549,8 +549,13 @@ def counted(shape: Shape, lines: list[bytes]) -> tuple[int, int]:
     return int(found[1]), len(ran.stdout)
 
 
+# of a server for the lines that come before what is measured; many shapes have none
+counted_before = functools.cache(counted)
+
+
 def instructions(shape: Shape, sent: Sent) -> Cost:
-    (without, _), (all_, replies) = counted(shape, [STATE, *sent.before]), counted(shape, [STATE, *sent.before, *sent.measured])
+    without, _ = counted_before(shape.options, (STATE, *sent.before))
+    all_, replies = counted(shape.options, [STATE, *sent.before, *sent.measured])
     return Cost(all_ - without, 0.0, replies)
 
 
