@@ -368,7 +368,7 @@ def of_texts() -> Iterator[Shape]:
         for text in [PLAIN, *texts]:
             first, again, last = (it if len(it) < 20 else it[:9] + ".." for it in text)
             name = "a plain text" if text == PLAIN else " ".join(filter(None, [first and f"{first!r}, then", f"{again!r} again and again", last and f"and {last!r}"]))
-            yield Shape(f"texts in {lang}", name, 62_500, "n", functools.partial(repeated, lang, text))
+            yield Shape(f"texts in {lang}", name, 62_500, "n log n", functools.partial(repeated, lang, text))
 
 
 # ---- the table
@@ -462,7 +462,7 @@ TABLE = [
     Shape("paths", "a scope of folders, n bytes, as long as the paths", 128, "n²", lambda n: scoped(n, "**/a/", "a/")),
     Shape("paths", "a scope of one name, n bytes, as long as the paths", 128, "n²", lambda n: scoped(n, "?", "a")),
     Shape("replies", "groups with paths of 512 quotes, in n files", 1_000, "n log n", quoted_paths),
-    Shape("replies", "functions, n of them", 5_000, "n", lambda n: Sent([], [put("void f(){}\n" * n, lang="c"), ask("functions", path="f")])),
+    Shape("replies", "functions, n of them", 5_000, "n log n", lambda n: Sent([], [put("void f(){}\n" * n, lang="c"), ask("functions", path="f")])),
     Shape("replies", "states, n of them", 20_000, "n", lambda n: Sent([], [STATE] * n)),
     *of_texts(),
 ]
