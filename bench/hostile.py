@@ -428,14 +428,14 @@ TABLE = [
     Shape("files", "not analysed, a query that does not wait after each", 2_000, "n log n", lambda n: Sent([], unfinished(n)), is_refused=True),
     Shape("files", "measures, by a scope and since a version", 2_000, "n log n", lambda n: Sent([*smalls(n), NOTHING], [ask("measures", scope="**", since=9)])),
     Shape("files", "n beside one that changes and is listed, 200 times", 2_000, "1", beside_files),
-    Shape("files", "n beside two that change at once, 500 times", 2_000, "1", twos_beside_files),
+    Shape("files", "n beside two that change at once, 500 times", 5_000, "1", twos_beside_files),
 
     Shape("projects", "one file in each, a query after each", 2_000, "n log n", lambda n: Sent([], each_asked(projects(n)))),
     Shape("projects", "a gate of 32 conditions in each, a query after each", 1_000, "n log n", lambda n: Sent([], each_asked(gate(it, f"q{it}") for it in range(n)))),
     Shape("projects", "n gates of one, a query after each", 1_000, "n log n", lambda n: Sent([], each_asked(gate(it) for it in range(n)))),
     Shape("projects", "n beside a file that changes and is listed, 200 times", 1_000, "1", beside_projects),
     Shape("projects", "n with the text of that file, listed 200 times", 500, "1", beside_copies),
-    Shape("projects", "n beside two changes at once, 500 times", 1_000, "1", twos_beside_projects),
+    Shape("projects", "n beside two changes at once, 500 times", 5_000, "1", twos_beside_projects),
 
     Shape("requests", "small objects, n bytes", 2_000_000, "n", lambda n: refused(b"[" + b'{"":0},' * (n // 7) + b"0]"), is_refused=True),
     Shape("requests", "empty lists, n bytes", 2_000_000, "n", lambda n: refused(b"[" + b"[]," * (n // 3) + b"0]"), is_refused=True),
