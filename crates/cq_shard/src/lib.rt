@@ -31,6 +31,7 @@ mod indexed;
 mod laws;
 mod marks;
 mod parting;
+mod puts;
 mod run;
 mod runs;
 mod searching;
