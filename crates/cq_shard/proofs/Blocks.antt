@@ -107,9 +107,9 @@ parted_blocks blocks change is i j d low within later =
     (cases_order i j)
 
 pub starts_after : (start change : ℕ) → nat_le start change ≡ false → change < start
-starts_after start change no = ⊎_elim
+starts_after start change fails = ⊎_elim
     (λ (lt : change < start). lt)
-    (λ (le : start ≤ change). absurd (false≢true (sym no ∙ le-leb start change le)))
+    (λ (le : start ≤ change). absurd (false≢true (sym fails ∙ le-leb start change le)))
     (cases_lt change start)
 
 module _ (blocks : List Block) (is : IsTable blocks) (change k : ℕ) (first : IsFirstAfter blocks change k) where

@@ -182,7 +182,7 @@ fn append(
     ensures table { IsTable blocks.new.items }
 {
     let mut from = 0;
-    'blocks: while from < changes.len() {
+    'filling: while from < changes.len() {
         let many = fill(alloc, blocks, &changes[from..], &sizes[from..])?;
         from += many;
     }
@@ -307,7 +307,7 @@ fn take_out_each(blocks: &mut Vec<Block>, floor: u64, keep: &[u64]) -> (usize, u
     let mut kept = 0;
     let mut went = 0usize;
     let mut taken = 0u64;
-    'blocks: for i in 0..blocks.len() {
+    'taking: for i in 0..blocks.len() {
         let out = take_out_of(&mut blocks[i], floor, &keep[kept..]);
         kept += out.kept;
         went = went.saturating_add(out.went);

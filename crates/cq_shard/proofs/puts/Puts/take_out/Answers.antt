@@ -1,8 +1,8 @@
-use Rattle.std.proofs.Common.{◌-◌, refl, sym, ap, subst, ◌∙◌}
+use Rattle.std.proofs.Common.{◌≡◌, ◌-◌, List, ℕ, length, refl, sym, ap, subst, ◌∙◌, arith}
 use Rattle.std.specs.List.Sorted.{IsStrictlyIncreasing}
 use Rattle.std.proofs.lemmas.List.Kept.{IsStrictlyIncreasing-filter}
 use Rattle.cq_shard.specs.Tables.{AreAmong, IsUpTo, stays, staying}
-use Rattle.cq_shard.proofs.Leaving.{fewer_kept, kept_part, left_stays, none_goes}
+use Rattle.cq_shard.proofs.Leaving.{all_stay, fewer_kept, kept_part, left_stays, none_goes}
 use Rattle.cq_shard.proofs.puts.Puts.take_out.Goals as goal
 
 pub overflow_sub-number : goal.overflow_sub-number
@@ -75,3 +75,14 @@ returns-clause-none c none =
     c.close_up-taken.ensures.left ∙ left_stays changes keep floor end kept c.self.invariant.rising c.requires.keep known ends c.up_to-kept.ensures
     ∙ none_goes changes keep floor end kept c.self.invariant.rising c.requires.keep known ends c.up_to-kept.ensures none
     ∙ c.self.view_is
+
+pub returns-then-keep-len-clause-left : goal.returns-then-keep-len-clause-left
+returns-then-keep-len-clause-left c =
+    let changes = c.self.inside.changes.items in
+    let keep = c.args.keep.now in
+    let floor = c.args.floor in
+    let same = c.if-keep-len.true in
+    let many = c.len.ensures in
+    let number : length keep ≡ length changes = omega (arith, same, many, c.self.inside.changes.ok.0) in
+    let known = subst (AreAmong keep) (sym c.self.view_is) c.requires.known in
+    sym (subst (λ (ns : List ℕ). staying floor keep ns ≡ ns) c.self.view_is (all_stay changes keep floor c.self.invariant.rising c.requires.keep known number))

@@ -21,6 +21,6 @@ returns c =
     let first = subst (λ (bs : List Block). IsFirstAfter bs change place) c.deref.ensures.value c.first_after-place.ensures in
     let other = c.if-place-eq0.false in
     c.has.ensures
-    ∙ ap (λ (b : Block). is_among b.puts change) c.index.ensures.value
+    ∙ ap (λ (b : Block). is_among b.puts change) c.index.ensures
     ∙ has_there blocks c.self.invariant change place first c.index.result.now (omega (arith, other))
     ∙ ap (λ (ns : List ℕ). is_among ns change) c.self.view_is
