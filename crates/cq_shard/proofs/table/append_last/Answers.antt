@@ -3,6 +3,7 @@ use Rattle.std.proofs.lemmas.List.{set-get_or}
 use Rattle.cq_shard.specs.declared.table.Block.{Block}
 use Rattle.cq_shard.specs.Blocks.{IsTableOf, puts_in}
 use Rattle.cq_shard.proofs.Blocks.{appended_last, last_rises_by}
+use Rattle.cq_shard.proofs.Storing.{always_err}
 use Rattle.cq_shard.proofs.table.append_last.Goals as goal
 
 pub append_to-requires-clause-rising : goal.append_to-requires-clause-rising
@@ -29,4 +30,4 @@ pub returns-in_err-append_to-clause-same : goal.returns-in_err-append_to-clause-
 returns-in_err-append_to-clause-same c =
     let blocks = c.args.blocks.now.items in
     let last = c.len-last.result - 1 in
-    ap (λ (b : Block). set blocks last b) (c.in_err-append_to.ensures.same ∙ c.index_mut.ensures.value) ∙ set-get_or blocks last c.index_mut.result.now
+    always_err c.from_residual.result (ap (λ (b : Block). set blocks last b) (c.in_err-append_to.ensures.same ∙ c.index_mut.ensures.value) ∙ set-get_or blocks last c.index_mut.result.now)
