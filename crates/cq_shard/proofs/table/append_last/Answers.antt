@@ -1,4 +1,4 @@
-use Rattle.std.proofs.Common.{◌≡◌, ◌++◌, ◌∙◌, ◌-◌, List, length, get_or, set, sym, ap, subst, arith}
+use Rattle.std.proofs.Common.{◌≡◌, ◌++◌, ◌∙◌, ◌-◌, length, get_or, set, sym, ap, subst, arith}
 use Rattle.std.proofs.lemmas.List.{set-get_or}
 use Rattle.cq_shard.specs.declared.table.Block.{Block}
 use Rattle.cq_shard.specs.Blocks.{IsTableOf, puts_in}

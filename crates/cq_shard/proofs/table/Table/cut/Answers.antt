@@ -1,4 +1,4 @@
-use Rattle.std.proofs.Common.{Bool, nat_le, ap, subst, sym, ◌∙◌, filter}
+use Rattle.std.proofs.Common.{nat_le, ap, subst, sym, ◌∙◌, filter}
 use Rattle.cq_shard.specs.Blocks.{IsTable, has_puts, puts_in}
 use Rattle.cq_shard.specs.Tables.{no_later}
 use Rattle.cq_shard.proofs.Blocks.{puts_left, table_left}
