@@ -2,7 +2,7 @@ use Rattle.std.proofs.Common.{◌+◌, ◌-◌, ◌<◌, ◌++◌, length, take,
 use Rattle.std.specs.List.Sorted.{IsStrictlyIncreasing}
 use Rattle.std.proofs.lemmas.List.{length-drop, take-append-drop, take_all}
 use Rattle.std.proofs.Math.Seq.{take-add}
-use Rattle.cq_shard.specs.Blocks.{IsTable, puts_in}
+use Rattle.cq_shard.specs.Blocks.{puts_in}
 use Rattle.cq_shard.proofs.Finding.{whole_rest}
 use Rattle.cq_shard.proofs.table.append.Goals as goal
 
@@ -89,6 +89,3 @@ returns-clause-grown c = record { many = c.filling.from; is = c.filling.invarian
 
 pub returns-in_err-many-clause-grown : goal.returns-in_err-many-clause-grown
 returns-in_err-many-clause-grown c = record { many = c.filling.from; is = ap puts_in c.in_err-many.ensures.same ∙ c.filling.invariant.appended }
-
-pub returns-in_err-many-clause-table : goal.returns-in_err-many-clause-table
-returns-in_err-many-clause-table c = subst IsTable (sym c.in_err-many.ensures.same) c.filling.invariant.table
