@@ -29,7 +29,7 @@ OPTIONS = ["--text-limit", "67108864"]
 def upload(number, edition, files, project="p"):
     # each shared run is in ten files, however many there are
     shared = number % (files // 10)
-    words = [f"w{number}x{edition}x{token}" for token in range(150)] + [f"shared{shared}x{token}" for token in range(60)]
+    words = [f"{project}{number}x{edition}x{token}" for token in range(150)] + [f"{project}shared{shared}x{token}" for token in range(60)]
     return {"op": "put", "project": project, "path": f"f{number:05}", "lang": "any", "text": " ".join(words)}
 
 

@@ -2,7 +2,7 @@ use Rattle.std.proofs.Common.{◌≡◌, ◌+◌, ◌-◌, ◌≤◌, length, ta
 use Rattle.cq_shard.specs.Tables.{AreAlikeInFront, AreAlikeUpTo}
 use Rattle.cq_shard.proofs.Alike.{IsBehind, first_behind}
 use Rattle.cq_shard.proofs.Closing.{IsClosing, closing_first, closing_next, closing_last, behind_next, now_in_front, length-moved}
-use Rattle.cq_shard.proofs.table.close_up.Goals as goal
+use Rattle.cq_shard.proofs.puts.close_up.Goals as goal
 
 pub going-preserved : goal.going-preserved
 going-preserved c =

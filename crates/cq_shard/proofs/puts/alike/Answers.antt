@@ -1,5 +1,5 @@
 use Rattle.cq_shard.proofs.Alike.{halving_first, halving_behind, halving_before, halving_last}
-use Rattle.cq_shard.proofs.table.alike.Goals as goal
+use Rattle.cq_shard.proofs.puts.alike.Goals as goal
 
 pub halves-init : goal.halves-init
 halves-init c = halving_first c.args.changes.now c.args.keep.now c.args.gone c.args.from c.requires.from

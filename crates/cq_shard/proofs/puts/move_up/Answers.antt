@@ -1,7 +1,7 @@
 use Rattle.std.proofs.Common.{◌+◌, ◌-◌, drop, sym, ap, ◌∙◌, arith}
 use Rattle.std.proofs.Math.Seq.{paste}
 use Rattle.cq_shard.proofs.Closing.{moved_nowhere}
-use Rattle.cq_shard.proofs.table.move_up.Goals as goal
+use Rattle.cq_shard.proofs.puts.move_up.Goals as goal
 
 pub returns-else-to-from : goal.returns-else-to-from
 returns-else-to-from c =

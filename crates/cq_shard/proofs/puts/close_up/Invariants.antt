@@ -1,7 +1,7 @@
 use Rattle.std.proofs.Common.{◌≤◌, ◌+◌, length, take}
 use Rattle.cq_shard.proofs.Alike.{IsBehind}
 use Rattle.cq_shard.proofs.Closing.{IsClosing}
-use Rattle.cq_shard.proofs.table.close_up.Given as goal
+use Rattle.cq_shard.proofs.puts.close_up.Given as goal
 
 abbrev pub invariant-going : goal.invariant-going
 invariant-going l = record {

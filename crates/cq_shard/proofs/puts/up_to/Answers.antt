@@ -1,7 +1,7 @@
 use Rattle.std.proofs.Common.{nat_le, rules, arith}
 use Rattle.std.proofs.lemmas.List.Sorted.{IsPartitionPoint-from_clause}
 use Rattle.cq_shard.proofs.Leaving.{parted_numbers}
-use Rattle.cq_shard.proofs.table.up_to.Goals as goal
+use Rattle.cq_shard.proofs.puts.up_to.Goals as goal
 
 pub returns : goal.returns
 returns c =
