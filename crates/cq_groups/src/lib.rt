@@ -31,7 +31,6 @@ mod keeping;
 mod keys;
 mod listing;
 mod marks;
-mod parting;
 mod plain;
 mod refining;
 mod rows;
