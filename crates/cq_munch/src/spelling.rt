@@ -1,7 +1,8 @@
-ghost use Rattle.std.specs.Prelude.{◌≡◌, ◌+◌, ◌-◌, ◌<◌, ◌≤◌, length, IfOk};
+ghost use Rattle.std.specs.Prelude.{◌≡◌, ◌+◌, ◌-◌, ◌<◌, ◌≤◌, ◌++◌, [], ◌∷◌, length, IfOk};
 ghost use Rattle.cq_base.specs.Lines.{line_at};
 ghost use Rattle.cq_munch.specs.Characters.{utf8_of};
 ghost use Rattle.cq_munch.specs.Lexed.{AreBytes, InOrder, end_of, unit_at, spelled_of};
+ghost use Rattle.cq_munch.specs.Reached.{reached_by};
 
 use crate::unit::Unit;
 use cq_base::{Class, Memory, Spelled, Text, Token, line_further};
@@ -43,36 +44,50 @@ fn of_bytes(
     of_units(alloc, units)
 }
 
-/// The token of some units. `line` is that of the byte before `end`, where the token before this one ends; lines are
-/// counted from there.
-pub(crate) fn spell_out(
+/// How far the tokens of a text have come: the byte where the last one ends, and the line of the byte before that.
+#[derive(Clone, Copy, Debug, PartialEq, Eq)]
+pub(crate) struct Reached {
+    pub(crate) end: u32,
+    pub(crate) line: u32,
+}
+
+/// Adds the token of some units, and answers how far the tokens then have come. Lines are counted from where the one before
+/// ends.
+pub(crate) fn add_token(
     alloc: Global,
     text: &Text,
     class: Class,
     units: &[Unit],
-    end: u32,
-    line: u32,
-) -> Result<Spelled, Memory>
+    reached: Reached,
+    tokens: &mut Vec<Spelled>,
+) -> Result<Reached, Memory>
     requires short { length text.now ≤ 1048576 }
     requires some { 0 < length units.now }
-    requires in_order { InOrder end units.now (length text.now) }
+    requires in_order { InOrder reached.end units.now (length text.now) }
     requires bytes { AreBytes text.now units.now }
-    requires line_is { line ≡ line_at text.now (end - 1) }
-    ensures spelled { IfOk result (λ s. s ≡ spelled_of text.now class units.now) }
-    ensures within { IfOk result (λ s. s.token.start + s.token.len ≤ length text.now) }
+    requires line_is { reached.line ≡ line_at text.now (reached.end - 1) }
+    ensures added { IfOk result (λ _. tokens.new.items ≡ tokens.old.items ++ spelled_of text.now class units.now ∷ []) }
+    ensures reached { IfOk result (λ r. r ≡ reached_by (spelled_of text.now class units.now)) }
 {
     let first = units[0];
     let last = units[units.len() - 1];
-    let len = last.start + last.len - first.start;
-    let first_line = line_further(text, line, end.saturating_sub(1), first.start);
-    let last_line = line_further(text, first_line, first.start, first.start + len - 1);
+    let end = last.start + last.len;
+    let len = end - first.start;
+    let first_line = line_further(
+        text,
+        reached.line,
+        reached.end.saturating_sub(1),
+        first.start,
+    );
+    let line = line_further(text, first_line, first.start, end - 1);
     let token = Token {
         class,
         start: first.start,
         len,
         first_line,
-        last_line,
+        last_line: line,
     };
     let text = of_bytes(alloc, text, first.start, len, units)?;
-    Ok(Spelled { token, text })
+    tokens.push(Spelled { token, text })?;
+    Ok(Reached { end, line })
 }

@@ -5,7 +5,7 @@ use Rattle.cq_munch.proofs.cutting.cut_up.Given as goal
 
 abbrev pub invariant-loop-at : goal.invariant-loop-at
 invariant-loop-at g l = record {
-  so_far : SoFar g.X.Lexis.language l.text l.units l.tokens.items l.marks.items l.at l.mode l.end l.line;
+  so_far : SoFar g.X.Lexis.language l.text l.units l.tokens.items l.marks.items l.at l.mode l.reached.end l.reached.line;
   remembered : g.X.Lexis.is_true_of l.lexis (characters l.units);
 }
 
