@@ -4,6 +4,7 @@ ghost use Rattle.cq_munch.specs.Lexed.{InOrder, AreBytes, IsCut, AreCutInOrder, 
 
 use crate::element::Spell;
 use crate::lexis::Lexis;
+use crate::lines::first_feed;
 use crate::marking::add_mark;
 use crate::spelling::{Reached, add_token};
 use crate::unit::Unit;
@@ -57,7 +58,10 @@ pub(crate) fn cut_up<X: Lexis>(alloc: Global, text: &Text, units: &[Unit]) -> Re
     let mut marks = Vec::new(alloc);
     let mut at = 0;
     let mut mode = 0;
-    let mut reached = Reached { end: 0, line: 1 };
+    let mut reached = Reached {
+        end: 0,
+        feed: first_feed(text),
+    };
     while at < units.len() {
         if tokens.len() > MOST_TOKENS {
             return match fault_from(lexis, units, at, mode) {

@@ -1,11 +1,12 @@
 ghost use Rattle.std.specs.Prelude.{◌≡◌, ◌+◌, ◌-◌, ◌<◌, ◌≤◌, ◌++◌, [], ◌∷◌, length, IfOk};
-ghost use Rattle.cq_base.specs.Lines.{line_at};
 ghost use Rattle.cq_munch.specs.Characters.{utf8_of};
+ghost use Rattle.cq_munch.specs.Feeds.{IsCounted};
 ghost use Rattle.cq_munch.specs.Lexed.{AreBytes, InOrder, end_of, unit_at, spelled_of};
-ghost use Rattle.cq_munch.specs.Reached.{reached_by};
+ghost use Rattle.cq_munch.specs.Reached.{end_behind};
 
+use crate::lines::{Feed, feed_further};
 use crate::unit::Unit;
-use cq_base::{Class, Memory, Spelled, Text, Token, line_further};
+use cq_base::{Class, Memory, Spelled, Text, Token};
 use std::alloc::Global;
 
 // The text of the units' characters.
@@ -44,15 +45,14 @@ fn of_bytes(
     of_units(alloc, units)
 }
 
-/// How far the tokens of a text have come: the byte where the last one ends, and the line of the byte before that.
+/// How far the tokens of a text have come: the byte where the last one ends, and the first line feed from its last byte on.
 #[derive(Clone, Copy, Debug, PartialEq, Eq)]
 pub(crate) struct Reached {
     pub(crate) end: u32,
-    pub(crate) line: u32,
+    pub(crate) feed: Feed,
 }
 
-/// Adds the token of some units, and answers how far the tokens then have come. Lines are counted from where the one before
-/// ends.
+/// Adds the token of some units, and answers how far the tokens then have come.
 pub(crate) fn add_token(
     alloc: Global,
     text: &Text,
@@ -65,29 +65,30 @@ pub(crate) fn add_token(
     requires some { 0 < length units.now }
     requires in_order { InOrder reached.end units.now (length text.now) }
     requires bytes { AreBytes text.now units.now }
-    requires line_is { reached.line ≡ line_at text.now (reached.end - 1) }
+    requires counted { IsCounted text.now (reached.end - 1) reached.feed }
     ensures added { IfOk result (λ _. tokens.new.items ≡ tokens.old.items ++ spelled_of text.now class units.now ∷ []) }
-    ensures reached { IfOk result (λ r. r ≡ reached_by (spelled_of text.now class units.now)) }
+    ensures end { IfOk result (λ r. r.end ≡ end_behind (spelled_of text.now class units.now)) }
+    ensures counted { IfOk result (λ r. IsCounted text.now (r.end - 1) r.feed) }
 {
     let first = units[0];
     let last = units[units.len() - 1];
-    let end = last.start + last.len;
-    let len = end - first.start;
-    let first_line = line_further(
+    let len = last.start + last.len - first.start;
+    let end = first.start + len;
+    let opening = feed_further(
         text,
-        reached.line,
         reached.end.saturating_sub(1),
+        reached.feed,
         first.start,
     );
-    let line = line_further(text, first_line, first.start, end - 1);
+    let closing = feed_further(text, first.start, opening, end - 1);
     let token = Token {
         class,
         start: first.start,
         len,
-        first_line,
-        last_line: line,
+        first_line: opening.line,
+        last_line: closing.line,
     };
     let text = of_bytes(alloc, text, first.start, len, units)?;
     tokens.push(Spelled { token, text })?;
-    Ok(Reached { end, line })
+    Ok(Reached { end, feed: closing })
 }

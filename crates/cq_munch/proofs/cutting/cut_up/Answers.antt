@@ -1,7 +1,6 @@
-use Rattle.std.proofs.Common.{◌+◌, ◌-◌, ◌<◌, take, drop, length, refl, sym, subst, arith, IfOk}
+use Rattle.std.proofs.Common.{ℕ, ◌+◌, ◌-◌, ◌<◌, take, drop, length, refl, sym, subst, arith, IfOk}
 use Rattle.cq_base.specs.declared.token.Spelled.{Spelled}
 use Rattle.cq_munch.specs.Lexed.{IsCut, spelled_of}
-use Rattle.cq_munch.specs.declared.spelling.Reached.{Reached}
 use Rattle.cq_munch.proofs.Bytes.{AreBytes-take, AreBytes-drop}
 use Rattle.cq_munch.proofs.Orders.{InOrder-take, InOrder-end}
 use Rattle.cq_munch.proofs.Elements.{SoFar, one_token, one_blank, stays_inside, unspelled, unmarked, marked, TokensFollow-to, faulty, too_many}
@@ -18,9 +17,10 @@ loop-at-preserved-in_ok-add_token-in-Token g c =
     let found = c.in-Some-longest.found in
     let spelled : Spelled = spelled_of bytes c.in-Token.class (take (at + found.units - at) (drop at units)) in
     record {
-      so_far = subst (λ (r : Reached). SoFar g.X.Lexis.language bytes units c.add_token.new.tokens.items c.loop-at.marks.items (at + found.units) found.mode r.end r.line) (sym c.in_ok-add_token-in-Token.ensures.reached)
+      so_far = subst (λ (end : ℕ). SoFar g.X.Lexis.language bytes units c.add_token.new.tokens.items c.loop-at.marks.items (at + found.units) found.mode end) (sym c.in_ok-add_token-in-Token.ensures.end)
           (one_token c.loop-at.invariant.so_far found taken (stays_inside units at _ c.loop-at-test.true taken.0.within) c.in-Some-longest.ensures.known c.in-Token.class spelled _ c.in-Token.is refl
           c.in_ok-add_token-in-Token.ensures.added _ (unmarked _ _ _ _ c.in-Token.is refl));
+      counted = c.in_ok-add_token-in-Token.ensures.counted;
       remembered = c.longest.ensures.remembered;
     }
 
@@ -30,6 +30,7 @@ loop-at-preserved-in_ok-add_mark-in-Comment g c =
     record {
       so_far = one_blank c.loop-at.invariant.so_far c.in-Some-longest.found taken (stays_inside c.args.units.now c.loop-at.at _ c.loop-at-test.true taken.0.within) c.in-Some-longest.ensures.known
           (unspelled c.args.text.now _ _ _ _ c.in-Comment.is refl) _ (marked _ _ _ _ _ c.in-Comment.is c.in_ok-add_mark-in-Comment.ensures);
+      counted = c.loop-at.invariant.counted;
       remembered = c.longest.ensures.remembered;
     }
 
@@ -39,8 +40,12 @@ loop-at-preserved g c =
     record {
       so_far = one_blank c.loop-at.invariant.so_far c.in-Some-longest.found taken (stays_inside c.args.units.now c.loop-at.at _ c.loop-at-test.true taken.0.within) c.in-Some-longest.ensures.known
           (unspelled c.args.text.now _ _ _ _ c.in-Blank.is refl) _ (unmarked _ _ _ _ c.in-Blank.is refl);
+      counted = c.loop-at.invariant.counted;
       remembered = c.longest.ensures.remembered;
     }
+
+pub add_token-requires-clause-counted : goal.add_token-requires-clause-counted
+add_token-requires-clause-counted g c = c.loop-at.invariant.counted
 
 pub add_token-requires-clause-in_order : goal.add_token-requires-clause-in_order
 add_token-requires-clause-in_order g c = InOrder-take _ c.loop-at.reached.end _ (length c.args.text.now) c.loop-at.invariant.so_far.behind
