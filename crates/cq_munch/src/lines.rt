@@ -49,8 +49,9 @@ pub(crate) fn feed_further(text: &Text, from: u32, feed: Feed, to: u32) -> Feed
     let mut line = feed.line;
     while at < to {
         from = at + 1;
-        at = feed_from(text, from);
+        let next = feed_from(text, from);
         line += 1;
+        at = next;
     }
     Feed { at, line }
 }

@@ -16,7 +16,7 @@ loop-at-preserved c =
     let within = c.requires.within in
     let inside : at < length text = omega (arith, less, within) in
     record {
-      counted = (c.feed_from-at.ensures, ap (λ n. n + 1) c.loop-at.invariant.counted.1 ∙ sym (next_line text c.loop-at.from at c.feed_from-at.result c.loop-at.invariant.counted.0 inside c.feed_from-at.ensures));
+      counted = (c.feed_from-next.ensures, ap (λ n. n + 1) c.loop-at.invariant.counted.1 ∙ sym (next_line text c.loop-at.from at c.feed_from-next.result c.loop-at.invariant.counted.0 inside c.feed_from-next.ensures));
       ordered = omega (arith, less);
     }
 
@@ -24,7 +24,7 @@ pub loop-at-smaller : goal.loop-at-smaller
 loop-at-smaller c =
     let less = c.loop-at-test.true in
     let within = c.requires.within in
-    let ahead = c.feed_from-at.ensures.ahead in
+    let ahead = c.feed_from-next.ensures.ahead in
     omega (arith, less, within, ahead)
 
 pub returns-clause-counted : goal.returns-clause-counted
