@@ -8,8 +8,8 @@ use Rattle.cq_munch.proofs.MarkOrder.{marks_in_order}
 use Rattle.cq_munch.proofs.cutting.cut_up.Goals as goal
 use Rattle.cq_munch.proofs.cutting.cut_up.Goals.{in-Some, in-None}
 
-pub loop-at-preserved-in_ok-add_token-in-Token : goal.loop-at-preserved-in_ok-add_token-in-Token
-loop-at-preserved-in_ok-add_token-in-Token g c =
+pub loop-at-preserved-in_ok-reached-in-Token : goal.loop-at-preserved-in_ok-reached-in-Token
+loop-at-preserved-in_ok-reached-in-Token g c =
     let taken = c.in-Some-longest.ensures.taken in
     let bytes = c.args.text.now in
     let units = c.args.units.now in
@@ -17,10 +17,10 @@ loop-at-preserved-in_ok-add_token-in-Token g c =
     let found = c.in-Some-longest.found in
     let spelled : Spelled = spelled_of bytes c.in-Token.class (take (at + found.units - at) (drop at units)) in
     record {
-      so_far = subst (λ (end : ℕ). SoFar g.X.Lexis.language bytes units c.add_token.new.tokens.items c.loop-at.marks.items (at + found.units) found.mode end) (sym c.in_ok-add_token-in-Token.ensures.end)
+      so_far = subst (λ (end : ℕ). SoFar g.X.Lexis.language bytes units c.add_token.new.tokens.items c.loop-at.marks.items (at + found.units) found.mode end) (sym c.in_ok-reached-in-Token.ensures.end)
           (one_token c.loop-at.invariant.so_far found taken (stays_inside units at _ c.loop-at-test.true taken.0.within) c.in-Some-longest.ensures.known c.in-Token.class spelled _ c.in-Token.is refl
-          c.in_ok-add_token-in-Token.ensures.added _ (unmarked _ _ _ _ c.in-Token.is refl));
-      counted = c.in_ok-add_token-in-Token.ensures.counted;
+          c.in_ok-reached-in-Token.ensures.added _ (unmarked _ _ _ _ c.in-Token.is refl));
+      counted = c.in_ok-reached-in-Token.ensures.counted;
       remembered = c.longest.ensures.remembered;
     }
 
