@@ -53,6 +53,7 @@ pub(crate) struct Reached {
 }
 
 /// Adds the token of some units, and answers how far the tokens then have come.
+#[inline(always)]
 pub(crate) fn add_token(
     alloc: Global,
     text: &Text,
