@@ -10,6 +10,7 @@ use cq_base::{Class, Memory, Spelled, Text, Token};
 use std::alloc::Global;
 
 // The text of the units' characters.
+#[inline(never)]
 fn of_units(alloc: Global, units: &[Unit]) -> Result<Text, Memory>
     ensures { IfOk result (λ t. t ≡ utf8_of units.now) }
 {
@@ -21,6 +22,7 @@ fn of_units(alloc: Global, units: &[Unit]) -> Result<Text, Memory>
 }
 
 // The same, if they are these bytes of the source. Mostly there is a byte for each unit: then the bytes are the text.
+#[inline(always)]
 fn of_bytes(
     alloc: Global,
     text: &Text,
