@@ -1,11 +1,12 @@
 #!/usr/bin/env python3
-"""Uploads a file again and lists its groups by path, in a project of 500 files and in one of 3,000, and prints the CPU time of such a
-pair: the mean of 200 pairs in a row, once all files are listed, and the least of five runs; and how the two projects' times compare.
+"""Uploads a file again and lists its groups by path, in a project of 500 files, in one of 3,000 and in one of 20,000, and in one of 500
+beside 1,000 other projects of three files each. It prints the CPU time of such a pair: the mean of 200 pairs in a row, once all files
+are listed, and the least of five such means; and how the times compare with the first.
 
 usage: bench/paths.py [--instructions]
 
 With --instructions it prints how many instructions a pair takes instead, counted by callgrind of valgrind, so that neither the machine's speed
-nor its load matters. The program is ./cqd, or what the variable CQD names.
+nor its load matters; and only for 500 and 3,000 files. The program is ./cqd, or what the variable CQD names.
 """
 import argparse
 import json
@@ -21,13 +22,15 @@ options = parser.parse_args()
 ROOT = Path(__file__).resolve().parent.parent
 PROGRAM = os.environ.get("CQD", ROOT / "cqd")
 PAIRS = 200
+ROUNDS = 5
+OPTIONS = ["--text-limit", "67108864"]
 
 
-def upload(number, edition, files):
+def upload(number, edition, files, project="p"):
     # each shared run is in ten files, however many there are
     shared = number % (files // 10)
-    words = [f"w{number}x{edition}x{token}" for token in range(300)] + [f"shared{shared}x{token}" for token in range(60)]
-    return {"op": "put", "project": "p", "path": f"f{number:05}", "lang": "any", "text": " ".join(words)}
+    words = [f"{project}{number}x{edition}x{token}" for token in range(150)] + [f"{project}shared{shared}x{token}" for token in range(60)]
+    return {"op": "put", "project": project, "path": f"f{number:05}", "lang": "any", "text": " ".join(words)}
 
 
 def pair(index, files):
@@ -47,37 +50,47 @@ def processor(server):
     return int(Path(f"/proc/{server.pid}/schedstat").read_text().split()[0]) / 1e9
 
 
-def uploads(files):
+def uploads(files, others=0):
     """What comes before the pairs."""
-    return [*(upload(number, 0, files) for number in range(files)), {"op": "groups", "project": "p", "path": "f00000", "min": 40}]
+    yield from (upload(number, 0, files) for number in range(files))
+    yield from (upload(number, 0, 30, f"other{project}") for project in range(others) for number in range(3))
+    yield {"op": "groups", "project": "p", "path": "f00000", "min": 40}
 
 
 def counted(requests):
     data = "".join(json.dumps(request) + "\n" for request in requests).encode()
-    words = ["valgrind", "--tool=callgrind", "--callgrind-out-file=/dev/null", PROGRAM, "run"]
+    words = ["valgrind", "--tool=callgrind", "--callgrind-out-file=/dev/null", PROGRAM, "run", *OPTIONS]
     ran = subprocess.run(words, input=data, capture_output=True, check=True)
     return int(re.search(rb"Collected : (\d+)", ran.stderr)[1])
 
 
 def pair_instructions(files):
+    before = list(uploads(files))
     pairs = [request for index in range(PAIRS) for request in pair(index, files)]
-    return (counted(uploads(files) + pairs) - counted(uploads(files))) / PAIRS
+    return (counted(before + pairs) - counted(before)) / PAIRS
 
 
-def pair_cost(files):
-    with subprocess.Popen([PROGRAM, "run"], stdin=subprocess.PIPE, stdout=subprocess.PIPE) as server:
-        ask(server, uploads(files))
-        before = processor(server)
-        for index in range(PAIRS):
-            ask(server, pair(index, files))
-        after = processor(server)
+def pair_cost(files, others):
+    """The least mean of some pairs in a row, in seconds."""
+    means = []
+    with subprocess.Popen([PROGRAM, "run", *OPTIONS], stdin=subprocess.PIPE, stdout=subprocess.PIPE) as server:
+        ask(server, uploads(files, others))
+        for start in range(0, ROUNDS * PAIRS, PAIRS):
+            before = processor(server)
+            for index in range(start, start + PAIRS):
+                ask(server, pair(index, files))
+            means.append((processor(server) - before) / PAIRS)
         server.stdin.close()
-    return (after - before) / PAIRS
+    return min(means)
 
 
 if options.instructions:
-    few, many = (pair_instructions(files) / 1e6 for files in (500, 3000))
+    few, many = (pair_instructions(files) / 1e6 for files in (500, 3_000))
     print(f"an upload and its groups by path: {few:.2f} million instructions of 500 files, {many:.2f} of 3,000, {many / few:.2f} times")
 else:
-    few, many = (min(pair_cost(files) for _ in range(5)) * 1000 for files in (500, 3000))
-    print(f"an upload and its groups by path: {few:.2f} ms of 500 files, {many:.2f} ms of 3,000, {many / few:.2f} times")
+    first = None
+    for files, others in ((500, 0), (3_000, 0), (20_000, 0), (500, 1_000)):
+        cost = pair_cost(files, others) * 1000
+        first = first or cost
+        beside = f" beside {others:,} other projects" if others else ""
+        print(f"an upload and its groups by path, of {files:,} files{beside}: {cost:.2f} ms, {cost / first:.2f} times", flush=True)

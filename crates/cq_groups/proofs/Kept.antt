@@ -1,6 +1,8 @@
 -- The kept places of rows, found by jumps over those that a word reaches.
-use Rattle.std.proofs.Common.{◌≡◌, ℕ, zero, suc, ◌+◌, ◌-◌, ◌*◌, ◌<◌, ◌≤◌, true, false, List, [], ◌∷◌, ◌++◌, length, map, get_or, take, Option, Some, None, refl, sym, ap, ap₂, ◌∙◌, ⊎_elim, arith, append_assoc, append-nil, true≢false}
+use Rattle.std.proofs.Common.{◌≡◌, ℕ, zero, suc, ◌+◌, ◌-◌, ◌*◌, ◌<◌, ◌≤◌, true, false, List, [], ◌∷◌, ◌++◌, length, map, get_or, take, Option, Some, None, refl, sym, ap, ap₂, ◌∙◌, subst, ⊎_elim, arith, append_assoc, append-nil, true≢false}
 use Rattle.std.proofs.Math.Nat.{zero-mul, one-mul, add-mul, mul-le-mul_right}
+use Rattle.std.specs.Int.{div_ceil}
+use Rattle.std.proofs.lemmas.Grind.{div_ceil_times}
 use Rattle.std.proofs.lemmas.Bool.{cases_eq, cases_lt, le-leb, lt-leb, eq-eqb, ne_eqb}
 use Rattle.std.proofs.lemmas.List.{map-append, take_all}
 use Rattle.cq_base.specs.declared.group.Place.{Place}
@@ -13,13 +15,17 @@ use Rattle.cq_groups.proofs.RowLaws.{taken_more}
 
 -- ---- what a word reaches
 
--- a place that a word reaches
+-- a place that a word doesn't reach
+free : (n : ℕ) (p q : Place) → p.at + n ≤ q.at → is_free n (Some p) q ≡ true
+free n p q past = ⊎_elim (λ same. rw (eq-eqb p.file q.file same, le-leb (p.at + n) q.at past) refl) (λ other. rw (ne_eqb p.file q.file other) refl) (cases_eq p.file q.file)
+
+-- one that it reaches
 reached_from : (n : ℕ) (p q : Place) → is_free n (Some p) q ≡ false → (p.file ≡ q.file) × (q.at < p.at + n)
 reached_from n p q is =
     ⊎_elim
     (λ same. ⊎_elim
     (λ below. (same, below))
-    (λ past. let free : is_free n (Some p) q ≡ true = rw (eq-eqb p.file q.file same, le-leb (p.at + n) q.at past) refl in absurd (true≢false (sym free ∙ is)))
+    (λ past. absurd (true≢false (sym (free n p q past) ∙ is)))
     (cases_lt q.at (p.at + n)))
     (λ other. let free : is_free n (Some p) q ≡ true = rw (ne_eqb p.file q.file other) refl in absurd (true≢false (sym free ∙ is)))
     (cases_eq p.file q.file)
@@ -27,14 +33,39 @@ reached_from n p q is =
 reached : (n : ℕ) (p q : Place) → p.file ≡ q.file → q.at < p.at + n → is_free n (Some p) q ≡ false
 reached n p q same below = rw (eq-eqb p.file q.file same, lt-leb (p.at + n) q.at below) refl
 
--- and each one before it in a row
-pub reached_before : (n : ℕ) (last : Option Place) (r : Row) (k m : ℕ) → k ≤ m → IsFreeAt n last r m false → IsFreeAt n last r k false
-reached_before n None r k m le is = absurd (true≢false is)
-reached_before n (Some p) r k m le is =
-    let more = mul-le-mul_right r.gap le in
-    let h = reached_from n p (further r.first.place (m * r.gap)) is in
-    let below : r.first.place.at + k * r.gap < p.at + n = omega (arith, more, h.1) in
-    reached n p (further r.first.place (k * r.gap)) h.0 below
+-- what is left of it at such a place
+pub left_at : (n : ℕ) (p q : Place) → is_free n (Some p) q ≡ false → q.at < p.at + n
+left_at n p q is = (reached_from n p q is).1
+
+-- how many gaps are as long as what is left of it, and one fewer aren't
+pub record ReachesGaps (n : ℕ) (p q : Place) (gap c : ℕ) : Type 0 where
+  pub enough : p.at + n - q.at ≤ c * gap
+  pub least : c * gap < p.at + n - q.at + gap
+
+pub gaps_reached : (n : ℕ) (p q : Place) (gap c : ℕ) → 0 < gap → c ≡ div_ceil (p.at + n - q.at) gap → ReachesGaps n p q gap c
+gaps_reached n p q gap c some is =
+    let h = div_ceil_times (p.at + n - q.at) gap some in
+    subst (ReachesGaps n p q gap) (sym is) (record { enough = h.0; least = h.1 })
+
+-- so it reaches as many spots of a row from the first one on that it reaches
+pub reached_in_row : (n : ℕ) (p q : Place) (r : Row) (from c k : ℕ) → q ≡ further r.first.place (from * r.gap) → is_free n (Some p) q ≡ false → ReachesGaps n p q r.gap c → from ≤ k → k < from + c → IsFreeAt n (Some p) r k false
+reached_in_row n p q r from c k q_is is gaps later lt =
+    let h = reached_from n p q is in
+    let times : (k - from + 1) * r.gap ≤ c * r.gap = mul-le-mul_right r.gap (omega (arith, later, lt)) in
+    let split = add-mul (k - from) 1 r.gap in
+    let one = one-mul r.gap in
+    let whole : k ≡ from + (k - from) = omega (arith, later) in
+    let both : k * r.gap ≡ from * r.gap + (k - from) * r.gap = ap (λ (j : ℕ). j * r.gap) whole ∙ add-mul from (k - from) r.gap in
+    let at : q.at ≡ r.first.place.at + from * r.gap = ap (λ (w : Place). w.at) q_is in
+    let file : q.file ≡ r.first.place.file = ap (λ (w : Place). w.file) q_is in
+    reached n p (further r.first.place (k * r.gap)) (h.0 ∙ file) (omega (arith, h.1, gaps.least, times, one, split, both, at))
+
+-- and not the next one
+pub free_in_row : (n : ℕ) (p q : Place) (r : Row) (from c : ℕ) → q ≡ further r.first.place (from * r.gap) → ReachesGaps n p q r.gap c → IsFreeAt n (Some p) r (from + c) true
+free_in_row n p q r from c q_is gaps =
+    let both = add-mul from c r.gap in
+    let at : q.at ≡ r.first.place.at + from * r.gap = ap (λ (w : Place). w.at) q_is in
+    free n p (further r.first.place ((from + c) * r.gap)) (omega (arith, gaps.enough, both, at))
 
 -- ---- the places of a row from one on
 

@@ -14,7 +14,6 @@ pub mod Weights
 pub mod KeyPlaces
 pub mod Places
 pub mod OneStep
-pub mod ToldApart
 pub mod Alike
 pub mod Kept
 pub mod Counting

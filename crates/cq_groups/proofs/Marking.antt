@@ -27,9 +27,9 @@ pub record Marking {T K X : Type 0} (token : X → Option T) (key : X → K) (ma
 pub marks_none : {T Q : Type 0} (token : Q → T) (marks : Q → Option ℕ) → ((q : Q) → marks q ≡ None) → AreMarksOf token marks []
 marks_none token marks none q mark = (λ h. absurd (true≢false (sym (ap is_some (sym (none q) ∙ h)))), λ (some, here). absurd (true≢false (sym (ap is_some here))))
 
-pub marking_none : {T K X : Type 0} (token : X → Option T) (key : X → K) (mark : X → ℕ) → Marking token key mark [] [] []
-marking_none token key mark = record {
-  apart = λ i j d less within. absurd (omega (arith, within));
+pub marking_none : {T K X : Type 0} (token : X → Option T) (key : X → K) (mark : X → ℕ) (seen : List T) → AllPairs (λ a b. a ≢ b) seen → Marking token key mark seen [] []
+marking_none token key mark seen apart = record {
+  apart = apart;
   keys = refl;
   marks = λ x c. absurd (Contains-nil x c);
 }
@@ -108,6 +108,15 @@ no_mark seen token is = record { within = omega arith; names = sym is }
 
 pub grows_not : {T : Type 0} (seen : List T) → Grows seen seen
 grows_not seen = record { more = []; is = sym (append-nil seen) }
+
+-- a token that is another one, whose mark is known
+pub marked_as_other : (seen : List Norm) (marks : BTreeMap Seen ℕ) (other token : Option Norm) (mark : ℕ) → AreSame other token → AreMarks marks seen → IsMark seen other mark → IsMarked seen marks token mark
+marked_as_other seen marks other token mark same are is = record {
+  tokens = seen;
+  grows = grows_not seen;
+  are = are;
+  is = subst (λ o. IsMark seen o mark) same.1 is;
+}
 
 -- a token that was not there is taken in
 module _ {T Q : Type 0} (token : Q → T) (old new : Q → Option ℕ) (seen : List T) (key : Q) (tie : Q → Bool) (ties : (q : Q) → (tie q ≡ true) ↔ (token key ≡ token q)) where

@@ -1,5 +1,5 @@
 -- Sets of places that share their first tokens.
-use Rattle.std.specs.Prelude.{◌≡◌, Bool, ◌≢◌, ◌⊎◌, ◌↔◌, ℕ, ◌+◌, ◌*◌, ◌-◌, ◌^◌, ◌<◌, ◌≤◌, List, slice_get, slice_index_or, Some, IsSome, ◌∷◌, [], ◌++◌, length, Option, option_map, All, AllPairs, Contains, Any, sum_by, map, filter, ◌==◌, not, nat_le}
+use Rattle.std.specs.Prelude.{◌≡◌, Bool, ◌≢◌, ◌⊎◌, ◌↔◌, ℕ, ◌+◌, ◌*◌, ◌-◌, ◌^◌, ◌<◌, ◌≤◌, List, slice_get, slice_index_or, Some, IsSome, ◌∷◌, [], ◌++◌, length, Option, option_map, All, AllPairs, Contains, Any, sum_by, map, filter, ◌==◌, nat_le}
 use Rattle.std.specs.BTreeMap.{BTreeMap, get, btree_map_len}
 use Rattle.cq_base.specs.declared.norm.Norm.{Norm}
 use Rattle.cq_tokens.specs.declared.seen.Seen.{Seen}
@@ -14,7 +14,6 @@ use Rattle.cq_groups.specs.declared.spots.Spot.{Spot}
 use Rattle.cq_groups.specs.declared.spots.Row.{Row}
 use Rattle.cq_groups.specs.declared.spots.MarkedRow.{MarkedRow}
 use Rattle.cq_groups.specs.declared.spots.Set.{Set}
-use Rattle.cq_groups.specs.declared.parting.Parting.{Parting}
 use Rattle.cq_groups.specs.Rows.{further, row_spots, all_of, IsRow, AreRows}
 
 -- the spots of a set, in order
@@ -172,19 +171,6 @@ part_of mark marked = map (λ x. x.spot) (filter (λ x. x.mark == mark) marked)
 -- the rows with one mark
 abbrev pub rows_of : ℕ → List MarkedRow → List Row
 rows_of mark marked = map (λ x. x.row) (filter (λ x. x.mark == mark) marked)
-
--- the rows with other marks than one
-abbrev pub others_of : ℕ → List MarkedRow → List MarkedRow
-others_of mark marked = filter (λ x. not (x.mark == mark)) marked
-
--- rows were parted: some stay, whose mark is one of a token, and the others have their marks
-pub record IsParting {T : Type 0} (corpus : List (List T)) (n : ℕ) (rows : List Row) (parting : Parting) : Type 0 where
-  pub marked : List MarkedRow
-  pub is : map (λ x. x.row) marked ≡ rows
-  pub marks : AreRowsMarked corpus n marked
-  pub some : 0 < parting.mark
-  pub stay : parting.stay.items ≡ rows_of parting.mark marked
-  pub others : parting.others.items ≡ others_of parting.mark marked
 
 -- the rows of each mark from 1 to the highest
 pub record AreByMark (highest : ℕ) (marked : List MarkedRow) (parts : List (List Row)) : Type 0 where

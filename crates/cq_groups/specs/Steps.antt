@@ -1,5 +1,5 @@
 -- What one step makes of a set: its group, and its parts behind other sets.
-use Rattle.std.specs.Prelude.{◌≡◌, ℕ, ◌≤◌, List, Option, Vec, length, map, All}
+use Rattle.std.specs.Prelude.{ℕ, List, Option, Vec, map, All}
 use Rattle.std.specs.declared.alloc.Global.{Global}
 use Rattle.std.specs.BTreeMap.{BTreeMap}
 use Rattle.cq_base.specs.declared.norm.Norm.{Norm}
@@ -8,22 +8,20 @@ use Rattle.cq_tokens.specs.declared.seen.Seen.{Seen}
 use Rattle.cq_groups.specs.declared.spots.Row.{Row}
 use Rattle.cq_groups.specs.declared.spots.MarkedRow.{MarkedRow}
 use Rattle.cq_groups.specs.declared.spots.Set.{Set}
-use Rattle.cq_groups.specs.declared.parting.Parting.{Parting}
 use Rattle.cq_groups.specs.Rows.{IsRow}
-use Rattle.cq_groups.specs.Sets.{set_spots, spread, AreMarks, IsMarked, rows_of, others_of, AreByMark, AddsParts, group_of, IsLong, AddsGroup, IsSplit}
+use Rattle.cq_groups.specs.Sets.{set_spots, spread, AreMarks, IsMark, IsMarked, AreByMark, AddsParts, group_of, IsLong, AddsGroup, IsSplit}
 
 -- the token has this mark in the new table, beside all that have one in the old
 abbrev pub MarksToken : BTreeMap Seen ℕ → BTreeMap Seen ℕ → Option Norm → ℕ → Type 0
 MarksToken old new token mark = (seen : List Norm) → AreMarks old seen → IsMarked seen new token mark
 
+-- so it has, if another token has the known mark
+abbrev pub MarksBeside : BTreeMap Seen ℕ → BTreeMap Seen ℕ → Option Norm → ℕ → Option Norm → ℕ → Type 0
+MarksBeside old new other known token mark = (seen : List Norm) → AreMarks old seen → IsMark seen other known → IsMarked seen new token mark
+
 -- the rows in each of the lists
 abbrev pub lists_in : List (Vec Row Global) → List (List Row)
 lists_in parts = map (λ part. part.items) parts
-
--- all rows that were parted, those of each mark in a list
-abbrev pub HasAllParts : Parting → List (Vec Row Global) → Type 0
-HasAllParts parting parts = (marked : List MarkedRow) → parting.stay.items ≡ rows_of parting.mark marked → parting.others.items ≡ others_of parting.mark marked →
-    AreByMark (length parts) marked (lists_in parts) × All (λ x. x.mark ≤ length parts) marked
 
 -- each row of the lists is within a word of `depth` tokens
 abbrev pub ArePartRows : ℕ → List (Vec Row Global) → Type 0

@@ -14,16 +14,6 @@ fn is_free_behind(tokens: u32, last: Place, p: Place) -> bool
     last.file != p.file || u64::from(last.at) + u64::from(tokens) <= u64::from(p.at)
 }
 
-/// Whether a place is kept behind the last one that was, if there is one.
-fn is_kept(tokens: u32, last: Option<Place>, p: Place) -> bool
-    ensures { result ≡ is_free tokens last p }
-{
-    match last {
-        None => true,
-        Some(kept) => is_free_behind(tokens, kept, p),
-    }
-}
-
 /// The place of a row's spot, so many behind its first one.
 fn place_in(row: &Row, k: usize) -> Place
     requires within { k ≤ row.now.others }
@@ -40,41 +30,44 @@ fn place_in(row: &Row, k: usize) -> Place
     }
 }
 
-/// The first of a row's spots from one on that is kept behind the last one that was, or how many there are. It costs one look
-/// where that is the next one, and else a binary search.
+/// The position of the first of a row's spots, from a given one on, that is kept after the last one that was; if none is,
+/// how many spots there are. It costs a division.
 fn first_kept(row: &Row, from: usize, last: Option<Place>, tokens: u32) -> usize
     requires within { from ≤ row.now.others + 1 }
-    requires inside { 0 < row.now.others → row.now.first.place.at + row.now.others * row.now.gap < 2 ^ 32 }
+    requires row { IsRow tokens row.now }
     ensures later { from ≤ result }
     ensures end { result ≤ row.now.others + 1 }
     ensures reached { (k : ℕ) → from ≤ k → k < result → IsFreeAt tokens last row.now k false }
     ensures free { result ≤ row.now.others → IsFreeAt tokens last row.now result true }
 {
-    let mut low = from;
-    let mut high = row.others as usize + 1;
-    if low < high && is_kept(tokens, last, place_in(row, low)) {
-        return low;
+    let count = row.others as usize + 1;
+    let Some(kept) = last else {
+        return from;
+    };
+    if from >= count {
+        return count;
     }
-    while low < high {
-        let middle = low + (high - low) / 2;
-        if is_kept(tokens, last, place_in(row, middle)) {
-            high = middle;
-            continue;
-        }
-        low = middle + 1;
+    let next = place_in(row, from);
+    if is_free_behind(tokens, kept, next) {
+        return from;
     }
-    low
+    if row.others == 0 {
+        return count;
+    }
+    let reach = u64::from(kept.at) + u64::from(tokens) - u64::from(next.at);
+    let passed = reach.div_ceil(u64::from(row.gap));
+    count.min(from + passed as usize)
 }
 
-/// Adds the places of a row that are kept behind the last one that was, and returns the last one then. It costs a binary
-/// search for each that is kept.
+/// Adds the places of a row that are kept after the last one that was, and returns the last one then. It costs a division
+/// for each of them.
 fn keep_row(
     row: &Row,
     tokens: u32,
     last: Option<Place>,
     kept: &mut Vec<Place>,
 ) -> Result<Option<Place>, Memory>
-    requires { 0 < row.now.others → row.now.first.place.at + row.now.others * row.now.gap < 2 ^ 32 }
+    requires { IsRow tokens row.now }
     ensures { IfOk result (λ latest. KeepsRow tokens row.now last latest kept.old.items kept.new.items) }
 {
     let others = row.others as usize;

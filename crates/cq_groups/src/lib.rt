@@ -16,8 +16,8 @@
 //! as much as the set has rows: as few as two for a file of equal tokens. If all n rows go on by one token, the set
 //! grows in place, with n reads at most. Otherwise the rows that go on as the first one does stay together, and each
 //! other row is looked up among the k different tokens of the others in a map; two places need no map. Rows are joined
-//! at each depth that is a power of two. The kept places of a group are found by one binary search a row. No token is
-//! copied, and memory is linear in the entries of the bucket.
+//! at each depth that is a power of two. Each kept place of a group is found by a division. No token is copied, and
+//! memory is linear in the entries of the bucket.
 //!
 //! An `Index` lends the spots of its corpus's changes, so the file of an entry is found by binary search, and nothing that
 //! grows with the corpus is made for a bucket.
@@ -31,7 +31,6 @@ mod keeping;
 mod keys;
 mod listing;
 mod marks;
-mod parting;
 mod plain;
 mod refining;
 mod rows;

@@ -4,10 +4,10 @@ ghost use Rattle.cq_clones.specs.Groups.{IsPlace, AreSame, token_before};
 ghost use Rattle.cq_tokens.specs.Parts.{tokens_in};
 ghost use Rattle.cq_tokens.specs.Packed.{norm_in};
 ghost use Rattle.cq_groups.specs.Differences.{GoOnApart};
-ghost use Rattle.cq_groups.specs.Steps.{MarksToken};
+ghost use Rattle.cq_groups.specs.Steps.{MarksToken, MarksBeside};
 ghost use Rattle.cq_groups.specs.Sets.{AreTwoMarks, IsDifference, IsInNumbers, AreSpots, AreRowsMarked};
 
-use crate::differing::{Difference, token_before_at, token_behind_at};
+use crate::differing::{Difference, are_same, token_before_at, token_behind_at};
 use crate::spots::{MarkedRow, Row, Spot};
 use cq_base::{Memory, Place, Steps};
 use cq_tokens::{FileList, Files, Seen, equal_tokens_tie};
@@ -28,6 +28,21 @@ pub(crate) fn mark_of<'a>(
     let next = marks.len() + 1;
     let mark = marks.entry(seen)?.or_insert(next);
     Ok(*mark)
+}
+
+/// The mark of a token, if that of another one is known. It costs a search only if the two differ.
+fn mark_beside<'a>(
+    marks: &mut BTreeMap<Seen<'a>, usize>,
+    other: Option<Seen<'a>>,
+    mark: usize,
+    token: Option<Seen<'a>>,
+) -> Result<usize, Memory>
+    ensures { IfOk result (MarksBeside marks.old marks.new (option_map norm_in other.entry) mark (option_map norm_in token.entry)) }
+{
+    if are_same(other, token) {
+        return Ok(mark);
+    }
+    mark_of(marks, token)
 }
 
 /// The marks of two tokens that are not both there and the same. It needs no map.
@@ -84,10 +99,11 @@ fn spots_by_map<'a, F: Files>(
     ensures steps { steps.new + difference.now.read ≤ steps.old + length places.now }
 {
     let mut marks = BTreeMap::new(alloc);
+    let first = mark_of(&mut marks, difference.first)?;
     let mut spots = Vec::with_capacity(alloc, places.len())?;
     for (i, p) in places.iter().enumerate() {
         let token = token_before_at(files, places, i, difference, steps);
-        let left = mark_of(&mut marks, token)?;
+        let left = mark_beside(&mut marks, difference.first, first, token)?;
         spots.push(Spot { place: *p, left })?;
     }
     Ok(spots)
@@ -131,10 +147,11 @@ pub(crate) fn marked_of<'a, F: Files>(
     ensures steps { steps.new + difference.now.read ≤ steps.old + length rows.now }
 {
     let mut marks = BTreeMap::new(alloc);
+    let first = mark_of(&mut marks, difference.first)?;
     let mut marked = Vec::with_capacity(alloc, rows.len())?;
     for (i, r) in rows.iter().enumerate() {
         let token = token_behind_at(files, rows, i, n, difference, steps);
-        let mark = mark_of(&mut marks, token)?;
+        let mark = mark_beside(&mut marks, difference.first, first, token)?;
         marked.push(MarkedRow { row: *r, mark })?;
     }
     Ok(marked)

@@ -7,7 +7,6 @@ ghost use Rattle.cq_groups.specs.Steps.{Splits};
 
 use crate::differing::{Difference, difference_before, difference_behind};
 use crate::marks::{marked_of, spots_of};
-use crate::parting::push_parting;
 use crate::rows::{further_on, is_pair, singles};
 use crate::sets::{add_group, highest, may_give, push_parts};
 use crate::spots::{Set, Spot};
@@ -28,7 +27,7 @@ fn first_sets(alloc: Global, spots: Vec<Spot>) -> Result<Vec<Set>, Memory>
     Ok(sets)
 }
 
-/// Adds the parts of a set whose first place is at its file's end.
+/// Adds the parts of a set that may give groups.
 fn push_marked<'a, F: Files>(
     alloc: Global,
     files: &FileList<'a, F>,
@@ -75,10 +74,7 @@ fn part<'a, F: Files>(
     if is_pair(&set.rows) {
         return Ok(());
     }
-    if difference.first.is_none() {
-        return push_marked(alloc, files, &set, difference, sets, steps);
-    }
-    push_parting(alloc, files, &set, difference, sets, steps)
+    push_marked(alloc, files, &set, difference, sets, steps)
 }
 
 /// Takes a set one token further: all of it, where its places go on by one token, and else its parts.

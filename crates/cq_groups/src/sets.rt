@@ -95,11 +95,7 @@ pub(crate) fn highest(marked: &[MarkedRow]) -> usize
 }
 
 /// The rows of each mark, from 1 to the highest. It looks at each row once.
-pub(crate) fn parts_of(
-    alloc: Global,
-    marked: &[MarkedRow],
-    highest: usize,
-) -> Result<Vec<Vec<Row>>, Memory>
+fn parts_of(alloc: Global, marked: &[MarkedRow], highest: usize) -> Result<Vec<Vec<Row>>, Memory>
     requires { All (λ x. x.mark ≤ highest) marked.now }
     ensures { IfOk result (λ parts. AreByMark highest marked.now (lists_in parts.items)) }
 {
@@ -116,7 +112,7 @@ pub(crate) fn parts_of(
 }
 
 /// Adds the parts that may give groups.
-pub(crate) fn push_all(
+fn push_all(
     alloc: Global,
     parts: Vec<Vec<Row>>,
     depth: u32,

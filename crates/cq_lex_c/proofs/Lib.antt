@@ -5,5 +5,6 @@ pub mod Splicing
 pub mod HeaderNames
 pub mod Fitting
 pub mod Elements
+pub mod Unquoted
 pub mod Blanks
 pub mod OpenComments

@@ -1,6 +1,6 @@
 -- The table of C's elements, and its modes. Mode 0 is at the beginning of a line, mode 1 after a hash that begins one,
 -- mode 2 after the word include that follows it, and mode 3 anywhere else.
-use Rattle.std.specs.Prelude.{ℕ, Bool, ◌&&◌, ◌||◌, ◌==◌, if◌then◌else◌, List, [], ◌∷◌, codes}
+use Rattle.std.specs.Prelude.{ℕ, Bool, not, ◌&&◌, ◌||◌, ◌==◌, if◌then◌else◌, List, [], ◌∷◌, codes}
 use Rattle.std.specs.Str.{bytes_eq}
 use Rattle.cq_base.specs.declared.token.Class.TheVariants.{Word, Literal, Punct}
 use Rattle.cq_munch.specs.Commented.{commented}
@@ -24,6 +24,10 @@ blank_characters = (32 ∷ []) ∷ (9 ∷ []) ∷ (11 ∷ []) ∷ (12 ∷ []) �
 
 abbrev pub is_blank : ℕ → Bool
 is_blank c = (c == 32) || ((c == 9) || ((c == 11) || ((c == 12) || ((c == 13) || (c == 10)))))
+
+-- a character that begins no text in quotes, no prefix of one, no comment and no header name
+abbrev pub is_unquoted : ℕ → Bool
+is_unquoted c = not ((c == 34) || ((c == 39) || ((c == 47) || ((c == 60) || ((c == 76) || ((c == 85) || (c == 117)))))))
 
 abbrev pub texts : Row
 texts = record { spell = Token Literal; set = IsText }

@@ -3,7 +3,7 @@ ghost use Rattle.cq_munch.specs.Characters.{characters};
 ghost use Rattle.cq_munch.specs.Language.{Takes};
 ghost use Rattle.cq_munch.specs.Longest.{LongestAt};
 ghost use Rattle.cq_munch.specs.Table.{table};
-ghost use Rattle.cq_lex_c.specs.C.{is_blank, unquoted, unmarked, with_comments};
+ghost use Rattle.cq_lex_c.specs.C.{is_blank, is_unquoted, unquoted, unmarked, with_comments};
 ghost use Rattle.cq_lex_c.specs.Headers.{IsHeaderAt, has_header};
 ghost use Rattle.cq_lex_c.specs.Texts.{IsText, IsPrefixed};
 
@@ -24,8 +24,15 @@ pub(crate) fn is_blank(ch: char) -> bool
     ch == ' ' || ch == '\t' || ch == '\u{B}' || ch == '\u{C}' || ch == '\r' || ch == '\n'
 }
 
-// The element at the front, if it has no quotes.
-fn without_quotes(units: &[Unit], mode: u8) -> Option<Found>
+/// Whether the character begins no text in quotes, no prefix of one, no comment and no header name.
+pub(crate) fn is_unquoted(ch: char) -> bool
+    ensures { result ≡ is_unquoted ch }
+{
+    !(ch == '"' || ch == '\'' || ch == '/' || ch == '<' || ch == 'L' || ch == 'U' || ch == 'u')
+}
+
+/// The element at the front, if it has no quotes.
+pub(crate) fn without_quotes(units: &[Unit], mode: u8) -> Option<Found>
     requires { length units.now < 2 ^ 32 }
     ensures { (at : ℕ) → Takes (table unquoted) at mode (characters units.now) result }
 {

@@ -2,12 +2,12 @@ ghost use Rattle.std.specs.Prelude.{◌<◌, ◌≤◌, ◌^◌, Ok, IfSome, len
 ghost use Rattle.std.proofs.Math.Nat.{le_refl};
 ghost use Rattle.cq_munch.specs.Characters.{characters};
 ghost use Rattle.cq_munch.specs.Language.{Takes};
-ghost use Rattle.cq_lex_c.specs.C.{c};
+ghost use Rattle.cq_lex_c.specs.C.{c, unmarked};
 ghost use Rattle.cq_lex_c.specs.OneKind.{one_kind_of_c};
 ghost use Rattle.cq_lex_c.specs.Splices.{spliced};
 ghost use Rattle.cq_lex_c.specs.Unclosed.{IsTrueOf};
 
-use crate::element::{is_blank, taken};
+use crate::element::{is_blank, is_unquoted, taken, without_quotes};
 use crate::mode::{mode_behind, mode_behind_blank};
 use crate::splice::unspliced;
 use crate::text::{Unclosed, nothing_known, prefixed_at, text_at};
@@ -20,6 +20,23 @@ use std::alloc::Global;
 #[derive(Clone, Copy, Debug, PartialEq, Eq)]
 pub struct C {
     unclosed: Unclosed,
+}
+
+// The element at a unit, if there is no byte order mark, before its mode. After most characters no text in quotes is looked for.
+fn found_at(unclosed: &mut Unclosed, units: &[Unit], at: u32, mode: u8) -> Option<Found>
+    requires inside { at < length units.now }
+    requires short { length units.now < 2 ^ 32 }
+    requires remembered { IsTrueOf unclosed.old (characters units.now) }
+    ensures found { Takes unmarked at mode (drop at (characters units.now)) result }
+    ensures remembered { IsTrueOf unclosed.new (characters units.now) }
+{
+    let rest = &units[at as usize..];
+    if is_unquoted(units[at as usize].ch) {
+        return without_quotes(rest, mode);
+    }
+    let text = text_at(units, at as usize, unclosed);
+    let prefixed = prefixed_at(units, at as usize, unclosed);
+    taken(rest, mode, text, prefixed)
 }
 
 // The element at a unit.
@@ -40,9 +57,7 @@ fn taken_at(unclosed: &mut Unclosed, units: &[Unit], at: u32, mode: u8) -> Optio
             mode,
         });
     }
-    let text = text_at(units, at as usize, unclosed);
-    let prefixed = prefixed_at(units, at as usize, unclosed);
-    match taken(rest, mode, text, prefixed) {
+    match found_at(unclosed, units, at, mode) {
         None => None,
         Some(found) => Some(Found {
             spell: found.spell,

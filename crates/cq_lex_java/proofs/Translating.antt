@@ -153,10 +153,10 @@ module _ (bytes : List ℕ) (to : ℕ) where
 
   bytes_by : (step : Step) (u : Unit) (us : List Unit) (from : ℕ) (plain behind : Result (List Unit) ℕ) → IsStepWithin (length (u ∷ us)) step → InOrder from (u ∷ us) to → IsByte bytes u
       → IfOk plain (AreBytes bytes) → IfOk behind (AreBytes bytes) → IfOk (by_step step u us plain behind) (AreBytes bytes)
-  bytes_by steps.Plain u us from plain behind within order own p b = if_before (AreBytes bytes) (AreBytes bytes) u plain (λ v h. (own, h)) p
-  bytes_by steps.Fault u us from plain behind within order own p b = tt
-  bytes_by (steps.One ch len) u us from plain behind within order own p b =
-      if_before (AreBytes bytes) (AreBytes bytes) (spanning ch (u ∷ us) len) behind (λ v h. (not_one ch len u us from within order, h)) b
+  bytes_by steps.Plain v vs from plain behind within order own p b = if_before (AreBytes bytes) (AreBytes bytes) v plain (λ w h. (own, h)) p
+  bytes_by steps.Fault v vs from plain behind within order own p b = tt
+  bytes_by (steps.One ch len) v vs from plain behind within order own p b =
+      if_before (AreBytes bytes) (AreBytes bytes) (spanning ch (v ∷ vs) len) behind (λ w h. (not_one ch len v vs from within order, h)) b
 
   pub translated-bytes : (skip : ℕ) (odd : Bool) (from : ℕ) (us : List Unit) → InOrder from us to → AreBytes bytes us → IfOk (translated skip odd us) (AreBytes bytes)
   unfolding translated

@@ -50,7 +50,7 @@ module _ (test : ℕ → Bool) where
         (one_there ((Token Ident, name) ∷ others) is.texts t is.fits.1 spells is.fits.0 at mode (map stood (c ∷ text)) 1 1 Blank (alone t (stood c) state 1 (map stood text) (led c passes) stops ends) row)
 
 -- the characters from a unit on
-from_unit : (units : List Unit) (at : ℕ) → at < length units → drop at (characters units) ≡ (unit_at units at).ch ∷ drop (at + 1) (characters units)
+pub from_unit : (units : List Unit) (at : ℕ) → at < length units → drop at (characters units) ≡ (unit_at units at).ch ∷ drop (at + 1) (characters units)
 from_unit units at inside = drop_more (characters units) at 0 (as_many units at inside) ∙ ap (λ c. c ∷ drop (at + 1) (characters units)) (ch_at units at inside)
 
 -- it is no byte order mark

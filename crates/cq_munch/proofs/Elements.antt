@@ -2,7 +2,6 @@
 use Rattle.std.proofs.Common.{◌≡◌, ℕ, ◌+◌, ◌<◌, ◌≤◌, Option, Some, None, List, [], ◌∷◌, ◌++◌, length, take, drop, refl, sym, ap, subst, ◌∙◌, append_assoc, zero-le, ◌-◌, arith, length-append, length-drop, length-take-le}
 use Rattle.std.proofs.lemmas.List.{append-nil, length-map, drop-drop}
 use Rattle.std.specs.List.{cons_option}
-use Rattle.cq_base.specs.Lines.{line_at}
 use Rattle.cq_base.specs.declared.token.Class.{Class}
 use Rattle.cq_base.specs.declared.token.Mark.{Mark}
 use Rattle.cq_base.specs.declared.token.Spelled.{Spelled}
@@ -59,9 +58,8 @@ pub TokensFollow-to : (from : ℕ) (ts : List Spelled) (to more : ℕ) → to �
 TokensFollow-to from [] to more le follow = omega arith
 TokensFollow-to from (s ∷ ts) to more le follow = (follow.0, follow.1, TokensFollow-to (s.token.start + s.token.len) ts to more le follow.2)
 
--- The elements so far, and their marks and tokens, of which the last ends at a byte; the byte before that one stands on a
--- line.
-pub record SoFar (lang : Language) (bytes : List ℕ) (units : List Unit) (tokens : List Spelled) (marks : List Mark) (at mode end line : ℕ) : Type 0 where
+-- The elements so far, and their marks and tokens, of which the last ends at a byte.
+pub record SoFar (lang : Language) (bytes : List ℕ) (units : List Unit) (tokens : List Spelled) (marks : List Mark) (at mode end : ℕ) : Type 0 where
   pub elements : List Found
   pub follow : Follow lang (characters units) 0 0 elements at mode
   pub tokens_are : tokens ≡ tokens_of bytes units 0 elements
@@ -69,11 +67,10 @@ pub record SoFar (lang : Language) (bytes : List ℕ) (units : List Unit) (token
   pub inside : at ≤ length units
   pub known : mode ≤ 3
   pub behind : InOrder end (drop at units) (length bytes)
-  pub line_is : line ≡ line_at bytes (end - 1)
   pub ordered : TokensFollow 0 tokens end
 
-pub none_so_far : (lang : Language) (bytes : List ℕ) (units : List Unit) → InOrder 0 units (length bytes) → SoFar lang bytes units [] [] 0 0 0 1
-none_so_far lang bytes units order = record { elements = []; follow = (refl, refl); tokens_are = refl; marks_are = refl; inside = zero-le; known = zero-le; behind = order; line_is = refl; ordered = zero-le }
+pub none_so_far : (lang : Language) (bytes : List ℕ) (units : List Unit) → InOrder 0 units (length bytes) → SoFar lang bytes units [] [] 0 0 0
+none_so_far lang bytes units order = record { elements = []; follow = (refl, refl); tokens_are = refl; marks_are = refl; inside = zero-le; known = zero-le; behind = order; ordered = zero-le }
 
 -- elements behind elements
 Follow-append : (lang : Language) (text : List ℕ) (a m : ℕ) (fs : List Found) (at mode : ℕ) (gs : List Found) (end last : ℕ) → Follow lang text a m fs at mode → Follow lang text at mode gs end last
@@ -116,8 +113,8 @@ all_gone {lang} {units} {from} {there} {at} {mode} gone end =
     (gone.elements, mode, subst (λ v. Follow lang (characters units) from there gone.elements v mode) whole gone.follow)
 
 -- a text with a fault behind its first tokens, or with too many
-pub faulty : {lang : Language} {bytes : List ℕ} {units : List Unit} {tokens : List Spelled} {marks : List Mark} {at mode end line : ℕ} → SoFar lang bytes units tokens marks at mode end line → (byte : ℕ) → StopsFrom lang units at mode byte → EndsAt lang units byte
-faulty {lang} {bytes} {units} {tokens} {marks} {at} {mode} {end} {line} so_far byte stops = record {
+pub faulty : {lang : Language} {bytes : List ℕ} {units : List Unit} {tokens : List Spelled} {marks : List Mark} {at mode end : ℕ} → SoFar lang bytes units tokens marks at mode end → (byte : ℕ) → StopsFrom lang units at mode byte → EndsAt lang units byte
+faulty {lang} {bytes} {units} {tokens} {marks} {at} {mode} {end} so_far byte stops = record {
   elements = so_far.elements ++ stops.elements;
   at = stops.at;
   mode = stops.mode;
@@ -127,8 +124,8 @@ faulty {lang} {bytes} {units} {tokens} {marks} {at} {mode} {end} {line} so_far b
   byte_is = stops.byte_is;
 }
 
-pub too_many : {lang : Language} {bytes : List ℕ} {units : List Unit} {tokens : List Spelled} {marks : List Mark} {at mode end line : ℕ} → SoFar lang bytes units tokens marks at mode end line → 262144 < length tokens → GoesToEnd lang units at mode → IsCut lang bytes units cuts.Large
-too_many {lang} {bytes} {units} {tokens} {marks} {at} {mode} {end} {line} so_far many rest = (
+pub too_many : {lang : Language} {bytes : List ℕ} {units : List Unit} {tokens : List Spelled} {marks : List Mark} {at mode end : ℕ} → SoFar lang bytes units tokens marks at mode end → 262144 < length tokens → GoesToEnd lang units at mode → IsCut lang bytes units cuts.Large
+too_many {lang} {bytes} {units} {tokens} {marks} {at} {mode} {end} so_far many rest = (
   so_far.elements ++ rest.0,
   (rest.1, Follow-append lang (characters units) 0 0 so_far.elements at mode rest.0 (length units) rest.1 so_far.follow rest.2),
   let is = ap length so_far.tokens_are in let more = tokens-more bytes units 0 so_far.elements rest.0 in omega arith,
@@ -138,10 +135,10 @@ pub further : (at n : ℕ) (units : List Unit) → drop n (drop at units) ≡ dr
 further at n units = drop-drop n at units ∙ ap (λ k. drop k units) (omega arith)
 
 -- an element that is no token
-pub one_blank : {lang : Language} {bytes : List ℕ} {units : List Unit} {tokens : List Spelled} {marks : List Mark} {at mode end line : ℕ} → SoFar lang bytes units tokens marks at mode end line → (f : Found) → Takes lang at mode (drop at (characters units)) (Some f)
+pub one_blank : {lang : Language} {bytes : List ℕ} {units : List Unit} {tokens : List Spelled} {marks : List Mark} {at mode end : ℕ} → SoFar lang bytes units tokens marks at mode end → (f : Found) → Takes lang at mode (drop at (characters units)) (Some f)
     → at + f.units ≤ length units → f.mode ≤ 3 → tokens ≡ tokens ++ token_of bytes f.spell (take f.units (drop at units)) → (marked : List Mark) → marked ≡ marks ++ cons_option (mark_of f.spell (take (at + f.units - at) (drop at units))) []
-    → SoFar lang bytes units tokens marked (at + f.units) f.mode end line
-one_blank {lang} {bytes} {units} {tokens} {marks} {at} {mode} {end} {line} so_far f takes inside known none marked marked_is = record {
+    → SoFar lang bytes units tokens marked (at + f.units) f.mode end
+one_blank {lang} {bytes} {units} {tokens} {marks} {at} {mode} {end} so_far f takes inside known none marked marked_is = record {
   elements = so_far.elements ++ f ∷ [];
   follow = Follow-push lang (characters units) 0 0 so_far.elements at mode f so_far.follow takes;
   tokens_are = none ∙ ap (λ v. v ++ token_of bytes f.spell (take f.units (drop at units))) so_far.tokens_are ∙ sym (tokens-push lang (characters units) bytes units 0 0 so_far.elements at mode f so_far.follow);
@@ -149,15 +146,14 @@ one_blank {lang} {bytes} {units} {tokens} {marks} {at} {mode} {end} {line} so_fa
   inside = inside;
   known = known;
   behind = subst (λ us. InOrder end us (length bytes)) (further at f.units units) (InOrder-drop f.units end (drop at units) (length bytes) so_far.behind);
-  line_is = so_far.line_is;
   ordered = so_far.ordered;
 }
 
 -- an element that is a token
-pub one_token : {lang : Language} {bytes : List ℕ} {units : List Unit} {tokens : List Spelled} {marks : List Mark} {at mode end line : ℕ} → SoFar lang bytes units tokens marks at mode end line → (f : Found) → Takes lang at mode (drop at (characters units)) (Some f)
+pub one_token : {lang : Language} {bytes : List ℕ} {units : List Unit} {tokens : List Spelled} {marks : List Mark} {at mode end : ℕ} → SoFar lang bytes units tokens marks at mode end → (f : Found) → Takes lang at mode (drop at (characters units)) (Some f)
     → at + f.units ≤ length units → f.mode ≤ 3 → (class : Class) (s : Spelled) (more : List Spelled) → f.spell ≡ TokenOf class → s ≡ spelled_of bytes class (take (at + f.units - at) (drop at units)) → more ≡ tokens ++ s ∷ [] → (marked : List Mark) → marked ≡ marks ++ cons_option (mark_of f.spell (take (at + f.units - at) (drop at units))) []
-    → SoFar lang bytes units more marked (at + f.units) f.mode (s.token.start + s.token.len) s.token.last_line
-one_token {lang} {bytes} {units} {tokens} {marks} {at} {mode} {end} {line} so_far f takes inside known class s more spell s_is more_is marked marked_is =
+    → SoFar lang bytes units more marked (at + f.units) f.mode (s.token.start + s.token.len)
+one_token {lang} {bytes} {units} {tokens} {marks} {at} {mode} {end} so_far f takes inside known class s more spell s_is more_is marked marked_is =
     let n : at + f.units - at ≡ f.units = omega arith in
     let here : List Unit = take f.units (drop at units) in
     let is : s ≡ spelled_of bytes class here = s_is ∙ ap (λ k. spelled_of bytes class (take k (drop at units))) n in
@@ -168,7 +164,6 @@ one_token {lang} {bytes} {units} {tokens} {marks} {at} {mode} {end} {line} so_fa
     let ends = InOrder-ends end here (length bytes) order many in
     let start_is : s.token.start ≡ (unit_at here 0).start = ap (λ (v : Spelled). v.token.start) is in
     let len_is : s.token.len ≡ end_of here - (unit_at here 0).start = ap (λ (v : Spelled). v.token.len) is in
-    let last_is : s.token.last_line ≡ line_at bytes ((unit_at here 0).start + (end_of here - (unit_at here 0).start) - 1) = ap (λ (v : Spelled). v.token.last_line) is in
     let reaches : s.token.start + s.token.len ≡ end_of here = omega (arith, start_is, len_is, ends.1) in
     record {
       elements = so_far.elements ++ f ∷ [];
@@ -180,7 +175,6 @@ one_token {lang} {bytes} {units} {tokens} {marks} {at} {mode} {end} {line} so_fa
       known = known;
       behind = subst (λ us. InOrder (s.token.start + s.token.len) us (length bytes)) (further at f.units units)
           (subst (λ e. InOrder e (drop f.units (drop at units)) (length bytes)) (sym reaches) (InOrder-behind f.units end (drop at units) (length bytes) some left so_far.behind));
-      line_is = last_is ∙ ap (λ k. line_at bytes (k - 1)) (omega (arith, reaches, ends.1));
       ordered = subst (λ ts. TokensFollow 0 ts (s.token.start + s.token.len)) (sym more_is) (TokensFollow-push 0 tokens end (s.token.start + s.token.len) s so_far.ordered (omega (arith, start_is, ends.0)) (omega (arith, len_is, ends.1)) refl);
     }
   where

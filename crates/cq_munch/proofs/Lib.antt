@@ -11,6 +11,7 @@ pub mod Reserved
 pub mod Orders
 pub mod Texts
 pub mod Bytes
+pub mod Feeds
 pub mod Decoding
 pub mod Backslashes
 pub mod Elements

@@ -18,6 +18,8 @@ pub mod Scanners
 pub mod Commented
 pub mod ListingMarks
 pub mod Lexed
+pub mod Feeds
+pub mod Reached
 pub mod Backslashes
 pub mod OneAnswer
 pub mod LastWord

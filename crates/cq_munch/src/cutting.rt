@@ -4,8 +4,9 @@ ghost use Rattle.cq_munch.specs.Lexed.{InOrder, AreBytes, IsCut, AreCutInOrder, 
 
 use crate::element::Spell;
 use crate::lexis::Lexis;
+use crate::lines::first_feed;
 use crate::marking::add_mark;
-use crate::spelling::spell_out;
+use crate::spelling::{Reached, add_token};
 use crate::unit::Unit;
 use cq_base::{Mark, Memory, Spelled, Text};
 use std::alloc::Global;
@@ -57,8 +58,10 @@ pub(crate) fn cut_up<X: Lexis>(alloc: Global, text: &Text, units: &[Unit]) -> Re
     let mut marks = Vec::new(alloc);
     let mut at = 0;
     let mut mode = 0;
-    let mut end = 0;
-    let mut line = 1;
+    let mut reached = Reached {
+        end: 0,
+        feed: first_feed(text),
+    };
     while at < units.len() {
         if tokens.len() > MOST_TOKENS {
             return match fault_from(lexis, units, at, mode) {
@@ -72,10 +75,7 @@ pub(crate) fn cut_up<X: Lexis>(alloc: Global, text: &Text, units: &[Unit]) -> Re
         let behind = at + found.units as usize;
         match found.spell {
             Spell::Token(class) => {
-                let spelled = spell_out(alloc, text, class, &units[at..behind], end, line)?;
-                end = spelled.token.start + spelled.token.len;
-                line = spelled.token.last_line;
-                tokens.push(spelled)?;
+                reached = add_token(alloc, text, class, &units[at..behind], reached, &mut tokens)?;
             }
             Spell::Comment => add_mark(&mut marks, &units[at..behind])?,
             Spell::Blank => {}

@@ -12,6 +12,7 @@ mod cutting;
 mod element;
 mod ends;
 mod lexis;
+mod lines;
 mod machine;
 mod mark;
 mod marking;

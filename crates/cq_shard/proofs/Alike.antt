@@ -122,17 +122,22 @@ module _ (xs ys : List ℕ) (up : IsStrictlyIncreasing xs) (part_up : IsStrictly
         let high = highs (length ys - i - 1) i (omega (arith, within)) in
         omega (arith, low, high)
 
+-- a part that is as long is all
+pub part_is_all : (xs ys : List ℕ) → IsStrictlyIncreasing xs → IsStrictlyIncreasing ys → AreAmong ys xs → length ys ≡ length xs → xs ≡ ys
+part_is_all xs ys up part_up among long =
+    let number : length xs ≡ length ys + 0 = omega (arith, long) in
+    same_lists xs ys (sym long) (λ k d lt.
+    let inside : k < length ys = omega (arith, lt, long) in
+    let same = rest_alike xs ys up part_up among 0 number 0 (first_behind xs ys up part_up among) k (omega arith) inside in
+    let place : k + 0 ≡ k = omega arith in
+    get_or_default xs k d 0 lt ∙ sym (ap (λ i. get_or xs i 0) place) ∙ same ∙ get_or_default ys k 0 d inside)
+
 -- two that rise and have the same numbers are the same
 pub rising_same : (xs ys : List ℕ) → IsStrictlyIncreasing xs → IsStrictlyIncreasing ys → AreAmong xs ys → AreAmong ys xs → xs ≡ ys
 rising_same xs ys up other_up there here =
     let few = part_fits xs ys up other_up here in
     let many = part_fits ys xs other_up up there in
-    let number : length xs ≡ length ys + 0 = omega (arith, few, many) in
-    same_lists xs ys (omega (arith, few, many)) (λ k d lt.
-    let inside : k < length ys = omega (arith, lt, number) in
-    let same = rest_alike xs ys up other_up here 0 number 0 (first_behind xs ys up other_up here) k (omega arith) inside in
-    let place : k + 0 ≡ k = omega arith in
-    get_or_default xs k d 0 lt ∙ sym (ap (λ i. get_or xs i 0) place) ∙ same ∙ get_or_default ys k 0 d inside)
+    part_is_all xs ys up other_up here (omega (arith, few, many))
 
 -- ---- by halves
 

@@ -14,7 +14,7 @@ use Rattle.cq_shard.specs.Runs.{RowBefore, IsRun, IsNear}
 use Rattle.cq_shard.proofs.RowOrder.{RowBefore-keys}
 use Rattle.cq_shard.proofs.Entries.{asked_is}
 
-none_kept : {X : Type 0} (p : X → Bool) (xs : List X) → ((x : X) → Contains xs x → p x ≡ false) → filter p xs ≡ []
+pub none_kept : {X : Type 0} (p : X → Bool) (xs : List X) → ((x : X) → Contains xs x → p x ≡ false) → filter p xs ≡ []
 none_kept p [] none = refl
 none_kept p (x ∷ xs) none = ap (λ b. cond b (x ∷ filter p xs) (filter p xs)) (none x (Contains-here x xs)) ∙ none_kept p xs (λ z c. none z (Contains-there x z xs c))
 

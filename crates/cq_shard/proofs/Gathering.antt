@@ -13,7 +13,7 @@ use Rattle.cq_shard.proofs.RowOrder.{RowBefore-different, RowBefore-same_key}
 
 -- ---- pairs of a list in two parts
 
-pairs_across : {X : Type 0} (R : X → X → Type 0) (xs ys : List X) (x y : X) → AllPairs R (xs ++ ys) → Contains xs x → Contains ys y → R x y
+pub pairs_across : {X : Type 0} (R : X → X → Type 0) (xs ys : List X) (x y : X) → AllPairs R (xs ++ ys) → Contains xs x → Contains ys y → R x y
 pairs_across R [] ys x y h here there = absurd (Contains-nil x here)
 pairs_across R (w ∷ xs) ys x y h here there =
     ⊎_elim

@@ -1,15 +1,16 @@
 -- What a sweep leaves of the puts: those to keep up to the floor, and all behind it.
-use Rattle.std.proofs.Common.{◌≡◌, ℕ, ◌+◌, ◌-◌, ◌<◌, ◌≤◌, Bool, nat_le, List, ◌++◌, length, take, drop, filter, sym, ap₂, ap, ◌∙◌, subst, ⊎_elim, arith}
-use Rattle.std.specs.Prelude.{Contains}
+use Rattle.std.proofs.Common.{◌≡◌, ℕ, ◌+◌, ◌-◌, ◌<◌, ◌≤◌, Bool, nat_le, List, ◌++◌, length, take, drop, filter, sym, ap₂, ap, ◌∙◌, subst, ⊎_elim, arith, append-nil}
+use Rattle.std.specs.Prelude.{All, Contains}
 use Rattle.std.specs.List.Sorted.{IsStrictlyIncreasing, IsPartitionedBy}
-use Rattle.std.proofs.lemmas.Bool.{cases_lt}
+use Rattle.std.proofs.lemmas.Bool.{cases_lt, le-leb, leb-true, false_from_ne_true}
 use Rattle.std.proofs.lemmas.List.{take-append-drop, length-take, length-drop, get_or-take, get_or-drop, get_or_default}
-use Rattle.std.proofs.lemmas.List.Elements.{filter-append}
+use Rattle.std.proofs.lemmas.List.Elements.{All-contains, All-take, filter-append}
 use Rattle.std.proofs.lemmas.List.Kept.{IsStrictlyIncreasing-filter}
 use Rattle.cq_base.proofs.Lists.{Contains-filter, Contains-from_filter}
-use Rattle.cq_shard.specs.Tables.{AreAmong, IsUpTo, IsPart, stays, staying}
-use Rattle.cq_shard.proofs.Alike.{first_behind, part_fits, rising_same}
+use Rattle.cq_shard.specs.Tables.{AreAmong, IsUpTo, IsPart, no_later, stays, staying}
+use Rattle.cq_shard.proofs.Alike.{first_behind, part_fits, part_is_all, rising_same}
 use Rattle.cq_shard.proofs.Closing.{rest_stands}
+use Rattle.cq_shard.proofs.Finding.{none_kept}
 use Rattle.cq_shard.proofs.Live.{rises}
 use Rattle.cq_shard.proofs.Staying.{stays_above, stays_kept, stays_cases}
 use Rattle.cq_shard.proofs.Taking.{left_same, rising_front}
@@ -23,7 +24,7 @@ parted_numbers xs floor up i j d low within later =
     grind arith
 
 module _ (xs : List ℕ) (floor many : ℕ) (up_to : IsUpTo xs floor many) where
-  front_in : (n : ℕ) → Contains (take many xs) n → Contains xs n × (n ≤ floor)
+  pub front_in : (n : ℕ) → Contains (take many xs) n → Contains xs n × (n ≤ floor)
   front_in n (k, within, is) =
       let few = length-take many xs in
       let near : k < many = omega (arith, few, within) in
@@ -31,7 +32,7 @@ module _ (xs : List ℕ) (floor many : ℕ) (up_to : IsUpTo xs floor many) where
       let low = up_to.low k n (omega arith) near in
       ((k, omega (arith, few, within), there), omega (arith, low, there))
 
-  front_has : (n : ℕ) → Contains xs n → n ≤ floor → Contains (take many xs) n
+  pub front_has : (n : ℕ) → Contains xs n → n ≤ floor → Contains (take many xs) n
   front_has n (k, within, is) low =
       let few = length-take many xs in
       ⊎_elim
@@ -39,7 +40,7 @@ module _ (xs : List ℕ) (floor many : ℕ) (up_to : IsUpTo xs floor many) where
       (λ (no : many ≤ k). let high = up_to.high k n no within in absurd (omega (arith, high, is, low)))
       (cases_lt k many)
 
-  rest_above : (n : ℕ) → Contains (drop many xs) n → floor < n
+  pub rest_above : (n : ℕ) → Contains (drop many xs) n → floor < n
   rest_above n (k, within, is) =
       let few = length-drop many xs in
       let there = sym (get_or-drop many xs k n) ∙ is in
@@ -115,3 +116,28 @@ module _ (changes keep : List ℕ) (floor end kept : ℕ) (up : IsStrictlyIncrea
       let few : length (take kept keep) + 0 ≡ end = (let a = length-take kept keep in let b = keeps.within in omega (arith, a, b, fits, none)) in
       sym (rest_stands changes (take kept keep) 0 within part 0 (omega arith) (first_behind (take (length (take kept keep) + 0) changes) (take kept keep) part.rising part.part_rises part.among)
       ∙ ap (λ k. take kept keep ++ drop k changes) few ∙ left_is)
+
+-- where as many are to be kept as there are, none goes
+pub all_stay : (changes keep : List ℕ) (floor : ℕ) → IsStrictlyIncreasing changes → IsStrictlyIncreasing keep → AreAmong keep changes → length keep ≡ length changes → staying floor keep changes ≡ changes
+all_stay changes keep floor up keep_up known number =
+    let same = part_is_all changes keep up keep_up known number in
+    left_same (λ n. stays floor keep n) changes (λ n c. stays_kept floor keep n (subst (λ ns. Contains ns n) same c))
+
+-- what is cut behind a last number
+pub cut_is : (xs : List ℕ) (last many : ℕ) → IsUpTo xs last many → take many xs ≡ no_later last xs
+cut_is xs last many up_to = sym (
+    ap (filter (λ n. nat_le n last)) (sym (take-append-drop many xs))
+    ∙ filter-append (λ n. nat_le n last) (take many xs) (drop many xs)
+    ∙ ap₂ (λ xs ys. xs ++ ys)
+    (left_same (λ n. nat_le n last) (take many xs) (λ n c. le-leb n last (front_in xs last many up_to n c).1))
+    (none_kept (λ n. nat_le n last) (drop many xs) (λ n c. false_from_ne_true (nat_le n last) (λ h. let low = leb-true n last h in let high = rest_above xs last many up_to n c in omega (arith, low, high))))
+    ∙ append-nil (take many xs))
+
+-- where none is behind a last number but for some that came behind, these are cut
+pub cut_back : (old more : List ℕ) (last many : ℕ) → All (λ n. n ≤ last) old → All (λ n. last < n) more → no_later last (old ++ take many more) ≡ old
+cut_back old more last many low high =
+    filter-append (λ n. nat_le n last) old (take many more)
+    ∙ ap₂ (λ xs ys. xs ++ ys)
+    (left_same (λ n. nat_le n last) old (λ n c. le-leb n last (All-contains (λ n. n ≤ last) old n low c)))
+    (none_kept (λ n. nat_le n last) (take many more) (λ n c. false_from_ne_true (nat_le n last) (λ h. let under = leb-true n last h in let above = All-contains (λ n. last < n) (take many more) n (All-take (λ n. last < n) many more high) c in omega (arith, under, above))))
+    ∙ append-nil old

@@ -11,6 +11,8 @@ pub mod Taking
 pub mod Alike
 pub mod Closing
 pub mod Leaving
+pub mod Blocks
+pub mod TakingOut
 pub mod Storing
 pub mod Lasting
 pub mod Standing

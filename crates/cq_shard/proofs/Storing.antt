@@ -1,6 +1,6 @@
 -- The entries that count, as entries come and as changes are taken out.
 use Rattle.std.proofs.Common.{◌≡◌, ◌≢◌, Ok, Err, Result, ℕ, ◌<◌, ◌≤◌, Bool, true, false, cond, ◌&&◌, nat_eq, List, [], ◌∷◌, ◌++◌, map, filter, refl, sym, ap, ◌∙◌, subst, inl, inr, ⊎_elim, arith}
-use Rattle.std.specs.Prelude.{All, Contains, OnOk}
+use Rattle.std.specs.Prelude.{All, Contains, OnErr, OnOk}
 use Rattle.std.proofs.lemmas.Bool.{eqb-true}
 use Rattle.std.proofs.lemmas.List.Elements.{All-contains, All-append, Contains-append_left, Contains-append_right, Contains-append_cases, filter-append}
 use Rattle.std.proofs.lemmas.List.Kept.{AllPairs-filter}
@@ -195,3 +195,7 @@ module _ (applied floor : ℕ) (keep changes : List ℕ) where
 pub always_ok : {T E P : Type 0} (r : Result T E) → P → OnOk r P
 always_ok (Ok x) is = is
 always_ok (Err e) is = tt
+
+pub always_err : {T E P : Type 0} (r : Result T E) → P → OnErr r P
+always_err (Ok x) is = tt
+always_err (Err e) is = is

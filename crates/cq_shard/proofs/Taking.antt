@@ -1,8 +1,9 @@
 -- Numbers that all stay, numbers that rise, and the puts that changes bring.
-use Rattle.std.proofs.Common.{◌≡◌, ℕ, suc, ◌+◌, ◌<◌, ◌≤◌, Bool, true, cond, Option, Some, None, List, [], ◌∷◌, ◌++◌, length, take, get_or, filter, refl, sym, ap, ◌∙◌, subst, ⊎_elim, arith, append-nil, append_assoc}
+use Rattle.std.proofs.Common.{◌≡◌, ℕ, suc, ◌+◌, ◌<◌, ◌≤◌, Bool, true, cond, Option, Some, None, List, [], ◌∷◌, ◌++◌, length, take, drop, get_or, filter, refl, sym, ap, ◌∙◌, subst, ⊎_elim, arith, append-nil, append_assoc}
 use Rattle.std.specs.Prelude.{All, AllPairs, Contains}
 use Rattle.std.specs.List.Sorted.{IsStrictlyIncreasing}
-use Rattle.std.proofs.lemmas.List.{length-take, get_or-take}
+use Rattle.std.proofs.lemmas.List.{length-take, length-drop, get_or-take, get_or-drop}
+use Rattle.std.proofs.Math.Seq.{drop-append_seam, take-append-add, take-append_seam}
 use Rattle.std.proofs.lemmas.List.Elements.{All-contains, All-push, Contains-append_left, Contains-append_right, Contains-append_cases, Contains-get_or}
 use Rattle.std.proofs.lemmas.List.Kept.{AllPairs-from_increasing}
 use Rattle.std.proofs.lemmas.List.Quantifiers.{all_pairs_push}
@@ -33,6 +34,24 @@ rising_front xs n up k within =
     let b = get_or-take n xs (k + 1) 0 (omega (arith, many, within)) in
     let h = up k (omega (arith, many, within)) in
     omega (arith, a, b, h)
+
+pub rising_rest : (xs : List ℕ) (n : ℕ) → IsStrictlyIncreasing xs → IsStrictlyIncreasing (drop n xs)
+rising_rest xs n up k within =
+    let many = length-drop n xs in
+    let a = get_or-drop n xs k 0 in
+    let b = get_or-drop n xs (k + 1) 0 in
+    let h = up (n + k) (omega (arith, many, within)) in
+    let same : get_or xs (n + (k + 1)) 0 ≡ get_or xs (n + k + 1) 0 = ap (λ i. get_or xs i 0) (omega arith) in
+    omega (arith, a, b, h, same)
+
+pub rising_behind : (xs ys : List ℕ) → IsStrictlyIncreasing (xs ++ ys) → IsStrictlyIncreasing ys
+rising_behind xs ys up = subst IsStrictlyIncreasing (drop-append_seam xs ys) (rising_rest (xs ++ ys) (length xs) up)
+
+pub rising_before : (xs ys : List ℕ) → IsStrictlyIncreasing (xs ++ ys) → IsStrictlyIncreasing xs
+rising_before xs ys up = subst IsStrictlyIncreasing (take-append_seam xs ys) (rising_front (xs ++ ys) (length xs) up)
+
+pub rising_part : (xs ys : List ℕ) (n : ℕ) → IsStrictlyIncreasing (xs ++ ys) → IsStrictlyIncreasing (xs ++ take n ys)
+rising_part xs ys n up = subst IsStrictlyIncreasing (take-append-add xs ys n) (rising_front (xs ++ ys) (length xs + n) up)
 
 -- ---- the puts that changes bring
 

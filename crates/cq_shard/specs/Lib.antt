@@ -5,5 +5,6 @@ pub mod Parts
 pub mod Marks
 pub mod Runs
 pub mod Tables
+pub mod Blocks
 pub mod Stores
 pub mod Shard

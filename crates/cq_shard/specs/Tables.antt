@@ -1,5 +1,5 @@
 -- Numbers that rise, what is left of them, and a part of them beside them.
-use Rattle.std.specs.Prelude.{◌≡◌, ℕ, ◌+◌, ◌<◌, ◌≤◌, ◌||◌, Bool, nat_eq, nat_lt, List, length, slice_index, filter, Contains}
+use Rattle.std.specs.Prelude.{◌≡◌, ◌⊎◌, ℕ, ◌+◌, ◌-◌, ◌<◌, ◌≤◌, ◌||◌, Bool, nat_eq, nat_le, nat_lt, List, length, slice_index, filter, All, Contains}
 use Rattle.std.specs.List.{list_any, AllWithin}
 use Rattle.std.specs.List.Sorted.{IsStrictlyIncreasing}
 
@@ -19,8 +19,12 @@ stays floor keep n = nat_lt floor n || is_among keep n
 abbrev pub staying : ℕ → List ℕ → List ℕ → List ℕ
 staying floor keep numbers = filter (λ n. stays floor keep n) numbers
 
+-- the numbers up to a last one
+abbrev pub no_later : ℕ → List ℕ → List ℕ
+no_later last numbers = filter (λ n. nat_le n last) numbers
+
 -- the changes rise, and each has a size
-pub record IsTable (changes sizes : List ℕ) : Type 0 where
+pub record ArePuts (changes sizes : List ℕ) : Type 0 where
   pub rising : IsStrictlyIncreasing changes
   pub sized : length changes ≤ length sizes
 
@@ -29,6 +33,14 @@ pub record IsUpTo (numbers : List ℕ) (floor many : ℕ) : Type 0 where
   pub within : many ≤ length numbers
   pub low : AllWithin (λ n. n ≤ floor) numbers 0 many
   pub high : AllWithin (λ n. floor < n) numbers many (length numbers)
+
+-- the last of the numbers
+abbrev pub last_in : List ℕ → ℕ
+last_in numbers = slice_index numbers (length numbers - 1)
+
+-- each of the first is one of the others, or above all of them
+abbrev pub AreAmongOrAbove : List ℕ → List ℕ → Type 0
+AreAmongOrAbove part numbers = (n : ℕ) → Contains part n → Contains numbers n ⊎ All (λ m. m < n) numbers
 
 -- Both rise, and the second are some of the first, of which there are this many more.
 pub record IsPart (numbers part : List ℕ) (more : ℕ) : Type 0 where

@@ -13,11 +13,14 @@
 //! each live change is searched for among the puts too.
 //!
 //! A shard knows each put that it has applied and that no sweep took out, even if none of its keys is the shard's, at 16
-//! bytes, and at most the same again of spare room. A sweep takes no memory. The puts to keep are some of the shard's puts
-//! up to the floor, so the number that go is the difference, and if none goes the sweep ends after two searches. Up to the
-//! first that goes both lists are alike and from there on they are not, so it is found by a binary search, and each
+//! bytes, and at most the same again of spare room. The puts are in blocks of up to 1,024. A sweep takes no memory. The
+//! puts to keep are some of the shard's puts up to the floor, in the same order. So if none goes of a block, its last put
+//! is as far on among those to keep as among the puts, and one comparison passes the block over. In any other block both
+//! are alike up to the first that goes, and from there on they are not, so it is found by a binary search, and each
 //! further one so among the rest. What is between two that go, or after the last, moves up at once, 16 bytes for each. So
-//! a sweep costs a search for each put that goes, and a move of what comes after the first of them.
+//! a sweep costs a comparison for each block, and for each put that goes a few searches in its block and a move of what
+//! comes after it there. If there are more than twice as many blocks as the puts need, they are packed before another one
+//! begins, which copies each put.
 //!
 //! Entries that go stay in their runs at first. A run is rid of them before it is merged, for a search among the puts for
 //! each of its entries, so if a file is put again and swept each time, a run has at most one put that is gone. Once the
@@ -31,6 +34,7 @@ mod indexed;
 mod laws;
 mod marks;
 mod parting;
+mod puts;
 mod run;
 mod runs;
 mod searching;

@@ -1,7 +1,8 @@
-ghost use Rattle.std.specs.Prelude.{◌≡◌, ◌+◌, ◌≤◌, ◌++◌, [], length, take, AllPairs, Contains, IfOk, OnOk, OnErr};
+ghost use Rattle.std.specs.Prelude.{◌≡◌, ◌+◌, ◌≤◌, ◌++◌, [], length, AllPairs, Contains, IfOk, OnOk, OnErr};
 ghost use Rattle.std.specs.List.Sorted.{IsStrictlyIncreasing};
 ghost use Rattle.cq_base.specs.declared.entry.Entry.{Entry};
 ghost use Rattle.cq_clones.specs.Windows.{EntryBefore};
+ghost use Rattle.cq_shard.specs.Blocks.{GrowsBy};
 ghost use Rattle.cq_shard.specs.Runs.{AreAdded, AreDifferent, Precedes};
 ghost use Rattle.cq_shard.specs.Shard.{AreAsked};
 ghost use Rattle.cq_shard.specs.Stores.{AreNext, left_by, those_of};
@@ -78,7 +79,6 @@ impl Store {
         ensures most { steps.new ≤ steps.old + length entries.items }
     {
         let added = entries.len() as u64;
-        let noted = self.table.len();
         self.gone = cleared(&mut self.runs, &self.table, entries.len(), self.gone);
         match put(alloc, &mut self.runs, &mut self.table, puts, entries, steps) {
             Ok(()) => {
@@ -87,7 +87,7 @@ impl Store {
                 Ok(())
             }
             Err(refused) => {
-                self.table.cut(noted);
+                self.table.cut(self.applied);
                 Err(refused)
             }
         }
@@ -155,13 +155,13 @@ fn put<L: Ledger>(
     requires ordered { AllPairs EntryBefore entries.items }
     requires rows { Precedes runs.old entries.items }
     requires rising { IsStrictlyIncreasing (table.old ++ puts.now) }
-    ensures front { take (length table.old) table.new ≡ table.old }
+    ensures grown { GrowsBy puts.now table.old table.new }
     ensures noted { OnOk result (table.new ≡ table.old ++ puts.now) }
     ensures added { OnOk result (AreAdded runs.old entries.items runs.new) }
     ensures same { OnErr result (runs.new ≡ runs.old) }
     ensures steps { OnOk result (steps.new ≡ steps.old + length entries.items) }
     ensures most { steps.new ≤ steps.old + length entries.items }
 {
-    table.note(puts, &entries)?;
+    table.note(alloc, puts, &entries)?;
     runs.add(alloc, entries, steps)
 }

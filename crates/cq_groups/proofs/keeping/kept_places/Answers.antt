@@ -8,7 +8,7 @@ loop-row-init c = kept_none c.args.tokens c.args.rows.now c.new-kept.result.item
 pub keep_row-requires : goal.keep_row-requires
 keep_row-requires c =
     let origin : Row = record { first = record { place = record { file = 0; at = 0 }; left = 0 }; others = 0; gap = 0; left = 0 } in
-    λ some. (c.requires c.loop-row.row-index origin c.loop-row-test.true some).inside
+    c.requires c.loop-row.row-index origin c.loop-row-test.true
 
 pub loop-row-preserved : goal.loop-row-preserved
 loop-row-preserved c =

@@ -8,13 +8,6 @@ use Rattle.cq_groups.proofs.refining.part.Goals as goal
 
 pub returns-clause-split : goal.returns-clause-split
 returns-clause-split g c =
-    on_ok_weaker c.push_parting.result
-    (λ parted. split_parts (tokens_in c.args.files.now) c.args.min c.args.set c.args.sets.now.items c.push_parting.new.sets.items c.args.difference.now c.args.groups.now.items c.add_group.new.groups.items
-    c.requires.differ c.requires.gives parted c.in_ok-add_group.ensures)
-    c.push_parting.ensures.parted
-
-pub returns-then-is_none-clause-split : goal.returns-then-is_none-clause-split
-returns-then-is_none-clause-split g c =
     on_ok_weaker c.push_marked.result
     (λ parted. split_parts (tokens_in c.args.files.now) c.args.min c.args.set c.args.sets.now.items c.push_marked.new.sets.items c.args.difference.now c.args.groups.now.items c.add_group.new.groups.items
     c.requires.differ c.requires.gives parted c.in_ok-add_group.ensures)

@@ -1,13 +1,10 @@
-use Rattle.std.proofs.Common.{Some, None, take, drop, length, refl, sym, subst, ap, ◌∙◌, arith, length-take-le, ◌-◌}
+use Rattle.std.proofs.Common.{Some, None, take, drop, length, refl, sym, ap, ◌∙◌, arith, length-take-le, ◌-◌}
 use Rattle.std.proofs.lemmas.List.{take-map, length-map}
 use Rattle.cq_munch.specs.Characters.{characters}
-use Rattle.cq_munch.specs.Language.{Takes}
-use Rattle.cq_munch.specs.Longest.{LongestAt}
 use Rattle.cq_munch.proofs.Marks.{takes_mark_at, takes_unmarked}
 use Rattle.cq_munch.proofs.Texts.{characters_from}
 use Rattle.cq_munch.specs.declared.unit.Unit.{Unit}
 use Rattle.cq_lex_c.specs.C.{unmarked, moded, mode_behind}
-use Rattle.cq_lex_c.specs.Texts.{IsText, IsPrefixed}
 use Rattle.cq_lex_c.proofs.Elements.{with_mode, without}
 use Rattle.cq_lex_c.proofs.language.taken_at.Goals as goal
 
@@ -18,27 +15,19 @@ returns-then-is_mark-clause-taken c =
 pub slice_bounds-mode_behind-end : goal.slice_bounds-mode_behind-end
 slice_bounds-mode_behind-end c =
     let rest = take (length c.args.units.now - c.args.at) (drop c.args.at c.args.units.now) in
-    let within = (c.in-Some.ensures c.args.at).0.within in
+    let within = c.in-Some.ensures.found.0.within in
+    let same = ap length (characters_from c.args.units.now c.args.at) in
     let many = length-map rest (λ (u : Unit). u.ch) in
-    sym (length-take-le c.in-Some.found.units rest (omega (arith, within)))
+    sym (length-take-le c.in-Some.found.units rest (omega (arith, within, same, many)))
 
 pub returns-in-None-clause-taken : goal.returns-in-None-clause-taken
 returns-in-None-clause-taken c =
-    takes_unmarked (moded unmarked) c.args.at c.args.mode (drop c.args.at (characters c.args.units.now)) (sym c.is_mark.ensures ∙ c.if-is_mark.false) None
-    (without unmarked c.args.at c.args.mode (drop c.args.at (characters c.args.units.now)) (subst (λ v. Takes unmarked c.args.at c.args.mode v None) (characters_from c.args.units.now c.args.at) (c.in-None.ensures c.args.at)))
+    let text = drop c.args.at (characters c.args.units.now) in
+    takes_unmarked (moded unmarked) c.args.at c.args.mode text (sym c.is_mark.ensures ∙ c.if-is_mark.false) None (without unmarked c.args.at c.args.mode text c.in-None.ensures.found)
 
 pub returns-in-Some-clause-taken : goal.returns-in-Some-clause-taken
 returns-in-Some-clause-taken c =
     let text = drop c.args.at (characters c.args.units.now) in
-    let here = subst (λ v. Takes unmarked c.args.at c.args.mode v (Some c.in-Some.found)) (characters_from c.args.units.now c.args.at) (c.in-Some.ensures c.args.at) in
     let part = sym (take-map (λ (u : Unit). u.ch) c.in-Some.found.units (take (length c.args.units.now - c.args.at) (drop c.args.at c.args.units.now))) ∙ ap (take c.in-Some.found.units) (characters_from c.args.units.now c.args.at) in
     takes_unmarked (moded unmarked) c.args.at c.args.mode text (sym c.is_mark.ensures ∙ c.if-is_mark.false) (Some (record { spell = c.in-Some.found.spell; units = c.in-Some.found.units; mode = c.mode_behind.result }))
-    (with_mode unmarked c.args.at c.args.mode text c.in-Some.found c.mode_behind.result here (c.mode_behind.ensures.mode ∙ ap (mode_behind c.args.mode c.in-Some.found.spell) part))
-
-pub taken-requires-clause-text : goal.taken-requires-clause-text
-taken-requires-clause-text c =
-    subst (λ t. LongestAt IsText t c.text_at-text.result) (sym (characters_from c.args.units.now c.args.at)) c.text_at-text.ensures.text
-
-pub taken-requires-clause-prefixed : goal.taken-requires-clause-prefixed
-taken-requires-clause-prefixed c =
-    subst (λ t. LongestAt IsPrefixed t c.prefixed_at-prefixed.result) (sym (characters_from c.args.units.now c.args.at)) c.prefixed_at-prefixed.ensures.text
+    (with_mode unmarked c.args.at c.args.mode text c.in-Some.found c.mode_behind.result c.in-Some.ensures.found (c.mode_behind.ensures.mode ∙ ap (mode_behind c.args.mode c.in-Some.found.spell) part))

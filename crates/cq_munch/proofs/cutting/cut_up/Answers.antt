@@ -1,18 +1,26 @@
-use Rattle.std.proofs.Common.{◌<◌, length, refl, sym, subst, arith, IfOk}
-use Rattle.cq_munch.specs.Lexed.{IsCut}
+use Rattle.std.proofs.Common.{ℕ, ◌+◌, ◌-◌, ◌<◌, take, drop, length, refl, sym, subst, arith, IfOk}
+use Rattle.cq_base.specs.declared.token.Spelled.{Spelled}
+use Rattle.cq_munch.specs.Lexed.{IsCut, spelled_of}
 use Rattle.cq_munch.proofs.Bytes.{AreBytes-take, AreBytes-drop}
 use Rattle.cq_munch.proofs.Orders.{InOrder-take, InOrder-end}
-use Rattle.cq_munch.proofs.Elements.{one_token, one_blank, stays_inside, unspelled, unmarked, marked, TokensFollow-to, faulty, too_many}
+use Rattle.cq_munch.proofs.Elements.{SoFar, one_token, one_blank, stays_inside, unspelled, unmarked, marked, TokensFollow-to, faulty, too_many}
 use Rattle.cq_munch.proofs.MarkOrder.{marks_in_order}
 use Rattle.cq_munch.proofs.cutting.cut_up.Goals as goal
 use Rattle.cq_munch.proofs.cutting.cut_up.Goals.{in-Some, in-None}
 
-pub loop-at-preserved-in_ok-push-in-Token : goal.loop-at-preserved-in_ok-push-in-Token
-loop-at-preserved-in_ok-push-in-Token g c =
+pub loop-at-preserved-in_ok-reached-in-Token : goal.loop-at-preserved-in_ok-reached-in-Token
+loop-at-preserved-in_ok-reached-in-Token g c =
     let taken = c.in-Some-longest.ensures.taken in
+    let bytes = c.args.text.now in
+    let units = c.args.units.now in
+    let at = c.loop-at.at in
+    let found = c.in-Some-longest.found in
+    let spelled : Spelled = spelled_of bytes c.in-Token.class (take (at + found.units - at) (drop at units)) in
     record {
-      so_far = one_token c.loop-at.invariant.so_far c.in-Some-longest.found taken (stays_inside c.args.units.now c.loop-at.at _ c.loop-at-test.true taken.0.within) c.in-Some-longest.ensures.known c.in-Token.class _ _
-          c.in-Token.is c.in_ok-spelled-in-Token.ensures.spelled c.in_ok-push-in-Token.ensures.items _ (unmarked _ _ _ _ c.in-Token.is refl);
+      so_far = subst (λ (end : ℕ). SoFar g.X.Lexis.language bytes units c.add_token.new.tokens.items c.loop-at.marks.items (at + found.units) found.mode end) (sym c.in_ok-reached-in-Token.ensures.end)
+          (one_token c.loop-at.invariant.so_far found taken (stays_inside units at _ c.loop-at-test.true taken.0.within) c.in-Some-longest.ensures.known c.in-Token.class spelled _ c.in-Token.is refl
+          c.in_ok-reached-in-Token.ensures.added _ (unmarked _ _ _ _ c.in-Token.is refl));
+      counted = c.in_ok-reached-in-Token.ensures.counted;
       remembered = c.longest.ensures.remembered;
     }
 
@@ -22,6 +30,7 @@ loop-at-preserved-in_ok-add_mark-in-Comment g c =
     record {
       so_far = one_blank c.loop-at.invariant.so_far c.in-Some-longest.found taken (stays_inside c.args.units.now c.loop-at.at _ c.loop-at-test.true taken.0.within) c.in-Some-longest.ensures.known
           (unspelled c.args.text.now _ _ _ _ c.in-Comment.is refl) _ (marked _ _ _ _ _ c.in-Comment.is c.in_ok-add_mark-in-Comment.ensures);
+      counted = c.loop-at.invariant.counted;
       remembered = c.longest.ensures.remembered;
     }
 
@@ -31,18 +40,22 @@ loop-at-preserved g c =
     record {
       so_far = one_blank c.loop-at.invariant.so_far c.in-Some-longest.found taken (stays_inside c.args.units.now c.loop-at.at _ c.loop-at-test.true taken.0.within) c.in-Some-longest.ensures.known
           (unspelled c.args.text.now _ _ _ _ c.in-Blank.is refl) _ (unmarked _ _ _ _ c.in-Blank.is refl);
+      counted = c.loop-at.invariant.counted;
       remembered = c.longest.ensures.remembered;
     }
 
-pub spell_out-requires-clause-in_order : goal.spell_out-requires-clause-in_order
-spell_out-requires-clause-in_order g c = InOrder-take _ c.loop-at.end _ (length c.args.text.now) c.loop-at.invariant.so_far.behind
+pub add_token-requires-clause-counted : goal.add_token-requires-clause-counted
+add_token-requires-clause-counted g c = c.loop-at.invariant.counted
 
-pub spell_out-requires-clause-bytes : goal.spell_out-requires-clause-bytes
-spell_out-requires-clause-bytes g c = AreBytes-take c.args.text.now _ _ (AreBytes-drop c.args.text.now c.loop-at.at c.args.units.now c.requires.bytes)
+pub add_token-requires-clause-in_order : goal.add_token-requires-clause-in_order
+add_token-requires-clause-in_order g c = InOrder-take _ c.loop-at.reached.end _ (length c.args.text.now) c.loop-at.invariant.so_far.behind
+
+pub add_token-requires-clause-bytes : goal.add_token-requires-clause-bytes
+add_token-requires-clause-bytes g c = AreBytes-take c.args.text.now _ _ (AreBytes-drop c.args.text.now c.loop-at.at c.args.units.now c.requires.bytes)
 
 pub returns-clause-in_order : goal.returns-clause-in_order
 returns-clause-in_order g c = (
-  TokensFollow-to 0 c.loop-at.tokens.items c.loop-at.end (length c.args.text.now) (InOrder-end c.loop-at.end _ (length c.args.text.now) c.loop-at.invariant.so_far.behind) c.loop-at.invariant.so_far.ordered,
+  TokensFollow-to 0 c.loop-at.tokens.items c.loop-at.reached.end (length c.args.text.now) (InOrder-end c.loop-at.reached.end _ (length c.args.text.now) c.loop-at.invariant.so_far.behind) c.loop-at.invariant.so_far.ordered,
   marks_in_order g.X.Lexis.language c.args.units.now c.loop-at.invariant.so_far.elements c.loop-at.at c.loop-at.mode (length c.args.text.now) c.loop-at.marks.items c.loop-at.invariant.so_far.follow c.requires.in_order c.loop-at.invariant.so_far.marks_are,
 )
 

@@ -1,7 +1,9 @@
-use Rattle.std.proofs.Common.{◌≤◌, ◌++◌, List, ℕ, take, sym, ap, ◌∙◌, subst}
+use Rattle.std.proofs.Common.{◌≤◌, ◌++◌, List, ℕ, sym, ap, ◌∙◌, subst}
 use Rattle.cq_base.specs.declared.entry.Entry.{Entry}
 use Rattle.cq_shard.specs.Runs.{AreAdded}
-use Rattle.cq_shard.specs.Stores.{Stored, those_of, AreNext, IsStore}
+use Rattle.cq_shard.specs.Stores.{Stored, stored, those_of, AreNext, IsStore}
+use Rattle.cq_shard.specs.Tables.{no_later}
+use Rattle.cq_shard.proofs.Leaving.{cut_back}
 use Rattle.cq_shard.proofs.Storing.{stored_added, store_added, store_less, rows_precede}
 use Rattle.cq_shard.proofs.store.Store.add.Goals as goal
 
@@ -51,6 +53,23 @@ pub invariant_of-self-in-Err : goal.invariant_of-self-in-Err
 invariant_of-self-in-Err g c =
     let s = c.self.inside in
     let less = c.cleared-self-inside in
+    let puts = c.args.puts.now in
+    let next = subst (λ (v : Stored). AreNext v c.args.applied puts c.args.entries.items) (sym c.self.view_is) c.requires.next in
     let is = store_less s.applied s.table s.runs less.new.runs s.gone less.result c.self.invariant less.ensures.fewer (less.ensures.different c.self.invariant.different) less.ensures.none in
-    subst (λ (ns : List ℕ). IsStore s.applied ns c.put.new.runs less.result) (sym (c.cut.ensures ∙ ap (λ n. take n c.put.new.table) c.len-noted.ensures ∙ c.put.ensures.front))
+    let grown = c.put.ensures.grown in
+    let same = c.cut.ensures ∙ ap (no_later s.applied) grown.is ∙ cut_back s.table puts s.applied grown.many c.self.invariant.known next.later in
+    subst (λ (ns : List ℕ). IsStore s.applied ns c.put.new.runs less.result) (sym same)
     (subst (λ (es : List Entry). IsStore s.applied s.table es less.result) (sym c.in-Err.ensures.same) is)
+
+pub returns-in-Err-clause-same : goal.returns-in-Err-clause-same
+returns-in-Err-clause-same g c =
+    let s = c.self.inside in
+    let less = c.cleared-self-inside in
+    let puts = c.args.puts.now in
+    let next = subst (λ (v : Stored). AreNext v c.args.applied puts c.args.entries.items) (sym c.self.view_is) c.requires.next in
+    let grown = c.put.ensures.grown in
+    let same = c.cut.ensures ∙ ap (no_later s.applied) grown.is ∙ cut_back s.table puts s.applied grown.many c.self.invariant.known next.later in
+    ap (λ (ns : List ℕ). stored s.applied ns c.put.new.runs) same
+    ∙ ap (λ (es : List Entry). stored s.applied s.table es) c.in-Err.ensures.same
+    ∙ ap (λ (es : List Entry). let v : Stored = record { applied = s.applied; puts = s.table; entries = es } in v) less.ensures.those
+    ∙ c.self.view_is

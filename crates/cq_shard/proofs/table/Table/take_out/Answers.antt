@@ -1,77 +1,25 @@
-use Rattle.std.proofs.Common.{◌-◌, refl, sym, ap, subst, ◌∙◌}
-use Rattle.std.specs.List.Sorted.{IsStrictlyIncreasing}
-use Rattle.std.proofs.lemmas.List.Kept.{IsStrictlyIncreasing-filter}
-use Rattle.cq_shard.specs.Tables.{AreAmong, IsUpTo, stays, staying}
-use Rattle.cq_shard.proofs.Leaving.{fewer_kept, kept_part, left_stays, none_goes}
+use Rattle.std.proofs.Common.{ap, subst, sym, ◌∙◌, filter}
+use Rattle.cq_shard.specs.Blocks.{IsTable, has_puts, puts_in}
+use Rattle.cq_shard.specs.Tables.{AreAmong, stays, staying}
+use Rattle.cq_shard.proofs.Blocks.{puts_dropped, puts_left, table_left}
 use Rattle.cq_shard.proofs.table.Table.take_out.Goals as goal
 
-pub overflow_sub-number : goal.overflow_sub-number
-overflow_sub-number c =
-    let changes = c.self.inside.changes.items in
-    let keep = c.args.keep.now in
-    let floor = c.args.floor in
-    let end = c.up_to-end.result in
-    let kept = c.up_to-kept.result in
-    let ends = subst (λ xs. IsUpTo xs floor end) c.deref.ensures.value c.up_to-end.ensures in
-    let known = subst (AreAmong keep) (sym c.self.view_is) c.requires.known in
-    fewer_kept changes keep floor end kept c.self.invariant.rising c.requires.keep known ends c.up_to-kept.ensures
-
-pub close_up-taken-requires-clause-within : goal.close_up-taken-requires-clause-within
-close_up-taken-requires-clause-within c =
-    let changes = c.self.inside.changes.items in
-    let keep = c.args.keep.now in
-    let floor = c.args.floor in
-    let end = c.up_to-end.result in
-    let kept = c.up_to-kept.result in
-    let ends = subst (λ xs. IsUpTo xs floor end) c.deref.ensures.value c.up_to-end.ensures in
-    let known = subst (AreAmong keep) (sym c.self.view_is) c.requires.known in
-    (kept_part changes keep floor end kept c.self.invariant.rising c.requires.keep known ends c.up_to-kept.ensures (end - kept) refl).0
-
-pub close_up-taken-requires-clause-part : goal.close_up-taken-requires-clause-part
-close_up-taken-requires-clause-part c =
-    let changes = c.self.inside.changes.items in
-    let keep = c.args.keep.now in
-    let floor = c.args.floor in
-    let end = c.up_to-end.result in
-    let kept = c.up_to-kept.result in
-    let ends = subst (λ xs. IsUpTo xs floor end) c.deref.ensures.value c.up_to-end.ensures in
-    let known = subst (AreAmong keep) (sym c.self.view_is) c.requires.known in
-    (kept_part changes keep floor end kept c.self.invariant.rising c.requires.keep known ends c.up_to-kept.ensures (end - kept) refl).1
+pub take_out_each-out-requires-clause-known : goal.take_out_each-out-requires-clause-known
+take_out_each-out-requires-clause-known c = subst (AreAmong c.args.keep.now) (sym c.self.view_is) c.requires.known
 
 pub invariant_of-self : goal.invariant_of-self
 invariant_of-self c =
-    let changes = c.self.inside.changes.items in
-    let keep = c.args.keep.now in
-    let floor = c.args.floor in
-    let end = c.up_to-end.result in
-    let kept = c.up_to-kept.result in
-    let ends = subst (λ xs. IsUpTo xs floor end) c.deref.ensures.value c.up_to-end.ensures in
-    let known = subst (AreAmong keep) (sym c.self.view_is) c.requires.known in
-    record {
-      rising = subst IsStrictlyIncreasing (sym (c.close_up-taken.ensures.left ∙ left_stays changes keep floor end kept c.self.invariant.rising c.requires.keep known ends c.up_to-kept.ensures)) (IsStrictlyIncreasing-filter (λ n. stays floor keep n) changes c.self.invariant.rising);
-      sized = c.close_up-taken.ensures.sized;
-    }
+    let blocks = c.self.inside.blocks.items in
+    subst IsTable (sym (c.drop_empty.ensures ∙ ap (filter has_puts) c.take_out_each-out.ensures.left)) (table_left (λ n. stays c.args.floor c.args.keep.now n) blocks c.self.invariant)
 
 pub returns-clause-left : goal.returns-clause-left
 returns-clause-left c =
-    let changes = c.self.inside.changes.items in
-    let keep = c.args.keep.now in
-    let floor = c.args.floor in
-    let end = c.up_to-end.result in
-    let kept = c.up_to-kept.result in
-    let ends = subst (λ xs. IsUpTo xs floor end) c.deref.ensures.value c.up_to-end.ensures in
-    let known = subst (AreAmong keep) (sym c.self.view_is) c.requires.known in
-    c.close_up-taken.ensures.left ∙ left_stays changes keep floor end kept c.self.invariant.rising c.requires.keep known ends c.up_to-kept.ensures ∙ ap (staying floor keep) c.self.view_is
+    let blocks = c.self.inside.blocks.items in
+    ap puts_in (c.drop_empty.ensures ∙ ap (filter has_puts) c.take_out_each-out.ensures.left)
+    ∙ puts_left (λ n. stays c.args.floor c.args.keep.now n) blocks
+    ∙ ap (staying c.args.floor c.args.keep.now) c.self.view_is
 
 pub returns-clause-none : goal.returns-clause-none
 returns-clause-none c none =
-    let changes = c.self.inside.changes.items in
-    let keep = c.args.keep.now in
-    let floor = c.args.floor in
-    let end = c.up_to-end.result in
-    let kept = c.up_to-kept.result in
-    let ends = subst (λ xs. IsUpTo xs floor end) c.deref.ensures.value c.up_to-end.ensures in
-    let known = subst (AreAmong keep) (sym c.self.view_is) c.requires.known in
-    c.close_up-taken.ensures.left ∙ left_stays changes keep floor end kept c.self.invariant.rising c.requires.keep known ends c.up_to-kept.ensures
-    ∙ none_goes changes keep floor end kept c.self.invariant.rising c.requires.keep known ends c.up_to-kept.ensures none
-    ∙ c.self.view_is
+    let blocks = c.self.inside.blocks.items in
+    ap puts_in (c.drop_empty.ensures ∙ ap (filter has_puts) (c.take_out_each-out.ensures.none none)) ∙ puts_dropped blocks ∙ c.self.view_is

@@ -1,8 +1,0 @@
-use Rattle.std.proofs.Common.{◌≡◌, ◌≤◌, ◌+◌, length}
-use Rattle.cq_shard.proofs.table.count.Given as goal
-
-abbrev pub invariant-loop-put : goal.invariant-loop-put
-invariant-loop-put l = record {
-  within : l.from ≤ length l.entries;
-  long : length l.sizes.items ≡ length l.fn.sizes.items + l.put-index;
-}
