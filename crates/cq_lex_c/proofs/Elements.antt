@@ -1,5 +1,5 @@
 -- The element at the front of a text, row by row.
-use Rattle.std.proofs.Common.{◌≡◌, ℕ, zero, suc, ◌<◌, ◌≤◌, Option, Some, None, Bool, true, false, ◌&&◌, ◌==◌, not, cond, List, [], ◌∷◌, ◌⊎◌, inl, inr, length, take, refl, sym, subst, ap, ◌∙◌, ⊎_elim, arith}
+use Rattle.std.proofs.Common.{◌≡◌, ℕ, zero, suc, ◌≤◌, Option, Some, None, Bool, true, false, ◌&&◌, ◌==◌, not, cond, List, [], ◌∷◌, ◌⊎◌, inl, inr, length, take, refl, ap, ◌∙◌, ⊎_elim, arith}
 use Rattle.std.specs.Prelude.{IfSome, IfNone, IsTrue, IsFalse, MatchBool}
 use Rattle.std.proofs.lemmas.Bool.{and_parts, and_right, not-true, false_from_ne_true}
 use Rattle.cq_base.proofs.Bools.{MatchBool-from_false, MatchBool-from_true}

@@ -1,10 +1,11 @@
--- A text in whose bytes a character comes nowhere directly behind a backslash.
-use Rattle.std.proofs.Common.{◌≡◌, ℕ, zero, suc, ◌+◌, ◌<◌, Bool, true, false, cond, ◌&&◌, ◌||◌, ◌==◌, List, [], ◌∷◌, ◌++◌, length, get_or, IsUtf8, refl, sym, ap, subst, ◌∙◌, arith}
+-- Characters directly after a backslash, found in the bytes of a text.
+use Rattle.std.proofs.Common.{◌≡◌, ℕ, zero, suc, ◌+◌, ◌<◌, ◌≤◌, Bool, true, false, cond, ◌&&◌, ◌||◌, ◌==◌, List, [], ◌∷◌, ◌++◌, length, get_or, take, drop, IsUtf8, refl, sym, ap, subst, ◌∙◌, arith}
 use Rattle.std.specs.Prelude.{encode_utf8}
 use Rattle.std.specs.Char.{len_utf8}
 use Rattle.std.specs.Str.{chars, encode_utf8_all}
-use Rattle.std.proofs.lemmas.Bool.{eqb-true, false_from_ne_true}
-use Rattle.std.proofs.lemmas.Str.{encode_ascii, encodes-chars}
+use Rattle.std.proofs.lemmas.Bool.{eq-eqb, eqb-true, false_from_ne_true, or_left, or_right}
+use Rattle.std.proofs.lemmas.List.{drop_more, take-append-drop}
+use Rattle.std.proofs.lemmas.Str.{IsCharBoundary-before_ascii, IsUtf8-drop, IsUtf8-take, chars-append, chars_past_char, encode_ascii, encodes-chars}
 use Rattle.memchr.specs.Find.{Nowhere, OccursAt}
 use Rattle.cq_munch.specs.Backslashes.{follows}
 use Rattle.cq_munch.specs.Lexed.{placed, units_of}
@@ -57,3 +58,27 @@ no_pair text d none k inside first second = none k (omega arith) (omega (arith, 
 
 pub none_follows : (text : List ℕ) (d : ℕ) → IsUtf8 text → d < 128 → Nowhere (OccursAt text (92 ∷ d ∷ [])) 0 (length text + 1) → follows d false (units_of text) ≡ false
 none_follows text d utf8 low none = none_placed d low false 0 (chars text) (subst (NoPair d) (sym (encodes-chars text utf8)) (no_pair text d none))
+
+pair_placed : (d : ℕ) (b : Bool) (from : ℕ) (cs ds : List ℕ) → follows d b (placed from (cs ++ 92 ∷ d ∷ ds)) ≡ true
+pair_placed d b from [] ds = or_right (b && (92 == d)) _ (or_left (d == d) _ (eq-eqb d d refl))
+pair_placed d b from (c ∷ cs) ds = or_right (b && (c == d)) _ (pair_placed d (c == 92) (from + len_utf8 c) cs ds)
+
+-- the characters from a place on at which one of ASCII stands
+chars_from : (text : List ℕ) (k c : ℕ) → IsUtf8 text → k < length text → get_or text k 0 ≡ c → c < 128 → chars (drop k text) ≡ c ∷ chars (drop (k + 1) text)
+chars_from text k c utf8 inside is low =
+    let from : IsUtf8 (drop k text) = IsUtf8-drop text k utf8 (IsCharBoundary-before_ascii text k inside (subst (λ x. x < 128) (sym is) low)) in
+    let one : drop k text ≡ c ∷ drop (k + 1) text = drop_more text k 0 inside ∙ ap (λ x. x ∷ drop (k + 1) text) is in
+    chars_past_char (drop k text) (drop (k + 1) text) c from (one ∙ ap (λ front. front ++ drop (k + 1) text) (sym (encode_ascii c low)))
+
+pub some_follows : (text : List ℕ) (d : ℕ) → IsUtf8 text → d < 128 → {k : ℕ} → OccursAt text (92 ∷ d ∷ []) k → follows d false (units_of text) ≡ true
+some_follows text d utf8 low {k} at =
+    let room : k + 2 ≤ length text = at.fits in
+    let first : get_or text k 0 ≡ 92 = ap (λ i. get_or text i 0) (omega arith) ∙ at.reads 0 (omega arith) in
+    let until : IsUtf8 (take k text) =
+    IsUtf8-take text k utf8 (IsCharBoundary-before_ascii text k (omega (arith, room)) (subst (λ x. x < 128) (sym first) (omega arith))) in
+    let rest : chars (drop k text) ≡ 92 ∷ d ∷ chars (drop (k + 1 + 1) text) =
+    chars_from text k 92 utf8 (omega (arith, room)) first (omega arith)
+    ∙ ap (λ later. 92 ∷ later) (chars_from text (k + 1) d utf8 (omega (arith, room)) (at.reads 1 (omega arith)) low) in
+    let whole : chars text ≡ chars (take k text) ++ 92 ∷ d ∷ chars (drop (k + 1 + 1) text) =
+    ap chars (sym (take-append-drop k text)) ∙ chars-append (take k text) (drop k text) until ∙ ap (λ later. chars (take k text) ++ later) rest in
+    ap (λ cs. follows d false (placed 0 cs)) whole ∙ pair_placed d false 0 (chars (take k text)) (chars (drop (k + 1 + 1) text))

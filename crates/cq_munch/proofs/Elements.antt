@@ -9,7 +9,7 @@ use Rattle.cq_munch.specs.declared.unit.Unit.{Unit}
 use Rattle.cq_munch.specs.declared.element.Found.{Found}
 use Rattle.cq_munch.specs.declared.cutting.Cut.TheVariants as cuts
 use Rattle.cq_munch.specs.declared.element.Spell.{Spell}
-use Rattle.cq_munch.specs.declared.element.Spell.TheVariants.{Blank, Comment, Token as TokenOf}
+use Rattle.cq_munch.specs.declared.element.Spell.TheVariants.{Token as TokenOf}
 use Rattle.cq_munch.specs.Language.{Language, Takes}
 use Rattle.cq_munch.specs.Characters.{characters}
 use Rattle.cq_munch.specs.Lexed.{Follow, EndsAt, StopsFrom, GoesToEnd, IsCut, InOrder, TokensFollow, spelled_of, token_of, tokens_of, mark_of, marks_of, unit_at, end_of}

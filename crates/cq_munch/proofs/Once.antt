@@ -3,7 +3,7 @@ use Rattle.std.proofs.Common.{◌≡◌, ◌⊎◌, ℕ, zero, suc, ◌+◌, ◌
 use Rattle.std.specs.List.{list_all}
 use Rattle.std.proofs.lemmas.Bool.{and_parts, both_ways, cases_lt, eq-eqb, eqb-true, leb-true, not-true, or_cases}
 use Rattle.std.proofs.lemmas.List.{drop-take, drop_more, get_or_past, take-append-drop, take-take}
-use Rattle.cq_munch.specs.Automata.{Tables, class_at, entry_at, fits, row_from, row_of, HasRow}
+use Rattle.cq_munch.specs.Automata.{Tables, class_at, entry_at, row_from, row_of, HasRow}
 use Rattle.cq_munch.specs.Behind.{each_below}
 use Rattle.cq_munch.specs.Longest.{LongestAt}
 use Rattle.cq_munch.specs.Once.{goes_with, is_within, goes_on, begun_fits, ends_alone, scans_once, FitsOnce, NoneBegins}

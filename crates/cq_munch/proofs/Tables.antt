@@ -1,8 +1,8 @@
 -- A scan by a table: its entries are tested at one character of each class, by computing.
-use Rattle.std.proofs.Common.{◌≡◌, ℕ, zero, suc, ◌<◌, ◌≤◌, Some, None, Bool, true, false, cond, ◌&&◌, ◌||◌, nat_le, List, [], ◌∷◌, ◌++◌, ◌↔◌, ⊎_elim, refl, sym, ap, subst, ◌∙◌, arith}
+use Rattle.std.proofs.Common.{◌≡◌, ℕ, zero, suc, ◌<◌, ◌≤◌, Some, None, Bool, true, false, cond, ◌||◌, nat_le, List, [], ◌∷◌, ◌++◌, ◌↔◌, ⊎_elim, refl, sym, ap, subst, ◌∙◌, arith}
 use Rattle.std.proofs.lemmas.Bool.{ltb-true, lt-leb, cases_lt, and_parts, and_from, and_right}
 use Rattle.cq_munch.specs.Pattern.{Range, in_range, in_ranges, Pattern, never, empty, among, except, ◌▸◌, ◌∣◌, many}
-use Rattle.cq_munch.specs.Behind.{takes_empty, SpellsAny, joined, joined_each, behind, behind_each, has, distinct, after, any_takes_empty, agree, agree_each, entry_ok, ranges_below, all_below, each_below}
+use Rattle.cq_munch.specs.Behind.{takes_empty, SpellsAny, joined, joined_each, behind, behind_each, has, distinct, after, agree, agree_each, entry_ok, ranges_below, all_below, each_below}
 use Rattle.cq_munch.proofs.Steps.{beq-same, covers-spells, behind_each-if, behind_each-then, agree-behind_each}
 
 pub below_each : (n : ℕ) (test : ℕ → Bool) → each_below n test ≡ true → (c : ℕ) → c < n → test c ≡ true

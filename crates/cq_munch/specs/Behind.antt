@@ -1,5 +1,5 @@
 -- What may follow a character in a pattern: the spellings that begin with it, without it.
-use Rattle.std.specs.Prelude.{ℕ, zero, suc, Option, Some, None, if◌then◌else◌, nat_lt, Bool, true, false, cond, ◌&&◌, ◌||◌, ◌==◌, List, [], ◌∷◌, ◌++◌, ◌⊎◌}
+use Rattle.std.specs.Prelude.{ℕ, zero, suc, Option, Some, None, nat_lt, Bool, true, false, cond, ◌&&◌, ◌||◌, ◌==◌, List, [], ◌∷◌, ◌++◌, ◌⊎◌}
 use Rattle.std.specs.Bool.{beq}
 use Rattle.cq_munch.specs.Pattern.{Range, in_ranges, Pattern, never, empty, among, except, ◌▸◌, ◌∣◌, many, Spells}
 

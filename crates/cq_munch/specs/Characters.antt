@@ -1,5 +1,5 @@
 -- The characters of units, as bytes and as patterns see them.
-use Rattle.std.specs.Prelude.{ℕ, Bool, ◌<◌, nat_lt, if◌then◌else◌, List, map, All}
+use Rattle.std.specs.Prelude.{ℕ, Bool, nat_lt, if◌then◌else◌, List, map}
 use Rattle.std.specs.Str.{encode_utf8_all}
 use Rattle.cq_munch.specs.declared.unit.Unit.{Unit}
 

@@ -1,4 +1,4 @@
-ghost use Rattle.std.specs.Prelude.{◌<◌, false, IsFalse, IsUtf8};
+ghost use Rattle.std.specs.Prelude.{◌<◌, ◌≡◌, false, IsUtf8};
 ghost use Rattle.cq_munch.specs.Backslashes.{follows};
 ghost use Rattle.cq_munch.specs.Lexed.{units_of};
 
@@ -9,7 +9,7 @@ use memchr::memmem;
 pub fn follows_backslash(text: &Text, ch: u8) -> bool
     requires utf8 { IsUtf8 text.now }
     requires ascii { ch < 128 }
-    ensures { IsFalse result → IsFalse (follows ch false (units_of text.now)) }
+    ensures { result ≡ follows ch false (units_of text.now) }
 {
     let pair = [b'\\', ch];
     match memmem::find(text.as_bytes(), &pair) {

@@ -1,5 +1,4 @@
-use Rattle.std.proofs.Common.{drop, sym, subst, ◌∙◌}
-use Rattle.cq_munch.specs.Characters.{characters}
+use Rattle.std.proofs.Common.{sym, subst, ◌∙◌}
 use Rattle.cq_munch.specs.Language.{Takes}
 use Rattle.cq_munch.specs.Longest.{LongestAt}
 use Rattle.cq_munch.specs.Table.{table}

@@ -1,4 +1,4 @@
-use Rattle.std.proofs.Common.{◌≡◌, ◌+◌, ◌<◌, ◌≤◌, length, sym, ap, ◌∙◌, arith}
+use Rattle.std.proofs.Common.{◌+◌, ◌<◌, length, sym, ap, ◌∙◌, arith}
 use Rattle.cq_munch.proofs.Feeds.{few_lines, feed_later, line_up_to, next_line}
 use Rattle.cq_munch.proofs.lines.feed_further.Goals as goal
 

@@ -1,4 +1,4 @@
-use Rattle.std.proofs.Common.{◌+◌, ◌++◌, List, [], length, sym, ap, ap₂, subst, ◌∙◌, refl, arith, take}
+use Rattle.std.proofs.Common.{◌+◌, ◌++◌, List, [], length, sym, ap, ap₂, subst, ◌∙◌, refl, arith}
 use Rattle.std.specs.List.Sorted.{IsStrictlyIncreasing}
 use Rattle.std.proofs.lemmas.List.{take_all}
 use Rattle.cq_shard.specs.declared.table.Block.{Block}
