@@ -74,7 +74,8 @@ impl<'a, 's, 'p, 'c, R: Threads + Sync, L: Ledger, H: Hub<Work<L>>, G: Gate> Ans
         HasTalked H.Hub now.server.now.keyer.now.settings now.server.now.hub.now from
         (counted first.steps.now now.steps.now (H.asked first.pass.now) (H.asked now.pass.now))
         now.pass.now now.seen lines replies
-        × (now.server.now.keyer.now.settings ≡ first.server.now.keyer.now.settings) × (now.server.now.hub.now ≡ first.server.now.hub.now) };
+        × (now.server.now.keyer.now.settings ≡ first.server.now.keyer.now.settings) × (now.server.now.hub.now ≡ first.server.now.hub.now)
+        × (now.pass.ghost_name ≡ first.pass.ghost_name) × (now.steps.ghost_name ≡ first.steps.ghost_name) };
 
     ghost ready = { λ t. IsSync R.row × IsInRange t.server.now.keyer.now.settings
         × (H.settings t.server.now.hub.now ≡ t.server.now.keyer.now.settings)
