@@ -13,7 +13,7 @@ median, the 99th percentile and the slowest reply.
 
 With --commit one client uploads many files and has them analysed and published by a query, while --asking others (7) ask for the groups of
 a file with `finish` false, and one neither sends nor reads. Printed are the seconds of that commit, and the median, the 99th percentile
-and the slowest of the others' replies meanwhile. Where there are fewer processors than clients and workers, some wait for a processor.
+and the slowest of the others' replies meanwhile. If there are fewer processors than clients and workers, some wait for one.
 
 The program is ./cqd, or what the variable CQD names.
 """
