@@ -1,3 +1,6 @@
+ghost use Rattle.std.specs.Prelude.{◌≡◌};
+ghost use Rattle.cq_base.specs.Tables.{lang_code, lang_name, langs, lang_coded, lang_named};
+
 /// The language of a file. No two of them have a token in common.
 #[derive(Clone, Copy, Debug, PartialEq, Eq, PartialOrd, Ord)]
 pub enum Lang {
@@ -6,4 +9,53 @@ pub enum Lang {
     Go,
     C,
     Java,
+}
+
+const LANGS: [Lang; 4] = [Lang::Any, Lang::Go, Lang::C, Lang::Java];
+
+impl Lang {
+    /// All of them.
+    pub fn all() -> &'static [Lang]
+        ensures { result.now ≡ langs }
+    {
+        &LANGS
+    }
+
+    /// Its number in keys and in token files.
+    pub fn code(&self) -> u8
+        ensures { result ≡ lang_code self.now }
+    {
+        match self {
+            Lang::Any => 0,
+            Lang::Go => 1,
+            Lang::C => 2,
+            Lang::Java => 3,
+        }
+    }
+
+    /// Its name in requests and replies.
+    pub fn name(&self) -> &'static str
+        ensures { result.now ≡ lang_name self.now }
+    {
+        match self {
+            Lang::Any => "any",
+            Lang::Go => "go",
+            Lang::C => "c",
+            Lang::Java => "java",
+        }
+    }
+
+    /// The one with this code.
+    pub fn of_code(code: u8) -> Option<Lang>
+        ensures { result ≡ lang_coded code }
+    {
+        Lang::all().iter().find(|lang| lang.code() == code).copied()
+    }
+
+    /// The one of this name.
+    pub fn named(name: &str) -> Option<Lang>
+        ensures { result ≡ lang_named name.now }
+    {
+        Lang::all().iter().find(|lang| lang.name() == name).copied()
+    }
 }
