@@ -6,7 +6,7 @@ use cq_base::Measures;
 use serde_json::{Value, json};
 use std::alloc::{AllocError, Global};
 
-/// The eight measures, by SonarQube's metric keys.
+/// The measures, by SonarQube's metric keys.
 pub fn measures_members(alloc: Global, measures: &Measures) -> Result<Value, AllocError>
     ensures { IfOk result (λ v. view v ≡ measures_members measures.now) }
 {
