@@ -8,13 +8,12 @@ ghost use Rattle.cq_session.specs.Passes.{Begins, GivesUp, HasAccepted, HasAnswe
 
 use crate::helping::help;
 use crate::viewing::view_reply;
-use cq_answer::refused_as;
 use cq_base::{Change, Memory, Settings, Steps};
 use cq_board::Refused;
 use cq_hub::Hub;
 use cq_io::Gate;
 use cq_reply::Reply;
-use cq_request::{Query, Request, read_request};
+use cq_request::{Query, ReadError, Request, read_request};
 use cq_shard::Indexed;
 use cq_work::{Keyer, Work};
 use std::alloc::Global;
@@ -156,6 +155,7 @@ pub(crate) fn reply_to<R: Threads + Sync, L: Ledger, H: Hub<Work<L>>, G: Gate>(
             )
         }
         Ok(Request::State) => Ok(state_reply(hub, pass)),
-        Err(refusal) => refused_as(refusal),
+        Err(ReadError::Refused(refusal)) => Ok(Reply::Refused(refusal)),
+        Err(ReadError::Memory) => Err(Memory),
     }
 }

@@ -8,7 +8,6 @@ use Rattle.cq_request.specs.declared.request.Query.{Query}
 use Rattle.cq_request.specs.declared.request.Request.TheVariants as request
 use Rattle.cq_reply.specs.declared.reply.Reply.{Reply}
 use Rattle.cq_reply.specs.declared.reply.Reply.TheVariants as reply
-use Rattle.cq_answer.specs.Refusals.{refused_as}
 use Rattle.cq_answer.specs.Reply.{IsReply}
 use Rattle.cq_talk.specs.Said.{Said, TooLong, Read, WasRead}
 use Rattle.cq_talk.specs.Causes.{cause, change_told}
@@ -57,7 +56,7 @@ IsAnsweredAlone set k q r after = IsFutureAlone k q r after ⊎ (IsPendingAlone 
 
 abbrev pub IsReplyAlone : Settings → Walk → Said → Reply → Walk → Type 0
 IsReplyAlone set k TooLong r after = (r ≡ reply.Long) × (after ≡ k)
-IsReplyAlone set k (Read (Err why)) r after = (r ≡ refused_as why) × (after ≡ k)
+IsReplyAlone set k (Read (Err why)) r after = (r ≡ reply.Refused why) × (after ≡ k)
 IsReplyAlone set k (Read (Ok (request.Change change))) r after = IsChangedAlone set k change r after
 IsReplyAlone set k (Read (Ok (request.Query q))) r after = IsAnsweredAlone set k q r after
 IsReplyAlone set k (Read (Ok request.State)) r after = (r ≡ reply.State (length k.changes) k.done k.published) × (after ≡ k)

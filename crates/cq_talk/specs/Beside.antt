@@ -10,7 +10,7 @@ use Rattle.cq_request.specs.declared.request.Query.{Query}
 use Rattle.cq_request.specs.declared.request.Request.TheVariants as request
 use Rattle.cq_reply.specs.declared.reply.Reply.{Reply}
 use Rattle.cq_reply.specs.declared.reply.Reply.TheVariants as reply
-use Rattle.cq_answer.specs.Refusals.{refused_as, cause_told}
+use Rattle.cq_answer.specs.Refusals.{cause_told}
 use Rattle.cq_answer.specs.Reply.{IsReply}
 use Rattle.cq_talk.specs.Said.{Said, TooLong, Read, WasRead}
 use Rattle.cq_talk.specs.Replies.{version_in, answered_in}
@@ -96,7 +96,7 @@ pub record IsToldBeside (k : Known) (r : Reply) : Type 0 where
 
 abbrev pub IsReplyBeside : Settings → Known → Said → Reply → Type 0
 IsReplyBeside set k TooLong r = r ≡ reply.Long
-IsReplyBeside set k (Read (Err why)) r = r ≡ refused_as why
+IsReplyBeside set k (Read (Err why)) r = r ≡ reply.Refused why
 IsReplyBeside set k (Read (Ok (request.Change change))) r = IsChangedBeside set k change r
 IsReplyBeside set k (Read (Ok (request.Query q))) r = IsAnsweredBeside set k q r
 IsReplyBeside set k (Read (Ok request.State)) r = IsToldBeside k r

@@ -12,7 +12,7 @@ use Rattle.cq_request.specs.declared.request.Query.{Query}
 use Rattle.cq_request.specs.declared.request.Request.TheVariants as request
 use Rattle.cq_reply.specs.declared.reply.Reply.{Reply}
 use Rattle.cq_reply.specs.declared.reply.Reply.TheVariants as reply
-use Rattle.cq_answer.specs.Refusals.{refused_as, cause_told}
+use Rattle.cq_answer.specs.Refusals.{cause_told}
 use Rattle.cq_answer.specs.Reply.{IsReply}
 use Rattle.cq_hub.specs.Hubs.{Grows, IsFloor, IsPublication, Never}
 use Rattle.cq_talk.specs.Said.{Said, TooLong, Read}
@@ -133,7 +133,7 @@ module _ (set : Settings) (callers : ℕ) (alone : Type 0) (c : ℕ) where
   -- what a line says is answered
   abbrev pub IsAnswer : ℕ → List Event → Said → Reply → List Event → Type 0
   IsAnswer seen h TooLong r after = (r ≡ reply.Long) × Waits alone c h after
-  IsAnswer seen h (Read (Err why)) r after = (r ≡ refused_as why) × Waits alone c h after
+  IsAnswer seen h (Read (Err why)) r after = (r ≡ reply.Refused why) × Waits alone c h after
   IsAnswer seen h (Read (Ok (request.Change change))) r after = IsChanged h change r after
   IsAnswer seen h (Read (Ok (request.Query q))) r after = IsAnswered seen h q r after
   IsAnswer seen h (Read (Ok request.State)) r after = Tells h r after

@@ -1,9 +1,10 @@
-use Rattle.std.proofs.Common.{◌∙◌, Ok, Result, sym, ap, subst}
-use Rattle.cq_answer.proofs.Told.{refusal_said}
+use Rattle.std.proofs.Common.{◌≡◌, ◌∙◌, Ok, Err, Result, sym, ap, subst}
 use Rattle.cq_export.specs.Lines.{IsNoChange}
 use Rattle.cq_export.proofs.saying.change_said.Goals as goal
-use Rattle.cq_request.specs.declared.request.Refusal.{Refusal}
+use Rattle.cq_base.specs.declared.refusal.Refusal.{Refusal}
+use Rattle.cq_request.specs.declared.request.ReadError.{ReadError}
 use Rattle.cq_request.specs.declared.request.Request.{Request}
+use Rattle.cq_request.specs.Reading.{line_says, UnlessMemory}
 
 pub returns-in-Ok-Change-clause-says : goal.returns-in-Ok-Change-clause-says
 returns-in-Ok-Change-clause-says c = c.in-Ok-Change.ensures.says ∙ ap Ok c.in-Ok-Change.field-0-is
@@ -14,5 +15,8 @@ returns-in-Ok-Query-clause-says c = subst (λ (says : Result Request Refusal). I
 pub returns-in-Ok-State-clause-says : goal.returns-in-Ok-State-clause-says
 returns-in-Ok-State-clause-says c = subst (λ (says : Result Request Refusal). IsNoChange says) (sym (c.in-Ok-State.ensures.says ∙ ap Ok c.in-Ok-State.field-0-is)) tt
 
-pub returns-in-Ok-clause-says : goal.returns-in-Ok-clause-says
-returns-in-Ok-clause-says c = subst (λ (says : Result Request Refusal). IsNoChange says) (sym (refusal_said c.in-Err.refusal _ c.in-Ok.ensures.told c.in-Err.ensures.says)) tt
+pub returns-in-Err-Refused-clause-says : goal.returns-in-Err-Refused-clause-says
+returns-in-Err-Refused-clause-says c =
+    let said = line_says c.args.settings.now.chunk c.args.line.now in
+    let says : said ≡ Err c.in-Err-Refused._refusal = subst (λ (e : ReadError). UnlessMemory (Err e) said) c.in-Err-Refused.field-0-is c.in-Err-Refused.ensures.says in
+    subst (λ (says : Result Request Refusal). IsNoChange says) (sym says) tt
