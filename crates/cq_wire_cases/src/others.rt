@@ -1,7 +1,7 @@
 ghost use Rattle.cq_reply.specs.Written.{IsReplyText};
 
 use crate::writing::is_written;
-use cq_base::{Measures, Memory, Text};
+use cq_base::{Measures, Memory, Refusal, Text};
 use cq_measures::{Positions, Verdict};
 use cq_reply::{Reply, Short, fixed};
 use std::alloc::Global;
@@ -22,12 +22,12 @@ fn reply_of(code: u64) -> Reply
     ensures { IsReplyText result }
 {
     match code {
-        1 => Reply::Json,
-        2 => Reply::Op,
-        4 => Reply::Lang,
-        5 => Reply::Path,
-        6 => Reply::TooMuchText,
-        7 => Reply::Min,
+        1 => Reply::Refused(Refusal::Json),
+        2 => Reply::Refused(Refusal::Op),
+        4 => Reply::Refused(Refusal::Lang),
+        5 => Reply::Refused(Refusal::Path),
+        6 => Reply::Refused(Refusal::TooMuchText),
+        7 => Reply::Refused(Refusal::Min),
         8 => Reply::Future(3),
         9 => Reply::Absent,
         10 => Reply::FullChanges,
@@ -35,7 +35,7 @@ fn reply_of(code: u64) -> Reply
         12 => Reply::Pending(4),
         13 => Reply::Long,
         14 => Reply::Memory,
-        15 => Reply::Scope,
+        15 => Reply::Refused(Refusal::Scope),
         16 => Reply::State {
             accepted: 3,
             done: 2,
@@ -132,7 +132,7 @@ fn names_of_members_are_escaped(rt: HostRuntime) -> Result<(), Memory> {
     let alloc = rt.alloc();
     let name = Text::from_bytes(alloc, "a\"\\\n\u{1}é".as_bytes())?;
     let want = r#"{"code":3,"error":"field","name":"a\"\\\n\u0001é","ok":false}"#;
-    assert!(rt; is_written(alloc, &Reply::Field(name), want)?);
+    assert!(rt; is_written(alloc, &Reply::Refused(Refusal::Field(name)), want)?);
     Ok(())
 }
 

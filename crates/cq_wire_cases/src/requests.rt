@@ -1,6 +1,6 @@
 use crate::telling::SETTINGS;
 use cq_base::{Change, Compare, Condition, Lang, Metric, Settings, Text};
-use cq_request::{Kind, Query, Refusal, Request, read_request};
+use cq_request::{Kind, Query, ReadError, Request, read_request};
 use std::alloc::Global;
 
 fn is_text(text: &Text, want: &str) -> bool {
@@ -59,28 +59,28 @@ fn is_choice(query: &Query, scope: &str, since: u64) -> bool {
     is_path(&query.scope, scope) && query.since == since
 }
 
-fn reads_put(alloc: Global, line: &str, lang: Lang, text: &str) -> Result<bool, Refusal> {
+fn reads_put(alloc: Global, line: &str, lang: Lang, text: &str) -> Result<bool, ReadError> {
     match read_request(alloc, &SETTINGS, line.as_bytes())? {
         Request::Change(change) => Ok(is_put(&change, lang, text)),
         _ => Ok(false),
     }
 }
 
-fn reads_gate(alloc: Global, line: &str, conditions: &[Condition]) -> Result<bool, Refusal> {
+fn reads_gate(alloc: Global, line: &str, conditions: &[Condition]) -> Result<bool, ReadError> {
     match read_request(alloc, &SETTINGS, line.as_bytes())? {
         Request::Change(change) => Ok(is_gate(&change, conditions)),
         _ => Ok(false),
     }
 }
 
-fn reads_drop(alloc: Global, line: &str) -> Result<bool, Refusal> {
+fn reads_drop(alloc: Global, line: &str) -> Result<bool, ReadError> {
     match read_request(alloc, &SETTINGS, line.as_bytes())? {
         Request::Change(change) => Ok(is_drop(&change)),
         _ => Ok(false),
     }
 }
 
-fn reads_state(alloc: Global, line: &str) -> Result<bool, Refusal> {
+fn reads_state(alloc: Global, line: &str) -> Result<bool, ReadError> {
     match read_request(alloc, &SETTINGS, line.as_bytes())? {
         Request::State => Ok(true),
         _ => Ok(false),
@@ -100,7 +100,7 @@ fn reads_query(
     settings: &Settings,
     line: &str,
     want: Asked,
-) -> Result<bool, Refusal> {
+) -> Result<bool, ReadError> {
     match read_request(alloc, settings, line.as_bytes())? {
         Request::Query(query) => Ok(is_query(&query, want.kind, want.path, want.numbers)),
         _ => Ok(false),
@@ -108,7 +108,7 @@ fn reads_query(
 }
 
 // Whether a query chooses files by this scope, and by this version.
-fn reads_choice(alloc: Global, line: &str, scope: &str, since: u64) -> Result<bool, Refusal> {
+fn reads_choice(alloc: Global, line: &str, scope: &str, since: u64) -> Result<bool, ReadError> {
     match read_request(alloc, &SETTINGS, line.as_bytes())? {
         Request::Query(query) => Ok(is_choice(&query, scope, since)),
         _ => Ok(false),
@@ -121,7 +121,7 @@ const ESCAPED: &str =
 const EMPTY: &str = r#"{"text":"","op":"put","lang":"go","path":"a/b c.txt","project":"A.z_0-9"}"#;
 
 #[test]
-fn uploads_are_read(rt: HostRuntime) -> Result<(), Refusal> {
+fn uploads_are_read(rt: HostRuntime) -> Result<(), ReadError> {
     let alloc = rt.alloc();
     assert!(rt; reads_put(alloc, ESCAPED, Lang::Any, "a \"b\"\né😀é")?);
     assert!(rt; reads_put(alloc, EMPTY, Lang::Go, "")?);
@@ -129,7 +129,7 @@ fn uploads_are_read(rt: HostRuntime) -> Result<(), Refusal> {
 }
 
 #[test]
-fn drops_are_read(rt: HostRuntime) -> Result<(), Refusal> {
+fn drops_are_read(rt: HostRuntime) -> Result<(), ReadError> {
     assert!(rt; reads_drop(rt.alloc(), r#"{"op":"drop","project":"p","path":"t"}"#)?);
     Ok(())
 }
@@ -151,7 +151,7 @@ const GATE: &str =
     r#"{"op":"gate","project":"p","conditions":[{"metric":"duplicated_lines_density","op":"GT","error":300},{"error":18446744073709551615,"op":"LT","metric":"ncloc"}]}"#;
 
 #[test]
-fn gates_are_read(rt: HostRuntime) -> Result<(), Refusal> {
+fn gates_are_read(rt: HostRuntime) -> Result<(), ReadError> {
     let alloc = rt.alloc();
     assert!(rt; reads_gate(alloc, GATE, &CONDITIONS)?);
     assert!(rt; reads_gate(alloc, r#"{"op":"gate","project":"p","conditions":[]}"#, &[])?);
@@ -166,7 +166,7 @@ const MEASURES: &str = r#"{"op":"measures","project":"p","path":"t","finish":fal
 const FUNCTIONS: &str = r#"{"finish":false,"at":3,"path":"t","project":"p","op":"functions"}"#;
 
 #[test]
-fn queries_are_read(rt: HostRuntime) -> Result<(), Refusal> {
+fn queries_are_read(rt: HostRuntime) -> Result<(), ReadError> {
     let alloc = rt.alloc();
     let groups = Asked {
         kind: Kind::Groups,
@@ -196,7 +196,7 @@ const JUDGED: &str = r#"{"since":18446744073709551615,"scope":"?","op":"verdict"
 const SINCE: &str = r#"{"op":"measures","project":"p","path":"t","since":3}"#;
 
 #[test]
-fn scopes_are_read(rt: HostRuntime) -> Result<(), Refusal> {
+fn scopes_are_read(rt: HostRuntime) -> Result<(), ReadError> {
     let alloc = rt.alloc();
     assert!(rt; reads_choice(alloc, CHOSEN, "src/**/*.txt", 7)?);
     assert!(rt; reads_choice(alloc, JUDGED, "?", u64::MAX)?);
@@ -207,7 +207,7 @@ fn scopes_are_read(rt: HostRuntime) -> Result<(), Refusal> {
 
 // What is not said of a query is as the settings have it.
 #[test]
-fn queries_of_few_words_are_read(rt: HostRuntime) -> Result<(), Refusal> {
+fn queries_of_few_words_are_read(rt: HostRuntime) -> Result<(), ReadError> {
     let alloc = rt.alloc();
     let files = Asked {
         kind: Kind::Files,

@@ -1,6 +1,6 @@
-use cq_base::{Change, Memory, Settings};
+use cq_base::{Change, Memory, Refusal, Settings};
 use cq_drive::{ScriptStep, read_step};
-use cq_request::{Kind, Refusal};
+use cq_request::{Kind, ReadError};
 use std::alloc::Global;
 
 /// The settings that lines are read with.
@@ -74,16 +74,9 @@ fn is_of_field(name: &[u8], word: &str) -> bool {
 
 // Whether a refusal is the one that a word names: `field:` stands before the name of a member.
 fn is_refusal(refusal: &Refusal, word: &str) -> bool {
-    match refusal {
-        Refusal::Json => word == "json",
-        Refusal::Op => word == "op",
-        Refusal::Field(name) => is_of_field(name.as_bytes(), word),
-        Refusal::Lang => word == "lang",
-        Refusal::Path => word == "path",
-        Refusal::TooMuchText => word == "text",
-        Refusal::Min => word == "min",
-        Refusal::Scope => word == "scope",
-        Refusal::Memory => false,
+    match refusal.name() {
+        Some(name) => is_of_field(name.as_bytes(), word),
+        None => refusal.word() == word,
     }
 }
 
@@ -91,7 +84,8 @@ fn is_refusal(refusal: &Refusal, word: &str) -> bool {
 pub(crate) fn tells(alloc: Global, line: &[u8], word: &str) -> bool {
     match read_step(alloc, &SETTINGS, line) {
         Ok(step) => is_step(alloc, &step, word),
-        Err(refusal) => is_refusal(&refusal, word),
+        Err(ReadError::Refused(refusal)) => is_refusal(&refusal, word),
+        Err(ReadError::Memory) => false,
     }
 }
 

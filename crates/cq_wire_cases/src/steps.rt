@@ -1,7 +1,7 @@
 use crate::step_telling::{SETTINGS, all_tell};
 use cq_base::{Change, Lang, Text};
 use cq_drive::{ScriptStep, read_step};
-use cq_request::{Query, Refusal};
+use cq_request::{Query, ReadError};
 use std::alloc::Global;
 
 // Each line of a table is a word, as `tells` has it, and the line that is read.
@@ -80,7 +80,7 @@ fn is_the_put(change: &Change) -> bool {
     }
 }
 
-fn reads_the_put(alloc: Global, line: &str) -> Result<bool, Refusal> {
+fn reads_the_put(alloc: Global, line: &str) -> Result<bool, ReadError> {
     match read_step(alloc, &SETTINGS, line.as_bytes())? {
         ScriptStep::Accept { by, change } => Ok(by == 13 && is_the_put(&change)),
         _ => Ok(false),
@@ -91,7 +91,7 @@ const PUT: &str =
     r#"{"step":"accept","by":13,"request":{"text":"a \"b\"\n\u00e9\ud83d\ude00","op":"put","lang":"go","path":"a/b c.go","project":"p"}}"#;
 
 #[test]
-fn the_text_of_an_upload_is_brought(rt: HostRuntime) -> Result<(), Refusal> {
+fn the_text_of_an_upload_is_brought(rt: HostRuntime) -> Result<(), ReadError> {
     assert!(rt; reads_the_put(rt.alloc(), PUT)?);
     Ok(())
 }
@@ -114,7 +114,7 @@ fn reads_query(
     line: &str,
     path: &str,
     numbers: (u32, u64, bool),
-) -> Result<bool, Refusal> {
+) -> Result<bool, ReadError> {
     match read_step(alloc, &SETTINGS, line.as_bytes())? {
         ScriptStep::Reply { by, query } => Ok(by == 5 && is_query(&query, path, numbers)),
         _ => Ok(false),
@@ -127,7 +127,7 @@ const WHOLE: &str =
 const SHORT: &str = r#"{"step":"reply","by":5,"request":{"op":"verdict","project":"p"}}"#;
 
 #[test]
-fn queries_are_brought(rt: HostRuntime) -> Result<(), Refusal> {
+fn queries_are_brought(rt: HostRuntime) -> Result<(), ReadError> {
     let alloc = rt.alloc();
     assert!(rt; reads_query(alloc, WHOLE, "t", (20, 7, false))?);
     assert!(rt; reads_query(alloc, SHORT, "", (100, 0, true))?);

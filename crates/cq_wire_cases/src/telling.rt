@@ -1,5 +1,5 @@
-use cq_base::Settings;
-use cq_request::{Refusal, read_request};
+use cq_base::{Refusal, Settings};
+use cq_request::{ReadError, read_request};
 use std::alloc::Global;
 
 /// The settings that lines are read with.
@@ -23,16 +23,9 @@ fn is_of_field(name: &[u8], word: &str) -> bool {
 
 // Whether a refusal is the one that a word names: `field:` stands before the name of a member.
 fn is_refusal(refusal: &Refusal, word: &str) -> bool {
-    match refusal {
-        Refusal::Json => word == "json",
-        Refusal::Op => word == "op",
-        Refusal::Field(name) => is_of_field(name.as_bytes(), word),
-        Refusal::Lang => word == "lang",
-        Refusal::Path => word == "path",
-        Refusal::TooMuchText => word == "text",
-        Refusal::Min => word == "min",
-        Refusal::Scope => word == "scope",
-        Refusal::Memory => false,
+    match refusal.name() {
+        Some(name) => is_of_field(name.as_bytes(), word),
+        None => refusal.word() == word,
     }
 }
 
@@ -40,7 +33,8 @@ fn is_refusal(refusal: &Refusal, word: &str) -> bool {
 pub(crate) fn tells(alloc: Global, line: &[u8], word: &str) -> bool {
     match read_request(alloc, &SETTINGS, line) {
         Ok(_) => word == "ok",
-        Err(refusal) => is_refusal(&refusal, word),
+        Err(ReadError::Refused(refusal)) => is_refusal(&refusal, word),
+        Err(ReadError::Memory) => false,
     }
 }
 
