@@ -1,9 +1,9 @@
 ghost use Rattle.std.specs.Prelude.{◌≡◌, option_copied};
-ghost use Rattle.cq_base.specs.Refusals.{refusal_code, refusal_word, refusal_name};
+ghost use Rattle.cq_base.specs.Refusals.{refusal_code, refusal_word, refusal_name, refusal_count};
 
 use crate::Text;
 
-/// Why a line is refused; the first of these that applies.
+/// Why a line is refused: the first of these that applies. The last four depend on what the server has accepted.
 #[derive(Debug, Drop)]
 pub enum Refusal {
     /// It is no JSON object.
@@ -22,6 +22,14 @@ pub enum Refusal {
     Min,
     /// The scope is not a path, or is given beside a path.
     Scope,
+    /// The version that is asked for is above this count of accepted changes.
+    Future(u64),
+    /// There is no file to drop.
+    Absent,
+    /// The limit on kept changes is reached, or 2^60 were accepted.
+    FullChanges,
+    /// The text and all kept texts have more bytes than they may.
+    FullText,
 }
 
 impl Refusal {
@@ -38,6 +46,10 @@ impl Refusal {
             Refusal::TooMuchText => 6,
             Refusal::Min => 7,
             Refusal::Scope => 15,
+            Refusal::Future(_) => 8,
+            Refusal::Absent => 9,
+            Refusal::FullChanges => 10,
+            Refusal::FullText => 11,
         }
     }
 
@@ -54,6 +66,10 @@ impl Refusal {
             Refusal::TooMuchText => "text",
             Refusal::Min => "min",
             Refusal::Scope => "scope",
+            Refusal::Future(_) => "future",
+            Refusal::Absent => "absent",
+            Refusal::FullChanges => "full-changes",
+            Refusal::FullText => "full-text",
         }
     }
 
@@ -63,6 +79,16 @@ impl Refusal {
     {
         match self {
             Refusal::Field(name) => Some(name),
+            _ => None,
+        }
+    }
+
+    /// The count that it reports, if it reports one.
+    pub fn count(&self) -> Option<u64>
+        ensures { result ≡ refusal_count self.now }
+    {
+        match self {
+            Refusal::Future(count) => Some(*count),
             _ => None,
         }
     }
