@@ -231,14 +231,6 @@ pub enum Reply {
     },
     /// The line is refused.
     Refused(Refusal),
-    /// The version that is asked for is above this count of accepted changes.
-    Future(u64),
-    /// There is no file to drop.
-    Absent,
-    /// The limit on kept changes is reached, or 2^60 were accepted.
-    FullChanges,
-    /// The text and all kept texts have more bytes than they may.
-    FullText,
     /// This change is not done yet.
     Pending(u64),
     /// The line is too long.

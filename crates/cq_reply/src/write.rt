@@ -8,7 +8,7 @@ use crate::functions::write_functions;
 use crate::groups::write_groups;
 use crate::line::Line;
 use crate::measures::{write_measures, write_verdict};
-use crate::refusal::{write_future, write_refusal, write_refused, write_state};
+use crate::refusal::{write_refused, write_state};
 use crate::reply::Reply;
 use crate::short::{Short, fixed};
 use cq_base::{Memory, Text};
@@ -37,10 +37,6 @@ fn write_reply(out: &mut Writer, reply: &Reply) -> Result<(), AllocError>
             published,
         } => write_state(out, *accepted, *done, *published),
         Reply::Refused(why) => write_refused(out, why),
-        Reply::Future(count) => write_future(out, *count),
-        Reply::Absent => write_refusal(out, 9, "absent"),
-        Reply::FullChanges => write_refusal(out, 10, "full-changes"),
-        Reply::FullText => write_refusal(out, 11, "full-text"),
         Reply::Change(_) | Reply::Pending(_) | Reply::Long | Reply::Memory => unreachable!(),
     }
 }
