@@ -2,6 +2,7 @@ ghost use Rattle.std.specs.Prelude.{◌≡◌};
 ghost use Rattle.cq_answer.specs.Refusals as spec;
 ghost use Rattle.cq_reply.specs.Written.{IsReplyText};
 
+use cq_base::Refusal;
 use cq_board::Refused;
 use cq_reply::Reply;
 
@@ -11,9 +12,9 @@ pub fn cause_told(cause: Refused) -> Reply
     ensures text { IsReplyText result }
 {
     match cause {
-        Refused::Absent => Reply::Absent,
-        Refused::FullChanges => Reply::FullChanges,
-        Refused::FullText => Reply::FullText,
+        Refused::Absent => Reply::Refused(Refusal::Absent),
+        Refused::FullChanges => Reply::Refused(Refusal::FullChanges),
+        Refused::FullText => Reply::Refused(Refusal::FullText),
         Refused::Memory => Reply::Memory,
     }
 }

@@ -8,7 +8,7 @@ ghost use Rattle.cq_session.specs.Passes.{Begins, GivesUp, HasAccepted, HasAnswe
 
 use crate::helping::help;
 use crate::viewing::view_reply;
-use cq_base::{Change, Memory, Settings, Steps};
+use cq_base::{Change, Memory, Refusal, Settings, Steps};
 use cq_board::Refused;
 use cq_hub::Hub;
 use cq_io::Gate;
@@ -39,9 +39,9 @@ fn change_reply<W: Indexed, H: Hub<W>, G: Gate>(
             gate.after_accept(number);
             Ok(Reply::Change(number))
         }
-        Err(Refused::Absent) => Ok(Reply::Absent),
-        Err(Refused::FullChanges) => Ok(Reply::FullChanges),
-        Err(Refused::FullText) => Ok(Reply::FullText),
+        Err(Refused::Absent) => Ok(Reply::Refused(Refusal::Absent)),
+        Err(Refused::FullChanges) => Ok(Reply::Refused(Refusal::FullChanges)),
+        Err(Refused::FullText) => Ok(Reply::Refused(Refusal::FullText)),
         Err(Refused::Memory) => Err(Memory),
     }
 }
@@ -89,7 +89,7 @@ pub fn query_reply<R: Threads + Sync, L: Ledger, H: Hub<Work<L>>, G: Gate>(
 {
     let asked = hub.ask(pass);
     if query.at > asked.accepted {
-        return Ok(Reply::Future(asked.accepted));
+        return Ok(Reply::Refused(Refusal::Future(asked.accepted)));
     }
     if query.finish {
         return match help(

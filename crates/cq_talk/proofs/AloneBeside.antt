@@ -24,6 +24,7 @@ use Rattle.cq_talk.specs.Laws.{IsNoMemory}
 use Rattle.cq_talk.proofs.BesideTalk.{none_told}
 use Rattle.cq_talk.proofs.Rooming.{accepted_beside, refused_beside}
 use Rattle.cq_talk.proofs.Shown.{shown_version, shown_answered}
+use Rattle.cq_base.specs.declared.refusal.Refusal.TheVariants as refusal
 
 -- what a user knows, and what is walked: the first change that isn't done is a put
 pub record Agrees (w : Walk) (k : Known) : Type 0 where
@@ -111,7 +112,7 @@ module _ (set : Settings) (w : Walk) (k : Known) (agrees : Agrees w k) where
       stays later (with_told k.changes change r) (version_in r) (answered_in r) is (ap (with_told k.changes change) told ∙ none.0) (ap version_in told ∙ none.1) (ap answered_in told ∙ none.2)
 
   answers : (q : Query) (r : Reply) (later : Walk) → IsAnsweredAlone set w q r later → Turned set k (Read (Ok (request.Query q))) r later
-  answers q r later (inl is) = record { is = inl (omega (arith, is.0, long), is.1 ∙ ap reply.Future long); agrees = stays later k.changes (version_in r) (answered_in r) is.2 refl (ap version_in is.1) (ap answered_in is.1) }
+  answers q r later (inl is) = record { is = inl (omega (arith, is.0, long), is.1 ∙ ap (λ (n : ℕ). reply.Refused (refusal.Future n)) long); agrees = stays later k.changes (version_in r) (answered_in r) is.2 refl (ap version_in is.1) (ap answered_in is.1) }
   answers q r later (inr (inl is)) = record {
     is = inr (inl (record {
       within = omega (arith, is.0, long);

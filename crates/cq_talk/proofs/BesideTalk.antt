@@ -35,6 +35,7 @@ use Rattle.cq_talk.proofs.AloneTalk.{floor_seen, given_read}
 use Rattle.cq_talk.proofs.Served.{asked_grows, served_published}
 use Rattle.cq_talk.proofs.Shown.{shown_version, shown_answered}
 use Rattle.cq_talk.proofs.Unmade.{accepts_all}
+use Rattle.cq_base.specs.declared.refusal.Refusal.TheVariants as refusal
 
 -- what the user knows fits the history: each accepted change's number was named, what was named is published, and what was
 -- answered is at most the floor
@@ -157,7 +158,7 @@ module _ (set : Settings) (callers : ℕ) (alone : Type 0) (c seen : ℕ) (h : L
       let ask = keeps_to_ask set callers alone c h later is.asks fair in
       let many = same_many is.asks.mid ask.1 in
       record {
-        is = inr (inl (omega (arith, is.above, many), is.reply_is ∙ ap reply.Future many));
+        is = inr (inl (omega (arith, is.above, many), is.reply_is ∙ ap (λ (n : ℕ). reply.Refused (refusal.Future n)) many));
         fits = silent later (Read (Ok (request.Query q))) r refl (ap version_in is.reply_is) (ap answered_in is.reply_is) (keeps_asking set callers alone c h later is.asks fair);
       }
   answered q r later fair (inr (inl is)) =

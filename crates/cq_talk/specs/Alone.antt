@@ -11,6 +11,7 @@ use Rattle.cq_reply.specs.declared.reply.Reply.TheVariants as reply
 use Rattle.cq_answer.specs.Reply.{IsReply}
 use Rattle.cq_talk.specs.Said.{Said, TooLong, Read, WasRead}
 use Rattle.cq_talk.specs.Causes.{cause, change_told}
+use Rattle.cq_base.specs.declared.refusal.Refusal.TheVariants as refusal
 
 -- the accepted changes, up to which one all are done, the published version, and the floor
 pub record Walk : Type 0 where
@@ -41,7 +42,7 @@ IsChangedAlone set k change r after = (r ≡ change_told k.changes (cause set k.
 
 -- it asks for more changes than there are
 abbrev pub IsFutureAlone : Walk → Query → Reply → Walk → Type 0
-IsFutureAlone k q r after = (length k.changes < q.at) × (r ≡ reply.Future (length k.changes)) × (after ≡ k)
+IsFutureAlone k q r after = (length k.changes < q.at) × (r ≡ reply.Refused (refusal.Future (length k.changes))) × (after ≡ k)
 
 -- it is not to finish works, and some change is not done
 abbrev pub IsPendingAlone : Walk → Query → Reply → Walk → Type 0

@@ -15,6 +15,7 @@ use Rattle.cq_answer.specs.Reply.{IsReply}
 use Rattle.cq_talk.specs.Said.{Said, TooLong, Read, WasRead}
 use Rattle.cq_talk.specs.Replies.{version_in, answered_in}
 use Rattle.cq_talk.specs.Causes.{state_at, cause}
+use Rattle.cq_base.specs.declared.refusal.Refusal.TheVariants as refusal
 
 -- What the user knows: the changes that were accepted, the greatest version or published number that a reply named, and the
 -- greatest version that a query's reply named.
@@ -67,7 +68,7 @@ IsPut changes n = IsNumber changes n × (is_put (slice_index_or changes (n - 1) 
 
 -- it asks for more changes than were accepted, and the reply says how many there are
 abbrev pub IsFutureBeside : Known → Query → Reply → Type 0
-IsFutureBeside k q r = (length k.changes < q.at) × (r ≡ reply.Future (length k.changes))
+IsFutureBeside k q r = (length k.changes < q.at) × (r ≡ reply.Refused (refusal.Future (length k.changes)))
 
 -- It is not to finish works, and the reply names a put that is above each version named before.
 pub record IsPendingBeside (k : Known) (q : Query) (r : Reply) : Type 0 where

@@ -17,6 +17,7 @@ use Rattle.cq_answer.specs.Reply.{IsReply}
 use Rattle.cq_hub.specs.Hubs.{Grows, IsFloor, IsPublication, Never}
 use Rattle.cq_talk.specs.Said.{Said, TooLong, Read}
 use Rattle.cq_talk.specs.Replies.{named}
+use Rattle.cq_base.specs.declared.refusal.Refusal.TheVariants as refusal
 
 -- The floor of a query: the greatest of what was named before, the version that it asks for, and, if it may finish
 -- works, how many changes there are at its question.
@@ -88,7 +89,7 @@ module _ (set : Settings) (callers : ℕ) (alone : Type 0) (c : ℕ) where
   pub record IsFuture (h : List Event) (q : Query) (r : Reply) (after : List Event) : Type 0 where
     pub asks : Asks alone c h after
     pub above : length (state callers asks.mid).slots < q.at
-    pub reply_is : r ≡ reply.Future (length (state callers asks.mid).slots)
+    pub reply_is : r ≡ reply.Refused (refusal.Future (length (state callers asks.mid).slots))
 
   -- It is not to finish works, and some change up to its floor is not done at its question: the reply names the least
   -- such one.

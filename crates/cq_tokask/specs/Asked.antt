@@ -26,7 +26,7 @@ module _ {L : Type 0} (s : Snapshot L) where
 
   -- a query is answered at the version, unless it asks for a later one
   abbrev pub AnswersQuery : Query → Reply → Type 0
-  AnswersQuery q r = MatchBool (nat_lt s.version q.at) (r ≡ reply.Future s.version) (IsReplyOf (files_of q.project) (conditions_of q.project) q s.version r)
+  AnswersQuery q r = MatchBool (nat_lt s.version q.at) (r ≡ reply.Refused (refusal.Future s.version)) (IsReplyOf (files_of q.project) (conditions_of q.project) q s.version r)
 
   -- anything but a query is no operation here
   abbrev pub AnswersRequest : Request → Reply → Type 0

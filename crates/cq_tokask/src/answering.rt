@@ -72,7 +72,7 @@ fn query_reply<R: Threads + Sync, L: Ledger>(
     ensures loaded { IsLoadedOf snapshot.now.files loaded.new }
 {
     if query.at > snapshot.version {
-        return Ok(Reply::Future(snapshot.version));
+        return Ok(Reply::Refused(Refusal::Future(snapshot.version)));
     }
     if !query.project.is_same(&snapshot.project) {
         return reply_to_other(rt, alloc, settings, query, snapshot.version, steps);
