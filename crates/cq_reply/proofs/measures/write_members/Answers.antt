@@ -1,9 +1,8 @@
-use Rattle.std.proofs.Common.{◌≡◌, ℕ, List, ◌∙◌, get_or, take, refl, ap, subst, subst₂, sym, arith}
-use Rattle.std.proofs.lemmas.List.{take_all, get_or_default}
+use Rattle.std.proofs.Common.{◌≡◌, ℕ, List, ◌∙◌, take, refl, subst, subst₂, arith}
+use Rattle.std.proofs.lemmas.List.{take_all}
 use Rattle.cq_base.specs.Measures.{measure_of}
 use Rattle.cq_base.specs.Tables.{metric_name, metrics}
 use Rattle.cq_base.specs.declared.measures.Metric.{Metric}
-use Rattle.cq_base.specs.declared.measures.Metric.TheVariants as variant
 use Rattle.cq_reply.specs.Added.{AddsMember, AddsMembers}
 use Rattle.cq_reply.specs.Written.{count, measure_members}
 use Rattle.cq_reply.proofs.Adding.{wrote, then, at_last, members_none, members_more}
@@ -15,11 +14,9 @@ loop-metric-init c = members_none metric_name _ _
 
 pub loop-metric-preserved : goal.loop-metric-preserved
 loop-metric-preserved c =
-    let all = c.all-metrics.result.now in
-    let i = c.loop-metric.metric-index in
-    let k = get_or all i variant.Lines in
-    let at = get_or_default all i variant.Lines _ c.loop-metric-test.true in
-    members_more metric_name (λ j. count (measure_of j c.args.measures.now)) all i k c.loop-metric-test.true at c.loop-metric.invariant c.in_ok-write_number.ensures
+    let m = c.args.measures.now in
+    let here = subst₂ (λ (name : List ℕ) (n : ℕ). AddsMember name (count n) _ _) c.name.ensures c.get.ensures c.in_ok-write_number.ensures in
+    members_more metric_name (λ k. count (measure_of k m)) c.all-metrics.result.now c.loop-metric.metric-index c.metric-item.result c.loop-metric-test.true c.metric-item.is c.loop-metric.invariant here
 
 pub returns : goal.returns
 returns c =
