@@ -1,5 +1,6 @@
-ghost use Rattle.std.specs.Prelude.{◌≡◌};
-ghost use Rattle.cq_base.specs.Tables.{lang_code, lang_name, langs, lang_coded, lang_named};
+ghost use Rattle.std.specs.Prelude.{◌≡◌, ◌==◌};
+ghost use Rattle.std.specs.Str.{bytes_eq};
+ghost use Rattle.cq_base.specs.Tables.{lang_code, lang_name, langs, lang_coded, lang_named, with_name};
 
 /// The language of a file. No two of them have a token in common.
 #[derive(Clone, Copy, Debug, PartialEq, Eq, PartialOrd, Ord)]
@@ -12,6 +13,18 @@ pub enum Lang {
 }
 
 const LANGS: [Lang; 4] = [Lang::Any, Lang::Go, Lang::C, Lang::Java];
+
+// The first of this name.
+fn first_named(langs: &[Lang], name: &str) -> Option<Lang>
+    ensures { result ≡ with_name lang_name langs.now name.now }
+{
+    for lang in langs {
+        if lang.has_name(name) {
+            return Some(*lang);
+        }
+    }
+    None
+}
 
 impl Lang {
     /// All of them.
@@ -45,17 +58,32 @@ impl Lang {
         }
     }
 
+    fn has_code(&self, code: u8) -> bool
+        ensures { result ≡ (lang_code self.now == code) }
+    {
+        self.code() == code
+    }
+
+    fn has_name(&self, name: &str) -> bool
+        ensures { result ≡ bytes_eq (lang_name self.now) name.now }
+    {
+        self.name() == name
+    }
+
     /// The one with this code.
     pub fn of_code(code: u8) -> Option<Lang>
         ensures { result ≡ lang_coded code }
     {
-        Lang::all().iter().find(|lang| lang.code() == code).copied()
+        Lang::all()
+            .iter()
+            .find(|lang| lang.has_code(code))
+            .copied()
     }
 
     /// The one of this name.
     pub fn named(name: &str) -> Option<Lang>
         ensures { result ≡ lang_named name.now }
     {
-        Lang::all().iter().find(|lang| lang.name() == name).copied()
+        first_named(Lang::all(), name)
     }
 }

@@ -1,6 +1,7 @@
-ghost use Rattle.std.specs.Prelude.{◌≡◌};
+ghost use Rattle.std.specs.Prelude.{◌≡◌, ◌==◌};
+ghost use Rattle.std.specs.Str.{bytes_eq};
 ghost use Rattle.cq_base.specs.Measures.{measure_of, no_measures};
-ghost use Rattle.cq_base.specs.Tables.{metric_code, metric_name, metrics, metric_coded, metric_named};
+ghost use Rattle.cq_base.specs.Tables.{metric_code, metric_name, metrics, metric_coded, metric_named, with_code, with_name};
 
 /// What is measured of a project.
 #[derive(Clone, Copy, Debug, PartialEq, Eq)]
@@ -28,6 +29,30 @@ const METRICS: [Metric; 8] = [
     Metric::Lines,
     Metric::Ncloc,
 ];
+
+// The first with this code.
+fn first_coded(metrics: &[Metric], code: u8) -> Option<Metric>
+    ensures { result ≡ with_code metric_code metrics.now code }
+{
+    for metric in metrics {
+        if metric.has_code(code) {
+            return Some(*metric);
+        }
+    }
+    None
+}
+
+// The first of this name.
+fn first_named(metrics: &[Metric], name: &str) -> Option<Metric>
+    ensures { result ≡ with_name metric_name metrics.now name.now }
+{
+    for metric in metrics {
+        if metric.has_name(name) {
+            return Some(*metric);
+        }
+    }
+    None
+}
 
 impl Metric {
     /// All of them, in the order of their names, as replies have them.
@@ -69,24 +94,30 @@ impl Metric {
         }
     }
 
+    fn has_code(&self, code: u8) -> bool
+        ensures { result ≡ (metric_code self.now == code) }
+    {
+        self.code() == code
+    }
+
+    fn has_name(&self, name: &str) -> bool
+        ensures { result ≡ bytes_eq (metric_name self.now) name.now }
+    {
+        self.name() == name
+    }
+
     /// The one with this code.
     pub fn of_code(code: u8) -> Option<Metric>
         ensures { result ≡ metric_coded code }
     {
-        Metric::all()
-            .iter()
-            .find(|metric| metric.code() == code)
-            .copied()
+        first_coded(Metric::all(), code)
     }
 
     /// The one of this name.
     pub fn named(name: &str) -> Option<Metric>
         ensures { result ≡ metric_named name.now }
     {
-        Metric::all()
-            .iter()
-            .find(|metric| metric.name() == name)
-            .copied()
+        first_named(Metric::all(), name)
     }
 }
 
