@@ -74,10 +74,7 @@ impl Lang {
     pub fn of_code(code: u8) -> Option<Lang>
         ensures { result ≡ lang_coded code }
     {
-        Lang::all()
-            .iter()
-            .find(|lang| lang.has_code(code))
-            .copied()
+        Lang::all().iter().find(|lang| lang.has_code(code)).copied()
     }
 
     /// The one of this name.
