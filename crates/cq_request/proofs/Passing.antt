@@ -40,6 +40,16 @@ passed : (chunk : ℕ) (o : Op) (d : Data) → why_refused chunk o d ≡ None �
 passed chunk o d accepted =
     all_passed (text_passes (λ name. is_some (lang_named name)) (codes "lang") d) (text_passes is_path_text (codes "path") d) (text_passes is_short (codes "text") d) (min_passes chunk d) (scope_passes d) (none_named (fault_of o d) (value_refused chunk d) accepted).1
 
+third_passed : (a b c : Bool) (later : Option Refusal) → unless a refusal.Lang (unless b refusal.Path (unless c refusal.TooMuchText later)) ≡ None → c ≡ true
+third_passed true true true later none = refl
+third_passed true true false later none = absurd (cc)
+third_passed true false c later none = absurd (cc)
+third_passed false b c later none = absurd (cc)
+
+pub text_passed : (chunk : ℕ) (o : Op) (d : Data) → why_refused chunk o d ≡ None → text_passes is_short (codes "text") d ≡ true
+text_passed chunk o d accepted =
+    third_passed (text_passes (λ name. is_some (lang_named name)) (codes "lang") d) (text_passes is_path_text (codes "path") d) (text_passes is_short (codes "text") d) _ (none_named (fault_of o d) (value_refused chunk d) accepted).1
+
 pub min_passed : (chunk : ℕ) (o : Op) (d : Data) → why_refused chunk o d ≡ None → min_passes chunk d ≡ true
 min_passed chunk o d accepted = (passed chunk o d accepted).0
 
