@@ -11,7 +11,7 @@ use Rattle.serde_json.specs.Data.{Data, array, Items}
 use Rattle.serde_json.specs.Read.{of_items}
 use Rattle.serde_json.specs.View.{items_of}
 use Rattle.serde_json.specs.Written.{items_outline}
-use Rattle.cq_reply.specs.Added.{Adds, tokens_of, IsReadBack, AddsValue, AddsMember, AddsEach}
+use Rattle.cq_reply.specs.Added.{Adds, tokens_of, IsReadBack, AddsValue, AddsMember, AddsMembers, AddsEach}
 
 -- ---- one after the other
 
@@ -74,6 +74,16 @@ pub each_more : {X : Type 0} (data_of : X → Data) (xs : List X) (i : ℕ) (x :
 each_more data_of xs i x {a = a} {b = b} {c = c} within is done here =
     subst (λ ys. AddsEach data_of ys a c) (sym (one_more xs i x within is)) (record {
       adds = regrouped (sym (flat_more (λ y. tokens_of (data_of y)) (take i xs) x)) (then done.adds here.adds);
+      reads = read_more data_of (take i xs) x done.reads here.reads;
+    })
+
+pub members_none : {X : Type 0} (name_of : X → List ℕ) (data_of : X → Data) (a : Written) → AddsMembers name_of data_of [] a a
+members_none name_of data_of a = record { adds = record { before = refl; tokens = sym (append-nil a.tokens) }; reads = tt }
+
+pub members_more : {X : Type 0} (name_of : X → List ℕ) (data_of : X → Data) (xs : List X) (i : ℕ) (x : X) {a b c : Written} → i < length xs → x ≡ get_or xs i x → AddsMembers name_of data_of (take i xs) a b → AddsMember (name_of x) (data_of x) b c → AddsMembers name_of data_of (take (i + 1) xs) a c
+members_more name_of data_of xs i x {a = a} {b = b} {c = c} within is done here =
+    subst (λ ys. AddsMembers name_of data_of ys a c) (sym (one_more xs i x within is)) (record {
+      adds = regrouped (sym (flat_more (λ y. key (name_of y) ∷ tokens_of (data_of y)) (take i xs) x)) (then done.adds here.adds);
       reads = read_more data_of (take i xs) x done.reads here.reads;
     })
 
