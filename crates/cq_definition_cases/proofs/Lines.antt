@@ -31,6 +31,7 @@ no_byte_is_lost at_end new left next = of next.1
   where
     held : length new.pending ≡ 1
     held = ap (λ (s : List ℕ). length s) left
+
     of : ((bytes ≡ ended line ++ new.pending) × (new.over ≡ false)) ⊎ ((bytes ≡ line) × (0 < length line) × (new.pending ≡ []) × (new.over ≡ true) × at_end × (new.taken < new.limit)) → ⊥
     of (inl closed) = let all = ap (λ (s : List ℕ). length s) closed.0 in omega (arith, all, held)
     of (inr last) = let all = ap (λ (s : List ℕ). length s) last.0 in omega (arith, all)

@@ -32,6 +32,7 @@ the_change_that_was_taken_is_finished alone callers passes =
     done : Event → ℕ
     done (event.Done by r) = r
     done _ = 0
+
     second : List Event → ℕ
     second (first ∷ e ∷ rest) = done e
     second _ = 0

@@ -21,12 +21,7 @@ fn write_refusal(out: &mut Writer, code: u64, word: &str) -> Result<(), AllocErr
 }
 
 // One that also reports a count.
-fn write_counted(
-    out: &mut Writer,
-    code: u64,
-    word: &str,
-    count: u64,
-) -> Result<(), AllocError>
+fn write_counted(out: &mut Writer, code: u64, word: &str, count: u64) -> Result<(), AllocError>
     ensures { OnOk result (AddsValue (counted_refusal code word.now count) out.old out.new) }
 {
     out.begin_object()?;
