@@ -50,13 +50,15 @@ pub(crate) fn write_refused(out: &mut Writer, why: &Refusal) -> Result<(), Alloc
     requires { IsSoundRefusal why.now }
     ensures { OnOk result (AddsValue (refused_data why.now) out.old out.new) }
 {
-    if let Some(name) = why.name() {
-        return write_named(out, why.code(), why.word(), name);
+    let code = why.code();
+    let word = why.word();
+    match why.name() {
+        Some(name) => write_named(out, code, word, name),
+        None => match why.count() {
+            Some(count) => write_counted(out, code, word, count),
+            None => write_refusal(out, code, word),
+        },
     }
-    if let Some(count) = why.count() {
-        return write_counted(out, why.code(), why.word(), count);
-    }
-    write_refusal(out, why.code(), why.word())
 }
 
 /// How far the server is.
