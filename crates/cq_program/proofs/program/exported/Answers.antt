@@ -1,8 +1,12 @@
 use Rattle.std.proofs.Common.{subst, sym}
+use Rattle.cq_base.specs.Settings.{IsInRange}
 use Rattle.cq_program.specs.Statuses.{Ends}
 use Rattle.cq_program.specs.declared.status.Status.{Status}
 use Rattle.cq_program.proofs.Ended.{ended_exported}
 use Rattle.cq_program.proofs.program.exported.Goals as goal
+
+pub export-requires-clause-in_range : goal.export-requires-clause-in_range
+export-requires-clause-in_range g c = subst IsInRange (sym c.plain-keyer.ensures) c.requires.in_range
 
 pub returns-in-Ok-clause-ends : goal.returns-in-Ok-clause-ends
 returns-in-Ok-clause-ends g c =

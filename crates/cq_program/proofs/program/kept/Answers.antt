@@ -1,8 +1,12 @@
 use Rattle.std.proofs.Common.{subst, sym}
+use Rattle.cq_base.specs.Settings.{IsInRange}
 use Rattle.cq_program.specs.Statuses.{Ends}
 use Rattle.cq_program.specs.declared.status.Status.{Status}
 use Rattle.cq_program.proofs.Ended.{ended_asked}
 use Rattle.cq_program.proofs.program.kept.Goals as goal
+
+pub ask-requires : goal.ask-requires
+ask-requires g c κs lives = record { in_range = subst IsInRange (sym c.plain-keyer.ensures) c.requires.in_range }
 
 pub returns-in-Ok-clause-ends : goal.returns-in-Ok-clause-ends
 returns-in-Ok-clause-ends g c =
@@ -15,3 +19,6 @@ returns-in-Ok-clause-asks g c = λ other. record {
   status_is = c.status_of_asked.ensures.status;
   asks = rw c.plain-keyer.ensures at c.in-Ok.ensures.asks;
 }
+
+pub returns-in-Err-clause-no_line : goal.returns-in-Err-clause-no_line
+returns-in-Err-clause-no_line g c = λ is. rw c.plain-keyer.ensures at c.in-Err.ensures.no_line

@@ -1,4 +1,5 @@
 use Rattle.std.proofs.Common.{ℕ, [], map, ap, refl, ◌∙◌, subst, subst₂, sym}
+use Rattle.cq_base.specs.Settings.{IsInRange}
 use Rattle.cq_base.specs.declared.settings.Settings.{Settings}
 use Rattle.cq_history.specs.Lawful.{Lawful}
 use Rattle.cq_hub.specs.Solos.{solo_lawful}
@@ -14,6 +15,12 @@ use Rattle.cq_program.specs.declared.status.Status.{Status}
 use Rattle.cq_lines.proofs.Serving.{serves_as}
 use Rattle.cq_program.proofs.Ended.{ended_by}
 use Rattle.cq_program.proofs.program.serve.Goals as goal
+
+pub session-end-requires-clause-in_range : goal.session-end-requires-clause-in_range
+session-end-requires-clause-in_range g c κs lives = subst IsInRange (sym c.plain-keyer.ensures) c.requires.in_range
+
+pub session-end-requires-clause-hub_settings : goal.session-end-requires-clause-hub_settings
+session-end-requires-clause-hub_settings g c κs lives = c.in-Ok.ensures.settings ∙ sym c.plain-keyer.ensures
 
 pub session-end-requires-clause-closed : goal.session-end-requires-clause-closed
 session-end-requires-clause-closed g c κs lives = (0, [], c.in-Ok.ensures.stands, (refl, tt))

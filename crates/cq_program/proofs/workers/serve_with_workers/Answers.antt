@@ -1,4 +1,5 @@
-use Rattle.std.proofs.Common.{ℕ, ap, subst, subst₂, sym, arith}
+use Rattle.std.proofs.Common.{ℕ, ◌∙◌, ap, subst, subst₂, sym, arith}
+use Rattle.cq_base.specs.Settings.{IsInRange}
 use Rattle.cq_beside.specs.Replies.{AreWithWorkers}
 use Rattle.cq_beside.specs.Served.{IsFirst}
 use Rattle.cq_lines.specs.Held.{Held}
@@ -8,6 +9,12 @@ use Rattle.cq_program.specs.Statuses.{Ends}
 use Rattle.cq_program.specs.declared.status.Status.{Status}
 use Rattle.cq_program.proofs.Ended.{ended_by}
 use Rattle.cq_program.proofs.workers.serve_with_workers.Goals as goal
+
+pub serve_one-end-requires-clause-in_range : goal.serve_one-end-requires-clause-in_range
+serve_one-end-requires-clause-in_range g c κs lives = subst IsInRange (sym c.plain-keyer.ensures) c.requires.in_range
+
+pub serve_one-end-requires-clause-hub_settings : goal.serve_one-end-requires-clause-hub_settings
+serve_one-end-requires-clause-hub_settings g c κs lives = c.in-Ok.ensures.settings ∙ sym c.plain-keyer.ensures
 
 pub returns-in-Ok-new-clause-runs : goal.returns-in-Ok-new-clause-runs
 returns-in-Ok-new-clause-runs g c = λ other.
