@@ -1,6 +1,5 @@
 -- A refusal that is written by what it reports besides its code and its word.
 use Rattle.std.proofs.Common.{◌≡◌, ℕ, List, Option, Some, None, ap, ap₂, ◌∙◌}
-use Rattle.serde_json.specs.Data.{Data}
 use Rattle.cq_base.specs.Refusals.{refusal_code, refusal_word, refusal_name, refusal_count}
 use Rattle.cq_base.specs.declared.refusal.Refusal.{Refusal}
 use Rattle.cq_reply.specs.Written.{refusal, named_refusal, counted_refusal, refusal_data, refused_data}

@@ -1,5 +1,5 @@
 -- The conditions of a gate.
-use Rattle.std.specs.Prelude.{◌&&◌, ◌==◌, ℕ, List, length, Bool, false, nat_le, if◌then◌else◌, Option, Some, None, option_and_then, option_map, unwrap_or, is_some, codes}
+use Rattle.std.specs.Prelude.{◌&&◌, ◌==◌, ℕ, List, length, Bool, false, nat_le, if◌then◌else◌, Option, None, option_and_then, option_map, unwrap_or, is_some, codes}
 use Rattle.std.specs.List.{list_all}
 use Rattle.serde_json.specs.Data.{Data}
 use Rattle.serde_json.specs.Find.{as_array}
