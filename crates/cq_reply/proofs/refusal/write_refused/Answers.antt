@@ -1,7 +1,13 @@
+use Rattle.std.proofs.Common.{List, ℕ, Option, sym, subst}
+use Rattle.std.specs.Prelude.{IfSome}
+use Rattle.std.specs.Str.{IsUtf8}
 use Rattle.std.proofs.lemmas.Result.{on_ok_weaker}
 use Rattle.cq_reply.proofs.Adding.{same_value}
 use Rattle.cq_reply.proofs.Refusing.{named_is, counted_is, plain_is}
 use Rattle.cq_reply.proofs.refusal.write_refused.Goals as goal
+
+pub write_named-requires : goal.write_named-requires
+write_named-requires c = subst (λ (o : Option (List ℕ)). IfSome o IsUtf8) (sym c.in-Some.ensures) c.requires
 
 pub returns-in-Some : goal.returns-in-Some
 returns-in-Some c =
