@@ -43,15 +43,16 @@ fn turn<R: Threads + Sync, L: Ledger, H: Hub<Work<L>>, K: Sink, G: Gate>(
 
 // A talk, between two lines.
 #[derive(Drop)]
-struct Talk<'a, R, L: Ledger, H: Hub<Work<L>>, G> {
+struct Talk<'a, 's, R, L: Ledger, H: Hub<Work<L>>, G> {
     rt: &'a R,
-    server: &'a Server<'a, H, G>,
+    server: &'a Server<'s, H, G>,
     pass: &'a mut H::Pass,
     seen: u64,
     steps: &'a mut Steps<L>,
 }
 
-impl<'a, R: Threads + Sync, L: Ledger, H: Hub<Work<L>>, G: Gate> Answers for Talk<'a, R, L, H, G> {
+impl<'a, 's, R: Threads + Sync, L: Ledger, H: Hub<Work<L>>, G: Gate> Answers
+    for Talk<'a, 's, R, L, H, G> {
     ghost use Rattle.std.specs.Prelude.{◌≡◌, ℕ, List};
     ghost use Rattle.std.specs.Thread.{IsSync};
     ghost use Rattle.cq_base.specs.Settings.{IsInRange};
