@@ -41,18 +41,19 @@ fn turn<R: Threads + Sync, L: Ledger, H: Hub<Work<L>>, K: Sink, G: Gate>(
     send(sink, line.as_bytes())
 }
 
-// A talk, between two lines.
+// A talk, between two lines. The pass and the counter have lifetimes of their own, so that what became of each is known
+// when the talk is over.
 #[derive(Drop)]
-struct Talk<'a, 's, R, L: Ledger, H: Hub<Work<L>>, G> {
+struct Talk<'a, 's, 'p, 'c, R, L: Ledger, H: Hub<Work<L>>, G> {
     rt: &'a R,
     server: &'a Server<'s, H, G>,
-    pass: &'a mut H::Pass,
+    pass: &'p mut H::Pass,
     seen: u64,
-    steps: &'a mut Steps<L>,
+    steps: &'c mut Steps<L>,
 }
 
-impl<'a, 's, R: Threads + Sync, L: Ledger, H: Hub<Work<L>>, G: Gate> Answers
-    for Talk<'a, 's, R, L, H, G> {
+impl<'a, 's, 'p, 'c, R: Threads + Sync, L: Ledger, H: Hub<Work<L>>, G: Gate> Answers
+    for Talk<'a, 's, 'p, 'c, R, L, H, G> {
     ghost use Rattle.std.specs.Prelude.{◌≡◌, ℕ, List};
     ghost use Rattle.std.specs.Thread.{IsSync};
     ghost use Rattle.cq_base.specs.Settings.{IsInRange};
