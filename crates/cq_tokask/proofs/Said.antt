@@ -1,6 +1,6 @@
 -- What a line says that is not too long, and its reply.
-use Rattle.std.proofs.Common.{◌≡◌, ℕ, ◌<◌, ◌≤◌, Bool, true, false, if◌then◌else◌, List, [], length, Ok, Err, Result, refl, sym, ap, subst, inl, inr}
-use Rattle.std.specs.Prelude.{MatchBool, IfOk, OnOk}
+use Rattle.std.proofs.Common.{◌≡◌, ℕ, ◌<◌, ◌≤◌, Bool, true, false, if◌then◌else◌, List, [], length, refl, sym, ap, subst, inl, inr}
+use Rattle.std.specs.Prelude.{MatchBool}
 use Rattle.std.specs.Str.{bytes_eq}
 use Rattle.std.proofs.lemmas.Bool.{lt-ltb, le-ltb}
 use Rattle.cq_answer.specs.Given.{IsReplyOf}
@@ -43,8 +43,3 @@ module _ {L : Type 0} (s : Snapshot L) where
 
     pub answers_long : line_limit < length line → AnswersLine s set line reply.Long
     answers_long long = inl (subst (λ (x : Said). AnswersSaid s x reply.Long) (sym (was_long set.chunk line long)) refl)
-
--- what an answer says of its value, and what it says at all
-pub both_ok : {T E : Type 0} (r : Result T E) (P S : T → Type 0) (Q : Type 0) → ((x : T) → P x → Q → S x) → IfOk r P → OnOk r Q → IfOk r S
-both_ok (Ok x) P S Q to p q = to x p q
-both_ok (Err e) P S Q to p q = tt
