@@ -12,6 +12,7 @@ use cq_base::Settings;
 use cq_chain::Pass;
 use cq_io::Gate;
 use cq_serve::{Bell, work};
+use cq_session::Server;
 use cq_shared::Shared;
 use cq_work::{Keyer, Work};
 use std::alloc::Global;
@@ -67,7 +68,13 @@ fn labour<Q: Wait, L: Ledger, R: Wait, G: Gate>(
     ensures worked { Worked hub.now pass result }
 {
     let keyer = Keyer::plain(settings);
-    work(rt, alloc, settings, &keyer, hub, pass, gate, bell)
+    let server = Server {
+        alloc,
+        keyer: &keyer,
+        hub,
+        gate,
+    };
+    work(rt, &server, pass, bell)
 }
 
 // The talk, on a pass of its own, which ends in this one. Behind it nobody sleeps on the bell.

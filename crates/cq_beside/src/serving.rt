@@ -8,12 +8,12 @@ ghost use Rattle.cq_beside.specs.Replies.{AreWithWorkers};
 ghost use Rattle.cq_beside.specs.Served.{IsServed, IsFirst};
 
 use crate::joining::{Talker, beside};
-use cq_base::{Settings, Steps};
+use cq_base::Steps;
 use cq_chain::Pass;
 use cq_io::{Gate, Sink, Source};
 use cq_lines::{End, Lines};
 use cq_serve::{Bell, RingingGate};
-use cq_session::session;
+use cq_session::{Server, session};
 use cq_shared::Shared;
 use cq_work::{Keyer, Work};
 use std::alloc::Global;
@@ -25,7 +25,6 @@ use std::thread::Threads;
 #[derive(Drop)]
 struct Serving<'a, L: Ledger, S, K, G> {
     alloc: Global,
-    settings: &'a Settings,
     keyer: &'a Keyer,
     lines: &'a mut Lines,
     source: &'a mut S,
@@ -52,13 +51,12 @@ impl<'a, L: Ledger, R: Wait, S: Source, K: Sink, G: Gate> Talker<L, R> for Servi
 
     type Told = Over<'a, L, S, K>;
 
-    ghost settings = { λ t. t.settings.now };
+    ghost settings = { λ t. t.keyer.now.settings };
 
-    ghost MayTalk = { λ t.
-        IsFresh t.lines.now × IsInRange t.settings.now × (t.keyer.now.settings ≡ t.settings.now) };
+    ghost MayTalk = { λ t. IsFresh t.lines.now × IsInRange t.keyer.now.settings };
 
     ghost Said = { λ t r callers c h heard asked.
-        IsTold S.Source K.Sink t.settings.now callers c h t.steps.now r.steps.now heard asked
+        IsTold S.Source K.Sink t.keyer.now.settings callers c h t.steps.now r.steps.now heard asked
         t.lines.now.limit t.source.now r.source.now t.sink.now r.sink.now r.end
         × HasCauseOfEnd S.Source K.Sink t.source.now r.source.now t.sink.now r.sink.now r.end
         × (r.source.ghost_name ≡ t.source.ghost_name) × (r.sink.ghost_name ≡ t.sink.ghost_name)
@@ -72,7 +70,6 @@ impl<'a, L: Ledger, R: Wait, S: Source, K: Sink, G: Gate> Talker<L, R> for Servi
     ) -> Over<'a, L, S, K> {
         let Serving {
             alloc,
-            settings,
             keyer,
             lines,
             source,
@@ -80,9 +77,13 @@ impl<'a, L: Ledger, R: Wait, S: Source, K: Sink, G: Gate> Talker<L, R> for Servi
             gate,
             steps,
         } = self;
-        let end = session(
-            rt, alloc, settings, keyer, hub, pass, lines, source, sink, gate, steps,
-        );
+        let server = Server {
+            alloc,
+            keyer,
+            hub,
+            gate,
+        };
+        let end = session(rt, &server, pass, lines, source, sink, steps);
         Over {
             source,
             sink,
@@ -112,43 +113,37 @@ pub fn serve_one<
     G: Gate + Sync,
 >(
     rt: &Q,
-    alloc: Global,
-    settings: &Settings,
-    keyer: &Keyer,
-    hub: &Shared<Work<L>, R>,
+    server: &Server<'_, Shared<Work<L>, R>, G>,
     pass: Pass<Work<L>>,
     lines: &mut Lines,
     source: &mut S,
     sink: &mut K,
-    gate: &G,
     workers: u32,
     steps: &mut Steps<L>,
 ) -> End
     requires fresh { IsFresh lines.old }
-    requires in_range { IsInRange settings.now }
-    requires settings { keyer.now.settings ≡ settings.now }
-    requires hub_settings { settings_of hub.now ≡ settings.now }
-    requires of { IsPassOf hub.now pass }
+    requires in_range { IsInRange server.now.keyer.now.settings }
+    requires hub_settings { settings_of server.now.hub.now ≡ server.now.keyer.now.settings }
+    requires of { IsPassOf server.now.hub.now pass }
     requires room { workers < pass.room }
-    ensures served { IsServed S.Source K.Sink settings.now
-        (callers_of hub.now) (pass.next + workers) pass.seen steps.old steps.new
+    ensures served { IsServed S.Source K.Sink server.now.keyer.now.settings
+        (callers_of server.now.hub.now) (pass.next + workers) pass.seen steps.old steps.new
         lines.old.limit source.old source.new sink.old sink.new result }
-    ensures beside { IsFirst hub.now pass
+    ensures beside { IsFirst server.now.hub.now pass
         → ServesLines S.Source K.Sink line_of
-        (AreWithWorkers settings.now (callers_of hub.now) workers steps.old steps.new)
+        (AreWithWorkers server.now.keyer.now.settings (callers_of server.now.hub.now) workers steps.old steps.new)
         lines.old.limit source.old source.new sink.old sink.new result }
     ensures cause { HasCauseOfEnd S.Source K.Sink source.old source.new sink.old sink.new result }
 {
     let bell = Bell::new();
     let ringing = RingingGate {
-        gate,
+        gate: server.gate,
         bell: &bell,
         rt,
     };
     let serving = Serving {
-        alloc,
-        settings,
-        keyer,
+        alloc: server.alloc,
+        keyer: server.keyer,
         lines,
         source,
         sink,
@@ -156,7 +151,15 @@ pub fn serve_one<
         steps,
     };
     let (over, _pass) = beside(
-        rt, alloc, settings, hub, gate, &bell, workers, serving, pass,
+        rt,
+        server.alloc,
+        &server.keyer.settings,
+        server.hub,
+        server.gate,
+        &bell,
+        workers,
+        serving,
+        pass,
     );
     let Over {
         source,

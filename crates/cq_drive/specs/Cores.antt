@@ -1,5 +1,5 @@
 -- The core that a script steps, and the core of the history for which it stands.
-use Rattle.std.specs.Prelude.{◌≡◌, ◌⊎◌, ℕ, List, length, Option, Result}
+use Rattle.std.specs.Prelude.{◌≡◌, ◌⊎◌, ℕ, List, length, Option}
 use Rattle.std.specs.Arc.{arc_value}
 use Rattle.cq_base.specs.declared.settings.Settings.{Settings}
 use Rattle.cq_core.specs.Cores.{CoreState, StandsFor}
@@ -9,11 +9,10 @@ use Rattle.cq_core.specs.declared.step.Step.{Step}
 use Rattle.cq_core.specs.declared.step.Step.TheVariants as core_step
 use Rattle.cq_answer.specs.Refusals.{cause_told}
 use Rattle.cq_history.specs.Core as history
-use Rattle.cq_io.specs.Sending.{Sends}
 use Rattle.cq_io.specs.declared.sink.Sink as sink
 use Rattle.cq_io.specs.declared.source.Source as source
 use Rattle.cq_lines.specs.Held.{Held}
-use Rattle.cq_lines.specs.Serving.{RepliedSoFar, Serves, ServesLines}
+use Rattle.cq_lines.specs.Serving.{Serves, ServesLines}
 use Rattle.cq_lines.specs.declared.ending.End.{End}
 use Rattle.cq_drive.specs.Outcomes.{line_of, NeedsMemory}
 use Rattle.cq_drive.specs.declared.outcome.ScriptOutcome.{ScriptOutcome}
@@ -25,7 +24,7 @@ use Rattle.cq_drive.specs.declared.step.ScriptStep.{ScriptStep}
 use Rattle.cq_drive.specs.declared.step.ScriptStep.TheVariants as script
 use Rattle.cq_work.specs.Work.{IsWorkOf}
 use Rattle.cq_work.specs.declared.work.Work.{Work}
-use Rattle.cq_drive.specs.Script.{callers, IsScript, StepComesTo, SaidComesTo, ReadComesTo, LineComesTo, ComeTo, ComeFrom}
+use Rattle.cq_drive.specs.Script.{callers, IsScript, StepComesTo, SaidComesTo, ReadComesTo, ComeTo, ComeFrom}
 
 -- the bytes are the outcome's line; for one whose line is made in memory they may tell that memory was refused
 abbrev pub IsToldBy : ScriptOutcome → List ℕ → Type 0
@@ -73,10 +72,6 @@ module _ (L : Type 0) (set : Settings) where
   abbrev pub LineLed : CoreState → CoreState → List ℕ → List ℕ → Type 0
   LineLed old new line bytes = Led old new (λ k later. (o : ScriptOutcome) × ReadComesTo set k line o later × (bytes ≡ line_of o))
 
-  -- the outcome's line is sent
-  abbrev pub LineSent : {E : Type 0} → CoreState → CoreState → List ℕ → Option (List ℕ) → Option (List ℕ) → Result (Unit {0}) E → Type 0
-  LineSent old new line before written_now result = Led old new (λ k later. (o : ScriptOutcome) × LineComesTo set k line o later × Sends before written_now (line_of o) result)
-
   -- for whichever core it stood, the lines of a source have their outcomes
   abbrev pub RunServes : CoreState → ℕ → Option (List ℕ) → Option (List ℕ) → Option (List ℕ) → Option (List ℕ) → End → Type 0
   RunServes old limit rest rest_now before written_now by = (k : history.Core) → Stands k old → Serves line_of (ComeFrom set k) limit rest rest_now before written_now by
@@ -85,9 +80,11 @@ module _ (L : Type 0) (set : Settings) where
   abbrev pub HasServed : {S K : Type 0} → CoreState → source.Ghosts S → sink.Ghosts K → Held → S → S → K → K → End → Type 0
   HasServed old from onto lines read read_now written written_now by = RunServes old lines.limit (from.rest read) (from.rest read_now) (onto.written written) (onto.written written_now) by
 
-  -- between two lines: they have come to what the core stands for
-  abbrev pub RunSoFar : CoreState → CoreState → ℕ → Option (List ℕ) → Option (List ℕ) → Option (List ℕ) → Option (List ℕ) → Held → Type 0
-  RunSoFar old new limit rest rest_now before written_now held = Led old new (λ k later. RepliedSoFar line_of (λ lines outcomes. ComeTo set k lines outcomes later) limit rest rest_now before written_now held)
+  -- it stands for a core to which these lines, with these outcomes, have brought the script from that one
+  pub record HasComeTo (from : history.Core) (now : CoreState) (lines : List (List ℕ)) (outcomes : List ScriptOutcome) : Type 0 where
+    pub after : history.Core
+    pub stands : Stands after now
+    pub comes : ComeTo set from lines outcomes after
 
 -- from a source to a sink, what is written are the outcomes of the script of all its lines
 abbrev pub Plays : {S K : Type 0} → source.Ghosts S → sink.Ghosts K → Settings → Held → S → S → K → K → End → Type 0

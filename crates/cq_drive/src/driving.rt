@@ -1,19 +1,14 @@
-ghost use Rattle.std.specs.Prelude.{◌≡◌, ◌≤◌, IfOk, OnErr, length};
+ghost use Rattle.std.specs.Prelude.{◌≡◌, IfOk, OnErr};
 ghost use Rattle.cq_base.specs.Settings.{IsInRange};
-ghost use Rattle.cq_drive.specs.Cores.{HasServed, IsDriven, LineSent, Plays};
-ghost use Rattle.cq_io.specs.Causes.{HasCause};
-ghost use Rattle.cq_io.specs.Sending.{Sends};
-ghost use Rattle.cq_lines.specs.Pieces.{line_limit};
+ghost use Rattle.cq_drive.specs.Cores.{HasServed, IsDriven, Plays};
 ghost use Rattle.cq_lines.specs.Runs.{IsFresh};
 ghost use Rattle.cq_lines.specs.Serving.{HasCauseOfEnd};
-ghost use Rattle.cq_reply.specs.Written.{line_of as reply_line};
-ghost use Rattle.cq_reply.specs.declared.reply.Reply.TheVariants as reply;
 
 use crate::telling::outcome_line;
-use cq_base::{Memory, Settings, Steps};
+use cq_base::{Memory, Steps};
 use cq_core::Core;
 use cq_io::{Failed, Sink, Source, send};
-use cq_lines::{Cut, End, Lines};
+use cq_lines::{Answers, End, Lines, serve_lines};
 use cq_reply::{Short, fixed};
 use cq_work::{Keyer, Work};
 use std::alloc::Global;
@@ -23,42 +18,52 @@ use std::thread::Threads;
 /// How many callers a script has.
 const CALLERS: u32 = 16;
 
-// Writes the outcome of a line, which is not too long.
-fn turn<R: Threads + Sync, L: Ledger, K: Sink>(
-    rt: &R,
+// What answers the lines of a script, by stepping a core.
+#[derive(Drop)]
+struct Driving<'a, R, L: Ledger> {
+    rt: &'a R,
     alloc: Global,
-    settings: &Settings,
-    keyer: &Keyer,
-    core: &mut Core<Work<L>>,
-    line: &[u8],
-    sink: &mut K,
-    steps: &mut Steps<L>,
-) -> Result<(), Failed>
-    requires in_range { IsInRange settings.now }
-    requires settings { keyer.now.settings ≡ settings.now }
-    requires driven { IsDriven L settings.now core.old }
-    requires short { length line.now ≤ line_limit }
-    ensures sent { LineSent L settings.now core.old core.new line.now
-        (K.written sink.old) (K.written sink.new) result }
-    ensures cause { HasCause (K.faults sink.old) (K.faults sink.new) result }
-{
-    let told = outcome_line(rt, alloc, settings, keyer, core, line, steps);
-    send(sink, told.as_bytes())
+    keyer: &'a Keyer,
+    core: &'a mut Core<Work<L>>,
+    steps: &'a mut Steps<L>,
 }
 
-// Writes the outcome of a line that is too long.
-fn turn_long<K: Sink>(sink: &mut K) -> Result<(), Failed>
-    ensures bytes { Sends (K.written sink.old) (K.written sink.new) (reply_line reply.Long) result }
-    ensures cause { HasCause (K.faults sink.old) (K.faults sink.new) result }
-{
-    send(sink, fixed(Short::Long).as_bytes())
+impl<'a, R: Threads + Sync, L: Ledger> Answers for Driving<'a, R, L> {
+    ghost use Rattle.std.specs.Prelude.{◌≡◌};
+    ghost use Rattle.std.specs.Thread.{IsSync};
+    ghost use Rattle.cq_base.specs.Settings.{IsInRange};
+    ghost use Rattle.cq_drive.specs.Cores.{HasComeTo, IsDriven};
+    ghost use Rattle.cq_drive.specs.Outcomes.{line_of as written};
+    ghost use Rattle.cq_drive.specs.declared.outcome.ScriptOutcome.{ScriptOutcome as Told};
+    ghost use Rattle.cq_history.specs.Core as history;
+
+    ghost Reply = { Told };
+
+    ghost line_of = { written };
+
+    ghost Beginning = { history.Core };
+
+    ghost AreReplies = { λ from first now lines outcomes.
+        HasComeTo L now.keyer.now.settings from now.core.now lines outcomes
+        × (now.keyer.now.settings ≡ first.keyer.now.settings) };
+
+    ghost ready = { λ d. IsSync R.row × IsInRange d.keyer.now.settings
+        × IsDriven L d.keyer.now.settings d.core.now };
+
+    fn answer<K: Sink>(&mut self, line: &[u8], sink: &mut K) -> Result<(), Failed> {
+        let told = outcome_line(self.rt, self.alloc, self.keyer, self.core, line, self.steps);
+        send(sink, told.as_bytes())
+    }
+
+    fn answer_long<K: Sink>(&mut self, sink: &mut K) -> Result<(), Failed> {
+        send(sink, fixed(Short::Long).as_bytes())
+    }
 }
 
 // Steps a core by the lines of a source.
 fn run<R: Threads + Sync, L: Ledger, S: Source, K: Sink>(
     rt: &R,
     alloc: Global,
-    settings: &Settings,
     keyer: &Keyer,
     core: &mut Core<Work<L>>,
     lines: &mut Lines,
@@ -67,28 +72,20 @@ fn run<R: Threads + Sync, L: Ledger, S: Source, K: Sink>(
     steps: &mut Steps<L>,
 ) -> End
     requires fresh { IsFresh lines.old }
-    requires in_range { IsInRange settings.now }
-    requires settings { keyer.now.settings ≡ settings.now }
-    requires driven { IsDriven L settings.now core.old }
-    ensures served { HasServed L settings.now core.old S.Source K.Sink lines.old
+    requires in_range { IsInRange keyer.now.settings }
+    requires driven { IsDriven L keyer.now.settings core.old }
+    ensures served { HasServed L keyer.now.settings core.old S.Source K.Sink lines.old
         source.old source.new sink.old sink.new result }
     ensures cause { HasCauseOfEnd S.Source K.Sink source.old source.new sink.old sink.new result }
 {
-    'lines: loop {
-        match lines.next(source) {
-            Cut::Line(line) => match turn(rt, alloc, settings, keyer, core, line, sink, steps) {
-                Ok(()) => {}
-                Err(Failed) => return End::WriteFault,
-            },
-            Cut::TooLong => match turn_long(sink) {
-                Ok(()) => {}
-                Err(Failed) => return End::WriteFault,
-            },
-            Cut::End => return End::Finished,
-            Cut::Spent => return End::Spent,
-            Cut::ReadFault => return End::ReadFault,
-        }
-    }
+    let mut driving = Driving {
+        rt,
+        alloc,
+        keyer,
+        core,
+        steps,
+    };
+    serve_lines(&mut driving, lines, source, sink)
 }
 
 /// Steps a core of sixteen callers by the lines of a source, from nothing accepted on. Windows have the keys of `keyer`.
@@ -97,7 +94,6 @@ fn run<R: Threads + Sync, L: Ledger, S: Source, K: Sink>(
 pub fn drive<R: Threads + Sync, L: Ledger, S: Source, K: Sink>(
     rt: &R,
     alloc: Global,
-    settings: &Settings,
     keyer: &Keyer,
     lines: &mut Lines,
     source: &mut S,
@@ -105,9 +101,8 @@ pub fn drive<R: Threads + Sync, L: Ledger, S: Source, K: Sink>(
     steps: &mut Steps<L>,
 ) -> Result<End, Memory>
     requires fresh { IsFresh lines.old }
-    requires in_range { IsInRange settings.now }
-    requires settings { keyer.now.settings ≡ settings.now }
-    ensures script { IfOk result (Plays S.Source K.Sink settings.now lines.old
+    requires in_range { IsInRange keyer.now.settings }
+    ensures script { IfOk result (Plays S.Source K.Sink keyer.now.settings lines.old
         source.old source.new sink.old sink.new) }
     ensures cause { IfOk result
         (HasCauseOfEnd S.Source K.Sink source.old source.new sink.old sink.new) }
@@ -115,8 +110,6 @@ pub fn drive<R: Threads + Sync, L: Ledger, S: Source, K: Sink>(
     ensures source { OnErr result (source.new ≡ source.old) }
     ensures sink { OnErr result (sink.new ≡ sink.old) }
 {
-    let mut core: Core<Work<L>> = Core::new(alloc, settings, CALLERS)?;
-    Ok(run(
-        rt, alloc, settings, keyer, &mut core, lines, source, sink, steps,
-    ))
+    let mut core: Core<Work<L>> = Core::new(alloc, &keyer.settings, CALLERS)?;
+    Ok(run(rt, alloc, keyer, &mut core, lines, source, sink, steps))
 }

@@ -52,27 +52,25 @@ pub(crate) fn stepped<L: Ledger>(
 /// has changed.
 pub(crate) fn finished<L: Ledger>(
     alloc: Global,
-    settings: &Settings,
     keyer: &Keyer,
     core: &mut Core<Work<L>>,
     by: u32,
     change: u64,
     steps: &mut Steps<L>,
 ) -> Result<ScriptOutcome, Memory>
-    requires in_range { IsInRange settings.now }
-    requires settings { keyer.now.settings ≡ settings.now }
-    requires driven { IsDriven L settings.now core.old }
+    requires in_range { IsInRange keyer.now.settings }
+    requires driven { IsDriven L keyer.now.settings core.old }
     requires caller { by < callers }
-    ensures led { IfOk result (StepLed L settings.now core.old core.new (script.Done by change)) }
+    ensures led { IfOk result (StepLed L keyer.now.settings core.old core.new (script.Done by change)) }
     ensures text { IfOk result IsOutcomeText }
     ensures err { OnErr result (core.new ≡ core.old) }
 {
     match core.job(change)? {
         None => Ok(ScriptOutcome::No),
         Some(job) => {
-            let work = work_for(alloc, settings, keyer, job.lang, &job.text)?;
+            let work = work_for(alloc, keyer, job.lang, &job.text)?;
             let step = Step::Done { by, change, work };
-            stepped(alloc, settings, core, step, steps)
+            stepped(alloc, &keyer.settings, core, step, steps)
         }
     }
 }

@@ -8,10 +8,10 @@ ghost use Rattle.cq_drive.specs.Sound.{IsSoundStep};
 use crate::stepping::{finished, stepped};
 use crate::viewing::{read, reply};
 use crate::{ScriptOutcome, ScriptStep, line_of, read_step};
-use cq_answer::refused_as;
-use cq_base::{Memory, Settings, Steps};
+use cq_base::{Memory, Steps};
 use cq_core::{Core, Step};
-use cq_reply::{Line, Short, fixed};
+use cq_reply::{Line, Reply, Short, fixed};
+use cq_request::ReadError;
 use cq_work::{Keyer, Work};
 use std::alloc::Global;
 use std::sync::ledger::Ledger;
@@ -21,20 +21,19 @@ use std::thread::Threads;
 fn outcome_of<R: Threads + Sync, L: Ledger>(
     rt: &R,
     alloc: Global,
-    settings: &Settings,
     keyer: &Keyer,
     core: &mut Core<Work<L>>,
     step: ScriptStep,
     steps: &mut Steps<L>,
 ) -> Result<ScriptOutcome, Memory>
-    requires in_range { IsInRange settings.now }
-    requires settings { keyer.now.settings ≡ settings.now }
-    requires driven { IsDriven L settings.now core.old }
-    requires sound { IsSoundStep settings.now step }
-    ensures led { IfOk result (StepLed L settings.now core.old core.new step) }
+    requires in_range { IsInRange keyer.now.settings }
+    requires driven { IsDriven L keyer.now.settings core.old }
+    requires sound { IsSoundStep keyer.now.settings step }
+    ensures led { IfOk result (StepLed L keyer.now.settings core.old core.new step) }
     ensures text { IfOk result IsOutcomeText }
     ensures err { OnErr result (core.new ≡ core.old) }
 {
+    let settings = &keyer.settings;
     match step {
         ScriptStep::Accept { by, change } => {
             stepped(alloc, settings, core, Step::Accept { by, change }, steps)
@@ -44,9 +43,7 @@ fn outcome_of<R: Threads + Sync, L: Ledger>(
         ScriptStep::Back { by, change } => {
             stepped(alloc, settings, core, Step::Back { by, change }, steps)
         }
-        ScriptStep::Done { by, change } => {
-            finished(alloc, settings, keyer, core, by, change, steps)
-        }
+        ScriptStep::Done { by, change } => finished(alloc, keyer, core, by, change, steps),
         ScriptStep::Apply { shard } => {
             stepped(alloc, settings, core, Step::Apply { shard }, steps)
         }
@@ -70,22 +67,21 @@ fn outcome_of<R: Threads + Sync, L: Ledger>(
 fn said<R: Threads + Sync, L: Ledger>(
     rt: &R,
     alloc: Global,
-    settings: &Settings,
     keyer: &Keyer,
     core: &mut Core<Work<L>>,
     line: &[u8],
     steps: &mut Steps<L>,
 ) -> Result<ScriptOutcome, Memory>
-    requires in_range { IsInRange settings.now }
-    requires settings { keyer.now.settings ≡ settings.now }
-    requires driven { IsDriven L settings.now core.old }
-    ensures led { IfOk result (SaidLed L settings.now core.old core.new line.now) }
+    requires in_range { IsInRange keyer.now.settings }
+    requires driven { IsDriven L keyer.now.settings core.old }
+    ensures led { IfOk result (SaidLed L keyer.now.settings core.old core.new line.now) }
     ensures text { IfOk result IsOutcomeText }
     ensures err { OnErr result (core.new ≡ core.old) }
 {
-    match read_step(alloc, settings, line) {
-        Ok(step) => outcome_of(rt, alloc, settings, keyer, core, step, steps),
-        Err(refusal) => Ok(ScriptOutcome::Reply(refused_as(refusal)?)),
+    match read_step(alloc, &keyer.settings, line) {
+        Ok(step) => outcome_of(rt, alloc, keyer, core, step, steps),
+        Err(ReadError::Refused(refusal)) => Ok(ScriptOutcome::Reply(Reply::Refused(refusal))),
+        Err(ReadError::Memory) => Err(Memory),
     }
 }
 
@@ -104,18 +100,16 @@ fn line_or_memory(alloc: Global, told: &ScriptOutcome) -> Line
 pub(crate) fn outcome_line<R: Threads + Sync, L: Ledger>(
     rt: &R,
     alloc: Global,
-    settings: &Settings,
     keyer: &Keyer,
     core: &mut Core<Work<L>>,
     line: &[u8],
     steps: &mut Steps<L>,
 ) -> Line
-    requires in_range { IsInRange settings.now }
-    requires settings { keyer.now.settings ≡ settings.now }
-    requires driven { IsDriven L settings.now core.old }
-    ensures { LineLed L settings.now core.old core.new line.now (bytes_of result) }
+    requires in_range { IsInRange keyer.now.settings }
+    requires driven { IsDriven L keyer.now.settings core.old }
+    ensures { LineLed L keyer.now.settings core.old core.new line.now (bytes_of result) }
 {
-    match said(rt, alloc, settings, keyer, core, line, steps) {
+    match said(rt, alloc, keyer, core, line, steps) {
         Ok(outcome) => line_or_memory(alloc, &outcome),
         Err(Memory) => Line::Short(fixed(Short::Memory)),
     }

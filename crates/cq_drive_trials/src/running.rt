@@ -32,7 +32,6 @@ fn written<R: Threads + Sync, L: Ledger>(
     let end = drive(
         rt,
         alloc,
-        settings,
         &keyer,
         &mut lines,
         &mut source,

@@ -35,22 +35,20 @@ pub enum Exported {
 // The snapshot of a project after the changes that a board has accepted.
 fn made<L: Ledger>(
     alloc: Global,
-    settings: &Settings,
     keyer: &Keyer,
     board: &mut Board<Work<L>>,
     project: &Text,
 ) -> Result<Snapshot<L>, Memory>
-    requires in_range { IsInRange settings.now }
-    requires settings { keyer.now.settings ≡ settings.now }
-    requires holds { Holds settings.now board.old }
+    requires in_range { IsInRange keyer.now.settings }
+    requires holds { Holds keyer.now.settings board.old }
     requires named { All IsNamed (changes_in board.old.state) }
     requires project { is_project project.now ≡ true }
     ensures of_changes { IfOk result
-        (IsOfChanges settings.now (changes_in board.old.state) project.now) }
-    ensures sound { IfOk result (IsSoundSnapshot settings.now) }
+        (IsOfChanges keyer.now.settings (changes_in board.old.state) project.now) }
+    ensures sound { IfOk result (IsSoundSnapshot keyer.now.settings) }
 {
-    make_all(alloc, settings, keyer, board)?;
-    last_version(alloc, settings, board, project)
+    make_all(alloc, keyer, board)?;
+    last_version(alloc, &keyer.settings, board, project)
 }
 
 // Writes the file of a snapshot.
@@ -79,28 +77,26 @@ fn write<L: Ledger, K: Sink>(
 /// after those before it. If memory is refused, nothing is written; bytes may have been taken.
 pub fn export<L: Ledger, S: Source, K: Sink>(
     alloc: Global,
-    settings: &Settings,
     keyer: &Keyer,
     project: &Text,
     source: &mut S,
     sink: &mut K,
     steps: &mut Steps<L>,
 ) -> Result<Exported, Memory>
-    requires in_range { IsInRange settings.now }
-    requires settings { keyer.now.settings ≡ settings.now }
+    requires in_range { IsInRange keyer.now.settings }
     requires project { is_project project.now ≡ true }
-    ensures exports { IfOk result (Exports L S.Source K.Sink settings.now project.now
+    ensures exports { IfOk result (Exports L S.Source K.Sink keyer.now.settings project.now
         source.old source.new sink.old sink.new) }
     ensures unwritten { OnErr result (sink.new ≡ sink.old) }
 {
-    let mut board: Board<Work<L>> = Board::new(alloc, settings, 1)?;
-    let mut lines = Lines::new(alloc, settings.byte_limit)?;
-    match take_changes(alloc, settings, &mut board, &mut lines, source)? {
+    let mut board: Board<Work<L>> = Board::new(alloc, &keyer.settings, 1)?;
+    let mut lines = Lines::new(alloc, keyer.settings.byte_limit)?;
+    match take_changes(alloc, &keyer.settings, &mut board, &mut lines, source)? {
         Taken::All => {}
         Taken::Spent => return Ok(Exported::Ended(End::Spent)),
         Taken::Failed => return Ok(Exported::Ended(End::ReadFault)),
         Taken::Refused => return Ok(Exported::Refused),
     }
-    let snapshot = made(alloc, settings, keyer, &mut board, project)?;
-    write(alloc, settings, &snapshot, sink, steps)
+    let snapshot = made(alloc, keyer, &mut board, project)?;
+    write(alloc, &keyer.settings, &snapshot, sink, steps)
 }

@@ -31,7 +31,7 @@ fn works(
     }
     let keyer = Keyer::plain(&SETTINGS);
     let text = Text::from_bytes(alloc, text.as_bytes())?;
-    let work = work_of::<Brand>(alloc, &SETTINGS, &keyer, lang, &text)?;
+    let work = work_of::<Brand>(alloc, &keyer, lang, &text)?;
     Ok(
         work.lang == lang
             && work.state == state
@@ -106,7 +106,7 @@ fn a_window_has_the_key_of_its_codes(rt: HostRuntime) -> Result<(), Memory> {
     let keyer = Keyer::plain(&SETTINGS);
     let text = Text::from_bytes(alloc, b"a b")?;
     if text.as_bytes().len() <= 100 {
-        let work = work_of::<Brand>(alloc, &SETTINGS, &keyer, Lang::Any, &text)?;
+        let work = work_of::<Brand>(alloc, &keyer, Lang::Any, &text)?;
         assert!(rt; matches!(work.keys.as_slice(), [191]));
     }
     Ok(())

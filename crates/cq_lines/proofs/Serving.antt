@@ -99,3 +99,22 @@ module _ {R : Type 0} (line_of : R → List ℕ) (Was Are : List (List ℕ) → 
 
   pub serves_as : (limit : ℕ) (rest rest_now before written_now : Option (List ℕ)) (by : End) → Serves line_of Was limit rest rest_now before written_now by → Serves line_of Are limit rest rest_now before written_now by
   serves_as limit rest rest_now before written_now by is = record { got = is.got; bytes = is.bytes; served = served_as limit rest_now before written_now is.got by is.served }
+
+-- ---- what was served, where the replies are by something that doesn't speak of lines, such as a history
+
+module _ {R : Type 0} (line_of : R → List ℕ) {X : Type 0} (Holds : X → Type 0) (Are : X → List (List ℕ) → List R → Type 0) where
+  abbrev By : List (List ℕ) → List R → Type 0
+  By lines replies = (x : X) × Holds x × Are x lines replies
+
+  served_by : (limit : ℕ) (rest before written_now : Option (List ℕ)) (got : List ℕ) (by : End) → ServedBy line_of By limit rest before written_now got by → (x : X) × Holds x × ServedBy line_of (Are x) limit rest before written_now got by
+  served_by limit rest before written_now got end.Finished is = let (x, holds, are) = is.2.talk in (x, holds, (is.0, is.1, record { replies = is.2.replies; talk = are; written = is.2.written }))
+  served_by limit rest before written_now got end.Spent is = let (x, holds, are) = is.1.talk in (x, holds, (is.0, record { replies = is.1.replies; talk = are; written = is.1.written }))
+  served_by limit rest before written_now got end.ReadFault is = let (x, holds, are) = is.1.talk in (x, holds, (is.0, record { replies = is.1.replies; talk = are; written = is.1.written }))
+  served_by limit rest before written_now got end.WriteFault is =
+      let (x, holds, are) = is.talk in
+      (x, holds, record { lines = is.lines; within = is.within; whole = is.whole; replies = is.replies; talk = are; out = is.out; more = is.more; front = is.front; written = is.written })
+
+  pub serves_by : (limit : ℕ) (rest rest_now before written_now : Option (List ℕ)) (by : End) → Serves line_of By limit rest rest_now before written_now by → (x : X) × Holds x × Serves line_of (Are x) limit rest rest_now before written_now by
+  serves_by limit rest rest_now before written_now by is =
+      let (x, holds, served) = served_by limit rest_now before written_now is.got by is.served in
+      (x, holds, record { got = is.got; bytes = is.bytes; served = served })

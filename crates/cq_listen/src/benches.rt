@@ -8,6 +8,7 @@ use cq_base::{Memory, Settings};
 use cq_chain::Pass;
 use cq_io::Gate;
 use cq_serve::{Bell, work};
+use cq_session::Server;
 use cq_shared::Shared;
 use cq_work::{Keyer, Work};
 use std::alloc::Global;
@@ -76,12 +77,18 @@ fn work_at<Q: Wait, L: Ledger, R: Wait, G: Gate>(
 {
     let Bench {
         alloc,
-        settings,
         hub,
         gate,
         pass,
+        ..
     } = bench;
-    let _pass = work(rt, alloc, settings, keyer, hub, pass, gate, bell);
+    let server = Server {
+        alloc,
+        keyer,
+        hub,
+        gate,
+    };
+    let _pass = work(rt, &server, pass, bell);
 }
 
 impl<'a, L: Ledger, R: Wait, G: Gate> Worker for Bench<'a, L, R, G> {

@@ -9,7 +9,7 @@ use cq_base::{Counters, Memory, Settings};
 use cq_chain::Pass;
 use cq_io::{Gate, Sink, Source};
 use cq_lines::Lines;
-use cq_session::session;
+use cq_session::{Server, session};
 use cq_shared::Shared;
 use cq_work::{Keyer, Work};
 use std::alloc::Global;
@@ -90,17 +90,19 @@ fn converse<Q: Threads + Sync, L: Ledger, R: Wait, S: Source + Drop, K: Sink + D
     let mut sink = sink;
     let mut steps = seat.counters.counter();
     seat.lines.restart();
+    let server = Server {
+        alloc: seat.alloc,
+        keyer,
+        hub: seat.hub,
+        gate: seat.gate,
+    };
     let _end = session(
         rt,
-        seat.alloc,
-        seat.settings,
-        keyer,
-        seat.hub,
+        &server,
         &mut seat.pass,
         &mut seat.lines,
         &mut source,
         &mut sink,
-        seat.gate,
         &mut steps,
     );
 }

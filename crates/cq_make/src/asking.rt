@@ -6,13 +6,13 @@ ghost use Rattle.cq_make.specs.Made.{Answers};
 ghost use Rattle.cq_make.specs.Summary.{question};
 
 use crate::generator::PROJECT;
-use cq_base::{Memory, Settings, Steps, Text};
+use cq_base::{Memory, Steps, Text};
 use cq_hub::{Hub, Solo, SoloPass};
 use cq_io::OpenGate;
 use cq_reply::Reply;
 use cq_request::{Kind, Query};
-use cq_session::query_reply;
-use cq_work::{Keyer, Work};
+use cq_session::{Server, query_reply};
+use cq_work::Work;
 use std::alloc::Global;
 use std::sync::ledger::Ledger;
 use std::thread::Threads;
@@ -37,25 +37,19 @@ fn question(alloc: Global, kind: Kind) -> Result<Query, Memory>
 /// The reply to a question about the project, by all changes that are accepted.
 pub(crate) fn reply_of<R: Threads + Sync, L: Ledger>(
     rt: &R,
-    alloc: Global,
-    settings: &Settings,
-    keyer: &Keyer,
-    hub: &Solo<Work<L>>,
+    server: &Server<'_, Solo<Work<L>>, OpenGate>,
     kind: Kind,
     pass: &mut SoloPass<Work<L>>,
     steps: &mut Steps<L>,
 ) -> Result<Reply, Memory>
-    requires in_range { IsInRange settings.now }
-    requires short { settings.now.chunk ≤ 50 }
+    requires in_range { IsInRange server.now.keyer.now.settings }
+    requires short { server.now.keyer.now.settings.chunk ≤ 50 }
     requires path { HasPath kind None }
-    requires settings { keyer.now.settings ≡ settings.now }
-    requires hub_settings { ⟦<Solo<Work<L>> as Hub<Work<L>>>⟧.settings hub.now ≡ settings.now }
-    requires closed { MayLead ⟦<Solo<Work<L>> as Hub<Work<L>>>⟧.Stands 1 hub.now pass.old Always }
+    requires hub_settings { ⟦<Solo<Work<L>> as Hub<Work<L>>>⟧.settings server.now.hub.now ≡ server.now.keyer.now.settings }
+    requires closed { MayLead ⟦<Solo<Work<L>> as Hub<Work<L>>>⟧.Stands 1 server.now.hub.now pass.old Always }
     ensures reply { IfOk result (Answers ⟦<Solo<Work<L>> as Hub<Work<L>>>⟧
-        hub.now pass.old pass.new settings.now kind) }
+        server.now.hub.now pass.old pass.new server.now.keyer.now.settings kind) }
 {
-    let query = question(alloc, kind)?;
-    query_reply(
-        rt, alloc, settings, keyer, hub, &query, 0, &OpenGate, pass, steps,
-    )
+    let query = question(server.alloc, kind)?;
+    query_reply(rt, server, &query, 0, pass, steps)
 }

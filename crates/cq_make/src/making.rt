@@ -16,9 +16,10 @@ use crate::putting::put_all;
 use crate::summary::{summary_line, token_count};
 use cq_base::{Measures, Memory, Settings, Steps, Text};
 use cq_hub::{Hub, Solo, SoloPass};
-use cq_io::{Failed, Sink, send};
+use cq_io::{Failed, OpenGate, Sink, send};
 use cq_reply::{FileRow, Reply};
 use cq_request::Kind;
+use cq_session::Server;
 use cq_work::{Keyer, Work};
 use std::alloc::Global;
 use std::sync::ledger::Ledger;
@@ -99,36 +100,15 @@ fn line_made<R: Threads + Sync, L: Ledger>(
     let made: (Solo<Work<L>>, SoloPass<Work<L>>) = Solo::new(alloc, settings)?;
     let (hub, mut pass) = made;
     put_all(alloc, &hub, number, files, &mut pass)?;
-    let groups = reply_of(
-        rt,
+    let server = Server {
         alloc,
-        settings,
-        &keyer,
-        &hub,
-        Kind::Groups,
-        &mut pass,
-        steps,
-    )?;
-    let measures = reply_of(
-        rt,
-        alloc,
-        settings,
-        &keyer,
-        &hub,
-        Kind::Measures,
-        &mut pass,
-        steps,
-    )?;
-    let rows = reply_of(
-        rt,
-        alloc,
-        settings,
-        &keyer,
-        &hub,
-        Kind::Files,
-        &mut pass,
-        steps,
-    )?;
+        keyer: &keyer,
+        hub: &hub,
+        gate: &OpenGate,
+    };
+    let groups = reply_of(rt, &server, Kind::Groups, &mut pass, steps)?;
+    let measures = reply_of(rt, &server, Kind::Measures, &mut pass, steps)?;
+    let rows = reply_of(rt, &server, Kind::Files, &mut pass, steps)?;
     line_told(alloc, settings, number, files, &groups, &measures, &rows)
 }
 

@@ -119,7 +119,7 @@ fn written_again<L: Ledger>(
     }
     let keyer = Keyer::plain(&settings);
     let mut steps: Steps<L> = Steps::new(blank);
-    match decode::<L>(alloc, &settings, &keyer, bytes)? {
+    match decode::<L>(alloc, &keyer, bytes)? {
         Some(snapshot) => match encode(alloc, &settings, &snapshot, &mut steps)? {
             Encoded::Bytes(again) => Ok(again.as_slice() == bytes),
             Encoded::TooLarge => Ok(false),
@@ -172,7 +172,7 @@ fn what_breaks_a_rule_is_no_file(rt: HostRuntime) -> Result<(), Memory> {
 // How many windows of the first file of a token file have the key of its first window, and how many have another key.
 fn windows(alloc: Global, bytes: &[u8]) -> Result<Option<(usize, usize)>, Memory> {
     let keyer = Keyer::plain(&SETTINGS);
-    let found: Option<Snapshot<Brand>> = decode(alloc, &SETTINGS, &keyer, bytes)?;
+    let found: Option<Snapshot<Brand>> = decode(alloc, &keyer, bytes)?;
     let Some(snapshot) = found else {
         return Ok(None);
     };

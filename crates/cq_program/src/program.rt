@@ -20,7 +20,7 @@ use cq_hub::{Solo, SoloPass};
 use cq_io::{Doors, Failed, Gate, Sink, Source};
 use cq_lines::Lines;
 use cq_make::make;
-use cq_session::session;
+use cq_session::{Server, session};
 use cq_talk::{talks_alone, talks_beside};
 use cq_tokask::ask;
 use cq_words::{Command, Export, Make, Run, default_settings, is_command, read_command};
@@ -55,9 +55,13 @@ fn serve<R: Threads + Sync, S: Source, K: Sink, G: Gate, L: Ledger>(
         Ok(mut lines) => {
             talks_alone();
             talks_beside();
-            let end = session(
-                rt, alloc, settings, &keyer, &hub, &mut pass, &mut lines, source, sink, gate, steps,
-            );
+            let server = Server {
+                alloc,
+                keyer: &keyer,
+                hub: &hub,
+                gate,
+            };
+            let end = session(rt, &server, &mut pass, &mut lines, source, sink, steps);
             status_of(end)
         }
         Err(Memory) => Status::Memory,
@@ -107,7 +111,7 @@ fn driven<R: Threads + Sync, S: Source, K: Sink, L: Ledger>(
     let Ok(mut lines) = Lines::new(alloc, settings.byte_limit) else {
         return Status::Memory;
     };
-    match drive(rt, alloc, settings, &keyer, &mut lines, source, sink, steps) {
+    match drive(rt, alloc, &keyer, &mut lines, source, sink, steps) {
         Ok(end) => status_of(end),
         Err(Memory) => Status::Memory,
     }
@@ -156,7 +160,7 @@ fn kept<R: Threads + Sync, S: Source, K: Sink, L: Ledger>(
     ensures no_line { result ≡ ended.Memory → TakesNoLine L S.Source settings.now source.old source.new }
 {
     let keyer = Keyer::plain(settings);
-    match ask(rt, alloc, settings, &keyer, source, sink, steps) {
+    match ask(rt, alloc, &keyer, source, sink, steps) {
         Ok(asked) => status_of_asked(asked),
         Err(Memory) => Status::Memory,
     }
@@ -177,15 +181,7 @@ fn exported<S: Source, K: Sink, L: Ledger>(
         source.old source.new sink.old sink.new result }
 {
     let keyer = Keyer::plain(&asked.settings);
-    match export(
-        alloc,
-        &asked.settings,
-        &keyer,
-        &asked.project,
-        source,
-        sink,
-        steps,
-    ) {
+    match export(alloc, &keyer, &asked.project, source, sink, steps) {
         Ok(ended) => status_of_exported(ended),
         Err(Memory) => Status::Memory,
     }

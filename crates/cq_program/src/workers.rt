@@ -10,6 +10,7 @@ use cq_beside::serve_one;
 use cq_chain::Pass;
 use cq_io::{Gate, Sink, Source};
 use cq_lines::Lines;
+use cq_session::Server;
 use cq_shared::Shared;
 use cq_words::Run;
 use cq_work::{Keyer, Work};
@@ -55,10 +56,13 @@ pub(crate) fn serve_with_workers<
     };
     match Lines::new(alloc, settings.byte_limit) {
         Ok(mut lines) => {
-            let end = serve_one(
-                rt, alloc, settings, &keyer, &hub, pass, &mut lines, source, sink, gate, workers,
-                steps,
-            );
+            let server = Server {
+                alloc,
+                keyer: &keyer,
+                hub: &hub,
+                gate,
+            };
+            let end = serve_one(rt, &server, pass, &mut lines, source, sink, workers, steps);
             status_of(end)
         }
         Err(Memory) => Status::Memory,

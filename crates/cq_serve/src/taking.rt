@@ -1,30 +1,28 @@
-ghost use Rattle.std.specs.Prelude.{◌≡◌, [], ◌∷◌};
+ghost use Rattle.std.specs.Prelude.{◌≡◌};
 ghost use Rattle.cq_base.specs.Settings.{IsInRange};
 ghost use Rattle.cq_hub.specs.Hubs.{IsPassOf};
 ghost use Rattle.cq_serve.specs.Turns.{HasAsked, HasTurned};
 
 use crate::answers::Turn;
-use cq_base::{Memory, Settings};
+use cq_base::Memory;
 use cq_board::Finished;
 use cq_hub::Hub;
 use cq_io::Gate;
-use cq_work::{Keyer, Work, work_for};
-use std::alloc::Global;
+use cq_session::Server;
+use cq_work::{Work, work_for};
 use std::sync::ledger::Ledger;
 
 // Publishes what is done, where there is memory for it.
-fn publish_done<L: Ledger, H: Hub<Work<L>>, G: Gate>(
-    alloc: Global,
-    hub: &H,
-    gate: &G,
-    pass: &mut H::Pass,
-)
-    requires stands { IsPassOf H.Stands hub.now pass.old }
-    ensures asks { HasAsked H.Hub hub.now pass.old pass.new }
+fn publish_done<L: Ledger, H: Hub<Work<L>>, G: Gate>(server: &Server<'_, H, G>, pass: &mut H::Pass)
+    requires stands { IsPassOf H.Stands server.now.hub.now pass.old }
+    ensures asks { HasAsked H.Hub server.now.hub.now pass.old pass.new }
     ensures asked { H.asked pass.new ≡ H.asked pass.old }
 {
-    let asked = hub.ask(pass);
-    match hub.advance(alloc, asked.done, gate, pass) {
+    let asked = server.hub.ask(pass);
+    match server
+        .hub
+        .advance(server.alloc, asked.done, server.gate, pass)
+    {
         Ok(_version) => {}
         Err(Memory) => {}
     }
@@ -34,38 +32,33 @@ fn publish_done<L: Ledger, H: Hub<Work<L>>, G: Gate>(
 /// then, where there is memory for that. Where there is none to make the work, the change is given back. It costs what
 /// `work_of` does for the change's text, and what it costs to apply the works that are done.
 pub fn turn<L: Ledger, H: Hub<Work<L>>, G: Gate>(
-    alloc: Global,
-    settings: &Settings,
-    keyer: &Keyer,
-    hub: &H,
+    server: &Server<'_, H, G>,
     pass: &mut H::Pass,
-    gate: &G,
 ) -> Turn
-    requires in_range { IsInRange settings.now }
-    requires settings { keyer.now.settings ≡ settings.now }
-    requires hub_settings { H.settings hub.now ≡ settings.now }
-    requires stands { IsPassOf H.Stands hub.now pass.old }
-    ensures turned { HasTurned H.Hub hub.now pass.old pass.new result }
+    requires in_range { IsInRange server.now.keyer.now.settings }
+    requires hub_settings { H.settings server.now.hub.now ≡ server.now.keyer.now.settings }
+    requires stands { IsPassOf H.Stands server.now.hub.now pass.old }
+    ensures turned { HasTurned H.Hub server.now.hub.now pass.old pass.new result }
     ensures asked { H.asked pass.new ≡ H.asked pass.old }
 {
-    match hub.take(pass) {
+    match server.hub.take(pass) {
         Err(Memory) => Turn::Memory,
         Ok(None) => Turn::Idle,
         Ok(Some(job)) => {
-            gate.before_work(job.change);
-            match work_for(alloc, settings, keyer, job.lang, &job.text) {
+            server.gate.before_work(job.change);
+            match work_for(server.alloc, server.keyer, job.lang, &job.text) {
                 Err(Memory) => {
-                    let _given = hub.back(job.change, pass);
-                    publish_done(alloc, hub, gate, pass);
+                    let _given = server.hub.back(job.change, pass);
+                    publish_done(server, pass);
                     Turn::GaveBack(job.change)
                 }
-                Ok(work) => match hub.finish(job.change, work, pass) {
+                Ok(work) => match server.hub.finish(job.change, work, pass) {
                     Finished::Done => {
-                        publish_done(alloc, hub, gate, pass);
+                        publish_done(server, pass);
                         Turn::Worked(job.change)
                     }
                     Finished::Already => {
-                        publish_done(alloc, hub, gate, pass);
+                        publish_done(server, pass);
                         Turn::Late(job.change)
                     }
                 },

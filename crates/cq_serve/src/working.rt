@@ -6,11 +6,10 @@ ghost use Rattle.cq_serve.specs.Labours.{HasLaboured};
 use crate::answers::Turn;
 use crate::bell::Bell;
 use crate::taking::turn;
-use cq_base::Settings;
 use cq_hub::Hub;
 use cq_io::Gate;
-use cq_work::{Keyer, Work};
-use std::alloc::Global;
+use cq_session::Server;
+use cq_work::Work;
 use std::sync::Wait;
 use std::sync::ledger::Ledger;
 
@@ -29,19 +28,14 @@ fn rest<Q: Wait>(rt: &Q, bell: &Bell, heard: u64, came: Turn) {
 /// rings.
 pub fn work<Q: Wait, L: Ledger, H: Hub<Work<L>>, G: Gate>(
     rt: &Q,
-    alloc: Global,
-    settings: &Settings,
-    keyer: &Keyer,
-    hub: &H,
+    server: &Server<'_, H, G>,
     pass: H::Pass,
-    gate: &G,
     bell: &Bell,
 ) -> H::Pass
-    requires in_range { IsInRange settings.now }
-    requires settings { keyer.now.settings ≡ settings.now }
-    requires hub_settings { H.settings hub.now ≡ settings.now }
-    requires stands { IsPassOf H.Stands hub.now pass }
-    ensures labours { HasLaboured H.Hub hub.now pass result }
+    requires in_range { IsInRange server.now.keyer.now.settings }
+    requires hub_settings { H.settings server.now.hub.now ≡ server.now.keyer.now.settings }
+    requires stands { IsPassOf H.Stands server.now.hub.now pass }
+    ensures labours { HasLaboured H.Hub server.now.hub.now pass result }
     ensures asked { H.asked result ≡ H.asked pass }
 {
     let mut pass = pass;
@@ -49,7 +43,7 @@ pub fn work<Q: Wait, L: Ledger, H: Hub<Work<L>>, G: Gate>(
         let Some(heard) = bell.heard(rt) else {
             break;
         };
-        let came = turn(alloc, settings, keyer, hub, &mut pass, gate);
+        let came = turn(server, &mut pass);
         rest(rt, bell, heard, came);
     }
     pass

@@ -1,13 +1,12 @@
 -- What a session has done between two lines.
-use Rattle.std.specs.Prelude.{◌≡◌, ◌≤◌, ℕ, List, length, Option}
+use Rattle.std.specs.Prelude.{◌≡◌, ◌≤◌, ℕ, List, length}
 use Rattle.cq_base.specs.declared.settings.Settings.{Settings}
 use Rattle.cq_history.specs.declared.event.Event.{Event}
 use Rattle.cq_history.specs.State.{accepted}
-use Rattle.cq_lines.specs.Held.{Held}
-use Rattle.cq_lines.specs.Serving.{RepliedSoFar}
-use Rattle.cq_reply.specs.Written.{line_of}
+use Rattle.cq_hub.specs.declared.hub.Hub.{Ghosts}
 use Rattle.cq_reply.specs.declared.reply.Reply.{Reply}
 use Rattle.cq_talk.specs.Replies.{seen_after}
+use Rattle.cq_talk.specs.Steps.{IsClosed}
 use Rattle.cq_session.specs.Costs.{Counts}
 use Rattle.cq_session.specs.Turn.{CountedTalk}
 
@@ -16,7 +15,12 @@ pub record SeenTalk (set : Settings) (callers : ℕ) (alone : Type 0) (c : ℕ) 
   pub talk : CountedTalk set callers alone c h n now lines replies
   pub seen_is : seen ≡ seen_after 0 replies
 
--- the lines that were cut have their replies, at this cost; what was seen is what these name, and is the number of a change or 0
-pub record SoFar (set : Settings) (callers : ℕ) (alone : Type 0) (c : ℕ) (h : List Event) (n : Counts) (limit : ℕ) (rest rest_now before written_now : Option (List ℕ)) (held : Held) (seen : ℕ) (now : List Event) : Type 0 where
-  pub cut : RepliedSoFar line_of (SeenTalk set callers alone c h n now seen) limit rest rest_now before written_now held
-  pub within : seen ≤ length (accepted now)
+-- from that history, the pass stands for one in which its caller has no view open, and the lines have these replies up to
+-- it; what was seen is the number of a change or 0
+module _ {H W P : Type 0} (of : Ghosts H W P) (set : Settings) (hub : H) where
+  pub record HasTalked (from : ℕ × List Event) (n : Counts) (pass : P) (seen : ℕ) (lines : List (List ℕ)) (replies : List Reply) : Type 0 where
+    pub after : List Event
+    pub stands : of.Stands hub pass from.0 after
+    pub closed : IsClosed (of.callers hub) from.0 after
+    pub talk : SeenTalk set (of.callers hub) of.alone from.0 from.1 n after seen lines replies
+    pub within : seen ≤ length (accepted after)

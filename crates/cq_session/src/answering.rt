@@ -6,17 +6,17 @@ ghost use Rattle.cq_hub.specs.Hubs.{IsPassOf};
 ghost use Rattle.cq_reply.specs.Written.{IsReplyText};
 ghost use Rattle.cq_session.specs.Passes.{Begins, GivesUp, HasAccepted, HasAnswered, HasChanged, HasTold, HasWaited, Replies};
 
+use crate::Server;
 use crate::helping::help;
 use crate::viewing::view_reply;
-use cq_answer::refused_as;
-use cq_base::{Change, Memory, Settings, Steps};
+use cq_base::{Change, Memory, Refusal, Steps};
 use cq_board::Refused;
 use cq_hub::Hub;
 use cq_io::Gate;
 use cq_reply::Reply;
-use cq_request::{Query, Request, read_request};
+use cq_request::{Query, ReadError, Request, read_request};
 use cq_shard::Indexed;
-use cq_work::{Keyer, Work};
+use cq_work::Work;
 use std::alloc::Global;
 use std::sync::ledger::Ledger;
 use std::thread::Threads;
@@ -40,9 +40,9 @@ fn change_reply<W: Indexed, H: Hub<W>, G: Gate>(
             gate.after_accept(number);
             Ok(Reply::Change(number))
         }
-        Err(Refused::Absent) => Ok(Reply::Absent),
-        Err(Refused::FullChanges) => Ok(Reply::FullChanges),
-        Err(Refused::FullText) => Ok(Reply::FullText),
+        Err(Refused::Absent) => Ok(Reply::Refused(Refusal::Absent)),
+        Err(Refused::FullChanges) => Ok(Reply::Refused(Refusal::FullChanges)),
+        Err(Refused::FullText) => Ok(Reply::Refused(Refusal::FullText)),
         Err(Refused::Memory) => Err(Memory),
     }
 }
@@ -65,97 +65,69 @@ fn state_reply<W: Indexed, H: Hub<W>>(hub: &H, pass: &mut H::Pass) -> Reply
 /// refused, what was done is a beginning of what the query does.
 pub fn query_reply<R: Threads + Sync, L: Ledger, H: Hub<Work<L>>, G: Gate>(
     rt: &R,
-    alloc: Global,
-    settings: &Settings,
-    keyer: &Keyer,
-    hub: &H,
+    server: &Server<'_, H, G>,
     query: &Query,
     seen: u64,
-    gate: &G,
     pass: &mut H::Pass,
     steps: &mut Steps<L>,
 ) -> Result<Reply, Memory>
-    requires in_range { IsInRange settings.now }
-    requires settings { keyer.now.settings ≡ settings.now }
-    requires hub_settings { H.settings hub.now ≡ settings.now }
-    requires long { settings.now.chunk ≤ query.now.min }
+    requires in_range { IsInRange server.now.keyer.now.settings }
+    requires hub_settings { H.settings server.now.hub.now ≡ server.now.keyer.now.settings }
+    requires long { server.now.keyer.now.settings.chunk ≤ query.now.min }
     requires path { HasPath query.now.kind query.now.path }
     requires scope { HasScope query.now.path query.now.scope }
-    requires closed { HasAccepted H.Hub hub.now pass.old seen }
+    requires closed { HasAccepted H.Hub server.now.hub.now pass.old seen }
     ensures replies { IfOk result
-        (HasAnswered H.Hub hub.now pass.old pass.new steps.old steps.new seen query.now) }
+        (HasAnswered H.Hub server.now.hub.now pass.old pass.new steps.old steps.new seen query.now) }
     ensures text { IfOk result IsReplyText }
     ensures refused { OnErr result
-        (GivesUp H.Hub hub.now pass.old pass.new steps.old steps.new seen query.now) }
+        (GivesUp H.Hub server.now.hub.now pass.old pass.new steps.old steps.new seen query.now) }
 {
-    let asked = hub.ask(pass);
+    let asked = server.hub.ask(pass);
     if query.at > asked.accepted {
-        return Ok(Reply::Future(asked.accepted));
+        return Ok(Reply::Refused(Refusal::Future(asked.accepted)));
     }
     if query.finish {
-        return match help(
-            alloc,
-            settings,
-            keyer,
-            hub,
-            asked.done,
-            asked.accepted,
-            gate,
-            pass,
-        ) {
-            Ok(()) => view_reply(
-                rt,
-                alloc,
-                settings,
-                hub,
-                query,
-                asked.accepted,
-                gate,
-                pass,
-                steps,
-            ),
+        return match help(server, asked.done, asked.accepted, pass) {
+            Ok(()) => view_reply(rt, server, query, asked.accepted, pass, steps),
             Err(Memory) => Err(Memory),
         };
     }
     if seen.max(query.at) > asked.done {
         return Ok(Reply::Pending(asked.done + 1));
     }
-    view_reply(
-        rt, alloc, settings, hub, query, asked.done, gate, pass, steps,
-    )
+    view_reply(rt, server, query, asked.done, pass, steps)
 }
 
 /// The reply to what a line says. Where memory is refused, what was done is a beginning of what the line does.
 pub(crate) fn reply_to<R: Threads + Sync, L: Ledger, H: Hub<Work<L>>, G: Gate>(
     rt: &R,
-    alloc: Global,
-    settings: &Settings,
-    keyer: &Keyer,
-    hub: &H,
+    server: &Server<'_, H, G>,
     line: &[u8],
     seen: u64,
-    gate: &G,
     pass: &mut H::Pass,
     steps: &mut Steps<L>,
 ) -> Result<Reply, Memory>
-    requires in_range { IsInRange settings.now }
-    requires settings { keyer.now.settings ≡ settings.now }
-    requires hub_settings { H.settings hub.now ≡ settings.now }
-    requires closed { HasAccepted H.Hub hub.now pass.old seen }
-    ensures replies { IfOk result (Replies H.Hub hub.now pass.old pass.new
-        steps.old steps.new seen settings.now line.now) }
+    requires in_range { IsInRange server.now.keyer.now.settings }
+    requires hub_settings { H.settings server.now.hub.now ≡ server.now.keyer.now.settings }
+    requires closed { HasAccepted H.Hub server.now.hub.now pass.old seen }
+    ensures replies { IfOk result (Replies H.Hub server.now.hub.now pass.old pass.new
+        steps.old steps.new seen server.now.keyer.now.settings line.now) }
     ensures text { IfOk result IsReplyText }
-    ensures refused { OnErr result (Begins H.Hub hub.now pass.old pass.new
-        steps.old steps.new seen settings.now line.now) }
+    ensures refused { OnErr result (Begins H.Hub server.now.hub.now pass.old pass.new
+        steps.old steps.new seen server.now.keyer.now.settings line.now) }
 {
-    match read_request(alloc, settings, line) {
-        Ok(Request::Change(change)) => change_reply(alloc, hub, change, gate, pass),
-        Ok(Request::Query(query)) => {
-            query_reply(
-                rt, alloc, settings, keyer, hub, &query, seen, gate, pass, steps,
-            )
-        }
-        Ok(Request::State) => Ok(state_reply(hub, pass)),
-        Err(refusal) => refused_as(refusal),
+    match read_request(server.alloc, &server.keyer.settings, line) {
+        Ok(Request::Change(change)) => change_reply(
+            server.alloc,
+            server.hub,
+            change,
+            server.gate,
+            pass,
+        ),
+        Ok(Request::Query(query)) => { query_reply(rt, server, &query, seen, pass, steps) }
+        Ok(Request::State) => Ok(state_reply(server.hub, pass)),
+        Err(ReadError::Refused(refusal)) => Ok(Reply::Refused(refusal)),
+        Err(ReadError::Memory) => Err(Memory),
     }
 }

@@ -1,62 +1,100 @@
 ghost use Rattle.std.specs.Prelude.{◌≡◌, ◌≤◌, length};
 ghost use Rattle.cq_base.specs.Settings.{IsInRange};
 ghost use Rattle.cq_io.specs.Causes.{HasCause};
-ghost use Rattle.cq_io.specs.Sending.{Sends};
 ghost use Rattle.cq_lines.specs.Pieces.{line_limit};
 ghost use Rattle.cq_lines.specs.Runs.{IsFresh};
 ghost use Rattle.cq_lines.specs.Serving.{HasCauseOfEnd};
-ghost use Rattle.cq_reply.specs.Written.{line_of};
-ghost use Rattle.cq_reply.specs.declared.reply.Reply.TheVariants as reply;
 ghost use Rattle.cq_talk.specs.Steps.{Always, MayLead};
 ghost use Rattle.cq_session.specs.Passes.{HasAccepted, HasSentLine, HasServed};
 
+use crate::Server;
 use crate::telling::told;
-use cq_base::{Settings, Steps};
+use cq_base::Steps;
 use cq_hub::Hub;
 use cq_io::{Failed, Gate, Sink, Source, send};
-use cq_lines::{Cut, End, Lines};
+use cq_lines::{Answers, End, Lines, serve_lines};
 use cq_reply::{Short, fixed};
-use cq_work::{Keyer, Work};
-use std::alloc::Global;
+use cq_work::Work;
 use std::sync::ledger::Ledger;
 use std::thread::Threads;
 
 // Writes the reply to a line, which is not too long. What the reply names is seen from then on.
 fn turn<R: Threads + Sync, L: Ledger, H: Hub<Work<L>>, K: Sink, G: Gate>(
     rt: &R,
-    alloc: Global,
-    settings: &Settings,
-    keyer: &Keyer,
-    hub: &H,
+    server: &Server<'_, H, G>,
     line: &[u8],
     seen: &mut u64,
     pass: &mut H::Pass,
     sink: &mut K,
-    gate: &G,
     steps: &mut Steps<L>,
 ) -> Result<(), Failed>
-    requires in_range { IsInRange settings.now }
-    requires settings { keyer.now.settings ≡ settings.now }
-    requires hub_settings { H.settings hub.now ≡ settings.now }
+    requires in_range { IsInRange server.now.keyer.now.settings }
+    requires hub_settings { H.settings server.now.hub.now ≡ server.now.keyer.now.settings }
     requires short { length line.now ≤ line_limit }
-    requires closed { HasAccepted H.Hub hub.now pass.old seen.old }
-    ensures turns { HasSentLine H.Hub hub.now pass.old pass.new steps.old steps.new
-        seen.old settings.now line.now (K.written sink.old) (K.written sink.new) result seen.new }
+    requires closed { HasAccepted H.Hub server.now.hub.now pass.old seen.old }
+    ensures turns { HasSentLine H.Hub server.now.hub.now pass.old pass.new steps.old steps.new
+        seen.old server.now.keyer.now.settings line.now (K.written sink.old) (K.written sink.new) result seen.new }
     ensures cause { HasCause (K.faults sink.old) (K.faults sink.new) result }
 {
-    let (line, number) = told(
-        rt, alloc, settings, keyer, hub, line, *seen, gate, pass, steps,
-    );
+    let (line, number) = told(rt, server, line, *seen, pass, steps);
     *seen = (*seen).max(number);
     send(sink, line.as_bytes())
 }
 
-// Writes the reply to a line that is too long.
-fn turn_long<K: Sink>(sink: &mut K) -> Result<(), Failed>
-    ensures bytes { Sends (K.written sink.old) (K.written sink.new) (line_of reply.Long) result }
-    ensures cause { HasCause (K.faults sink.old) (K.faults sink.new) result }
-{
-    send(sink, fixed(Short::Long).as_bytes())
+// A talk, between two lines. The pass and the counter have lifetimes of their own, so that what became of each is known
+// when the talk is over.
+#[derive(Drop)]
+struct Talk<'a, 's, 'p, 'c, R, L: Ledger, H: Hub<Work<L>>, G> {
+    rt: &'a R,
+    server: &'a Server<'s, H, G>,
+    pass: &'p mut H::Pass,
+    seen: u64,
+    steps: &'c mut Steps<L>,
+}
+
+impl<'a, 's, 'p, 'c, R: Threads + Sync, L: Ledger, H: Hub<Work<L>>, G: Gate> Answers
+    for Talk<'a, 's, 'p, 'c, R, L, H, G> {
+    ghost use Rattle.std.specs.Prelude.{◌≡◌, ℕ, List};
+    ghost use Rattle.std.specs.Thread.{IsSync};
+    ghost use Rattle.cq_base.specs.Settings.{IsInRange};
+    ghost use Rattle.cq_history.specs.declared.event.Event.{Event as Happened};
+    ghost use Rattle.cq_reply.specs.Written.{line_of as written};
+    ghost use Rattle.cq_reply.specs.declared.reply.Reply.{Reply as Told};
+    ghost use Rattle.cq_session.specs.Costs.{counted};
+    ghost use Rattle.cq_session.specs.Passes.{HasAccepted};
+    ghost use Rattle.cq_session.specs.Serving.{HasTalked};
+
+    ghost Reply = { Told };
+
+    ghost line_of = { written };
+
+    ghost Beginning = { ℕ × List Happened };
+
+    ghost AreReplies = { λ from first now lines replies.
+        HasTalked H.Hub now.server.now.keyer.now.settings now.server.now.hub.now from
+        (counted first.steps.now now.steps.now (H.asked first.pass.now) (H.asked now.pass.now))
+        now.pass.now now.seen lines replies
+        × (now.server.now.keyer.now.settings ≡ first.server.now.keyer.now.settings) × (now.server.now.hub.now ≡ first.server.now.hub.now) };
+
+    ghost ready = { λ t. IsSync R.row × IsInRange t.server.now.keyer.now.settings
+        × (H.settings t.server.now.hub.now ≡ t.server.now.keyer.now.settings)
+        × HasAccepted H.Hub t.server.now.hub.now t.pass.now t.seen };
+
+    fn answer<K: Sink>(&mut self, line: &[u8], sink: &mut K) -> Result<(), Failed> {
+        turn(
+            self.rt,
+            self.server,
+            line,
+            &mut self.seen,
+            self.pass,
+            sink,
+            self.steps,
+        )
+    }
+
+    fn answer_long<K: Sink>(&mut self, sink: &mut K) -> Result<(), Failed> {
+        send(sink, fixed(Short::Long).as_bytes())
+    }
 }
 
 /// Answers the lines of a source one by one by calls of a hub, whose pass has no view open. Windows have the keys of
@@ -67,45 +105,28 @@ fn turn_long<K: Sink>(sink: &mut K) -> Result<(), Failed>
 /// restarted for another source.
 pub fn session<R: Threads + Sync, L: Ledger, H: Hub<Work<L>>, S: Source, K: Sink, G: Gate>(
     rt: &R,
-    alloc: Global,
-    settings: &Settings,
-    keyer: &Keyer,
-    hub: &H,
+    server: &Server<'_, H, G>,
     pass: &mut H::Pass,
     lines: &mut Lines,
     source: &mut S,
     sink: &mut K,
-    gate: &G,
     steps: &mut Steps<L>,
 ) -> End
     requires fresh { IsFresh lines.old }
-    requires in_range { IsInRange settings.now }
-    requires settings { keyer.now.settings ≡ settings.now }
-    requires hub_settings { H.settings hub.now ≡ settings.now }
-    requires closed { MayLead H.Stands (H.callers hub.now) hub.now pass.old Always }
-    ensures served { HasServed H.Hub hub.now pass.old pass.new steps.old steps.new S.Source K.Sink
-        settings.now lines.old.limit source.old source.new sink.old sink.new result }
+    requires in_range { IsInRange server.now.keyer.now.settings }
+    requires hub_settings { H.settings server.now.hub.now ≡ server.now.keyer.now.settings }
+    requires closed { MayLead H.Stands (H.callers server.now.hub.now) server.now.hub.now pass.old Always }
+    ensures served { HasServed H.Hub server.now.hub.now pass.old pass.new steps.old steps.new S.Source K.Sink
+        server.now.keyer.now.settings lines.old.limit source.old source.new sink.old sink.new result }
     ensures cause { HasCauseOfEnd S.Source K.Sink source.old source.new sink.old sink.new result }
     ensures limit { lines.new.limit ≡ lines.old.limit }
 {
-    let mut seen = 0u64;
-    'lines: loop {
-        match lines.next(source) {
-            Cut::Line(line) => {
-                match turn(
-                    rt, alloc, settings, keyer, hub, line, &mut seen, pass, sink, gate, steps,
-                ) {
-                    Ok(()) => {}
-                    Err(Failed) => return End::WriteFault,
-                }
-            }
-            Cut::TooLong => match turn_long(sink) {
-                Ok(()) => {}
-                Err(Failed) => return End::WriteFault,
-            },
-            Cut::End => return End::Finished,
-            Cut::Spent => return End::Spent,
-            Cut::ReadFault => return End::ReadFault,
-        }
-    }
+    let mut talk = Talk {
+        rt,
+        server,
+        pass,
+        seen: 0,
+        steps,
+    };
+    serve_lines(&mut talk, lines, source, sink)
 }

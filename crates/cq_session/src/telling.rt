@@ -3,13 +3,13 @@ ghost use Rattle.cq_base.specs.Settings.{IsInRange};
 ghost use Rattle.cq_talk.specs.Replies.{named as named_in};
 ghost use Rattle.cq_session.specs.Passes.{HasAccepted, HasLine};
 
+use crate::Server;
 use crate::answering::reply_to;
-use cq_base::{Memory, Settings, Steps};
+use cq_base::{Memory, Steps};
 use cq_hub::Hub;
 use cq_io::Gate;
 use cq_reply::{Line, Reply, Short, fixed, line_of};
-use cq_work::{Keyer, Work};
-use std::alloc::Global;
+use cq_work::Work;
 use std::sync::ledger::Ledger;
 use std::thread::Threads;
 
@@ -32,27 +32,20 @@ fn named(reply: &Reply) -> u64
 /// The line that tells the reply to a line, and the number that the reply names.
 pub(crate) fn told<R: Threads + Sync, L: Ledger, H: Hub<Work<L>>, G: Gate>(
     rt: &R,
-    alloc: Global,
-    settings: &Settings,
-    keyer: &Keyer,
-    hub: &H,
+    server: &Server<'_, H, G>,
     line: &[u8],
     seen: u64,
-    gate: &G,
     pass: &mut H::Pass,
     steps: &mut Steps<L>,
 ) -> (Line, u64)
-    requires in_range { IsInRange settings.now }
-    requires settings { keyer.now.settings ≡ settings.now }
-    requires hub_settings { H.settings hub.now ≡ settings.now }
-    requires closed { HasAccepted H.Hub hub.now pass.old seen }
-    ensures { HasLine H.Hub hub.now pass.old pass.new
-        steps.old steps.new seen settings.now line.now result }
+    requires in_range { IsInRange server.now.keyer.now.settings }
+    requires hub_settings { H.settings server.now.hub.now ≡ server.now.keyer.now.settings }
+    requires closed { HasAccepted H.Hub server.now.hub.now pass.old seen }
+    ensures { HasLine H.Hub server.now.hub.now pass.old pass.new
+        steps.old steps.new seen server.now.keyer.now.settings line.now result }
 {
-    match reply_to(
-        rt, alloc, settings, keyer, hub, line, seen, gate, pass, steps,
-    ) {
-        Ok(reply) => match line_of(alloc, &reply) {
+    match reply_to(rt, server, line, seen, pass, steps) {
+        Ok(reply) => match line_of(server.alloc, &reply) {
             Ok(line) => (line, named(&reply)),
             Err(Memory) => (Line::Short(fixed(Short::Memory)), 0),
         },

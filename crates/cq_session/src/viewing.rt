@@ -6,9 +6,9 @@ ghost use Rattle.cq_reply.specs.Written.{IsReplyText};
 ghost use Rattle.cq_work.specs.Work.{IsWorkOf};
 ghost use Rattle.cq_session.specs.Passes.{CostsOpen, HasOpen, HasReady, HasShown, HasShut, HasSwept, HasViewOpen, HasViewedOrNot, KeepsOpen, ShowsOpen};
 
-use crate::PassBuckets;
+use crate::{PassBuckets, Server};
 use cq_answer::answer;
-use cq_base::{Memory, Settings, Steps};
+use cq_base::{Memory, Steps};
 use cq_board::View;
 use cq_hub::Hub;
 use cq_io::Gate;
@@ -21,40 +21,39 @@ use std::sync::ledger::Ledger;
 use std::thread::Threads;
 
 // The reply to a query in a view that the pass has open.
-fn reply_in<R: Threads + Sync, L: Ledger, H: Hub<Work<L>>>(
+fn reply_in<R: Threads + Sync, L: Ledger, H: Hub<Work<L>>, G: Gate>(
     rt: &R,
-    alloc: Global,
-    settings: &Settings,
-    hub: &H,
+    server: &Server<'_, H, G>,
     view: &View<Work<L>>,
     query: &Query,
     pass: &mut H::Pass,
     steps: &mut Steps<L>,
 ) -> Result<Reply, Memory>
-    requires in_range { IsInRange settings.now }
-    requires hub_settings { H.settings hub.now ≡ settings.now }
-    requires long { settings.now.chunk ≤ query.now.min }
+    requires in_range { IsInRange server.now.keyer.now.settings }
+    requires hub_settings { H.settings server.now.hub.now ≡ server.now.keyer.now.settings }
+    requires long { server.now.keyer.now.settings.chunk ≤ query.now.min }
     requires path { HasPath query.now.kind query.now.path }
     requires scope { HasScope query.now.path query.now.scope }
-    requires viewing { HasOpen H.Hub hub.now IsWorkOf view.now pass.old }
-    ensures reply { IfOk result (ShowsOpen H.Hub hub.now IsWorkOf view.now pass.old query.now) }
+    requires viewing { HasOpen H.Hub server.now.hub.now IsWorkOf view.now pass.old }
+    ensures reply { IfOk result
+        (ShowsOpen H.Hub server.now.hub.now IsWorkOf view.now pass.old query.now) }
     ensures text { IfOk result IsReplyText }
-    ensures costs { CostsOpen H.Hub hub.now IsWorkOf view.now pass.old pass.new
+    ensures costs { CostsOpen H.Hub server.now.hub.now IsWorkOf view.now pass.old pass.new
         steps.old steps.new query.now result }
-    ensures moves { KeepsOpen H.Hub hub.now IsWorkOf view.now pass.old pass.new }
+    ensures moves { KeepsOpen H.Hub server.now.hub.now IsWorkOf view.now pass.old pass.new }
 {
     let files = view.listing.project(&query.project);
     let conditions = view.listing.conditions(&query.project);
     let mut buckets = PassBuckets {
-        hub,
+        hub: server.hub,
         view,
         files,
         pass,
     };
     answer(
         rt,
-        alloc,
-        settings,
+        server.alloc,
+        &server.keyer.settings,
         files,
         conditions,
         query,
@@ -94,39 +93,36 @@ fn sweep_behind<W: Indexed, H: Hub<W>>(alloc: Global, hub: &H, pass: &mut H::Pas
 /// for the reply, and is shut again however that ends. Behind a reply the hub is swept.
 pub(crate) fn view_reply<R: Threads + Sync, L: Ledger, H: Hub<Work<L>>, G: Gate>(
     rt: &R,
-    alloc: Global,
-    settings: &Settings,
-    hub: &H,
+    server: &Server<'_, H, G>,
     query: &Query,
     to: u64,
-    gate: &G,
     pass: &mut H::Pass,
     steps: &mut Steps<L>,
 ) -> Result<Reply, Memory>
-    requires in_range { IsInRange settings.now }
-    requires hub_settings { H.settings hub.now ≡ settings.now }
-    requires long { settings.now.chunk ≤ query.now.min }
+    requires in_range { IsInRange server.now.keyer.now.settings }
+    requires hub_settings { H.settings server.now.hub.now ≡ server.now.keyer.now.settings }
+    requires long { server.now.keyer.now.settings.chunk ≤ query.now.min }
     requires path { HasPath query.now.kind query.now.path }
     requires scope { HasScope query.now.path query.now.scope }
-    requires ready { HasReady H.Hub hub.now pass.old to }
+    requires ready { HasReady H.Hub server.now.hub.now pass.old to }
     ensures shown { IfOk result
-        (HasShown H.Hub hub.now pass.old pass.new steps.old steps.new to query.now) }
+        (HasShown H.Hub server.now.hub.now pass.old pass.new steps.old steps.new to query.now) }
     ensures text { IfOk result IsReplyText }
     ensures refused { OnErr result
-        (HasViewedOrNot H.Hub hub.now pass.old pass.new steps.old steps.new to query.now) }
+        (HasViewedOrNot H.Hub server.now.hub.now pass.old pass.new steps.old steps.new to query.now) }
 {
-    match hub.advance(alloc, to, gate, pass) {
+    match server.hub.advance(server.alloc, to, server.gate, pass) {
         Ok(_published) => {}
         Err(Memory) => return Err(Memory),
     }
-    match hub.open_view(pass) {
+    match server.hub.open_view(pass) {
         Err(Memory) => Err(Memory),
         Ok(view) => {
-            gate.after_open(view.version);
-            let reply = reply_in(rt, alloc, settings, hub, &view, query, pass, steps);
-            match close_behind(hub, view, reply, pass) {
+            server.gate.after_open(view.version);
+            let reply = reply_in(rt, server, &view, query, pass, steps);
+            match close_behind(server.hub, view, reply, pass) {
                 Ok(reply) => {
-                    sweep_behind(alloc, hub, pass);
+                    sweep_behind(server.alloc, server.hub, pass);
                     Ok(reply)
                 }
                 Err(Memory) => Err(Memory),

@@ -106,9 +106,7 @@ fn noted<R: Threads + Sync, L: Ledger>(
     let gate = Noting {
         calls: RefCell::new(String::new(alloc)),
     };
-    let (end, _) = written(
-        rt, alloc, settings, &keyer, &hub, input, &gate, &mut pass, &mut steps,
-    )?;
+    let (end, _) = written(rt, alloc, &keyer, &hub, input, &gate, &mut pass, &mut steps)?;
     Ok((end, gate.calls.into_inner()))
 }
 

@@ -6,7 +6,7 @@ use cq_base::{Counters, Memory, Settings, Steps};
 use cq_chain::Pass;
 use cq_io::{Gate, MemSink, MemSource, Sink, Source};
 use cq_lines::{End, Lines};
-use cq_session::session;
+use cq_session::{Server, session};
 use cq_shared::Shared;
 use cq_work::{Keyer, Work};
 use std::alloc::Global;
@@ -34,9 +34,13 @@ pub(crate) fn conversed<Q: Threads + Sync, L: Ledger, R: Wait, S: Source, K: Sin
     let keyer = Keyer::plain(settings);
     let mut lines = Lines::new(alloc, settings.byte_limit)?;
     let mut steps: Steps<L> = counters.counter();
-    let end = session(
-        rt, alloc, settings, &keyer, hub, &mut pass, &mut lines, source, sink, gate, &mut steps,
-    );
+    let server = Server {
+        alloc,
+        keyer: &keyer,
+        hub,
+        gate,
+    };
+    let end = session(rt, &server, &mut pass, &mut lines, source, sink, &mut steps);
     Ok(end)
 }
 

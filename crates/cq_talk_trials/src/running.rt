@@ -2,11 +2,11 @@ ghost use Rattle.std.specs.Prelude.{◌≡◌, OnOk};
 ghost use Rattle.cq_base.specs.Settings.{IsInRange};
 ghost use Rattle.cq_talk.specs.Steps.{Always, MayLead};
 
-use cq_base::{Memory, Settings, Steps};
+use cq_base::{Memory, Steps};
 use cq_hub::Hub;
 use cq_io::{Gate, MemSink, MemSource};
 use cq_lines::{End, Lines};
-use cq_session::session;
+use cq_session::{Server, session};
 use cq_work::{Keyer, Work};
 use std::alloc::Global;
 use std::sync::ledger::Ledger;
@@ -16,7 +16,6 @@ use std::thread::Threads;
 pub fn written<R: Threads + Sync, L: Ledger, H: Hub<Work<L>>, G: Gate>(
     rt: &R,
     alloc: Global,
-    settings: &Settings,
     keyer: &Keyer,
     hub: &H,
     input: &[u8],
@@ -24,29 +23,22 @@ pub fn written<R: Threads + Sync, L: Ledger, H: Hub<Work<L>>, G: Gate>(
     pass: &mut H::Pass,
     steps: &mut Steps<L>,
 ) -> Result<(End, Vec<u8>), Memory>
-    requires in_range { IsInRange settings.now }
-    requires settings { keyer.now.settings ≡ settings.now }
-    requires hub_settings { H.settings hub.now ≡ settings.now }
+    requires in_range { IsInRange keyer.now.settings }
+    requires hub_settings { H.settings hub.now ≡ keyer.now.settings }
     requires closed { MayLead H.Stands (H.callers hub.now) hub.now pass.old Always }
     ensures closed { OnOk result (MayLead H.Stands (H.callers hub.now) hub.now pass.new Always) }
 {
-    let mut lines = Lines::new(alloc, settings.byte_limit)?;
+    let mut lines = Lines::new(alloc, keyer.settings.byte_limit)?;
     let bytes = Vec::from_slice(alloc, input)?;
     let mut source = MemSource::new(bytes, 97, Vec::new(alloc));
     let mut sink = MemSink::new(alloc, 1_048_576, 89, Vec::new(alloc))?;
-    let end = session(
-        rt,
+    let server = Server {
         alloc,
-        settings,
         keyer,
         hub,
-        pass,
-        &mut lines,
-        &mut source,
-        &mut sink,
         gate,
-        steps,
-    );
+    };
+    let end = session(rt, &server, pass, &mut lines, &mut source, &mut sink, steps);
     let output = Vec::from_slice(alloc, sink.written())?;
     Ok((end, output))
 }

@@ -29,7 +29,6 @@ fn parted(end: End, written: &[u8], wanted: &[u8]) -> Option<u64> {
 fn talk<R: Threads + Sync, L: Ledger, H: Hub<Work<L>>>(
     rt: &R,
     alloc: Global,
-    settings: &Settings,
     keyer: &Keyer,
     hub: &H,
     count: u32,
@@ -38,17 +37,14 @@ fn talk<R: Threads + Sync, L: Ledger, H: Hub<Work<L>>>(
     pass: &mut H::Pass,
     steps: &mut Steps<L>,
 ) -> Result<(Option<u64>, String), Memory>
-    requires in_range { IsInRange settings.now }
-    requires settings { keyer.now.settings ≡ settings.now }
-    requires hub_settings { H.settings hub.now ≡ settings.now }
+    requires in_range { IsInRange keyer.now.settings }
+    requires hub_settings { H.settings hub.now ≡ keyer.now.settings }
     requires closed { MayLead H.Stands (H.callers hub.now) hub.now pass.old Always }
     ensures closed { OnOk result (MayLead H.Stands (H.callers hub.now) hub.now pass.new Always) }
 {
     let lines = drawn_lines(alloc, count, draws, model)?;
     let input = lines.asked.as_bytes();
-    match written(
-        rt, alloc, settings, keyer, hub, input, &OpenGate, pass, steps,
-    ) {
+    match written(rt, alloc, keyer, hub, input, &OpenGate, pass, steps) {
         Ok((end, output)) => {
             let found = parted(end, &output, lines.told.as_bytes());
             Ok((found, lines.told))
@@ -89,10 +85,10 @@ fn talks_over_one_hub<R: Threads + Sync, L: Ledger, H: Hub<Work<L>>>(
     let mut model = Model::new(alloc, settings.change_limit, settings.text_limit);
     let (count, count_then) = counts;
     let (first, told) = talk(
-        rt, alloc, settings, &keyer, hub, count, &mut draws, &mut model, pass, &mut steps,
+        rt, alloc, &keyer, hub, count, &mut draws, &mut model, pass, &mut steps,
     )?;
     let (second, told_then) = talk(
-        rt, alloc, settings, &keyer, hub, count_then, &mut draws, &mut model, pass, &mut steps,
+        rt, alloc, &keyer, hub, count_then, &mut draws, &mut model, pass, &mut steps,
     )?;
     Ok(Talks {
         first,

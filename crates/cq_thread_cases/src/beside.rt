@@ -6,6 +6,7 @@ use cq_beside::serve_one;
 use cq_chain::Pass;
 use cq_io::{Gate, MemSink, MemSource, Sink, Source};
 use cq_lines::{End, Lines};
+use cq_session::Server;
 use cq_shared::Shared;
 use cq_stage::{Hold, Late, Scene, Stage, Until};
 use cq_work::{Keyer, Work};
@@ -63,9 +64,14 @@ fn served<Q: Threads + Wait + Sync, L: Ledger + Send + Sync, S: Source, K: Sink,
     let made: (Shared<Work<L>, &Q>, Pass<Work<L>>) = Shared::new(rt, alloc, settings, workers + 2)?;
     let (hub, pass) = made;
     let mut lines = Lines::new(alloc, settings.byte_limit)?;
+    let server = Server {
+        alloc,
+        keyer: &keyer,
+        hub: &hub,
+        gate,
+    };
     let end = serve_one(
-        rt, alloc, settings, &keyer, &hub, pass, &mut lines, source, sink, gate, workers,
-        &mut steps,
+        rt, &server, pass, &mut lines, source, sink, workers, &mut steps,
     );
     Ok(end)
 }

@@ -8,6 +8,7 @@ use cq_board::Refused;
 use cq_hub::{Hub, Solo, SoloPass};
 use cq_io::{Gate, OpenGate};
 use cq_serve::{Bell, RingingGate, Turn, turn};
+use cq_session::Server;
 use cq_work::{Keyer, Work};
 use std::alloc::Global;
 use std::marker::Brand;
@@ -38,24 +39,20 @@ fn put(alloc: Global, text: &str) -> Result<Change, Memory>
 }
 
 // What two turns come to after a change is accepted, and what is done and published then.
-fn two_turns<L: Ledger, H: Hub<Work<L>>>(
-    alloc: Global,
-    settings: &Settings,
-    keyer: &Keyer,
-    hub: &H,
+fn two_turns<L: Ledger, H: Hub<Work<L>>, G: Gate>(
+    server: &Server<'_, H, G>,
     change: Change,
     pass: &mut H::Pass,
 ) -> Result<(Turn, Turn, u64, u64), Refused>
-    requires in_range { IsInRange settings.now }
-    requires settings { keyer.now.settings ≡ settings.now }
-    requires hub_settings { H.settings hub.now ≡ settings.now }
+    requires in_range { IsInRange server.now.keyer.now.settings }
+    requires hub_settings { H.settings server.now.hub.now ≡ server.now.keyer.now.settings }
     requires sound { IsSoundChange change }
-    requires stands { IsPassOf H.Stands hub.now pass.old }
+    requires stands { IsPassOf H.Stands server.now.hub.now pass.old }
 {
-    hub.accept(alloc, change, pass)?;
-    let first = turn(alloc, settings, keyer, hub, pass, &OpenGate);
-    let second = turn(alloc, settings, keyer, hub, pass, &OpenGate);
-    let asked = hub.ask(pass);
+    server.hub.accept(server.alloc, change, pass)?;
+    let first = turn(server, pass);
+    let second = turn(server, pass);
+    let asked = server.hub.ask(pass);
     Ok((first, second, asked.done, asked.published))
 }
 
@@ -68,7 +65,13 @@ fn turns(alloc: Global, settings: &Settings, text: &str) -> Result<(Turn, Turn, 
     let made: (Solo<Work<Brand>>, SoloPass<Work<Brand>>) = Solo::new(alloc, settings)?;
     let (hub, mut pass) = made;
     let change = put(alloc, text)?;
-    two_turns(alloc, settings, &keyer, &hub, change, &mut pass)
+    let server = Server {
+        alloc,
+        keyer: &keyer,
+        hub: &hub,
+        gate: &OpenGate,
+    };
+    two_turns(&server, change, &mut pass)
 }
 
 fn turns_here(

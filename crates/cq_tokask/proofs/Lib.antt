@@ -1,6 +1,5 @@
 mod GivenFiles
 mod Said
-mod Runs
 mod Fronts
 mod Coming
 mod Exported

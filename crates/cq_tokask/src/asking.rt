@@ -1,57 +1,72 @@
-ghost use Rattle.std.specs.Prelude.{◌≤◌, length};
 ghost use Rattle.cq_base.specs.Settings.{IsInRange};
-ghost use Rattle.cq_io.specs.Causes.{HasCause};
-ghost use Rattle.cq_io.specs.Sending.{Sends};
-ghost use Rattle.cq_tokask.specs.Asked.{AnswersLine, AnswersLines};
-ghost use Rattle.cq_lines.specs.Pieces.{line_limit};
+ghost use Rattle.cq_tokask.specs.Asked.{AnswersLines};
 ghost use Rattle.cq_lines.specs.Runs.{IsFresh};
 ghost use Rattle.cq_lines.specs.Serving.{HasCauseOfEnd, ServesLines};
 ghost use Rattle.cq_reply.specs.Written.{line_of};
-ghost use Rattle.cq_reply.specs.declared.reply.Reply.{Reply};
-ghost use Rattle.cq_reply.specs.declared.reply.Reply.TheVariants as reply;
 ghost use Rattle.cq_tokfile.specs.Loaded.{IsLoadedOf};
 ghost use Rattle.cq_tokfile.specs.Snapshot.{IsSoundSnapshot};
 
 use crate::telling::told;
 use cq_base::{Settings, Steps};
 use cq_io::{Failed, Sink, Source, send};
-use cq_lines::{Cut, End, Lines};
+use cq_lines::{Answers, End, Lines, serve_lines};
 use cq_reply::{Short, fixed};
 use cq_tokfile::{Loaded, Snapshot};
 use std::alloc::Global;
 use std::sync::ledger::Ledger;
 use std::thread::Threads;
 
-// Writes the reply to a line, which is not too long.
-fn turn<R: Threads + Sync, L: Ledger, K: Sink>(
-    rt: &R,
+// What answers lines by a kept version.
+#[derive(Drop)]
+struct Asking<'a, R, L: Ledger> {
+    rt: &'a R,
     alloc: Global,
-    settings: &Settings,
-    snapshot: &Snapshot<L>,
-    loaded: &mut Loaded<L>,
-    line: &[u8],
-    sink: &mut K,
-    steps: &mut Steps<L>,
-) -> Result<(), Failed>
-    requires in_range { IsInRange settings.now }
-    requires sound { IsSoundSnapshot settings.now snapshot.now }
-    requires loaded { IsLoadedOf snapshot.now.files loaded.old }
-    requires short { length line.now ≤ line_limit }
-    ensures sent { (reply : Reply) × AnswersLine snapshot.now settings.now line.now reply
-        × Sends (K.written sink.old) (K.written sink.new) (line_of reply) result }
-    ensures loaded { IsLoadedOf snapshot.now.files loaded.new }
-    ensures cause { HasCause (K.faults sink.old) (K.faults sink.new) result }
-{
-    let line = told(rt, alloc, settings, snapshot, loaded, line, steps);
-    send(sink, line.as_bytes())
+    settings: &'a Settings,
+    snapshot: &'a Snapshot<L>,
+    loaded: &'a mut Loaded<L>,
+    steps: &'a mut Steps<L>,
 }
 
-// Writes the reply to a line that is too long.
-fn turn_long<K: Sink>(sink: &mut K) -> Result<(), Failed>
-    ensures bytes { Sends (K.written sink.old) (K.written sink.new) (line_of reply.Long) result }
-    ensures cause { HasCause (K.faults sink.old) (K.faults sink.new) result }
-{
-    send(sink, fixed(Short::Long).as_bytes())
+impl<'a, R: Threads + Sync, L: Ledger> Answers for Asking<'a, R, L> {
+    ghost use Rattle.std.specs.Prelude.{◌≡◌};
+    ghost use Rattle.std.specs.Thread.{IsSync};
+    ghost use Rattle.cq_base.specs.Settings.{IsInRange};
+    ghost use Rattle.cq_reply.specs.Written.{line_of as written};
+    ghost use Rattle.cq_reply.specs.declared.reply.Reply.{Reply as Told};
+    ghost use Rattle.cq_tokask.specs.Asked.{AnswersLines};
+    ghost use Rattle.cq_tokfile.specs.Loaded.{IsLoadedOf};
+    ghost use Rattle.cq_tokfile.specs.Snapshot.{IsSoundSnapshot};
+
+    ghost Reply = { Told };
+
+    ghost line_of = { written };
+
+    ghost Beginning = { Unit {0} };
+
+    ghost AreReplies = { λ from first now lines replies.
+        AnswersLines now.snapshot.now now.settings.now lines replies
+        × (now.snapshot.now ≡ first.snapshot.now) × (now.settings.now ≡ first.settings.now) };
+
+    ghost ready = { λ a. IsSync R.row × IsInRange a.settings.now
+        × IsSoundSnapshot a.settings.now a.snapshot.now
+        × IsLoadedOf a.snapshot.now.files a.loaded.now };
+
+    fn answer<K: Sink>(&mut self, line: &[u8], sink: &mut K) -> Result<(), Failed> {
+        let line = told(
+            self.rt,
+            self.alloc,
+            self.settings,
+            self.snapshot,
+            self.loaded,
+            line,
+            self.steps,
+        );
+        send(sink, line.as_bytes())
+    }
+
+    fn answer_long<K: Sink>(&mut self, sink: &mut K) -> Result<(), Failed> {
+        send(sink, fixed(Short::Long).as_bytes())
+    }
 }
 
 /// Answers the lines of a source by a kept version, of which these are the buckets. The replies are written in the order of
@@ -75,21 +90,13 @@ pub fn ask_lines<R: Threads + Sync, L: Ledger, S: Source, K: Sink>(
         lines.old.limit source.old source.new sink.old sink.new result }
     ensures cause { HasCauseOfEnd S.Source K.Sink source.old source.new sink.old sink.new result }
 {
-    'lines: loop {
-        match lines.next(source) {
-            Cut::Line(line) => {
-                match turn(rt, alloc, settings, snapshot, loaded, line, sink, steps) {
-                    Ok(()) => {}
-                    Err(Failed) => return End::WriteFault,
-                }
-            }
-            Cut::TooLong => match turn_long(sink) {
-                Ok(()) => {}
-                Err(Failed) => return End::WriteFault,
-            },
-            Cut::End => return End::Finished,
-            Cut::Spent => return End::Spent,
-            Cut::ReadFault => return End::ReadFault,
-        }
-    }
+    let mut asking = Asking {
+        rt,
+        alloc,
+        settings,
+        snapshot,
+        loaded,
+        steps,
+    };
+    serve_lines(&mut asking, lines, source, sink)
 }

@@ -4,7 +4,7 @@ ghost use Rattle.cq_tokask.specs.Kept.{Asks, TakesNoLine};
 
 use crate::asking::ask_lines;
 use crate::taking::{Front, take_front};
-use cq_base::{Memory, Settings, Steps};
+use cq_base::{Memory, Steps};
 use cq_io::{Sink, Source};
 use cq_lines::{End, Lines};
 use cq_tokfile::{Loaded, Snapshot, decode};
@@ -28,17 +28,15 @@ pub enum Asked {
 pub fn ask<R: Threads + Sync, L: Ledger, S: Source, K: Sink>(
     rt: &R,
     alloc: Global,
-    settings: &Settings,
     keyer: &Keyer,
     source: &mut S,
     sink: &mut K,
     steps: &mut Steps<L>,
 ) -> Result<Asked, Memory>
-    requires in_range { IsInRange settings.now }
-    requires settings { keyer.now.settings ≡ settings.now }
+    requires in_range { IsInRange keyer.now.settings }
     ensures asks { IfOk result
-        (Asks L S.Source K.Sink settings.now source.old source.new sink.old sink.new) }
-    ensures no_line { OnErr result (TakesNoLine L S.Source settings.now source.old source.new) }
+        (Asks L S.Source K.Sink keyer.now.settings source.old source.new sink.old sink.new) }
+    ensures no_line { OnErr result (TakesNoLine L S.Source keyer.now.settings source.old source.new) }
     ensures unwritten { OnErr result (sink.new ≡ sink.old) }
 {
     let bytes = match take_front(alloc, source)? {
@@ -46,16 +44,16 @@ pub fn ask<R: Threads + Sync, L: Ledger, S: Source, K: Sink>(
         Front::Other => return Ok(Asked::Refused),
         Front::Failed => return Ok(Asked::Ended(End::ReadFault)),
     };
-    let found: Option<Snapshot<L>> = decode(alloc, settings, keyer, &bytes)?;
+    let found: Option<Snapshot<L>> = decode(alloc, keyer, &bytes)?;
     let Some(snapshot) = found else {
         return Ok(Asked::Refused);
     };
     let mut loaded = Loaded::new(alloc, &snapshot)?;
-    let mut lines = Lines::new(alloc, settings.byte_limit)?;
+    let mut lines = Lines::new(alloc, keyer.settings.byte_limit)?;
     let end = ask_lines(
         rt,
         alloc,
-        settings,
+        &keyer.settings,
         &snapshot,
         &mut loaded,
         &mut lines,

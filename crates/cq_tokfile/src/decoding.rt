@@ -8,7 +8,7 @@ ghost use Rattle.cq_tokform.specs.Sound.{IsSoundWhole};
 ghost use Rattle.cq_tokfile.specs.Snapshot as spec;
 
 use crate::snapshot::Snapshot;
-use cq_base::{Keys, Lang, Memory, Norm, Settings, Spelled};
+use cq_base::{Keys, Lang, Memory, Norm, Spelled};
 use cq_normal::spans_of;
 use cq_projects::{Held, ProjectFiles};
 use cq_tokens::Tokens;
@@ -129,15 +129,13 @@ fn held_all<L: Ledger>(
 // The snapshot of sound contents.
 fn snapshot_of<L: Ledger>(
     alloc: Global,
-    settings: &Settings,
     keyer: &Keyer,
     contents: ContentsRecord,
 ) -> Result<Snapshot<L>, Memory>
-    requires some { 1 ≤ settings.now.chunk }
-    requires settings { keyer.now.settings ≡ settings.now }
-    requires sound { IsSoundWhole settings.now (listed contents) }
+    requires some { 1 ≤ keyer.now.settings.chunk }
+    requires sound { IsSoundWhole keyer.now.settings (listed contents) }
     ensures same { IfOk result (λ snapshot. spec.contents_of snapshot ≡ listed contents) }
-    ensures sound { IfOk result (λ snapshot. spec.IsSoundSnapshot settings.now snapshot) }
+    ensures sound { IfOk result (λ snapshot. spec.IsSoundSnapshot keyer.now.settings snapshot) }
 {
     let ContentsRecord {
         head,
@@ -159,20 +157,18 @@ fn snapshot_of<L: Ledger>(
 /// costs, and takes memory only for what it has read.
 pub fn decode<L: Ledger>(
     alloc: Global,
-    settings: &Settings,
     keyer: &Keyer,
     bytes: &[u8],
 ) -> Result<Option<Snapshot<L>>, Memory>
-    requires some { 1 ≤ settings.now.chunk }
-    requires settings { keyer.now.settings ≡ settings.now }
-    ensures { IfOk result (λ snapshot. spec.Decodes settings.now bytes.now snapshot) }
+    requires some { 1 ≤ keyer.now.settings.chunk }
+    ensures { IfOk result (λ snapshot. spec.Decodes keyer.now.settings bytes.now snapshot) }
 {
-    match read_whole(alloc, settings, bytes) {
+    match read_whole(alloc, &keyer.settings, bytes) {
         Ok((contents, rest)) => {
             if !rest.is_empty() {
                 return Ok(None);
             }
-            Ok(Some(snapshot_of(alloc, settings, keyer, contents)?))
+            Ok(Some(snapshot_of(alloc, keyer, contents)?))
         }
         Err(Unread::Refused) => Ok(None),
         Err(Unread::Memory) => Err(Memory),

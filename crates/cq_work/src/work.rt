@@ -1,11 +1,11 @@
-ghost use Rattle.std.specs.Prelude.{◌≡◌, ◌≤◌, length, IfOk, IsUtf8};
+ghost use Rattle.std.specs.Prelude.{◌≤◌, length, IfOk, IsUtf8};
 ghost use Rattle.std.specs.Arc.{arc_value};
 ghost use Rattle.cq_work.specs.Work.{IsWorkOf};
 
 use crate::Keyer;
 use crate::counting::{counts_of, early_counts};
 use crate::lexing::{lexed, parts_of, state_of};
-use cq_base::{FileCounts, Keys, Lang, Memory, Settings, Text, Token};
+use cq_base::{FileCounts, Keys, Lang, Memory, Text, Token};
 use cq_func::{Function, functions};
 use cq_normal::{Normal, normalise};
 use cq_tokens::Tokens;
@@ -40,23 +40,21 @@ pub struct Work<L: Ledger> {
 /// The work of a text.
 pub fn work_of<L: Ledger>(
     alloc: Global,
-    settings: &Settings,
     keyer: &Keyer,
     lang: Lang,
     text: &Text,
 ) -> Result<Work<L>, Memory>
     requires utf8 { IsUtf8 text.now }
     requires short { length text.now ≤ 1048576 }
-    requires some { 1 ≤ settings.now.chunk }
-    requires settings { keyer.now.settings ≡ settings.now }
-    ensures { IfOk result (IsWorkOf settings.now lang text.now) }
+    requires some { 1 ≤ keyer.now.settings.chunk }
+    ensures { IfOk result (IsWorkOf keyer.now.settings lang text.now) }
 {
     let answer = lexed(alloc, lang, text)?;
     let state = state_of(&answer);
     let (found, marks) = parts_of(alloc, answer);
     let early = early_counts(alloc, lang, state, &found, &marks)?;
     let functions = functions(alloc, lang, &found)?;
-    let Normal { norms, spans } = normalise(alloc, settings, lang, found, &marks)?;
+    let Normal { norms, spans } = normalise(alloc, &keyer.settings, lang, found, &marks)?;
     let counts = counts_of(alloc, text, early, &spans)?;
     let keys = Arc::new(alloc, keyer.keys(alloc, &norms)?)?;
     let tokens = Arc::new(alloc, Tokens::new(alloc, &norms)?)?;
@@ -74,17 +72,15 @@ pub fn work_of<L: Ledger>(
 /// The work of a job's text, with an owner to hand to a hub or a board.
 pub fn work_for<L: Ledger>(
     alloc: Global,
-    settings: &Settings,
     keyer: &Keyer,
     lang: Lang,
     text: &Text,
 ) -> Result<Arc<Work<L>, Global>, Memory>
     requires utf8 { IsUtf8 text.now }
     requires short { length text.now ≤ 1048576 }
-    requires some { 1 ≤ settings.now.chunk }
-    requires settings { keyer.now.settings ≡ settings.now }
-    ensures { IfOk result (λ work. IsWorkOf settings.now lang text.now (arc_value work)) }
+    requires some { 1 ≤ keyer.now.settings.chunk }
+    ensures { IfOk result (λ work. IsWorkOf keyer.now.settings lang text.now (arc_value work)) }
 {
-    let work = work_of(alloc, settings, keyer, lang, text)?;
+    let work = work_of(alloc, keyer, lang, text)?;
     Ok(Arc::new(alloc, work)?)
 }

@@ -1,8 +1,15 @@
-use Rattle.std.proofs.Common.{refl, sym, subst}
+use Rattle.std.proofs.Common.{◌∙◌, refl, sym, subst}
+use Rattle.cq_base.specs.Settings.{IsInRange}
 use Rattle.cq_cells.specs.Passes.{by_of}
 use Rattle.cq_talk.specs.Gathered.{StaysQuiet}
 use Rattle.cq_beside.proofs.Gathering.{labour_quiet}
 use Rattle.cq_beside.proofs.joining.labour.Goals as goal
+
+pub work-requires-clause-in_range : goal.work-requires-clause-in_range
+work-requires-clause-in_range g c = subst IsInRange (sym c.plain-keyer.ensures) c.requires.in_range
+
+pub work-requires-clause-hub_settings : goal.work-requires-clause-hub_settings
+work-requires-clause-hub_settings g c = c.requires.settings ∙ sym c.plain-keyer.ensures
 
 pub returns : goal.returns
 returns g c =

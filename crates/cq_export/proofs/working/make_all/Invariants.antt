@@ -5,6 +5,6 @@ use Rattle.cq_history.specs.State.{ready}
 
 abbrev pub invariant-changes : goal.invariant-changes
 invariant-changes g l = record {
-  goes : GoesOn l.settings l.initial.board l.board;
+  goes : GoesOn l.keyer.settings l.initial.board l.board;
   made : l.i ≤ ready l.board.state;
 }

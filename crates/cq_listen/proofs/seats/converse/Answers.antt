@@ -1,7 +1,14 @@
 use Rattle.cq_cells.specs.Passes.{by_of}
-use Rattle.std.proofs.Common.{◌∙◌}
+use Rattle.std.proofs.Common.{◌∙◌, subst}
+use Rattle.cq_base.specs.Settings.{IsInRange}
 use Rattle.cq_listen.proofs.Seating.{stands, seated_behind, limit_of}
 use Rattle.cq_listen.proofs.seats.converse.Goals as goal
+
+pub session-end-requires-clause-in_range : goal.session-end-requires-clause-in_range
+session-end-requires-clause-in_range g c κs lives = subst IsInRange (c.seat.view_is ∙ c.requires) c.seat.invariant.seated.in_range
+
+pub session-end-requires-clause-hub_settings : goal.session-end-requires-clause-hub_settings
+session-end-requires-clause-hub_settings g c κs lives = c.seat.invariant.seated.settings ∙ (c.seat.view_is ∙ c.requires)
 
 pub session-end-requires-clause-closed : goal.session-end-requires-clause-closed
 session-end-requires-clause-closed g c κs lives =

@@ -12,5 +12,5 @@ query_reply-requires-clause-scope g c κs lives = subst (λ (q : Query). HasScop
 pub returns : goal.returns
 returns g c = record {
   reply = IfOk-weaker c.query_reply.result _ _ (λ reply led by h stands closed always. lead_weaker _ _ by _ _ _ _ (led by h stands closed (omega arith))
-      (λ later is. answered_by _ c.args.settings.now by h c.in_ok-query.query c.args.kind reply later c.requires.hub_settings c.in_ok-query.ensures is.0)) c.query_reply.ensures.replies;
+      (λ later is. answered_by _ c.args.server.now.keyer.now.settings by h c.in_ok-query.query c.args.kind reply later c.requires.hub_settings c.in_ok-query.ensures is.0)) c.query_reply.ensures.replies;
 }

@@ -8,15 +8,15 @@ use Rattle.cq_serve.proofs.taking.turn.Goals as goal
 
 pub returns-in-Err-clause-turned : goal.returns-in-Err-clause-turned
 returns-in-Err-clause-turned g c = λ by h stands.
-    no_events g.H.Hub c.args.hub.now (g.H.Hub.settings c.args.hub.now) (g.met.H.Hub.lawful c.args.hub.now) by h c.take.new.pass _ _ (c.in-Err.ensures.refused by h stands) (λ others says. others)
+    no_events g.H.Hub c.args.server.now.hub.now (g.H.Hub.settings c.args.server.now.hub.now) (g.met.H.Hub.lawful c.args.server.now.hub.now) by h c.take.new.pass _ _ (c.in-Err.ensures.refused by h stands) (λ others says. others)
 
 pub returns-in-Ok-None-clause-turned : goal.returns-in-Ok-None-clause-turned
 returns-in-Ok-None-clause-turned g c = λ by h stands.
-    no_events g.H.Hub c.args.hub.now (g.H.Hub.settings c.args.hub.now) (g.met.H.Hub.lawful c.args.hub.now) by h c.take.new.pass _ _ ((rw c.in-Ok-None.field-0-is at c.in-Ok-None.ensures.taken) by h stands) (λ others says. (others, says))
+    no_events g.H.Hub c.args.server.now.hub.now (g.H.Hub.settings c.args.server.now.hub.now) (g.met.H.Hub.lawful c.args.server.now.hub.now) by h c.take.new.pass _ _ ((rw c.in-Ok-None.field-0-is at c.in-Ok-None.ensures.taken) by h stands) (λ others says. (others, says))
 
 pub returns-in-Err-work_for-clause-turned : goal.returns-in-Err-work_for-clause-turned
 returns-in-Err-work_for-clause-turned g c = λ by h stands.
-    let hub = c.args.hub.now in
+    let hub = c.args.server.now.hub.now in
     let set = g.H.Hub.settings hub in
     let law = g.met.H.Hub.lawful hub in
     let a = c.take.new.pass in
@@ -27,7 +27,7 @@ returns-in-Err-work_for-clause-turned g c = λ by h stands.
 
 pub finish-requires : goal.finish-requires
 finish-requires g c =
-    let hub = c.args.hub.now in
+    let hub = c.args.server.now.hub.now in
     let set = g.H.Hub.settings hub in
     let law = g.met.H.Hub.lawful hub in
     let a = c.take.new.pass in
@@ -50,7 +50,7 @@ finish-requires g c =
 
 pub returns-in-Done-clause-turned : goal.returns-in-Done-clause-turned
 returns-in-Done-clause-turned g c = λ by h stands.
-    let hub = c.args.hub.now in
+    let hub = c.args.server.now.hub.now in
     let r = c.in-Ok-Some.job.change in
     let took = (rw c.in-Ok-Some.field-0-is at c.in-Ok-Some.ensures.taken) by h stands in
     let done = c.finish.ensures.done c.in-Done.is by (took.mid ++ Took by r ∷ []) took.stands in
@@ -59,7 +59,7 @@ returns-in-Done-clause-turned g c = λ by h stands.
 
 pub returns-clause-turned : goal.returns-clause-turned
 returns-clause-turned g c = λ by h stands.
-    let hub = c.args.hub.now in
+    let hub = c.args.server.now.hub.now in
     let r = c.in-Ok-Some.job.change in
     let took = (rw c.in-Ok-Some.field-0-is at c.in-Ok-Some.ensures.taken) by h stands in
     let call = c.finish.ensures.already c.in-Already.is by (took.mid ++ Took by r ∷ []) took.stands in

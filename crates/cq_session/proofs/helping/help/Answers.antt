@@ -13,7 +13,7 @@ pub help_down-requires-clause-accepted : goal.help_down-requires-clause-accepted
 help_down-requires-clause-accepted g c =
     let r = c.requires.accepted in
     let led = c.rounds.invariant.led r.0 r.1 r.2 r.3.0 r.3.1.0 in
-    let more = no_fewer (g.H.Hub.callers c.args.hub.now) _ _ r.0 r.1 led.after _ led.holds.grows in
+    let more = no_fewer (g.H.Hub.callers c.args.server.now.hub.now) _ _ r.0 r.1 led.after _ led.holds.grows in
     let few = r.3.1.1 in
     let low = c.min-until.ensures in
     (r.0, led.after, led.stands, (led.closed, (led.holds.so, omega (arith, more, few, low))))

@@ -5,7 +5,7 @@ use Rattle.cq_session.proofs.helping.help.Given as goal
 
 abbrev pub invariant-rounds : goal.invariant-rounds
 invariant-rounds g l = record {
-  led : Led g.H.Hub.Stands (g.H.Hub.callers l.hub) l.hub l.fn.pass l.pass (λ h. l.done ≤ ready (state (g.H.Hub.callers l.hub) h)) (λ c h. Helps g.H.Hub.alone c l.to h (λ after. l.from ≤ ready (state (g.H.Hub.callers l.hub) after)));
+  led : Led g.H.Hub.Stands (g.H.Hub.callers l.server.hub.now) l.server.hub.now l.fn.pass l.pass (λ h. l.done ≤ ready (state (g.H.Hub.callers l.server.hub.now) h)) (λ c h. Helps g.H.Hub.alone c l.to h (λ after. l.from ≤ ready (state (g.H.Hub.callers l.server.hub.now) after)));
   asked : g.H.Hub.asked l.pass ≡ g.H.Hub.asked l.fn.pass;
 }
 

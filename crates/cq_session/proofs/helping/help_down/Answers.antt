@@ -20,7 +20,7 @@ help_one-requires-clause-accepted g c =
     let r = c.requires.accepted in
     let led = c.changes.invariant.led r.0 r.1 r.2 r.3.0 r.3.1.0 in
     let past = c.changes-test.true in
-    (r.0, led.after, led.stands, (led.closed, each_accepted _ r.0 c.args.to r.1 (g.H.Hub.callers c.args.hub.now) c.changes.left _ led.after r.3.1.1 (omega (arith, past)) c.changes.invariant.low led.holds))
+    (r.0, led.after, led.stands, (led.closed, each_accepted _ r.0 c.args.to r.1 (g.H.Hub.callers c.args.server.now.hub.now) c.changes.left _ led.after r.3.1.1 (omega (arith, past)) c.changes.invariant.low led.holds))
 
 pub returns-in-Err-clause-refused : goal.returns-in-Err-clause-refused
 returns-in-Err-clause-refused g c = λ by h stands closed le.
@@ -43,7 +43,7 @@ changes-preserved g c = record {
         after = two.after;
         stands = two.stands;
         closed = two.closed;
-        holds = help_more _ by c.args.to h (g.H.Hub.settings c.args.hub.now) (g.H.Hub.callers c.args.hub.now) c.args.done c.changes.left led.after two.after (g.met.H.Hub.lawful _ _ by two.after two.stands) led.holds two.holds c.changes.invariant.low;
+        holds = help_more _ by c.args.to h (g.H.Hub.settings c.args.server.now.hub.now) (g.H.Hub.callers c.args.server.now.hub.now) c.args.done c.changes.left led.after two.after (g.met.H.Hub.lawful _ _ by two.after two.stands) led.holds two.holds c.changes.invariant.low;
       };
   asked = c.in-Ok.ensures.asked ∙ c.changes.invariant.asked;
 }

@@ -43,10 +43,10 @@ finish-requires g c =
       work = (
         r.0,
         first.mid,
-        stands_mid _ _ (g.H.Hub.callers c.args.hub.now) r.0 _ _ _ r.1 _ first,
+        stands_mid _ _ (g.H.Hub.callers c.args.server.now.hub.now) r.0 _ _ _ r.1 _ first,
         (
           first.says.0.0,
-          job_work (IsWorkOf (g.H.Hub.settings c.args.hub.now)) (state (g.H.Hub.callers c.args.hub.now) first.mid) c.args.change c.in-Ok-Some.job (arc_value c.in-Ok.work) first.says.1 first.says.2
+          job_work (IsWorkOf (g.H.Hub.settings c.args.server.now.hub.now)) (state (g.H.Hub.callers c.args.server.now.hub.now) first.mid) c.args.change c.in-Ok-Some.job (arc_value c.in-Ok.work) first.says.1 first.says.2
               (subst₂ (λ (set : Settings) (text : List ℕ). IsWorkOf set c.in-Ok-Some.job.lang text (arc_value c.in-Ok.work)) (sym c.requires.hub_settings) c.deref.ensures c.in-Ok.ensures),
         ),
       );
@@ -55,7 +55,7 @@ finish-requires g c =
 pub returns-in-Done-clause-done : goal.returns-in-Done-clause-done
 returns-in-Done-clause-done g c = λ by h stands closed always.
     let first = (rw c.in-Ok-Some.field-0-is at c.in-Ok-Some.ensures.job) by h stands in
-    let then = c.finish.ensures.done c.in-Done.is by first.mid (stands_mid _ _ (g.H.Hub.callers c.args.hub.now) by _ _ _ h _ first) in
+    let then = c.finish.ensures.done c.in-Done.is by first.mid (stands_mid _ _ (g.H.Hub.callers c.args.server.now.hub.now) by _ _ _ h _ first) in
     lead_event _ _ _ by _ _ _ first.mid (Done by c.args.change) _ _ then refl tt (view_grows _ _ _ by h first.mid [] first.others tt ∙ closed)
     (λ others says. record {
       finished = c.args.change ∷ [];
@@ -67,6 +67,6 @@ returns-in-Done-clause-done g c = λ by h stands closed always.
 pub returns-clause-done : goal.returns-clause-done
 returns-clause-done g c = λ by h stands closed always.
     let first = (rw c.in-Ok-Some.field-0-is at c.in-Ok-Some.ensures.job) by h stands in
-    let then = c.finish.ensures.already c.in-Already.is by first.mid (stands_mid _ _ (g.H.Hub.callers c.args.hub.now) by _ _ _ h _ first) in
+    let then = c.finish.ensures.already c.in-Already.is by first.mid (stands_mid _ _ (g.H.Hub.callers c.args.server.now.hub.now) by _ _ _ h _ first) in
     lead_none _ _ _ by _ _ _ first.mid _ _ then (view_grows _ _ _ by h first.mid [] first.others tt ∙ closed)
     (λ others says. record { finished = []; up_to = tt; grows = grows_then _ by _ h first.mid _ [] [] first.others others; so = says })

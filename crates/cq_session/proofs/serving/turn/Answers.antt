@@ -13,9 +13,9 @@ pub returns-clause-turns : goal.returns-clause-turns
 returns-clause-turns g c = λ by h stands closed named. lead_weaker _ _ by _ _ _ _ (c.told-line.ensures by h stands closed named)
     (λ later tells. record {
       reply = tells.reply;
-      answers = subst (λ (l : Said). Answers c.args.settings.now (g.H.Hub.callers c.args.hub.now) g.H.Hub.alone by c.args.seen.now h l tells.reply later) (sym (said_short c.args.settings.now.chunk c.args.line.now c.requires.short))
-          (subst (λ (set : Settings). Answers set (g.H.Hub.callers c.args.hub.now) g.H.Hub.alone by c.args.seen.now h (Read (line_says c.args.settings.now.chunk c.args.line.now)) tells.reply later) c.requires.hub_settings tells.answers);
-      spends = spends_as (g.H.Hub.settings c.args.hub.now) c.args.settings.now _ _ tells.reply by h later _ c.requires.hub_settings (said_short c.args.settings.now.chunk c.args.line.now c.requires.short) tells.spends;
+      answers = subst (λ (l : Said). Answers c.args.server.now.keyer.now.settings (g.H.Hub.callers c.args.server.now.hub.now) g.H.Hub.alone by c.args.seen.now h l tells.reply later) (sym (said_short c.args.server.now.keyer.now.settings.chunk c.args.line.now c.requires.short))
+          (subst (λ (set : Settings). Answers set (g.H.Hub.callers c.args.server.now.hub.now) g.H.Hub.alone by c.args.seen.now h (Read (line_says c.args.server.now.keyer.now.settings.chunk c.args.line.now)) tells.reply later) c.requires.hub_settings tells.answers);
+      spends = spends_as (g.H.Hub.settings c.args.server.now.hub.now) c.args.server.now.keyer.now.settings _ _ tells.reply by h later _ c.requires.hub_settings (said_short c.args.server.now.keyer.now.settings.chunk c.args.line.now c.requires.short) tells.spends;
       sends = subst (λ piece. Sends (g.K.Sink.written c.args.sink.now) (g.K.Sink.written c.send.new.sink) piece c.send.result) (c.as_bytes.ensures ∙ tells.bytes_are) c.send.ensures.bytes;
       seen_is = c.max.ensures ∙ ap (max c.args.seen.now) tells.named_is;
     })

@@ -15,8 +15,8 @@ pub returns-in-Ok : goal.returns-in-Ok
 returns-in-Ok g c = λ by h stands closed named. lead_weaker _ _ by _ _ _ _ (c.in-Ok.ensures.replies by h stands closed named)
     (λ later is. record {
       reply = reply.Memory;
-      answers = inl (refl, answer_given_up (g.H.Hub.settings c.args.hub.now) (g.H.Hub.callers c.args.hub.now) g.H.Hub.alone by c.args.seen h later (Read (line_says c.args.settings.now.chunk c.args.line.now)) c.in-Ok.reply c.in-Err-line_of.ensures.memory is.0);
-      spends = spends_untold (g.H.Hub.settings c.args.hub.now) by h later _ _ _ _ (Read (line_says c.args.settings.now.chunk c.args.line.now)) c.in-Ok.reply is.1;
+      answers = inl (refl, answer_given_up (g.H.Hub.settings c.args.server.now.hub.now) (g.H.Hub.callers c.args.server.now.hub.now) g.H.Hub.alone by c.args.seen h later (Read (line_says c.args.server.now.keyer.now.settings.chunk c.args.line.now)) c.in-Ok.reply c.in-Err-line_of.ensures.memory is.0);
+      spends = spends_untold (g.H.Hub.settings c.args.server.now.hub.now) by h later _ _ _ _ (Read (line_says c.args.server.now.keyer.now.settings.chunk c.args.line.now)) c.in-Ok.reply is.1;
       bytes_are = c.fixed.ensures;
       named_is = refl;
     })

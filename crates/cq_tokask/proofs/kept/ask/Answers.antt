@@ -16,7 +16,7 @@ returns-in-Failed-clause-asks g c =
       ended = refl;
       got = failed.0.0;
       taken = failed.0.1;
-      unfinished = other_is_no_file c.args.settings.now failed.0.0 failed.0.2;
+      unfinished = other_is_no_file c.args.keyer.now.settings failed.0.0 failed.0.2;
       rose = failed.1;
       unwritten = refl;
     })
@@ -24,7 +24,7 @@ returns-in-Failed-clause-asks g c =
 pub returns-in-Other-clause-asks : goal.returns-in-Other-clause-asks
 returns-in-Other-clause-asks g c =
     let other = rw c.in-Other.is at c.in_ok-bytes.ensures.takes in
-    (of_known (g.S.Source.rest c.args.source.now) _ _ (other_is_no_file c.args.settings.now) other.0, other.1, refl)
+    (of_known (g.S.Source.rest c.args.source.now) _ _ (other_is_no_file c.args.keyer.now.settings) other.0, other.1, refl)
 
 pub ask_lines-end-requires-clause-sound : goal.ask_lines-end-requires-clause-sound
 ask_lines-end-requires-clause-sound g c κs lives = let is = rw c.in-Some.is at c.in_ok-found.ensures in is.sound
@@ -36,8 +36,8 @@ pub returns-in_default-clause-asks : goal.returns-in_default-clause-asks
 returns-in_default-clause-asks g c =
     let taken = rw c.in-Framed.is at c.in_ok-bytes.ensures.takes in
     let none = rw c.in_default.is at c.in_ok-found.ensures in (
-      told_of (BeginsWithNoFile g.row.L.Denot g.S.Source g.K.Sink c.args.settings.now) _ _ c.in-Framed.bytes.items taken.1
-          (λ left. framed_is_no_file c.args.settings.now c.in-Framed.bytes.items left taken.0 (λ s is. none s (subst (IsTokenFile c.args.settings.now s) (sym c.deref.ensures.value) is))),
+      told_of (BeginsWithNoFile g.row.L.Denot g.S.Source g.K.Sink c.args.keyer.now.settings) _ _ c.in-Framed.bytes.items taken.1
+          (λ left. framed_is_no_file c.args.keyer.now.settings c.in-Framed.bytes.items left taken.0 (λ s is. none s (subst (IsTokenFile c.args.keyer.now.settings s) (sym c.deref.ensures.value) is))),
       taken.2,
       refl,
     )
@@ -50,10 +50,10 @@ returns-clause-asks g c =
       record {
         snapshot = c.in-Some.snapshot;
         file = c.in-Framed.bytes.items;
-        is_file = subst (λ (bytes : List ℕ). IsTokenFile c.args.settings.now c.in-Some.snapshot bytes) c.deref.ensures.value is;
+        is_file = subst (λ (bytes : List ℕ). IsTokenFile c.args.keyer.now.settings c.in-Some.snapshot bytes) c.deref.ensures.value is;
         behind = g.S.Source.rest c.take_front.new.source;
         taken = taken.1;
-        serves = subst (λ (n : ℕ). Serves line_of (AnswersLines c.in-Some.snapshot c.args.settings.now) n (g.S.Source.rest c.take_front.new.source) (g.S.Source.rest c.ask_lines-end.new.source) (g.K.Sink.written c.args.sink.now) (g.K.Sink.written c.ask_lines-end.new.sink) c.ask_lines-end.result) (ap (λ (h : Held). h.limit) c.in_ok-lines.ensures) c.ask_lines-end.ensures.served;
+        serves = subst (λ (n : ℕ). Serves line_of (AnswersLines c.in-Some.snapshot c.args.keyer.now.settings) n (g.S.Source.rest c.take_front.new.source) (g.S.Source.rest c.ask_lines-end.new.source) (g.K.Sink.written c.args.sink.now) (g.K.Sink.written c.ask_lines-end.new.sink) c.ask_lines-end.result) (ap (λ (h : Held). h.limit) c.in_ok-lines.ensures) c.ask_lines-end.ensures.served;
       },
       subst (λ (n : ℕ). HasEndCause n (g.S.Source.faults c.ask_lines-end.new.source) (g.K.Sink.faults c.args.sink.now) (g.K.Sink.faults c.ask_lines-end.new.sink) c.ask_lines-end.result) taken.2 c.ask_lines-end.ensures.cause,
     )
@@ -61,22 +61,22 @@ returns-clause-asks g c =
 pub returns-in_err-bytes-clause-no_line : goal.returns-in_err-bytes-clause-no_line
 returns-in_err-bytes-clause-no_line g c =
     let (got, taken, none) = c.in_err-bytes.ensures.none_behind in
-    on_err c.from_residual.result (record { got = got; taken = taken; none_behind = none_behind_file c.args.settings.now got none })
+    on_err c.from_residual.result (record { got = got; taken = taken; none_behind = none_behind_file c.args.keyer.now.settings got none })
 
 pub returns-in_err-found-clause-no_line : goal.returns-in_err-found-clause-no_line
 returns-in_err-found-clause-no_line g c =
     let taken = rw c.in-Framed.is at c.in_ok-bytes.ensures.takes in
     let bytes = c.in-Framed.bytes.items in
-    on_err c.from_residual-in_err-found.result (record { got = bytes; taken = taken.1; none_behind = none_behind_file c.args.settings.now bytes (framed_alone bytes taken.0) })
+    on_err c.from_residual-in_err-found.result (record { got = bytes; taken = taken.1; none_behind = none_behind_file c.args.keyer.now.settings bytes (framed_alone bytes taken.0) })
 
 pub returns-in_err-loaded-clause-no_line : goal.returns-in_err-loaded-clause-no_line
 returns-in_err-loaded-clause-no_line g c =
     let taken = rw c.in-Framed.is at c.in_ok-bytes.ensures.takes in
     let bytes = c.in-Framed.bytes.items in
-    on_err c.from_residual-in_err-loaded.result (record { got = bytes; taken = taken.1; none_behind = none_behind_file c.args.settings.now bytes (framed_alone bytes taken.0) })
+    on_err c.from_residual-in_err-loaded.result (record { got = bytes; taken = taken.1; none_behind = none_behind_file c.args.keyer.now.settings bytes (framed_alone bytes taken.0) })
 
 pub returns-in_err-lines-clause-no_line : goal.returns-in_err-lines-clause-no_line
 returns-in_err-lines-clause-no_line g c =
     let taken = rw c.in-Framed.is at c.in_ok-bytes.ensures.takes in
     let bytes = c.in-Framed.bytes.items in
-    on_err c.from_residual-in_err-lines.result (record { got = bytes; taken = taken.1; none_behind = none_behind_file c.args.settings.now bytes (framed_alone bytes taken.0) })
+    on_err c.from_residual-in_err-lines.result (record { got = bytes; taken = taken.1; none_behind = none_behind_file c.args.keyer.now.settings bytes (framed_alone bytes taken.0) })

@@ -21,4 +21,4 @@ pub returns-clause-said : goal.returns-clause-said
 returns-clause-said g c =
     let p = c.args.pass.now in
     let lead = c.session-end.ensures.served (by_of p) p.seen (record { is = c.requires.of; caller = refl; seen = refl }) c.requires.closed tt in
-    (told_as g.S.Source g.K.Sink c.args.self.settings.now (callers_of c.args.hub.now) (by_of p) p.seen _ _ _ _ _ _ _ _ _ _ _ _ c.requires.unasked lead.stands.seen lead.holds, c.session-end.ensures.cause, refl, refl, refl)
+    (told_as g.S.Source g.K.Sink c.args.self.keyer.now.settings (callers_of c.args.hub.now) (by_of p) p.seen _ _ _ _ _ _ _ _ _ _ _ _ c.requires.unasked lead.stands.seen lead.holds, c.session-end.ensures.cause, refl, refl, refl)

@@ -1,0 +1,16 @@
+-- What answers lines one by one, and the replies that it has given so far.
+use Rattle.std.specs.Prelude.{ℕ, ◌<◌, List, [], ◌∷◌, ◌++◌, length, Option, Result}
+use Rattle.cq_io.specs.Sending.{Sends}
+use Rattle.cq_lines.specs.Pieces.{line_limit}
+
+-- over what answers, the bytes of a reply, how the answering may have begun, and that lines have these replies from such a
+-- beginning, between what it was then and what it is now
+module _ {A F R : Type 0} (line_of : R → List ℕ) (AreReplies : F → A → A → List (List ℕ) → List R → Type 0) where
+  -- the line has a reply after those before it, which was sent, or a front of it if the sink failed
+  abbrev pub AnswersLine : {E : Type 0} → A → A → List ℕ → Option (List ℕ) → Option (List ℕ) → Result (Unit {0}) E → Type 0
+  AnswersLine old new line before after result =
+      (from : F) (first : A) (lines : List (List ℕ)) (replies : List R) → AreReplies from first old lines replies → (reply : R) × AreReplies from first new (lines ++ line ∷ []) (replies ++ reply ∷ []) × Sends before after (line_of reply) result
+
+  -- it is so, whichever line it was that is too long
+  abbrev pub AnswersLong : {E : Type 0} → A → A → Option (List ℕ) → Option (List ℕ) → Result (Unit {0}) E → Type 0
+  AnswersLong old new before after result = (line : List ℕ) → line_limit < length line → AnswersLine old new line before after result
