@@ -1,11 +1,15 @@
 -- One more line of a talk.
-use Rattle.std.proofs.Common.{◌≡◌, ℕ, ◌≤◌, List, [], ◌∷◌, ◌++◌, length, map, max, refl, sym, ap, ◌∙◌, subst}
+use Rattle.std.proofs.Common.{◌≡◌, ℕ, ◌≤◌, List, [], ◌∷◌, ◌++◌, length, map, max, Option, refl, sym, ap, ◌∙◌, subst}
 use Rattle.std.proofs.lemmas.List.{map-append}
 use Rattle.cq_base.specs.declared.settings.Settings.{Settings}
 use Rattle.cq_history.specs.declared.event.Event.{Event}
 use Rattle.cq_history.specs.State.{accepted}
 use Rattle.cq_history.specs.Lawful.{Lawful}
+use Rattle.cq_lines.specs.Serving.{Serves}
+use Rattle.cq_lines.specs.declared.ending.End.{End}
+use Rattle.cq_lines.proofs.Serving.{serves_as, serves_by}
 use Rattle.cq_reply.specs.declared.reply.Reply.{Reply}
+use Rattle.cq_reply.specs.Written.{line_of}
 use Rattle.cq_talk.specs.Replies.{named}
 use Rattle.cq_talk.specs.Said.{Said, said}
 use Rattle.cq_talk.specs.Talk.{Answers}
@@ -38,3 +42,11 @@ module _ (set : Settings) (callers : ℕ) (alone : Type 0) (c : ℕ) (h : List E
 
     pub still_within : Lawful set callers after → seen ≤ length (accepted now) → seen_now ≤ length (accepted after)
     still_within law within = subst (λ (n : ℕ). n ≤ length (accepted after)) (sym is) (named_few set callers alone c seen now after (said set.chunk line) r law within answers)
+
+-- what is so whichever the lines were is taken out of what was served
+module _ {A B C D : Type 0} (Talked : List (List ℕ) → List Reply → Type 0) where
+  pub serves_with : (limit : ℕ) (rest rest_now before written_now : Option (List ℕ)) (by : End) → Serves line_of (λ lines replies. Talked lines replies × A × B × C × D) limit rest rest_now before written_now by → A × B × C × D × Serves line_of Talked limit rest rest_now before written_now by
+  serves_with limit rest rest_now before written_now by is =
+      let (so, both, served) = serves_by line_of (λ (so : A × B × C × D). Unit {0}) (λ (so : A × B × C × D). Talked) limit rest rest_now before written_now by
+      (serves_as line_of _ _ (λ lines replies talked. ((talked.1, talked.2, talked.3, talked.4), tt, talked.0)) limit rest rest_now before written_now by is) in
+      (so.0, so.1, so.2, so.3, served)

@@ -61,8 +61,8 @@ fn state_reply<W: Indexed, H: Hub<W>>(hub: &H, pass: &mut H::Pass) -> Reply
     }
 }
 
-/// The reply to a query whose floor is at least `seen`. Behind an answer by a view the hub is swept. Where memory is
-/// refused, what was done is a beginning of what the query does.
+/// The reply to a query whose floor is at least `seen`. After an answer by a view the hub is swept. If memory runs
+/// out, what was done is a beginning of what the query does.
 pub fn query_reply<R: Threads + Sync, L: Ledger, H: Hub<Work<L>>, G: Gate>(
     rt: &R,
     server: &Server<'_, H, G>,
@@ -99,7 +99,7 @@ pub fn query_reply<R: Threads + Sync, L: Ledger, H: Hub<Work<L>>, G: Gate>(
     view_reply(rt, server, query, asked.done, pass, steps)
 }
 
-/// The reply to what a line says. Where memory is refused, what was done is a beginning of what the line does.
+/// The reply to what a line says. If memory runs out, what was done is a beginning of what the line does.
 pub(crate) fn reply_to<R: Threads + Sync, L: Ledger, H: Hub<Work<L>>, G: Gate>(
     rt: &R,
     server: &Server<'_, H, G>,

@@ -74,7 +74,8 @@ impl<'a, 's, 'p, 'c, R: Threads + Sync, L: Ledger, H: Hub<Work<L>>, G: Gate> Ans
         HasTalked H.Hub now.server.now.keyer.now.settings now.server.now.hub.now from
         (counted first.steps.now now.steps.now (H.asked first.pass.now) (H.asked now.pass.now))
         now.pass.now now.seen lines replies
-        × (now.server.now.keyer.now.settings ≡ first.server.now.keyer.now.settings) × (now.server.now.hub.now ≡ first.server.now.hub.now) };
+        × (now.server.now.keyer.now.settings ≡ first.server.now.keyer.now.settings) × (now.server.now.hub.now ≡ first.server.now.hub.now)
+        × (now.pass.ghost_name ≡ first.pass.ghost_name) × (now.steps.ghost_name ≡ first.steps.ghost_name) };
 
     ghost ready = { λ t. IsSync R.row × IsInRange t.server.now.keyer.now.settings
         × (H.settings t.server.now.hub.now ≡ t.server.now.keyer.now.settings)
@@ -99,9 +100,9 @@ impl<'a, 's, 'p, 'c, R: Threads + Sync, L: Ledger, H: Hub<Work<L>>, G: Gate> Ans
 
 /// Answers the lines of a source one by one by calls of a hub, whose pass has no view open. Windows have the keys of
 /// `keyer`. Each whole reply is handed to the sink before the next line is cut. Afterwards the pass stands for the
-/// history to which the talk came, with no view open. Behind each answer by a view, and before it is written, the hub is
-/// swept; want of memory there is let go. The gate is told of each accepted change, of each work before it is
-/// made, of each shard that was brought up and of each view that was opened. The cutter keeps its limit, so that it may be
+/// history to which the talk came, with no view open. After each answer by a view, and before it is written, the hub is
+/// swept; if memory runs out there, the next sweep goes on. Each accepted change, each work before it is done, each shard
+/// that was brought up and each view that was opened is reported to the gate. The cutter keeps its limit, so that it may be
 /// restarted for another source.
 pub fn session<R: Threads + Sync, L: Ledger, H: Hub<Work<L>>, S: Source, K: Sink, G: Gate>(
     rt: &R,

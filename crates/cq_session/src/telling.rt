@@ -13,7 +13,7 @@ use cq_work::Work;
 use std::sync::ledger::Ledger;
 use std::thread::Threads;
 
-// The number that a reply names as change, version or published, and 0 where it names none.
+// The number that a reply names as change, version or published, or 0 if it names none.
 fn named(reply: &Reply) -> u64
     ensures { result ≡ named_in reply.now }
 {
@@ -29,7 +29,7 @@ fn named(reply: &Reply) -> u64
     }
 }
 
-/// The line that tells the reply to a line, and the number that the reply names.
+/// The line of the reply to a line, and the number that the reply names.
 pub(crate) fn told<R: Threads + Sync, L: Ledger, H: Hub<Work<L>>, G: Gate>(
     rt: &R,
     server: &Server<'_, H, G>,

@@ -25,6 +25,8 @@ returns-clause-sent g c = λ from first lines replies so.
         },
         so.1,
         so.2,
+        so.3,
+        so.4,
       ),
       two.holds.sends,
     )

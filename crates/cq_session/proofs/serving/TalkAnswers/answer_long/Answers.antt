@@ -23,6 +23,8 @@ returns-clause-sent g c = λ line long from first lines replies so.
         },
         so.1,
         so.2,
+        so.3,
+        so.4,
       ),
       subst (λ piece. Sends (g.K.Sink.written c.args.sink.now) (g.K.Sink.written c.send.new.sink) piece c.send.result) (c.as_bytes.ensures.bytes ∙ c.fixed.ensures) c.send.ensures.bytes,
     )
