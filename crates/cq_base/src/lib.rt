@@ -27,7 +27,7 @@ pub use group::{Group, Place, Places};
 pub use keys::Keys;
 pub use lang::Lang;
 pub use laws::tables_are_read_back;
-pub use lines::{line_count, line_further, line_of};
+pub use lines::{line_count, line_of};
 pub use measures::{FileCounts, Measures, Metric};
 pub use memory::Memory;
 pub use norm::Norm;
