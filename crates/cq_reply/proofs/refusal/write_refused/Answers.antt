@@ -17,6 +17,6 @@ pub returns-in-Some-count : goal.returns-in-Some-count
 returns-in-Some-count c =
     on_ok_weaker c.write_counted.result (λ v. same_value (counted_is c.args.why.now _ c.in-None.ensures c.in-Some-count.ensures c.code-code.ensures c.word-word.ensures) v) c.write_counted.ensures
 
-pub returns : goal.returns
-returns c =
+pub returns-in-None-count : goal.returns-in-None-count
+returns-in-None-count c =
     on_ok_weaker c.write_refusal.result (λ v. same_value (plain_is c.args.why.now c.in-None.ensures c.in-None-count.ensures c.code-code.ensures c.word-word.ensures) v) c.write_refusal.ensures
