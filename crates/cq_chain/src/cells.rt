@@ -1,4 +1,4 @@
-ghost use Rattle.std.specs.Prelude.{◌≡◌, ℕ, ◌+◌, ◌^◌, ◌<◌, ◌≤◌, max, List, [], ◌++◌, length, Option, IfOk, IfSome, option_to_list};
+ghost use Rattle.std.specs.Prelude.{◌≡◌, ℕ, ◌+◌, ◌^◌, ◌<◌, ◌≤◌, max, [], ◌++◌, length, Option, IfOk, IfSome, option_to_list};
 ghost use mathlib.Core.List.{IsPrefix};
 ghost use Rattle.cq_history.specs.declared.event.Event.{Event as Happened};
 ghost use Rattle.cq_history.specs.State.{view_of};
