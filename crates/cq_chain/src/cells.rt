@@ -17,7 +17,7 @@ use cq_board::Board;
 use cq_history::Event;
 use cq_shard::{Indexed, Shard};
 use std::alloc::Global;
-use std::marker::{Brand, Model};
+use std::marker::Model;
 use std::sync::Wait;
 
 /// A caller's right to step on the cells of a board and its shards.
