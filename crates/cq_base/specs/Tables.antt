@@ -19,7 +19,7 @@ with_code code_of xs code = find (λ x. code_of x == code) xs
 abbrev pub with_name : {X : Type 0} → (X → List ℕ) → List X → List ℕ → Option X
 with_name name_of xs name = find (λ x. bytes_eq (name_of x) name) xs
 
--- each is found by its code, and what is found has the code; the same of names
+-- each is found by its code, and what is found has that code; the same for names
 pub record AreCoded {X : Type 0} (code_of : X → ℕ) (xs : List X) : Type 0 where
   pub found : (x : X) → with_code code_of xs (code_of x) ≡ Some x
   pub only : (code : ℕ) (x : X) → with_code code_of xs code ≡ Some x → code ≡ code_of x

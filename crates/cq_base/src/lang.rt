@@ -14,7 +14,7 @@ pub enum Lang {
 
 const LANGS: [Lang; 4] = [Lang::Any, Lang::Go, Lang::C, Lang::Java];
 
-// The first of this name.
+// The first with this name.
 fn first_named(langs: &[Lang], name: &str) -> Option<Lang>
     ensures { result ≡ with_name lang_name langs.now name.now }
 {
@@ -27,7 +27,7 @@ fn first_named(langs: &[Lang], name: &str) -> Option<Lang>
 }
 
 impl Lang {
-    /// All of them.
+    /// All languages.
     pub fn all() -> &'static [Lang]
         ensures { result.now ≡ langs }
     {
@@ -70,14 +70,14 @@ impl Lang {
         self.name() == name
     }
 
-    /// The one with this code.
+    /// The language with this code.
     pub fn of_code(code: u8) -> Option<Lang>
         ensures { result ≡ lang_coded code }
     {
         Lang::all().iter().find(|lang| lang.has_code(code)).copied()
     }
 
-    /// The one of this name.
+    /// The language with this name.
     pub fn named(name: &str) -> Option<Lang>
         ensures { result ≡ lang_named name.now }
     {

@@ -1,6 +1,6 @@
 //! Plain values that every layer shares: texts and their lines, tokens as they are read and as they are compared,
-//! places, groups, settings, refusals, and the counter of steps. What keys, token files, requests and replies name has its
-//! codes and names here, in one table each. A contract above sees each as a list, a number or a record.
+//! places, groups, settings, refusals, and the counter of steps. The codes and names that keys, token files, requests and
+//! replies use are here, in one table each. A contract above sees each as a list, a number or a record.
 //! Nothing here costs more than one walk over the bytes or items that it is given.
 #![tactic(auto)]
 

@@ -42,7 +42,7 @@ fn first_coded(metrics: &[Metric], code: u8) -> Option<Metric>
     None
 }
 
-// The first of this name.
+// The first with this name.
 fn first_named(metrics: &[Metric], name: &str) -> Option<Metric>
     ensures { result ≡ with_name metric_name metrics.now name.now }
 {
@@ -55,7 +55,7 @@ fn first_named(metrics: &[Metric], name: &str) -> Option<Metric>
 }
 
 impl Metric {
-    /// All of them, in the order of their names, as replies have them.
+    /// All metrics, in the order of their names, as replies list them.
     pub fn all() -> &'static [Metric]
         ensures { result.now ≡ metrics }
     {
@@ -106,14 +106,14 @@ impl Metric {
         self.name() == name
     }
 
-    /// The one with this code.
+    /// The metric with this code.
     pub fn of_code(code: u8) -> Option<Metric>
         ensures { result ≡ metric_coded code }
     {
         first_coded(Metric::all(), code)
     }
 
-    /// The one of this name.
+    /// The metric with this name.
     pub fn named(name: &str) -> Option<Metric>
         ensures { result ≡ metric_named name.now }
     {
@@ -147,7 +147,7 @@ pub struct Measures {
 }
 
 impl Measures {
-    /// Those of no file.
+    /// The measures of no file, all of them 0.
     pub fn none() -> Measures
         ensures { result ≡ no_measures }
     {
@@ -163,7 +163,7 @@ impl Measures {
         }
     }
 
-    /// The number for a metric.
+    /// The number of a metric.
     pub fn get(&self, metric: Metric) -> u64
         ensures { result ≡ measure_of metric self.now }
     {

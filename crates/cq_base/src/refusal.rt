@@ -6,29 +6,29 @@ use crate::Text;
 /// Why a line is refused: the first of these that applies. The last four depend on what the server has accepted.
 #[derive(Debug, Drop)]
 pub enum Refusal {
-    /// It is no JSON object.
+    /// It is not a JSON object.
     Json,
-    /// It names no request.
+    /// Its `op` is missing, or is that of no request.
     Op,
-    /// This member is missing or not of its form, or does not belong to the request.
+    /// This member is missing or malformed, or does not belong to the request.
     Field(Text),
-    /// The language is none that is read.
+    /// The language is unknown.
     Lang,
-    /// The path is none.
+    /// The path is not valid.
     Path,
     /// The text has more than 1,048,576 bytes.
     TooMuchText,
-    /// The least length is out of its range.
+    /// The least length is out of range.
     Min,
     /// The scope is not a path, or is given beside a path.
     Scope,
-    /// The version that is asked for is above this count of accepted changes.
+    /// The version that is asked for is greater than this number of accepted changes.
     Future(u64),
     /// There is no file to drop.
     Absent,
-    /// The limit on kept changes is reached, or 2^60 were accepted.
+    /// The limit on kept changes is reached, or 2^60 changes were accepted.
     FullChanges,
-    /// The text and all kept texts have more bytes than they may.
+    /// The text and all kept texts together have more bytes than the limit allows.
     FullText,
 }
 

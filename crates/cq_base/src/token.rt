@@ -19,7 +19,7 @@ pub enum Class {
 const CLASSES: [Class; 4] = [Class::Ident, Class::Word, Class::Literal, Class::Punct];
 
 impl Class {
-    /// All of them.
+    /// All classes.
     pub fn all() -> &'static [Class]
         ensures { result.now ≡ classes }
     {
@@ -38,7 +38,7 @@ impl Class {
         }
     }
 
-    /// The one with this code.
+    /// The class with this code.
     pub fn of_code(code: u8) -> Option<Class>
         ensures { result ≡ class_coded code }
     {
