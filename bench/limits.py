@@ -11,7 +11,7 @@ view is open, so none may be refused.
 It checks that each upload is accepted, with a number that rises; and that each answer includes the client's own last upload and has, for
 each of its paths, the change that the client uploaded there last. Printed are, for each tenth of the uploads, the median and the 99th
 percentile of the time of an upload's reply and of a query's, and the peak of the server's memory (VmHWM) at its end; and the numbers of
-`state` at the end. It exits with 1 if anything differs, if the peak grew by more than a twentieth after the first tenth, or if the median
+`state` at the end. It exits with 1 if anything differs, if the peak grew by more than 1 MiB after the first tenth, or if the median
 time of a query's or an upload's reply in the last tenth is more than half above that of the second.
 
 The program is ./cqd, or what the variable CQD names.
@@ -167,7 +167,7 @@ def run(given):
     accepted = share // PARTS * PARTS * given.clients
     must(state.get("accepted") == accepted, accepted, state)
     print(f"  at the end: {json.dumps(state)}")
-    must(parts[-1].memory <= parts[0].memory * 1.05, "memory", f"{parts[-1].memory:.1f} MiB, {parts[0].memory:.1f} MiB after the first tenth")
+    must(parts[-1].memory <= parts[0].memory + 1, "memory", f"{parts[-1].memory:.1f} MiB, {parts[0].memory:.1f} MiB after the first tenth")
     must(parts[-1].put <= parts[1].put * 1.5, "an upload", f"{parts[-1].put:.0f} us, {parts[1].put:.0f} us in the second tenth")
     must(parts[-1].asked <= parts[1].asked * 1.5, "a query", f"{parts[-1].asked:.0f} us, {parts[1].asked:.0f} us in the second tenth")
 
