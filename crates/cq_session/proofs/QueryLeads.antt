@@ -21,6 +21,7 @@ use Rattle.cq_session.proofs.LineCosts.{spends_asking, spends_shown, spends_give
 use Rattle.cq_session.proofs.Spending.{costs_none, costs_same}
 use Rattle.cq_talk.proofs.Leading.{lead_weaker}
 use Rattle.cq_talk.proofs.Queries.{AskFacts, ask_facts, floor_waiting, worked, worked_alone, waited}
+use Rattle.cq_base.specs.declared.refusal.Refusal.TheVariants as refusal
 
 module _ {S P : Type 0} (Stands : S → P → ℕ → List Event → Type 0) (set : Settings) (callers : ℕ) (alone : Type 0) (hub : S) (c seen : ℕ) (q : Query) (h : List Event) (one : P) (r : Asked)
     (call : Calls Stands alone Never c hub one h (Ask c ∷ []) (λ mid. r ≡ asked_of (state callers mid))) (closed : IsClosed callers c h) (named : seen ≤ length (accepted h)) where
@@ -41,12 +42,12 @@ module _ {S P : Type 0} (Stands : S → P → ℕ → List Event → Type 0) (se
   says = Read (Ok (request.Query q))
 
   pub is_future : r.accepted < q.at → (reads asked asked_now : ℕ) → asked_now ≡ asked
-      → Leads Stands callers c hub one (AtCost set c (Read (Ok (request.Query q))) (reply.Future r.accepted) (counted reads reads asked asked_now) h (IsAnswered set callers alone c seen h q (reply.Future r.accepted)))
+      → Leads Stands callers c hub one (AtCost set c (Read (Ok (request.Query q))) (reply.Refused (refusal.Future r.accepted)) (counted reads reads asked asked_now) h (IsAnswered set callers alone c seen h q (reply.Refused (refusal.Future r.accepted))))
   is_future above reads asked asked_now same = record {
     after = then;
     stands = call.stands;
     closed = facts.closed;
-    holds = (inl (record { asks = asks; above = let is = facts.accepted_is in omega (arith, above, is); reply_is = ap reply.Future facts.accepted_is }), spends_asking set alone c reads asked asked_now same (AreViewings says (reply.Future r.accepted)) (inl refl) h then asks);
+    holds = (inl (record { asks = asks; above = let is = facts.accepted_is in omega (arith, above, is); reply_is = ap (λ (n : ℕ). reply.Refused (refusal.Future n)) facts.accepted_is }), spends_asking set alone c reads asked asked_now same (AreViewings says (reply.Refused (refusal.Future r.accepted))) (inl refl) h then asks);
   }
 
   pub is_pending : q.at ≤ r.accepted → q.finish ≡ false → r.done < max seen q.at → (reads asked asked_now : ℕ) → asked_now ≡ asked

@@ -9,13 +9,12 @@ ghost use Rattle.cq_session.specs.Passes.{Begins, GivesUp, HasAccepted, HasAnswe
 use crate::Server;
 use crate::helping::help;
 use crate::viewing::view_reply;
-use cq_answer::refused_as;
-use cq_base::{Change, Memory, Steps};
+use cq_base::{Change, Memory, Refusal, Steps};
 use cq_board::Refused;
 use cq_hub::Hub;
 use cq_io::Gate;
 use cq_reply::Reply;
-use cq_request::{Query, Request, read_request};
+use cq_request::{Query, ReadError, Request, read_request};
 use cq_shard::Indexed;
 use cq_work::Work;
 use std::alloc::Global;
@@ -41,9 +40,9 @@ fn change_reply<W: Indexed, H: Hub<W>, G: Gate>(
             gate.after_accept(number);
             Ok(Reply::Change(number))
         }
-        Err(Refused::Absent) => Ok(Reply::Absent),
-        Err(Refused::FullChanges) => Ok(Reply::FullChanges),
-        Err(Refused::FullText) => Ok(Reply::FullText),
+        Err(Refused::Absent) => Ok(Reply::Refused(Refusal::Absent)),
+        Err(Refused::FullChanges) => Ok(Reply::Refused(Refusal::FullChanges)),
+        Err(Refused::FullText) => Ok(Reply::Refused(Refusal::FullText)),
         Err(Refused::Memory) => Err(Memory),
     }
 }
@@ -86,7 +85,7 @@ pub fn query_reply<R: Threads + Sync, L: Ledger, H: Hub<Work<L>>, G: Gate>(
 {
     let asked = server.hub.ask(pass);
     if query.at > asked.accepted {
-        return Ok(Reply::Future(asked.accepted));
+        return Ok(Reply::Refused(Refusal::Future(asked.accepted)));
     }
     if query.finish {
         return match help(server, asked.done, asked.accepted, pass) {
@@ -128,6 +127,7 @@ pub(crate) fn reply_to<R: Threads + Sync, L: Ledger, H: Hub<Work<L>>, G: Gate>(
         ),
         Ok(Request::Query(query)) => { query_reply(rt, server, &query, seen, pass, steps) }
         Ok(Request::State) => Ok(state_reply(server.hub, pass)),
-        Err(refusal) => refused_as(refusal),
+        Err(ReadError::Refused(refusal)) => Ok(Reply::Refused(refusal)),
+        Err(ReadError::Memory) => Err(Memory),
     }
 }

@@ -1,17 +1,16 @@
 use Rattle.std.proofs.Common.{◌≡◌, Ok, Err, refl, ap, subst, ◌∙◌}
 use Rattle.std.proofs.lemmas.Result.{IfOk-weaker, on_err_weaker}
 use Rattle.cq_answer.proofs.Asked.{path_asked, scope_asked}
-use Rattle.cq_answer.proofs.Told.{refusal_said}
 use Rattle.cq_hub.specs.Hubs.{Never}
 use Rattle.cq_hub.proofs.Growing.{grows_none}
 use Rattle.cq_reply.specs.declared.reply.Reply.TheVariants as reply
-use Rattle.cq_request.specs.Reading.{line_says}
+use Rattle.cq_request.specs.Reading.{line_says, UnlessMemory}
 use Rattle.cq_request.specs.Sound.{IsSound}
+use Rattle.cq_request.specs.declared.request.ReadError.{ReadError}
 use Rattle.cq_request.specs.declared.request.Request.TheVariants as request
 use Rattle.cq_talk.specs.Said.{Read}
 use Rattle.cq_talk.proofs.Leading.{lead_weaker}
 use Rattle.cq_session.specs.Costs.{AreViewings}
-use Rattle.cq_session.proofs.Answered.{both_ok, on_err}
 use Rattle.cq_session.proofs.LineCosts.{none_given_up, spends_asking, spends_changing, spends_waiting}
 use Rattle.cq_session.proofs.Spending.{spends_none}
 use Rattle.cq_session.proofs.Talking.{nothing_done, answers_as, given_up_as}
@@ -60,24 +59,25 @@ returns-in-Ok-State-clause-replies g c =
     (λ later is. answers_as (g.H.Hub.settings c.args.server.now.hub.now) (g.H.Hub.callers c.args.server.now.hub.now) g.H.Hub.alone by c.args.seen h later _ c.state_reply.result _ _ says
     (is, spends_asking _ g.H.Hub.alone by _ _ _ c.state_reply.ensures.asked (AreViewings (Read (Ok request.State)) c.state_reply.result) refl h later is.asks))
 
-pub returns-in-Err-clause-replies : goal.returns-in-Err-clause-replies
-returns-in-Err-clause-replies g c =
-    both_ok c.refused_as.result _ _ _ (λ r is told by h stands closed named. record {
+pub returns-in-Err-Refused-clause-replies : goal.returns-in-Err-Refused-clause-replies
+returns-in-Err-Refused-clause-replies g c =
+    let said = line_says c.args.server.now.keyer.now.settings.chunk c.args.line.now in
+    let says : said ≡ Err c.in-Err-Refused.refusal = subst (λ (e : ReadError). UnlessMemory (Err e) said) c.in-Err-Refused.field-0-is c.in-Err-Refused.ensures.says in
+    λ by h stands closed named. record {
       after = h;
       stands = stands;
       closed = closed;
-      holds = answers_as (g.H.Hub.settings c.args.server.now.hub.now) (g.H.Hub.callers c.args.server.now.hub.now) g.H.Hub.alone by c.args.seen h h _ r _ _ (refusal_said c.in-Err.refusal (line_says c.args.server.now.keyer.now.settings.chunk c.args.line.now) told c.in-Err.ensures.says)
-          ((is, grows_none g.H.Hub.alone by Never h), spends_none _ by (AreViewings (Read (Err c.in-Err.refusal)) r) h _ _ refl);
-    }) c.refused_as.ensures.reply c.refused_as.ensures.told
+      holds = answers_as (g.H.Hub.settings c.args.server.now.hub.now) (g.H.Hub.callers c.args.server.now.hub.now) g.H.Hub.alone by c.args.seen h h _ (reply.Refused c.in-Err-Refused.refusal) _ _ says
+          ((refl, grows_none g.H.Hub.alone by Never h), spends_none _ by (AreViewings (Read (Err c.in-Err-Refused.refusal)) (reply.Refused c.in-Err-Refused.refusal)) h _ _ refl);
+    }
 
-pub returns-in-Err-clause-refused : goal.returns-in-Err-clause-refused
-returns-in-Err-clause-refused g c =
-    on_err c.refused_as.result (λ by h stands closed named. record {
-      after = h;
-      stands = stands;
-      closed = closed;
-      holds = (
-        nothing_done (g.H.Hub.settings c.args.server.now.hub.now) (g.H.Hub.callers c.args.server.now.hub.now) g.H.Hub.alone by c.args.seen h h (line_says c.args.server.now.keyer.now.settings.chunk c.args.line.now) (grows_none g.H.Hub.alone by Never h),
-        spends_none _ by (AreViewings (Read (line_says c.args.server.now.keyer.now.settings.chunk c.args.line.now)) reply.Memory) h _ _ (none_given_up (Read (line_says c.args.server.now.keyer.now.settings.chunk c.args.line.now))),
-      );
-    })
+pub returns-in-Err-Memory-clause-refused : goal.returns-in-Err-Memory-clause-refused
+returns-in-Err-Memory-clause-refused g c = λ by h stands closed named. record {
+  after = h;
+  stands = stands;
+  closed = closed;
+  holds = (
+    nothing_done (g.H.Hub.settings c.args.server.now.hub.now) (g.H.Hub.callers c.args.server.now.hub.now) g.H.Hub.alone by c.args.seen h h (line_says c.args.server.now.keyer.now.settings.chunk c.args.line.now) (grows_none g.H.Hub.alone by Never h),
+    spends_none _ by (AreViewings (Read (line_says c.args.server.now.keyer.now.settings.chunk c.args.line.now)) reply.Memory) h _ _ (none_given_up (Read (line_says c.args.server.now.keyer.now.settings.chunk c.args.line.now))),
+  );
+}
