@@ -54,28 +54,28 @@ const TALK: &str = "\
 {\"op\":\"groups\",\"project\":\"q\",\"min\":2}\t work 9 work 8 shard 0 shard 1 open 9
 ";
 
-// What is left behind has a gate, which is done when it is accepted, and an upload that is not.
-const LEFT: &str = "\
+// A talk that ends with a gate, which is done as soon as it is accepted, and an upload that is not done.
+const UNDONE: &str = "\
 {\"op\":\"gate\",\"project\":\"p\",\"conditions\":[]}\t accept 1
 {\"op\":\"put\",\"project\":\"p\",\"path\":\"a\",\"lang\":\"any\",\"text\":\"a b\"}\t accept 2
 ";
 
-// Who has seen neither, and does not finish the upload, publishes only what is asked for.
-const BEHIND_LEFT: &str = "\
+// The next talk was told of neither. While the upload is not done, its queries publish only what they ask for.
+const AFTER_UNDONE: &str = "\
 {\"op\":\"files\",\"project\":\"p\",\"finish\":false}\t open 0
 {\"op\":\"files\",\"project\":\"p\",\"at\":1,\"finish\":false}\t shard 0 shard 1 open 1
 {\"op\":\"files\",\"project\":\"p\",\"at\":2,\"finish\":false}\t
 ";
 
-// All that is left behind is done.
+// A talk that ends with all changes done, and the last one not published.
 const DONE: &str = "\
 {\"op\":\"put\",\"project\":\"p\",\"path\":\"a\",\"lang\":\"any\",\"text\":\"a b\"}\t accept 1
 {\"op\":\"files\",\"project\":\"p\"}\t work 1 shard 0 shard 1 open 1
 {\"op\":\"drop\",\"project\":\"p\",\"path\":\"a\"}\t accept 2
 ";
 
-// Then all of it is published, though it was not seen.
-const BEHIND_DONE: &str = "\
+// The next talk was not told of that one, and publishes it all the same.
+const AFTER_DONE: &str = "\
 {\"op\":\"files\",\"project\":\"p\",\"finish\":false}\t shard 0 shard 1 open 2
 ";
 
@@ -112,7 +112,7 @@ impl Gate for Noting {
     }
 }
 
-// The end of a session over a plain hub that had only the session `before`, and what the gate was called for in both.
+// The end of a session over a plain hub, after the session `before` on the same pass, and what the gate was called for in both.
 fn noted<R: Threads + Sync, L: Ledger>(
     rt: &R,
     alloc: Global,
@@ -167,7 +167,7 @@ fn parted(alloc: Global, talk: &str) -> Result<(String, String), Memory> {
     Ok((asked, calls))
 }
 
-// Whether the gate is called as two talks say that follow each other.
+// Whether the gate is called as the second of two talks in a row has it, after the first.
 fn is_called<R: Threads + Sync>(
     rt: &R,
     alloc: Global,
@@ -176,14 +176,14 @@ fn is_called<R: Threads + Sync>(
 ) -> Result<bool, Memory> {
     let (left, mut calls) = parted(alloc, before)?;
     let (asked, more) = parted(alloc, talk)?;
-    calls.push_str(&more)?;
+    calls.push_str(more.as_str())?;
     let noted = noted_here(rt, alloc, &SETTINGS, left.as_bytes(), asked.as_bytes())?;
     Ok(noted == Some((End::Finished, calls)))
 }
 
 #[test]
 fn the_gate_is_called_where_a_talk_gets_on(rt: HostRuntime) -> Result<(), Memory> {
-    for (before, talk) in [("", TALK), (LEFT, BEHIND_LEFT), (DONE, BEHIND_DONE)] {
+    for (before, talk) in [("", TALK), (UNDONE, AFTER_UNDONE), (DONE, AFTER_DONE)] {
         assert!(rt; is_called(&rt, rt.alloc(), before, talk)?);
     }
     Ok(())
