@@ -167,7 +167,7 @@ fn parted(alloc: Global, talk: &str) -> Result<(String, String), Memory> {
     Ok((asked, calls))
 }
 
-// Whether the gate is called as the second of two talks in a row has it, after the first.
+// Whether the gate is called as the lines of two talks say, one after the other.
 fn is_called<R: Threads + Sync>(
     rt: &R,
     alloc: Global,
