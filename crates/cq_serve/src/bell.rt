@@ -13,7 +13,7 @@ struct Rings {
 /// often the bell has rung, then looks for a change, and sleeps only if it found none. If the bell rang after it asked, it
 /// does not fall asleep. If the bell rang before, the worker looked after the ring, so what it left was taken already. And
 /// whoever is woken takes changes until none is left. A worker that was refused memory gives its change back and sleeps
-/// too: then the next ring wakes one worker for both changes.
+/// too. What it left waits for the next ring, or for a query that finishes works.
 #[derive(Drop)]
 pub struct Bell {
     rings: Mutex<Rings>,
