@@ -113,21 +113,21 @@ module _ {S P : Type 0} (Stands : S → P → ℕ → List Event → Type 0) (se
       help_given_up led reads asked asked_now same = lead_weaker Stands callers c hub two _ _ led (λ later helps.
           given_up_at_cost None _ later (worked_alone set callers alone c seen q h call.mid call.others slots_within works facts.named r.accepted facts.accepted_is _ later helps) tt (costs_none set (accepted later) reads asked asked_now same))
 
-    module _ (waits : q.finish ≡ false) (least : max seen q.at ≤ r.done) (three : P) where
-      ready_least : r.done ≤ ready (state callers call.mid)
-      ready_least = let is = facts.done_is in omega (arith, is)
+    module _ (waits : q.finish ≡ false) (to : ℕ) (least : max seen q.at ≤ to) (most : to ≤ r.done) (three : P) where
+      ready_least : to ≤ ready (state callers call.mid)
+      ready_least = let is = facts.done_is in omega (arith, most, is)
 
-      pub waited_shown : (reply : Reply) (reads reads_now asked asked_mid asked_now : ℕ) → asked_mid ≡ asked → Leads Stands callers c hub three (ShowsAt set callers alone c r.done q (counted reads reads_now asked_mid asked_now) reply then)
+      pub waited_shown : (reply : Reply) (reads reads_now asked asked_mid asked_now : ℕ) → asked_mid ≡ asked → Leads Stands callers c hub three (ShowsAt set callers alone c to q (counted reads reads_now asked_mid asked_now) reply then)
           → Leads Stands callers c hub three (AtCost set c (Read (Ok (request.Query q))) reply (counted reads reads_now asked asked_now) h (IsAnswered set callers alone c seen h q reply))
       waited_shown reply reads reads_now asked asked_mid asked_now same led = lead_weaker Stands callers c hub three _ _ led (λ later shown. shown_at_cost reply _ later (record {
         version = shown.version;
-        served = waited set callers alone c seen q h call.mid call.others slots_within waits r.done least ready_least later (Some shown.version) shown.views;
+        served = waited set callers alone c seen q h call.mid call.others slots_within waits to least ready_least later (Some shown.version) shown.views;
         within = shown.within;
         shows = shown.shows;
         swept = shown.swept;
       }) (costs_same set (accepted later) _ reads reads_now asked_mid asked_now asked asked_now (sym same) refl shown.costs))
 
-      pub waited_given_up : (reads reads_now asked asked_mid asked_now : ℕ) → asked_mid ≡ asked → Leads Stands callers c hub three (ViewsOrNot set alone c r.done q (counted reads reads_now asked_mid asked_now) then)
+      pub waited_given_up : (reads reads_now asked asked_mid asked_now : ℕ) → asked_mid ≡ asked → Leads Stands callers c hub three (ViewsOrNot set alone c to q (counted reads reads_now asked_mid asked_now) then)
           → Leads Stands callers c hub three (AtCost set c (Read (Ok (request.Query q))) reply.Memory (counted reads reads_now asked asked_now) h (IsGivenUp set callers alone c seen h (Read (Ok (request.Query q)))))
       waited_given_up reads reads_now asked asked_mid asked_now same led = lead_weaker Stands callers c hub three _ _ led (λ later shown.
-          given_up_at_cost shown.view _ later (waited set callers alone c seen q h call.mid call.others slots_within waits r.done least ready_least later shown.view shown.views) shown.within (costs_same set (accepted later) _ reads reads_now asked_mid asked_now asked asked_now (sym same) refl shown.costs))
+          given_up_at_cost shown.view _ later (waited set callers alone c seen q h call.mid call.others slots_within waits to least ready_least later shown.view shown.views) shown.within (costs_same set (accepted later) _ reads reads_now asked_mid asked_now asked asked_now (sym same) refl shown.costs))

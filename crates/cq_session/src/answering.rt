@@ -61,6 +61,16 @@ fn state_reply<W: Indexed, H: Hub<W>>(hub: &H, pass: &mut H::Pass) -> Reply
     }
 }
 
+// The version up to which a query publishes that does no works. If all changes are done, these are all of them. If not,
+// they are those of its floor: what others have uploaded takes long to publish, and those who wait for it do that.
+fn without_works(floor: u64, done: u64, accepted: u64) -> u64
+    requires { floor ≤ done }
+    ensures recent { floor ≤ result }
+    ensures done { result ≤ done }
+{
+    if done == accepted { done } else { floor }
+}
+
 /// The reply to a query whose floor is at least `seen`. After an answer by a view the hub is swept. If memory runs
 /// out, what was done is a beginning of what the query does.
 pub fn query_reply<R: Threads + Sync, L: Ledger, H: Hub<Work<L>>, G: Gate>(
@@ -93,10 +103,12 @@ pub fn query_reply<R: Threads + Sync, L: Ledger, H: Hub<Work<L>>, G: Gate>(
             Err(Memory) => Err(Memory),
         };
     }
-    if seen.max(query.at) > asked.done {
+    let floor = seen.max(query.at);
+    if floor > asked.done {
         return Ok(Reply::Pending(asked.done + 1));
     }
-    view_reply(rt, server, query, asked.done, pass, steps)
+    let to = without_works(floor, asked.done, asked.accepted);
+    view_reply(rt, server, query, to, pass, steps)
 }
 
 /// The reply to what a line says. If memory runs out, what was done is a beginning of what the line does.
