@@ -11,6 +11,6 @@ pub record Given : Type 0 where
 abbrev pub given : List ℕ → Bool → Given
 given text is_there = record { text = text; is_there = is_there }
 
--- these are its bytes, and so many, also where it is no longer there
+-- these are its bytes, and so many, also after it was given up
 abbrev pub IsTextOf : List ℕ → ℕ → Option (Arc (List ℕ) Global) → Type 0
 IsTextOf bytes len whole = (len ≡ length bytes) × IfSome whole (λ text. arc_value text ≡ bytes)

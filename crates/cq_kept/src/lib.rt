@@ -15,12 +15,12 @@ mod accepting;
 mod changes;
 mod forgetting;
 mod kept;
+mod original;
 mod over;
 mod past;
 mod presence;
 mod put_text;
 mod slot_tests;
-mod told;
 
 pub use accepting::stored;
 pub use changes::Changes;

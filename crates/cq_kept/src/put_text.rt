@@ -2,19 +2,19 @@ ghost use Rattle.std.specs.Prelude.{◌≡◌, ℕ, List, length, true, false, i
 ghost use Rattle.std.specs.Arc.{arc_value};
 ghost use Rattle.cq_kept.specs.Texts.{given};
 
-use crate::told::Told;
+use crate::original::Original;
 use cq_base::{Memory, Text};
 use std::alloc::Global;
 use std::marker::Model;
 use std::sync::Arc;
 
-/// The text of a put. It is given up when its work is made, and then takes no memory: only its length is known from then on,
-/// and only clauses see what it was.
+/// The text of a put. It is given up when the work of the put is made. From then on only its length is kept, and only clauses
+/// see what it was.
 #[derive(Drop)]
 pub struct PutText {
     whole: Option<Arc<Text, Global>>,
     len: u64,
-    told: Told,
+    original: Original,
 }
 
 impl Model for PutText {
@@ -23,9 +23,9 @@ impl Model for PutText {
 
     ghost Value = { Given };
 
-    ghost view = { λ t. given t.told.bytes (is_some t.whole) };
+    ghost view = { λ t. given t.original.bytes (is_some t.whole) };
 
-    ghost invariant = { λ t. IsTextOf t.told.bytes t.len t.whole };
+    ghost invariant = { λ t. IsTextOf t.original.bytes t.len t.whole };
 }
 
 impl PutText {
@@ -34,23 +34,23 @@ impl PutText {
         ensures { IfOk result (λ t. t ≡ given text true) }
     {
         let len = text.as_bytes().len() as u64;
-        let told = Told::text(&text);
+        let original = Original::text(&text);
         let whole = Arc::new(alloc, text)?;
         Ok(PutText {
             whole: Some(whole),
             len,
-            told,
+            original,
         })
     }
 
-    /// How many bytes it has, or had.
+    /// How many bytes it has, or had before it was given up.
     pub(crate) fn len(&self) -> u64
         ensures { result ≡ length self.now.text }
     {
         self.len
     }
 
-    /// Itself, if it is still there.
+    /// The text, unless it was given up.
     pub fn whole(&self) -> Option<&Arc<Text, Global>>
         ensures there { is_some result ≡ self.now.is_there }
         ensures text { IfSome result (λ t. arc_value t.now ≡ self.now.text) }
@@ -58,7 +58,7 @@ impl PutText {
         self.whole.as_ref()
     }
 
-    /// Gives it up. Who shares it still has it.
+    /// Gives the text up. Whoever shares it still has it.
     pub(crate) fn give_up(&mut self)
         ensures { self.new ≡ given self.old.text false }
     {
@@ -72,11 +72,12 @@ impl PutText {
         Ok(PutText {
             whole: shared_if_there(&self.whole)?,
             len: self.len,
-            told: self.told.again(),
+            original: self.original.again(),
         })
     }
 }
 
+// The same text, shared, if it is there.
 fn shared_if_there(whole: &Option<Arc<Text, Global>>) -> Result<Option<Arc<Text, Global>>, Memory>
     ensures there { IfOk result (λ same. is_some same ≡ is_some whole.now) }
     ensures text { IfOk result (λ same. (bytes : List ℕ)

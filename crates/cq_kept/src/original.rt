@@ -4,44 +4,44 @@ ghost use base.Fml.{ftrue};
 use cq_base::Text;
 use std::marker::{Model, PhantomData};
 
-// The bytes of a text, also of one that was given up, which only clauses see. It takes no bytes. Its function `of` is proved
-// by hand, since it sets them.
+// The bytes of an uploaded text, whether it is still there or was given up. Only clauses see them, and they take no memory.
+// `of`, which sets them, is proved by hand.
 #[derive(Drop)]
-pub(crate) struct Told {
+pub(crate) struct Original {
     marker: PhantomData<()>,
     pub(crate) ghost bytes: { List ℕ },
 }
 
-impl Model for Told {
+impl Model for Original {
     ghost also_owns = { λ _. ftrue };
 }
 
-unsafe impl Send for Told {}
+unsafe impl Send for Original {}
 
-impl Told {
+impl Original {
     // These bytes.
-    pub(crate) fn of() -> Told
+    pub(crate) fn of() -> Original
         ghost bytes: { List ℕ }
         ensures { result.bytes ≡ bytes }
     {
-        Told {
+        Original {
             marker: PhantomData,
         }
     }
 
     // Those of a text.
-    pub(crate) fn text(text: &Text) -> Told
+    pub(crate) fn text(text: &Text) -> Original
         ensures { result.bytes ≡ text.now }
     {
         let _ = text;
-        Told::of()
+        Original::of()
     }
 
     // The same ones.
-    pub(crate) fn again(&self) -> Told
+    pub(crate) fn again(&self) -> Original
         ensures { result.bytes ≡ self.now.bytes }
     {
         let _ = self;
-        Told::of()
+        Original::of()
     }
 }

@@ -1,4 +1,4 @@
-use Rattle.cq_kept.proofs.told.Told.text.Given as goal
+use Rattle.cq_kept.proofs.original.Original.text.Given as goal
 
 abbrev pub ghost-of : goal.ghost-of
 ghost-of g a = a.text.now

@@ -25,10 +25,10 @@ use denote.Triple.Entry.{alive}
 use denote.Triple.Spec.{Meets, triple_of}
 use denote.Triple.Table.{entered}
 use denote.Triple.Walked.{says, Stays, walk_of, ends_at, walk_Meets}
-use Rattle.cq_kept.specs.contracts.told.Told.of.{ended, clauses}
-use Rattle.cq_kept.specs.contracts.told.Told.of.Key.{name as #self}
-use Rattle.cq_kept.proofs.told.Told.of.Statement as stated
-use Rattle.cq_kept.proofs.told.Told.of.Code as code
+use Rattle.cq_kept.specs.contracts.original.Original.of.{ended, clauses}
+use Rattle.cq_kept.specs.contracts.original.Original.of.Key.{name as #self}
+use Rattle.cq_kept.proofs.original.Original.of.Statement as stated
+use Rattle.cq_kept.proofs.original.Original.of.Code as code
 
 abbrev stayed : Stays ended.signature.params ended.kept
 stayed = tt
