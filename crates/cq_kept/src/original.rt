@@ -30,7 +30,9 @@ impl Original {
     }
 
     // Those of a text.
-    pub(crate) fn text(text: &Text) -> Original
+    pub(crate) fn of_text(text: &Text) -> Original
+        ghost bytes: { List ℕ }
+        requires { bytes ≡ text.now }
         ensures { result.bytes ≡ text.now }
     {
         let _ = text;
@@ -39,6 +41,8 @@ impl Original {
 
     // The same ones.
     pub(crate) fn again(&self) -> Original
+        ghost bytes: { List ℕ }
+        requires { bytes ≡ self.now.bytes }
         ensures { result.bytes ≡ self.now.bytes }
     {
         let _ = self;

@@ -34,7 +34,7 @@ impl PutText {
         ensures { IfOk result (λ t. t ≡ given text true) }
     {
         let len = text.as_bytes().len() as u64;
-        let original = Original::text(&text);
+        let original = Original::of_text(&text);
         let whole = Arc::new(alloc, text)?;
         Ok(PutText {
             whole: Some(whole),
