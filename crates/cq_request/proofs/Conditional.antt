@@ -18,7 +18,7 @@ use Rattle.cq_request.specs.Members.{items_in, number_at, number_of, text_at}
 use Rattle.cq_base.specs.Tables.{compare_named, metric_named}
 use Rattle.cq_request.specs.Conditions.{are_conditions, condition_made, condition_of}
 use Rattle.cq_request.specs.Gist.{condition_form_of, conditions_listed, IsAlike}
-use Rattle.cq_request.specs.Valued.{keys_in, AddsCondition, IsConditionSeen, IsSameCondition}
+use Rattle.cq_request.specs.Valued.{keys_in, AddsCondition, IsConditionSeen, IsSameCondition, NotesItem}
 use Rattle.cq_request.proofs.Gists.{text_same, number_same}
 use Rattle.cq_request.proofs.Seen.{more_alike, are_alike}
 
@@ -269,6 +269,18 @@ list_more ds found new d item false added seen is adds = record {
       (λ many. inr (omega (arith, many, longer ds d)))
       (seen.none refl);
 }
+
+-- what is noted of an item
+
+pub not_added : (came : Option Data) (found : List Data) (was : Bool) → (came ≡ None) ⊎ (32 ≤ length found) → NotesItem came found found was false
+not_added came found was why = (false, (refl, why), sym (not_last was false refl))
+
+pub item_added : (came : Option Data) (condition : Data) (found new : List Data) (was : Bool) → came ≡ Some condition → length found < 32 → new ≡ found ++ condition ∷ [] → NotesItem came found new was was
+item_added came condition found new was is few grown = (true, (condition, is, few, grown), sym (always_and was))
+  where
+    always_and : (b : Bool) → (b && true) ≡ b
+    always_and true = refl
+    always_and false = refl
 
 -- ---- the list at its end
 

@@ -1,6 +1,6 @@
 -- Whether a value's numbers are too large is what its tokens say; and what a text spells, of the value of its tokens.
-use Rattle.std.proofs.Common.{◌≡◌, ℕ, zero, suc, ◌^◌, nat_le, nat_lt, List, [], ◌∷◌, length, Bool, true, false, cond, ◌&&◌, Option, Some, None, option_map, refl, sym, ap, ap₂, ◌∙◌, append-nil}
-use Rattle.std.specs.Prelude.{is_some, option_and_then, unwrap_or}
+use Rattle.std.proofs.Common.{◌≡◌, ℕ, zero, suc, ◌^◌, ◌==◌, nat_le, nat_lt, List, [], ◌∷◌, drop, length, Bool, true, false, cond, ◌&&◌, Option, Some, None, option_map, refl, sym, ap, ap₂, ◌∙◌, append-nil}
+use Rattle.std.specs.Prelude.{is_some, option_and_then, slice_index, unwrap_or}
 use Rattle.std.specs.Float.{binary64, float_is_finite}
 use Rattle.std.specs.List.{list_all}
 use Rattle.std.proofs.lemmas.Option.{none-some}
@@ -11,7 +11,7 @@ use Rattle.json.specs.Json.{Json, Parse, parse_map, after_end_array, read_key, i
 use Rattle.json.specs.Print.{print_from, ArePrintable, IsNumber}
 use Rattle.json.proofs.Grammar.{closed_array, read_key_is, key_token, value_is}
 use Rattle.json.proofs.Printed.Tokens.{tokens-print}
-use Rattle.fast_float.specs.Text.{Parts, digits_of, nearest, with_sign}
+use Rattle.fast_float.specs.Text.{Parts, digits_of, nearest, scan, with_sign}
 use Rattle.serde_json.specs.Data.{Num, unsigned, negative, float, Data, null, number, array, object, Items, item, Members, no_members, put}
 use Rattle.serde_json.specs.Find.{as_object}
 use Rattle.serde_json.specs.Read.{number_of, number_from, is_integer, of_json, of_items, of_members, read}
@@ -204,3 +204,12 @@ float_there false c x y fit = ap (λ d. is_some (cond d (Some y) None)) fit
 pub finite_number : (sign : Bool) (p : Parts) → float_is_finite (nearest binary64 sign p) ≡ true → is_some (number_from sign p) ≡ true
 finite_number false p fit = float_there (is_integer p && nat_lt (digits_of p) (2 ^ 64)) (float_is_finite (nearest binary64 false p)) (unsigned (digits_of p)) (float (nearest binary64 false p)) fit
 finite_number true p fit = float_there (is_integer p && nat_lt 0 (digits_of p) && nat_le (digits_of p) (2 ^ 63)) (float_is_finite (nearest binary64 true p)) (negative (with_sign true (digits_of p))) (float (nearest binary64 true p)) fit
+
+-- and so has the number that has this sign before its digits, or none
+pub finite_negative : (s : List ℕ) → (slice_index s 0 == 45) ≡ true → float_is_finite (nearest binary64 true (scan (drop 1 s))) ≡ true → is_some (number_of s) ≡ true
+unfolding number_of
+finite_negative s sign fit = ap (λ (b : Bool). is_some (cond b (number_from true (scan (drop 1 s))) (number_from false (scan s)))) sign ∙ finite_number true (scan (drop 1 s)) fit
+
+pub finite_positive : (s : List ℕ) → (slice_index s 0 == 45) ≡ false → float_is_finite (nearest binary64 false (scan s)) ≡ true → is_some (number_of s) ≡ true
+unfolding number_of
+finite_positive s sign fit = ap (λ (b : Bool). is_some (cond b (number_from true (scan (drop 1 s))) (number_from false (scan s)))) sign ∙ finite_number false (scan s) fit

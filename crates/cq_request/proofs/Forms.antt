@@ -4,8 +4,8 @@ use Rattle.std.specs.Prelude.{is_some, unwrap_or}
 use Rattle.std.proofs.lemmas.Option.{none-some}
 use Rattle.json.specs.Token.{Token}
 use Rattle.json.specs.Json as json
-use Rattle.json.specs.Json.{Json, parse_map, value}
-use Rattle.json.proofs.Grammar.{value_is}
+use Rattle.json.specs.Json.{Json, parse_map, skip_value, value}
+use Rattle.json.proofs.Grammar.{left_none, value_is}
 use Rattle.serde_json.specs.Data.{Num, Data, null, boolean, number, string}
 use Rattle.serde_json.specs.Find.{as_bool, as_str}
 use Rattle.serde_json.specs.Read.{number_of}
@@ -145,6 +145,10 @@ leaf_unfit depth (Token.number s) ts large = subst (IsUnfit fits) (sym (value_is
 leaf_unfit depth (Token.boolean b) ts large = absurd (cc)
 leaf_unfit depth Token.null ts large = absurd (cc)
 leaf_unfit depth Token.bad ts large = absurd (cc)
+
+-- what can't be passed can't be read
+pub unread : (depth : ℕ) (ts : List Token) → skip_value depth ts ≡ None → IsUnfit fits (value depth ts)
+unread depth ts none = subst (IsUnfit fits) (sym (left_none (value depth ts) none)) tt
 
 -- ---- an item that is no object
 

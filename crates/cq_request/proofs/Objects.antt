@@ -1,5 +1,6 @@
 -- The object that a text or a line spells, and its gist.
-use Rattle.std.proofs.Common.{◌≡◌, ℕ, ◌-◌, List, [], ◌∷◌, length, Bool, true, false, cond, ◌&&◌, Option, Some, None, refl, sym, ap, ap₂, ◌∙◌, arith}
+use Rattle.std.proofs.Common.{◌≡◌, ℕ, ◌-◌, List, [], ◌∷◌, length, map, Bool, true, false, cond, ◌&&◌, Option, Some, None, Result, Ok, Err, IfErr, refl, sym, ap, ap₂, ◌∙◌, subst, arith}
+use Rattle.std.specs.Result.{IsErrAnd}
 use Rattle.std.specs.List.{list_all}
 use Rattle.std.specs.Str.{IsUtf8, is_utf8}
 use Rattle.std.proofs.lemmas.Bool.{true≢false}
@@ -9,14 +10,21 @@ use Rattle.json.specs.Lex.{tokens}
 use Rattle.json.specs.Json as json
 use Rattle.json.specs.Json.{Json, parse_map, members, value}
 use Rattle.json.proofs.Grammar.{value_is, value-begin_object}
-use Rattle.serde_json.specs.Data.{object, Members, no_members}
+use Rattle.serde_json.specs.Data.{Data, null, array, object, Members, no_members}
 use Rattle.serde_json.specs.Read.{read}
+use Rattle.serde_json.specs.View.{items_of}
+use Rattle.cq_base.specs.declared.refusal.Refusal.TheVariants as refusal
+use Rattle.cq_request.specs.declared.form.Form.TheVariants as form
 use Rattle.cq_request.specs.declared.request.ReadError.{ReadError}
 use Rattle.cq_request.specs.declared.request.ReadError.TheVariants as error
-use Rattle.cq_request.specs.Gist.{IsGistOfLine, SpellsNoObject}
-use Rattle.cq_request.specs.Valued.{fit_members, valued_members, token_fits, with_other, IsFitUnlessPassed, IsJsonFor, IsNoObjectText, IsTextRead, IsUnfit}
+use Rattle.cq_request.specs.Gist.{IsAlike, IsGistOfLine, SpellsNoObject}
+use Rattle.cq_request.specs.Members.{items_in}
+use Rattle.cq_request.specs.Valued.{fit_members, valued, valued_items, valued_members, token_fits, with_other, IsFitUnlessPassed, IsJsonFor, IsNoObjectText, IsTextRead, IsUnfit}
 use Rattle.cq_request.proofs.Fitting.{fits_by_tokens, object_read, no_object_read}
 use Rattle.cq_request.proofs.Seen.{seen_gist}
+use Rattle.cq_request.proofs.Conditional.{IsListSeen, list_same, list_none_same}
+use Rattle.cq_request.proofs.Listed.{items_back}
+use Rattle.cq_request.proofs.Walking.{items_before, items_of_taken}
 use Rattle.cq_request.proofs.Spelling.{spelled_ok}
 
 -- ---- while nothing was passed
@@ -111,6 +119,27 @@ all_fit ts of read fit = sym (fits_by_tokens 127 ts (json.object of) read) ∙ f
 
 -- ---- refusals
 
-pub json_for : (P Q : Type 0) → (P → Q) → (e : ReadError) → IsJsonFor P e → IsJsonFor Q e
+json_for : (P Q : Type 0) → (P → Q) → (e : ReadError) → IsJsonFor P e → IsJsonFor Q e
 json_for P Q so (error.Refused why) is = (is.0, so is.1)
 json_for P Q so error.Memory is = tt
+
+-- the error of a call is passed on
+pub refused_by : {T : Type 0} (P Q : Type 0) → (P → Q) → (r : Result T ReadError) (e : ReadError) → IsErrAnd r (λ f. f ≡ e) → IsJsonFor P e → IfErr r (IsJsonFor Q)
+refused_by P Q so (Ok v) e same is = tt
+refused_by P Q so (Err f) e same is = json_for P Q so f (subst (IsJsonFor P) (sym same) is)
+
+-- a call that finds no JSON
+pub refused_here : {T : Type 0} (Q : Type 0) (r : Result T ReadError) → IsErrAnd r (λ f. f ≡ error.Refused refusal.Json) → Q → IfErr r (IsJsonFor Q)
+refused_here Q (Ok v) same is = tt
+refused_here Q (Err f) same is = subst (IsJsonFor Q) (sym same) (refl, is)
+
+-- ---- a list at its end
+
+pub list_kept : (done : List Json) (found : List Data) → IsListSeen (map valued done) found true → IsAlike form.Conditions (array (valued_items (items_before done json.no_items))) (array (items_of found))
+list_kept done found seen =
+    let listed = subst (λ (ds : List Data). IsListSeen ds found true) (sym (items_of_taken done)) seen in
+    list_same (valued_items (items_before done json.no_items)) (items_of found) (subst (λ (ds : List Data). IsListSeen (items_in (valued_items (items_before done json.no_items))) ds true) (sym (items_back found)) listed)
+
+pub list_not_kept : (done : List Json) (found : List Data) → IsListSeen (map valued done) found false → IsAlike form.Conditions (array (valued_items (items_before done json.no_items))) null
+list_not_kept done found seen =
+    list_none_same (valued_items (items_before done json.no_items)) found (subst (λ (ds : List Data). IsListSeen ds found false) (sym (items_of_taken done)) seen)

@@ -1,6 +1,7 @@
 -- The parts of a list and of an object as they are taken from the tokens, one by one.
 use Rattle.std.proofs.Common.{◌≡◌, ℕ, zero, suc, ◌-◌, ◌<◌, ◌≤◌, List, [], ◌∷◌, ◌++◌, length, map, Bool, true, false, ◌&&◌, Option, Some, None, refl, sym, ap, ◌∙◌, subst, ⊎_elim, arith}
-use Rattle.std.proofs.lemmas.Bool.{cases_lt}
+use Rattle.std.specs.Bool.{MatchBool}
+use Rattle.std.proofs.lemmas.Bool.{cases_lt, true≢false}
 use Rattle.json.specs.Token.{Token}
 use Rattle.json.specs.Json as json
 use Rattle.json.specs.Json.{Json, Parse, parse_map, after_end_array, read_key, items, members, skip_value, value}
@@ -123,6 +124,15 @@ module _ (p : Parse Json) (old : List Token) where
     pub item_unfit : after_end_array ts ≡ None → IsUnfit fits (p ts) → IsUnfit fit_items (items p (length old) old)
     item_unfit going unfit = ⊎_elim (λ (some : 0 < walk.turns). unfit_at (p ts) refl unfit going some) (λ none. subst (IsUnfit fit_items) (sym walk.same) (none_at_last walk.turns (omega (arith, none)))) (cases_lt 0 walk.turns)
 
+-- what a reader says of the end of a list
+pub at_end : (b : Bool) (ts r : List Token) → MatchBool b (after_end_array ts ≡ Some r) ((after_end_array ts ≡ None) × (r ≡ ts)) → b ≡ true → after_end_array ts ≡ Some r
+at_end true ts r is end = is
+at_end false ts r is end = absurd (true≢false (sym end))
+
+pub before_end : (b : Bool) (ts r : List Token) → MatchBool b (after_end_array ts ≡ Some r) ((after_end_array ts ≡ None) × (r ≡ ts)) → b ≡ false → (after_end_array ts ≡ None) × (r ≡ ts)
+before_end true ts r is more = absurd (true≢false more)
+before_end false ts r is more = is
+
 -- ---- an object
 
 pub record IsObjectWalk (p : Parse Json) (old new : List Token) (done : List (List ℕ × Json)) : Type 0 where
@@ -201,3 +211,9 @@ refused_one false depth n ts s is none = ap left (members_fail (value depth) n i
 
 pub refused_key : (depth n : ℕ) (ts : List Token) → read_key ts ≡ None → left_after false depth n ts ≡ None
 refused_key depth n ts none = ap left (members_no_key (value depth) n ts none)
+
+-- it has begun, and after some of it neither its next key nor its end can be read
+pub no_key_after : (is_list : Bool) (depth n : ℕ) (ts new : List Token) → 0 < depth → left_after is_list (depth - 1) (length ts) ts ≡ left_after is_list (depth - 1) n new
+    → (is_list ≡ false) × (read_key new ≡ None) → nested is_list depth ts ≡ None
+no_key_after true depth n ts new some same none = absurd (true≢false none.0)
+no_key_after false depth n ts new some same none = nested_is false depth ts some ∙ same ∙ refused_key (depth - 1) n new none.1

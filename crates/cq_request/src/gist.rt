@@ -41,9 +41,16 @@ pub(crate) fn line_gist(alloc: Global, line: &[u8]) -> Result<Value, ReadError>
     ensures gist { IfOk result (λ v. IsGistOfLine line.now (view v)) }
     ensures refused { IfErr result (IsJsonFor (SpellsNoObject line.now)) }
 {
-    let Ok(text) = simdutf8::compat::from_utf8(line) else {
-        return Err(ReadError::Refused(Refusal::Json));
-    };
+    match simdutf8::compat::from_utf8(line) {
+        Ok(text) => text_gist(alloc, text),
+        Err(_) => Err(ReadError::Refused(Refusal::Json)),
+    }
+}
+
+fn text_gist(alloc: Global, text: &str) -> Result<Value, ReadError>
+    ensures gist { IfOk result (λ v. IsGistOfLine text.now (view v)) }
+    ensures refused { IfErr result (IsJsonFor (SpellsNoObject text.now)) }
+{
     let mut scratch = Scratch::new(alloc);
     let gist = text_read(alloc, text, &mut scratch)?;
     check_passed(alloc, gist.has_passed, text, &mut scratch)?;

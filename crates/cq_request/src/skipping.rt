@@ -34,7 +34,9 @@ pub(crate) fn pass_rest(
         Token::BeginArray => pass_nested(reader, true, depth),
         Token::BeginObject => pass_nested(reader, false, depth),
         Token::String(_) | Token::Number(_) | Token::Bool(_) | Token::Null => Ok(()),
-        Token::EndObject | Token::EndArray | Token::Key(_) | Token::Bad => Err(ReadError::Refused(Refusal::Json)),
+        Token::EndObject | Token::EndArray | Token::Key(_) | Token::Bad => Err(ReadError::Refused(
+            Refusal::Json,
+        )),
     }
 }
 
@@ -98,7 +100,11 @@ fn is_finite_numeral(is_negative: bool, digits: &[u8]) -> bool
 }
 
 /// Checks that no number of a text is too large to have a value.
-pub(crate) fn check_numbers(alloc: Global, text: &str, scratch: &mut Scratch) -> Result<(), ReadError>
+pub(crate) fn check_numbers(
+    alloc: Global,
+    text: &str,
+    scratch: &mut Scratch,
+) -> Result<(), ReadError>
     ensures fit { OnOk result (list_all token_fits (tokens text.now) ≡ true) }
     ensures refused { IfErr result (IsJsonFor (list_all token_fits (tokens text.now) ≡ false)) }
 {
