@@ -216,11 +216,11 @@ all_push [] d = by (is_condition d)
     by : (b : Bool) → (b && true) ≡ b
     by true = refl
     by false = refl
-all_push (e ∷ ds) d = by (is_condition e) (all_push ds d)
+all_push (e ∷ ds) d = by (is_condition e) _ _ _ (all_push ds d)
   where
-    by : (b : Bool) {x y z : Bool} → x ≡ (y && z) → (b && x) ≡ ((b && y) && z)
-    by true is = is
-    by false is = refl
+    by : (b x y z : Bool) → x ≡ (y && z) → (b && x) ≡ ((b && y) && z)
+    by true x y z is = is
+    by false x y z is = refl
 
 both_so : (a b : Bool) → a ≡ true → b ≡ true → (a && b) ≡ true
 both_so a b is so = ap₂ (λ x y. x && y) is so
@@ -271,9 +271,6 @@ list_more ds found new d item false added seen is adds = record {
 }
 
 -- what is noted of an item
-
-pub not_added : (came : Option Data) (found : List Data) (was : Bool) → (came ≡ None) ⊎ (32 ≤ length found) → NotesItem came found found was false
-not_added came found was why = (false, (refl, why), sym (not_last was false refl))
 
 pub item_added : (came : Option Data) (condition : Data) (found new : List Data) (was : Bool) → came ≡ Some condition → length found < 32 → new ≡ found ++ condition ∷ [] → NotesItem came found new was was
 item_added came condition found new was is few grown = (true, (condition, is, few, grown), sym (always_and was))

@@ -1,11 +1,11 @@
 -- What is kept of a value by its first token, and by the form that is asked for.
-use Rattle.std.proofs.Common.{◌≡◌, ℕ, List, ◌∷◌, Bool, true, false, cond, Option, Some, None, option_map, refl, sym, ap, ◌∙◌, subst}
+use Rattle.std.proofs.Common.{◌≡◌, ℕ, List, [], ◌∷◌, Bool, true, false, cond, Option, Some, None, option_map, refl, sym, ap, ◌∙◌, subst}
 use Rattle.std.specs.Prelude.{is_some, unwrap_or}
 use Rattle.std.proofs.lemmas.Option.{none-some}
 use Rattle.json.specs.Token.{Token}
 use Rattle.json.specs.Json as json
 use Rattle.json.specs.Json.{Json, parse_map, skip_value, value}
-use Rattle.json.proofs.Grammar.{left_none, value_is}
+use Rattle.json.proofs.Grammar.{left, value_is}
 use Rattle.serde_json.specs.Data.{Num, Data, null, boolean, number, string}
 use Rattle.serde_json.specs.Find.{as_bool, as_str}
 use Rattle.serde_json.specs.Read.{number_of}
@@ -14,7 +14,7 @@ use Rattle.cq_request.specs.declared.form.Form.TheVariants as form
 use Rattle.cq_request.specs.Members as members
 use Rattle.cq_request.specs.Conditions.{condition_of}
 use Rattle.cq_request.specs.Gist.{conditions_listed, IsAlike}
-use Rattle.cq_request.specs.Valued.{fits, formed, has_form, token_fits, valued, IsUnfit}
+use Rattle.cq_request.specs.Valued.{fits, formed, has_form, leaf_of, token_fits, valued, IsUnfit}
 
 abbrev or_first : Json → Option (Json × List Token) → Json
 or_first j None = j
@@ -146,9 +146,45 @@ leaf_unfit depth (Token.boolean b) ts large = absurd (cc)
 leaf_unfit depth Token.null ts large = absurd (cc)
 leaf_unfit depth Token.bad ts large = absurd (cc)
 
--- what can't be passed can't be read
-pub unread : (depth : ℕ) (ts : List Token) → skip_value depth ts ≡ None → IsUnfit fits (value depth ts)
-unread depth ts none = subst (IsUnfit fits) (sym (left_none (value depth ts) none)) tt
+-- a value begins with this token
+abbrev pub begins_value : Token → Bool
+begins_value Token.begin_object = true
+begins_value Token.end_object = false
+begins_value Token.begin_array = true
+begins_value Token.end_array = false
+begins_value (Token.key s) = false
+begins_value (Token.string s) = true
+begins_value (Token.number s) = true
+begins_value (Token.boolean b) = true
+begins_value Token.null = true
+begins_value Token.bad = false
+
+pub leaf_passed : (depth : ℕ) (t : Token) (ts : List Token) → is_some (leaf_of t) ≡ true → skip_value depth (t ∷ ts) ≡ Some ts
+leaf_passed depth Token.begin_object ts leaf = absurd (cc)
+leaf_passed depth Token.end_object ts leaf = absurd (cc)
+leaf_passed depth Token.begin_array ts leaf = absurd (cc)
+leaf_passed depth Token.end_array ts leaf = absurd (cc)
+leaf_passed depth (Token.key s) ts leaf = absurd (cc)
+leaf_passed depth (Token.string s) ts leaf = ap left (value_is depth (Token.string s ∷ ts))
+leaf_passed depth (Token.number s) ts leaf = ap left (value_is depth (Token.number s ∷ ts))
+leaf_passed depth (Token.boolean b) ts leaf = ap left (value_is depth (Token.boolean b ∷ ts))
+leaf_passed depth Token.null ts leaf = ap left (value_is depth (Token.null ∷ ts))
+leaf_passed depth Token.bad ts leaf = absurd (cc)
+
+pub nothing_begins : (depth : ℕ) (t : Token) (ts : List Token) → begins_value t ≡ false → skip_value depth (t ∷ ts) ≡ None
+nothing_begins depth Token.begin_object ts none = absurd (cc)
+nothing_begins depth Token.end_object ts none = ap left (value_is depth (Token.end_object ∷ ts))
+nothing_begins depth Token.begin_array ts none = absurd (cc)
+nothing_begins depth Token.end_array ts none = ap left (value_is depth (Token.end_array ∷ ts))
+nothing_begins depth (Token.key s) ts none = ap left (value_is depth (Token.key s ∷ ts))
+nothing_begins depth (Token.string s) ts none = absurd (cc)
+nothing_begins depth (Token.number s) ts none = absurd (cc)
+nothing_begins depth (Token.boolean b) ts none = absurd (cc)
+nothing_begins depth Token.null ts none = absurd (cc)
+nothing_begins depth Token.bad ts none = ap left (value_is depth (Token.bad ∷ ts))
+
+pub unfit_end : (depth : ℕ) (ts : List Token) → ts ≡ [] → IsUnfit fits (value depth ts)
+unfit_end depth ts none = subst (λ (xs : List Token). IsUnfit fits (value depth xs)) (sym none) (subst (IsUnfit fits) (sym (value_is depth [])) tt)
 
 -- ---- an item that is no object
 

@@ -28,7 +28,7 @@ not_same k l f known other same = other_is_none (form_of l) f other (ap form_of 
 
 -- ---- members that are alike
 
-are_alike : (f : Form) (a b c d : Option Data) → a ≡ c → b ≡ d → AreAlike f c d → AreAlike f a b
+pub are_alike : (f : Form) (a b c d : Option Data) → a ≡ c → b ≡ d → AreAlike f c d → AreAlike f a b
 are_alike f a b c d left right are = subst (λ x. AreAlike f x b) (sym left) (subst (λ y. AreAlike f c y) (sym right) are)
 
 -- a member more on both sides

@@ -3,8 +3,9 @@ use Rattle.std.proofs.lemmas.List.{map-append}
 use Rattle.json.specs.Token.{Token}
 use Rattle.json.specs.Json.{after_end_array, value}
 use Rattle.json.specs.Json as json
-use Rattle.serde_json.specs.Data.{Data, array}
+use Rattle.serde_json.specs.Data.{Data, null, array}
 use Rattle.serde_json.specs.View.{view}
+use Rattle.serde_json.specs.declared.value.Value.{Null, the_lemmas}
 use Rattle.serde_json.proofs.Views.{view-Array}
 use Rattle.cq_request.specs.declared.form.Form.TheVariants as form
 use Rattle.cq_request.specs.Gist.{IsAlike}
@@ -68,10 +69,11 @@ returns-clause-read c =
     let end : c.take_end_array.result ≡ true = search rules in
     let over = at_end c.take_end_array.result c.items.reader c.take_end_array.new.self c.take_end_array.ensures end in
     let found = map view c.items.found.items in
+    let nothing : view (Null) ≡ null = search (rules, the_lemmas) in
     let not = subst (λ (are : Bool). IsListSeen (map valued done) found are) c.if-are_conditions.false seen in
     record {
       of = items_before done json.no_items;
       read = list_over (value c.args.depth) c.args.reader.now c.items.reader done walk c.take_end_array.new.self over;
-      alike = list_not_kept done found not;
+      alike = subst (λ (d : Data). IsAlike form.Conditions (array (valued_items (items_before done json.no_items))) d) (sym nothing) (list_not_kept done found not);
       fit = fit;
     }
