@@ -1,8 +1,9 @@
 -- Whether a value's numbers are too large is what its tokens say; and what a text spells, of the value of its tokens.
-use Rattle.std.proofs.Common.{◌≡◌, ℕ, zero, suc, ◌^◌, ◌==◌, nat_le, nat_lt, List, [], ◌∷◌, drop, length, Bool, true, false, cond, ◌&&◌, Option, Some, None, option_map, refl, sym, ap, ap₂, ◌∙◌, append-nil}
+use Rattle.std.proofs.Common.{◌≡◌, ℕ, zero, suc, ◌-◌, ◌^◌, ◌==◌, nat_le, nat_lt, List, [], ◌∷◌, drop, take, length, Bool, true, false, cond, ◌&&◌, Option, Some, None, option_map, refl, sym, ap, ap₂, ◌∙◌, arith, append-nil}
 use Rattle.std.specs.Prelude.{is_some, option_and_then, slice_index, unwrap_or}
 use Rattle.std.specs.Float.{binary64, float_is_finite}
 use Rattle.std.specs.List.{list_all}
+use Rattle.std.proofs.lemmas.List.{length-drop, take_all}
 use Rattle.std.proofs.lemmas.Option.{none-some}
 use Rattle.json.specs.Token.{Token}
 use Rattle.json.specs.Lex.{tokens}
@@ -205,10 +206,16 @@ pub finite_number : (sign : Bool) (p : Parts) → float_is_finite (nearest binar
 finite_number false p fit = float_there (is_integer p && nat_lt (digits_of p) (2 ^ 64)) (float_is_finite (nearest binary64 false p)) (unsigned (digits_of p)) (float (nearest binary64 false p)) fit
 finite_number true p fit = float_there (is_integer p && nat_lt 0 (digits_of p) && nat_le (digits_of p) (2 ^ 63)) (float_is_finite (nearest binary64 true p)) (negative (with_sign true (digits_of p))) (float (nearest binary64 true p)) fit
 
--- and so has the number that has this sign before its digits, or none
-pub finite_negative : (s : List ℕ) → (slice_index s 0 == 45) ≡ true → float_is_finite (nearest binary64 true (scan (drop 1 s))) ≡ true → is_some (number_of s) ≡ true
+whole_rest : (s : List ℕ) → take (length s - 1) (drop 1 s) ≡ drop 1 s
+whole_rest s = let many = length-drop 1 s in take_all (length s - 1) (drop 1 s) (omega (arith, many))
+
+finite_after_sign : (s : List ℕ) → (slice_index s 0 == 45) ≡ true → float_is_finite (nearest binary64 true (scan (drop 1 s))) ≡ true → is_some (number_of s) ≡ true
 unfolding number_of
-finite_negative s sign fit = ap (λ (b : Bool). is_some (cond b (number_from true (scan (drop 1 s))) (number_from false (scan s)))) sign ∙ finite_number true (scan (drop 1 s)) fit
+finite_after_sign s sign fit = ap (λ (b : Bool). is_some (cond b (number_from true (scan (drop 1 s))) (number_from false (scan s)))) sign ∙ finite_number true (scan (drop 1 s)) fit
+
+-- and so has a text, by the digits after its sign if it has one
+pub finite_negative : (s : List ℕ) → (slice_index s 0 == 45) ≡ true → float_is_finite (nearest binary64 true (scan (take (length s - 1) (drop 1 s)))) ≡ true → is_some (number_of s) ≡ true
+finite_negative s sign fit = finite_after_sign s sign (ap (λ (ds : List ℕ). float_is_finite (nearest binary64 true (scan ds))) (sym (whole_rest s)) ∙ fit)
 
 pub finite_positive : (s : List ℕ) → (slice_index s 0 == 45) ≡ false → float_is_finite (nearest binary64 false (scan s)) ≡ true → is_some (number_of s) ≡ true
 unfolding number_of
