@@ -7,6 +7,7 @@ ghost use Rattle.cq_tokfile.specs.Loaded.{IsLoadedOf};
 ghost use Rattle.cq_tokfile.specs.Snapshot.{IsSoundSnapshot};
 
 use crate::telling::told;
+use crate::version::KeptVersion;
 use cq_base::{Settings, Steps};
 use cq_io::{Failed, Sink, Source, send};
 use cq_lines::{Answers, End, Lines, serve_lines};
@@ -21,8 +22,7 @@ use std::thread::Threads;
 struct Asking<'a, R, L: Ledger> {
     rt: &'a R,
     alloc: Global,
-    settings: &'a Settings,
-    snapshot: &'a Snapshot<L>,
+    kept: KeptVersion<'a, L>,
     loaded: &'a mut Loaded<L>,
     steps: &'a mut Steps<L>,
 }
@@ -44,19 +44,18 @@ impl<'a, R: Threads + Sync, L: Ledger> Answers for Asking<'a, R, L> {
     ghost Beginning = { Unit {0} };
 
     ghost AreReplies = { λ from first now lines replies.
-        AnswersLines now.snapshot.now now.settings.now lines replies
-        × (now.snapshot.now ≡ first.snapshot.now) × (now.settings.now ≡ first.settings.now) };
+        AnswersLines now.kept.snapshot.now now.kept.settings.now lines replies
+        × (now.kept.snapshot.now ≡ first.kept.snapshot.now) × (now.kept.settings.now ≡ first.kept.settings.now) };
 
-    ghost ready = { λ a. IsSync R.row × IsInRange a.settings.now
-        × IsSoundSnapshot a.settings.now a.snapshot.now
-        × IsLoadedOf a.snapshot.now.files a.loaded.now };
+    ghost ready = { λ a. IsSync R.row × IsInRange a.kept.settings.now
+        × IsSoundSnapshot a.kept.settings.now a.kept.snapshot.now
+        × IsLoadedOf a.kept.snapshot.now.files a.loaded.now };
 
     fn answer<K: Sink>(&mut self, line: &[u8], sink: &mut K) -> Result<(), Failed> {
         let line = told(
             self.rt,
             self.alloc,
-            self.settings,
-            self.snapshot,
+            &self.kept,
             self.loaded,
             line,
             self.steps,
@@ -93,8 +92,7 @@ pub fn ask_lines<R: Threads + Sync, L: Ledger, S: Source, K: Sink>(
     let mut asking = Asking {
         rt,
         alloc,
-        settings,
-        snapshot,
+        kept: KeptVersion { settings, snapshot },
         loaded,
         steps,
     };

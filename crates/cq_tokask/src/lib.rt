@@ -10,6 +10,7 @@ mod kept;
 mod laws;
 mod taking;
 mod telling;
+mod version;
 
 pub use asking::ask_lines;
 pub use kept::{Asked, ask};
