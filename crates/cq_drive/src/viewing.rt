@@ -13,7 +13,7 @@ ghost use Rattle.cq_work.specs.Work.{IsWorkOf};
 
 use crate::buckets::CoreBuckets;
 use crate::{Entries, ScriptOutcome};
-use cq_answer::answer;
+use cq_answer::{ProjectAt, answer};
 use cq_base::{Memory, Settings, Steps};
 use cq_board::View;
 use cq_core::Core;
@@ -76,17 +76,13 @@ fn answered<R: Threads + Sync, L: Ledger>(
         files,
         asked: 0,
     };
-    let reply = answer(
-        rt,
-        alloc,
+    let at = ProjectAt {
         settings,
         files,
         conditions,
-        query,
-        view.version,
-        &mut buckets,
-        steps,
-    )?;
+        version: view.version,
+    };
+    let reply = answer(rt, alloc, &at, query, &mut buckets, steps)?;
     Ok(ScriptOutcome::Reply(reply))
 }
 

@@ -7,7 +7,7 @@ ghost use Rattle.cq_work.specs.Work.{IsWorkOf};
 ghost use Rattle.cq_session.specs.Passes.{CostsOpen, HasOpen, HasReady, HasShown, HasShut, HasSwept, HasViewOpen, HasViewedOrNot, KeepsOpen, ShowsOpen};
 
 use crate::{PassBuckets, Server};
-use cq_answer::answer;
+use cq_answer::{ProjectAt, answer};
 use cq_base::{Memory, Steps};
 use cq_board::View;
 use cq_hub::Hub;
@@ -50,17 +50,13 @@ fn reply_in<R: Threads + Sync, L: Ledger, H: Hub<Work<L>>, G: Gate>(
         files,
         pass,
     };
-    answer(
-        rt,
-        server.alloc,
-        &server.keyer.settings,
+    let at = ProjectAt {
+        settings: &server.keyer.settings,
         files,
         conditions,
-        query,
-        view.version,
-        &mut buckets,
-        steps,
-    )
+        version: view.version,
+    };
+    answer(rt, server.alloc, &at, query, &mut buckets, steps)
 }
 
 // Shuts the view after its reply was made, or memory ran out, and returns which of the two it was.

@@ -10,7 +10,7 @@ ghost use Rattle.cq_tokfile.specs.Loaded.{IsLoadedOf};
 ghost use Rattle.cq_tokfile.specs.Snapshot.{IsSoundSnapshot};
 
 use crate::version::KeptVersion;
-use cq_answer::answer;
+use cq_answer::{ProjectAt, answer};
 use cq_base::{Memory, Refusal, Settings, Steps};
 use cq_projects::ProjectFiles;
 use cq_reply::Reply;
@@ -39,17 +39,13 @@ fn reply_to_other<R: Threads + Sync, L: Ledger>(
 {
     let files: ProjectFiles<Work<L>> = ProjectFiles::new(alloc);
     let mut buckets: Loaded<L> = Loaded::none(alloc);
-    answer(
-        rt,
-        alloc,
+    let at = ProjectAt {
         settings,
-        &files,
-        &[],
-        query,
+        files: &files,
+        conditions: &[],
         version,
-        &mut buckets,
-        steps,
-    )
+    };
+    answer(rt, alloc, &at, query, &mut buckets, steps)
 }
 
 // The reply to a query.
@@ -84,17 +80,13 @@ fn query_reply<R: Threads + Sync, L: Ledger>(
             steps,
         );
     }
-    answer(
-        rt,
-        alloc,
-        kept.settings,
-        &kept.snapshot.files,
-        kept.snapshot.conditions.as_slice(),
-        query,
-        kept.snapshot.version,
-        loaded,
-        steps,
-    )
+    let at = ProjectAt {
+        settings: kept.settings,
+        files: &kept.snapshot.files,
+        conditions: kept.snapshot.conditions.as_slice(),
+        version: kept.snapshot.version,
+    };
+    answer(rt, alloc, &at, query, loaded, steps)
 }
 
 /// The reply to a line that is not too long.
