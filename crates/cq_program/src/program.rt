@@ -14,7 +14,7 @@ use crate::clients::listen;
 use crate::status::{Exit, Status, status_of, status_of_asked, status_of_exported};
 use crate::workers::serve_with_workers;
 use cq_base::{Memory, Settings, Steps, Text};
-use cq_drive::drive;
+use cq_drive::{Driver, drive};
 use cq_export::export;
 use cq_hub::{Solo, SoloPass};
 use cq_io::{Doors, Failed, Gate, Sink, Source};
@@ -111,7 +111,12 @@ fn driven<R: Threads + Sync, S: Source, K: Sink, L: Ledger>(
     let Ok(mut lines) = Lines::new(alloc, settings.byte_limit) else {
         return Status::Memory;
     };
-    match drive(rt, alloc, &keyer, &mut lines, source, sink, steps) {
+    let driver = Driver {
+        rt,
+        alloc,
+        keyer: &keyer,
+    };
+    match drive(&driver, &mut lines, source, sink, steps) {
         Ok(end) => status_of(end),
         Err(Memory) => Status::Memory,
     }
