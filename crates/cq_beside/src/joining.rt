@@ -69,12 +69,13 @@ fn labour<Q: Wait, L: Ledger, R: Wait, G: Gate>(
 {
     let keyer = Keyer::plain(settings);
     let server = Server {
+        rt,
         alloc,
         keyer: &keyer,
         hub,
         gate,
     };
-    work(rt, &server, pass, bell)
+    work(&server, pass, bell)
 }
 
 // The talk, on a pass of its own, which ends in this one. Behind it nobody sleeps on the bell.

@@ -78,12 +78,13 @@ impl<'a, L: Ledger, R: Wait, S: Source, K: Sink, G: Gate> Talker<L, R> for Servi
             steps,
         } = self;
         let server = Server {
+            rt,
             alloc,
             keyer,
             hub,
             gate,
         };
-        let end = session(rt, &server, pass, lines, source, sink, steps);
+        let end = session(&server, pass, lines, source, sink, steps);
         Over {
             source,
             sink,
@@ -112,8 +113,7 @@ pub fn serve_one<
     K: Sink,
     G: Gate + Sync,
 >(
-    rt: &Q,
-    server: &Server<'_, Shared<Work<L>, R>, G>,
+    server: &Server<'_, Q, Shared<Work<L>, R>, G>,
     pass: Pass<Work<L>>,
     lines: &mut Lines,
     source: &mut S,
@@ -139,7 +139,7 @@ pub fn serve_one<
     let ringing = RingingGate {
         gate: server.gate,
         bell: &bell,
-        rt,
+        rt: server.rt,
     };
     let serving = Serving {
         alloc: server.alloc,
@@ -151,7 +151,7 @@ pub fn serve_one<
         steps,
     };
     let (over, _pass) = beside(
-        rt,
+        server.rt,
         server.alloc,
         &server.keyer.settings,
         server.hub,

@@ -91,13 +91,13 @@ fn converse<Q: Threads + Sync, L: Ledger, R: Wait, S: Source + Drop, K: Sink + D
     let mut steps = seat.counters.counter();
     seat.lines.restart();
     let server = Server {
+        rt,
         alloc: seat.alloc,
         keyer,
         hub: seat.hub,
         gate: seat.gate,
     };
     let _end = session(
-        rt,
         &server,
         &mut seat.pass,
         &mut seat.lines,

@@ -101,14 +101,15 @@ fn line_made<R: Threads + Sync, L: Ledger>(
     let (hub, mut pass) = made;
     put_all(alloc, &hub, number, files, &mut pass)?;
     let server = Server {
+        rt,
         alloc,
         keyer: &keyer,
         hub: &hub,
         gate: &OpenGate,
     };
-    let groups = reply_of(rt, &server, Kind::Groups, &mut pass, steps)?;
-    let measures = reply_of(rt, &server, Kind::Measures, &mut pass, steps)?;
-    let rows = reply_of(rt, &server, Kind::Files, &mut pass, steps)?;
+    let groups = reply_of(&server, Kind::Groups, &mut pass, steps)?;
+    let measures = reply_of(&server, Kind::Measures, &mut pass, steps)?;
+    let rows = reply_of(&server, Kind::Files, &mut pass, steps)?;
     line_told(alloc, settings, number, files, &groups, &measures, &rows)
 }
 

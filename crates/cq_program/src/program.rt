@@ -56,12 +56,13 @@ fn serve<R: Threads + Sync, S: Source, K: Sink, G: Gate, L: Ledger>(
             talks_alone();
             talks_beside();
             let server = Server {
+                rt,
                 alloc,
                 keyer: &keyer,
                 hub: &hub,
                 gate,
             };
-            let end = session(rt, &server, &mut pass, &mut lines, source, sink, steps);
+            let end = session(&server, &mut pass, &mut lines, source, sink, steps);
             status_of(end)
         }
         Err(Memory) => Status::Memory,

@@ -57,12 +57,13 @@ pub(crate) fn serve_with_workers<
     match Lines::new(alloc, settings.byte_limit) {
         Ok(mut lines) => {
             let server = Server {
+                rt,
                 alloc,
                 keyer: &keyer,
                 hub: &hub,
                 gate,
             };
-            let end = serve_one(rt, &server, pass, &mut lines, source, sink, workers, steps);
+            let end = serve_one(&server, pass, &mut lines, source, sink, workers, steps);
             status_of(end)
         }
         Err(Memory) => Status::Memory,

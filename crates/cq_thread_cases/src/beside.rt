@@ -65,14 +65,13 @@ fn served<Q: Threads + Wait + Sync, L: Ledger + Send + Sync, S: Source, K: Sink,
     let (hub, pass) = made;
     let mut lines = Lines::new(alloc, settings.byte_limit)?;
     let server = Server {
+        rt,
         alloc,
         keyer: &keyer,
         hub: &hub,
         gate,
     };
-    let end = serve_one(
-        rt, &server, pass, &mut lines, source, sink, workers, &mut steps,
-    );
+    let end = serve_one(&server, pass, &mut lines, source, sink, workers, &mut steps);
     Ok(end)
 }
 
