@@ -19,7 +19,7 @@ use cq_export::export;
 use cq_hub::{Solo, SoloPass};
 use cq_io::{Doors, Failed, Gate, Sink, Source};
 use cq_lines::Lines;
-use cq_make::make;
+use cq_make::{Project, make};
 use cq_session::{Server, session};
 use cq_talk::{talks_alone, talks_beside};
 use cq_tokask::ask;
@@ -135,15 +135,11 @@ fn made<R: Threads + Sync, K: Sink, L: Ledger>(
     ensures ends { EndsUnread K.Sink result sink.old sink.new }
     ensures makes { MakesLine K.Sink asked sink.old sink.new result }
 {
-    match make(
-        rt,
-        alloc,
-        &default_settings(),
-        asked.number,
-        asked.files,
-        sink,
-        steps,
-    ) {
+    let project = Project {
+        number: asked.number,
+        files: asked.files,
+    };
+    match make(rt, alloc, &default_settings(), project, sink, steps) {
         Ok(Ok(())) => Status::Done,
         Ok(Err(Failed)) => Status::WriteFault,
         Err(Memory) => Status::Memory,
