@@ -6,7 +6,7 @@ ghost use Rattle.cq_program.specs.declared.status.Status.TheVariants as ended;
 
 use crate::status::{Status, status_of};
 use cq_base::{Memory, Steps};
-use cq_beside::serve_one;
+use cq_beside::{Crew, serve_one};
 use cq_chain::Pass;
 use cq_io::{Gate, Sink, Source};
 use cq_lines::Lines;
@@ -63,7 +63,8 @@ pub(crate) fn serve_with_workers<
                 hub: &hub,
                 gate,
             };
-            let end = serve_one(&server, pass, &mut lines, source, sink, workers, steps);
+            let crew = Crew { workers, pass };
+            let end = serve_one(&server, crew, &mut lines, source, sink, steps);
             status_of(end)
         }
         Err(Memory) => Status::Memory,
