@@ -41,8 +41,10 @@ fn change_reply<W: Indexed, H: Hub<W>, G: Gate>(
             gate.after_accept(number);
             Ok(Reply::Change(number))
         }
-        Err(Refused::Memory) => Err(Memory),
-        Err(cause) => Ok(cause_told(cause)),
+        Err(cause) => match cause {
+            Refused::Memory => Err(Memory),
+            _ => Ok(cause_told(cause)),
+        },
     }
 }
 
