@@ -1,8 +1,11 @@
+mod Cells
+mod Commands
 mod Different
 mod Elements
 mod Endings
 mod Functions
 mod Groups
+mod Hubs
 mod Index
 mod Keys
 mod Lines
@@ -13,6 +16,7 @@ mod Requests
 mod Scopes
 mod Sessions
 mod Steps
+mod Talks
 mod TokenFiles
 mod Turns
 mod Words
