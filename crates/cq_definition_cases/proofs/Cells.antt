@@ -18,14 +18,14 @@ module _ (p : PassState (Item ℕ ℕ) ℕ ℕ) (has : HasShard p 0 1) where
   a_shard_is_put_back_with_its_own_count may = let same = (may 1 has p.seen 1 tt (prefix_self p.seen) refl).0 in omega (arith, same)
 
   pub a_shard_is_put_back_with_one_change_more_at_most : MayLeave any is_right p 0 3 3 → ⊥
-  a_shard_is_put_back_with_one_change_more_at_most may = of (may 1 has p.seen 1 tt (prefix_self p.seen) refl).1
+  a_shard_is_put_back_with_one_change_more_at_most may = of 3 refl (may 1 has p.seen 1 tt (prefix_self p.seen) refl).1
     where
-      of : (3 ≡ 1) ⊎ (3 ≡ 1 + 1) → ⊥
-      of (inl same) = omega (arith, same)
-      of (inr next) = omega (arith, next)
+      of : (n : ℕ) → n ≡ 3 → (n ≡ 1) ⊎ (n ≡ 1 + 1) → ⊥
+      of n three (inl same) = omega (arith, three, same)
+      of n three (inr next) = omega (arith, three, next)
 
 pub what_is_put_back_is_the_shard_that_was_taken : (p q : PassState (Item ℕ ℕ) ℕ ℕ) → least p 0 ≡ 0 → least q 0 ≡ 1 → HasReached 1 1 p q → ⊥
 what_is_put_back_is_the_shard_that_was_taken p q none one reached = let same = reached.elsewhere 0 (λ e. omega (arith, e)) in omega (arith, none, one, same)
 
-pub the_longer_history_is_kept : longer (7 ∷ []) (7 ∷ 8 ∷ []) ≡ 7 ∷ [] → ⊥
+pub the_longer_history_is_kept : longer {A = ℕ} (7 ∷ []) (7 ∷ 8 ∷ []) ≡ 7 ∷ [] → ⊥
 the_longer_history_is_kept e = omega (arith, ap (λ (log : List ℕ). length log) e)

@@ -70,7 +70,12 @@ two_is_written c behind = refl
 three_is_written : (c : Contents) (behind : List ℕ) → slice_index (whole (under 3) c ++ behind) 27 ≡ 3
 three_is_written c behind = refl
 
-module _ {L S K : Type 0} (from : source.Ghosts S) (onto : sink.Ghosts K) where
+-- what was taken is a front of the bytes
+front : (bytes file : List ℕ) (behind : Option (List ℕ)) → Consumes (Some bytes) behind file → (rest : List ℕ) × (bytes ≡ file ++ rest)
+front bytes file None consumes = absurd consumes
+front bytes file (Some rest) consumes = (rest, consumes)
+
+module _ (L : Type 0) {S K : Type 0} (from : source.Ghosts S) (onto : sink.Ghosts K) where
   -- a file that was written under other settings is none of these
   begins_with_none : (s : Snapshot L) (file behind : List ℕ) → IsTokenFile (under 3) s file → BeginsWithNoFile L from onto (under 2) (file ++ behind)
   begins_with_none s file behind is t own rest same its =
@@ -86,10 +91,6 @@ module _ {L S K : Type 0} (from : source.Ghosts S) (onto : sink.Ghosts K) where
         (set : Settings) (s : Snapshot L) (file behind : List ℕ) → IsTokenFile set s file → from.rest read ≡ Some (file ++ behind) → Asks L from onto set read read_now written written_now kept.Refused → ⊥
     a_token_file_of_the_settings_is_not_refused set s file behind is rest says =
         let none : BeginsWithNoFile L from onto set (file ++ behind) = subst (λ (known : Option (List ℕ)). IfSome known (BeginsWithNoFile L from onto set)) rest says.0 in none s file behind refl is
-
-    front : (bytes file : List ℕ) (behind : Option (List ℕ)) → Consumes (Some bytes) behind file → (rest : List ℕ) × (bytes ≡ file ++ rest)
-    front bytes file None consumes = absurd consumes
-    front bytes file (Some rest) consumes = (rest, consumes)
 
     pub a_token_file_of_other_settings_is_not_answered :
         (s : Snapshot L) (file behind : List ℕ) → IsTokenFile (under 3) s file → from.rest read ≡ Some (file ++ behind)

@@ -92,7 +92,7 @@ a_shard_applies_one_change_at_a_time IsWindow about seen later three step = of s
 abbrev put : List ℕ → Change
 put text = Put (0 ∷ []) (1 ∷ []) Any text
 
-change_in : Option Change → Change
+abbrev change_in : Option Change → Change
 change_in None = put []
 change_in (Some change) = change
 

@@ -10,6 +10,7 @@ mod Index
 mod Keys
 mod Lines
 mod Listed
+mod MadeLines
 mod Measures
 mod Replies
 mod Requests

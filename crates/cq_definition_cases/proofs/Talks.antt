@@ -67,7 +67,7 @@ module _ (set : Settings) (callers : ℕ) (alone : Type 0) (seen : ℕ) (q : Que
     never_two r two (inr (inr (inl pending))) = let one = asked_count pending.asks in omega (arith, two, one)
     never_two r two (inr (inr (inr shown))) = not_two (Some shown.version) two shown.served
 
-  number_in : Option ℕ → ℕ
+  abbrev number_in : Option ℕ → ℕ
   number_in None = 0
   number_in (Some n) = n
 

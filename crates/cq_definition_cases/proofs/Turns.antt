@@ -51,7 +51,7 @@ a_question_alone_is_no_turn c (r, inl worked) = let three : 1 ≡ 3 = ap (λ (es
 a_question_alone_is_no_turn c (r, inr (inl back)) = let three : 1 ≡ 3 = ap (λ (es : List Event). length es) back in omega (arith, three)
 a_question_alone_is_no_turn c (r, inr (inr late)) = let two : 1 ≡ 2 = ap (λ (es : List Event). length es) late in omega (arith, two)
 
-takes : List Event → ℕ
+abbrev takes : List Event → ℕ
 takes (event.Took by r ∷ es) = 1
 takes _ = 0
 
