@@ -1,6 +1,7 @@
 mod Cells
 mod Commands
 mod Different
+mod Driven
 mod Elements
 mod Endings
 mod Functions

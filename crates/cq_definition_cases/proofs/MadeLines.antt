@@ -8,7 +8,7 @@ use Rattle.serde_json.specs.Written.{comma_if, compact_text, members_text}
 use Rattle.cq_base.specs.declared.measures.Measures.{Measures}
 use Rattle.cq_io.specs.declared.source.Failed.{Failed}
 use Rattle.cq_make.specs.Made.{Makes}
-use Rattle.cq_make.specs.Summary.{IsSummary, summary_line}
+use Rattle.cq_make.specs.Summary.{IsSummary, summary_line, token_count}
 use Rattle.cq_program.specs.Statuses.{end_of, status_of}
 use Rattle.cq_program.specs.Top.{IsMade}
 use Rattle.cq_program.specs.declared.status.Status.TheVariants as ended
@@ -33,13 +33,13 @@ one_end front other end its long same =
 end_of_value : (later : Bool) (key : List ℕ) (d : Data) (ms : Members) (end : List ℕ) → IsEnd end (compact_text d ++ (members_text true ms ++ 10 ∷ [])) → IsEnd end (members_text later (member key d ms) ++ 10 ∷ [])
 end_of_value later key d ms end ends =
     let brackets : members_text later (member key d ms) ++ 10 ∷ [] ≡ comma_if later ++ (quoted key ++ 58 ∷ (compact_text d ++ (members_text true ms ++ 10 ∷ []))) =
-        append_assoc (comma_if later) (quoted key ++ 58 ∷ (compact_text d ++ members_text true ms)) (10 ∷ [])
-        ∙ ap (λ (bs : List ℕ). comma_if later ++ bs)
-          (append_assoc (quoted key) (58 ∷ (compact_text d ++ members_text true ms)) (10 ∷ [])
-          ∙ ap (λ (bs : List ℕ). quoted key ++ 58 ∷ bs) (append_assoc (compact_text d) (members_text true ms) (10 ∷ []))) in
+    append_assoc (comma_if later) (quoted key ++ 58 ∷ (compact_text d ++ members_text true ms)) (10 ∷ [])
+    ∙ ap (λ (bs : List ℕ). comma_if later ++ bs)
+    (append_assoc (quoted key) (58 ∷ (compact_text d ++ members_text true ms)) (10 ∷ [])
+    ∙ ap (λ (bs : List ℕ). quoted key ++ 58 ∷ bs) (append_assoc (compact_text d) (members_text true ms) (10 ∷ []))) in
     subst (IsEnd end) (sym brackets)
-      (end_behind (comma_if later) (quoted key ++ 58 ∷ (compact_text d ++ (members_text true ms ++ 10 ∷ []))) end
-        (end_behind (quoted key) (58 ∷ (compact_text d ++ (members_text true ms ++ 10 ∷ []))) end (end_behind (58 ∷ []) (compact_text d ++ (members_text true ms ++ 10 ∷ [])) end ends)))
+    (end_behind (comma_if later) (quoted key ++ 58 ∷ (compact_text d ++ (members_text true ms ++ 10 ∷ []))) end
+    (end_behind (quoted key) (58 ∷ (compact_text d ++ (members_text true ms ++ 10 ∷ []))) end (end_behind (58 ∷ []) (compact_text d ++ (members_text true ms ++ 10 ∷ [])) end ends)))
 
 -- and so as what follows
 end_of_members : (later : Bool) (key : List ℕ) (d : Data) (ms : Members) (end : List ℕ) → IsEnd end (members_text true ms ++ 10 ∷ []) → IsEnd end (members_text later (member key d ms) ++ 10 ∷ [])
@@ -95,7 +95,7 @@ of_four : (number : ℕ) (line : List ℕ) (by : Result (Unit {0}) Failed)
     → IsSummary default_settings number 2 line → ended.Done ≡ status_of (end_of by) → Makes default_settings number 4 (Some []) (Some line) by → ⊥
 of_four number line (Ok sent) is status makes =
     let whole : line ≡ makes.line = makes.sends in
-    apart _ _ _ _ _ _ (sym is.line_is ∙ (whole ∙ makes.is_summary.line_is))
+    apart (length is.groups) (length makes.is_summary.groups) is.measures makes.is_summary.measures (token_count is.rows) (token_count makes.is_summary.rows) (sym is.line_is ∙ (whole ∙ makes.is_summary.line_is))
 of_four number line (Err failed) is status makes = grind (arith, status)
 
 pub a_made_line_is_of_all_files_that_are_asked_for : (number : ℕ) (line : List ℕ) → IsSummary default_settings number 2 line → IsMade number 4 (Some []) (Some line) 0 0 ended.Done → ⊥
