@@ -43,11 +43,11 @@ fn talk<R: Threads + Sync, L: Ledger, H: Hub<Work<L>>>(
     ensures closed { OnOk result (MayLead H.Stands (H.callers hub.now) hub.now pass.new Always) }
 {
     let lines = drawn_lines(alloc, count, draws, model)?;
-    let input = lines.asked.as_bytes();
+    let input = lines.asked.text.as_bytes();
     match written(rt, alloc, keyer, hub, input, &OpenGate, pass, steps) {
         Ok((end, output)) => {
-            let found = parted(end, &output, lines.told.as_bytes());
-            Ok((found, lines.told))
+            let found = parted(end, &output, lines.told.text.as_bytes());
+            Ok((found, lines.told.text))
         }
         Err(Memory) => Err(Memory),
     }

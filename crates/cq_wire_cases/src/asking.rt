@@ -1,4 +1,4 @@
-use crate::lines::{ask_plainly, drawn_number};
+use crate::lines::{ask_of_change, ask_plainly, drawn_number};
 use crate::looking::ask_look;
 use crate::model::{Drive, Taken};
 use crate::refused::{ask_badly, ask_in_a_long_line, ask_with_a_long_text};
@@ -6,7 +6,6 @@ use crate::telling::{tell_change, tell_done, tell_taken, tell_value};
 use cq_base::{Memory, Settings};
 use cq_talk_model::{Draws, Lines, Request, drawn_change, write_request};
 use std::alloc::Global;
-use std::fmt::Write;
 
 // A few callers come often, and the others now and then.
 fn drawn_caller(draws: &mut Draws) -> u32 {
@@ -35,25 +34,25 @@ fn ask_accept(
 ) -> Result<(), Memory> {
     let of_nine = draws.below(9);
     let request = Request::Change(drawn_change(alloc, draws, of_nine)?);
-    write!(
-        lines.asked,
-        "{{\"step\":\"accept\",\"by\":{by},\"request\":"
-    )?;
-    write_request(&request, &mut lines.asked)?;
-    lines.asked.push_str("}\n")?;
-    match request {
-        Request::Change(change) => {
-            let refusal = model.accept(change)?;
-            tell_change(refusal, model.accepted.count(), &mut lines.told)
-        }
-        _ => Ok(()),
+    lines.asked.put_number(
+        "{\"step\":\"accept\",\"by\":",
+        u64::from(by),
+        ",\"request\":",
+    );
+    write_request(&request, &mut lines.asked);
+    lines.asked.put("}\n");
+    if let Request::Change(change) = request {
+        let refusal = model.accept(change)?;
+        tell_change(refusal, model.accepted.count(), &mut lines.told);
     }
+    Ok(())
 }
 
 fn ask_took(by: u32, model: &mut Drive, lines: &mut Lines) -> Result<(), Memory> {
-    ask_plainly("took", by, &mut lines.asked)?;
+    ask_plainly("took", by, &mut lines.asked);
     let taken = model.take(by)?;
-    tell_taken(taken, &mut lines.told)
+    tell_taken(taken, &mut lines.told);
+    Ok(())
 }
 
 // Often what was taken last.
@@ -65,18 +64,10 @@ fn drawn_taken(by: u32, draws: &mut Draws, model: &Drive) -> Taken {
     }
 }
 
-fn ask_back(
-    by: u32,
-    draws: &mut Draws,
-    model: &mut Drive,
-    lines: &mut Lines,
-) -> Result<(), Memory> {
+fn ask_back(by: u32, draws: &mut Draws, model: &mut Drive, lines: &mut Lines) {
     let Taken { by, change } = drawn_taken(by, draws, model);
-    write!(
-        lines.asked,
-        "{{\"step\":\"back\",\"by\":{by},\"change\":{change}}}\n"
-    )?;
-    tell_done(model.back(by, change), &mut lines.told)
+    ask_of_change("back", by, change, &mut lines.asked);
+    tell_done(model.back(by, change), &mut lines.told);
 }
 
 fn ask_done(
@@ -86,12 +77,10 @@ fn ask_done(
     lines: &mut Lines,
 ) -> Result<(), Memory> {
     let change = drawn_job(draws, model);
-    write!(
-        lines.asked,
-        "{{\"step\":\"done\",\"by\":{by},\"change\":{change}}}\n"
-    )?;
+    ask_of_change("done", by, change, &mut lines.asked);
     let is_allowed = model.finish(change)?;
-    tell_done(is_allowed, &mut lines.told)
+    tell_done(is_allowed, &mut lines.told);
+    Ok(())
 }
 
 // Draws a step that changes what is accepted or done.
@@ -105,33 +94,27 @@ fn ask_change(
     match draws.below(24) {
         0..=10 => ask_accept(alloc, by, draws, model, lines),
         11..=13 => ask_took(by, model, lines),
-        14..=16 => ask_back(by, draws, model, lines),
+        14..=16 => {
+            ask_back(by, draws, model, lines);
+            Ok(())
+        }
         17..=22 => ask_done(by, draws, model, lines),
         _ => {
-            ask_plainly("ask", by, &mut lines.asked)?;
-            tell_value(model.accepted.count(), &mut lines.told)
+            ask_plainly("ask", by, &mut lines.asked);
+            tell_value(model.accepted.count(), &mut lines.told);
+            Ok(())
         }
     }
 }
 
-// The step with this position: each tenth is one that is refused, and the others are drawn.
-fn ask(
+// A step is drawn that may be allowed.
+fn ask_step(
     alloc: Global,
     settings: &Settings,
-    i: u32,
     draws: &mut Draws,
     model: &mut Drive,
     lines: &mut Lines,
 ) -> Result<(), Memory> {
-    if i == 159 {
-        return ask_with_a_long_text(lines);
-    }
-    if i == 249 {
-        return ask_in_a_long_line(lines);
-    }
-    if i % 10 == 9 {
-        return ask_badly(i / 10, lines);
-    }
     let by = drawn_caller(draws);
     if draws.below(5) < 2 {
         ask_change(alloc, by, draws, model, lines)
@@ -140,21 +123,24 @@ fn ask(
     }
 }
 
-/// The lines of so many draws, mostly a step each, and what the model tells of them.
+/// The lines of so many draws, mostly a step each, and what the model tells of them: each tenth line is one that is refused.
 pub fn drawn_lines(
     alloc: Global,
     settings: &Settings,
     count: u32,
     seed: u64,
 ) -> Result<Lines, Memory> {
-    let mut lines = Lines {
-        asked: String::new(alloc),
-        told: String::new(alloc),
-    };
+    let mut lines = Lines::new(alloc);
     let mut draws = Draws::new(seed);
     let mut model = Drive::new(alloc, settings);
     for i in 0..count {
-        ask(alloc, settings, i, &mut draws, &mut model, &mut lines)?;
+        match i {
+            159 => ask_with_a_long_text(&mut lines),
+            249 => ask_in_a_long_line(&mut lines),
+            _ if i % 10 == 9 => ask_badly(i / 10, &mut lines),
+            _ => ask_step(alloc, settings, &mut draws, &mut model, &mut lines)?,
+        }
     }
+    lines.check()?;
     Ok(lines)
 }

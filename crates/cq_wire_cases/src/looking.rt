@@ -3,36 +3,47 @@ use crate::lines::{ask_plainly, drawn_number};
 use crate::model::Drive;
 use crate::telling::{tell_bucket, tell_done, tell_value_or_no};
 use cq_base::{Memory, Settings};
-use cq_talk_model::{Draws, Lines, Request, drawn_question, tell_query_at, write_request};
+use cq_talk_model::{Draws, Lines, Request, Written, drawn_question, tell_query_at, write_request};
 use std::alloc::Global;
-use std::fmt::Write;
+
+// A step that has only a number.
+fn ask_number(front: &str, number: u64, asked: &mut Written) {
+    asked.put_number(front, number, "}\n");
+}
 
 fn ask_apply(draws: &mut Draws, model: &mut Drive, lines: &mut Lines) -> Result<(), Memory> {
     let shard = draws.below(2);
-    write!(lines.asked, "{{\"step\":\"apply\",\"shard\":{shard}}}\n")?;
+    ask_number(
+        "{\"step\":\"apply\",\"shard\":",
+        u64::from(shard),
+        &mut lines.asked,
+    );
     let applied = model.apply(shard)?;
-    tell_value_or_no(applied, &mut lines.told)
+    tell_value_or_no(applied, &mut lines.told);
+    Ok(())
 }
 
 // Mostly one of the next versions.
-fn ask_publish(draws: &mut Draws, model: &mut Drive, lines: &mut Lines) -> Result<(), Memory> {
+fn ask_publish(draws: &mut Draws, model: &mut Drive, lines: &mut Lines) {
     let version = if draws.below(4) == 0 {
         drawn_number(draws, model)
     } else {
         let on = u64::from(draws.below(3));
         model.published.saturating_add(on).saturating_add(1)
     };
-    write!(
-        lines.asked,
-        "{{\"step\":\"publish\",\"version\":{version}}}\n"
-    )?;
-    tell_done(model.publish(version), &mut lines.told)
+    ask_number(
+        "{\"step\":\"publish\",\"version\":",
+        version,
+        &mut lines.asked,
+    );
+    tell_done(model.publish(version), &mut lines.told);
 }
 
 fn ask_open(by: u32, model: &mut Drive, lines: &mut Lines) -> Result<(), Memory> {
-    ask_plainly("open", by, &mut lines.asked)?;
+    ask_plainly("open", by, &mut lines.asked);
     let opened = model.open(by)?;
-    tell_value_or_no(opened, &mut lines.told)
+    tell_value_or_no(opened, &mut lines.told);
+    Ok(())
 }
 
 // Often the one whose view is open for longest.
@@ -43,9 +54,9 @@ fn drawn_viewer(by: u32, draws: &mut Draws, model: &Drive) -> u32 {
     }
 }
 
-fn ask_shut(by: u32, model: &mut Drive, lines: &mut Lines) -> Result<(), Memory> {
-    ask_plainly("shut", by, &mut lines.asked)?;
-    tell_done(model.shut(by), &mut lines.told)
+fn ask_shut(by: u32, model: &mut Drive, lines: &mut Lines) {
+    ask_plainly("shut", by, &mut lines.asked);
+    tell_done(model.shut(by), &mut lines.told);
 }
 
 // Mostly the key of one of these windows.
@@ -99,51 +110,50 @@ fn drawn_read(
     })
 }
 
-fn ask_read(read: &Read, model: &Drive, lines: &mut Lines) -> Result<(), Memory> {
-    let by = read.by;
-    let shard = read.shard;
-    let key = read.key;
-    write!(
-        lines.asked,
-        "{{\"step\":\"read\",\"by\":{by},\"shard\":{shard},\"key\":{key}}}\n"
-    )?;
-    let has_view = model.opened(by).is_some();
-    if !has_view {
-        return tell_done(false, &mut lines.told);
-    }
-    let held = if shard == key % 2 {
-        read.windows.as_slice()
+fn ask_read(read: &Read, model: &Drive, lines: &mut Lines) {
+    let (by, shard, key) = (read.by, read.shard, read.key);
+    lines
+        .asked
+        .put_number("{\"step\":\"read\",\"by\":", u64::from(by), ",");
+    lines.asked.put_number("\"shard\":", shard, ",");
+    lines.asked.put_number("\"key\":", key, "}\n");
+    if model.opened(by).is_none() {
+        tell_done(false, &mut lines.told);
+    } else if shard == key % 2 {
+        tell_bucket(&read.windows, key, &mut lines.told);
     } else {
-        &[]
-    };
-    tell_bucket(held, key, &mut lines.told)
+        tell_bucket(&[], key, &mut lines.told);
+    }
 }
 
 // Mostly the greatest that there may be.
-fn ask_floor(draws: &mut Draws, model: &mut Drive, lines: &mut Lines) -> Result<(), Memory> {
+fn ask_floor(draws: &mut Draws, model: &mut Drive, lines: &mut Lines) {
     let version = if draws.below(4) == 0 {
         drawn_number(draws, model)
     } else {
         model.least_seen()
     };
-    write!(
-        lines.asked,
-        "{{\"step\":\"floor\",\"version\":{version}}}\n"
-    )?;
-    tell_done(model.set_floor(version), &mut lines.told)
+    ask_number(
+        "{\"step\":\"floor\",\"version\":",
+        version,
+        &mut lines.asked,
+    );
+    tell_done(model.set_floor(version), &mut lines.told);
 }
 
-// A shard is swept, and the same is read of it before and behind that.
-fn ask_sweep(read: &Read, model: &Drive, lines: &mut Lines) -> Result<(), Memory> {
-    ask_read(read, model, lines)?;
-    let shard = read.shard;
-    write!(lines.asked, "{{\"step\":\"sweep\",\"shard\":{shard}}}\n")?;
-    tell_done(true, &mut lines.told)?;
-    ask_read(read, model, lines)
+// A shard is swept, and the same is read of it before and after that.
+fn ask_sweep(read: &Read, model: &Drive, lines: &mut Lines) {
+    ask_read(read, model, lines);
+    ask_number(
+        "{\"step\":\"sweep\",\"shard\":",
+        read.shard,
+        &mut lines.asked,
+    );
+    tell_done(true, &mut lines.told);
+    ask_read(read, model, lines);
 }
 
-// What is asked stands for the version that is open: one that the query names, and whether work is to be finished, stand for
-// nothing.
+// What is asked is for the version that is open: one that the query names, and whether work is to be finished, have no effect.
 fn ask_reply(
     alloc: Global,
     by: u32,
@@ -152,13 +162,47 @@ fn ask_reply(
     lines: &mut Lines,
 ) -> Result<(), Memory> {
     let (kind, query) = drawn_question(draws, model.accepted.count());
-    write!(lines.asked, "{{\"step\":\"reply\",\"by\":{by},\"request\":")?;
-    write_request(&Request::Query(kind, query), &mut lines.asked)?;
-    lines.asked.push_str("}\n")?;
+    lines.asked.put_number(
+        "{\"step\":\"reply\",\"by\":",
+        u64::from(by),
+        ",\"request\":",
+    );
+    write_request(&Request::Query(kind, query), &mut lines.asked);
+    lines.asked.put("}\n");
     let changes = &model.accepted.changes;
     match model.opened(by) {
         Some(version) => tell_query_at(alloc, kind, &query, changes, version, &mut lines.told),
-        None => tell_done(false, &mut lines.told),
+        None => {
+            tell_done(false, &mut lines.told);
+            Ok(())
+        }
+    }
+}
+
+// The step of this number below 17, which leads to what is read.
+fn ask_on(
+    drawn: u32,
+    by: u32,
+    draws: &mut Draws,
+    model: &mut Drive,
+    lines: &mut Lines,
+) -> Result<(), Memory> {
+    match drawn {
+        0..=7 => ask_apply(draws, model, lines),
+        8..=10 => {
+            ask_publish(draws, model, lines);
+            Ok(())
+        }
+        11..=12 => ask_open(by, model, lines),
+        13..=14 => {
+            let by = drawn_viewer(by, draws, model);
+            ask_shut(by, model, lines);
+            Ok(())
+        }
+        _ => {
+            ask_floor(draws, model, lines);
+            Ok(())
+        }
     }
 }
 
@@ -172,22 +216,17 @@ pub fn ask_look(
     lines: &mut Lines,
 ) -> Result<(), Memory> {
     match draws.below(28) {
-        0..=7 => ask_apply(draws, model, lines),
-        8..=10 => ask_publish(draws, model, lines),
-        11..=12 => ask_open(by, model, lines),
-        13..=14 => {
-            let by = drawn_viewer(by, draws, model);
-            ask_shut(by, model, lines)
-        }
-        15..=16 => ask_floor(draws, model, lines),
+        drawn @ 0..=16 => ask_on(drawn, by, draws, model, lines),
         17..=18 => {
             let by = drawn_viewer(by, draws, model);
             let read = drawn_read(alloc, settings, by, draws, model)?;
-            ask_sweep(&read, model, lines)
+            ask_sweep(&read, model, lines);
+            Ok(())
         }
         19..=21 => {
             let read = drawn_read(alloc, settings, by, draws, model)?;
-            ask_read(&read, model, lines)
+            ask_read(&read, model, lines);
+            Ok(())
         }
         _ => {
             let by = drawn_viewer(by, draws, model);

@@ -1,5 +1,4 @@
-use cq_base::Memory;
-use cq_talk_model::Lines;
+use cq_talk_model::{Lines, Written};
 
 // Lines that are no steps, and steps whose request is refused, each with its outcome behind a tab.
 const REFUSED: &str = "\
@@ -20,46 +19,42 @@ const REFUSED: &str = "\
 {\"step\":\"reply\",\"by\":0,\"request\":{\"op\":\"verdict\",\"project\":\"p\",\"scope\":\"a//b\"}}\t{\"code\":15,\"error\":\"scope\",\"ok\":false}
 ";
 
-fn push_blanks(count: u32, out: &mut String) -> Result<(), Memory> {
+fn put_blanks(count: u32, out: &mut Written) {
     for _sixteen in 0..count / 16 {
-        out.push_str("                ")?;
+        out.put("                ");
     }
-    Ok(())
 }
 
-/// The line of the table with this position, from the first again behind the last.
-pub fn ask_badly(i: u32, lines: &mut Lines) -> Result<(), Memory> {
+/// The line of the table with this position, from the first again after the last.
+pub fn ask_badly(i: u32, lines: &mut Lines) {
     if let Some(line) = REFUSED.lines().nth((i % 15) as usize) {
         if let Some((asked, told)) = line.split_once('\t') {
-            lines.asked.push_str(asked)?;
-            lines.asked.push_str("\n")?;
-            lines.told.push_str(told)?;
-            lines.told.push_str("\n")?;
+            lines.asked.put(asked);
+            lines.asked.put("\n");
+            lines.told.put(told);
+            lines.told.put("\n");
         }
     }
-    Ok(())
 }
 
 /// An upload of a text of 16 bytes more than a text may have.
-pub fn ask_with_a_long_text(lines: &mut Lines) -> Result<(), Memory> {
-    lines.asked.push_str(
+pub fn ask_with_a_long_text(lines: &mut Lines) {
+    lines.asked.put(
         "{\"step\":\"accept\",\"by\":0,\"request\":{\"op\":\"put\",\"project\":\"p\",\"path\":\"a\",\"lang\":\"any\",\"text\":\"",
-    )?;
-    push_blanks(1_048_592, &mut lines.asked)?;
-    lines.asked.push_str("\"}}\n")?;
+    );
+    put_blanks(1_048_592, &mut lines.asked);
+    lines.asked.put("\"}}\n");
     lines
         .told
-        .push_str("{\"code\":6,\"error\":\"text\",\"ok\":false}\n")?;
-    Ok(())
+        .put("{\"code\":6,\"error\":\"text\",\"ok\":false}\n");
 }
 
 /// A step in a line that is longer than a line may be.
-pub fn ask_in_a_long_line(lines: &mut Lines) -> Result<(), Memory> {
-    lines.asked.push_str("{\"step\":\"ask\",\"by\":0}")?;
-    push_blanks(8_388_608, &mut lines.asked)?;
-    lines.asked.push_str("\n")?;
+pub fn ask_in_a_long_line(lines: &mut Lines) {
+    lines.asked.put("{\"step\":\"ask\",\"by\":0}");
+    put_blanks(8_388_608, &mut lines.asked);
+    lines.asked.put("\n");
     lines
         .told
-        .push_str("{\"code\":13,\"error\":\"long\",\"ok\":false}\n")?;
-    Ok(())
+        .put("{\"code\":13,\"error\":\"long\",\"ok\":false}\n");
 }

@@ -2,7 +2,7 @@ use crate::asking::drawn_lines;
 use crate::running::written_here;
 use cq_base::{Memory, Settings};
 use cq_lines::End;
-use cq_talk_model::{Lines, difference};
+use cq_talk_model::{Lines, Written, difference};
 use std::alloc::Global;
 use std::thread::Threads;
 
@@ -97,23 +97,38 @@ fn kind_of(asked: &str, told: &str) -> Option<usize> {
 
 // Adds the kinds of all outcomes of a script.
 fn add_kinds(lines: &Lines, kinds: &mut Vec<Option<usize>>) -> Result<(), Memory> {
-    for (asked, told) in lines.asked.lines().zip(lines.told.lines()) {
+    for (asked, told) in lines.asked.text.lines().zip(lines.told.text.lines()) {
         kinds.push(kind_of(asked, told))?;
     }
     Ok(())
 }
 
-// How often a kind is to come.
-fn count_of(kind: &str) -> Option<usize> {
-    let (_step, _piece, count) = parts_of(kind)?;
-    count.parse::<usize>().ok()
+// How often a kind came.
+fn how_often(kinds: &[Option<usize>], wanted: usize) -> u64 {
+    let mut count = 0u64;
+    for kind in kinds {
+        if *kind == Some(wanted) {
+            count = count.saturating_add(1);
+        }
+    }
+    count
+}
+
+// Whether a kind is to come so often.
+fn is_to_come(alloc: Global, kind: &str, count: u64) -> bool {
+    let mut shown = Written::new(alloc);
+    shown.put_number("", count, "");
+    match parts_of(kind) {
+        Some((_step, _piece, wanted)) => shown.text.as_str() == wanted,
+        None => false,
+    }
 }
 
 // The first kind that does not come as often as it is said, by its position, and how often it comes.
-fn first_otherwise(kinds: &[Option<usize>]) -> Option<(usize, usize)> {
+fn first_otherwise(alloc: Global, kinds: &[Option<usize>]) -> Option<(usize, u64)> {
     for (i, kind) in KINDS.lines().enumerate() {
-        let came = kinds.iter().filter(|of| **of == Some(i)).count();
-        if count_of(kind) != Some(came) {
+        let came = how_often(kinds, i);
+        if !is_to_come(alloc, kind, came) {
             return Some((i, came));
         }
     }
@@ -137,11 +152,11 @@ fn script_goes<R: Threads + Sync>(
     }
     let lines = drawn_lines(alloc, &settings, 300, seed)?;
     add_kinds(&lines, kinds)?;
-    let (end, output) = written_here(rt, alloc, &settings, lines.asked.as_bytes())?;
+    let (end, output) = written_here(rt, alloc, &settings, lines.asked.text.as_bytes())?;
     if end != End::Finished {
         return Ok(Went::Unfinished);
     }
-    match difference(&output, lines.told.as_bytes()) {
+    match difference(&output, lines.told.text.as_bytes()) {
         Some(line) => Ok(Went::Otherwise(line)),
         None => Ok(Went::AsTold),
     }
@@ -156,6 +171,6 @@ fn scripts_go_as_told(rt: HostRuntime) -> Result<(), Memory> {
     assert_eq!(rt; script_goes(&rt, alloc, 3, 49, &mut kinds)?, Went::AsTold);
     assert_eq!(rt; script_goes(&rt, alloc, 64, 76, &mut kinds)?, Went::AsTold);
     assert_eq!(rt; kinds.len(), 970);
-    assert_eq!(rt; first_otherwise(&kinds), None);
+    assert_eq!(rt; first_otherwise(alloc, &kinds), None);
     Ok(())
 }

@@ -1,60 +1,51 @@
 use crate::keys::Window;
-use cq_base::Memory;
-use cq_talk_model::{Refusal, tell_refusal};
-use std::fmt::Write;
+use cq_talk_model::{Refusal, Written, tell_refusal};
 
 /// The outcome of a step without a value: whether it is allowed.
-pub fn tell_done(is_allowed: bool, out: &mut String) -> Result<(), Memory> {
-    if is_allowed {
-        out.push_str("{\"ok\":true}\n")?;
+pub fn tell_done(is_allowed: bool, out: &mut Written) {
+    out.put(if is_allowed {
+        "{\"ok\":true}\n"
     } else {
-        out.push_str("{\"ok\":false}\n")?;
-    }
-    Ok(())
+        "{\"ok\":false}\n"
+    });
 }
 
-pub fn tell_value(value: u64, out: &mut String) -> Result<(), Memory> {
-    write!(out, "{{\"ok\":true,\"value\":{value}}}\n")?;
-    Ok(())
+pub fn tell_value(value: u64, out: &mut Written) {
+    out.put_number("{\"ok\":true,\"value\":", value, "}\n");
 }
 
-/// The outcome of a step that has a value where it is allowed.
-pub fn tell_value_or_no(value: Option<u64>, out: &mut String) -> Result<(), Memory> {
+/// The outcome of a step that has a value if it is allowed.
+pub fn tell_value_or_no(value: Option<u64>, out: &mut Written) {
     match value {
         Some(value) => tell_value(value, out),
         None => tell_done(false, out),
     }
 }
 
-pub fn tell_taken(change: Option<u64>, out: &mut String) -> Result<(), Memory> {
+pub fn tell_taken(change: Option<u64>, out: &mut Written) {
     match change {
         Some(change) => tell_value(change, out),
-        None => {
-            out.push_str("{\"ok\":true,\"value\":null}\n")?;
-            Ok(())
-        }
+        None => out.put("{\"ok\":true,\"value\":null}\n"),
     }
 }
 
 /// The windows with a key.
-pub fn tell_bucket(windows: &[Window], key: u64, out: &mut String) -> Result<(), Memory> {
-    out.push_str("{\"ok\":true,\"value\":[")?;
-    let mut told = 0usize;
+pub fn tell_bucket(windows: &[Window], key: u64, out: &mut Written) {
+    out.put("{\"ok\":true,\"value\":[");
+    let mut comma = "";
     for window in windows {
         if window.key == key {
-            let comma = if told == 0 { "" } else { "," };
-            let change = window.change;
-            let at = window.at;
-            write!(out, "{comma}[{change},{at}]")?;
-            told = told.saturating_add(1);
+            out.put(comma);
+            out.put_number("[", window.change, ",");
+            out.put_number("", u64::from(window.at), "]");
+            comma = ",";
         }
     }
-    out.push_str("]}\n")?;
-    Ok(())
+    out.put("]}\n");
 }
 
 /// What comes of a change: why it is refused, or else its number.
-pub fn tell_change(refusal: Option<Refusal>, number: u64, out: &mut String) -> Result<(), Memory> {
+pub fn tell_change(refusal: Option<Refusal>, number: u64, out: &mut Written) {
     match refusal {
         Some(refusal) => tell_refusal(refusal, out),
         None => tell_value(number, out),
