@@ -2,18 +2,26 @@ ghost use Rattle.std.specs.Prelude.{◌≡◌, OnOk};
 ghost use Rattle.cq_base.specs.Settings.{IsInRange};
 ghost use Rattle.cq_talk.specs.Steps.{Always, MayLead};
 
-use cq_base::{Memory, Steps};
-use cq_hub::Hub;
-use cq_io::{Gate, MemSink, MemSource};
+use crate::ending::ended;
+use cq_base::{Counters, Memory, Settings, Steps};
+use cq_chain::Pass;
+use cq_hub::{Hub, Solo, SoloPass};
+use cq_io::{Gate, MemSink, MemSource, OpenGate};
 use cq_lines::{End, Lines};
 use cq_session::{Server, session};
+use cq_shared::Shared;
 use cq_work::{Keyer, Work};
 use std::alloc::Global;
-use std::sync::ledger::Ledger;
+use std::marker::Brand;
+use std::sync::Wait;
+use std::sync::ledger::{Blank, Ledger};
 use std::thread::Threads;
 
-/// How a session ends, and what it writes for an input.
-pub fn written<R: Threads + Sync, L: Ledger, H: Hub<Work<L>>, G: Gate>(
+/// How a session ends, and what it writes.
+pub type Ended = (End, Vec<u8>);
+
+// How a session ends, and what it writes for an input.
+fn written<R: Threads + Sync, L: Ledger, H: Hub<Work<L>>, G: Gate>(
     rt: &R,
     alloc: Global,
     keyer: &Keyer,
@@ -22,7 +30,7 @@ pub fn written<R: Threads + Sync, L: Ledger, H: Hub<Work<L>>, G: Gate>(
     gate: &G,
     pass: &mut H::Pass,
     steps: &mut Steps<L>,
-) -> Result<(End, Vec<u8>), Memory>
+) -> Result<Ended, Memory>
     requires in_range { IsInRange keyer.now.settings }
     requires hub_settings { H.settings hub.now ≡ keyer.now.settings }
     requires closed { MayLead H.Stands (H.callers hub.now) hub.now pass.old Always }
@@ -41,4 +49,94 @@ pub fn written<R: Threads + Sync, L: Ledger, H: Hub<Work<L>>, G: Gate>(
     let end = session(rt, &server, pass, &mut lines, &mut source, &mut sink, steps);
     let output = Vec::from_slice(alloc, sink.written())?;
     Ok((end, output))
+}
+
+// The same of two sessions of one caller, one after the other.
+fn both_written<R: Threads + Sync, L: Ledger, H: Hub<Work<L>>, G: Gate>(
+    rt: &R,
+    alloc: Global,
+    settings: &Settings,
+    first: &[u8],
+    second: &[u8],
+    hub: &H,
+    gate: &G,
+    pass: &mut H::Pass,
+    blank: Blank,
+) -> Result<(Ended, Ended), Memory>
+    requires in_range { IsInRange settings.now }
+    requires hub_settings { H.settings hub.now ≡ settings.now }
+    requires closed { MayLead H.Stands (H.callers hub.now) hub.now pass.old Always }
+    requires name { blank.name ≡ L.name }
+    requires parts { blank.parts ≡ L.parts }
+{
+    let keyer = Keyer::plain(settings);
+    let mut steps: Steps<L> = Steps::new(blank);
+    let one = written(rt, alloc, &keyer, hub, first, gate, pass, &mut steps)?;
+    let two = written(rt, alloc, &keyer, hub, second, gate, pass, &mut steps)?;
+    Ok((one, two))
+}
+
+fn both_over_solo<R: Threads + Sync, L: Ledger, G: Gate>(
+    rt: &R,
+    alloc: Global,
+    settings: &Settings,
+    first: &[u8],
+    second: &[u8],
+    gate: &G,
+    blank: Blank,
+) -> Result<(Ended, Ended), Memory>
+    requires in_range { IsInRange settings.now }
+    requires name { blank.name ≡ L.name }
+    requires parts { blank.parts ≡ L.parts }
+{
+    let made: (Solo<Work<L>>, SoloPass<Work<L>>) = Solo::new(alloc, settings)?;
+    let (hub, mut pass) = made;
+    both_written(
+        rt, alloc, settings, first, second, &hub, gate, &mut pass, blank,
+    )
+}
+
+fn one_over_shared<R: Threads + Wait + Sync, L: Ledger>(
+    rt: &R,
+    alloc: Global,
+    settings: &Settings,
+    input: &[u8],
+    blank: Blank,
+) -> Result<Ended, Memory>
+    requires in_range { IsInRange settings.now }
+    requires name { blank.name ≡ L.name }
+    requires parts { blank.parts ≡ L.parts }
+{
+    let counters: Counters<L> = Counters::new(blank);
+    let made: (Shared<Work<L>, &R>, Pass<Work<L>>) = Shared::new(rt, alloc, settings, 1)?;
+    let (hub, pass) = made;
+    ended(
+        rt, alloc, settings, &hub, &counters, &OpenGate, input, 0, pass,
+    )
+}
+
+/// Two sessions, one after the other, of the one caller of a new hub.
+pub fn both_here<R: Threads + Sync, G: Gate>(
+    rt: &R,
+    alloc: Global,
+    settings: &Settings,
+    first: &[u8],
+    second: &[u8],
+    gate: &G,
+) -> Result<(Ended, Ended), Memory>
+    requires { IsInRange settings.now }
+{
+    both_over_solo::<R, Brand, G>(rt, alloc, settings, first, second, gate, Blank::new(1))
+}
+
+/// A session over a new hub whose passes may be those of several threads, by its one pass.
+pub fn shared_here<R: Threads + Wait + Sync>(
+    rt: &R,
+    alloc: Global,
+    settings: &Settings,
+    input: &[u8],
+) -> Result<Ended, Memory>
+    requires { IsInRange settings.now }
+{
+    one_over_shared::<R, Brand>(rt, alloc, settings, input, Blank::new(1))
 }
