@@ -17,7 +17,7 @@ use std::time::Clock;
 /// standard ends too.
 #[derive(Clone, Copy)]
 pub(crate) struct Run<'a> {
-    pub words: &'a [&'a str],
+    pub words: &'a str,
     pub clients: &'a [Client],
     pub hold: Hold,
     pub failing: u64,
@@ -133,16 +133,7 @@ const READER_TOLD: &str =
 "#;
 
 pub(crate) const LISTEN: Run<'static> = Run {
-    words: &[
-        "listen",
-        "mem",
-        "--chunk",
-        "2",
-        "--workers",
-        "0",
-        "--sessions",
-        "1",
-    ],
+    words: "listen mem --chunk 2 --workers 0 --sessions 1",
     clients: &[],
     hold: Hold::Nobody,
     failing: 0,
@@ -175,7 +166,7 @@ fn clients_are_served_until_the_doors_end_or_fail(rt: HostRuntime) -> Result<(),
         assert_eq!(rt; goes(&rt, rt.alloc(), &run)?, Went::AsWanted);
     }
     let malformed = Run {
-        words: &["listen", "mem", "--sessions", "0"],
+        words: "listen mem --sessions 0",
         failing: 1,
         told: &["", ""],
         status: 1,
@@ -196,16 +187,7 @@ const STATE_TOLD: &str = r#"{"accepted":0,"done":0,"ok":true,"published":0}
 #[test]
 fn each_client_has_its_own_limit_of_bytes(rt: HostRuntime) -> Result<(), Memory> {
     let run = Run {
-        words: &[
-            "listen",
-            "mem",
-            "--workers",
-            "0",
-            "--sessions",
-            "1",
-            "--byte-limit",
-            "15",
-        ],
+        words: "listen mem --workers 0 --sessions 1 --byte-limit 15",
         clients: &[Client::new(STATES), Client::new(STATES)],
         told: &[STATE_TOLD, STATE_TOLD],
         ..LISTEN
@@ -240,27 +222,15 @@ fn as_many_workers_work_as_are_asked_for(rt: HostRuntime) -> Result<(), Memory> 
         ..Client::new(TWO_PUTS)
     };
     let run = Run {
-        words: &["run", "--chunk", "2", "--workers", "2"],
+        words: "run --chunk 2 --workers 2",
         clients: &[client],
         hold: Hold::Works(2, Until::Begun(2)),
         told: &[TWO_TOLD],
         ..LISTEN
     };
     assert_eq!(rt; goes(&rt, rt.alloc(), &run)?, Went::AsWanted);
-    let words = [
-        "listen",
-        "mem",
-        "--chunk",
-        "2",
-        "--workers",
-        "2",
-        "--sessions",
-        "1",
-    ];
-    let run = Run {
-        words: &words,
-        ..run
-    };
+    let words = "listen mem --chunk 2 --workers 2 --sessions 1";
+    let run = Run { words, ..run };
     assert_eq!(rt; goes(&rt, rt.alloc(), &run)?, Went::AsWanted);
     Ok(())
 }
@@ -273,16 +243,7 @@ fn as_many_sessions_are_served_as_are_asked_for(rt: HostRuntime) -> Result<(), M
         ..Client::new(READER)
     };
     let run = Run {
-        words: &[
-            "listen",
-            "mem",
-            "--chunk",
-            "2",
-            "--workers",
-            "0",
-            "--sessions",
-            "2",
-        ],
+        words: "listen mem --chunk 2 --workers 0 --sessions 2",
         clients: &[silent, Client::new(WRITER)],
         told: &[READER_TOLD, WRITER_TOLD],
         ..LISTEN

@@ -10,9 +10,10 @@ use std::sync::Wait;
 use std::sync::ledger::{Blank, Ledger};
 use std::thread::Threads;
 
-pub(crate) fn words_of(alloc: Global, all: &[&str]) -> Result<Vec<Text>, Memory> {
+/// The arguments of a command line, which has blanks between them.
+pub(crate) fn words_of(alloc: Global, line: &str) -> Result<Vec<Text>, Memory> {
     let mut words = Vec::new(alloc);
-    for word in all {
+    for word in line.split_whitespace() {
         words.push(Text::from_bytes(alloc, word.as_bytes())?)?;
     }
     Ok(words)
@@ -53,7 +54,7 @@ pub(crate) fn run_here<Q: Threads + Wait + Sync>(
 pub(crate) fn ends_with<Q: Threads + Wait + Sync>(
     rt: &Q,
     alloc: Global,
-    words: &[&str],
+    words: &str,
     input: &[u8],
     greatest: usize,
     failing: (u64, u64),
@@ -67,6 +68,17 @@ pub(crate) fn ends_with<Q: Threads + Wait + Sync>(
     let bytes = Vec::from_slice(alloc, input)?;
     let mut source = MemSource::new(bytes, greatest, vec![in alloc; failing_read]?);
     let mut sink = MemSink::new(alloc, 65_536, greatest, vec![in alloc; failing_write]?)?;
-    let ended = run_here(rt, alloc, &words, &mut source, &mut sink);
+    let ended = run_here(rt, alloc, words, &mut source, &mut sink);
     Ok(ended == status && sink.written() == output)
+}
+
+/// Whether the program ends with 0 after it has written an output.
+pub(crate) fn goes<Q: Threads + Wait + Sync>(
+    rt: &Q,
+    alloc: Global,
+    words: &str,
+    input: &[u8],
+    output: &[u8],
+) -> Result<bool, Memory> {
+    ends_with(rt, alloc, words, input, 4_096, (0, 0), output, 0)
 }
