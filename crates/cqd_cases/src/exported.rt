@@ -43,7 +43,7 @@ fn written<Q: Threads + Wait + Sync>(
     let words = words_of(alloc, words)?;
     let mut source = MemSource::new(Vec::from_slice(alloc, input)?, 4_096, Vec::new(alloc));
     let mut sink = MemSink::new(alloc, 65_536, 4_096, Vec::new(alloc))?;
-    let _status = run_here(rt, alloc, words, &mut source, &mut sink);
+    let _status = run_here(rt, alloc, &words, &mut source, &mut sink);
     Ok(Vec::from_slice(alloc, sink.written())?)
 }
 

@@ -68,7 +68,7 @@ pub(crate) fn ends_with<Q: Threads + Wait + Sync>(
     let bytes = Vec::from_slice(alloc, input)?;
     let mut source = MemSource::new(bytes, greatest, vec![in alloc; failing_read]?);
     let mut sink = MemSink::new(alloc, 65_536, greatest, vec![in alloc; failing_write]?)?;
-    let ended = run_here(rt, alloc, words, &mut source, &mut sink);
+    let ended = run_here(rt, alloc, &words, &mut source, &mut sink);
     Ok(ended == status && sink.written() == output)
 }
 
