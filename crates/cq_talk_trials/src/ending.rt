@@ -2,7 +2,7 @@ ghost use Rattle.std.specs.Prelude.{◌≡◌, []};
 ghost use Rattle.cq_base.specs.Settings.{IsInRange};
 ghost use Rattle.cq_shared.specs.SharedPasses.{IsPassOf, settings_of};
 
-use crate::running::Ended;
+use crate::running::Outcome;
 use cq_base::{Counters, Memory, Settings, Steps};
 use cq_chain::Pass;
 use cq_io::{Gate, MemSink, MemSource, OpenGate, Sink, Source};
@@ -58,7 +58,7 @@ pub(crate) fn ended<Q: Threads + Sync, L: Ledger, R: Wait, G: Gate>(
     input: &[u8],
     failing: u64,
     pass: Pass<Work<L>>,
-) -> Result<Ended, Memory>
+) -> Result<Outcome, Memory>
     requires in_range { IsInRange settings.now }
     requires hub_settings { settings_of hub.now ≡ settings.now }
     requires of { IsPassOf hub.now pass }
@@ -99,7 +99,7 @@ pub(crate) fn both_ended<
     second: (&str, u64),
     one: Pass<Work<L>>,
     two: Pass<Work<L>>,
-) -> Result<(Ended, Ended), Memory>
+) -> Result<(Outcome, Outcome), Memory>
     requires in_range { IsInRange settings.now }
     requires hub_settings { settings_of hub.now ≡ settings.now }
     requires one { IsPassOf hub.now one × (one.seen ≡ []) }
@@ -109,7 +109,7 @@ pub(crate) fn both_ended<
     let (second_input, second_failing) = second;
     let (one, two) = join(
         rt,
-        move || -> Result<Ended, Memory>
+        move || -> Result<Outcome, Memory>
             requires { IsInRange settings.now × (settings_of hub.now ≡ settings.now)
                 × IsPassOf hub.now one × (one.seen ≡ []) }
         {
@@ -125,7 +125,7 @@ pub(crate) fn both_ended<
                 one,
             )
         },
-        move || -> Result<Ended, Memory>
+        move || -> Result<Outcome, Memory>
             requires { IsInRange settings.now × (settings_of hub.now ≡ settings.now)
                 × IsPassOf hub.now two × (two.seen ≡ []) }
         {
@@ -150,8 +150,8 @@ pub(crate) fn both_ended<
 /// where the hub is swept.
 #[derive(Drop)]
 pub(crate) struct Ends {
-    pub one: Ended,
-    pub two: Ended,
+    pub one: Outcome,
+    pub two: Outcome,
     pub later: End,
     pub published: u64,
     pub floor: u64,

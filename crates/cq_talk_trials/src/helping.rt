@@ -1,5 +1,5 @@
 use crate::ending::three_here;
-use crate::running::Ended;
+use crate::running::Outcome;
 use crate::threads::SETTINGS;
 use cq_base::Memory;
 use cq_io::Gate;
@@ -80,7 +80,7 @@ struct Helped {
 }
 
 // Both ended with the input, and behind the number of its change each was told the same, which begins as wanted.
-fn are_alike(one: Ended, two: Ended) -> bool {
+fn are_alike(one: Outcome, two: Outcome) -> bool {
     if one.0 != End::Finished || two.0 != End::Finished {
         return false;
     }

@@ -18,7 +18,7 @@ use std::sync::ledger::{Blank, Ledger};
 use std::thread::Threads;
 
 /// How a session ends, and what it writes.
-pub type Ended = (End, Vec<u8>);
+pub type Outcome = (End, Vec<u8>);
 
 // How a session ends, and what it writes for an input.
 fn written<R: Threads + Sync, L: Ledger, H: Hub<Work<L>>, G: Gate>(
@@ -30,7 +30,7 @@ fn written<R: Threads + Sync, L: Ledger, H: Hub<Work<L>>, G: Gate>(
     gate: &G,
     pass: &mut H::Pass,
     steps: &mut Steps<L>,
-) -> Result<Ended, Memory>
+) -> Result<Outcome, Memory>
     requires in_range { IsInRange keyer.now.settings }
     requires hub_settings { H.settings hub.now ≡ keyer.now.settings }
     requires closed { MayLead H.Stands (H.callers hub.now) hub.now pass.old Always }
@@ -62,7 +62,7 @@ fn both_written<R: Threads + Sync, L: Ledger, H: Hub<Work<L>>, G: Gate>(
     gate: &G,
     pass: &mut H::Pass,
     blank: Blank,
-) -> Result<(Ended, Ended), Memory>
+) -> Result<(Outcome, Outcome), Memory>
     requires in_range { IsInRange settings.now }
     requires hub_settings { H.settings hub.now ≡ settings.now }
     requires closed { MayLead H.Stands (H.callers hub.now) hub.now pass.old Always }
@@ -84,7 +84,7 @@ fn both_over_solo<R: Threads + Sync, L: Ledger, G: Gate>(
     second: &[u8],
     gate: &G,
     blank: Blank,
-) -> Result<(Ended, Ended), Memory>
+) -> Result<(Outcome, Outcome), Memory>
     requires in_range { IsInRange settings.now }
     requires name { blank.name ≡ L.name }
     requires parts { blank.parts ≡ L.parts }
@@ -102,7 +102,7 @@ fn one_over_shared<R: Threads + Wait + Sync, L: Ledger>(
     settings: &Settings,
     input: &[u8],
     blank: Blank,
-) -> Result<Ended, Memory>
+) -> Result<Outcome, Memory>
     requires in_range { IsInRange settings.now }
     requires name { blank.name ≡ L.name }
     requires parts { blank.parts ≡ L.parts }
@@ -123,7 +123,7 @@ pub fn both_here<R: Threads + Sync, G: Gate>(
     first: &[u8],
     second: &[u8],
     gate: &G,
-) -> Result<(Ended, Ended), Memory>
+) -> Result<(Outcome, Outcome), Memory>
     requires { IsInRange settings.now }
 {
     both_over_solo::<R, Brand, G>(rt, alloc, settings, first, second, gate, Blank::new(1))
@@ -135,7 +135,7 @@ pub fn shared_here<R: Threads + Wait + Sync>(
     alloc: Global,
     settings: &Settings,
     input: &[u8],
-) -> Result<Ended, Memory>
+) -> Result<Outcome, Memory>
     requires { IsInRange settings.now }
 {
     one_over_shared::<R, Brand>(rt, alloc, settings, input, Blank::new(1))

@@ -1,6 +1,6 @@
 ghost use Rattle.cq_base.specs.Settings.{IsInRange};
 
-use crate::running::{Ended, both_here, shared_here};
+use crate::running::{Outcome, both_here, shared_here};
 use cq_base::{Memory, Settings};
 use cq_io::OpenGate;
 use cq_lines::End;
@@ -25,9 +25,9 @@ fn drawn(
 }
 
 // The line, from 1, in which what was written first differs from what was to be written, and 0 for a talk that did not finish.
-fn parted(ended: &Ended, wanted: &str) -> Option<u64> {
-    match ended.0 {
-        End::Finished => difference(&ended.1, wanted.as_bytes()),
+fn parted(outcome: &Outcome, wanted: &str) -> Option<u64> {
+    match outcome.0 {
+        End::Finished => difference(&outcome.1, wanted.as_bytes()),
         _ => Some(0),
     }
 }
@@ -42,7 +42,7 @@ pub struct Talks {
     pub told_then: String,
 }
 
-fn compared(first: Lines, second: Lines, one: &Ended, two: &Ended) -> Talks {
+fn compared(first: Lines, second: Lines, one: &Outcome, two: &Outcome) -> Talks {
     Talks {
         first: parted(one, &first.told.text),
         second: parted(two, &second.told.text),

@@ -6,7 +6,7 @@ use crate::ending::{both_ended, ended};
 use crate::histories::{
     Plan, Talk, first_change, first_fault, first_fault_at_end, history_of, planned_lines,
 };
-use crate::running::Ended;
+use crate::running::Outcome;
 use cq_base::{Counters, Memory, Settings};
 use cq_chain::Pass;
 use cq_io::Gate;
@@ -85,8 +85,8 @@ impl<'a, C: Clock> Gate for Resting<'a, C> {
 }
 
 // What a talk is whose session ended so. One that does not finish has no replies.
-fn talk_of(alloc: Global, plan: Plan, ended: Ended) -> Talk {
-    let replies = match (ended.0, String::from_utf8(ended.1)) {
+fn talk_of(alloc: Global, plan: Plan, outcome: Outcome) -> Talk {
+    let replies = match (outcome.0, String::from_utf8(outcome.1)) {
         (End::Finished, Ok(replies)) => replies,
         _ => String::new(alloc),
     };
@@ -109,8 +109,8 @@ fn four_ended<Q: Threads + Sync, L: Ledger + Send + Sync, R: Wait + Sync, G: Gat
     second: (&str, &str),
     pass: &mut Pass<Work<L>>,
 ) -> (
-    Result<(Ended, Ended), Memory>,
-    Result<(Ended, Ended), Memory>,
+    Result<(Outcome, Outcome), Memory>,
+    Result<(Outcome, Outcome), Memory>,
 )
     requires in_range { IsInRange settings.now }
     requires hub_settings { settings_of hub.now ≡ settings.now }
@@ -128,7 +128,7 @@ fn four_ended<Q: Threads + Sync, L: Ledger + Send + Sync, R: Wait + Sync, G: Gat
     let (c, d) = second;
     join(
         rt,
-        move || -> Result<(Ended, Ended), Memory>
+        move || -> Result<(Outcome, Outcome), Memory>
             requires { IsInRange settings.now × (settings_of hub.now ≡ settings.now)
                 × (IsPassOf hub.now one × (one.seen ≡ []))
                 × (IsPassOf hub.now two × (two.seen ≡ [])) }
@@ -146,7 +146,7 @@ fn four_ended<Q: Threads + Sync, L: Ledger + Send + Sync, R: Wait + Sync, G: Gat
                 two,
             )
         },
-        move || -> Result<(Ended, Ended), Memory>
+        move || -> Result<(Outcome, Outcome), Memory>
             requires { IsInRange settings.now × (settings_of hub.now ≡ settings.now)
                 × (IsPassOf hub.now three × (three.seen ≡ []))
                 × (IsPassOf hub.now four × (four.seen ≡ [])) }
@@ -219,7 +219,7 @@ fn push_both(
     alloc: Global,
     talks: &mut Vec<Talk>,
     seeds: (u64, u64),
-    both: (Ended, Ended),
+    both: (Outcome, Outcome),
 ) -> Result<(), Memory> {
     let (one, two) = both;
     talks.push(talk_of(alloc, plan_of(seeds.0), one))?;
@@ -261,8 +261,8 @@ fn four_talks<Q: Threads + Sync, L: Ledger + Send + Sync, R: Wait + Sync, G: Gat
         hub,
         counters,
         gate,
-        (&first.0, &first.1),
-        (&second.0, &second.1),
+        (first.0.as_str(), first.1.as_str()),
+        (second.0.as_str(), second.1.as_str()),
         pass,
     );
     let mut talks = Vec::new(alloc);
@@ -288,8 +288,8 @@ fn last_talk<Q: Threads + Sync, L: Ledger, R: Wait, G: Gate>(
 {
     let asked = planned_lines(alloc, &Plan::All)?;
     let input = asked.as_bytes();
-    let ended = ended(rt, alloc, settings, hub, counters, gate, input, 0, pass)?;
-    Ok(talk_of(alloc, Plan::All, ended))
+    let outcome = ended(rt, alloc, settings, hub, counters, gate, input, 0, pass)?;
+    Ok(talk_of(alloc, Plan::All, outcome))
 }
 
 fn four_threads<Q: Threads + Clock + Wait + Sync, L: Ledger + Send + Sync>(
