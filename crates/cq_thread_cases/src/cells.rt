@@ -161,5 +161,6 @@ fn one_that_waits_goes_on(rt: HostRuntime) -> Result<(), Fail> {
     hold_in_turn(&rt, &cells, &mut pass);
     pass.count_read();
     assert_eq!(rt; (pass.by(), pass.next()), (0, 3));
+    assert_eq!(rt; told(&cells, &mut pass, 1), (0, 0));
     Ok(())
 }
