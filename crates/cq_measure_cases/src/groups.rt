@@ -1,7 +1,7 @@
 ghost use Rattle.std.specs.Prelude.{◌≡◌, ◌<◌, ◌≤◌, length, IfOk};
 ghost use Rattle.cq_groups.specs.Plain.{HasOneKey};
 
-use crate::scans::{shown, texts_of, token};
+use crate::scans::{are_shown, texts_of, token};
 use cq_base::{Group, Keys, Memory, Steps};
 use cq_groups::{Index, PlainBuckets, list_all, spots_in};
 use cq_tokens::{Corpus, FileTokens, PlainFiles, Tokens};
@@ -69,7 +69,7 @@ fn is_right(alloc: Global, min: u32, row: &str) -> Result<bool, Memory>
     };
     let texts = texts_of(alloc, texts)?;
     let groups = groups_of(alloc, &texts, min)?;
-    Ok(shown(alloc, &groups)?.as_str() == want)
+    Ok(are_shown(alloc, &groups, want))
 }
 
 // Two places; and a word that is maximal at some two places.

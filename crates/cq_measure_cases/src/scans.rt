@@ -2,9 +2,9 @@ ghost use Rattle.std.specs.Prelude.{◌≡◌, ◌^◌, ◌<◌, ◌≤◌, leng
 
 use cq_base::{Class, Group, Keys, Lang, Memory, Norm, Steps, Text};
 use cq_scan::scan;
+use cq_talk_model::Written;
 use cq_tokens::{FileTokens, PlainFiles, Tokens};
 use std::alloc::Global;
-use std::fmt::Write;
 use std::marker::Brand;
 use std::sync::Arc;
 use std::sync::ledger::{Blank, Ledger};
@@ -73,23 +73,21 @@ pub(crate) fn texts_of<'a>(alloc: Global, texts: &'a str) -> Result<Vec<&'a [u8]
     Ok(all)
 }
 
-fn put_group(line: &mut String, group: &Group) -> Result<(), Memory> {
-    let tokens = group.tokens;
-    write!(line, " | {tokens}")?;
+fn put_group(line: &mut Written, group: &Group) {
+    line.put_number(" | ", u64::from(group.tokens), "");
     for place in group.places.as_slice() {
-        let (file, at) = (place.file, place.at);
-        write!(line, " {file}.{at}")?;
+        line.put_number(" ", u64::from(place.file), ".");
+        line.put_number("", u64::from(place.at), "");
     }
-    Ok(())
 }
 
-/// Groups as a row has them: each by its tokens, and its places by their files and their first tokens.
-pub(crate) fn shown(alloc: Global, groups: &[Group]) -> Result<String, Memory> {
-    let mut line = String::new(alloc);
+/// Whether groups are as a row has them: each by its tokens, and its places by their files and their first tokens.
+pub(crate) fn are_shown(alloc: Global, groups: &[Group], want: &str) -> bool {
+    let mut line = Written::new(alloc);
     for group in groups {
-        put_group(&mut line, group)?;
+        put_group(&mut line, group);
     }
-    Ok(line)
+    line.text.as_str() == want
 }
 
 // A row has the texts of files, and after an arrow their groups of so many tokens or more.
@@ -104,7 +102,7 @@ fn is_right(alloc: Global, min: u32, row: &str) -> Result<bool, Memory>
         return Ok(false);
     }
     let groups = groups_of(alloc, &texts, min)?;
-    Ok(shown(alloc, &groups)?.as_str() == want)
+    Ok(are_shown(alloc, &groups, want))
 }
 
 // Equal files, and files without tokens.
