@@ -1,14 +1,12 @@
-ghost use Rattle.std.specs.Prelude.{◌≡◌};
-
-use crate::running::words_of;
-use cq_base::{Memory, Steps, Text};
+use crate::running::{exit_of, words_of};
+use cq_base::Memory;
 use cq_listen::Served;
-use cq_program::{Exit, top};
+use cq_program::Exit;
 use cq_stage::{Client, ClientSource, Hold, Late, LogDoors, LogSink, Scene, Stage, Until};
 use std::alloc::Global;
 use std::marker::Brand;
 use std::sync::Wait;
-use std::sync::ledger::{Blank, Ledger};
+use std::sync::ledger::Blank;
 use std::thread::Threads;
 use std::time::Clock;
 
@@ -40,24 +38,7 @@ pub(crate) enum Went {
     OtherShards(u64),
 }
 
-fn ended<Q: Threads + Wait + Clock + Sync, L: Ledger + Send + Sync>(
-    rt: &Q,
-    alloc: Global,
-    words: &[Text],
-    source: &mut ClientSource<'_, Q>,
-    sink: &mut LogSink<'_, Q>,
-    doors: &mut LogDoors<'_, Q>,
-    gate: &Scene<'_, Q>,
-    blank: Blank,
-) -> Exit
-    requires name { blank.name ≡ L.name }
-    requires parts { blank.parts ≡ L.parts }
-{
-    let mut steps: Steps<L> = Steps::new(blank);
-    top(rt, alloc, words, source, sink, doors, gate, &mut steps)
-}
-
-fn ended_here<Q: Threads + Wait + Clock + Sync>(
+fn ended<Q: Threads + Wait + Clock + Sync>(
     rt: &Q,
     alloc: Global,
     stage: &Stage<'_, Q>,
@@ -72,7 +53,7 @@ fn ended_here<Q: Threads + Wait + Clock + Sync>(
         stage,
         hold: run.hold,
     };
-    Ok(ended::<Q, Brand>(
+    Ok(exit_of::<Q, _, _, _, _, _, _, Brand>(
         rt,
         alloc,
         &words,
@@ -91,7 +72,7 @@ pub(crate) fn served<Q: Threads + Wait + Clock + Sync>(
     run: &Run<'_>,
 ) -> Result<Option<Served>, Memory> {
     let stage = Stage::new(rt, alloc, run.clients.len())?;
-    Ok(ended_here(rt, alloc, &stage, run)?.served)
+    Ok(ended(rt, alloc, &stage, run)?.served)
 }
 
 pub(crate) fn goes<Q: Threads + Wait + Clock + Sync>(
@@ -100,7 +81,7 @@ pub(crate) fn goes<Q: Threads + Wait + Clock + Sync>(
     run: &Run<'_>,
 ) -> Result<Went, Memory> {
     let stage = Stage::new(rt, alloc, run.clients.len())?;
-    let status = ended_here(rt, alloc, &stage, run)?.status.code();
+    let status = ended(rt, alloc, &stage, run)?.status.code();
     if let Some(late) = stage.late() {
         return Ok(Went::InVain(late));
     }
