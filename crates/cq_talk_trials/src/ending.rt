@@ -2,14 +2,13 @@ ghost use Rattle.std.specs.Prelude.{◌≡◌, []};
 ghost use Rattle.cq_base.specs.Settings.{IsInRange};
 ghost use Rattle.cq_shared.specs.SharedPasses.{IsPassOf, settings_of};
 
-use crate::running::Outcome;
+use crate::running::{Outcome, conversed_over};
 use cq_base::{Counters, Memory, Settings, Steps};
 use cq_chain::Pass;
 use cq_io::{Gate, MemSink, MemSource, OpenGate, Sink, Source};
-use cq_lines::{End, Lines};
-use cq_session::{Server, session};
+use cq_lines::End;
 use cq_shared::Shared;
-use cq_work::{Keyer, Work};
+use cq_work::Work;
 use std::alloc::Global;
 use std::marker::Brand;
 use std::sync::Wait;
@@ -33,17 +32,10 @@ pub(crate) fn conversed<Q: Threads + Sync, L: Ledger, R: Wait, S: Source, K: Sin
     requires of { IsPassOf hub.now pass }
     requires fresh { pass.seen ≡ [] }
 {
-    let keyer = Keyer::plain(settings);
-    let mut lines = Lines::new(alloc, settings.byte_limit)?;
     let mut steps: Steps<L> = counters.counter();
-    let server = Server {
-        alloc,
-        keyer: &keyer,
-        hub,
-        gate,
-    };
-    let end = session(rt, &server, &mut pass, &mut lines, source, sink, &mut steps);
-    Ok(end)
+    conversed_over(
+        rt, alloc, settings, hub, gate, source, sink, &mut pass, &mut steps,
+    )
 }
 
 /// The same, and what it writes for an input. The reads of that, of 97 bytes each, are counted from 1, and the one with the

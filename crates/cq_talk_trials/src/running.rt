@@ -6,7 +6,7 @@ use crate::ending::ended;
 use cq_base::{Counters, Memory, Settings, Steps};
 use cq_chain::Pass;
 use cq_hub::{Hub, Solo, SoloPass};
-use cq_io::{Gate, MemSink, MemSource, OpenGate};
+use cq_io::{Gate, MemSink, MemSource, OpenGate, Sink, Source};
 use cq_lines::{End, Lines};
 use cq_session::{Server, session};
 use cq_shared::Shared;
@@ -20,33 +20,65 @@ use std::thread::Threads;
 /// How a session ends, and what it writes.
 pub type Outcome = (End, Vec<u8>);
 
+/// How a session ends, over any hub. Of what `session` promises, this keeps only that its caller may go on.
+pub fn conversed_over<R: Threads + Sync, L: Ledger, H: Hub<Work<L>>, S: Source, K: Sink, G: Gate>(
+    rt: &R,
+    alloc: Global,
+    settings: &Settings,
+    hub: &H,
+    gate: &G,
+    source: &mut S,
+    sink: &mut K,
+    pass: &mut H::Pass,
+    steps: &mut Steps<L>,
+) -> Result<End, Memory>
+    requires in_range { IsInRange settings.now }
+    requires hub_settings { H.settings hub.now ≡ settings.now }
+    requires closed { MayLead H.Stands (H.callers hub.now) hub.now pass.old Always }
+    ensures closed { OnOk result (MayLead H.Stands (H.callers hub.now) hub.now pass.new Always) }
+{
+    let keyer = Keyer::plain(settings);
+    let mut lines = Lines::new(alloc, settings.byte_limit)?;
+    let server = Server {
+        alloc,
+        keyer: &keyer,
+        hub,
+        gate,
+    };
+    let end = session(rt, &server, pass, &mut lines, source, sink, steps);
+    Ok(end)
+}
+
 // How a session ends, and what it writes for an input.
 fn written<R: Threads + Sync, L: Ledger, H: Hub<Work<L>>, G: Gate>(
     rt: &R,
     alloc: Global,
-    keyer: &Keyer,
+    settings: &Settings,
     hub: &H,
     input: &[u8],
     gate: &G,
     pass: &mut H::Pass,
     steps: &mut Steps<L>,
 ) -> Result<Outcome, Memory>
-    requires in_range { IsInRange keyer.now.settings }
-    requires hub_settings { H.settings hub.now ≡ keyer.now.settings }
+    requires in_range { IsInRange settings.now }
+    requires hub_settings { H.settings hub.now ≡ settings.now }
     requires closed { MayLead H.Stands (H.callers hub.now) hub.now pass.old Always }
     ensures closed { OnOk result (MayLead H.Stands (H.callers hub.now) hub.now pass.new Always) }
 {
-    let mut lines = Lines::new(alloc, keyer.settings.byte_limit)?;
     let bytes = Vec::from_slice(alloc, input)?;
     let mut source = MemSource::new(bytes, 97, Vec::new(alloc));
     let mut sink = MemSink::new(alloc, 1_048_576, 89, Vec::new(alloc))?;
-    let server = Server {
+    let end = conversed_over(
+        rt,
         alloc,
-        keyer,
+        settings,
         hub,
         gate,
-    };
-    let end = session(rt, &server, pass, &mut lines, &mut source, &mut sink, steps);
+        &mut source,
+        &mut sink,
+        pass,
+        steps,
+    )?;
     let output = Vec::from_slice(alloc, sink.written())?;
     Ok((end, output))
 }
@@ -69,10 +101,9 @@ fn both_written<R: Threads + Sync, L: Ledger, H: Hub<Work<L>>, G: Gate>(
     requires name { blank.name ≡ L.name }
     requires parts { blank.parts ≡ L.parts }
 {
-    let keyer = Keyer::plain(settings);
     let mut steps: Steps<L> = Steps::new(blank);
-    let one = written(rt, alloc, &keyer, hub, first, gate, pass, &mut steps)?;
-    let two = written(rt, alloc, &keyer, hub, second, gate, pass, &mut steps)?;
+    let one = written(rt, alloc, settings, hub, first, gate, pass, &mut steps)?;
+    let two = written(rt, alloc, settings, hub, second, gate, pass, &mut steps)?;
     Ok((one, two))
 }
 
