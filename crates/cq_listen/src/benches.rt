@@ -83,12 +83,13 @@ fn work_at<Q: Wait, L: Ledger, R: Wait, G: Gate>(
         ..
     } = bench;
     let server = Server {
+        rt,
         alloc,
         keyer,
         hub,
         gate,
     };
-    let _pass = work(rt, &server, pass, bell);
+    let _pass = work(&server, pass, bell);
 }
 
 impl<'a, L: Ledger, R: Wait, G: Gate> Worker for Bench<'a, L, R, G> {

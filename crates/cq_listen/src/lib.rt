@@ -10,10 +10,12 @@
 mod benches;
 mod connection;
 mod doorway;
+mod floor;
 mod listening;
 mod queue;
 mod seats;
 mod sessions;
 mod workers;
 
+pub use floor::Floor;
 pub use listening::{Served, serve};

@@ -4,6 +4,7 @@ ghost use Rattle.cq_shared.specs.SharedPasses.{settings_of};
 ghost use Rattle.cq_listen.specs.Seats.{IsIdle};
 
 use crate::connection::Connection;
+use crate::floor::Floor;
 use crate::sessions::Attendant;
 use cq_base::{Counters, Memory, Settings};
 use cq_chain::Pass;
@@ -49,26 +50,19 @@ impl<'a, L: Ledger, R, G> Seat<'a, L, R, G> {
     ghost use Rattle.cq_listen.specs.Seats.{IsIdle};
 
     /// The seat of a pass that has no view open. It takes memory for its cutter.
-    pub(crate) fn new(
-        alloc: Global,
-        settings: &'a Settings,
-        counters: &'a Counters<L>,
-        hub: &'a Shared<Work<L>, R>,
-        gate: &'a G,
-        pass: Pass<Work<L>>,
-    ) -> Result<Self, Memory>
-        requires in_range { IsInRange settings.now }
-        requires settings { settings_of hub.now ≡ settings.now }
-        requires idle { IsIdle hub.now pass }
-        ensures { IfOk result (λ seat. seat ≡ settings.now) }
+    pub(crate) fn new(floor: &Floor<'a, L, R, G>, pass: Pass<Work<L>>) -> Result<Self, Memory>
+        requires in_range { IsInRange floor.now.settings.now }
+        requires settings { settings_of floor.now.hub.now ≡ floor.now.settings.now }
+        requires idle { IsIdle floor.now.hub.now pass }
+        ensures { IfOk result (λ seat. seat ≡ floor.now.settings.now) }
     {
-        let lines = Lines::new(alloc, settings.byte_limit)?;
+        let lines = Lines::new(floor.alloc, floor.settings.byte_limit)?;
         Ok(Seat {
-            alloc,
-            settings,
-            counters,
-            hub,
-            gate,
+            alloc: floor.alloc,
+            settings: floor.settings,
+            counters: floor.counters,
+            hub: floor.hub,
+            gate: floor.gate,
             lines,
             pass,
         })
@@ -91,13 +85,13 @@ fn converse<Q: Threads + Sync, L: Ledger, R: Wait, S: Source + Drop, K: Sink + D
     let mut steps = seat.counters.counter();
     seat.lines.restart();
     let server = Server {
+        rt,
         alloc: seat.alloc,
         keyer,
         hub: seat.hub,
         gate: seat.gate,
     };
     let _end = session(
-        rt,
         &server,
         &mut seat.pass,
         &mut seat.lines,
@@ -118,27 +112,23 @@ impl<'a, L: Ledger, R: Wait, S: Source + Drop, K: Sink + Drop, G: Gate> Attendan
 
 /// So many seats, whose callers are the next ones of the pass.
 pub(crate) fn seats_of<'a, L: Ledger, R, G>(
-    alloc: Global,
-    settings: &'a Settings,
-    counters: &'a Counters<L>,
-    hub: &'a Shared<Work<L>, R>,
-    gate: &'a G,
+    floor: &Floor<'a, L, R, G>,
     pass: &mut Pass<Work<L>>,
     number: u32,
 ) -> Result<Vec<Seat<'a, L, R, G>>, Memory>
-    requires in_range { IsInRange settings.now }
-    requires settings { settings_of hub.now ≡ settings.now }
-    requires idle { IsIdle hub.now pass.old }
+    requires in_range { IsInRange floor.now.settings.now }
+    requires settings { settings_of floor.now.hub.now ≡ floor.now.settings.now }
+    requires idle { IsIdle floor.now.hub.now pass.old }
     requires room { number ≤ pass.old.room }
-    ensures idle { IsIdle hub.now pass.new }
+    ensures idle { IsIdle floor.now.hub.now pass.new }
     ensures room { OnOk result (pass.new.room + number ≡ pass.old.room) }
     ensures number { IfOk result (λ seats. vec_len seats ≡ number) }
-    ensures settings { IfOk result (λ seats. All (λ seat. seat ≡ settings.now) seats.items) }
+    ensures settings { IfOk result (λ seats. All (λ seat. seat ≡ floor.now.settings.now) seats.items) }
 {
-    let mut seats = Vec::with_capacity(alloc, number as usize)?;
+    let mut seats = Vec::with_capacity(floor.alloc, number as usize)?;
     'seats: for _seat in 0..number {
-        let own = hub.split_pass(pass);
-        seats.push(Seat::new(alloc, settings, counters, hub, gate, own)?)?;
+        let own = floor.hub.split_pass(pass);
+        seats.push(Seat::new(floor, own)?)?;
     }
     Ok(seats)
 }

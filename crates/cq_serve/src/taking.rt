@@ -13,7 +13,10 @@ use cq_work::{Work, work_for};
 use std::sync::ledger::Ledger;
 
 // Publishes what is done, where there is memory for it.
-fn publish_done<L: Ledger, H: Hub<Work<L>>, G: Gate>(server: &Server<'_, H, G>, pass: &mut H::Pass)
+fn publish_done<R, L: Ledger, H: Hub<Work<L>>, G: Gate>(
+    server: &Server<'_, R, H, G>,
+    pass: &mut H::Pass,
+)
     requires stands { IsPassOf H.Stands server.now.hub.now pass.old }
     ensures asks { HasAsked H.Hub server.now.hub.now pass.old pass.new }
     ensures asked { H.asked pass.new ≡ H.asked pass.old }
@@ -31,8 +34,8 @@ fn publish_done<L: Ledger, H: Hub<Work<L>>, G: Gate>(server: &Server<'_, H, G>, 
 /// A worker's turn: takes the first change that is neither done nor taken, makes its work, and publishes what is done
 /// then, where there is memory for that. Where there is none to make the work, the change is given back. It costs what
 /// `work_of` does for the change's text, and what it costs to apply the works that are done.
-pub fn turn<L: Ledger, H: Hub<Work<L>>, G: Gate>(
-    server: &Server<'_, H, G>,
+pub fn turn<R, L: Ledger, H: Hub<Work<L>>, G: Gate>(
+    server: &Server<'_, R, H, G>,
     pass: &mut H::Pass,
 ) -> Turn
     requires in_range { IsInRange server.now.keyer.now.settings }

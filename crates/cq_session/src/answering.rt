@@ -9,6 +9,7 @@ ghost use Rattle.cq_session.specs.Passes.{Begins, GivesUp, HasAccepted, HasAnswe
 use crate::Server;
 use crate::helping::help;
 use crate::viewing::view_reply;
+use cq_answer::cause_told;
 use cq_base::{Change, Memory, Refusal, Steps};
 use cq_board::Refused;
 use cq_hub::Hub;
@@ -40,10 +41,10 @@ fn change_reply<W: Indexed, H: Hub<W>, G: Gate>(
             gate.after_accept(number);
             Ok(Reply::Change(number))
         }
-        Err(Refused::Absent) => Ok(Reply::Refused(Refusal::Absent)),
-        Err(Refused::FullChanges) => Ok(Reply::Refused(Refusal::FullChanges)),
-        Err(Refused::FullText) => Ok(Reply::Refused(Refusal::FullText)),
-        Err(Refused::Memory) => Err(Memory),
+        Err(cause) => match cause {
+            Refused::Memory => Err(Memory),
+            _ => Ok(cause_told(cause)),
+        },
     }
 }
 
@@ -74,8 +75,7 @@ fn without_works(floor: u64, done: u64, accepted: u64) -> u64
 /// The reply to a query whose floor is at least `seen`. After an answer by a view the hub is swept. If memory runs
 /// out, what was done is a beginning of what the query does.
 pub fn query_reply<R: Threads + Sync, L: Ledger, H: Hub<Work<L>>, G: Gate>(
-    rt: &R,
-    server: &Server<'_, H, G>,
+    server: &Server<'_, R, H, G>,
     query: &Query,
     seen: u64,
     pass: &mut H::Pass,
@@ -99,7 +99,7 @@ pub fn query_reply<R: Threads + Sync, L: Ledger, H: Hub<Work<L>>, G: Gate>(
     }
     if query.finish {
         return match help(server, asked.done, asked.accepted, pass) {
-            Ok(()) => view_reply(rt, server, query, asked.accepted, pass, steps),
+            Ok(()) => view_reply(server, query, asked.accepted, pass, steps),
             Err(Memory) => Err(Memory),
         };
     }
@@ -108,13 +108,12 @@ pub fn query_reply<R: Threads + Sync, L: Ledger, H: Hub<Work<L>>, G: Gate>(
         return Ok(Reply::Pending(asked.done + 1));
     }
     let to = without_works(floor, asked.done, asked.accepted);
-    view_reply(rt, server, query, to, pass, steps)
+    view_reply(server, query, to, pass, steps)
 }
 
 /// The reply to what a line says. If memory runs out, what was done is a beginning of what the line does.
 pub(crate) fn reply_to<R: Threads + Sync, L: Ledger, H: Hub<Work<L>>, G: Gate>(
-    rt: &R,
-    server: &Server<'_, H, G>,
+    server: &Server<'_, R, H, G>,
     line: &[u8],
     seen: u64,
     pass: &mut H::Pass,
@@ -137,7 +136,7 @@ pub(crate) fn reply_to<R: Threads + Sync, L: Ledger, H: Hub<Work<L>>, G: Gate>(
             server.gate,
             pass,
         ),
-        Ok(Request::Query(query)) => { query_reply(rt, server, &query, seen, pass, steps) }
+        Ok(Request::Query(query)) => { query_reply(server, &query, seen, pass, steps) }
         Ok(Request::State) => Ok(state_reply(server.hub, pass)),
         Err(ReadError::Refused(refusal)) => Ok(Reply::Refused(refusal)),
         Err(ReadError::Memory) => Err(Memory),

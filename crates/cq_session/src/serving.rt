@@ -20,8 +20,7 @@ use std::thread::Threads;
 
 // Writes the reply to a line, which is not too long. What the reply names is seen from then on.
 fn turn<R: Threads + Sync, L: Ledger, H: Hub<Work<L>>, K: Sink, G: Gate>(
-    rt: &R,
-    server: &Server<'_, H, G>,
+    server: &Server<'_, R, H, G>,
     line: &[u8],
     seen: &mut u64,
     pass: &mut H::Pass,
@@ -36,7 +35,7 @@ fn turn<R: Threads + Sync, L: Ledger, H: Hub<Work<L>>, K: Sink, G: Gate>(
         seen.old server.now.keyer.now.settings line.now (K.written sink.old) (K.written sink.new) result seen.new }
     ensures cause { HasCause (K.faults sink.old) (K.faults sink.new) result }
 {
-    let (line, number) = told(rt, server, line, *seen, pass, steps);
+    let (line, number) = told(server, line, *seen, pass, steps);
     *seen = (*seen).max(number);
     send(sink, line.as_bytes())
 }
@@ -45,8 +44,7 @@ fn turn<R: Threads + Sync, L: Ledger, H: Hub<Work<L>>, K: Sink, G: Gate>(
 // when the talk is over.
 #[derive(Drop)]
 struct Talk<'a, 's, 'p, 'c, R, L: Ledger, H: Hub<Work<L>>, G> {
-    rt: &'a R,
-    server: &'a Server<'s, H, G>,
+    server: &'a Server<'s, R, H, G>,
     pass: &'p mut H::Pass,
     seen: u64,
     steps: &'c mut Steps<L>,
@@ -83,7 +81,6 @@ impl<'a, 's, 'p, 'c, R: Threads + Sync, L: Ledger, H: Hub<Work<L>>, G: Gate> Ans
 
     fn answer<K: Sink>(&mut self, line: &[u8], sink: &mut K) -> Result<(), Failed> {
         turn(
-            self.rt,
             self.server,
             line,
             &mut self.seen,
@@ -105,8 +102,7 @@ impl<'a, 's, 'p, 'c, R: Threads + Sync, L: Ledger, H: Hub<Work<L>>, G: Gate> Ans
 /// that was brought up and each view that was opened is reported to the gate. The cutter keeps its limit, so that it may be
 /// restarted for another source.
 pub fn session<R: Threads + Sync, L: Ledger, H: Hub<Work<L>>, S: Source, K: Sink, G: Gate>(
-    rt: &R,
-    server: &Server<'_, H, G>,
+    server: &Server<'_, R, H, G>,
     pass: &mut H::Pass,
     lines: &mut Lines,
     source: &mut S,
@@ -123,7 +119,6 @@ pub fn session<R: Threads + Sync, L: Ledger, H: Hub<Work<L>>, S: Source, K: Sink
     ensures limit { lines.new.limit ≡ lines.old.limit }
 {
     let mut talk = Talk {
-        rt,
         server,
         pass,
         seen: 0,

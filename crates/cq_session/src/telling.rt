@@ -31,8 +31,7 @@ fn named(reply: &Reply) -> u64
 
 /// The line of the reply to a line, and the number that the reply names.
 pub(crate) fn told<R: Threads + Sync, L: Ledger, H: Hub<Work<L>>, G: Gate>(
-    rt: &R,
-    server: &Server<'_, H, G>,
+    server: &Server<'_, R, H, G>,
     line: &[u8],
     seen: u64,
     pass: &mut H::Pass,
@@ -44,7 +43,7 @@ pub(crate) fn told<R: Threads + Sync, L: Ledger, H: Hub<Work<L>>, G: Gate>(
     ensures { HasLine H.Hub server.now.hub.now pass.old pass.new
         steps.old steps.new seen server.now.keyer.now.settings line.now result }
 {
-    match reply_to(rt, server, line, seen, pass, steps) {
+    match reply_to(server, line, seen, pass, steps) {
         Ok(reply) => match line_of(server.alloc, &reply) {
             Ok(line) => (line, named(&reply)),
             Err(Memory) => (Line::Short(fixed(Short::Memory)), 0),

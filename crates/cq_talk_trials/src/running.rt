@@ -40,12 +40,13 @@ pub fn conversed_over<R: Threads + Sync, L: Ledger, H: Hub<Work<L>>, S: Source, 
     let keyer = Keyer::plain(settings);
     let mut lines = Lines::new(alloc, settings.byte_limit)?;
     let server = Server {
+        rt,
         alloc,
         keyer: &keyer,
         hub,
         gate,
     };
-    let end = session(rt, &server, pass, &mut lines, source, sink, steps);
+    let end = session(&server, pass, &mut lines, source, sink, steps);
     Ok(end)
 }
 

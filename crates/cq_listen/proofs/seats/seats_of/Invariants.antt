@@ -4,8 +4,8 @@ use Rattle.cq_listen.proofs.seats.seats_of.Given as goal
 
 abbrev pub invariant-seats : goal.invariant-seats
 invariant-seats g l = record {
-  idle : IsIdle l.hub l.pass;
+  idle : IsIdle l.floor.hub.now l.pass;
   room : l.pass.room + l._seat ≡ l.fn.pass.room;
   number : vec_len l.seats ≡ l._seat;
-  settings : All (λ seat. seat ≡ l.settings) l.seats.items;
+  settings : All (λ seat. seat ≡ l.floor.settings.now) l.seats.items;
 }

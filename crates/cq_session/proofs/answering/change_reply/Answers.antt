@@ -1,8 +1,8 @@
-use Rattle.std.proofs.Common.{refl}
-use Rattle.cq_board.specs.declared.answers.Refused.TheVariants as refused
+use Rattle.std.proofs.Common.{refl, sym, subst}
 use Rattle.cq_history.specs.declared.event.Event.TheVariants.{Accept}
 use Rattle.cq_talk.proofs.Changing.{accepted_row, refused_row}
 use Rattle.cq_talk.proofs.Leading.{lead_none, lead_event}
+use Rattle.cq_session.specs.Passes.{HasChanged}
 use Rattle.cq_session.proofs.answering.change_reply.Goals as goal
 
 pub returns-in-Ok-clause-replies : goal.returns-in-Ok-clause-replies
@@ -10,20 +10,11 @@ returns-in-Ok-clause-replies g c = λ by h stands closed always.
     let call = c.in-Ok.ensures.accepted by h stands in
     lead_event _ _ _ by _ _ _ h (Accept by c.args.change) _ _ call refl tt closed (λ others says. accepted_row _ _ g.H.Hub.alone by h call.mid others c.args.change c.in-Ok.number says)
 
-pub returns-in-Err-Absent-clause-replies : goal.returns-in-Err-Absent-clause-replies
-returns-in-Err-Absent-clause-replies g c = λ by h stands closed always.
-    let call = (rw c.in-Err-Absent.field-0-is at c.in-Err-Absent.ensures.refused) by h stands in
-    lead_none _ _ _ by _ _ _ h _ _ call closed (λ others says. refused_row _ _ g.H.Hub.alone by h call.mid others c.args.change refused.Absent (λ e. absurd (cc)) says)
+pub returns-in-Memory-clause-refused : goal.returns-in-Memory-clause-refused
+returns-in-Memory-clause-refused g c = λ by h stands closed always. lead_none _ _ _ by _ _ _ h _ _ (c.in-Err.ensures.refused by h stands) closed (λ others says. others)
 
-pub returns-in-Err-FullChanges-clause-replies : goal.returns-in-Err-FullChanges-clause-replies
-returns-in-Err-FullChanges-clause-replies g c = λ by h stands closed always.
-    let call = (rw c.in-Err-FullChanges.field-0-is at c.in-Err-FullChanges.ensures.refused) by h stands in
-    lead_none _ _ _ by _ _ _ h _ _ call closed (λ others says. refused_row _ _ g.H.Hub.alone by h call.mid others c.args.change refused.FullChanges (λ e. absurd (cc)) says)
-
-pub returns-in-Err-FullText-clause-replies : goal.returns-in-Err-FullText-clause-replies
-returns-in-Err-FullText-clause-replies g c = λ by h stands closed always.
-    let call = (rw c.in-Err-FullText.field-0-is at c.in-Err-FullText.ensures.refused) by h stands in
-    lead_none _ _ _ by _ _ _ h _ _ call closed (λ others says. refused_row _ _ g.H.Hub.alone by h call.mid others c.args.change refused.FullText (λ e. absurd (cc)) says)
-
-pub returns-in-Err-Memory-clause-refused : goal.returns-in-Err-Memory-clause-refused
-returns-in-Err-Memory-clause-refused g c = λ by h stands closed always. lead_none _ _ _ by _ _ _ h _ _ (c.in-Err-Memory.ensures.refused by h stands) closed (λ others says. others)
+pub returns-in_default-clause-replies : goal.returns-in_default-clause-replies
+returns-in_default-clause-replies g c =
+    subst (HasChanged g.H.Hub c.args.hub.now c.args.pass.now c.accept.new.pass c.args.change) (sym c.cause_told.ensures.reply) (λ by h stands closed always.
+    let call = c.in-Err.ensures.refused by h stands in
+    lead_none _ _ _ by _ _ _ h _ _ call closed (λ others says. refused_row _ _ g.H.Hub.alone by h call.mid others c.args.change c.in-Err.cause c.in_default.not-Memory says))
