@@ -1,4 +1,4 @@
-use crate::talking::{Talks, shared_talks_here, talks_here};
+use crate::talking::{Talks, shared_talk_here, talks_here};
 use cq_base::{Memory, Settings};
 use std::alloc::Global;
 use std::sync::Wait;
@@ -117,7 +117,7 @@ fn one_shared_talk<R: Threads + Wait + Sync>(
     if settings.check().is_some() {
         return Ok(Went::OutOfRange);
     }
-    let talks = shared_talks_here(rt, alloc, &settings, (400, 0), seed)?;
+    let talks = shared_talk_here(rt, alloc, &settings, 400, seed)?;
     Ok(how_they_went(&talks, &TOLD, &[]))
 }
 
