@@ -38,21 +38,8 @@ returns-in-Ok-State-clause-answers g c =
     let says = c.in-Ok-State.ensures.says ∙ ap Ok c.in-Ok-State.field-0-is in
     subst (λ (x : Result Request Refusal). AnswersSaid c.args.kept.now.snapshot.now (Read x) (reply.Refused refusal.Op)) (sym says) refl
 
-alt_b : goal.returns-in-Err-Refused-clause-answers
-alt_b g c =
-    let said = line_says c.args.kept.now.settings.now.chunk c.args.line.now in
-    let says : said ≡ Err c.in-Err-Refused.refusal = subst (λ (e : ReadError). UnlessMemory (Err e) said) c.in-Err-Refused.field-0-is c.in-Err-Refused.ensures.says in
-    subst (λ (r : Refusal). AnswersSaid c.args.kept.now.snapshot.now (Read said) (reply.Refused r)) c.in-Err-Refused.refusal-is (subst (λ (x : Result Request Refusal). AnswersSaid c.args.kept.now.snapshot.now (Read x) (reply.Refused c.in-Err-Refused.refusal)) (sym says) refl)
-
-alt_c : goal.returns-in-Err-Refused-clause-answers
-alt_c g c =
-    let said = line_says c.args.kept.now.settings.now.chunk c.args.line.now in
-    let says : said ≡ Err c.in-Err-Refused.refusal = subst (λ (e : ReadError). UnlessMemory (Err e) said) c.in-Err-Refused.field-0-is c.in-Err-Refused.ensures.says in
-    subst (λ (r : Refusal). AnswersSaid c.args.kept.now.snapshot.now (Read said) (reply.Refused r)) (sym c.in-Err-Refused.refusal-is) (subst (λ (x : Result Request Refusal). AnswersSaid c.args.kept.now.snapshot.now (Read x) (reply.Refused c.in-Err-Refused.refusal)) (sym says) refl)
-
 pub returns-in-Err-Refused-clause-answers : goal.returns-in-Err-Refused-clause-answers
 returns-in-Err-Refused-clause-answers g c =
     let said = line_says c.args.kept.now.settings.now.chunk c.args.line.now in
     let says : said ≡ Err c.in-Err-Refused.refusal = subst (λ (e : ReadError). UnlessMemory (Err e) said) c.in-Err-Refused.field-0-is c.in-Err-Refused.ensures.says in
-    rw c.in-Err-Refused.field-0-is (
-    subst (λ (x : Result Request Refusal). AnswersSaid c.args.kept.now.snapshot.now (Read x) (reply.Refused c.in-Err-Refused.refusal)) (sym says) refl)
+    subst (λ (x : Result Request Refusal). AnswersSaid c.args.kept.now.snapshot.now (Read x) (reply.Refused c.in-Err-Refused.refusal)) (sym says) refl
