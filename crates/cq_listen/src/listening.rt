@@ -78,7 +78,7 @@ fn serve_doors<
     ensures ended { HasEnded (D.faults doors.old) (D.faults doors.new)
         (D.left doors.old) (D.left doors.new) result.failed }
     ensures made { IsServedWith keyer.now.settings
-        (vec_len staff.workers) (vec_len staff.attendants) result }
+        (vec_len staff.entry.workers) (vec_len staff.entry.attendants) result }
     ensures bound { D.bound doors.new ≡ D.bound doors.old }
 {
     let workers_made = staff.workers.len();
