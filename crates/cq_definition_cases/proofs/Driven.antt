@@ -16,14 +16,16 @@ use Rattle.cq_board.specs.declared.answers.Refused.{Refused}
 use Rattle.cq_board.specs.declared.answers.Refused.TheVariants as refused
 use Rattle.cq_drive.specs.Outcomes.{line_of as outcome_line}
 use Rattle.cq_drive.specs.Reading.{step_read}
-use Rattle.cq_drive.specs.Script.{IsOfView, IsRead, IsScript, LineComesTo, SaidComesTo, StepComesTo, StepsWhere}
+use Rattle.cq_drive.specs.Script.{IsOfView, IsRead, IsScript, LineComesTo, SaidComesTo, StepComesTo, StepsWhere, now}
 use Rattle.cq_drive.specs.declared.outcome.ScriptOutcome.{ScriptOutcome}
 use Rattle.cq_drive.specs.declared.outcome.ScriptOutcome.TheVariants as outcome
 use Rattle.cq_drive.specs.declared.step.ScriptStep.{ScriptStep}
 use Rattle.cq_drive.specs.declared.step.ScriptStep.TheVariants as step
 use Rattle.cq_history.specs.Core.{Core, Step, first_core}
+use Rattle.cq_history.specs.Core.Step.{Adds, Applies}
 use Rattle.cq_history.specs.Files.{conditions_at}
-use Rattle.cq_history.specs.State.{accepted}
+use Rattle.cq_history.specs.State.{accepted, first_free}
+use Rattle.cq_history.specs.declared.event.Event.TheVariants as event
 use Rattle.cq_lines.specs.Pieces.{all_lines, split}
 use Rattle.cq_lines.specs.Serving.{Serves}
 use Rattle.cq_lines.specs.declared.ending.End.{End}
@@ -76,17 +78,17 @@ module _ (set : Settings) (k later : Core) where
   of_step (step.Accept by change) o (inl taken) = ap state_told taken.1.0
   of_step (step.Accept by change) o (inr (cause, is, stays)) = ap state_told stays.0 ∙ of_cause cause
   of_step (step.Ask by) o taken = ap state_told taken.0
-  of_step (step.Took by) o comes = of_where _ k later _ _ _ o refl refl comes
-  of_step (step.Back by change) o comes = of_where _ k later _ _ _ o refl refl comes
-  of_step (step.Done by change) o comes = of_where _ k later _ _ _ o refl refl comes
-  of_step (step.Apply shard) o comes = of_where _ k later _ _ _ o refl refl comes
-  of_step (step.Publish version) o comes = of_where _ k later _ _ _ o refl refl comes
-  of_step (step.Open by) o comes = of_where _ k later _ _ _ o refl refl comes
+  of_step (step.Took by) o comes = of_where _ k later (Adds (event.Took by (first_free (now k)))) _ _ o refl refl comes
+  of_step (step.Back by change) o comes = of_where _ k later (Adds (event.Back by change)) _ _ o refl refl comes
+  of_step (step.Done by change) o comes = of_where _ k later (Adds (event.Done by change)) _ _ o refl refl comes
+  of_step (step.Apply shard) o comes = of_where _ k later (Applies shard) _ _ o refl refl comes
+  of_step (step.Publish version) o comes = of_where _ k later (Adds (event.Publish version)) _ _ o refl refl comes
+  of_step (step.Open by) o comes = of_where _ k later (Adds (event.Open by (now k).published)) _ _ o refl refl comes
   of_step (step.Read by shard key) o (is, stays) = of_view k by (IsRead set k shard key) o (λ version read. ap state_told read.2) is
   of_step (step.Reply by query) o (is, stays) =
       of_view k by (λ version p. (r : Reply) × IsReply set (accepted k.history) version query r × (p ≡ outcome.Reply r)) o (λ version told. ap state_told told.2 ∙ (ap state_in told.1.reply_is ∙ of_kind (facts_read told.1.readings) (conditions_at (accepted k.history) version query.project) version (part_read told.1.readings query) (chosen_read told.1.readings query) told.1.groups query.kind)) is
-  of_step (step.Shut by) o comes = of_where _ k later _ _ _ o refl refl comes
-  of_step (step.Floor version) o comes = of_where _ k later _ _ _ o refl refl comes
+  of_step (step.Shut by) o comes = of_where _ k later (Adds (event.Shut by)) _ _ o refl refl comes
+  of_step (step.Floor version) o comes = of_where _ k later (Adds (event.Floor version)) _ _ o refl refl comes
   of_step (step.Sweep shard) o taken = ap state_told taken.0
 
   of_said : (said : Result ScriptStep Refusal) (o : ScriptOutcome) → SaidComesTo set k said o later → state_told o ≡ 0

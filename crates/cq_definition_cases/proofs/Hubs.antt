@@ -20,6 +20,7 @@ use Rattle.cq_history.proofs.Prefixes.{own-append}
 use Rattle.cq_history.proofs.States.{state_push}
 use Rattle.cq_hub.specs.Answers.{Accepts, Does, GivesBack, HasNot, HasSeenItsWork, IsTold, Opens, SeesDone, Shuts}
 use Rattle.cq_hub.specs.Hubs.{Calls, Extends, Never}
+use Rattle.cq_hub.specs.Says.{IsAcceptedAs}
 
 -- a pass of the caller with this number is the history that it has seen
 abbrev stands_for : ℕ → Unit {0} → List Event → ℕ → List Event → Type 0
@@ -66,6 +67,10 @@ published e = event.Accept 0 put ∷ event.Took 0 1 ∷ event.Done 1 1 ∷ event
 abbrev opened : List Event
 opened = event.Open 0 0 ∷ []
 
+-- what no limit stands against
+abbrev ample : Settings
+ample = record { chunk = 2; shards = 16; key_bits = 64; ignore_ids = false; ignore_lits = false; change_limit = 262144; text_limit = 33554432; byte_limit = 1152921504606846976 }
+
 -- a work of a text is the text
 abbrev is_text : Settings → Lang → List ℕ → List ℕ → Type 0
 is_text set lang text work = work ≡ text
@@ -74,6 +79,10 @@ module _ (set : Settings) (alone : Type 0) where
   pub a_change_is_accepted_for_its_caller : (number : ℕ) → Accepts (stands_for 1) alone (λ _. set) (λ _. 2) tt [] (event.Accept 0 put ∷ []) put number → ⊥
   a_change_is_accepted_for_its_caller number accepts =
       let none : 0 ≡ 1 = own_count alone Never 1 [] (event.Accept 0 put ∷ []) (event.Accept 1 put ∷ []) _ (accepts 1 [] (refl, refl)) in omega (arith, none)
+
+  -- it is accepted so
+  pub a_change_has_its_callers_number : Accepts (stands_for 1) alone (λ _. ample) (λ _. 2) tt [] (event.Accept 1 put ∷ []) put 1
+  a_change_has_its_callers_number = at_once alone Never 1 [] (λ c. event.Accept c put ∷ []) (λ _. IsAcceptedAs ample 2 put 1) (refl, refl)
 
   pub a_question_is_added_once : (asked : Asked) → IsTold (stands_for 0) alone (λ _. set) (λ _. 1) tt [] (event.Ask 0 ∷ event.Ask 0 ∷ []) asked → ⊥
   a_question_is_added_once asked told =
@@ -99,6 +108,9 @@ module _ (set : Settings) (alone : Type 0) where
   pub a_view_that_stays_open_is_not_shut : Shuts (stands_for 0) alone (λ _. set) (λ _. 1) tt opened opened → ⊥
   a_view_that_stays_open_is_not_shut shuts =
       let none : 1 ≡ 2 = own_count alone Never 0 opened opened (event.Shut 0 ∷ []) _ (shuts 0 opened (refl, refl)) in omega (arith, none)
+
+  pub a_view_is_shut_by_its_caller : Shuts (stands_for 0) alone (λ _. set) (λ _. 1) tt opened (event.Open 0 0 ∷ event.Shut 0 ∷ [])
+  a_view_is_shut_by_its_caller = at_once alone Never 0 opened (λ c. event.Shut c ∷ []) (λ _ _. Unit {0}) tt
 
   -- ---- what was so before the call is not told once it is so no more
 
