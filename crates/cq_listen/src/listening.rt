@@ -78,7 +78,7 @@ fn serve_doors<
     ensures ended { HasEnded (D.faults doors.old) (D.faults doors.new)
         (D.left doors.old) (D.left doors.new) result.failed }
     ensures made { IsServedWith keyer.now.settings
-        (vec_len staff.workers) (vec_len staff.attendants) result }
+        (vec_len staff.entry.workers) (vec_len staff.entry.attendants) result }
     ensures bound { D.bound doors.new ≡ D.bound doors.old }
 {
     let workers_made = staff.workers.len();
@@ -120,6 +120,7 @@ fn serve_doors<
 /// for the queue. What comes back says with what connections were served: the settings, and how many workers and sessions
 /// there were.
 pub fn serve<
+    'f,
     Q: Threads + Wait + Sync,
     L: Ledger + Send + Sync,
     R: Wait + Sync,
@@ -128,8 +129,8 @@ pub fn serve<
     D: Doors<In = S, Out = K>,
     G: Gate + Sync,
 >(
-    rt: &Q,
-    floor: &Floor<'_, L, R, G>,
+    rt: &'f Q,
+    floor: &Floor<'f, L, R, G>,
     pass: Pass<Work<L>>,
     doors: &mut D,
     workers: u32,

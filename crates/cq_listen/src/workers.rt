@@ -66,7 +66,7 @@ pub(crate) fn serve_beside_workers<
     requires own { N.settings staff.own ≡ keyer.now.settings }
     requires since { A.Since arrivals arrivals }
     ensures ended { A.Ended arrivals result.0 }
-    ensures own { N.settings result.1 ≡ N.settings staff.own }
+    ensures own { N.settings result.1 ≡ N.settings staff.entry.own }
 {
     let Staff {
         workers,

@@ -27,7 +27,7 @@ fn serve_clients<
     G: Gate + Sync,
 >(
     host: &Host<'_, Q, G>,
-    settings: &Settings,
+    settings: Settings,
     doors: &mut D,
     workers: u32,
     sessions: u32,
@@ -35,13 +35,13 @@ fn serve_clients<
 ) -> Result<Served, Memory>
     requires name { blank.name ≡ L.name }
     requires parts { blank.parts ≡ L.parts }
-    requires in_range { IsInRange settings.now }
+    requires in_range { IsInRange settings }
     requires bound { IsSome (D.bound doors.old) }
     requires workers { workers ≤ 64 }
     requires sessions { sessions ≤ 64 }
     ensures ended { IfOk result (λ served. HasEnded (D.faults doors.old) (D.faults doors.new)
         (D.left doors.old) (D.left doors.new) served.failed) }
-    ensures made { IfOk result (IsServedWith settings.now workers sessions) }
+    ensures made { IfOk result (IsServedWith settings workers sessions) }
     ensures refused { OnErr result (doors.new ≡ doors.old) }
     ensures bound { D.bound doors.new ≡ D.bound doors.old }
 {
@@ -49,12 +49,12 @@ fn serve_clients<
     // One caller is the calling thread's, one each session's, and one each worker's.
     let callers = workers + sessions + 1;
     let made: (Shared<Work<L>, &Q>, Pass<Work<L>>) = Shared::new(
-        host.rt, host.alloc, settings, callers,
+        host.rt, host.alloc, &settings, callers,
     )?;
     let (hub, pass) = made;
     let floor = Floor {
         alloc: host.alloc,
-        settings,
+        settings: &settings,
         counters: &counters,
         hub: &hub,
         gate: host.gate,
@@ -91,7 +91,7 @@ pub(crate) fn listen<
     match doors.bind(address) {
         Ok(()) => match serve_clients::<Q, Brand, I, O, D, G>(
             host,
-            &settings,
+            settings,
             doors,
             workers,
             sessions,
