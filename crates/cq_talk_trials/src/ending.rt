@@ -154,8 +154,9 @@ fn three_ended<Q: Threads + Wait + Sync, L: Ledger + Send + Sync, G: Gate + Sync
     alloc: Global,
     settings: &Settings,
     gate: &G,
-    first: (&str, u64),
-    second: (&str, u64),
+    first: &str,
+    failing: u64,
+    second: &str,
     third: &str,
     blank: Blank,
 ) -> Result<Ends, Memory>
@@ -170,7 +171,16 @@ fn three_ended<Q: Threads + Wait + Sync, L: Ledger + Send + Sync, G: Gate + Sync
     let two = hub.split_pass(&mut pass);
     let three = hub.split_pass(&mut pass);
     let (one, two) = both_ended(
-        rt, alloc, settings, &hub, &counters, gate, first, second, one, two,
+        rt,
+        alloc,
+        settings,
+        &hub,
+        &counters,
+        gate,
+        (first, failing),
+        (second, 0),
+        one,
+        two,
     )?;
     let input = third.as_bytes();
     let (later, _) = ended(
@@ -187,14 +197,15 @@ fn three_ended<Q: Threads + Wait + Sync, L: Ledger + Send + Sync, G: Gate + Sync
     })
 }
 
-/// The same over a new hub. Each of the two has an input and the number of the read that fails.
+/// The same over a new hub, where one read of the first of them may fail, by its number from 1.
 pub(crate) fn three_here<Q: Threads + Wait + Sync, G: Gate + Sync>(
     rt: &Q,
     alloc: Global,
     settings: &Settings,
     gate: &G,
-    first: (&str, u64),
-    second: (&str, u64),
+    first: &str,
+    failing: u64,
+    second: &str,
     third: &str,
 ) -> Result<Ends, Memory>
     requires { IsInRange settings.now }
@@ -205,6 +216,7 @@ pub(crate) fn three_here<Q: Threads + Wait + Sync, G: Gate + Sync>(
         settings,
         gate,
         first,
+        failing,
         second,
         third,
         Blank::new(1),

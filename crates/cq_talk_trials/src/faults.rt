@@ -44,15 +44,7 @@ fn faulted<Q: Threads + Wait + Sync>(rt: &Q, alloc: Global) -> Result<Option<Lef
     if settings.check().is_some() {
         return Ok(None);
     }
-    let ends = three_here(
-        rt,
-        alloc,
-        &settings,
-        &OpenGate,
-        (BROKEN, 3),
-        (WHOLE, 0),
-        WHOLE,
-    )?;
+    let ends = three_here(rt, alloc, &settings, &OpenGate, BROKEN, 3, WHOLE, WHOLE)?;
     Ok(Some(Left {
         broken: ends.one.0,
         whole: ends.two.0,

@@ -108,7 +108,7 @@ fn two_help<Q: Threads + Clock + Wait + Sync>(
         first: &first,
         second: &second,
     };
-    let ends = three_here(rt, alloc, &settings, &gate, (ONE, 0), (TWO, 0), "")?;
+    let ends = three_here(rt, alloc, &settings, &gate, ONE, 0, TWO, "")?;
     Ok(Some(Helped {
         alike: are_alike(ends.one, ends.two),
         first: first.load(Ordering::SeqCst),
