@@ -87,8 +87,8 @@ pub(crate) fn both_ended<
     hub: &Shared<Work<L>, R>,
     counters: &Counters<L>,
     gate: &G,
-    first: (&str, u64),
-    second: (&str, u64),
+    first: (&[u8], u64),
+    second: (&[u8], u64),
     one: Pass<Work<L>>,
     two: Pass<Work<L>>,
 ) -> Result<(Outcome, Outcome), Memory>
@@ -112,7 +112,7 @@ pub(crate) fn both_ended<
                 hub,
                 counters,
                 gate,
-                first_input.as_bytes(),
+                first_input,
                 first_failing,
                 one,
             )
@@ -128,7 +128,7 @@ pub(crate) fn both_ended<
                 hub,
                 counters,
                 gate,
-                second_input.as_bytes(),
+                second_input,
                 second_failing,
                 two,
             )
@@ -154,10 +154,10 @@ fn three_ended<Q: Threads + Wait + Sync, L: Ledger + Send + Sync, G: Gate + Sync
     alloc: Global,
     settings: &Settings,
     gate: &G,
-    first: &str,
+    first: &[u8],
     failing: u64,
-    second: &str,
-    third: &str,
+    second: &[u8],
+    third: &[u8],
     blank: Blank,
 ) -> Result<Ends, Memory>
     requires in_range { IsInRange settings.now }
@@ -182,9 +182,8 @@ fn three_ended<Q: Threads + Wait + Sync, L: Ledger + Send + Sync, G: Gate + Sync
         one,
         two,
     )?;
-    let input = third.as_bytes();
     let (later, _) = ended(
-        rt, alloc, settings, &hub, &counters, &OpenGate, input, 0, three,
+        rt, alloc, settings, &hub, &counters, &OpenGate, third, 0, three,
     )?;
     let floor = hub.sweep(alloc, &mut pass)?;
     let asked = hub.ask(&mut pass);
@@ -215,10 +214,10 @@ pub(crate) fn three_here<Q: Threads + Wait + Sync, G: Gate + Sync>(
         alloc,
         settings,
         gate,
-        first,
+        first.as_bytes(),
         failing,
-        second,
-        third,
+        second.as_bytes(),
+        third.as_bytes(),
         Blank::new(1),
     )
 }

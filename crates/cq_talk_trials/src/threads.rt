@@ -140,8 +140,8 @@ fn four_ended<Q: Threads + Sync, L: Ledger + Send + Sync, R: Wait + Sync, G: Gat
                 hub,
                 counters,
                 gate,
-                (a, 0),
-                (b, 0),
+                (a.as_bytes(), 0),
+                (b.as_bytes(), 0),
                 one,
                 two,
             )
@@ -158,8 +158,8 @@ fn four_ended<Q: Threads + Sync, L: Ledger + Send + Sync, R: Wait + Sync, G: Gat
                 hub,
                 counters,
                 gate,
-                (c, 0),
-                (d, 0),
+                (c.as_bytes(), 0),
+                (d.as_bytes(), 0),
                 three,
                 four,
             )
