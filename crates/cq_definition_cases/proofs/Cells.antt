@@ -1,6 +1,6 @@
 -- What may not become of cells, and of the passes that hold them. A shard is the number of changes that it has applied.
-use Rattle.std.specs.Prelude.{◌≡◌, ◌⊎◌, ℕ, ◌+◌, List, [], ◌∷◌, length, None}
-use Rattle.std.proofs.Common.{arith, ap, refl, sym, ◌∙◌, inl, inr}
+use Rattle.std.specs.Prelude.{◌≡◌, ◌⊎◌, ℕ, ◌+◌, List, [], ◌∷◌, length}
+use Rattle.std.proofs.Common.{arith, ap, refl, inl, inr}
 use Rattle.cq_cells.specs.Callers.{longer}
 use Rattle.cq_cells.specs.Passes.{HasReached, HasShard, MayLeave, PassState, least}
 use Rattle.cq_cells.specs.declared.item.Item.{Item}
