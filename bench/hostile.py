@@ -48,6 +48,8 @@ PROGRAM = str(os.environ.get("CQD", ROOT / "cqd"))
 SERVER = [PROGRAM, "run", "--text-limit", "67108864"]
 STATE = b'{"op":"state"}\n'
 MOST_SECONDS, MOST_ADDRESSES = 60, 8_000_000_000
+# glibc copies and clears memory with instructions that valgrind counts once for each byte, unless it is told not to.
+BY_WORDS = {"GLIBC_TUNABLES": "glibc.cpu.x86_rep_movsb_threshold=1000000000:glibc.cpu.x86_rep_stosb_threshold=1000000000"}
 # How much an exponent may be above its bound's, and the least time and memory that count.
 COUNTED, MEASURED = 0.05, 0.25
 LEAST_SECONDS, LEAST_BYTES = 0.2, 4_000_000
@@ -552,7 +554,7 @@ def counted(options: Iterable[str], lines: Iterable[bytes]) -> tuple[int, int]:
         source.seek(0)
         program = PROGRAM if "CQD" in os.environ else str(ROOT / "out" / "cqd")  # ./cqd is a script that runs it
         command = ["prlimit", f"--cpu={10 * MOST_SECONDS}", "valgrind", "--tool=callgrind", "--callgrind-out-file=/dev/null", program, *SERVER[1:], *options]
-        ran = subprocess.run(command, stdin=source, capture_output=True)
+        ran = subprocess.run(command, stdin=source, capture_output=True, env={**os.environ, **BY_WORDS})
     found = re.search(rb"Collected : (\d+)", ran.stderr)
     if ran.returncode or not found:
         raise Failed(f"exited with {ran.returncode}: {ran.stderr[-80:].decode()!r}")
