@@ -12,7 +12,8 @@ measured, and the others come before. Replies are mentioned if they have more th
 steepest and the most expensive one are printed, unless --each is given.
 
 With --instructions valgrind's callgrind counts instructions in place of time, and the peak of memory is not printed. A second run counts the
-same on any machine, whatever its load, so one server for each size is enough, and as many run at once as there are processors.
+same, whatever else the machine does; only with workers it counts nearly the same. So one server for each size is enough, and as many run at
+once as there are processors.
 
 A bound is a function of n, such as n log n. The exponent of instructions may be the one with which that function grows from n to 4n, and 0.05
 more. That of time or memory may be 0.25 more, and counts only if 0.2 s or 4 MB are reached at 4n: shorter times depend on the caches and on
