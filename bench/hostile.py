@@ -4,27 +4,30 @@
 usage: bench/hostile.py [--rounds N] [--scale F] [--instructions] [--each] [--list] [PART..]
 
 Each line of the table below is a shape: what one client sends to `cqd run`, of size n, and a bound of what that may cost. It is sent to
-a server of its own at the sizes n, 2n and 4n, N times each (3). Only some shapes are tried if PARTs of their names or kinds are given.
+a server of its own at the sizes n, 2n and 4n, N times each (2). Only some shapes are tried if PARTs of their names or kinds are given.
 
 Printed are, for each size, the least CPU time of all threads, and by how much the peak of memory (VmHWM) rises; and the exponents with which
 both grow from n to 4n, which are 1 if what is sent four times as long takes four times as much. Of some shapes only the last requests are
 measured, and the others come before. Replies are mentioned if they have more than a megabyte. Of texts in a language only the plain one, the
 steepest and the most expensive one are printed, unless --each is given.
 
-A bound is a function of n, such as n log n. An exponent may be the one with which that function grows from n to 4n, and 0.25 more, so that
-what a busy machine adds to one of the sizes does not count. A time below 10 ms or a rise below 4 MB at 4n is within any bound. A server that
-takes more than a minute of CPU time, or more than 8 GB of address space, is ended, and over its bound. The script exits with 1 if a shape is
-over its bound, or is accepted or refused although it should not be.
+With --instructions valgrind's callgrind counts instructions in place of time, and the peak of memory is not printed. A second run counts the
+same, whatever else the machine does; only with workers it counts nearly the same. So one server for each size is enough, and as many run at
+once as there are processors.
 
-With --instructions valgrind's callgrind counts instructions in place of time, once for each size, so that neither the machine nor its load
-matters; waiting for memory does not count then, and the peak of memory is not printed. --scale F multiplies all sizes. --list prints the
-table.
+A bound is a function of n, such as n log n. The exponent of instructions may be the one with which that function grows from n to 4n, and 0.05
+more. That of time or memory may be 0.25 more, and counts only if 0.2 s or 4 MB are reached at 4n: shorter times depend on the caches and on
+what else the machine does. A server that takes more than a minute of CPU time (ten with --instructions), or more than 8 GB of address space,
+is ended, and over its bound. The script exits with 1 if a shape is over its bound, or is accepted or refused although it should not be.
+
+--scale F multiplies all sizes. --list prints the table.
 
 The program is ./cqd, or what the variable CQD names.
 """
 from __future__ import annotations
 
 import argparse
+import concurrent.futures
 import functools
 import json
 import math
@@ -46,7 +49,11 @@ PROGRAM = str(os.environ.get("CQD", ROOT / "cqd"))
 SERVER = [PROGRAM, "run", "--text-limit", "67108864"]
 STATE = b'{"op":"state"}\n'
 MOST_SECONDS, MOST_ADDRESSES = 60, 8_000_000_000
-NOISE, LEAST_SECONDS, LEAST_BYTES = 0.25, 0.01, 4_000_000
+# glibc copies and clears memory with instructions that valgrind counts once for each byte, unless it is told not to.
+BY_WORDS = {"GLIBC_TUNABLES": "glibc.cpu.x86_rep_movsb_threshold=1000000000:glibc.cpu.x86_rep_stosb_threshold=1000000000"}
+# How much an exponent may be above its bound's, and the least time and memory that count.
+COUNTED, MEASURED = 0.05, 0.25
+LEAST_SECONDS, LEAST_BYTES = 0.2, 4_000_000
 
 BOUNDS: dict[str, Callable[[float], float]] = {
     "1": lambda n: 1.0,
@@ -76,8 +83,8 @@ class Shape(NamedTuple):
 class Cost(NamedTuple):
     """CPU time in seconds, or instructions; by how many bytes the peak of memory rose; and how many bytes of replies there were."""
     spent: float
-    memory: float = 0.0
-    replies: int = 0
+    memory: float
+    replies: int
 
 
 # ---- requests
@@ -548,8 +555,8 @@ def counted(options: Iterable[str], lines: Iterable[bytes]) -> tuple[int, int]:
         source.write(b"".join(lines))
         source.seek(0)
         program = PROGRAM if "CQD" in os.environ else str(ROOT / "out" / "cqd")  # ./cqd is a script that runs it
-        command = ["valgrind", "--tool=callgrind", "--callgrind-out-file=/dev/null", program, *SERVER[1:], *options]
-        ran = subprocess.run(command, stdin=source, capture_output=True)
+        command = ["prlimit", f"--cpu={10 * MOST_SECONDS}", "valgrind", "--tool=callgrind", "--callgrind-out-file=/dev/null", program, *SERVER[1:], *options]
+        ran = subprocess.run(command, stdin=source, capture_output=True, env={**os.environ, **BY_WORDS})
     found = re.search(rb"Collected : (\d+)", ran.stderr)
     if ran.returncode or not found:
         raise Failed(f"exited with {ran.returncode}: {ran.stderr[-80:].decode()!r}")
@@ -563,7 +570,7 @@ counted_before = functools.cache(counted)
 def instructions(shape: Shape, sent: Sent) -> Cost:
     without, _ = counted_before(shape.options, (STATE, *sent.before))
     all_, replies = counted(shape.options, [STATE, *sent.before, *sent.measured])
-    return Cost(all_ - without, 0.0, replies)
+    return Cost(all_ - without, 0, replies)
 
 
 # ---- what is printed
@@ -571,6 +578,7 @@ def instructions(shape: Shape, sent: Sent) -> Cost:
 class Grown(NamedTuple):
     """A shape, its least costs at each size, and what a server did instead of replying as it should."""
     shape: Shape
+    is_counted: bool
     sizes: list[int]
     costs: list[Cost]
     fault: str = ""
@@ -591,62 +599,63 @@ class Grown(NamedTuple):
     def is_over(self) -> bool:
         if self.fault:
             return True
-        allowed = self.exponent([BOUNDS[self.shape.bound](size) for size in self.sizes]) + NOISE
-        spent, memory = self.spent(), self.memory()
-        return spent[-1] > LEAST_SECONDS and self.exponent(spent) > allowed or memory[-1] > LEAST_BYTES and self.exponent(memory) > allowed
+        bound = self.exponent([BOUNDS[self.shape.bound](size) for size in self.sizes])
+        if self.is_counted:
+            return self.exponent(self.spent()) > bound + COUNTED
+        return any(it[-1] > least and self.exponent(it) > bound + MEASURED for it, least in ((self.spent(), LEAST_SECONDS), (self.memory(), LEAST_BYTES)))
 
 
-def grown(shape: Shape, rounds: int, scale: float, of: Callable[[Shape, Sent], Cost]) -> Grown:
+def grown(shape: Shape, rounds: int, scale: float, is_counted: bool) -> Grown:
     sizes, costs = [max(round(shape.size * scale), 1) * times for times in (1, 2, 4)], []
     try:
         for size in sizes:
             sent = shape.sent(size)
-            some = [of(shape, sent) for _ in range(rounds)]
+            some = [instructions(shape, sent)] if is_counted else [cost(shape, sent) for _ in range(rounds)]
             costs.append(Cost(min(it.spent for it in some), min(it.memory for it in some), some[0].replies))
     except Failed as why:
-        return Grown(shape, sizes, costs, f"at {sizes[len(costs)]:,}: {why}")
-    return Grown(shape, sizes, costs)
+        return Grown(shape, is_counted, sizes, costs, f"at {sizes[len(costs)]:,}: {why}")
+    return Grown(shape, is_counted, sizes, costs)
 
 
 def head(kind: str, is_counted: bool) -> None:
     print(f"{kind:72}{'n':>10}{'instructions' if is_counted else 'CPU time':>16} at n, 2n, 4n {'':8}{'' if is_counted else 'memory at n, 2n, 4n'}", flush=True)
 
 
-def figures(it: Grown, is_counted: bool) -> str:
+def figures(it: Grown) -> str:
     spent, memory = it.spent(), it.memory()
-    told = "".join(f"{one / 1e6:9,.1f}" if is_counted else f"{one:9.3f}" for one in spent) + (" M" if is_counted else " s") + f"  n^{it.exponent(spent):.2f}"
+    told = "".join(f"{one / 1e6:9,.1f}" if it.is_counted else f"{one:9.3f}" for one in spent) + (" M" if it.is_counted else " s") + f"  n^{it.exponent(spent):.2f}"
     if memory[-1] > LEAST_BYTES:
         told += "".join(f"{one / 1e6:7.0f}" for one in memory) + f" MB  n^{it.exponent(memory):.2f}"
-    elif not is_counted:
+    elif not it.is_counted:
         told += " " * 32
     if it.costs[-1].replies > 1_000_000:
         told += "  replies" + "".join(f" {one.replies / 1e6:.0f}" for one in it.costs) + " MB"
     return told
 
 
-def show(it: Grown, is_counted: bool, name: str = "") -> None:
+def show(it: Grown, name: str = "") -> None:
     end = f"  {it.shape.bound}" + ("  OVER ITS BOUND" if it.is_over() else "")
-    print(f"  {name or it.shape.name:68}{it.sizes[0]:>12,}  {it.fault or figures(it, is_counted)}{end}", flush=True)
+    print(f"  {name or it.shape.name:68}{it.sizes[0]:>12,}  {it.fault or figures(it)}{end}", flush=True)
 
 
-def show_texts(all_: list[Grown], is_counted: bool) -> None:
+def show_texts(all_: list[Grown]) -> None:
     """The plain text, and of the others those that are over their bound, the steepest and the most expensive."""
     plain, *others = all_
-    show(plain, is_counted)
+    show(plain)
     for it in others:
         if it.is_over():
-            show(it, is_counted)
+            show(it)
     good = [it for it in others if not it.fault]
     if good and not plain.fault:
         steep, dear = max(good, key=lambda it: it.exponent(it.spent())), max(good, key=Grown.each)
-        show(steep, is_counted, f"the steepest: {steep.shape.name}")
-        show(dear, is_counted, f"the most expensive, {dear.each() / plain.each():.1f} times the plain one: {dear.shape.name}")
+        show(steep, f"the steepest: {steep.shape.name}")
+        show(dear, f"the most expensive, {dear.each() / plain.each():.1f} times the plain one: {dear.shape.name}")
 
 
 def main() -> int:
     parser = argparse.ArgumentParser(description=__doc__, formatter_class=argparse.RawDescriptionHelpFormatter, usage=argparse.SUPPRESS)
     parser.add_argument("parts", nargs="*", help=argparse.SUPPRESS)
-    parser.add_argument("--rounds", type=int, default=3, help=argparse.SUPPRESS)
+    parser.add_argument("--rounds", type=int, default=2, help=argparse.SUPPRESS)
     parser.add_argument("--scale", type=float, default=1.0, help=argparse.SUPPRESS)
     for name in ("instructions", "each", "list"):
         parser.add_argument(f"--{name}", action="store_true", help=argparse.SUPPRESS)
@@ -656,20 +665,21 @@ def main() -> int:
         for it in table:
             print(f"{it.kind}: {it.name}, from {it.size:,} on, bound {it.bound}")
         return 0
-    of, rounds = (instructions, 1) if given.instructions else (cost, given.rounds)
     over = 0
-    for kind in dict.fromkeys(it.kind for it in table):
-        shapes = [it for it in table if it.kind == kind]
-        are_few = given.each or not kind.startswith("texts") or len(shapes) < 4
-        head(kind if are_few else f"{kind}, {len(shapes)} of them", given.instructions)
-        all_ = []
-        for shape in shapes:
-            all_.append(grown(shape, rounds, given.scale, of))
-            if are_few:
-                show(all_[-1], given.instructions)
-        if not are_few:
-            show_texts(all_, given.instructions)
-        over += sum(it.is_over() for it in all_)
+    # servers whose time is measured run one after the other
+    with concurrent.futures.ThreadPoolExecutor(len(os.sched_getaffinity(0)) if given.instructions else 1) as together:
+        for kind in dict.fromkeys(it.kind for it in table):
+            shapes = [it for it in table if it.kind == kind]
+            are_few = given.each or not kind.startswith("texts") or len(shapes) < 4
+            head(kind if are_few else f"{kind}, {len(shapes)} of them", given.instructions)
+            all_ = []
+            for it in together.map(lambda shape: grown(shape, given.rounds, given.scale, given.instructions), shapes):
+                all_.append(it)
+                over += it.is_over()
+                if are_few:
+                    show(it)
+            if not are_few:
+                show_texts(all_)
     print(f"{len(table)} shapes, {over} over their bound")
     return 1 if over else 0
 

@@ -3,16 +3,21 @@
 
 usage: bench/limits.py [--uploads N] [--paths N] [--clients N] [--workers N] [--changes N] [--every N] [--at-once N]
 
-Each client, in a process of its own, uploads small files to its own share of the paths in random order, --at-once of them at a time, and
-asks for `files` of its project after each --every of them. The server keeps at most --changes changes. With 4 clients, 500 paths,
---every 100 and --changes 2000, at most 500 are needed, 400 are between two queries of all clients, and as many again may come while a
-view is open, so none may be refused.
+First the server is filled twelve times: files of a project of their own are uploaded without a query until it refuses one, since it keeps
+at most --changes changes. Its peak of memory is then one that its limit allows. All these files are dropped.
+
+Then each client, in a process of its own, uploads small files to its own share of the paths in random order, --at-once of them at a time,
+and asks for `files` of its project after each --every of them. With 4 clients, 500 paths, --every 100 and --changes 2000, at most 500
+changes are needed, 400 are between two queries of all clients, and as many again may come while a view is open, so none may be refused.
 
 It checks that each upload is accepted, with a number that rises; and that each answer includes the client's own last upload and has, for
 each of its paths, the change that the client uploaded there last. Printed are, for each tenth of the uploads, the median and the 99th
 percentile of the time of an upload's reply and of a query's, and the peak of the server's memory (VmHWM) at its end; and the numbers of
 `state` at the end. It exits with 1 if anything differs, if the peak grew by more than a twentieth after the first tenth, or if the median
 time of a query's or an upload's reply in the last tenth is more than half above that of the second.
+
+The server has one arena of glibc's malloc, or as many as the variable MALLOC_ARENA_MAX says. By default glibc makes an arena for each
+thread. What one thread allocates and another frees goes back to the arena of the first, so all arenas together take longer to become level.
 
 The program is ./cqd, or what the variable CQD names.
 """
@@ -32,7 +37,7 @@ from load import Connection, free_address, must, percentile
 
 ROOT = Path(__file__).resolve().parent.parent
 PROGRAM = str(Path(os.environ.get("CQD", ROOT / "cqd")).resolve())
-PARTS = 10
+PARTS, FILLS = 10, 12
 
 
 def put(project, path, text):
@@ -96,6 +101,29 @@ def run_client(address, number, paths, every, at_once, uploads, start, told):
         start.abort()
 
 
+def fill(address, given):
+    """Fills the server to its limit again and again, and empties it. Returns how many changes were accepted."""
+    connections = [Connection(address) for _ in range(given.clients)]
+    paths, drawn = [f"f{path:03}" for path in range(given.paths)], random.Random(0)
+    for _ in range(FILLS):
+        replies = [{"ok": True}]
+        while all(it["ok"] for it in replies):
+            for it in connections:
+                it.send(*(put("full", drawn.choice(paths), f"x {drawn.randrange(10**6)} y z") for _ in range(given.at_once)))
+            replies = [it.receive() for it in connections for _ in range(given.at_once)]
+            must(all(it["ok"] or it["error"] == "full-changes" for it in replies), "uploads", replies)
+        connections[0].ask({"op": "files", "project": "full"})
+    for path in paths:
+        drop = {"op": "drop", "project": "full", "path": path}
+        reply = connections[0].ask(drop)
+        must(reply["ok"], drop, reply)
+    connections[0].ask({"op": "files", "project": "full"})
+    accepted = connections[0].ask({"op": "state"})["accepted"]
+    for it in connections:
+        it.close()
+    return accepted
+
+
 def peak(process):
     for line in Path(f"/proc/{process.pid}/status").read_text().splitlines():
         if line.startswith("VmHWM:"):
@@ -143,8 +171,8 @@ def parts_of(process, clients, start, told):
 def run(given):
     address = free_address()
     words = [PROGRAM, "listen", address, "--workers", given.workers, "--sessions", given.clients + 1,
-             "--connections", given.clients + 1, "--chunk", 2, "--change-limit", given.changes]
-    process = subprocess.Popen([str(word) for word in words])
+             "--connections", 2 * given.clients + 1, "--chunk", 2, "--change-limit", given.changes]
+    process = subprocess.Popen([str(word) for word in words], env={"MALLOC_ARENA_MAX": "1", **os.environ})
     share, paths = given.uploads // given.clients, given.paths // given.clients
     start, told = multiprocessing.Barrier(given.clients + 1), multiprocessing.Queue()
     clients = [multiprocessing.Process(target=run_client, args=(address, number, paths, given.every, given.at_once, share, start, told))
@@ -152,6 +180,8 @@ def run(given):
     print(f"{share * given.clients} uploads over {paths * given.clients} paths by {given.clients} clients, {given.workers} workers,"
           f" at most {given.changes} changes kept, a query after each {given.every}; by tenths:")
     try:
+        before = fill(address, given)
+        print(f"  filled {FILLS} times: peak {peak(process):6.1f} MiB")
         for client in clients:
             client.start()
         parts = list(parts_of(process, given.clients, start, told))
@@ -164,7 +194,7 @@ def run(given):
             if client.is_alive():
                 client.terminate()
         process.kill()
-    accepted = share // PARTS * PARTS * given.clients
+    accepted = before + share // PARTS * PARTS * given.clients
     must(state.get("accepted") == accepted, accepted, state)
     print(f"  at the end: {json.dumps(state)}")
     must(parts[-1].memory <= parts[0].memory * 1.05, "memory", f"{parts[-1].memory:.1f} MiB, {parts[0].memory:.1f} MiB after the first tenth")

@@ -63,9 +63,9 @@ class Notes:
             # nobody reads notes any more, and the call's answer does not depend on them; Python would try once more at its end
             os.dup2(os.open(os.devnull, os.O_WRONLY), sys.stderr.fileno())
 
-    def each(self, lines: Sequence[str], noun: str) -> None:
-        """Says these lines, of which each is about one of what `noun` counts; if there are many, the first of them."""
+    def each(self, lines: Sequence[str], what: str) -> None:
+        """Says these lines, each about a file, as in "left out"; if there are many, the first of them, and that `what` is so of more files."""
         for line in lines[:MOST_NAMED]:
             self.say(line)
         if len(lines) > MOST_NAMED:
-            self.say(f"and {counted(len(lines) - MOST_NAMED, 'more ' + noun)}")
+            self.say(f"and {counted(len(lines) - MOST_NAMED, 'more file')} {what}")

@@ -149,12 +149,12 @@ def lost_of(reply: Reply, done: Upload) -> list[str]:
 
 def tell(done: Upload, notes: Notes) -> None:
     """Says which files were not uploaded, and which have no tokens."""
-    notes.each([f"{skipped.path}: left out: {skipped.why}" for skipped in done.skipped], "file left out")
+    notes.each([f"{skipped.path}: left out: {skipped.why}" for skipped in done.skipped], "left out")
     if done.binary:
         notes.say(f"{counted(len(done.binary), 'binary file')} passed over, the first is {done.binary[0]}")
     if done.alike:
         notes.say(f"{counted(len(done.alike), 'file')} passed over that another one equals, the first is {done.alike[0]}")
-    notes.each(list(faults_of(done)), "file without tokens")
+    notes.each(list(faults_of(done)), "without tokens")
     others = len(done.files) - len(done.known)
     if others > 0:
         notes.say(f"{counted(others, 'file')} of the project that this call did not upload")
