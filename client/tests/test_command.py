@@ -117,6 +117,8 @@ def test_a_list_on_a_standard_input_that_is_closed(failing: Callable[[str], Clie
 
 
 def test_signals_end_the_call_and_its_server(failing: Callable[[str], Client], tmp_path: Path) -> None:
+    # a script's shell lets what it starts in the background ignore SIGINT, and so would the client
+    signal.signal(signal.SIGINT, signal.default_int_handler)
     (tmp_path / "a.c").write_text("int a;\n")
     client = failing("is silent")
     for number in (signal.SIGTERM, signal.SIGINT):
