@@ -12,9 +12,9 @@ import tempfile
 from pathlib import Path
 from typing import Any, Optional
 
+from conftest import HANG_SECONDS
+
 PROGRAM = shutil.which("chromium")
-# How long Chromium may be silent while it is waited for.
-SECONDS = 120
 
 
 class Chromium:
@@ -65,8 +65,8 @@ class Chromium:
 
     def message(self) -> dict[str, Any]:
         while b"\0" not in self.rest:
-            if not select.select([self.replies], [], [], SECONDS)[0]:
-                raise EOFError(f"Chromium has said nothing for {SECONDS} seconds")
+            if not select.select([self.replies], [], [], HANG_SECONDS)[0]:
+                raise EOFError(f"Chromium has said nothing for {HANG_SECONDS} seconds")
             more = os.read(self.replies, 1 << 20)
             if not more:
                 raise EOFError("Chromium ended")

@@ -18,6 +18,8 @@ CLIENT = Path(__file__).resolve().parents[1]
 BUILT = CLIENT.parent / "crates" / "cqd" / "out" / "cqd"
 COMPILED = tempfile.TemporaryDirectory()
 FAILING = Path(__file__).with_name("failing_server.py")
+# A call that takes longer hangs. It is less than the client's own time limit, but minutes, which a call may need beside proofs.
+HANG_SECONDS = 500
 
 
 @pytest.fixture(scope="session")
@@ -40,9 +42,9 @@ class Client:
         self.environment |= {"CQD": program, "PYTHONPATH": str(CLIENT / "src"), "PYTHONPYCACHEPREFIX": COMPILED.name,
                              "GIT_CONFIG_GLOBAL": os.devnull, "GIT_CONFIG_SYSTEM": os.devnull}
 
-    def __call__(self, *words: str, stdin: bytes = b"", seconds: float = 120, **environment: str) -> subprocess.CompletedProcess[str]:
+    def __call__(self, *words: str, stdin: bytes = b"", **environment: str) -> subprocess.CompletedProcess[str]:
         ran = subprocess.run([sys.executable, "-m", "cqd_client", *words], cwd=self.folder, input=stdin, capture_output=True,
-                             timeout=seconds, env={**self.environment, **environment}, check=False)
+                             timeout=HANG_SECONDS, env={**self.environment, **environment}, check=False)
         out, err = ran.stdout.decode("utf-8"), ran.stderr.decode("utf-8")
         assert "Traceback" not in err, err
         # whatever else happens, a log reader who sees OK sees a call that passed
@@ -122,7 +124,8 @@ class Listening:
 
     def start(self) -> None:
         self.process = subprocess.Popen([self.program, "listen", self.addr, *self.words])
-        for _ in range(200):
+        limit = time.monotonic() + HANG_SECONDS
+        while time.monotonic() < limit and self.process.poll() is None:
             with socket.socket() as tried:
                 if tried.connect_ex(("127.0.0.1", self.port)) == 0:
                     return

@@ -144,6 +144,12 @@ def test_outside_of_git(client: Client, tmp_path: Path) -> None:
     assert ran.returncode == 2 and "no git work tree" in ran.stderr
 
 
+def test_without_git(client: Client, branched: Repository, tmp_path: Path) -> None:
+    branched.write(".gitignore", "*.o\n")
+    ran = client("check", "--base", "main", PATH=str(tmp_path))
+    assert (ran.returncode, ran.stdout) == (2, "") and ran.stderr == "cqd-client: git is needed to find what has changed: install it\n"
+
+
 def test_hostile_names_and_lines(client: Client, branched: Repository) -> None:
     names = ["my file.c", "tab\there.c", 'quo"te.c', "bäck\\slash.c", "-dash.c", "b/b.c", "+++ b"]
     for name in names:

@@ -13,7 +13,7 @@ import pytest
 
 from cqd_client import command, options, outputs
 from cqd_client.faults import MISUSED
-from conftest import FAILING, Client
+from conftest import FAILING, HANG_SECONDS, Client
 
 
 def test_every_command_has_help(capsys: pytest.CaptureFixture[str]) -> None:
@@ -127,5 +127,5 @@ def test_signals_end_the_call_and_its_server(failing: Callable[[str], Client], t
         while not any(FAILING.name in Path(f"/proc/{child}/cmdline").read_text() for child in children.read_text().split()):
             time.sleep(0.1)
         started.send_signal(number)
-        out, err = started.communicate(timeout=60)
+        out, err = started.communicate(timeout=HANG_SECONDS)
         assert (started.returncode, out) == (2, b"") and b"interrupted" in err and b"Traceback" not in err

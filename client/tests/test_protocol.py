@@ -49,7 +49,7 @@ def test_no_answer_is_2(failing: Callable[[str], Client], tmp_path: Path, mode: 
 @pytest.mark.parametrize("mode", ["is silent", "trickles", "stays"])
 def test_a_server_that_does_not_answer_is_left(failing: Callable[[str], Client], tmp_path: Path, mode: str) -> None:
     folder_of(tmp_path)
-    ran = failing(mode)("verdict", ".", "--gate", "lines>100", "--timeout", "1", seconds=30)
+    ran = failing(mode)("verdict", ".", "--gate", "lines>100", "--timeout", "1")
     assert (ran.returncode, ran.stdout) == (2, "")
     assert "--timeout" in ran.stderr or "1 second" in ran.stderr or "not ended" in ran.stderr
 
@@ -57,7 +57,7 @@ def test_a_server_that_does_not_answer_is_left(failing: Callable[[str], Client],
 @pytest.mark.parametrize("mode", ["is out of memory", "never finishes"])
 def test_what_can_wait_is_asked_again_and_then_refused(failing: Callable[[str], Client], tmp_path: Path, mode: str) -> None:
     folder_of(tmp_path)
-    ran = failing(mode)("verdict", ".", "--gate", "lines>100", seconds=60)
+    ran = failing(mode)("verdict", ".", "--gate", "lines>100")
     assert ran.returncode == 2
     assert "memory" in ran.stderr or "not finished" in ran.stderr
 

@@ -219,7 +219,7 @@ def test_more_than_a_server_holds(client: Client, tmp_path: Path) -> None:
         file.parent.mkdir(exist_ok=True)
         with open(file, "wb") as sparse:
             sparse.truncate(1_000_000)
-    ran = client("put", ".", seconds=20)
+    ran = client("put", ".")
     assert ran.returncode == 2 and len(ran.stderr.splitlines()) == 1
     assert "--exclude '/main/'" in ran.stderr
 

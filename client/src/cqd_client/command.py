@@ -215,6 +215,8 @@ def check_options(options: argparse.Namespace, metrics: Sequence[str]) -> None:
     for metric in metrics:
         if metric not in JUDGED:
             raise Misuse(f"check judges changed lines, and {metric} is not known of lines; its metrics are {', '.join(JUDGED)}")
+    if not git.is_installed():
+        raise Fault("git is needed to find what has changed: install it")
 
 
 def options_of(words: Optional[Sequence[str]]) -> argparse.Namespace:

@@ -2,6 +2,7 @@
 from __future__ import annotations
 
 import os
+import shutil
 import subprocess
 from pathlib import Path
 from typing import Optional
@@ -11,6 +12,10 @@ from .faults import Fault
 
 class GitFault(Fault):
     """What git answered instead of what it was asked."""
+
+
+def is_installed() -> bool:
+    return shutil.which("git") is not None
 
 
 def environment() -> dict[str, str]:
