@@ -59,7 +59,8 @@ def uploads(files, others=0):
 
 def counted(requests):
     data = "".join(json.dumps(request) + "\n" for request in requests).encode()
-    words = ["valgrind", "--tool=callgrind", "--callgrind-out-file=/dev/null", PROGRAM, "run", *OPTIONS]
+    program = PROGRAM if "CQD" in os.environ else ROOT / "out" / "cqd"  # ./cqd is a script that runs it
+    words = ["valgrind", "--tool=callgrind", "--callgrind-out-file=/dev/null", program, "run", *OPTIONS]
     ran = subprocess.run(words, input=data, capture_output=True, check=True)
     return int(re.search(rb"Collected : (\d+)", ran.stderr)[1])
 
