@@ -11,12 +11,10 @@ import collections
 import json
 import sys
 
-from model import Change, History, tokens
+from model import NAMES, Change, History, tokens
 
 PATHS = ["a.txt", "src/a.java", "src/b"]
 SCOPES = ["**", "src/**", "*.txt", "s*/?", "**/a.*", "src/b/**"]
-METRICS = ["complexity", "duplicated_blocks", "duplicated_files", "duplicated_lines", "duplicated_lines_density", "files", "lines",
-           "ncloc"]
 CHUNK, SHARDS, CHANGES, BYTES = 2, 2, 32, 200
 WORD = (1 << 64) - 1
 JSON, OP = {"code": 1, "error": "json", "ok": False}, {"code": 2, "error": "op", "ok": False}
@@ -124,10 +122,11 @@ class Script:
         kept = [it for number, it in enumerate(self.changes, 1) if self.is_kept(number)]
         if len(kept) >= CHANGES:
             return {"code": 10, "error": "full-changes", "ok": False}
-        if sum(len(it.get("text", "")) for it in [*kept, request]) > BYTES and request["op"] == "put":
+        if request["op"] == "put" and sum(len(it.get("text", "")) for it in [*kept, request]) > BYTES:
             return {"code": 11, "error": "full-text", "ok": False}
         self.changes.append(request)
-        self.history.add(len(self.changes), Change(project, path, request.get("lang"), request.get("text"), request.get("conditions")))
+        change = Change(project, path, request.get("lang"), request.get("text"), request.get("conditions"))
+        self.history.add(len(self.changes), change)
         return value(len(self.changes))
 
     def ask(self, by):
@@ -204,7 +203,7 @@ def drawn_change(draws):
     """Six uploads of nine, two drops and a gate."""
     of_nine, project = draws.below(9), drawn_project(draws)
     if of_nine == 8:
-        conditions = [{"metric": draws.of(METRICS), "op": draws.of(["GT", "GT", "LT"]), "error": draws.below(4)}
+        conditions = [{"metric": draws.of(NAMES), "op": draws.of(["GT", "GT", "LT"]), "error": draws.below(4)}
                       for _ in range(draws.below(4))]
         return {"op": "gate", "project": project, "conditions": conditions}
     if of_nine > 5:
@@ -297,11 +296,14 @@ def drawn_script(key_bits, seed):
 
 
 def kind_of(line, outcome):
-    """What an outcome is counted as."""
+    """What an outcome is counted as: a refusal, whether a step is allowed, or the first member that it has."""
     if "error" in outcome:
         return f"refused: {outcome['error']}"
-    told = next((f"{name} {json.dumps(it)[:2]}" for name, it in outcome.items() if name != "ok"), str(outcome["ok"]))
-    return f"{json.loads(line)['step']}: {told if not told.startswith('value') or '[' in told or 'nu' in told else 'value'}"
+    step = json.loads(line)["step"]
+    for name, told in outcome.items():
+        if name not in ("ok", "total", "version"):
+            return f"{step}: no {name}" if told in (None, []) else f"{step}: {name}"
+    return f"{step}: {'allowed' if outcome['ok'] else 'not allowed'}"
 
 
 def main():
@@ -313,7 +315,7 @@ def main():
         print(f"\n# Seed {seed}.")
         print(f"$ drive --chunk {CHUNK} --shards {SHARDS} --key-bits {key_bits} --change-limit {CHANGES} --text-limit {BYTES}")
         for line, outcome in drawn_script(key_bits, seed):
-            kinds[kind_of(line, outcome) if outcome.get("code") != 13 else "refused: long"] += 1
+            kinds[kind_of(line, outcome)] += 1
             print(f"{line} -> {json.dumps(outcome, ensure_ascii=False, separators=(',', ':'), sort_keys=True)}")
     for kind, count in sorted(kinds.items()):
         print(f"{count:5} {kind}", file=sys.stderr)
