@@ -75,7 +75,7 @@ def code_of(lang, word):
 
 
 class Script:
-    """What was accepted, done, taken, applied, opened and given up. Each step is a method, which returns its outcome."""
+    """What was accepted, done, taken, applied, opened and given up. Each step is a method of its name, which returns its outcome."""
 
     def __init__(self, key_bits):
         self.mask = (1 << key_bits) - 1
