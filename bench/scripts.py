@@ -4,7 +4,7 @@
 usage: bench/scripts.py [SEED..] > FILE.cases
 
 Prints for each seed (30, 70 and 110 if none is given) a script of about 300 steps in the form that cases/run reads, and on standard
-error how often each outcome comes. cases/scripts.cases was drawn in this way. The model rests on docs/PROTOCOL.md and has no shards:
+error how often each outcome comes. cases/drawn_scripts.cases was drawn in this way. The model rests on docs/PROTOCOL.md and has no shards:
 what is read of one is computed from the files, and so is each reply (`model.py`).
 """
 import collections
