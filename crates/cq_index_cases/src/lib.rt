@@ -9,6 +9,6 @@ mod hubs;
 #[cfg(test)]
 mod made;
 #[cfg(test)]
-mod sweeps;
+mod shared;
 #[cfg(test)]
-mod threads;
+mod sweeps;

@@ -5,7 +5,7 @@ ghost use Rattle.cq_shared.specs.SharedPasses.{IsPassOf, settings_of};
 use crate::deeds::{Came, Deed};
 use crate::hubs::{Few, few, read};
 use crate::made::{Apart, Made, Project, SETTINGS, accept, finish};
-use crate::threads::serve;
+use crate::shared::serve;
 use cq_base::{Entry, Memory};
 use cq_board::Refused;
 use cq_chain::Pass;
