@@ -3,7 +3,7 @@ use Rattle.cq_history.specs.State.{view_of}
 use Rattle.cq_history.proofs.Bounds.{no_view}
 use Rattle.cq_cells.specs.Passes.{by_of}
 use Rattle.cq_shared.specs.SharedPasses.{callers_of, state_of}
-use Rattle.cq_index_cases.proofs.threads.serve.Goals as goal
+use Rattle.cq_index_cases.proofs.shared.serve.Goals as goal
 
 pub carry_out-requires : goal.carry_out-requires
 carry_out-requires g c =
