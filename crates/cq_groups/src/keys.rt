@@ -1,6 +1,6 @@
-ghost use Rattle.std.specs.Prelude.{◌<◌, length, IfOk, Contains};
+ghost use Rattle.std.specs.Prelude.{◌<◌, ◌≤◌, ◌+◌, ◌↔◌, length, IfOk, IsTrue, Contains};
 ghost use Rattle.cq_tokens.specs.Parts.{tokens_in, keys_in};
-ghost use Rattle.cq_groups.specs.Listing.{IsKey, IsKeyIn, AreAllRising};
+ghost use Rattle.cq_groups.specs.Listing.{IsKey, IsKeyIn, IsRepeatedKey, AreAllRising, AreSoMany, GoesOn, times_in};
 
 use cq_base::Memory;
 use cq_tokens::{Corpus, Files};
@@ -16,15 +16,52 @@ fn different(keys: Vec<u64>) -> Vec<u64>
     keys
 }
 
-/// The different keys of the files' windows, in order.
-pub(crate) fn all_keys<F: Files>(alloc: Global, corpus: &Corpus<'_, F>) -> Result<Vec<u64>, Memory>
-    ensures { IfOk result (λ keys. AreAllRising (IsKey (keys_in corpus.now)) keys.items) }
+/// Whether there is a key at the place, equal to the one before it.
+fn goes_on(keys: &[u64], at: usize) -> bool
+    ensures { IsTrue result ↔ GoesOn keys.now at }
+{
+    0 < at && at < keys.len() && keys[at - 1] == keys[at]
+}
+
+/// The keys that are there more than once, in order, and how many are there once. It costs a sort.
+fn parted(alloc: Global, keys: Vec<u64>) -> Result<(Vec<u64>, u64), Memory>
+    ensures repeated { IfOk result
+        (λ found. AreAllRising (λ k. 2 ≤ times_in keys.items k) found.0.items) }
+    ensures number { IfOk result
+        (λ found. AreSoMany (Contains keys.items) (length found.0.items + found.1)) }
+{
+    let mut keys = keys;
+    keys.sort_unstable();
+    let mut repeated = Vec::new(alloc);
+    let mut lone = 0;
+    for at in 0..keys.len() {
+        if !goes_on(&keys, at) {
+            if goes_on(&keys, at + 1) {
+                repeated.push(keys[at])?;
+            } else {
+                lone += 1;
+            }
+        }
+    }
+    Ok((repeated, lone))
+}
+
+/// The keys that windows at two places have, in order, and how many keys only one window has. Their list of all keys is
+/// given up.
+pub(crate) fn parted_keys<F: Files>(
+    alloc: Global,
+    corpus: &Corpus<'_, F>,
+) -> Result<(Vec<u64>, u64), Memory>
+    ensures repeated { IfOk result
+        (λ found. AreAllRising (IsRepeatedKey (keys_in corpus.now)) found.0.items) }
+    ensures number { IfOk result
+        (λ found. AreSoMany (IsKey (keys_in corpus.now)) (length found.0.items + found.1)) }
 {
     let mut keys = Vec::new(alloc);
     for file in 0..corpus.len() {
         keys.extend_from_slice(corpus.keys(file))?;
     }
-    Ok(different(keys))
+    parted(alloc, keys)
 }
 
 /// The different keys of a file's windows, in order.

@@ -88,4 +88,8 @@ impl<'a, F: Files> Buckets for PlainBuckets<'a, F> {
         self.asked = self.asked.saturating_add(1);
         entries_of(alloc, self.files, key)
     }
+
+    fn pass_over(&mut self, keys: u64) {
+        self.asked = self.asked.saturating_add(keys);
+    }
 }
