@@ -1,4 +1,5 @@
 ghost use Rattle.std.specs.Prelude.{◌<◌, ◌≤◌, ◌+◌, ◌↔◌, length, IfOk, IsTrue, Contains};
+ghost use Rattle.std.specs.List.Sorted.{IsNonDecreasing};
 ghost use Rattle.cq_tokens.specs.Parts.{tokens_in, keys_in};
 ghost use Rattle.cq_groups.specs.Listing.{IsKey, IsKeyIn, IsRepeatedKey, AreAllRising, AreSoMany, GoesOn, times_in};
 
@@ -23,20 +24,19 @@ fn goes_on(keys: &[u64], at: usize) -> bool
     0 < at && at < keys.len() && keys[at - 1] == keys[at]
 }
 
-/// The keys that are there more than once, in order, and how many are there once. It costs a sort.
-fn parted(alloc: Global, keys: Vec<u64>) -> Result<(Vec<u64>, u64), Memory>
+/// Of keys in order, those that are there more than once, each once, and how many are there once.
+fn parted(alloc: Global, keys: &[u64]) -> Result<(Vec<u64>, u64), Memory>
+    requires { IsNonDecreasing keys.now }
     ensures repeated { IfOk result
-        (λ found. AreAllRising (λ k. 2 ≤ times_in keys.items k) found.0.items) }
+        (λ found. AreAllRising (λ k. 2 ≤ times_in keys.now k) found.0.items) }
     ensures number { IfOk result
-        (λ found. AreSoMany (Contains keys.items) (length found.0.items + found.1)) }
+        (λ found. AreSoMany (Contains keys.now) (length found.0.items + found.1)) }
 {
-    let mut keys = keys;
-    keys.sort_unstable();
     let mut repeated = Vec::new(alloc);
     let mut lone = 0;
     for at in 0..keys.len() {
-        if !goes_on(&keys, at) {
-            if goes_on(&keys, at + 1) {
+        if !goes_on(keys, at) {
+            if goes_on(keys, at + 1) {
                 repeated.push(keys[at])?;
             } else {
                 lone += 1;
@@ -46,8 +46,7 @@ fn parted(alloc: Global, keys: Vec<u64>) -> Result<(Vec<u64>, u64), Memory>
     Ok((repeated, lone))
 }
 
-/// The keys that windows at two places have, in order, and how many keys only one window has. Their list of all keys is
-/// given up.
+/// The keys that windows at two places have, in order, and how many keys only one window has. It costs a sort of all keys.
 pub(crate) fn parted_keys<F: Files>(
     alloc: Global,
     corpus: &Corpus<'_, F>,
@@ -61,7 +60,8 @@ pub(crate) fn parted_keys<F: Files>(
     for file in 0..corpus.len() {
         keys.extend_from_slice(corpus.keys(file))?;
     }
-    parted(alloc, keys)
+    keys.sort_unstable();
+    parted(alloc, &keys)
 }
 
 /// The different keys of a file's windows, in order.
