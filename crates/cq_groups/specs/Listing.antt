@@ -1,4 +1,4 @@
--- Groups and windows by their keys, and how often an index was asked.
+-- Groups and windows by their keys, and how many questions to an index were counted.
 use Rattle.std.specs.Prelude.{◌≡◌, ◌≢◌, ◌⊎◌, ℕ, ◌+◌, ◌-◌, ◌^◌, ◌<◌, ◌≤◌, min, Bool, false, ◌||◌, ◌==◌, List, [], ◌∷◌, length, slice_get, slice_index, Some, Any, Contains, count_by}
 use Rattle.std.specs.declared.sync.ledger.Ledger as ledger
 use Rattle.cq_base.specs.declared.entry.Entry.{Entry}
@@ -78,7 +78,7 @@ module _ {F R : Type 0} {f : files.Ghosts F R} {g : ledger.Ghosts R} where
   abbrev pub AreGroupsOfKeys : Corpus F R f g → ℕ → List ℕ → List Group → Type 0
   AreGroupsOfKeys corpus least ks groups = AreAllOnce (IsGroupOfKeys (tokens_in corpus.files) (keys_in corpus) least ks) groups
 
-  -- from one count of questions to another, it was asked once for each key of a window
+  -- from one count of questions to another, one was counted for each key of a window
   abbrev pub AsksEachKey : Corpus F R f g → ℕ → ℕ → Type 0
   AsksEachKey corpus old new = (ks : List ℕ) → AreAllRising (IsKey (keys_in corpus)) ks → Rises old new (length ks)
 

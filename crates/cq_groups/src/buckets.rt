@@ -12,7 +12,7 @@ pub trait Buckets {
 
     ghost file_keys: { Self → List (List ℕ) };
 
-    // how often it was asked
+    // how many questions were counted
     ghost asked: { Self → ℕ };
 
     // it may be asked

@@ -61,7 +61,7 @@ impl<'a, F: Files> PlainBuckets<'a, F> {
         PlainBuckets { files, asked: 0 }
     }
 
-    /// How often it was asked.
+    /// How many questions were counted.
     pub fn asked(&self) -> u64
         ensures { result ≡ self.now.asked }
     {
