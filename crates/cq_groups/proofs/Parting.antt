@@ -82,8 +82,10 @@ parted_skip xs i repeated lone within (some, inside, same) before =
           (λ k (j, less, inside, is, next). ⊎_elim
           (λ lt. (j, lt, inside, is, next))
           (λ ge.
-          let here : x ≡ k = ap (slice_index xs) (omega (arith, less, ge)) ∙ is in
-          let back : slice_index xs (i - 1 + 1) ≡ k = ap (slice_index xs) (omega (arith, some)) ∙ here in
+          let e : i ≡ j = omega (arith, less, ge) in
+          let here : x ≡ k = ap (slice_index xs) e ∙ is in
+          let up : i - 1 + 1 ≡ i = omega (arith, some) in
+          let back : slice_index xs (i - 1 + 1) ≡ k = ap (slice_index xs) up ∙ here in
           (i - 1, omega (arith, some), omega (arith, some, within), same ∙ here, back))
           (cases_lt j i))
           before.repeated_are;
@@ -105,7 +107,8 @@ parted_skip xs i repeated lone within (some, inside, same) before =
 pub parted_repeated : (xs : List ℕ) (i : ℕ) (repeated : List ℕ) (lone : ℕ) → IsNonDecreasing xs → i < length xs → (GoesOn xs i → ⊥) → GoesOn xs (i + 1) → ArePartedUpto xs i repeated lone → ArePartedUpto xs (i + 1) (repeated ++ slice_index xs i ∷ []) lone
 parted_repeated xs i repeated lone rising within first (some, inside, same) before =
     let x = slice_index xs i in
-    let again : slice_index xs (i + 1) ≡ x = sym same ∙ ap (slice_index xs) (omega arith) in
+    let down : i + 1 - 1 ≡ i = omega arith in
+    let again : slice_index xs (i + 1) ≡ x = sym same ∙ ap (slice_index xs) down in
     let one = length_push repeated x in
     let other = length_push before.different x in
     record {
@@ -115,7 +118,7 @@ parted_repeated xs i repeated lone rising within first (some, inside, same) befo
           (i, omega arith, inside, refl, again)
           (λ z (j, less, inside, is, next). ⊎_elim
           (λ lt. inl (j, lt, inside, is, next))
-          (λ ge. inr (ap (slice_index xs) (omega (arith, less, ge)) ∙ is))
+          (λ ge. let e : i ≡ j = omega (arith, less, ge) in inr (ap (slice_index xs) e ∙ is))
           (cases_lt j i));
       different = before.different ++ x ∷ [];
       different_are = more_taken xs before.different i rising within first before.different_are;
@@ -134,10 +137,11 @@ parted_lone xs i repeated lone rising within first last before =
           (λ k (j, less, inside, is, next). ⊎_elim
           (λ lt. (j, lt, inside, is, next))
           (λ ge.
-          let here : j ≡ i = omega (arith, less, ge) in
-          let is_here : slice_index xs (i + 1 - 1) ≡ k = ap (slice_index xs) (omega (arith, here)) ∙ is in
-          let is_next : slice_index xs (i + 1) ≡ k = ap (slice_index xs) (omega (arith, here)) ∙ next in
-          absurd (last (omega arith, omega (arith, inside, here), is_here ∙ sym is_next)))
+          let e : i + 1 - 1 ≡ j = omega (arith, less, ge) in
+          let f : i + 1 ≡ j + 1 = omega (arith, less, ge) in
+          let is_here : slice_index xs (i + 1 - 1) ≡ k = ap (slice_index xs) e ∙ is in
+          let is_next : slice_index xs (i + 1) ≡ k = ap (slice_index xs) f ∙ next in
+          absurd (last (omega arith, omega (arith, inside, f), is_here ∙ sym is_next)))
           (cases_lt j i))
           before.repeated_are;
       different = before.different ++ x ∷ [];
@@ -148,7 +152,7 @@ parted_lone xs i repeated lone rising within first last before =
 
 -- ---- how often a number is in a list
 
-counts : ℕ → ℕ → ℕ
+abbrev counts : ℕ → ℕ → ℕ
 counts k x = cond (eqb x k) 1 0
 
 times_cons : (x : ℕ) (xs : List ℕ) (k : ℕ) → times_in (x ∷ xs) k ≡ counts k x + times_in xs k
