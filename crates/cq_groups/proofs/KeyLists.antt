@@ -74,7 +74,7 @@ rises_most a b m n le h = (omega (arith, h), omega (arith, h, le))
 
 -- some and then the others
 pub rises_both : (a b c n k m all : ℕ) → n ≡ k → all ≡ k + m → Rises a b n → Rises b c m → Rises a c all
-rises_both a b c n k m all is sum h k = omega (arith, h, k, is, sum)
+rises_both a b c n k m all is sum h then = omega (arith, h, then, is, sum)
 
 pub rises_all : (a b n : ℕ) → Rises a b n → RisesAtMost a b n
 rises_all a b n h = rises_most a b n n (omega arith) h

@@ -31,7 +31,7 @@ pub record ArePartedUpto (xs : List ℕ) (n : ℕ) (repeated : List ℕ) (lone :
 
 pub parted_none : (xs repeated : List ℕ) → repeated ≡ [] → ArePartedUpto xs 0 repeated 0
 parted_none xs repeated none = subst (λ (ks : List ℕ). ArePartedUpto xs 0 ks 0) (sym none) (record {
-  repeated_are = in_order_none (λ a b. a < b) (IsRepeatedUpto xs 0) (λ k (j, less, rest). omega (arith, less));
+  repeated_are = in_order_none (λ a b. a < b) (IsRepeatedUpto xs 0) (λ k (j, less, inside, is, next). omega (arith, less));
   different = [];
   different_are = in_order_none (λ a b. a < b) (Contains (take 0 xs)) (λ k c. Contains-nil k c);
   number = refl;
@@ -78,7 +78,7 @@ parted_skip xs i repeated lone within (some, inside, same) before =
     let read : x ≡ get_or xs i x = get_or_default xs i 0 x within in
     record {
       repeated_are = in_order_same (λ a b. a < b) (IsRepeatedUpto xs i) (IsRepeatedUpto xs (i + 1)) repeated
-          (λ k (j, less, rest). (j, omega (arith, less), rest))
+          (λ k (j, less, inside, is, next). (j, omega (arith, less), inside, is, next))
           (λ k (j, less, inside, is, next). ⊎_elim
           (λ lt. (j, lt, inside, is, next))
           (λ ge.
@@ -114,7 +114,7 @@ parted_repeated xs i repeated lone rising within first (some, inside, same) befo
     record {
       repeated_are = in_order_push (λ a b. a < b) (IsRepeatedUpto xs i) (IsRepeatedUpto xs (i + 1)) repeated x before.repeated_are
           (λ z h. smaller_key xs i z rising within first h)
-          (λ z (j, less, rest). (j, omega (arith, less), rest))
+          (λ z (j, less, inside, is, next). (j, omega (arith, less), inside, is, next))
           (i, omega arith, inside, refl, again)
           (λ z (j, less, inside, is, next). ⊎_elim
           (λ lt. inl (j, lt, inside, is, next))
@@ -133,7 +133,7 @@ parted_lone xs i repeated lone rising within first last before =
     let other = length_push before.different x in
     record {
       repeated_are = in_order_same (λ a b. a < b) (IsRepeatedUpto xs i) (IsRepeatedUpto xs (i + 1)) repeated
-          (λ k (j, less, rest). (j, omega (arith, less), rest))
+          (λ k (j, less, inside, is, next). (j, omega (arith, less), inside, is, next))
           (λ k (j, less, inside, is, next). ⊎_elim
           (λ lt. (j, lt, inside, is, next))
           (λ ge.
