@@ -1,4 +1,4 @@
-use Rattle.std.proofs.Common.{◌≡◌, ◌+◌, ap, arith, length, sym, ◌∙◌, subst, List, ℕ}
+use Rattle.std.proofs.Common.{ap, length, sym, subst, List, ℕ}
 use Rattle.std.proofs.lemmas.Result.{IfOk-weaker}
 use Rattle.cq_tokens.specs.Parts.{tokens_in, keys_in}
 use Rattle.cq_groups.specs.Listing.{IsRepeatedKey, AreAllRising}
