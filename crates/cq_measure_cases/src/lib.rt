@@ -10,3 +10,5 @@ mod groups;
 mod parts;
 #[cfg(test)]
 mod scans;
+#[cfg(test)]
+mod written;
