@@ -3,3 +3,5 @@
 
 #[cfg(test)]
 mod scans;
+#[cfg(test)]
+mod written;

@@ -1,8 +1,8 @@
 ghost use Rattle.std.specs.Prelude.{◌≡◌, ◌^◌, ◌<◌, ◌≤◌, length, IfOk};
 
+use crate::written::Written;
 use cq_base::{Class, Group, Keys, Lang, Memory, Norm, Steps, Text};
 use cq_scan::scan;
-use cq_talk_model::Written;
 use cq_tokens::{FileTokens, PlainFiles, Tokens};
 use std::alloc::Global;
 use std::marker::Brand;

@@ -15,6 +15,18 @@ use std::sync::Wait;
 use std::sync::ledger::{Blank, Ledger};
 use std::thread::{Threads, join};
 
+/// The settings of the trials over a shared hub.
+pub(crate) const SETTINGS: Settings = Settings {
+    chunk: 2,
+    shards: 7,
+    key_bits: 64,
+    ignore_ids: false,
+    ignore_lits: false,
+    change_limit: 262_144,
+    text_limit: 33_554_432,
+    byte_limit: 1_048_576,
+};
+
 /// How the session of a caller who has seen nothing ends.
 pub(crate) fn conversed<Q: Threads + Sync, L: Ledger, R: Wait, S: Source, K: Sink, G: Gate>(
     rt: &Q,

@@ -1,6 +1,5 @@
-use crate::ending::two_here;
+use crate::ending::{SETTINGS, two_here};
 use crate::running::Outcome;
-use crate::threads::SETTINGS;
 use cq_base::Memory;
 use cq_io::Gate;
 use cq_lines::End;

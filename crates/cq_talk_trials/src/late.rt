@@ -2,8 +2,7 @@ ghost use Rattle.std.specs.Prelude.{◌≡◌, []};
 ghost use Rattle.cq_base.specs.Settings.{IsInRange};
 ghost use Rattle.cq_shared.specs.SharedPasses.{IsPassOf, settings_of};
 
-use crate::ending::conversed;
-use crate::threads::SETTINGS;
+use crate::ending::{SETTINGS, conversed};
 use cq_base::{Counters, Memory, Settings};
 use cq_chain::Pass;
 use cq_io::OpenGate;

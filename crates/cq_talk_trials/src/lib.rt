@@ -1,6 +1,6 @@
-//! Trials of whole talks, against the plain model: what a session writes over the plain hub and over the shared one, the calls
-//! of its gate, and sessions in threads of their own over one shared hub. Of the server's crates the trials take only what a
-//! session is made of: its settings, its hub, and a source and a sink in memory.
+//! Trials of what no reply shows: the calls of a session's gate, two sessions that analyse the same files at the same time, and
+//! a worker's turn that comes too late. Whole talks are tried by the program (cases/talks). Of the server's crates the trials
+//! take only what a session is made of: its settings, its hub, and a source and a sink in memory.
 #![tactic(auto)]
 
 #[cfg(test)]
@@ -10,14 +10,6 @@ mod ending;
 #[cfg(test)]
 mod helping;
 #[cfg(test)]
-mod histories;
-#[cfg(test)]
 mod late;
 #[cfg(test)]
 mod running;
-#[cfg(test)]
-mod talking;
-#[cfg(test)]
-mod tests;
-#[cfg(test)]
-mod threads;

@@ -2,18 +2,14 @@ ghost use Rattle.std.specs.Prelude.{◌≡◌, OnOk};
 ghost use Rattle.cq_base.specs.Settings.{IsInRange};
 ghost use Rattle.cq_talk.specs.Steps.{Always, MayLead};
 
-use crate::ending::ended;
-use cq_base::{Counters, Memory, Settings, Steps};
-use cq_chain::Pass;
+use cq_base::{Memory, Settings, Steps};
 use cq_hub::{Hub, Solo, SoloPass};
-use cq_io::{Gate, MemSink, MemSource, OpenGate, Sink, Source};
+use cq_io::{Gate, MemSink, MemSource, Sink, Source};
 use cq_lines::{End, Lines};
 use cq_session::{Server, session};
-use cq_shared::Shared;
 use cq_work::{Keyer, Work};
 use std::alloc::Global;
 use std::marker::Brand;
-use std::sync::Wait;
 use std::sync::ledger::{Blank, Ledger};
 use std::thread::Threads;
 
@@ -128,23 +124,6 @@ fn both_over_solo<R: Threads + Sync, L: Ledger, G: Gate>(
     )
 }
 
-fn one_over_shared<R: Threads + Wait + Sync, L: Ledger>(
-    rt: &R,
-    alloc: Global,
-    settings: &Settings,
-    input: &[u8],
-    blank: Blank,
-) -> Result<Outcome, Memory>
-    requires in_range { IsInRange settings.now }
-    requires name { blank.name ≡ L.name }
-    requires parts { blank.parts ≡ L.parts }
-{
-    let counters: Counters<L> = Counters::new(blank);
-    let made: (Shared<Work<L>, &R>, Pass<Work<L>>) = Shared::new(rt, alloc, settings, 1)?;
-    let (hub, pass) = made;
-    ended(rt, alloc, settings, &hub, &counters, &OpenGate, input, pass)
-}
-
 /// Two sessions, one after the other, of the one caller of a new hub.
 pub fn both_here<R: Threads + Sync, G: Gate>(
     rt: &R,
@@ -157,16 +136,4 @@ pub fn both_here<R: Threads + Sync, G: Gate>(
     requires { IsInRange settings.now }
 {
     both_over_solo::<R, Brand, G>(rt, alloc, settings, first, second, gate, Blank::new(1))
-}
-
-/// A session over a new hub whose passes may be those of several threads, by its one pass.
-pub fn shared_here<R: Threads + Wait + Sync>(
-    rt: &R,
-    alloc: Global,
-    settings: &Settings,
-    input: &[u8],
-) -> Result<Outcome, Memory>
-    requires { IsInRange settings.now }
-{
-    one_over_shared::<R, Brand>(rt, alloc, settings, input, Blank::new(1))
 }
