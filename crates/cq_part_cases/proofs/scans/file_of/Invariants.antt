@@ -1,6 +1,6 @@
 use Rattle.std.proofs.Common.{◌≡◌, ◌≤◌, vec_len}
 use Rattle.cq_tokens.specs.Packed.{spelling_bytes}
-use Rattle.cq_measure_cases.proofs.scans.file_of.Given as goal
+use Rattle.cq_part_cases.proofs.scans.file_of.Given as goal
 
 -- a byte for each token
 abbrev pub invariant-loop-b : goal.invariant-loop-b
