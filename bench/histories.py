@@ -85,7 +85,8 @@ def by_number(changes):
     for at, change in changes:
         must(at not in numbered, change, f"{at}, as {numbered.get(at)} was")
         numbered[at] = change
-    must(sorted(numbered) == list(range(1, len(numbered) + 1)), "changes", sorted(numbered))
+    missing = set(range(1, len(numbered) + 1)) - set(numbered)
+    must(not missing, "changes", f"without the numbers {sorted(missing)}")
     return numbered
 
 

@@ -48,8 +48,6 @@ SHARED, LEFT, HALF = "shared", "left", "half"
 WORDS = [f"w{number}" for number in range(9)] + ["if", "for", "begin"]
 SCOPES = ["**", "d/*", "d/f?", "**/f1", "*/f*2", "d/**/f3", "d", "none/**"]
 METRICS = ["complexity", "duplicated_blocks", "duplicated_lines_density", "files", "lines", "ncloc"]
-
-
 JSON, LONG = refusal(1, "json"), refusal(13, "long")
 FULL_CHANGES, FULL_TEXT = refusal(10, "full-changes"), refusal(11, "full-text")
 
