@@ -1,9 +1,9 @@
-"""What the clients of one server may be told, by the one history of all their changes.
+"""Checks the replies to several clients of one server by the one history of all their changes.
 
-`Told` has what one client was told, in the order of its lines. What needs no other client is checked when it comes: versions and numbers
-never fall, and none is older than what was reported to that client before. The rest is kept. When all clients have ended, their changes make
-the one history (`by_number`), by which it is checked (`check`): each reply is that of its version, a drop was accepted only if its file was there and
-refused only if it was missing, and what was not done was an upload.
+A `Log` takes the replies to one client, in the order of its lines. What needs no other client is checked at once: versions and numbers never
+fall, and none is older than what was reported to that client before. The rest is kept until all clients have ended. Then their changes make
+the one history (`by_number`), and each log is checked by it (`check`): an answer is that of its version; a drop was accepted only if its file
+was there, and refused only if it was missing; and what was reported as not done is an upload.
 """
 from load import must
 from model import History, line_of, refusal
@@ -13,24 +13,24 @@ def is_line(reply, wanted):
     return line_of(reply) == line_of(wanted)
 
 
-class Told:
-    """What was reported to a client."""
+class Log:
+    """What was reported to one client."""
 
     def __init__(self):
         # Changes with their numbers, and queries with their answers.
         self.changes, self.replies = [], []
-        # Drops that were refused, each with how many changes had been accepted at least, and how many of this client.
+        # Drops that were refused, each with how many changes had been accepted at least, and how many of this client's.
         self.absent = []
-        # Changes that were not done: those that a query would have waited for, and those that follow `done` of a state.
+        # Changes that were not done: those that a query had to wait for, and those after the `done` of a state.
         self.pending, self.undone = [], []
-        # The greatest number that was reported in this session; the last version; and so many changes are done, and so many accepted.
+        # The greatest number that was reported in this session; the last version; how many changes are done, and how many accepted.
         self.seen = self.shown = self.done = self.accepted = 0
 
     def begin_session(self):
         self.seen = 0
 
     def change(self, change, reply):
-        """A change comes after all that are known, and a drop may be refused."""
+        """The reply to a change: it comes after all that this client knows of, or is a drop that is refused."""
         if is_line(reply, refusal(9, "absent")):
             must(change.is_drop, change, reply)
             self.absent.append((self.accepted, len(self.changes), change))
@@ -41,7 +41,7 @@ class Told:
             self.seen = self.accepted = number
 
     def state(self, reply):
-        """Nothing falls, and all changes up to the one that is not done are done."""
+        """The reply to `state`: no number falls."""
         accepted, done, published = (reply.get(it, -1) for it in ("accepted", "done", "published"))
         known = (self.accepted, self.done, self.shown)
         must(is_line(reply, {"accepted": accepted, "done": done, "ok": True, "published": published}), known, reply)
@@ -51,19 +51,14 @@ class Told:
         self.accepted, self.done = accepted, done
         self.show(published)
 
-    def show(self, version):
-        self.seen, self.shown = max(self.seen, version), version
-        self.done = max(self.done, version)
-        self.accepted = max(self.accepted, version)
-
     def query(self, query, reply):
-        """The reply to a query; whether it is an answer, which the history has to have."""
+        """The reply to a query. Whether it is an answer, which is to be compared with that of the history."""
         floor = max(self.seen, query.get("at", 0))
         waits = query.get("finish", True)
         if reply.get("error") == "future":
             count = reply.get("count", -1)
             must(is_line(reply, refusal(8, "future", count=count)), query, reply)
-            must(self.accepted <= count < query["at"], (query, self.accepted), reply)
+            must(self.accepted <= count < query.get("at", 0), (query, self.accepted), reply)
             self.accepted = count
             return False
         if reply.get("error") == "pending":
@@ -78,6 +73,12 @@ class Told:
         self.show(version)
         return True
 
+    def show(self, version):
+        """A version was published."""
+        self.seen, self.shown = max(self.seen, version), version
+        self.done = max(self.done, version)
+        self.accepted = max(self.accepted, version)
+
 
 def by_number(changes):
     """The changes by their numbers, which are 1 and so on, each once."""
@@ -90,18 +91,18 @@ def by_number(changes):
     return numbered
 
 
-def check(numbered, told):
-    """Compares what is kept of a client with the history of all changes."""
+def check(numbered, log):
+    """Compares a log with the history of all changes."""
     history = History(sorted(numbered.items()))
-    must(told.accepted <= len(numbered), "all clients", f"{told.accepted} accepted changes, and has {len(numbered)}")
-    for query, reply in told.replies:
+    must(log.accepted <= len(numbered), "all clients", f"{log.accepted} accepted changes, and has {len(numbered)}")
+    for query, reply in log.replies:
         wanted = history.reply(query, reply["version"])
         must(is_line(reply, wanted), query, f"{line_of(reply)}, not {line_of(wanted)}")
-    for at in told.pending + told.undone:
+    for at in log.pending + log.undone:
         must(at in numbered and numbered[at].text is not None, f"change {at}", "not done")
-    for at, change in told.changes:
+    for at, change in log.changes:
         must(not change.is_drop or history.has(change.project, at - 1, change.path), change, at)
-    for first, behind, change in told.absent:
-        last = told.changes[behind][0] - 1 if behind < len(told.changes) else len(numbered)
+    for first, behind, change in log.absent:
+        last = log.changes[behind][0] - 1 if behind < len(log.changes) else len(numbered)
         is_absent = (not history.has(change.project, version, change.path) for version in range(first, last + 1))
         must(any(is_absent), change, f"absent from {first} to {last}")

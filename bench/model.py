@@ -94,20 +94,20 @@ class History:
         return {"failed": failed, "ok": True, "verdict": "ERROR" if failed else "OK", "version": version}
 
 
-class Served:
-    """A server without workers whose clients come one after the other, and what it replies to them."""
+class PlainServer:
+    """A server without workers, whose clients come one after the other."""
 
     def __init__(self, change_limit=262_144, text_limit=33_554_432):
         self.change_limit, self.text_limit = change_limit, text_limit
         self.history, self.changes = History(), []
-        # The first so many changes are analysed, the version of the last answer, and the greatest number that was reported in this session.
+        # How many changes are analysed, the version of the last answer, and the greatest number that was reported in this session.
         self.analysed = self.published = self.seen = 0
 
     def begin_session(self):
         self.seen = 0
 
     def reply(self, request):
-        """The reply to a valid request, after which the server goes on."""
+        """The reply to a valid request."""
         if request["op"] == "state":
             self.seen = max(self.seen, self.published)
             return {"accepted": len(self.changes), "done": self.done(), "ok": True, "published": self.published}

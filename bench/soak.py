@@ -34,7 +34,7 @@ import threading
 import time
 from pathlib import Path
 
-from histories import Told, by_number, check
+from histories import Log, by_number, check
 from load import Connection, free_address, must
 from model import Change, History, refusal
 
@@ -90,8 +90,8 @@ KINDS = {"put": 3, "drop": 1, "gate": 1, "files": 8, "groups": 16, "path": 12, "
 ENDS = ["cut", "cut in 8 MiB", "half", "whole", "plain"]
 
 
-class Log(Told):
-    """What was reported to a client, how many lines it broke off, and how many requests of each kind it sent."""
+class ClientLog(Log):
+    """A log that also counts the lines that broke off, and the requests of each kind."""
 
     def __init__(self):
         super().__init__()
@@ -102,7 +102,7 @@ class Client:
     def __init__(self, address, number, start, parts, pause):
         self.address, self.number, self.start, self.parts = address, number, start, parts
         self.pause = pause
-        self.project, self.drawn, self.log, self.history = f"p{number}", random.Random(number), Log(), History()
+        self.project, self.drawn, self.log, self.history = f"p{number}", random.Random(number), ClientLog(), History()
 
     # ---- requests, each with a check of its reply
 
