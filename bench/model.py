@@ -100,16 +100,16 @@ class PlainServer:
     def __init__(self, change_limit=262_144, text_limit=33_554_432):
         self.change_limit, self.text_limit = change_limit, text_limit
         self.history, self.changes = History(), []
-        # How many changes are analysed, the version of the last answer, and the greatest number that was reported in this session.
-        self.analysed = self.published = self.seen = 0
+        # How many changes are analysed, the version of the last answer, and the last change of this session. A version that was reported
+        # in it is no later than the last answer.
+        self.analysed = self.published = self.latest = 0
 
     def begin_session(self):
-        self.seen = 0
+        self.latest = 0
 
     def reply(self, request):
         """The reply to a valid request."""
         if request["op"] == "state":
-            self.seen = max(self.seen, self.published)
             return {"accepted": len(self.changes), "done": self.done(), "ok": True, "published": self.published}
         return self.accept(change_of(request)) if request["op"] in ("put", "drop", "gate") else self.answer(request)
 
@@ -135,9 +135,9 @@ class PlainServer:
         if change.text is not None and size(change) + sum(size(it) for it in kept) > self.text_limit:
             return refusal(11, "full-text")
         self.changes.append(change)
-        self.seen = len(self.changes)
-        self.history.add(self.seen, change)
-        return {"change": self.seen, "ok": True}
+        self.latest = len(self.changes)
+        self.history.add(self.latest, change)
+        return {"change": self.latest, "ok": True}
 
     def answer(self, query):
         """The reply to a query. One that analyses nothing publishes only what it has to, unless all is done."""
@@ -146,11 +146,10 @@ class PlainServer:
             return refusal(8, "future", count=accepted)
         if query.get("finish", True):
             self.analysed = accepted
-        done, least = self.done(), max(self.seen, at)
+        done, least = self.done(), max(self.latest, at)
         if done < least:
             return refusal(12, "pending", number=done + 1)
         self.published = max(self.published, done if done == accepted else least)
-        self.seen = max(self.seen, self.published)
         return self.history.reply(query, self.published)
 
 
