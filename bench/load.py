@@ -69,6 +69,8 @@ class Connection:
                 break
             except ConnectionRefusedError:
                 time.sleep(0.1)
+        else:
+            raise ConnectionRefusedError(f"nobody listens at {address}")
         self.socket.setsockopt(socket.IPPROTO_TCP, socket.TCP_NODELAY, 1)
         self.replies = self.socket.makefile("rb")
 

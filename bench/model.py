@@ -1,9 +1,12 @@
-"""The replies to queries, computed in the simplest way from small texts of words.
+"""The replies of a server, computed in the simplest way from small texts of words.
 
 A text is words separated by blanks or line feeds, each a token in any language, except that `#` is a fault of Java. Replies are
 computed from all pairs of places, by what docs/PROTOCOL.md says of them; nothing here has an index.
 """
+from __future__ import annotations
+
 import itertools
+import json
 from typing import NamedTuple
 
 DECISIONS = {"any": (), "c": ("if", "for", "while"), "java": ("if", "for", "while")}
@@ -25,6 +28,19 @@ class Change(NamedTuple):
     lang: str | None = None
     text: str | None = None
     conditions: list | None = None
+
+    @property
+    def is_drop(self):
+        return self.text is None and self.conditions is None
+
+
+def refusal(code, error, **more):
+    return {"code": code, "error": error, "ok": False, **more}
+
+
+def line_of(reply):
+    """The line of a reply, without its line feed."""
+    return json.dumps(reply, sort_keys=True, separators=(",", ":"))
 
 
 class History:
@@ -63,15 +79,87 @@ class History:
         files = self.files(query["project"], version)
         if query["op"] == "files":
             return {"files": [listed(it) for it in files], "ok": True, "version": version}
+        if query["op"] == "functions":
+            # Words alone make no function.
+            return {"functions": [], "ok": True, "version": version, "worst": None}
+        least = query.get("min", 100)
         if query["op"] == "groups":
-            found = [it for it in groups(files, query["min"]) if "path" not in query or query["path"] in paths(it)]
+            found = [it for it in groups(files, least) if "path" not in query or query["path"] in paths(it)]
             return {"groups": found, "ok": True, "total": len(found), "version": version}
-        told = measures(files, query["min"], {it.path for it in files if is_chosen(query, it)})
+        told = measures(files, least, {it.path for it in files if is_chosen(query, it)})
         if query["op"] == "measures":
             return {"measures": told, "ok": True, "version": version}
         conditions = enumerate(self.conditions(query["project"], version))
         failed = [at for at, it in conditions if is_met(told[it["metric"]], it)]
         return {"failed": failed, "ok": True, "verdict": "ERROR" if failed else "OK", "version": version}
+
+
+class PlainServer:
+    """A server without workers, whose clients come one after the other."""
+
+    def __init__(self, change_limit=262_144, text_limit=33_554_432):
+        self.change_limit, self.text_limit = change_limit, text_limit
+        self.history, self.changes = History(), []
+        # How many changes are analysed, the version of the last answer, and the last change of this session. A version that was reported
+        # in it is no later than the last answer.
+        self.analysed = self.published = self.latest = 0
+
+    def begin_session(self):
+        self.latest = 0
+
+    def reply(self, request):
+        """The reply to a valid request."""
+        if request["op"] == "state":
+            return {"accepted": len(self.changes), "done": self.done(), "ok": True, "published": self.published}
+        return self.accept(change_of(request)) if request["op"] in ("put", "drop", "gate") else self.answer(request)
+
+    def done(self):
+        """The greatest number up to which all changes are done; drops and gates are done at once."""
+        for number, change in enumerate(self.changes, 1):
+            if number > self.analysed and change.text is not None:
+                return number - 1
+        return len(self.changes)
+
+    def kept(self):
+        """The changes that the version of the last answer needs, or a later one."""
+        last = {(it.project, it.path): number for number, it in enumerate(self.changes[:self.published], 1)}
+        return [it for number, it in enumerate(self.changes, 1)
+                if number > self.published or number == last[it.project, it.path] and not it.is_drop]
+
+    def accept(self, change):
+        if change.is_drop and not self.history.has(change.project, len(self.changes), change.path):
+            return refusal(9, "absent")
+        kept = self.kept()
+        if len(kept) >= self.change_limit:
+            return refusal(10, "full-changes")
+        if change.text is not None and size(change) + sum(size(it) for it in kept) > self.text_limit:
+            return refusal(11, "full-text")
+        self.changes.append(change)
+        self.latest = len(self.changes)
+        self.history.add(self.latest, change)
+        return {"change": self.latest, "ok": True}
+
+    def answer(self, query):
+        """The reply to a query. One that analyses nothing publishes only what it has to, unless all is done."""
+        at, accepted = query.get("at", 0), len(self.changes)
+        if at > accepted:
+            return refusal(8, "future", count=accepted)
+        if query.get("finish", True):
+            self.analysed = accepted
+        done, least = self.done(), max(self.latest, at)
+        if done < least:
+            return refusal(12, "pending", number=done + 1)
+        self.published = max(self.published, done if done == accepted else least)
+        return self.history.reply(query, self.published)
+
+
+def change_of(request):
+    return Change(request["project"], request.get("path"), request.get("lang"), request.get("text"), request.get("conditions"))
+
+
+def size(change):
+    """The bytes of a change's text."""
+    return len((change.text or "").encode())
 
 
 def is_chosen(query, file):

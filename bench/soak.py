@@ -10,11 +10,11 @@ line of 8 MiB, or with a last line that lacks its line feed.
 
 Each reply is checked. What needs no other client is checked at once: a refusal fits its line, versions and numbers never fall, and replies
 about the client's own project are those that bench/model.py computes from its texts. The rest is checked after all clients have ended,
-against the one history of all changes that were reported: each number was given once, without a gap; each reply about the shared project is
-that of its version; each drop that was accepted had its file, and each that was refused lacked it at some version in between; and a change
-that was reported as pending is an upload. Lines that broke off left nothing, and the numbers of `state` add up. Then the server must exit
-with 0 after the last of its connections. Its memory in the last minute may be at most a tenth above that of the minute before a quarter of
-the time; memory is VmRSS, read once a second, and the median of a minute.
+against the one history of all changes that were reported (bench/histories.py): each number was given once, without a gap; each reply about
+the shared project is that of its version; each drop that was accepted had its file, and each that was refused lacked it at some version in
+between; and a change that was reported as not done is an upload. Lines that broke off left nothing, and the numbers of `state` add up. Then
+the server must exit with 0 after the last of its connections. Its memory in the last minute may be at most a tenth above that of the minute
+before a quarter of the time; memory is VmRSS, read once a second, and the median of a minute.
 
 The server keeps at most --changes changes; if a client is refused since it is full, a query makes room. Printed are how many replies of each
 kind there were, and connections, changes and memory. It exits with 1 if anything differs.
@@ -34,8 +34,9 @@ import threading
 import time
 from pathlib import Path
 
+from histories import Log, by_number, check
 from load import Connection, free_address, must
-from model import Change, History
+from model import Change, History, refusal
 
 ROOT = Path(__file__).resolve().parent.parent
 PROGRAM = str(Path(os.environ.get("CQD", ROOT / "cqd")).resolve())
@@ -47,12 +48,6 @@ SHARED, LEFT, HALF = "shared", "left", "half"
 WORDS = [f"w{number}" for number in range(9)] + ["if", "for", "begin"]
 SCOPES = ["**", "d/*", "d/f?", "**/f1", "*/f*2", "d/**/f3", "d", "none/**"]
 METRICS = ["complexity", "duplicated_blocks", "duplicated_lines_density", "files", "lines", "ncloc"]
-
-
-def refusal(code, error, **more):
-    return {"code": code, "error": error, "ok": False, **more}
-
-
 JSON, LONG = refusal(1, "json"), refusal(13, "long")
 FULL_CHANGES, FULL_TEXT = refusal(10, "full-changes"), refusal(11, "full-text")
 
@@ -95,27 +90,25 @@ KINDS = {"put": 3, "drop": 1, "gate": 1, "files": 8, "groups": 16, "path": 12, "
 ENDS = ["cut", "cut in 8 MiB", "half", "whole", "plain"]
 
 
-class Log:
-    """What was reported to a client and can be checked only against all clients."""
+class ClientLog(Log):
+    """A log that also counts the lines that broke off, and the requests of each kind."""
 
     def __init__(self):
-        self.changes, self.replies, self.absent, self.pending, self.sent = [], [], [], [], 0
-        self.counted = collections.Counter()
+        super().__init__()
+        self.sent, self.counted = 0, collections.Counter()
 
 
 class Client:
     def __init__(self, address, number, start, parts, pause):
         self.address, self.number, self.start, self.parts = address, number, start, parts
         self.pause = pause
-        self.project, self.drawn, self.log, self.history = f"p{number}", random.Random(number), Log(), History()
-        # The greatest number reported in this session, the greatest version, and the greatest number of all.
-        self.seen = self.shown = self.told = 0
+        self.project, self.drawn, self.log, self.history = f"p{number}", random.Random(number), ClientLog(), History()
 
     # ---- requests, each with a check of its reply
 
     def since(self):
         """Mostly nothing, and else a version, one of the last ones."""
-        return self.drawn.choice([{}, {}, {"since": max(0, self.told - self.drawn.randrange(40))}])
+        return self.drawn.choice([{}, {}, {"since": max(0, self.log.accepted - self.drawn.randrange(40))}])
 
     def ask(self, kind):
         draw = self.drawn
@@ -133,27 +126,28 @@ class Client:
                           for _ in range(draw.randrange(4))]
             return {**query, "conditions": conditions}, lambda it: self.change(it, Change(project, None, conditions=conditions))
         if kind == "files":
-            return query, lambda it: self.answer(query, it)
+            return query, lambda it: self.query(query, it)
         if kind == "groups":
-            return {**query, **least}, lambda it: self.answer({**query, **least}, it)
+            return {**query, **least}, lambda it: self.query({**query, **least}, it)
         if kind in ("measures", "verdict"):
             query = {**query, **least, **draw.choice([{}, {}, {"scope": draw.choice(SCOPES)}]), **self.since()}
-            return query, lambda it: self.answer(query, it)
+            return query, lambda it: self.query(query, it)
         if kind == "path":
             op = draw.choice(["groups", "measures"])
             query = {**query, "op": op, "path": path, **least, **(self.since() if op == "measures" else {})}
-            return query, lambda it: self.answer(query, it)
+            return query, lambda it: self.query(query, it)
         if kind == "pending":
-            at = draw.randrange(self.told + 1)
+            at = draw.randrange(self.log.accepted + 1)
             query = {**query, "op": draw.choice(["groups", "measures", "verdict"]), **least, "at": at, "finish": False}
-            return query, lambda it: self.perhaps(query, it)
+            return query, lambda it: self.query(query, it)
         return self.ask_else(kind)
 
     def ask_else(self, kind):
         if kind == "state":
-            return {"op": "state"}, self.state
+            return {"op": "state"}, self.log.state
         if kind == "future":
-            return {"op": "files", "project": SHARED, "at": 2**63}, self.future
+            query = {"op": "files", "project": SHARED, "at": 2**63}
+            return query, lambda it: must(not self.log.query(query, it), query, it)
         if kind == "full-text":
             return put(SHARED, "a", "any", " " * 1_048_576), self.full_text
         line, wanted = self.drawn.choice(BROKEN)
@@ -168,63 +162,23 @@ class Client:
 
     # ---- replies
 
-    def name(self, number):
-        self.seen, self.told = max(self.seen, number), max(self.told, number)
-
     def change(self, reply, change):
         if reply == FULL_CHANGES:
             self.log.counted["told full"] += 1
-        elif reply == refusal(9, "absent"):
-            must(change.text is None and change.conditions is None, change, reply)
-            must(change.project == SHARED or not self.history.has(self.project, self.told, change.path), change, reply)
-            self.log.absent.append((self.told, len(self.log.changes), change))
         else:
-            number = reply.get("change", 0)
-            must(reply == {"change": number, "ok": True} and self.told < number, change, reply)
-            self.log.changes.append((number, change))
-            if change.project == self.project:
-                self.history.add(number, change)
-            self.name(number)
+            self.log.change(change, reply)
+            if "change" in reply and change.project == self.project:
+                self.history.add(reply["change"], change)
 
     def full_text(self, reply):
         must(reply in (FULL_TEXT, FULL_CHANGES), "a text that never fits", reply)
 
-    def future(self, reply):
-        count = reply.get("count", -1)
-        must(reply == refusal(8, "future", count=count) and self.told <= count, "future", reply)
-        self.told = count
-
-    def state(self, reply):
-        accepted, done, published = (reply.get(it, -1) for it in ("accepted", "done", "published"))
-        must(reply == {"accepted": accepted, "done": done, "ok": True, "published": published}, "state", reply)
-        must(self.shown <= published <= done <= accepted and self.told <= accepted, (self.shown, self.told), reply)
-        self.shown, self.told = published, accepted
-        self.seen = max(self.seen, published)
-
-    def perhaps(self, query, reply):
-        """The reply to a query that waits for no analysis."""
-        floor = max(self.seen, query["at"])
-        number = reply.get("number", 0)
-        if reply == refusal(12, "pending", number=number):
-            must(self.shown < number <= floor, (query, self.shown, floor), reply)
-            self.log.pending.append(number)
-        else:
-            must(floor <= reply.get("version", -1), (query, floor), reply)
-            self.view(query, reply)
-
-    def answer(self, query, reply):
-        must(self.told <= reply.get("version", -1), (query, self.told), reply)
-        self.view(query, reply)
-
-    def view(self, query, reply):
-        version = reply["version"]
-        must(self.shown <= version, (query, self.shown), reply)
-        self.shown = version
-        self.name(version)
-        if query["project"] == SHARED:
-            self.log.replies.append((query, reply))
-        else:
-            must(reply == self.history.reply(query, version), query, reply)
+    def query(self, query, reply):
+        if self.log.query(query, reply):
+            if query["project"] == SHARED:
+                self.log.replies.append((query, reply))
+            else:
+                must(reply == self.history.reply(query, reply["version"]), query, reply)
 
     # ---- connections
 
@@ -257,14 +211,14 @@ class Client:
             if how == "half":
                 must(connection.receive() == JSON, "half a line", "another reply")
             else:
-                self.answer(json.loads(line), connection.receive())
+                self.query(json.loads(line), connection.receive())
             must(connection.replies.read() == b"", "the end of the input", "more than its replies")
         connection.close()
 
     def run(self):
         for part in range(self.parts):
             connection = Connection(self.address)
-            self.seen = 0
+            self.log.begin_session()
             while time.monotonic() < self.start + (part + 1) * PART:
                 self.talk(connection)
             self.end(connection, self.drawn.choice(ENDS))
@@ -278,25 +232,8 @@ def run_client(given):
 # ---- after all clients
 
 
-def is_absent(history, path, first, last):
-    return any(not history.has(SHARED, version, path) for version in range(first, last + 1))
-
-
 def check_log(given):
-    """Compares what was reported to a client about the shared project with the history of all changes."""
-    numbered, log, accepted = given
-    history, puts = History(sorted(numbered.items())), {number for number, it in numbered.items() if it.text is not None}
-    for query, reply in log.replies:
-        must(reply == history.reply(query, reply["version"]), query, reply)
-    for number in log.pending:
-        must(number in puts, "pending", number)
-    for number, change in log.changes:
-        if change.text is None and change.conditions is None:
-            must(history.has(change.project, number - 1, change.path), change, number)
-    for first, behind, change in log.absent:
-        last = log.changes[behind][0] - 1 if behind < len(log.changes) else accepted
-        must(change.project != SHARED or is_absent(history, change.path, first, last), change, (first, last))
-    return len(log.replies)
+    check(*given)
 
 
 def left_changes(connection, sent):
@@ -312,18 +249,13 @@ def left_changes(connection, sent):
 
 
 def one_history(connection, logs):
-    """All changes by their numbers, from 1 on without a gap, and how many there are."""
-    sent = {f"{number}/{at}" for number, log in enumerate(logs) for at in range(log.sent)}
-    numbered = left_changes(connection, sent)
-    for log in logs:
-        for number, change in log.changes:
-            must(number not in numbered, change, f"{number}, as {numbered.get(number)} was")
-            numbered[number] = change
+    """All changes by their numbers."""
+    sent = {f"{client}/{at}" for client, log in enumerate(logs) for at in range(log.sent)}
+    told = [*left_changes(connection, sent).items(), *(it for log in logs for it in log.changes)]
+    numbered, accepted = by_number(told), len(told)
     state = connection.ask({"op": "state"})
-    accepted = len(numbered)
-    must(sorted(numbered) == list(range(1, accepted + 1)), "numbers", accepted)
     must(state == {"ok": True, "accepted": accepted, "done": accepted, "published": accepted}, accepted, state)
-    return numbered, accepted
+    return numbered
 
 
 class Server:
@@ -366,18 +298,19 @@ def soak(minutes, clients, workers, changes, pause):
             early, late = server.memory_before(seconds / 4), server.memory_before(seconds)
             greatest = server.status("VmHWM:")
             connection = Connection(server.address)
-            numbered, accepted = one_history(connection, logs)
+            numbered = one_history(connection, logs)
             must(server.process.poll() is None, "before the last connection", "the server ended")
             connection.close()
             must(server.process.wait(60) == 0, "after the last connection", f"it exited with {server.process.returncode}")
-            shared = sum(pool.map(check_log, [(numbered, it, accepted) for it in logs], chunksize=1))
+            pool.map(check_log, [(numbered, it) for it in logs], chunksize=1)
     finally:
         server.process.kill()
     counted = sum((it.counted for it in logs), collections.Counter())
+    shared = sum(len(it.replies) for it in logs)
     replies = sum(count for kind, count in counted.items() if not kind.startswith("end: ") and kind != "told full")
     print(f"{seconds / 60:.1f} minutes, {clients} clients, {workers} workers, {clients * parts + 1} connections:"
           f" {replies} replies, each checked; {shared} of the shared project")
-    print(f"  {accepted} changes, {changes} kept at most; {sum(len(it.pending) for it in logs)} refused as pending; exited with 0")
+    print(f"  {len(numbered)} changes, {changes} kept at most; {sum(len(it.pending) for it in logs)} refused as pending; exited with 0")
     print("  " + ", ".join(f"{kind} {count}" for kind, count in sorted(counted.items())))
     print(f"  memory: {early:.0f} MiB in the minute before a quarter of the time, {late:.0f} MiB in the last,"
           f" {greatest:.0f} MiB at most")
