@@ -3,6 +3,7 @@ from __future__ import annotations
 
 import json
 import multiprocessing
+import os
 from pathlib import Path
 
 import pytest
@@ -95,6 +96,21 @@ def test_a_state_file_that_cannot_be_written(client: Client, tmp_path: Path, lis
     (tmp_path / "a.c").write_text("int a;\n")
     ran = client("put", ".", "--project", "p", "--addr", listening.addr, "--state", "no/folder/state")
     assert ran.returncode == 2 and "--state names another" in ran.stderr
+    # what is no file, such as /dev/null, is neither read nor replaced
+    os.mkfifo(tmp_path / "pipe")
+    for name in ("pipe", "."):
+        ran = client("put", "a.c", "--project", "p", "--addr", listening.addr, "--state", name)
+        assert (ran.returncode, ran.stdout) == (2, "") and "no regular file; --state names another" in ran.stderr
+    assert (tmp_path / "pipe").is_fifo() and sorted(os.listdir(tmp_path)) == ["a.c", "pipe"]
+
+
+def test_a_state_file_that_is_a_link_is_written_where_it_leads(client: Client, tmp_path: Path, listening: Listening) -> None:
+    (tmp_path / "a.c").write_text("int a;\n")
+    (tmp_path / "cache").mkdir()
+    (tmp_path / ".cqd-state.json").symlink_to("cache/state")
+    for said in ("1 uploaded, 0 unchanged", "0 uploaded, 1 unchanged"):
+        assert client("put", ".", "--project", "p", "--addr", listening.addr).stdout.startswith(said)
+        assert (tmp_path / ".cqd-state.json").is_symlink() and (tmp_path / "cache" / "state").is_file()
 
 
 def test_only_what_changed_is_uploaded(client: Client, tmp_path: Path, listening: Listening) -> None:

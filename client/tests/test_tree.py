@@ -51,6 +51,19 @@ def test_what_git_lists(repository: Repository, tmp_path: Path) -> None:
         os.rename(tmp_path.parent / "git-elsewhere", tmp_path / ".git")
 
 
+def test_what_gitignore_may_be(client: Client, tmp_path: Path) -> None:
+    make(tmp_path, "a.c", "b.c")
+    ignore = tmp_path / ".gitignore"
+    for made in (ignore.mkdir, lambda: os.mkfifo(ignore), lambda: ignore.symlink_to("b.c"), lambda: ignore.symlink_to(".gitignore")):
+        # as for git, only a file is one
+        made()
+        assert client("put", ".").stdout.startswith("2 uploaded")
+        os.rename(ignore, tmp_path / f"not{len(os.listdir(tmp_path))}")
+    # lines that are no patterns fit nothing
+    ignore.write_bytes(b"!\n\\\n[\n\xff\n/\n[a-\nb.c\n \\ \n")
+    assert client("put", ".").stdout.startswith("1 uploaded")
+
+
 @pytest.mark.parametrize("listing", [b"a.c\nsub/b.c\nnot.txt\n", b"a.c\0sub/b.c\0", b"a.c\r\nsub/b.c"])
 def test_files_from_a_list(tmp_path: Path, listing: bytes, monkeypatch: pytest.MonkeyPatch) -> None:
     make(tmp_path, "a.c", "sub/b.c", "sub/other.c", "not.txt")
@@ -68,6 +81,9 @@ def test_a_list_of_the_command(client: Client, tmp_path: Path) -> None:
     assert "1 folder of the list not read, the first is sub" in client("put", "--files-from", "-", stdin=b"a.c\nsub\n").stderr
     assert client("put", "--files-from", "nolist").returncode == 2
     assert client("put", "--files-from", "-", stdin=b"").returncode == 2
+    ran = client("put", "--files-from", "-", stdin=b"none.c\nmissing.c\n")
+    assert (ran.returncode, ran.stderr) == (2, "cqd-client: there are no source files in the list on standard input (none.c: No such file or "
+                                               "directory): nothing was uploaded or dropped\n")
 
 
 def test_a_path_that_leads_nowhere(client: Client, tmp_path: Path) -> None:
@@ -192,7 +208,7 @@ def test_what_no_request_can_hold(client: Client, tmp_path: Path) -> None:
     make(tmp_path, "fine.c", "/".join(["d" * 200] * 3) + "/far.c")
     ran = client("put", ".")
     assert ran.returncode == 2 and ran.stdout.strip().endswith("1 uploaded, 0 unchanged, 0 dropped, 4 left out")
-    for said in ("1,048,576 bytes", "control characters", "not UTF-8", "at most 512"):
+    for said in ("1,048,576 bytes", "control characters", "not-utf8-\\xff.c: left out: its name is not UTF-8", "at most 512"):
         assert said in ran.stderr
 
 
@@ -267,6 +283,9 @@ def test_a_configuration_gives_defaults(client: Client, tmp_path: Path) -> None:
     ("[server]\naddr = 'x'", "server is no option"),
     ("addr = 'x'", "HOST:PORT"),
     ("output = 'x'", "is no option"),
+    ('cqd = "x\\u0000"', "cqd has a NUL"),
+    ('encoding = "x\\u0000"', "encoding has a NUL"),
+    ('paths = ["x\\u0000"]', "paths has a NUL"),
 ])
 def test_a_configuration_that_is_wrong(client: Client, tmp_path: Path, text: str, said: str) -> None:
     make(tmp_path, "a.c")

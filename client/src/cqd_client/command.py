@@ -68,7 +68,9 @@ def tree_asked(options: argparse.Namespace, root: Path, own: Sequence[Path], not
             return None
     tree = tree_of(root, paths, read_listing(listing) if listing else None, choice_of(options, own), notes)
     if not tree.sources:
-        raise Fault(f"there are no source files in {', '.join(map(str, paths)) or listing}: nothing was uploaded or dropped")
+        where = ", ".join(map(str, paths)) or ("the list on standard input" if listing == "-" else f"the list {listing}")
+        first = "".join(f" ({skipped.path}: {skipped.why})" for skipped in tree.skipped[:1])
+        raise Fault(f"there are no source files in {where}{first}: nothing was uploaded or dropped")
     if len(tree.sources) > CHANGE_LIMIT - 2:
         raise Fault(f"{len(tree.sources):,} source files, and a server holds at most {CHANGE_LIMIT - 2:,}: choose fewer by --include and "
                     "--exclude")
@@ -181,7 +183,8 @@ def concluded(call: Call, report: Optional[Report]) -> int:
     left_out = bool(done and done.skipped)
     if report is None:
         assert done is not None
-        print(done.summary())
+        with outputs.standard_output() as out:
+            out.write(done.summary() + "\n")
         return UNKNOWN if left_out else PASSED
     if "fault" in (vars(options).get("fail_on") or []):
         judged = [file for file in call.files if options.command != "check" or file.path in call.lines]
@@ -221,7 +224,11 @@ def check_options(options: argparse.Namespace, metrics: Sequence[str]) -> None:
 
 def options_of(words: Optional[Sequence[str]]) -> argparse.Namespace:
     parser = arguments.parser()
-    options = parser.parse_args(words)
+    options = arguments.parsed(parser, words)
+    try:
+        os.getcwd()
+    except OSError as error:
+        raise Fault(f"the current folder can't be used: {error.strerror}") from error
     try:
         config.complete(options, arguments.by_name(parser))
         conflict = arguments.conflict(options)
@@ -245,9 +252,7 @@ def main(words: Optional[Sequence[str]] = None) -> int:
         signal.signal(signal.SIGTERM, interrupted)
         if isinstance(sys.stdout, io.TextIOWrapper):
             sys.stdout.reconfigure(encoding="utf-8", errors="backslashreplace")
-        status = run(options_of(words), notes)
-        sys.stdout.flush()
-        return status
+        return run(options_of(words), notes)
     except Misuse as misuse:
         notes.say(str(misuse))
         return MISUSED
@@ -256,10 +261,7 @@ def main(words: Optional[Sequence[str]] = None) -> int:
     except KeyboardInterrupt:
         notes.say("interrupted")
     except OSError as error:
-        # what is left to write can't be, and Python would try once more at its end
-        os.dup2(os.open(os.devnull, os.O_WRONLY), sys.stdout.fileno())
-        if not isinstance(error, BrokenPipeError):
-            notes.say(str(error))
+        notes.say(f"{os.fsdecode(error.filename)}: {error.strerror}" if isinstance(error.filename, (bytes, str)) else str(error))
     except Exception:  # pylint: disable=broad-exception-caught
         notes.clear()
         traceback.print_exc()

@@ -106,6 +106,8 @@ def checked(where: str, action: argparse.Action, value: Any) -> Any:
     for one in values:
         if isinstance(one, bool) or not isinstance(one, (str, int, float)):
             raise Misuse(f"{where} has the value {one!r}, which the option does not take")
+        if "\0" in str(one):
+            raise Misuse(f"{where} has a NUL, which the command line can't have")
         try:
             made.append(action.type(str(one)) if callable(action.type) else str(one))
         except argparse.ArgumentTypeError as error:

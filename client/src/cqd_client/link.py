@@ -141,6 +141,38 @@ def connected(address: Address, context: Optional[ssl.SSLContext], timeout: floa
     return Link(connection, timeout)
 
 
+def start(program: str, arguments: list[str], stdin: int, stdout: int) -> subprocess.Popen[bytes]:
+    try:
+        return subprocess.Popen([program, *arguments], stdin=stdin, stdout=stdout)  # pylint: disable=R1732
+    except OSError as error:
+        raise Fault(f"{program} can't be started: {error.strerror}; --cqd names the program") from error
+
+
+def cause(status: int) -> str:
+    """How a program ended that has this exit status."""
+    if status < 0:
+        return f"by signal {-status}" + (", perhaps since memory was short" if status == -9 else "")
+    meanings = {1: "its arguments are wrong", 4: "out of memory", 70: "the program could not be built"}
+    return f"with status {status}" + (f" ({meanings[status]})" if status in meanings else "")
+
+
+def build(program: str) -> None:
+    """Lets the launcher of a checkout build the program before it is started: that takes longer than any reply may. The launcher says
+    on standard error how far it is, and why it can't. If this call is ended meanwhile, so is the build."""
+    if not (Path(program).parent / "crates.txt").exists():
+        return
+    launcher = start(program, ["run"], subprocess.DEVNULL, subprocess.DEVNULL)
+    try:
+        status = launcher.wait()
+    except KeyboardInterrupt:
+        launcher.terminate()
+        with contextlib.suppress(subprocess.TimeoutExpired):
+            launcher.wait(END_SECONDS)
+        raise
+    if status != 0:
+        raise Fault(f"{program} ended {cause(status)}")
+
+
 class Program:
     """A server that the call starts: a process at the other end of a pair of sockets. It keeps to its time, or is killed."""
 
@@ -150,10 +182,10 @@ class Program:
         self.link = Link(ours, timeout)
         with its:
             try:
-                self.process = subprocess.Popen([program, "run", *arguments], stdin=its.fileno(), stdout=its.fileno())  # pylint: disable=R1732
-            except OSError as error:
+                self.process = start(program, ["run", *arguments], its.fileno(), its.fileno())
+            except Fault:
                 ours.close()
-                raise Fault(f"{program} can't be started: {error.strerror}; --cqd names the program") from error
+                raise
 
     def end(self) -> None:
         """Ends it as its protocol has it. Its replies hold only if it then exits with 0."""
@@ -163,18 +195,12 @@ class Program:
         except subprocess.TimeoutExpired as error:
             raise Fault(f"{self.name} has not ended after its last reply") from error
         if status != 0:
-            raise Fault(f"{self.name} ended {self.cause(status)}")
-
-    def cause(self, status: int) -> str:
-        if status < 0:
-            return f"by signal {-status}" + (", perhaps since memory was short" if status == -9 else "")
-        meanings = {1: "its arguments are wrong", 4: "out of memory", 70: "it could not be built"}
-        return f"with status {status}" + (f" ({meanings[status]})" if status in meanings else "")
+            raise Fault(f"{self.name} ended {cause(status)}")
 
     def ended(self) -> str:
         """How it ended, after the link was lost."""
         try:
-            return f"{self.name} ended {self.cause(self.process.wait(END_SECONDS))}"
+            return f"{self.name} ended {cause(self.process.wait(END_SECONDS))}"
         except subprocess.TimeoutExpired:
             return f"{self.name} closed its output"
 

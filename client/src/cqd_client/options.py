@@ -2,7 +2,10 @@
 from __future__ import annotations
 
 import argparse
+import contextlib
 import re
+import sys
+from collections.abc import Sequence
 from pathlib import Path
 from typing import Any, Callable, NoReturn, Optional
 
@@ -10,6 +13,8 @@ from . import __version__, formats
 from .faults import MISUSED, STATUSES
 from .findings import DENSITY, SORTS
 from .link import Address
+from .outputs import standard_output
+from .wording import shown
 
 DESCRIPTION = """Uploads source files to cqd, and asks what is duplicated in them and whether the project passes its quality gate.
 Without --addr each call starts its own server and stops it; with --addr it uses one that is already running.
@@ -34,6 +39,15 @@ UPLOADING = (*ASKING, "put")
 
 class Parser(argparse.ArgumentParser):
     """Refuses arguments with a status of their own."""
+
+    def _print_message(self, message: str, file: Any = None) -> None:
+        """Help that can't be written is a fault, and a refusal that can't be is one all the same: versions of argparse differ."""
+        if file is sys.stdout:
+            with standard_output() as out:
+                out.write(message)
+        else:
+            with contextlib.suppress(OSError):
+                sys.stderr.write(message)
 
     def error(self, message: str) -> NoReturn:
         self.exit(MISUSED, f"{self.prog}: {message.removeprefix('argument ')}; {self.prog} --help describes the arguments\n")
@@ -65,7 +79,7 @@ def project_name(word: str) -> str:
 
 def address(word: str) -> Address:
     host, _, port = word.strip().rpartition(":")
-    if not host or not re.fullmatch(r"[0-9]{1,5}", port) or not 1 <= int(port) <= 65_535:
+    if not host or not host.isprintable() or not re.fullmatch(r"[0-9]{1,5}", port) or not 1 <= int(port) <= 65_535:
         raise argparse.ArgumentTypeError(f"{word!r} is not HOST:PORT")
     return Address(host[1:-1] if host.startswith("[") and host.endswith("]") else host, int(port))
 
@@ -92,7 +106,8 @@ def parser() -> Parser:
             one.add_argument("page", metavar="OUT.html", type=path, help="the page")
         if command in UPLOADING:
             one.add_argument("paths", metavar="PATH", type=path, nargs="*", default=[], help="a folder or file to upload")
-        one.add_argument("--project", metavar="NAME", type=project_name, help="the project; without --addr, the root folder's name")
+        one.add_argument("--project", metavar="NAME", type=project_name,
+                         help="the project" + ("; without --addr, the root folder's name" if command in UPLOADING else ""))
         one.add_argument("--config", metavar="FILE", help="the configuration; default .cqd.toml here or in a folder above")
         if command in ASKING:
             add_questions(one, command)
@@ -102,6 +117,17 @@ def parser() -> Parser:
             add_program(one)
         add_server(one, command)
     return whole
+
+
+def parsed(whole: Parser, words: Optional[Sequence[str]]) -> argparse.Namespace:
+    """The options. A PATH may also come after options, which argparse does not take for one."""
+    options, left = whole.parse_known_args(words)
+    if left and ("paths" not in options or any(word.startswith("-") or not word for word in left)):
+        whole.exit(MISUSED, f"{whole.prog} {options.command}: unrecognized arguments: {' '.join(map(shown, left))}; "
+                            f"{whole.prog} {options.command} --help describes the arguments\n")
+    if left:
+        options.paths = [*options.paths, *map(Path, left)]
+    return options
 
 
 def add_questions(one: argparse.ArgumentParser, command: str) -> None:

@@ -41,6 +41,20 @@ def check_targets(options: argparse.Namespace) -> None:
             raise Fault(f"{target} can't be written: " + ("it is a folder" if target.is_dir() else "no such folder, or no permission"))
 
 
+@contextlib.contextmanager
+def standard_output() -> Iterator[TextIO]:
+    """Standard output, which has all that was written when this ends. If its reader has left, the call ends without a message."""
+    try:
+        yield sys.stdout
+        sys.stdout.flush()
+    except OSError as error:
+        # what is left to write can't be, and Python would try once more at its end
+        os.dup2(os.open(os.devnull, os.O_WRONLY), sys.stdout.fileno())
+        if isinstance(error, BrokenPipeError):
+            sys.exit(UNKNOWN)
+        raise Fault(f"standard output can't be written: {error.strerror}") from error
+
+
 def write(report: Report, options: argparse.Namespace) -> None:
     """Writes the report. Files appear as a whole, and what stood there stays if that fails."""
     ordered = arranged(report, options.sort or "", options.top)
@@ -56,9 +70,11 @@ def write(report: Report, options: argparse.Namespace) -> None:
     if len(files) < len(names):
         whole = io.StringIO()
         write_one(ordered, names[-1], options.command, whole)
-        sys.stdout.write(whole.getvalue())
+        with standard_output() as out:
+            out.write(whole.getvalue())
     elif report.verdict:
-        formats.write(dataclasses.replace(report, groups=(), total=0, functions=()), "text", sys.stdout)
+        with standard_output() as out:
+            formats.write(dataclasses.replace(report, groups=(), total=0, functions=()), "text", out)
 
 
 def descriptor_of(target: Path) -> Optional[int]:
@@ -79,9 +95,11 @@ def replaced(target: Path) -> Iterator[TextIO]:
     """A file that takes the place of the target, or of what it links to, when it is whole; or the stream that the target is."""
     if is_stream(target):
         descriptor = descriptor_of(target)
-        sys.stdout.flush()
-        with open(target if descriptor is None else os.dup(descriptor), "w", encoding="utf-8", errors="backslashreplace") as out:
-            yield out
+        try:
+            with open(target if descriptor is None else os.dup(descriptor), "w", encoding="utf-8", errors="backslashreplace") as out:
+                yield out
+        except OSError as error:
+            raise Fault(f"{target} can't be written: {error.strerror}") from error
         return
     beside = ""
     target = real(target)

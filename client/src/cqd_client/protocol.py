@@ -5,16 +5,14 @@ import collections
 import contextlib
 import itertools
 import json
-import subprocess
 import time
 import uuid
 from collections.abc import Iterable, Iterator
-from pathlib import Path
 from typing import Any, Callable, NamedTuple, Optional
 
 from .faults import Fault, Lost, Restarted
 from .findings import member
-from .link import Address, Link, Program, Tls, connected
+from .link import Address, Link, Program, Tls, build, connected
 
 # So many requests are under way at a time, and so many bytes. Either they or their replies are short, so that the short ones
 # fit in what a connection holds (more than 250 of them, each sent on its own), and neither end waits for the other.
@@ -245,13 +243,6 @@ def started(program: str, arguments: list[str], timeout: float) -> Iterator[Serv
         raise
     finally:
         own.close()
-
-
-def build(program: str) -> None:
-    """Lets the launcher of a checkout build the program first: that takes longer than any reply may."""
-    if (Path(program).parent / "crates.txt").exists():
-        with contextlib.suppress(OSError):
-            subprocess.run([program, "run"], stdin=subprocess.DEVNULL, stdout=subprocess.DEVNULL, check=False)
 
 
 def greeting(project: str) -> Request:

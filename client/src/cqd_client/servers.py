@@ -13,6 +13,7 @@ from .faults import PASSED, Fault
 from .findings import files_of, member
 from .link import Tls, found_program, owner
 from .notes import Notes
+from .outputs import standard_output
 from .protocol import Server, reached, started
 from .state import State
 from .wording import counted
@@ -62,13 +63,16 @@ def status(options: argparse.Namespace, timeout: float) -> int:
         with reached(address, tls_of(options), options.timeout or timeout, options.project or "") as server:
             state = server.answer({"op": "state"}).members
             accepted, done, published = (member(state, name, int) for name in ("accepted", "done", "published"))
-            print(f"{address}: {counted(accepted, 'change')} accepted, {accepted - done:,} not analysed yet, "
-                  f"last answer at version {published:,}")
+            lines = [f"{address}: {counted(accepted, 'change')} accepted, {accepted - done:,} not analysed yet, "
+                     f"last answer at version {published:,}\n"]
             if options.project and address == owner(options.addr, options.project):
                 files = files_of(server.files(options.project).members)
-                print(f"  project {options.project}: {counted(len(files), 'file')}, {counted(sum(file.lines for file in files), 'line')}, "
-                      f"{counted(sum(file.tokens for file in files), 'token')}, "
-                      f"{counted(sum(file.state != 'ok' for file in files), 'file')} without tokens")
+                lines.append(
+                    f"  project {options.project}: {counted(len(files), 'file')}, {counted(sum(file.lines for file in files), 'line')}, "
+                    f"{counted(sum(file.tokens for file in files), 'token')}, "
+                    f"{counted(sum(file.state != 'ok' for file in files), 'file')} without tokens\n")
+        with standard_output() as out:
+            out.writelines(lines)
     return PASSED
 
 
@@ -87,5 +91,6 @@ def remove(options: argparse.Namespace, timeout: float, state_file: Path) -> int
             raise Fault(f"project {options.project} has {counted(len(left), 'file')} again: another client uploads to it")
     if state_file.exists():
         State(state_file, str(address), options.project, Notes()).forget()
-    print(f"project {options.project} is removed: {counted(len(files), 'file')} dropped")
+    with standard_output() as out:
+        out.write(f"project {options.project} is removed: {counted(len(files), 'file')} dropped\n")
     return PASSED

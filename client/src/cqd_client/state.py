@@ -13,6 +13,7 @@ from typing import Any
 from .faults import Fault
 from .findings import METRICS, Condition
 from .notes import Notes
+from .tree import real
 
 FORM = 2
 
@@ -67,7 +68,8 @@ class State:
     """The entry of one project on one server. `keep` merges what this call changed into what the file has by then."""
 
     def __init__(self, file: Path, server: str, project: str, notes: Notes) -> None:
-        self.file = file
+        # by what its name leads to, since the file is replaced as a whole
+        self.file = real(file)
         self.key = (server, project)
         with self.locked():
             read, unreadable = self.read()
@@ -110,6 +112,8 @@ class State:
     def locked(self) -> Iterator[None]:
         """A lock of its own file: the state's own is replaced as a whole, and a lock would go with it."""
         name = self.file.with_name(self.file.name + ".lock")
+        if self.file.exists() and not self.file.is_file():
+            raise Fault(f"the state file {self.file} can't be used: it is no regular file; --state names another")
         try:
             with open(name, "ab") as lock:
                 fcntl.flock(lock, fcntl.LOCK_EX)

@@ -33,10 +33,10 @@ def known_encoding(name: str) -> str:
     try:
         # of no bytes, every name would do
         b"a".decode(name)
-    except LookupError as error:
-        raise Misuse(f"--encoding {name}: Python knows no such encoding of text") from error
-    except UnicodeError:
+    except UnicodeDecodeError:
         pass
+    except (LookupError, ValueError) as error:
+        raise Misuse(f"--encoding {name}: Python knows no such encoding of text") from error
     return name
 
 

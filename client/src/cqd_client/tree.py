@@ -1,6 +1,7 @@
 """Which files a call uploads, each with its path in the project and its language."""
 from __future__ import annotations
 
+import contextlib
 import functools
 import os
 import stat
@@ -261,7 +262,7 @@ def walked(tree: Tree, below: str, choice: Choice) -> Iterator[str]:
                 raise Fault(f"{above or tree.root} can't be read: {error.strerror}") from error
             tree.skipped.append(Skipped(above, str(error.strerror)))
             continue
-        if choice.reads_ignores and any(entry.name == b".gitignore" for entry in entries):
+        if choice.reads_ignores and any(entry.name == b".gitignore" and entry.is_file(follow_symlinks=False) for entry in entries):
             ignores = (*ignores, (above + "/" if above else "", ignore_of(tree.file(above))))
         for entry in entries:
             path = f"{above}/{path_of(entry.name)}" if above else path_of(entry.name)
@@ -273,19 +274,28 @@ def walked(tree: Tree, below: str, choice: Choice) -> Iterator[str]:
 
 
 def ignore_of(folder: bytes) -> Any:
-    """What the .gitignore of this folder says."""
+    """What the .gitignore of this folder says. A line that is no pattern fits nothing, as for git."""
     try:
         import pathspec  # pylint: disable=import-outside-toplevel
     except ImportError as error:
         raise Fault("python3-pathspec is needed to read .gitignore: install it, or read all files by --no-ignore") from error
-    with open(os.path.join(folder, b".gitignore"), encoding="utf-8", errors="surrogateescape") as file:
-        return pathspec.GitIgnoreSpec.from_lines(file)
+    name = os.path.join(folder, b".gitignore")
+    try:
+        with open(name, encoding="utf-8", errors="surrogateescape") as file:
+            lines = list(file)
+    except OSError as error:
+        raise Fault(f"{path_of(name)} can't be read: {error.strerror}") from error
+    patterns: list[Any] = []
+    for line in lines:
+        with contextlib.suppress(ValueError):
+            patterns += pathspec.GitIgnoreSpec.from_lines([line]).patterns
+    return patterns
 
 
 def is_ignored(path: str, ignores: tuple[tuple[str, Any], ...]) -> bool:
     """Whether the deepest .gitignore that has a pattern for the path leaves it out; of its patterns the last one counts."""
-    for above, spec in reversed(ignores):
-        for pattern in reversed(spec.patterns):
+    for above, patterns in reversed(ignores):
+        for pattern in reversed(patterns):
             if pattern.include is not None and pattern.match_file(path[len(above):]) is not None:
                 return bool(pattern.include)
     return False

@@ -16,8 +16,14 @@ def shown(text: str) -> str:
     """The text, with every character escaped that has no shape of its own or reorders those beside it."""
     if text.replace("\t", " ").isprintable():
         return text
-    return "".join(character.encode("unicode_escape").decode("ascii") if is_hidden(character) else character
-                   for character in text)
+    return "".join(escaped(character) if is_hidden(character) else character for character in text)
+
+
+def escaped(character: str) -> str:
+    """The character as an escape of Python. A byte of a name that isn't UTF-8 is a surrogate for Python, and shown as the byte."""
+    if "\udc80" <= character <= "\udcff":
+        return f"\\x{ord(character) - 0xDC00:02x}"
+    return character.encode("unicode_escape").decode("ascii")
 
 
 def is_hidden(character: str) -> bool:
