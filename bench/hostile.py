@@ -119,6 +119,16 @@ def listed(texts: Iterable[str], lang: str = "any", op: str = "groups", least: i
     return Sent([], uploads(texts, lang) + [ask(op, min=least)])
 
 
+def alike(files: int, period: int, count: int) -> Sent:
+    """Files with the same tokens, which repeat after a period."""
+    return listed([row(count, period)] * files)
+
+
+def tables_of_perl(file: Path, count: int) -> Sent:
+    """Tables of code points and of what they map to. Mostly a line has a number and a comma."""
+    return listed(["".join(file.read_text().splitlines(keepends=True)[:count // 2])], "c")
+
+
 def each_asked(lines: Iterable[bytes], query: bytes = NOTHING) -> list[bytes]:
     """These lines, each followed by a query."""
     return [it for one in lines for it in (one, query)]
@@ -391,14 +401,15 @@ def of_texts() -> Iterator[Shape]:
 # ---- the table
 
 SHORT = ("--chunk", "2")
+# git needs libperl on Debian; elsewhere this may not be there
+LIBPERL = sorted(Path("/usr/lib").glob("*/perl/*/CORE/charclass_invlists.h"))[:1]
 TABLE = [
     Shape("rows", "equal tokens in one file", 20_000, "n log n", lambda n: listed([row(n)])),
     Shape("rows", "equal tokens in each of two files", 20_000, "n log n", lambda n: listed([row(n)] * 2)),
     Shape("rows", "equal tokens in each of twenty files", 5_000, "n log n", lambda n: listed([row(n)] * 20)),
     Shape("rows", "two rows of equal tokens in one file", 20_000, "n log n", lambda n: listed([row(n) + " s " + row(n)])),
-    Shape("rows", "a period of 2 in each of two files", 20_000, "n log n", lambda n: listed([row(n, 2)] * 2)),
-    Shape("rows", "a period of 7 in each of two files", 20_000, "n log n", lambda n: listed([row(n, 7)] * 2)),
-    Shape("rows", "a period of 7 in each of twenty files", 5_000, "n log n", lambda n: listed([row(n, 7)] * 20)),
+    *(Shape("rows", f"a period of {it} in each of two files", 20_000, "n log n", functools.partial(alike, 2, it)) for it in range(2, 8)),
+    *(Shape("rows", f"a period of {it} in each of twenty files", 5_000, "n log n", functools.partial(alike, 20, it)) for it in range(2, 8)),
     Shape("rows", "a period of √n in each of two files", 10_000, "n log n", lambda n: listed([row(n, math.isqrt(n))] * 2)),
     Shape("rows", "rows of 100 equal tokens, a different one after each", 10_000, "n log n", lambda n: listed([rows(n, 100, "s{}".format)])),
     Shape("rows", "rows of 100 equal tokens, the same one after each", 10_000, "n log n", lambda n: listed([rows(n, 100, lambda _: "s")])),
@@ -407,6 +418,7 @@ TABLE = [
     Shape("rows", "rows of rows in each of two files", 10_000, "n log n", lambda n: listed([rows_of_rows(n)] * 2)),
     Shape("rows", "a row within each of two equal files", 5_000, "n log n", lambda n: listed([words(n) + " " + row(n) + " " + words(n, 2)] * 2)),
     Shape("rows", "a table of numbers of C, mostly zeros", 20_000, "n log n", lambda n: listed([numbers_of_c(n)], "c")),
+    *(Shape("rows", "tables of numbers of C, as libperl has them", 20_000, "n log n", functools.partial(tables_of_perl, it)) for it in LIBPERL),
     Shape("rows", "measures of equal tokens in one file", 20_000, "n log n", lambda n: listed([row(n)], op="measures")),
     Shape("rows", "measures of equal tokens in each of two files", 16_000, "n log n", lambda n: listed([row(n)] * 2, op="measures")),
     Shape("rows", "measures of equal tokens, each in a line", 20_000, "n log n", lambda n: listed([row(n).replace(" ", "\n")], op="measures")),
