@@ -163,7 +163,7 @@ def test_code_that_is_not_read_is_told(client: Client, tmp_path: Path) -> None:
     assert "1 file of other endings (.kt) is not read; --map '*.kt=LANGUAGE'" in client("put", ".", "--exclude", "lib/").stderr
     assert client("put", ".", "--exclude", "lib/", "--map", "*.kt=java").stderr == ""
     ran = client("put", ".", "--include", "Makefile")
-    assert ran.returncode == 2 and "1 file of other endings ((none)) is not read; --map 'PATTERN=LANGUAGE'" in ran.stderr
+    assert ran.returncode == 2 and "1 file of other endings (none) is not read; --map 'PATTERN=LANGUAGE'" in ran.stderr
 
 
 def test_paths_are_below_the_root(client: Client, tmp_path: Path, repository: Repository) -> None:
@@ -210,6 +210,10 @@ def test_what_no_request_can_hold(client: Client, tmp_path: Path) -> None:
     assert ran.returncode == 2 and ran.stdout.strip().endswith("1 uploaded, 0 unchanged, 0 dropped, 4 left out")
     for said in ("1,048,576 bytes", "control characters", "not-utf8-\\xff.c: left out: its name is not UTF-8", "at most 512"):
         assert said in ran.stderr
+    for names, said in ((("tab\tname.c",), "the only file could not be uploaded: tab\tname.c: its name"),
+                        (("tab\tname.c", "long.c"), "none of 2 files could be uploaded: long.c: it has more than 1,048,576 bytes")):
+        ran = client("put", *names)
+        assert ran.returncode == 2 and said in ran.stderr, ran.stderr
 
 
 def test_identical_files_once(client: Client, tmp_path: Path) -> None:

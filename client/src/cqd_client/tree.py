@@ -133,7 +133,7 @@ def tree_of(root: Path, paths: list[Path], listing: Optional[bytes], choice: Cho
             return
         lang = choice.language(path)
         if lang is None:
-            ending = ending_of(path) or "(none)"
+            ending = ending_of(path) or "none"
             others[ending] = others.get(ending, 0) + 1
             return
         try:

@@ -105,7 +105,9 @@ def one_pass(server: Server, project: str, done: Upload, state: Optional[State],
 def none_fit(done: Upload) -> str:
     first = next(iter(done.skipped), None)
     cause = f"{first.path}: {first.why}" if first else f"{done.binary[0]} is binary" if done.binary else "there are none"
-    return f"none of {counted(len(done.tree.sources), 'file')} could be uploaded: {cause}"
+    count = len(done.tree.sources)
+    which = "the only file could not" if count == 1 else f"none of {count:,} files could"
+    return f"{which} be uploaded: {cause}"
 
 
 def puts(project: str, done: Upload, entry: dict[str, Known], notes: Notes, once: bool) -> Iterator[Request]:
