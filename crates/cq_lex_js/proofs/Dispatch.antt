@@ -1,0 +1,50 @@
+-- The element at a front, by what is opened there.
+use Rattle.std.proofs.Common.{◌≡◌, ℕ, Option, Some, None, true, false, List, [], ◌∷◌, length, refl, ap, arith, length-take-le}
+use Rattle.std.proofs.lemmas.Bool.{eqb-true, and_parts}
+use Rattle.cq_munch.specs.Language.{Takes}
+use Rattle.cq_munch.specs.Longest.{LongestAt}
+use Rattle.cq_munch.specs.Table.{table, begins, found_of}
+use Rattle.cq_munch.specs.declared.element.Found.{Found}
+use Rattle.cq_munch.specs.declared.ends.LineEnds.TheVariants.{Separator}
+use Rattle.cq_munch.proofs.Joining.{takes_first, takes_rest, one_row_taken, no_comment}
+use Rattle.cq_lex_js.specs.JavaScript.{rows, literals, choices, nothing, opens_literal, opens_choice, opens_deeper, with_choices, with_literals, with_depth, unmarked}
+use Rattle.cq_lex_js.specs.Punctuators.{is_choice}
+
+-- the question mark by itself
+one_choice : (text : List ℕ) → is_choice text ≡ true → LongestAt choices.set text (Some 1)
+one_choice (a ∷ b ∷ c ∷ s) is = record {
+  some = omega arith;
+  within = omega arith;
+  spelled = ap (λ d. d ∷ []) (eqb-true a 63 (and_parts _ _ is).0);
+  longest = λ m more within h. let as_long = length-take-le m (a ∷ b ∷ c ∷ s) within in let one = ap length h in absurd (omega arith);
+}
+one_choice _ is = absurd (cc)
+
+module _ (at mode : ℕ) (text : List ℕ) (star : begins (47 ∷ 42 ∷ []) text ≡ false) (slash : begins (47 ∷ 47 ∷ []) text ≡ false) where
+  -- no comment, but one brace more than may be open
+  pub too_deep : opens_deeper at mode text ≡ true → Takes unmarked at mode text None
+  too_deep deep =
+      no_comment Separator with_depth at mode text None star slash
+      (takes_first opens_deeper (nothing ∷ []) with_literals at mode text deep None (one_row_taken at mode text nothing None None refl (λ m some within h. h)) (λ spell s. refl))
+
+  module _ (deep : opens_deeper at mode text ≡ false) (r : Option Found) where
+    not_deep : Takes with_literals at mode text r → Takes unmarked at mode text r
+    not_deep h = no_comment Separator with_depth at mode text r star slash (takes_rest opens_deeper (nothing ∷ []) with_literals at mode text deep r h)
+
+    -- a literal
+    pub literal_there : opens_literal at mode text ≡ true → Takes (table (literals ∷ [])) at mode text r → Takes unmarked at mode text r
+    literal_there is h = not_deep (takes_first opens_literal (literals ∷ []) with_choices at mode text is r h (λ spell s. refl))
+
+    module _ (none : opens_literal at mode text ≡ false) where
+      -- the question mark
+      pub choice_there : is_choice text ≡ true → r ≡ found_of choices.spell mode (Some 1) → Takes unmarked at mode text r
+      choice_there is r_is =
+          not_deep
+          (takes_rest opens_literal (literals ∷ []) with_choices at mode text none r
+          (takes_first opens_choice (choices ∷ []) (table rows) at mode text is r (one_row_taken at mode text choices (Some 1) r r_is (one_choice text is)) (λ spell s. refl)))
+
+      -- nothing is opened
+      pub no_opener : is_choice text ≡ false → Takes (table rows) at mode text r → Takes unmarked at mode text r
+      no_opener no h =
+          not_deep
+          (takes_rest opens_literal (literals ∷ []) with_choices at mode text none r (takes_rest opens_choice (choices ∷ []) (table rows) at mode text no r h))

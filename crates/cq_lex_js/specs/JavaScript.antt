@@ -1,0 +1,80 @@
+-- The table of JavaScript's elements (ECMA-262, 16th edition, clause 12).
+use Rattle.std.specs.Prelude.{◌≡◌, ℕ, Bool, ◌&&◌, ◌||◌, ◌==◌, false, List, [], ◌∷◌, map, codes}
+use Rattle.std.specs.Char.{is_ascii_digit}
+use Rattle.cq_base.specs.declared.token.Class.TheVariants.{Literal, Punct}
+use Rattle.cq_munch.specs.Commented.{commented}
+use Rattle.cq_munch.specs.Language.{Language, marked}
+use Rattle.cq_munch.specs.Pattern.{Pattern, Spells, except, only, many, ◌▸◌}
+use Rattle.cq_munch.specs.Patterned.{any_word, Patterned, with_reserved}
+use Rattle.cq_munch.specs.Table.{Row, table, first, moded, starts}
+use Rattle.cq_munch.specs.declared.element.Spell.TheVariants.{Blank, Comment, Token}
+use Rattle.cq_munch.specs.declared.ends.LineEnds.TheVariants.{Separator}
+use Rattle.cq_lex_js.specs.Characters.{stood, lined}
+use Rattle.cq_lex_js.specs.Literals.{feeds, literal}
+use Rattle.cq_lex_js.specs.Modes.{braces_of, is_full, ends_substitution, expects_operand, mode_behind}
+use Rattle.cq_lex_js.specs.Names.{name, keywords}
+use Rattle.cq_lex_js.specs.Punctuators.{punctuators, is_choice}
+
+-- 12.2, 12.3: tab, vertical tab, form feed and space; line feed and carriage return
+abbrev pub blank_characters : List (List ℕ)
+blank_characters = (9 ∷ []) ∷ (11 ∷ []) ∷ (12 ∷ []) ∷ (32 ∷ []) ∷ (10 ∷ []) ∷ (13 ∷ []) ∷ []
+
+-- 12.5: a hash, an exclamation mark and the rest of the line
+unfoldable pub hashbang : Pattern
+hashbang = only 35 ▸ only 33 ▸ many (except feeds)
+
+abbrev pub others : Patterned
+others = (Blank, any_word blank_characters) ∷ (Comment, hashbang) ∷ (Token Punct, any_word punctuators) ∷ []
+
+-- 12.7, 12.8: names, of which the reserved words are words, and the others
+abbrev pub rows : List Row
+rows = with_reserved stood name keywords others
+
+-- 12.9
+abbrev pub literals : Row
+literals = record { spell = Token Literal; set = λ s. Spells literal (map lined s) }
+
+-- 12.8, OptionalChainingPunctuator: no `?.` before a digit
+abbrev pub choices : Row
+choices = record { spell = Token Punct; set = λ s. s ≡ codes "?" }
+
+-- no spelling at all
+abbrev pub nothing : Row
+nothing = record { spell = Token Punct; set = λ s. ⊥ }
+
+abbrev pub is_quote : ℕ → Bool
+is_quote c = (c == 34) || ((c == 39) || (c == 96))
+
+abbrev pub is_fraction : List ℕ → Bool
+is_fraction (a ∷ b ∷ s) = (a == 46) && is_ascii_digit b
+is_fraction _ = false
+
+-- A digit or a quote begins a literal, and so does a point before a digit; a slash does where an operand is expected, and a closing
+-- brace where it ends a substitution.
+abbrev pub opens_literal : ℕ → ℕ → List ℕ → Bool
+opens_literal at mode text =
+    starts (λ c. is_ascii_digit c || (is_quote c || (((c == 47) && expects_operand mode) || ((c == 125) && ends_substitution mode)))) text
+    || is_fraction text
+
+abbrev pub opens_choice : ℕ → ℕ → List ℕ → Bool
+opens_choice at mode text = is_choice text
+
+-- where 60 braces are open inside substitutions, none is opened, and no template begins
+abbrev pub opens_deeper : ℕ → ℕ → List ℕ → Bool
+opens_deeper at mode text = is_full (braces_of mode) && starts (λ c. (c == 123) || (c == 96)) text
+
+-- 12.4: If a comment or one of these is opened, only its own row is tried.
+abbrev pub with_choices : Language
+with_choices = first opens_choice (choices ∷ []) (table rows)
+
+abbrev pub with_literals : Language
+with_literals = first opens_literal (literals ∷ []) with_choices
+
+abbrev pub with_depth : Language
+with_depth = first opens_deeper (nothing ∷ []) with_literals
+
+abbrev pub unmarked : Language
+unmarked = commented Separator with_depth
+
+abbrev pub javascript : Language
+javascript = marked (moded mode_behind unmarked)

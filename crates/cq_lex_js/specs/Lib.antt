@@ -1,0 +1,11 @@
+pub mod Characters
+pub mod Names
+pub mod Punctuators
+pub mod Numbers
+pub mod Literals
+pub mod Modes
+pub mod Stack
+pub mod JavaScript
+pub mod Scanner
+pub mod LiteralScanner
+pub mod OneKind
