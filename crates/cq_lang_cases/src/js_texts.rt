@@ -7,6 +7,7 @@ const NAMES: &str = r#" ⇒
 été $a _b a$1 ℘ a·b ⇒ iété · i$a · i_b · ia$1 · i℘ · ia·b
 #a this.#b #\u0061 ⇒ i#a · wthis · p. · i#b · i#\u0061
 \u0061b a\u{62} \u{1F600} a\u00e9 ⇒ i\u0061b · ia\u{62} · i\u{1F600} · ia\u00e9
+a.if ?.new?. /*b*/ this. return...if.\u0061 {if:1} ⇒ ia · p. · iif · p?. · inew · p?. · ithis · p. · ireturn · p... · wif · p. · i\u0061 · p{ · wif · p: · l1 · p}
 let static of async get set as from ⇒ ilet · istatic · iof · iasync · iget · iset · ias · ifrom
 instance_of ifx newer inn w\u0068ile ⇒ iinstance_of · iifx · inewer · iinn · iw\u0068ile
 a/**/b//x␍c//␊d/*␊*/e ⇒ ia · ib · ic · id · ie
@@ -14,7 +15,8 @@ a/**/b//x␍c//␊d/*␊*/e ⇒ ia · ib · ic · id · ie
 a<!--b␊-->c ⇒ ia · p< · p! · p-- · ib · p-- · p> · ic
 "#;
 
-const NUMBERS: &str = r#"0 10 1_0 1. .5 1.5e3 1E-1_0 0.0 5..a ⇒ l0 · l10 · l1_0 · l1. · l.5 · l1.5e3 · l1E-1_0 · l0.0 · l5. · p. · ia
+const NUMBERS: &str =
+    r#"0 10 1_0 1. .5 1.5e3 1E-1_0 0.0 5..a ⇒ l0 · l10 · l1_0 · l1. · l.5 · l1.5e3 · l1E-1_0 · l0.0 · l5. · p. · ia
 0b1_0 0B1 0o17 0O7 0xFf 0X1_a ⇒ l0b1_0 · l0B1 · l0o17 · l0O7 · l0xFf · l0X1_a
 0n 10n 1_0n 0xFn 0b1n 0o7n ⇒ l0n · l10n · l1_0n · l0xFn · l0b1n · l0o7n
 010 07 08 09.5 010.5 0089e1 ⇒ l010 · l07 · l08 · l09.5 · l010 · l.5 · l0089e1
@@ -27,19 +29,21 @@ const STRINGS: &str = r#"'' "" '"' "'" '\'' "\"" ⇒ l'' · l"" · l'"' · l"'" 
 '\x41\u0041\u{41}\0' "//" '/*' "`" "${a}" ⇒ l'\x41\u0041\u{41}\0' · l"//" · l'/*' · l"`" · l"${a}"
 "#;
 
-const REGEXES: &str = r#"/a/,/[/]/,/\//gi,/[\]/]/u.x ⇒ l/a/ · p, · l/[/]/ · p, · l/\//gi · p, · l/[\]/]/u · p. · ix
+const REGEXES: &str =
+    r#"/a/,/[/]/,/\//gi,/[\]/]/u.x ⇒ l/a/ · p, · l/[/]/ · p, · l/\//gi · p, · l/[\]/]/u · p. · ix
 a/b/c (a)/b/c [a]/b/c a++/b/c ⇒ ia · p/ · ib · p/ · ic · p( · ia · p) · p/ · ib · p/ · ic · p[ · ia · p] · p/ · ib · p/ · ic · ia · p++ · p/ · ib · p/ · ic
 a=/b/g,/c/;(/d/)[/e/]{/f/} ⇒ ia · p= · l/b/g · p, · l/c/ · p; · p( · l/d/ · p) · p[ · l/e/ · p] · p{ · l/f/ · p}
 }/a/g a=b+/c/ !/d/ ?/e/:/f/ =>/g/ ...(/h/) ⇒ p} · l/a/g · ia · p= · ib · p+ · l/c/ · p! · l/d/ · p? · l/e/ · p: · l/f/ · p=> · l/g/ · p... · p( · l/h/ · p)
 return/a/ typeof /b/ case/c/: in /d/ else/e/ yield /f/ ⇒ wreturn · l/a/ · wtypeof · l/b/ · wcase · l/c/ · p: · win · l/d/ · welse · l/e/ · wyield · l/f/
 this/a/g null/2 true/2 super/2 1/2/3 "a"/b/c /x/g/2 ⇒ wthis · p/ · ia · p/ · ig · wnull · p/ · l2 · wtrue · p/ · l2 · wsuper · p/ · l2 · l1 · p/ · l2 · p/ · l3 · l"a" · p/ · ib · p/ · ic · p/ · ix · p/ · ig · p/ · l2
-a.return/b/c a?.if/b/c a.b/c/d a. /**/ new/b/c ⇒ ia · p. · wreturn · p/ · ib · p/ · ic · ia · p?. · wif · p/ · ib · p/ · ic · ia · p. · ib · p/ · ic · p/ · id · ia · p. · wnew · p/ · ib · p/ · ic
+a.return/b/c a?.if/b/c a.b/c/d a. /**/ new/b/c ⇒ ia · p. · ireturn · p/ · ib · p/ · ic · ia · p?. · iif · p/ · ib · p/ · ic · ia · p. · ib · p/ · ic · p/ · id · ia · p. · inew · p/ · ib · p/ · ic
 a/*b*//c/d ⇒ ia · p/ · ic · p/ · id
 =/=/ a/=b ⇒ p= · l/=/ · ia · p/= · ib
 /[/*]/ //c ⇒ l/[/*]/
 "#;
 
-const TEMPLATES: &str = r#"`` `a` `$` `$$a` `\`` `\${` `{}` `'"//` ⇒ l`` · l`a` · l`$` · l`$$a` · l`\`` · l`\${` · l`{}` · l`'"//`
+const TEMPLATES: &str =
+    r#"`` `a` `$` `$$a` `\`` `\${` `{}` `'"//` ⇒ l`` · l`a` · l`$` · l`$$a` · l`\`` · l`\${` · l`{}` · l`'"//`
 `a${b}c` `${a}${b}` ⇒ l`a${ · ib · l}c` · l`${ · ia · l}${ · ib · l}`
 `$${a}$$` `a␊b` ⇒ l`$${ · ia · l}$$` · l`a␊b`
 `${{}}` `${{a:{}}}b` ⇒ l`${ · p{ · p} · l}` · l`${ · p{ · ia · p: · p{ · p} · p} · l}b`
@@ -49,7 +53,8 @@ a`b`/c/d `${/}/}`/e/f `${a}`/g/h ⇒ ia · l`b` · p/ · ic · p/ · id · l`${ 
 {`${a}`} `b` ⇒ p{ · l`${ · ia · l}` · p} · l`b`
 "#;
 
-const WORDS: &str = r#"await break case catch class const ⇒ wawait · wbreak · wcase · wcatch · wclass · wconst
+const WORDS: &str =
+    r#"await break case catch class const ⇒ wawait · wbreak · wcase · wcatch · wclass · wconst
 continue debugger default delete do else ⇒ wcontinue · wdebugger · wdefault · wdelete · wdo · welse
 enum export extends false finally for ⇒ wenum · wexport · wextends · wfalse · wfinally · wfor
 function if import in instanceof new ⇒ wfunction · wif · wimport · win · winstanceof · wnew
@@ -58,7 +63,8 @@ true try typeof var void while ⇒ wtrue · wtry · wtypeof · wvar · wvoid · 
 with yield ⇒ wwith · wyield
 "#;
 
-const PUNCTUATORS: &str = r#"{ } ( ) [ ] . ... ; , ⇒ p{ · p} · p( · p) · p[ · p] · p. · p... · p; · p,
+const PUNCTUATORS: &str =
+    r#"{ } ( ) [ ] . ... ; , ⇒ p{ · p} · p( · p) · p[ · p] · p. · p... · p; · p,
 < > <= >= == != === !== ⇒ p< · p> · p<= · p>= · p== · p!= · p=== · p!==
 + - * % ** ++ -- << >> >>> ⇒ p+ · p- · p* · p% · p** · p++ · p-- · p<< · p>> · p>>>
 & | ^ ! ~ && || ?? ? ?. : ⇒ p& · p| · p^ · p! · p~ · p&& · p|| · p?? · p? · p?. · p:

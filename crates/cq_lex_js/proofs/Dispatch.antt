@@ -7,7 +7,8 @@ use Rattle.cq_munch.specs.Table.{table, begins, found_of}
 use Rattle.cq_munch.specs.declared.element.Found.{Found}
 use Rattle.cq_munch.specs.declared.ends.LineEnds.TheVariants.{Separator}
 use Rattle.cq_munch.proofs.Joining.{takes_first, takes_rest, one_row_taken, no_comment}
-use Rattle.cq_lex_js.specs.JavaScript.{rows, literals, choices, nothing, opens_literal, opens_choice, opens_deeper, with_choices, with_literals, with_depth, unmarked}
+use Rattle.cq_lex_js.specs.JavaScript.{rows, properties, literals, choices, nothing, follows_point, opens_literal, opens_choice, opens_deeper, with_properties, with_choices, with_literals, with_depth, unmarked}
+use Rattle.cq_lex_js.specs.Modes.{is_after_point}
 use Rattle.cq_lex_js.specs.Punctuators.{is_choice}
 
 -- the question mark by itself
@@ -41,10 +42,18 @@ module _ (at mode : ℕ) (text : List ℕ) (star : begins (47 ∷ 42 ∷ []) tex
       choice_there is r_is =
           not_deep
           (takes_rest opens_literal (literals ∷ []) with_choices at mode text none r
-          (takes_first opens_choice (choices ∷ []) (table rows) at mode text is r (one_row_taken at mode text choices (Some 1) r r_is (one_choice text is)) (λ spell s. refl)))
+          (takes_first opens_choice (choices ∷ []) with_properties at mode text is r (one_row_taken at mode text choices (Some 1) r r_is (one_choice text is)) (λ spell s. refl)))
 
-      -- nothing is opened
-      pub no_opener : is_choice text ≡ false → Takes (table rows) at mode text r → Takes unmarked at mode text r
-      no_opener no h =
-          not_deep
-          (takes_rest opens_literal (literals ∷ []) with_choices at mode text none r (takes_rest opens_choice (choices ∷ []) (table rows) at mode text no r h))
+      module _ (other : is_choice text ≡ false) where
+        not_opened : Takes with_properties at mode text r → Takes unmarked at mode text r
+        not_opened h =
+            not_deep
+            (takes_rest opens_literal (literals ∷ []) with_choices at mode text none r (takes_rest opens_choice (choices ∷ []) with_properties at mode text other r h))
+
+        -- nothing is opened, after a point
+        pub property_there : is_after_point mode ≡ true → Takes (table properties) at mode text r → Takes unmarked at mode text r
+        property_there is h = not_opened (takes_first follows_point properties (table rows) at mode text is r h (λ spell s. refl))
+
+        -- and anywhere else
+        pub no_opener : is_after_point mode ≡ false → Takes (table rows) at mode text r → Takes unmarked at mode text r
+        no_opener is h = not_opened (takes_rest follows_point properties (table rows) at mode text is r h)

@@ -11,13 +11,16 @@ use Rattle.cq_munch.specs.declared.element.Spell.TheVariants.{Blank, Comment, To
 use Rattle.cq_munch.specs.declared.ends.LineEnds.TheVariants.{Separator}
 use Rattle.cq_lex_js.specs.Characters.{stood, lined}
 use Rattle.cq_lex_js.specs.Literals.{feeds, literal}
-use Rattle.cq_lex_js.specs.Modes.{braces_of, is_full, ends_substitution, expects_operand, mode_behind}
+use Rattle.cq_lex_js.specs.Modes.{braces_of, is_full, ends_substitution, expects_operand, is_after_point, mode_behind}
 use Rattle.cq_lex_js.specs.Names.{name, keywords}
 use Rattle.cq_lex_js.specs.Punctuators.{punctuators, is_choice}
 
 -- 12.2, 12.3: tab, vertical tab, form feed and space; line feed and carriage return
 abbrev pub blank_characters : List (List ℕ)
 blank_characters = (9 ∷ []) ∷ (11 ∷ []) ∷ (12 ∷ []) ∷ (32 ∷ []) ∷ (10 ∷ []) ∷ (13 ∷ []) ∷ []
+
+abbrev pub is_blank : ℕ → Bool
+is_blank c = (c == 32) || ((c == 10) || ((c == 9) || ((c == 13) || ((c == 11) || (c == 12)))))
 
 -- 12.5: a hash, an exclamation mark and the rest of the line
 unfoldable pub hashbang : Pattern
@@ -29,6 +32,10 @@ others = (Blank, any_word blank_characters) ∷ (Comment, hashbang) ∷ (Token P
 -- 12.7, 12.8: names, of which the reserved words are words, and the others
 abbrev pub rows : List Row
 rows = with_reserved stood name keywords others
+
+-- after a point no word is reserved (13.3, MemberExpression)
+abbrev pub properties : List Row
+properties = with_reserved stood name [] others
 
 -- 12.9
 abbrev pub literals : Row
@@ -56,6 +63,9 @@ opens_literal at mode text =
     starts (λ c. is_ascii_digit c || (is_quote c || (((c == 47) && expects_operand mode) || ((c == 125) && ends_substitution mode)))) text
     || is_fraction text
 
+abbrev pub follows_point : ℕ → ℕ → List ℕ → Bool
+follows_point at mode text = is_after_point mode
+
 abbrev pub opens_choice : ℕ → ℕ → List ℕ → Bool
 opens_choice at mode text = is_choice text
 
@@ -64,8 +74,11 @@ abbrev pub opens_deeper : ℕ → ℕ → List ℕ → Bool
 opens_deeper at mode text = is_full (braces_of mode) && starts (λ c. (c == 123) || (c == 96)) text
 
 -- 12.4: If a comment or one of these is opened, only its own row is tried.
+abbrev pub with_properties : Language
+with_properties = first follows_point properties (table rows)
+
 abbrev pub with_choices : Language
-with_choices = first opens_choice (choices ∷ []) (table rows)
+with_choices = first opens_choice (choices ∷ []) with_properties
 
 abbrev pub with_literals : Language
 with_literals = first opens_literal (literals ∷ []) with_choices

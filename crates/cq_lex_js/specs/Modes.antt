@@ -35,16 +35,16 @@ ends_substitution mode = braces_of mode % 2 == 1
 abbrev pub expects_operand : ℕ → Bool
 expects_operand mode = not (mode % 4 == 1)
 
+-- a name is a property's, also if it is spelled as a reserved word
+abbrev pub is_after_point : ℕ → Bool
+is_after_point mode = mode % 4 == 2
+
 abbrev pub is : List ℕ → List ℕ → Bool
 is word s = bytes_eq word s
 
 -- reserved words that end an operand
 abbrev pub ends_operand : List ℕ → Bool
 ends_operand s = is (codes "this") s || (is (codes "super") s || (is (codes "null") s || (is (codes "true") s || is (codes "false") s)))
-
--- after a point a reserved word is a property's name
-abbrev pub after_word : ℕ → List ℕ → ℕ
-after_word mode s = if (mode % 4 == 2) || ends_operand s then 1 else 0
 
 -- only a template begins with a backquote or a brace, or ends with a brace
 abbrev pub after_literal : ℕ → List ℕ → ℕ
@@ -64,7 +64,7 @@ braces_after braces s = if is (codes "{") s then opened braces 0 else if is (cod
 
 abbrev pub after_token : ℕ → Class → List ℕ → ℕ
 after_token mode Ident s = after (braces_of mode) 1
-after_token mode Word s = after (braces_of mode) (after_word mode s)
+after_token mode Word s = after (braces_of mode) (if ends_operand s then 1 else 0)
 after_token mode Literal s = after_literal (braces_of mode) s
 after_token mode Punct s = after (braces_after (braces_of mode) s) (after_punctuator s)
 

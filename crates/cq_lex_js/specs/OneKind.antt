@@ -11,11 +11,11 @@ use Rattle.cq_munch.specs.PlainNames.{plain_fits, IsItselfBelow}
 use Rattle.cq_munch.specs.Scanners.{IsScanner}
 use Rattle.cq_munch.specs.Table.{table, moded}
 use Rattle.cq_munch.specs.declared.ends.LineEnds.TheVariants.{Separator}
-use Rattle.cq_munch.proofs.OneKind.{of_table, of_first, of_commented, of_marked}
+use Rattle.cq_munch.proofs.OneKind.{of_table, of_first, of_first_rows, of_commented, of_marked}
 use Rattle.cq_munch.proofs.Reserving.{one_kind_reserved, words_spelled}
 use Rattle.cq_munch.proofs.Steps.{behind_word}
 use Rattle.cq_lex_js.specs.Characters.{begins_name, continues_name, is_wide_blank, stood}
-use Rattle.cq_lex_js.specs.JavaScript.{javascript, hashbang, others, rows, literals, choices, nothing, opens_literal, opens_choice, opens_deeper, with_choices, with_literals, with_depth, unmarked}
+use Rattle.cq_lex_js.specs.JavaScript.{javascript, hashbang, others, rows, properties, literals, choices, nothing, follows_point, opens_literal, opens_choice, opens_deeper, with_properties, with_choices, with_literals, with_depth, unmarked}
 use Rattle.cq_lex_js.specs.Modes.{mode_behind}
 use Rattle.cq_lex_js.specs.Names.{name, keywords}
 use Rattle.cq_lex_js.specs.Scanner.{scanned, texts}
@@ -51,10 +51,24 @@ is_scanner = record {
   no_names = refl;
 }
 
+-- and those after a point
+pub is_property_scanner : IsScanner stood name [] others NAMES SPELLS scanner
+is_property_scanner = record {
+  texts = texts;
+  state = entry_at scanner 0 97 - 1;
+  fits = (refl, scanner_fits);
+  plain = plain_names;
+  itself = itself;
+  words_named = λ s h. absurd h;
+  no_names = refl;
+}
+
 pub one_kind_of_javascript : HasOneKind javascript
 one_kind_of_javascript =
     of_marked (moded mode_behind unmarked)
     (of_commented Separator with_depth
     (of_first opens_deeper nothing with_literals
     (of_first opens_literal literals with_choices
-    (of_first opens_choice choices (table rows) (of_table rows (one_kind_reserved stood name keywords others NAMES SPELLS scanner is_scanner))))))
+    (of_first opens_choice choices with_properties
+    (of_first_rows follows_point properties (table rows) (one_kind_reserved stood name [] others NAMES SPELLS scanner is_property_scanner)
+    (of_table rows (one_kind_reserved stood name keywords others NAMES SPELLS scanner is_scanner)))))))

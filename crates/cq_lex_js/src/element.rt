@@ -2,11 +2,11 @@ ghost use Rattle.std.specs.Prelude.{◌≡◌, ◌<◌, ◌^◌, ℕ, length};
 ghost use Rattle.cq_munch.specs.Characters.{characters};
 ghost use Rattle.cq_munch.specs.Language.{Takes};
 ghost use Rattle.cq_munch.specs.Table.{table};
-ghost use Rattle.cq_lex_js.specs.JavaScript.{opens_deeper, rows, unmarked};
+ghost use Rattle.cq_lex_js.specs.JavaScript.{is_blank, opens_deeper, properties, rows, unmarked};
 ghost use Rattle.cq_lex_js.specs.Punctuators.{is_choice};
 
 use crate::literal::{closed_literal, opens_literal};
-use crate::mode::is_deep;
+use crate::mode::{is_after_point, is_deep};
 use crate::scanner::{CLASSES, ENDS, NAMES, SPELLS, STEPS};
 use crate::words::{RESERVED, Seen};
 use cq_base::Class;
@@ -14,6 +14,13 @@ use cq_munch::{
     Automaton, Found, LineEnds, Spell, Unit, found_of, longest_block_comment, longest_line_comment,
     named_found, opens_comment,
 };
+
+/// Whether the character is a blank of ASCII.
+pub(crate) fn is_blank(ch: char) -> bool
+    ensures { result ≡ is_blank ch }
+{
+    ch == ' ' || ch == '\n' || ch == '\t' || ch == '\r' || ch == '\u{B}' || ch == '\u{C}'
+}
 
 // Whether a question mark, a point and a digit are at the front.
 fn is_choice(units: &[Unit]) -> bool
@@ -35,7 +42,20 @@ fn opens_deeper(units: &[Unit], mode: u64) -> bool
     }
 }
 
-// The element at the front, if nothing is opened.
+// The element at the front after a point, if nothing is opened.
+fn property(units: &[Unit], mode: u64) -> Option<Found>
+    requires { length units.now < 2 ^ 32 }
+    ensures { (at : ℕ) → Takes (table properties) at mode (characters units.now) result }
+{
+    let by = Automaton {
+        classes: &CLASSES,
+        steps: &STEPS,
+        ends: &ENDS,
+    };
+    named_found::<Seen>(by, &NAMES, &SPELLS, &[], mode, units)
+}
+
+// The element at the front anywhere else, if nothing is opened.
 fn element(units: &[Unit], mode: u64) -> Option<Found>
     requires { length units.now < 2 ^ 32 }
     ensures { (at : ℕ) → Takes (table rows) at mode (characters units.now) result }
@@ -71,6 +91,9 @@ pub(crate) fn taken(units: &[Unit], mode: u64) -> Option<Found>
     }
     if is_choice(units) {
         return found_of(Spell::Token(Class::Punct), mode, Some(1));
+    }
+    if is_after_point(mode) {
+        return property(units, mode);
     }
     element(units, mode)
 }

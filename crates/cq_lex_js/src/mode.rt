@@ -70,6 +70,13 @@ pub(crate) fn expects_operand(mode: u64) -> bool
     mode % 4 != 1
 }
 
+/// Whether a name is a property's.
+pub(crate) fn is_after_point(mode: u64) -> bool
+    ensures { result ≡ spec.is_after_point mode }
+{
+    mode % 4 == 2
+}
+
 fn ends_operand(word: &[Unit]) -> bool
     ensures { result ≡ spec.ends_operand (characters word.now) }
 {
@@ -80,15 +87,11 @@ fn ends_operand(word: &[Unit]) -> bool
         || is_spelled(b"false", word)
 }
 
-fn after_word(mode: u64, word: &[Unit]) -> u64
-    ensures after { result ≡ spec.after_word mode (characters word.now) }
+fn after_word(word: &[Unit]) -> u64
+    ensures after { result ≡ (if spec.ends_operand (characters word.now) then 1 else 0) }
     ensures known { result ≤ 2 }
 {
-    if mode % 4 == 2 || ends_operand(word) {
-        1
-    } else {
-        0
-    }
+    if ends_operand(word) { 1 } else { 0 }
 }
 
 fn begins_with(ch: char, units: &[Unit]) -> bool
@@ -187,7 +190,7 @@ pub(crate) fn mode_behind(mode: u64, spell: Spell, units: &[Unit]) -> u64
     match spell {
         Spell::Blank | Spell::Comment => mode,
         Spell::Token(Class::Ident) => after(braces, 1),
-        Spell::Token(Class::Word) => after(braces, after_word(mode, units)),
+        Spell::Token(Class::Word) => after(braces, after_word(units)),
         Spell::Token(Class::Literal) => after_literal(braces, units),
         Spell::Token(Class::Punct) => {
             let open = braces_after(braces, units);

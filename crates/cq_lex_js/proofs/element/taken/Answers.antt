@@ -1,6 +1,6 @@
 use Rattle.std.proofs.Common.{sym, ◌∙◌}
 use Rattle.cq_munch.specs.Characters.{characters}
-use Rattle.cq_lex_js.proofs.Dispatch.{too_deep, literal_there, choice_there, no_opener}
+use Rattle.cq_lex_js.proofs.Dispatch.{too_deep, literal_there, choice_there, property_there, no_opener}
 use Rattle.cq_lex_js.proofs.element.taken.Goals as goal
 
 pub returns-then-opens_deeper : goal.returns-then-opens_deeper
@@ -18,7 +18,14 @@ returns-then-is_choice c = λ at.
     choice_there at c.args.mode (characters c.args.units.now) (sym c.opens_comment.ensures ∙ c.if-opens_comment.false) (sym c.opens_comment-2.ensures ∙ c.if-opens_comment-2.false)
     (sym c.opens_deeper.ensures ∙ c.if-opens_deeper.false) _ (sym c.opens_literal.ensures ∙ c.if-opens_literal.false) (sym c.is_choice.ensures ∙ c.if-is_choice.true) c.found_of-then-is_choice.ensures
 
+pub returns-then-is_after_point : goal.returns-then-is_after_point
+returns-then-is_after_point c = λ at.
+    property_there at c.args.mode (characters c.args.units.now) (sym c.opens_comment.ensures ∙ c.if-opens_comment.false) (sym c.opens_comment-2.ensures ∙ c.if-opens_comment-2.false)
+    (sym c.opens_deeper.ensures ∙ c.if-opens_deeper.false) c.property.result (sym c.opens_literal.ensures ∙ c.if-opens_literal.false) (sym c.is_choice.ensures ∙ c.if-is_choice.false)
+    (sym c.is_after_point.ensures ∙ c.if-is_after_point.true) (c.property.ensures at)
+
 pub returns : goal.returns
 returns c = λ at.
     no_opener at c.args.mode (characters c.args.units.now) (sym c.opens_comment.ensures ∙ c.if-opens_comment.false) (sym c.opens_comment-2.ensures ∙ c.if-opens_comment-2.false)
-    (sym c.opens_deeper.ensures ∙ c.if-opens_deeper.false) c.element.result (sym c.opens_literal.ensures ∙ c.if-opens_literal.false) (sym c.is_choice.ensures ∙ c.if-is_choice.false) (c.element.ensures at)
+    (sym c.opens_deeper.ensures ∙ c.if-opens_deeper.false) c.element.result (sym c.opens_literal.ensures ∙ c.if-opens_literal.false) (sym c.is_choice.ensures ∙ c.if-is_choice.false)
+    (sym c.is_after_point.ensures ∙ c.if-is_after_point.false) (c.element.ensures at)
