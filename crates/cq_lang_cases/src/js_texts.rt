@@ -71,6 +71,7 @@ const PUNCTUATORS: &str =
 = += -= *= %= **= <<= >>= >>>= ⇒ p= · p+= · p-= · p*= · p%= · p**= · p<<= · p>>= · p>>>=
 &= |= ^= &&= ||= ??= => a/b a/=b ⇒ p&= · p|= · p^= · p&&= · p||= · p??= · p=> · ia · p/ · ib · ia · p/= · ib
 a?.5:b a?.b a?.[0] a?..5 a??.5 ⇒ ia · p? · l.5 · p: · ib · ia · p?. · ib · ia · p?. · p[ · l0 · p] · ia · p?. · l.5 · ia · p?? · l.5
+@a.b() class {} ⇒ p@ · ia · p. · ib · p( · p) · wclass · p{ · p}
 a?.5.6 ?.␊5 ⇒ ia · p? · l.5 · l.6 · p?. · l5
 "#;
 
@@ -87,7 +88,6 @@ a /* * ⇒ fault 2
 /[a/␊ ⇒ fault 0
 /\␊/ ⇒ fault 0
 # ⇒ fault 0
-@a ⇒ fault 0
 \ ⇒ fault 0
 \u{} ⇒ fault 0
 \u12 ⇒ fault 0

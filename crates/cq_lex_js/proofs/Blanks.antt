@@ -13,7 +13,7 @@ use Rattle.cq_munch.proofs.Blanks.{blank_taken, not_begun, one_blank, taken_at_u
 use Rattle.cq_munch.proofs.CharacterTests.{apart_by}
 use Rattle.cq_munch.proofs.Joining.{with_mode}
 use Rattle.cq_lex_js.specs.JavaScript.{javascript, is_blank, others, unmarked, opens_deeper, opens_literal, is_fraction}
-use Rattle.cq_lex_js.specs.Modes.{braces_of, is_full, ends_substitution, expects_operand, is_after_point, mode_behind}
+use Rattle.cq_lex_js.specs.Modes.{is_full, ends_substitution, expects_operand, is_after_point, mode_behind}
 use Rattle.cq_lex_js.specs.Names.{name, keywords}
 use Rattle.cq_lex_js.specs.Characters.{stood}
 use Rattle.cq_lex_js.specs.OneKind.{scanner, is_scanner, is_property_scanner}
@@ -45,7 +45,7 @@ module _ (at mode c : ℕ) (text : List ℕ) (is : is_blank c ≡ true) where
       λ i. (no_digit c is i || ((other 34 refl i || (other 39 refl i || other 96 refl i)) || ((other 47 refl i && expects_operand mode) || (other 125 refl i && ends_substitution mode)))) || no_fraction c (other 46 refl) text i
 
   no_brace : opens_deeper at mode (c ∷ text) ≡ false
-  no_brace = and_right (is_full (braces_of mode)) ((c == 123) || (c == 96)) (λ i. other 123 refl i || other 96 refl i)
+  no_brace = and_right (is_full mode) ((c == 123) || (c == 96)) (λ i. other 123 refl i || other 96 refl i)
 
   blank_unmoded : Takes unmarked at mode (c ∷ text) (Some (one_blank mode))
   blank_unmoded = ⊎_elim after_point anywhere (cases_Bool (is_after_point mode))

@@ -1,20 +1,22 @@
 -- The braces of a mode are a stack.
-use Rattle.std.proofs.Common.{◌≡◌, ℕ, ◌+◌, ◌*◌, ◌<◌, ◌%◌, ◌==◌, Bool, true, false, if◌then◌else◌, List, [], ◌∷◌, refl, ap, arith}
+use Rattle.std.proofs.Common.{◌≡◌, ℕ, ◌+◌, ◌*◌, ◌/◌, ◌<◌, ◌%◌, Bool, true, false, if◌then◌else◌, List, [], ◌∷◌, refl, ap, ◌∙◌, arith}
 use Rattle.std.specs.Prelude.{IsFalse}
 use Rattle.std.proofs.lemmas.Bool.{eq-eqb, ne_eqb}
-use Rattle.cq_lex_js.specs.Modes.{is_full, opened, closed}
-use Rattle.cq_lex_js.specs.Stack.{digit, number_of, IsStack, BracesAreAStack}
+use Rattle.cq_lex_js.specs.Modes.{is_full, opened, closed, ends_substitution}
+use Rattle.cq_lex_js.specs.Stack.{digit, number_of, mode_of, IsStack, BracesAreAStack}
 
-put_on : (bs : List Bool) (b : Bool) → IsFalse (is_full (number_of bs)) → opened (number_of bs) (digit b) ≡ number_of (b ∷ bs)
-put_on bs b h = ap (λ full. if full then number_of bs else number_of bs * 2 + digit b) h
+put_on : (bs : List Bool) (b : Bool) (token : ℕ) → token < 4 → IsFalse (is_full (mode_of bs token)) → opened (mode_of bs token) (digit b) ≡ mode_of (b ∷ bs) 0
+put_on bs b token small h =
+    let same : (mode_of bs token / 4 * 2 + digit b) * 4 ≡ mode_of (b ∷ bs) 0 = omega (arith, small) in
+    ap (λ full. if full then mode_of bs token else (mode_of bs token / 4 * 2 + digit b) * 4) h ∙ same
 
-taken_off : (bs : List Bool) (b : Bool) → closed (number_of (b ∷ bs)) ≡ number_of bs
-taken_off bs true = omega arith
-taken_off bs false = omega arith
+taken_off : (bs : List Bool) (b : Bool) (token : ℕ) → token < 4 → closed (mode_of (b ∷ bs) token) ≡ mode_of bs 0
+taken_off bs true token small = omega (arith, small)
+taken_off bs false token small = omega (arith, small)
 
-last_digit : (bs : List Bool) (b : Bool) → (number_of (b ∷ bs) % 2 == 1) ≡ b
-last_digit bs true = eq-eqb (number_of (true ∷ bs) % 2) 1 (omega arith)
-last_digit bs false = ne_eqb (number_of (false ∷ bs) % 2) 1 (λ e. omega (arith, e))
+last_digit : (bs : List Bool) (b : Bool) (token : ℕ) → token < 4 → ends_substitution (mode_of (b ∷ bs) token) ≡ b
+last_digit bs true token small = eq-eqb (mode_of (true ∷ bs) token / 4 % 2) 1 (omega (arith, small))
+last_digit bs false token small = ne_eqb (mode_of (false ∷ bs) token / 4 % 2) 1 (λ e. omega (arith, small, e))
 
 some : (b : Bool) (bs : List Bool) → IsStack (b ∷ bs) → 0 < number_of (b ∷ bs)
 some true [] h = omega arith

@@ -11,7 +11,7 @@ use Rattle.cq_munch.specs.declared.element.Spell.TheVariants.{Blank, Comment, To
 use Rattle.cq_munch.specs.declared.ends.LineEnds.TheVariants.{Separator}
 use Rattle.cq_lex_js.specs.Characters.{stood, lined}
 use Rattle.cq_lex_js.specs.Literals.{feeds, literal}
-use Rattle.cq_lex_js.specs.Modes.{braces_of, is_full, ends_substitution, expects_operand, is_after_point, mode_behind}
+use Rattle.cq_lex_js.specs.Modes.{is_full, ends_substitution, expects_operand, is_after_point, mode_behind}
 use Rattle.cq_lex_js.specs.Names.{name, keywords}
 use Rattle.cq_lex_js.specs.Punctuators.{punctuators, is_choice}
 
@@ -71,7 +71,7 @@ opens_choice at mode text = is_choice text
 
 -- where 60 braces are open inside substitutions, none is opened, and no template begins
 abbrev pub opens_deeper : ℕ → ℕ → List ℕ → Bool
-opens_deeper at mode text = is_full (braces_of mode) && starts (λ c. (c == 123) || (c == 96)) text
+opens_deeper at mode text = is_full mode && starts (λ c. (c == 123) || (c == 96)) text
 
 -- 12.4: If a comment or one of these is opened, only its own row is tried.
 abbrev pub with_properties : Language

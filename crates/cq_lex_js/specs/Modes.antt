@@ -1,6 +1,6 @@
 -- Modes: what the token before means for a slash, and the braces that are open inside substitutions of templates. In the place of
 -- the goal symbols of ECMA-262 clause 12, which need a parser, stands a rule by the token before.
-use Rattle.std.specs.Prelude.{ℕ, Bool, true, false, not, ◌+◌, ◌*◌, ◌/◌, ◌%◌, ◌^◌, ◌-◌, ◌&&◌, ◌||◌, ◌==◌, nat_lt, if◌then◌else◌, List, length, slice_index_or, codes}
+use Rattle.std.specs.Prelude.{ℕ, Bool, not, ◌+◌, ◌*◌, ◌/◌, ◌%◌, ◌^◌, ◌-◌, ◌||◌, ◌==◌, nat_lt, if◌then◌else◌, List, length, slice_index_or, codes}
 use Rattle.std.specs.Str.{bytes_eq}
 use Rattle.cq_base.specs.declared.token.Class.{Class}
 use Rattle.cq_base.specs.declared.token.Class.TheVariants.{Ident, Word, Literal, Punct}
@@ -8,28 +8,10 @@ use Rattle.cq_munch.specs.Table.{starts}
 use Rattle.cq_munch.specs.declared.element.Spell.{Spell}
 use Rattle.cq_munch.specs.declared.element.Spell.TheVariants.{Blank, Comment, Token}
 
--- A mode is four times the braces, and what the token before was: 0 for one before an operand, or none, 1 for the end of an operand,
--- 2 for a point before a property's name.
-abbrev pub after : ℕ → ℕ → ℕ
-after braces token = braces * 4 + token
-
-abbrev pub braces_of : ℕ → ℕ
-braces_of mode = mode / 4
-
--- The braces are a number's binary digits, the innermost last: 1 for one that begins a substitution, 0 for another inside one. Outside
--- templates there are none, since a 0 before the first 1 is no digit.
-abbrev pub is_full : ℕ → Bool
-is_full braces = not (nat_lt braces (2 ^ 60))
-
-abbrev pub opened : ℕ → ℕ → ℕ
-opened braces digit = if is_full braces then braces else braces * 2 + digit
-
-abbrev pub closed : ℕ → ℕ
-closed braces = braces / 2
-
--- the innermost brace begins a substitution
-abbrev pub ends_substitution : ℕ → Bool
-ends_substitution mode = braces_of mode % 2 == 1
+-- A mode is four times a stack of braces, and what the token before was: 0 if an operand may follow, or before the first token, 1 for
+-- the end of an operand, 2 for a point before a property's name.
+abbrev pub with_token : ℕ → ℕ → ℕ
+with_token mode token = mode / 4 * 4 + token
 
 -- a slash begins a regular expression
 abbrev pub expects_operand : ℕ → Bool
@@ -38,6 +20,21 @@ expects_operand mode = not (mode % 4 == 1)
 -- a name is a property's, also if it is spelled as a reserved word
 abbrev pub is_after_point : ℕ → Bool
 is_after_point mode = mode % 4 == 2
+
+-- The stack is a number, whose binary digits are the braces, the innermost last: 1 for one that begins a substitution, 0 for another
+-- inside one. Outside templates it is 0, also after a brace.
+abbrev pub is_full : ℕ → Bool
+is_full mode = not (nat_lt mode (2 ^ 62))
+
+abbrev pub opened : ℕ → ℕ → ℕ
+opened mode digit = if is_full mode then mode else (mode / 4 * 2 + digit) * 4
+
+abbrev pub closed : ℕ → ℕ
+closed mode = mode / 8 * 4
+
+-- the innermost brace begins a substitution
+abbrev pub ends_substitution : ℕ → Bool
+ends_substitution mode = mode / 4 % 2 == 1
 
 abbrev pub is : List ℕ → List ℕ → Bool
 is word s = bytes_eq word s
@@ -48,25 +45,25 @@ ends_operand s = is (codes "this") s || (is (codes "super") s || (is (codes "nul
 
 -- only a template begins with a backquote or a brace, or ends with a brace
 abbrev pub after_literal : ℕ → List ℕ → ℕ
-after_literal braces s =
+after_literal mode s =
     if slice_index_or s (length s - 1) 0 == 123
-    then after (if starts (λ c. c == 96) s then opened braces 1 else braces) 0
-    else after (if starts (λ c. c == 125) s then closed braces else braces) 1
+    then (if starts (λ c. c == 96) s then opened mode 1 else with_token mode 0)
+    else (if starts (λ c. c == 125) s then with_token (closed mode) 1 else with_token mode 1)
 
 -- a closing brace counts as the end of a block
-abbrev pub after_punctuator : List ℕ → ℕ
-after_punctuator s =
-    if is (codes ")") s || (is (codes "]") s || (is (codes "++") s || is (codes "--") s)) then 1
-    else if is (codes ".") s || is (codes "?.") s then 2 else 0
-
-abbrev pub braces_after : ℕ → List ℕ → ℕ
-braces_after braces s = if is (codes "{") s then opened braces 0 else if is (codes "}") s then closed braces else braces
+abbrev pub after_punctuator : ℕ → List ℕ → ℕ
+after_punctuator mode s =
+    if is (codes "{") s then opened mode 0
+    else if is (codes "}") s then closed mode
+    else if is (codes ")") s || (is (codes "]") s || (is (codes "++") s || is (codes "--") s)) then with_token mode 1
+    else if is (codes ".") s || is (codes "?.") s then with_token mode 2
+    else with_token mode 0
 
 abbrev pub after_token : ℕ → Class → List ℕ → ℕ
-after_token mode Ident s = after (braces_of mode) 1
-after_token mode Word s = after (braces_of mode) (if ends_operand s then 1 else 0)
-after_token mode Literal s = after_literal (braces_of mode) s
-after_token mode Punct s = after (braces_after (braces_of mode) s) (after_punctuator s)
+after_token mode Ident s = with_token mode 1
+after_token mode Word s = with_token mode (if ends_operand s then 1 else 0)
+after_token mode Literal s = after_literal mode s
+after_token mode Punct s = after_punctuator mode s
 
 -- the mode after an element
 abbrev pub mode_behind : ℕ → Spell → List ℕ → ℕ

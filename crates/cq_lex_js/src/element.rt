@@ -6,7 +6,7 @@ ghost use Rattle.cq_lex_js.specs.JavaScript.{is_blank, opens_deeper, properties,
 ghost use Rattle.cq_lex_js.specs.Punctuators.{is_choice};
 
 use crate::literal::{closed_literal, opens_literal};
-use crate::mode::{is_after_point, is_deep};
+use crate::mode::{is_after_point, is_full};
 use crate::scanner::{CLASSES, ENDS, NAMES, SPELLS, STEPS};
 use crate::words::{RESERVED, Seen};
 use cq_base::Class;
@@ -37,7 +37,7 @@ fn opens_deeper(units: &[Unit], mode: u64) -> bool
     ensures { result ≡ opens_deeper 0 mode (characters units.now) }
 {
     match units {
-        [first, ..] => is_deep(mode) && (first.ch == '{' || first.ch == '`'),
+        [first, ..] => is_full(mode) && (first.ch == '{' || first.ch == '`'),
         [] => false,
     }
 }
