@@ -4,7 +4,7 @@
 const acorn = require('internal/deps/acorn/acorn/dist/acorn');
 const fs = require('fs');
 
-// 12.7.2 of ECMA-262; acorn takes some of them for names, by where they are
+// reserved words (ECMA-262 12.7.2) that acorn takes for names; after a point they are
 const RESERVED = new Set(['await', 'enum', 'yield']);
 
 function tokensOf(text) {
@@ -20,9 +20,10 @@ function tokensOf(text) {
   return undefined;
 }
 
-function classOf(token) {
+function classOf(token, before) {
   const { keyword, label } = token.type;
-  if (keyword || (label === 'name' && RESERVED.has(token.value) && token.end - token.start === token.value.length)) return 'word';
+  const reserved = label === 'name' && RESERVED.has(token.value) && token.end - token.start === token.value.length;
+  if (keyword || (reserved && !(before && ['.', '?.'].includes(before.type.label)))) return 'word';
   if (label === 'name' || label === 'privateId') return 'name';
   return ['num', 'string', 'regexp'].includes(label) ? 'literal' : 'punct';
 }
@@ -36,7 +37,7 @@ function* joined(tokens) {
       yield ['literal', first.start, tokens[i + 2].end];
       i += 2;
     } else {
-      yield [classOf(first), first.start, first.end];
+      yield [classOf(first, tokens[i - 1]), first.start, first.end];
     }
   }
 }
