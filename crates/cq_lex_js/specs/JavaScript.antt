@@ -5,13 +5,14 @@ use Rattle.cq_base.specs.declared.token.Class.TheVariants.{Literal, Punct}
 use Rattle.cq_munch.specs.Commented.{commented}
 use Rattle.cq_munch.specs.Language.{Language, marked}
 use Rattle.cq_munch.specs.Pattern.{Pattern, Spells, except, only, many, ◌▸◌}
-use Rattle.cq_munch.specs.Patterned.{any_word, Patterned, with_reserved}
+use Rattle.cq_munch.specs.Patterned.{any_word, Patterned, rows_seen, with_reserved}
 use Rattle.cq_munch.specs.Table.{Row, table, first, moded, starts}
 use Rattle.cq_munch.specs.declared.element.Spell.TheVariants.{Blank, Comment, Token}
 use Rattle.cq_munch.specs.declared.ends.LineEnds.TheVariants.{Separator}
 use Rattle.cq_lex_js.specs.Characters.{stood, lined}
+use Rattle.cq_lex_js.specs.Jsx.{children, tag}
 use Rattle.cq_lex_js.specs.Literals.{feeds, literal}
-use Rattle.cq_lex_js.specs.Modes.{is_full, ends_substitution, expects_operand, is_after_point, mode_behind}
+use Rattle.cq_lex_js.specs.Modes.{is_full, ends_substitution, expects_operand, is_after_point, is_among_children, is_in_tag, mode_behind}
 use Rattle.cq_lex_js.specs.Names.{name, keywords}
 use Rattle.cq_lex_js.specs.Punctuators.{punctuators, is_choice}
 
@@ -69,11 +70,18 @@ follows_point at mode text = is_after_point mode
 abbrev pub opens_choice : ℕ → ℕ → List ℕ → Bool
 opens_choice at mode text = is_choice text
 
--- where 60 braces are open inside substitutions, none is opened, and no template begins
+-- where 29 substitutions, tags, children and braces inside them are open, nothing more is opened
 abbrev pub opens_deeper : ℕ → ℕ → List ℕ → Bool
-opens_deeper at mode text = is_full mode && starts (λ c. (c == 123) || (c == 96)) text
+opens_deeper at mode text = is_full mode && starts (λ c. (c == 123) || ((c == 96) || ((c == 60) && expects_operand mode))) text
 
--- 12.4: If a comment or one of these is opened, only its own row is tried.
+-- JSX: children and tags have rows of their own
+abbrev pub opens_child : ℕ → ℕ → List ℕ → Bool
+opens_child at mode text = is_among_children mode
+
+abbrev pub opens_tag : ℕ → ℕ → List ℕ → Bool
+opens_tag at mode text = is_in_tag mode
+
+-- If a comment (12.4) or one of these is opened, only its own rows are tried.
 abbrev pub with_properties : Language
 with_properties = first follows_point properties (table rows)
 
@@ -83,11 +91,17 @@ with_choices = first opens_choice (choices ∷ []) with_properties
 abbrev pub with_literals : Language
 with_literals = first opens_literal (literals ∷ []) with_choices
 
-abbrev pub with_depth : Language
-with_depth = first opens_deeper (nothing ∷ []) with_literals
+abbrev pub with_tags : Language
+with_tags = first opens_tag (rows_seen stood tag) with_literals
+
+abbrev pub with_comments : Language
+with_comments = commented Separator with_tags
+
+abbrev pub with_children : Language
+with_children = first opens_child (rows_seen stood children) with_comments
 
 abbrev pub unmarked : Language
-unmarked = commented Separator with_depth
+unmarked = first opens_deeper (nothing ∷ []) with_children
 
 abbrev pub javascript : Language
 javascript = marked (moded mode_behind unmarked)

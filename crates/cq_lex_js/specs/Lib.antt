@@ -4,8 +4,11 @@ pub mod Punctuators
 pub mod Numbers
 pub mod Literals
 pub mod Modes
+pub mod Jsx
 pub mod Stack
 pub mod JavaScript
 pub mod Scanner
 pub mod LiteralScanner
+pub mod ChildrenScanner
+pub mod TagScanner
 pub mod OneKind

@@ -5,7 +5,7 @@ ghost use Rattle.cq_munch.specs.Language.{Takes};
 ghost use Rattle.cq_lex_js.specs.JavaScript.{javascript};
 ghost use Rattle.cq_lex_js.specs.OneKind.{one_kind_of_javascript};
 
-use crate::element::{is_blank, taken};
+use crate::element::{is_plain_blank, taken};
 use crate::mode::mode_behind;
 use cq_base::{Memory, Spelled, Text};
 use cq_munch::{Found, Lexis, Spell, Translated, Unit, is_mark, plain_units};
@@ -59,7 +59,7 @@ impl Lexis for JavaScript {
     // So that a blank costs the loop over the elements no call.
     #[inline(always)]
     fn longest(&mut self, units: &[Unit], at: u32, mode: u64) -> Option<Found> {
-        if is_blank(units[at as usize].ch) {
+        if is_plain_blank(units[at as usize].ch, mode) {
             return Some(Found {
                 spell: Spell::Blank,
                 units: 1,

@@ -1,31 +1,17 @@
 use Rattle.std.proofs.Common.{sym, ◌∙◌}
 use Rattle.cq_munch.specs.Characters.{characters}
-use Rattle.cq_lex_js.proofs.Dispatch.{too_deep, literal_there, choice_there, property_there, no_opener}
+use Rattle.cq_lex_js.proofs.Dispatch.{too_deep, child_there, no_child}
 use Rattle.cq_lex_js.proofs.element.taken.Goals as goal
 
 pub returns-then-opens_deeper : goal.returns-then-opens_deeper
-returns-then-opens_deeper c = λ at.
-    too_deep at c.args.mode (characters c.args.units.now) (sym c.opens_comment.ensures ∙ c.if-opens_comment.false) (sym c.opens_comment-2.ensures ∙ c.if-opens_comment-2.false)
-    (sym c.opens_deeper.ensures ∙ c.if-opens_deeper.true)
+returns-then-opens_deeper c = λ at. too_deep at c.args.mode (characters c.args.units.now) (sym c.opens_deeper.ensures ∙ c.if-opens_deeper.true)
 
-pub returns-then-opens_literal : goal.returns-then-opens_literal
-returns-then-opens_literal c = λ at.
-    literal_there at c.args.mode (characters c.args.units.now) (sym c.opens_comment.ensures ∙ c.if-opens_comment.false) (sym c.opens_comment-2.ensures ∙ c.if-opens_comment-2.false)
-    (sym c.opens_deeper.ensures ∙ c.if-opens_deeper.false) c.closed_literal.result (sym c.opens_literal.ensures ∙ c.if-opens_literal.true) (c.closed_literal.ensures at)
-
-pub returns-then-is_choice : goal.returns-then-is_choice
-returns-then-is_choice c = λ at.
-    choice_there at c.args.mode (characters c.args.units.now) (sym c.opens_comment.ensures ∙ c.if-opens_comment.false) (sym c.opens_comment-2.ensures ∙ c.if-opens_comment-2.false)
-    (sym c.opens_deeper.ensures ∙ c.if-opens_deeper.false) _ (sym c.opens_literal.ensures ∙ c.if-opens_literal.false) (sym c.is_choice.ensures ∙ c.if-is_choice.true) c.found_of-then-is_choice.ensures
-
-pub returns-then-is_after_point : goal.returns-then-is_after_point
-returns-then-is_after_point c = λ at.
-    property_there at c.args.mode (characters c.args.units.now) (sym c.opens_comment.ensures ∙ c.if-opens_comment.false) (sym c.opens_comment-2.ensures ∙ c.if-opens_comment-2.false)
-    (sym c.opens_deeper.ensures ∙ c.if-opens_deeper.false) c.property.result (sym c.opens_literal.ensures ∙ c.if-opens_literal.false) (sym c.is_choice.ensures ∙ c.if-is_choice.false)
-    (sym c.is_after_point.ensures ∙ c.if-is_after_point.true) (c.property.ensures at)
+pub returns-then-is_among_children : goal.returns-then-is_among_children
+returns-then-is_among_children c = λ at.
+    child_there at c.args.mode (characters c.args.units.now) (sym c.opens_deeper.ensures ∙ c.if-opens_deeper.false) c.child.result
+    (sym c.is_among_children.ensures ∙ c.if-is_among_children.true) (c.child.ensures at)
 
 pub returns : goal.returns
 returns c = λ at.
-    no_opener at c.args.mode (characters c.args.units.now) (sym c.opens_comment.ensures ∙ c.if-opens_comment.false) (sym c.opens_comment-2.ensures ∙ c.if-opens_comment-2.false)
-    (sym c.opens_deeper.ensures ∙ c.if-opens_deeper.false) c.element.result (sym c.opens_literal.ensures ∙ c.if-opens_literal.false) (sym c.is_choice.ensures ∙ c.if-is_choice.false)
-    (sym c.is_after_point.ensures ∙ c.if-is_after_point.false) (c.element.ensures at)
+    no_child at c.args.mode (characters c.args.units.now) (sym c.opens_deeper.ensures ∙ c.if-opens_deeper.false) c.outside.result
+    (sym c.is_among_children.ensures ∙ c.if-is_among_children.false) (c.outside.ensures at)
