@@ -53,6 +53,16 @@ a`b`/c/d `${/}/}`/e/f `${a}`/g/h ⇒ ia · l`b` · p/ · ic · p/ · id · l`${ 
 {`${a}`} `b` ⇒ p{ · l`${ · ia · l}` · p} · l`b`
 "#;
 
+const ELEMENTS: &str = r#"<a/>;<a />;<></> ⇒ p< · ia · p/ · p> · p; · p< · ia · p/ · p> · p; · p< · p> · p</>
+<a>it's {b} "c</a> d ⇒ p< · ia · p> · lit's · p{ · ib · p} · l"c · p</a> · id
+x=<A.b c-d="e\" f='␊"' {...g} h:i={j/2} k=<l/>>m</A.b>/n/o ⇒ ix · p= · p< · iA · p. · ib · ic-d · p= · l"e\" · if · p= · l'␊"' · p{ · p... · ig · p} · ih · p: · ii · p= · p{ · ij · p/ · l2 · p} · ik · p= · p< · il · p/ · p> · p> · lm · p</A.b> · p/ · in · p/ · io
+<>␊ a␊ b // c ␊{/* d */}< / > ⇒ p< · p> · la␊ b // c · p{ · p} · p< / >
+<a>{`${<b>{c}</b>}`}</a> ⇒ p< · ia · p> · p{ · l`${ · p< · ib · p> · p{ · ic · p} · p</b> · l}` · p} · p</a>
+<a /* b */ c // d>␊e>f</a> ⇒ p< · ia · ic · ie · p> · lf · p</a>
+a<b/c>d a?<b/>:<if/> ⇒ ia · p< · ib · p/ · ic · p> · id · ia · p? · p< · ib · p/ · p> · p: · p< · iif · p/ · p>
+f(a => <b>{a}</b>) </c/.d ⇒ if · p( · ia · p=> · p< · ib · p> · p{ · ia · p} · p</b> · p) · p< · l/c/ · p. · id
+"#;
+
 const WORDS: &str =
     r#"await break case catch class const ⇒ wawait · wbreak · wcase · wcatch · wclass · wconst
 continue debugger default delete do else ⇒ wcontinue · wdebugger · wdefault · wdelete · wdo · welse
@@ -65,7 +75,7 @@ with yield ⇒ wwith · wyield
 
 const PUNCTUATORS: &str =
     r#"{ } ( ) [ ] . ... ; , ⇒ p{ · p} · p( · p) · p[ · p] · p. · p... · p; · p,
-< > <= >= == != === !== ⇒ p< · p> · p<= · p>= · p== · p!= · p=== · p!==
+a<b>c <= >= == != === !== ⇒ ia · p< · ib · p> · ic · p<= · p>= · p== · p!= · p=== · p!==
 + - * % ** ++ -- << >> >>> ⇒ p+ · p- · p* · p% · p** · p++ · p-- · p<< · p>> · p>>>
 & | ^ ! ~ && || ?? ? ?. : ⇒ p& · p| · p^ · p! · p~ · p&& · p|| · p?? · p? · p?. · p:
 = += -= *= %= **= <<= >>= >>>= ⇒ p= · p+= · p-= · p*= · p%= · p**= · p<<= · p>>= · p>>>=
@@ -93,6 +103,10 @@ a /* * ⇒ fault 2
 \u12 ⇒ fault 0
 if(a)/'/.b ⇒ fault 6
 a={}/b ⇒ fault 4
+<a>b>c ⇒ fault 4
+<a>} ⇒ fault 3
+<a;> ⇒ fault 2
+<a b='c ⇒ fault 5
 "#;
 
 // Characters that are not seen, or not as one.
@@ -114,12 +128,13 @@ const PLACES: &str = r#"`a␊${b␊}c` d ⇒ 0 5 1 2 · 5 1 2 2 · 7 3 3 3 · 11
 'é\␊' x ⇒ 0 6 1 2 · 7 1 2 2
 "#;
 
-const TEXTS: [&str; 9] = [
+const TEXTS: [&str; 10] = [
     NAMES,
     NUMBERS,
     STRINGS,
     REGEXES,
     TEMPLATES,
+    ELEMENTS,
     WORDS,
     PUNCTUATORS,
     FAULTS,
