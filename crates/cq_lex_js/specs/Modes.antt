@@ -103,11 +103,14 @@ after_token mode Word s = with_token mode (if ends_operand s then 1 else 0)
 after_token mode Literal s = after_literal mode s
 after_token mode Punct s = after_punctuator mode s
 
--- the mode after an element
-abbrev pub mode_behind : ℕ → Spell → List ℕ → ℕ
-mode_behind mode Blank s = mode
-mode_behind mode Comment s = mode
-mode_behind mode (Token class) s =
+abbrev pub after_any : ℕ → Class → List ℕ → ℕ
+after_any mode class s =
     if is_among_children mode then after_child mode class s
     else if is_in_tag mode then after_tag_token mode class s
     else after_token mode class s
+
+-- the mode after an element of the language
+abbrev pub mode_behind : ℕ → Spell → List ℕ → ℕ
+mode_behind mode Blank s = mode
+mode_behind mode Comment s = mode
+mode_behind mode (Token class) s = after_any mode class s

@@ -232,13 +232,9 @@ fn after_token(mode: u64, class: Class, units: &[Unit]) -> u64
     }
 }
 
-/// The mode after an element of these units.
-pub(crate) fn mode_behind(mode: u64, spell: Spell, units: &[Unit]) -> u64
-    ensures { result ≡ spec.mode_behind mode spell (characters units.now) }
+fn after_any(mode: u64, class: Class, units: &[Unit]) -> u64
+    ensures { result ≡ spec.after_any mode class (characters units.now) }
 {
-    let Spell::Token(class) = spell else {
-        return mode;
-    };
     if is_among_children(mode) {
         return after_child(mode, class, units);
     }
@@ -246,6 +242,16 @@ pub(crate) fn mode_behind(mode: u64, spell: Spell, units: &[Unit]) -> u64
         return after_tag_token(mode, class, units);
     }
     after_token(mode, class, units)
+}
+
+/// The mode after an element of the language of these units.
+pub(crate) fn mode_behind(mode: u64, spell: Spell, units: &[Unit]) -> u64
+    ensures { result ≡ spec.mode_behind mode spell (characters units.now) }
+{
+    match spell {
+        Spell::Blank | Spell::Comment => mode,
+        Spell::Token(class) => after_any(mode, class, units),
+    }
 }
 
 /// What is open is a stack: one is put on and taken off, and no two stacks have one number.
