@@ -1,5 +1,5 @@
 -- Elements of JSX: tags, attributes and texts (JSX specification, 2022). What an entity stands for is not checked.
-use Rattle.std.specs.Prelude.{ℕ, List, [], ◌∷◌, codes}
+use Rattle.std.specs.Prelude.{[], ◌∷◌, codes}
 use Rattle.cq_base.specs.declared.token.Class.TheVariants.{Ident, Literal, Punct}
 use Rattle.cq_munch.specs.Pattern.{Pattern, among, except, only, one_of, optional, many, ◌▸◌, ◌∣◌}
 use Rattle.cq_munch.specs.Patterned.{any_word, Patterned}
