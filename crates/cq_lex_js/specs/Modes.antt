@@ -54,7 +54,7 @@ after_element mode = if is_in_element (closed mode) then closed mode else with_t
 
 -- the tag ends, and its element's children begin
 abbrev pub after_tag : ℕ → ℕ
-after_tag mode = (mode / 4 - 1) * 4
+after_tag mode = closed mode * 4 + 2 * 4
 
 abbrev pub is : List ℕ → List ℕ → Bool
 is word s = bytes_eq word s

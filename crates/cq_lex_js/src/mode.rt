@@ -1,4 +1,4 @@
-ghost use Rattle.std.specs.Prelude.{◌≡◌, ◌≤◌, ◌-◌, ◌==◌, IsTrue, length, slice_index_or};
+ghost use Rattle.std.specs.Prelude.{◌≡◌, ◌≤◌, ◌-◌, ◌==◌, length, slice_index_or};
 ghost use Rattle.cq_base.specs.declared.token.Class.TheVariants.{Punct, Word};
 ghost use Rattle.cq_munch.specs.Characters.{characters};
 ghost use Rattle.cq_munch.specs.Table.{starts};
@@ -92,10 +92,21 @@ fn after_element(mode: u64) -> u64
 }
 
 fn after_tag(mode: u64) -> u64
-    requires { IsTrue (spec.is_in_tag mode) }
     ensures { result ≡ spec.after_tag mode }
 {
-    (mode / 4 - 1) * 4
+    mode / 16 * 4 * 4 + 2 * 4
+}
+
+fn after_sign_of_child(mode: u64, units: &[Unit]) -> u64
+    ensures { result ≡ spec.after_child mode Punct (characters units.now) }
+{
+    if is_spelled(b"{", units) {
+        return opened(mode, 0);
+    }
+    if is_spelled(b"<", units) {
+        return opened(mode, 3);
+    }
+    after_element(mode)
 }
 
 fn after_child(mode: u64, class: Class, units: &[Unit]) -> u64
@@ -103,21 +114,12 @@ fn after_child(mode: u64, class: Class, units: &[Unit]) -> u64
 {
     match class {
         Class::Literal => with_token(mode, 0),
-        Class::Punct => {
-            if is_spelled(b"{", units) {
-                return opened(mode, 0);
-            }
-            if is_spelled(b"<", units) {
-                return opened(mode, 3);
-            }
-            after_element(mode)
-        }
+        Class::Punct => after_sign_of_child(mode, units),
         Class::Ident | Class::Word => mode,
     }
 }
 
 fn after_sign_of_tag(mode: u64, units: &[Unit]) -> u64
-    requires { IsTrue (spec.is_in_tag mode) }
     ensures { result ≡ spec.after_tag_token mode Punct (characters units.now) }
 {
     if is_spelled(b"{", units) {
@@ -139,7 +141,6 @@ fn after_sign_of_tag(mode: u64, units: &[Unit]) -> u64
 }
 
 fn after_tag_token(mode: u64, class: Class, units: &[Unit]) -> u64
-    requires { IsTrue (spec.is_in_tag mode) }
     ensures { result ≡ spec.after_tag_token mode class (characters units.now) }
 {
     match class {
