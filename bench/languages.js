@@ -1,7 +1,10 @@
 // Prints the tokens of JavaScript files by acorn, as bench/languages wants them: for each file the line `text`, and for each token its class, its
 // first byte, its length, and its first and last line; or the line `refused` if acorn refuses the file as a script and as a module. The acorn is
-// the one in node: node --expose-internals bench/languages.js FILE..
-const acorn = require('internal/deps/acorn/acorn/dist/acorn');
+// the one in node: node --expose-internals bench/languages.js FILE.. The variable ACORN may name a folder with another one and with acorn-jsx, as
+// /usr/share/nodejs of Debian's node-acorn; then elements of JSX are read, too.
+const { ACORN } = process.env;
+const acorn = require(ACORN ? `${ACORN}/acorn` : 'internal/deps/acorn/acorn/dist/acorn');
+const Parser = ACORN ? acorn.Parser.extend(require(`${ACORN}/acorn-jsx`)()) : acorn.Parser;
 const fs = require('fs');
 
 // reserved words (ECMA-262 12.7.2) that acorn takes for names; after a point they are
@@ -11,7 +14,7 @@ function tokensOf(text) {
   for (const sourceType of ['module', 'script']) {
     const tokens = [];
     try {
-      acorn.parse(text, { ecmaVersion: 'latest', sourceType, allowHashBang: true, allowReturnOutsideFunction: true, onToken: tokens });
+      Parser.parse(text, { ecmaVersion: 'latest', sourceType, allowHashBang: true, allowReturnOutsideFunction: true, onToken: tokens });
       return tokens;
     } catch (error) {
       if (!(error instanceof SyntaxError)) throw error;
@@ -24,16 +27,24 @@ function classOf(token, before) {
   const { keyword, label } = token.type;
   const reserved = label === 'name' && RESERVED.has(token.value) && token.end - token.start === token.value.length;
   if (keyword || (reserved && !(before && ['.', '?.'].includes(before.type.label)))) return 'word';
-  if (label === 'name' || label === 'privateId') return 'name';
+  if (['name', 'privateId', 'jsxName'].includes(label)) return 'name';
   return ['num', 'string', 'regexp'].includes(label) ? 'literal' : 'punct';
 }
 
-// acorn's tokens, with the parts of a template joined from quote to quote, or from brace to brace
-function* joined(tokens) {
+// acorn's tokens, with the parts of a template joined from quote to quote, or from brace to brace, and a closing tag from bracket to bracket; a
+// text of JSX is without the blanks around it
+function* joined(tokens, text) {
+  const labelAt = (i) => (tokens[i] ? tokens[i].type.label : '');
   for (let i = 0; i < tokens.length; i++) {
     const first = tokens[i];
-    if (first.type.label === 'eof') return;
-    if (tokens[i + 1] && tokens[i + 1].type.label.includes('template')) {
+    if (labelAt(i) === 'eof') return;
+    if (labelAt(i) === 'jsxText') {
+      const [, before, , after] = text.slice(first.start, first.end).match(/^(\s*)([^]*?)(\s*)$/);
+      if (first.start + before.length < first.end) yield ['literal', first.start + before.length, first.end - after.length];
+    } else if (labelAt(i) === 'jsxTagStart' && labelAt(i + 1) === '/') {
+      while (labelAt(i) !== 'jsxTagEnd') i++;
+      yield ['punct', first.start, tokens[i].end];
+    } else if (labelAt(i + 1).includes('template')) {
       yield ['literal', first.start, tokens[i + 2].end];
       i += 2;
     } else {
@@ -53,7 +64,7 @@ for (const file of process.argv.slice(2)) {
     line += part.split('\n').length - 1;
     at = to;
   };
-  for (const [kind, start, end] of joined(tokens ?? [])) {
+  for (const [kind, start, end] of joined(tokens ?? [], text)) {
     moved(start);
     const [first, from] = [byte, line];
     moved(end);
