@@ -53,7 +53,8 @@ a`b`/c/d `${/}/}`/e/f `${a}`/g/h ⇒ ia · l`b` · p/ · ic · p/ · id · l`${ 
 {`${a}`} `b` ⇒ p{ · l`${ · ia · l}` · p} · l`b`
 "#;
 
-const ELEMENTS: &str = r#"<a/>;<a />;<></> ⇒ p< · ia · p/ · p> · p; · p< · ia · p/ · p> · p; · p< · p> · p</>
+const ELEMENTS: &str =
+    r#"<a/>;<a />;<></> ⇒ p< · ia · p/ · p> · p; · p< · ia · p/ · p> · p; · p< · p> · p</>
 <a>it's {b} "c</a> d ⇒ p< · ia · p> · lit's · p{ · ib · p} · l"c · p</a> · id
 x=<A.b c-d="e\" f='␊"' {...g} h:i={j/2} k=<l/>>m</A.b>/n/o ⇒ ix · p= · p< · iA · p. · ib · ic-d · p= · l"e\" · if · p= · l'␊"' · p{ · p... · ig · p} · ih · p: · ii · p= · p{ · ij · p/ · l2 · p} · ik · p= · p< · il · p/ · p> · p> · lm · p</A.b> · p/ · in · p/ · io
 <>␊ a␊ b // c ␊{/* d */}< / > ⇒ p< · p> · la␊ b // c · p{ · p} · p< / >
