@@ -26,9 +26,9 @@ $ run --chunk 2 --shards 1
 {"op":"groups","project":"p","min":2} -> {"groups":[],"ok":true,"total":0,"version":1}
 $ run --chunk 2 --shards 1
 {"op":"put","project":"p","path":"a.js","lang":"js","text":"f = (x) => { return `a${x / 2 / y}` }"} -> {"change":1,"ok":true}
-{"op":"put","project":"p","path":"b.jsx","lang":"js","text":"if (/[/]/g) <p>it's {a ?? b}</p>"} -> {"change":2,"ok":true}
+{"op":"put","project":"p","path":"b.jsx","lang":"js","text":"x = /[/]/g, <p>it's {a ?? b}</p>"} -> {"change":2,"ok":true}
 {"op":"files","project":"p"} -> {"files":[{"change":1,"lang":"js","lines":1,"path":"a.js","state":"ok","tokens":16},{"change":2,"lang":"js","lines":1,"path":"b.jsx","state":"ok","tokens":14}],"ok":true,"version":2}
-{"op":"measures","project":"p"} -> {"measures":{"complexity":4,"duplicated_blocks":0,"duplicated_files":0,"duplicated_lines":0,"duplicated_lines_density":0,"files":2,"lines":2,"ncloc":2},"ok":true,"version":2}
+{"op":"measures","project":"p"} -> {"measures":{"complexity":3,"duplicated_blocks":0,"duplicated_files":0,"duplicated_lines":0,"duplicated_lines_density":0,"files":2,"lines":2,"ncloc":2},"ok":true,"version":2}
 {"op":"functions","project":"p","path":"a.js"} -> {"functions":[{"complexity":1,"first":1,"last":1,"name":"f"}],"ok":true,"version":2,"worst":0}
 "#;
 
