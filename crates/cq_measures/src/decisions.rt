@@ -29,7 +29,7 @@ fn is_java_decision(before: &[u8], text: &[u8]) -> bool
 fn is_js_decision(text: &[u8]) -> bool
     ensures { result ≡ spec.is_among (spec.decisions lang.Js) text.now }
 {
-    text == b"??" || is_c_decision(text)
+    matches!(text, b"??") || is_c_decision(text)
 }
 
 fn decides(lang: Lang, before: &[u8], text: &[u8]) -> bool
