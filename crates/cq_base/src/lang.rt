@@ -10,9 +10,11 @@ pub enum Lang {
     Go,
     C,
     Java,
+    /// JavaScript, with JSX.
+    Js,
 }
 
-const LANGS: [Lang; 4] = [Lang::Any, Lang::Go, Lang::C, Lang::Java];
+const LANGS: [Lang; 5] = [Lang::Any, Lang::Go, Lang::C, Lang::Java, Lang::Js];
 
 // The first with this name.
 fn first_named(langs: &[Lang], name: &str) -> Option<Lang>
@@ -43,6 +45,7 @@ impl Lang {
             Lang::Go => 1,
             Lang::C => 2,
             Lang::Java => 3,
+            Lang::Js => 4,
         }
     }
 
@@ -55,6 +58,7 @@ impl Lang {
             Lang::Go => "go",
             Lang::C => "c",
             Lang::Java => "java",
+            Lang::Js => "js",
         }
     }
 

@@ -17,7 +17,7 @@ use Rattle.cq_func.specs.declared.found.Found.{Found}
 use Rattle.cq_func.specs.Places.{place_above}
 use Rattle.cq_func.specs.Brackets.{spelling_of, is_spelled, holds, stands, opens, closes, are_even, from_to, partner}
 use Rattle.cq_func.specs.Levels.{level}
-use Rattle.cq_func.specs.Names.{is_name, is_called, with_body, is_no_method, ends_throws, behind_throws, java_open, java_function, c_function, go_is_named, go_parameters, go_end, go_open, is_type, go_body, go_function, function_at}
+use Rattle.cq_func.specs.Names.{is_name, is_called, with_body, is_no_method, ends_throws, behind_throws, java_open, java_function, c_function, is_used, js_declared, is_given, past, is_expression, js_parameters, js_open, js_value, js_function, go_is_named, go_parameters, go_end, go_open, is_type, go_body, go_function, function_at}
 use Rattle.cq_func.specs.Functions.{found}
 use Rattle.cq_func.specs.Walks.{AreBodies}
 use Rattle.cq_func.proofs.Least.{place_above-within, place_above-passes, place_above-least, place_below-passes}
@@ -140,6 +140,15 @@ cond_some : {X : Type 0} (b : Bool) (x : Option X) (y : X) → cond b x None ≡
 cond_some true x y is = (refl, is)
 cond_some false x y is = absurd (cc)
 
+none_or : {X : Type 0} (b : Bool) (x : Option X) (y : X) → cond b None x ≡ Some y → x ≡ Some y
+none_or true x y is = absurd (cc)
+none_or false x y is = is
+
+either_found : {X P : Type 0} (b d : Bool) (x y : Option X) (f : X) → (b ≡ true → x ≡ Some f → P) → (d ≡ true → y ≡ Some f → P) → cond b x (cond d y None) ≡ Some f → P
+either_found true d x y f first second is = first refl is
+either_found false true x y f first second is = second refl is
+either_found false false x y f first second is = absurd (cc)
+
 some_is : {X : Type 0} (x y : X) → Some x ≡ Some y → x ≡ y
 some_is x y is = cc
 
@@ -234,11 +243,54 @@ go-found ts name f inside is =
     let over : first < close = partner_above lang.Go kind.Round ts first (stands_inside lang.Go ts first (codes "(") opened) in
     go_body-found ts name close f inside (omega arith) c.1
 
+-- ---- JavaScript
+
+cond_from : (b : Bool) (low x y : ℕ) → low ≤ x → low ≤ y → low ≤ cond b x y
+cond_from true low x y first other = first
+cond_from false low x y first other = other
+
+past-from : (word : List ℕ) (ts : List Spelled) (at : ℕ) → at ≤ past word ts at
+past-from word ts at = cond_from (stands lang.Js ts at word) at (at + 1) at (omega arith) (omega arith)
+
+js_parameters-from : (ts : List Spelled) (at : ℕ) → at ≤ js_parameters ts at
+js_parameters-from ts at =
+    let over = past-from (codes "*") ts (at + 1) in
+    cond_from (is_expression ts at) at (past (codes "*") ts (at + 1)) at (omega (arith, over)) (omega arith)
+
+js_open-above : (ts : List Spelled) (name at close : ℕ) → name < length ts → name < close → name < js_open ts at close
+js_open-above ts name at close inside over =
+    cond_above (is_expression ts at) name (close + 1) (cond (stands lang.Js ts (close + 1) (codes "=>")) (close + 2) (length ts))
+    (λ _. omega arith)
+    (cond_above (stands lang.Js ts (close + 1) (codes "=>")) name (close + 2) (length ts) (λ _. omega arith) inside)
+
+js_declared-found : (ts : List Spelled) (name : ℕ) (f : Found) → name < length ts → is_called lang.Js ts name ≡ true → js_declared ts name ≡ Some f → IsFound lang.Js ts f
+js_declared-found ts name f inside called is =
+    let close = partner lang.Js kind.Round ts (name + 1) in
+    let over : name + 1 < close = called_above lang.Js ts name called in
+    with_body-found lang.Js ts name (close + 1) f inside (omega arith) (none_or (is_used ts name) (with_body lang.Js ts name (close + 1)) f is)
+
+js_value-found : (ts : List Spelled) (name : ℕ) (f : Found) → name < length ts → js_value ts name ≡ Some f → IsFound lang.Js ts f
+js_value-found ts name f inside is =
+    let at = past (codes "async") ts (name + 2) in
+    let first = js_parameters ts at in
+    let close = partner lang.Js kind.Round ts first in
+    let c = cond_some (stands lang.Js ts first (codes "(")) (with_body lang.Js ts name (js_open ts at close)) f is in
+    let low : name + 2 ≤ at = past-from (codes "async") ts (name + 2) in
+    let next : at ≤ first = js_parameters-from ts at in
+    let over : first < close = partner_above lang.Js kind.Round ts first (stands_inside lang.Js ts first (codes "(") c.0) in
+    with_body-found lang.Js ts name (js_open ts at close) f inside (js_open-above ts name at close inside (omega (arith, low, next, over))) c.1
+
+js-found : (ts : List Spelled) (name : ℕ) (f : Found) → name < length ts → js_function ts name ≡ Some f → IsFound lang.Js ts f
+js-found ts name f inside is =
+    either_found (is_called lang.Js ts name) (is_given ts name) (js_declared ts name) (js_value ts name) f
+    (js_declared-found ts name f inside) (λ _. js_value-found ts name f inside) is
+
 at-found : (l : Lang) (ts : List Spelled) (name : ℕ) (f : Found) → name < length ts → function_at l ts name ≡ Some f → IsFound l ts f
 at-found lang.Any ts name f inside is = absurd (cc)
 at-found lang.Go ts name f inside is = go-found ts name f inside is
 at-found lang.C ts name f inside is = c-found ts name f inside is
 at-found lang.Java ts name f inside is = java-found ts name f inside is
+at-found lang.Js ts name f inside is = js-found ts name f inside is
 
 -- ---- the list of them
 

@@ -127,6 +127,53 @@ go_function ts name =
     then go_body ts name close
     else None
 
+-- ---- JavaScript
+
+-- a use of a name that is not a method: after `new`, `extends` or a point
+abbrev pub is_used : List Spelled → ℕ → Bool
+is_used ts name =
+    stands_before lang.Js ts name (codes "new") || (stands_before lang.Js ts name (codes "extends")
+    || (stands_before lang.Js ts name (codes ".") || stands_before lang.Js ts name (codes "?.")))
+
+-- a declaration or a method, if the name is directly before a parenthesis
+abbrev pub js_declared : List Spelled → ℕ → Option Found
+js_declared ts name = if is_used ts name then None else with_body lang.Js ts name (partner lang.Js kind.Round ts (name + 1) + 1)
+
+-- a name that is given a value: directly before an equals sign or a colon
+abbrev pub is_given : List Spelled → ℕ → Bool
+is_given ts name = is_name ts name && (stands lang.Js ts (name + 1) (codes "=") || stands lang.Js ts (name + 1) (codes ":"))
+
+-- the next place, if this word is here
+abbrev pub past : List ℕ → List Spelled → ℕ → ℕ
+past word ts at = if stands lang.Js ts at word then at + 1 else at
+
+abbrev pub is_expression : List Spelled → ℕ → Bool
+is_expression ts at = stands lang.Js ts at (codes "function")
+
+-- where the parameters begin of a function that begins at this place: after `function` and maybe `*`, or here
+abbrev pub js_parameters : List Spelled → ℕ → ℕ
+js_parameters ts at = if is_expression ts at then past (codes "*") ts (at + 1) else at
+
+-- where its body is to begin, after the parenthesis that closes at `close`, and after an arrow if there was no `function`
+abbrev pub js_open : List Spelled → ℕ → ℕ → ℕ
+js_open ts at close =
+    if is_expression ts at then close + 1
+    else (if stands lang.Js ts (close + 1) (codes "=>") then close + 2 else length ts)
+
+-- a function that is the value of the name, maybe after `async`
+abbrev pub js_value : List Spelled → ℕ → Option Found
+js_value ts name =
+    let at = past (codes "async") ts (name + 2) in
+    let first = js_parameters ts at in
+    if stands lang.Js ts first (codes "(")
+    then with_body lang.Js ts name (js_open ts at (partner lang.Js kind.Round ts first))
+    else None
+
+abbrev pub js_function : List Spelled → ℕ → Option Found
+js_function ts name =
+    if is_called lang.Js ts name then js_declared ts name
+    else (if is_given ts name then js_value ts name else None)
+
 -- ---- all languages
 
 -- the function whose name is at this place, if there is one
@@ -135,3 +182,4 @@ function_at lang.Any ts name = None
 function_at lang.Go ts name = go_function ts name
 function_at lang.C ts name = c_function ts name
 function_at lang.Java ts name = java_function ts name
+function_at lang.Js ts name = js_function ts name

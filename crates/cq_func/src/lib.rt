@@ -10,6 +10,7 @@ mod found;
 mod function;
 mod go;
 mod java;
+mod js;
 mod own;
 mod places;
 mod spelling;

@@ -21,6 +21,10 @@ mod java_functions;
 #[cfg(test)]
 mod java_texts;
 #[cfg(test)]
+mod js_functions;
+#[cfg(test)]
+mod js_texts;
+#[cfg(test)]
 mod keys;
 #[cfg(test)]
 mod lines;

@@ -74,11 +74,13 @@ fn line_tokens(alloc: Global, lines: u32) -> Result<Vec<Token>, Memory> {
     Ok(all)
 }
 
-fn spelled(alloc: Global, texts: &[&str]) -> Result<Vec<Spelled>, Memory> {
+fn spelled(alloc: Global, class: Class, texts: &[&str]) -> Result<Vec<Spelled>, Memory> {
+    let mut one = token(1, 1);
+    one.class = class;
     let mut all = Vec::new(alloc);
     for text in texts {
         all.push(Spelled {
-            token: token(1, 1),
+            token: one,
             text: Text::from_bytes(alloc, text.as_bytes())?,
         })?;
     }
@@ -246,11 +248,15 @@ fn decisions_are_told_by_language(rt: HostRuntime) -> Result<(), Memory> {
     let alloc = rt.alloc();
     let all = spelled(
         alloc,
-        &["if", "for", "while", "case", "&&", "||", "?", "->", "else"],
+        Class::Word,
+        &[
+            "if", "for", "while", "case", "&&", "||", "?", "->", "else", "??",
+        ],
     )?;
     assert_eq!(rt; complexity(Lang::Java, &all), 9);
     assert_eq!(rt; complexity(Lang::C, &all), 8);
     assert_eq!(rt; complexity(Lang::Go, &all), 6);
+    assert_eq!(rt; complexity(Lang::Js, &all), 9);
     assert_eq!(rt; complexity(Lang::Any, &all), 1);
     assert_eq!(rt; complexity(Lang::Java, &[]), 1);
     Ok(())
@@ -259,9 +265,20 @@ fn decisions_are_told_by_language(rt: HostRuntime) -> Result<(), Memory> {
 #[test]
 fn wildcards_of_java_decide_nothing(rt: HostRuntime) -> Result<(), Memory> {
     let alloc = rt.alloc();
-    let wildcards = spelled(alloc, &["<", "?", ",", "?", ">", "?", "x"])?;
+    let wildcards = spelled(alloc, Class::Punct, &["<", "?", ",", "?", ">", "?", "x"])?;
     assert_eq!(rt; complexity(Lang::Java, &wildcards), 2);
     assert_eq!(rt; complexity(Lang::C, &wildcards), 4);
+    Ok(())
+}
+
+// As the property of `a.if`, and a text of JSX.
+#[test]
+fn names_and_literals_decide_nothing(rt: HostRuntime) -> Result<(), Memory> {
+    let alloc = rt.alloc();
+    let names = spelled(alloc, Class::Ident, &["if", "for"])?;
+    assert_eq!(rt; complexity(Lang::Js, &names), 1);
+    let texts = spelled(alloc, Class::Literal, &["if", "?"])?;
+    assert_eq!(rt; complexity(Lang::Js, &texts), 1);
     Ok(())
 }
 

@@ -66,7 +66,7 @@ fn row_found<S: StandIn>(
     by: Automaton<'_>,
     kinds: &[u8; 128],
     spells: &[Spell],
-    mode: u8,
+    mode: u64,
     units: &[Unit],
 ) -> Option<Found>
     requires { length units.now < 2 ^ 32 }
@@ -107,7 +107,7 @@ pub fn named_found<S: StandIn>(
     kinds: &[u8; 128],
     spells: &[Spell],
     reserved: &[&[&[u8]]],
-    mode: u8,
+    mode: u64,
     units: &[Unit],
 ) -> Option<Found>
     requires { length units.now < 2 ^ 32 }

@@ -71,6 +71,7 @@ fn lang_name(lang: Lang) -> &'static str {
         Lang::Go => " go",
         Lang::C => " c",
         Lang::Java => " java",
+        Lang::Js => " js",
     }
 }
 

@@ -1,0 +1,3 @@
+pub mod Dispatch
+pub mod Blanks
+pub mod Stacks
