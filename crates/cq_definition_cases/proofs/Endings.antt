@@ -14,7 +14,7 @@ use Rattle.cq_program.specs.Statuses.{Ends, EndsUnread, HasListened}
 use Rattle.cq_program.specs.declared.status.Status.TheVariants as ended
 use Rattle.cq_shared.specs.declared.shared.Shared.{Shared}
 
-rose : Rose 0 0 → ⊥
+pub rose : Rose 0 0 → ⊥
 rose (inl more) = omega (arith, more)
 rose (inr last) = omega (arith, last)
 

@@ -1,10 +1,16 @@
--- Lists that are none of groups, and places that are not kept.
-use Rattle.std.specs.Prelude.{◌≡◌, ℕ, zero, suc, slice_index_or, ◌<◌, List, [], ◌∷◌, length, Some, None}
-use Rattle.std.proofs.Common.{arith, ap, inl, inr}
+-- Lists that are none of groups, places that are not kept, and what a listing may not cost.
+use Rattle.std.specs.Prelude.{◌≡◌, ℕ, zero, suc, slice_index_or, ◌<◌, ◌≤◌, List, [], ◌∷◌, length, AllPairs, Some, None}
+use Rattle.std.specs.declared.sync.ledger.Ledger as ledger
+use Rattle.std.proofs.Common.{arith, ap, sym, subst, inl, inr}
 use Rattle.std.proofs.lemmas.List.Elements.{Contains-get_or}
 use Rattle.cq_base.specs.declared.group.Group.{Group}
 use Rattle.cq_base.specs.declared.group.Place.{Place}
 use Rattle.cq_clones.specs.Groups.{AreGroups, AreGroupsIn, ComesBefore, IsBefore, IsGroup, kept_of, token_before, token_behind}
+use Rattle.cq_groups.specs.Listing.{AreAllRising, AsksKeysAtMostIn, IsKeyIn}
+use Rattle.cq_groups.specs.Sets.{IsLongest, ReadsAtMost}
+use Rattle.cq_tokens.specs.Parts.{keys_in}
+use Rattle.cq_tokens.specs.declared.corpus.Corpus.{Corpus}
+use Rattle.cq_tokens.specs.declared.files.Files as files
 
 abbrev place : ℕ → ℕ → Place
 place file at = record { file = file; at = at }
@@ -54,3 +60,23 @@ pub a_group_of_other_files_is_not_listed : (least : ℕ) → AreGroupsIn corpus 
 a_group_of_other_files_is_not_listed least listed =
     let there = ((listed.each first_file_only).0 (Contains-get_or (first_file_only ∷ []) 0 first_file_only (omega arith))).1 in
     none_in_the_second there.0 there.1 there.2 there.3 there.4
+
+-- ---- what a listing costs
+
+-- no word stands twice: each place is read twice at most
+pub a_place_is_read_no_more_often_than_its_word_is_long : IsLongest corpus 0 → ReadsAtMost corpus 1 0 3 → ⊥
+a_place_is_read_no_more_often_than_its_word_is_long longest reads = let most : 3 ≤ 2 = reads 0 longest in omega (arith, most)
+
+-- the window of the first file has key 5, and that of the second key 6
+abbrev two_keys : List (List ℕ)
+two_keys = (5 ∷ []) ∷ (6 ∷ []) ∷ []
+
+one_key : AllPairs (λ (a b : ℕ). a < b) (5 ∷ [])
+one_key i j d before within = absurd (omega (arith, before, within))
+
+first_keys : AreAllRising (IsKeyIn two_keys 0) (5 ∷ [])
+first_keys = record { ordered = one_key; each = λ k. (λ h. h, λ h. h) }
+
+pub a_file_is_listed_by_its_own_keys : {F R : Type 0} {f : files.Ghosts F R} {g : ledger.Ghosts R} (of : Corpus F R f g) → keys_in of ≡ two_keys → AsksKeysAtMostIn of 0 0 2 → ⊥
+a_file_is_listed_by_its_own_keys of keys asks =
+    let most : 2 ≤ 1 = (asks (5 ∷ []) (subst (λ (ks : List (List ℕ)). AreAllRising (IsKeyIn ks 0) (5 ∷ [])) (sym keys) first_keys)).1 in omega (arith, most)

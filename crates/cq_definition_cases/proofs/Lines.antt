@@ -1,9 +1,11 @@
--- What a cutter of lines may not find.
-use Rattle.std.specs.Prelude.{◌≡◌, ◌⊎◌, ℕ, ◌<◌, true, false, List, [], ◌∷◌, ◌++◌, length, Option}
-use Rattle.std.proofs.Common.{Bor, arith, ap, inl, inr}
+-- What a cutter of lines may not find, and what may not be written for lines.
+use Rattle.std.specs.Prelude.{◌≡◌, ◌⊎◌, ℕ, ◌<◌, true, false, List, [], ◌∷◌, ◌++◌, length, flat_map, Option, Some}
+use Rattle.std.proofs.Common.{Bor, arith, ap, refl, sym, ◌∙◌, inl, inr, append-nil}
 use Rattle.cq_lines.specs.Cutting.{Cuts, HasCutCause, IsNext, IsSpent}
 use Rattle.cq_lines.specs.Held.{Held}
-use Rattle.cq_lines.specs.Pieces.{ended}
+use Rattle.cq_lines.specs.Pieces.{all_lines, ended, split}
+use Rattle.cq_lines.specs.Serving.{Serves}
+use Rattle.cq_lines.specs.declared.ending.End.TheVariants as end
 use Rattle.cq_lines.specs.declared.lines.Cut.TheVariants as cut
 
 -- one byte was taken, which is no line feed, of nine that may be
@@ -35,3 +37,27 @@ no_byte_is_lost at_end new left next = of next.1
     of : ((bytes ≡ ended line ++ new.pending) × (new.over ≡ false)) ⊎ ((bytes ≡ line) × (0 < length line) × (new.pending ≡ []) × (new.over ≡ true) × at_end × (new.taken < new.limit)) → ⊥
     of (inl closed) = let all = ap (λ (s : List ℕ). length s) closed.0 in omega (arith, all, held)
     of (inr last) = let all = ap (λ (s : List ℕ). length s) last.0 in omega (arith, all)
+
+-- ---- serving: the reply to a line is the line
+
+abbrev are_echoes : List (List ℕ) → List (List ℕ) → Type 0
+are_echoes lines replies = replies ≡ lines
+
+-- the source has the line `a`, all of which was read, and nothing was written before
+written_of_a : (written : List ℕ) → Serves ended are_echoes 9 (Some (97 ∷ 10 ∷ [])) (Some []) (Some []) (Some written) end.Finished → written ≡ 97 ∷ 10 ∷ []
+unfolding split
+written_of_a written serves =
+    let got : 97 ∷ 10 ∷ [] ≡ serves.got = serves.bytes ∙ append-nil serves.got in
+    let replied = serves.served.2 in
+    let all : replied.replies ≡ all_lines (97 ∷ 10 ∷ []) = replied.talk ∙ ap all_lines (sym got) in replied.written ∙ ap (λ (rs : List (List ℕ)). flat_map ended rs) all
+
+pub a_line_has_its_reply : Serves ended are_echoes 9 (Some (97 ∷ 10 ∷ [])) (Some []) (Some []) (Some (97 ∷ 10 ∷ [])) end.Finished
+unfolding split
+a_line_has_its_reply =
+    record { got = 97 ∷ 10 ∷ []; bytes = refl; served = (refl, omega arith, record { replies = (97 ∷ []) ∷ []; talk = refl; written = refl }) }
+
+pub no_line_is_without_a_reply : Serves ended are_echoes 9 (Some (97 ∷ 10 ∷ [])) (Some []) (Some []) (Some []) end.Finished → ⊥
+no_line_is_without_a_reply serves = let none : 0 ≡ 2 = ap (λ (s : List ℕ). length s) (written_of_a [] serves) in omega (arith, none)
+
+pub no_line_has_two_replies : Serves ended are_echoes 9 (Some (97 ∷ 10 ∷ [])) (Some []) (Some []) (Some (97 ∷ 10 ∷ 97 ∷ 10 ∷ [])) end.Finished → ⊥
+no_line_has_two_replies serves = let two : 4 ≡ 2 = ap (λ (s : List ℕ). length s) (written_of_a (97 ∷ 10 ∷ 97 ∷ 10 ∷ []) serves) in omega (arith, two)

@@ -72,7 +72,7 @@ module _ (facts : Facts) (conditions : List Condition) (version : ℕ) (p : Part
   kind_shown kinds.Verdict = refl
   kind_shown kinds.Functions = refl
 
-shown_at : (set : Settings) (changes : List Change) (version : ℕ) (q : Query) (r : Reply) → IsReply set changes version q r → shown_in r ≡ Some version
+pub shown_at : (set : Settings) (changes : List Change) (version : ℕ) (q : Query) (r : Reply) → IsReply set changes version q r → shown_in r ≡ Some version
 shown_at set changes version q r is = ap shown_in is.reply_is ∙ kind_shown (facts_read is.readings) (conditions_at changes version q.project) version (part_read is.readings q) (chosen_read is.readings q) is.groups q.kind
 
 -- of a caller who has version 1 open

@@ -1,7 +1,9 @@
 -- Turns of a worker that are none, and what a hub may not answer.
-use Rattle.std.specs.Prelude.{◌≡◌, ◌⊎◌, ℕ, ◌≤◌, false, List, [], ◌∷◌, ◌++◌, length, None, Some}
+use Rattle.std.specs.Prelude.{◌≡◌, ◌⊎◌, ℕ, ◌≤◌, false, List, [], ◌∷◌, ◌++◌, length, flat_map, None, Some}
+use Rattle.std.specs.List.{AllByRecursion}
 use Rattle.std.proofs.Common.{arith, ap, refl, ◌∙◌, inl, inr}
 use Rattle.cq_definition_cases.proofs.Different.{is_false}
+use Rattle.cq_definition_cases.proofs.Talks.{own_grown}
 use Rattle.cq_base.specs.declared.change.Change.{Change}
 use Rattle.cq_base.specs.declared.change.Change.TheVariants.{Put}
 use Rattle.cq_base.specs.declared.lang.Lang.TheVariants.{Any}
@@ -11,9 +13,9 @@ use Rattle.cq_history.specs.declared.event.Event.TheVariants as event
 use Rattle.cq_history.specs.Lawful.{Permits}
 use Rattle.cq_history.specs.State.{State, own}
 use Rattle.cq_history.proofs.Prefixes.{own-append}
-use Rattle.cq_hub.specs.Hubs.{RaisesOnce}
+use Rattle.cq_hub.specs.Hubs.{IsPublication, RaisesOnce}
 use Rattle.cq_hub.specs.Says.{IsAcceptedAs, IsJobFor}
-use Rattle.cq_serve.specs.Labours.{IsOfTurn}
+use Rattle.cq_serve.specs.Labours.{IsOfTurn, Labour}
 use Rattle.cq_serve.specs.Turns.{AtEase, IsTurn, Passes}
 use Rattle.cq_serve.specs.declared.answers.Turn.TheVariants as turn
 
@@ -48,6 +50,25 @@ pub a_question_alone_is_no_turn : (c : ℕ) → IsOfTurn c (event.Ask c ∷ []) 
 a_question_alone_is_no_turn c (r, inl worked) = let three : 1 ≡ 3 = ap (λ (es : List Event). length es) worked in omega (arith, three)
 a_question_alone_is_no_turn c (r, inr (inl back)) = let three : 1 ≡ 3 = ap (λ (es : List Event). length es) back in omega (arith, three)
 a_question_alone_is_no_turn c (r, inr (inr late)) = let two : 1 ≡ 2 = ap (λ (es : List Event). length es) late in omega (arith, two)
+
+abbrev takes : List Event → ℕ
+takes (event.Took by r ∷ es) = 1
+takes _ = 0
+
+-- a turn begins with the taking of a change
+begins_taking : (c : ℕ) (events : List Event) → IsOfTurn c events → (rest : List Event) → takes (events ++ rest) ≡ 1
+begins_taking c events (r, inl worked) rest = ap (λ (es : List Event). takes (es ++ rest)) worked
+begins_taking c events (r, inr (inl back)) rest = ap (λ (es : List Event). takes (es ++ rest)) back
+begins_taking c events (r, inr (inr late)) rest = ap (λ (es : List Event). takes (es ++ rest)) late
+
+of_turns : (turns : List (List Event)) → AllByRecursion (IsOfTurn 0) turns → event.Ask 0 ∷ [] ≡ flat_map (λ (events : List Event). events) turns → ⊥
+of_turns [] each e = let none : 1 ≡ 0 = ap (λ (es : List Event). length es) e in omega (arith, none)
+of_turns (events ∷ turns) each e =
+    let taking : 0 ≡ 1 = ap takes e ∙ begins_taking 0 events each.0 (flat_map (λ (es : List Event). es) turns) in omega (arith, taking)
+
+pub a_worker_asks_only_in_its_turns : (alone : Type 0) → Labour alone 0 [] (event.Ask 0 ∷ []) → ⊥
+a_worker_asks_only_in_its_turns alone labour =
+    of_turns labour.turns labour.each (own_grown alone IsPublication [] (event.Ask 0 ∷ []) (flat_map (λ (es : List Event). es) labour.turns) labour.grows)
 
 -- ---- a hub
 

@@ -5,12 +5,13 @@ ghost use Rattle.cq_projects.specs.Spotted.{numbers_of};
 ghost use Rattle.cq_clones.specs.Windows.{IsBucket};
 ghost use Rattle.cq_hub.specs.Answers.{HasNoView};
 
-use crate::hubs::{Few, few};
-use crate::made::{Apart, Made, SETTINGS, accept, finish, letter};
+use crate::deeds::{Came, Deed};
+use crate::hubs::{few, over_solo};
+use crate::made::{Apart, Made, Project, accept, finish, name};
 use cq_base::{Entry, Memory, Text};
 use cq_board::{Refused, View};
 use cq_groups::Buckets;
-use cq_hub::{Hub, Solo};
+use cq_hub::Hub;
 use cq_io::OpenGate;
 use cq_projects::ProjectFiles;
 use cq_session::PassBuckets;
@@ -61,27 +62,22 @@ fn read<W: Made, H: Hub<W>>(
     Ok(entries)
 }
 
-// What the second of two projects with the same file has of a key.
-fn second_of_two<W: Made, H: Hub<W>>(
+/// What the second of two projects with the same file has of a key.
+pub fn second_of_two<W: Made, H: Hub<W>>(
     alloc: Global,
     key: u64,
     hub: &H,
     pass: &mut H::Pass,
-) -> Result<Few, Refused>
+) -> Result<Came, Refused>
     requires { HasNoView H.Stands H.settings H.callers hub.now pass.old }
 {
-    let first = accept(alloc, b'p', hub, pass)?;
+    let first = accept(alloc, Project::P, hub, pass)?;
     finish(hub, first, Arc::new(alloc, W::made())?, pass)?;
-    let second = accept(alloc, b'q', hub, pass)?;
+    let second = accept(alloc, Project::Q, hub, pass)?;
     finish(hub, second, Arc::new(alloc, W::made())?, pass)?;
-    let project = letter(alloc, b'q')?;
+    let project = name(alloc, Project::Q)?;
     let entries = read(alloc, hub, &project, key, pass)?;
-    Ok(few(&entries))
-}
-
-fn run<W: Made>(alloc: Global, key: u64) -> Result<Few, Refused> {
-    let (hub, mut pass) = Solo::<W>::new(alloc, &SETTINGS)?;
-    second_of_two(alloc, key, &hub, &mut pass)
+    Ok(Came::Second(few(&entries)))
 }
 
 #[test]
@@ -91,6 +87,9 @@ fn other_projects_are_left_out(rt: HostRuntime) -> Result<(), Refused> {
         change: 2,
         at: 1,
     };
-    assert_eq!(rt; run::<Apart>(rt.alloc(), 4)?, (1, Some(entry), None));
+    assert_eq!(rt;
+        over_solo::<Apart>(rt.alloc(), 2, Deed::ReadSecond(4))?,
+        Came::Second((1, Some(entry), None))
+    );
     Ok(())
 }

@@ -1,26 +1,16 @@
-//! Trials of the index and of the history: a shard, the board, the core's steps, and both hubs with their buckets and their
-//! floors, each over a work of two windows.
+//! Trials of both hubs, the plain one and the shared one, with their buckets and their floors, over works of two windows. What a
+//! caller does with a new hub is a `Deed`, so that each hub is called in one place.
 #![tactic(auto)]
 
 #[cfg(test)]
-mod boards;
-#[cfg(test)]
 mod buckets;
+#[cfg(test)]
+mod deeds;
 #[cfg(test)]
 mod hubs;
 #[cfg(test)]
 mod made;
 #[cfg(test)]
-mod projects;
-#[cfg(test)]
-mod shard_sweeps;
-#[cfg(test)]
-mod shards;
-#[cfg(test)]
-mod steps;
-#[cfg(test)]
 mod sweeps;
 #[cfg(test)]
 mod threads;
-#[cfg(test)]
-mod two;

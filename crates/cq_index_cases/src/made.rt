@@ -13,6 +13,7 @@ use cq_board::{Finished, Refused};
 use cq_hub::Hub;
 use cq_shard::Indexed;
 use std::alloc::Global;
+use std::cell::Cell;
 use std::sync::Arc;
 
 /// A work that is that of every text.
@@ -20,6 +21,9 @@ pub trait Made: Indexed {
     fn made() -> Self
         ensures { (settings : Settings) (lang : Lang) (text : List ℕ)
             → Self.IsWorkOf settings lang text result };
+
+    /// How often its keys were looked at, if it counts that.
+    fn looks(&self) -> u64;
 }
 
 /// Its two windows have different keys.
@@ -46,6 +50,10 @@ impl Indexed for Apart {
 impl Made for Apart {
     fn made() -> Apart {
         Apart {}
+    }
+
+    fn looks(&self) -> u64 {
+        0
     }
 }
 
@@ -74,6 +82,46 @@ impl Made for Alike {
     fn made() -> Alike {
         Alike {}
     }
+
+    fn looks(&self) -> u64 {
+        0
+    }
+}
+
+/// Its two windows have different keys, and it counts how often they are looked at.
+#[derive(Drop)]
+pub struct Counted {
+    looks: Cell<u64>,
+}
+
+impl Indexed for Counted {
+    ghost use Rattle.std.specs.Prelude.{◌∷◌, [], refl};
+    ghost use Rattle.std.proofs.Common.{rules};
+
+    ghost keys_in = { λ work. 3 ∷ 4 ∷ [] };
+
+    ghost IsWorkOf = { λ settings lang text work. Unit {0} };
+
+    fn keys(&self) -> &[u64] {
+        self.looks.set(self.looks.get().wrapping_add(1));
+        &[3, 4]
+    }
+
+    ghost determined = { λ settings lang text work other is also. refl };
+
+    ghost few = { Prim.search rules };
+}
+
+impl Made for Counted {
+    fn made() -> Counted {
+        Counted {
+            looks: Cell::new(0),
+        }
+    }
+
+    fn looks(&self) -> u64 {
+        self.looks.get()
+    }
 }
 
 /// Two shards.
@@ -88,8 +136,26 @@ pub const SETTINGS: Settings = Settings {
     byte_limit: 1_152_921_504_606_846_976,
 };
 
-/// A text of one letter.
-pub fn letter(alloc: Global, byte: u8) -> Result<Text, Memory>
+/// One of two projects.
+#[derive(Clone, Copy)]
+pub enum Project {
+    P,
+    Q,
+}
+
+impl Project {
+    fn byte(self) -> u8
+        ensures { result < 128 }
+    {
+        match self {
+            Project::P => b'p',
+            Project::Q => b'q',
+        }
+    }
+}
+
+// A text of one letter.
+fn letter(alloc: Global, byte: u8) -> Result<Text, Memory>
     requires { byte < 128 }
     ensures utf8 { IfOk result IsUtf8 }
     ensures len { IfOk result (λ text. length text ≤ 1) }
@@ -99,13 +165,20 @@ pub fn letter(alloc: Global, byte: u8) -> Result<Text, Memory>
     Ok(Text::from_vec(bytes))
 }
 
-/// A put of the file `a` of a project.
-pub fn put(alloc: Global, project: u8) -> Result<Change, Memory>
-    requires { project < 128 }
+/// Its name.
+pub fn name(alloc: Global, project: Project) -> Result<Text, Memory>
+    ensures utf8 { IfOk result IsUtf8 }
+    ensures len { IfOk result (λ text. length text ≤ 1) }
+{
+    letter(alloc, project.byte())
+}
+
+// A put of the file `a` of a project.
+fn put(alloc: Global, project: Project) -> Result<Change, Memory>
     ensures sound { IfOk result IsSoundChange }
     ensures put { IfOk result (λ change. is_put change ≡ true) }
 {
-    let project = letter(alloc, project)?;
+    let project = name(alloc, project)?;
     let path = letter(alloc, b'a')?;
     let text = letter(alloc, b'x')?;
     Ok(Change::Put {
@@ -119,12 +192,11 @@ pub fn put(alloc: Global, project: u8) -> Result<Change, Memory>
 /// A put of a project is accepted by a caller that has no view open.
 pub fn accept<W: Made, H: Hub<W>>(
     alloc: Global,
-    project: u8,
+    project: Project,
     hub: &H,
     pass: &mut H::Pass,
 ) -> Result<u64, Refused>
-    requires letter { project < 128 }
-    requires closed { HasNoView H.Stands H.settings H.callers hub.now pass.old }
+    requires { HasNoView H.Stands H.settings H.callers hub.now pass.old }
     ensures { IfOk result (HasSeenPut H.Hub hub.now pass.new) }
 {
     let change = put(alloc, project)?;

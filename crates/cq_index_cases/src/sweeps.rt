@@ -1,14 +1,15 @@
-ghost use Rattle.std.specs.Prelude.{◌≡◌, ◌<◌, [], OnOk};
+ghost use Rattle.std.specs.Prelude.{◌<◌, OnOk};
 ghost use Rattle.cq_hub.specs.Answers.{HasNoView};
-ghost use Rattle.cq_hub.specs.Hubs.{IsPassOf};
-ghost use Rattle.cq_shared.specs.SharedPasses as shared;
+ghost use Rattle.cq_shared.specs.SharedPasses.{IsPassOf, settings_of};
 
-use crate::hubs::{Few, few, read};
-use crate::made::{Apart, Made, SETTINGS, accept, finish};
+use crate::deeds::{Came, Deed};
+use crate::hubs::{Few, few, over_solo, read};
+use crate::made::{Apart, Made, Project, SETTINGS, accept, finish};
+use crate::threads::serve;
 use cq_base::{Entry, Memory};
 use cq_board::Refused;
 use cq_chain::Pass;
-use cq_hub::{Hub, Solo};
+use cq_hub::Hub;
 use cq_io::OpenGate;
 use cq_shard::Indexed;
 use cq_shared::Shared;
@@ -16,12 +17,12 @@ use std::alloc::Global;
 use std::sync::{Arc, Wait};
 
 // A put of one file is accepted, and its work finished.
-fn put_file<H: Hub<Apart>>(alloc: Global, hub: &H, pass: &mut H::Pass) -> Result<(), Refused>
+fn put_file<W: Made, H: Hub<W>>(alloc: Global, hub: &H, pass: &mut H::Pass) -> Result<(), Refused>
     requires { HasNoView H.Stands H.settings H.callers hub.now pass.old }
     ensures { OnOk result (HasNoView H.Stands H.settings H.callers hub.now pass.new) }
 {
-    let number = accept(alloc, b'p', hub, pass)?;
-    let work = Arc::new(alloc, Apart::made())?;
+    let number = accept(alloc, Project::P, hub, pass)?;
+    let work = Arc::new(alloc, W::made())?;
     finish(hub, number, work, pass)?;
     Ok(())
 }
@@ -56,49 +57,36 @@ fn sweep_viewed<W: Indexed, H: Hub<W>>(
     Ok((kept, entries, floor))
 }
 
-// What comes of two versions of one file, the first of which is viewed: the floor then and what the view has of a key, the
-// floor behind it, and what a later view has.
+/// What comes of two versions of one file, the first of which is viewed.
 #[derive(Clone, Copy, Debug, PartialEq, Eq)]
-struct Swept {
-    kept: u64,
-    viewed: Few,
-    floor: u64,
-    later: Few,
+pub struct Swept {
+    /// The floor that a sweep raises while the first one is viewed, and what that view has of a key then.
+    pub kept: u64,
+    pub viewed: Few,
+    /// The floor after it, and what a later view has.
+    pub floor: u64,
+    pub later: Few,
 }
 
-fn sweep_both<H: Hub<Apart>>(alloc: Global, hub: &H, pass: &mut H::Pass) -> Result<Swept, Refused>
+/// What comes of them.
+pub fn sweep_both<W: Made, H: Hub<W>>(
+    alloc: Global,
+    hub: &H,
+    pass: &mut H::Pass,
+) -> Result<Came, Refused>
     requires { HasNoView H.Stands H.settings H.callers hub.now pass.old }
-    ensures { OnOk result (IsPassOf H.Stands hub.now pass.new) }
 {
     put_file(alloc, hub, pass)?;
     publish(alloc, hub, pass)?;
     put_file(alloc, hub, pass)?;
     let (kept, viewed, floor) = sweep_viewed(alloc, hub, pass)?;
     let (_, later) = read(alloc, hub, 3, pass)?;
-    Ok(Swept {
+    Ok(Came::Swept(Swept {
         kept,
         viewed: few(&viewed),
         floor,
         later: few(&later),
-    })
-}
-
-fn sweep_alone(alloc: Global) -> Result<Swept, Refused> {
-    let (hub, mut pass) = Solo::<Apart>::new(alloc, &SETTINGS)?;
-    sweep_both(alloc, &hub, &mut pass)
-}
-
-// The same by a caller of a shared hub that has seen nothing.
-fn sweep_shared<R: Wait>(
-    alloc: Global,
-    hub: &Shared<Apart, R>,
-    pass: &mut Pass<Apart>,
-) -> Result<Swept, Refused>
-    requires of { shared.IsPassOf hub.now pass.old }
-    requires fresh { pass.old.seen ≡ [] }
-    ensures of { OnOk result (shared.IsPassOf hub.now pass.new) }
-{
-    sweep_both(alloc, hub, pass)
+    }))
 }
 
 // The floor of a shard, and how many entries with the key 3 it has of the first two changes.
@@ -108,9 +96,9 @@ fn look<W: Indexed, R: Wait>(
     number: u32,
     pass: &mut Pass<W>,
 ) -> Result<(u64, usize), Memory>
-    requires of { shared.IsPassOf hub.now pass.old }
-    requires number { number < (shared.settings_of hub.now).shards }
-    ensures of { shared.IsPassOf hub.now pass.new }
+    requires of { IsPassOf hub.now pass.old }
+    requires number { number < (settings_of hub.now).shards }
+    ensures of { IsPassOf hub.now pass.new }
 {
     let shard = hub.cells().enter_shard(number, pass);
     let floor = shard.floor();
@@ -119,13 +107,14 @@ fn look<W: Indexed, R: Wait>(
     Ok((floor, entries?.len()))
 }
 
-// The same over a new hub, and how each of its two shards looks then.
+// The same over a new shared hub, by a caller that has seen nothing, and how each of its two shards then looks to another one.
 fn swept_and_seen<Q: Wait>(
     rt: &Q,
     alloc: Global,
-) -> Result<(Swept, (u64, usize), (u64, usize)), Refused> {
-    let (hub, mut pass) = Shared::<Apart, _>::new(rt, alloc, &SETTINGS, 1)?;
-    let swept = sweep_shared(alloc, &hub, &mut pass)?;
+) -> Result<(Came, (u64, usize), (u64, usize)), Refused> {
+    let (hub, mut pass) = Shared::<Apart, _>::new(rt, alloc, &SETTINGS, 2)?;
+    let one = hub.split_pass(&mut pass);
+    let swept = serve(alloc, &hub, Deed::Sweep, one)?;
     let first = look(alloc, &hub, 0, &mut pass)?;
     let second = look(alloc, &hub, 1, &mut pass)?;
     Ok((swept, first, second))
@@ -142,18 +131,18 @@ fn only(change: u64) -> Few {
 }
 
 // The view keeps the first version, and a later one has the second.
-fn wanted() -> Swept {
-    Swept {
+fn wanted() -> Came {
+    Came::Swept(Swept {
         kept: 1,
         viewed: only(1),
         floor: 2,
         later: only(2),
-    }
+    })
 }
 
 #[test]
 fn what_is_viewed_stays_alone(rt: HostRuntime) -> Result<(), Refused> {
-    assert_eq!(rt; sweep_alone(rt.alloc())?, wanted());
+    assert_eq!(rt; over_solo::<Apart>(rt.alloc(), 2, Deed::Sweep)?, wanted());
     Ok(())
 }
 

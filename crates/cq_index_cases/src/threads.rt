@@ -1,8 +1,8 @@
 ghost use Rattle.std.specs.Prelude.{◌≡◌, ◌<◌, ◌≤◌, []};
 ghost use Rattle.cq_shared.specs.SharedPasses.{IsPassOf};
 
-use crate::hubs::{Counted, looks, put_and_read};
-use crate::made::{Apart, SETTINGS};
+use crate::deeds::{Came, Deed, carry_out};
+use crate::made::{Apart, Counted, Made, Project, SETTINGS};
 use cq_base::Settings;
 use cq_board::{Asked, Refused};
 use cq_chain::Pass;
@@ -11,33 +11,26 @@ use std::alloc::Global;
 use std::sync::Wait;
 use std::thread::{Threads, join};
 
-// What one caller does who has seen nothing: a put of a project is accepted, its work is finished and published, and a key
-// is read in a view. It answers the version that was published, and how many entries there are.
-fn serve<R: Wait>(
+/// What comes of the deed of a caller that has seen nothing.
+pub fn serve<W: Made, R: Wait>(
     alloc: Global,
-    hub: &Shared<Apart, R>,
-    project: u8,
-    mut pass: Pass<Apart>,
-) -> Result<(u64, usize), Refused>
-    requires letter { project < 128 }
+    hub: &Shared<W, R>,
+    deed: Deed,
+    mut pass: Pass<W>,
+) -> Result<Came, Refused>
     requires of { IsPassOf hub.now pass }
     requires fresh { pass.seen ≡ [] }
 {
-    let (_, _, version, (entries, _, _)) = put_and_read(alloc, project, 3, hub, &mut pass)?;
-    Ok((version, entries))
+    carry_out(alloc, deed, hub, &mut pass)
 }
 
-// Two threads do so at the same time, each for a project of its own; and what the first caller then sees.
+// Two threads each put and read a file of a project of its own, at the same time; and what the first caller then sees.
 fn serve_both<Q: Threads, R: Wait + Sync>(
     rt: &Q,
     alloc: Global,
     hub: &Shared<Apart, R>,
     mut pass: Pass<Apart>,
-) -> (
-    Result<(u64, usize), Refused>,
-    Result<(u64, usize), Refused>,
-    Asked,
-)
+) -> (Result<Came, Refused>, Result<Came, Refused>, Asked)
     requires of { IsPassOf hub.now pass }
     requires fresh { pass.seen ≡ [] }
     requires room { 1 < pass.room }
@@ -46,53 +39,50 @@ fn serve_both<Q: Threads, R: Wait + Sync>(
     let two = hub.split_pass(&mut pass);
     let (one, two) = join(
         rt,
-        move || -> Result<(u64, usize), Refused>
+        move || -> Result<Came, Refused>
             requires { IsPassOf hub.now one × (one.seen ≡ []) }
-        { serve(alloc, hub, b'p', one) },
-        move || -> Result<(u64, usize), Refused>
+        { serve(alloc, hub, Deed::Read(Project::P, 3), one) },
+        move || -> Result<Came, Refused>
             requires { IsPassOf hub.now two × (two.seen ≡ []) }
-        { serve(alloc, hub, b'q', two) },
+        { serve(alloc, hub, Deed::Read(Project::Q, 3), two) },
     );
     (one, two, hub.ask(&mut pass))
 }
 
-// How often the keys of two works are looked at, which a caller publishes that has seen nothing.
-fn looks_at_first<R: Wait>(
+// What a deed comes to over a new hub of so many shards.
+fn over_shared<W: Made, R: Wait + Drop>(
+    rt: R,
     alloc: Global,
-    hub: &Shared<Counted, R>,
-    mut pass: Pass<Counted>,
-) -> Result<(u64, u64), Refused>
-    requires of { IsPassOf hub.now pass }
-    requires fresh { pass.seen ≡ [] }
-{
-    looks(alloc, hub, &mut pass)
-}
-
-// The same for a new hub of so many shards.
-fn looks_over<R: Wait + Drop>(rt: R, alloc: Global, shards: u32) -> Result<(u64, u64), Refused>
+    shards: u32,
+    deed: Deed,
+) -> Result<Came, Refused>
     requires { 1 ≤ shards }
 {
     let settings = Settings { shards, ..SETTINGS };
-    let (hub, pass) = Shared::<Counted, _>::new(rt, alloc, &settings, 1)?;
-    looks_at_first(alloc, &hub, pass)
+    let (hub, pass) = Shared::<W, _>::new(rt, alloc, &settings, 1)?;
+    serve(alloc, &hub, deed, pass)
 }
 
 // What two threads of a new hub come to, and what is seen at last.
-fn both<Q: Threads + Wait + Sync>(
-    rt: &Q,
-    alloc: Global,
-) -> Result<((u64, usize), (u64, usize), Asked), Refused> {
+fn both<Q: Threads + Wait + Sync>(rt: &Q, alloc: Global) -> Result<(Came, Came, Asked), Refused> {
     let (hub, pass) = Shared::<Apart, _>::new(rt, alloc, &SETTINGS, 3)?;
     let (one, two, asked) = serve_both(rt, alloc, &hub, pass);
     Ok((one?, two?, asked))
 }
 
-// Each has as many entries as its version has files.
+// Whether as many entries were read as the version has files.
+fn is_whole(came: Came) -> bool {
+    match came {
+        Came::Read(_, _, version, (entries, _, _)) => entries as u64 == version,
+        _ => false,
+    }
+}
+
 #[test]
 fn two_threads_serve(rt: HostRuntime) -> Result<(), Refused> {
-    let ((version, entries), (version_two, entries_two), asked) = both(&rt, rt.alloc())?;
-    assert_eq!(rt; entries as u64, version);
-    assert_eq!(rt; entries_two as u64, version_two);
+    let (one, two, asked) = both(&rt, rt.alloc())?;
+    assert!(rt; is_whole(one));
+    assert!(rt; is_whole(two));
     assert_eq!(rt;
         asked,
         Asked {
@@ -107,7 +97,14 @@ fn two_threads_serve(rt: HostRuntime) -> Result<(), Refused> {
 
 #[test]
 fn each_shard_looks_at_the_keys_of_a_work_once(rt: HostRuntime) -> Result<(), Refused> {
-    assert_eq!(rt; looks_over(&rt, rt.alloc(), 1)?, (1, 1));
-    assert_eq!(rt; looks_over(&rt, rt.alloc(), 7)?, (7, 7));
+    let (one, seven) = (Came::Looked(1, 1), Came::Looked(7, 7));
+    assert_eq!(rt;
+        over_shared::<Counted, _>(&rt, rt.alloc(), 1, Deed::Look)?,
+        one
+    );
+    assert_eq!(rt;
+        over_shared::<Counted, _>(&rt, rt.alloc(), 7, Deed::Look)?,
+        seven
+    );
     Ok(())
 }

@@ -2,6 +2,7 @@ use cq_base::Text;
 use cq_io::{
     Doors, Failed, Gate, MemDoors, MemSink, MemSource, OpenGate, Sink, Source, StdSink, StdSource,
 };
+use std::alloc::Global;
 use std::collections::VecDeque;
 use std::io;
 use std::io::{ErrorKind, Read, Write};
@@ -66,21 +67,24 @@ fn write_once<K: Sink>(sink: &mut K, piece: &[u8; 3]) -> Result<usize, Failed> {
 }
 
 #[test]
-fn memory_ends_fail_where_they_are_told(rt: HostRuntime) -> Result<(), Fail> {
+fn a_source_in_memory_fails_where_it_is_told(rt: HostRuntime) -> Result<(), Fail> {
     let alloc = rt.alloc();
     let mut source = MemSource::new(b"abcde".to_vec(alloc)?, 2, vec![in alloc; 2u64]?);
     let mut out = [0u8; 4];
-    assert_eq!(rt; read_once(&mut source, &mut out), Ok(2));
-    assert_eq!(rt; read_once(&mut source, &mut out), Err(Failed));
-    assert_eq!(rt; read_once(&mut source, &mut out), Ok(2));
-    assert_eq!(rt; read_once(&mut source, &mut out), Ok(1));
-    assert_eq!(rt; read_once(&mut source, &mut out), Ok(0));
+    for wanted in [Ok(2), Err(Failed), Ok(2), Ok(1), Ok(0)] {
+        assert_eq!(rt; read_once(&mut source, &mut out), wanted);
+    }
+    Ok(())
+}
+
+#[test]
+fn a_sink_in_memory_fails_where_it_is_told(rt: HostRuntime) -> Result<(), Fail> {
+    let alloc = rt.alloc();
     let mut sink = MemSink::new(alloc, 4, 2, vec![in alloc; 2u64]?)?;
-    assert_eq!(rt; write_once(&mut sink, b"xyz"), Ok(2));
-    assert_eq!(rt; write_once(&mut sink, b"xyz"), Err(Failed));
-    assert_eq!(rt; write_once(&mut sink, b"xyz"), Ok(2));
-    assert_eq!(rt; write_once(&mut sink, b"xyz"), Err(Failed));
-    assert_eq!(rt; sink.written(), b"xyxy".as_slice());
+    for wanted in [Ok(2), Err(Failed), Ok(2), Err(Failed)] {
+        assert_eq!(rt; write_once(&mut sink, b"xyz"), wanted);
+    }
+    assert!(rt; sink.written() == b"xyxy".as_slice());
     Ok(())
 }
 
@@ -107,21 +111,29 @@ fn std_ends_give_and_take_every_byte(rt: HostRuntime) -> Result<(), Fail> {
     Ok(())
 }
 
-#[test]
-fn doors_open_in_order_and_fail_where_they_are_told(rt: HostRuntime) -> Result<(), Fail> {
-    let alloc = rt.alloc();
+// Doors with one connection, whose second call fails.
+fn doors(alloc: Global) -> Result<MemDoors, Fail> {
     let mut ends = VecDeque::new(alloc);
     let source = MemSource::new(b"a".to_vec(alloc)?, 1, Vec::new(alloc));
     let sink = MemSink::new(alloc, 1, 1, Vec::new(alloc))?;
     ends.push_back((source, sink))?;
-    let mut doors = MemDoors::new(ends, vec![in alloc; 2u64]?);
-    assert_eq!(rt; doors.bind(Text::from_bytes(alloc, b"mem")?), Ok(()));
+    Ok(MemDoors::new(ends, vec![in alloc; 2u64]?))
+}
+
+#[test]
+fn doors_open_in_order_and_fail_where_they_are_told(rt: HostRuntime) -> Result<(), Fail> {
+    let mut doors = doors(rt.alloc())?;
+    assert_eq!(rt; doors.bind(Text::from_bytes(rt.alloc(), b"mem")?), Ok(()));
     assert!(rt; doors.next_door().is_err());
     assert!(rt; doors.next_door().is_ok_and(|door| door.is_some()));
     assert!(rt; doors.next_door().is_ok_and(|door| door.is_none()));
+    Ok(())
+}
+
+#[test]
+fn an_open_gate_holds_nobody(_rt: HostRuntime) {
     OpenGate.after_accept(1);
     OpenGate.before_work(1);
     OpenGate.after_shard(0);
     OpenGate.after_open(1);
-    Ok(())
 }

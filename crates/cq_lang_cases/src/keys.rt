@@ -110,17 +110,22 @@ fn codes_are_folded(rt: HostRuntime) {
     assert_eq!(rt; plain_key(&none, &[A, B]), 0);
 }
 
+// Whether the windows of these letters have these keys.
+fn are_keys(alloc: Global, letters: &[u8], keys: &[u64]) -> Result<bool, Memory> {
+    let mut norms = Vec::new(alloc);
+    for letter in letters {
+        norms.push(name(alloc, &[*letter])?)?;
+    }
+    if norms.len() > 100 {
+        return Ok(false);
+    }
+    let (found, _) = keys_and_calls(alloc, &SETTINGS, &norms)?;
+    Ok(found.as_slice() == keys)
+}
+
 #[test]
 fn each_window_has_its_key(rt: HostRuntime) -> Result<(), Memory> {
-    let alloc = rt.alloc();
-    let norms = vec![in alloc;
-        name(alloc, b"a")?,
-        name(alloc, b"b")?,
-        name(alloc, b"a")?,
-        name(alloc, b"b")?,
-    ]?;
-    let (found, _) = keys_and_calls(alloc, &SETTINGS, &norms)?;
-    assert_eq!(rt; found.as_slice(), [191, 235, 191].as_slice());
+    assert!(rt; are_keys(rt.alloc(), b"abab", &[191, 235, 191])?);
     Ok(())
 }
 
@@ -128,10 +133,10 @@ fn each_window_has_its_key(rt: HostRuntime) -> Result<(), Memory> {
 fn the_closure_is_called_for_the_first_window_alone(rt: HostRuntime) -> Result<(), Memory> {
     let alloc = rt.alloc();
     let norms = names(alloc, 1_000)?;
-    assert_eq!(rt; outcome(alloc, 20, 64, &norms)?, (981, 1, true));
-    assert_eq!(rt; outcome(alloc, 1, 64, &norms)?, (1_000, 1, true));
-    assert_eq!(rt; outcome(alloc, 1_000, 64, &norms)?, (1, 1, true));
-    assert_eq!(rt; outcome(alloc, 1_001, 64, &norms)?, (0, 0, true));
+    assert!(rt; outcome(alloc, 20, 64, &norms)? == (981, 1, true));
+    assert!(rt; outcome(alloc, 1, 64, &norms)? == (1_000, 1, true));
+    assert!(rt; outcome(alloc, 1_000, 64, &norms)? == (1, 1, true));
+    assert!(rt; outcome(alloc, 1_001, 64, &norms)? == (0, 0, true));
     Ok(())
 }
 
@@ -139,9 +144,9 @@ fn the_closure_is_called_for_the_first_window_alone(rt: HostRuntime) -> Result<(
 fn as_many_bits_are_kept_of_each_key(rt: HostRuntime) -> Result<(), Memory> {
     let alloc = rt.alloc();
     let norms = names(alloc, 200)?;
-    assert_eq!(rt; outcome(alloc, 5, 0, &norms)?, (196, 1, true));
-    assert_eq!(rt; outcome(alloc, 5, 3, &norms)?, (196, 1, true));
-    assert_eq!(rt; outcome(alloc, 5, 63, &norms)?, (196, 1, true));
-    assert_eq!(rt; outcome(alloc, 1, 3, &norms)?, (200, 1, true));
+    assert!(rt; outcome(alloc, 5, 0, &norms)? == (196, 1, true));
+    assert!(rt; outcome(alloc, 5, 3, &norms)? == (196, 1, true));
+    assert!(rt; outcome(alloc, 5, 63, &norms)? == (196, 1, true));
+    assert!(rt; outcome(alloc, 1, 3, &norms)? == (200, 1, true));
     Ok(())
 }

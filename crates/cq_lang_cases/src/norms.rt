@@ -49,31 +49,39 @@ fn compares(
     Ok(is_norm(&normal.norms, lang, class, text))
 }
 
-#[test]
-fn digraphs_are_what_they_stand_for(rt: HostRuntime) -> Result<(), Memory> {
-    let alloc = rt.alloc();
-    let cases = [
-        ("<:", "["),
-        (":>", "]"),
-        ("<%", "{"),
-        ("%>", "}"),
-        ("%:", "#"),
-        ("%:%:", "##"),
-        ("%=", "%="),
-        ("<", "<"),
-    ];
-    for (spelling, text) in cases {
-        assert!(rt; compares(alloc, &SETTINGS, Lang::C, Class::Punct, spelling, text)?);
-        assert!(rt;
-            compares(
+// What comes after the blank, the punctuation before it is compared with; in no other language.
+const DIGRAPHS: &str = "\
+<: [
+:> ]
+<% {
+%> }
+%: #
+%:%: ##
+%= %=
+< <
+";
+
+fn stands_for(alloc: Global, row: &str) -> Result<bool, Memory> {
+    let Some((spelling, text)) = row.split_once(' ') else {
+        return Ok(false);
+    };
+    Ok(
+        compares(alloc, &SETTINGS, Lang::C, Class::Punct, spelling, text)?
+            && compares(
                 alloc,
                 &SETTINGS,
                 Lang::Any,
                 Class::Punct,
                 spelling,
-                spelling
-            )?
-        );
+                spelling,
+            )?,
+    )
+}
+
+#[test]
+fn digraphs_are_what_they_stand_for(rt: HostRuntime) -> Result<(), Memory> {
+    for row in DIGRAPHS.lines() {
+        assert!(rt; stands_for(rt.alloc(), row)?);
     }
     Ok(())
 }

@@ -1,8 +1,8 @@
 use cq_base::{Lang, Memory, Text};
 use cq_projects::Held;
 use cq_scope::{Pattern, choose};
+use cq_talk_model::Written;
 use std::alloc::Global;
-use std::fmt::Write;
 use std::sync::Arc;
 
 #[derive(Drop)]
@@ -51,12 +51,12 @@ fn chosen(
     }
 }
 
-fn shown(alloc: Global, positions: &[u32]) -> Result<String, Memory> {
-    let mut line = String::new(alloc);
+fn are_shown(alloc: Global, positions: &[u32], want: &str) -> bool {
+    let mut line = Written::new(alloc);
     for position in positions {
-        write!(line, " {position}")?;
+        line.put_number(" ", u64::from(*position), "");
     }
-    Ok(line)
+    line.text.as_str() == want
 }
 
 // A row has a pattern, or a minus for none, and after an arrow the positions that are chosen.
@@ -66,7 +66,7 @@ fn is_right(alloc: Global, paths: &str, since: u64, row: &str) -> Result<bool, M
     };
     let pattern = if pattern == "-" { None } else { Some(pattern) };
     let positions = chosen(alloc, paths, pattern, since)?;
-    Ok(shown(alloc, &positions)?.as_str() == want)
+    Ok(are_shown(alloc, &positions, want))
 }
 
 fn first_other<'a>(

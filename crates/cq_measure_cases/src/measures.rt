@@ -5,6 +5,7 @@ use cq_base::{
     Class, FileCounts, Group, Lang, Measures, Memory, Place, Places, Spelled, Text, Token,
 };
 use cq_measures::{FileLines, chosen_measures, complexity, file_measures, ncloc, project_measures};
+use cq_talk_model::Written;
 use std::alloc::Global;
 use std::thread::Threads;
 
@@ -26,24 +27,40 @@ fn counts(lines: u64) -> FileCounts {
     }
 }
 
-fn group(alloc: Global, tokens: u32, places: &[(u32, u32)]) -> Result<Group, Memory> {
-    let mut all = Vec::new(alloc);
-    for (file, at) in places {
-        all.push(Place {
-            file: *file,
-            at: *at,
-        })?;
+fn number_of(digits: &str) -> u32 {
+    let mut number = 0u32;
+    for digit in digits.as_bytes() {
+        number = number
+            .saturating_mul(10)
+            .saturating_add(u32::from(digit.saturating_sub(b'0')));
+    }
+    number
+}
+
+// A group as a row has it: how many tokens, and its places by their files and their first tokens.
+fn group_of(alloc: Global, row: &str) -> Result<Group, Memory> {
+    let mut tokens = 0u32;
+    let mut places = Vec::new(alloc);
+    for word in row.split_whitespace() {
+        match word.split_once('.') {
+            Some((file, at)) => places.push(Place {
+                file: number_of(file),
+                at: number_of(at),
+            })?,
+            None => tokens = number_of(word),
+        }
     }
     Ok(Group {
         tokens,
-        places: Places::from_vec(all),
+        places: Places::from_vec(places),
     })
 }
 
-fn groups(alloc: Global, all: &[(u32, &[(u32, u32)])]) -> Result<Vec<Group>, Memory> {
+// The groups of a row, which has bars between them.
+fn groups_of(alloc: Global, row: &str) -> Result<Vec<Group>, Memory> {
     let mut groups = Vec::new(alloc);
-    for (tokens, places) in all {
-        groups.push(group(alloc, *tokens, places)?)?;
+    for part in row.split('|') {
+        groups.push(group_of(alloc, part)?)?;
     }
     Ok(groups)
 }
@@ -156,48 +173,54 @@ fn of_two(
     chosen_measures(alloc, files, &[first, second], groups)
 }
 
-// The lines, blocks and files that are duplicated, all lines and files, and the density.
-fn told(measures: Measures) -> [u64; 6] {
-    [
-        measures.dup_lines,
-        measures.dup_blocks,
-        measures.dup_files,
-        measures.lines,
-        measures.files,
-        measures.density,
-    ]
+// Whether measures are these: the lines, blocks and files that are duplicated, all lines and files, and the density.
+fn are_told(alloc: Global, measures: &Measures, want: &str) -> bool {
+    let mut line = Written::new(alloc);
+    line.put_number("", measures.dup_lines, " ");
+    line.put_number("", measures.dup_blocks, " ");
+    line.put_number("", measures.dup_files, " ");
+    line.put_number("", measures.lines, " ");
+    line.put_number("", measures.files, " ");
+    line.put_number("", measures.density, "");
+    line.text.as_str() == want
 }
 
-// What of the project is told with these groups.
-fn project_told<R: Threads + Sync>(
+// Whether these are the measures of the project with the groups of a row.
+fn project_has<R: Threads + Sync>(
     rt: &R,
     alloc: Global,
     files: &[FileLines],
-    all: &[(u32, &[(u32, u32)])],
-) -> Result<[u64; 6], Memory> {
-    let groups = groups(alloc, all)?;
-    Ok(told(of_project(rt, alloc, files, &groups)?))
+    row: &str,
+    want: &str,
+) -> Result<bool, Memory> {
+    let groups = groups_of(alloc, row)?;
+    let measures = of_project(rt, alloc, files, &groups)?;
+    Ok(are_told(alloc, &measures, want))
 }
 
-fn file_told(
+fn file_has(
     alloc: Global,
     files: &[FileLines],
     file: u32,
-    all: &[(u32, &[(u32, u32)])],
-) -> Result<[u64; 6], Memory> {
-    let groups = groups(alloc, all)?;
-    Ok(told(of_file(alloc, files, file, &groups)?))
+    row: &str,
+    want: &str,
+) -> Result<bool, Memory> {
+    let groups = groups_of(alloc, row)?;
+    let measures = of_file(alloc, files, file, &groups)?;
+    Ok(are_told(alloc, &measures, want))
 }
 
-fn two_told(
+fn two_have(
     alloc: Global,
     files: &[FileLines],
     first: u32,
     second: u32,
-    all: &[(u32, &[(u32, u32)])],
-) -> Result<[u64; 6], Memory> {
-    let groups = groups(alloc, all)?;
-    Ok(told(of_two(alloc, files, first, second, &groups)?))
+    row: &str,
+    want: &str,
+) -> Result<bool, Memory> {
+    let groups = groups_of(alloc, row)?;
+    let measures = of_two(alloc, files, first, second, &groups)?;
+    Ok(are_told(alloc, &measures, want))
 }
 
 #[test]
@@ -252,21 +275,10 @@ fn each_line_and_each_block_counts_once(rt: HostRuntime) -> Result<(), Memory> {
     };
     let files = [file, file];
     // lines 1 to 10, and 5 to 14 that overlap; 3 to 6 within; 15 to 16 and 16 to 17 touch; one extent twice
-    let all: [(u32, &[(u32, u32)]); 4] = [
-        (10, &[(0, 0), (0, 4)]),
-        (4, &[(0, 2), (1, 2)]),
-        (2, &[(0, 14), (0, 15)]),
-        (4, &[(0, 2), (1, 2)]),
-    ];
-    assert_eq!(rt;
-        project_told(&rt, alloc, &files, &all)?,
-        [21, 6, 2, 200, 2, 1_050]
-    );
-    assert_eq!(rt;
-        file_told(alloc, &files, 0, &all)?,
-        [17, 5, 1, 100, 1, 1_700]
-    );
-    assert_eq!(rt; file_told(alloc, &files, 1, &all)?, [4, 1, 1, 100, 1, 400]);
+    let all = "10 0.0 0.4 | 4 0.2 1.2 | 2 0.14 0.15 | 4 0.2 1.2";
+    assert!(rt; project_has(&rt, alloc, &files, all, "21 6 2 200 2 1050")?);
+    assert!(rt; file_has(alloc, &files, 0, all, "17 5 1 100 1 1700")?);
+    assert!(rt; file_has(alloc, &files, 1, all, "4 1 1 100 1 400")?);
     Ok(())
 }
 
@@ -284,21 +296,12 @@ fn groups_are_those_of_all_files(rt: HostRuntime) -> Result<(), Memory> {
         spans: &spans,
     };
     let files = [short, short, long];
-    let shared: [(u32, &[(u32, u32)]); 1] = [(2, &[(0, 0), (1, 0), (2, 0)])];
-    assert_eq!(rt;
-        two_told(alloc, &files, 1, 2, &shared)?,
-        [4, 2, 2, 10, 2, 4_000]
-    );
-    assert_eq!(rt;
-        two_told(alloc, &files, 0, 1, &shared)?,
-        [4, 2, 2, 4, 2, 10_000]
-    );
-    let outside: [(u32, &[(u32, u32)]); 1] = [(1, &[(0, 0), (1, 1)])];
-    assert_eq!(rt;
-        two_told(alloc, &files, 1, 2, &outside)?,
-        [1, 1, 1, 10, 2, 1_000]
-    );
-    assert_eq!(rt; two_told(alloc, &files, 1, 2, &[])?, [0, 0, 0, 10, 2, 0]);
+    let shared = "2 0.0 1.0 2.0";
+    assert!(rt; two_have(alloc, &files, 1, 2, shared, "4 2 2 10 2 4000")?);
+    assert!(rt; two_have(alloc, &files, 0, 1, shared, "4 2 2 4 2 10000")?);
+    assert!(rt; two_have(alloc, &files, 1, 2, "1 0.0 1.1", "1 1 1 10 2 1000")?);
+    let none = of_two(alloc, &files, 1, 2, &[])?;
+    assert!(rt; are_told(alloc, &none, "0 0 0 10 2 0"));
     Ok(())
 }
 
@@ -331,11 +334,11 @@ fn many_places_are_counted_as_few_are(rt: HostRuntime) -> Result<(), Memory> {
     let files = [file; 5];
     let groups = pairs(alloc, 4, 2_000)?;
     let project = of_project(&rt, alloc, &files, &groups)?;
-    assert_eq!(rt; told(project), [8_000, 7_996, 4, 25_000, 5, 3_200]);
+    assert!(rt; are_told(alloc, &project, "8000 7996 4 25000 5 3200"));
     let third = of_file(alloc, &files, 2, &groups)?;
-    assert_eq!(rt; told(third), [2_000, 1_999, 1, 5_000, 1, 4_000]);
+    assert!(rt; are_told(alloc, &third, "2000 1999 1 5000 1 4000"));
     let last = of_file(alloc, &files, 4, &groups)?;
-    assert_eq!(rt; told(last), [0, 0, 0, 5_000, 1, 0]);
+    assert!(rt; are_told(alloc, &last, "0 0 0 5000 1 0"));
     Ok(())
 }
 
@@ -349,11 +352,8 @@ fn one_file_may_have_all_places(rt: HostRuntime) -> Result<(), Memory> {
         spans: &spans,
     };
     let files = [file; 3];
-    let all: [(u32, &[(u32, u32)]); 2] = [(2, &[(2, 0), (2, 7)]), (3, &[(2, 6), (2, 1)])];
-    assert_eq!(rt;
-        project_told(&rt, alloc, &files, &all)?,
-        [7, 4, 1, 27, 3, 2_592]
-    );
+    let all = "2 2.0 2.7 | 3 2.6 2.1";
+    assert!(rt; project_has(&rt, alloc, &files, all, "7 4 1 27 3 2592")?);
     Ok(())
 }
 
@@ -365,19 +365,22 @@ fn a_place_covers_the_lines_of_its_tokens(rt: HostRuntime) -> Result<(), Memory>
         counts: counts(60),
         spans: &spans,
     };
-    let all: [(u32, &[(u32, u32)]); 1] = [(2, &[(0, 0), (0, 2)])];
-    assert_eq!(rt;
-        project_told(&rt, alloc, &[file], &all)?,
-        [51, 2, 1, 60, 1, 8_500]
-    );
+    assert!(rt; project_has(&rt, alloc, &[file], "2 0.0 0.2", "51 2 1 60 1 8500")?);
     Ok(())
 }
 
 #[test]
 fn a_project_without_files_has_zeros(rt: HostRuntime) -> Result<(), Memory> {
     let measures = of_project(&rt, rt.alloc(), &[], &[])?;
-    assert_eq!(rt; told(measures), [0; 6]);
+    assert!(rt; are_told(rt.alloc(), &measures, "0 0 0 0 0 0"));
     Ok(())
+}
+
+fn place_of_all(alloc: Global, tokens: u32) -> Result<Group, Memory> {
+    Ok(Group {
+        tokens,
+        places: Places::from_vec(vec![in alloc; Place { file: 0, at: 0 }]?),
+    })
 }
 
 // The density of two places with as many lines as these, of all lines.
@@ -392,7 +395,9 @@ fn density<R: Threads + Sync>(
         counts: counts(lines),
         spans: &spans,
     };
-    let groups = groups(alloc, &[(1, &[(0, 0)]), (duplicated, &[(0, 0)])])?;
+    let mut groups = Vec::new(alloc);
+    groups.push(place_of_all(alloc, 1)?)?;
+    groups.push(place_of_all(alloc, duplicated)?)?;
     Ok(of_project(rt, alloc, &[file], &groups)?.density)
 }
 

@@ -8,22 +8,39 @@ use crate::telling::{
     tell_change, tell_counts, tell_files, tell_refusal, tell_runs, tell_state, tell_verdict,
     tell_version,
 };
+use crate::written::Written;
 use cq_base::Memory;
 use std::alloc::Global;
 
 /// The lines of a talk as they are drawn, and what is to be written for them.
 #[derive(Drop)]
 pub struct Lines {
-    pub asked: String,
-    pub told: String,
+    pub asked: Written,
+    pub told: Written,
+}
+
+impl Lines {
+    pub fn new(alloc: Global) -> Lines {
+        Lines {
+            asked: Written::new(alloc),
+            told: Written::new(alloc),
+        }
+    }
+
+    /// An error if a piece of either is missing.
+    pub fn check(&self) -> Result<(), Memory> {
+        self.asked.check()?;
+        self.told.check()
+    }
 }
 
 // Accepts a change, and tells what comes of it.
-fn accept(model: &mut Model, change: Change, lines: &mut Lines) -> Result<(), Memory> {
+fn accept(model: &mut Model, change: Change, told: &mut Written) -> Result<(), Memory> {
     match model.accept(change)? {
-        Some(refusal) => tell_refusal(refusal, &mut lines.told),
-        None => tell_change(model.accepted.count(), &mut lines.told),
+        Some(refusal) => tell_refusal(refusal, told),
+        None => tell_change(model.accepted.count(), told),
     }
+    Ok(())
 }
 
 // The reply of a version up to it, where there are these files.
@@ -33,22 +50,18 @@ fn tell_answer(
     query: &Query,
     files: &[&Put],
     conditions: &[Condition],
-    told: &mut String,
+    told: &mut Written,
 ) -> Result<(), Memory> {
     let tokens: Vec<Token> = tokens_of(alloc, files)?;
-    if matches!(kind, Kind::Files) {
-        return tell_files(files, &tokens, told);
-    }
     let runs = runs_of(alloc, &tokens, query.min.unwrap_or(100) as usize)?;
+    let counts = counts_of(alloc, files, query, &tokens, &runs)?;
     match kind {
+        Kind::Files => tell_files(files, &tokens, told),
         Kind::Groups => tell_runs(files, query.path, &tokens, &runs, told),
-        Kind::Measures => tell_counts(&counts_of(alloc, files, query, &tokens, &runs)?, told),
-        _ => tell_verdict(
-            &counts_of(alloc, files, query, &tokens, &runs)?,
-            conditions,
-            told,
-        ),
+        Kind::Measures => tell_counts(&counts, told),
+        Kind::Verdict => tell_verdict(&counts, conditions, told),
     }
+    Ok(())
 }
 
 /// The reply to a query behind so many changes.
@@ -58,12 +71,13 @@ pub fn tell_query_at(
     query: &Query,
     changes: &[Change],
     version: u64,
-    told: &mut String,
+    told: &mut Written,
 ) -> Result<(), Memory> {
     let files = files_at(alloc, changes, version, query.project)?;
     let conditions = conditions_at(changes, version, query.project);
     tell_answer(alloc, kind, query, &files, conditions, told)?;
-    tell_version(version, told)
+    tell_version(version, told);
+    Ok(())
 }
 
 fn tell_query(
@@ -71,36 +85,40 @@ fn tell_query(
     kind: Kind,
     query: &Query,
     model: &mut Model,
-    told: &mut String,
+    told: &mut Written,
 ) -> Result<(), Memory> {
     match model.answer(query) {
         Ok(version) => tell_query_at(alloc, kind, query, &model.accepted.changes, version, told),
-        Err(refusal) => tell_refusal(refusal, told),
+        Err(refusal) => {
+            tell_refusal(refusal, told);
+            Ok(())
+        }
     }
 }
 
-// Draws a line.
-fn ask(
+fn tell_model(model: &mut Model, told: &mut Written) {
+    let published = model.look();
+    tell_state(model.accepted.count(), model.done(), published, told);
+}
+
+// The model goes on by a request, and tells its reply.
+fn tell(
     alloc: Global,
-    draws: &mut Draws,
+    request: Request,
     model: &mut Model,
-    lines: &mut Lines,
+    told: &mut Written,
 ) -> Result<(), Memory> {
-    let request = drawn_request(alloc, draws, model.accepted.count())?;
-    write_line(&request, &mut lines.asked)?;
     match request {
-        Request::Change(change) => accept(model, change, lines),
+        Request::Change(change) => accept(model, change, told),
         Request::State => {
-            let published = model.look();
-            tell_state(
-                model.accepted.count(),
-                model.done(),
-                published,
-                &mut lines.told,
-            )
+            tell_model(model, told);
+            Ok(())
         }
-        Request::Query(kind, query) => tell_query(alloc, kind, &query, model, &mut lines.told),
-        Request::Bad(at) => tell_bad(at, &mut lines.told),
+        Request::Query(kind, query) => tell_query(alloc, kind, &query, model, told),
+        Request::Bad(at) => {
+            tell_bad(at, told);
+            Ok(())
+        }
     }
 }
 
@@ -111,13 +129,13 @@ pub fn drawn_lines(
     draws: &mut Draws,
     model: &mut Model,
 ) -> Result<Lines, Memory> {
-    let mut lines = Lines {
-        asked: String::new(alloc),
-        told: String::new(alloc),
-    };
+    let mut lines = Lines::new(alloc);
     model.begin_talk();
     for _line in 0..count {
-        ask(alloc, draws, model, &mut lines)?;
+        let request = drawn_request(alloc, draws, model.accepted.count())?;
+        write_line(&request, &mut lines.asked);
+        tell(alloc, request, model, &mut lines.told)?;
     }
+    lines.check()?;
     Ok(lines)
 }

@@ -59,7 +59,7 @@ impl Change {
 #[derive(Clone, Copy)]
 pub struct Query {
     pub project: u32,
-    pub min: Option<u32>,
+    pub min: Option<u64>,
     pub path: Option<u32>,
     pub at: Option<u64>,
     pub finish: Option<bool>,

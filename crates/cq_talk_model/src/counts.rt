@@ -44,8 +44,8 @@ impl Counts {
         parts.checked_div(self.lines).unwrap_or(0)
     }
 
-    // The measure with this position among the names, in their order.
-    fn measure(&self, metric: u32) -> u64 {
+    /// The measure with this position among the names, in their order.
+    pub fn measure(&self, metric: u32) -> u64 {
         match metric {
             0 => self.complexity,
             1 => self.blocks,
@@ -66,6 +66,20 @@ impl Counts {
         } else {
             measure < condition.error
         }
+    }
+}
+
+/// The names of the measures are in their order.
+pub fn metric_name(metric: u32) -> &'static str {
+    match metric {
+        0 => "complexity",
+        1 => "duplicated_blocks",
+        2 => "duplicated_files",
+        3 => "duplicated_lines",
+        4 => "duplicated_lines_density",
+        5 => "files",
+        6 => "lines",
+        _ => "ncloc",
     }
 }
 
@@ -149,8 +163,19 @@ fn add_lines(file: usize, tokens: &[Token], blocks: &[Block], counts: &mut Count
     }
 }
 
+// How many blocks are in a file.
+fn blocks_in(blocks: &[Block], file: usize) -> u64 {
+    let mut count = 0u64;
+    for block in blocks {
+        if block.file == file {
+            count = count.saturating_add(1);
+        }
+    }
+    count
+}
+
 fn counts_of_file(file: usize, put: &Put, tokens: &[Token], blocks: &[Block]) -> Counts {
-    let found = blocks.iter().filter(|block| block.file == file).count() as u64;
+    let found = blocks_in(blocks, file);
     let mut counts = Counts {
         complexity: if put.fault().is_some() {
             0

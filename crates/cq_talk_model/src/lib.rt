@@ -15,6 +15,7 @@ mod requests;
 mod scopes;
 mod telling;
 mod texts;
+mod written;
 
 pub use asking::{Lines, drawn_lines, tell_query_at};
 pub use changes::{Accepted, Change, Put, Query, Refusal, file_at};
@@ -27,3 +28,4 @@ pub use requests::{
 };
 pub use telling::{tell_change, tell_refusal, tell_state};
 pub use texts::Spelling;
+pub use written::Written;

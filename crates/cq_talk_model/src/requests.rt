@@ -1,11 +1,12 @@
 use crate::changes::{Change, Condition, Put, Query};
+use crate::counts::metric_name;
 use crate::draws::Draws;
 use crate::scopes::scope_name;
 use crate::telling::path_name;
 use crate::texts::{drawn_words, write_words};
+use crate::written::Written;
 use cq_base::Memory;
 use std::alloc::Global;
-use std::fmt::Write;
 
 // Lines that are no requests, each with its reply behind a tab.
 const REFUSED: &str = "\
@@ -64,19 +65,6 @@ fn project_name(project: u32) -> &'static str {
 
 fn drawn_project(draws: &mut Draws) -> u32 {
     if draws.below(4) == 0 { 1 } else { 0 }
-}
-
-fn metric_name(metric: u32) -> &'static str {
-    match metric {
-        0 => "complexity",
-        1 => "duplicated_blocks",
-        2 => "duplicated_files",
-        3 => "duplicated_lines",
-        4 => "duplicated_lines_density",
-        5 => "files",
-        6 => "lines",
-        _ => "ncloc",
-    }
 }
 
 fn drawn_put(alloc: Global, draws: &mut Draws) -> Result<Put, Memory> {
@@ -138,7 +126,7 @@ fn drawn_query(draws: &mut Draws, accepted: u64) -> Query {
         project: drawn_project(draws),
         min: match draws.below(8) {
             0 => None,
-            n => Some(2 + n % 4),
+            n => Some(u64::from(2 + n % 4)),
         },
         path: match draws.below(6) {
             path @ 0..=2 => Some(path),
@@ -219,88 +207,94 @@ pub fn drawn_request(alloc: Global, draws: &mut Draws, accepted: u64) -> Result<
     }
 }
 
-fn write_put(put: &Put, asked: &mut String) -> Result<(), Memory> {
-    let project = project_name(put.project);
-    let path = path_name(put.path);
-    let lang = if put.is_java { "java" } else { "any" };
-    write!(
-        asked,
-        "{{\"op\":\"put\",\"project\":\"{project}\",\"path\":\"{path}\",\"lang\":\"{lang}\","
-    )?;
-    asked.push_str("\"text\":\"")?;
-    write_words(&put.words, asked)?;
-    asked.push_str("\"}")?;
-    Ok(())
+// The front of a request of a project.
+fn write_head(op: &str, project: u32, asked: &mut Written) {
+    asked.put("{\"op\":\"");
+    asked.put(op);
+    asked.put("\",\"project\":\"");
+    asked.put(project_name(project));
+    asked.put("\"");
 }
 
-fn write_drop(project: u32, path: u32, asked: &mut String) -> Result<(), Memory> {
-    let project = project_name(project);
-    let path = path_name(path);
-    write!(
-        asked,
-        "{{\"op\":\"drop\",\"project\":\"{project}\",\"path\":\"{path}\"}}"
-    )?;
-    Ok(())
+fn write_path(path: u32, asked: &mut Written) {
+    asked.put(",\"path\":\"");
+    asked.put(path_name(path));
+    asked.put("\"");
 }
 
-fn write_conditions(conditions: &[Condition], asked: &mut String) -> Result<(), Memory> {
+fn write_put(put: &Put, asked: &mut Written) {
+    write_head("put", put.project, asked);
+    write_path(put.path, asked);
+    asked.put(if put.is_java {
+        ",\"lang\":\"java\",\"text\":\""
+    } else {
+        ",\"lang\":\"any\",\"text\":\""
+    });
+    write_words(&put.words, asked);
+    asked.put("\"}");
+}
+
+fn write_drop(project: u32, path: u32, asked: &mut Written) {
+    write_head("drop", project, asked);
+    write_path(path, asked);
+    asked.put("}");
+}
+
+fn write_condition(condition: Condition, asked: &mut Written) {
+    asked.put("{\"metric\":\"");
+    asked.put(metric_name(condition.metric));
+    asked.put(if condition.is_greater {
+        "\",\"op\":\"GT\""
+    } else {
+        "\",\"op\":\"LT\""
+    });
+    asked.put_number(",\"error\":", condition.error, "}");
+}
+
+fn write_gate(project: u32, conditions: &[Condition], asked: &mut Written) {
+    write_head("gate", project, asked);
+    asked.put(",\"conditions\":[");
     for (i, condition) in conditions.iter().enumerate() {
-        let comma = if i == 0 { "" } else { "," };
-        let metric = metric_name(condition.metric);
-        let op = if condition.is_greater { "GT" } else { "LT" };
-        let error = condition.error;
-        write!(
-            asked,
-            "{comma}{{\"metric\":\"{metric}\",\"op\":\"{op}\",\"error\":{error}}}"
-        )?;
+        if i > 0 {
+            asked.put(",");
+        }
+        write_condition(*condition, asked);
     }
-    Ok(())
+    asked.put("]}");
 }
 
-fn write_gate(project: u32, conditions: &[Condition], asked: &mut String) -> Result<(), Memory> {
-    let project = project_name(project);
-    write!(
-        asked,
-        "{{\"op\":\"gate\",\"project\":\"{project}\",\"conditions\":["
-    )?;
-    write_conditions(conditions, asked)?;
-    asked.push_str("]}")?;
-    Ok(())
+// A member with a number, unless it is omitted.
+fn write_number(member: &str, number: Option<u64>, asked: &mut Written) {
+    if let Some(number) = number {
+        asked.put_number(member, number, "");
+    }
 }
 
 // Which files are chosen.
-fn write_choice(query: &Query, asked: &mut String) -> Result<(), Memory> {
+fn write_choice(query: &Query, asked: &mut Written) {
     if let Some(scope) = query.scope {
-        let scope = scope_name(scope);
-        write!(asked, ",\"scope\":\"{scope}\"")?;
+        asked.put(",\"scope\":\"");
+        asked.put(scope_name(scope));
+        asked.put("\"");
     }
-    if let Some(since) = query.since {
-        write!(asked, ",\"since\":{since}")?;
-    }
-    Ok(())
+    write_number(",\"since\":", query.since, asked);
 }
 
-// What is left out is not written.
-fn write_query(kind: Kind, query: &Query, asked: &mut String) -> Result<(), Memory> {
-    let op = kind.as_str();
-    let project = project_name(query.project);
-    write!(asked, "{{\"op\":\"{op}\",\"project\":\"{project}\"")?;
-    if let Some(min) = query.min {
-        write!(asked, ",\"min\":{min}")?;
-    }
+// What is omitted is not written.
+fn write_query(kind: Kind, query: &Query, asked: &mut Written) {
+    write_head(kind.as_str(), query.project, asked);
+    write_number(",\"min\":", query.min, asked);
     if let Some(path) = query.path {
-        let path = path_name(path);
-        write!(asked, ",\"path\":\"{path}\"")?;
+        write_path(path, asked);
     }
-    if let Some(at) = query.at {
-        write!(asked, ",\"at\":{at}")?;
+    write_number(",\"at\":", query.at, asked);
+    match query.finish {
+        Some(true) => asked.put(",\"finish\":true"),
+        Some(false) => asked.put(",\"finish\":false"),
+        None => {}
     }
-    if let Some(finish) = query.finish {
-        write!(asked, ",\"finish\":{finish}")?;
-    }
-    write_choice(query, asked)?;
-    asked.push_str("}")?;
-    Ok(())
+    write_choice(query, asked);
+    asked.put("}");
 }
 
 // The line with this position among those that are no requests, and its reply.
@@ -309,45 +303,43 @@ fn bad_line(at: u32) -> Option<(&'static str, &'static str)> {
     line.split_once('\t')
 }
 
-fn write_bad(at: u32, asked: &mut String) -> Result<(), Memory> {
+fn write_bad(at: u32, asked: &mut Written) {
     if let Some((line, _)) = bad_line(at) {
-        asked.push_str(line)?;
+        asked.put(line);
     }
-    Ok(())
 }
 
 /// The reply to it.
-pub fn tell_bad(at: u32, told: &mut String) -> Result<(), Memory> {
+pub fn tell_bad(at: u32, told: &mut Written) {
     if let Some((_, reply)) = bad_line(at) {
-        told.push_str(reply)?;
+        told.put(reply);
     }
-    told.push_str("\n")?;
-    Ok(())
+    told.put("\n");
+}
+
+fn write_change(change: &Change, asked: &mut Written) {
+    match change {
+        Change::Put(put) => write_put(put, asked),
+        Change::Drop { project, path } => write_drop(*project, *path, asked),
+        Change::Gate {
+            project,
+            conditions,
+        } => write_gate(*project, conditions, asked),
+    }
 }
 
 /// Adds it as it stands in a line.
-pub fn write_request(request: &Request, asked: &mut String) -> Result<(), Memory> {
+pub fn write_request(request: &Request, asked: &mut Written) {
     match request {
-        Request::Change(Change::Put(put)) => write_put(put, asked),
-        Request::Change(Change::Drop { project, path }) => write_drop(*project, *path, asked),
-        Request::Change(
-            Change::Gate {
-                project,
-                conditions,
-            },
-        ) => write_gate(*project, conditions, asked),
-        Request::State => {
-            asked.push_str("{\"op\":\"state\"}")?;
-            Ok(())
-        }
+        Request::Change(change) => write_change(change, asked),
+        Request::State => asked.put("{\"op\":\"state\"}"),
         Request::Query(kind, query) => write_query(*kind, query, asked),
         Request::Bad(at) => write_bad(*at, asked),
     }
 }
 
 /// Adds its line.
-pub fn write_line(request: &Request, asked: &mut String) -> Result<(), Memory> {
-    write_request(request, asked)?;
-    asked.push_str("\n")?;
-    Ok(())
+pub fn write_line(request: &Request, asked: &mut Written) {
+    write_request(request, asked);
+    asked.put("\n");
 }

@@ -1,9 +1,8 @@
 use crate::changes::{Condition, Put, Refusal};
-use crate::counts::Counts;
+use crate::counts::{Counts, metric_name};
 use crate::groups::{Run, Token};
 use crate::texts::lines_of;
-use cq_base::Memory;
-use std::fmt::Write;
+use crate::written::Written;
 
 /// The least path comes first.
 pub fn path_name(path: u32) -> &'static str {
@@ -15,138 +14,123 @@ pub fn path_name(path: u32) -> &'static str {
 }
 
 /// The end of a reply of a version.
-pub fn tell_version(version: u64, out: &mut String) -> Result<(), Memory> {
-    write!(out, ",\"version\":{version}}}\n")?;
-    Ok(())
+pub fn tell_version(version: u64, out: &mut Written) {
+    out.put_number(",\"version\":", version, "}\n");
 }
 
-pub fn tell_change(number: u64, out: &mut String) -> Result<(), Memory> {
-    write!(out, "{{\"change\":{number},\"ok\":true}}\n")?;
-    Ok(())
+pub fn tell_change(number: u64, out: &mut Written) {
+    out.put_number("{\"change\":", number, ",\"ok\":true}\n");
 }
 
-pub fn tell_state(
-    accepted: u64,
-    done: u64,
-    published: u64,
-    out: &mut String,
-) -> Result<(), Memory> {
-    write!(
-        out,
-        "{{\"accepted\":{accepted},\"done\":{done},\"ok\":true,\"published\":{published}}}\n"
-    )?;
-    Ok(())
+pub fn tell_state(accepted: u64, done: u64, published: u64, out: &mut Written) {
+    out.put_number("{\"accepted\":", accepted, ",");
+    out.put_number("\"done\":", done, ",\"ok\":true,");
+    out.put_number("\"published\":", published, "}\n");
 }
 
-pub fn tell_refusal(refusal: Refusal, out: &mut String) -> Result<(), Memory> {
+pub fn tell_refusal(refusal: Refusal, out: &mut Written) {
     match refusal {
-        Refusal::Future(count) => {
-            write!(
-                out,
-                "{{\"code\":8,\"count\":{count},\"error\":\"future\",\"ok\":false}}\n"
-            )?
-        }
-        Refusal::Absent => out.push_str("{\"code\":9,\"error\":\"absent\",\"ok\":false}\n")?,
-        Refusal::FullChanges => {
-            out.push_str("{\"code\":10,\"error\":\"full-changes\",\"ok\":false}\n")?
-        }
-        Refusal::FullText => out.push_str("{\"code\":11,\"error\":\"full-text\",\"ok\":false}\n")?,
-        Refusal::Pending(number) => {
-            write!(
-                out,
-                "{{\"code\":12,\"error\":\"pending\",\"number\":{number},\"ok\":false}}\n"
-            )?
-        }
+        Refusal::Future(count) => out.put_number(
+            "{\"code\":8,\"count\":",
+            count,
+            ",\"error\":\"future\",\"ok\":false}\n",
+        ),
+        Refusal::Absent => out.put("{\"code\":9,\"error\":\"absent\",\"ok\":false}\n"),
+        Refusal::FullChanges => out.put("{\"code\":10,\"error\":\"full-changes\",\"ok\":false}\n"),
+        Refusal::FullText => out.put("{\"code\":11,\"error\":\"full-text\",\"ok\":false}\n"),
+        Refusal::Pending(number) => out.put_number(
+            "{\"code\":12,\"error\":\"pending\",\"number\":",
+            number,
+            ",\"ok\":false}\n",
+        ),
     }
-    Ok(())
 }
 
-// What stands before an element of a list: a comma, unless it is the first.
-fn tell_comma(is_first: &mut bool, out: &mut String) -> Result<(), Memory> {
+// What comes before an element of a list: a comma, unless it is the first.
+fn tell_comma(is_first: &mut bool, out: &mut Written) {
     if !*is_first {
-        out.push_str(",")?;
+        out.put(",");
     }
     *is_first = false;
-    Ok(())
 }
 
-fn tell_file(put: &Put, tokens: usize, out: &mut String) -> Result<(), Memory> {
-    out.push_str("{")?;
-    if let Some(at) = put.fault() {
-        write!(out, "\"at\":{at},")?;
+fn tell_file(put: &Put, tokens: u64, out: &mut Written) {
+    let fault = put.fault();
+    match fault {
+        Some(at) => out.put_number("{\"at\":", at, ",\"change\":"),
+        None => out.put("{\"change\":"),
     }
-    let number = put.number;
-    let lang = if put.is_java { "java" } else { "any" };
-    let lines = lines_of(&put.words);
-    let path = path_name(put.path);
-    let state = if put.fault().is_some() { "fault" } else { "ok" };
-    write!(
-        out,
-        "\"change\":{number},\"lang\":\"{lang}\",\"lines\":{lines},\"path\":\"{path}\","
-    )?;
-    write!(out, "\"state\":\"{state}\",\"tokens\":{tokens}}}")?;
-    Ok(())
+    out.put_number("", put.number, ",\"lang\":");
+    out.put(if put.is_java { "\"java\"" } else { "\"any\"" });
+    out.put_number(",\"lines\":", lines_of(&put.words), ",\"path\":\"");
+    out.put(path_name(put.path));
+    out.put(match fault {
+        Some(_) => "\",\"state\":\"fault\"",
+        None => "\",\"state\":\"ok\"",
+    });
+    out.put_number(",\"tokens\":", tokens, "}");
+}
+
+// How many tokens are of a file.
+fn tokens_in(tokens: &[Token], file: usize) -> u64 {
+    let mut count = 0u64;
+    for token in tokens {
+        if token.file == file {
+            count = count.saturating_add(1);
+        }
+    }
+    count
 }
 
 /// The reply to `files` up to its version.
-pub fn tell_files(files: &[&Put], tokens: &[Token], out: &mut String) -> Result<(), Memory> {
-    out.push_str("{\"files\":[")?;
+pub fn tell_files(files: &[&Put], tokens: &[Token], out: &mut Written) {
+    out.put("{\"files\":[");
     let mut is_first = true;
     for (file, put) in files.iter().enumerate() {
-        tell_comma(&mut is_first, out)?;
-        let count = tokens.iter().filter(|token| token.file == file).count();
-        tell_file(put, count, out)?;
+        tell_comma(&mut is_first, out);
+        tell_file(put, tokens_in(tokens, file), out);
     }
-    out.push_str("],\"ok\":true")?;
-    Ok(())
+    out.put("],\"ok\":true");
 }
 
-fn tell_place(
-    files: &[&Put],
-    tokens: &[Token],
-    i: usize,
-    n: usize,
-    out: &mut String,
-) -> Result<(), Memory> {
+// The path of a token's file.
+fn path_of(files: &[&Put], token: Token) -> &'static str {
+    match files.get(token.file) {
+        Some(put) => path_name(put.path),
+        None => "",
+    }
+}
+
+// The place of the `n` tokens from `i` on.
+fn tell_place(files: &[&Put], tokens: &[Token], i: usize, n: usize, out: &mut Written) {
     if let (Some(token), Some(end)) = (
         tokens.get(i),
         tokens.get(i.saturating_add(n).saturating_sub(1)),
     ) {
-        let path = match files.get(token.file) {
-            Some(put) => path_name(put.path),
-            None => "",
-        };
-        let at = token.at;
-        let first = token.line;
-        let last = end.line;
-        write!(
-            out,
-            "{{\"at\":{at},\"first\":{first},\"last\":{last},\"path\":\"{path}\"}}"
-        )?;
+        out.put_number("{\"at\":", u64::from(token.at), ",");
+        out.put_number("\"first\":", token.line, ",");
+        out.put_number("\"last\":", end.line, ",\"path\":\"");
+        out.put(path_of(files, *token));
+        out.put("\"}");
     }
-    Ok(())
 }
 
-fn tell_run(files: &[&Put], tokens: &[Token], run: &Run, out: &mut String) -> Result<(), Memory> {
-    out.push_str("{\"places\":[")?;
+fn tell_run(files: &[&Put], tokens: &[Token], run: &Run, out: &mut Written) {
+    out.put("{\"places\":[");
     let mut is_first = true;
     for i in &run.places {
-        tell_comma(&mut is_first, out)?;
-        tell_place(files, tokens, *i, run.size, out)?;
+        tell_comma(&mut is_first, out);
+        tell_place(files, tokens, *i, run.size, out);
     }
-    let size = run.size;
-    write!(out, "],\"tokens\":{size}}}")?;
-    Ok(())
+    out.put_number("],\"tokens\":", run.size as u64, "}");
 }
 
 // One of its places is in the file with a path.
 fn is_in(files: &[&Put], tokens: &[Token], run: &Run, path: u32) -> bool {
     for i in &run.places {
         if let Some(token) = tokens.get(*i) {
-            if let Some(put) = files.get(token.file) {
-                if put.path == path {
-                    return true;
-                }
+            if path_of(files, *token) == path_name(path) {
+                return true;
             }
         }
     }
@@ -159,9 +143,9 @@ pub fn tell_runs(
     path: Option<u32>,
     tokens: &[Token],
     runs: &[Run],
-    out: &mut String,
-) -> Result<(), Memory> {
-    out.push_str("{\"groups\":[")?;
+    out: &mut Written,
+) {
+    out.put("{\"groups\":[");
     let mut is_first = true;
     let mut total = 0u64;
     for run in runs {
@@ -170,55 +154,37 @@ pub fn tell_runs(
             None => true,
         };
         if is_wanted {
-            tell_comma(&mut is_first, out)?;
-            tell_run(files, tokens, run, out)?;
+            tell_comma(&mut is_first, out);
+            tell_run(files, tokens, run, out);
             total = total.saturating_add(1);
         }
     }
-    write!(out, "],\"ok\":true,\"total\":{total}")?;
-    Ok(())
+    out.put_number("],\"ok\":true,\"total\":", total, "");
 }
 
 /// The reply to `measures` up to its version.
-pub fn tell_counts(counts: &Counts, out: &mut String) -> Result<(), Memory> {
-    let complexity = counts.complexity;
-    let blocks = counts.blocks;
-    let files = counts.duplicated_files;
-    write!(
-        out,
-        "{{\"measures\":{{\"complexity\":{complexity},\"duplicated_blocks\":{blocks},\"duplicated_files\":{files},"
-    )?;
-    let lines = counts.duplicated_lines;
-    let density = counts.density();
-    write!(
-        out,
-        "\"duplicated_lines\":{lines},\"duplicated_lines_density\":{density},"
-    )?;
-    let files = counts.files;
-    let lines = counts.lines;
-    let code_lines = counts.code_lines;
-    write!(
-        out,
-        "\"files\":{files},\"lines\":{lines},\"ncloc\":{code_lines}}},\"ok\":true"
-    )?;
-    Ok(())
+pub fn tell_counts(counts: &Counts, out: &mut Written) {
+    out.put("{\"measures\":{");
+    let mut is_first = true;
+    for metric in 0..8u32 {
+        tell_comma(&mut is_first, out);
+        out.put("\"");
+        out.put(metric_name(metric));
+        out.put_number("\":", counts.measure(metric), "");
+    }
+    out.put("},\"ok\":true");
 }
 
 /// The reply to `verdict` up to its version.
-pub fn tell_verdict(
-    counts: &Counts,
-    conditions: &[Condition],
-    out: &mut String,
-) -> Result<(), Memory> {
-    out.push_str("{\"failed\":[")?;
+pub fn tell_verdict(counts: &Counts, conditions: &[Condition], out: &mut Written) {
+    out.put("{\"failed\":[");
     let mut is_first = true;
     for (i, condition) in conditions.iter().enumerate() {
         if counts.meet(condition) {
-            tell_comma(&mut is_first, out)?;
-            write!(out, "{i}")?;
+            tell_comma(&mut is_first, out);
+            out.put_number("", i as u64, "");
         }
     }
-    let verdict = if is_first { "OK" } else { "ERROR" };
-    write!(out, "],\"ok\":true,\"verdict\":\"{verdict}\"")?;
-    Ok(())
+    out.put("],\"ok\":true,\"verdict\":");
+    out.put(if is_first { "\"OK\"" } else { "\"ERROR\"" });
 }

@@ -1,4 +1,5 @@
 use crate::draws::Draws;
+use crate::written::Written;
 use cq_base::Memory;
 use std::alloc::Global;
 
@@ -76,7 +77,12 @@ pub fn size_of(words: &[Word]) -> u64 {
 
 /// Its line feeds, and one more where bytes stand behind the last of them.
 pub fn lines_of(words: &[Word]) -> u64 {
-    let feeds = words.iter().filter(|word| word.ends_line).count() as u64;
+    let mut feeds = 0u64;
+    for word in words {
+        if word.ends_line {
+            feeds = feeds.saturating_add(1);
+        }
+    }
     match words.last() {
         Some(word) if !word.ends_line => feeds.saturating_add(1),
         _ => feeds,
@@ -96,10 +102,9 @@ pub fn first_hash(words: &[Word]) -> Option<u64> {
 }
 
 /// Adds it as it stands in a line of JSON.
-pub fn write_words(words: &[Word], out: &mut String) -> Result<(), Memory> {
+pub fn write_words(words: &[Word], out: &mut Written) {
     for word in words {
-        out.push_str(word.spelling.as_str())?;
-        out.push_str(if word.ends_line { "\\n" } else { " " })?;
+        out.put(word.spelling.as_str());
+        out.put(if word.ends_line { "\\n" } else { " " });
     }
-    Ok(())
 }

@@ -1,17 +1,10 @@
-ghost use Rattle.std.specs.Prelude.{◌≡◌};
-ghost use Rattle.cq_base.specs.Settings.{IsInRange};
-
-use crate::running::written;
-use cq_base::{Memory, Settings, Steps};
-use cq_hub::{Solo, SoloPass};
+use crate::running::both_here;
+use cq_base::{Memory, Settings};
 use cq_io::Gate;
 use cq_lines::End;
-use cq_work::{Keyer, Work};
 use std::alloc::Global;
 use std::cell::RefCell;
 use std::fmt::Write;
-use std::marker::Brand;
-use std::sync::ledger::{Blank, Ledger};
 use std::thread::Threads;
 
 const SETTINGS: Settings = Settings {
@@ -112,35 +105,9 @@ impl Gate for Noting {
     }
 }
 
-// The end of a session over a plain hub, after the session `before` on the same pass, and what the gate was called for in both.
-fn noted<R: Threads + Sync, L: Ledger>(
-    rt: &R,
-    alloc: Global,
-    settings: &Settings,
-    before: &[u8],
-    input: &[u8],
-    blank: Blank,
-) -> Result<(End, String), Memory>
-    requires in_range { IsInRange settings.now }
-    requires name { blank.name ≡ L.name }
-    requires parts { blank.parts ≡ L.parts }
-{
-    let keyer = Keyer::plain(settings);
-    let mut steps: Steps<L> = Steps::new(blank);
-    let made: (Solo<Work<L>>, SoloPass<Work<L>>) = Solo::new(alloc, settings)?;
-    let (hub, mut pass) = made;
-    let gate = Noting {
-        calls: RefCell::new(String::new(alloc)),
-    };
-    let _left = written(
-        rt, alloc, &keyer, &hub, before, &gate, &mut pass, &mut steps,
-    )?;
-    let (end, _) = written(rt, alloc, &keyer, &hub, input, &gate, &mut pass, &mut steps)?;
-    Ok((end, gate.calls.into_inner()))
-}
-
-// The same, unless a setting is out of its range.
-fn noted_here<R: Threads + Sync>(
+// The end of a session over a plain hub, after the session `before` of its caller, and what the gate was called for in both;
+// unless a setting is out of its range.
+fn noted<R: Threads + Sync>(
     rt: &R,
     alloc: Global,
     settings: &Settings,
@@ -150,7 +117,11 @@ fn noted_here<R: Threads + Sync>(
     if settings.check().is_some() {
         return Ok(None);
     }
-    Ok(Some(noted::<R, Brand>(rt, alloc, settings, before, input, Blank::new(1))?))
+    let gate = Noting {
+        calls: RefCell::new(String::new(alloc)),
+    };
+    let (_, (end, _)) = both_here(rt, alloc, settings, before, input, &gate)?;
+    Ok(Some((end, gate.calls.into_inner())))
 }
 
 // The lines and the calls of a talk.
@@ -177,8 +148,8 @@ fn is_called<R: Threads + Sync>(
     let (left, mut calls) = parted(alloc, before)?;
     let (asked, more) = parted(alloc, talk)?;
     calls.push_str(more.as_str())?;
-    let noted = noted_here(rt, alloc, &SETTINGS, left.as_bytes(), asked.as_bytes())?;
-    Ok(noted == Some((End::Finished, calls)))
+    let came = noted(rt, alloc, &SETTINGS, left.as_bytes(), asked.as_bytes())?;
+    Ok(came == Some((End::Finished, calls)))
 }
 
 #[test]

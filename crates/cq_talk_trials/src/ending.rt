@@ -2,16 +2,17 @@ ghost use Rattle.std.specs.Prelude.{◌≡◌, []};
 ghost use Rattle.cq_base.specs.Settings.{IsInRange};
 ghost use Rattle.cq_shared.specs.SharedPasses.{IsPassOf, settings_of};
 
+use crate::running::{Outcome, conversed_over};
 use cq_base::{Counters, Memory, Settings, Steps};
 use cq_chain::Pass;
-use cq_io::{Gate, MemSink, MemSource, Sink, Source};
-use cq_lines::{End, Lines};
-use cq_session::{Server, session};
+use cq_io::{Gate, MemSink, MemSource, OpenGate, Sink, Source};
+use cq_lines::End;
 use cq_shared::Shared;
-use cq_work::{Keyer, Work};
+use cq_work::Work;
 use std::alloc::Global;
+use std::marker::Brand;
 use std::sync::Wait;
-use std::sync::ledger::Ledger;
+use std::sync::ledger::{Blank, Ledger};
 use std::thread::{Threads, join};
 
 /// How the session of a caller who has seen nothing ends.
@@ -31,18 +32,10 @@ pub(crate) fn conversed<Q: Threads + Sync, L: Ledger, R: Wait, S: Source, K: Sin
     requires of { IsPassOf hub.now pass }
     requires fresh { pass.seen ≡ [] }
 {
-    let keyer = Keyer::plain(settings);
-    let mut lines = Lines::new(alloc, settings.byte_limit)?;
     let mut steps: Steps<L> = counters.counter();
-    let server = Server {
-        rt,
-        alloc,
-        keyer: &keyer,
-        hub,
-        gate,
-    };
-    let end = session(&server, &mut pass, &mut lines, source, sink, &mut steps);
-    Ok(end)
+    conversed_over(
+        rt, alloc, settings, hub, gate, source, sink, &mut pass, &mut steps,
+    )
 }
 
 /// The same, and what it writes for an input. The reads of that, of 97 bytes each, are counted from 1, and the one with the
@@ -57,7 +50,7 @@ pub(crate) fn ended<Q: Threads + Sync, L: Ledger, R: Wait, G: Gate>(
     input: &[u8],
     failing: u64,
     pass: Pass<Work<L>>,
-) -> Result<(End, Vec<u8>), Memory>
+) -> Result<Outcome, Memory>
     requires in_range { IsInRange settings.now }
     requires hub_settings { settings_of hub.now ≡ settings.now }
     requires of { IsPassOf hub.now pass }
@@ -98,7 +91,7 @@ pub(crate) fn both_ended<
     second: (&str, u64),
     one: Pass<Work<L>>,
     two: Pass<Work<L>>,
-) -> Result<((End, Vec<u8>), (End, Vec<u8>)), Memory>
+) -> Result<(Outcome, Outcome), Memory>
     requires in_range { IsInRange settings.now }
     requires hub_settings { settings_of hub.now ≡ settings.now }
     requires one { IsPassOf hub.now one × (one.seen ≡ []) }
@@ -108,7 +101,7 @@ pub(crate) fn both_ended<
     let (second_input, second_failing) = second;
     let (one, two) = join(
         rt,
-        move || -> Result<(End, Vec<u8>), Memory>
+        move || -> Result<Outcome, Memory>
             requires { IsInRange settings.now × (settings_of hub.now ≡ settings.now)
                 × IsPassOf hub.now one × (one.seen ≡ []) }
         {
@@ -124,7 +117,7 @@ pub(crate) fn both_ended<
                 one,
             )
         },
-        move || -> Result<(End, Vec<u8>), Memory>
+        move || -> Result<Outcome, Memory>
             requires { IsInRange settings.now × (settings_of hub.now ≡ settings.now)
                 × IsPassOf hub.now two × (two.seen ≡ []) }
         {
@@ -143,4 +136,77 @@ pub(crate) fn both_ended<
     );
     let one = one?;
     Ok((one, two?))
+}
+
+/// What two sessions at the same time came to, how a third one after them ended, and which version is published then, and up to
+/// where the hub is swept.
+#[derive(Drop)]
+pub(crate) struct Ends {
+    pub one: Outcome,
+    pub two: Outcome,
+    pub later: End,
+    pub published: u64,
+    pub floor: u64,
+}
+
+fn three_ended<Q: Threads + Wait + Sync, L: Ledger + Send + Sync, G: Gate + Sync>(
+    rt: &Q,
+    alloc: Global,
+    settings: &Settings,
+    gate: &G,
+    first: (&str, u64),
+    second: (&str, u64),
+    third: &str,
+    blank: Blank,
+) -> Result<Ends, Memory>
+    requires in_range { IsInRange settings.now }
+    requires name { blank.name ≡ L.name }
+    requires parts { blank.parts ≡ L.parts }
+{
+    let counters: Counters<L> = Counters::new(blank);
+    let made: (Shared<Work<L>, &Q>, Pass<Work<L>>) = Shared::new(rt, alloc, settings, 4)?;
+    let (hub, mut pass) = made;
+    let one = hub.split_pass(&mut pass);
+    let two = hub.split_pass(&mut pass);
+    let three = hub.split_pass(&mut pass);
+    let (one, two) = both_ended(
+        rt, alloc, settings, &hub, &counters, gate, first, second, one, two,
+    )?;
+    let input = third.as_bytes();
+    let (later, _) = ended(
+        rt, alloc, settings, &hub, &counters, &OpenGate, input, 0, three,
+    )?;
+    let floor = hub.sweep(alloc, &mut pass)?;
+    let asked = hub.ask(&mut pass);
+    Ok(Ends {
+        one,
+        two,
+        later,
+        published: asked.published,
+        floor,
+    })
+}
+
+/// The same over a new hub. Each of the two has an input and the number of the read that fails.
+pub(crate) fn three_here<Q: Threads + Wait + Sync, G: Gate + Sync>(
+    rt: &Q,
+    alloc: Global,
+    settings: &Settings,
+    gate: &G,
+    first: (&str, u64),
+    second: (&str, u64),
+    third: &str,
+) -> Result<Ends, Memory>
+    requires { IsInRange settings.now }
+{
+    three_ended::<Q, Brand, G>(
+        rt,
+        alloc,
+        settings,
+        gate,
+        first,
+        second,
+        third,
+        Blank::new(1),
+    )
 }

@@ -1,18 +1,10 @@
-ghost use Rattle.std.specs.Prelude.{◌≡◌};
-ghost use Rattle.cq_base.specs.Settings.{IsInRange};
-
-use crate::ending::{both_ended, ended};
+use crate::ending::three_here;
 use crate::threads::SETTINGS;
-use cq_base::{Counters, Memory, Settings};
-use cq_chain::Pass;
+use cq_base::Memory;
 use cq_io::OpenGate;
 use cq_lines::End;
-use cq_shared::Shared;
-use cq_work::Work;
 use std::alloc::Global;
-use std::marker::Brand;
 use std::sync::Wait;
-use std::sync::ledger::{Blank, Ledger};
 use std::thread::Threads;
 
 // Two reads are the whole of it, and what is left of the third line is none.
@@ -30,71 +22,52 @@ struct Left {
     broken: End,
     whole: End,
     /// The replies to the session whose read failed.
-    told: usize,
+    told: u64,
     later: End,
     published: u64,
     floor: u64,
 }
 
-// A third session publishes a later version, and then the hub is swept.
-fn faulted<Q: Threads + Wait + Sync, L: Ledger + Send + Sync>(
-    rt: &Q,
-    alloc: Global,
-    settings: &Settings,
-    blank: Blank,
-) -> Result<Left, Memory>
-    requires in_range { IsInRange settings.now }
-    requires name { blank.name ≡ L.name }
-    requires parts { blank.parts ≡ L.parts }
-{
-    let counters: Counters<L> = Counters::new(blank);
-    let made: (Shared<Work<L>, &Q>, Pass<Work<L>>) = Shared::new(rt, alloc, settings, 4)?;
-    let (hub, mut pass) = made;
-    let one = hub.split_pass(&mut pass);
-    let two = hub.split_pass(&mut pass);
-    let three = hub.split_pass(&mut pass);
-    let ((broken, told), (whole, _)) = both_ended(
-        rt,
-        alloc,
-        settings,
-        &hub,
-        &counters,
-        &OpenGate,
-        (BROKEN, 3),
-        (WHOLE, 0),
-        one,
-        two,
-    )?;
-    let told = told.iter().filter(|byte| **byte == b'\n').count();
-    let input = WHOLE.as_bytes();
-    let (later, _) = ended(
-        rt, alloc, settings, &hub, &counters, &OpenGate, input, 0, three,
-    )?;
-    let floor = hub.sweep(alloc, &mut pass)?;
-    let asked = hub.ask(&mut pass);
-    Ok(Left {
-        broken,
-        whole,
-        told,
-        later,
-        published: asked.published,
-        floor,
-    })
+fn feeds(bytes: &[u8]) -> u64 {
+    let mut count = 0u64;
+    for byte in bytes {
+        if *byte == b'\n' {
+            count = count.saturating_add(1);
+        }
+    }
+    count
 }
 
-fn faulted_here<Q: Threads + Wait + Sync>(rt: &Q, alloc: Global) -> Result<Option<Left>, Memory> {
+// The third session publishes a later version.
+fn faulted<Q: Threads + Wait + Sync>(rt: &Q, alloc: Global) -> Result<Option<Left>, Memory> {
     let settings = SETTINGS;
     if settings.check().is_some() {
         return Ok(None);
     }
-    Ok(Some(faulted::<Q, Brand>(rt, alloc, &settings, Blank::new(1))?))
+    let ends = three_here(
+        rt,
+        alloc,
+        &settings,
+        &OpenGate,
+        (BROKEN, 3),
+        (WHOLE, 0),
+        WHOLE,
+    )?;
+    Ok(Some(Left {
+        broken: ends.one.0,
+        whole: ends.two.0,
+        told: feeds(&ends.one.1),
+        later: ends.later,
+        published: ends.published,
+        floor: ends.floor,
+    }))
 }
 
 // A view that the session whose read failed had left open would hold the floor at its version.
 #[test]
 fn a_read_that_fails_leaves_no_view_open(rt: HostRuntime) -> Result<(), Memory> {
     assert_eq!(rt;
-        faulted_here(&rt, rt.alloc())?,
+        faulted(&rt, rt.alloc())?,
         Some(Left {
             broken: End::ReadFault,
             whole: End::Finished,

@@ -1,19 +1,12 @@
-ghost use Rattle.std.specs.Prelude.{◌≡◌};
-ghost use Rattle.cq_base.specs.Settings.{IsInRange};
-
-use crate::ending::both_ended;
+use crate::ending::three_here;
+use crate::running::Outcome;
 use crate::threads::SETTINGS;
-use cq_base::{Counters, Memory, Settings};
-use cq_chain::Pass;
+use cq_base::Memory;
 use cq_io::Gate;
 use cq_lines::End;
-use cq_shared::Shared;
-use cq_work::Work;
 use std::alloc::Global;
-use std::marker::Brand;
 use std::sync::Wait;
 use std::sync::atomic::{AtomicU64, Ordering};
-use std::sync::ledger::{Blank, Ledger};
 use std::thread;
 use std::thread::Threads;
 use std::time::{Clock, Duration};
@@ -87,7 +80,7 @@ struct Helped {
 }
 
 // Both ended with the input, and behind the number of its change each was told the same, which begins as wanted.
-fn are_alike(one: (End, Vec<u8>), two: (End, Vec<u8>)) -> bool {
+fn are_alike(one: Outcome, two: Outcome) -> bool {
     if one.0 != End::Finished || two.0 != End::Finished {
         return false;
     }
@@ -100,49 +93,7 @@ fn are_alike(one: (End, Vec<u8>), two: (End, Vec<u8>)) -> bool {
     }
 }
 
-fn two_help<Q: Threads + Clock + Wait + Sync, L: Ledger + Send + Sync>(
-    rt: &Q,
-    alloc: Global,
-    settings: &Settings,
-    blank: Blank,
-) -> Result<Helped, Memory>
-    requires in_range { IsInRange settings.now }
-    requires name { blank.name ≡ L.name }
-    requires parts { blank.parts ≡ L.parts }
-{
-    let counters: Counters<L> = Counters::new(blank);
-    let (accepted, first, second) = (AtomicU64::new(0), AtomicU64::new(0), AtomicU64::new(0));
-    let gate = Pairing {
-        clock: rt,
-        accepted: &accepted,
-        first: &first,
-        second: &second,
-    };
-    let made: (Shared<Work<L>, &Q>, Pass<Work<L>>) = Shared::new(rt, alloc, settings, 3)?;
-    let (hub, mut pass) = made;
-    let one = hub.split_pass(&mut pass);
-    let two = hub.split_pass(&mut pass);
-    let (one, two) = both_ended(
-        rt,
-        alloc,
-        settings,
-        &hub,
-        &counters,
-        &gate,
-        (ONE, 0),
-        (TWO, 0),
-        one,
-        two,
-    )?;
-    let alike = are_alike(one, two);
-    Ok(Helped {
-        alike,
-        first: first.load(Ordering::SeqCst),
-        second: second.load(Ordering::SeqCst),
-    })
-}
-
-fn two_help_here<Q: Threads + Clock + Wait + Sync>(
+fn two_help<Q: Threads + Clock + Wait + Sync>(
     rt: &Q,
     alloc: Global,
 ) -> Result<Option<Helped>, Memory> {
@@ -150,7 +101,19 @@ fn two_help_here<Q: Threads + Clock + Wait + Sync>(
     if settings.check().is_some() {
         return Ok(None);
     }
-    Ok(Some(two_help::<Q, Brand>(rt, alloc, &settings, Blank::new(1))?))
+    let (accepted, first, second) = (AtomicU64::new(0), AtomicU64::new(0), AtomicU64::new(0));
+    let gate = Pairing {
+        clock: rt,
+        accepted: &accepted,
+        first: &first,
+        second: &second,
+    };
+    let ends = three_here(rt, alloc, &settings, &gate, (ONE, 0), (TWO, 0), "")?;
+    Ok(Some(Helped {
+        alike: are_alike(ends.one, ends.two),
+        first: first.load(Ordering::SeqCst),
+        second: second.load(Ordering::SeqCst),
+    }))
 }
 
 // Each of two sessions has an upload, and makes the works of both at the same time as the other: of each work one is taken,
@@ -158,7 +121,7 @@ fn two_help_here<Q: Threads + Clock + Wait + Sync>(
 #[test]
 fn queries_that_make_the_same_works_are_told_the_same(rt: HostRuntime) -> Result<(), Memory> {
     assert_eq!(rt;
-        two_help_here(&rt, rt.alloc())?,
+        two_help(&rt, rt.alloc())?,
         Some(Helped {
             alike: true,
             first: 2,

@@ -1,7 +1,7 @@
 use cq_base::Memory;
 use cq_talk_model::{
-    Change, Draws, Kind, Query, Refusal, Request, drawn_request, file_at, tell_bad, tell_change,
-    tell_query_at, tell_refusal, tell_state, write_line,
+    Change, Draws, Kind, Query, Refusal, Request, Written, drawn_request, file_at, tell_bad,
+    tell_change, tell_query_at, tell_refusal, tell_state, write_line,
 };
 use std::alloc::Global;
 
@@ -64,11 +64,12 @@ fn planned_requests(alloc: Global, plan: &Plan) -> Result<Vec<Request>, Memory> 
 
 /// The lines of a plan, as they are written.
 pub fn planned_lines(alloc: Global, plan: &Plan) -> Result<String, Memory> {
-    let mut asked = String::new(alloc);
+    let mut asked = Written::new(alloc);
     for request in planned_requests(alloc, plan)? {
-        write_line(&request, &mut asked)?;
+        write_line(&request, &mut asked);
     }
-    Ok(asked)
+    asked.check()?;
+    Ok(asked.text)
 }
 
 // The number at the front of a text.
@@ -89,9 +90,9 @@ fn number_of(text: &str) -> Option<u64> {
     number
 }
 
-fn number_behind(text: &str, key: &str) -> Option<u64> {
-    let (_, behind) = text.split_once(key)?;
-    number_of(behind)
+fn number_after(text: &str, key: &str) -> Option<u64> {
+    let (_, after) = text.split_once(key)?;
+    number_of(after)
 }
 
 // The number of the change that was accepted.
@@ -253,7 +254,7 @@ fn is_absent(changes: &[Change], version: u64, change: &Change) -> bool {
 }
 
 // It is refused at some time.
-fn was_absent(changes: &[Change], known: &Known, change: &Change) -> bool {
+fn was_absent(changes: &[Change], known: Known, change: &Change) -> bool {
     for version in known.least..known.most.saturating_add(1) {
         if is_absent(changes, version, change) {
             return true;
@@ -262,98 +263,64 @@ fn was_absent(changes: &[Change], known: &Known, change: &Change) -> bool {
     false
 }
 
-// It is accepted behind all that is known to be, or refused at some time since.
+// It is accepted after all that is known to be, or refused at some time since.
 fn change_may_have(
     alloc: Global,
     changes: &[Change],
     change: &Change,
     reply: &str,
     known: &mut Known,
-) -> Result<bool, Memory> {
-    let mut told = String::new(alloc);
-    match change_in(reply) {
+) -> bool {
+    let mut told = Written::new(alloc);
+    let may_be = match change_in(reply) {
         Some(number) => {
-            tell_change(number, &mut told)?;
+            tell_change(number, &mut told);
             let is_next = known.least < number && number <= known.most;
             known.see_change(number);
-            let before = number.saturating_sub(1);
-            Ok(is_line(reply, &told) && is_next && !is_absent(changes, before, change))
+            is_next && !is_absent(changes, number.saturating_sub(1), change)
         }
         None => {
-            tell_refusal(Refusal::Absent, &mut told)?;
-            Ok(is_line(reply, &told) && was_absent(changes, known, change))
+            tell_refusal(Refusal::Absent, &mut told);
+            was_absent(changes, *known, change)
         }
-    }
+    };
+    may_be && is_line(reply, &told.text)
 }
 
-// All changes up to one are done and no more, where that behind it is an upload, or where it is the last.
-fn state_may_have(
-    alloc: Global,
-    changes: &[Change],
-    reply: &str,
-    known: &mut Known,
-) -> Result<bool, Memory> {
-    let accepted = number_behind(reply, "\"accepted\":").unwrap_or(0);
-    let done = number_behind(reply, "\"done\":").unwrap_or(0);
-    let published = number_behind(reply, "\"published\":").unwrap_or(0);
-    let mut told = String::new(alloc);
-    tell_state(accepted, done, published, &mut told)?;
+// All changes up to one are done and no more, if the next one is an upload, or if it is the last.
+fn state_may_have(alloc: Global, changes: &[Change], reply: &str, known: &mut Known) -> bool {
+    let accepted = number_after(reply, "\"accepted\":").unwrap_or(0);
+    let done = number_after(reply, "\"done\":").unwrap_or(0);
+    let published = number_after(reply, "\"published\":").unwrap_or(0);
     let rises = known.shown <= published && known.done <= done && known.may_be(accepted);
     let in_order = published <= done && done <= accepted;
     let is_exact = done == accepted || is_put(changes, done.saturating_add(1));
     known.see_accepted(accepted);
     known.see_done(done);
     known.see_version(published);
-    Ok(is_line(reply, &told) && rises && in_order && is_exact)
+    let mut told = Written::new(alloc);
+    tell_state(accepted, done, published, &mut told);
+    rises && in_order && is_exact && is_line(reply, &told.text)
 }
 
 // More is asked for than is accepted.
-fn future_may_be(
-    alloc: Global,
-    query: &Query,
-    count: u64,
-    reply: &str,
-    known: &mut Known,
-) -> Result<bool, Memory> {
-    let mut told = String::new(alloc);
-    tell_refusal(Refusal::Future(count), &mut told)?;
-    let may_be = known.may_be(count) && count < query.at.unwrap_or(0);
+fn future_may_be(count: u64, at: u64, known: &mut Known) -> bool {
+    let may_be = known.may_be(count) && count < at;
     known.see_accepted(count);
-    Ok(is_line(reply, &told) && may_be)
+    may_be
 }
 
 // An upload up to what was seen or asked for is not done, and it is the first one.
-fn pending_may_be(
-    alloc: Global,
-    changes: &[Change],
-    query: &Query,
-    number: u64,
-    reply: &str,
-    known: &mut Known,
-) -> Result<bool, Memory> {
-    let mut told = String::new(alloc);
-    tell_refusal(Refusal::Pending(number), &mut told)?;
+fn pending_may_be(changes: &[Change], query: &Query, number: u64, known: &mut Known) -> bool {
     let floor = known.seen.max(query.at.unwrap_or(0));
     let may_be = known.done < number && number <= floor && floor <= known.most;
     known.see_accepted(floor);
     known.see_done(number.saturating_sub(1));
-    let is_waiting = query.finish == Some(false) && is_put(changes, number);
-    Ok(is_line(reply, &told) && may_be && is_waiting)
+    may_be && query.finish == Some(false) && is_put(changes, number)
 }
 
-// The version is not below what was seen or asked for, nor, where all is to be done first, below what was known to be
-// accepted; and all else is as the history has it at the version.
-fn answer_may_be(
-    alloc: Global,
-    changes: &[Change],
-    kind: Kind,
-    query: &Query,
-    version: u64,
-    reply: &str,
-    known: &mut Known,
-) -> Result<bool, Memory> {
-    let mut told = String::new(alloc);
-    tell_query_at(alloc, kind, query, changes, version, &mut told)?;
+// The version is not below what was seen or asked for, nor, if all is to be done first, below what was known to be accepted.
+fn version_may_be(query: &Query, version: u64, known: &mut Known) -> bool {
     let floor = known.seen.max(query.at.unwrap_or(0));
     let least = if query.finish == Some(false) {
         floor
@@ -362,9 +329,35 @@ fn answer_may_be(
     };
     let may_be = least <= version && version <= known.most;
     known.see_version(version);
-    Ok(is_line(reply, &told) && may_be)
+    may_be
 }
 
+// It is refused: of several causes the one that the reply has a number of.
+fn refusal_may_be(
+    alloc: Global,
+    changes: &[Change],
+    query: &Query,
+    reply: &str,
+    known: &mut Known,
+) -> bool {
+    let pending = number_after(reply, "\"number\":");
+    let count = number_after(reply, "\"count\":").unwrap_or(0);
+    let (refusal, may_be) = match pending {
+        Some(number) => (
+            Refusal::Pending(number),
+            pending_may_be(changes, query, number, known),
+        ),
+        None => (
+            Refusal::Future(count),
+            future_may_be(count, query.at.unwrap_or(0), known),
+        ),
+    };
+    let mut told = Written::new(alloc);
+    tell_refusal(refusal, &mut told);
+    may_be && is_line(reply, &told.text)
+}
+
+// An answer is as the history has it at its version.
 fn query_may_have(
     alloc: Global,
     changes: &[Change],
@@ -373,19 +366,23 @@ fn query_may_have(
     reply: &str,
     known: &mut Known,
 ) -> Result<bool, Memory> {
-    if let Some(version) = number_behind(reply, "\"version\":") {
-        return answer_may_be(alloc, changes, kind, query, version, reply, known);
-    }
-    if let Some(number) = number_behind(reply, "\"number\":") {
-        return pending_may_be(alloc, changes, query, number, reply, known);
-    }
-    match number_behind(reply, "\"count\":") {
-        Some(count) => future_may_be(alloc, query, count, reply, known),
-        None => Ok(false),
+    match number_after(reply, "\"version\":") {
+        Some(version) => {
+            let mut told = Written::new(alloc);
+            tell_query_at(alloc, kind, query, changes, version, &mut told)?;
+            Ok(version_may_be(query, version, known) && is_line(reply, &told.text))
+        }
+        None => Ok(refusal_may_be(alloc, changes, query, reply, known)),
     }
 }
 
-// A request may have this reply where its caller knows so much.
+fn is_told_of_bad(alloc: Global, at: u32, reply: &str) -> bool {
+    let mut told = Written::new(alloc);
+    tell_bad(at, &mut told);
+    is_line(reply, &told.text)
+}
+
+// A request may have this reply if its caller knows so much.
 fn may_have(
     alloc: Global,
     changes: &[Change],
@@ -394,14 +391,10 @@ fn may_have(
     known: &mut Known,
 ) -> Result<bool, Memory> {
     match request {
-        Request::Change(change) => change_may_have(alloc, changes, change, reply, known),
-        Request::State => state_may_have(alloc, changes, reply, known),
+        Request::Change(change) => Ok(change_may_have(alloc, changes, change, reply, known)),
+        Request::State => Ok(state_may_have(alloc, changes, reply, known)),
         Request::Query(kind, query) => query_may_have(alloc, changes, *kind, query, reply, known),
-        Request::Bad(at) => {
-            let mut told = String::new(alloc);
-            tell_bad(*at, &mut told)?;
-            Ok(is_line(reply, &told))
-        }
+        Request::Bad(at) => Ok(is_told_of_bad(alloc, *at, reply)),
     }
 }
 

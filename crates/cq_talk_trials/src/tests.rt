@@ -1,4 +1,4 @@
-use crate::talking::{Talks, shared_talks_here, talks_here};
+use crate::talking::{Talks, shared_talk_here, talks_here};
 use cq_base::{Memory, Settings};
 use std::alloc::Global;
 use std::sync::Wait;
@@ -15,23 +15,25 @@ const SETTINGS: Settings = Settings {
     byte_limit: 1_048_576,
 };
 
-// What a talk of some hundred lines has to tell, so that a trial shows something.
-const TOLD: [&str; 11] = [
-    "\"change\":50,",
-    "\"at\":",
-    "\"state\":\"fault\"",
-    "\"tokens\":4}",
-    "\"total\":2,",
-    "\"verdict\":\"OK\"",
-    "\"verdict\":\"ERROR\"",
-    "\"future\"",
-    "\"absent\"",
-    "\"pending\"",
-    "\"scope\"",
-];
+// What a talk of some hundred lines has to tell, a piece a line, so that a trial shows something.
+const TOLD: &str = r#""change":50,
+"at":
+"state":"fault"
+"tokens":4}
+"total":2,
+"verdict":"OK"
+"verdict":"ERROR"
+"future"
+"absent"
+"pending"
+"scope"
+"#;
 
 // What the second of two talks has to tell.
-const TOLD_THEN: [&str; 3] = ["\"change\":100,", "\"tokens\":2}", "\"pending\""];
+const TOLD_THEN: &str = r#""change":100,
+"tokens":2}
+"pending"
+"#;
 
 /// How two talks went.
 #[derive(Clone, Copy, Debug, PartialEq, Eq)]
@@ -48,16 +50,16 @@ enum Went {
     UntoldThen(usize),
 }
 
-fn first_untold(told: &str, pieces: &[&str]) -> Option<usize> {
-    for (i, piece) in pieces.iter().enumerate() {
-        if !told.contains(*piece) {
+fn first_untold(told: &str, pieces: &str) -> Option<usize> {
+    for (i, piece) in pieces.lines().enumerate() {
+        if !told.contains(piece) {
             return Some(i);
         }
     }
     None
 }
 
-fn how_they_went(talks: &Talks, told: &[&str], told_then: &[&str]) -> Went {
+fn how_they_went(talks: &Talks, told: &str, told_then: &str) -> Went {
     if let Some(line) = talks.first {
         return Went::Otherwise(line);
     }
@@ -80,8 +82,8 @@ fn two_talks<R: Threads + Sync>(
     settings: &Settings,
     counts: (u32, u32),
     seed: u64,
-    told: &[&str],
-    told_then: &[&str],
+    told: &str,
+    told_then: &str,
 ) -> Result<Went, Memory> {
     if settings.check().is_some() {
         return Ok(Went::OutOfRange);
@@ -103,7 +105,7 @@ fn one_talk<R: Threads + Sync>(
         shards,
         ..SETTINGS
     };
-    two_talks(rt, alloc, &settings, (400, 0), seed, &TOLD, &[])
+    two_talks(rt, alloc, &settings, (400, 0), seed, TOLD, "")
 }
 
 // A talk of 400 lines, over a hub whose passes may be those of several threads.
@@ -117,8 +119,8 @@ fn one_shared_talk<R: Threads + Wait + Sync>(
     if settings.check().is_some() {
         return Ok(Went::OutOfRange);
     }
-    let talks = shared_talks_here(rt, alloc, &settings, (400, 0), seed)?;
-    Ok(how_they_went(&talks, &TOLD, &[]))
+    let talks = shared_talk_here(rt, alloc, &settings, 400, seed)?;
+    Ok(how_they_went(&talks, TOLD, ""))
 }
 
 #[test]
@@ -146,19 +148,11 @@ fn a_talk_goes_as_told_where_keys_are_whole(rt: HostRuntime) -> Result<(), Memor
 #[test]
 fn a_second_talk_goes_on(rt: HostRuntime) -> Result<(), Memory> {
     for seed in 7..10u64 {
-        let went = two_talks(
-            &rt,
-            rt.alloc(),
-            &SETTINGS,
-            (200, 200),
-            seed,
-            &[],
-            &TOLD_THEN,
-        )?;
+        let went = two_talks(&rt, rt.alloc(), &SETTINGS, (200, 200), seed, "", TOLD_THEN)?;
         assert_eq!(rt; went, Went::AsTold);
     }
     for seed in 10..40u64 {
-        let went = two_talks(&rt, rt.alloc(), &SETTINGS, (12, 12), seed, &[], &[])?;
+        let went = two_talks(&rt, rt.alloc(), &SETTINGS, (12, 12), seed, "", "")?;
         assert_eq!(rt; went, Went::AsTold);
     }
     Ok(())
@@ -171,8 +165,8 @@ fn changes_and_texts_are_limited(rt: HostRuntime) -> Result<(), Memory> {
         text_limit: 60,
         ..SETTINGS
     };
-    let told = ["\"full-text\"", "\"full-changes\""];
-    let went = two_talks(&rt, rt.alloc(), &settings, (300, 50), 11, &told, &[])?;
+    let told = "\"full-text\"\n\"full-changes\"";
+    let went = two_talks(&rt, rt.alloc(), &settings, (300, 50), 11, told, "")?;
     assert_eq!(rt; went, Went::AsTold);
     Ok(())
 }

@@ -1,11 +1,12 @@
-ghost use Rattle.std.specs.Prelude.{◌≡◌, ◌<◌, []};
+ghost use Rattle.std.specs.Prelude.{◌≡◌, ◌<◌, [], OnOk};
 ghost use Rattle.cq_base.specs.Settings.{IsInRange};
 ghost use Rattle.cq_shared.specs.SharedPasses.{IsPassOf, settings_of};
 
-use crate::ending::ended;
+use crate::ending::{both_ended, ended};
 use crate::histories::{
     Plan, Talk, first_change, first_fault, first_fault_at_end, history_of, planned_lines,
 };
+use crate::running::Outcome;
 use cq_base::{Counters, Memory, Settings};
 use cq_chain::Pass;
 use cq_io::Gate;
@@ -83,89 +84,33 @@ impl<'a, C: Clock> Gate for Resting<'a, C> {
     }
 }
 
-// The talk of a session whose caller has seen nothing. One that does not finish has no replies.
-fn session_talk<Q: Threads + Sync, L: Ledger, R: Wait, G: Gate>(
-    rt: &Q,
-    alloc: Global,
-    settings: &Settings,
-    hub: &Shared<Work<L>, R>,
-    counters: &Counters<L>,
-    gate: &G,
-    plan: Plan,
-    pass: Pass<Work<L>>,
-) -> Result<Talk, Memory>
-    requires in_range { IsInRange settings.now }
-    requires hub_settings { settings_of hub.now ≡ settings.now }
-    requires of { IsPassOf hub.now pass }
-    requires fresh { pass.seen ≡ [] }
-{
-    let asked = planned_lines(alloc, &plan)?;
-    let (end, output) = ended(
-        rt,
-        alloc,
-        settings,
-        hub,
-        counters,
-        gate,
-        asked.as_bytes(),
-        0,
-        pass,
-    )?;
-    let replies = match (end, String::from_utf8(output)) {
+// What a talk is whose session ended so. One that does not finish has no replies.
+fn talk_of(alloc: Global, plan: Plan, outcome: Outcome) -> Talk {
+    let replies = match (outcome.0, String::from_utf8(outcome.1)) {
         (End::Finished, Ok(replies)) => replies,
         _ => String::new(alloc),
     };
-    Ok(Talk { plan, replies })
+    Talk { plan, replies }
 }
 
-// Two sessions talk at the same time.
-fn two_talks<Q: Threads + Sync, L: Ledger + Send + Sync, R: Wait + Sync, G: Gate + Sync>(
+fn plan_of(seed: u64) -> Plan {
+    Plan::Drawn { seed, count: 500 }
+}
+
+// What four sessions come to that talk at the same time, each with these lines.
+fn four_ended<Q: Threads + Sync, L: Ledger + Send + Sync, R: Wait + Sync, G: Gate + Sync>(
     rt: &Q,
     alloc: Global,
     settings: &Settings,
     hub: &Shared<Work<L>, R>,
     counters: &Counters<L>,
     gate: &G,
-    seed: u64,
-    one: Pass<Work<L>>,
-    two: Pass<Work<L>>,
-) -> (Result<Talk, Memory>, Result<Talk, Memory>)
-    requires in_range { IsInRange settings.now }
-    requires hub_settings { settings_of hub.now ≡ settings.now }
-    requires one { IsPassOf hub.now one × (one.seen ≡ []) }
-    requires two { IsPassOf hub.now two × (two.seen ≡ []) }
-{
-    let plan = Plan::Drawn { seed, count: 500 };
-    let plan_two = Plan::Drawn {
-        seed: seed.wrapping_add(1),
-        count: 500,
-    };
-    join(
-        rt,
-        move || -> Result<Talk, Memory>
-            requires { IsInRange settings.now × (settings_of hub.now ≡ settings.now)
-                × IsPassOf hub.now one × (one.seen ≡ []) }
-        { session_talk(rt, alloc, settings, hub, counters, gate, plan, one) },
-        move || -> Result<Talk, Memory>
-            requires { IsInRange settings.now × (settings_of hub.now ≡ settings.now)
-                × IsPassOf hub.now two × (two.seen ≡ []) }
-        { session_talk(rt, alloc, settings, hub, counters, gate, plan_two, two) },
-    )
-}
-
-// Four sessions of a new hub talk at the same time, 500 lines each.
-fn four_talks<Q: Threads + Sync, L: Ledger + Send + Sync, R: Wait + Sync, G: Gate + Sync>(
-    rt: &Q,
-    alloc: Global,
-    settings: &Settings,
-    hub: &Shared<Work<L>, R>,
-    counters: &Counters<L>,
-    gate: &G,
-    seed: u64,
+    first: (&str, &str),
+    second: (&str, &str),
     pass: &mut Pass<Work<L>>,
 ) -> (
-    (Result<Talk, Memory>, Result<Talk, Memory>),
-    (Result<Talk, Memory>, Result<Talk, Memory>),
+    Result<(Outcome, Outcome), Memory>,
+    Result<(Outcome, Outcome), Memory>,
 )
     requires in_range { IsInRange settings.now }
     requires hub_settings { settings_of hub.now ≡ settings.now }
@@ -179,21 +124,44 @@ fn four_talks<Q: Threads + Sync, L: Ledger + Send + Sync, R: Wait + Sync, G: Gat
     let two = hub.split_pass(pass);
     let three = hub.split_pass(pass);
     let four = hub.split_pass(pass);
-    let seed_two = seed.wrapping_add(2);
+    let (a, b) = first;
+    let (c, d) = second;
     join(
         rt,
-        move || -> (Result<Talk, Memory>, Result<Talk, Memory>)
+        move || -> Result<(Outcome, Outcome), Memory>
             requires { IsInRange settings.now × (settings_of hub.now ≡ settings.now)
                 × (IsPassOf hub.now one × (one.seen ≡ []))
                 × (IsPassOf hub.now two × (two.seen ≡ [])) }
-        { two_talks(rt, alloc, settings, hub, counters, gate, seed, one, two) },
-        move || -> (Result<Talk, Memory>, Result<Talk, Memory>)
+        {
+            both_ended(
+                rt,
+                alloc,
+                settings,
+                hub,
+                counters,
+                gate,
+                (a, 0),
+                (b, 0),
+                one,
+                two,
+            )
+        },
+        move || -> Result<(Outcome, Outcome), Memory>
             requires { IsInRange settings.now × (settings_of hub.now ≡ settings.now)
                 × (IsPassOf hub.now three × (three.seen ≡ []))
                 × (IsPassOf hub.now four × (four.seen ≡ [])) }
         {
-            two_talks(
-                rt, alloc, settings, hub, counters, gate, seed_two, three, four,
+            both_ended(
+                rt,
+                alloc,
+                settings,
+                hub,
+                counters,
+                gate,
+                (c, 0),
+                (d, 0),
+                three,
+                four,
             )
         },
     )
@@ -246,37 +214,89 @@ fn how_they_went(alloc: Global, talks: &[Talk], last: &Talk) -> Result<Went, Mem
     }
 }
 
-// Puts what two sessions talked behind the others.
+// Adds what two sessions talked by the plans of these seeds.
 fn push_both(
+    alloc: Global,
     talks: &mut Vec<Talk>,
-    both: (Result<Talk, Memory>, Result<Talk, Memory>),
+    seeds: (u64, u64),
+    both: (Outcome, Outcome),
 ) -> Result<(), Memory> {
     let (one, two) = both;
-    talks.push(one?)?;
-    talks.push(two?)?;
+    talks.push(talk_of(alloc, plan_of(seeds.0), one))?;
+    talks.push(talk_of(alloc, plan_of(seeds.1), two))?;
     Ok(())
 }
 
-// The talks of four sessions, unless one of them has no memory.
-fn gathered(
+// The lines of two plans.
+fn both_lines(alloc: Global, seeds: (u64, u64)) -> Result<(String, String), Memory> {
+    let one = planned_lines(alloc, &plan_of(seeds.0))?;
+    let two = planned_lines(alloc, &plan_of(seeds.1))?;
+    Ok((one, two))
+}
+
+// The talks of four sessions at the same time, by plans of these seeds.
+fn four_talks<Q: Threads + Sync, L: Ledger + Send + Sync, R: Wait + Sync, G: Gate + Sync>(
+    rt: &Q,
     alloc: Global,
-    four: (
-        (Result<Talk, Memory>, Result<Talk, Memory>),
-        (Result<Talk, Memory>, Result<Talk, Memory>),
-    ),
-) -> Result<Vec<Talk>, Memory> {
-    let (first, second) = four;
+    settings: &Settings,
+    hub: &Shared<Work<L>, R>,
+    counters: &Counters<L>,
+    gate: &G,
+    seeds: ((u64, u64), (u64, u64)),
+    pass: &mut Pass<Work<L>>,
+) -> Result<Vec<Talk>, Memory>
+    requires in_range { IsInRange settings.now }
+    requires hub_settings { settings_of hub.now ≡ settings.now }
+    requires of { IsPassOf hub.now pass.old }
+    requires fresh { pass.old.seen ≡ [] }
+    requires room { 3 < pass.old.room }
+    ensures { OnOk result (IsPassOf hub.now pass.new × (pass.new.seen ≡ [])) }
+{
+    let first = both_lines(alloc, seeds.0)?;
+    let second = both_lines(alloc, seeds.1)?;
+    let (one, two) = four_ended(
+        rt,
+        alloc,
+        settings,
+        hub,
+        counters,
+        gate,
+        (first.0.as_str(), first.1.as_str()),
+        (second.0.as_str(), second.1.as_str()),
+        pass,
+    );
     let mut talks = Vec::new(alloc);
-    push_both(&mut talks, first)?;
-    push_both(&mut talks, second)?;
+    push_both(alloc, &mut talks, seeds.0, one?)?;
+    push_both(alloc, &mut talks, seeds.1, two?)?;
     Ok(talks)
+}
+
+// The talk of a session that asks for everything.
+fn last_talk<Q: Threads + Sync, L: Ledger, R: Wait, G: Gate>(
+    rt: &Q,
+    alloc: Global,
+    settings: &Settings,
+    hub: &Shared<Work<L>, R>,
+    counters: &Counters<L>,
+    gate: &G,
+    pass: Pass<Work<L>>,
+) -> Result<Talk, Memory>
+    requires in_range { IsInRange settings.now }
+    requires hub_settings { settings_of hub.now ≡ settings.now }
+    requires of { IsPassOf hub.now pass }
+    requires fresh { pass.seen ≡ [] }
+{
+    let asked = planned_lines(alloc, &Plan::All)?;
+    let input = asked.as_bytes();
+    let outcome = ended(rt, alloc, settings, hub, counters, gate, input, 0, pass)?;
+    Ok(talk_of(alloc, Plan::All, outcome))
 }
 
 fn four_threads<Q: Threads + Clock + Wait + Sync, L: Ledger + Send + Sync>(
     rt: &Q,
     alloc: Global,
     settings: &Settings,
-    seed: u64,
+    seeds: ((u64, u64), (u64, u64)),
     blank: Blank,
 ) -> Result<Went, Memory>
     requires in_range { IsInRange settings.now }
@@ -292,9 +312,10 @@ fn four_threads<Q: Threads + Clock + Wait + Sync, L: Ledger + Send + Sync>(
     };
     let made: (Shared<Work<L>, &Q>, Pass<Work<L>>) = Shared::new(rt, alloc, settings, 5)?;
     let (hub, mut pass) = made;
-    let four = four_talks(rt, alloc, settings, &hub, &counters, &gate, seed, &mut pass);
-    let talks = gathered(alloc, four)?;
-    let last = session_talk(rt, alloc, settings, &hub, &counters, &gate, Plan::All, pass)?;
+    let talks = four_talks(
+        rt, alloc, settings, &hub, &counters, &gate, seeds, &mut pass,
+    )?;
+    let last = last_talk(rt, alloc, settings, &hub, &counters, &gate, pass)?;
     how_they_went(alloc, &talks, &last)
 }
 
@@ -302,7 +323,7 @@ fn four_threads_here<Q: Threads + Clock + Wait + Sync>(
     rt: &Q,
     alloc: Global,
     key_bits: u32,
-    seed: u64,
+    seeds: ((u64, u64), (u64, u64)),
 ) -> Result<Went, Memory> {
     let settings = Settings {
         key_bits,
@@ -311,13 +332,13 @@ fn four_threads_here<Q: Threads + Clock + Wait + Sync>(
     if settings.check().is_some() {
         return Ok(Went::OutOfRange);
     }
-    four_threads::<Q, Brand>(rt, alloc, &settings, seed, Blank::new(1))
+    four_threads::<Q, Brand>(rt, alloc, &settings, seeds, Blank::new(1))
 }
 
 #[test]
 fn one_history_has_what_four_threads_are_told(rt: HostRuntime) -> Result<(), Memory> {
     assert_eq!(rt;
-        four_threads_here(&rt, rt.alloc(), 64, 77)?,
+        four_threads_here(&rt, rt.alloc(), 64, ((77, 78), (79, 80)))?,
         Went::ByOneHistory
     );
     Ok(())
@@ -327,7 +348,7 @@ fn one_history_has_what_four_threads_are_told(rt: HostRuntime) -> Result<(), Mem
 #[test]
 fn one_history_has_it_where_all_keys_are_one(rt: HostRuntime) -> Result<(), Memory> {
     assert_eq!(rt;
-        four_threads_here(&rt, rt.alloc(), 0, 78)?,
+        four_threads_here(&rt, rt.alloc(), 0, ((78, 79), (80, 81)))?,
         Went::ByOneHistory
     );
     Ok(())

@@ -159,6 +159,7 @@ fn one_that_waits_goes_on(rt: HostRuntime) -> Result<(), Fail> {
     let shards = shards_of(rt.alloc(), 2)?;
     let (cells, mut pass): (_, Pass<Bare>) = Cells::new(&rt, rt.alloc(), board, shards)?;
     hold_in_turn(&rt, &cells, &mut pass);
+    assert_eq!(rt; told(&cells, &mut pass, 1), (0, 0));
     pass.count_read();
     assert_eq!(rt; (pass.by(), pass.next()), (0, 3));
     Ok(())

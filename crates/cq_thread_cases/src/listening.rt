@@ -1,11 +1,10 @@
 ghost use Rattle.std.specs.Prelude.{◌≡◌, ◌≤◌, IsSome};
 ghost use Rattle.cq_base.specs.Settings.{IsInRange};
-ghost use Rattle.cq_stage.specs.Doors.{bound_of};
 
 use crate::beside::SETTINGS;
 use cq_base::{Counters, Memory, Settings, Text};
 use cq_chain::Pass;
-use cq_io::{Doors, Failed};
+use cq_io::{Doors, Failed, Gate, Sink, Source};
 use cq_listen::{Floor, Served, serve};
 use cq_shared::Shared;
 use cq_stage::{Client, Hold, Late, LogDoors, Scene, Stage};
@@ -45,12 +44,19 @@ pub enum Went {
 }
 
 // How the serving of doors over a new hub ends.
-fn served<Q: Threads + Wait + Clock + Sync, L: Ledger + Send + Sync>(
+fn served<
+    Q: Threads + Wait + Sync,
+    L: Ledger + Send + Sync,
+    S: Source + Send + Drop,
+    K: Sink + Send + Drop,
+    D: Doors<In = S, Out = K>,
+    G: Gate + Sync,
+>(
     rt: &Q,
     alloc: Global,
     settings: &Settings,
-    doors: &mut LogDoors<'_, Q>,
-    gate: &Scene<'_, Q>,
+    doors: &mut D,
+    gate: &G,
     workers: u32,
     sessions: u32,
     blank: Blank,
@@ -58,7 +64,7 @@ fn served<Q: Threads + Wait + Clock + Sync, L: Ledger + Send + Sync>(
     requires name { blank.name ≡ L.name }
     requires parts { blank.parts ≡ L.parts }
     requires in_range { IsInRange settings.now }
-    requires bound { IsSome (bound_of doors.old) }
+    requires bound { IsSome (D.bound doors.old) }
     requires workers { workers ≤ 64 }
     requires sessions { sessions ≤ 64 }
 {
@@ -105,7 +111,7 @@ fn served_here<Q: Threads + Wait + Clock + Sync>(
         stage,
         hold: run.hold,
     };
-    let served = served::<Q, Brand>(
+    let served = served::<Q, Brand, _, _, _, _>(
         rt,
         alloc,
         &settings,

@@ -24,6 +24,19 @@ fn read_once<S: Source>(source: &mut S, out: &mut [u8; 16]) -> Result<usize, Fai
     source.read(out)
 }
 
+// Whether a line is read from a client, and a reply is written to it.
+fn is_served<S: Source, K: Sink>(source: &mut S, sink: &mut K) -> bool {
+    let mut out = [0u8; 16];
+    read_once(source, &mut out) == Ok(7)
+        && out.starts_with(b"a line\n")
+        && sink.write(b"a reply\n") == Ok(8)
+}
+
+// Whether a client has ended.
+fn has_ended<S: Source>(source: &mut S) -> bool {
+    read_once(source, &mut [0u8; 16]) == Ok(0)
+}
+
 #[test]
 fn clients_are_let_in_until_no_more_may_come(rt: HostRuntime) -> Result<(), Fail> {
     let alloc = rt.alloc();
@@ -35,15 +48,12 @@ fn clients_are_let_in_until_no_more_may_come(rt: HostRuntime) -> Result<(), Fail
     let Ok(Some((mut source, mut sink))) = doors.next_door() else {
         return Err(Fail::from(Memory));
     };
-    let mut out = [0u8; 16];
-    assert_eq!(rt; read_once(&mut source, &mut out), Ok(7));
-    assert_eq!(rt; &out[..7], b"a line\n".as_slice());
-    assert_eq!(rt; sink.write(b"a reply\n"), Ok(8));
+    assert!(rt; is_served(&mut source, &mut sink));
     let mut back = [0u8; 8];
     client.read_exact(&mut back)?;
-    assert_eq!(rt; back, *b"a reply\n");
+    assert!(rt; back == *b"a reply\n");
     drop(client);
-    assert_eq!(rt; read_once(&mut source, &mut out), Ok(0));
+    assert!(rt; has_ended(&mut source));
     assert!(rt; matches!(doors.next_door(), Ok(None)));
     Ok(())
 }

@@ -6,9 +6,7 @@ ghost use Rattle.cq_thread_cases.specs.declared.telling.Told.{Told as Event};
 use cq_cells::{Cells, Law, Pass};
 use std::sync::Wait;
 use std::test::*;
-use std::thread;
 use std::thread::{Threads, join};
-use std::time::{Clock, Duration};
 
 // A caller tells something, once each shard has applied this many changes.
 #[derive(Clone, Copy, Drop)]
@@ -216,66 +214,6 @@ fn told_by_eight<Q: Threads + Sync, R: Wait + Sync>(
     how_often(cells, &mut pass)
 }
 
-// How often something was told, where two threads tell it once each.
-fn told_by_two<Q: Threads, R: Wait + Sync>(rt: &Q, cells: &Bench<R>, mut pass: Token) -> u64
-    requires of { IsPassOf cells.now pass × IsFree pass }
-    requires room { 1 < pass.room }
-{
-    let one = cells.split_pass(&mut pass);
-    let two = cells.split_pass(&mut pass);
-    let both = tell_by_two(rt, cells, one, two, 1);
-    cells.join_pass(&mut pass, both);
-    how_often(cells, &mut pass)
-}
-
-// Tells something after a while, with the board in hand all along.
-fn tell_slowly<C: Clock, R: Wait>(clock: &C, cells: &Bench<R>, mut pass: Token) -> Token
-    requires of { IsPassOf cells.now pass × IsFree pass }
-    ensures of { IsPassOf cells.now result × IsFree result }
-{
-    let tally = cells.enter_board(&mut pass);
-    thread::sleep(clock, Duration::from_millis(200));
-    add(cells, tally, &mut pass);
-    pass
-}
-
-// The same once another has surely taken the board, which it waits for.
-fn tell_late<C: Clock, R: Wait>(clock: &C, cells: &Bench<R>, mut pass: Token) -> Token
-    requires of { IsPassOf cells.now pass × IsFree pass }
-    ensures of { IsPassOf cells.now result × IsFree result }
-{
-    thread::sleep(clock, Duration::from_millis(50));
-    tell(cells, &mut pass);
-    pass
-}
-
-// How often something was told, where one holds the board for long and another waits for it.
-fn told_in_turn<Q: Threads + Clock + Sync, R: Wait + Sync>(
-    rt: &Q,
-    cells: &Bench<R>,
-    mut pass: Token,
-) -> u64
-    requires of { IsPassOf cells.now pass × IsFree pass }
-    requires room { 1 < pass.room }
-{
-    let one = cells.split_pass(&mut pass);
-    let two = cells.split_pass(&mut pass);
-    let (one, two) = join(
-        rt,
-        move || -> Token
-            requires { IsPassOf cells.now one × IsFree one }
-            ensures { IsPassOf cells.entry.now result × IsFree result }
-        { tell_slowly(rt, cells, one) },
-        move || -> Token
-            requires { IsPassOf cells.now two × IsFree two }
-            ensures { IsPassOf cells.entry.now result × IsFree result }
-        { tell_late(rt, cells, two) },
-    );
-    cells.join_pass(&mut pass, one);
-    cells.join_pass(&mut pass, two);
-    how_often(cells, &mut pass)
-}
-
 // A change more is applied by the shard, which has then applied this many.
 fn follow<R: Wait>(cells: &Bench<R>, pass: &mut Token, shard: u32) -> u64
     requires of { IsPassOf cells.now pass.old × IsFree pass.old }
@@ -303,20 +241,6 @@ fn told_after_one<R: Wait>(cells: &Bench<R>, mut pass: Token) -> (u64, u64)
 }
 
 #[test]
-fn two_threads_tell(rt: HostRuntime) -> Result<(), Fail> {
-    let shards = Vec::new(rt.alloc());
-    let (cells, pass): (Bench<_>, Token) = Cells::new(
-        &rt,
-        rt.alloc(),
-        &3,
-        Tally { events: 0 },
-        shards,
-    )?;
-    assert_eq!(rt; told_by_two(&rt, &cells, pass), 2);
-    Ok(())
-}
-
-#[test]
 fn eight_threads_tell(rt: HostRuntime) -> Result<(), Fail> {
     let shards = Vec::new(rt.alloc());
     let (cells, pass): (Bench<_>, Token) = Cells::new(
@@ -327,20 +251,6 @@ fn eight_threads_tell(rt: HostRuntime) -> Result<(), Fail> {
         shards,
     )?;
     assert_eq!(rt; told_by_eight(&rt, &cells, pass, 250), 2_000);
-    Ok(())
-}
-
-#[test]
-fn one_that_waits_goes_on(rt: HostRuntime) -> Result<(), Fail> {
-    let shards = Vec::new(rt.alloc());
-    let (cells, pass): (Bench<_>, Token) = Cells::new(
-        &rt,
-        rt.alloc(),
-        &3,
-        Tally { events: 0 },
-        shards,
-    )?;
-    assert_eq!(rt; told_in_turn(&rt, &cells, pass), 2);
     Ok(())
 }
 

@@ -2,9 +2,9 @@
 //! command, what it is given, each number that is not its default, and each flag. Arguments without an arrow are refused.
 use crate::showing::{put, put_flag, put_text};
 use cq_base::{Memory, Settings, Text};
+use cq_talk_model::Written;
 use cq_words::{Command, connections, is_command, read_command};
 use std::alloc::Global;
-use std::fmt::Write;
 
 fn arguments_of(alloc: Global, line: &str) -> Result<Vec<Text>, Memory> {
     let mut arguments = Vec::new(alloc);
@@ -16,65 +16,56 @@ fn arguments_of(alloc: Global, line: &str) -> Result<Vec<Text>, Memory> {
     Ok(arguments)
 }
 
-fn put_settings(out: &mut String, settings: &Settings) -> Result<(), Memory> {
-    put(out, "chunk", settings.chunk as u64, 20)?;
-    put(out, "shards", settings.shards as u64, 16)?;
-    put(out, "key-bits", settings.key_bits as u64, 64)?;
-    put_flag(out, " ignore-ids", settings.ignore_ids)?;
-    put_flag(out, " ignore-literals", settings.ignore_lits)?;
-    put(out, "change-limit", settings.change_limit, 262_144)?;
-    put(out, "text-limit", settings.text_limit, 33_554_432)?;
+fn put_settings(out: &mut Written, settings: &Settings) {
+    put(out, "chunk", settings.chunk as u64, 20);
+    put(out, "shards", settings.shards as u64, 16);
+    put(out, "key-bits", settings.key_bits as u64, 64);
+    put_flag(out, " ignore-ids", settings.ignore_ids);
+    put_flag(out, " ignore-literals", settings.ignore_lits);
+    put(out, "change-limit", settings.change_limit, 262_144);
+    put(out, "text-limit", settings.text_limit, 33_554_432);
     put(
         out,
         "byte-limit",
         settings.byte_limit,
         1_152_921_504_606_846_976,
-    )
+    );
 }
 
-fn put_command(out: &mut String, command: &Command) -> Result<(), Memory> {
+// What a line has after its arrow for this command.
+fn put_command(out: &mut Written, command: &Command) {
     match command {
         Command::Run(run) => {
-            out.push_str("run")?;
-            put_settings(out, &run.settings)?;
-            put(out, "workers", run.workers as u64, 0)
+            out.put("run");
+            put_settings(out, &run.settings);
+            put(out, "workers", run.workers as u64, 0);
         }
         Command::Listen(listen) => {
-            out.push_str("listen")?;
-            put_text(out, &listen.address)?;
-            put_settings(out, &listen.settings)?;
-            put(out, "workers", listen.workers as u64, 4)?;
-            put(out, "sessions", listen.sessions as u64, 8)?;
-            put(out, "connections", listen.connections as u64, 4_294_967_295)
+            out.put("listen");
+            put_text(out, &listen.address);
+            put_settings(out, &listen.settings);
+            put(out, "workers", listen.workers as u64, 4);
+            put(out, "sessions", listen.sessions as u64, 8);
+            put(out, "connections", listen.connections as u64, 4_294_967_295);
         }
         Command::Drive(settings) => {
-            out.push_str("drive")?;
-            put_settings(out, settings)
+            out.put("drive");
+            put_settings(out, settings);
         }
         Command::Make(make) => {
-            let (number, files) = (make.number, make.files);
-            write!(out, "make {number} {files}")?;
-            Ok(())
+            out.put_number("make ", make.number, " ");
+            out.put_number("", make.files as u64, "");
         }
         Command::Export(export) => {
-            out.push_str("export")?;
-            put_text(out, &export.project)?;
-            put_settings(out, &export.settings)
+            out.put("export");
+            put_text(out, &export.project);
+            put_settings(out, &export.settings);
         }
         Command::Ask(settings) => {
-            out.push_str("ask")?;
-            put_settings(out, settings)
+            out.put("ask");
+            put_settings(out, settings);
         }
     }
-}
-
-// What a line has after its arrow for this command, and nothing for arguments that are refused.
-fn shown(alloc: Global, command: &Option<Command>) -> Result<String, Memory> {
-    let mut out = String::new(alloc);
-    if let Some(command) = command {
-        put_command(&mut out, command)?;
-    }
-    Ok(out)
 }
 
 // The connections of `listen` are also read by themselves.
@@ -90,13 +81,22 @@ fn has_connections(
     })
 }
 
+// Arguments that are refused have nothing after their arrow.
+fn is_shown(alloc: Global, command: &Option<Command>, want: &str) -> bool {
+    let mut out = Written::new(alloc);
+    if let Some(command) = command {
+        put_command(&mut out, command);
+    }
+    out.text.as_str() == want
+}
+
 fn is_read(alloc: Global, line: &str, want: &str) -> Result<bool, Memory> {
     let arguments = arguments_of(alloc, line)?;
     let command = read_command(alloc, &arguments)?;
     Ok(
         is_command(&arguments) == command.is_some()
             && has_connections(alloc, &arguments, &command)?
-            && shown(alloc, &command)?.as_str() == want,
+            && is_shown(alloc, &command, want),
     )
 }
 

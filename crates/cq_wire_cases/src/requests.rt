@@ -2,6 +2,7 @@ use crate::showing::{put_change, put_error, put_query};
 use crate::tables::{Kind, first_other, first_other_repeated, is_told};
 use cq_base::{Memory, Settings};
 use cq_request::{ReadError, Request, read_request};
+use cq_talk_model::Written;
 use std::alloc::Global;
 
 /// The settings that lines are read with.
@@ -16,11 +17,11 @@ pub(crate) const SETTINGS: Settings = Settings {
     byte_limit: 65_536,
 };
 
-fn put_request(out: &mut String, read: &Result<Request, ReadError>) -> Result<(), Memory> {
+fn put_request(out: &mut Written, read: &Result<Request, ReadError>) {
     match read {
         Ok(Request::Change(change)) => put_change(out, change),
         Ok(Request::Query(query)) => put_query(out, query),
-        Ok(Request::State) => Ok(out.push_str("state")?),
+        Ok(Request::State) => out.put("state"),
         Err(error) => put_error(out, error),
     }
 }
@@ -29,10 +30,10 @@ fn put_request(out: &mut String, read: &Result<Request, ReadError>) -> Result<()
 struct Requests {}
 
 impl Kind for Requests {
-    fn read(alloc: Global, line: &[u8], out: &mut String) -> Result<bool, Memory> {
+    fn read(alloc: Global, line: &[u8], out: &mut Written) -> bool {
         let read = read_request(alloc, &SETTINGS, line);
-        put_request(out, &read)?;
-        Ok(read.is_ok())
+        put_request(out, &read);
+        read.is_ok()
     }
 }
 
@@ -215,11 +216,10 @@ const ALL: [&str; 10] = [
 ];
 
 #[test]
-fn lines_are_read_or_refused(rt: HostRuntime) -> Result<(), Memory> {
+fn lines_are_read_or_refused(rt: HostRuntime) {
     for table in ALL {
-        assert_eq!(rt; first_other::<Requests>(rt.alloc(), table)?, None);
+        assert_eq!(rt; first_other::<Requests>(rt.alloc(), table), None);
     }
-    Ok(())
 }
 
 const WIDE: Settings = Settings {
@@ -229,12 +229,11 @@ const WIDE: Settings = Settings {
 
 // A run is at least as long as a window.
 #[test]
-fn the_least_run_is_a_window(rt: HostRuntime) -> Result<(), Memory> {
-    let mut out = String::new(rt.alloc());
+fn the_least_run_is_a_window(rt: HostRuntime) {
+    let mut out = Written::new(rt.alloc());
     let line = br#"{"op":"verdict","project":"p","at":7}"#;
-    put_request(&mut out, &read_request(rt.alloc(), &WIDE, line))?;
-    assert_eq!(rt; out.as_str(), "verdict [p] min=1000 at=7");
-    Ok(())
+    put_request(&mut out, &read_request(rt.alloc(), &WIDE, line));
+    assert_eq!(rt; out.text.as_str(), "verdict [p] min=1000 at=7");
 }
 
 // In 126 lists the member is read, and is one too many; 127 nest too deep.
@@ -262,15 +261,10 @@ fn limits_of_a_line(rt: HostRuntime) -> Result<(), Memory> {
 }
 
 #[test]
-fn nothing_and_what_is_not_utf8_are_refused(rt: HostRuntime) -> Result<(), Memory> {
-    let lines = [
-        b"".as_slice(),
-        b" ".as_slice(),
-        b"\"\xff\"".as_slice(),
-        b"{\"op\":\"\x1f\"}".as_slice(),
-    ];
-    for line in lines {
-        assert!(rt; is_told::<Requests>(rt.alloc(), line, "json")?);
-    }
-    Ok(())
+fn nothing_and_what_is_not_utf8_are_refused(rt: HostRuntime) {
+    let alloc = rt.alloc();
+    assert!(rt; is_told::<Requests>(alloc, b"", "json"));
+    assert!(rt; is_told::<Requests>(alloc, b" ", "json"));
+    assert!(rt; is_told::<Requests>(alloc, b"\"\xff\"", "json"));
+    assert!(rt; is_told::<Requests>(alloc, b"{\"op\":\"\x1f\"}", "json"));
 }

@@ -1,47 +1,45 @@
 //! What a line is read as, in words: its name, its texts in brackets, each number that is not its default, and each flag that
 //! is set.
-use cq_base::{Change, Compare, Condition, Lang, Memory, Metric, Text};
+use cq_base::{Change, Compare, Condition, Lang, Metric, Text};
 use cq_request::{Kind, Query, ReadError};
-use std::fmt::Write;
+use cq_talk_model::Written;
 use std::str;
 
 /// Writes a number with its name, unless it is the default.
-pub(crate) fn put(out: &mut String, name: &str, number: u64, default: u64) -> Result<(), Memory> {
+pub(crate) fn put(out: &mut Written, name: &str, number: u64, default: u64) {
     if number != default {
-        write!(out, " {name}={number}")?;
+        out.put(" ");
+        out.put(name);
+        out.put_number("=", number, "");
     }
-    Ok(())
 }
 
 /// Writes the name of a flag that is set.
-pub(crate) fn put_flag(out: &mut String, name: &str, is_set: bool) -> Result<(), Memory> {
+pub(crate) fn put_flag(out: &mut Written, name: &str, is_set: bool) {
     if is_set {
-        out.push_str(name)?;
+        out.put(name);
     }
-    Ok(())
 }
 
 /// Writes a text in brackets, in which a line feed is its picture.
-pub(crate) fn put_text(out: &mut String, text: &Text) -> Result<(), Memory> {
-    out.push_str(" [")?;
+pub(crate) fn put_text(out: &mut Written, text: &Text) {
+    out.put(" [");
     if let Ok(text) = str::from_utf8(text.as_bytes()) {
         for (i, line) in text.split('\n').enumerate() {
             if i > 0 {
-                out.push('␊')?;
+                out.put("␊");
             }
-            out.push_str(line)?;
+            out.put(line);
         }
     }
-    out.push(']')?;
-    Ok(())
+    out.put("]");
 }
 
-fn put_named(out: &mut String, name: &str, text: &Option<Text>) -> Result<(), Memory> {
+fn put_named(out: &mut Written, name: &str, text: &Option<Text>) {
     if let Some(text) = text {
-        out.push_str(name)?;
-        put_text(out, text)?;
+        out.put(name);
+        put_text(out, text);
     }
-    Ok(())
 }
 
 fn metric_name(metric: Metric) -> &'static str {
@@ -57,15 +55,14 @@ fn metric_name(metric: Metric) -> &'static str {
     }
 }
 
-fn put_condition(out: &mut String, condition: &Condition) -> Result<(), Memory> {
-    let metric = metric_name(condition.metric);
+fn put_condition(out: &mut Written, condition: &Condition) {
+    out.put(" ");
+    out.put(metric_name(condition.metric));
     let op = match condition.op {
-        Compare::Gt => "GT",
-        Compare::Lt => "LT",
+        Compare::Gt => " GT ",
+        Compare::Lt => " LT ",
     };
-    let error = condition.error;
-    write!(out, " {metric} {op} {error}")?;
-    Ok(())
+    out.put_number(op, condition.error, "");
 }
 
 fn lang_name(lang: Lang) -> &'static str {
@@ -77,7 +74,7 @@ fn lang_name(lang: Lang) -> &'static str {
     }
 }
 
-pub(crate) fn put_change(out: &mut String, change: &Change) -> Result<(), Memory> {
+pub(crate) fn put_change(out: &mut Written, change: &Change) {
     match change {
         Change::Put {
             project,
@@ -85,27 +82,26 @@ pub(crate) fn put_change(out: &mut String, change: &Change) -> Result<(), Memory
             lang,
             text,
         } => {
-            out.push_str("put")?;
-            put_text(out, project)?;
-            put_text(out, path)?;
-            out.push_str(lang_name(*lang))?;
-            put_text(out, text)
+            out.put("put");
+            put_text(out, project);
+            put_text(out, path);
+            out.put(lang_name(*lang));
+            put_text(out, text);
         }
         Change::Drop { project, path } => {
-            out.push_str("drop")?;
-            put_text(out, project)?;
-            put_text(out, path)
+            out.put("drop");
+            put_text(out, project);
+            put_text(out, path);
         }
         Change::Gate {
             project,
             conditions,
         } => {
-            out.push_str("gate")?;
-            put_text(out, project)?;
+            out.put("gate");
+            put_text(out, project);
             for condition in conditions.as_slice() {
-                put_condition(out, condition)?;
+                put_condition(out, condition);
             }
-            Ok(())
         }
     }
 }
@@ -120,26 +116,25 @@ fn kind_name(kind: Kind) -> &'static str {
     }
 }
 
-pub(crate) fn put_query(out: &mut String, query: &Query) -> Result<(), Memory> {
-    out.push_str(kind_name(query.kind))?;
-    put_text(out, &query.project)?;
-    put_named(out, " path", &query.path)?;
-    put_named(out, " scope", &query.scope)?;
-    put(out, "min", query.min as u64, 100)?;
-    put(out, "at", query.at, 0)?;
-    put_flag(out, " unfinished", !query.finish)?;
-    put(out, "since", query.since, 0)
+pub(crate) fn put_query(out: &mut Written, query: &Query) {
+    out.put(kind_name(query.kind));
+    put_text(out, &query.project);
+    put_named(out, " path", &query.path);
+    put_named(out, " scope", &query.scope);
+    put(out, "min", query.min as u64, 100);
+    put(out, "at", query.at, 0);
+    put_flag(out, " unfinished", !query.finish);
+    put(out, "since", query.since, 0);
 }
 
-pub(crate) fn put_error(out: &mut String, error: &ReadError) -> Result<(), Memory> {
+pub(crate) fn put_error(out: &mut Written, error: &ReadError) {
     match error {
         ReadError::Refused(why) => {
-            out.push_str(why.word())?;
-            match why.name() {
-                Some(name) => put_text(out, name),
-                None => Ok(()),
+            out.put(why.word());
+            if let Some(name) = why.name() {
+                put_text(out, name);
             }
         }
-        ReadError::Memory => Err(Memory),
+        ReadError::Memory => out.put("memory"),
     }
 }

@@ -1,6 +1,5 @@
 use crate::steps::Steps;
 use crate::tables::first_other;
-use cq_base::Memory;
 
 // What is no request of the step's kind.
 const NO_CHANGE: &str = r#"{"step":"accept","by":1,"request":null} ⇒ field [request]
@@ -71,9 +70,8 @@ const QUERIES: &str = r#"{"step":"reply","by":1,"request":{"op":"files"}} ⇒ fi
 const ALL: [&str; 4] = [NO_CHANGE, NO_QUERY, CHANGES, QUERIES];
 
 #[test]
-fn requests_of_steps_are_read_or_refused(rt: HostRuntime) -> Result<(), Memory> {
+fn requests_of_steps_are_read_or_refused(rt: HostRuntime) {
     for table in ALL {
-        assert_eq!(rt; first_other::<Steps>(rt.alloc(), table)?, None);
+        assert_eq!(rt; first_other::<Steps>(rt.alloc(), table), None);
     }
-    Ok(())
 }

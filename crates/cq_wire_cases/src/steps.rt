@@ -4,36 +4,49 @@ use crate::tables::{Kind, first_other, first_other_repeated, is_told};
 use cq_base::Memory;
 use cq_drive::{ScriptStep, read_step};
 use cq_request::ReadError;
+use cq_talk_model::Written;
 use std::alloc::Global;
-use std::fmt::Write;
 
-// The name of a step and its numbers, in the order of its fields, and what it asks.
-fn put_step(out: &mut String, step: &ScriptStep) -> Result<(), Memory> {
-    match step {
-        ScriptStep::Accept { by, change } => {
-            write!(out, "accept {by} ")?;
-            return put_change(out, change);
-        }
-        ScriptStep::Ask { by } => write!(out, "ask {by}")?,
-        ScriptStep::Took { by } => write!(out, "took {by}")?,
-        ScriptStep::Back { by, change } => write!(out, "back {by} {change}")?,
-        ScriptStep::Done { by, change } => write!(out, "done {by} {change}")?,
-        ScriptStep::Apply { shard } => write!(out, "apply {shard}")?,
-        ScriptStep::Publish { version } => write!(out, "publish {version}")?,
-        ScriptStep::Open { by } => write!(out, "open {by}")?,
-        ScriptStep::Read { by, shard, key } => write!(out, "read {by} {shard} {key}")?,
-        ScriptStep::Reply { by, query } => {
-            write!(out, "reply {by} ")?;
-            return put_query(out, query);
-        }
-        ScriptStep::Shut { by } => write!(out, "shut {by}")?,
-        ScriptStep::Floor { version } => write!(out, "floor {version}")?,
-        ScriptStep::Sweep { shard } => write!(out, "sweep {shard}")?,
-    }
-    Ok(())
+// The name of a step that has only a number.
+fn put_small(out: &mut Written, name: &str, number: u64) {
+    out.put(name);
+    out.put_number(" ", number, "");
 }
 
-fn put_read(out: &mut String, read: &Result<ScriptStep, ReadError>) -> Result<(), Memory> {
+// The name of a step of a change, and its numbers in the order of its fields.
+fn put_of_change(out: &mut Written, name: &str, by: u32, change: u64) {
+    put_small(out, name, u64::from(by));
+    out.put_number(" ", change, "");
+}
+
+fn put_step(out: &mut Written, step: &ScriptStep) {
+    match step {
+        ScriptStep::Accept { by, change } => {
+            out.put_number("accept ", u64::from(*by), " ");
+            put_change(out, change);
+        }
+        ScriptStep::Ask { by } => put_small(out, "ask", u64::from(*by)),
+        ScriptStep::Took { by } => put_small(out, "took", u64::from(*by)),
+        ScriptStep::Back { by, change } => put_of_change(out, "back", *by, *change),
+        ScriptStep::Done { by, change } => put_of_change(out, "done", *by, *change),
+        ScriptStep::Apply { shard } => put_small(out, "apply", u64::from(*shard)),
+        ScriptStep::Publish { version } => put_small(out, "publish", *version),
+        ScriptStep::Open { by } => put_small(out, "open", u64::from(*by)),
+        ScriptStep::Read { by, shard, key } => {
+            put_of_change(out, "read", *by, u64::from(*shard));
+            out.put_number(" ", *key, "");
+        }
+        ScriptStep::Reply { by, query } => {
+            out.put_number("reply ", u64::from(*by), " ");
+            put_query(out, query);
+        }
+        ScriptStep::Shut { by } => put_small(out, "shut", u64::from(*by)),
+        ScriptStep::Floor { version } => put_small(out, "floor", *version),
+        ScriptStep::Sweep { shard } => put_small(out, "sweep", u64::from(*shard)),
+    }
+}
+
+fn put_read(out: &mut Written, read: &Result<ScriptStep, ReadError>) {
     match read {
         Ok(step) => put_step(out, step),
         Err(error) => put_error(out, error),
@@ -44,10 +57,10 @@ fn put_read(out: &mut String, read: &Result<ScriptStep, ReadError>) -> Result<()
 pub(crate) struct Steps {}
 
 impl Kind for Steps {
-    fn read(alloc: Global, line: &[u8], out: &mut String) -> Result<bool, Memory> {
+    fn read(alloc: Global, line: &[u8], out: &mut Written) -> bool {
         let read = read_step(alloc, &SETTINGS, line);
-        put_read(out, &read)?;
-        Ok(read.is_ok())
+        put_read(out, &read);
+        read.is_ok()
     }
 }
 
@@ -105,11 +118,10 @@ const NUMBERS: &str = r#"{"step":"back","by":0,"change":0} ⇒ back 0 0
 const ALL: [&str; 4] = [STEPS, WHOLE, ORDERS, NUMBERS];
 
 #[test]
-fn steps_are_read(rt: HostRuntime) -> Result<(), Memory> {
+fn steps_are_read(rt: HostRuntime) {
     for table in ALL {
-        assert_eq!(rt; first_other::<Steps>(rt.alloc(), table)?, None);
+        assert_eq!(rt; first_other::<Steps>(rt.alloc(), table), None);
     }
-    Ok(())
 }
 
 const LIMITS: &str =
@@ -124,14 +136,9 @@ fn texts_have_1_048_576_bytes_at_most(rt: HostRuntime) -> Result<(), Memory> {
 }
 
 #[test]
-fn nothing_and_what_is_not_utf8_are_refused(rt: HostRuntime) -> Result<(), Memory> {
-    let lines = [
-        b"".as_slice(),
-        b" ".as_slice(),
-        b"{\"step\":\"ask\",\"by\":1,\"\xff\":1}".as_slice(),
-    ];
-    for line in lines {
-        assert!(rt; is_told::<Steps>(rt.alloc(), line, "json")?);
-    }
-    Ok(())
+fn nothing_and_what_is_not_utf8_are_refused(rt: HostRuntime) {
+    let alloc = rt.alloc();
+    assert!(rt; is_told::<Steps>(alloc, b"", "json"));
+    assert!(rt; is_told::<Steps>(alloc, b" ", "json"));
+    assert!(rt; is_told::<Steps>(alloc, b"{\"step\":\"ask\",\"by\":1,\"\xff\":1}", "json"));
 }

@@ -1,73 +1,88 @@
 //! A table has a line in each row, and after an arrow what it is read as, or why it is refused. What ends with `…` is only how
 //! it begins.
 use cq_base::Memory;
+use cq_talk_model::Written;
 use std::alloc::Global;
 
 /// A kind of lines.
 pub(crate) trait Kind {
     /// Writes what a line is read as or why it is refused, and returns whether it is read.
-    fn read(alloc: Global, line: &[u8], out: &mut String) -> Result<bool, Memory>;
+    fn read(alloc: Global, line: &[u8], out: &mut Written) -> bool;
 }
 
 /// Whether a line is read as this or refused so.
-pub(crate) fn is_told<K: Kind>(alloc: Global, line: &[u8], want: &str) -> Result<bool, Memory> {
-    let mut out = String::new(alloc);
-    let is_read = K::read(alloc, line, &mut out)?;
-    Ok(match want.strip_suffix("…") {
-        Some(front) => is_read && out.as_str().starts_with(front),
-        None => out.as_str() == want,
-    })
+pub(crate) fn is_told<K: Kind>(alloc: Global, line: &[u8], want: &str) -> bool {
+    let mut out = Written::new(alloc);
+    let is_read = K::read(alloc, line, &mut out);
+    match want.strip_suffix("…") {
+        Some(front) => is_read && out.text.starts_with(front),
+        None => out.text.as_str() == want,
+    }
+}
+
+fn is_right<K: Kind>(alloc: Global, row: &str) -> bool {
+    match row.split_once(" ⇒ ") {
+        Some((line, want)) => is_told::<K>(alloc, line.as_bytes(), want),
+        None => false,
+    }
 }
 
 /// The first row of a table whose line is told otherwise.
-pub(crate) fn first_other<K: Kind>(alloc: Global, table: &str) -> Result<Option<&str>, Memory> {
+pub(crate) fn first_other<K: Kind>(alloc: Global, table: &str) -> Option<&str> {
     for row in table.lines() {
-        let Some((line, want)) = row.split_once(" ⇒ ") else {
-            return Ok(Some(row));
-        };
-        if !is_told::<K>(alloc, line.as_bytes(), want)? {
-            return Ok(Some(row));
+        if !is_right::<K>(alloc, row) {
+            return Some(row);
         }
     }
-    Ok(None)
+    None
 }
 
-// A line in which each part in angle brackets stands so many times.
+// A line in which each part in angle brackets is repeated so often.
 fn repeated(alloc: Global, line: &str, times: u32) -> Result<String, Memory> {
-    let mut out = String::new(alloc);
+    let mut out = Written::new(alloc);
     for piece in line.split('⟨') {
-        let Some((part, rest)) = piece.split_once('⟩') else {
-            out.push_str(piece)?;
-            continue;
-        };
-        for _ in 0..times {
-            out.push_str(part)?;
+        match piece.split_once('⟩') {
+            Some((part, rest)) => {
+                for _ in 0..times {
+                    out.put(part);
+                }
+                out.put(rest);
+            }
+            None => out.put(piece),
         }
-        out.push_str(rest)?;
     }
-    Ok(out)
+    out.check()?;
+    Ok(out.text)
 }
 
-fn is_told_repeated<K: Kind>(alloc: Global, row: &str) -> Result<bool, Memory> {
+fn number_of(digits: &str) -> u32 {
+    let mut number = 0u32;
+    for digit in digits.as_bytes() {
+        number = number
+            .saturating_mul(10)
+            .saturating_add(u32::from(digit.saturating_sub(b'0')));
+    }
+    number
+}
+
+fn is_right_repeated<K: Kind>(alloc: Global, row: &str) -> Result<bool, Memory> {
     let Some((line, told)) = row.split_once(" ⇒ ") else {
         return Ok(false);
     };
     let Some((times, want)) = told.split_once(' ') else {
         return Ok(false);
     };
-    match times.parse::<u32>() {
-        Ok(times) => is_told::<K>(alloc, repeated(alloc, line, times)?.as_bytes(), want),
-        Err(_) => Ok(false),
-    }
+    let line = repeated(alloc, line, number_of(times))?;
+    Ok(is_told::<K>(alloc, line.as_bytes(), want))
 }
 
-/// The same, where the part of a line in angle brackets stands as many times as the number after the arrow says.
+/// The same, with the part of a line in angle brackets repeated as often as the number after the arrow says.
 pub(crate) fn first_other_repeated<K: Kind>(
     alloc: Global,
     table: &str,
 ) -> Result<Option<&str>, Memory> {
     for row in table.lines() {
-        if !is_told_repeated::<K>(alloc, row)? {
+        if !is_right_repeated::<K>(alloc, row)? {
             return Ok(Some(row));
         }
     }

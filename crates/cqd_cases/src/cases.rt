@@ -6,14 +6,6 @@ use std::alloc::Global;
 use std::sync::Wait;
 use std::thread::Threads;
 
-fn arguments_of<'a>(alloc: Global, line: &'a str) -> Result<Vec<&'a str>, Memory> {
-    let mut arguments = Vec::new(alloc);
-    for argument in line.split_whitespace() {
-        arguments.push(argument)?;
-    }
-    Ok(arguments)
-}
-
 fn push_line(lines: &mut Vec<u8>, line: &str) -> Result<(), Memory> {
     lines.extend_from_slice(line.as_bytes())?;
     lines.push(b'\n')?;
@@ -38,9 +30,8 @@ fn goes<Q: Threads + Wait + Sync>(rt: &Q, alloc: Global, run: &str) -> Result<bo
     let Some((first, lines)) = run.split_once('\n') else {
         return Ok(false);
     };
-    let arguments = arguments_of(alloc, first)?;
     let (input, output) = lines_of(alloc, lines)?;
-    ends_with(rt, alloc, &arguments, &input, 97, (0, 0), &output, 0)
+    ends_with(rt, alloc, first, &input, 97, (0, 0), &output, 0)
 }
 
 /// The first run of a table that goes otherwise, by its position from 1.

@@ -1,14 +1,12 @@
-ghost use Rattle.std.specs.Prelude.{◌≡◌};
-
-use crate::running::words_of;
-use cq_base::{Memory, Steps, Text};
+use crate::running::{exit_of, words_of};
+use cq_base::Memory;
 use cq_listen::Served;
-use cq_program::{Exit, top};
+use cq_program::Exit;
 use cq_stage::{Client, ClientSource, Hold, Late, LogDoors, LogSink, Scene, Stage, Until};
 use std::alloc::Global;
 use std::marker::Brand;
 use std::sync::Wait;
-use std::sync::ledger::{Blank, Ledger};
+use std::sync::ledger::Blank;
 use std::thread::Threads;
 use std::time::Clock;
 
@@ -17,7 +15,7 @@ use std::time::Clock;
 /// standard ends too.
 #[derive(Clone, Copy)]
 pub(crate) struct Run<'a> {
-    pub words: &'a [&'a str],
+    pub words: &'a str,
     pub clients: &'a [Client],
     pub hold: Hold,
     pub failing: u64,
@@ -40,24 +38,7 @@ pub(crate) enum Went {
     OtherShards(u64),
 }
 
-fn ended<Q: Threads + Wait + Clock + Sync, L: Ledger + Send + Sync>(
-    rt: &Q,
-    alloc: Global,
-    words: &[Text],
-    source: &mut ClientSource<'_, Q>,
-    sink: &mut LogSink<'_, Q>,
-    doors: &mut LogDoors<'_, Q>,
-    gate: &Scene<'_, Q>,
-    blank: Blank,
-) -> Exit
-    requires name { blank.name ≡ L.name }
-    requires parts { blank.parts ≡ L.parts }
-{
-    let mut steps: Steps<L> = Steps::new(blank);
-    top(rt, alloc, words, source, sink, doors, gate, &mut steps)
-}
-
-fn ended_here<Q: Threads + Wait + Clock + Sync>(
+fn ended<Q: Threads + Wait + Clock + Sync>(
     rt: &Q,
     alloc: Global,
     stage: &Stage<'_, Q>,
@@ -72,7 +53,7 @@ fn ended_here<Q: Threads + Wait + Clock + Sync>(
         stage,
         hold: run.hold,
     };
-    Ok(ended::<Q, Brand>(
+    Ok(exit_of::<Q, _, _, _, _, _, _, Brand>(
         rt,
         alloc,
         &words,
@@ -91,7 +72,7 @@ pub(crate) fn served<Q: Threads + Wait + Clock + Sync>(
     run: &Run<'_>,
 ) -> Result<Option<Served>, Memory> {
     let stage = Stage::new(rt, alloc, run.clients.len())?;
-    Ok(ended_here(rt, alloc, &stage, run)?.served)
+    Ok(ended(rt, alloc, &stage, run)?.served)
 }
 
 pub(crate) fn goes<Q: Threads + Wait + Clock + Sync>(
@@ -100,7 +81,7 @@ pub(crate) fn goes<Q: Threads + Wait + Clock + Sync>(
     run: &Run<'_>,
 ) -> Result<Went, Memory> {
     let stage = Stage::new(rt, alloc, run.clients.len())?;
-    let status = ended_here(rt, alloc, &stage, run)?.status.code();
+    let status = ended(rt, alloc, &stage, run)?.status.code();
     if let Some(late) = stage.late() {
         return Ok(Went::InVain(late));
     }
@@ -133,16 +114,7 @@ const READER_TOLD: &str =
 "#;
 
 pub(crate) const LISTEN: Run<'static> = Run {
-    words: &[
-        "listen",
-        "mem",
-        "--chunk",
-        "2",
-        "--workers",
-        "0",
-        "--sessions",
-        "1",
-    ],
+    words: "listen mem --chunk 2 --workers 0 --sessions 1",
     clients: &[],
     hold: Hold::Nobody,
     failing: 0,
@@ -175,7 +147,7 @@ fn clients_are_served_until_the_doors_end_or_fail(rt: HostRuntime) -> Result<(),
         assert_eq!(rt; goes(&rt, rt.alloc(), &run)?, Went::AsWanted);
     }
     let malformed = Run {
-        words: &["listen", "mem", "--sessions", "0"],
+        words: "listen mem --sessions 0",
         failing: 1,
         told: &["", ""],
         status: 1,
@@ -196,16 +168,7 @@ const STATE_TOLD: &str = r#"{"accepted":0,"done":0,"ok":true,"published":0}
 #[test]
 fn each_client_has_its_own_limit_of_bytes(rt: HostRuntime) -> Result<(), Memory> {
     let run = Run {
-        words: &[
-            "listen",
-            "mem",
-            "--workers",
-            "0",
-            "--sessions",
-            "1",
-            "--byte-limit",
-            "15",
-        ],
+        words: "listen mem --workers 0 --sessions 1 --byte-limit 15",
         clients: &[Client::new(STATES), Client::new(STATES)],
         told: &[STATE_TOLD, STATE_TOLD],
         ..LISTEN
@@ -240,27 +203,15 @@ fn as_many_workers_work_as_are_asked_for(rt: HostRuntime) -> Result<(), Memory> 
         ..Client::new(TWO_PUTS)
     };
     let run = Run {
-        words: &["run", "--chunk", "2", "--workers", "2"],
+        words: "run --chunk 2 --workers 2",
         clients: &[client],
         hold: Hold::Works(2, Until::Begun(2)),
         told: &[TWO_TOLD],
         ..LISTEN
     };
     assert_eq!(rt; goes(&rt, rt.alloc(), &run)?, Went::AsWanted);
-    let words = [
-        "listen",
-        "mem",
-        "--chunk",
-        "2",
-        "--workers",
-        "2",
-        "--sessions",
-        "1",
-    ];
-    let run = Run {
-        words: &words,
-        ..run
-    };
+    let words = "listen mem --chunk 2 --workers 2 --sessions 1";
+    let run = Run { words, ..run };
     assert_eq!(rt; goes(&rt, rt.alloc(), &run)?, Went::AsWanted);
     Ok(())
 }
@@ -273,16 +224,7 @@ fn as_many_sessions_are_served_as_are_asked_for(rt: HostRuntime) -> Result<(), M
         ..Client::new(READER)
     };
     let run = Run {
-        words: &[
-            "listen",
-            "mem",
-            "--chunk",
-            "2",
-            "--workers",
-            "0",
-            "--sessions",
-            "2",
-        ],
+        words: "listen mem --chunk 2 --workers 0 --sessions 2",
         clients: &[silent, Client::new(WRITER)],
         told: &[READER_TOLD, WRITER_TOLD],
         ..LISTEN

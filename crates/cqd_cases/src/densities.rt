@@ -1,9 +1,9 @@
-use crate::running::ends_with;
+use crate::running::goes;
 use cq_base::Memory;
 use std::alloc::Global;
 use std::fmt::Write;
 
-const WORDS: [&str; 5] = ["run", "--chunk", "2", "--shards", "1"];
+const WORDS: &str = "run --chunk 2 --shards 1";
 
 // A file of so many lines that are all different, but that so many from line 101 on repeat the first ones; a gate by the density
 // of duplicated lines, and what is asked of it.
@@ -50,7 +50,7 @@ fn a_density_at_the_bound_of_a_condition_does_not_meet_it(rt: HostRuntime) -> Re
     for (lines, repeated, output) in [(200, 3, AT_THE_BOUND), (332, 5, ABOVE_IT)] {
         let input = asked(alloc, lines, repeated)?;
         let (input, output) = (input.as_bytes(), output.as_bytes());
-        assert!(rt; ends_with(&rt, alloc, &WORDS, input, 4_096, (0, 0), output, 0)?);
+        assert!(rt; goes(&rt, alloc, WORDS, input, output)?);
     }
     Ok(())
 }

@@ -1,4 +1,4 @@
-use crate::running::{ends_with, run_here, words_of};
+use crate::running::{ends_with, goes, run_here, words_of};
 use cq_base::Memory;
 use cq_io::{MemSink, MemSource};
 use std::alloc::Global;
@@ -37,7 +37,7 @@ const THREE_GROUPS: &[u8] =
 fn written<Q: Threads + Wait + Sync>(
     rt: &Q,
     alloc: Global,
-    words: &[&str],
+    words: &str,
     input: &[u8],
 ) -> Result<Vec<u8>, Memory> {
     let words = words_of(alloc, words)?;
@@ -50,49 +50,63 @@ fn written<Q: Threads + Wait + Sync>(
 #[test]
 fn a_version_is_written(rt: HostRuntime) -> Result<(), Memory> {
     let alloc = rt.alloc();
-    let words = ["export", "p", "--chunk", "2"];
-    assert!(rt; ends_with(&rt, alloc, &words, PUT, 1, (0, 0), &FILE, 0)?);
-    assert!(rt; ends_with(&rt, alloc, &words, PUT, 65_536, (0, 0), &FILE, 0)?);
-    let others = ["export", "q", "--chunk", "2"];
-    assert!(rt; ends_with(&rt, alloc, &others, b"", 9, (0, 0), &NOTHING, 0)?);
+    let words = "export p --chunk 2";
+    assert!(rt; ends_with(&rt, alloc, words, PUT, 1, (0, 0), &FILE, 0)?);
+    assert!(rt; ends_with(&rt, alloc, words, PUT, 65_536, (0, 0), &FILE, 0)?);
+    let others = "export q --chunk 2";
+    assert!(rt; goes(&rt, alloc, others, b"", &NOTHING)?);
     Ok(())
 }
 
 #[test]
 fn what_is_written_answers_as_the_session_does(rt: HostRuntime) -> Result<(), Memory> {
     let alloc = rt.alloc();
-    let mut bytes = written(&rt, alloc, &["export", "p", "--chunk", "2"], THREE_PUTS)?;
+    let mut bytes = written(&rt, alloc, "export p --chunk 2", THREE_PUTS)?;
     bytes.extend_from_slice(GROUPS)?;
-    let words = ["ask", "--chunk", "2"];
-    assert!(rt; ends_with(&rt, alloc, &words, &bytes, 4_096, (0, 0), THREE_GROUPS, 0)?);
+    let words = "ask --chunk 2";
+    assert!(rt; goes(&rt, alloc, words, &bytes, THREE_GROUPS)?);
     Ok(())
 }
+
+fn is_refused<Q: Threads + Wait + Sync>(
+    rt: &Q,
+    alloc: Global,
+    words: &str,
+    input: &[u8],
+) -> Result<bool, Memory> {
+    ends_with(rt, alloc, words, input, 99, (0, 0), b"", 7)
+}
+
+// Each line is refused.
+const REFUSED: &str = r#"{"op":"state"}
+{"op":"groups","project":"p","min":2}
+
+{"op":"drop","project":"p","path":"t"}
+"#;
 
 #[test]
 fn a_line_that_is_no_accepted_change_is_refused(rt: HostRuntime) -> Result<(), Memory> {
     let alloc = rt.alloc();
-    let words = ["export", "p", "--chunk", "2"];
-    let state = b"{\"op\":\"state\"}\n".as_slice();
-    assert!(rt; ends_with(&rt, alloc, &words, state, 99, (0, 0), b"", 7)?);
-    assert!(rt; ends_with(&rt, alloc, &words, GROUPS, 99, (0, 0), b"", 7)?);
-    assert!(rt; ends_with(&rt, alloc, &words, b"\n", 99, (0, 0), b"", 7)?);
-    let absent = b"{\"op\":\"drop\",\"project\":\"p\",\"path\":\"t\"}\n".as_slice();
-    assert!(rt; ends_with(&rt, alloc, &words, absent, 99, (0, 0), b"", 7)?);
-    let full = ["export", "p", "--chunk", "2", "--change-limit", "2"];
-    assert!(rt; ends_with(&rt, alloc, &full, THREE_PUTS, 99, (0, 0), b"", 7)?);
-    let long = ["export", "p", "--chunk", "2", "--text-limit", "20"];
-    assert!(rt; ends_with(&rt, alloc, &long, THREE_PUTS, 99, (0, 0), b"", 7)?);
+    for line in REFUSED.lines() {
+        let mut input = Vec::from_slice(alloc, line.as_bytes())?;
+        input.push(b'\n')?;
+        assert!(rt; is_refused(&rt, alloc, "export p --chunk 2", &input)?);
+    }
+    let full = "export p --chunk 2 --change-limit 2";
+    assert!(rt; is_refused(&rt, alloc, full, THREE_PUTS)?);
+    let long = "export p --chunk 2 --text-limit 20";
+    assert!(rt; is_refused(&rt, alloc, long, THREE_PUTS)?);
     Ok(())
 }
 
 #[test]
 fn faults_and_the_limit_of_bytes_are_told(rt: HostRuntime) -> Result<(), Memory> {
     let alloc = rt.alloc();
-    let words = ["export", "p", "--chunk", "2"];
-    assert!(rt; ends_with(&rt, alloc, &words, PUT, 65_536, (1, 0), b"", 2)?);
-    assert!(rt; ends_with(&rt, alloc, &words, PUT, 65_536, (0, 1), b"", 3)?);
-    assert!(rt; ends_with(&rt, alloc, &words, PUT, 100, (0, 2), &FILE[..100], 3)?);
-    let few = ["export", "p", "--chunk", "2", "--byte-limit", "30"];
-    assert!(rt; ends_with(&rt, alloc, &few, PUT, 65_536, (0, 0), b"", 6)?);
+    let words = "export p --chunk 2";
+    assert!(rt; ends_with(&rt, alloc, words, PUT, 65_536, (1, 0), b"", 2)?);
+    assert!(rt; ends_with(&rt, alloc, words, PUT, 65_536, (0, 1), b"", 3)?);
+    assert!(rt; ends_with(&rt, alloc, words, PUT, 100, (0, 2), &FILE[..100], 3)?);
+    let few = "export p --chunk 2 --byte-limit 30";
+    assert!(rt; ends_with(&rt, alloc, few, PUT, 65_536, (0, 0), b"", 6)?);
     Ok(())
 }

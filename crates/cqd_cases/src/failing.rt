@@ -6,9 +6,9 @@ use std::alloc::Global;
 use std::sync::Wait;
 use std::thread::Threads;
 
-const RUN: [&str; 5] = ["run", "--chunk", "2", "--shards", "1"];
+const RUN: &str = "run --chunk 2 --shards 1";
 
-const DRIVE: [&str; 5] = ["drive", "--chunk", "2", "--shards", "1"];
+const DRIVE: &str = "drive --chunk 2 --shards 1";
 
 // An upload, and queries of which the second has its work made and the others don't.
 const ASKED: &[u8] = br#"{"op":"put","project":"p","path":"t","lang":"any","text":"a b c x a b c y"}
@@ -56,7 +56,7 @@ fn first_lines(bytes: &[u8], count: usize) -> &[u8] {
 fn first_read<Q: Threads + Wait + Sync>(
     rt: &Q,
     alloc: Global,
-    words: &[&str],
+    words: &str,
     input: &[u8],
     output: &[u8],
 ) -> Result<Option<usize>, Memory> {
@@ -74,7 +74,7 @@ fn first_read<Q: Threads + Wait + Sync>(
 fn first_write<Q: Threads + Wait + Sync>(
     rt: &Q,
     alloc: Global,
-    words: &[&str],
+    words: &str,
     input: &[u8],
     output: &[u8],
 ) -> Result<Option<usize>, Memory> {
@@ -91,18 +91,18 @@ fn first_write<Q: Threads + Wait + Sync>(
 #[test]
 fn each_read_may_fail(rt: HostRuntime) -> Result<(), Memory> {
     let alloc = rt.alloc();
-    assert_eq!(rt; first_read(&rt, alloc, &RUN, ASKED, TOLD)?, None);
-    assert_eq!(rt; first_read(&rt, alloc, &DRIVE, STEPS, OUTCOMES)?, None);
+    assert_eq!(rt; first_read(&rt, alloc, RUN, ASKED, TOLD)?, None);
+    assert_eq!(rt; first_read(&rt, alloc, DRIVE, STEPS, OUTCOMES)?, None);
     Ok(())
 }
 
 #[test]
 fn each_write_may_fail(rt: HostRuntime) -> Result<(), Memory> {
     let alloc = rt.alloc();
-    assert_eq!(rt; first_write(&rt, alloc, &RUN, ASKED, TOLD)?, None);
-    assert_eq!(rt; first_write(&rt, alloc, &DRIVE, STEPS, OUTCOMES)?, None);
+    assert_eq!(rt; first_write(&rt, alloc, RUN, ASKED, TOLD)?, None);
+    assert_eq!(rt; first_write(&rt, alloc, DRIVE, STEPS, OUTCOMES)?, None);
     let state = b"{\"op\":\"state\"}\n".as_slice();
-    assert!(rt; ends_with(&rt, alloc, &RUN, state, 5, (0, 2), b"{\"acc", 3)?);
+    assert!(rt; ends_with(&rt, alloc, RUN, state, 5, (0, 2), b"{\"acc", 3)?);
     Ok(())
 }
 
@@ -144,7 +144,7 @@ fn the_input_may_end_anywhere(rt: HostRuntime) -> Result<(), Memory> {
     let alloc = rt.alloc();
     for at in 0..THREE.len() + 1 {
         let told = told_up_to(alloc, THREE, OF_THREE, at)?;
-        assert!(rt; ends_with(&rt, alloc, &RUN, &THREE[..at], 31, (0, 0), &told, 0)?);
+        assert!(rt; ends_with(&rt, alloc, RUN, &THREE[..at], 31, (0, 0), &told, 0)?);
     }
     Ok(())
 }
@@ -167,12 +167,12 @@ fn lines_of_the_wrong_shape_are_told(rt: HostRuntime) -> Result<(), Memory> {
     let alloc = rt.alloc();
     let x = "{\"code\":3,\"error\":\"field\",\"name\":\"x\",\"ok\":false}\n".as_bytes();
     let deepest = nested(alloc, 126)?;
-    assert!(rt; ends_with(&rt, alloc, &RUN, &deepest, 64, (0, 0), x, 0)?);
+    assert!(rt; ends_with(&rt, alloc, RUN, &deepest, 64, (0, 0), x, 0)?);
     let deeper = nested(alloc, 127)?;
-    assert!(rt; ends_with(&rt, alloc, &RUN, &deeper, 64, (0, 0), JSON, 0)?);
-    assert!(rt; ends_with(&rt, alloc, &RUN, b"\xff\n", 64, (0, 0), JSON, 0)?);
+    assert!(rt; ends_with(&rt, alloc, RUN, &deeper, 64, (0, 0), JSON, 0)?);
+    assert!(rt; ends_with(&rt, alloc, RUN, b"\xff\n", 64, (0, 0), JSON, 0)?);
     let open = vec![in alloc; b'x'; 8_388_609]?;
     let long = "{\"code\":13,\"error\":\"long\",\"ok\":false}\n".as_bytes();
-    assert!(rt; ends_with(&rt, alloc, &RUN, &open, 65_536, (0, 0), long, 0)?);
+    assert!(rt; ends_with(&rt, alloc, RUN, &open, 65_536, (0, 0), long, 0)?);
     Ok(())
 }

@@ -1,6 +1,8 @@
-use crate::running::ends_with;
+use crate::running::{ends_with, goes};
 use cq_base::Memory;
 use std::alloc::Global;
+use std::sync::Wait;
+use std::thread::Threads;
 
 // Version 1 of the project `p` of `--chunk 2`, with the text `a` of language `any` at `t`.
 const FILE: [u8; 112] = [
@@ -15,7 +17,7 @@ const QUERY: &[u8] = b"{\"op\":\"files\",\"project\":\"p\"}\n";
 const FILES: &[u8] =
     b"{\"files\":[{\"change\":1,\"lang\":\"any\",\"lines\":1,\"path\":\"t\",\"state\":\"ok\",\"tokens\":1}],\"ok\":true,\"version\":1}\n";
 
-// A file, and lines behind it.
+// A file, and lines after it.
 fn input(alloc: Global, file: &[u8], lines: &[u8]) -> Result<Vec<u8>, Memory> {
     let mut bytes = Vec::from_slice(alloc, file)?;
     bytes.extend_from_slice(lines)?;
@@ -25,34 +27,40 @@ fn input(alloc: Global, file: &[u8], lines: &[u8]) -> Result<Vec<u8>, Memory> {
 #[test]
 fn a_kept_version_is_asked(rt: HostRuntime) -> Result<(), Memory> {
     let alloc = rt.alloc();
-    let words = ["ask", "--chunk", "2"];
+    let words = "ask --chunk 2";
     let whole = input(alloc, &FILE, QUERY)?;
-    assert!(rt; ends_with(&rt, alloc, &words, &whole, 1, (0, 0), FILES, 0)?);
-    assert!(rt; ends_with(&rt, alloc, &words, &whole, 7, (0, 0), FILES, 0)?);
-    assert!(rt; ends_with(&rt, alloc, &words, &whole, 65_536, (0, 0), FILES, 0)?);
-    let bare = input(alloc, &FILE, b"")?;
-    assert!(rt; ends_with(&rt, alloc, &words, &bare, 99, (0, 0), b"", 0)?);
+    assert!(rt; ends_with(&rt, alloc, words, &whole, 1, (0, 0), FILES, 0)?);
+    assert!(rt; ends_with(&rt, alloc, words, &whole, 7, (0, 0), FILES, 0)?);
+    assert!(rt; ends_with(&rt, alloc, words, &whole, 65_536, (0, 0), FILES, 0)?);
+    assert!(rt; goes(&rt, alloc, words, &FILE, b"")?);
     Ok(())
+}
+
+fn is_refused<Q: Threads + Wait + Sync>(
+    rt: &Q,
+    alloc: Global,
+    words: &str,
+    input: &[u8],
+) -> Result<bool, Memory> {
+    ends_with(rt, alloc, words, input, 99, (0, 0), b"", 8)
 }
 
 #[test]
 fn what_is_no_token_file_is_refused(rt: HostRuntime) -> Result<(), Memory> {
     let alloc = rt.alloc();
     let whole = input(alloc, &FILE, QUERY)?;
-    let others = ["ask", "--chunk", "3"];
-    assert!(rt; ends_with(&rt, alloc, &others, &whole, 99, (0, 0), b"", 8)?);
-    let words = ["ask", "--chunk", "2"];
-    let short = input(alloc, &FILE[..111], b"")?;
-    assert!(rt; ends_with(&rt, alloc, &words, &short, 99, (0, 0), b"", 8)?);
-    assert!(rt; ends_with(&rt, alloc, &words, b"", 99, (0, 0), b"", 8)?);
-    assert!(rt; ends_with(&rt, alloc, &words, QUERY, 99, (0, 0), b"", 8)?);
+    assert!(rt; is_refused(&rt, alloc, "ask --chunk 3", &whole)?);
+    let words = "ask --chunk 2";
+    assert!(rt; is_refused(&rt, alloc, words, &FILE[..111])?);
+    assert!(rt; is_refused(&rt, alloc, words, b"")?);
+    assert!(rt; is_refused(&rt, alloc, words, QUERY)?);
     Ok(())
 }
 
 #[test]
-fn the_lines_behind_a_file_are_queries(rt: HostRuntime) -> Result<(), Memory> {
+fn the_lines_after_a_file_are_queries(rt: HostRuntime) -> Result<(), Memory> {
     let alloc = rt.alloc();
-    let words = ["ask", "--chunk=2"];
+    let words = "ask --chunk=2";
     let lines = br#"{"op":"state"}
 {"op":"files","project":"p","at":2}
 {"op":"files","project":"q"}
@@ -64,20 +72,20 @@ fn the_lines_behind_a_file_are_queries(rt: HostRuntime) -> Result<(), Memory> {
 "#
         .as_slice();
     let all = input(alloc, &FILE, lines)?;
-    assert!(rt; ends_with(&rt, alloc, &words, &all, 99, (0, 0), replies, 0)?);
+    assert!(rt; goes(&rt, alloc, words, &all, replies)?);
     Ok(())
 }
 
 #[test]
 fn faults_and_the_limit_of_bytes_are_told(rt: HostRuntime) -> Result<(), Memory> {
     let alloc = rt.alloc();
-    let words = ["ask", "--chunk", "2"];
+    let words = "ask --chunk 2";
     let whole = input(alloc, &FILE, QUERY)?;
-    assert!(rt; ends_with(&rt, alloc, &words, &whole, 65_536, (1, 0), b"", 2)?);
+    assert!(rt; ends_with(&rt, alloc, words, &whole, 65_536, (1, 0), b"", 2)?);
     // The bytes of the file don't count.
-    let few = ["ask", "--chunk", "2", "--byte-limit", "112"];
-    assert!(rt; ends_with(&rt, alloc, &few, &whole, 65_536, (0, 0), FILES, 0)?);
-    let fewer = ["ask", "--chunk", "2", "--byte-limit", "29"];
-    assert!(rt; ends_with(&rt, alloc, &fewer, &whole, 65_536, (0, 0), FILES, 6)?);
+    let few = "ask --chunk 2 --byte-limit 112";
+    assert!(rt; goes(&rt, alloc, few, &whole, FILES)?);
+    let fewer = "ask --chunk 2 --byte-limit 29";
+    assert!(rt; ends_with(&rt, alloc, fewer, &whole, 65_536, (0, 0), FILES, 6)?);
     Ok(())
 }

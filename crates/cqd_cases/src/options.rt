@@ -11,7 +11,7 @@ use std::time::Clock;
 // status of `run`. How many bits a key keeps, no reply shows.
 #[derive(Clone, Copy)]
 struct Given {
-    options: &'static [&'static str],
+    options: &'static str,
     sends: &'static str,
     told: &'static str,
     shards: Option<u64>,
@@ -60,7 +60,7 @@ const ONE_STATE: &str = r#"{"accepted":0,"done":0,"ok":true,"published":0}
 "#;
 
 const REPEAT: Given = Given {
-    options: &["--chunk", "2"],
+    options: "--chunk 2",
     sends: REPEATED,
     told: REPEATED_TOLD,
     shards: None,
@@ -70,40 +70,40 @@ const REPEAT: Given = Given {
 const ALL: [Given; 8] = [
     REPEAT,
     Given {
-        options: &["--chunk", "2", "--shards=3"],
+        options: "--chunk 2 --shards=3",
         shards: Some(3),
         ..REPEAT
     },
     Given {
-        options: &["--chunk=0000000000000000002", "--key-bits", "0"],
+        options: "--chunk=0000000000000000002 --key-bits 0",
         ..REPEAT
     },
     Given {
-        options: &["--chunk", "2", "--ignore-ids"],
+        options: "--chunk 2 --ignore-ids",
         sends: TWO_NAMES,
         told: ALIKE_TOLD,
         ..REPEAT
     },
     Given {
-        options: &["--ignore-literals", "--chunk", "2"],
+        options: "--ignore-literals --chunk 2",
         sends: TWO_LITERALS,
         told: ALIKE_TOLD,
         ..REPEAT
     },
     Given {
-        options: &["--change-limit=1"],
+        options: "--change-limit=1",
         sends: TWO_PUTS,
         told: FULL_CHANGES,
         ..REPEAT
     },
     Given {
-        options: &["--text-limit", "8"],
+        options: "--text-limit 8",
         sends: TWO_PUTS,
         told: FULL_TEXT,
         ..REPEAT
     },
     Given {
-        options: &["--byte-limit", "15"],
+        options: "--byte-limit 15",
         sends: TWO_STATES,
         told: ONE_STATE,
         status: 6,
@@ -115,14 +115,16 @@ const ALL: [Given; 8] = [
 fn goes_with<Q: Threads + Wait + Clock + Sync>(
     rt: &Q,
     alloc: Global,
-    command: &[&str],
+    command: &str,
     given: &Given,
     status: u8,
 ) -> Result<Went, Memory> {
-    let mut words = Vec::from_slice(alloc, command)?;
-    words.extend_from_slice(given.options)?;
+    let mut words = String::new(alloc);
+    words.push_str(command)?;
+    words.push_str(" ")?;
+    words.push_str(given.options)?;
     let run = Run {
-        words: &words,
+        words: words.as_str(),
         clients: &[Client::new(given.sends)],
         told: &[given.told],
         shards: given.shards,
@@ -134,39 +136,19 @@ fn goes_with<Q: Threads + Wait + Clock + Sync>(
 
 #[test]
 fn options_are_the_settings(rt: HostRuntime) -> Result<(), Memory> {
-    let listen = ["listen", "mem", "--workers", "0", "--sessions", "1"];
+    let listen = "listen mem --workers 0 --sessions 1";
     for given in &ALL {
-        let run = goes_with(&rt, rt.alloc(), &["run"], given, given.status)?;
+        let run = goes_with(&rt, rt.alloc(), "run", given, given.status)?;
         assert_eq!(rt; run, Went::AsWanted, "run {}", given.sends);
-        let served = goes_with(&rt, rt.alloc(), &listen, given, 0)?;
+        let served = goes_with(&rt, rt.alloc(), listen, given, 0)?;
         assert_eq!(rt; served, Went::AsWanted, "listen {}", given.sends);
     }
     Ok(())
 }
 
 // The options that say what `listen` serves with, none of them at its default.
-const ASKED: [&str; 20] = [
-    "listen",
-    "mem",
-    "--chunk",
-    "2",
-    "--shards",
-    "3",
-    "--key-bits",
-    "40",
-    "--ignore-ids",
-    "--ignore-literals",
-    "--change-limit",
-    "5",
-    "--text-limit",
-    "60",
-    "--byte-limit",
-    "700",
-    "--workers",
-    "2",
-    "--sessions",
-    "3",
-];
+const ASKED: &str =
+    "listen mem --chunk 2 --shards 3 --key-bits 40 --ignore-ids --ignore-literals --change-limit 5 --text-limit 60 --byte-limit 700 --workers 2 --sessions 3";
 
 const SERVED: Served = Served {
     failed: false,
@@ -194,14 +176,14 @@ fn listen_serves_with_what_it_is_asked_for(rt: HostRuntime) -> Result<(), Memory
     };
     for (failing, wanted) in [(0, Some(SERVED)), (2, Some(failed)), (1, None)] {
         let run = Run {
-            words: &ASKED,
+            words: ASKED,
             failing,
             ..LISTEN
         };
         assert_eq!(rt; served(&rt, rt.alloc(), &run)?, wanted, "failing {failing}");
     }
     let run = Run {
-        words: &["run", "--workers", "2"],
+        words: "run --workers 2",
         ..LISTEN
     };
     assert_eq!(rt; served(&rt, rt.alloc(), &run)?, None);

@@ -1,5 +1,5 @@
 use crate::cases::first_otherwise;
-use crate::running::ends_with;
+use crate::running::{ends_with, goes};
 use cq_base::Memory;
 
 #[test]
@@ -9,10 +9,10 @@ fn a_project_is_made_and_told(rt: HostRuntime) -> Result<(), Memory> {
         r#"{"groups":2,"measures":{"complexity":3,"duplicated_blocks":4,"duplicated_files":3,"duplicated_lines":40,"duplicated_lines_density":6666,"files":3,"lines":60,"ncloc":60},"ok":true,"tokens":300,"version":3}
 "#
             .as_bytes();
-    let make = ["make", "7", "3"];
-    assert!(rt; ends_with(&rt, alloc, &make, b"{}\n", 4_096, (0, 0), line, 0)?);
-    assert!(rt; ends_with(&rt, alloc, &make, b"{}\n", 9, (0, 1), b"", 3)?);
-    assert!(rt; ends_with(&rt, alloc, &make, b"{}\n", 7, (0, 2), b"{\"group", 3)?);
+    let make = "make 7 3";
+    assert!(rt; goes(&rt, alloc, make, b"{}\n", line)?);
+    assert!(rt; ends_with(&rt, alloc, make, b"{}\n", 9, (0, 1), b"", 3)?);
+    assert!(rt; ends_with(&rt, alloc, make, b"{}\n", 7, (0, 2), b"{\"group", 3)?);
     Ok(())
 }
 

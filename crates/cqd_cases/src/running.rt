@@ -1,8 +1,8 @@
 ghost use Rattle.std.specs.Prelude.{◌≡◌, ◌<◌};
 
 use cq_base::{Memory, Steps, Text};
-use cq_io::{MemDoors, MemSink, MemSource, OpenGate};
-use cq_program::top;
+use cq_io::{Doors, Gate, MemDoors, MemSink, MemSource, OpenGate, Sink, Source};
+use cq_program::{Exit, top};
 use std::alloc::Global;
 use std::collections::VecDeque;
 use std::marker::Brand;
@@ -10,32 +10,41 @@ use std::sync::Wait;
 use std::sync::ledger::{Blank, Ledger};
 use std::thread::Threads;
 
-pub(crate) fn words_of(alloc: Global, all: &[&str]) -> Result<Vec<Text>, Memory> {
+/// The arguments of a command line, which has blanks between them.
+pub(crate) fn words_of(alloc: Global, line: &str) -> Result<Vec<Text>, Memory> {
     let mut words = Vec::new(alloc);
-    for word in all {
+    for word in line.split_whitespace() {
         words.push(Text::from_bytes(alloc, word.as_bytes())?)?;
     }
     Ok(words)
 }
 
-fn run<Q: Threads + Wait + Sync, L: Ledger + Send + Sync>(
+/// What the program comes to, over any ends. This promises nothing: what `top` promises would otherwise be proved again for each
+/// kind of ends.
+pub(crate) fn exit_of<
+    Q: Threads + Wait + Sync,
+    S: Source,
+    K: Sink,
+    I: Source + Send + Drop,
+    O: Sink + Send + Drop,
+    D: Doors<In = I, Out = O>,
+    G: Gate + Sync,
+    L: Ledger + Send + Sync,
+>(
     rt: &Q,
     alloc: Global,
     words: &[Text],
-    source: &mut MemSource,
-    sink: &mut MemSink,
+    source: &mut S,
+    sink: &mut K,
+    doors: &mut D,
+    gate: &G,
     blank: Blank,
-) -> u8
+) -> Exit
     requires name { blank.name ≡ L.name }
     requires parts { blank.parts ≡ L.parts }
 {
-    let mut doors = MemDoors::new(VecDeque::new(alloc), Vec::new(alloc));
     let mut steps: Steps<L> = Steps::new(blank);
-    top(
-        rt, alloc, words, source, sink, &mut doors, &OpenGate, &mut steps,
-    )
-    .status
-    .code()
+    top(rt, alloc, words, source, sink, doors, gate, &mut steps)
 }
 
 pub(crate) fn run_here<Q: Threads + Wait + Sync>(
@@ -45,7 +54,19 @@ pub(crate) fn run_here<Q: Threads + Wait + Sync>(
     source: &mut MemSource,
     sink: &mut MemSink,
 ) -> u8 {
-    run::<Q, Brand>(rt, alloc, words, source, sink, Blank::new(1))
+    let mut doors = MemDoors::new(VecDeque::new(alloc), Vec::new(alloc));
+    exit_of::<Q, _, _, _, _, _, _, Brand>(
+        rt,
+        alloc,
+        words,
+        source,
+        sink,
+        &mut doors,
+        &OpenGate,
+        Blank::new(1),
+    )
+    .status
+    .code()
 }
 
 /// Whether the program ends with a status after it has written an output, over ends of so many bytes a call, of which
@@ -53,7 +74,7 @@ pub(crate) fn run_here<Q: Threads + Wait + Sync>(
 pub(crate) fn ends_with<Q: Threads + Wait + Sync>(
     rt: &Q,
     alloc: Global,
-    words: &[&str],
+    words: &str,
     input: &[u8],
     greatest: usize,
     failing: (u64, u64),
@@ -69,4 +90,15 @@ pub(crate) fn ends_with<Q: Threads + Wait + Sync>(
     let mut sink = MemSink::new(alloc, 65_536, greatest, vec![in alloc; failing_write]?)?;
     let ended = run_here(rt, alloc, &words, &mut source, &mut sink);
     Ok(ended == status && sink.written() == output)
+}
+
+/// Whether the program ends with 0 after it has written an output.
+pub(crate) fn goes<Q: Threads + Wait + Sync>(
+    rt: &Q,
+    alloc: Global,
+    words: &str,
+    input: &[u8],
+    output: &[u8],
+) -> Result<bool, Memory> {
+    ends_with(rt, alloc, words, input, 4_096, (0, 0), output, 0)
 }

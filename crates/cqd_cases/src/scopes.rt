@@ -1,11 +1,5 @@
-ghost use Rattle.std.specs.Prelude.{◌<◌};
-
 use crate::cases::first_otherwise;
-use crate::running::ends_with;
 use cq_base::Memory;
-use std::alloc::Global;
-
-const WORDS: [&str; 5] = ["run", "--chunk", "2", "--shards", "1"];
 
 // The groups are those of all files, whichever are measured; a file that is put again is new; files are chosen by directories; and
 // the density is that of the chosen files: one duplicated line of two, of a project that has two of six.
@@ -72,61 +66,23 @@ fn patterns_of_a_gate(rt: HostRuntime) -> Result<(), Memory> {
     Ok(())
 }
 
-fn put_number(text: &mut Vec<u8>, number: u8) -> Result<(), Memory>
-    requires { number < 100 }
-{
-    if number >= 10 {
-        text.push(b'0' + number / 10)?;
-    }
-    text.push(b'0' + number % 10)?;
-    Ok(())
-}
-
-// What puts three files and a gate of 32 conditions, by how many files there are more than, and asks for verdicts.
-fn judged(alloc: Global) -> Result<Vec<u8>, Memory> {
-    let mut text = Vec::new(alloc);
-    text.extend_from_slice(
-        br#"{"op":"put","project":"p","path":"src/a/x.txt","lang":"any","text":"p"}
-{"op":"put","project":"p","path":"src/y.txt","lang":"any","text":"q"}
-{"op":"put","project":"p","path":"test/x.txt","lang":"any","text":"r"}
-{"op":"gate","project":"p","conditions":[{"metric":"files","op":"GT","error":0}"#,
-    )?;
-    for files in 1..32 {
-        text.extend_from_slice(br#",{"metric":"files","op":"GT","error":"#)?;
-        put_number(&mut text, files)?;
-        text.push(b'}')?;
-    }
-    text.extend_from_slice(
-        br#"]}
-{"op":"verdict","project":"p"}
-{"op":"verdict","project":"p","scope":"src/**"}
-{"op":"verdict","project":"p","since":2}
-{"op":"verdict","project":"p","scope":"src/**","since":1}
-{"op":"verdict","project":"p","scope":"none/*"}
-{"op":"verdict","project":"p","since":4}
-{"op":"verdict","project":"p","scope":"src/"}
-"#,
-    )?;
-    Ok(text)
-}
+// Three files, and a gate of 32 conditions, by how many files there are more than.
+const JUDGED: &str = r#"$ run --chunk 2 --shards 1
+{"op":"put","project":"p","path":"src/a/x.txt","lang":"any","text":"p"} -> {"change":1,"ok":true}
+{"op":"put","project":"p","path":"src/y.txt","lang":"any","text":"q"} -> {"change":2,"ok":true}
+{"op":"put","project":"p","path":"test/x.txt","lang":"any","text":"r"} -> {"change":3,"ok":true}
+{"op":"gate","project":"p","conditions":[{"metric":"files","op":"GT","error":0},{"metric":"files","op":"GT","error":1},{"metric":"files","op":"GT","error":2},{"metric":"files","op":"GT","error":3},{"metric":"files","op":"GT","error":4},{"metric":"files","op":"GT","error":5},{"metric":"files","op":"GT","error":6},{"metric":"files","op":"GT","error":7},{"metric":"files","op":"GT","error":8},{"metric":"files","op":"GT","error":9},{"metric":"files","op":"GT","error":10},{"metric":"files","op":"GT","error":11},{"metric":"files","op":"GT","error":12},{"metric":"files","op":"GT","error":13},{"metric":"files","op":"GT","error":14},{"metric":"files","op":"GT","error":15},{"metric":"files","op":"GT","error":16},{"metric":"files","op":"GT","error":17},{"metric":"files","op":"GT","error":18},{"metric":"files","op":"GT","error":19},{"metric":"files","op":"GT","error":20},{"metric":"files","op":"GT","error":21},{"metric":"files","op":"GT","error":22},{"metric":"files","op":"GT","error":23},{"metric":"files","op":"GT","error":24},{"metric":"files","op":"GT","error":25},{"metric":"files","op":"GT","error":26},{"metric":"files","op":"GT","error":27},{"metric":"files","op":"GT","error":28},{"metric":"files","op":"GT","error":29},{"metric":"files","op":"GT","error":30},{"metric":"files","op":"GT","error":31}]} -> {"change":4,"ok":true}
+{"op":"verdict","project":"p"} -> {"failed":[0,1,2],"ok":true,"verdict":"ERROR","version":4}
+{"op":"verdict","project":"p","scope":"src/**"} -> {"failed":[0,1],"ok":true,"verdict":"ERROR","version":4}
+{"op":"verdict","project":"p","since":2} -> {"failed":[0],"ok":true,"verdict":"ERROR","version":4}
+{"op":"verdict","project":"p","scope":"src/**","since":1} -> {"failed":[0],"ok":true,"verdict":"ERROR","version":4}
+{"op":"verdict","project":"p","scope":"none/*"} -> {"failed":[],"ok":true,"verdict":"OK","version":4}
+{"op":"verdict","project":"p","since":4} -> {"failed":[],"ok":true,"verdict":"OK","version":4}
+{"op":"verdict","project":"p","scope":"src/"} -> {"code":15,"error":"scope","ok":false}
+"#;
 
 #[test]
 fn chosen_files_are_judged(rt: HostRuntime) -> Result<(), Memory> {
-    let alloc = rt.alloc();
-    let input = judged(alloc)?;
-    let output = r#"{"change":1,"ok":true}
-{"change":2,"ok":true}
-{"change":3,"ok":true}
-{"change":4,"ok":true}
-{"failed":[0,1,2],"ok":true,"verdict":"ERROR","version":4}
-{"failed":[0,1],"ok":true,"verdict":"ERROR","version":4}
-{"failed":[0],"ok":true,"verdict":"ERROR","version":4}
-{"failed":[0],"ok":true,"verdict":"ERROR","version":4}
-{"failed":[],"ok":true,"verdict":"OK","version":4}
-{"failed":[],"ok":true,"verdict":"OK","version":4}
-{"code":15,"error":"scope","ok":false}
-"#
-        .as_bytes();
-    assert!(rt; ends_with(&rt, alloc, &WORDS, &input, 4_096, (0, 0), output, 0)?);
+    assert_eq!(rt; first_otherwise(&rt, rt.alloc(), JUDGED)?, None);
     Ok(())
 }

@@ -2,7 +2,7 @@ use crate::cases::first_otherwise;
 use crate::running::ends_with;
 use cq_base::Memory;
 
-const DRIVE: [&str; 5] = ["drive", "--chunk", "2", "--shards", "2"];
+const DRIVE: &str = "drive --chunk 2 --shards 2";
 
 const ASK: &[u8] = b"{\"step\":\"ask\",\"by\":0}\n{\"step\":\"ask\",\"by\":0}\n";
 
@@ -13,19 +13,19 @@ const BOTH: &[u8] = b"{\"ok\":true,\"value\":0}\n{\"ok\":true,\"value\":0}\n";
 #[test]
 fn scripts_are_driven_however_they_are_cut(rt: HostRuntime) -> Result<(), Memory> {
     let alloc = rt.alloc();
-    assert!(rt; ends_with(&rt, alloc, &DRIVE, b"", 9, (0, 0), b"", 0)?);
-    assert!(rt; ends_with(&rt, alloc, &DRIVE, ASK, 1, (0, 0), BOTH, 0)?);
-    assert!(rt; ends_with(&rt, alloc, &DRIVE, &ASK[..43], 99, (0, 0), BOTH, 0)?);
+    assert!(rt; ends_with(&rt, alloc, DRIVE, b"", 9, (0, 0), b"", 0)?);
+    assert!(rt; ends_with(&rt, alloc, DRIVE, ASK, 1, (0, 0), BOTH, 0)?);
+    assert!(rt; ends_with(&rt, alloc, DRIVE, &ASK[..43], 99, (0, 0), BOTH, 0)?);
     Ok(())
 }
 
 #[test]
 fn faults_and_limits_end_a_script(rt: HostRuntime) -> Result<(), Memory> {
     let alloc = rt.alloc();
-    assert!(rt; ends_with(&rt, alloc, &DRIVE, ASK, 22, (2, 0), ONE, 2)?);
-    assert!(rt; ends_with(&rt, alloc, &DRIVE, ASK, 99, (0, 2), ONE, 3)?);
-    let few = ["drive", "--byte-limit", "43"];
-    assert!(rt; ends_with(&rt, alloc, &few, ASK, 99, (0, 0), ONE, 6)?);
+    assert!(rt; ends_with(&rt, alloc, DRIVE, ASK, 22, (2, 0), ONE, 2)?);
+    assert!(rt; ends_with(&rt, alloc, DRIVE, ASK, 99, (0, 2), ONE, 3)?);
+    let few = "drive --byte-limit 43";
+    assert!(rt; ends_with(&rt, alloc, few, ASK, 99, (0, 0), ONE, 6)?);
     Ok(())
 }
 
@@ -39,7 +39,7 @@ fn long_lines_of_a_script_are_told(rt: HostRuntime) -> Result<(), Memory> {
     input.extend_from_slice(b"\n")?;
     let output =
         "{\"ok\":true,\"value\":0}\n{\"code\":13,\"error\":\"long\",\"ok\":false}\n".as_bytes();
-    assert!(rt; ends_with(&rt, alloc, &DRIVE, &input, 65_536, (0, 0), output, 0)?);
+    assert!(rt; ends_with(&rt, alloc, DRIVE, &input, 65_536, (0, 0), output, 0)?);
     Ok(())
 }
 

@@ -1,8 +1,8 @@
-use crate::running::{ends_with, run_here, words_of};
+use crate::running::{ends_with, goes, run_here, words_of};
 use cq_base::Memory;
 use cq_io::{Failed, MemSink, MemSource, Source};
 
-const WORDS: [&str; 5] = ["run", "--chunk", "2", "--shards", "1"];
+const WORDS: &str = "run --chunk 2 --shards 1";
 
 const PUT: &str = r#"{"op":"put","project":"p","path":"t","lang":"any","text":""#;
 
@@ -33,9 +33,9 @@ fn lines_are_served_however_they_are_cut(rt: HostRuntime) -> Result<(), Memory> 
 {"groups":[],"ok":true,"total":0,"version":1}
 "#
         .as_bytes();
-    assert!(rt; ends_with(&rt, alloc, &WORDS, b"", 9, (0, 0), b"", 0)?);
-    assert!(rt; ends_with(&rt, alloc, &WORDS, input, 1, (0, 0), output, 0)?);
-    assert!(rt; ends_with(&rt, alloc, &WORDS, input, 4_096, (0, 0), output, 0)?);
+    assert!(rt; ends_with(&rt, alloc, WORDS, b"", 9, (0, 0), b"", 0)?);
+    assert!(rt; ends_with(&rt, alloc, WORDS, input, 1, (0, 0), output, 0)?);
+    assert!(rt; goes(&rt, alloc, WORDS, input, output)?);
     Ok(())
 }
 
@@ -53,7 +53,7 @@ fn long_lines_are_told(rt: HostRuntime) -> Result<(), Memory> {
 {"accepted":0,"done":0,"ok":true,"published":0}
 "#
         .as_bytes();
-    assert!(rt; ends_with(&rt, alloc, &WORDS, &input, 65_536, (0, 0), output, 0)?);
+    assert!(rt; ends_with(&rt, alloc, WORDS, &input, 65_536, (0, 0), output, 0)?);
     Ok(())
 }
 
@@ -64,7 +64,7 @@ fn read_once(source: &mut MemSource, out: &mut [u8; 4]) -> Result<usize, Failed>
 #[test]
 fn a_reply_is_written_before_the_next_line_is_read(rt: HostRuntime) -> Result<(), Memory> {
     let alloc = rt.alloc();
-    let words = words_of(alloc, &WORDS)?;
+    let words = words_of(alloc, WORDS)?;
     let bytes = Vec::from_slice(alloc, b"{}\n{}\n")?;
     let mut source = MemSource::new(bytes, 3, Vec::new(alloc));
     let mut sink = MemSink::new(alloc, 99, 99, vec![in alloc; 1u64]?)?;
@@ -80,13 +80,13 @@ fn faults_and_limits_end_it(rt: HostRuntime) -> Result<(), Memory> {
     let op = "{\"code\":2,\"error\":\"op\",\"ok\":false}\n".as_bytes();
     let two =
         "{\"code\":2,\"error\":\"op\",\"ok\":false}\n{\"code\":2,\"error\":\"op\",\"ok\":false}\n".as_bytes();
-    assert!(rt; ends_with(&rt, alloc, &WORDS, b"{}\n{}\n{}\n", 90, (0, 3), two, 3)?);
-    assert!(rt; ends_with(&rt, alloc, &WORDS, b"{}\n{}\n", 3, (2, 0), op, 2)?);
+    assert!(rt; ends_with(&rt, alloc, WORDS, b"{}\n{}\n{}\n", 90, (0, 3), two, 3)?);
+    assert!(rt; ends_with(&rt, alloc, WORDS, b"{}\n{}\n", 3, (2, 0), op, 2)?);
     let put = r#"{"op":"put","project":"p","path":"t","lang":"any","text":"a b c x a b c y"}
 "#
         .as_bytes();
     let accepted = "{\"change\":1,\"ok\":true}\n".as_bytes();
-    assert!(rt; ends_with(&rt, alloc, &WORDS, put, 4_096, (2, 0), accepted, 2)?);
+    assert!(rt; ends_with(&rt, alloc, WORDS, put, 4_096, (2, 0), accepted, 2)?);
     Ok(())
 }
 
@@ -99,18 +99,7 @@ fn a_file_with_too_many_tokens_is_large(rt: HostRuntime) -> Result<(), Memory> {
         let text = vec![in alloc; b';'; tokens]?;
         input.extend_from_slice(&text)?;
         input.extend_from_slice(FILES.as_bytes())?;
-        assert!(rt;
-            ends_with(
-                &rt,
-                alloc,
-                &WORDS,
-                &input,
-                65_536,
-                (0, 0),
-                output.as_bytes(),
-                0
-            )?
-        );
+        assert!(rt; goes(&rt, alloc, WORDS, &input, output.as_bytes())?);
     }
     Ok(())
 }

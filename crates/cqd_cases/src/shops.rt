@@ -1,7 +1,7 @@
 //! A project of forty files of Java, alike but for the names of their classes and a number.
 ghost use Rattle.std.specs.Prelude.{◌<◌};
 
-use crate::running::ends_with;
+use crate::running::goes;
 use cq_base::Memory;
 use std::alloc::Global;
 
@@ -99,7 +99,7 @@ fn forty_shops(rt: HostRuntime) -> Result<(), Memory> {
     let alloc = rt.alloc();
     let input = shops(alloc)?;
     let output = shops_told(alloc)?;
-    let words = ["run", "--ignore-ids"];
-    assert!(rt; ends_with(&rt, alloc, &words, &input, 4_096, (0, 0), &output, 0)?);
+    let words = "run --ignore-ids";
+    assert!(rt; goes(&rt, alloc, words, &input, &output)?);
     Ok(())
 }

@@ -8,7 +8,7 @@ use Rattle.cq_index_cases.proofs.made.accept.Goals as goal
 
 pub returns-in-Ok : goal.returns-in-Ok
 returns-in-Ok g c =
-    let r = c.requires.closed in
+    let r = c.requires in
     let callers = g.H.Hub.callers c.args.hub.now in
     let call = c.in-Ok.ensures.accepted r.0 r.1 r.2 in
     let h = call.mid ++ event.Accept r.0 c.in_ok-change.change ∷ [] in

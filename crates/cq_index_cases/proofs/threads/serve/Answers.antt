@@ -5,11 +5,8 @@ use Rattle.cq_cells.specs.Passes.{by_of}
 use Rattle.cq_shared.specs.SharedPasses.{callers_of, state_of}
 use Rattle.cq_index_cases.proofs.threads.serve.Goals as goal
 
-pub put_and_read-requires : goal.put_and_read-requires
-put_and_read-requires g c =
+pub carry_out-requires : goal.carry_out-requires
+carry_out-requires g c =
     let hub = c.args.hub.now in
     let p = c.args.pass in
-    record {
-      letter = c.requires.letter;
-      closed = (by_of p, p.seen, record { is = c.requires.of; caller = refl; seen = refl }, subst (λ l. view_of (state_of hub l) (by_of p) ≡ None) (sym c.requires.fresh) (no_view (callers_of hub) (by_of p)));
-    }
+    (by_of p, p.seen, record { is = c.requires.of; caller = refl; seen = refl }, subst (λ l. view_of (state_of hub l) (by_of p) ≡ None) (sym c.requires.fresh) (no_view (callers_of hub) (by_of p)))

@@ -42,4 +42,4 @@ pub returns-in-Err-Refused-clause-answers : goal.returns-in-Err-Refused-clause-a
 returns-in-Err-Refused-clause-answers g c =
     let said = line_says c.args.kept.now.settings.now.chunk c.args.line.now in
     let says : said ≡ Err c.in-Err-Refused.refusal = subst (λ (e : ReadError). UnlessMemory (Err e) said) c.in-Err-Refused.field-0-is c.in-Err-Refused.ensures.says in
-    subst (λ (x : Result Request Refusal). AnswersSaid c.args.kept.now.snapshot.now (Read x) (reply.Refused c.in-Err-Refused.refusal)) (sym says) refl
+    rw c.in-Err-Refused.field-0-is (subst (λ (x : Result Request Refusal). AnswersSaid c.args.kept.now.snapshot.now (Read x) (reply.Refused c.in-Err-Refused.refusal)) (sym says) refl)

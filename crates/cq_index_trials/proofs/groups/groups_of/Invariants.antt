@@ -1,4 +1,0 @@
-use Rattle.cq_index_trials.proofs.groups.groups_of.Given as goal
-
-abbrev pub ghosts-listed : goal.ghosts-listed
-ghosts-listed a = record { name = a.blank.name; parts = a.blank.parts }
