@@ -1,11 +1,9 @@
-ghost use Rattle.std.specs.Prelude.{◌≡◌, ◌+◌, ◌<◌};
+ghost use Rattle.std.specs.Prelude.{◌≡◌, ◌<◌};
 ghost use Rattle.cq_base.specs.Settings.{IsInRange};
 ghost use Rattle.cq_lines.specs.Runs.{IsFresh};
-ghost use Rattle.cq_lines.specs.Serving.{HasCauseOfEnd, ServesLines};
-ghost use Rattle.cq_reply.specs.Written.{line_of};
-ghost use Rattle.cq_shared.specs.SharedPasses.{IsPassOf, settings_of, callers_of};
-ghost use Rattle.cq_beside.specs.Replies.{AreWithWorkers};
-ghost use Rattle.cq_beside.specs.Served.{IsServed, IsFirst};
+ghost use Rattle.cq_lines.specs.Serving.{HasCauseOfEnd};
+ghost use Rattle.cq_shared.specs.SharedPasses.{IsPassOf, settings_of};
+ghost use Rattle.cq_beside.specs.Served.{ServesBeside, ServesClient};
 
 use crate::joining::{Floor, Talker, beside};
 use cq_base::Steps;
@@ -132,12 +130,11 @@ pub fn serve_one<
     requires hub_settings { settings_of server.now.hub.now ≡ server.now.keyer.now.settings }
     requires of { IsPassOf server.now.hub.now crew.pass }
     requires room { crew.workers < crew.pass.room }
-    ensures served { IsServed S.Source K.Sink server.now.keyer.now.settings
-        (callers_of server.now.hub.now) (crew.pass.next + crew.workers) crew.pass.seen steps.old steps.new
+    ensures served { ServesClient S.Source K.Sink server.now.keyer.now.settings server.now.hub.now
+        crew.pass crew.workers steps.old steps.new
         lines.old.limit source.old source.new sink.old sink.new result }
-    ensures beside { IsFirst server.now.hub.now crew.pass
-        → ServesLines S.Source K.Sink line_of
-        (AreWithWorkers server.now.keyer.now.settings (callers_of server.now.hub.now) crew.workers steps.old steps.new)
+    ensures beside { ServesBeside S.Source K.Sink server.now.keyer.now.settings server.now.hub.now
+        crew.pass crew.workers steps.old steps.new
         lines.old.limit source.old source.new sink.old sink.new result }
     ensures cause { HasCauseOfEnd S.Source K.Sink source.old source.new sink.old sink.new result }
 {
