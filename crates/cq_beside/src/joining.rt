@@ -30,7 +30,7 @@ pub(crate) trait Talker<L: Ledger, R: Wait> {
     // what it needs
     ghost MayTalk: { Self → Type 0 };
 
-    // What it was and what it tells, by how many callers there are, its caller's number, what its pass had seen before and
+    // What it was and what it returns, by how many callers there are, its caller's number, what its pass had seen before and
     // has seen then, and how many buckets it has asked for.
     ghost Said: { Self → Self.Told → ℕ → ℕ → List Happened → List Happened → ℕ → Type 0 };
 

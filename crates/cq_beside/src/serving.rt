@@ -99,17 +99,18 @@ fn take_back<S, K, T>(source: &mut S, sink: &mut K, steps: &mut T)
     ensures steps { steps.new ≡ steps.old }
 {}
 
-/// So many workers, whose passes are split from this one.
+/// How many workers there are, and the pass that theirs are split from.
 #[derive(Drop)]
 pub struct Crew<L: Ledger> {
     pub workers: u32,
     pub pass: Pass<Work<L>>,
 }
 
-/// One session on this thread, with workers beside it until its end. Each worker has a thread, a pass and a keyer
-/// of its own, and sleeps on a bell that rings after each accepted change. One for which no thread can be made runs after
-/// the session, and ends at once. The passes of the workers, and then that of the session, are split from the crew's, such as
-/// a new hub's first pass, and end in it. The gate is told what `session` and the workers' turns tell it, from their threads.
+/// One session on this thread, with workers beside it until its end. Each worker has a thread, a pass and a keyer of its own,
+/// and sleeps on a bell that rings after each accepted change. One for which no thread can be made runs after the session,
+/// and ends at once. The passes of the workers, and then that of the session, are split from the crew's, such as a new hub's
+/// first pass, and end in it. The gate is called from the threads of the session and of the workers, as `session` and `turn`
+/// say.
 pub fn serve_one<
     Q: Threads + Wait + Sync,
     L: Ledger + Send + Sync,

@@ -107,10 +107,11 @@ fn serve_doors<
 /// Serves the connections that the doors give, each by a session over the hub, until no more will come or a call of the doors
 /// fails: then no further door is asked for, and the connections that came before are served to their ends. So many threads
 /// run the sessions, each one at a time, and so many workers make the works of accepted changes beside them. A connection's
-/// own fault ends its session alone. The gate is told what `session` and the workers' turns tell it, from their threads.
+/// own fault ends only its session. The gate is called from the threads of the sessions and the workers, as `session` and
+/// `turn` say.
 ///
-/// The calling thread alone asks the doors. It hands each connection over by a queue with as many places as there are
-/// sessions, and asks for the next one only where a place is free. So a client that sends nothing, or half a line, or never
+/// Only the calling thread asks the doors. It hands each connection over by a queue with as many places as there are
+/// sessions, and asks for the next one only if a place is free. So a client that sends nothing, or half a line, or never
 /// reads, keeps one thread, and nobody else. With no session, or if no thread can be made for one, the calling thread serves each
 /// connection itself before it asks for the next one; a worker for which none can be made doesn't work.
 ///

@@ -70,7 +70,7 @@ fn start_sessions<
     is_any
 }
 
-// Hands over what comes, and asks for the next one only where there is a place for it.
+// Hands over what comes, and asks for the next one only if there is a place for it.
 fn hand_over<Q: Wait, C, A: Arrivals<C>>(rt: &Q, queue: &Queue<C>, arrivals: A) -> A
     requires { A.Since arrivals arrivals }
     ensures { A.Ended arrivals result }
@@ -109,7 +109,7 @@ fn serve_alone<Q: Threads + Wait + Sync, C, N: Attendant<C>, A: Arrivals<C>>(
     unreachable!()
 }
 
-// Serves what comes by other threads, or where there are none on this one.
+// Serves what comes by other threads, or on this one if there are none.
 fn serve_all<Q: Threads + Wait + Sync, C, N: Attendant<C>, A: Arrivals<C>>(
     rt: &Q,
     keyer: &Keyer,
@@ -130,8 +130,8 @@ fn serve_all<Q: Threads + Wait + Sync, C, N: Attendant<C>, A: Arrivals<C>>(
     }
 }
 
-/// Serves what comes, by a thread for each attendant, while one can be made, or where there is none on this one, by an
-/// attendant of its own, which it gives back. All that came is served behind it, and no thread of a session is left.
+/// Serves what comes by a thread for each attendant, while one can be made, or, if there is none, on this one by an attendant
+/// of its own, which it gives back. Afterwards all that came is served, and no thread of a session is left.
 pub(crate) fn serve_arrivals<
     Q: Threads + Wait + Sync,
     C: Send,
