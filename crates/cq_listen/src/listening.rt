@@ -1,8 +1,8 @@
-ghost use Rattle.std.specs.Prelude.{◌≡◌, ◌+◌, ◌≤◌, vec_len, All, IsSome, IfOk, OnErr};
+ghost use Rattle.std.specs.Prelude.{◌≡◌, ◌+◌, ◌≤◌, vec_len, IsSome, IfOk, OnErr};
 ghost use Rattle.cq_base.specs.Settings.{IsInRange};
 ghost use Rattle.cq_shared.specs.SharedPasses.{settings_of};
 ghost use Rattle.cq_listen.specs.Endings.{HasEnded, IsServedWith};
-ghost use Rattle.cq_listen.specs.Seats.{IsIdle};
+ghost use Rattle.cq_listen.specs.Seats.{AreSetTo, IsIdle};
 
 use crate::benches::benches_of;
 use crate::connection::Connection;
@@ -71,8 +71,8 @@ fn serve_doors<
     queue: Queue<Connection<S, K>>,
     doors: &mut D,
 ) -> Served
-    requires workers { All (λ m. M.settings m ≡ keyer.now.settings) staff.workers.items }
-    requires attendants { All (λ n. N.settings n ≡ keyer.now.settings) staff.attendants.items }
+    requires workers { AreSetTo M.settings keyer.now.settings staff.workers.items }
+    requires attendants { AreSetTo N.settings keyer.now.settings staff.attendants.items }
     requires own { N.settings staff.own ≡ keyer.now.settings }
     requires bound { IsSome (D.bound doors.old) }
     ensures ended { HasEnded (D.faults doors.old) (D.faults doors.new)

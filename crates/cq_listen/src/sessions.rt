@@ -1,6 +1,7 @@
-ghost use Rattle.std.specs.Prelude.{◌≡◌, All};
+ghost use Rattle.std.specs.Prelude.{◌≡◌};
 ghost use Rattle.std.specs.Thread.{IsSync};
 ghost use Rattle.cq_base.specs.declared.settings.Settings.{Settings as Told};
+ghost use Rattle.cq_listen.specs.Seats.{AreSetTo};
 
 use crate::doorway::Arrivals;
 use crate::queue::Queue;
@@ -53,7 +54,7 @@ fn start_sessions<
     attendants: Vec<N>,
     queue: &'s Queue<C>,
 ) -> bool
-    requires { All (λ n. N.settings n ≡ keyer.now.settings) attendants.items }
+    requires { AreSetTo N.settings keyer.now.settings attendants.items }
 {
     let mut is_any = false;
     'attendants: for attendant in attendants {
@@ -138,7 +139,7 @@ pub(crate) fn serve_arrivals<
     N: Attendant<C> + Send + Drop,
     A: Arrivals<C> + Drop,
 >(rt: &Q, keyer: &Keyer, attendants: Vec<N>, own: N, queue: &Queue<C>, arrivals: A) -> (A, N)
-    requires attendants { All (λ n. N.settings n ≡ keyer.now.settings) attendants.items }
+    requires attendants { AreSetTo N.settings keyer.now.settings attendants.items }
     requires own { N.settings own ≡ keyer.now.settings }
     requires since { A.Since arrivals arrivals }
     ensures ended { A.Ended arrivals result.0 }
@@ -148,7 +149,7 @@ pub(crate) fn serve_arrivals<
         thread::scope_env(),
         rt,
         move |scope| -> (A, N)
-            requires { All (λ n. N.settings n ≡ keyer.now.settings) attendants.items
+            requires { AreSetTo N.settings keyer.now.settings attendants.items
                 × (N.settings own ≡ keyer.now.settings) × A.Since arrivals arrivals }
             ensures { A.Ended arrivals result.0 × (N.settings result.1 ≡ N.settings own) }
         {
