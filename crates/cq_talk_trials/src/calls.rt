@@ -120,7 +120,7 @@ fn noted<R: Threads + Sync>(
     let gate = Noting {
         calls: RefCell::new(String::new(alloc)),
     };
-    let (_, (end, _)) = both_here(rt, alloc, settings, before, input, &gate)?;
+    let (_, (end, _)) = both_here(rt, alloc, settings, (before, input), &gate)?;
     Ok(Some((end, gate.calls.into_inner())))
 }
 

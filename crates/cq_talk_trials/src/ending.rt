@@ -2,7 +2,7 @@ ghost use Rattle.std.specs.Prelude.{◌≡◌, []};
 ghost use Rattle.cq_base.specs.Settings.{IsInRange};
 ghost use Rattle.cq_shared.specs.SharedPasses.{IsPassOf, settings_of};
 
-use crate::running::{Outcome, conversed_over};
+use crate::running::{Floor, Outcome, conversed_over};
 use cq_base::{Counters, Memory, Settings, Steps};
 use cq_chain::Pass;
 use cq_io::{Gate, MemSink, MemSource, OpenGate, Sink, Source};
@@ -17,59 +17,40 @@ use std::thread::{Threads, join};
 
 /// How the session of a caller who has seen nothing ends.
 pub(crate) fn conversed<Q: Threads + Sync, L: Ledger, R: Wait, S: Source, K: Sink, G: Gate>(
-    rt: &Q,
-    alloc: Global,
-    settings: &Settings,
-    hub: &Shared<Work<L>, R>,
+    floor: &Floor<'_, Q, Shared<Work<L>, R>, G>,
     counters: &Counters<L>,
-    gate: &G,
     source: &mut S,
     sink: &mut K,
     mut pass: Pass<Work<L>>,
 ) -> Result<End, Memory>
-    requires in_range { IsInRange settings.now }
-    requires hub_settings { settings_of hub.now ≡ settings.now }
-    requires of { IsPassOf hub.now pass }
+    requires in_range { IsInRange floor.now.settings.now }
+    requires hub_settings { settings_of floor.now.hub.now ≡ floor.now.settings.now }
+    requires of { IsPassOf floor.now.hub.now pass }
     requires fresh { pass.seen ≡ [] }
 {
     let mut steps: Steps<L> = counters.counter();
-    conversed_over(
-        rt, alloc, settings, hub, gate, source, sink, &mut pass, &mut steps,
-    )
+    conversed_over(floor, source, sink, &mut pass, &mut steps)
 }
 
 /// The same, and what it writes for an input. The reads of that, of 97 bytes each, are counted from 1, and the one with the
 /// number `failing` fails.
 pub(crate) fn ended<Q: Threads + Sync, L: Ledger, R: Wait, G: Gate>(
-    rt: &Q,
-    alloc: Global,
-    settings: &Settings,
-    hub: &Shared<Work<L>, R>,
+    floor: &Floor<'_, Q, Shared<Work<L>, R>, G>,
     counters: &Counters<L>,
-    gate: &G,
     input: &[u8],
     failing: u64,
     pass: Pass<Work<L>>,
 ) -> Result<Outcome, Memory>
-    requires in_range { IsInRange settings.now }
-    requires hub_settings { settings_of hub.now ≡ settings.now }
-    requires of { IsPassOf hub.now pass }
+    requires in_range { IsInRange floor.now.settings.now }
+    requires hub_settings { settings_of floor.now.hub.now ≡ floor.now.settings.now }
+    requires of { IsPassOf floor.now.hub.now pass }
     requires fresh { pass.seen ≡ [] }
 {
+    let alloc = floor.alloc;
     let bytes = Vec::from_slice(alloc, input)?;
     let mut source = MemSource::new(bytes, 97, vec![in alloc; failing]?);
     let mut sink = MemSink::new(alloc, 1_048_576, 89, Vec::new(alloc))?;
-    let end = conversed(
-        rt,
-        alloc,
-        settings,
-        hub,
-        counters,
-        gate,
-        &mut source,
-        &mut sink,
-        pass,
-    )?;
+    let end = conversed(floor, counters, &mut source, &mut sink, pass)?;
     let output = Vec::from_slice(alloc, sink.written())?;
     Ok((end, output))
 }
@@ -81,53 +62,35 @@ pub(crate) fn both_ended<
     R: Wait + Sync,
     G: Gate + Sync,
 >(
-    rt: &Q,
-    alloc: Global,
-    settings: &Settings,
-    hub: &Shared<Work<L>, R>,
+    floor: &Floor<'_, Q, Shared<Work<L>, R>, G>,
     counters: &Counters<L>,
-    gate: &G,
     first: (&str, u64),
     second: (&str, u64),
     one: Pass<Work<L>>,
     two: Pass<Work<L>>,
 ) -> Result<(Outcome, Outcome), Memory>
-    requires in_range { IsInRange settings.now }
-    requires hub_settings { settings_of hub.now ≡ settings.now }
-    requires one { IsPassOf hub.now one × (one.seen ≡ []) }
-    requires two { IsPassOf hub.now two × (two.seen ≡ []) }
+    requires in_range { IsInRange floor.now.settings.now }
+    requires hub_settings { settings_of floor.now.hub.now ≡ floor.now.settings.now }
+    requires one { IsPassOf floor.now.hub.now one × (one.seen ≡ []) }
+    requires two { IsPassOf floor.now.hub.now two × (two.seen ≡ []) }
 {
     let (first_input, first_failing) = first;
     let (second_input, second_failing) = second;
     let (one, two) = join(
-        rt,
+        floor.rt,
         move || -> Result<Outcome, Memory>
-            requires { IsInRange settings.now × (settings_of hub.now ≡ settings.now)
-                × IsPassOf hub.now one × (one.seen ≡ []) }
+            requires { IsInRange floor.now.settings.now
+                × (settings_of floor.now.hub.now ≡ floor.now.settings.now)
+                × IsPassOf floor.now.hub.now one × (one.seen ≡ []) }
+        { ended(floor, counters, first_input.as_bytes(), first_failing, one) },
+        move || -> Result<Outcome, Memory>
+            requires { IsInRange floor.now.settings.now
+                × (settings_of floor.now.hub.now ≡ floor.now.settings.now)
+                × IsPassOf floor.now.hub.now two × (two.seen ≡ []) }
         {
             ended(
-                rt,
-                alloc,
-                settings,
-                hub,
+                floor,
                 counters,
-                gate,
-                first_input.as_bytes(),
-                first_failing,
-                one,
-            )
-        },
-        move || -> Result<Outcome, Memory>
-            requires { IsInRange settings.now × (settings_of hub.now ≡ settings.now)
-                × IsPassOf hub.now two × (two.seen ≡ []) }
-        {
-            ended(
-                rt,
-                alloc,
-                settings,
-                hub,
-                counters,
-                gate,
                 second_input.as_bytes(),
                 second_failing,
                 two,
@@ -136,6 +99,15 @@ pub(crate) fn both_ended<
     );
     let one = one?;
     Ok((one, two?))
+}
+
+/// What three sessions are given: the first two, which run at the same time, an input and the number of the read that fails,
+/// and the last one, after them, an input.
+#[derive(Clone, Copy)]
+pub(crate) struct Inputs<'a> {
+    pub first: (&'a str, u64),
+    pub second: (&'a str, u64),
+    pub third: &'a str,
 }
 
 /// What two sessions at the same time came to, how a third one after them ended, and which version is published then, and up to
@@ -154,9 +126,7 @@ fn three_ended<Q: Threads + Wait + Sync, L: Ledger + Send + Sync, G: Gate + Sync
     alloc: Global,
     settings: &Settings,
     gate: &G,
-    first: (&str, u64),
-    second: (&str, u64),
-    third: &str,
+    inputs: &Inputs<'_>,
     blank: Blank,
 ) -> Result<Ends, Memory>
     requires in_range { IsInRange settings.now }
@@ -169,13 +139,22 @@ fn three_ended<Q: Threads + Wait + Sync, L: Ledger + Send + Sync, G: Gate + Sync
     let one = hub.split_pass(&mut pass);
     let two = hub.split_pass(&mut pass);
     let three = hub.split_pass(&mut pass);
-    let (one, two) = both_ended(
-        rt, alloc, settings, &hub, &counters, gate, first, second, one, two,
-    )?;
-    let input = third.as_bytes();
-    let (later, _) = ended(
-        rt, alloc, settings, &hub, &counters, &OpenGate, input, 0, three,
-    )?;
+    let floor = Floor {
+        rt,
+        alloc,
+        settings,
+        hub: &hub,
+        gate,
+    };
+    let (one, two) = both_ended(&floor, &counters, inputs.first, inputs.second, one, two)?;
+    let alone = Floor {
+        rt,
+        alloc,
+        settings,
+        hub: &hub,
+        gate: &OpenGate,
+    };
+    let (later, _) = ended(&alone, &counters, inputs.third.as_bytes(), 0, three)?;
     let floor = hub.sweep(alloc, &mut pass)?;
     let asked = hub.ask(&mut pass);
     Ok(Ends {
@@ -187,26 +166,15 @@ fn three_ended<Q: Threads + Wait + Sync, L: Ledger + Send + Sync, G: Gate + Sync
     })
 }
 
-/// The same over a new hub. Each of the two has an input and the number of the read that fails.
+/// The same over a new hub.
 pub(crate) fn three_here<Q: Threads + Wait + Sync, G: Gate + Sync>(
     rt: &Q,
     alloc: Global,
     settings: &Settings,
     gate: &G,
-    first: (&str, u64),
-    second: (&str, u64),
-    third: &str,
+    inputs: &Inputs<'_>,
 ) -> Result<Ends, Memory>
     requires { IsInRange settings.now }
 {
-    three_ended::<Q, Brand, G>(
-        rt,
-        alloc,
-        settings,
-        gate,
-        first,
-        second,
-        third,
-        Blank::new(1),
-    )
+    three_ended::<Q, Brand, G>(rt, alloc, settings, gate, inputs, Blank::new(1))
 }

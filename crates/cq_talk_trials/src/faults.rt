@@ -1,4 +1,4 @@
-use crate::ending::three_here;
+use crate::ending::{Inputs, three_here};
 use crate::threads::SETTINGS;
 use cq_base::Memory;
 use cq_io::OpenGate;
@@ -44,15 +44,12 @@ fn faulted<Q: Threads + Wait + Sync>(rt: &Q, alloc: Global) -> Result<Option<Lef
     if settings.check().is_some() {
         return Ok(None);
     }
-    let ends = three_here(
-        rt,
-        alloc,
-        &settings,
-        &OpenGate,
-        (BROKEN, 3),
-        (WHOLE, 0),
-        WHOLE,
-    )?;
+    let inputs = Inputs {
+        first: (BROKEN, 3),
+        second: (WHOLE, 0),
+        third: WHOLE,
+    };
+    let ends = three_here(rt, alloc, &settings, &OpenGate, &inputs)?;
     Ok(Some(Left {
         broken: ends.one.0,
         whole: ends.two.0,

@@ -1,4 +1,4 @@
-use crate::ending::three_here;
+use crate::ending::{Inputs, three_here};
 use crate::running::Outcome;
 use crate::threads::SETTINGS;
 use cq_base::Memory;
@@ -108,7 +108,12 @@ fn two_help<Q: Threads + Clock + Wait + Sync>(
         first: &first,
         second: &second,
     };
-    let ends = three_here(rt, alloc, &settings, &gate, (ONE, 0), (TWO, 0), "")?;
+    let inputs = Inputs {
+        first: (ONE, 0),
+        second: (TWO, 0),
+        third: "",
+    };
+    let ends = three_here(rt, alloc, &settings, &gate, &inputs)?;
     Ok(Some(Helped {
         alike: are_alike(ends.one, ends.two),
         first: first.load(Ordering::SeqCst),

@@ -64,7 +64,7 @@ pub fn talks_here<R: Threads + Sync>(
     let (first, second) = drawn(alloc, settings, counts, seed)?;
     let input = first.asked.text.as_bytes();
     let input_then = second.asked.text.as_bytes();
-    let (one, two) = both_here(rt, alloc, settings, input, input_then, &OpenGate)?;
+    let (one, two) = both_here(rt, alloc, settings, (input, input_then), &OpenGate)?;
     Ok(compared(first, second, &one, &two))
 }
 
