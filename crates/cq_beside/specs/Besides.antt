@@ -1,13 +1,19 @@
 -- What is known of a pass behind a talk with workers beside it.
 use Rattle.std.specs.Prelude.{◌≡◌, ℕ, ◌+◌, ◌<◌, ◌≤◌, List}
 use mathlib.Core.List.{IsPrefix}
+use Rattle.cq_base.specs.Settings.{IsInRange}
+use Rattle.cq_base.specs.declared.settings.Settings.{Settings}
 use Rattle.cq_cells.specs.Callers.{Among}
 use Rattle.cq_cells.specs.Passes.{by_of}
 use Rattle.cq_chain.specs.Passes.{BoardPass, HasNoneFrom}
 use Rattle.cq_history.specs.declared.event.Event.{Event}
 use Rattle.cq_shared.specs.declared.shared.Shared.{Shared}
-use Rattle.cq_shared.specs.SharedPasses.{IsPassOf}
+use Rattle.cq_shared.specs.SharedPasses.{IsPassOf, settings_of}
 use Rattle.cq_talk.specs.Gathered.{StaysQuiet}
+
+-- the settings are in range, and the hub's
+abbrev pub IsSetTo : {W R : Type 0} → Settings → Shared W R → Type 0
+IsSetTo set hub = IsInRange set × (settings_of hub ≡ set)
 
 module _ {W R : Type 0} (hub : Shared W R) where
   -- the pass is still that of its caller, which accepts nothing and opens no view if it had done neither

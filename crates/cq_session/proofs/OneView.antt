@@ -31,8 +31,20 @@ use Rattle.cq_session.specs.Viewing.{ShowsAt, ViewsOrNot}
 use Rattle.cq_session.proofs.Spending.{costs_none, costs_later}
 use Rattle.cq_talk.proofs.Leading.{stands_mid}
 
-module _ {S P W : Type 0} (Stands : S → P → ℕ → List Event → Type 0) (set : Settings) (callers : ℕ) (alone : Type 0) (hub : S) (IsWork : Lang → List ℕ → W → Type 0)
-    (lawful : (pass : P) (c : ℕ) (h : List Event) → Stands hub pass c h → Lawful set callers h) (caller : (pass : P) (c : ℕ) (h : List Event) → Stands hub pass c h → c < callers) (c to : ℕ) (h : List Event) where
+module _ {S W P : Type 0} (of : Ghosts S W P) (hub : S) (IsWork : Lang → List ℕ → W → Type 0)
+    (lawful : (pass : P) (c : ℕ) (h : List Event) → of.Stands hub pass c h → Lawful (of.settings hub) (of.callers hub) h) (caller : (pass : P) (c : ℕ) (h : List Event) → of.Stands hub pass c h → c < of.callers hub) (c to : ℕ) (h : List Event) where
+  abbrev pub Stands : S → P → ℕ → List Event → Type 0
+  Stands = of.Stands
+
+  abbrev pub set : Settings
+  set = of.settings hub
+
+  abbrev pub callers : ℕ
+  callers = of.callers hub
+
+  abbrev pub alone : Type 0
+  alone = of.alone
+
   -- the publication was given up
   pub not_advanced : (Says : List Event → Type 0) (pass : P) (advanced : Calls Stands alone IsPublication c hub pass h [] Says) → IsClosed callers c h → (q : Query) (reads asked asked_now : ℕ) → asked_now ≡ asked → Leads Stands callers c hub pass (ViewsOrNot set alone c to q (counted reads reads asked asked_now) h)
   not_advanced Says pass advanced closed q reads asked asked_now same = record {
