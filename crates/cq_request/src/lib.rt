@@ -11,6 +11,7 @@ mod gist;
 mod laws;
 mod listing;
 mod member;
+mod number;
 mod reading;
 mod request;
 mod row;
