@@ -230,9 +230,10 @@ both_so a b is so = ap₂ (λ x y. x && y) is so
 integer_number : (s : List ℕ) → (slice_index s 0 == 45) ≡ false → IsInteger (scan s) → digits_of (scan s) < 2 ^ 64 → number_of s ≡ Some (unsigned (digits_of (scan s)))
 unfolding number_of
 integer_number s sign is low =
-    let whole = lt-ltb 0 (length (scan s).whole) is.0 in
-    let part : not (scan s).point ≡ true = ap not is.1 in
-    let last = eq-eqb (length (scan s).exponent) 0 is.2 in
+    let (some, no_point, no_exponent) = is in
+    let whole = lt-ltb 0 (length (scan s).whole) some in
+    let part : not (scan s).point ≡ true = ap not no_point in
+    let last = eq-eqb (length (scan s).exponent) 0 no_exponent in
     let integer : is_integer (scan s) ≡ true = both_so (nat_lt 0 (length (scan s).whole) && not (scan s).point) (length (scan s).exponent == 0) (both_so (nat_lt 0 (length (scan s).whole)) (not (scan s).point) whole part) last in
     let fits64 = both_so (is_integer (scan s)) (nat_lt (digits_of (scan s)) (2 ^ 64)) integer (lt-ltb (digits_of (scan s)) (2 ^ 64) low) in
     ap (λ (b : Bool). cond b (number_from true (scan (drop 1 s))) (number_from false (scan s))) sign
