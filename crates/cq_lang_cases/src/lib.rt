@@ -21,8 +21,6 @@ mod java_functions;
 #[cfg(test)]
 mod java_texts;
 #[cfg(test)]
-mod js_functions;
-#[cfg(test)]
 mod js_texts;
 #[cfg(test)]
 mod keys;

@@ -4,7 +4,6 @@ use cq_lex_any::Any;
 use cq_lex_c::C;
 use cq_lex_go::Go;
 use cq_lex_java::Java;
-use cq_lex_js::JavaScript;
 
 // At the first and at the last byte, in both kinds of comment, twice in one, in other words, outside comments, and where
 // splices divide what opens a comment or the word.
@@ -60,15 +59,6 @@ x //a \u000a//CPD-OFF ⇒ off 12
 /*CPD-OFF CPD-ON CPD-OF*/ ⇒ on 0
 "#;
 
-// A substitution of a template and a value of JSX have comments, and their texts have none.
-const OF_JS: &str = r#"//CPD-OFF ⇒ off 0
-x/*CPD-ON*/ ⇒ on 1
-#!CPD-OFF ⇒ off 0
-`//CPD-OFF ${/*CPD-ON*/a}` ⇒ on 13
-<a>//CPD-OFF{/*CPD-ON*/}</a> ⇒ on 13
-'//CPD-OFF'; "/*CPD-ON*/"; x = /[//]CPD-OFF/ ⇒
-"#;
-
 // A plain text has no comments.
 const OF_ANY: &str = r#"//CPD-OFF ⇒
 /*CPD-ON*/ ⇒
@@ -80,10 +70,6 @@ fn marks_in_comments(rt: HostRuntime) -> Result<(), Memory> {
     assert_eq!(rt; first_other::<Go>(rt.alloc(), Found::Marks, OF_GO)?, None);
     assert_eq!(rt;
         first_other::<Java>(rt.alloc(), Found::Marks, OF_JAVA)?,
-        None
-    );
-    assert_eq!(rt;
-        first_other::<JavaScript>(rt.alloc(), Found::Marks, OF_JS)?,
         None
     );
     assert_eq!(rt; first_other::<Any>(rt.alloc(), Found::Marks, OF_ANY)?, None);

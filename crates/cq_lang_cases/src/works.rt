@@ -52,18 +52,6 @@ fn texts_are_worked_by_their_language(rt: HostRuntime) -> Result<(), Memory> {
     assert!(rt; works(alloc, Lang::Go, "x/*CPD-OFF*/\ny\n", State::Ok, 2, 1, 0)?);
     assert!(rt; works(alloc, Lang::Any, "x/*CPD-OFF*/y", State::Ok, 9, 8, 0)?);
     assert!(rt; works(alloc, Lang::Java, "int a; /* b", State::Fault(7), 0, 0, 0)?);
-    assert!(rt;
-        works(
-            alloc,
-            Lang::Js,
-            "f = () => { `a${b}` }",
-            State::Ok,
-            10,
-            9,
-            1
-        )?
-    );
-    assert!(rt; works(alloc, Lang::Js, "x = /a", State::Fault(4), 0, 0, 0)?);
     Ok(())
 }
 

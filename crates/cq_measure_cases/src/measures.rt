@@ -11,7 +11,7 @@ use std::thread::Threads;
 
 fn token(first_line: u32, last_line: u32) -> Token {
     Token {
-        class: Class::Ident,
+        class: Class::Word,
         start: 0,
         len: 1,
         first_line,
@@ -74,13 +74,11 @@ fn line_tokens(alloc: Global, lines: u32) -> Result<Vec<Token>, Memory> {
     Ok(all)
 }
 
-fn spelled(alloc: Global, class: Class, texts: &[&str]) -> Result<Vec<Spelled>, Memory> {
-    let mut one = token(1, 1);
-    one.class = class;
+fn spelled(alloc: Global, texts: &[&str]) -> Result<Vec<Spelled>, Memory> {
     let mut all = Vec::new(alloc);
     for text in texts {
         all.push(Spelled {
-            token: one,
+            token: token(1, 1),
             text: Text::from_bytes(alloc, text.as_bytes())?,
         })?;
     }
@@ -248,15 +246,11 @@ fn decisions_are_told_by_language(rt: HostRuntime) -> Result<(), Memory> {
     let alloc = rt.alloc();
     let all = spelled(
         alloc,
-        Class::Word,
-        &[
-            "if", "for", "while", "case", "&&", "||", "?", "->", "else", "??",
-        ],
+        &["if", "for", "while", "case", "&&", "||", "?", "->", "else"],
     )?;
     assert_eq!(rt; complexity(Lang::Java, &all), 9);
     assert_eq!(rt; complexity(Lang::C, &all), 8);
     assert_eq!(rt; complexity(Lang::Go, &all), 6);
-    assert_eq!(rt; complexity(Lang::Js, &all), 9);
     assert_eq!(rt; complexity(Lang::Any, &all), 1);
     assert_eq!(rt; complexity(Lang::Java, &[]), 1);
     Ok(())
@@ -265,20 +259,9 @@ fn decisions_are_told_by_language(rt: HostRuntime) -> Result<(), Memory> {
 #[test]
 fn wildcards_of_java_decide_nothing(rt: HostRuntime) -> Result<(), Memory> {
     let alloc = rt.alloc();
-    let wildcards = spelled(alloc, Class::Punct, &["<", "?", ",", "?", ">", "?", "x"])?;
+    let wildcards = spelled(alloc, &["<", "?", ",", "?", ">", "?", "x"])?;
     assert_eq!(rt; complexity(Lang::Java, &wildcards), 2);
     assert_eq!(rt; complexity(Lang::C, &wildcards), 4);
-    Ok(())
-}
-
-// As the property of `a.if`, and a text of JSX.
-#[test]
-fn names_and_literals_decide_nothing(rt: HostRuntime) -> Result<(), Memory> {
-    let alloc = rt.alloc();
-    let names = spelled(alloc, Class::Ident, &["if", "for"])?;
-    assert_eq!(rt; complexity(Lang::Js, &names), 1);
-    let texts = spelled(alloc, Class::Literal, &["if", "?"])?;
-    assert_eq!(rt; complexity(Lang::Js, &texts), 1);
     Ok(())
 }
 

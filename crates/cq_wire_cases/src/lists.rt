@@ -52,15 +52,11 @@ const OF_JAVA: &str =
 const OF_GO: &str =
     r#"{"files":[{"change":1,"lang":"go","lines":2,"path":"a/é","state":"ok","tokens":3}],"ok":true,"version":5}"#;
 
-const OF_JS: &str =
-    r#"{"files":[{"change":1,"lang":"js","lines":2,"path":"a/é","state":"ok","tokens":3}],"ok":true,"version":5}"#;
-
-const FILES: [(Lang, Shown, &str); 5] = [
+const FILES: [(Lang, Shown, &str); 4] = [
     (Lang::Any, Shown::Ok, OF_ANY),
     (Lang::C, Shown::Fault(9), OF_C),
     (Lang::Java, Shown::Large, OF_JAVA),
     (Lang::Go, Shown::Ok, OF_GO),
-    (Lang::Js, Shown::Ok, OF_JS),
 ];
 
 #[test]

@@ -1,8 +1,7 @@
 use crate::cases::first_otherwise;
 use cq_base::Memory;
 
-// Semicolons of Go at line ends; digraphs and a splice of C; an escape of Java that is a quote; a comment without an end; and a
-// template, a regular expression, a division and an element of JavaScript.
+// Semicolons of Go at line ends; digraphs and a splice of C; an escape of Java that is a quote; and a comment without an end.
 const LISTINGS: &str = r#"$ run --chunk 2 --shards 1
 {"op":"put","project":"p","path":"a.go","lang":"go","text":"func f() int { return 1 }"} -> {"change":1,"ok":true}
 {"op":"put","project":"p","path":"b.go","lang":"go","text":"func f() int {\n\treturn 1\n}\n"} -> {"change":2,"ok":true}
@@ -24,12 +23,6 @@ $ run --chunk 2 --shards 1
 {"op":"put","project":"p","path":"A.java","lang":"java","text":"int a; /* b"} -> {"change":1,"ok":true}
 {"op":"files","project":"p"} -> {"files":[{"at":7,"change":1,"lang":"java","lines":1,"path":"A.java","state":"fault","tokens":0}],"ok":true,"version":1}
 {"op":"groups","project":"p","min":2} -> {"groups":[],"ok":true,"total":0,"version":1}
-$ run --chunk 2 --shards 1
-{"op":"put","project":"p","path":"a.js","lang":"js","text":"f = (x) => { return `a${x / 2 / y}` }"} -> {"change":1,"ok":true}
-{"op":"put","project":"p","path":"b.jsx","lang":"js","text":"x = /[/]/g, <p>it's {a ?? b}</p>"} -> {"change":2,"ok":true}
-{"op":"files","project":"p"} -> {"files":[{"change":1,"lang":"js","lines":1,"path":"a.js","state":"ok","tokens":16},{"change":2,"lang":"js","lines":1,"path":"b.jsx","state":"ok","tokens":14}],"ok":true,"version":2}
-{"op":"measures","project":"p"} -> {"measures":{"complexity":3,"duplicated_blocks":0,"duplicated_files":0,"duplicated_lines":0,"duplicated_lines_density":0,"files":2,"lines":2,"ncloc":2},"ok":true,"version":2}
-{"op":"functions","project":"p","path":"a.js"} -> {"functions":[{"complexity":1,"first":1,"last":1,"name":"f"}],"ok":true,"version":2,"worst":0}
 "#;
 
 #[test]
