@@ -8,7 +8,7 @@ ghost use Rattle.json.specs.Json.{value};
 ghost use Rattle.json.specs.Token.{begin_array};
 ghost use Rattle.cq_request.specs.Valued.{fits, formed, token_fits, IsJsonFor, IsMemberRead, IsUnfit};
 
-use crate::number::number_value;
+use crate::numbers::number_value;
 use crate::request::ReadError;
 use crate::skipping::pass_rest;
 use json::{Reader, Token};

@@ -11,7 +11,7 @@ mod gist;
 mod laws;
 mod listing;
 mod member;
-mod number;
+mod numbers;
 mod reading;
 mod request;
 mod row;

@@ -9,7 +9,7 @@ ghost use Rattle.json.specs.Reads.{token_of};
 ghost use Rattle.serde_json.specs.Read.{number_of};
 ghost use Rattle.cq_request.specs.Valued.{nested, token_fits, IsJsonFor, IsOver};
 
-use crate::number::{is_finite, parsed_number};
+use crate::numbers::{is_finite, parsed_number};
 use crate::request::ReadError;
 use cq_base::Refusal;
 use json::{Reader, Scratch, Token};
