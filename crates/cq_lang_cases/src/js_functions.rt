@@ -35,6 +35,7 @@ x = { delete() { }, catch: (e) => { }, "f"() { }, [g]() { }, 1() { } } ⇒
 // What only a parser tells from a function.
 const TAKEN: &str = r#"f()␊{ } ⇒ f 1 2 1
 a ? b : (c) => { } ⇒ b 1 1 1
+a = function () { }() ⇒ a 1 1 1
 "#;
 
 const UNBALANCED: &str = r#"function f() { ⇒
