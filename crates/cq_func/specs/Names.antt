@@ -225,9 +225,11 @@ value_place ts name =
     then type_end types.Value ts (name + 1) + 1
     else name + 2
 
--- The name before an equals sign is a type if a colon is before it.
+-- the last name of a value's type: before an equals sign, and after a colon or a sign that joins types
 abbrev pub is_type_name : List Spelled → ℕ → Bool
-is_type_name ts name = stands lang.Ts ts (name + 1) (codes "=") && stands_before lang.Ts ts name (codes ":")
+is_type_name ts name =
+    stands lang.Ts ts (name + 1) (codes "=")
+    && (stands_before lang.Ts ts name (codes ":") || (stands_before lang.Ts ts name (codes "|") || stands_before lang.Ts ts name (codes "&")))
 
 abbrev pub ts_value : List Spelled → ℕ → Option Found
 ts_value ts name =

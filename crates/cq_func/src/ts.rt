@@ -125,7 +125,10 @@ fn is_type_name(tokens: &[Spelled], name: usize) -> bool
     requires { name < length tokens.now }
     ensures { result ≡ names.is_type_name tokens.now name }
 {
-    stands(Lang::Ts, tokens, name + 1, b"=") && stands_before(Lang::Ts, tokens, name, b":")
+    stands(Lang::Ts, tokens, name + 1, b"=")
+        && (stands_before(Lang::Ts, tokens, name, b":")
+            || stands_before(Lang::Ts, tokens, name, b"|")
+            || stands_before(Lang::Ts, tokens, name, b"&"))
 }
 
 fn ts_value(tokens: &[Spelled], round: &[u32], curly: &[u32], name: usize) -> Option<Found>
