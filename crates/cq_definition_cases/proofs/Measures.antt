@@ -66,6 +66,9 @@ a_decision_counts_beside_the_one e = omega (arith, e)
 pub a_wildcard_decides_nothing : complexity lang.Java (spelled (codes "<") ∷ spelled (codes "?") ∷ []) ≡ 2 → ⊥
 a_wildcard_decides_nothing e = omega (arith, e)
 
+pub a_name_decides_nothing : complexity lang.Js (record { token = on_line 1; text = codes "if" } ∷ []) ≡ 2 → ⊥
+a_name_decides_nothing e = omega (arith, e)
+
 pub a_file_with_two_tallies_counts_once : project.dup_files ≡ 3 → ⊥
 a_file_with_two_tallies_counts_once e = omega (arith, e)
 

@@ -1,8 +1,9 @@
-//! The languages JavaScript and TypeScript: their names, reserved words, punctuators, literals, comments and blanks, by the lexical grammar of
-//! ECMA-262. A slash begins a regular expression or is a division by the token before it, and a closing brace ends a
-//! substitution of a template by what is open there; both are in the mode. One table scans literals, two scan
-//! the children and the tags of JSX, another every other element, and comments have scanners of their own: a look into a table for each unit, up to the first that cannot
-//! continue the element. It takes no memory. The units of a text of n bytes take at most 12 n bytes.
+//! The languages JavaScript and TypeScript: their names, reserved words, punctuators, literals, comments and blanks, by the
+//! lexical grammar of ECMA-262, and elements of JSX in JavaScript. A slash begins a regular expression or is a division by the
+//! token before it, and a closing brace ends a substitution of a template by what is open there; both are in the mode. One
+//! table scans literals, two the children and tags of JSX, another every other element, and comments have scanners of their
+//! own: a look into a table for each unit, up to the first that cannot continue the element. It takes no memory. The units of
+//! a text of n bytes take at most 12 n bytes.
 #![tactic(auto)]
 
 mod children;
