@@ -7,7 +7,7 @@ use Rattle.cq_lex_js.proofs.Dispatch.{closing_there}
 use Rattle.cq_lex_js.proofs.typescript.taken_typed.Goals as goal
 
 pub returns-then-is_closing : goal.returns-then-is_closing
-returns-then-is_closing c = λ at. closing_there at c.args.mode (characters c.args.units.now) (sym c.is_closing.ensures ∙ c.if-is_closing.true) _ c.found_of-then-is_closing.ensures
+returns-then-is_closing c = λ at. closing_there at c.args.mode (characters c.args.units.now) (sym c.is_closing.ensures ∙ c.if-is_closing.true) _ c.found_of.ensures
 
 pub returns : goal.returns
 returns c = λ at.
