@@ -33,6 +33,7 @@ f(): ⇒
 
 // What only a parser tells from a function.
 const TAKEN: &str = r#"let a: (b: C) => { d: E } ⇒ a 1 1 1
+function f(): A & { b: C }␊{␊} ⇒ f 1 1 1
 "#;
 
 const TEXTS: [&str; 5] = [DECLARED, GIVEN, DECISIONS, OTHERS, TAKEN];
