@@ -4,9 +4,9 @@
 usage: bench/functions.py LANG FOLDER [--files N] [--show N]
 
 LANG is java, go, c, js or ts. At most N (1,000) files of the language in FOLDER are taken, spread evenly. The other parser is javac of the JDK, by its
-tree API, for Java; go/parser for Go; Universal Ctags for C; the acorn in node for JavaScript; and
-TypeScript's compiler for TypeScript, see functions_ts.js. Besides functions it reports what
-docs/LANGUAGES.md does not count as one: lambdas, initialisers, function literals, and declarations without a body.
+tree API, for Java; go/parser for Go; Universal Ctags for C; the acorn in node for JavaScript; and TypeScript's compiler for TypeScript, see
+functions_ts.js. Besides functions it reports what docs/LANGUAGES.md does not count as one: lambdas, initialisers, function literals, and
+declarations without a body.
 
 Two functions are equal if their name, the line of the name and the last line of the body are. Printed are how many files were compared, and
 how many functions there are by kind: equal ones, those with another last line or another name, and those that only one of the two has. The
