@@ -322,12 +322,12 @@ ts_declared-found : (ts : List Spelled) (name : ℕ) (f : Found) → name < leng
 ts_declared-found ts name f inside is =
     let first = typed_parameters ts (name + 1) in
     let close = partner lang.Ts kind.Round ts first in
-    let open_ = behind_result ts (close + 1) in
-    let c = cond_some (not (is_used lang.Ts ts name) && (is_name ts name && stands lang.Ts ts first (codes "("))) (with_body lang.Ts ts name open_) f is in
+    let brace = behind_result ts (close + 1) in
+    let c = cond_some (not (is_used lang.Ts ts name) && (is_name ts name && stands lang.Ts ts first (codes "("))) (with_body lang.Ts ts name brace) f is in
     let opened = (and_parts (is_name ts name) (stands lang.Ts ts first (codes "(")) (and_parts (not (is_used lang.Ts ts name)) (is_name ts name && stands lang.Ts ts first (codes "(")) c.0).1).1 in
     let low : name + 1 ≤ first = typed_parameters-from ts (name + 1) in
     let over : first < close = partner_above lang.Ts kind.Round ts first (stands_inside lang.Ts ts first (codes "(") opened) in
-    with_body-found lang.Ts ts name open_ f inside (behind_result-above ts name (close + 1) inside (omega (arith, low, over))) c.1
+    with_body-found lang.Ts ts name brace f inside (behind_result-above ts name (close + 1) inside (omega (arith, low, over))) c.1
 
 ts_value-found : (ts : List Spelled) (name : ℕ) (f : Found) → name < length ts → ts_value ts name ≡ Some f → IsFound lang.Ts ts f
 ts_value-found ts name f inside is =
@@ -337,15 +337,15 @@ ts_value-found ts name f inside is =
     let first = typed_parameters ts value in
     let close = partner lang.Ts kind.Round ts first in
     let behind = behind_result ts (close + 1) in
-    let open_ = arrow_open lang.Ts ts at behind in
-    let c = cond_some (not (is_type_name ts name) && stands lang.Ts ts first (codes "(")) (with_body lang.Ts ts name open_) f is in
+    let brace = arrow_open lang.Ts ts at behind in
+    let c = cond_some (not (is_type_name ts name) && stands lang.Ts ts first (codes "(")) (with_body lang.Ts ts name brace) f is in
     let opened = (and_parts (not (is_type_name ts name)) (stands lang.Ts ts first (codes "(")) c.0).1 in
     let start : name < begin = value_place-above ts name in
     let low : begin ≤ at = past-from lang.Ts (codes "async") ts begin in
     let next : at ≤ value = expressed-from lang.Ts ts at in
     let more : value ≤ first = typed_parameters-from ts value in
     let over : first < close = partner_above lang.Ts kind.Round ts first (stands_inside lang.Ts ts first (codes "(") opened) in
-    with_body-found lang.Ts ts name open_ f inside
+    with_body-found lang.Ts ts name brace f inside
     (arrow_open-above lang.Ts ts name at behind inside (behind_result-above ts name (close + 1) inside (omega (arith, start, low, next, more, over)))) c.1
 
 cond_either : {X P : Type 0} (b : Bool) (x y : Option X) (f : X) → (x ≡ Some f → P) → (y ≡ Some f → P) → cond b x y ≡ Some f → P
