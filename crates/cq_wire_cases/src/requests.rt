@@ -147,6 +147,7 @@ const VALUES: &str = r#"{"op":"put","project":"p","path":"..","lang":"ada","text
 {"op":"put","project":"p","path":"t","lang":"c","text":""} ⇒ put [p] [t] c []
 {"op":"put","project":"p","path":"t","lang":"java","text":""} ⇒ put [p] [t] java []
 {"op":"put","project":"p","path":"t","lang":"js","text":""} ⇒ put [p] [t] js []
+{"op":"put","project":"p","path":"t","lang":"ts","text":""} ⇒ put [p] [t] ts []
 {"op":"put","project":"p","path":"t","lang":"jsx","text":""} ⇒ lang
 {"op":"put","project":"p","path":"..","lang":"any","text":""} ⇒ path
 {"op":"groups","project":"p","path":"..","min":1} ⇒ path
