@@ -3,9 +3,10 @@
 
 usage: bench/functions.py LANG FOLDER [--files N] [--show N]
 
-LANG is java, go, c or js. At most N (1,000) files of the language in FOLDER are taken, spread evenly. The other parser is javac of the JDK, by its
-tree API, for Java; go/parser for Go; Universal Ctags for C; and the acorn in node for JavaScript. Besides functions it reports what
-docs/LANGUAGES.md does not count as one: lambdas, initialisers, function literals, and declarations without a body.
+LANG is java, go, c, js or ts. At most N (1,000) files of the language in FOLDER are taken, spread evenly. The other parser is javac of the JDK, by its
+tree API, for Java; go/parser for Go; Universal Ctags for C; the acorn in node for JavaScript; and TypeScript's compiler for TypeScript, see
+functions_ts.js. Besides functions it reports what docs/LANGUAGES.md does not count as one: lambdas, initialisers, function literals, and
+declarations without a body.
 
 Two functions are equal if their name, the line of the name and the last line of the body are. Printed are how many files were compared, and
 how many functions there are by kind: equal ones, those with another last line or another name, and those that only one of the two has. The
@@ -69,7 +70,11 @@ def js_rows(paths):
     return (row for row in rows_of(told_by(["node", "--expose-internals", str(ROOT / "bench" / "functions.js")], paths)) if row[1] != "none")
 
 
-PEERS = {"java": java_rows, "go": go_rows, "c": c_rows, "js": js_rows}
+def ts_rows(paths):
+    return (row for row in rows_of(told_by(["node", str(ROOT / "bench" / "functions_ts.js")], paths)) if row[1] != "none")
+
+
+PEERS = {"java": java_rows, "go": go_rows, "c": c_rows, "js": js_rows, "ts": ts_rows}
 
 
 def chosen(lang, folder, most):
@@ -259,7 +264,7 @@ class OfC:
         return "function in a branch of #if that is passed over" if self.tokens[at].is_passed else "function"
 
 
-WHY = {"java": Plain, "go": Plain, "c": OfC, "js": Plain}
+WHY = {"java": Plain, "go": Plain, "c": OfC, "js": Plain, "ts": Plain}
 
 
 def tell(compared, most):

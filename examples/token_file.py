@@ -10,7 +10,7 @@ import re
 import sys
 
 CLASSES = ("ident", "word", "literal", "punct")
-LANGUAGES = ("any", "go", "c", "java", "js")
+LANGUAGES = ("any", "go", "c", "java", "js", "ts")
 METRICS = ("lines", "ncloc", "files", "complexity", "duplicated_lines", "duplicated_blocks", "duplicated_files",
            "duplicated_lines_density")
 

@@ -12,6 +12,7 @@ from cqd_client.tokens import tokens_of
 PIECES = {
     "js": ["x = /[/]/g, a / b / c;", "`a${b}c${`d${{e: 1}}`}`;", "f(a => <b c={d}>it's {e ?? 'f'}</b>) / 2;", "a.if / b / c;", "a?.5 : 0x1F_f;", "// CPD-OFF\n",
            "// CPD-ON\n", "/* \"*/", "<></>;", "#p in q;", "'\\'' + \"\\\n\";", "\u00e9t\u00e9 ** \\u0061;", "<A.B c='\"' d:e={<g/>} />;", "}/a/g;", "a++ / 2;"],
+    "ts": ["let x: Map<a, Array<b>> = c;", "d!/e/f;", "g >> h >>>= i >= j;", "k = <L>m / /n/.o;", "p?: q;", "r ? s : `t${<u>v}`;", "// CPD-OFF\n", "// CPD-ON\n", "!/w/;"],
     "java": ["int a = 0x1.p3;", "/* \" */", "// CPD-OFF\n", "// CPD-ON\n", "\"\"\"\n a\"b\\\"\"\" \"\"\";", "List<List<A>> b;", "c >>>= 'd';", "@E(1) f();"],
     "go": ["a := `b\n`;", "c()\n", "'\\''", "d &^= 0x1_f;", "// CPD-OFF\n", "// CPD-ON\n", "return\n", "e++\n"],
     "c": ["#include <a.h>\n", "b->c <<= 0x1.p+3;", "L\"d\\\n\";", "// CPD-OFF\n", "// CPD-ON\n", "%:define e ##\n", "f\\\ng;"],

@@ -1,4 +1,4 @@
-"""The tokens of JavaScript with JSX, for the module `tokens`.
+"""The tokens of JavaScript with JSX and of TypeScript, for the module `tokens`.
 
 Whether a slash divides, whether a less-than sign begins an element, and what a brace closes depends on the tokens before. So
 unlike the other languages it takes more than one pattern, and a list of what is open.
@@ -23,10 +23,14 @@ def pattern(*tokens: str) -> re.Pattern[str]:
     return re.compile(r"[\s\ufeff]*(?:" + COMMENT + "|(?P<token>" + "|".join(tokens) + "))", re.DOTALL | re.VERBOSE)
 
 
-# by whether an operand is expected, and whether a closing brace ends a substitution
+# several greater-than signs of TypeScript are one each, unless an equals sign follows
+CLOSING = r">(?=>(?!>?=))"
+
+# by whether the language is TypeScript, an operand is expected, and a closing brace ends a substitution
 OUTSIDE = {
-    (operand, ends): pattern(NAME, NUMBER, STRING, "`" + TEMPLATE, *([r"\}" + TEMPLATE] if ends else []), *([REGEX] if operand else []), PUNCTUATOR)
-    for operand in (False, True) for ends in (False, True)}
+    (is_typed, operand, ends): pattern(NAME, NUMBER, STRING, "`" + TEMPLATE, *([r"\}" + TEMPLATE] if ends else []), *([REGEX] if operand else []),
+                                       *([CLOSING] if is_typed else []), PUNCTUATOR)
+    for is_typed in (False, True) for operand in (False, True) for ends in (False, True)}
 IN_TAG = pattern(r"(?:[^\W\d]|[$])[\w$-]*", r'"[^"]*"', r"'[^']*'", r"[.:=/><{]")
 # A text of an element has no comments.
 CHILD = re.compile(r"[\t-\r ]*(?:(?P<comment>(?!))|(?P<token>[^<>{}\t-\r ]+(?:[\t-\r ]+[^<>{}\t-\r ]+)*|<[\t-\r ]*/[^<>{}]*>|[<{]))")
@@ -38,7 +42,8 @@ WORDS = frozenset("""await break case catch class const continue debugger defaul
 class Reader:
     """What is open at a place of a text, the innermost last, and whether an operand is expected there."""
 
-    def __init__(self) -> None:
+    def __init__(self, is_typed: bool) -> None:
+        self.is_typed = is_typed
         self.opened: list[str] = []
         self.operand = True
         self.after_point = False
@@ -51,7 +56,7 @@ class Reader:
     def pattern(self) -> re.Pattern[str]:
         if self.inside in ("tag", "element"):
             return IN_TAG if self.inside == "tag" else CHILD
-        return OUTSIDE[self.operand, self.inside == "substitution"]
+        return OUTSIDE[self.is_typed, self.operand, self.inside == "substitution"]
 
     def open(self, what: str) -> None:
         self.opened.append(what)
@@ -86,8 +91,11 @@ class Reader:
             self.operand = True
         elif spelling == "}":
             self.close(True)
-        elif spelling == "<" and self.operand:
+        elif spelling == "<" and self.operand and not self.is_typed:
             self.open("tag")
+        elif spelling == "!" and not self.operand and self.is_typed:
+            # it asserts that the operand is there
+            self.operand = False
         else:
             self.after_point = spelling in (".", "?.")
             ends = spelling in (")", "]", "++", "--") or (after_point or spelling not in WORDS) and is_operand(spelling)
@@ -109,9 +117,9 @@ def is_operand(spelling: str) -> bool:
     return bool(re.match(r"""[\w$\#\\"']|\.[0-9]|/.+/""", spelling, re.DOTALL))
 
 
-def matches_of(text: str) -> Iterator[re.Match[str]]:
+def matches_of(text: str, is_typed: bool) -> Iterator[re.Match[str]]:
     """A match for each token and comment, with the group `token` or `comment`, up to where the text has a fault."""
-    reader, at = Reader(), 0
+    reader, at = Reader(is_typed), 0
     while match := reader.pattern().match(text, at):
         yield match
         at = match.end()

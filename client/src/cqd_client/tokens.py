@@ -49,7 +49,7 @@ C = re.compile(COMMENT.format(line_end="") + r"""|(?P<token>(?!(?<![^\n])(?:\#|%
 ANY = re.compile(r"\s*(?:(?P<comment>(?!))|(?P<token>\w+|[^\w\s]))")
 
 PATTERNS = {"java": JAVA, "go": GO, "c": C, "any": ANY}
-LANGUAGES = frozenset((*PATTERNS, "js"))
+LANGUAGES = frozenset((*PATTERNS, "js", "ts"))
 MARK = re.compile("CPD-(OFF|ON)")
 SPLICE = re.compile(r"\\\r?\n")
 GO_LAST = re.compile(r"""[\w"'`]|\.[0-9]|\+\+$|--$|[)\]}]$""")
@@ -63,7 +63,7 @@ def tokens_of(text: str, lang: str) -> list[Token]:
         return [(start + 1, end + 1) for start, end in tokens_of(text[1:], lang)]
     if lang == "c" and SPLICE.search(text):
         return unspliced(text)
-    matches = javascript.matches_of(text) if lang == "js" else PATTERNS[lang].finditer(text)
+    matches = PATTERNS[lang].finditer(text) if lang in PATTERNS else javascript.matches_of(text, lang == "ts")
     if lang == "go":
         return list(with_semicolons(text, all_tokens(matches)))
     if lang != "c" and "CPD-O" not in text:

@@ -17,11 +17,12 @@ from .notes import Notes
 from .patterns import Patterns
 from .wording import counted
 
-LANGUAGE_OF = {".java": "java", ".go": "go", ".c": "c", ".h": "c", ".js": "js", ".mjs": "js", ".cjs": "js", ".jsx": "js"}
-NAMES = ("any", "go", "c", "java", "js")
+LANGUAGE_OF = {".java": "java", ".go": "go", ".c": "c", ".h": "c", ".js": "js", ".mjs": "js", ".cjs": "js", ".jsx": "js",
+               ".ts": "ts", ".mts": "ts", ".cts": "ts"}
+NAMES = ("any", "go", "c", "java", "js", "ts")
 # Endings of code that is read only if an option says how.
 OTHER_CODE = frozenset(""".c++ .cc .cpp .cs .cxx .dart .groovy .h++ .hh .hpp .hxx .inc .kt .kts .lua .m .mm .php .pl .pm .py .rb
-    .rs .scala .swift .ts .tsx .vb""".split())
+    .rs .scala .swift .tsx .vb""".split())
 
 
 @dataclass(frozen=True)

@@ -39,6 +39,7 @@ lang_found lang.Go = refl
 lang_found lang.C = refl
 lang_found lang.Java = refl
 lang_found lang.Js = refl
+lang_found lang.Ts = refl
 
 lang_by_name : (l : Lang) → with_name lang_name langs (lang_name l) ≡ Some l
 lang_by_name lang.Any = refl
@@ -46,6 +47,7 @@ lang_by_name lang.Go = refl
 lang_by_name lang.C = refl
 lang_by_name lang.Java = refl
 lang_by_name lang.Js = refl
+lang_by_name lang.Ts = refl
 
 -- two with one code are the same
 one_code : {X : Type 0} (code_of : X → ℕ) (xs : List X) → ((x : X) → with_code code_of xs (code_of x) ≡ Some x) → (a b : X) → code_of a ≡ code_of b → a ≡ b

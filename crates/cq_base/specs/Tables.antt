@@ -36,6 +36,7 @@ lang_code lang.Go = 1
 lang_code lang.C = 2
 lang_code lang.Java = 3
 lang_code lang.Js = 4
+lang_code lang.Ts = 5
 
 abbrev pub lang_name : Lang → List ℕ
 lang_name lang.Any = codes "any"
@@ -43,9 +44,10 @@ lang_name lang.Go = codes "go"
 lang_name lang.C = codes "c"
 lang_name lang.Java = codes "java"
 lang_name lang.Js = codes "js"
+lang_name lang.Ts = codes "ts"
 
 abbrev pub langs : List Lang
-langs = lang.Any ∷ lang.Go ∷ lang.C ∷ lang.Java ∷ lang.Js ∷ []
+langs = lang.Any ∷ lang.Go ∷ lang.C ∷ lang.Java ∷ lang.Js ∷ lang.Ts ∷ []
 
 abbrev pub lang_coded : ℕ → Option Lang
 lang_coded code = with_code lang_code langs code

@@ -12,9 +12,11 @@ pub enum Lang {
     Java,
     /// JavaScript, with JSX.
     Js,
+    /// TypeScript, without JSX.
+    Ts,
 }
 
-const LANGS: [Lang; 5] = [Lang::Any, Lang::Go, Lang::C, Lang::Java, Lang::Js];
+const LANGS: [Lang; 6] = [Lang::Any, Lang::Go, Lang::C, Lang::Java, Lang::Js, Lang::Ts];
 
 // The first with this name.
 fn first_named(langs: &[Lang], name: &str) -> Option<Lang>
@@ -46,6 +48,7 @@ impl Lang {
             Lang::C => 2,
             Lang::Java => 3,
             Lang::Js => 4,
+            Lang::Ts => 5,
         }
     }
 
@@ -59,6 +62,7 @@ impl Lang {
             Lang::C => "c",
             Lang::Java => "java",
             Lang::Js => "js",
+            Lang::Ts => "ts",
         }
     }
 

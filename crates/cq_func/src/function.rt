@@ -7,6 +7,7 @@ use crate::go::go_functions;
 use crate::java::java_functions;
 use crate::js::js_functions;
 use crate::own::own_decisions;
+use crate::ts::ts_functions;
 use cq_base::{Lang, Memory, Spelled, Text};
 use std::alloc::Global;
 
@@ -30,6 +31,7 @@ fn found(alloc: Global, lang: Lang, tokens: &[Spelled]) -> Result<Vec<Found>, Me
         Lang::C => c_functions(alloc, tokens),
         Lang::Java => java_functions(alloc, tokens),
         Lang::Js => js_functions(alloc, tokens),
+        Lang::Ts => ts_functions(alloc, tokens),
     }
 }
 

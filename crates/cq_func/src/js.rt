@@ -11,14 +11,14 @@ use crate::spelling::{is_called, is_name, stands, stands_before};
 use cq_base::{Lang, Memory, Spelled};
 use std::alloc::Global;
 
-// A use of a name that is no method.
-fn is_used(tokens: &[Spelled], name: usize) -> bool
-    ensures { result ≡ names.is_used tokens.now name }
+/// A use of a name that is no method.
+pub(crate) fn is_used(lang: Lang, tokens: &[Spelled], name: usize) -> bool
+    ensures { result ≡ names.is_used lang tokens.now name }
 {
-    stands_before(Lang::Js, tokens, name, b"new")
-        || stands_before(Lang::Js, tokens, name, b"extends")
-        || stands_before(Lang::Js, tokens, name, b".")
-        || stands_before(Lang::Js, tokens, name, b"?.")
+    stands_before(lang, tokens, name, b"new")
+        || stands_before(lang, tokens, name, b"extends")
+        || stands_before(lang, tokens, name, b".")
+        || stands_before(lang, tokens, name, b"?.")
 }
 
 fn js_declared(tokens: &[Spelled], round: &[u32], curly: &[u32], name: usize) -> Option<Found>
@@ -27,61 +27,60 @@ fn js_declared(tokens: &[Spelled], round: &[u32], curly: &[u32], name: usize) ->
     requires within { name + 1 < length tokens.now }
     ensures { result ≡ names.js_declared tokens.now name }
 {
-    if is_used(tokens, name) {
+    if is_used(Lang::Js, tokens, name) {
         return None;
     }
     let close = partner(Lang::Js, Kind::Round, tokens, round, name + 1);
     with_body(Lang::Js, tokens, curly, name, close + 1)
 }
 
-// A name that is given a value.
-fn is_given(tokens: &[Spelled], name: usize) -> bool
+/// A name that is given a value.
+pub(crate) fn is_given(lang: Lang, tokens: &[Spelled], name: usize) -> bool
     requires { name < length tokens.now }
-    ensures { result ≡ names.is_given tokens.now name }
+    ensures { result ≡ names.is_given lang tokens.now name }
 {
     is_name(tokens, name)
-        && (stands(Lang::Js, tokens, name + 1, b"=") || stands(Lang::Js, tokens, name + 1, b":"))
+        && (stands(lang, tokens, name + 1, b"=") || stands(lang, tokens, name + 1, b":"))
 }
 
-// The next place, if this word is here.
-fn past(word: &[u8], tokens: &[Spelled], at: usize) -> usize
-    ensures { result ≡ names.past word.now tokens.now at }
+/// The next place, if this word is here.
+pub(crate) fn past(lang: Lang, word: &[u8], tokens: &[Spelled], at: usize) -> usize
+    ensures { result ≡ names.past lang word.now tokens.now at }
 {
-    if stands(Lang::Js, tokens, at, word) {
+    if stands(lang, tokens, at, word) {
         at + 1
     } else {
         at
     }
 }
 
-fn is_expression(tokens: &[Spelled], at: usize) -> bool
-    ensures is { result ≡ names.is_expression tokens.now at }
+fn is_expression(lang: Lang, tokens: &[Spelled], at: usize) -> bool
+    ensures is { result ≡ names.is_expression lang tokens.now at }
     ensures within { IsTrue result → at < length tokens.now }
 {
-    stands(Lang::Js, tokens, at, b"function")
+    stands(lang, tokens, at, b"function")
 }
 
-// Where the parameters of a function begin that begins here.
-fn js_parameters(tokens: &[Spelled], at: usize) -> usize
-    ensures { result ≡ names.js_parameters tokens.now at }
+/// Where the parameters of a function begin that begins here.
+pub(crate) fn expressed(lang: Lang, tokens: &[Spelled], at: usize) -> usize
+    ensures { result ≡ names.expressed lang tokens.now at }
 {
-    if is_expression(tokens, at) {
-        past(b"*", tokens, at + 1)
+    if is_expression(lang, tokens, at) {
+        past(lang, b"*", tokens, at + 1)
     } else {
         at
     }
 }
 
-// Where its body is to begin.
-fn js_open(tokens: &[Spelled], at: usize, close: usize) -> usize
-    requires { close ≤ length tokens.now }
-    ensures { result ≡ names.js_open tokens.now at close }
+/// Where its body is to begin, after its parameters.
+pub(crate) fn arrow_open(lang: Lang, tokens: &[Spelled], at: usize, behind: usize) -> usize
+    ensures { result ≡ names.arrow_open lang tokens.now at behind }
 {
-    if is_expression(tokens, at) {
-        return close + 1;
+    if is_expression(lang, tokens, at) {
+        return behind;
     }
-    if stands(Lang::Js, tokens, close + 1, b"=>") {
-        return close + 2;
+    if stands(lang, tokens, behind, b"=>") {
+        return behind + 1;
     }
     tokens.len()
 }
@@ -93,13 +92,14 @@ fn js_value(tokens: &[Spelled], round: &[u32], curly: &[u32], name: usize) -> Op
     requires within { name < length tokens.now }
     ensures { result ≡ names.js_value tokens.now name }
 {
-    let at = past(b"async", tokens, name + 2);
-    let first = js_parameters(tokens, at);
+    let at = past(Lang::Js, b"async", tokens, name + 2);
+    let first = expressed(Lang::Js, tokens, at);
     if !stands(Lang::Js, tokens, first, b"(") {
         return None;
     }
     let close = partner(Lang::Js, Kind::Round, tokens, round, first);
-    with_body(Lang::Js, tokens, curly, name, js_open(tokens, at, close))
+    let open = arrow_open(Lang::Js, tokens, at, close + 1);
+    with_body(Lang::Js, tokens, curly, name, open)
 }
 
 fn js_function(tokens: &[Spelled], round: &[u32], curly: &[u32], name: usize) -> Option<Found>
@@ -111,7 +111,7 @@ fn js_function(tokens: &[Spelled], round: &[u32], curly: &[u32], name: usize) ->
     if is_called(Lang::Js, tokens, name) {
         return js_declared(tokens, round, curly, name);
     }
-    if is_given(tokens, name) {
+    if is_given(Lang::Js, tokens, name) {
         return js_value(tokens, round, curly, name);
     }
     None

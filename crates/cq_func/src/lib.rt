@@ -14,5 +14,6 @@ mod js;
 mod own;
 mod places;
 mod spelling;
+mod ts;
 
 pub use function::{Function, functions};

@@ -1,5 +1,5 @@
 -- A blank, which its character tells, with the mode after it.
-use Rattle.std.proofs.Common.{◌≡◌, ℕ, ◌-◌, ◌<◌, ◌≤◌, Some, Bool, true, false, ◌&&◌, ◌||◌, ◌==◌, List, [], ◌∷◌, length, drop, refl, ⊎_elim, arith}
+use Rattle.std.proofs.Common.{◌≡◌, ℕ, ◌-◌, ◌<◌, ◌≤◌, Some, Bool, true, false, not, ◌&&◌, ◌||◌, ◌==◌, List, [], ◌∷◌, length, drop, refl, ⊎_elim, arith}
 use Rattle.std.specs.Char.{is_ascii_digit}
 use Rattle.std.proofs.lemmas.Bool.{and_left, and_right, cases_Bool}
 use Rattle.std.proofs.lemmas.Grind.{common_steps}
@@ -11,13 +11,14 @@ use Rattle.cq_munch.specs.Table.{begins, moded}
 use Rattle.cq_munch.specs.declared.unit.Unit.{Unit}
 use Rattle.cq_munch.proofs.Blanks.{blank_taken, not_begun, one_blank, taken_at_unit}
 use Rattle.cq_munch.proofs.CharacterTests.{apart_by}
-use Rattle.cq_munch.proofs.Joining.{with_mode}
+use Rattle.cq_munch.proofs.Joining.{takes_rest, with_mode}
 use Rattle.cq_lex_js.specs.JavaScript.{javascript, is_blank, others, unmarked, with_comments, opens_deeper, opens_literal, is_fraction}
 use Rattle.cq_lex_js.specs.Modes.{is_full, ends_substitution, expects_operand, is_after_point, is_among_children, is_in_element, is_in_tag, mode_behind}
 use Rattle.cq_lex_js.specs.Names.{name, keywords}
 use Rattle.cq_lex_js.specs.Characters.{stood}
 use Rattle.cq_lex_js.specs.OneKind.{scanner, is_scanner, is_property_scanner}
 use Rattle.cq_lex_js.specs.Punctuators.{is_choice}
+use Rattle.cq_lex_js.specs.TypeScript.{closing, is_closing, opens_closing, typed, typed_behind, typescript}
 use Rattle.cq_lex_js.specs.declared.scanner.TheConstants.{NAMES, SPELLS}
 use Rattle.cq_lex_js.proofs.Dispatch.{no_child, property_there, no_opener}
 
@@ -82,3 +83,20 @@ pub blank_at : (units : List Unit) (at mode : ℕ) → at < length units → is_
 blank_at units at mode inside is outside =
     taken_at_unit (moded mode_behind unmarked) is_blank refl units at mode (one_blank mode) inside is
     (λ text. with_mode mode_behind unmarked at mode ((unit_at units at).ch ∷ text) (one_blank mode) mode (blank_unmoded at mode (unit_at units at).ch text is outside) refl)
+
+-- ---- TypeScript
+
+no_closing : (c : ℕ) → (c == 62) ≡ false → (text : List ℕ) → is_closing (c ∷ text) ≡ false
+no_closing c h [] = refl
+no_closing c h (d ∷ []) = and_left (c == 62) (d == 62) h
+no_closing c h (d ∷ e ∷ []) = and_left (c == 62) ((d == 62) && not (e == 61)) h
+no_closing c h (d ∷ e ∷ f ∷ text) = and_left (c == 62) ((d == 62) && not ((e == 61) || ((e == 62) && (f == 61)))) h
+
+typed_blank : (at mode c : ℕ) (text : List ℕ) → is_blank c ≡ true → is_in_element mode ≡ false → Takes typed at mode (c ∷ text) (Some (one_blank mode))
+typed_blank at mode c text is outside =
+    takes_rest opens_closing (closing ∷ []) unmarked at mode (c ∷ text) (no_closing c (apart_by is_blank 62 refl c is) text) (Some (one_blank mode)) (blank_unmoded at mode c text is outside)
+
+pub typed_blank_at : (units : List Unit) (at mode : ℕ) → at < length units → is_blank (unit_at units at).ch ≡ true → is_in_element mode ≡ false → Takes typescript at mode (drop at (characters units)) (Some (one_blank mode))
+typed_blank_at units at mode inside is outside =
+    taken_at_unit (moded typed_behind typed) is_blank refl units at mode (one_blank mode) inside is
+    (λ text. with_mode typed_behind typed at mode ((unit_at units at).ch ∷ text) (one_blank mode) mode (typed_blank at mode (unit_at units at).ch text is outside) refl)

@@ -1,5 +1,5 @@
 -- The element at a front, by what is opened there.
-use Rattle.std.proofs.Common.{◌≡◌, ℕ, Option, Some, None, true, false, List, [], ◌∷◌, length, refl, ap, arith, length-take-le}
+use Rattle.std.proofs.Common.{◌≡◌, ◌==◌, ℕ, Option, Some, None, true, false, List, [], ◌∷◌, length, refl, ap, arith, length-take-le}
 use Rattle.std.proofs.lemmas.Bool.{eqb-true, and_parts}
 use Rattle.cq_munch.specs.Language.{Takes}
 use Rattle.cq_munch.specs.Longest.{LongestAt}
@@ -13,6 +13,7 @@ use Rattle.cq_lex_js.specs.Characters.{stood}
 use Rattle.cq_lex_js.specs.Jsx.{children, tag}
 use Rattle.cq_lex_js.specs.Modes.{is_after_point, is_among_children, is_in_tag}
 use Rattle.cq_lex_js.specs.Punctuators.{is_choice}
+use Rattle.cq_lex_js.specs.TypeScript.{closing, is_closing, opens_closing, typed}
 
 -- the question mark by itself
 one_choice : (text : List ℕ) → is_choice text ≡ true → LongestAt choices.set text (Some 1)
@@ -23,6 +24,25 @@ one_choice (a ∷ b ∷ c ∷ s) is = record {
   longest = λ m more within h. let as_long = length-take-le m (a ∷ b ∷ c ∷ s) within in let one = ap length h in absurd (omega arith);
 }
 one_choice _ is = absurd (cc)
+
+-- the greater-than sign by itself
+one_closing : (a b : ℕ) (s : List ℕ) → (a == 62) ≡ true → LongestAt closing.set (a ∷ b ∷ s) (Some 1)
+one_closing a b s is = record {
+  some = omega arith;
+  within = omega arith;
+  spelled = ap (λ d. d ∷ []) (eqb-true a 62 is);
+  longest = λ m more within h. let as_long = length-take-le m (a ∷ b ∷ s) within in let one = ap length h in absurd (omega arith);
+}
+
+longest_closing : (text : List ℕ) → is_closing text ≡ true → LongestAt closing.set text (Some 1)
+longest_closing (a ∷ b ∷ c ∷ d ∷ s) is = one_closing a b (c ∷ d ∷ s) (and_parts _ _ is).0
+longest_closing (a ∷ b ∷ c ∷ []) is = one_closing a b (c ∷ []) (and_parts _ _ is).0
+longest_closing (a ∷ b ∷ []) is = one_closing a b [] (and_parts _ _ is).0
+longest_closing _ is = absurd (cc)
+
+pub closing_there : (at mode : ℕ) (text : List ℕ) → is_closing text ≡ true → (r : Option Found) → r ≡ found_of closing.spell mode (Some 1) → Takes typed at mode text r
+closing_there at mode text is r r_is =
+    takes_first opens_closing (closing ∷ []) unmarked at mode text is r (one_row_taken at mode text closing (Some 1) r r_is (longest_closing text is)) (λ spell s. refl)
 
 module _ (at mode : ℕ) (text : List ℕ) where
   -- more than may be open

@@ -7,6 +7,7 @@ pub mod Modes
 pub mod Jsx
 pub mod Stack
 pub mod JavaScript
+pub mod TypeScript
 pub mod Scanner
 pub mod LiteralScanner
 pub mod ChildrenScanner

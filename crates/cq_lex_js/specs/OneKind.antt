@@ -24,6 +24,7 @@ use Rattle.cq_lex_js.specs.Modes.{mode_behind}
 use Rattle.cq_lex_js.specs.Names.{name, keywords}
 use Rattle.cq_lex_js.specs.Scanner.{scanned, texts}
 use Rattle.cq_lex_js.specs.TagScanner.{texts as tag_texts}
+use Rattle.cq_lex_js.specs.TypeScript.{closing, opens_closing, typed, typed_behind, typescript}
 use Rattle.cq_lex_js.specs.declared.children.TheConstants as children_table
 use Rattle.cq_lex_js.specs.declared.tag.TheConstants as tag_table
 use Rattle.cq_lex_js.specs.declared.scanner.TheConstants.{CLASSES, STEPS, ENDS, NAMES, SPELLS}
@@ -79,14 +80,19 @@ tag_fits : fits (patterns_of tag) tag_texts (record { classes = tag_table.CLASSE
 unfolding fits rows_fit row_fits tag_words
 tag_fits = refl
 
-pub one_kind_of_javascript : HasOneKind javascript
-one_kind_of_javascript =
-    of_marked (moded mode_behind unmarked)
-    (of_first opens_deeper nothing with_children
+one_kind_unmarked : HasOneKind unmarked
+one_kind_unmarked =
+    of_first opens_deeper nothing with_children
     (of_first_rows opens_child (rows_seen stood children) with_comments (one_kind_seen stood children (one_kind children children_texts _ children_fit))
     (of_commented Separator with_tags
     (of_first_rows opens_tag (rows_seen stood tag) with_literals (one_kind_seen stood tag (one_kind tag tag_texts _ tag_fits))
     (of_first opens_literal literals with_choices
     (of_first opens_choice choices with_properties
     (of_first_rows follows_point properties (table rows) (one_kind_reserved stood name [] others NAMES SPELLS scanner is_property_scanner)
-    (of_table rows (one_kind_reserved stood name keywords others NAMES SPELLS scanner is_scanner)))))))))
+    (of_table rows (one_kind_reserved stood name keywords others NAMES SPELLS scanner is_scanner))))))))
+
+pub one_kind_of_javascript : HasOneKind javascript
+one_kind_of_javascript = of_marked (moded mode_behind unmarked) one_kind_unmarked
+
+pub one_kind_of_typescript : HasOneKind typescript
+one_kind_of_typescript = of_marked (moded typed_behind typed) (of_first opens_closing closing unmarked one_kind_unmarked)

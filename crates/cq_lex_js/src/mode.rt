@@ -8,7 +8,7 @@ ghost use Rattle.cq_lex_js.specs.Stack.{WhatIsOpenIsAStack};
 use cq_base::Class;
 use cq_munch::{Spell, Unit, is_spelled};
 
-fn with_token(mode: u64, token: u64) -> u64
+pub(crate) fn with_token(mode: u64, token: u64) -> u64
     requires { token ≤ 3 }
     ensures { result ≡ spec.with_token mode token }
 {
@@ -197,7 +197,7 @@ fn after_literal(mode: u64, units: &[Unit]) -> u64
     with_token(mode, 1)
 }
 
-fn after_punctuator(mode: u64, units: &[Unit]) -> u64
+pub(crate) fn after_punctuator(mode: u64, units: &[Unit]) -> u64
     ensures { result ≡ spec.after_punctuator mode (characters units.now) }
 {
     if is_spelled(b"{", units) {
@@ -222,7 +222,7 @@ fn after_punctuator(mode: u64, units: &[Unit]) -> u64
     with_token(mode, 0)
 }
 
-fn after_token(mode: u64, class: Class, units: &[Unit]) -> u64
+pub(crate) fn after_token(mode: u64, class: Class, units: &[Unit]) -> u64
     ensures { result ≡ spec.after_token mode class (characters units.now) }
 {
     match class {

@@ -1,5 +1,5 @@
 -- The tokens at which the control flow of a text can branch.
-use Rattle.std.specs.Prelude.{◌&&◌, not, ℕ, ◌+◌, Bool, true, false, List, [], ◌∷◌, codes, if◌then◌else◌}
+use Rattle.std.specs.Prelude.{◌&&◌, ◌||◌, not, ℕ, ◌+◌, Bool, true, false, List, [], ◌∷◌, codes, if◌then◌else◌}
 use Rattle.std.specs.List.{list_any}
 use Rattle.std.specs.Str.{bytes_eq}
 use Rattle.cq_base.specs.declared.lang.Lang.{Lang}
@@ -15,6 +15,7 @@ decisions lang.Go = codes "if" ∷ codes "for" ∷ codes "case" ∷ codes "&&" �
 decisions lang.C = codes "if" ∷ codes "for" ∷ codes "while" ∷ codes "case" ∷ codes "&&" ∷ codes "||" ∷ codes "?" ∷ []
 decisions lang.Java = codes "if" ∷ codes "for" ∷ codes "while" ∷ codes "case" ∷ codes "&&" ∷ codes "||" ∷ codes "->" ∷ codes "?" ∷ []
 decisions lang.Js = codes "if" ∷ codes "for" ∷ codes "while" ∷ codes "case" ∷ codes "&&" ∷ codes "||" ∷ codes "?" ∷ codes "??" ∷ []
+decisions lang.Ts = codes "if" ∷ codes "for" ∷ codes "while" ∷ codes "case" ∷ codes "&&" ∷ codes "||" ∷ codes "??" ∷ []
 
 -- the text is one of these
 abbrev pub is_among : List (List ℕ) → List ℕ → Bool
@@ -35,8 +36,13 @@ may_decide class.Word = true
 may_decide class.Literal = false
 may_decide class.Punct = true
 
+-- A question mark of TypeScript decides, at the token after it, unless that ends what is optional: its name, or its list.
+abbrev pub is_chosen : Lang → List ℕ → List ℕ → Bool
+is_chosen lang.Ts before text = bytes_eq before (codes "?") && not (is_among (codes ":" ∷ codes ")" ∷ codes "," ∷ codes "]" ∷ codes "}" ∷ codes ";" ∷ []) text)
+is_chosen _ before text = false
+
 abbrev pub is_decision : Lang → List ℕ → Spelled → Bool
-is_decision l before t = may_decide t.token.class && decides l before t.text
+is_decision l before t = (may_decide t.token.class && decides l before t.text) || is_chosen l before t.text
 
 -- how many of the tokens decide, the one before them having this text
 abbrev pub decisions_after : Lang → List ℕ → List Spelled → ℕ

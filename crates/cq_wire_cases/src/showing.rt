@@ -72,6 +72,7 @@ fn lang_name(lang: Lang) -> &'static str {
         Lang::C => " c",
         Lang::Java => " java",
         Lang::Js => " js",
+        Lang::Ts => " ts",
     }
 }
 

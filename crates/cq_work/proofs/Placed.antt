@@ -21,6 +21,7 @@ use Rattle.cq_lex_java.specs.Java.{java}
 use Rattle.cq_lex_java.specs.Translation.{translated}
 use Rattle.cq_lex_java.proofs.Spans.{at_within}
 use Rattle.cq_lex_js.specs.JavaScript.{javascript}
+use Rattle.cq_lex_js.specs.TypeScript.{typescript}
 use Rattle.cq_work.specs.Lexing.{LexesTo}
 use Rattle.cq_work.proofs.Inserted.{semicolons_stand}
 use Rattle.cq_work.proofs.Standing.{Stand, tokens_stand}
@@ -63,3 +64,5 @@ lexes-placed lang.Java text a utf8 short is =
     answer_placed java text short (λ bytes tokens. tokens) (λ tokens stand. stand) (translated 0 false) a (escapes-translated text utf8) is
 lexes-placed lang.Js text a utf8 short is =
     answer_placed javascript text short (λ bytes tokens. tokens) (λ tokens stand. stand) (λ units. Ok units) a (plain-translated text utf8) is
+lexes-placed lang.Ts text a utf8 short is =
+    answer_placed typescript text short (λ bytes tokens. tokens) (λ tokens stand. stand) (λ units. Ok units) a (plain-translated text utf8) is

@@ -9,7 +9,7 @@ use cq_lex_any::Any;
 use cq_lex_c::C;
 use cq_lex_go::Go;
 use cq_lex_java::Java;
-use cq_lex_js::JavaScript;
+use cq_lex_js::{JavaScript, TypeScript};
 use cq_munch::{Lexed, munch};
 use std::alloc::Global;
 
@@ -27,6 +27,7 @@ fn lexed_by(alloc: Global, lang: Lang, text: &Text) -> Result<Lexed, Memory>
         Lang::C => munch::<C>(alloc, text),
         Lang::Java => munch::<Java>(alloc, text),
         Lang::Js => munch::<JavaScript>(alloc, text),
+        Lang::Ts => munch::<TypeScript>(alloc, text),
     }
 }
 

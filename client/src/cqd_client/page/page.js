@@ -18,7 +18,7 @@
     "volatile while true false null").split(" "));
   const KEYWORDS_OF_JS = new Set(("async await break case catch class const continue debugger default delete do else enum export " +
     "extends false finally for function if import in instanceof let new null return static super switch this throw true try " +
-    "typeof var void while with yield").split(" "));
+    "typeof var void while with yield abstract as declare implements interface keyof namespace private protected public readonly type").split(" "));
   const HIDDEN = /[\p{Cf}\p{Co}\p{Cs}\p{Zl}\p{Zp}]|(?!\t)\p{Cc}/gu;
   let allTexts = null;
 
@@ -81,7 +81,7 @@
     const texts = kept[part + 1].split("\n").slice(from, from + place.last - place.first + 1);
     if (!texts.length) return null;
     const isMarked = place.column >= 0 && kept[part + 2] !== "";
-    const isJs = /\.([cm]?js|jsx)$/.test(place.path);
+    const isJs = /\.([cm]?[jt]s|jsx)$/.test(place.path);
     const marks = isMarked ? kept[part + 2].split("\n").slice(from, from + texts.length) : [];
     const indents = texts.filter((text) => text.trim()).map((text) => text.match(/^[ \t]*/)[0].length);
     const indent = indents.length ? Math.min(...indents) : 0;
