@@ -1,6 +1,6 @@
 ghost use Rattle.std.specs.Prelude.{◌≡◌, ◌==◌};
 ghost use Rattle.std.specs.Str.{bytes_eq};
-ghost use Rattle.cq_base.specs.Tables.{lang_code, lang_name, langs, lang_coded, lang_named, with_name};
+ghost use Rattle.cq_base.specs.Tables.{lang_code, lang_name, langs, lang_coded, lang_named, with_code, with_name};
 
 /// The language of a file. No two of them have a token in common.
 #[derive(Clone, Copy, Debug, PartialEq, Eq, PartialOrd, Ord)]
@@ -17,6 +17,18 @@ pub enum Lang {
 }
 
 const LANGS: [Lang; 6] = [Lang::Any, Lang::Go, Lang::C, Lang::Java, Lang::Js, Lang::Ts];
+
+// The first with this code.
+fn first_coded(langs: &[Lang], code: u8) -> Option<Lang>
+    ensures { result ≡ with_code lang_code langs.now code }
+{
+    for lang in langs {
+        if lang.has_code(code) {
+            return Some(*lang);
+        }
+    }
+    None
+}
 
 // The first with this name.
 fn first_named(langs: &[Lang], name: &str) -> Option<Lang>
@@ -82,7 +94,7 @@ impl Lang {
     pub fn of_code(code: u8) -> Option<Lang>
         ensures { result ≡ lang_coded code }
     {
-        Lang::all().iter().find(|lang| lang.has_code(code)).copied()
+        first_coded(Lang::all(), code)
     }
 
     /// The language with this name.
