@@ -35,8 +35,6 @@ mod tables;
 #[cfg(test)]
 mod texts;
 #[cfg(test)]
-mod ts_functions;
-#[cfg(test)]
 mod ts_texts;
 #[cfg(test)]
 mod works;
