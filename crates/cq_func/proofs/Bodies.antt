@@ -19,7 +19,7 @@ use Rattle.cq_func.specs.declared.ts.Types.TheVariants as types
 use Rattle.cq_func.specs.Places.{place_above}
 use Rattle.cq_func.specs.Brackets.{spelling_of, is_spelled, holds, stands, stands_before, opens, closes, are_even, from_to, partner}
 use Rattle.cq_func.specs.Levels.{level}
-use Rattle.cq_func.specs.Names.{is_name, is_called, with_body, is_no_method, ends_throws, behind_throws, java_open, java_function, c_function, is_used, js_declared, is_given, past, is_expression, expressed, arrow_open, js_value, js_function, type_end, ends_type, typed_parameters, behind_result, ts_declared, value_place, is_type_name, ts_value, ts_function, go_is_named, go_parameters, go_end, go_open, is_type, go_body, go_function, function_at}
+use Rattle.cq_func.specs.Names.{is_name, is_called, with_body, is_no_method, ends_throws, behind_throws, java_open, java_function, c_function, is_used, js_declared, is_given, past, is_expression, expressed, arrow_open, js_value, js_function, type_end, ends_type, typed_parameters, behind_result, is_own, ts_declared, value_place, is_type_name, ts_value, ts_function, go_is_named, go_parameters, go_end, go_open, is_type, go_body, go_function, function_at}
 use Rattle.cq_func.specs.Functions.{found}
 use Rattle.cq_func.specs.Walks.{AreBodies}
 use Rattle.cq_func.proofs.Least.{place_above-within, place_above-passes, place_above-least, place_below-passes}
@@ -311,11 +311,10 @@ behind_result-above ts name at inside over =
 value_place-above : (ts : List Spelled) (name : ℕ) → name < value_place ts name
 value_place-above ts name =
     let end = type_end types.Value ts (name + 1) in
-    cond_above (stands lang.Ts ts (name + 1) (codes ":") && stands lang.Ts ts end (codes "=")) name (end + 1) (name + 2)
+    cond_above (stands lang.Ts ts (name + 1) (codes ":")) name (cond (stands lang.Ts ts end (codes "=")) (end + 1) (name + 2)) (name + 2)
     (λ is.
-    let inside = stands_inside lang.Ts ts (name + 1) (codes ":") (and_parts (stands lang.Ts ts (name + 1) (codes ":")) (stands lang.Ts ts end (codes "=")) is).0 in
-    let over = type_end-above types.Value ts (name + 1) inside in
-    omega (arith, over))
+    let over = type_end-above types.Value ts (name + 1) (stands_inside lang.Ts ts (name + 1) (codes ":") is) in
+    cond_above (stands lang.Ts ts end (codes "=")) name (end + 1) (name + 2) (λ _. omega (arith, over)) (omega arith))
     (omega arith)
 
 ts_declared-found : (ts : List Spelled) (name : ℕ) (f : Found) → name < length ts → ts_declared ts name ≡ Some f → IsFound lang.Ts ts f
@@ -323,10 +322,10 @@ ts_declared-found ts name f inside is =
     let first = typed_parameters ts (name + 1) in
     let close = partner lang.Ts kind.Round ts first in
     let brace = behind_result ts (close + 1) in
-    let c = cond_some (not (is_used lang.Ts ts name) && (is_name ts name && stands lang.Ts ts first (codes "("))) (with_body lang.Ts ts name brace) f is in
-    let opened = (and_parts (is_name ts name) (stands lang.Ts ts first (codes "(")) (and_parts (not (is_used lang.Ts ts name)) (is_name ts name && stands lang.Ts ts first (codes "(")) c.0).1).1 in
+    let own = cond_some (is_own ts name) (cond (stands lang.Ts ts first (codes "(")) (with_body lang.Ts ts name brace) None) f is in
+    let c = cond_some (stands lang.Ts ts first (codes "(")) (with_body lang.Ts ts name brace) f own.1 in
     let low : name + 1 ≤ first = typed_parameters-from ts (name + 1) in
-    let over : first < close = partner_above lang.Ts kind.Round ts first (stands_inside lang.Ts ts first (codes "(") opened) in
+    let over : first < close = partner_above lang.Ts kind.Round ts first (stands_inside lang.Ts ts first (codes "(") c.0) in
     with_body-found lang.Ts ts name brace f inside (behind_result-above ts name (close + 1) inside (omega (arith, low, over))) c.1
 
 ts_value-found : (ts : List Spelled) (name : ℕ) (f : Found) → name < length ts → ts_value ts name ≡ Some f → IsFound lang.Ts ts f
@@ -338,13 +337,13 @@ ts_value-found ts name f inside is =
     let close = partner lang.Ts kind.Round ts first in
     let behind = behind_result ts (close + 1) in
     let brace = arrow_open lang.Ts ts at behind in
-    let c = cond_some (not (is_type_name ts name) && stands lang.Ts ts first (codes "(")) (with_body lang.Ts ts name brace) f is in
-    let opened = (and_parts (not (is_type_name ts name)) (stands lang.Ts ts first (codes "(")) c.0).1 in
+    let valued = none_or (is_type_name ts name) (cond (stands lang.Ts ts first (codes "(")) (with_body lang.Ts ts name brace) None) f is in
+    let c = cond_some (stands lang.Ts ts first (codes "(")) (with_body lang.Ts ts name brace) f valued in
     let start : name < begin = value_place-above ts name in
     let low : begin ≤ at = past-from lang.Ts (codes "async") ts begin in
     let next : at ≤ value = expressed-from lang.Ts ts at in
     let more : value ≤ first = typed_parameters-from ts value in
-    let over : first < close = partner_above lang.Ts kind.Round ts first (stands_inside lang.Ts ts first (codes "(") opened) in
+    let over : first < close = partner_above lang.Ts kind.Round ts first (stands_inside lang.Ts ts first (codes "(") c.0) in
     with_body-found lang.Ts ts name brace f inside
     (arrow_open-above lang.Ts ts name at behind inside (behind_result-above ts name (close + 1) inside (omega (arith, start, low, next, more, over)))) c.1
 

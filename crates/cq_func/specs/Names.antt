@@ -211,18 +211,23 @@ behind_result ts at =
     then (if nat_lt (at + 1) (type_end types.Result ts at) then type_end types.Result ts at else length ts)
     else at
 
+-- a name that is not used there
+abbrev pub is_own : List Spelled → ℕ → Bool
+is_own ts name = is_name ts name && not (is_used lang.Ts ts name)
+
 abbrev pub ts_declared : List Spelled → ℕ → Option Found
 ts_declared ts name =
     let first = typed_parameters ts (name + 1) in
-    if not (is_used lang.Ts ts name) && (is_name ts name && stands lang.Ts ts first (codes "("))
-    then with_body lang.Ts ts name (behind_result ts (partner lang.Ts kind.Round ts first + 1))
+    let brace = behind_result ts (partner lang.Ts kind.Round ts first + 1) in
+    if is_own ts name
+    then (if stands lang.Ts ts first (codes "(") then with_body lang.Ts ts name brace else None)
     else None
 
 -- where a value of the name begins, after a colon and its type, an equals sign, or a colon
 abbrev pub value_place : List Spelled → ℕ → ℕ
 value_place ts name =
-    if stands lang.Ts ts (name + 1) (codes ":") && stands lang.Ts ts (type_end types.Value ts (name + 1)) (codes "=")
-    then type_end types.Value ts (name + 1) + 1
+    if stands lang.Ts ts (name + 1) (codes ":")
+    then (if stands lang.Ts ts (type_end types.Value ts (name + 1)) (codes "=") then type_end types.Value ts (name + 1) + 1 else name + 2)
     else name + 2
 
 -- the last name of a value's type: before an equals sign, and after a colon or a sign that joins types
@@ -235,9 +240,9 @@ abbrev pub ts_value : List Spelled → ℕ → Option Found
 ts_value ts name =
     let at = past lang.Ts (codes "async") ts (value_place ts name) in
     let first = typed_parameters ts (expressed lang.Ts ts at) in
-    if not (is_type_name ts name) && stands lang.Ts ts first (codes "(")
-    then with_body lang.Ts ts name (arrow_open lang.Ts ts at (behind_result ts (partner lang.Ts kind.Round ts first + 1)))
-    else None
+    let brace = arrow_open lang.Ts ts at (behind_result ts (partner lang.Ts kind.Round ts first + 1)) in
+    if is_type_name ts name then None
+    else (if stands lang.Ts ts first (codes "(") then with_body lang.Ts ts name brace else None)
 
 abbrev pub ts_function : List Spelled → ℕ → Option Found
 ts_function ts name = if is_given lang.Ts ts name then ts_value ts name else ts_declared ts name

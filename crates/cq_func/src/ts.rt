@@ -89,13 +89,20 @@ fn behind_result(tokens: &[Spelled], at: usize) -> usize
     if at + 1 < end { end } else { tokens.len() }
 }
 
+// A name that is not used there.
+fn is_own(tokens: &[Spelled], name: usize) -> bool
+    ensures { result ≡ names.is_own tokens.now name }
+{
+    is_name(tokens, name) && !is_used(Lang::Ts, tokens, name)
+}
+
 fn ts_declared(tokens: &[Spelled], round: &[u32], curly: &[u32], name: usize) -> Option<Found>
     requires rounds { tables.ArePartners lang.Ts kind.Round tokens.now round.now }
     requires curlies { tables.ArePartners lang.Ts kind.Curly tokens.now curly.now }
     requires within { name < length tokens.now }
     ensures { result ≡ names.ts_declared tokens.now name }
 {
-    if is_used(Lang::Ts, tokens, name) || !is_name(tokens, name) {
+    if !is_own(tokens, name) {
         return None;
     }
     let first = typed_parameters(tokens, name + 1);
@@ -112,13 +119,15 @@ fn value_place(tokens: &[Spelled], name: usize) -> usize
     requires { name < length tokens.now }
     ensures { result ≡ names.value_place tokens.now name }
 {
-    if stands(Lang::Ts, tokens, name + 1, b":") {
-        let end = type_end(Types::Value, tokens, name + 1);
-        if stands(Lang::Ts, tokens, end, b"=") {
-            return end + 1;
-        }
+    if !stands(Lang::Ts, tokens, name + 1, b":") {
+        return name + 2;
     }
-    name + 2
+    let end = type_end(Types::Value, tokens, name + 1);
+    if stands(Lang::Ts, tokens, end, b"=") {
+        end + 1
+    } else {
+        name + 2
+    }
 }
 
 fn is_type_name(tokens: &[Spelled], name: usize) -> bool
