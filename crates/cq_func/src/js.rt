@@ -11,7 +11,7 @@ use crate::spelling::{is_called, is_name, stands, stands_before};
 use cq_base::{Lang, Memory, Spelled};
 use std::alloc::Global;
 
-/// A use of a name that is no method.
+/// A use of a name that is not a method.
 pub(crate) fn is_used(lang: Lang, tokens: &[Spelled], name: usize) -> bool
     ensures { result ≡ names.is_used lang tokens.now name }
 {

@@ -70,7 +70,7 @@ follows_point at mode text = is_after_point mode
 abbrev pub opens_choice : ℕ → ℕ → List ℕ → Bool
 opens_choice at mode text = is_choice text
 
--- where 29 substitutions, tags, children and braces inside them are open, nothing more is opened
+-- if 29 substitutions, tags, children and braces inside them are open, nothing more is opened
 abbrev pub opens_deeper : ℕ → ℕ → List ℕ → Bool
 opens_deeper at mode text = is_full mode && starts (λ c. (c == 123) || ((c == 96) || ((c == 60) && expects_operand mode))) text
 

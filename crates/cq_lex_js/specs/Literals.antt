@@ -41,14 +41,14 @@ piece = except ((47, 47) ∷ (92, 92) ∷ (91, 91) ∷ terminators) ∣ sequence
 abbrev pub flag : Pattern
 flag = among ((65, 90) ∷ (97, 122) ∷ (48, 57) ∷ (36, 36) ∷ (95, 95) ∷ [])
 
--- where two slashes, or a slash and a star, are a comment
+-- a regular expression; two slashes, or a slash and a star, begin a comment, and this is not tried there
 abbrev pub regex : Pattern
 regex = only 47 ▸ piece ▸ many piece ▸ only 47 ▸ many flag
 
 abbrev pub dollar : Pattern
 dollar = only 36
 
--- a character of a template, where dollar signs don't come before an opening brace
+-- a character of a template, with the dollar signs before it; an opening brace has none
 abbrev pub part : Pattern
 part = many dollar ▸ (except ((96, 96) ∷ (92, 92) ∷ (36, 36) ∷ (123, 123) ∷ []) ∣ backslash ▸ except []) ∣ only 123
 

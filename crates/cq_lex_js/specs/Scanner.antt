@@ -1,4 +1,4 @@
--- The rows that one table scans, before reserved words are told from other names. And a text that leads to each of its states but the
+-- The rows that one table scans, before reserved words are separated from other names. And a text that leads to each of its states but the
 -- first.
 use Rattle.std.specs.Prelude.{ℕ, List, [], ◌∷◌, codes}
 use Rattle.cq_base.specs.declared.token.Class.TheVariants.{Ident}
