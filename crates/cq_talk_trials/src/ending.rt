@@ -5,7 +5,7 @@ ghost use Rattle.cq_shared.specs.SharedPasses.{IsPassOf, settings_of};
 use crate::running::{Outcome, conversed_over};
 use cq_base::{Counters, Memory, Settings, Steps};
 use cq_chain::Pass;
-use cq_io::{Gate, MemSink, MemSource, OpenGate, Sink, Source};
+use cq_io::{Gate, MemSink, MemSource, Sink, Source};
 use cq_lines::End;
 use cq_shared::Shared;
 use cq_work::Work;
@@ -38,8 +38,7 @@ pub(crate) fn conversed<Q: Threads + Sync, L: Ledger, R: Wait, S: Source, K: Sin
     )
 }
 
-/// The same, and what it writes for an input. The reads of that, of 97 bytes each, are counted from 1, and the one with the
-/// number `failing` fails.
+/// The same, and what it writes for an input.
 pub(crate) fn ended<Q: Threads + Sync, L: Ledger, R: Wait, G: Gate>(
     rt: &Q,
     alloc: Global,
@@ -48,7 +47,6 @@ pub(crate) fn ended<Q: Threads + Sync, L: Ledger, R: Wait, G: Gate>(
     counters: &Counters<L>,
     gate: &G,
     input: &[u8],
-    failing: u64,
     pass: Pass<Work<L>>,
 ) -> Result<Outcome, Memory>
     requires in_range { IsInRange settings.now }
@@ -57,7 +55,7 @@ pub(crate) fn ended<Q: Threads + Sync, L: Ledger, R: Wait, G: Gate>(
     requires fresh { pass.seen ≡ [] }
 {
     let bytes = Vec::from_slice(alloc, input)?;
-    let mut source = MemSource::new(bytes, 97, vec![in alloc; failing]?);
+    let mut source = MemSource::new(bytes, 97, Vec::new(alloc));
     let mut sink = MemSink::new(alloc, 1_048_576, 89, Vec::new(alloc))?;
     let end = conversed(
         rt,
@@ -74,7 +72,7 @@ pub(crate) fn ended<Q: Threads + Sync, L: Ledger, R: Wait, G: Gate>(
     Ok((end, output))
 }
 
-/// The same of two sessions at the same time, each of which has an input and the number of the read that fails.
+/// The same of two sessions at the same time.
 pub(crate) fn both_ended<
     Q: Threads + Sync,
     L: Ledger + Send + Sync,
@@ -87,8 +85,8 @@ pub(crate) fn both_ended<
     hub: &Shared<Work<L>, R>,
     counters: &Counters<L>,
     gate: &G,
-    first: (&[u8], u64),
-    second: (&[u8], u64),
+    first: &[u8],
+    second: &[u8],
     one: Pass<Work<L>>,
     two: Pass<Work<L>>,
 ) -> Result<(Outcome, Outcome), Memory>
@@ -97,127 +95,62 @@ pub(crate) fn both_ended<
     requires one { IsPassOf hub.now one × (one.seen ≡ []) }
     requires two { IsPassOf hub.now two × (two.seen ≡ []) }
 {
-    let (first_input, first_failing) = first;
-    let (second_input, second_failing) = second;
     let (one, two) = join(
         rt,
         move || -> Result<Outcome, Memory>
             requires { IsInRange settings.now × (settings_of hub.now ≡ settings.now)
                 × IsPassOf hub.now one × (one.seen ≡ []) }
-        {
-            ended(
-                rt,
-                alloc,
-                settings,
-                hub,
-                counters,
-                gate,
-                first_input,
-                first_failing,
-                one,
-            )
-        },
+        { ended(rt, alloc, settings, hub, counters, gate, first, one) },
         move || -> Result<Outcome, Memory>
             requires { IsInRange settings.now × (settings_of hub.now ≡ settings.now)
                 × IsPassOf hub.now two × (two.seen ≡ []) }
-        {
-            ended(
-                rt,
-                alloc,
-                settings,
-                hub,
-                counters,
-                gate,
-                second_input,
-                second_failing,
-                two,
-            )
-        },
+        { ended(rt, alloc, settings, hub, counters, gate, second, two) },
     );
     let one = one?;
     Ok((one, two?))
 }
 
-/// What two sessions at the same time came to, how a third one after them ended, and which version is published then, and up to
-/// where the hub is swept.
-#[derive(Drop)]
-pub(crate) struct Ends {
-    pub one: Outcome,
-    pub two: Outcome,
-    pub later: End,
-    pub published: u64,
-    pub floor: u64,
-}
-
-fn three_ended<Q: Threads + Wait + Sync, L: Ledger + Send + Sync, G: Gate + Sync>(
+fn two_ended<Q: Threads + Wait + Sync, L: Ledger + Send + Sync, G: Gate + Sync>(
     rt: &Q,
     alloc: Global,
     settings: &Settings,
     gate: &G,
     first: &[u8],
-    failing: u64,
     second: &[u8],
-    third: &[u8],
     blank: Blank,
-) -> Result<Ends, Memory>
+) -> Result<(Outcome, Outcome), Memory>
     requires in_range { IsInRange settings.now }
     requires name { blank.name ≡ L.name }
     requires parts { blank.parts ≡ L.parts }
 {
     let counters: Counters<L> = Counters::new(blank);
-    let made: (Shared<Work<L>, &Q>, Pass<Work<L>>) = Shared::new(rt, alloc, settings, 4)?;
+    let made: (Shared<Work<L>, &Q>, Pass<Work<L>>) = Shared::new(rt, alloc, settings, 3)?;
     let (hub, mut pass) = made;
     let one = hub.split_pass(&mut pass);
     let two = hub.split_pass(&mut pass);
-    let three = hub.split_pass(&mut pass);
-    let (one, two) = both_ended(
-        rt,
-        alloc,
-        settings,
-        &hub,
-        &counters,
-        gate,
-        (first, failing),
-        (second, 0),
-        one,
-        two,
-    )?;
-    let (later, _) = ended(
-        rt, alloc, settings, &hub, &counters, &OpenGate, third, 0, three,
-    )?;
-    let floor = hub.sweep(alloc, &mut pass)?;
-    let asked = hub.ask(&mut pass);
-    Ok(Ends {
-        one,
-        two,
-        later,
-        published: asked.published,
-        floor,
-    })
+    both_ended(
+        rt, alloc, settings, &hub, &counters, gate, first, second, one, two,
+    )
 }
 
-/// The same over a new hub, where one read of the first of them may fail, by its number from 1.
-pub(crate) fn three_here<Q: Threads + Wait + Sync, G: Gate + Sync>(
+/// The same over a new hub.
+pub(crate) fn two_here<Q: Threads + Wait + Sync, G: Gate + Sync>(
     rt: &Q,
     alloc: Global,
     settings: &Settings,
     gate: &G,
     first: &str,
-    failing: u64,
     second: &str,
-    third: &str,
-) -> Result<Ends, Memory>
+) -> Result<(Outcome, Outcome), Memory>
     requires { IsInRange settings.now }
 {
-    three_ended::<Q, Brand, G>(
+    two_ended::<Q, Brand, G>(
         rt,
         alloc,
         settings,
         gate,
         first.as_bytes(),
-        failing,
         second.as_bytes(),
-        third.as_bytes(),
         Blank::new(1),
     )
 }

@@ -142,9 +142,7 @@ fn one_over_shared<R: Threads + Wait + Sync, L: Ledger>(
     let counters: Counters<L> = Counters::new(blank);
     let made: (Shared<Work<L>, &R>, Pass<Work<L>>) = Shared::new(rt, alloc, settings, 1)?;
     let (hub, pass) = made;
-    ended(
-        rt, alloc, settings, &hub, &counters, &OpenGate, input, 0, pass,
-    )
+    ended(rt, alloc, settings, &hub, &counters, &OpenGate, input, pass)
 }
 
 /// Two sessions, one after the other, of the one caller of a new hub.

@@ -140,8 +140,8 @@ fn four_ended<Q: Threads + Sync, L: Ledger + Send + Sync, R: Wait + Sync, G: Gat
                 hub,
                 counters,
                 gate,
-                (a.as_bytes(), 0),
-                (b.as_bytes(), 0),
+                a.as_bytes(),
+                b.as_bytes(),
                 one,
                 two,
             )
@@ -158,8 +158,8 @@ fn four_ended<Q: Threads + Sync, L: Ledger + Send + Sync, R: Wait + Sync, G: Gat
                 hub,
                 counters,
                 gate,
-                (c.as_bytes(), 0),
-                (d.as_bytes(), 0),
+                c.as_bytes(),
+                d.as_bytes(),
                 three,
                 four,
             )
@@ -288,7 +288,7 @@ fn last_talk<Q: Threads + Sync, L: Ledger, R: Wait, G: Gate>(
 {
     let asked = planned_lines(alloc, &Plan::All)?;
     let input = asked.as_bytes();
-    let outcome = ended(rt, alloc, settings, hub, counters, gate, input, 0, pass)?;
+    let outcome = ended(rt, alloc, settings, hub, counters, gate, input, pass)?;
     Ok(talk_of(alloc, Plan::All, outcome))
 }
 
