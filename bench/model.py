@@ -1,7 +1,7 @@
 """The replies to queries, computed in the simplest way from small texts of words.
 
-A text is words separated by blanks or line feeds, each a token in any language. Replies are computed from all pairs of places, by what
-docs/PROTOCOL.md says of them; nothing here has an index.
+A text is words separated by blanks or line feeds, each a token in any language, except that `#` is a fault of Java. Replies are
+computed from all pairs of places, by what docs/PROTOCOL.md says of them; nothing here has an index.
 """
 import itertools
 from typing import NamedTuple
@@ -108,15 +108,24 @@ def lines(text):
     return text.count("\n") + (text != "" and not text.endswith("\n"))
 
 
+def fault(file):
+    """The byte of the first `#` of a Java text."""
+    return file.text.encode().index(b"#") if file.lang == "java" and "#" in file.text else None
+
+
 def tokens(file):
-    """The words of a text, each with its language, and the line of each, from 1."""
+    """The words of a text, each with its language, and the line of each, from 1; a file with a fault has none."""
+    if fault(file) is not None:
+        return [], []
     told = [((file.lang, word), number) for number, line in enumerate(file.text.split("\n"), 1) for word in line.split()]
     return [it for it, _ in told], [number for _, number in told]
 
 
 def listed(file):
-    return {"change": file.change, "lang": file.lang, "lines": lines(file.text), "path": file.path, "state": "ok",
-            "tokens": len(tokens(file)[0])}
+    at = fault(file)
+    row = {"change": file.change, "lang": file.lang, "lines": lines(file.text), "path": file.path,
+           "state": "ok" if at is None else "fault", "tokens": len(tokens(file)[0])}
+    return row if at is None else {"at": at, **row}
 
 
 def common(one, at, two, there):
@@ -175,7 +184,7 @@ def measures(files, least, chosen):
     counted = [it for it in files if it.path in chosen]
     covered = {(file, line) for file, first, last in blocks for line in range(first, last + 1)}
     total = sum(lines(it.text) for it in counted)
-    decided = sum(1 + sum(word in DECISIONS[it.lang] for _, word in tokens(it)[0]) for it in counted)
+    decided = sum(1 + sum(word in DECISIONS[it.lang] for _, word in tokens(it)[0]) for it in counted if fault(it) is None)
     filled = sum(len(set(tokens(it)[1])) for it in counted)
     told = [decided, len(blocks), len({it[0] for it in blocks}), len(covered), len(covered) * 10_000 // total if total else 0,
             len(counted), total, filled]

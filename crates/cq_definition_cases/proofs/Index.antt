@@ -1,5 +1,5 @@
 -- Wrong answers of a search, of spots, of buckets, of a shard, of what is kept and of a cutter of lines.
-use Rattle.std.specs.Prelude.{◌≡◌, ◌⊎◌, ℕ, zero, suc, ◌<◌, ◌≤◌, get_or, true, false, List, [], ◌∷◌, ◌++◌, length, Option, None, Some}
+use Rattle.std.specs.Prelude.{◌≡◌, ◌⊎◌, ℕ, zero, suc, ◌<◌, ◌≤◌, get_or, true, false, List, [], ◌∷◌, ◌++◌, length, slice_get, Option, None, Some}
 use Rattle.std.proofs.Common.{arith, ap, refl, sym, subst, inl, inr}
 use Rattle.std.proofs.lemmas.List.Elements.{Contains-get_or}
 use Rattle.cq_definition_cases.proofs.Different.{is_false, is_true}
@@ -67,6 +67,17 @@ an_entry_of_another_key_is_in_no_bucket bucket =
 
 pub a_bucket_has_each_entry_of_its_key : IsBucket (1 ∷ []) ((5 ∷ 6 ∷ []) ∷ []) 5 [] → ⊥
 a_bucket_has_each_entry_of_its_key bucket = Contains-nil (entry 5 0) ((bucket.each (entry 5 0)).1 (refl, record { file = 0; put = refl; window = refl }))
+
+abbrev stale : Entry
+stale = record { key = 5; change = 2; at = 0 }
+
+only_one_is_live : (file : ℕ) → slice_get (1 ∷ []) file ≡ Some 2 → ⊥
+only_one_is_live zero put = let other : Some 1 ≡ Some 2 = put in grind (arith, other)
+only_one_is_live (suc file) put = let other : None ≡ Some 2 = put in grind (arith, other)
+
+pub an_entry_of_a_change_that_is_not_live_is_in_no_bucket : IsBucket (1 ∷ []) ((5 ∷ 6 ∷ []) ∷ []) 5 (stale ∷ []) → ⊥
+an_entry_of_a_change_that_is_not_live_is_in_no_bucket bucket =
+    let of = ((bucket.each stale).0 (Contains-get_or (stale ∷ []) 0 stale (omega arith))).1 in only_one_is_live of.file of.put
 
 -- ---- a shard that goes back, whatever its changes are
 

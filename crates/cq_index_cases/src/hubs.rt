@@ -5,9 +5,9 @@ ghost use Rattle.cq_base.specs.declared.settings.Settings.{Settings};
 ghost use Rattle.cq_hub.specs.Answers.{HasNoView};
 
 use crate::deeds::{Came, Deed, carry_out};
-use crate::made::{Alike, Apart, Counted, Made, Project, SETTINGS, accept, finish};
+use crate::made::{Counted, Made, Project, SETTINGS, accept, finish};
 use cq_base::{Entry, Memory, Settings};
-use cq_board::{Finished, Refused};
+use cq_board::Refused;
 use cq_hub::{Hub, Solo};
 use cq_io::OpenGate;
 use std::alloc::Global;
@@ -42,35 +42,6 @@ pub fn few(entries: &[Entry]) -> Few {
         entries.first().copied(),
         entries.get(1).copied(),
     )
-}
-
-/// A put of a project by a caller that has no view open is accepted, its work is finished and published, and a key is read.
-pub fn put_and_read<W: Made, H: Hub<W>>(
-    alloc: Global,
-    project: Project,
-    key: u64,
-    hub: &H,
-    pass: &mut H::Pass,
-) -> Result<Came, Refused>
-    requires { HasNoView H.Stands H.settings H.callers hub.now pass.old }
-{
-    let number = accept(alloc, project, hub, pass)?;
-    let work = Arc::new(alloc, W::made())?;
-    let finished = finish(hub, number, work, pass)?;
-    let (version, entries) = read(alloc, hub, key, pass)?;
-    Ok(Came::Read(number, finished, version, few(&entries)))
-}
-
-/// A put is accepted, and its job is taken and given back.
-pub fn take<W: Made, H: Hub<W>>(alloc: Global, hub: &H, pass: &mut H::Pass) -> Result<Came, Refused>
-    requires { HasNoView H.Stands H.settings H.callers hub.now pass.old }
-{
-    let number = accept(alloc, Project::P, hub, pass)?;
-    let helps = hub.job(number, pass)?.is_some();
-    match hub.take(pass)? {
-        Some(job) => Ok(Came::Taken(helps, Some(job.change), hub.back(job.change, pass))),
-        None => Ok(Came::Taken(helps, None, false)),
-    }
 }
 
 // A put of a project is accepted, its work is finished and published, and both its keys are read.
@@ -117,38 +88,6 @@ pub fn over_solo<W: Made>(alloc: Global, shards: u32, deed: Deed) -> Result<Came
     carry_out(alloc, deed, &hub, &mut pass)
 }
 
-// The entry of a window of the first change.
-fn entry(key: u64, at: u32) -> Option<Entry> {
-    Some(Entry { key, change: 1, at })
-}
-
-// What is read at the first version.
-fn read_at_first(entries: Few) -> Came {
-    Came::Read(1, Finished::Done, 1, entries)
-}
-
-#[test]
-fn each_shard_answers_for_its_keys(rt: HostRuntime) -> Result<(), Refused> {
-    assert_eq!(rt;
-        over_solo::<Apart>(rt.alloc(), 2, Deed::Read(Project::P, 3))?,
-        read_at_first((1, entry(3, 0), None))
-    );
-    assert_eq!(rt;
-        over_solo::<Apart>(rt.alloc(), 2, Deed::Read(Project::P, 4))?,
-        read_at_first((1, entry(4, 1), None))
-    );
-    Ok(())
-}
-
-#[test]
-fn all_windows_may_have_one_key(rt: HostRuntime) -> Result<(), Refused> {
-    assert_eq!(rt;
-        over_solo::<Alike>(rt.alloc(), 2, Deed::Read(Project::P, 0))?,
-        read_at_first((2, entry(0, 0), entry(0, 1)))
-    );
-    Ok(())
-}
-
 #[test]
 fn the_keys_of_a_work_are_looked_at_once_for_all_shards(rt: HostRuntime) -> Result<(), Refused> {
     assert_eq!(rt;
@@ -158,15 +97,6 @@ fn the_keys_of_a_work_are_looked_at_once_for_all_shards(rt: HostRuntime) -> Resu
     assert_eq!(rt;
         over_solo::<Counted>(rt.alloc(), 7, Deed::Look)?,
         Came::Looked(1, 1)
-    );
-    Ok(())
-}
-
-#[test]
-fn a_put_is_taken_and_given_back(rt: HostRuntime) -> Result<(), Refused> {
-    assert_eq!(rt;
-        over_solo::<Apart>(rt.alloc(), 2, Deed::Take)?,
-        Came::Taken(true, Some(1), true)
     );
     Ok(())
 }

@@ -1,9 +1,7 @@
-//! Trials of both hubs, the plain one and the shared one, with their buckets and their floors, over works of two windows. What a
-//! caller does with a new hub is a `Deed`, so that each hub is called in one place.
+//! Trials of both hubs, the plain one and the shared one, over works of two windows: how often a work is asked for its keys, and
+//! what a sweep lets go of. What a caller does with a new hub is a `Deed`, so that each hub is called in one place.
 #![tactic(auto)]
 
-#[cfg(test)]
-mod buckets;
 #[cfg(test)]
 mod deeds;
 #[cfg(test)]
@@ -11,6 +9,6 @@ mod hubs;
 #[cfg(test)]
 mod made;
 #[cfg(test)]
-mod sweeps;
+mod shared;
 #[cfg(test)]
-mod threads;
+mod sweeps;

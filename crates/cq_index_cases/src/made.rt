@@ -57,37 +57,6 @@ impl Made for Apart {
     }
 }
 
-/// Its two windows have the key 0, as all have where a key keeps no bit.
-#[derive(Drop)]
-pub struct Alike {}
-
-impl Indexed for Alike {
-    ghost use Rattle.std.specs.Prelude.{◌≡◌, ◌∷◌, [], refl};
-    ghost use Rattle.std.proofs.Common.{rules};
-
-    ghost keys_in = { λ work. 0 ∷ 0 ∷ [] };
-
-    ghost IsWorkOf = { λ settings lang text work. Unit {0} };
-
-    fn keys(&self) -> &[u64] {
-        &[0, 0]
-    }
-
-    ghost determined = { λ settings lang text work other is also. refl };
-
-    ghost few = { Prim.search rules };
-}
-
-impl Made for Alike {
-    fn made() -> Alike {
-        Alike {}
-    }
-
-    fn looks(&self) -> u64 {
-        0
-    }
-}
-
 /// Its two windows have different keys, and it counts how often they are looked at.
 #[derive(Drop)]
 pub struct Counted {
@@ -165,8 +134,8 @@ fn letter(alloc: Global, byte: u8) -> Result<Text, Memory>
     Ok(Text::from_vec(bytes))
 }
 
-/// Its name.
-pub fn name(alloc: Global, project: Project) -> Result<Text, Memory>
+// Its name.
+fn name(alloc: Global, project: Project) -> Result<Text, Memory>
     ensures utf8 { IfOk result IsUtf8 }
     ensures len { IfOk result (λ text. length text ≤ 1) }
 {

@@ -3,9 +3,9 @@ ghost use Rattle.cq_hub.specs.Answers.{HasNoView};
 ghost use Rattle.cq_shared.specs.SharedPasses.{IsPassOf, settings_of};
 
 use crate::deeds::{Came, Deed};
-use crate::hubs::{Few, few, over_solo, read};
+use crate::hubs::{Few, few, read};
 use crate::made::{Apart, Made, Project, SETTINGS, accept, finish};
-use crate::threads::serve;
+use crate::shared::serve;
 use cq_base::{Entry, Memory};
 use cq_board::Refused;
 use cq_chain::Pass;
@@ -138,12 +138,6 @@ fn wanted() -> Came {
         floor: 2,
         later: only(2),
     })
-}
-
-#[test]
-fn what_is_viewed_stays_alone(rt: HostRuntime) -> Result<(), Refused> {
-    assert_eq!(rt; over_solo::<Apart>(rt.alloc(), 2, Deed::Sweep)?, wanted());
-    Ok(())
 }
 
 #[test]

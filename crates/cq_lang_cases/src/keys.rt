@@ -18,11 +18,6 @@ const SETTINGS: Settings = Settings {
     byte_limit: 65_536,
 };
 
-// The codes of the names `a` and `b` of no language in particular.
-const A: u64 = 13_885_033_948_157_128_056;
-
-const B: u64 = 13_885_033_948_157_128_057;
-
 fn name(alloc: Global, text: &[u8]) -> Result<Norm, Memory> {
     Ok(Norm {
         lang: Lang::Any,
@@ -93,40 +88,6 @@ fn outcome(
         same = same && is_key_of(alloc, &settings, window, *key)?;
     }
     Ok((found.len(), calls, same))
-}
-
-#[test]
-fn codes_are_folded(rt: HostRuntime) {
-    assert_eq!(rt; plain_key(&SETTINGS, &[A, B]), 191);
-    let wide = Settings {
-        key_bits: 64,
-        ..SETTINGS
-    };
-    assert_eq!(rt; plain_key(&wide, &[A, B]), 6_613_250_647_379_292_863);
-    let none = Settings {
-        key_bits: 0,
-        ..SETTINGS
-    };
-    assert_eq!(rt; plain_key(&none, &[A, B]), 0);
-}
-
-// Whether the windows of these letters have these keys.
-fn are_keys(alloc: Global, letters: &[u8], keys: &[u64]) -> Result<bool, Memory> {
-    let mut norms = Vec::new(alloc);
-    for letter in letters {
-        norms.push(name(alloc, &[*letter])?)?;
-    }
-    if norms.len() > 100 {
-        return Ok(false);
-    }
-    let (found, _) = keys_and_calls(alloc, &SETTINGS, &norms)?;
-    Ok(found.as_slice() == keys)
-}
-
-#[test]
-fn each_window_has_its_key(rt: HostRuntime) -> Result<(), Memory> {
-    assert!(rt; are_keys(rt.alloc(), b"abab", &[191, 235, 191])?);
-    Ok(())
 }
 
 #[test]

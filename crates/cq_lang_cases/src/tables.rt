@@ -1,6 +1,5 @@
 //! A table has a text a line, and after an arrow what is found in it. A control character stands there as its picture.
-use cq_base::{Class, Lang, Mark, Memory, Spelled, Text};
-use cq_func::{Function, functions};
+use cq_base::{Class, Memory, Spelled, Text};
 use cq_munch::{Lexed, Lexis, munch};
 use std::alloc::Global;
 use std::fmt::Write;
@@ -13,10 +12,6 @@ pub(crate) enum Found {
     Tokens,
     /// Where its tokens are, each by its first byte, its length, its first line and its last line.
     Places,
-    /// Its marks, each as `on` or `off`, and its byte.
-    Marks,
-    /// Its functions in a language, each by its name, the line of that, its last line and its complexity.
-    Functions(Lang),
 }
 
 // What a character of a table stands for.
@@ -81,43 +76,10 @@ fn put_places(line: &mut String, tokens: &[Spelled]) -> Result<(), Memory> {
     Ok(())
 }
 
-fn put_marks(line: &mut String, marks: &[Mark]) -> Result<(), Memory> {
-    for (i, mark) in marks.iter().enumerate() {
-        line.push_str(gap(i))?;
-        line.push_str(if mark.on { "on " } else { "off " })?;
-        let at = mark.at;
-        write!(line, "{at}")?;
-    }
-    Ok(())
-}
-
-fn put_functions(line: &mut String, functions: &[Function]) -> Result<(), Memory> {
-    for (i, function) in functions.iter().enumerate() {
-        let (first, last, complexity) = (function.first, function.last, function.complexity);
-        line.push_str(gap(i))?;
-        put_text(line, &function.name)?;
-        write!(line, " {first} {last} {complexity}")?;
-    }
-    Ok(())
-}
-
-fn put_found(
-    alloc: Global,
-    line: &mut String,
-    found: Found,
-    tokens: &[Spelled],
-    marks: &[Mark],
-) -> Result<(), Memory> {
+fn put_found(line: &mut String, found: Found, tokens: &[Spelled]) -> Result<(), Memory> {
     match found {
         Found::Tokens => put_tokens(line, tokens),
         Found::Places => put_places(line, tokens),
-        Found::Marks => put_marks(line, marks),
-        Found::Functions(lang) => {
-            if tokens.len() > 1_000 {
-                return Err(Memory);
-            }
-            put_functions(line, &functions(alloc, lang, tokens)?)
-        }
     }
 }
 
@@ -125,7 +87,7 @@ fn put_found(
 fn shown(alloc: Global, found: Found, answer: &Lexed) -> Result<String, Memory> {
     let mut line = String::new(alloc);
     match answer {
-        Lexed::Tokens(tokens, marks) => put_found(alloc, &mut line, found, tokens, marks)?,
+        Lexed::Tokens(tokens, _) => put_found(&mut line, found, tokens)?,
         Lexed::Fault(at) => write!(line, " fault {at}")?,
         Lexed::Large => line.push_str(" large")?,
     }

@@ -2,10 +2,10 @@ ghost use Rattle.std.specs.Prelude.{◌≡◌, []};
 ghost use Rattle.cq_base.specs.Settings.{IsInRange};
 ghost use Rattle.cq_shared.specs.SharedPasses.{IsPassOf, settings_of};
 
-use crate::running::{Outcome, conversed_over};
+use crate::running::{Floor, Outcome, conversed_over};
 use cq_base::{Counters, Memory, Settings, Steps};
 use cq_chain::Pass;
-use cq_io::{Gate, MemSink, MemSource, OpenGate, Sink, Source};
+use cq_io::{Gate, MemSink, MemSource, Sink, Source};
 use cq_lines::End;
 use cq_shared::Shared;
 use cq_work::Work;
@@ -17,207 +17,124 @@ use std::thread::{Threads, join};
 
 /// How the session of a caller who has seen nothing ends.
 pub(crate) fn conversed<Q: Threads + Sync, L: Ledger, R: Wait, S: Source, K: Sink, G: Gate>(
-    rt: &Q,
-    alloc: Global,
-    settings: &Settings,
-    hub: &Shared<Work<L>, R>,
+    floor: &Floor<'_, Q, Shared<Work<L>, R>, G>,
     counters: &Counters<L>,
-    gate: &G,
     source: &mut S,
     sink: &mut K,
     mut pass: Pass<Work<L>>,
 ) -> Result<End, Memory>
-    requires in_range { IsInRange settings.now }
-    requires hub_settings { settings_of hub.now ≡ settings.now }
-    requires of { IsPassOf hub.now pass }
+    requires in_range { IsInRange floor.now.settings.now }
+    requires hub_settings { settings_of floor.now.hub.now ≡ floor.now.settings.now }
+    requires of { IsPassOf floor.now.hub.now pass }
     requires fresh { pass.seen ≡ [] }
 {
     let mut steps: Steps<L> = counters.counter();
-    conversed_over(
-        rt, alloc, settings, hub, gate, source, sink, &mut pass, &mut steps,
-    )
+    conversed_over(floor, source, sink, &mut pass, &mut steps)
 }
 
-/// The same, and what it writes for an input. The reads of that, of 97 bytes each, are counted from 1, and the one with the
-/// number `failing` fails.
+/// The same, and what it writes for an input.
 pub(crate) fn ended<Q: Threads + Sync, L: Ledger, R: Wait, G: Gate>(
-    rt: &Q,
-    alloc: Global,
-    settings: &Settings,
-    hub: &Shared<Work<L>, R>,
+    floor: &Floor<'_, Q, Shared<Work<L>, R>, G>,
     counters: &Counters<L>,
-    gate: &G,
     input: &[u8],
-    failing: u64,
     pass: Pass<Work<L>>,
 ) -> Result<Outcome, Memory>
-    requires in_range { IsInRange settings.now }
-    requires hub_settings { settings_of hub.now ≡ settings.now }
-    requires of { IsPassOf hub.now pass }
+    requires in_range { IsInRange floor.now.settings.now }
+    requires hub_settings { settings_of floor.now.hub.now ≡ floor.now.settings.now }
+    requires of { IsPassOf floor.now.hub.now pass }
     requires fresh { pass.seen ≡ [] }
 {
+    let alloc = floor.alloc;
     let bytes = Vec::from_slice(alloc, input)?;
-    let mut source = MemSource::new(bytes, 97, vec![in alloc; failing]?);
+    let mut source = MemSource::new(bytes, 97, Vec::new(alloc));
     let mut sink = MemSink::new(alloc, 1_048_576, 89, Vec::new(alloc))?;
-    let end = conversed(
-        rt,
-        alloc,
-        settings,
-        hub,
-        counters,
-        gate,
-        &mut source,
-        &mut sink,
-        pass,
-    )?;
+    let end = conversed(floor, counters, &mut source, &mut sink, pass)?;
     let output = Vec::from_slice(alloc, sink.written())?;
     Ok((end, output))
 }
 
-/// The same of two sessions at the same time, each of which has an input and the number of the read that fails.
+/// The same of two sessions at the same time.
 pub(crate) fn both_ended<
     Q: Threads + Sync,
     L: Ledger + Send + Sync,
     R: Wait + Sync,
     G: Gate + Sync,
 >(
-    rt: &Q,
-    alloc: Global,
-    settings: &Settings,
-    hub: &Shared<Work<L>, R>,
+    floor: &Floor<'_, Q, Shared<Work<L>, R>, G>,
     counters: &Counters<L>,
-    gate: &G,
-    first: (&[u8], u64),
-    second: (&[u8], u64),
+    first: &[u8],
+    second: &[u8],
     one: Pass<Work<L>>,
     two: Pass<Work<L>>,
 ) -> Result<(Outcome, Outcome), Memory>
-    requires in_range { IsInRange settings.now }
-    requires hub_settings { settings_of hub.now ≡ settings.now }
-    requires one { IsPassOf hub.now one × (one.seen ≡ []) }
-    requires two { IsPassOf hub.now two × (two.seen ≡ []) }
+    requires in_range { IsInRange floor.now.settings.now }
+    requires hub_settings { settings_of floor.now.hub.now ≡ floor.now.settings.now }
+    requires one { IsPassOf floor.now.hub.now one × (one.seen ≡ []) }
+    requires two { IsPassOf floor.now.hub.now two × (two.seen ≡ []) }
 {
-    let (first_input, first_failing) = first;
-    let (second_input, second_failing) = second;
     let (one, two) = join(
-        rt,
+        floor.rt,
         move || -> Result<Outcome, Memory>
-            requires { IsInRange settings.now × (settings_of hub.now ≡ settings.now)
-                × IsPassOf hub.now one × (one.seen ≡ []) }
-        {
-            ended(
-                rt,
-                alloc,
-                settings,
-                hub,
-                counters,
-                gate,
-                first_input,
-                first_failing,
-                one,
-            )
-        },
+            requires { IsInRange floor.now.settings.now
+                × (settings_of floor.now.hub.now ≡ floor.now.settings.now)
+                × IsPassOf floor.now.hub.now one × (one.seen ≡ []) }
+        { ended(floor, counters, first, one) },
         move || -> Result<Outcome, Memory>
-            requires { IsInRange settings.now × (settings_of hub.now ≡ settings.now)
-                × IsPassOf hub.now two × (two.seen ≡ []) }
-        {
-            ended(
-                rt,
-                alloc,
-                settings,
-                hub,
-                counters,
-                gate,
-                second_input,
-                second_failing,
-                two,
-            )
-        },
+            requires { IsInRange floor.now.settings.now
+                × (settings_of floor.now.hub.now ≡ floor.now.settings.now)
+                × IsPassOf floor.now.hub.now two × (two.seen ≡ []) }
+        { ended(floor, counters, second, two) },
     );
     let one = one?;
     Ok((one, two?))
 }
 
-/// What two sessions at the same time came to, how a third one after them ended, and which version is published then, and up to
-/// where the hub is swept.
-#[derive(Drop)]
-pub(crate) struct Ends {
-    pub one: Outcome,
-    pub two: Outcome,
-    pub later: End,
-    pub published: u64,
-    pub floor: u64,
-}
-
-fn three_ended<Q: Threads + Wait + Sync, L: Ledger + Send + Sync, G: Gate + Sync>(
+fn two_ended<Q: Threads + Wait + Sync, L: Ledger + Send + Sync, G: Gate + Sync>(
     rt: &Q,
     alloc: Global,
     settings: &Settings,
     gate: &G,
     first: &[u8],
-    failing: u64,
     second: &[u8],
-    third: &[u8],
     blank: Blank,
-) -> Result<Ends, Memory>
+) -> Result<(Outcome, Outcome), Memory>
     requires in_range { IsInRange settings.now }
     requires name { blank.name ≡ L.name }
     requires parts { blank.parts ≡ L.parts }
 {
     let counters: Counters<L> = Counters::new(blank);
-    let made: (Shared<Work<L>, &Q>, Pass<Work<L>>) = Shared::new(rt, alloc, settings, 4)?;
+    let made: (Shared<Work<L>, &Q>, Pass<Work<L>>) = Shared::new(rt, alloc, settings, 3)?;
     let (hub, mut pass) = made;
     let one = hub.split_pass(&mut pass);
     let two = hub.split_pass(&mut pass);
-    let three = hub.split_pass(&mut pass);
-    let (one, two) = both_ended(
+    let floor = Floor {
         rt,
         alloc,
         settings,
-        &hub,
-        &counters,
+        hub: &hub,
         gate,
-        (first, failing),
-        (second, 0),
-        one,
-        two,
-    )?;
-    let (later, _) = ended(
-        rt, alloc, settings, &hub, &counters, &OpenGate, third, 0, three,
-    )?;
-    let floor = hub.sweep(alloc, &mut pass)?;
-    let asked = hub.ask(&mut pass);
-    Ok(Ends {
-        one,
-        two,
-        later,
-        published: asked.published,
-        floor,
-    })
+    };
+    both_ended(&floor, &counters, first, second, one, two)
 }
 
-/// The same over a new hub, where one read of the first of them may fail, by its number from 1.
-pub(crate) fn three_here<Q: Threads + Wait + Sync, G: Gate + Sync>(
+/// The same over a new hub.
+pub(crate) fn two_here<Q: Threads + Wait + Sync, G: Gate + Sync>(
     rt: &Q,
     alloc: Global,
     settings: &Settings,
     gate: &G,
     first: &str,
-    failing: u64,
     second: &str,
-    third: &str,
-) -> Result<Ends, Memory>
+) -> Result<(Outcome, Outcome), Memory>
     requires { IsInRange settings.now }
 {
-    three_ended::<Q, Brand, G>(
+    two_ended::<Q, Brand, G>(
         rt,
         alloc,
         settings,
         gate,
         first.as_bytes(),
-        failing,
         second.as_bytes(),
-        third.as_bytes(),
         Blank::new(1),
     )
 }

@@ -1,4 +1,4 @@
-use crate::ending::three_here;
+use crate::ending::two_here;
 use crate::running::Outcome;
 use crate::threads::SETTINGS;
 use cq_base::Memory;
@@ -108,9 +108,9 @@ fn two_help<Q: Threads + Clock + Wait + Sync>(
         first: &first,
         second: &second,
     };
-    let ends = three_here(rt, alloc, &settings, &gate, ONE, 0, TWO, "")?;
+    let (one, two) = two_here(rt, alloc, &settings, &gate, ONE, TWO)?;
     Ok(Some(Helped {
-        alike: are_alike(ends.one, ends.two),
+        alike: are_alike(one, two),
         first: first.load(Ordering::SeqCst),
         second: second.load(Ordering::SeqCst),
     }))

@@ -8,8 +8,6 @@ mod calls;
 #[cfg(test)]
 mod ending;
 #[cfg(test)]
-mod faults;
-#[cfg(test)]
 mod helping;
 #[cfg(test)]
 mod histories;

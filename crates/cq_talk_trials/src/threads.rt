@@ -6,7 +6,7 @@ use crate::ending::{both_ended, ended};
 use crate::histories::{
     Plan, Talk, first_change, first_fault, first_fault_at_end, history_of, planned_lines,
 };
-use crate::running::Outcome;
+use crate::running::{Floor, Outcome};
 use cq_base::{Counters, Memory, Settings};
 use cq_chain::Pass;
 use cq_io::Gate;
@@ -99,12 +99,8 @@ fn plan_of(seed: u64) -> Plan {
 
 // What four sessions come to that talk at the same time, each with these lines.
 fn four_ended<Q: Threads + Sync, L: Ledger + Send + Sync, R: Wait + Sync, G: Gate + Sync>(
-    rt: &Q,
-    alloc: Global,
-    settings: &Settings,
-    hub: &Shared<Work<L>, R>,
+    floor: &Floor<'_, Q, Shared<Work<L>, R>, G>,
     counters: &Counters<L>,
-    gate: &G,
     first: (&str, &str),
     second: (&str, &str),
     pass: &mut Pass<Work<L>>,
@@ -112,58 +108,34 @@ fn four_ended<Q: Threads + Sync, L: Ledger + Send + Sync, R: Wait + Sync, G: Gat
     Result<(Outcome, Outcome), Memory>,
     Result<(Outcome, Outcome), Memory>,
 )
-    requires in_range { IsInRange settings.now }
-    requires hub_settings { settings_of hub.now ≡ settings.now }
-    requires of { IsPassOf hub.now pass.old }
+    requires in_range { IsInRange floor.now.settings.now }
+    requires hub_settings { settings_of floor.now.hub.now ≡ floor.now.settings.now }
+    requires of { IsPassOf floor.now.hub.now pass.old }
     requires fresh { pass.old.seen ≡ [] }
     requires room { 3 < pass.old.room }
-    ensures of { IsPassOf hub.now pass.new }
+    ensures of { IsPassOf floor.now.hub.now pass.new }
     ensures fresh { pass.new.seen ≡ [] }
 {
-    let one = hub.split_pass(pass);
-    let two = hub.split_pass(pass);
-    let three = hub.split_pass(pass);
-    let four = hub.split_pass(pass);
+    let one = floor.hub.split_pass(pass);
+    let two = floor.hub.split_pass(pass);
+    let three = floor.hub.split_pass(pass);
+    let four = floor.hub.split_pass(pass);
     let (a, b) = first;
     let (c, d) = second;
     join(
-        rt,
+        floor.rt,
         move || -> Result<(Outcome, Outcome), Memory>
-            requires { IsInRange settings.now × (settings_of hub.now ≡ settings.now)
-                × (IsPassOf hub.now one × (one.seen ≡ []))
-                × (IsPassOf hub.now two × (two.seen ≡ [])) }
-        {
-            both_ended(
-                rt,
-                alloc,
-                settings,
-                hub,
-                counters,
-                gate,
-                (a.as_bytes(), 0),
-                (b.as_bytes(), 0),
-                one,
-                two,
-            )
-        },
+            requires { IsInRange floor.now.settings.now
+                × (settings_of floor.now.hub.now ≡ floor.now.settings.now)
+                × (IsPassOf floor.now.hub.now one × (one.seen ≡ []))
+                × (IsPassOf floor.now.hub.now two × (two.seen ≡ [])) }
+        { both_ended(floor, counters, a.as_bytes(), b.as_bytes(), one, two) },
         move || -> Result<(Outcome, Outcome), Memory>
-            requires { IsInRange settings.now × (settings_of hub.now ≡ settings.now)
-                × (IsPassOf hub.now three × (three.seen ≡ []))
-                × (IsPassOf hub.now four × (four.seen ≡ [])) }
-        {
-            both_ended(
-                rt,
-                alloc,
-                settings,
-                hub,
-                counters,
-                gate,
-                (c.as_bytes(), 0),
-                (d.as_bytes(), 0),
-                three,
-                four,
-            )
-        },
+            requires { IsInRange floor.now.settings.now
+                × (settings_of floor.now.hub.now ≡ floor.now.settings.now)
+                × (IsPassOf floor.now.hub.now three × (three.seen ≡ []))
+                × (IsPassOf floor.now.hub.now four × (four.seen ≡ [])) }
+        { both_ended(floor, counters, c.as_bytes(), d.as_bytes(), three, four) },
     )
 }
 
@@ -236,60 +208,47 @@ fn both_lines(alloc: Global, seeds: (u64, u64)) -> Result<(String, String), Memo
 
 // The talks of four sessions at the same time, by plans of these seeds.
 fn four_talks<Q: Threads + Sync, L: Ledger + Send + Sync, R: Wait + Sync, G: Gate + Sync>(
-    rt: &Q,
-    alloc: Global,
-    settings: &Settings,
-    hub: &Shared<Work<L>, R>,
+    floor: &Floor<'_, Q, Shared<Work<L>, R>, G>,
     counters: &Counters<L>,
-    gate: &G,
     seeds: ((u64, u64), (u64, u64)),
     pass: &mut Pass<Work<L>>,
 ) -> Result<Vec<Talk>, Memory>
-    requires in_range { IsInRange settings.now }
-    requires hub_settings { settings_of hub.now ≡ settings.now }
-    requires of { IsPassOf hub.now pass.old }
+    requires in_range { IsInRange floor.now.settings.now }
+    requires hub_settings { settings_of floor.now.hub.now ≡ floor.now.settings.now }
+    requires of { IsPassOf floor.now.hub.now pass.old }
     requires fresh { pass.old.seen ≡ [] }
     requires room { 3 < pass.old.room }
-    ensures { OnOk result (IsPassOf hub.now pass.new × (pass.new.seen ≡ [])) }
+    ensures { OnOk result (IsPassOf floor.now.hub.now pass.new × (pass.new.seen ≡ [])) }
 {
-    let first = both_lines(alloc, seeds.0)?;
-    let second = both_lines(alloc, seeds.1)?;
+    let first = both_lines(floor.alloc, seeds.0)?;
+    let second = both_lines(floor.alloc, seeds.1)?;
     let (one, two) = four_ended(
-        rt,
-        alloc,
-        settings,
-        hub,
+        floor,
         counters,
-        gate,
         (first.0.as_str(), first.1.as_str()),
         (second.0.as_str(), second.1.as_str()),
         pass,
     );
-    let mut talks = Vec::new(alloc);
-    push_both(alloc, &mut talks, seeds.0, one?)?;
-    push_both(alloc, &mut talks, seeds.1, two?)?;
+    let mut talks = Vec::new(floor.alloc);
+    push_both(floor.alloc, &mut talks, seeds.0, one?)?;
+    push_both(floor.alloc, &mut talks, seeds.1, two?)?;
     Ok(talks)
 }
 
 // The talk of a session that asks for everything.
 fn last_talk<Q: Threads + Sync, L: Ledger, R: Wait, G: Gate>(
-    rt: &Q,
-    alloc: Global,
-    settings: &Settings,
-    hub: &Shared<Work<L>, R>,
+    floor: &Floor<'_, Q, Shared<Work<L>, R>, G>,
     counters: &Counters<L>,
-    gate: &G,
     pass: Pass<Work<L>>,
 ) -> Result<Talk, Memory>
-    requires in_range { IsInRange settings.now }
-    requires hub_settings { settings_of hub.now ≡ settings.now }
-    requires of { IsPassOf hub.now pass }
+    requires in_range { IsInRange floor.now.settings.now }
+    requires hub_settings { settings_of floor.now.hub.now ≡ floor.now.settings.now }
+    requires of { IsPassOf floor.now.hub.now pass }
     requires fresh { pass.seen ≡ [] }
 {
-    let asked = planned_lines(alloc, &Plan::All)?;
-    let input = asked.as_bytes();
-    let outcome = ended(rt, alloc, settings, hub, counters, gate, input, 0, pass)?;
-    Ok(talk_of(alloc, Plan::All, outcome))
+    let asked = planned_lines(floor.alloc, &Plan::All)?;
+    let outcome = ended(floor, counters, asked.as_bytes(), pass)?;
+    Ok(talk_of(floor.alloc, Plan::All, outcome))
 }
 
 fn four_threads<Q: Threads + Clock + Wait + Sync, L: Ledger + Send + Sync>(
@@ -312,10 +271,15 @@ fn four_threads<Q: Threads + Clock + Wait + Sync, L: Ledger + Send + Sync>(
     };
     let made: (Shared<Work<L>, &Q>, Pass<Work<L>>) = Shared::new(rt, alloc, settings, 5)?;
     let (hub, mut pass) = made;
-    let talks = four_talks(
-        rt, alloc, settings, &hub, &counters, &gate, seeds, &mut pass,
-    )?;
-    let last = last_talk(rt, alloc, settings, &hub, &counters, &gate, pass)?;
+    let floor = Floor {
+        rt,
+        alloc,
+        settings,
+        hub: &hub,
+        gate: &gate,
+    };
+    let talks = four_talks(&floor, &counters, seeds, &mut pass)?;
+    let last = last_talk(&floor, &counters, pass)?;
     how_they_went(alloc, &talks, &last)
 }
 

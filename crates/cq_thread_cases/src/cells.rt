@@ -1,11 +1,8 @@
-ghost use Rattle.std.specs.Prelude.{◌<◌, ◌≤◌, length, IfOk};
-ghost use Rattle.std.specs.Str.{IsUtf8};
-ghost use Rattle.cq_base.specs.Changes.{IsSoundChange};
+ghost use Rattle.std.specs.Prelude.{◌<◌, IfOk};
 ghost use Rattle.cq_cells.specs.Passes.{IsFree};
 ghost use Rattle.cq_chain.specs.Passes.{IsPassOf, AreFresh};
 
-use crate::both::accept_both;
-use cq_base::{Change, Lang, Memory, Settings, Text};
+use cq_base::{Memory, Settings};
 use cq_board::Board;
 use cq_chain::{Cells, Pass};
 use cq_shard::{Indexed, Shard};
@@ -107,28 +104,6 @@ fn shards_of(alloc: Global, number: u32) -> Result<Vec<Shard>, Memory>
     Ok(shards)
 }
 
-fn put(alloc: Global, path: u8) -> Result<Change, Memory>
-    requires { path < 128 }
-    ensures { IfOk result IsSoundChange }
-{
-    Ok(Change::Put {
-        project: letter(alloc, b'p')?,
-        path: letter(alloc, path)?,
-        lang: Lang::Any,
-        text: letter(alloc, b'x')?,
-    })
-}
-
-fn letter(alloc: Global, byte: u8) -> Result<Text, Memory>
-    requires { byte < 128 }
-    ensures utf8 { IfOk result IsUtf8 }
-    ensures len { IfOk result (λ text. length text ≤ 1) }
-{
-    let mut bytes = Vec::new(alloc);
-    bytes.push(byte)?;
-    Ok(Text::from_vec(bytes))
-}
-
 const SETTINGS: Settings = Settings {
     chunk: 2,
     shards: 2,
@@ -139,19 +114,6 @@ const SETTINGS: Settings = Settings {
     text_limit: 1_000,
     byte_limit: 1_000,
 };
-
-#[test]
-fn two_threads_accept(rt: HostRuntime) -> Result<(), Fail> {
-    let board = Board::new(rt.alloc(), &SETTINGS, 3)?;
-    let shards = shards_of(rt.alloc(), 2)?;
-    let (cells, mut pass) = Cells::new(&rt, rt.alloc(), board, shards)?;
-    let first = put(rt.alloc(), b'a')?;
-    let second = put(rt.alloc(), b'b')?;
-    let (first, second) = accept_both(&rt, &cells, rt.alloc(), &mut pass, first, second);
-    assert_eq!(rt; first.unwrap_or(100).wrapping_add(second.unwrap_or(100)), 3);
-    assert_eq!(rt; told(&cells, &mut pass, 1), (2, 0));
-    Ok(())
-}
 
 #[test]
 fn one_that_waits_goes_on(rt: HostRuntime) -> Result<(), Fail> {

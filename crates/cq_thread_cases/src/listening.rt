@@ -1,7 +1,6 @@
 ghost use Rattle.std.specs.Prelude.{◌≡◌, ◌≤◌, IsSome};
 ghost use Rattle.cq_base.specs.Settings.{IsInRange};
 
-use crate::beside::SETTINGS;
 use cq_base::{Counters, Memory, Settings, Text};
 use cq_chain::Pass;
 use cq_io::{Doors, Failed, Gate, Sink, Source};
@@ -15,6 +14,17 @@ use std::sync::Wait;
 use std::sync::ledger::{Blank, Ledger};
 use std::thread::Threads;
 use std::time::Clock;
+
+const SETTINGS: Settings = Settings {
+    chunk: 2,
+    shards: 2,
+    key_bits: 64,
+    ignore_ids: false,
+    ignore_lits: false,
+    change_limit: 262_144,
+    text_limit: 33_554_432,
+    byte_limit: 1_048_576,
+};
 
 /// A server's run: the clients, whom its gate holds, which call of the doors fails, from 1, or 0 for none, how many workers and
 /// how many threads for sessions there are, and what each client is told.

@@ -1,6 +1,6 @@
-ghost use Rattle.std.specs.Prelude.{◌≡◌, ℕ, ◌+◌, ◌%◌, ◌^◌, ◌<◌, ◌≤◌, [], ◌∷◌, ◌++◌, length, Some};
+ghost use Rattle.std.specs.Prelude.{◌≡◌, ◌+◌, ◌%◌, ◌^◌, ◌<◌, [], ◌∷◌, ◌++◌, length, Some};
 ghost use Rattle.cq_cells.specs.Callers.{own};
-ghost use Rattle.cq_cells.specs.Passes.{IsPassOf, IsFree, IsSameCaller, HasBoard, by_of, least};
+ghost use Rattle.cq_cells.specs.Passes.{IsPassOf, IsFree, IsSameCaller, HasBoard, by_of};
 ghost use Rattle.cq_thread_cases.specs.declared.telling.Told.{Told as Event};
 
 use cq_cells::{Cells, Law, Pass};
@@ -86,18 +86,6 @@ fn tell<R: Wait>(cells: &Bench<R>, pass: &mut Token)
 {
     let tally = cells.enter_board(pass);
     add(cells, tally, pass);
-}
-
-// The same, once each shard has applied a change.
-fn tell_after_one<R: Wait>(cells: &Bench<R>, pass: &mut Token)
-    requires of { IsPassOf cells.now pass.old × IsFree pass.old }
-    requires reached { (s : ℕ) → s < cells.now.shards → 1 ≤ least pass.old s }
-    ensures of { IsPassOf cells.now pass.new × IsFree pass.new × IsSameCaller pass.old pass.new }
-{
-    let mut tally = cells.enter_board(pass);
-    tally.count();
-    let events = tally.half();
-    cells.leave_board(tally, events, pass);
 }
 
 // How often something was told.
@@ -214,32 +202,6 @@ fn told_by_eight<Q: Threads + Sync, R: Wait + Sync>(
     how_often(cells, &mut pass)
 }
 
-// A change more is applied by the shard, which has then applied this many.
-fn follow<R: Wait>(cells: &Bench<R>, pass: &mut Token, shard: u32) -> u64
-    requires of { IsPassOf cells.now pass.old × IsFree pass.old }
-    requires shard { shard < cells.now.shards }
-    ensures of { IsPassOf cells.now pass.new × IsFree pass.new × IsSameCaller pass.old pass.new }
-    ensures least { (least pass.new shard ≡ result) × (1 ≤ result) }
-{
-    let mut follower = cells.enter_shard(shard, pass);
-    if follower.applied == 0 {
-        follower.applied = 1;
-    }
-    let applied = follower.applied;
-    cells.leave_shard(shard, follower, applied, pass);
-    applied
-}
-
-// What was told, after the one shard has applied a change.
-fn told_after_one<R: Wait>(cells: &Bench<R>, mut pass: Token) -> (u64, u64)
-    requires of { IsPassOf cells.now pass × IsFree pass }
-    requires shards { cells.now.shards ≡ 1 }
-{
-    let applied = follow(cells, &mut pass, 0);
-    tell_after_one(cells, &mut pass);
-    (applied, how_often(cells, &mut pass))
-}
-
 #[test]
 fn eight_threads_tell(rt: HostRuntime) -> Result<(), Fail> {
     let shards = Vec::new(rt.alloc());
@@ -251,21 +213,5 @@ fn eight_threads_tell(rt: HostRuntime) -> Result<(), Fail> {
         shards,
     )?;
     assert_eq!(rt; told_by_eight(&rt, &cells, pass, 250), 2_000);
-    Ok(())
-}
-
-#[test]
-fn an_event_waits_for_the_shard(rt: HostRuntime) -> Result<(), Fail> {
-    let mut shards = Vec::new(rt.alloc());
-    shards.push(Follower { applied: 0 })?;
-    let (cells, pass): (Bench<_>, Token) = Cells::new(
-        &rt,
-        rt.alloc(),
-        &1,
-        Tally { events: 0 },
-        shards,
-    )?;
-    assert_eq!(rt; (pass.by(), pass.next()), (0, 1));
-    assert_eq!(rt; told_after_one(&cells, pass), (1, 1));
     Ok(())
 }

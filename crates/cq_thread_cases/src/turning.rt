@@ -95,13 +95,6 @@ fn turns_here<R>(
     Ok(Some(turns(rt, alloc, settings, text)?))
 }
 
-#[test]
-fn a_turn_makes_the_work_that_is_left(rt: HostRuntime) -> Result<(), Refused> {
-    let turns = turns_here(&rt, rt.alloc(), &SETTINGS, "a b a b")?;
-    assert_eq!(rt; turns, Some((Turn::Worked(1), Turn::Idle, 1, 1)));
-    Ok(())
-}
-
 // As many tokens as a file may have, whose work takes some 50 MB.
 fn longest_text(alloc: Global) -> Result<String, Refused> {
     let mut text = String::new(alloc);

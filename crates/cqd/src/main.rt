@@ -10,7 +10,7 @@ ghost use Rattle.cq_program.specs.declared.status.Status.TheVariants as ended;
 ghost use Rattle.cqd.specs.Told as spec;
 
 use cq_base::{Memory, Steps, Text};
-use cq_io::{OpenGate, StdSink, StdSource};
+use cq_io::{Doors, OpenGate, Sink, Source, StdSink, StdSource};
 use cq_program::{Status, top};
 use cq_sockets::TcpDoors;
 use cq_words::connections;
@@ -62,31 +62,55 @@ fn words_of(alloc: Global, args: env::Args) -> Result<Vec<Text>, Memory>
     texts_of(alloc, &words)
 }
 
-// Runs on standard input and output, and on doors for so many connections. Only in `main` is the runtime itself a handle on
-// threads and sockets, so that stands beside it.
-fn run<
-    Q: Threads + Wait + Net<Listener = TcpListener, Stream = TcpStream> + Sync,
+// How the program ends, over any ends. This promises nothing: what `top` promises would otherwise be proved again for the real
+// ends.
+fn status_of<
+    Q: Threads + Wait + Sync,
+    S: Source,
+    K: Sink,
+    I: Source + Send + Drop,
+    O: Sink + Send + Drop,
+    D: Doors<In = I, Out = O>,
     L: Ledger + Send + Sync,
->(rt: &HostRuntime, handle: &Q, words: &[Text], connections: u32, blank: Blank) -> Status
+>(
+    handle: &Q,
+    alloc: Global,
+    words: &[Text],
+    source: &mut S,
+    sink: &mut K,
+    doors: &mut D,
+    blank: Blank,
+) -> Status
     requires name { blank.name ≡ L.name }
     requires parts { blank.parts ≡ L.parts }
 {
-    let alloc = rt.alloc();
+    let mut steps: Steps<L> = Steps::new(blank);
+    top(
+        handle, alloc, words, source, sink, doors, &OpenGate, &mut steps,
+    )
+    .status
+}
+
+// Runs on standard input and output, and on doors for so many connections. Only in `main` is the runtime itself a handle on
+// threads and sockets, so that stands beside it.
+fn run<Q: Threads + Wait + Net<Listener = TcpListener, Stream = TcpStream> + Sync>(
+    rt: &HostRuntime,
+    handle: &Q,
+    words: &[Text],
+    connections: u32,
+) -> Status {
     let mut source = StdSource::new(rt.stdin());
     let mut sink = StdSink::new(rt.stdout());
     let mut doors = TcpDoors::new(handle, connections);
-    let mut steps: Steps<L> = Steps::new(blank);
-    top(
+    status_of::<Q, _, _, _, _, _, Brand>(
         handle,
-        alloc,
+        rt.alloc(),
         words,
         &mut source,
         &mut sink,
         &mut doors,
-        &OpenGate,
-        &mut steps,
+        Blank::new(1),
     )
-    .status
 }
 
 // The status of a run whose words could not be had: memory was refused, or one is not UTF-8.
@@ -112,7 +136,7 @@ fn status<Q: Threads + Wait + Net<Listener = TcpListener, Stream = TcpStream> + 
         return Status::Memory;
     };
     match connections(rt.alloc(), &words) {
-        Ok(count) => run::<Q, Brand>(rt, handle, &words, count.unwrap_or(0), Blank::new(1)),
+        Ok(count) => run(rt, handle, &words, count.unwrap_or(0)),
         Err(Memory) => Status::Memory,
     }
 }

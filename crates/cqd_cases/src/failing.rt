@@ -149,28 +149,9 @@ fn the_input_may_end_anywhere(rt: HostRuntime) -> Result<(), Memory> {
     Ok(())
 }
 
-// A request with a member too many, of so many nested lists.
-fn nested(alloc: Global, depth: usize) -> Result<Vec<u8>, Memory> {
-    let mut line = Vec::from_slice(alloc, br#"{"op":"state","x":"#)?;
-    for _list in 0..depth {
-        line.push(b'[')?;
-    }
-    for _list in 0..depth {
-        line.push(b']')?;
-    }
-    line.extend_from_slice(b"}\n")?;
-    Ok(line)
-}
-
 #[test]
-fn lines_of_the_wrong_shape_are_told(rt: HostRuntime) -> Result<(), Memory> {
+fn a_long_line_without_its_line_feed_is_refused(rt: HostRuntime) -> Result<(), Memory> {
     let alloc = rt.alloc();
-    let x = "{\"code\":3,\"error\":\"field\",\"name\":\"x\",\"ok\":false}\n".as_bytes();
-    let deepest = nested(alloc, 126)?;
-    assert!(rt; ends_with(&rt, alloc, RUN, &deepest, 64, (0, 0), x, 0)?);
-    let deeper = nested(alloc, 127)?;
-    assert!(rt; ends_with(&rt, alloc, RUN, &deeper, 64, (0, 0), JSON, 0)?);
-    assert!(rt; ends_with(&rt, alloc, RUN, b"\xff\n", 64, (0, 0), JSON, 0)?);
     let open = vec![in alloc; b'x'; 8_388_609]?;
     let long = "{\"code\":13,\"error\":\"long\",\"ok\":false}\n".as_bytes();
     assert!(rt; ends_with(&rt, alloc, RUN, &open, 65_536, (0, 0), long, 0)?);

@@ -91,14 +91,3 @@ pub(crate) fn ends_with<Q: Threads + Wait + Sync>(
     let ended = run_here(rt, alloc, &words, &mut source, &mut sink);
     Ok(ended == status && sink.written() == output)
 }
-
-/// Whether the program ends with 0 after it has written an output.
-pub(crate) fn goes<Q: Threads + Wait + Sync>(
-    rt: &Q,
-    alloc: Global,
-    words: &str,
-    input: &[u8],
-    output: &[u8],
-) -> Result<bool, Memory> {
-    ends_with(rt, alloc, words, input, 4_096, (0, 0), output, 0)
-}

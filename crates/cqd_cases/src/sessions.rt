@@ -1,22 +1,8 @@
-use crate::running::{ends_with, goes, run_here, words_of};
+use crate::running::{ends_with, run_here, words_of};
 use cq_base::Memory;
 use cq_io::{Failed, MemSink, MemSource, Source};
 
 const WORDS: &str = "run --chunk 2 --shards 1";
-
-const PUT: &str = r#"{"op":"put","project":"p","path":"t","lang":"any","text":""#;
-
-const FILES: &str = r#""}
-{"op":"files","project":"p"}
-"#;
-
-const MOST_TOKENS: &str = r#"{"change":1,"ok":true}
-{"files":[{"change":1,"lang":"any","lines":1,"path":"t","state":"ok","tokens":262144}],"ok":true,"version":1}
-"#;
-
-const TOO_MANY_TOKENS: &str = r#"{"change":1,"ok":true}
-{"files":[{"change":1,"lang":"any","lines":1,"path":"t","state":"large","tokens":0}],"ok":true,"version":1}
-"#;
 
 #[test]
 fn lines_are_served_however_they_are_cut(rt: HostRuntime) -> Result<(), Memory> {
@@ -33,27 +19,7 @@ fn lines_are_served_however_they_are_cut(rt: HostRuntime) -> Result<(), Memory> 
 {"groups":[],"ok":true,"total":0,"version":1}
 "#
         .as_bytes();
-    assert!(rt; ends_with(&rt, alloc, WORDS, b"", 9, (0, 0), b"", 0)?);
     assert!(rt; ends_with(&rt, alloc, WORDS, input, 1, (0, 0), output, 0)?);
-    assert!(rt; goes(&rt, alloc, WORDS, input, output)?);
-    Ok(())
-}
-
-#[test]
-fn long_lines_are_told(rt: HostRuntime) -> Result<(), Memory> {
-    let alloc = rt.alloc();
-    let mut input = br#"{"op":"state"}"#.to_vec(alloc)?;
-    input.resize(8_388_608, b' ')?;
-    input.extend_from_slice(b"\n{\"op\":\"state\"}")?;
-    let least = 8_388_609 + 8_388_609;
-    input.resize(least, b' ')?;
-    input.extend_from_slice(b"\n{\"op\":\"state\"}\n")?;
-    let output = r#"{"accepted":0,"done":0,"ok":true,"published":0}
-{"code":13,"error":"long","ok":false}
-{"accepted":0,"done":0,"ok":true,"published":0}
-"#
-        .as_bytes();
-    assert!(rt; ends_with(&rt, alloc, WORDS, &input, 65_536, (0, 0), output, 0)?);
     Ok(())
 }
 
@@ -75,7 +41,7 @@ fn a_reply_is_written_before_the_next_line_is_read(rt: HostRuntime) -> Result<()
 }
 
 #[test]
-fn faults_and_limits_end_it(rt: HostRuntime) -> Result<(), Memory> {
+fn faults_end_it(rt: HostRuntime) -> Result<(), Memory> {
     let alloc = rt.alloc();
     let op = "{\"code\":2,\"error\":\"op\",\"ok\":false}\n".as_bytes();
     let two =
@@ -87,19 +53,5 @@ fn faults_and_limits_end_it(rt: HostRuntime) -> Result<(), Memory> {
         .as_bytes();
     let accepted = "{\"change\":1,\"ok\":true}\n".as_bytes();
     assert!(rt; ends_with(&rt, alloc, WORDS, put, 4_096, (2, 0), accepted, 2)?);
-    Ok(())
-}
-
-// One token more than a file may have.
-#[test]
-fn a_file_with_too_many_tokens_is_large(rt: HostRuntime) -> Result<(), Memory> {
-    let alloc = rt.alloc();
-    for (tokens, output) in [(262_144, MOST_TOKENS), (262_145, TOO_MANY_TOKENS)] {
-        let mut input = Vec::from_slice(alloc, PUT.as_bytes())?;
-        let text = vec![in alloc; b';'; tokens]?;
-        input.extend_from_slice(&text)?;
-        input.extend_from_slice(FILES.as_bytes())?;
-        assert!(rt; goes(&rt, alloc, WORDS, &input, output.as_bytes())?);
-    }
     Ok(())
 }

@@ -1,5 +1,5 @@
 use Rattle.std.proofs.Common.{rules, refl, inl}
-use Rattle.cq_thread_cases.proofs.Adding.{board_same}
+use Rattle.cq_thread_cases.proofs.Keeping.{board_same}
 use Rattle.cq_thread_cases.proofs.cells.told.Goals as goal
 
 pub leave_board-requires : goal.leave_board-requires
