@@ -36,7 +36,7 @@ IsNoneHeldFrom slots i = (k : ℕ) → i ≤ k → is_none (slice_index_or slots
 abbrev pub AreHeaped : FreeChanges → Type 0
 AreHeaped free = IsHeap least_first (heap_items free.given_back)
 
--- each of them is behind the floor
+-- each of them is above the floor
 abbrev pub AreBehind : ℕ → FreeChanges → Type 0
 AreBehind floor free = All (λ given. floor ≤ given.0) (heap_items free.given_back)
 
@@ -55,8 +55,8 @@ pub record AreFree (slots : List Slot) (floor : ℕ) (free : FreeChanges) : Type
   -- none from the index on was ever taken
   pub untaken : IsNoneHeldFrom slots free.untaken
   pub within : free.untaken ≤ length slots
-  -- each of them is behind the floor and there once, and nobody has it: so there is room for each that somebody has, where there
-  -- is room for all behind the floor
+  -- each of them is above the floor and there once, and nobody has it: so there is room for each that somebody has, where there
+  -- is room for all above the floor
   pub passed : AreBehind floor free
   pub once : AllPairs AreOthers (heap_items free.given_back)
   pub loose : All (IsLoose slots) (heap_items free.given_back)

@@ -51,7 +51,7 @@ module _ {S P : Type 0} (Stands : S → P → ℕ → List Event → Type 0) (se
   abbrev pub HasOpen : {W : Type 0} → (Settings → Lang → List ℕ → W → Type 0) → View W → Type 0
   HasOpen IsWorkOf view = HasSeen Stands hub pass (λ c h. IsOpen (IsWorkOf (settings hub)) (state (callers hub) h) c view)
 
--- ---- what a call answers: at the old pass and the new one, behind each history that the old one stood for
+-- ---- what a call answers: at the old pass and the new one, after each history that the old one stood for
 
 module _ {S P : Type 0} (Stands : S → P → ℕ → List Event → Type 0) (alone : Type 0) (settings : S → Settings) (callers : S → ℕ) (hub : S) (old new : P) where
   -- others' events came, and none of the caller's own

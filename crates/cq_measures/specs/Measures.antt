@@ -94,14 +94,14 @@ is_in_chosen chosen e = list_any (nat_eq e.file) chosen
 abbrev pub chosen_extents : List ℕ → List (List Token) → List Group → List Extent
 chosen_extents chosen spans groups = filter (is_in_chosen chosen) (extents_of spans groups)
 
--- those of some of the files alone, with the places that groups of all files have in them
+-- those of only some of the files, with the places that groups of all files have in them
 abbrev pub chosen_measures : List FileCounts → List (List Token) → List ℕ → List Group → Measures
 chosen_measures counts spans chosen groups = measures_of (length chosen) (total (counts_at counts chosen)) (chosen_extents chosen spans groups)
 
 abbrev pub measures_of_chosen : List FileLines → List ℕ → List Group → Measures
 measures_of_chosen files chosen groups = chosen_measures (counts_of files) (spans_of files) chosen groups
 
--- the extent of a place, or of a group's places, stands behind others, where the file is chosen
+-- the extent of a place, or of a group's places, comes after others, where the file is chosen
 abbrev pub AddsPlace : List FileLines → List ℕ → ℕ → Place → List Extent → List Extent → Type 0
 AddsPlace files chosen n p old new = new ≡ old ++ filter (is_in_chosen chosen) (extent_of (spans_of files) n p ∷ [])
 

@@ -93,7 +93,7 @@ module _ {H W P : Type 0} (of : Ghosts H W P) (hub : H) where
   -- ---- from one pass to another, for each history that the first one stood for with no view open
 
   module _ (old new : P) where
-    -- works of changes up to one were done, and that holds behind them, where this held
+    -- works of changes up to one were done, and that holds after them, where this held
     abbrev pub HasHelped : (List Event → Type 0) → ℕ → (List Event → Type 0) → Type 0
     HasHelped If to Holds = Led of.Stands (of.callers hub) hub old new If (λ c h. Helps of.alone c to h Holds)
 
@@ -127,7 +127,7 @@ module _ {H W P : Type 0} (of : Ghosts H W P) (hub : H) where
       abbrev spent : Counts
       spent = counted reads reads_now (of.asked old) (of.asked new)
 
-      -- a view of a version not below this one was opened, shut and swept behind, and the reply is by it
+      -- a view of a version not below this one was opened, shut, and the floor raised after it, and the reply is by it
       abbrev pub HasShown : ℕ → Query → Reply → Type 0
       HasShown to q r = Led of.Stands (of.callers hub) hub old new Always (λ c h. ShowsAt (of.settings hub) (of.callers hub) of.alone c to q spent r h)
 

@@ -13,13 +13,13 @@ use Rattle.cq_work.specs.declared.counting.Early.{Early}
 use Rattle.cq_work.specs.declared.work.State.{State}
 use Rattle.cq_work.specs.declared.work.State.TheVariants as state
 
--- a text without tokens for a fault, or for too many, has lines alone
+-- a text without tokens, for a fault or since there are too many, has only lines
 abbrev pub counts_of : Lang → List ℕ → State → List Spelled → FileCounts
 counts_of lang text state.Ok tokens = record { lines = lines_of text; ncloc = code_lines (spans_of tokens); complexity = complexity lang tokens }
 counts_of lang text (state.Fault at) tokens = record { lines = lines_of text; ncloc = 0; complexity = 0 }
 counts_of lang text state.Large tokens = record { lines = lines_of text; ncloc = 0; complexity = 0 }
 
--- ---- in two steps: before it is known which tokens are listed, and behind that
+-- ---- in two steps: before it is known which tokens are listed, and after that
 
 abbrev pub early_complexity : Lang → State → List Spelled → ℕ
 early_complexity lang state.Ok tokens = complexity lang tokens
