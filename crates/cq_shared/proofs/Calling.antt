@@ -7,7 +7,7 @@ use Rattle.cq_base.specs.declared.memory.Memory.{Memory}
 use Rattle.cq_base.specs.declared.change.Change.{Change}
 use Rattle.cq_base.specs.declared.settings.Settings.{Settings}
 use Rattle.cq_history.specs.declared.event.Event.{Event}
-use Rattle.cq_history.specs.declared.event.Event.TheVariants.{Accept, Ask, Took, Back, Done, Publish, Open, Shut, Floor}
+use Rattle.cq_history.specs.declared.event.Event.TheVariants.{Accept, Ask, Took, Back, Done, Open, Shut}
 use Rattle.cq_history.specs.State.{State, state, own, maker, is_by, accepted, ready, slot_of, view_of, IsAccepted, IsDone}
 use Rattle.cq_history.specs.Lawful.{Lawful}
 use Rattle.cq_history.proofs.Prefixes.{own-append, accepted-append}
