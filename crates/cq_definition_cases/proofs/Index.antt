@@ -71,7 +71,7 @@ a_bucket_has_each_entry_of_its_key bucket = Contains-nil (entry 5 0) ((bucket.ea
 abbrev stale : Entry
 stale = record { key = 5; change = 2; at = 0 }
 
-only_one_is_live : (file : ℕ) → slice_get (1 ∷ []) file ≡ Some 2 → ⊥
+only_one_is_live : (file : ℕ) → slice_get {X = ℕ} (1 ∷ []) file ≡ Some 2 → ⊥
 only_one_is_live zero put = let other : Some 1 ≡ Some 2 = put in grind (arith, other)
 only_one_is_live (suc file) put = let other : None ≡ Some 2 = put in grind (arith, other)
 
