@@ -34,7 +34,7 @@ MayPublish c version = (c.board.state.published < version) × (version ≤ ready
 abbrev pub MaySetFloor : CoreState → ℕ → Type 0
 MaySetFloor c version = (c.board.state.floor < version) × (version ≤ c.board.state.published) × All (IsBelow version) c.board.state.views
 
--- the outcome where the step is done, and the one where it is not, each exactly where it is so
+-- the outcome if the step is done, and the one if it is not, each exactly if it is so
 abbrev pub Done-if : Type 0 → Outcome → Outcome → Outcome → Type 0
 Done-if May done not_done o = (May × (o ≡ done)) ⊎ ((May → ⊥) × (o ≡ not_done))
 

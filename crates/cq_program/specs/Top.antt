@@ -107,7 +107,7 @@ module _ {S K : Type 0} (from : source.Ghosts S) (onto : sink.Ghosts K) where
   Drives settings read read_now written written_now status =
       status ≢ ended.Memory → IsDrive settings (from.rest read) (from.rest read_now) (onto.written written) (onto.written written_now) (from.faults read) (from.faults read_now) (onto.faults written) (onto.faults written_now) status
 
-  -- where the words ask for one
+  -- if the arguments ask for one
   abbrev pub RunsFor : List (List ℕ) → ℕ → ℕ → S → S → K → K → Status → Type 0
   RunsFor words reads reads_now read read_now written written_now status =
       (asked : Run) → command_of words ≡ Some (command.Run asked) → RunsAsked asked reads reads_now read read_now written written_now status
@@ -120,7 +120,7 @@ module _ {K : Type 0} (onto : sink.Ghosts K) where
   abbrev pub MakesLine : Make → K → K → Status → Type 0
   MakesLine asked written written_now status = status ≢ ended.Memory → IsMade asked.number asked.files (onto.written written) (onto.written written_now) (onto.faults written) (onto.faults written_now) status
 
-  -- where the words ask for it
+  -- if the arguments ask for it
   abbrev pub MakesFor : List (List ℕ) → K → K → Status → Type 0
   MakesFor words written written_now status = (asked : Make) → command_of words ≡ Some (command.Make asked) → MakesLine asked written written_now status
 
@@ -136,7 +136,7 @@ module _ (L : Type 0) {S K : Type 0} (from : source.Ghosts S) (onto : sink.Ghost
   abbrev pub AsksFile : Settings → S → S → K → K → Status → Type 0
   AsksFile settings read read_now written written_now status = status ≢ ended.Memory → IsAsk settings read read_now written written_now status
 
-  -- where the words ask for one
+  -- if the arguments ask for one
   abbrev pub AsksFor : List (List ℕ) → S → S → K → K → Status → Type 0
   AsksFor words read read_now written written_now status = (settings : Settings) → command_of words ≡ Some (command.Ask settings) → AsksFile settings read read_now written written_now status
 
@@ -154,18 +154,18 @@ module _ (L : Type 0) {S K : Type 0} (from : source.Ghosts S) (onto : sink.Ghost
   abbrev pub ExportsFile : Export → S → S → K → K → Status → Type 0
   ExportsFile asked read read_now written written_now status = status ≢ ended.Memory → IsExport asked read read_now written written_now status
 
-  -- where the words ask for it
+  -- if the arguments ask for it
   abbrev pub ExportsFor : List (List ℕ) → S → S → K → K → Status → Type 0
   ExportsFor words read read_now written written_now status = (asked : Export) → command_of words ≡ Some (command.Export asked) → ExportsFile asked read read_now written written_now status
 
 module _ {S K : Type 0} (from : source.Ghosts S) (onto : sink.Ghosts K) where
-  -- where the words ask for a command other than `listen`
+  -- if the arguments ask for a command other than `listen`
   abbrev pub EndsFor : List (List ℕ) → Status → S → S → K → K → Type 0
   EndsFor words status read read_now written written_now = command_of words ≢ None → connections_of words ≡ None → Ends from onto status read read_now written written_now
 
 -- ---- connections
 
--- where the words ask for it
+-- if the arguments ask for it
 abbrev pub ListensFor : List (List ℕ) → Option (List ℕ) → Option ℕ → Option ℕ → ℕ → ℕ → Status → Type 0
 ListensFor words bound_now left left_now doors doors_now status = (asked : Listen) → command_of words ≡ Some (command.Listen asked) → HasListened asked.address bound_now left left_now doors doors_now status
 

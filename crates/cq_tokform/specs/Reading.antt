@@ -21,8 +21,8 @@ use Rattle.cq_tokform.specs.declared.unread.Unread.TheVariants as unread
 use Rattle.cq_tokform.specs.Spelling.{Recorded, Contents, mark, recorded}
 use Rattle.cq_tokform.specs.Sound.{is_sound_token, is_sound_function, is_sound_file, is_sound_head, is_sound_contents}
 
--- What a reader promises, where `spell` gives the bytes of a value, and `IsSound` says which values may be read: where it
--- reads, the bytes are those of a sound value and what follows, and where it refuses, they begin with those of none.
+-- What a reader promises, where `spell` gives the bytes of a value, and `IsSound` says which values may be read: if it
+-- reads, the bytes are those of a sound value and what follows, and if it refuses, they begin with those of none.
 abbrev pub Reads : {A X : Type 0} → (A → List ℕ) → (A → Type 0) → (X → A × List ℕ) → List ℕ → Result X Unread → Type 0
 Reads spell IsSound view bytes (Ok x) = IsSound (view x).0 × (bytes ≡ spell (view x).0 ++ (view x).1)
 Reads {A = A} spell IsSound view bytes (Err unread.Refused) = (a : A) (rest : List ℕ) → IsSound a → bytes ≡ spell a ++ rest → ⊥

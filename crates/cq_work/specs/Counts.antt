@@ -26,7 +26,7 @@ early_complexity lang state.Ok tokens = complexity lang tokens
 early_complexity lang (state.Fault at) tokens = 0
 early_complexity lang state.Large tokens = 0
 
--- lines of code, where there are marks
+-- lines of code, if there are marks
 abbrev pub early_ncloc : List Mark → List Spelled → Option ℕ
 early_ncloc [] tokens = None
 early_ncloc (m ∷ marks) tokens = Some (code_lines (spans_of tokens))
@@ -37,6 +37,6 @@ early_counts lang state tokens marks = record { complexity = early_complexity la
 abbrev pub AreEarlySmall : Early → Type 0
 AreEarlySmall early = (early.complexity ≤ 2 ^ 32) × IfSome early.ncloc (λ n. n ≤ 2 ^ 32)
 
--- with the lines of code of the tokens that are listed, where these are all
+-- with the lines of code of the tokens that are listed, if these are all
 abbrev pub completed_counts : List ℕ → Early → List Token → FileCounts
 completed_counts text early listed = record { lines = lines_of text; ncloc = unwrap_or early.ncloc (code_lines listed); complexity = early.complexity }
