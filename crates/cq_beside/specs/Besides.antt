@@ -1,4 +1,4 @@
--- What is known of a pass behind a talk with workers beside it.
+-- What is known of a pass after a talk with workers beside it.
 use Rattle.std.specs.Prelude.{◌≡◌, ℕ, ◌+◌, ◌<◌, ◌≤◌, List}
 use mathlib.Core.List.{IsPrefix}
 use Rattle.cq_base.specs.Settings.{IsInRange}
@@ -22,7 +22,7 @@ module _ {W R : Type 0} (hub : Shared W R) where
     pub caller : by_of q ≡ by_of p
     pub quiet : StaysQuiet p.seen (by_of p) → StaysQuiet q.seen (by_of p)
 
-  -- The talk of a caller, who was made behind so many workers, came to a history of which this holds. The callers that
+  -- The talk of a caller, who was made after so many workers, came to a history of which this holds. The callers that
   -- were made ended in the pass, which has seen more by then: none of them but that one accepted anything or opened a view, and
   -- no other has an event.
   pub record Besides (p : BoardPass) (workers : ℕ) (q : BoardPass) (Said : ℕ → List Event → List Event → ℕ → Type 0) : Type 0 where

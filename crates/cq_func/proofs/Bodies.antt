@@ -93,7 +93,7 @@ other_level l ts brace close at pair low high e =
     (place_above-least (λ j. are_even l kind.Curly (from_to ts brace j)) brace (length ts) at low (omega (arith, is, high)))
     (sym (level-tells l kind.Curly ts brace (at + 1) (omega arith) (omega arith)) ∙ eq-eqb _ _ e)
 
--- behind the brace and up to its partner the level is above that before it
+-- after the brace and up to its partner the level is above that before it
 higher : (l : Lang) (ts : List Spelled) (d : Spelled) (brace close more : ℕ) → IsPair l ts brace close → brace + 1 + more ≤ close → level l kind.Curly ts brace < level l kind.Curly ts (brace + 1 + more)
 higher l ts d brace close zero pair le =
     let up = (braced l ts brace pair.opens).1 in

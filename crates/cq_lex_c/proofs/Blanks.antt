@@ -1,4 +1,4 @@
--- A blank, which its character tells, with the mode behind it.
+-- A blank, which its character tells, with the mode after it.
 use Rattle.std.proofs.Common.{◌≡◌, ℕ, ◌-◌, ◌<◌, ◌≤◌, Some, true, false, List, [], ◌∷◌, length, drop, refl, arith}
 use Rattle.std.proofs.lemmas.Grind.{common_steps}
 use Rattle.cq_munch.specs.Automata.{entry_at}

@@ -57,8 +57,8 @@ abbrev pub is_fraction : List ℕ → Bool
 is_fraction (a ∷ b ∷ s) = (a == 46) && is_ascii_digit b
 is_fraction _ = false
 
--- A digit or a quote begins a literal, and so does a point before a digit; a slash does where an operand is expected, and a closing
--- brace where it ends a substitution.
+-- A digit or a quote begins a literal, and so does a point before a digit; a slash does if an operand is expected, and a closing
+-- brace if it ends a substitution.
 abbrev pub opens_literal : ℕ → ℕ → List ℕ → Bool
 opens_literal at mode text =
     starts (λ c. is_ascii_digit c || (is_quote c || (((c == 47) && expects_operand mode) || ((c == 125) && ends_substitution mode)))) text

@@ -21,7 +21,7 @@ decisions lang.Ts = codes "if" ∷ codes "for" ∷ codes "while" ∷ codes "case
 abbrev pub is_among : List (List ℕ) → List ℕ → Bool
 is_among texts text = list_any (λ t. bytes_eq text t) texts
 
--- Directly behind `<` or `,` a question mark of Java is a wildcard of a type (JLS 4.5.1), and decides nothing.
+-- Directly after `<` or `,` a question mark of Java is a wildcard of a type (JLS 4.5.1), and decides nothing.
 abbrev pub is_wildcard : Lang → List ℕ → List ℕ → Bool
 is_wildcard lang.Java before text = bytes_eq text (codes "?") && is_among (codes "<" ∷ codes "," ∷ []) before
 is_wildcard _ before text = false

@@ -71,7 +71,7 @@ pub record SoFar (lang : Language) (bytes : List ℕ) (units : List Unit) (token
 pub none_so_far : (lang : Language) (bytes : List ℕ) (units : List Unit) → InOrder 0 units (length bytes) → SoFar lang bytes units [] [] 0 0 0
 none_so_far lang bytes units order = record { elements = []; follow = (refl, refl); tokens_are = refl; marks_are = refl; inside = zero-le; behind = order; ordered = zero-le }
 
--- elements behind elements
+-- elements after elements
 Follow-append : (lang : Language) (text : List ℕ) (a m : ℕ) (fs : List Found) (at mode : ℕ) (gs : List Found) (end last : ℕ) → Follow lang text a m fs at mode → Follow lang text at mode gs end last
     → Follow lang text a m (fs ++ gs) end last
 Follow-append lang text a m [] at mode gs end last h k = subst (λ v. Follow lang text v m gs end last) (sym h.0) (subst (λ v. Follow lang text at v gs end last) (sym h.1) k)
@@ -109,7 +109,7 @@ all_gone {lang} {units} {from} {there} {at} {mode} gone end =
     let whole : at ≡ length units = omega (arith, gone.inside) in
     (gone.elements, mode, subst (λ v. Follow lang (characters units) from there gone.elements v mode) whole gone.follow)
 
--- a text with a fault behind its first tokens, or with too many
+-- a text with a fault after its first tokens, or with too many
 pub faulty : {lang : Language} {bytes : List ℕ} {units : List Unit} {tokens : List Spelled} {marks : List Mark} {at mode end : ℕ} → SoFar lang bytes units tokens marks at mode end → (byte : ℕ) → StopsFrom lang units at mode byte → EndsAt lang units byte
 faulty {lang} {bytes} {units} {tokens} {marks} {at} {mode} {end} so_far byte stops = record {
   elements = so_far.elements ++ stops.elements;

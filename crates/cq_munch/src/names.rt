@@ -61,7 +61,7 @@ fn plain_name(kinds: &[u8; 128], units: &[Unit]) -> Option<usize>
     Some(units.len())
 }
 
-// The element at the front, before reserved words are told from other names.
+// The element at the front, before reserved words are separated from other names.
 fn row_found<S: StandIn>(
     by: Automaton<'_>,
     kinds: &[u8; 128],

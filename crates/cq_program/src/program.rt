@@ -240,8 +240,8 @@ pub fn top<
         result.status result.served }
     ensures unserved { connections_of words.now ≡ None → result.served ≡ None }
 
-    // Unless memory is refused, the status of `run` is that of a session over all lines of the source: alone if there is no
-    // worker, and otherwise with workers beside it.
+    // Unless memory is refused, the status of `run` is that of a session over all lines of the source, with workers beside
+    // it if there are any.
     ensures runs { RunsFor S.Source K.Sink words.now steps.old steps.new
         source.old source.new sink.old sink.new result.status }
 

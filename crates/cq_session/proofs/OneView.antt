@@ -100,7 +100,7 @@ module _ {S W P : Type 0} (of : Ghosts S W P) (hub : S) (IsWork : Lang → List 
           abbrev viewing_of : Query → Bool → List Viewing
           viewing_of q answered = record { query = q; version = view.version; answered = answered } ∷ []
 
-          -- at a history behind, where the floor may have been raised
+          -- at a later history, at which the floor may have been raised
           module _ (now : List Event) (sweeps : Grows alone IsFloor c later now []) where
             was_viewed : Views alone c to h (Some view.version) now
             was_viewed =
@@ -129,7 +129,7 @@ module _ {S W P : Type 0} (of : Ghosts S W P) (hub : S) (IsWork : Lang → List 
             costs_now : (q : Query) (answered : Bool) (n : Counts) → Costs set (accepted before) (viewing_of q answered) n → Costs set (accepted now) (viewing_of q answered) n
             costs_now q answered n costs = subst (λ g. Costs set (accepted g) (viewing_of q answered) n) (sym grows_now.after_is) (costs_later set before grows_now.more (viewing_of q answered) n (few_before, tt) costs)
 
-          -- the view was read and shut, and the floor was raised behind it
+          -- the view was read and shut, and the floor was raised after it
           pub was_shown : (four : P) (swept : Calls Stands alone IsFloor c hub four (shut.mid ++ Shut c ∷ []) [] (λ mid. IsSwept (state callers mid))) (q : Query) (r : Reply) (n : Counts) → IsReply set (accepted (opened.mid ++ Open c view.version ∷ [])) view.version q r
               → Costs set (accepted (opened.mid ++ Open c view.version ∷ [])) (record { query = q; version = view.version; answered = true } ∷ []) n → Leads Stands callers c hub four (ShowsAt set callers alone c to q n r h)
           was_shown four swept q r n is costs = record {

@@ -34,7 +34,7 @@ impl Lines {
     }
 }
 
-// Accepts a change, and tells what comes of it.
+// Accepts a change, and returns what comes of it.
 fn accept(model: &mut Model, change: Change, told: &mut Written) -> Result<(), Memory> {
     match model.accept(change)? {
         Some(refusal) => tell_refusal(refusal, told),
@@ -43,7 +43,7 @@ fn accept(model: &mut Model, change: Change, told: &mut Written) -> Result<(), M
     Ok(())
 }
 
-// The reply of a version up to it, where there are these files.
+// The reply of a version up to it, if there are these files.
 fn tell_answer(
     alloc: Global,
     kind: Kind,
@@ -64,7 +64,7 @@ fn tell_answer(
     Ok(())
 }
 
-/// The reply to a query behind so many changes.
+/// The reply to a query after so many changes.
 pub fn tell_query_at(
     alloc: Global,
     kind: Kind,
@@ -101,7 +101,7 @@ fn tell_model(model: &mut Model, told: &mut Written) {
     tell_state(model.accepted.count(), model.done(), published, told);
 }
 
-// The model goes on by a request, and tells its reply.
+// The model goes on by a request, and returns its reply.
 fn tell(
     alloc: Global,
     request: Request,
@@ -122,7 +122,7 @@ fn tell(
     }
 }
 
-/// So many lines of a talk, and what the model tells of them.
+/// So many lines of a talk, and what the model replies to them.
 pub fn drawn_lines(
     alloc: Global,
     count: u32,

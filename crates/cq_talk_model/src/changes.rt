@@ -77,7 +77,7 @@ pub enum Refusal {
     Pending(u64),
 }
 
-/// The upload whose file stands at a path behind so many changes.
+/// The upload whose file is at a path after so many changes.
 pub fn file_at<'a>(
     changes: &'a [Change],
     version: u64,
@@ -106,7 +106,7 @@ pub fn file_at<'a>(
     found
 }
 
-/// The files of a project behind so many changes, in the order of their paths.
+/// The files of a project after so many changes, in the order of their paths.
 pub fn files_at<'a>(
     alloc: Global,
     changes: &'a [Change],
@@ -122,7 +122,7 @@ pub fn files_at<'a>(
     Ok(files)
 }
 
-/// The conditions of a project's last gate behind so many changes.
+/// The conditions of a project's last gate after so many changes.
 pub fn conditions_at<'a>(changes: &'a [Change], version: u64, project: u32) -> &'a [Condition] {
     let mut found: &'a [Condition] = &[];
     for change in changes.iter().take(version as usize) {
@@ -239,7 +239,7 @@ impl Accepted {
         }
     }
 
-    /// Accepts a change, which is the last one then, or tells why not. Versions below the floor are given up.
+    /// Accepts a change, which is the last one then, or returns why not. Versions below the floor are given up.
     pub fn accept(&mut self, change: Change, floor: u64) -> Result<Option<Refusal>, Memory> {
         let refusal = self.refusal(&change, floor);
         if refusal.is_some() {

@@ -58,7 +58,7 @@ impl Counts {
         }
     }
 
-    /// Whether they are what a condition tells of.
+    /// Whether they are what a condition speaks of.
     pub fn meet(&self, condition: &Condition) -> bool {
         let measure = self.measure(condition.metric);
         if condition.is_greater {
@@ -140,7 +140,7 @@ fn has_token(tokens: &[Token], file: usize, line: u64) -> bool {
     false
 }
 
-// One and the words that decide, where it is a file of Java.
+// One and the words that decide, if it is a file of Java.
 fn complexity_of(put: &Put) -> u64 {
     let mut count = 1u64;
     for word in &put.words {
@@ -192,7 +192,7 @@ fn counts_of_file(file: usize, put: &Put, tokens: &[Token], blocks: &[Block]) ->
     counts
 }
 
-// Whether a query is of the file: it stands at its path, fits its scope and was put behind its version, as far as it has
+// Whether a query is of the file: it is at its path, fits its scope and was put after its version, as far as it has
 // these.
 fn is_asked_for(query: &Query, put: &Put) -> bool {
     let is_at_path = match query.path {

@@ -20,7 +20,7 @@ pub struct Run {
     pub places: Vec<usize>,
 }
 
-// Adds the tokens of a file: none where it has a fault.
+// Adds the tokens of a file: none if it has a fault.
 fn add_tokens(file: usize, put: &Put, tokens: &mut Vec<Token>) -> Result<(), Memory> {
     if put.fault().is_some() {
         return Ok(());
@@ -45,7 +45,7 @@ fn add_tokens(file: usize, put: &Put, tokens: &mut Vec<Token>) -> Result<(), Mem
     Ok(())
 }
 
-/// The tokens of files, one file behind the other.
+/// The tokens of files, one file after the other.
 pub fn tokens_of(alloc: Global, files: &[&Put]) -> Result<Vec<Token>, Memory> {
     let mut tokens = Vec::new(alloc);
     for (file, put) in files.iter().enumerate() {
@@ -54,7 +54,7 @@ pub fn tokens_of(alloc: Global, files: &[&Put]) -> Result<Vec<Token>, Memory> {
     Ok(tokens)
 }
 
-// The token at `j`, where it stands in the file of the one at `i`.
+// The token at `j`, if it is in the file of the one at `i`.
 fn beside(tokens: &[Token], i: usize, j: usize) -> Option<Token> {
     let token = *tokens.get(j)?;
     if tokens.get(i)?.file == token.file {
@@ -64,7 +64,7 @@ fn beside(tokens: &[Token], i: usize, j: usize) -> Option<Token> {
     }
 }
 
-// The token `n` behind one, in its file.
+// The token `n` after one, in its file.
 fn behind(tokens: &[Token], i: usize, n: usize) -> Option<Token> {
     beside(tokens, i, i.saturating_add(n))
 }
@@ -92,7 +92,7 @@ fn stands(tokens: &[Token], i: usize, n: usize, j: usize) -> bool {
     true
 }
 
-// Where the `n` tokens from `i` on stand.
+// Where the `n` tokens from `i` on are.
 fn occurrences(alloc: Global, tokens: &[Token], i: usize, n: usize) -> Result<Vec<usize>, Memory> {
     let mut all = Vec::new(alloc);
     for j in 0..tokens.len() {
@@ -103,8 +103,8 @@ fn occurrences(alloc: Global, tokens: &[Token], i: usize, n: usize) -> Result<Ve
     Ok(all)
 }
 
-// Of these places of `n` tokens each that begins behind the end of the last one. No run goes beyond its file, so that a
-// place in another file begins behind it.
+// Of these places of `n` tokens each that begins after the end of the last one. No run goes beyond its file, so that a
+// place in another file begins after it.
 fn apart(alloc: Global, n: usize, all: &[usize]) -> Result<Vec<usize>, Memory> {
     let mut places = Vec::new(alloc);
     let mut free = 0usize;
@@ -117,7 +117,7 @@ fn apart(alloc: Global, n: usize, all: &[usize]) -> Result<Vec<usize>, Memory> {
     Ok(places)
 }
 
-// At one of the places what stands before the `n` tokens and what stands behind them differs from what does at `i`.
+// At one of the places what is before the `n` tokens and what is after them differs from what does at `i`.
 fn differs_from(tokens: &[Token], n: usize, i: usize, all: &[usize]) -> bool {
     for j in all {
         if *j != i
@@ -140,7 +140,7 @@ fn is_whole(tokens: &[Token], n: usize, all: &[usize]) -> bool {
     false
 }
 
-// The group of the `n` tokens from `i` on, where `i` is its first place.
+// The group of the `n` tokens from `i` on, if `i` is its first place.
 fn run_at(alloc: Global, tokens: &[Token], i: usize, n: usize) -> Result<Option<Run>, Memory> {
     if !stands(tokens, i, n, i) {
         return Ok(None);

@@ -1,4 +1,4 @@
-//! The plain model of talks, which rests on docs/PROTOCOL.md alone: lines drawn at random, what one talk is told of them, and
+//! The plain model of talks, which rests only on docs/PROTOCOL.md: lines drawn at random, what one talk is told of them, and
 //! what a project is at each version. It shares no code with what is tried: it writes the text of each line and that of its
 //! reply itself, cuts a text into words as it makes it, and finds groups by trying each run of tokens at each place. A reply
 //! costs a walk over all changes, and each pair of tokens of a project.

@@ -43,7 +43,7 @@ impl Model {
         done
     }
 
-    /// Accepts a change, which is the last one then, or tells why not.
+    /// Accepts a change, which is the last one then, or returns why not.
     pub fn accept(&mut self, change: Change) -> Result<Option<Refusal>, Memory> {
         let refusal = self.accepted.accept(change, self.floor)?;
         if refusal.is_none() {

@@ -8,7 +8,7 @@ use crate::written::Written;
 use cq_base::Memory;
 use std::alloc::Global;
 
-// Lines that are no requests, each with its reply behind a tab.
+// Lines that are no requests, each with its reply after a tab.
 const REFUSED: &str = "\
 \t{\"code\":1,\"error\":\"json\",\"ok\":false}
 {\"op\":\"state\"\t{\"code\":1,\"error\":\"json\",\"ok\":false}

@@ -28,7 +28,7 @@ impl Spelling {
     }
 }
 
-/// A spelling and the separator behind it, which is a line feed or a space.
+/// A spelling and the separator after it, which is a line feed or a space.
 #[derive(Clone, Copy)]
 pub struct Word {
     pub spelling: Spelling,
@@ -75,7 +75,7 @@ pub fn size_of(words: &[Word]) -> u64 {
     size
 }
 
-/// Its line feeds, and one more where bytes stand behind the last of them.
+/// Its line feeds, and one more if bytes follow the last of them.
 pub fn lines_of(words: &[Word]) -> u64 {
     let mut feeds = 0u64;
     for word in words {

@@ -138,7 +138,7 @@ fn empty_places(alloc: Global, count: u64) -> Result<Vec<Option<Change>>, Memory
     Ok(places)
 }
 
-// Puts a change in the place of its number, which was empty, or tells that it was not.
+// Puts a change in the place of its number, which was empty, or reports that it was not.
 fn put_in_place(places: &mut Vec<Option<Change>>, number: u64, change: Change) -> bool {
     match places.get_mut(number.saturating_sub(1) as usize) {
         Some(place) => {
@@ -245,7 +245,7 @@ fn is_put(changes: &[Change], number: u64) -> bool {
     )
 }
 
-// It is refused behind so many changes.
+// It is refused after so many changes.
 fn is_absent(changes: &[Change], version: u64, change: &Change) -> bool {
     match change {
         Change::Drop { project, path } => file_at(changes, version, *project, *path).is_none(),
@@ -416,7 +416,7 @@ fn lines_of<'a>(alloc: Global, text: &'a str) -> Result<Vec<&'a str>, Memory> {
     Ok(lines)
 }
 
-// The first line of a talk, from 1, whose reply no moment of the history allows behind so many accepted changes; 0 where the
+// The first line of a talk, from 1, whose reply no moment of the history allows after so many accepted changes; 0 if the
 // replies are not as many.
 fn first_fault_behind(
     alloc: Global,
@@ -450,7 +450,7 @@ fn first_fault_behind(
     Ok(None)
 }
 
-/// The first line of a talk, from 1, whose reply no moment of the history allows; 0 where the replies are not as many.
+/// The first line of a talk, from 1, whose reply no moment of the history allows; 0 if the replies are not as many.
 pub fn first_fault(alloc: Global, changes: &[Change], talk: &Talk) -> Result<Option<u64>, Memory> {
     first_fault_behind(alloc, changes, 0, talk)
 }

@@ -32,7 +32,7 @@ fn parted(outcome: &Outcome, wanted: &str) -> Option<u64> {
     }
 }
 
-/// What came of two talks in a row over one hub: the lines in which they differ from the model (0 where one did not
+/// What came of two talks in a row over one hub: the lines in which they differ from the model (0 if one did not
 /// finish), and what it tells.
 #[derive(Drop)]
 pub struct Talks {

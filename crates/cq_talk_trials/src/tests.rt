@@ -38,7 +38,7 @@ const TOLD_THEN: &str = r#""change":100,
 /// How two talks went.
 #[derive(Clone, Copy, Debug, PartialEq, Eq)]
 enum Went {
-    /// As the model tells, and it tells all that was to be told.
+    /// As the model replies, and it has all the pieces that it was to have.
     AsTold,
     /// A setting is out of its range.
     OutOfRange,

@@ -33,7 +33,7 @@ pub(crate) const SETTINGS: Settings = Settings {
     byte_limit: 1_048_576,
 };
 
-// Rests wherever a session holds nothing, so that others' steps come between its own, and holds each session behind its
+// Rests wherever a session holds nothing, so that others' steps come between its own, and holds each session after its
 // first change until so many have one.
 #[derive(Clone, Copy)]
 struct Resting<'a, C> {

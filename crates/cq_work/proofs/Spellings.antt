@@ -40,7 +40,7 @@ bytes_cons = sum_by-cons (λ (s : Spelled). length s.text)
 bytes_append : (a b : List Spelled) → spelled_bytes (a ++ b) ≡ spelled_bytes a + spelled_bytes b
 bytes_append = sum_by-append (λ (s : Spelled). length s.text)
 
--- ---- elements that stand one behind the other
+-- ---- elements that stand one after the other
 
 pub encodes-short : (cs : List ℕ) → length (encode_utf8_all cs) ≤ 4 * length cs
 encodes-short [] = omega arith

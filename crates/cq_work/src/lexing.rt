@@ -45,7 +45,7 @@ pub(crate) fn lexed(alloc: Global, lang: Lang, text: &Text) -> Result<Lexed, Mem
     lexed_by(alloc, lang, text)
 }
 
-/// What it tells of the text.
+/// What it says of the text.
 pub(crate) fn state_of(lexed: &Lexed) -> State
     ensures { result ≡ spec.state_of lexed.now }
 {
