@@ -282,6 +282,12 @@ def again_and_again(count: int, paths: int) -> list[bytes]:
     return [put(small(turn), path_of(turn % paths)) for turn in range(count)]
 
 
+def replaced(count: int, paths: int) -> Sent:
+    """Files that are there, each of which is uploaded again when its turn comes."""
+    all_ = again_and_again(paths + count, paths)
+    return Sent([*all_[:paths], NOTHING], each_asked(all_[paths:]))
+
+
 def unfinished(count: int) -> list[bytes]:
     """Uploads that nobody analyses, each followed by a query that may not wait for it, and is refused."""
     return each_asked(smalls(count), ask(finish=False))
@@ -363,7 +369,7 @@ DEAR: dict[str, list[Text]] = {
     "java": QUOTES + COMMENTS + OTHERS + NUMBERS + NESTED + [
         ("", "\\u000a", ""), ("\\", "u", ""), ("\\\\", "u", ""), ("", "\\ud800", ""), ("/*", "\\ud800", "*/"), ("", "\\u005c", ""), ("", "\\u0022", ""),
         ("/*\\", "u" * 999 + "d800\\", "*/"), ('"""', " ", ""), ('"""\n', '\\"', ""), ('"""\n', '""\\', ""), ("", '"" ', ""), ("", ">", ""),
-        ('"""\n', "\n", '"""'), ('"""\n', " \n", '"""'), ("", '"""\n', ""), ("", "<A", ""), ("", "@A(", ""), ("", "f()throws a", ""), ("f()throws ", "a,", "{}"),
+        ('"""\n', "\n", '"""'), ('"""\n', " \n", '"""'), ("", '"""\n"""\n', ""), ("", "<A", ""), ("", "@A(", ""), ("", "f()throws a", ""), ("f()throws ", "a,", "{}"),
         ("", "f()throws a{}", ""), ("", "class A{void f(){", ""), ("", "new A(){void f(){", ""), ("", "a->{", ""), ("", "?:", ""), ("", "?,", "")],
     "js": QUOTES + COMMENTS + OTHERS + NUMBERS + NESTED + [
         ("", "`", ""), ("`", "a", ""), ("`", "a", "`"), ("", "`${", ""), ("", "`${{", ""), ("`", "${a}", "`"), ("", "`${`${a}`}`", ""), ("`", "\\`", ""),
@@ -443,7 +449,7 @@ TABLE = [
     Shape("files", "dropped, a query after each", 1_000, "n log n", lambda n: Sent([*smalls(n), NOTHING], each_asked(drops(n)))),
     Shape("files", "one uploaded n times, and a query", 5_000, "n log n", lambda n: Sent([], [*again_and_again(n, 1), NOTHING])),
     Shape("files", "one uploaded and dropped n times, and a query", 10_000, "n log n", lambda n: Sent([], [*puts_and_drops(n), NOTHING])),
-    Shape("files", "a thousand uploaded n times, a query after each", 2_000, "n log n", lambda n: Sent([], each_asked(again_and_again(n, 1_000)))),
+    Shape("files", "a thousand uploaded again, n times in all, a query after each", 2_000, "n log n", lambda n: replaced(n, 1_000)),
     Shape("files", "not analysed, a query that does not wait after each", 2_000, "n log n", lambda n: Sent([], unfinished(n)), is_refused=True),
     Shape("files", "measures, by a scope and since a version", 2_000, "n log n", lambda n: Sent([*smalls(n), NOTHING], [ask("measures", scope="**", since=9)])),
     Shape("files", "n beside one that changes and is listed, 200 times", 2_000, "1", beside_files),
@@ -478,7 +484,7 @@ TABLE = [
     Shape("requests", "conditions, n bytes", 1_000_000, "n", conditions, is_refused=True),
     Shape("requests", "a list that is not closed, n bytes", 2_000_000, "n", lambda n: Sent([], [b'{"x":[' + b"[]," * (n // 3) + b"\n"]), is_refused=True),
     Shape("requests", "a text that is too long, n bytes", 2_000_000, "n", lambda n: Sent([], [as_text("x" * n)]), is_refused=True),
-    Shape("requests", "a text of escapes, n of them", 200_000, "n", lambda n: Sent([], [as_text("\\u00e9" * n), NOTHING])),
+    Shape("requests", "a text of escapes, n of them", 100_000, "n", lambda n: Sent([], [as_text("\\u00e9" * n), NOTHING])),
     Shape("requests", "n empty lines", 20_000, "n", lambda n: Sent([], [b"\n"] * n), is_refused=True),
     Shape("requests", "a line that is too long, by n bytes", 2_000_000, "n", lambda n: Sent([], [b"x" * (8_388_608 + n) + b"\n"]), is_refused=True),
 

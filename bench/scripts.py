@@ -307,6 +307,11 @@ def kind_of(line, outcome):
 
 
 def main():
+    if sys.argv[1:2] in (["--help"], ["-h"]):
+        print(__doc__.strip())
+        return
+    if not all(it.isdecimal() for it in sys.argv[1:]):
+        sys.exit("bench/scripts.py: a seed is a number; see bench/scripts.py --help")
     seeds = [int(it) for it in sys.argv[1:]] or [30, 70, 110]
     kinds = collections.Counter()
     print("# Scripts of steps that are drawn at random, with what a plain model of them finds (bench/scripts.py).")

@@ -51,7 +51,7 @@ pub record AreGiven {L : Type 0} (set : Settings) (files : List (File (Work L)))
 abbrev pub part_in : {L : Type 0} → List (File (Work L)) → Query → Part
 part_in files q = part_of (paths_in files) q.kind q.path
 
--- buckets were asked once for each different key of the part's windows
+-- one question was counted for each different key of the part's windows
 abbrev pub AsksGiven : {L B : Type 0} → buckets.Ghosts B → List (File (Work L)) → Query → B → B → Type 0
 AsksGiven of files q old new = AsksPart (keys_in files) (part_in files q) (of.asked old) (of.asked new)
 

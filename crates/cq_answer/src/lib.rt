@@ -1,7 +1,7 @@
 //! A query's reply on the files of one version, over any index of their windows. The reply is defined on given files with
 //! their works. If these are of a version, it is defined only by the accepted changes up to it and by the query; `answer`
-//! reads no text. It asks the index once for each different key among the windows of what the query lists: of all files,
-//! or of the one file at its path; for a list of files, or for functions, it asks nothing. What is measured of chosen
+//! reads no text. It counts one question to the index for each different key among the windows of what the query lists: of
+//! all files, or of the one file at its path; for a list of files, or for functions, it asks nothing. What is measured of chosen
 //! files is by the groups of the whole project. Tokens are read as `cq_groups` says; each row copies a path.
 #![tactic(auto)]
 

@@ -12,7 +12,7 @@ use cq_tokens::Corpus;
 use std::alloc::Global;
 use std::sync::ledger::Ledger;
 
-/// The groups of a part of the files, in order. It asks once for each different key of the part's windows.
+/// The groups of a part of the files, in order. It counts one question for each different key of the part's windows.
 pub(crate) fn groups_of<B: Buckets, L: Ledger>(
     alloc: Global,
     at: &ProjectAt<'_, L>,

@@ -42,10 +42,10 @@ impl<B, S, E, K> Pass<B, S, E, K> {
         self.next
     }
 
-    /// Counts one question more, up to 2^64 - 1. Nothing else changes.
-    pub fn count_read(&mut self)
-        ensures { self.new ≡ record self.old { asked = min (self.old.asked + 1) (2 ^ 64 - 1) } }
+    /// Counts so many questions more, up to 2^64 - 1. Nothing else changes.
+    pub fn count_reads(&mut self, reads: u64)
+        ensures { self.new ≡ record self.old { asked = min (self.old.asked + reads) (2 ^ 64 - 1) } }
     {
-        self.asked = self.asked.saturating_add(1);
+        self.asked = self.asked.saturating_add(reads);
     }
 }

@@ -49,4 +49,8 @@ impl<'a, L: Ledger> Buckets for CoreBuckets<'a, L> {
             None => unreachable!(),
         }
     }
+
+    fn pass_over(&mut self, keys: u64) {
+        self.asked = self.asked.saturating_add(keys);
+    }
 }

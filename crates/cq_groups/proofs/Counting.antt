@@ -3,7 +3,9 @@ use Rattle.std.proofs.Common.{◌≡◌, ◌≢◌, ℕ, ◌+◌, ◌<◌, ◌�
 use Rattle.std.specs.Prelude.{AllPairs, Contains, filter, sum_by}
 use Rattle.std.proofs.lemmas.Bool.{cases_Bool}
 use Rattle.std.proofs.lemmas.List.{take_more}
-use Rattle.std.proofs.lemmas.List.Sums.{sum_by-cons, sum_by_push, sum_by-take-le}
+use Rattle.std.specs.List.{list_any}
+use Rattle.std.proofs.lemmas.List.Folds.{Any-from_list_any, list_any-from_Any}
+use Rattle.std.proofs.lemmas.List.Sums.{sum_by-cons, sum_by_push, sum_by-take-le, length-filter, count_by-le-length}
 use Rattle.std.proofs.lemmas.List.Kept.{AllPairs-filter}
 use Rattle.std.proofs.lemmas.Option.{same_Some}
 use Rattle.cq_base.specs.declared.group.Place.{Place}
@@ -40,6 +42,23 @@ with_key-is keys ks windows k (i, within, at) are = record {
     λ has. Contains-filter (λ q. is_number (key_at keys q) k) windows p ((are.each p).1 (i, k, within, at, has)) (is_number-from (key_at keys p) k has),
   );
 }
+
+-- the windows with one of some keys are among all windows
+pub windows_among : (keys : List (List ℕ)) (ks : List ℕ) (windows : List Place) → AreAllInOrder IsBefore (λ p. (k : ℕ) × HasKey keys k p) windows → (some : List Place) × AreAllInOrder IsBefore (HasOneOf keys ks) some × (length some ≤ length windows)
+windows_among keys ks windows are =
+    let test : Place → Bool = λ p. list_any (is_number (key_at keys p)) ks in
+    let size = length-filter test windows in
+    let few = count_by-le-length test windows in (
+      filter test windows,
+      record {
+        ordered = AllPairs-filter IsBefore test windows are.ordered;
+        each = λ p. (
+          λ c. let (i, k, within, at, is) = Any-from_list_any (is_number (key_at keys p)) ks (Contains-from_filter test windows p c).1 in (i, k, within, at, is_number-says (key_at keys p) k is),
+          λ (i, k, within, at, has). Contains-filter test windows p ((are.each p).1 (k, has)) (list_any-from_Any (is_number (key_at keys p)) ks (i, k, within, at, is_number-from (key_at keys p) k has)),
+        );
+      },
+      omega (arith, size, few),
+    )
 
 abbrev one : Bool → ℕ
 one true = 1

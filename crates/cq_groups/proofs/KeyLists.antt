@@ -9,7 +9,7 @@ use Rattle.std.proofs.lemmas.List.Elements.{Contains-append_left, Contains-appen
 use Rattle.std.proofs.lemmas.Option.{slice_get-get_or, get_or_from_slice_get, slice_get_within}
 use Rattle.cq_base.specs.declared.group.Place.{Place}
 use Rattle.cq_clones.specs.Groups.{file_at}
-use Rattle.cq_clones.proofs.InOrder.{in_order_same, AreAllInOrder-same}
+use Rattle.cq_clones.proofs.InOrder.{AreAllInOrder-same}
 use Rattle.cq_base.proofs.Lists.{Contains-nil}
 use Rattle.cq_clones.specs.Windows.{HasKey}
 use Rattle.cq_groups.specs.Listing.{IsKey, IsKeyIn, AreAllRising, Rises, RisesAtMost}
@@ -41,20 +41,19 @@ keys_more keys n old new here file is before k = (
 pub keys_none : (keys : List (List ℕ)) (all : List ℕ) → all ≡ [] → AreKeysUpto keys 0 all
 keys_none keys all none k = (λ c. absurd (Contains-nil k (subst (λ xs. Contains xs k) none c)), λ (p, lt, has). absurd (omega (arith, lt)))
 
-pub keys_all : (keys : List (List ℕ)) (n : ℕ) (all ks : List ℕ) → length keys ≤ n → AreKeysUpto keys n all → AreAllRising (Contains all) ks → AreAllRising (IsKey keys) ks
-keys_all keys n all ks past upto are =
-    in_order_same (λ a b. a < b) (Contains all) (IsKey keys) ks
-    (λ k c. let (p, lt, has) = (upto k).0 c in (p, has))
-    (λ k (p, has). (upto k).1 (
-      p,
-      ⊎_elim (λ h. h)
-          (λ ge.
-          let w = slice_get_within (file_at keys p.file) p.at k has in
-          let e = ap length (get_or_past keys p.file [] (omega (arith, ge, past))) in absurd (omega (arith, w, e)))
-          (cases_lt p.file n),
-      has,
-    ))
-    are
+pub keys_all : (keys : List (List ℕ)) (n : ℕ) (all : List ℕ) → length keys ≤ n → AreKeysUpto keys n all → (k : ℕ) → Contains all k ↔ IsKey keys k
+keys_all keys n all past upto k = (
+  λ c. let (p, lt, has) = (upto k).0 c in (p, has),
+  λ (p, has). (upto k).1 (
+    p,
+    ⊎_elim (λ h. h)
+        (λ ge.
+        let w = slice_get_within (file_at keys p.file) p.at k has in
+        let e = ap length (get_or_past keys p.file [] (omega (arith, ge, past))) in absurd (omega (arith, w, e)))
+        (cases_lt p.file n),
+    has,
+  ),
+)
 
 pub keys_of_file : (keys : List (List ℕ)) (file : ℕ) (here ks : List ℕ) → file_at keys file ≡ here → AreAllRising (Contains here) ks → AreAllRising (IsKeyIn keys file) ks
 keys_of_file keys file here ks is are = subst (λ xs. AreAllRising (Contains xs) ks) (sym is) are
@@ -72,6 +71,17 @@ rises_to a b m n le ge h = omega (arith, h, le, ge)
 
 pub rises_most : (a b m n : ℕ) → n ≤ m → Rises a b n → RisesAtMost a b m
 rises_most a b m n le h = (omega (arith, h), omega (arith, h, le))
+
+-- some and then the others
+pub rises_both : (a b c n k m all : ℕ) → n ≡ k → all ≡ k + m → Rises a b n → Rises b c m → Rises a c all
+rises_both a b c n k m all is sum h then = omega (arith, h, then, is, sum)
+
+pub rises_all : (a b n : ℕ) → Rises a b n → RisesAtMost a b n
+rises_all a b n h = rises_most a b n n (omega arith) h
+
+-- some of them
+pub most_of : (a b n k m all : ℕ) → n ≡ k → all ≡ k + m → RisesAtMost a b n → RisesAtMost a b all
+most_of a b n k m all is sum h = (h.0, let most = h.1 in omega (arith, most, is, sum))
 
 pub rises_none : (a n : ℕ) → RisesAtMost a a n
 rises_none a n = (omega arith, omega arith)

@@ -19,6 +19,7 @@ pub mod Kept
 pub mod Counting
 pub mod ListedGroups
 pub mod KeyLists
+pub mod Parting
 pub mod BucketEntries
 pub mod OneKey
 pub mod Sorted

@@ -20,7 +20,8 @@ use Rattle.cq_groups.specs.Sets.{AreAllOnce}
 use Rattle.cq_groups.specs.Places.{IsGroupOfKey}
 use Rattle.cq_groups.proofs.Words.{stands_front}
 use Rattle.cq_groups.proofs.KeyPlaces.{key_of_window}
-use Rattle.cq_groups.specs.Listing.{HasOneOf, IsGroupOfKeys, IsKey, IsKeyIn, AreAllRising, has_file}
+use Rattle.cq_groups.proofs.Places.{ordered_of}
+use Rattle.cq_groups.specs.Listing.{HasOneOf, IsGroupOfKeys, IsKeyIn, IsRepeatedKey, AreAllRising, has_file}
 
 any_key : (P : ℕ → Type 0) (ks : List ℕ) (k : ℕ) → Contains ks k → P k → Any P ks
 any_key P ks k (i, within, at) h = (i, k, within, at, h)
@@ -71,17 +72,18 @@ key_of_group chunk least corpus keys g p some long keyed is stands =
     let same = keyed.equal f p (omega (arith, f_within, is.tokens, is.long, long)) (omega (arith, p_within, is.tokens, is.long, long)) (f_front ∙ sym p_front) in
     (k, has, same ∙ has)
 
-first_stands : {T : Type 0} (corpus : List (List T)) (least : ℕ) (g : Group) (is : IsGroup corpus least g) → StandsAt corpus is.word (first_place g)
-first_stands corpus least g is = ap (word_at corpus (first_place g)) is.tokens ∙ word_of_group corpus least g is
-
--- of all keys they are all groups
-pub all_groups : {T : Type 0} (chunk least : ℕ) (corpus : List (List T)) (keys : List (List ℕ)) (ks : List ℕ) (found groups : List Group) → 1 ≤ chunk → chunk ≤ least → AreKeyed chunk corpus keys → AreAllRising (IsKey keys) ks → AreAllOnce (IsGroupOfKeys corpus keys least ks) found → IsOrderOf ComesBefore found groups → AreGroups corpus least groups
+-- of the keys that windows at two places have they are all groups
+pub all_groups : {T : Type 0} (chunk least : ℕ) (corpus : List (List T)) (keys : List (List ℕ)) (ks : List ℕ) (found groups : List Group) → 1 ≤ chunk → chunk ≤ least → AreKeyed chunk corpus keys → AreAllRising (IsRepeatedKey keys) ks → AreAllOnce (IsGroupOfKeys corpus keys least ks) found → IsOrderOf ComesBefore found groups → AreGroups corpus least groups
 all_groups {T} chunk least corpus keys ks found groups some long keyed all once order =
     in_order_same ComesBefore (IsGroupOfKeys corpus keys least ks) (IsGroup corpus least) groups
     (λ g h. h.0)
     (λ g is.
-    let (k, has, first) = key_of_group chunk least corpus keys g (first_place g) some long keyed is (first_stands corpus least g is) in
-    (is, any_key (λ z. HasKey keys z (first_place g)) ks k ((all.each k).1 (first_place g, has)) first))
+    let (p, q, pair) = is.repeated in
+    let (k, has, first) = key_of_group chunk least corpus keys g p some long keyed is pair.first in
+    let (j, also, other) = key_of_group chunk least corpus keys g q some long keyed is pair.second in
+    let has_q : HasKey keys k q = also ∙ sym other ∙ first in
+    let twice : IsRepeatedKey keys k = ⊎_elim (λ h. (p, q, h, has, has_q)) (λ h. (q, p, h, has_q, has)) (ordered_of p q pair.different) in
+    (is, any_key (λ z. HasKey keys z (first_place g)) ks k ((all.each k).1 twice) first))
     (groups_sorted (IsGroupOfKeys corpus keys least ks) found groups (groups_apart corpus least (IsGroupOfKeys corpus keys least ks) (λ g h. h.0)) once order)
 
 -- the kept places are places of the word
@@ -129,12 +131,6 @@ windows_of_keys keys Is ks windows all are =
     (λ p (k, is, has). any_key (λ z. HasKey keys z p) ks k ((all.each k).1 is) has)
     (λ p (n, k, within, at, has). (k, (all.each k).0 (n, within, at), has))
     are
-
-pub all_windows : (keys : List (List ℕ)) (ks : List ℕ) (windows : List Place) → AreAllRising (IsKey keys) ks → AreAllInOrder IsBefore (λ p. (k : ℕ) × HasKey keys k p) windows → AreAllInOrder IsBefore (HasOneOf keys ks) windows
-all_windows keys ks windows all are =
-    windows_of_keys keys (IsKey keys) ks windows all
-    (in_order_same IsBefore (λ p. (k : ℕ) × HasKey keys k p) (λ p. (k : ℕ) × IsKey keys k × HasKey keys k p) windows
-    (λ p (k, has). (k, (p, has), has)) (λ p (k, is, has). (k, has)) are)
 
 pub has_file-says : (file : ℕ) (ps : List Place) → (has_file file ps ≡ true → Any (λ p. p.file ≡ file) ps) × (Any (λ p. p.file ≡ file) ps → has_file file ps ≡ true)
 has_file-says file [] = (λ h. absurd (true≢false (sym h)), λ (k, p, within, at, is). absurd (omega (arith, within)))

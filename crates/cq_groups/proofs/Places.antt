@@ -20,7 +20,7 @@ is_before_or_not p q =
     (cases_lt p.file q.file)
 
 -- two places of which none is before the other are the same
-ordered_of : (p q : Place) → p ≢ q → AreOrdered IsBefore p q
+pub ordered_of : (p q : Place) → p ≢ q → AreOrdered IsBefore p q
 ordered_of p q other =
     ⊎_elim
     (λ h. inl h)

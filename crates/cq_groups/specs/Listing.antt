@@ -1,5 +1,5 @@
--- Groups and windows by their keys, and how often an index was asked.
-use Rattle.std.specs.Prelude.{◌≡◌, ◌≢◌, ◌⊎◌, ℕ, ◌+◌, ◌-◌, ◌^◌, ◌<◌, ◌≤◌, min, Bool, false, ◌||◌, ◌==◌, List, [], ◌∷◌, length, slice_get, Some, Any, Contains}
+-- Groups and windows by their keys, and how many questions to an index were counted.
+use Rattle.std.specs.Prelude.{◌≡◌, ◌≢◌, ◌⊎◌, ℕ, ◌+◌, ◌-◌, ◌^◌, ◌<◌, ◌≤◌, min, Bool, false, ◌||◌, ◌==◌, List, [], ◌∷◌, length, slice_get, slice_index, Some, Any, Contains, count_by}
 use Rattle.std.specs.declared.sync.ledger.Ledger as ledger
 use Rattle.cq_base.specs.declared.entry.Entry.{Entry}
 use Rattle.cq_base.specs.declared.group.Place.{Place}
@@ -29,9 +29,25 @@ IsKey keys k = (p : Place) × HasKey keys k p
 abbrev pub IsKeyIn : List (List ℕ) → ℕ → ℕ → Type 0
 IsKeyIn keys file k = Contains (file_at keys file) k
 
+-- windows at two places have the key
+abbrev pub IsRepeatedKey : List (List ℕ) → ℕ → Type 0
+IsRepeatedKey keys k = (p q : Place) × IsBefore p q × HasKey keys k p × HasKey keys k q
+
+-- how many times a number is in a list
+abbrev pub times_in : List ℕ → ℕ → ℕ
+times_in xs k = count_by (λ x. x == k) xs
+
+-- there is a number at a place of the list, and the one before it is equal
+abbrev pub GoesOn : List ℕ → ℕ → Type 0
+GoesOn xs n = (0 < n) × (n < length xs) × (slice_index xs (n - 1) ≡ slice_index xs n)
+
 -- exactly the numbers with a property, each once
 abbrev pub AreAllRising : (ℕ → Type 0) → List ℕ → Type 0
 AreAllRising Is ks = AreAllInOrder (λ a b. a < b) Is ks
+
+-- so many numbers have a property
+abbrev pub AreSoMany : (ℕ → Type 0) → ℕ → Type 0
+AreSoMany Is n = (ks : List ℕ) → AreAllRising Is ks → length ks ≡ n
 
 -- all windows, and those whose key is one of a file's
 abbrev pub AreWindows : List (List ℕ) → List Place → Type 0
@@ -62,7 +78,7 @@ module _ {F R : Type 0} {f : files.Ghosts F R} {g : ledger.Ghosts R} where
   abbrev pub AreGroupsOfKeys : Corpus F R f g → ℕ → List ℕ → List Group → Type 0
   AreGroupsOfKeys corpus least ks groups = AreAllOnce (IsGroupOfKeys (tokens_in corpus.files) (keys_in corpus) least ks) groups
 
-  -- from one count of questions to another, it was asked once for each key of a window
+  -- from one count of questions to another, one was counted for each key of a window
   abbrev pub AsksEachKey : Corpus F R f g → ℕ → ℕ → Type 0
   AsksEachKey corpus old new = (ks : List ℕ) → AreAllRising (IsKey (keys_in corpus)) ks → Rises old new (length ks)
 

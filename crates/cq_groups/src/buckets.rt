@@ -12,7 +12,7 @@ pub trait Buckets {
 
     ghost file_keys: { Self → List (List ℕ) };
 
-    // how often it was asked
+    // how many questions were counted
     ghost asked: { Self → ℕ };
 
     // it may be asked
@@ -29,6 +29,15 @@ pub trait Buckets {
         ensures same_changes { file_changes self.new ≡ file_changes self.old }
         ensures same_keys { file_keys self.new ≡ file_keys self.old }
         ensures asked { Rises (asked self.old) (asked self.new) 1 }
+        ensures ready { ready self.new }
+        ensures moved { moved self.old self.new };
+
+    /// Counts so many questions as asked, for whoever knows the answers without asking. Nothing else changes.
+    fn pass_over(&mut self, keys: u64)
+        requires { ready self.old }
+        ensures same_changes { file_changes self.new ≡ file_changes self.old }
+        ensures same_keys { file_keys self.new ≡ file_keys self.old }
+        ensures asked { Rises (asked self.old) (asked self.new) keys }
         ensures ready { ready self.new }
         ensures moved { moved self.old self.new };
 

@@ -1,10 +1,12 @@
-//! The groups of all files, or of one, from an index of windows by their keys (Hummel et al., ICSM 2010). `list_all` and
-//! `list_file` ask for one bucket per key that concerns them, `refine` makes the groups of a bucket, and the list is
-//! sorted once. The buckets are the caller's; `PlainBuckets` reads all keys of all files for each.
+//! The groups of all files, or of one, from an index of windows by their keys (Hummel et al., ICSM 2010). `list_file` asks
+//! for a bucket for each key of its file, and `list_all` for each key that windows at two places have: a key that only one
+//! window has gives no group, and is counted as a question without being asked. `refine` makes the groups of a bucket, and
+//! the list is sorted once. The buckets are the caller's; `PlainBuckets` reads all keys of all files for each.
 //!
 //! A list of n windows copies their keys and sorts them in n log n comparisons. It reads at most as many tokens as the
 //! buckets have windows, times two more than the longest repeat. It sorts its g groups in g log g comparisons, and keeps
-//! the keys, the groups and one bucket at a time. The list of one file first drops the groups that have no place in it.
+//! the keys that it asks for, the groups and one bucket at a time. The list of one file first drops the groups that have
+//! no place in it.
 //!
 //! A bucket is refined by sets of places that share their first tokens. A set is split by the next token until no set is
 //! left, without recursion. Each token is read at most once for each set that a place is in, and the token before a place

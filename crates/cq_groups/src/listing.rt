@@ -4,7 +4,7 @@ ghost use Rattle.cq_tokens.specs.Parts.{tokens_in, changes_in, keys_in};
 ghost use Rattle.cq_groups.specs.Listing.{AreGroupsOfKeys, AsksEachKey, AsksKeysAtMost, AsksEachKeyIn, AsksKeysAtMostIn, ReadsWindows, ReadsReached, ReadsWindowsOf, Rises, RisesAtMost, has_file};
 
 use crate::buckets::Buckets;
-use crate::keys::{all_keys, file_keys};
+use crate::keys::{file_keys, parted_keys};
 use crate::{Index, refine};
 use cq_base::{Group, Memory, Steps};
 use cq_order::order;
@@ -45,7 +45,8 @@ fn list_keys<B: Buckets, F: Files>(
     Ok(groups)
 }
 
-/// All groups of the files, in order. It asks once for each different key of a window.
+/// All groups of the files, in order. It counts one question for each different key of a window. Keys that only one window
+/// has give no group: they are counted without asking.
 pub fn list_all<B: Buckets, F: Files>(
     alloc: Global,
     index: &Index<'_, F>,
@@ -69,8 +70,9 @@ pub fn list_all<B: Buckets, F: Files>(
     ensures moved { B.moved buckets.old buckets.new }
     ensures bound { ReadsWindows index.now.corpus steps.old steps.new }
 {
-    let keys = all_keys(alloc, &index.corpus)?;
-    let groups = list_keys(alloc, index, &keys, min, buckets, steps)?;
+    let (repeated, lone) = parted_keys(alloc, &index.corpus)?;
+    let groups = list_keys(alloc, index, &repeated, min, buckets, steps)?;
+    buckets.pass_over(lone);
     order(groups)
 }
 

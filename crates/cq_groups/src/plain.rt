@@ -61,7 +61,7 @@ impl<'a, F: Files> PlainBuckets<'a, F> {
         PlainBuckets { files, asked: 0 }
     }
 
-    /// How often it was asked.
+    /// How many questions were counted.
     pub fn asked(&self) -> u64
         ensures { result ≡ self.now.asked }
     {
@@ -87,5 +87,9 @@ impl<'a, F: Files> Buckets for PlainBuckets<'a, F> {
     fn bucket(&mut self, alloc: Global, key: u64) -> Result<Vec<Entry>, Memory> {
         self.asked = self.asked.saturating_add(1);
         entries_of(alloc, self.files, key)
+    }
+
+    fn pass_over(&mut self, keys: u64) {
+        self.asked = self.asked.saturating_add(keys);
     }
 }

@@ -65,6 +65,10 @@ module _ {S P : Type 0} (Stands : S → P → ℕ → List Event → Type 0) whe
   Extends alone May hub old new events Says =
       (c : ℕ) (h : List Event) → Stands hub old c h → Calls alone May c hub new h (events c) (Says c)
 
+  -- it stands for each history that it stood for
+  abbrev pub StandsOn : S → P → P → Type 0
+  StandsOn hub old new = (c : ℕ) (h : List Event) → Stands hub old c h → Stands hub new c h
+
   -- if nobody else calls the hub, the history is the same, or has one floor more
   abbrev pub RaisesOnce : Type 0 → S → P → P → Type 0
   RaisesOnce alone hub old new =
@@ -73,3 +77,7 @@ module _ {S P : Type 0} (Stands : S → P → ℕ → List Event → Type 0) whe
 -- it is one more, up to its last value
 abbrev pub one_more : ℕ → ℕ
 one_more n = min (n + 1) (2 ^ 64 - 1)
+
+-- or so many more
+abbrev pub more_by : ℕ → ℕ → ℕ
+more_by n more = min (n + more) (2 ^ 64 - 1)

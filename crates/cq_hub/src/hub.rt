@@ -5,7 +5,7 @@ ghost use Rattle.cq_base.specs.Changes.{IsSoundChange};
 ghost use Rattle.cq_history.specs.declared.event.Event.{Event};
 ghost use Rattle.cq_history.specs.State.{accepted};
 ghost use Rattle.cq_history.specs.Lawful.{Lawful};
-ghost use Rattle.cq_hub.specs.Hubs.{IsPassOf, WhereStands, RaisesOnce, one_more};
+ghost use Rattle.cq_hub.specs.Hubs.{IsPassOf, WhereStands, StandsOn, RaisesOnce, one_more, more_by};
 ghost use Rattle.cq_hub.specs.Answers.{HasSeenChange, HasSeenItsWork, HasSeenReady, HasNoView, HasViewOpen, HasOpen, SeesMore, Accepts, Refuses, IsTold, Takes, FindsJob, GivesBack, HasNot, Does, SeesDone, Publishes, Opens, Reads, Shuts, Sweeps};
 
 use cq_base::{Change, Entry, Memory};
@@ -124,6 +124,12 @@ pub trait Hub<W: Indexed> {
         ensures reads { Reads Stands alone settings callers
             self.now pass.old pass.new W.Indexed view.now key result }
         ensures asked { asked pass.new ≡ one_more (asked pass.old) };
+
+    /// Counts so many questions as asked, for whoever knows the answers without asking. No other caller sees it, and it
+    /// takes no memory.
+    fn count_reads(&self, reads: u64, pass: &mut Self::Pass)
+        ensures stands { StandsOn Stands self.now pass.old pass.new }
+        ensures asked { asked pass.new ≡ more_by (asked pass.old) reads };
 
     /// Shuts the caller's view. It takes no memory.
     fn close_view(&self, view: View<W>, pass: &mut Self::Pass)

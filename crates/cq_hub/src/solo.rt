@@ -177,6 +177,10 @@ impl<W: Indexed> Hub<W> for Solo<W> {
         pass.shards[shard].bucket(alloc, key, view.listing.live())
     }
 
+    fn count_reads(&self, reads: u64, pass: &mut SoloPass<W>) {
+        pass.asked = pass.asked.saturating_add(reads);
+    }
+
     fn close_view(&self, _view: View<W>, pass: &mut SoloPass<W>)
         requires viewing { SoloHasViewOpen W.keys_in W.IsWorkOf self.now pass.old }
         ensures shut { SoloShuts W.keys_in W.IsWorkOf self.now pass.old pass.new }

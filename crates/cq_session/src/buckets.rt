@@ -42,4 +42,8 @@ impl<'a, W: Indexed, H: Hub<W>> Buckets for PassBuckets<'a, W, H> {
         keep(&mut entries, self.files);
         Ok(entries)
     }
+
+    fn pass_over(&mut self, keys: u64) {
+        self.hub.count_reads(keys, self.pass);
+    }
 }

@@ -235,6 +235,30 @@ module _ {W R : Type 0} (hub : Shared W R) where
     stands = record { is = call.of; caller = ap (λ cs. slice_index cs 0) call.callers ∙ is.caller; seen = call.seen ∙ ap (λ n. call.mid ++ made n) is.caller };
   }
 
+-- ---- a pass that counted questions
+
+module _ {W R : Type 0} (hub : Shared W R) (p : BoardPass) where
+  counted_of : (n : ℕ) → IsPassOf hub p → IsPassOf hub (record p { asked = n })
+  counted_of n is = record {
+    of = record {
+      of = record { table = is.of.of.table; about = is.of.of.about; has_caller = is.of.of.has_caller; below = is.of.of.below; first = is.of.of.first; later = is.of.of.later };
+      law = is.of.law;
+      caller = is.of.caller;
+      apart = is.of.apart;
+      room = is.of.room;
+      few = is.of.few;
+      made = is.of.made;
+      unmade = is.of.unmade;
+    };
+    free = is.free;
+    shards = is.shards;
+    some_shard = is.some_shard;
+  }
+
+  -- it stands for what it stood for
+  pub counted_stands : (q : BoardPass) (n : ℕ) → q ≡ record p { asked = n } → (c : ℕ) (h : List Event) → SharedStands hub p c h → SharedStands hub q c h
+  counted_stands q n same c h is = subst (λ (r : BoardPass). SharedStands hub r c h) (sym same) (record { is = counted_of n is.is; caller = is.caller; seen = is.seen })
+
 pub number_is : (about : About) (log : List Event) (new : BoardState) (by : ℕ) (change : Change) → IsBoard about (log ++ Accept by change ∷ []) new → length new.state.slots ≡ length (accepted log) + 1
 number_is about log new by change is =
     ap (λ (s : State). length s.slots) (state_is about (log ++ Accept by change ∷ []) new is) ∙ slots_number about.callers (log ++ Accept by change ∷ []) ∙ ap length (accepted-append log (Accept by change ∷ [])) ∙ length-append (accepted log) (change ∷ [])

@@ -228,7 +228,7 @@ impl<W: Indexed, R: Wait> Shared<W, R> {
         let shard = self.cells.enter_shard(number, pass);
         let bucket = shard.bucket(alloc, key, view.listing.live());
         self.cells.leave_shard(number, shard, pass);
-        pass.count_read();
+        pass.count_reads(1);
         bucket
     }
 }

@@ -23,6 +23,7 @@
 //! - `close_view`, the board: a number is cleared. The listing is dropped afterwards.
 //! - `read_bucket`, the shard of the key: a look at a word of each of its runs, a search in those that may have the key,
 //!   and one among the view's files for each entry with the key. Those that are there are copied out.
+//! - `count_reads` takes no cell.
 //! - `advance`, the board: an owner of each work that is to be applied, and a list of them. So this hold takes memory,
 //!   and is as long as the list. Then, shard by shard, a hold of the shard for each change: a look at each key of its
 //!   work, an entry for each that is the shard's, and the merging that this brings. Between two shards the gate is

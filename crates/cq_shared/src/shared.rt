@@ -168,6 +168,10 @@ impl<W: Indexed, R: Wait> Hub<W> for Shared<W, R> {
         self.read_bucket(alloc, view, key, pass)
     }
 
+    fn count_reads(&self, reads: u64, pass: &mut Pass<W>) {
+        pass.count_reads(reads);
+    }
+
     fn close_view(&self, view: View<W>, pass: &mut Pass<W>)
         requires viewing { HasViewOpen SharedStands settings_of callers_of self.now pass.old }
         ensures shut { Shuts SharedStands ⊥ settings_of callers_of self.now pass.old pass.new }

@@ -122,7 +122,7 @@ fn one_that_waits_goes_on(rt: HostRuntime) -> Result<(), Fail> {
     let (cells, mut pass): (_, Pass<Bare>) = Cells::new(&rt, rt.alloc(), board, shards)?;
     hold_in_turn(&rt, &cells, &mut pass);
     assert_eq!(rt; told(&cells, &mut pass, 1), (0, 0));
-    pass.count_read();
+    pass.count_reads(1);
     assert_eq!(rt; (pass.by(), pass.next()), (0, 3));
     Ok(())
 }

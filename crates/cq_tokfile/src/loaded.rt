@@ -228,4 +228,8 @@ impl<L: Ledger> Buckets for Loaded<L> {
         self.near = behind;
         Ok(found)
     }
+
+    fn pass_over(&mut self, keys: u64) {
+        self.asked = self.asked.saturating_add(keys);
+    }
 }

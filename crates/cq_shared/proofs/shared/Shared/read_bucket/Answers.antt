@@ -27,13 +27,13 @@ returns-clause-reads g c =
     let about = (cells_of hub).about in
     let e = c.enter_shard-shard.ensures in
     let l = c.leave_shard.ensures in
-    let q = c.count_read.new.self in
+    let q = c.count_reads.new.self in
     let opened = c.requires.viewing in
-    let seen : q.seen ≡ p.seen = ap (λ r. r.seen) c.count_read.ensures ∙ l.seen ∙ e.seen in
+    let seen : q.seen ≡ p.seen = ap (λ r. r.seen) c.count_reads.ensures ∙ l.seen ∙ e.seen in
     let live = subst (AreLive (take c.args.view.now.version (changes_in (state_of hub p.seen)))) (sym (c.live.ensures ∙ ap (λ x. x.live) c.deref.ensures)) opened.shows.numbers in
     let number : c.args.key % about.settings.shards ≡ c.args.key % c.from.result = ap (λ n. c.args.key % n) (sym (c.from.ensures ∙ c.requires.of.shards)) in
     stays hub p q _ (search rules)
-    (ap (λ r. r.callers) c.count_read.ensures ∙ l.same.callers ∙ e.same.callers) (ap (λ r. r.next) c.count_read.ensures ∙ l.same.next ∙ e.same.next) (ap (λ r. r.room) c.count_read.ensures ∙ l.same.room ∙ e.same.room) seen
+    (ap (λ r. r.callers) c.count_reads.ensures ∙ l.same.callers ∙ e.same.callers) (ap (λ r. r.next) c.count_reads.ensures ∙ l.same.next ∙ e.same.next) (ap (λ r. r.room) c.count_reads.ensures ∙ l.same.room ∙ e.same.room) seen
     (IfOk-weaker c.bucket-bucket.result _ _
     (λ es asked. entries_are about p.seen c.requires.of.of.law (by_of p) c.args.view.now.version opened.version (HasWindow g.W.Indexed.keys_in g.W.Indexed.IsWorkOf about.settings) e.shard.log e.shard.begins c.args.key _ c.enter_shard-shard.result c.live.result.now es.items number e.shard.is e.published e.swept live asked)
     c.bucket-bucket.ensures)
@@ -46,5 +46,5 @@ returns-clause-reached g c =
     let number : c.args.key % (settings_of hub).shards ≡ c.args.key % c.from.result = ap (λ n. c.args.key % n) (sym (c.from.ensures ∙ c.requires.of.shards)) in
     let open_is = applied_open (cells_of hub).about p.seen c.requires.of.of.law (by_of p) c.args.view.now.version c.requires.viewing.version c.enter_shard-shard.result.applied e.published in
     let here = c.leave_shard.ensures.reached.here in
-    let same = ap (λ r. least r (c.args.key % c.from.result)) c.count_read.ensures in
-    subst (λ n. c.args.view.now.version ≤ least c.count_read.new.self n) (sym number) (omega (arith, open_is, here, same))
+    let same = ap (λ r. least r (c.args.key % c.from.result)) c.count_reads.ensures in
+    subst (λ n. c.args.view.now.version ≤ least c.count_reads.new.self n) (sym number) (omega (arith, open_is, here, same))
