@@ -36,9 +36,13 @@ may_decide class.Word = true
 may_decide class.Literal = false
 may_decide class.Punct = true
 
--- A question mark of TypeScript decides, at the token after it, unless that ends what is optional: its name, or its list.
+-- what follows the question mark of a name or a value that is optional in TypeScript
+abbrev pub after_optional : List (List ℕ)
+after_optional = codes ":" ∷ codes ")" ∷ codes "," ∷ codes "]" ∷ codes "}" ∷ codes ";" ∷ []
+
+-- Any other question mark of TypeScript decides, at the token after it.
 abbrev pub is_chosen : Lang → List ℕ → List ℕ → Bool
-is_chosen lang.Ts before text = bytes_eq before (codes "?") && not (is_among (codes ":" ∷ codes ")" ∷ codes "," ∷ codes "]" ∷ codes "}" ∷ codes ";" ∷ []) text)
+is_chosen lang.Ts before text = bytes_eq before (codes "?") && not (is_among after_optional text)
 is_chosen _ before text = false
 
 abbrev pub is_decision : Lang → List ℕ → Spelled → Bool

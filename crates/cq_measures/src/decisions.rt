@@ -57,10 +57,16 @@ fn may_decide(class: Class) -> bool
     matches!(class, Class::Word | Class::Punct)
 }
 
+fn is_after_optional(text: &[u8]) -> bool
+    ensures { result ≡ spec.is_among spec.after_optional text.now }
+{
+    matches!(text, b":" | b")" | b"," | b"]" | b"}" | b";")
+}
+
 fn is_after_choice(before: &[u8], text: &[u8]) -> bool
     ensures { result ≡ spec.is_chosen lang.Ts before.now text.now }
 {
-    matches!(before, b"?") && !matches!(text, b":" | b")" | b"," | b"]" | b"}" | b";")
+    matches!(before, b"?") && !is_after_optional(text)
 }
 
 // Whether a question mark before the token decides.
